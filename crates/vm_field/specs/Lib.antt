@@ -1,0 +1,5 @@
+pub mod Field
+pub mod Permutation
+pub mod Sponge
+pub mod Machine
+pub mod FileName

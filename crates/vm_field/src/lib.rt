@@ -1,0 +1,13 @@
+//! Arithmetic modulo the prime 2^64 - 2^32 + 1, words of four elements, and the small list types
+//! of the crates above. The definitions that several crates cite stand in `specs/`.
+#![tactic(auto)]
+
+mod element;
+mod lists;
+mod refusal;
+mod word;
+
+pub use element::Felt;
+pub use lists::{Bytes, Felts, Words};
+pub use refusal::{Memory, NotCanonical};
+pub use word::Word;
