@@ -1,11 +1,10 @@
 ghost use Rattle.std.specs.Prelude.{◌≡◌, ℕ, ◌+◌, ◌-◌, ◌*◌, ◌%◌, ◌<◌, ◌≤◌, ◌↔◌, IsErr, IfOk, IfErr, decimal, string_bytes};
 ghost use Rattle.vm_field.specs.Field.{prime, felt_add, felt_sub, felt_mul, felt_neg};
 
+use crate::refusal::{Memory, NotCanonical};
 use std::alloc::Global;
 use std::fmt;
 use std::marker::Model;
-
-use crate::refusal::{Memory, NotCanonical};
 
 /// 2^64 - 2^32 + 1.
 const PRIME: u64 = 18446744069414584321;

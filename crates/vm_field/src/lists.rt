@@ -1,11 +1,10 @@
 ghost use Rattle.std.specs.Prelude.{◌≡◌, ℕ, List, [], ◌∷◌, ◌++◌, length, OnOk, OnErr, IfOk};
 
-use std::alloc::Global;
-use std::marker::Model;
-
 use crate::element::Felt;
 use crate::refusal::Memory;
 use crate::word::Word;
+use std::alloc::Global;
+use std::marker::Model;
 
 /// A list of elements.
 #[derive(Drop)]
@@ -24,7 +23,9 @@ impl Felts {
     pub fn new(alloc: Global) -> Felts
         ensures empty { result ≡ [] }
     {
-        Felts { items: Vec::new(alloc) }
+        Felts {
+            items: Vec::new(alloc),
+        }
     }
 
     /// The list of a vector's items. It allocates nothing.
@@ -68,7 +69,9 @@ impl Bytes {
     pub fn new(alloc: Global) -> Bytes
         ensures empty { result ≡ [] }
     {
-        Bytes { items: Vec::new(alloc) }
+        Bytes {
+            items: Vec::new(alloc),
+        }
     }
 
     /// The list of a vector's items. It allocates nothing.
@@ -82,7 +85,9 @@ impl Bytes {
     pub fn copied(alloc: Global, bytes: &[u8]) -> Result<Bytes, Memory>
         ensures items { IfOk result (λ copy. copy ≡ bytes.now) }
     {
-        Ok(Bytes { items: Vec::from_slice(alloc, bytes)? })
+        Ok(Bytes {
+            items: Vec::from_slice(alloc, bytes)?,
+        })
     }
 
     /// Adds a byte at the end. At `Memory` the list is as before.
@@ -128,7 +133,9 @@ impl Words {
     pub fn new(alloc: Global) -> Words
         ensures empty { result ≡ [] }
     {
-        Words { items: Vec::new(alloc) }
+        Words {
+            items: Vec::new(alloc),
+        }
     }
 
     /// The list of a vector's items. It allocates nothing.

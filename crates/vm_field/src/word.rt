@@ -1,9 +1,8 @@
 ghost use Rattle.std.specs.Prelude.{◌≡◌, ◌<◌, slice_index};
 ghost use Rattle.vm_field.specs.Field.{prime};
 
-use std::marker::Model;
-
 use crate::element::Felt;
+use std::marker::Model;
 
 /// Four elements, as a digest or a word of memory has them. It is seen as the list of the four.
 #[derive(Clone, Copy, Debug, PartialEq, Eq, PartialOrd, Ord, Hash)]

@@ -1,0 +1,6 @@
+pub mod Codes
+pub mod Moves
+pub mod Causes
+pub mod Items
+pub mod Values
+pub mod Step
