@@ -1,0 +1,14 @@
+use Rattle.std.proofs.Common.{◌≡◌, ◌+◌, sym, ◌∙◌, ap, add-one, subst, List, ℕ, [], ◌∷◌, ◌++◌}
+use Rattle.vm_table.specs.Layout.{IsLaidOut, rows_of}
+use Rattle.vm_table.proofs.LayoutLemmas.{laid_with, rows_of-pushed}
+use Rattle.vm_table.proofs.table.Table.push_row.Goals as goal
+
+pub invariant_of-self-2 : goal.invariant_of-self-2
+invariant_of-self-2 g c =
+    rw (c.in_ok-extend_from_slice.ensures.items, c.in-Some.ensures.1)
+    (laid_with _ _ _ _ c.self.invariant c.told-row c.read_all.ensures.below)
+
+pub returns-clause-ok : goal.returns-clause-ok
+returns-clause-ok g c =
+    rw (c.in_ok-extend_from_slice.ensures.items, c.in-Some.ensures.1, ← c.self.view_is, add-one)
+    (rows_of-pushed _ _ _ _ c.self.invariant.filled c.told-row)

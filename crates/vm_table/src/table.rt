@@ -1,0 +1,95 @@
+ghost use Rattle.std.specs.Prelude.{◌≡◌, ℕ, ◌+◌, ◌<◌, List, [], ◌∷◌, ◌++◌, length, slice_index, slice_index_or, OnOk, OnErr};
+ghost use Rattle.vm_field.specs.Field.{prime};
+ghost use Rattle.vm_table.specs.Layout.{IsTable};
+ghost use Rattle.vm_table.specs.Rows.{row_cells};
+
+use std::alloc::Global;
+use std::marker::Model;
+use vm_field::{Felt, Memory};
+
+use crate::view::{Row, RowPair};
+
+/// A table of W columns, seen as the list of its rows.
+#[derive(Drop)]
+pub struct Table<const W: usize> {
+    cells: Vec<Felt>,
+    count: usize,
+}
+
+impl<const W: usize> Model for Table<W> {
+    ghost use Rattle.std.specs.Prelude.{ℕ, List};
+    ghost use Rattle.vm_table.specs.Layout.{rows_of, IsLaidOut};
+
+    ghost Value = { List (List ℕ) };
+
+    ghost view = { λ t. rows_of W t.count t.cells.items };
+
+    ghost invariant = { λ t. IsLaidOut W t.count t.cells.items };
+}
+
+impl<const W: usize> Table<W> {
+    /// The table with no row. It allocates nothing.
+    pub fn new(alloc: Global) -> Table<W>
+        ensures { result ≡ [] }
+    {
+        Table {
+            cells: Vec::new(alloc),
+            count: 0,
+        }
+    }
+
+    /// How many rows there are. Each has W elements.
+    pub fn rows(&self) -> usize
+        ensures is { result ≡ length self.now }
+        ensures shape { IsTable W self.now }
+    {
+        self.count
+    }
+
+    /// Adds a row at the end. At `Memory` the table is as before.
+    pub fn push_row(&mut self, row: &[Felt; W]) -> Result<(), Memory>
+        ensures ok { OnOk result (self.new ≡ self.old ++ row.now ∷ []) }
+        ensures err { OnErr result (self.new ≡ self.old) }
+    {
+        let Some(count) = self.count.checked_add(1) else {
+            return Err(Memory::Memory);
+        };
+        read_all(row);
+        self.cells.extend_from_slice(row)?;
+        self.count = count;
+        Ok(())
+    }
+
+    /// The row of this number.
+    pub fn row(&self, i: usize) -> Row<'_, W>
+        requires { i < length self.now }
+        ensures { row_cells result ≡ slice_index_or self.now i [] }
+    {
+        let cells = self.cells.as_slice();
+        let total = cells.len();
+        let start = i * W;
+        Row::of(&cells[start..start + W])
+    }
+
+    /// The row of this number and the next one.
+    pub fn pair(&self, i: usize) -> RowPair<'_, W>
+        requires { i + 1 < length self.now }
+        ensures cur { row_cells result.cur ≡ slice_index_or self.now i [] }
+        ensures next { row_cells result.next ≡ slice_index_or self.now (i + 1) [] }
+    {
+        let rows = self.rows();
+        RowPair {
+            cur: self.row(i),
+            next: self.row(i + 1),
+        }
+    }
+}
+
+// Each element is below the prime. A proof learns it of the elements that the code reads.
+fn read_all(cells: &[Felt])
+    ensures below { (k : ℕ) → slice_index cells.now k < prime }
+{
+    for cell in cells {
+        let _ = cell.value();
+    }
+}
