@@ -71,11 +71,11 @@ shape w n cells laid = record {
       let fits : w ≤ length (drop (i * w) cells) = omega (arith, length-drop (i * w) cells) in
       ap length (row-rows_of w n cells i h') ∙ length-take-le w (drop (i * w) cells) fits;
   below = λ i k. elim (cases_lt i n) [
-      | inl h ↦ subst (λ (row : List ℕ). get_or row k 0 < prime) (sym (row-rows_of w n cells i h)) (below_part (i * w) w k cells laid.below)
-      | inr h ↦
-          let past : length (rows_of w n cells) ≤ i = omega (arith, length-rows_of w n cells) in
-          subst (λ (row : List ℕ). get_or row k 0 < prime) (sym (get_or_past (rows_of w n cells) i [] past)) (lit< tt)
-    ];
+    | inl h ↦ subst (λ (row : List ℕ). get_or row k 0 < prime) (sym (row-rows_of w n cells i h)) (below_part (i * w) w k cells laid.below)
+    | inr h ↦
+        let past : length (rows_of w n cells) ≤ i = omega (arith, length-rows_of w n cells) in
+        subst (λ (row : List ℕ). get_or row k 0 < prime) (sym (get_or_past (rows_of w n cells) i [] past)) (lit< tt)
+  ];
 }
 
 -- cells with a further row are laid out
@@ -83,9 +83,9 @@ pub laid_with : (w n : ℕ) (cells row : List ℕ) → IsLaidOut w n cells → l
 laid_with w n cells row laid wide low = record {
   filled = length-append cells row ∙ omega (arith, laid.filled, wide);
   below = λ k. elim (cases_lt k (length cells)) [
-      | inl h ↦ subst (λ x. x < prime) (sym (get_or-append cells row 0 k h)) (laid.below k)
-      | inr h ↦ subst (λ x. x < prime) (sym (get_or-append_right cells row k 0 h)) (low (k - length cells))
-    ];
+    | inl h ↦ subst (λ x. x < prime) (sym (get_or-append cells row 0 k h)) (laid.below k)
+    | inr h ↦ subst (λ x. x < prime) (sym (get_or-append_right cells row k 0 h)) (low (k - length cells))
+  ];
 }
 
 -- The same of a table whose rows are those of laid out cells.

@@ -3,11 +3,10 @@ ghost use Rattle.vm_field.specs.Field.{prime};
 ghost use Rattle.vm_table.specs.Layout.{IsTable};
 ghost use Rattle.vm_table.specs.Rows.{row_cells};
 
+use crate::view::{Row, RowPair};
 use std::alloc::Global;
 use std::marker::Model;
 use vm_field::{Felt, Memory};
-
-use crate::view::{Row, RowPair};
 
 /// A table of W columns, seen as the list of its rows.
 #[derive(Drop)]

@@ -1,0 +1,4 @@
+//! The commands of the program, over a shelf of files and a sink for what is printed.
+#![tactic(auto)]
+
+mod strip;
