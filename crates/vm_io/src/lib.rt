@@ -7,6 +7,7 @@ mod calls;
 mod folder_shelf;
 mod gate;
 mod kept_name;
+mod laws;
 mod mem_shelf;
 mod mem_sink;
 mod shelf;
@@ -16,6 +17,7 @@ mod whole;
 
 pub use folder_shelf::FolderShelf;
 pub use gate::{Gate, OpenGate, gate_crosses};
+pub use laws::{counts_never_fall, files_decide_reads, written_files_stand};
 pub use mem_shelf::MemShelf;
 pub use mem_sink::MemSink;
 pub use shelf::{ReadStop, Shelf, WriteStop};
