@@ -80,4 +80,5 @@ pub rise_shows : RiseShows
 rise_shows = rose_above
 
 pub ruleset read_laws = (files_decide, reads_leave_files)
+
 pub ruleset count_laws = (reads_never_lower, writes_never_lower, pieces_never_lower, rise_shows)

@@ -70,4 +70,4 @@ pub get_beside : (m : Files) (name bytes other : List ℕ) → other ≢ name �
 get_beside m name bytes other apart =
     get-insert nat_list_cmp_total m name bytes other
     ∙ ap (λ same. cond same (Some bytes) (get m other))
-        (is_eq-slice_cmp other name ∙ false_from_ne_true _ (λ same. apart ((bytes_eq-Decides other name).0 same)))
+    (is_eq-slice_cmp other name ∙ false_from_ne_true _ (λ same. apart ((bytes_eq-Decides other name).0 same)))

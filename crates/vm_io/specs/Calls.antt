@@ -4,7 +4,7 @@ use Rattle.vm_io.specs.Count.{one_more}
 
 pub record CallCounts : Type 0 where
   pub made : ℕ
-  pub failing : List ℕ    -- numbers of calls, counted from 1
+  pub failing : List ℕ  -- numbers of calls, counted from 1
 
 abbrev pub no_calls : CallCounts
 no_calls = record { made = 0; failing = [] }

@@ -19,7 +19,7 @@ pub record ShelfState : Type 0 where
   pub files : Option Files
   pub read_faults : ℕ
   pub write_faults : ℕ
-  pub failed_name : Option (List ℕ)    -- empty before the first call that failed
+  pub failed_name : Option (List ℕ)  -- empty before the first call that failed
 
 -- what holds of the files, where they are told
 abbrev pub Told : ShelfState → (Files → Type 0) → Type 0

@@ -2,14 +2,13 @@ ghost use Rattle.std.specs.Prelude.{◌≡◌, ◌≤◌, length, IfOk, IsErrOf}
 ghost use Rattle.vm_io.specs.Count.{one_more};
 ghost use Rattle.vm_io.specs.Shelf.{ReadStep, WriteStep};
 
+use crate::shelf::{ReadStop, Shelf, WriteStop};
+use crate::whole::{read_whole, write_whole};
 use std::alloc::Global;
 use std::marker::Model;
 use std::rt::Files;
 use std::{fs, io};
 use vm_field::Bytes;
-
-use crate::shelf::{ReadStop, Shelf, WriteStop};
-use crate::whole::{read_whole, write_whole};
 
 /// The files under the current folder. It counts what the system refuses, and tells nothing else.
 #[derive(Drop)]

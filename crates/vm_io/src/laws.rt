@@ -10,16 +10,14 @@ ghost use Rattle.vm_io.specs.Laws.{FilesDecide, ReadsLeaveFiles, WholeStands, Fr
 pub fn files_decide_reads()
     ensures decided { FilesDecide }
     ensures left { ReadsLeaveFiles }
-{
-}
+{}
 
 /// What was written stands under its name, whole or, where the write failed, a front of it. Every
 /// other file stays.
 pub fn written_files_stand()
     ensures whole { WholeStands }
     ensures front { FrontStands }
-{
-}
+{}
 
 /// No call lowers a count, and a count that rose differs from before, unless it had stopped at
 /// 2^64 - 1.
@@ -29,5 +27,4 @@ pub fn counts_never_fall()
     ensures writes { WritesNeverLower }
     ensures pieces { PiecesNeverLower }
     ensures shows { RiseShows }
-{
-}
+{}

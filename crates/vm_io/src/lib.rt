@@ -13,6 +13,8 @@ mod mem_sink;
 mod shelf;
 mod sink;
 mod std_sink;
+#[cfg(test)]
+mod tests;
 mod whole;
 
 pub use folder_shelf::FolderShelf;

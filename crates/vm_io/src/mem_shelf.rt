@@ -5,14 +5,13 @@ ghost use Rattle.vm_io.specs.Count.{Rose, one_more};
 ghost use Rattle.vm_io.specs.Calls.{IsDue};
 ghost use Rattle.vm_io.specs.Shelf.{ReadStep, WriteStep};
 
+use crate::calls::Calls;
+use crate::kept_name::KeptName;
+use crate::shelf::{ReadStop, Shelf, WriteStop};
 use std::alloc::Global;
 use std::collections::BTreeMap;
 use std::marker::Model;
 use vm_field::{Bytes, Memory};
-
-use crate::calls::Calls;
-use crate::kept_name::KeptName;
-use crate::shelf::{ReadStop, Shelf, WriteStop};
 
 /// Files held in memory, and calls that fail when they are told to.
 ///
@@ -36,11 +35,11 @@ impl Model for MemShelf {
     ghost coded = { held_code };
 
     ghost view = { λ a. record {
-        files = files_of a.files.entries;
-        read_faults = a.read_faults;
-        write_faults = a.write_faults;
-        failed_name = a.failed_name;
-        calls = a.calls;
+      files = files_of a.files.entries;
+      read_faults = a.read_faults;
+      write_faults = a.write_faults;
+      failed_name = a.failed_name;
+      calls = a.calls;
     } };
 }
 
@@ -73,7 +72,8 @@ impl MemShelf {
     /// Lets the call of this number fail. At `Memory` the shelf is as before.
     pub fn fail(&mut self, call: u64) -> Result<(), Memory>
         ensures ok { OnOk result (self.new ≡ record self.old {
-            calls = record self.old.calls { failing = self.old.calls.failing ++ call ∷ [] } }) }
+          calls = record self.old.calls { failing = self.old.calls.failing ++ call ∷ [] };
+        }) }
         ensures err { OnErr result (self.new ≡ self.old) }
     {
         self.calls.fail(call)

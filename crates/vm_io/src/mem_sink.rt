@@ -2,12 +2,11 @@ ghost use Rattle.std.specs.Prelude.{◌≡◌, ◌∷◌, [], ◌++◌, OnOk, On
 ghost use Rattle.vm_io.specs.Calls.{IsDue};
 ghost use Rattle.vm_io.specs.Sink.{SinkStep};
 
+use crate::calls::Calls;
+use crate::sink::{Sink, SinkStop};
 use std::alloc::Global;
 use std::marker::Model;
 use vm_field::{Bytes, Memory};
-
-use crate::calls::Calls;
-use crate::sink::{Sink, SinkStop};
 
 /// Output held in memory, and writes that fail when they are told to.
 ///
@@ -44,7 +43,8 @@ impl MemSink {
     /// Lets the write of this number fail. At `Memory` the sink is as before.
     pub fn fail(&mut self, call: u64) -> Result<(), Memory>
         ensures ok { OnOk result (self.new ≡ record self.old {
-            calls = record self.old.calls { failing = self.old.calls.failing ++ call ∷ [] } }) }
+          calls = record self.old.calls { failing = self.old.calls.failing ++ call ∷ [] };
+        }) }
         ensures err { OnErr result (self.new ≡ self.old) }
     {
         self.calls.fail(call)

@@ -2,12 +2,11 @@ ghost use Rattle.std.specs.Prelude.{◌≡◌, IsErrOf};
 ghost use Rattle.vm_io.specs.Count.{one_more};
 ghost use Rattle.vm_io.specs.Sink.{SinkStep};
 
+use crate::sink::{Sink, SinkStop};
+use crate::whole::write_whole;
 use std::alloc::Global;
 use std::io;
 use std::marker::Model;
-
-use crate::sink::{Sink, SinkStop};
-use crate::whole::write_whole;
 
 /// The standard output. It counts what the system refuses, and tells nothing else.
 #[derive(Drop)]

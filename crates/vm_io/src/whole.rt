@@ -1,12 +1,11 @@
 ghost use Rattle.std.specs.Prelude.{◌≡◌, ◌≢◌, ℕ, ◌+◌, ◌≤◌, List, length, take, IfOk, OnOk, OnErr, IsErrOf};
 ghost use Rattle.std.specs.Io.KnownBytes.{Appends, Consumes, IsAtEnd};
 
+use crate::shelf::ReadStop;
 use std::alloc::Global;
 use std::io;
 use std::io::{Read, Write};
 use vm_field::Bytes;
-
-use crate::shelf::ReadStop;
 
 // The most bytes that one read asks for.
 const PIECE: usize = 4096;
