@@ -1,17 +1,12 @@
 -- The laws of `specs/Laws`, by the cases of an answer.
-use Rattle.std.proofs.Common.{◌≡◌, ◌≢◌, ℕ, ◌-◌, ◌^◌, ◌<◌, ◌≤◌, nat_le, List, length, take, refl, cond, ap, sym, subst, arith, ◌∙◌}
-use Rattle.std.specs.Prelude.{Option, Some, None, IfSome, IsSomeAnd, Result, Ok, Err}
+use Rattle.std.proofs.Common.{◌≡◌, ℕ, ◌<◌, ◌≤◌, List, length, take, refl, ap, sym, subst, arith, ◌∙◌}
+use Rattle.std.specs.Prelude.{Option, Some, None, IfSome, IsSomeAnd, Ok, Err}
 use Rattle.std.specs.FinMap.{get, insert}
 use Rattle.std.proofs.lemmas.Bool.{cond-true, cond-false, le-leb, lt-leb}
-use Rattle.vm_io.specs.Count.{Rose}
-use Rattle.vm_io.specs.Shelf.{Files, ShelfState, Told, ReadStep, WriteStep, with_file}
-use Rattle.vm_io.specs.Sink.{SinkState, SinkStep}
+use Rattle.vm_io.specs.Shelf.{Files, ShelfState, Told, with_file}
 use Rattle.vm_io.specs.Laws.{answer_at, FilesDecide, ReadsLeaveFiles, Puts, WholeStands, FrontStands, ReadsNeverLower, WritesNeverLower, PiecesNeverLower, RiseShows}
-use Rattle.vm_io.specs.declared.shelf.ReadStop.{ReadStop}
 use Rattle.vm_io.specs.declared.shelf.ReadStop.TheVariants as read
-use Rattle.vm_io.specs.declared.shelf.WriteStop.{WriteStop}
 use Rattle.vm_io.specs.declared.shelf.WriteStop.TheVariants as write
-use Rattle.vm_io.specs.declared.sink.SinkStop.{SinkStop}
 use Rattle.vm_io.specs.declared.sink.SinkStop.TheVariants as sink
 use Rattle.vm_io.proofs.ShelfLemmas.{get_put, get_beside, rose_above}
 

@@ -1,5 +1,5 @@
 -- What `MemShelf` is seen as, and what its calls leave.
-use Rattle.std.specs.Prelude.{ℕ, ◌+◌, ◌/◌, List, [], ◌∷◌, ◌++◌, map, length, take, Some, Result, Ok, Err, refl}
+use Rattle.std.specs.Prelude.{ℕ, ◌/◌, List, [], map, length, take, Some, Result, Ok, Err, refl}
 use Rattle.std.specs.FinMap.{insert, empty, from_entries, code}
 use Rattle.std.specs.Coded.{Coded, code_by, coded×, coded_list, coded_ℕ}
 use Rattle.std.specs.String.{string_bytes}

@@ -44,12 +44,18 @@ fn pass<G: Gate>(gate: &G) {
     gate.enter(0);
 }
 
-#[test]
-fn a_mem_shelf_fails_when_it_is_told_to(rt: HostRuntime) -> Result<(), Fail> {
-    let mut shelf = MemShelf::new(rt.alloc());
+// A file `a`, and calls 2 and 4 that fail.
+fn faulty_shelf(alloc: Global) -> Result<MemShelf, Memory> {
+    let mut shelf = MemShelf::new(alloc);
     shelf.fail(2)?;
     shelf.fail(4)?;
     shelf.put("a", b"abcd")?;
+    Ok(shelf)
+}
+
+#[test]
+fn a_mem_shelf_fails_when_it_is_told_to(rt: HostRuntime) -> Result<(), Fail> {
+    let mut shelf = faulty_shelf(rt.alloc())?;
     for (call, want) in [
         (Call::Read("a", 4), "abcd"),
         (Call::Read("a", 4), "failed"),
