@@ -1,0 +1,4 @@
+pub mod HeldLemmas
+pub mod LawLemmas
+pub mod ShelfLemmas
+pub mod WholeLemmas

@@ -1,0 +1,58 @@
+ghost use Rattle.std.specs.Prelude.{◌≡◌, ◌≢◌, ℕ, ◌+◌, ◌≤◌, List, length, take, IfOk, OnOk, OnErr, IsErrOf};
+ghost use Rattle.std.specs.Io.KnownBytes.{Appends, Consumes, IsAtEnd};
+
+use crate::shelf::ReadStop;
+use std::alloc::Global;
+use std::io;
+use std::io::{Read, Write};
+use vm_field::Bytes;
+
+// The most bytes that one read asks for.
+const PIECE: usize = 4096;
+
+/// All that a reader has left, which may be `max` bytes at most. It reads no further than one byte
+/// behind them, and tries no read again that failed.
+pub fn read_whole<R: Read>(alloc: Global, source: &mut R, max: u64) -> Result<Bytes, ReadStop>
+    ensures within { IfOk result (λ bytes. length bytes ≤ max) }
+    ensures whole { IfOk result (λ bytes. Consumes (R.remaining source.old) (R.remaining source.new) bytes) }
+    ensures end { OnOk result (IsAtEnd (R.remaining source.new)) }
+    ensures too_long { IsErrOf result ReadStop.TooLong → (bytes : List ℕ) × (length bytes ≡ max + 1)
+        × Consumes (R.remaining source.old) (R.remaining source.new) bytes }
+    ensures present { result ≢ Err ReadStop.Missing }
+{
+    let mut bytes = Bytes::new(alloc);
+    let mut piece = [0u8; PIECE];
+    loop {
+        let length = bytes.as_slice().len() as u64;
+        if max < length {
+            return Err(ReadStop::TooLong);
+        }
+        let room = (max - length).min(PIECE as u64 - 1) as usize + 1;
+        let Ok(count) = source.read(&mut piece[..room]) else {
+            return Err(ReadStop::Failed);
+        };
+        if count == 0 {
+            return Ok(bytes);
+        }
+        if bytes.append(&piece[..count]).is_err() {
+            return Err(ReadStop::Memory);
+        }
+    }
+}
+
+/// Writes all bytes. A write that takes nothing is a failure, and none that failed is tried again.
+#[tactic(auto, using(crate::proofs::WholeLemmas::written_further))]
+pub fn write_whole<W: Write>(target: &mut W, bytes: &[u8]) -> io::Result<()>
+    ensures whole { OnOk result (Appends (W.contents target.old) (W.contents target.new) bytes.now) }
+    ensures front { OnErr result ((n : ℕ) × Appends (W.contents target.old) (W.contents target.new) (take n bytes.now)) }
+{
+    let mut at = 0;
+    while at < bytes.len() {
+        match target.write(&bytes[at..]) {
+            Ok(0) => return Err(io::Error::from(io::ErrorKind::WriteZero)),
+            Ok(count) => at += count,
+            Err(error) => return Err(error),
+        }
+    }
+    Ok(())
+}
