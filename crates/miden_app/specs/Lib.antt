@@ -1,6 +1,12 @@
+pub mod Numbers
+pub mod Words
+pub mod Plans
+pub mod Commands
+pub mod Serving
+pub mod StripPlans
 pub mod StripGrammar
 pub mod StripFlags
 pub mod StripValues
 pub mod StripRun
-pub mod StripAnswers
 pub mod StripLaw
+pub mod StripAnswers

@@ -1,0 +1,24 @@
+-- What the words after the program's name ask for (docs/FORMATS.md).
+use Rattle.std.specs.Prelude.{ℕ, Bool, if◌then◌else◌, List, [], ◌∷◌, codes, map}
+use Rattle.std.specs.Str.{bytes_eq}
+use Rattle.std.specs.declared.vec.Vec.{Vec}
+use Rattle.std.specs.declared.alloc.Global.{Global}
+use Rattle.vm_field.specs.FileName.{is_file_name}
+
+pub data Asked : Type 0 where
+  nothing : Asked                          -- the words are of no command
+  check_strip : (strip : List ℕ) → Asked
+
+-- `check` and the name of a strip
+abbrev pub check_words : List (List ℕ) → Asked
+check_words [] = nothing
+check_words (name ∷ []) = if is_file_name name then check_strip name else nothing
+check_words (name ∷ more ∷ words) = nothing
+
+unfoldable pub asked : List (List ℕ) → Asked
+asked [] = nothing
+asked (command ∷ words) = if bytes_eq command (codes "check") then check_words words else nothing
+
+-- words as lists of bytes
+abbrev pub texts : List (Vec ℕ Global) → List (List ℕ)
+texts words = map (λ w. w.items) words
