@@ -1,0 +1,6 @@
+pub mod PowerLaws
+pub mod Cyclic
+pub mod Prime
+pub mod Inverses
+pub mod Algebra
+pub mod Places

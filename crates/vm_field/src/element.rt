@@ -8,7 +8,7 @@ use std::marker::Model;
 use crate::refusal::{Memory, NotCanonical};
 
 /// 2^64 - 2^32 + 1.
-const PRIME: u64 = 18446744069414584321;
+pub(crate) const PRIME: u64 = 18446744069414584321;
 
 /// An element of the field of 2^64 - 2^32 + 1 elements, seen as its number.
 #[derive(Clone, Copy, Debug, PartialEq, Eq, PartialOrd, Ord, Hash)]

@@ -4,6 +4,7 @@
 
 mod element;
 mod lists;
+mod powers;
 mod refusal;
 mod word;
 
