@@ -1,11 +1,28 @@
 -- Equations modulo the prime, and equations with 0. What is linear is `omega arith`'s. For an equation between
 -- polynomials write `simp flat (same_mod _ _ k j (omega arith))`, where the two sides differ by k and j times the
 -- prime, and `x + (prime - 1) * y` for `felt_sub x y` (`felt_sub-as`).
-use Rattle.std.proofs.Common.{◌≡◌, ℕ, zero, suc, ◌+◌, ◌-◌, ◌*◌, ◌%◌, ◌<◌, ◌⊎◌, inl, inr, ⊎_elim, sym, ap, ◌∙◌, arith}
+use Rattle.std.proofs.Common.{◌≡◌, ℕ, zero, suc, ◌+◌, ◌-◌, ◌*◌, ◌%◌, ◌<◌, ◌⊎◌, ◌≤◌, Bool, true, false, cond, nat_lt, Some, None, inl, inr, ⊎_elim, sym, refl, ap, ◌∙◌, arith, ltb-true}
+use Rattle.std.proofs.lemmas.Bool.Decides.{nat_tests}
 use Rattle.std.proofs.Math.Nat.{add-mul-mod_self_left, mod-add-mod, add-mod-mod, mod-mod, mod-eq_of_lt, zero-mul, mul-zero}
 use Rattle.std.proofs.lemmas.Nat.{mul-mod_first, mul-mod_second}
-use Rattle.vm_field.specs.Field.{prime, felt_add, felt_sub, felt_mul, felt_neg}
+use Rattle.vm_field.specs.Field.{prime, element_from, felt_add, felt_sub, felt_mul, felt_neg}
 use Rattle.vm_field.proofs.Prime.{Euclid-prime}
+
+-- the element of a number
+pub element_from-below : (n : ℕ) → n < prime → element_from n ≡ Some n
+element_from-below n below = grind (arith, nat_tests)
+
+pub element_from-above : (n : ℕ) → prime ≤ n → element_from n ≡ None
+element_from-above n above = grind (arith, nat_tests)
+
+pub element_from-some : (n e : ℕ) → element_from n ≡ Some e → (n ≡ e) × (e < prime)
+element_from-some n e h = go (nat_lt n prime) refl h
+  where
+    go : (b : Bool) → nat_lt n prime ≡ b → cond b (Some n) None ≡ Some e → (n ≡ e) × (e < prime)
+    go true is same =
+        let n_is : n ≡ e = cc in
+        (n_is, omega (arith, ltb-true n prime is))
+    go false is same = cc
 
 -- numbers that differ by multiples of the prime are one modulo it
 pub same_mod : (x y k j : ℕ) → x + prime * j ≡ y + prime * k → x % prime ≡ y % prime

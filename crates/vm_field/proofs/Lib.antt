@@ -4,3 +4,6 @@ pub mod Prime
 pub mod Inverses
 pub mod Algebra
 pub mod Places
+pub mod HexText
+pub mod HexLaws
+pub mod DecimalText
