@@ -3,12 +3,14 @@
 #![tactic(auto)]
 
 mod element;
+mod laws;
 mod lists;
 mod powers;
 mod refusal;
 mod word;
 
 pub use element::Felt;
-pub use lists::{Bytes, Felts, Words};
+pub use laws::{field_laws, text_laws, types_cross};
+pub use lists::{Bytes, Felts, Words, felt_at};
 pub use refusal::{Memory, NotCanonical};
 pub use word::Word;

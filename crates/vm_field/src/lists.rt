@@ -1,4 +1,5 @@
-ghost use Rattle.std.specs.Prelude.{◌≡◌, ℕ, List, [], ◌∷◌, ◌++◌, length, OnOk, OnErr, IfOk};
+ghost use Rattle.std.specs.Prelude.{◌≡◌, ◌↔◌, ℕ, ◌<◌, List, [], ◌∷◌, ◌++◌, length, slice_get, slice_index, IsTrue, OnOk, OnErr, IfOk};
+ghost use Rattle.vm_field.specs.Field.{prime};
 
 use std::alloc::Global;
 use std::marker::Model;
@@ -34,6 +35,13 @@ impl Felts {
         Felts { items }
     }
 
+    /// A copy of these elements.
+    pub fn copied(alloc: Global, elements: &[Felt]) -> Result<Felts, Memory>
+        ensures items { IfOk result (λ copy. copy ≡ elements.now) }
+    {
+        Ok(Felts { items: Vec::from_slice(alloc, elements)? })
+    }
+
     /// Adds an element at the end. At `Memory` the list is as before.
     pub fn push(&mut self, x: Felt) -> Result<(), Memory>
         ensures ok { OnOk result (self.new ≡ self.old ++ x ∷ []) }
@@ -49,6 +57,40 @@ impl Felts {
     {
         self.items.as_slice()
     }
+
+    /// How many elements there are.
+    pub fn len(&self) -> usize
+        ensures count { result ≡ length self.now }
+    {
+        self.items.len()
+    }
+
+    /// Whether there is none.
+    pub fn is_empty(&self) -> bool
+        ensures none { IsTrue result ↔ (self.now ≡ []) }
+    {
+        self.items.is_empty()
+    }
+
+    /// The element at a place.
+    pub fn at(&self, i: usize) -> Felt
+        requires { i < length self.now }
+        ensures is { result ≡ slice_index self.now i }
+        ensures below { result < prime }
+    {
+        felt_at(self.items.as_slice(), i)
+    }
+}
+
+/// The element at a place of a slice.
+pub fn felt_at(elements: &[Felt], i: usize) -> Felt
+    requires { i < length elements.now }
+    ensures is { result ≡ slice_index elements.now i }
+    ensures below { result < prime }
+{
+    let element = elements[i];
+    let _ = element.value();
+    element
 }
 
 /// A list of bytes.
@@ -109,6 +151,20 @@ impl Bytes {
     {
         self.items.as_slice()
     }
+
+    /// How many bytes there are.
+    pub fn len(&self) -> usize
+        ensures count { result ≡ length self.now }
+    {
+        self.items.len()
+    }
+
+    /// Whether there is none.
+    pub fn is_empty(&self) -> bool
+        ensures none { IsTrue result ↔ (self.now ≡ []) }
+    {
+        self.items.is_empty()
+    }
 }
 
 /// A list of words.
@@ -138,6 +194,13 @@ impl Words {
         Words { items }
     }
 
+    /// A copy of these words.
+    pub fn copied(alloc: Global, words: &[Word]) -> Result<Words, Memory>
+        ensures items { IfOk result (λ copy. copy ≡ words.now) }
+    {
+        Ok(Words { items: Vec::from_slice(alloc, words)? })
+    }
+
     /// Adds a word at the end. At `Memory` the list is as before.
     pub fn push(&mut self, x: Word) -> Result<(), Memory>
         ensures ok { OnOk result (self.new ≡ self.old ++ x ∷ []) }
@@ -152,5 +215,30 @@ impl Words {
         ensures items { result.now ≡ self.now }
     {
         self.items.as_slice()
+    }
+
+    /// How many words there are.
+    pub fn len(&self) -> usize
+        ensures count { result ≡ length self.now }
+    {
+        self.items.len()
+    }
+
+    /// Whether there is none.
+    pub fn is_empty(&self) -> bool
+        ensures none { IsTrue result ↔ (self.now ≡ []) }
+    {
+        self.items.is_empty()
+    }
+
+    /// The word at a place.
+    pub fn at(&self, i: usize) -> Word
+        requires { i < length self.now }
+        ensures is { slice_get self.now i ≡ Some result }
+        ensures four { length result ≡ 4 }
+    {
+        let word = self.items[i];
+        let _ = word.elements();
+        word
     }
 }
