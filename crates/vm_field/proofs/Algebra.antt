@@ -1,11 +1,11 @@
 -- Equations modulo the prime, and equations with 0. What is linear is `omega arith`'s. For an equation between
 -- polynomials write `simp flat (same_mod _ _ k j (omega arith))`, where the two sides differ by k and j times the
 -- prime, and `x + (prime - 1) * y` for `felt_sub x y` (`felt_sub-as`).
-use Rattle.std.proofs.Common.{◌≡◌, ℕ, zero, suc, ◌+◌, ◌-◌, ◌*◌, ◌%◌, ◌<◌, ◌⊎◌, ◌≤◌, Bool, true, false, cond, nat_lt, Some, None, inl, inr, ⊎_elim, sym, refl, ap, ◌∙◌, arith, ltb-true}
+use Rattle.std.proofs.Common.{◌≡◌, ℕ, ◌+◌, ◌-◌, ◌*◌, ◌%◌, ◌<◌, ◌⊎◌, ◌≤◌, Bool, true, false, cond, nat_lt, Some, None, inl, inr, ⊎_elim, sym, refl, ap, ◌∙◌, arith, ltb-true}
 use Rattle.std.proofs.lemmas.Bool.Decides.{nat_tests}
 use Rattle.std.proofs.Math.Nat.{add-mul-mod_self_left, mod-add-mod, add-mod-mod, mod-mod, mod-eq_of_lt, zero-mul, mul-zero}
 use Rattle.std.proofs.lemmas.Nat.{mul-mod_first, mul-mod_second}
-use Rattle.vm_field.specs.Field.{prime, element_from, felt_add, felt_sub, felt_mul, felt_neg}
+use Rattle.vm_field.specs.Field.{prime, element_from, felt_sub, felt_mul}
 use Rattle.vm_field.proofs.Prime.{Euclid-prime}
 
 -- the element of a number

@@ -1,11 +1,11 @@
 -- A number whose powers modulo n first come back to 1 at n - 1 has every remainder but 0 among its powers.
 -- From this a^(n - 1) is 1 for each of those, and n divides no product of two numbers that it does not divide.
-use Rattle.std.proofs.Common.{◌≡◌, ◌≢◌, ℕ, zero, suc, ◌+◌, ◌-◌, ◌*◌, ◌/◌, ◌%◌, ◌^◌, ◌<◌, ◌≤◌, ◌⊎◌, Bool, true, false, cond, eqb, ltb, List, [], ◌∷◌, inl, inr, ⊎_elim, sym, refl, ap, ap₂, ◌∙◌, arith, eqb-true, eq-eqb, eq-zero-or-pos}
-use Rattle.std.proofs.Math.Nat.{mul-mod_right, mul-mod_left, mul_comm, mul_assoc, mul_left_comm, eq_of_mul-eq-mul_left, div-add-mod, mul-div_cancel_left, one-mul, zero-mul, mul-zero, mul-one, mod-lt, mod-mod, mod-eq_of_lt, zero-mod, add_comm, le-mul_of_pos_right, not-suc-le-zero, suc-ne-zero}
+use Rattle.std.proofs.Common.{◌≡◌, ◌≢◌, ℕ, zero, suc, ◌+◌, ◌-◌, ◌*◌, ◌/◌, ◌%◌, ◌<◌, ◌≤◌, ◌⊎◌, Bool, true, false, cond, eqb, ltb, List, [], ◌∷◌, inl, inr, ⊎_elim, sym, refl, ap, ap₂, ◌∙◌, arith, eqb-true, eq-eqb, eq-zero-or-pos}
+use Rattle.std.proofs.Math.Nat.{mul-mod_right, mul_comm, mul_assoc, mul_left_comm, eq_of_mul-eq-mul_left, div-add-mod, mul-div_cancel_left, one-mul, zero-mul, mul-zero, mul-one, mod-lt, mod-eq_of_lt, zero-mod, le-mul_of_pos_right, not-suc-le-zero, suc-ne-zero}
 use Rattle.std.proofs.lemmas.Bool.{false≢true}
 use Rattle.std.proofs.lemmas.Bool.Decides.{nat_tests}
 use Rattle.vm_field.specs.Field.{power}
-use Rattle.vm_field.proofs.PowerLaws.{power-below, power-add, power-multiple, power-power, power-product, power-mod_base, power-zero_base, power-one_base}
+use Rattle.vm_field.proofs.PowerLaws.{power-below, power-add, power-multiple, power-power, power-product, power-mod_base, power-zero_base}
 
 -- what divides a product divides one of its factors
 abbrev pub IsEuclid : ℕ → Type 0
@@ -31,8 +31,8 @@ pigeonhole (suc m) f below apart =
     pigeonhole m (λ i. moved m (f (suc m)) (f i))
     (λ i h. moved-below m (f (suc m)) (f i) (below i (omega arith)) (below (suc m) (omega arith)) (apart i (suc m) (omega arith) (omega arith)))
     (λ i j h k.
-        moved-apart m (f (suc m)) (f i) (f j) (apart i j h (omega arith)) (apart i (suc m) (omega arith) (omega arith))
-        (apart j (suc m) (omega arith) (omega arith)))
+    moved-apart m (f (suc m)) (f i) (f j) (apart i j h (omega arith)) (apart i (suc m) (omega arith) (omega arith))
+    (apart j (suc m) (omega arith) (omega arith)))
 
 -- The first number below n that passes, or that none does.
 abbrev pub FirstBelow : (ℕ → Bool) → ℕ → Type 0
@@ -48,8 +48,10 @@ first_or_none test (suc n) = go (first_or_none test n) (test n) refl
     none_more : NoneBelow test n → test n ≡ false → (j : ℕ) → j < suc n → (j ≡ n) ⊎ (j < n) → test j ≡ false
     none_more none e j h (inl same) = ap test same ∙ e
     none_more none e j h (inr below) = none j below
+
     at_or_below : (j : ℕ) → j < suc n → (j ≡ n) ⊎ (j < n)
     at_or_below j h = grind arith
+
     go : FirstBelow test n ⊎ NoneBelow test n → (b : Bool) → test n ≡ b → FirstBelow test (suc n) ⊎ NoneBelow test (suc n)
     go (inl found) b e = inl (found.0, omega (arith, found.1), found.2, found.3)
     go (inr none) true e = inl (n, omega arith, e, none)
@@ -112,14 +114,17 @@ least_is n g N qs h d positive one least = d_is
         sym (mod-eq_of_lt (power-below n g (N % d) (omega (arith, h.above_one)))) ∙ ap (λ x. x % n) (sym (one-mul (power n g (N % d))))
         ∙ ap (λ x. (x * power n g (N % d)) % n) (sym (power-multiple n g d (N / d) h.above_one one))
         ∙ sym (power-add n g (d * (N / d)) (N % d)) ∙ ap (λ x. power n g x) (div-add-mod N d) ∙ h.round
+
     divides : N % d ≡ 0
     divides = go (eq-zero-or-pos (N % d))
       where
         go : (N % d ≡ 0) ⊎ (0 < N % d) → N % d ≡ 0
         go (inl e) = e
         go (inr above) = absurd (least (N % d) above (mod-lt N positive) rest_one)
+
     whole : N ≡ d * (N / d)
     whole = whole_multiple N d divides
+
     no_factor : (q : ℕ) → IsFactor n g N q → (N / d) % q ≢ 0
     no_factor q f e =
         f.not_early (ap (λ x. power n g x) quotient ∙ power-multiple n g d (N / d / q) h.above_one one)
@@ -128,8 +133,10 @@ least_is n g N qs h d positive one least = d_is
         quotient =
             ap (λ x. x / q) (whole ∙ ap (λ x. d * x) (whole_multiple (N / d) q e) ∙ mul_left_comm d q (N / d / q))
             ∙ mul-div_cancel_left (d * (N / d / q)) f.positive
+
     cofactor : N / d ≡ 1
     cofactor = strip n g N qs d (N / d) h.each (h.factors ∙ whole) no_factor
+
     d_is : d ≡ N
     d_is = sym (mul-one d) ∙ ap (λ x. d * x) (sym cofactor) ∙ sym whole
 
@@ -139,9 +146,11 @@ not_early n g N qs h (suc k) positive below one = go (first_or_none test (suc k)
   where
     test : ℕ → Bool
     test j = eqb (power n g (suc j)) 1
+
     earlier : (d : ℕ) → ((j : ℕ) → j < d → eqb (power n g (suc j)) 1 ≡ false) → (e : ℕ) → 0 < e → e < suc d → power n g e ≢ 1
     earlier d none zero above under one' = absurd (omega arith)
     earlier d none (suc e) above under one' = false≢true (sym (none e (omega arith)) ∙ eq-eqb (power n g (suc e)) 1 one')
+
     go : FirstBelow test (suc k) ⊎ NoneBelow test (suc k) → ⊥
     go (inl found) =
         let d_is : suc found.0 ≡ N = least_is n g N qs h (suc found.0) (omega arith) (eqb-true (power n g (suc found.0)) 1 found.2) (earlier found.0 found.3) in
@@ -154,10 +163,12 @@ powers_differ n g N qs h i j less below same = not_early n g N qs h (j - i) (ome
   where
     to_whole : power n g (i + (N - i)) ≡ 1
     to_whole = ap (λ x. power n g x) (omega arith) ∙ h.round
+
     shifted : power n g (i + (N - i)) ≡ power n g (N + (j - i))
     shifted =
         power-add n g i (N - i) ∙ ap (λ x. (x * power n g (N - i)) % n) same ∙ sym (power-add n g j (N - i))
         ∙ ap (λ x. power n g x) (omega arith)
+
     back : power n g (j - i) ≡ 1
     back =
         sym (mod-eq_of_lt (power-below n g (j - i) (omega (arith, h.above_one)))) ∙ ap (λ x. x % n) (sym (one-mul (power n g (j - i))))
@@ -194,13 +205,14 @@ reach n g N qs h a positive below = go (first_or_none (λ i. eqb (power n g i) a
   where
     missing : NoneBelow (λ i. eqb (power n g i) a) N → (i : ℕ) → i < N → power n g i ≢ a
     missing none i less e = false≢true (sym (none i less) ∙ eq-eqb (power n g i) a e)
+
     go : FirstBelow (λ i. eqb (power n g i) a) N ⊎ NoneBelow (λ i. eqb (power n g i) a) N → (k : ℕ) × (power n g k ≡ a)
     go (inl found) = (found.0, eqb-true (power n g found.0) a found.2)
     go (inr none) =
         absurd (pigeonhole n (listed n g N a) (λ i _. listed-below n g N a (omega arith) below i)
-            (λ i j less low.
-                listed-apart n g N a positive (missing none) (power-not_zero n g N qs h) (powers_differ n g N qs h) i j less
-                (omega (arith, h.whole))))
+        (λ i j less low.
+        listed-apart n g N a positive (missing none) (power-not_zero n g N qs h) (powers_differ n g N qs h) i j less
+        (omega (arith, h.whole))))
 
 -- ---- what follows
 
@@ -216,14 +228,17 @@ Euclid-from_generator n g N qs h a b e = go (eq-zero-or-pos (a % n)) (eq-zero-or
   where
     powered : (x : ℕ) → 0 < x % n → power n x N ≡ 1
     powered x pos = sym (power-mod_base n x N) ∙ fermat n g N qs h (x % n) pos (mod-lt x (omega (arith, h.above_one)))
+
     zero_power : power n (a * b) N ≡ 0
     zero_power = sym (power-mod_base n (a * b) N) ∙ ap₂ (λ x y. power n x y) e (pred_is) ∙ power-zero_base n (N - 1)
       where
         pred_is : N ≡ suc (N - 1)
         pred_is = omega (arith, h.above_one, h.whole)
+
     one_power : 0 < a % n → 0 < b % n → power n (a * b) N ≡ 1
     one_power ha hb =
         power-product n a b N ∙ ap₂ (λ x y. (x * y) % n) (powered a ha) (powered b hb) ∙ mod-eq_of_lt h.above_one
+
     go : (a % n ≡ 0) ⊎ (0 < a % n) → (b % n ≡ 0) ⊎ (0 < b % n) → (a % n ≡ 0) ⊎ (b % n ≡ 0)
     go (inl za) hb = inl za
     go (inr ha) (inl zb) = inr zb

@@ -1,6 +1,6 @@
 -- A text is the canonical decimal of an element exactly where it is what `decimal` writes of it.
-use Rattle.std.proofs.Common.{◌≡◌, ◌≢◌, ℕ, zero, suc, ◌+◌, ◌-◌, ◌*◌, ◌^◌, ◌<◌, ◌≤◌, ◌==◌, ◌⊎◌, ⊎_elim, Bool, true, false, cond, not, ◌&&◌, List, [], ◌∷◌, length, get_or, Option, Some, None, option_and_then, IfSome, decimal, sym, refl, ap, ap₂, subst, ◌∙◌, arith, lit<, rules, eqb-true, eq-eqb, ne_eqb, eq-zero-or-pos}
-use Rattle.std.proofs.lemmas.Bool.{and_parts, false≢true, cases_lt}
+use Rattle.std.proofs.Common.{◌≡◌, ◌≢◌, ℕ, ◌+◌, ◌-◌, ◌*◌, ◌^◌, ◌<◌, ⊎_elim, Bool, true, false, cond, not, ◌&&◌, List, [], ◌∷◌, length, get_or, Option, Some, None, option_and_then, IfSome, decimal, sym, refl, ap, ◌∙◌, arith, lit<, rules, eq-eqb, ne_eqb, eq-zero-or-pos}
+use Rattle.std.proofs.lemmas.Bool.{false≢true, cases_lt}
 use Rattle.std.proofs.lemmas.Fmt.{digits_decimal, digits_value-decimal, decimal-digits_value, decimal_nonempty, first_decimal, decimal_digit, decimal_injective}
 use Rattle.std.proofs.lemmas.Str.Parse.{IsNumeralModel, numerals_by_fold}
 use Rattle.std.specs.Char.{is_ascii_digit}
@@ -44,7 +44,7 @@ decimal-leading : (n : ℕ) → n < 2 ^ 64 → is_without_leading_zero (decimal 
 decimal-leading n small =
     leading (decimal n) (decimal_nonempty n small)
     (λ e. ⊎_elim (λ zero_is. ap (λ m. length (decimal m)) zero_is ∙ ap length (decimal_digit 0 (lit< tt)))
-        (λ above. absurd (omega (arith, first_decimal n above small))) (eq-zero-or-pos n))
+    (λ above. absurd (omega (arith, first_decimal n above small))) (eq-zero-or-pos n))
 
 -- the decimal of an element is read as the element
 pub element_of-decimal : (n : ℕ) → n < prime → element_of (decimal n) ≡ Some n
@@ -53,8 +53,8 @@ element_of-decimal n below =
     let small : n < 2 ^ 64 = omega arith in
     ap (λ b. cond b (option_and_then element_from (decimal_number 0 (decimal n))) None) (decimal-leading n small)
     ∙ ap (option_and_then element_from)
-    ( decimal_number-is 0 (decimal n) ∙ ap (λ b. cond b (Some (read_on 0 (decimal n))) None) (digits_decimal own n small)
-      ∙ ap Some (digits_value-decimal own n small))
+    (decimal_number-is 0 (decimal n) ∙ ap (λ b. cond b (Some (read_on 0 (decimal n))) None) (digits_decimal own n small)
+    ∙ ap Some (digits_value-decimal own n small))
     ∙ element_from-below n below
 
 -- and nothing else is read
@@ -71,6 +71,7 @@ decimal-element_of text n h =
         let begins = leading_back text first in
         let back : decimal (read_on 0 text) ≡ text = decimal-digits_value own text digits begins.0 begins.1 (omega (arith, value.0, value.1)) in
         (sym back ∙ ap decimal value.0, value.1)
+
     go : (a : Bool) → is_without_leading_zero text ≡ a → (b : Bool) → all_ascii_digits text ≡ b
         → cond a (option_and_then element_from (cond b (Some (read_on 0 text)) None)) None ≡ Some n → (text ≡ decimal n) × (n < prime)
     go true first true digits same = found first digits same

@@ -1,8 +1,8 @@
 -- Reading and writing a word's text undo one another, but that what was read in upper case is written in lower case.
-use Rattle.std.proofs.Common.{⊎_elim, subst, ltb-true, ◌≡◌, ℕ, zero, suc, ◌+◌, ◌-◌, ◌*◌, ◌/◌, ◌%◌, ◌^◌, ◌<◌, ◌≤◌, ◌==◌, nat_lt, Bool, true, false, cond, ◌&&◌, ltb, eqb, List, [], ◌∷◌, ◌++◌, length, slice_index, get_or, take, drop, Option, Some, None, option_and_then, All, sym, refl, ap, ap₂, ◌∙◌, arith, pow-suc, length-append, lit<, eqb-true}
-use Rattle.std.proofs.Math.Nat.{div-div-eq-div-mul, div-add-mod', mod-eq_of_lt, mod-lt, div-one}
+use Rattle.std.proofs.Common.{⊎_elim, subst, ltb-true, ◌≡◌, ℕ, zero, suc, ◌+◌, ◌*◌, ◌/◌, ◌%◌, ◌^◌, ◌<◌, ◌≤◌, ◌==◌, nat_lt, Bool, true, false, cond, ◌&&◌, List, [], ◌∷◌, ◌++◌, length, slice_index, take, drop, Option, Some, None, option_and_then, All, sym, refl, ap, ap₂, ◌∙◌, arith, pow-suc, length-append, lit<, eqb-true}
+use Rattle.std.proofs.Math.Nat.{div-div-eq-div-mul, div-add-mod', mod-lt, div-one}
 use Rattle.std.proofs.Math.Seq.{take-append_seam, drop-append_seam}
-use Rattle.std.proofs.lemmas.Bool.{and_parts, cases_lt, false≢true}
+use Rattle.std.proofs.lemmas.Bool.{and_parts, cases_lt}
 use Rattle.std.proofs.lemmas.Bool.Decides.{nat_tests}
 use Rattle.std.proofs.lemmas.List.{take-append-drop, length-take-le, length-drop, map-append}
 use Rattle.std.proofs.lemmas.List.Elements.{All-head, All-tail, All-cons, All-nil}
@@ -27,8 +27,10 @@ mod_step n p pos = ap (λ x. x % (p * 16)) parts ∙ mod-mul-add (n / p / 16) (p
   where
     low : n / p % 16 * p + n % p < p * 16
     low = mul-add-lt (n / p % 16) p (n % p) 16 (omega arith) (mod-lt n pos)
+
     split : (q r s : ℕ) → (q / 16 * 16 + q % 16) * s + r ≡ q / 16 * (s * 16) + (q % 16 * s + r)
     split q r s = omega arith
+
     parts : n ≡ n / p / 16 * (p * 16) + (n / p % 16 * p + n % p)
     parts =
         sym (div-add-mod' n p) ∙ ap (λ x. x * p + n % p) (sym (div-add-mod' (n / p) 16)) ∙ split (n / p) (n % p) p
@@ -105,6 +107,7 @@ digits_write-at (suc n) c h less =
   where
     parts : (digit_writes n (hex_digit_value n) ≡ true) × (digits_write n ≡ true)
     parts = and_parts (digit_writes n (hex_digit_value n)) (digits_write n) h
+
     at_top : n ≤ c → c ≡ n
     at_top top = omega arith
 
@@ -116,10 +119,11 @@ digit_facts c d e = ⊎_elim small (λ above. cc (past_f c above, e)) (cases_lt 
   where
     facts : (nat_lt d 16 ≡ true) × ((slice_index lower_digits d == to_ascii_lowercase c) ≡ true) → (d < 16) × (slice_index lower_digits d ≡ to_ascii_lowercase c)
     facts h = (ltb-true d 16 h.0, eqb-true (slice_index lower_digits d) (to_ascii_lowercase c) h.1)
+
     small : c < 103 → (d < 16) × (slice_index lower_digits d ≡ to_ascii_lowercase c)
     small below =
         facts (and_parts (nat_lt d 16) (slice_index lower_digits d == to_ascii_lowercase c)
-            (sym (ap (digit_writes c) e) ∙ digits_write-at 103 c refl below))
+        (sym (ap (digit_writes c) e) ∙ digits_write-at 103 c refl below))
 
 -- what was read behind n is m: its last digits are the text's, and n stands above them
 abbrev Reads : ℕ → List ℕ → ℕ → Type 0
@@ -140,9 +144,10 @@ reads (c ∷ cs) n m e = go (hex_digit_value c) refl e (λ d h. reads cs (16 * n
         let facts = digit_facts c d is in
         let tail = rest d h in
         let top : m / 16 ^ length cs ≡ 16 * n + d = tail.1 in
-        let digit : m / 16 ^ length cs % 16 ≡ d = omega (arith, facts.0) in
-        ( ap₂ (λ (x : ℕ) (xs : List ℕ). x ∷ xs) (ap (slice_index lower_digits) digit ∙ facts.1) tail.0,
-          ap (λ x. m / x) (pow-suc 16 (length cs)) ∙ sym (div-div-eq-div-mul m (16 ^ length cs) 16) ∙ omega (arith, facts.0))
+        let digit : m / 16 ^ length cs % 16 ≡ d = omega (arith, facts.0) in (
+          ap₂ (λ (x : ℕ) (xs : List ℕ). x ∷ xs) (ap (slice_index lower_digits) digit ∙ facts.1) tail.0,
+          ap (λ x. m / x) (pow-suc 16 (length cs)) ∙ sym (div-div-eq-div-mul m (16 ^ length cs) 16) ∙ omega (arith, facts.0),
+        )
 
 element_reads : (text : List ℕ) (e : ℕ) → length text ≡ 16 → element_of_hex text ≡ Some e
     → (hex_digits 16 e ≡ str_to_ascii_lowercase text) × (e < prime)
@@ -178,9 +183,11 @@ elements_read (suc k) text w len h =
         let first = element_reads (take 16 text) e (length-take-le 16 text (omega arith)) is in
         let later = rest es are in
         let w_is : e ∷ es ≡ w = cc in
-        subst (IsRead (suc k) text) w_is
-        ( ap₂ (λ (xs ys : List ℕ). xs ++ ys) first.0 later.0 ∙ sym (map-append to_ascii_lowercase (take 16 text) (drop 16 text)) ∙ ap str_to_ascii_lowercase (take-append-drop 16 text),
-          ap suc later.1, All-cons (λ x. x < prime) e es first.1 later.2)
+        subst (IsRead (suc k) text) w_is (
+          ap₂ (λ (xs ys : List ℕ). xs ++ ys) first.0 later.0 ∙ sym (map-append to_ascii_lowercase (take 16 text) (drop 16 text)) ∙ ap str_to_ascii_lowercase (take-append-drop 16 text),
+          ap suc later.1,
+          All-cons (λ x. x < prime) e es first.1 later.2,
+        )
 
 -- a word that is read is four elements, and is written as the text in lower case
 pub word_hex-word_of_hex : (text w : List ℕ) → word_of_hex text ≡ Some w → IsRead 4 text w

@@ -1,19 +1,18 @@
 -- Hexadecimal digits: what the crate `hex` makes of a number's bytes, and reading against writing.
-use Rattle.std.proofs.Common.{◌≡◌, ◌≢◌, ℕ, zero, suc, ◌+◌, ◌-◌, ◌*◌, ◌/◌, ◌%◌, ◌^◌, ◌<◌, ◌≤◌, Bool, true, false, cond, List, [], ◌∷◌, ◌++◌, length, slice_index, get_or, take, drop, Option, Some, None, Ok, Err, Result, option_map, option_and_then, sym, refl, ap, ap₂, ◌∙◌, arith, pow-suc, drop-drop, append_assoc, length-append, subst, IsAscii, ◌&&◌, nat_lt, ltb-true, ne_eqb, ◌==◌}
-use Rattle.std.proofs.Math.Nat.{div-div-eq-div-mul, mul_comm, div-add-mod', mul-add-mod_self_right, mod-eq_of_lt, mod-lt, div-one, pow-zero}
+use Rattle.std.proofs.Common.{◌≡◌, ◌≢◌, ℕ, zero, suc, ◌+◌, ◌*◌, ◌/◌, ◌%◌, ◌^◌, Bool, true, cond, List, [], ◌∷◌, ◌++◌, length, slice_index, get_or, take, drop, Option, Some, None, Ok, Err, Result, option_map, option_and_then, sym, refl, ap, ap₂, ◌∙◌, arith, pow-suc, drop-drop, append_assoc, length-append, subst, IsAscii, ◌&&◌, nat_lt, ltb-true, ne_eqb, ◌==◌}
+use Rattle.std.proofs.Math.Nat.{div-div-eq-div-mul, div-one}
 use Rattle.std.proofs.Math.Seq.{take-append_seam, drop-append_seam}
 use Rattle.std.specs.Result.{MatchResult}
 use borrow.Rule.Slice.PartMut.{put_mid}
 use Rattle.std.proofs.lemmas.Bool.{and_parts}
-use Rattle.std.proofs.lemmas.Nat.{pow_pos, mod-mul-add, div-mul-add}
-use Rattle.std.specs.Int.{bytes_high_first, byte_at, byte_worth, to_be_bytes, from_be_bytes, w64}
+use Rattle.std.specs.Int.{bytes_high_first, byte_at, to_be_bytes, from_be_bytes, w64}
 use Rattle.hex.proofs.HexLemmas.{IsAscii-encode_with}
 use Rattle.std.proofs.lemmas.Str.Ascii.{IsAscii-nil, IsAscii-cons}
 use Rattle.std.proofs.lemmas.Str.{IsAscii-append}
-use Rattle.hex.specs.Hex.{lower_digits, encode_with, encode_lower, hex_digit_value, decode_pairs, decode_sized, digit_or_error, value_at, pair_value, ◌>>=◌}
+use Rattle.hex.specs.Hex.{lower_digits, encode_with, encode_lower, hex_digit_value, decode_pairs, decode_sized, digit_or_error, ◌>>=◌}
 use Rattle.hex.specs.declared.error.FromHexError.{FromHexError}
 use Rattle.std.specs.Result.{result_ok}
-use Rattle.vm_field.specs.Field.{prime, element_from}
+use Rattle.vm_field.specs.Field.{element_from}
 use Rattle.vm_field.specs.WordText.{hex_digits, word_hex, hex_number, element_of_hex, elements_of_hex, word_of_hex}
 
 -- ---- writing
@@ -192,26 +191,32 @@ unfolding word_hex encode_with
 four_writes a b c d p q r s rest ep eq er es none =
     ap encode_lower bytes ∙ encode_lower-append p (q ++ (r ++ (s ++ [])))
     ∙ ap₂ ◌++◌ (written a p ep)
-    ( encode_lower-append q (r ++ (s ++ []))
-      ∙ ap₂ ◌++◌ (written b q eq)
-      (encode_lower-append r (s ++ []) ∙ ap₂ ◌++◌ (written c r er) (encode_lower-append s [] ∙ ap₂ ◌++◌ (written d s es) nothing)))
+    (encode_lower-append q (r ++ (s ++ []))
+    ∙ ap₂ ◌++◌ (written b q eq)
+    (encode_lower-append r (s ++ []) ∙ ap₂ ◌++◌ (written c r er) (encode_lower-append s [] ∙ ap₂ ◌++◌ (written d s es) nothing)))
   where
     nothing : encode_lower [] ≡ []
     nothing = refl
+
     written : (n : ℕ) (xs : List ℕ) → xs ≡ to_be_bytes w64 n → encode_lower xs ≡ hex_digits 16 n
     written n xs e = ap encode_lower e ∙ encode_lower-to_be_bytes n
+
     eight : (n : ℕ) (xs : List ℕ) → xs ≡ to_be_bytes w64 n → length xs ≡ 8
     eight n xs e = ap length e
+
     two : put_mid 8 8 (p ++ rest) q ≡ (p ++ q) ++ drop 8 rest
     two = put_next 8 8 p rest q (eight a p ep) ∙ sym (append_assoc p q (drop 8 rest))
+
     three : put_mid 16 8 ((p ++ q) ++ drop 8 rest) r ≡ ((p ++ q) ++ r) ++ drop 8 (drop 8 rest)
     three =
         put_next 16 8 (p ++ q) (drop 8 rest) r (omega (arith, length-append p q, eight a p ep, eight b q eq))
         ∙ sym (append_assoc (p ++ q) r (drop 8 (drop 8 rest)))
+
     four : put_mid 24 8 (((p ++ q) ++ r) ++ drop 8 (drop 8 rest)) s ≡ ((p ++ q) ++ r) ++ (s ++ drop 8 (drop 8 (drop 8 rest)))
     four =
         put_next 24 8 ((p ++ q) ++ r) (drop 8 (drop 8 rest)) s
         (omega (arith, length-append (p ++ q) r, length-append p q, eight a p ep, eight b q eq, eight c r er))
+
     bytes : put_mid 24 8 (put_mid 16 8 (put_mid 8 8 (p ++ rest) q) r) s ≡ p ++ (q ++ (r ++ (s ++ [])))
     bytes =
         ap (λ xs. put_mid 24 8 (put_mid 16 8 xs r) s) two ∙ ap (λ xs. put_mid 24 8 xs s) three ∙ four

@@ -1,9 +1,9 @@
 -- Inverses and seventh roots modulo the prime.
 use Rattle.std.proofs.Common.{◌≡◌, ◌≢◌, ℕ, zero, suc, ◌+◌, ◌-◌, ◌*◌, ◌%◌, ◌<◌, Bool, true, false, eqb, ◌==◌, cond, sym, refl, ap, ◌∙◌, arith, eqb-true, eq-eqb, lit<}
 use Rattle.std.proofs.lemmas.Bool.{false≢true}
-use Rattle.std.proofs.Math.Nat.{mul_comm, mul_assoc, one-mul, mul-one, mod-lt, mod-eq_of_lt, mod-mod, mul-zero, zero-mul}
+use Rattle.std.proofs.Math.Nat.{mul_comm, mul_assoc, one-mul, mul-one, mod-eq_of_lt, mod-mod}
 use Rattle.std.proofs.lemmas.Nat.{mul-mod_first, mul-mod_second}
-use Rattle.vm_field.specs.Field.{prime, felt_mul, felt_pow, felt_inv, seventh_root, power, one_below}
+use Rattle.vm_field.specs.Field.{prime, felt_mul, felt_pow, felt_inv, seventh_root, one_below}
 use Rattle.vm_field.proofs.PowerLaws.{power-below, power-add, power-suc, power-one, power-power, power-multiple, power-zero_base}
 use Rattle.vm_field.proofs.Prime.{fermat-prime}
 
@@ -19,6 +19,7 @@ one_below-passes test (suc n) k below pass = go (test n) refl (λ less. one_belo
     less_from fails =
         let ne : k ≢ n = λ e. false≢true (sym fails ∙ ap test (sym e) ∙ pass) in
         omega arith
+
     go : (b : Bool) → test n ≡ b → (k < n → (test (one_below test n) ≡ true) × (one_below test n < n))
         → (test (cond b n (one_below test n)) ≡ true) × (cond b n (one_below test n) < suc n)
     go true e rest = (e, omega arith)

@@ -1,9 +1,9 @@
 -- The order of memory places is total, and ties a place with itself alone; so a word that is written is read there
 -- and nowhere else.
-use Rattle.std.proofs.Common.{◌≡◌, ◌≢◌, ℕ, List, Some, sym, refl, ap, ap₂, ◌∙◌, cond, true, false, Bool, Ordering, Less, Equal, Greater, unwrap_or}
+use Rattle.std.proofs.Common.{◌≡◌, ◌≢◌, ℕ, List, Some, refl, ap, ap₂, ◌∙◌, cond, false, Ordering, Less, Equal, Greater, unwrap_or}
 use Rattle.std.specs.Cmp.{IsTotalOrder}
 use Rattle.std.specs.FinMap.{IsAntisymmetric, nat_cmp-IsAntisymmetric, get, insert, get-insert}
-use Rattle.std.specs.Ordering.{nat_cmp, ordering_then, eq_by_cmp, is_eq}
+use Rattle.std.specs.Ordering.{nat_cmp, ordering_then, is_eq}
 use Rattle.std.proofs.lemmas.Cmp.{nat_cmp_total, on_total, then_total, tied_itself}
 use Rattle.vm_field.specs.Machine.{place_cmp, WordMap, word_at, zero_word}
 
@@ -26,7 +26,7 @@ pub word_at-insert_same : (memory : WordMap) (context address : ℕ) (word : Lis
 word_at-insert_same memory context address word =
     ap (λ o. unwrap_or o zero_word)
     (get-insert place_cmp_total memory (context, address) word (context, address)
-        ∙ ap (λ o. cond (is_eq o) (Some word) (get memory (context, address))) (tied_itself place_cmp_total (context, address)))
+    ∙ ap (λ o. cond (is_eq o) (Some word) (get memory (context, address))) (tied_itself place_cmp_total (context, address)))
 
 apart : (a b : ℕ × ℕ) → a ≢ b → is_eq (place_cmp a b) ≡ false
 apart a b differ = go (place_cmp a b) refl
@@ -42,4 +42,4 @@ pub word_at-insert_other : (memory : WordMap) (place : ℕ × ℕ) (word : List 
 word_at-insert_other memory place word context address differ =
     ap (λ o. unwrap_or o zero_word)
     (get-insert place_cmp_total memory place word (context, address)
-        ∙ ap (λ b. cond b (Some word) (get memory (context, address))) (apart (context, address) place differ))
+    ∙ ap (λ b. cond b (Some word) (get memory (context, address))) (apart (context, address) place differ))

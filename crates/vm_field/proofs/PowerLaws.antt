@@ -1,6 +1,6 @@
 -- Powers modulo n.
-use Rattle.std.proofs.Common.{◌≡◌, ℕ, zero, suc, ◌+◌, ◌*◌, ◌/◌, ◌%◌, ◌^◌, ◌<◌, sym, refl, ap, ap₂, ◌∙◌, arith, add-one}
-use Rattle.std.proofs.Math.Nat.{pow-zero, pow-suc, one-mul, mul-one, add-zero, mul_comm, mul-suc, mul-zero, div-add-mod', mod-lt, zero-mod, div-lt_iff_lt-mul, mod-mod, mod-eq_of_lt}
+use Rattle.std.proofs.Common.{◌≡◌, ℕ, zero, suc, ◌+◌, ◌*◌, ◌/◌, ◌%◌, ◌^◌, ◌<◌, sym, ap, ap₂, ◌∙◌, arith}
+use Rattle.std.proofs.Math.Nat.{pow-zero, pow-suc, one-mul, mul-one, mul-suc, mul-zero, div-add-mod', mod-lt, zero-mod, mod-mod, mod-eq_of_lt}
 use Rattle.std.proofs.lemmas.Nat.{pow-add, mul-pow, pow-mod, mul-mod_first, mul-mod_second, mul-mod}
 use Rattle.vm_field.specs.Field.{power}
 
@@ -90,6 +90,7 @@ power-turn_odd n p b e odd =
   where
     turned : (h : ℕ) → p * b * h ≡ p * (h * b)
     turned h = omega arith
+
     whole : power n b e ≡ (power n ((b * b) % n) (e / 2) * b) % n
     whole =
         power-halved n b e

@@ -1,11 +1,10 @@
 -- 2^64 - 2^32 + 1 is prime, since 7 generates the remainders other than 0, and what follows for powers, inverses
 -- and seventh roots.
-use Rattle.std.proofs.Common.{◌≡◌, ◌≢◌, ℕ, zero, suc, ◌+◌, ◌-◌, ◌*◌, ◌/◌, ◌%◌, ◌^◌, ◌<◌, ◌≤◌, ◌⊎◌, Bool, true, false, eqb, cond, List, [], ◌∷◌, inl, inr, ⊎_elim, sym, refl, ap, ap₂, ◌∙◌, arith, eqb-true, eq-eqb, eq-zero-or-pos, lit<}
-use Rattle.std.proofs.Math.Nat.{mul-mod_right, div-add-mod, mul_comm, one-mul, mul-one, mul-zero, mod-lt, mod-mod, mod-eq_of_lt, mul-le-mul_right, mod_self, zero-mul}
+use Rattle.std.proofs.Common.{◌≡◌, ◌≢◌, ℕ, zero, suc, ◌+◌, ◌-◌, ◌*◌, ◌/◌, ◌%◌, ◌^◌, ◌<◌, ◌⊎◌, false, eqb, List, [], ◌∷◌, inl, inr, sym, refl, ap, ◌∙◌, arith, eq-eqb, lit<}
+use Rattle.std.proofs.Math.Nat.{div-add-mod, one-mul, mul-zero, mod-eq_of_lt, mul-le-mul_right, mod_self}
 use Rattle.std.proofs.lemmas.Bool.{false≢true}
-use Rattle.std.proofs.lemmas.Nat.{mul-mod_first, mul-mod_second}
-use Rattle.vm_field.specs.Field.{prime, felt_add, felt_sub, felt_mul, felt_pow, felt_inv, seventh_root, power, one_below}
-use Rattle.vm_field.proofs.PowerLaws.{fast_power, power-fast, power-below, power-add, power-suc, power-zero, power-one, power-power, power-product, power-mod_base, power-one_base, power-multiple, power-zero_base}
+use Rattle.vm_field.specs.Field.{prime, felt_pow, power}
+use Rattle.vm_field.proofs.PowerLaws.{fast_power, power-fast, power-suc, power-zero_base}
 use Rattle.vm_field.proofs.Cyclic.{IsEuclid, IsFactor, AllFactors, Generates, product, fermat, Euclid-from_generator}
 
 -- k copies of a number before a list
@@ -85,11 +84,16 @@ generated = record {
   round = power-fast 64 prime 7 (prime - 1) (lit< tt);
   factors = refl;
   each =
-      repeated prime 7 (prime - 1) 32 2 (3 ∷ 5 ∷ 17 ∷ 257 ∷ 65537 ∷ []) (of_seven 2 (lit< tt) Euclid-2 (lit< tt) refl)
-      ( of_seven 3 (lit< tt) Euclid-3 (lit< tt) refl,
-        ( of_seven 5 (lit< tt) Euclid-5 (lit< tt) refl,
-          ( of_seven 17 (lit< tt) Euclid-17 (lit< tt) refl,
-            (of_seven 257 (lit< tt) Euclid-257 (lit< tt) refl, (of_seven 65537 (lit< tt) Euclid-65537 (lit< tt) refl, tt)))));
+      repeated prime 7 (prime - 1) 32 2 (3 ∷ 5 ∷ 17 ∷ 257 ∷ 65537 ∷ []) (of_seven 2 (lit< tt) Euclid-2 (lit< tt) refl) (
+        of_seven 3 (lit< tt) Euclid-3 (lit< tt) refl,
+        (
+          of_seven 5 (lit< tt) Euclid-5 (lit< tt) refl,
+          (
+            of_seven 17 (lit< tt) Euclid-17 (lit< tt) refl,
+            (of_seven 257 (lit< tt) Euclid-257 (lit< tt) refl, (of_seven 65537 (lit< tt) Euclid-65537 (lit< tt) refl, tt)),
+          ),
+        ),
+      );
 }
 
 -- a product is 0 only where a factor is
@@ -109,6 +113,7 @@ no_divisor d above below divides = go (Euclid-prime d (prime / d) (ap (λ x. x %
       where
         go : (x r : ℕ) → r ≡ 0 → x + r ≡ prime → x ≡ prime
         go x r e sum = omega arith
+
     go : (d % prime ≡ 0) ⊎ ((prime / d) % prime ≡ 0) → ⊥
     go (inl e) = absurd (omega arith)
     go (inr e) = quotient_small d (prime / d) above whole e

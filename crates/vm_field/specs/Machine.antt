@@ -2,7 +2,7 @@
 use Rattle.std.specs.Prelude.{◌≡◌, ℕ, ◌-◌, ◌^◌, Bool, false, List, [], ◌∷◌, ◌++◌, length, replicate, unwrap_or}
 use Rattle.std.specs.declared.cmp.Ordering.{Ordering}
 use Rattle.std.specs.Ordering.{nat_cmp, ordering_then}
-use Rattle.std.specs.FinMap.{FinMap, get, insert, empty}
+use Rattle.std.specs.FinMap.{FinMap, get, empty}
 
 -- memory places, by context and then by address
 abbrev pub place_cmp : ℕ × ℕ → ℕ × ℕ → Ordering
@@ -24,16 +24,16 @@ word_at memory context address = unwrap_or (get memory (context, address)) zero_
 pub record Core : Type 0 where
   pub clock : ℕ
   pub context : ℕ
-  pub fmp : ℕ            -- the frame pointer
+  pub fmp : ℕ  -- the frame pointer
   pub in_syscall : Bool
-  pub digest : List ℕ    -- of the function that runs
-  pub nesting : ℕ        -- blocks started and not ended
-  pub stack : List ℕ     -- top first, at least sixteen cells
+  pub digest : List ℕ  -- of the function that runs
+  pub nesting : ℕ  -- blocks started and not ended
+  pub stack : List ℕ  -- top first, at least sixteen cells
   pub memory : WordMap
 
 pub record State : Type 0 where
   pub core : Core
-  pub tape : List ℕ      -- the advice that is left
+  pub tape : List ℕ  -- the advice that is left
 
 -- at least sixteen cells: zeros stand below
 abbrev pub filled_up : List ℕ → List ℕ

@@ -7,8 +7,8 @@ use Rattle.vm_field.specs.Field.{prime, felt_add, felt_pow, seventh_root}
 unfoldable pub row_product : List ℕ → ℕ
 row_product x =
     (7 * slice_index x 0 + 23 * slice_index x 1 + 8 * slice_index x 2 + 26 * slice_index x 3
-        + 13 * slice_index x 4 + 10 * slice_index x 5 + 9 * slice_index x 6 + 7 * slice_index x 7
-        + 6 * slice_index x 8 + 22 * slice_index x 9 + 21 * slice_index x 10 + 8 * slice_index x 11) % prime
+    + 13 * slice_index x 4 + 10 * slice_index x 5 + 9 * slice_index x 6 + 7 * slice_index x 7
+    + 6 * slice_index x 8 + 22 * slice_index x 9 + 21 * slice_index x 10 + 8 * slice_index x 11) % prime
 
 -- the state rotated left by i places
 abbrev pub rotated : ℕ → List ℕ → List ℕ

@@ -3,13 +3,11 @@ ghost use Rattle.std.specs.Result.{result_ok};
 ghost use Rattle.vm_field.specs.Decimal.{element_of};
 ghost use Rattle.vm_field.specs.Field.{prime, element_from, felt_add, felt_sub, felt_mul, felt_neg};
 
+use crate::refusal::{Memory, NotCanonical};
 use itoa::Buffer;
 use std::alloc::Global;
-use std::fmt;
 use std::marker::Model;
-use std::str;
-
-use crate::refusal::{Memory, NotCanonical};
+use std::{fmt, str};
 
 /// 2^64 - 2^32 + 1.
 pub(crate) const PRIME: u64 = 18446744069414584321;

@@ -22,8 +22,7 @@ pub fn field_laws()
     ensures root_below { (x : ℕ) → x < prime → seventh_root x < prime }
     ensures root_unique { (x y : ℕ) → x < prime → y < prime → felt_pow y 7 ≡ x
         → y ≡ seventh_root x }
-{
-}
+{}
 
 /// The laws of the texts: what was written is read as it was, and what is read is the text of what
 /// it gives; a word's text may be in either case, and is written in lower case.
@@ -38,8 +37,7 @@ pub fn text_laws()
         → word_hex w ≡ str_to_ascii_lowercase text }
     ensures word_elements { (text w : List ℕ) → word_of_hex text ≡ Some w
         → (length w ≡ 4) × All (λ e. e < prime) w }
-{
-}
+{}
 
 fn crosses<T: Send + Sync>() {}
 

@@ -7,6 +7,8 @@ mod laws;
 mod lists;
 mod powers;
 mod refusal;
+#[cfg(test)]
+mod tests;
 mod word;
 
 pub use element::Felt;

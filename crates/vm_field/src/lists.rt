@@ -1,15 +1,14 @@
 ghost use Rattle.std.specs.Prelude.{◌≡◌, ◌↔◌, ℕ, ◌<◌, List, [], ◌∷◌, ◌++◌, length, slice_get, slice_index, IsTrue, OnOk, OnErr, IfOk};
 ghost use Rattle.vm_field.specs.Field.{prime};
 
-use std::alloc::Global;
-use std::marker::Model;
-
 use crate::element::Felt;
 use crate::refusal::Memory;
 use crate::word::Word;
+use std::alloc::Global;
+use std::marker::Model;
 
 /// A list of elements.
-#[derive(Drop)]
+#[derive(Debug, Drop)]
 pub struct Felts {
     items: Vec<Felt>,
 }
@@ -25,7 +24,9 @@ impl Felts {
     pub fn new(alloc: Global) -> Felts
         ensures empty { result ≡ [] }
     {
-        Felts { items: Vec::new(alloc) }
+        Felts {
+            items: Vec::new(alloc),
+        }
     }
 
     /// The list of a vector's items. It allocates nothing.
@@ -39,7 +40,9 @@ impl Felts {
     pub fn copied(alloc: Global, elements: &[Felt]) -> Result<Felts, Memory>
         ensures items { IfOk result (λ copy. copy ≡ elements.now) }
     {
-        Ok(Felts { items: Vec::from_slice(alloc, elements)? })
+        Ok(Felts {
+            items: Vec::from_slice(alloc, elements)?,
+        })
     }
 
     /// Adds an element at the end. At `Memory` the list is as before.
@@ -94,7 +97,7 @@ pub fn felt_at(elements: &[Felt], i: usize) -> Felt
 }
 
 /// A list of bytes.
-#[derive(Drop)]
+#[derive(Debug, Drop)]
 pub struct Bytes {
     items: Vec<u8>,
 }
@@ -110,7 +113,9 @@ impl Bytes {
     pub fn new(alloc: Global) -> Bytes
         ensures empty { result ≡ [] }
     {
-        Bytes { items: Vec::new(alloc) }
+        Bytes {
+            items: Vec::new(alloc),
+        }
     }
 
     /// The list of a vector's items. It allocates nothing.
@@ -124,7 +129,9 @@ impl Bytes {
     pub fn copied(alloc: Global, bytes: &[u8]) -> Result<Bytes, Memory>
         ensures items { IfOk result (λ copy. copy ≡ bytes.now) }
     {
-        Ok(Bytes { items: Vec::from_slice(alloc, bytes)? })
+        Ok(Bytes {
+            items: Vec::from_slice(alloc, bytes)?,
+        })
     }
 
     /// Adds a byte at the end. At `Memory` the list is as before.
@@ -168,7 +175,7 @@ impl Bytes {
 }
 
 /// A list of words.
-#[derive(Drop)]
+#[derive(Debug, Drop)]
 pub struct Words {
     items: Vec<Word>,
 }
@@ -184,7 +191,9 @@ impl Words {
     pub fn new(alloc: Global) -> Words
         ensures empty { result ≡ [] }
     {
-        Words { items: Vec::new(alloc) }
+        Words {
+            items: Vec::new(alloc),
+        }
     }
 
     /// The list of a vector's items. It allocates nothing.
@@ -198,7 +207,9 @@ impl Words {
     pub fn copied(alloc: Global, words: &[Word]) -> Result<Words, Memory>
         ensures items { IfOk result (λ copy. copy ≡ words.now) }
     {
-        Ok(Words { items: Vec::from_slice(alloc, words)? })
+        Ok(Words {
+            items: Vec::from_slice(alloc, words)?,
+        })
     }
 
     /// Adds a word at the end. At `Memory` the list is as before.
@@ -241,4 +252,67 @@ impl Words {
         let _ = word.elements();
         word
     }
+}
+
+impl PartialEq for Felts {
+    ghost use Rattle.std.specs.Prelude.{nat_eq};
+    ghost use Rattle.std.specs.Cmp.{partial_equiv_from_equiv};
+    ghost use Rattle.std.proofs.lemmas.Cmp.{nat_list_eq_equiv, lists_equiv};
+    ghost use lib.Pointwise.{pointwise};
+
+    ghost eq = { pointwise nat_eq };
+
+    ghost laws = { partial_equiv_from_equiv nat_list_eq_equiv };
+
+    fn eq(&self, other: &Felts) -> bool {
+        self.items == other.items
+    }
+}
+
+impl Eq for Felts {
+    ghost use Rattle.std.proofs.lemmas.Cmp.{nat_list_eq_equiv, lists_equiv};
+
+    ghost laws = { nat_list_eq_equiv };
+}
+
+impl PartialEq for Bytes {
+    ghost use Rattle.std.specs.Prelude.{nat_eq};
+    ghost use Rattle.std.specs.Cmp.{partial_equiv_from_equiv};
+    ghost use Rattle.std.proofs.lemmas.Cmp.{nat_list_eq_equiv, lists_equiv};
+    ghost use lib.Pointwise.{pointwise};
+
+    ghost eq = { pointwise nat_eq };
+
+    ghost laws = { partial_equiv_from_equiv nat_list_eq_equiv };
+
+    fn eq(&self, other: &Bytes) -> bool {
+        self.items == other.items
+    }
+}
+
+impl Eq for Bytes {
+    ghost use Rattle.std.proofs.lemmas.Cmp.{nat_list_eq_equiv, lists_equiv};
+
+    ghost laws = { nat_list_eq_equiv };
+}
+
+impl PartialEq for Words {
+    ghost use Rattle.std.specs.Prelude.{nat_eq};
+    ghost use Rattle.std.specs.Cmp.{partial_equiv_from_equiv};
+    ghost use Rattle.std.proofs.lemmas.Cmp.{nat_list_eq_equiv, lists_equiv};
+    ghost use lib.Pointwise.{pointwise};
+
+    ghost eq = { pointwise (pointwise nat_eq) };
+
+    ghost laws = { partial_equiv_from_equiv (lists_equiv nat_list_eq_equiv) };
+
+    fn eq(&self, other: &Words) -> bool {
+        self.items == other.items
+    }
+}
+
+impl Eq for Words {
+    ghost use Rattle.std.proofs.lemmas.Cmp.{nat_list_eq_equiv, lists_equiv};
+
+    ghost laws = { lists_equiv nat_list_eq_equiv };
 }

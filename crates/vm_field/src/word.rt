@@ -3,13 +3,11 @@ ghost use Rattle.hex.specs.Hex.{encode_lower};
 ghost use Rattle.vm_field.specs.Field.{prime};
 ghost use Rattle.vm_field.specs.WordText.{word_hex, word_of_hex, element_of_hex};
 
-use std::alloc::Global;
-use std::fmt;
-use std::marker::Model;
-use std::str;
-
 use crate::element::Felt;
 use crate::refusal::Memory;
+use std::alloc::Global;
+use std::marker::Model;
+use std::{fmt, str};
 
 /// Four elements, as a digest or a word of memory has them. It is seen as the list of the four.
 #[derive(Clone, Copy, Debug, PartialEq, Eq, PartialOrd, Ord, Hash)]

@@ -1,4 +1,4 @@
-use Rattle.std.proofs.Common.{◌≡◌, ℕ, ◌*◌, ◌/◌, ◌%◌, ◌<◌, lit<, sym, ap, ◌∙◌, arith, one-mul, mul-one}
+use Rattle.std.proofs.Common.{ℕ, ◌*◌, ◌/◌, ◌%◌, lit<, sym, ap, ◌∙◌, arith, one-mul, mul-one}
 use Rattle.std.proofs.Math.Nat.{mod-eq_of_lt}
 use Rattle.vm_field.specs.Field.{prime, felt_pow}
 use Rattle.vm_field.proofs.PowerLaws.{power-below, power-turn_odd, power-turn_even, power-zero}
@@ -17,15 +17,17 @@ loop-rest-preserved c =
     let e = c.loop-rest.rest in
     let squared = λ (x : ℕ). ap (λ y. x * felt_pow y (e / 2) % prime) c.mul-base.ensures in
     elim c.if-rest-eq1.branch [
-      then-rest-eq1 w ↦
-          let is = w.product-is ∙ w.mul-product.ensures in
-          ( omega (arith, is),
+      | then-rest-eq1 w ↦
+          let is = w.product-is ∙ w.mul-product.ensures in (
+            omega (arith, is),
             squared c.if-rest-eq1.product ∙ ap (λ x. x * felt_pow (b * b % prime) (e / 2) % prime) is
-            ∙ power-turn_odd prime p b e w.if-rest-eq1.true ∙ c.loop-rest.invariant.1)
-      | else-rest-eq1 w ↦
-          ( omega (arith, w.product-is),
-            squared c.if-rest-eq1.product ∙ ap (λ x. x * felt_pow (b * b % prime) (e / 2) % prime) w.product-is
-            ∙ power-turn_even prime p b e (omega (arith, w.if-rest-eq1.false)) ∙ c.loop-rest.invariant.1)
+                ∙ power-turn_odd prime p b e w.if-rest-eq1.true ∙ c.loop-rest.invariant.1,
+          )
+      | else-rest-eq1 w ↦ (
+        omega (arith, w.product-is),
+        squared c.if-rest-eq1.product ∙ ap (λ x. x * felt_pow (b * b % prime) (e / 2) % prime) w.product-is
+            ∙ power-turn_even prime p b e (omega (arith, w.if-rest-eq1.false)) ∙ c.loop-rest.invariant.1,
+      )
     ]
 
 pub returns-clause-is : goal.returns-clause-is

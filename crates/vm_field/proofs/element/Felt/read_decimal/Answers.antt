@@ -30,9 +30,9 @@ returns-in_default-parse c =
     let text = c.args.text.now in
     let value =
     sym (element_of-none text
-        (λ n below is.
-            c.in_default-parse.not-Ok n
-            (parse-decimal 64 n _ _ (omega arith) (omega arith) (c.in-Ok.ensures.cases.0 ∙ is) c.parse.ensures.value.0))) in
+    (λ n below is.
+    c.in_default-parse.not-Ok n
+    (parse-decimal 64 n _ _ (omega arith) (omega arith) (c.in-Ok.ensures.cases.0 ∙ is) c.parse.ensures.value.0))) in
     record {
       value = value;
       text = tt;
@@ -61,9 +61,9 @@ returns-else-eq c =
     let number = c.in-Ok-parse.number in
     let other : (n : ℕ) → n < prime → text ≡ decimal n → ⊥ =
     λ n below is.
-        let parsed = parse-decimal 64 n _ _ (omega arith) (omega arith) (c.in-Ok.ensures.cases.0 ∙ is) c.parse.ensures.value.0 in
-        let same : number ≡ n = cc in
-        false≢true (sym c.if-eq.false ∙ c.eq.ensures ∙ (bytes_eq-Decides _ _).1 (c.format.ensures.text ∙ ap decimal same ∙ sym is ∙ sym c.in-Ok.ensures.cases.0)) in
+    let parsed = parse-decimal 64 n _ _ (omega arith) (omega arith) (c.in-Ok.ensures.cases.0 ∙ is) c.parse.ensures.value.0 in
+    let same : number ≡ n = cc in
+    false≢true (sym c.if-eq.false ∙ c.eq.ensures ∙ (bytes_eq-Decides _ _).1 (c.format.ensures.text ∙ ap decimal same ∙ sym is ∙ sym c.in-Ok.ensures.cases.0)) in
     let value = sym (element_of-none text other) in
     record {
       value = value;

@@ -1,4 +1,4 @@
-use Rattle.std.proofs.Common.{◌≡◌, ℕ, Some, None, Option, length, sym, refl, ◌∙◌, arith}
+use Rattle.std.proofs.Common.{Some, None, sym, refl, ◌∙◌, arith}
 use Rattle.vm_field.proofs.HexText.{word_of_hex-parts, word_of_hex-other_length}
 use Rattle.vm_field.proofs.word.Word.from_hex.Goals as goal
 
