@@ -1,0 +1,9 @@
+pub mod PowerLaws
+pub mod Cyclic
+pub mod Prime
+pub mod Inverses
+pub mod Algebra
+pub mod Places
+pub mod HexText
+pub mod HexLaws
+pub mod DecimalText

@@ -1,9 +1,13 @@
 -- Arithmetic modulo the prime 2^64 - 2^32 + 1. An element of the field is a number below it.
-use Rattle.std.specs.Prelude.{ℕ, zero, suc, ◌+◌, ◌-◌, ◌*◌, ◌%◌, ◌^◌, Bool, ◌==◌, if◌then◌else◌}
+use Rattle.std.specs.Prelude.{ℕ, zero, suc, ◌+◌, ◌-◌, ◌*◌, ◌%◌, ◌^◌, Bool, ◌==◌, nat_lt, if◌then◌else◌, Option, Some, None}
 
 -- 2^64 - 2^32 + 1
 abbrev pub prime : ℕ
 prime = 18446744069414584321
+
+-- the element of a number, if it is one
+abbrev pub element_from : ℕ → Option ℕ
+element_from n = if nat_lt n prime then Some n else None
 
 abbrev pub felt_add : ℕ → ℕ → ℕ
 felt_add a b = (a + b) % prime

@@ -3,3 +3,5 @@ pub mod Permutation
 pub mod Sponge
 pub mod Machine
 pub mod FileName
+pub mod WordText
+pub mod Decimal

@@ -1,13 +1,16 @@
-ghost use Rattle.std.specs.Prelude.{◌≡◌, ℕ, ◌+◌, ◌-◌, ◌*◌, ◌%◌, ◌<◌, ◌≤◌, ◌↔◌, IsErr, IfOk, IfErr, decimal, string_bytes};
-ghost use Rattle.vm_field.specs.Field.{prime, felt_add, felt_sub, felt_mul, felt_neg};
+ghost use Rattle.std.specs.Prelude.{◌≡◌, ℕ, ◌+◌, ◌-◌, ◌*◌, ◌%◌, ◌<◌, ◌≤◌, ◌↔◌, IsErr, IfOk, IfSome, Some, decimal, string_bytes};
+ghost use Rattle.std.specs.Result.{result_ok};
+ghost use Rattle.vm_field.specs.Decimal.{element_of};
+ghost use Rattle.vm_field.specs.Field.{prime, element_from, felt_add, felt_sub, felt_mul, felt_neg};
 
 use crate::refusal::{Memory, NotCanonical};
+use itoa::Buffer;
 use std::alloc::Global;
-use std::fmt;
 use std::marker::Model;
+use std::{fmt, str};
 
 /// 2^64 - 2^32 + 1.
-const PRIME: u64 = 18446744069414584321;
+pub(crate) const PRIME: u64 = 18446744069414584321;
 
 /// An element of the field of 2^64 - 2^32 + 1 elements, seen as its number.
 #[derive(Clone, Copy, Debug, PartialEq, Eq, PartialOrd, Ord, Hash)]
@@ -49,6 +52,7 @@ impl Felt {
         ensures value { IfOk result (λ x. x ≡ v) }
         ensures below { IfOk result (λ x. x < prime) }
         ensures refused { IsErr result ↔ (prime ≤ v) }
+        ensures element { result_ok result ≡ element_from v }
     {
         if v < PRIME {
             Ok(Felt { number: v })
@@ -152,5 +156,28 @@ impl Felt {
         ensures text { IfOk result (λ text. string_bytes text ≡ decimal self) }
     {
         Ok(self.value().to_string(alloc)?)
+    }
+
+    /// The element that a canonical decimal writes: `0`, or digits with no leading zero, of a
+    /// number below 2^64 - 2^32 + 1. None for any other text.
+    pub fn read_decimal(text: &[u8]) -> Option<Felt>
+        ensures value { result ≡ element_of text.now }
+        ensures text { IfSome result (λ x. text.now ≡ decimal x) }
+        ensures found { (n : ℕ) → n < prime → text.now ≡ decimal n → result ≡ Some n }
+        ensures below { IfSome result (λ x. x < prime) }
+    {
+        let Ok(written) = str::from_utf8(text) else {
+            return None;
+        };
+        let Ok(number) = written.parse::<u64>() else {
+            return None;
+        };
+
+        // `parse` also takes a sign and leading zeros.
+        if Buffer::new().format(number) == written {
+            Felt::try_from_u64(number).ok()
+        } else {
+            None
+        }
     }
 }

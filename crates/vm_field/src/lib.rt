@@ -3,11 +3,16 @@
 #![tactic(auto)]
 
 mod element;
+mod laws;
 mod lists;
+mod powers;
 mod refusal;
+#[cfg(test)]
+mod tests;
 mod word;
 
 pub use element::Felt;
-pub use lists::{Bytes, Felts, Words};
+pub use laws::{field_laws, text_laws, types_cross};
+pub use lists::{Bytes, Felts, Words, felt_at};
 pub use refusal::{Memory, NotCanonical};
 pub use word::Word;

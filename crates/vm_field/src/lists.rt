@@ -1,4 +1,5 @@
-ghost use Rattle.std.specs.Prelude.{◌≡◌, ℕ, List, [], ◌∷◌, ◌++◌, length, OnOk, OnErr, IfOk};
+ghost use Rattle.std.specs.Prelude.{◌≡◌, ◌↔◌, ℕ, ◌<◌, List, [], ◌∷◌, ◌++◌, length, slice_get, slice_index, IsTrue, OnOk, OnErr, IfOk};
+ghost use Rattle.vm_field.specs.Field.{prime};
 
 use crate::element::Felt;
 use crate::refusal::Memory;
@@ -7,7 +8,7 @@ use std::alloc::Global;
 use std::marker::Model;
 
 /// A list of elements.
-#[derive(Drop)]
+#[derive(Debug, Drop)]
 pub struct Felts {
     items: Vec<Felt>,
 }
@@ -35,6 +36,15 @@ impl Felts {
         Felts { items }
     }
 
+    /// A copy of these elements.
+    pub fn copied(alloc: Global, elements: &[Felt]) -> Result<Felts, Memory>
+        ensures items { IfOk result (λ copy. copy ≡ elements.now) }
+    {
+        Ok(Felts {
+            items: Vec::from_slice(alloc, elements)?,
+        })
+    }
+
     /// Adds an element at the end. At `Memory` the list is as before.
     pub fn push(&mut self, x: Felt) -> Result<(), Memory>
         ensures ok { OnOk result (self.new ≡ self.old ++ x ∷ []) }
@@ -50,10 +60,44 @@ impl Felts {
     {
         self.items.as_slice()
     }
+
+    /// How many elements there are.
+    pub fn len(&self) -> usize
+        ensures count { result ≡ length self.now }
+    {
+        self.items.len()
+    }
+
+    /// Whether there is none.
+    pub fn is_empty(&self) -> bool
+        ensures none { IsTrue result ↔ (self.now ≡ []) }
+    {
+        self.items.is_empty()
+    }
+
+    /// The element at a place.
+    pub fn at(&self, i: usize) -> Felt
+        requires { i < length self.now }
+        ensures is { result ≡ slice_index self.now i }
+        ensures below { result < prime }
+    {
+        felt_at(self.items.as_slice(), i)
+    }
+}
+
+/// The element at a place of a slice.
+pub fn felt_at(elements: &[Felt], i: usize) -> Felt
+    requires { i < length elements.now }
+    ensures is { result ≡ slice_index elements.now i }
+    ensures below { result < prime }
+{
+    let element = elements[i];
+    let _ = element.value();
+    element
 }
 
 /// A list of bytes.
-#[derive(Drop)]
+#[derive(Debug, Drop)]
 pub struct Bytes {
     items: Vec<u8>,
 }
@@ -114,10 +158,24 @@ impl Bytes {
     {
         self.items.as_slice()
     }
+
+    /// How many bytes there are.
+    pub fn len(&self) -> usize
+        ensures count { result ≡ length self.now }
+    {
+        self.items.len()
+    }
+
+    /// Whether there is none.
+    pub fn is_empty(&self) -> bool
+        ensures none { IsTrue result ↔ (self.now ≡ []) }
+    {
+        self.items.is_empty()
+    }
 }
 
 /// A list of words.
-#[derive(Drop)]
+#[derive(Debug, Drop)]
 pub struct Words {
     items: Vec<Word>,
 }
@@ -145,6 +203,15 @@ impl Words {
         Words { items }
     }
 
+    /// A copy of these words.
+    pub fn copied(alloc: Global, words: &[Word]) -> Result<Words, Memory>
+        ensures items { IfOk result (λ copy. copy ≡ words.now) }
+    {
+        Ok(Words {
+            items: Vec::from_slice(alloc, words)?,
+        })
+    }
+
     /// Adds a word at the end. At `Memory` the list is as before.
     pub fn push(&mut self, x: Word) -> Result<(), Memory>
         ensures ok { OnOk result (self.new ≡ self.old ++ x ∷ []) }
@@ -160,4 +227,92 @@ impl Words {
     {
         self.items.as_slice()
     }
+
+    /// How many words there are.
+    pub fn len(&self) -> usize
+        ensures count { result ≡ length self.now }
+    {
+        self.items.len()
+    }
+
+    /// Whether there is none.
+    pub fn is_empty(&self) -> bool
+        ensures none { IsTrue result ↔ (self.now ≡ []) }
+    {
+        self.items.is_empty()
+    }
+
+    /// The word at a place.
+    pub fn at(&self, i: usize) -> Word
+        requires { i < length self.now }
+        ensures is { slice_get self.now i ≡ Some result }
+        ensures four { length result ≡ 4 }
+    {
+        let word = self.items[i];
+        let _ = word.elements();
+        word
+    }
+}
+
+impl PartialEq for Felts {
+    ghost use Rattle.std.specs.Prelude.{nat_eq};
+    ghost use Rattle.std.specs.Cmp.{partial_equiv_from_equiv};
+    ghost use Rattle.std.proofs.lemmas.Cmp.{nat_list_eq_equiv, lists_equiv};
+    ghost use lib.Pointwise.{pointwise};
+
+    ghost eq = { pointwise nat_eq };
+
+    ghost laws = { partial_equiv_from_equiv nat_list_eq_equiv };
+
+    fn eq(&self, other: &Felts) -> bool {
+        self.items == other.items
+    }
+}
+
+impl Eq for Felts {
+    ghost use Rattle.std.proofs.lemmas.Cmp.{nat_list_eq_equiv, lists_equiv};
+
+    ghost laws = { nat_list_eq_equiv };
+}
+
+impl PartialEq for Bytes {
+    ghost use Rattle.std.specs.Prelude.{nat_eq};
+    ghost use Rattle.std.specs.Cmp.{partial_equiv_from_equiv};
+    ghost use Rattle.std.proofs.lemmas.Cmp.{nat_list_eq_equiv, lists_equiv};
+    ghost use lib.Pointwise.{pointwise};
+
+    ghost eq = { pointwise nat_eq };
+
+    ghost laws = { partial_equiv_from_equiv nat_list_eq_equiv };
+
+    fn eq(&self, other: &Bytes) -> bool {
+        self.items == other.items
+    }
+}
+
+impl Eq for Bytes {
+    ghost use Rattle.std.proofs.lemmas.Cmp.{nat_list_eq_equiv, lists_equiv};
+
+    ghost laws = { nat_list_eq_equiv };
+}
+
+impl PartialEq for Words {
+    ghost use Rattle.std.specs.Prelude.{nat_eq};
+    ghost use Rattle.std.specs.Cmp.{partial_equiv_from_equiv};
+    ghost use Rattle.std.proofs.lemmas.Cmp.{nat_list_eq_equiv, lists_equiv};
+    ghost use lib.Pointwise.{pointwise};
+
+    ghost eq = { pointwise (pointwise nat_eq) };
+
+    ghost laws = { partial_equiv_from_equiv (lists_equiv nat_list_eq_equiv) };
+
+    fn eq(&self, other: &Words) -> bool {
+        self.items == other.items
+    }
+}
+
+impl Eq for Words {
+    ghost use Rattle.std.proofs.lemmas.Cmp.{nat_list_eq_equiv, lists_equiv};
+
+    ghost laws = { lists_equiv nat_list_eq_equiv };
 }
