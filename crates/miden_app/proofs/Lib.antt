@@ -5,3 +5,9 @@ pub mod StripFaults
 pub mod StripMoves
 pub mod StripAccepted
 pub mod StripRunLaw
+pub mod OutcomeLemmas
+pub mod ServingLemmas
+pub mod PrintingLemmas
+pub mod StripLine
+pub mod WordsLemmas
+pub mod StripJudging

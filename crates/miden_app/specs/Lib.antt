@@ -3,6 +3,8 @@ pub mod Words
 pub mod Plans
 pub mod Commands
 pub mod Serving
+pub mod Outcomes
+pub mod Asking
 pub mod StripPlans
 pub mod StripGrammar
 pub mod StripFlags

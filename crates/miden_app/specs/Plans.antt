@@ -6,7 +6,7 @@ use Rattle.miden_app.specs.declared.status.Status.TheVariants as status
 -- An end of a command: its status, what it writes and what it prints.
 pub record Plan : Type 0 where
   pub status : Status
-  pub writes : List (List ℕ × List ℕ)     -- names and bytes, in order
+  pub writes : List (List ℕ × List ℕ)  -- names and bytes, in order
   pub line : List ℕ
 
 -- What the reading of a command's files leads to. Each command has its own kind of end.

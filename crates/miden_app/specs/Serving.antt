@@ -88,7 +88,6 @@ pub record Works (steps : Steps) (s : Status) (line : List ℕ) (old new : Shelf
 pub record WritesPart (steps : Steps) (m : Files) (old new : ShelfState) : Type 0 where
   pub plan : Plan
   pub planned : Plans steps m plan
-  pub well : plan.status ≡ status.Ok
   pub files : SomeWritten plan.writes old.files new.files ⊎ ((name : List ℕ) × FrontWritten plan.writes name old.files new.files)
 
 -- Memory was refused. What was written so far stands, and no count has fallen.

@@ -6,7 +6,7 @@ use Rattle.std.specs.declared.alloc.Global.{Global}
 use Rattle.vm_field.specs.FileName.{is_file_name}
 
 pub data Asked : Type 0 where
-  nothing : Asked                          -- the words are of no command
+  nothing : Asked  -- the words are of no command
   check_strip : (strip : List ℕ) → Asked
 
 -- `check` and the name of a strip

@@ -1,4 +1,4 @@
-ghost use Rattle.std.specs.Prelude.{◌≡◌, ◌+◌, ◌*◌, ◌^◌, ◌≤◌, drop, length, IfSome};
+ghost use Rattle.std.specs.Prelude.{◌≡◌, ◌+◌, ◌*◌, ◌^◌, ◌≤◌, drop, length, IfOk, IfSome};
 ghost use Rattle.miden_app.specs.StripGrammar.{headed, element_in, row_in, rows_in, strip_of};
 ghost use Rattle.miden_app.specs.StripAnswers.{ReadsAs};
 
@@ -42,6 +42,8 @@ const MOST_ROWS: usize = 524288;
 #[tactic(auto, unfolding(crate::specs::StripGrammar::strip_of))]
 pub fn read_strip(alloc: Global, bytes: &[u8]) -> Result<Table<23>, StripError>
     ensures reads { ReadsAs result (strip_of bytes.now) }
+    ensures some { IfOk result (λ table. 1 ≤ length table) }
+    ensures few { IfOk result (λ table. length table ≤ 2 ^ 19) }
 {
     match read_head(bytes) {
         Some(count) => read_rows(alloc, part_from(bytes, HEAD_BYTES), count),
@@ -52,6 +54,7 @@ pub fn read_strip(alloc: Global, bytes: &[u8]) -> Result<Table<23>, StripError>
 #[tactic(auto, unfolding(crate::specs::StripGrammar::has_head, crate::specs::StripGrammar::headed))]
 fn read_head(bytes: &[u8]) -> Option<usize>
     ensures is { result ≡ headed bytes.now }
+    ensures some { IfSome result (λ count. 1 ≤ count) }
     ensures few { IfSome result (λ count. count ≤ 2 ^ 19) }
     ensures whole { IfSome result (λ count. length bytes.now ≡ 12 + 184 * count) }
 {
@@ -79,6 +82,7 @@ fn read_rows(alloc: Global, bytes: &[u8], count: usize) -> Result<Table<23>, Str
     requires few { count ≤ 2 ^ 19 }
     requires whole { length bytes.now ≡ 184 * count }
     ensures reads { ReadsAs result (rows_in count bytes.now) }
+    ensures rows { IfOk result (λ table. length table ≡ count) }
 {
     let mut table = Table::new(alloc);
     for i in 0..count {

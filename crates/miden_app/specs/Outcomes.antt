@@ -1,0 +1,71 @@
+-- What a command's work leaves before its line is printed.
+use Rattle.std.specs.Prelude.{◌≡◌, ℕ, ◌≤◌, List, length, Some, Result, Ok, Err}
+use Rattle.vm_field.specs.declared.refusal.Memory.{Memory}
+use Rattle.std.specs.FinMap.{get}
+use Rattle.vm_io.specs.Shelf.{ShelfState, Told}
+use Rattle.vm_io.specs.Sink.{SinkState, SinkFails, with_piece}
+use Rattle.miden_app.specs.declared.status.Status.{Status}
+use Rattle.miden_app.specs.declared.status.Status.TheVariants as status
+use Rattle.miden_app.specs.declared.outcome.Answer.{Answer}
+use Rattle.miden_app.specs.declared.outcome.Outcome.{Outcome}
+use Rattle.miden_app.specs.declared.outcome.Outcome.TheVariants as outcome
+use Rattle.miden_app.specs.Plans.{End, Steps, ends_with}
+use Rattle.miden_app.specs.Commands.{EndsAs}
+use Rattle.miden_app.specs.Serving.{Works, GivesUp}
+
+-- a status with which a plan can end
+abbrev pub IsPlanned : Status → Type 0
+IsPlanned status.ReadFault = ⊥
+IsPlanned status.WriteFault = ⊥
+IsPlanned status.SinkFault = ⊥
+IsPlanned status.Memory = ⊥
+IsPlanned status.Usage = ⊥
+IsPlanned s = Unit {0}
+
+-- an answer whose line can be printed
+abbrev pub IsPrintable : Status → Type 0
+IsPrintable status.SinkFault = ⊥
+IsPrintable status.Memory = ⊥
+IsPrintable status.Usage = ⊥
+IsPrintable s = Unit {0}
+
+-- the answer is one of the end's plans, with nothing written
+pub record Fits (end : End) (a : Answer) : Type 0 where
+  pub plan : EndsAs end (ends_with a.status a.line)
+  pub planned : IsPlanned a.status
+
+-- What the command's own work comes to, with no call of the shelf. Want of memory says nothing.
+abbrev pub ComesTo : End → Outcome → Type 0
+ComesTo end (outcome.Ends a) = Fits end a
+ComesTo end outcome.Memory = Unit {0}
+
+pub record Done (steps : Steps) (a : Answer) (old new : ShelfState) : Type 0 where
+  pub works : Works steps a.status a.line old new
+  pub printable : IsPrintable a.status
+
+-- these steps ended, from the old shelf to the new one
+abbrev pub EndsIn : Steps → Outcome → ShelfState → ShelfState → Type 0
+EndsIn steps (outcome.Ends a) old new = Done steps a old new
+EndsIn steps outcome.Memory old new = GivesUp steps old new
+
+-- a file was read, and nothing changed
+pub record Found (name : List ℕ) (most : ℕ) (bytes : List ℕ) (old new : ShelfState) : Type 0 where
+  pub same : new ≡ old
+  pub short : length bytes ≤ most
+  pub held : Told old (λ m. get m name ≡ Some bytes)
+
+-- an answer that is this status with this line, unless memory is refused
+abbrev pub Says : Outcome → Status → List ℕ → Type 0
+Says (outcome.Ends a) s line = a ≡ record { status = s; line = line }
+Says outcome.Memory s line = Unit {0}
+
+-- the answer with a line, where there was memory for it
+abbrev pub SaysLine : Outcome → Status → Result (List ℕ) Memory → Type 0
+SaysLine o s (Ok line) = Says o s line
+SaysLine o s (Err e) = o ≡ outcome.Memory
+
+-- What printing a command's line leaves. A status other than the command's own says that the sink or memory failed.
+pub data PrintStep : Outcome → Status → SinkState → SinkState → Type 0 where
+  printed : (a : Answer) {before now : SinkState} → now ≡ record before { taken = with_piece before.taken a.line } → PrintStep (outcome.Ends a) a.status before now
+  refused : (a : Answer) {before now : SinkState} → SinkFails before now a.line → PrintStep (outcome.Ends a) status.SinkFault before now
+  given_up : (o : Outcome) {before now : SinkState} → now ≡ before → PrintStep o status.Memory before now

@@ -1,0 +1,42 @@
+//! The program: the words, the files and the output of the system, handed to `serve`.
+#![tactic(auto)]
+
+use miden_app::{Status, serve};
+use std::process::ExitCode;
+use std::rt::Env;
+use std::{env, io};
+use vm_io::{FolderShelf, OpenGate, StdSink};
+
+// The words after the program's name. There are none where the system hands out none, as for a word
+// that is not UTF-8; the answer is `None` where it tells that memory was refused.
+fn words(rt: &(impl Env + AllocGlobal)) -> Option<Vec<Vec<u8>>> {
+    match handed_words(rt) {
+        Ok(words) => Some(words),
+        Err(error) if error.kind() == io::ErrorKind::OutOfMemory => None,
+        Err(_) => Some(Vec::new(rt.alloc())),
+    }
+}
+
+fn handed_words(rt: &(impl Env + AllocGlobal)) -> io::Result<Vec<Vec<u8>>> {
+    let mut words = Vec::new(rt.alloc());
+    for word in env::args(rt)?.skip(1) {
+        words.push(word.into_bytes())?;
+    }
+    Ok(words)
+}
+
+fn main(rt: HostRuntime) -> ExitCode {
+    let Some(words) = words(&rt) else {
+        return ExitCode::from(Status::Memory.number());
+    };
+    let mut shelf = FolderShelf::new(&rt);
+    let mut out = StdSink::new(&rt);
+    let status = serve(
+        rt.alloc(),
+        words.as_slice(),
+        &mut shelf,
+        &mut out,
+        &OpenGate,
+    );
+    ExitCode::from(status.number())
+}
