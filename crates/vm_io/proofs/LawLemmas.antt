@@ -23,14 +23,14 @@ told_at : (s : ShelfState) (m : Files) (P : Files → Type 0) → s.files ≡ So
 told_at s m P is told = subst (λ o. IfSome o P) is told
 
 pub files_decide : FilesDecide
-files_decide old new m name max (Ok bytes) step is unfailed given = whole_answer max bytes _ (told_at old m (λ m. get m name ≡ Some bytes) is step.2) step.1
+files_decide old new m name max (Ok bytes) step is unfailed given = whole_answer max bytes _ (told_at old m (λ m. get m name ≡ Some bytes) is step.file) step.within
 files_decide old new m name max (Err read.Missing) step is unfailed given = ap (answer_at max) (sym (told_at old m (λ m. get m name ≡ None) is step.1))
 files_decide old new m name max (Err read.TooLong) step is unfailed given = long_answer max _ (told_at old m (λ m. IsSomeAnd (get m name) (λ bytes. max < length bytes)) is step.1)
 files_decide old new m name max (Err read.Failed) step is unfailed given = absurd (unfailed refl)
 files_decide old new m name max (Err read.Memory) step is unfailed given = absurd (given refl)
 
 pub reads_leave_files : ReadsLeaveFiles
-reads_leave_files old new name max (Ok bytes) step = ap (λ s. s.files) step.0
+reads_leave_files old new name max (Ok bytes) step = ap (λ s. s.files) step.same
 reads_leave_files old new name max (Err read.Missing) step = ap (λ s. s.files) step.0
 reads_leave_files old new name max (Err read.TooLong) step = ap (λ s. s.files) step.0
 reads_leave_files old new name max (Err read.Failed) step = step.files
@@ -55,7 +55,7 @@ reads_same : (old new : ShelfState) → new ≡ old → (old.read_faults ≤ new
 reads_same old new same = (same_le (ap (λ s. s.read_faults) same), ap (λ s. s.write_faults) same)
 
 pub reads_never_lower : ReadsNeverLower
-reads_never_lower old new name max (Ok bytes) step = reads_same old new step.0
+reads_never_lower old new name max (Ok bytes) step = reads_same old new step.same
 reads_never_lower old new name max (Err read.Missing) step = reads_same old new step.0
 reads_never_lower old new name max (Err read.TooLong) step = reads_same old new step.0
 reads_never_lower old new name max (Err read.Failed) step = (step.read_faults.later, step.write_faults)

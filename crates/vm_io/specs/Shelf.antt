@@ -37,6 +37,12 @@ with_failed_name told name = option_map (λ _. kept_name name) told
 abbrev pub with_file : Option Files → List ℕ → List ℕ → Option Files
 with_file told name bytes = option_map (λ m. insert m name bytes) told
 
+-- a read that gave the file's bytes
+pub record Reads (old new : ShelfState) (name : List ℕ) (max : ℕ) (bytes : List ℕ) : Type 0 where
+  pub same : new ≡ old
+  pub within : length bytes ≤ max
+  pub file : Told old (λ m. get m name ≡ Some bytes)
+
 -- a read that failed
 pub record ReadFails (old new : ShelfState) (name : List ℕ) : Type 0 where
   pub files : new.files ≡ old.files
@@ -46,7 +52,7 @@ pub record ReadFails (old new : ShelfState) (name : List ℕ) : Type 0 where
 
 -- A read of at most max bytes, by what it answers.
 abbrev pub ReadStep : ShelfState → ShelfState → List ℕ → ℕ → Result (List ℕ) ReadStop → Type 0
-ReadStep old new name max (Ok bytes) = (new ≡ old) × (length bytes ≤ max) × Told old (λ m. get m name ≡ Some bytes)
+ReadStep old new name max (Ok bytes) = Reads old new name max bytes
 ReadStep old new name max (Err read.Missing) = (new ≡ old) × Told old (λ m. get m name ≡ None)
 ReadStep old new name max (Err read.TooLong) = (new ≡ old) × Told old (λ m. IsSomeAnd (get m name) (λ bytes. max < length bytes))
 ReadStep old new name max (Err read.Failed) = ReadFails old new name

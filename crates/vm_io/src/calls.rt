@@ -45,6 +45,7 @@ impl Calls {
         ensures due { IsTrue result ↔ IsDue self.old }
         ensures counted { self.new ≡ called self.old }
     {
+        // Wide, since the call after the last count has a number too, which no list holds.
         let number = u128::from(self.made) + 1;
         let due = is_among(&self.failing, number);
         self.made = self.made.saturating_add(1);

@@ -94,7 +94,7 @@ fn a_mem_sink_fails_when_it_is_told_to(rt: HostRuntime) -> Result<(), Fail> {
 fn a_folder_is_read_and_written(rt: HostRuntime) -> Result<(), Fail> {
     let mut shelf = FolderShelf::new(&rt);
     for (call, want) in [
-        (Call::Read("vm_io-test-file", 5), "missing"),
+        (Call::Read("vm_io-no-file", 5), "missing"),
         (Call::Write("vm_io-test-file", "first text"), "written"),
         (Call::Write("vm_io-test-file", "text"), "written"),
         (Call::Read("vm_io-test-file", 4), "text"),
