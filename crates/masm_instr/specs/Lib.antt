@@ -1,0 +1,5 @@
+pub mod Names
+pub mod Forms
+pub mod Instructions
+pub mod Numbers
+pub mod Reading
