@@ -20,8 +20,8 @@ pub has_text : (all : List Name) (text : List ℕ) (name : Name) → first_named
 has_text [] text name e = cc
 has_text (here ∷ more) text name e =
     elim (chosen (bytes_eq (text_of here) text) here name (first_named more text) e) [
-      inl (same, is_here) ↦ rw (← is_here) ((bytes_eq-Decides (text_of here) text).0 same)
-    | inr later ↦ has_text more text name later
+      | inl (same, is_here) ↦ rw (← is_here) ((bytes_eq-Decides (text_of here) text).0 same)
+      | inr later ↦ has_text more text name later
     ]
 
 pub names_are_texts : NamesAreTexts

@@ -32,6 +32,6 @@ pub is_in_form_read : (consts : List Const) (name : Name) (form : Form) (parts :
     → list_all (is_in_range form) shown ≡ true → IsInForm (record { name = name; numbers = numbers })
 is_in_form_read consts name form parts numbers shown is_form least most given is_shown ranged =
     let count : length numbers ≡ length parts =
-        length-parameters_of consts form.constants (map (λ part. part.now) parts) numbers given
-        ∙ length-map parts (λ part. part.now) in
+    length-parameters_of consts form.constants (map (λ part. part.now) parts) numbers given
+    ∙ length-map parts (λ part. part.now) in
     rw (← is_form, ← is_shown) (rw (is_shown, count, le-leb _ _ least, le-leb _ _ most) (rw (← is_shown) ranged))

@@ -3,3 +3,5 @@ pub mod Forms
 pub mod Instructions
 pub mod Numbers
 pub mod Reading
+pub mod Operations
+pub mod Expansion

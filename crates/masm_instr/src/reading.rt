@@ -78,7 +78,12 @@ pub fn read_parameter(consts: &Consts, constants: bool, part: &[u8]) -> Option<u
 }
 
 // The numbers that the parts give, where each gives one.
-fn read_parameters(alloc: Global, consts: &Consts, constants: bool, parts: &[&[u8]]) -> Result<Option<Numbers>, AllocError>
+fn read_parameters(
+    alloc: Global,
+    consts: &Consts,
+    constants: bool,
+    parts: &[&[u8]],
+) -> Result<Option<Numbers>, AllocError>
     ensures { IfOk result (λ numbers. numbers ≡ parameters_of consts.now constants (map (λ part. part.now) parts.now)) }
 {
     let mut numbers = Numbers::new(alloc);
@@ -94,12 +99,19 @@ fn read_parameters(alloc: Global, consts: &Consts, constants: bool, parts: &[&[u
 fn are_in_range(form: &Form, numbers: &[u128]) -> bool
     ensures { result ≡ list_all (is_in_range form.now) numbers.now }
 {
-    numbers.iter().all(|number| form.low <= *number && *number <= form.high)
+    numbers
+        .iter()
+        .all(|number| form.low <= *number && *number <= form.high)
 }
 
 // The instruction of a name with the parts that stand behind the name.
 #[tactic(auto, unfolding(crate::specs::Reading::formed))]
-fn read_named(alloc: Global, consts: &Consts, name: Name, parts: &[&[u8]]) -> Result<Instr, InstrError>
+fn read_named(
+    alloc: Global,
+    consts: &Consts,
+    name: Name,
+    parts: &[&[u8]],
+) -> Result<Instr, InstrError>
     ensures { Gives result (formed consts.now (map (λ part. part.now) parts.now) name) }
 {
     let form = form_of(name);
