@@ -1,11 +1,11 @@
 -- What is read has as many numbers as parts.
-use Rattle.std.proofs.Common.{◌≡◌, ℕ, ◌+◌, ◌≤◌, Bool, true, suc, List, [], ◌∷◌, length, map, Option, Some, None, refl, ap, ◌∙◌, arith, leb, Bor, le-leb}
+use Rattle.std.proofs.Common.{◌≡◌, ℕ, ◌≤◌, Bool, true, suc, List, [], ◌∷◌, length, map, Option, Some, None, refl, ap, ◌∙◌, Bor, le-leb}
 use Rattle.std.proofs.lemmas.List.{length-map}
 use Rattle.std.specs.List.{list_all}
 use Rattle.masm_instr.specs.declared.name.Name.{Name}
 use Rattle.masm_instr.specs.declared.form.Form.{Form}
 use Rattle.masm_instr.specs.declared.constant.Const.{Const}
-use Rattle.masm_instr.specs.Forms.{form_of, is_count, is_in_range}
+use Rattle.masm_instr.specs.Forms.{form_of, is_in_range}
 use Rattle.masm_instr.specs.Instructions.{IsInForm}
 use Rattle.masm_instr.specs.Reading.{both, parameter_of, parameters_of}
 

@@ -1,7 +1,6 @@
 -- The numbers that each instruction takes: at least and at most how many, whether constants may stand for them, and
 -- the least and the greatest that each may be.
-use Rattle.std.specs.Prelude.{◌≡◌, ℕ, ◌-◌, ◌^◌, ◌<◌, Bool, true, false, ◌&&◌, nat_le, List, length, slice_index}
-use Rattle.std.specs.List.{list_all}
+use Rattle.std.specs.Prelude.{ℕ, ◌-◌, ◌^◌, Bool, true, false, ◌&&◌, nat_le}
 use Rattle.vm_field.specs.Field.{prime}
 use Rattle.masm_instr.specs.declared.name.Name.{Name}
 use Rattle.masm_instr.specs.declared.name.Name.TheVariants as names

@@ -1,6 +1,6 @@
 -- How a token is read as an instruction, with the constants defined before it. The parts of a token are what stands
 -- between its dots: the first is the instruction's name, and each other gives a number.
-use Rattle.std.specs.Prelude.{◌≡◌, ℕ, Bool, ◌==◌, ◌||◌, not, if◌then◌else◌, List, [], ◌∷◌, length, Option, Some, None, Result, Ok, Err, bytes_eq, codes}
+use Rattle.std.specs.Prelude.{◌≡◌, ℕ, Bool, ◌==◌, ◌||◌, if◌then◌else◌, List, [], ◌∷◌, length, Option, Some, None, Result, Ok, Err, bytes_eq, codes}
 use Rattle.std.specs.List.{list_all, list_any, slice_split}
 use Rattle.std.specs.Option.{option_or}
 use Rattle.masm_instr.specs.declared.name.Name.{Name}
@@ -10,7 +10,7 @@ use Rattle.masm_instr.specs.declared.refusal.InstrError.TheVariants as errors
 use Rattle.masm_instr.specs.Names.{name_of}
 use Rattle.masm_instr.specs.Forms.{form_of, is_count, is_in_range}
 use Rattle.masm_instr.specs.Numbers.{number}
-use Rattle.masm_instr.specs.Instructions.{Instruction, is_in_form}
+use Rattle.masm_instr.specs.Instructions.{Instruction}
 
 -- the value of the first constant of the name
 abbrev pub constant_of : List Const → List ℕ → Option ℕ

@@ -1,4 +1,4 @@
-use Rattle.std.proofs.Common.{arith, ◌+◌, ◌*◌, ◌^◌, ◌<◌}
+use Rattle.std.proofs.Common.{arith}
 use Rattle.masm_instr.proofs.Digits.{with_room}
 use Rattle.masm_instr.proofs.number.digits_value.Goals as goal
 

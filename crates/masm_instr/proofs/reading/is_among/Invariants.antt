@@ -1,4 +1,4 @@
-use Rattle.std.proofs.Common.{◌≡◌, List, map, drop, bytes_eq}
+use Rattle.std.proofs.Common.{◌≡◌, map, drop, bytes_eq}
 use Rattle.std.specs.List.{list_any}
 use Rattle.masm_instr.proofs.reading.is_among.Given as goal
 
