@@ -117,8 +117,8 @@ assert_u32 (two ∷ more) = ops.U32Assert2 ∷ []
 abbrev pub local : ℕ → ℕ → Item
 local locals i = lit (prime - (locals - i))
 
--- What the numbers decide, in a procedure of so many locals. All other instructions that take a number find it on the
--- stack, where the front puts it.
+-- What the numbers decide, in a procedure of so many locals. The numbers of every instruction that is not named here are
+-- pushed.
 unfoldable pub front : Name → List ℕ → ℕ → List Item
 front names.Exp numbers locals = lit 1 ∷ plain (exp_digits 64 (first numbers))
 front names.Pow2 numbers locals = pow2

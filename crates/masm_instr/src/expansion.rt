@@ -18,7 +18,7 @@ use std::alloc::Global;
 use vm_field::Memory;
 use vm_ops::{Items, Op};
 
-/// 2^64 - 2^32 + 1.
+// 2^64 - 2^32 + 1
 const PRIME: u64 = 18446744069414584321;
 
 // The first number of an instruction that has one.

@@ -3,8 +3,8 @@ ghost use Rattle.masm_instr.specs.Forms.{takes, form_of};
 
 use crate::name::Name;
 
-/// 2^64 - 2^32 + 1.
-const PRIME: u128 = 18446744069414584321;
+// The greatest element's number.
+const GREATEST: u128 = 18446744069414584320;
 
 /// The numbers that an instruction takes.
 #[derive(Clone, Copy)]
@@ -36,7 +36,7 @@ const ELEMENT: Form = Form {
     most: 1,
     constants: true,
     low: 0,
-    high: PRIME - 1,
+    high: GREATEST,
 };
 
 // perhaps a number of 32 bits
@@ -89,7 +89,7 @@ pub(crate) fn form_of(name: Name) -> Form
         Name::Div => ELEMENT,
         Name::Neg => NONE,
         Name::Inv => NONE,
-        Name::Exp => takes(1, 1, true, 0, PRIME - 1),
+        Name::Exp => takes(1, 1, true, 0, GREATEST),
         Name::Pow2 => NONE,
         Name::Not => NONE,
         Name::And => NONE,
@@ -158,7 +158,7 @@ pub(crate) fn form_of(name: Name) -> Form
         Name::Cswapw => NONE,
         Name::Cdrop => NONE,
         Name::Cdropw => NONE,
-        Name::Push => takes(1, 16, true, 0, PRIME - 1),
+        Name::Push => takes(1, 16, true, 0, GREATEST),
         Name::Sdepth => NONE,
         Name::Caller => NONE,
         Name::Clk => NONE,
