@@ -20,7 +20,7 @@ pub use expansion::expand;
 pub use instr::{Instr, Numbers};
 pub use name::{EVERY, Name, name_of, names_are_texts};
 pub use number::read_number;
-pub use reading::{read_instr, read_parameter};
+pub use reading::{read_instr, read_parameter, split_token};
 pub use refusal::InstrError;
 
 #[cfg(test)]

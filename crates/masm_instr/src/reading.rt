@@ -12,8 +12,8 @@ use crate::number::read_number;
 use crate::refusal::InstrError;
 use std::alloc::{AllocError, Global};
 
-// The parts of a token, which dots part.
-fn split<'a>(alloc: Global, token: &'a [u8]) -> Result<Vec<&'a [u8]>, AllocError>
+/// The parts of a token: what stands between its dots. There is always a first.
+pub fn split_token<'a>(alloc: Global, token: &'a [u8]) -> Result<Vec<&'a [u8]>, AllocError>
     ensures { IfOk result (λ parts. map (λ part. part.now) parts.items ≡ parts_of token.entry.now) }
 {
     token.split(|byte| *byte == b'.').collect(alloc)
@@ -135,7 +135,7 @@ fn read_named(
 pub fn read_instr(alloc: Global, token: &[u8], consts: &Consts) -> Result<Instr, InstrError>
     ensures { Gives result (read consts.now token.now) }
 {
-    let parts = split(alloc, token)?;
+    let parts = split_token(alloc, token)?;
     let Some((first, parts)) = parts.as_slice().split_first() else {
         return Err(InstrError::UnknownInstruction);
     };
