@@ -11,3 +11,5 @@ pub mod PrintingLemmas
 pub mod StripLine
 pub mod WordsLemmas
 pub mod StripJudging
+pub mod HashReading
+pub mod HashBlocks

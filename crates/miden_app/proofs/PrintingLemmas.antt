@@ -10,7 +10,7 @@ use Rattle.miden_app.specs.declared.outcome.Outcome.{Outcome}
 use Rattle.miden_app.specs.declared.outcome.Outcome.TheVariants as outcome
 use Rattle.miden_app.specs.Plans.{Plan, stop, Steps, ending, ends_with}
 use Rattle.miden_app.specs.Commands.{Plans}
-use Rattle.miden_app.specs.Words.{nothing, check_strip}
+use Rattle.miden_app.specs.Words.{Asked, nothing, check_strip, hash}
 use Rattle.miden_app.specs.Serving.{written, UsageFits, SomeWritten, FrontWritten, NoFault, CountsFit, CarriesOut, Follows, Works, WritesPart, GivesUp, Prints, FailsToPrint, PrintsNothing, Answers}
 use Rattle.miden_app.specs.Outcomes.{IsPrintable, Done, EndsIn, Says, PrintStep, printed, refused, given_up}
 
@@ -101,16 +101,30 @@ serves_usage line o s shelf before now says (refused a failed) =
 serves_usage line o s shelf before now says (given_up p taken) =
     record { gives_up = record { reads = omega arith; writes = omega arith; files = inl refl }; taken = taken }
 
--- The answer to a command is not `Usage`.
-answered_command : (name : List ℕ) (s : Status) → IsPrintable s → UsageFits (check_strip name) s
-answered_command name status.Usage p = p
-answered_command name status.Ok p = tt
-answered_command name s p = tt
+-- words of a command
+abbrev pub IsCommand : Asked → Type 0
+IsCommand nothing = ⊥
+IsCommand asked = Unit {0}
 
-pub command_fits : (name : List ℕ) (steps : Steps) (o : Outcome) (s : Status) (old new : ShelfState) (before now : SinkState) → EndsIn steps o old new → PrintStep o s before now → UsageFits (check_strip name) s
-command_fits name steps o s old new before now h (printed a taken) = answered_command name a.status h.printable
-command_fits name steps o s old new before now h (refused a failed) = tt
-command_fits name steps o s old new before now h (given_up p taken) = tt
+-- The answer to a command is not `Usage`.
+answered_command : (asked : Asked) → IsCommand asked → (s : Status) → IsPrintable s → UsageFits asked s
+answered_command nothing c s p = absurd c
+answered_command (check_strip name) c status.Usage p = p
+answered_command (check_strip name) c status.Ok p = tt
+answered_command (check_strip name) c s p = tt
+answered_command (hash params numbers) c status.Usage p = p
+answered_command (hash params numbers) c status.Ok p = tt
+answered_command (hash params numbers) c s p = tt
+
+not_printed : (asked : Asked) → IsCommand asked → UsageFits asked status.SinkFault × UsageFits asked status.Memory
+not_printed nothing c = absurd c
+not_printed (check_strip name) c = (tt, tt)
+not_printed (hash params numbers) c = (tt, tt)
+
+pub command_fits : (asked : Asked) → IsCommand asked → (steps : Steps) (o : Outcome) (s : Status) (old new : ShelfState) (before now : SinkState) → EndsIn steps o old new → PrintStep o s before now → UsageFits asked s
+command_fits asked c steps o s old new before now h (printed a taken) = answered_command asked c a.status h.printable
+command_fits asked c steps o s old new before now h (refused a failed) = (not_printed asked c).0
+command_fits asked c steps o s old new before now h (given_up p taken) = (not_printed asked c).1
 
 -- The answer to words of no command is.
 pub usage_fits : (line : List ℕ) (o : Outcome) (s : Status) (before now : SinkState) → Says o status.Usage line → PrintStep o s before now → UsageFits nothing s

@@ -86,6 +86,11 @@ pub work_ends : (end : End) (o : Outcome) (old : ShelfState) → ComesTo end o �
 work_ends end (outcome.Ends a) old h = carried (ending end) a.status a.line h.planned old (told_all old.files _ (λ m. h.plan))
 work_ends end outcome.Memory old h = same_again (ending end) old
 
+-- what is said is the end that is determined
+pub says_comes : (s : Status) → IsPlanned s → (line : List ℕ) (o : Outcome) → Says o s line → ComesTo (stop s line) o
+says_comes s p line (outcome.Ends a) is = subst (Fits (stop s line)) (sym is) (record { plan = refl; planned = p })
+says_comes s p line outcome.Memory is = tt
+
 -- What is said with a status and a line is carried out where it is a plan.
 said : (steps : Steps) (s : Status) (line : List ℕ) (p : IsPlanned s) (o : Outcome) (old : ShelfState) → IfSome old.files (λ m. Plans steps m (ends_with s line)) → Says o s line → EndsIn steps o old old
 said steps s line p (outcome.Ends a) old planned is = subst (λ x. Done steps x old old) (sym is) (carried steps s line p old planned)

@@ -1,22 +1,42 @@
 -- What the words ask for, step by step, and the plans that a command may end with.
-use Rattle.std.specs.Prelude.{◌≡◌, ◌⊎◌, ◌≤◌, ℕ, nat_le, List, codes, length, Option, Some, None}
+use Rattle.std.specs.Prelude.{◌≡◌, ◌⊎◌, ◌≤◌, ℕ, nat_le, List, codes, length, Option, Some, None, Result, Ok, Err}
 use Rattle.std.specs.Bool.{MatchBool}
 use Rattle.std.specs.FinMap.{get}
 use Rattle.vm_io.specs.Shelf.{Files}
 use Rattle.miden_app.specs.declared.status.Status.TheVariants as status
-use Rattle.miden_app.specs.Words.{Asked, nothing, check_strip}
+use Rattle.rpo_hash.specs.declared.params.ParamError.{ParamError}
+use Rattle.rpo_hash.specs.ParamText.{parameters_of}
+use Rattle.miden_app.specs.Words.{Asked, nothing, check_strip, hash}
 use Rattle.miden_app.specs.Plans.{Plan, End, stop, strip, Steps, reading, ending, ends_with, named_line}
 use Rattle.miden_app.specs.StripGrammar.{strip_of}
 use Rattle.miden_app.specs.StripPlans.{JudgesStrip}
+use Rattle.miden_app.specs.HashGrammar.{numbers_of}
+use Rattle.miden_app.specs.HashPlans.{bad_params, hash_end}
 
 -- the longest file of a table
 abbrev pub most_table_bytes : ℕ
 most_table_bytes = 1073741824
 
+-- the longest files of parameters and of numbers
+abbrev pub most_params_bytes : ℕ
+most_params_bytes = 4096
+
+abbrev pub most_numbers_bytes : ℕ
+most_numbers_bytes = 262144
+
+-- a command that reads a file of parameters of this name goes on with the constants that it writes
+abbrev pub with_params : List ℕ → (List ℕ → Steps) → Result (List ℕ) ParamError → Steps
+with_params name next (Ok constants) = next constants
+with_params name next (Err e) = ending (bad_params name e)
+
+abbrev pub hash_steps : List ℕ → List ℕ → Steps
+hash_steps name constants = reading name most_numbers_bytes (λ bytes. ending (hash_end constants name (numbers_of bytes)))
+
 -- the steps of each command
 abbrev pub steps_of : Asked → Steps
 steps_of nothing = ending (stop status.Usage (codes "usage\n"))
 steps_of (check_strip name) = reading name most_table_bytes (λ bytes. ending (strip name (strip_of bytes)))
+steps_of (hash params numbers) = reading params most_params_bytes (λ bytes. with_params params (hash_steps numbers) (parameters_of bytes))
 
 -- what a command may end with
 abbrev pub EndsAs : End → Plan → Type 0

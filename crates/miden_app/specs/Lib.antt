@@ -12,3 +12,6 @@ pub mod StripValues
 pub mod StripRun
 pub mod StripLaw
 pub mod StripAnswers
+pub mod HashGrammar
+pub mod HashPlans
+pub mod HashAnswers

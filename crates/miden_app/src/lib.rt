@@ -1,6 +1,7 @@
 //! The commands of the program, over a shelf of files and a sink for what is printed.
 #![tactic(auto)]
 
+mod hash;
 mod loading;
 mod outcome;
 mod serving;

@@ -3,6 +3,7 @@ ghost use Rattle.miden_app.specs.Words.{asked, texts};
 ghost use Rattle.miden_app.specs.Outcomes.{PrintStep, Says};
 ghost use Rattle.miden_app.specs.Serving.{Serves, UsageFits};
 
+use crate::hash::hash_files;
 use crate::outcome::{Outcome, answered};
 use crate::status::Status;
 use crate::strip::check_strip_file;
@@ -31,6 +32,10 @@ pub fn serve<F: Shelf, K: Sink, G: Gate>(
     match command_of(words) {
         Command::CheckStrip { strip } => {
             let end = check_strip_file(alloc, shelf, strip);
+            print(alloc, out, end)
+        }
+        Command::Hash { params, numbers } => {
+            let end = hash_files(alloc, shelf, params, numbers);
             print(alloc, out, end)
         }
         Command::Nothing => print(alloc, out, usage(alloc)),

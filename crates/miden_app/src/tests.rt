@@ -186,3 +186,95 @@ fn names_failing_calls(rt: HostRuntime) -> Result<(), Fail> {
     );
     Ok(())
 }
+
+/// A file of lines: so many, each `0`, but the line of this number is this one.
+type Lines = (usize, usize, &'static str);
+
+/// The words, the files `z` and `n`, the status's number and what is printed.
+type HashCase = (&'static [&'static str], Lines, Lines, u8, &'static str);
+
+const HASH: &[&str] = &["hash", "z", "n"];
+
+const ZEROS: Lines = (168, 0, "");
+
+// The second constant of element 4 in the last round is 2^7.
+const ONE_CONSTANT: Lines = (168, 161, "128");
+
+const BLOCK: Lines = (8, 0, "");
+
+const TWO: &str = "digest 0000000000000002000000000000000000000000000000000000000000000000\n";
+
+const ZERO: &str = "digest 0000000000000000000000000000000000000000000000000000000000000000\n";
+
+const HASH_CASES: [HashCase; 14] = [
+    (HASH, ONE_CONSTANT, BLOCK, 0, TWO),
+    (HASH, ONE_CONSTANT, (16, 0, ""), 0, TWO),
+    (HASH, ZEROS, BLOCK, 0, ZERO),
+    (HASH, ZEROS, (7, 0, ""), 10, "malformed n line 8 Count\n"),
+    (HASH, ZEROS, (0, 0, ""), 10, "malformed n line 1 Count\n"),
+    (HASH, ZEROS, (9, 3, "-1"), 10, "malformed n line 3 Number\n"),
+    (
+        HASH,
+        (167, 0, ""),
+        (7, 0, ""),
+        10,
+        "malformed z line 168 Ended\n",
+    ),
+    (
+        HASH,
+        (168, 5, "01"),
+        BLOCK,
+        10,
+        "malformed z line 5 Number\n",
+    ),
+    (
+        HASH,
+        (169, 0, ""),
+        BLOCK,
+        10,
+        "malformed z line 169 Extra\n",
+    ),
+    (&["hash", "--", "z", "n"], ZEROS, BLOCK, 0, ZERO),
+    (&["hash", "z", "n", "--"], ZEROS, BLOCK, 0, ZERO),
+    (&["hash", "--", "z", "--", "n"], ZEROS, BLOCK, 2, "usage\n"),
+    (&["hash", "z"], ZEROS, BLOCK, 2, "usage\n"),
+    (&["hash", "z", "m"], ZEROS, BLOCK, 6, "missing m\n"),
+];
+
+fn text_of(alloc: Global, lines: &Lines) -> Result<Vec<u8>, Memory> {
+    let (count, place, other) = *lines;
+    let mut text = Vec::new(alloc);
+    for i in 0..count {
+        let line = if i + 1 == place { other } else { "0" };
+        for byte in line.as_bytes() {
+            text.push(*byte)?;
+        }
+        text.push(b'\n')?;
+    }
+    Ok(text)
+}
+
+fn serve_hash(alloc: Global, case: &HashCase) -> Result<Served, Memory> {
+    let (words, params, numbers, _, _) = *case;
+    let mut shelf = MemShelf::new(alloc);
+    let mut sink = MemSink::new(alloc);
+    shelf.put("z", text_of(alloc, &params)?.as_slice())?;
+    shelf.put("n", text_of(alloc, &numbers)?.as_slice())?;
+    let words = words_of(alloc, words)?;
+    let status = serve(alloc, words.as_slice(), &mut shelf, &mut sink, &OpenGate);
+    Ok(Served {
+        number: status.number(),
+        printed: Vec::from_slice(alloc, sink.taken())?,
+    })
+}
+
+#[test]
+fn hashes_numbers(rt: HostRuntime) -> Result<(), Fail> {
+    for case in &HASH_CASES {
+        let served = serve_hash(rt.alloc(), case)?;
+        let (_, _, _, number, printed) = *case;
+        assert_eq!(rt; served.number, number, "{}", printed);
+        assert_eq!(rt; served.printed.as_slice(), printed.as_bytes());
+    }
+    Ok(())
+}

@@ -1,7 +1,8 @@
-ghost use Rattle.std.specs.Prelude.{◌≡◌, ◌≤◌, length, option_map, IfSome, if◌then◌else◌, Some, None};
+ghost use Rattle.std.specs.Prelude.{◌≡◌, ◌≤◌, ◌∷◌, [], codes, length, option_map, IfSome, if◌then◌else◌, Some, None};
+ghost use Rattle.std.specs.Str.{bytes_eq};
 ghost use Rattle.vm_field.specs.FileName.{is_file_name, is_name_byte as name_byte, begins_with_dash as first_is_dash};
 ghost use Rattle.std.specs.List.{list_all};
-ghost use Rattle.miden_app.specs.Words.{nothing, check_strip, asked, texts};
+ghost use Rattle.miden_app.specs.Words.{nothing, check_strip, hash, check_words, hash_words, without_dashes, asked, texts};
 ghost use Rattle.miden_app.specs.Asking.{asks, IsNamed};
 
 /// What the words after the program's name ask for.
@@ -10,6 +11,8 @@ pub enum Command<'a> {
     Nothing,
     /// `check` of a strip.
     CheckStrip { strip: &'a str },
+    /// `hash` of numbers under parameters.
+    Hash { params: &'a str, numbers: &'a str },
 }
 
 /// Reads the words.
@@ -19,18 +22,74 @@ pub fn command_of(words: &[Vec<u8>]) -> Command<'_>
     ensures named { IsNamed result }
 {
     match words {
-        [command, name] if command.as_slice() == b"check".as_slice() => check_of(name.as_slice()),
+        [command, rest @ ..] if command.as_slice() == b"check".as_slice() => check_of(rest),
+        [command, rest @ ..] if command.as_slice() == b"hash".as_slice() => hash_of(rest),
         _ => Command::Nothing,
     }
 }
 
-fn check_of(name: &[u8]) -> Command<'_>
-    ensures asks { asks result ≡ (if is_file_name name.entry.now then check_strip name.entry.now else nothing) }
+fn check_of(words: &[Vec<u8>]) -> Command<'_>
+    ensures asks { asks result ≡ check_words (texts words.entry.now) }
     ensures named { IsNamed result }
 {
-    match file_name(name) {
+    let [strip] = words else {
+        return Command::Nothing;
+    };
+    match file_name(strip.as_slice()) {
         Some(strip) => Command::CheckStrip { strip },
         None => Command::Nothing,
+    }
+}
+
+fn hash_of(words: &[Vec<u8>]) -> Command<'_>
+    ensures asks { asks result ≡ hash_words (without_dashes (texts words.entry.now)) }
+    ensures named { IsNamed result }
+{
+    let count = words.len();
+    if count == 2 {
+        hash_of_names(words[0].as_slice(), words[1].as_slice())
+    } else if count == 3 {
+        hash_of_three(
+            words[0].as_slice(),
+            words[1].as_slice(),
+            words[2].as_slice(),
+        )
+    } else {
+        Command::Nothing
+    }
+}
+
+// One of the three has to be the dashes, and may stand at any place.
+#[tactic(auto, unfolding(crate::specs::Words::without_dashes))]
+fn hash_of_three<'a>(first: &'a [u8], second: &'a [u8], third: &'a [u8]) -> Command<'a>
+    ensures asks { asks result
+        ≡ hash_words (without_dashes (first.entry.now ∷ second.entry.now ∷ third.entry.now ∷ [])) }
+    ensures named { IsNamed result }
+{
+    if is_dashes(first) {
+        hash_of_names(second, third)
+    } else if is_dashes(second) {
+        hash_of_names(first, third)
+    } else if is_dashes(third) {
+        hash_of_names(first, second)
+    } else {
+        Command::Nothing
+    }
+}
+
+fn is_dashes(word: &[u8]) -> bool
+    ensures { result ≡ bytes_eq word.now (codes "--") }
+{
+    word == b"--".as_slice()
+}
+
+fn hash_of_names<'a>(params: &'a [u8], numbers: &'a [u8]) -> Command<'a>
+    ensures asks { asks result ≡ hash_words (params.entry.now ∷ numbers.entry.now ∷ []) }
+    ensures named { IsNamed result }
+{
+    match (file_name(params), file_name(numbers)) {
+        (Some(params), Some(numbers)) => Command::Hash { params, numbers },
+        _ => Command::Nothing,
     }
 }
 
