@@ -1,5 +1,5 @@
 -- Lists of twelve, and lists joined for each round.
-use Rattle.std.proofs.Common.{◌≡◌, ℕ, zero, suc, ◌+◌, ◌-◌, ◌<◌, ◌≤◌, List, [], ◌∷◌, ◌++◌, length, get_or, slice_index, map, take, drop, set, sym, refl, ap, ap₂, ◌∙◌, arith, add-one, take-suc-set}
+use Rattle.std.proofs.Common.{◌≡◌, ℕ, zero, suc, ◌+◌, ◌<◌, List, [], ◌∷◌, ◌++◌, length, get_or, slice_index, map, take, drop, set, sym, refl, ap, ap₂, ◌∙◌, arith, add-one, take-suc-set}
 use Rattle.std.proofs.Math.Seq.{take-append_seam, drop-append_seam, take-length}
 use Rattle.vm_field.specs.Field.{prime, felt_add, seventh_root}
 use Rattle.vm_field.proofs.Inverses.{seventh_root-below}

@@ -1,5 +1,5 @@
 -- The matrix of the permutation has an inverse: a second circulant matrix, whose product with it is the identity.
-use Rattle.std.proofs.Common.{◌≡◌, ℕ, ◌+◌, ◌*◌, ◌/◌, ◌%◌, ◌<◌, List, [], ◌∷◌, length, map, All, lit<, sym, refl, ap, ap₂, ◌∙◌, arith}
+use Rattle.std.proofs.Common.{◌≡◌, ℕ, ◌+◌, ◌*◌, ◌/◌, ◌%◌, ◌<◌, List, [], ◌∷◌, length, map, All, lit<, sym, refl, ap, ◌∙◌, arith}
 use Rattle.std.proofs.Math.Nat.{mod-eq_of_lt}
 use Rattle.std.proofs.lemmas.List.Elements.{All-cons, All-nil}
 use Rattle.vm_field.specs.Field.{prime}
@@ -33,8 +33,8 @@ unmixed _ = []
 unmixed-mixed : (x : List ℕ) → length x ≡ 12 → All (λ e. e < prime) x → unmixed (mixed x) ≡ x
 unfolding unmixed mixed
 unmixed-mixed (x0 ∷ x1 ∷ x2 ∷ x3 ∷ x4 ∷ x5 ∷ x6 ∷ x7 ∷ x8 ∷ x9 ∷ x10 ∷ x11 ∷ []) len below =
-    cc
-    ( undone x0 x1 x2 x3 x4 x5 x6 x7 x8 x9 x10 x11 (below 0 0 (lit< tt)),
+    cc (
+      undone x0 x1 x2 x3 x4 x5 x6 x7 x8 x9 x10 x11 (below 0 0 (lit< tt)),
       undone x1 x2 x3 x4 x5 x6 x7 x8 x9 x10 x11 x0 (below 1 0 (lit< tt)),
       undone x2 x3 x4 x5 x6 x7 x8 x9 x10 x11 x0 x1 (below 2 0 (lit< tt)),
       undone x3 x4 x5 x6 x7 x8 x9 x10 x11 x0 x1 x2 (below 3 0 (lit< tt)),
@@ -45,7 +45,8 @@ unmixed-mixed (x0 ∷ x1 ∷ x2 ∷ x3 ∷ x4 ∷ x5 ∷ x6 ∷ x7 ∷ x8 ∷ x9
       undone x8 x9 x10 x11 x0 x1 x2 x3 x4 x5 x6 x7 (below 8 0 (lit< tt)),
       undone x9 x10 x11 x0 x1 x2 x3 x4 x5 x6 x7 x8 (below 9 0 (lit< tt)),
       undone x10 x11 x0 x1 x2 x3 x4 x5 x6 x7 x8 x9 (below 10 0 (lit< tt)),
-      undone x11 x0 x1 x2 x3 x4 x5 x6 x7 x8 x9 x10 (below 11 0 (lit< tt)))
+      undone x11 x0 x1 x2 x3 x4 x5 x6 x7 x8 x9 x10 (below 11 0 (lit< tt)),
+    )
 unmixed-mixed _ len below = absurd (omega arith)
 
 -- states with one product are one

@@ -1,5 +1,5 @@
 -- The permutation takes no two states of twelve elements to one.
-use Rattle.std.proofs.Common.{◌≡◌, ℕ, zero, suc, ◌+◌, ◌-◌, ◌*◌, ◌<◌, ◌≤◌, List, [], ◌∷◌, ◌++◌, length, map, take, drop, All, sym, refl, ap, ap₂, subst, ◌∙◌, arith, lit<, length-drop}
+use Rattle.std.proofs.Common.{◌≡◌, ℕ, zero, suc, ◌*◌, ◌<◌, List, [], ◌∷◌, length, map, take, drop, All, sym, refl, ap, ap₂, subst, ◌∙◌, arith, lit<, length-drop}
 use Rattle.std.proofs.lemmas.List.{length-take-le, length-map}
 use Rattle.std.proofs.lemmas.List.Elements.{All-cons, All-head, All-nil, All-tail}
 use Rattle.vm_field.specs.Field.{prime, felt_add, felt_pow, seventh_root}
@@ -112,18 +112,21 @@ same_from_round : (c x y : List ℕ) → length c ≡ 24 → IsState x → IsSta
 same_from_round c x y lc sx sy e =
     same_from_half first x y (first_twelve c lc) sx sy
     (same_from_map (λ e. felt_pow e 7) same_from_seventh (half first x) (half first y) hx.below hy.below
-        (same_from_half second (seventh_powers (half first x)) (seventh_powers (half first y)) (second_twelve c lc) (powers-IsState (half first x) hx)
-            (powers-IsState (half first y) hy)
-            (same_from_map seventh_root same_from_root (half second (seventh_powers (half first x))) (half second (seventh_powers (half first y)))
-                (half-IsState second (seventh_powers (half first x)) (second_twelve c lc)).below
-                (half-IsState second (seventh_powers (half first y)) (second_twelve c lc)).below (sym (round-halves c x) ∙ e ∙ round-halves c y))))
+    (same_from_half second (seventh_powers (half first x)) (seventh_powers (half first y)) (second_twelve c lc) (powers-IsState (half first x) hx)
+    (powers-IsState (half first y) hy)
+    (same_from_map seventh_root same_from_root (half second (seventh_powers (half first x))) (half second (seventh_powers (half first y)))
+    (half-IsState second (seventh_powers (half first x)) (second_twelve c lc)).below
+    (half-IsState second (seventh_powers (half first y)) (second_twelve c lc)).below (sym (round-halves c x) ∙ e ∙ round-halves c y))))
   where
     first : List ℕ
     first = take 12 c
+
     second : List ℕ
     second = take 12 (drop 12 c)
+
     hx : IsState (half first x)
     hx = half-IsState first x (first_twelve c lc)
+
     hy : IsState (half first y)
     hy = half-IsState first y (first_twelve c lc)
 
@@ -138,7 +141,7 @@ same_from_rounds zero c x y lc sx sy e = e
 same_from_rounds (suc n) c x y lc sx sy e =
     same_from_round (take 24 c) x y (length-take-le 24 c (omega arith)) sx sy
     (same_from_rounds n (drop 24 c) (round (take 24 c) x) (round (take 24 c) y) (omega (arith, length-drop 24 c))
-        (round-IsState (take 24 c) x (length-take-le 24 c (omega arith))) (round-IsState (take 24 c) y (length-take-le 24 c (omega arith))) e)
+    (round-IsState (take 24 c) x (length-take-le 24 c (omega arith))) (round-IsState (take 24 c) y (length-take-le 24 c (omega arith))) e)
 
 pub same_from_permuted : (c x y : List ℕ) → length c ≡ 168 → IsState x → IsState y → permuted c x ≡ permuted c y → x ≡ y
 unfolding permuted

@@ -24,20 +24,28 @@ rounds-more firsts seconds n k x below lf ls twelve twelve' =
   where
     one_more : n - k ≡ suc (n - (k + 1))
     one_more = omega arith
+
     first : List ℕ
     first = get_or firsts k []
+
     second : List ℕ
     second = get_or seconds k []
+
     rest : List ℕ
     rest = interleaved (drop (k + 1) firsts) (drop (k + 1) seconds)
+
     opened : (xs : List (List ℕ)) → length xs ≡ n → drop k xs ≡ get_or xs k [] ∷ drop (k + 1) xs
     opened xs len = drop-cons xs k [] (omega arith) ∙ ap (λ m. get_or xs k [] ∷ drop m xs) (sym (add-one k))
+
     grouped : first ++ (second ++ rest) ≡ (first ++ second) ++ rest
     grouped = sym (append_assoc first second rest)
+
     sizes : length (first ++ second) ≡ 24
     sizes = length-append first second ∙ omega arith
+
     behind : drop 24 (first ++ (second ++ rest)) ≡ rest
     behind = ap (drop 24) grouped ∙ back 24 (first ++ second) rest sizes
+
     before : take 24 (first ++ (second ++ rest)) ≡ first ++ second
     before = ap (take 24) grouped ∙ front 24 (first ++ second) rest sizes
 

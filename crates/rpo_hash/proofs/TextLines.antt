@@ -1,11 +1,11 @@
 -- Lines of one element each, read one after another.
-use Rattle.std.proofs.Common.{◌≡◌, ◌≢◌, ℕ, zero, suc, ◌+◌, ◌-◌, ◌*◌, ◌<◌, ◌≤◌, ◌==◌, nat_lt, not, Bool, true, false, cond, eqb, List, [], ◌∷◌, ◌++◌, length, get_or, take, drop, Option, Some, None, option_map, option_and_then, ok_or, Result, Ok, Err, position, sym, refl, ap, ap₂, ◌∙◌, arith, append_assoc, length-append, drop-cons, add-one, zero-add, suc-add, eqb-true, eq-eqb}
+use Rattle.std.proofs.Common.{◌≡◌, ℕ, zero, suc, ◌+◌, ◌-◌, ◌<◌, ◌≤◌, ◌==◌, nat_lt, not, Bool, true, false, cond, List, [], ◌∷◌, ◌++◌, length, take, drop, Option, Some, None, option_map, option_and_then, ok_or, Result, Ok, Err, position, sym, refl, ap, ◌∙◌, arith, zero-add, suc-add, eqb-true}
 use Rattle.std.proofs.lemmas.Bool.{false≢true}
 use Rattle.std.proofs.lemmas.Bool.Decides.{nat_tests}
 use Rattle.std.specs.List.{position_or_len}
 use Rattle.vm_field.specs.Decimal.{element_of}
-use Rattle.rpo_hash.specs.ParamText.{one_line, one_element, and_then, element_line, element_lines, nothing_left, parameters_of}
-use Rattle.rpo_hash.specs.declared.params.ParamCause.TheVariants.{Ended, Number, Extra}
+use Rattle.rpo_hash.specs.ParamText.{one_line, one_element, and_then, element_line, element_lines}
+use Rattle.rpo_hash.specs.declared.params.ParamCause.TheVariants.{Ended, Number}
 use Rattle.rpo_hash.specs.declared.params.ParamError.{ParamError}
 
 -- ---- one line
@@ -19,6 +19,7 @@ shifted m n = ap (λ b. cond b (Some (1 + m)) None) same ∙ go (nat_lt m n)
   where
     same : nat_lt (1 + m) (suc n) ≡ nat_lt m n
     same = grind (arith, nat_tests)
+
     go : (b : Bool) → cond b (Some (1 + m)) None ≡ option_map suc (cond b (Some m) None)
     go true = ap Some (omega arith)
     go false = refl
@@ -40,8 +41,10 @@ one_line-position (b ∷ bs) = go (b == 10) refl (one_line-position bs)
   where
     some : nat_lt 0 (suc (length bs)) ≡ true
     some = grind (arith, nat_tests)
+
     m : ℕ
     m = position_or_len (λ c. c == 10) bs
+
     go : (t : Bool) → (b == 10) ≡ t → one_line bs ≡ option_map (parted bs) (position (λ c. c == 10) bs)
         → cond t (Some ([], bs)) (option_map (λ l. (b ∷ l.0, l.1)) (one_line bs))
         ≡ option_map (parted (b ∷ bs)) (cond (nat_lt (cond (not t) (1 + m) 0) (suc (length bs))) (Some (cond (not t) (1 + m) 0)) None)
@@ -100,6 +103,7 @@ element_lines-add zero m n bytes =
   where
     none : n ≡ n + 0
     none = omega arith
+
     same : (r : Read) → r ≡ and_then (put_behind []) r
     same (Ok b) = refl
     same (Err e) = refl
@@ -108,6 +112,7 @@ element_lines-add (suc k) m n bytes =
   where
     one_more : n + 1 + k ≡ n + suc k
     one_more = omega arith
+
     go : (r : Result (ℕ × List ℕ) ParamError)
         → ((first : ℕ × List ℕ) → element_lines (k + m) (n + 1) first.1 ≡ joined (element_lines k (n + 1) first.1) (element_lines m (n + 1 + k)))
         → and_then (λ first. and_then (put_first first.0) (element_lines (k + m) (n + 1) first.1)) r

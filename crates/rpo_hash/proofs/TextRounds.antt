@@ -1,5 +1,5 @@
 -- The constants of the rounds, read one round after another.
-use Rattle.std.proofs.Common.{◌≡◌, ℕ, zero, suc, ◌+◌, ◌-◌, ◌*◌, ◌<◌, ◌≤◌, List, [], ◌∷◌, ◌++◌, length, take, set, Result, Ok, Err, sym, refl, ap, ap₂, ◌∙◌, arith, append_assoc, append-nil}
+use Rattle.std.proofs.Common.{◌≡◌, ℕ, ◌+◌, ◌*◌, ◌<◌, List, [], ◌∷◌, ◌++◌, length, take, set, Result, Ok, Err, sym, ap, ap₂, ◌∙◌, arith, append_assoc, append-nil}
 use Rattle.std.proofs.lemmas.List.{length-take-le}
 use Rattle.rpo_hash.specs.Constants.{interleaved}
 use Rattle.rpo_hash.specs.ParamText.{and_then, element_lines, nothing_left, parameters_of}
@@ -38,11 +38,12 @@ read_more k line middle bytes rest behind end first second firsts seconds read b
   where
     count : 24 * (k + 1) ≡ 24 * k + 12 + 12
     count = omega arith
+
     constants : (interleaved (take k firsts) (take k seconds) ++ first) ++ second ≡ interleaved (take (k + 1) (set firsts k first)) (take (k + 1) (set seconds k second))
     constants =
         append_assoc (interleaved (take k firsts) (take k seconds)) first second
         ∙ sym (interleaved-push (take k firsts) (take k seconds) first second
-            (length-take-le k seconds (omega arith) ∙ sym (length-take-le k firsts (omega arith))))
+        (length-take-le k seconds (omega arith) ∙ sym (length-take-le k firsts (omega arith))))
         ∙ ap₂ interleaved (sym (take-set_next firsts k first below)) (sym (take-set_next seconds k second (omega arith)))
 
 pub refused : (bytes : List ℕ) (error : ParamError) → element_lines 168 1 bytes ≡ Err error → parameters_of bytes ≡ Err error
@@ -63,8 +64,8 @@ pub refused_second : (k line middle : ℕ) (bytes rest behind first : List ℕ) 
 refused_second k line middle bytes rest behind first firsts seconds error read below line_is half middle_is stop =
     refused bytes error
     (lines_stop (24 * k + 12) 12 1 middle 168 bytes (interleaved (take k firsts) (take k seconds) ++ first) behind error
-        (lines_more (24 * k) 12 1 line bytes (interleaved (take k firsts) (take k seconds)) rest first behind read (omega arith) half) (omega arith)
-        stop (omega arith))
+    (lines_more (24 * k) 12 1 line bytes (interleaved (take k firsts) (take k seconds)) rest first behind read (omega arith) half) (omega arith)
+    stop (omega arith))
 
 -- all seven rounds were read
 pub read_all : (k line : ℕ) (bytes rest : List ℕ) (firsts seconds : List (List ℕ)) (r : Result Unit ParamError)

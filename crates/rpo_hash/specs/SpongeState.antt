@@ -2,5 +2,5 @@
 use Rattle.std.specs.Prelude.{ℕ, Bool, List}
 
 pub record SpongeState : Type 0 where
-  pub state : List ℕ         -- twelve elements
-  pub has_absorbed : Bool    -- whether a block was absorbed
+  pub state : List ℕ  -- twelve elements
+  pub has_absorbed : Bool  -- whether a block was absorbed

@@ -12,8 +12,7 @@ pub fn permutation_laws()
     ensures one_to_one { (constants x y : List ℕ) → length constants ≡ 168 → IsState x → IsState y
         → permuted constants x ≡ permuted constants y → x ≡ y }
     ensures elements { (constants x : List ℕ) → length constants ≡ 168 → IsState (permuted constants x) }
-{
-}
+{}
 
 /// The laws of the sponge: what one block more leaves in it, that `hashed` is what is squeezed
 /// behind all blocks, and that this is four elements.
@@ -25,8 +24,7 @@ pub fn sponge_laws()
         → hashed constants domain blocks ≡ squeezed (sponge_after constants (begun domain) blocks) }
     ensures elements { (constants : List ℕ) (domain : ℕ) (blocks : List (List ℕ))
         → length constants ≡ 168 → 0 < length blocks → IsDigest (hashed constants domain blocks) }
-{
-}
+{}
 
 fn crosses<T: Send + Sync>() {}
 

@@ -7,6 +7,8 @@ mod lines;
 mod params;
 mod permutation;
 mod sponge;
+#[cfg(test)]
+mod tests;
 
 pub use laws::{permutation_laws, sponge_laws, types_cross};
 pub use lines::next_line;

@@ -2,11 +2,10 @@ ghost use Rattle.std.specs.Prelude.{◌≡◌, ◌+◌, ◌<◌, ◌^◌, IfErr,
 ghost use Rattle.rpo_hash.specs.Constants.{constants_of};
 ghost use Rattle.rpo_hash.specs.ParamText.{element_line, element_lines, nothing_left, parameters_of};
 
+use crate::lines::next_line;
 use std::fmt;
 use thiserror::Error;
 use vm_field::Felt;
-
-use crate::lines::next_line;
 
 /// The constants of the permutation's seven rounds.
 #[derive(Clone, Copy, Debug, PartialEq, Eq)]
@@ -62,7 +61,10 @@ impl Params {
     {
         let mut first = [[Felt::ZERO; 12]; 7];
         let mut second = [[Felt::ZERO; 12]; 7];
-        let mut lines = Lines { rest: bytes, line: 1 };
+        let mut lines = Lines {
+            rest: bytes,
+            line: 1,
+        };
         for k in 0..7 {
             first[k] = lines.twelve()?;
             second[k] = lines.twelve()?;

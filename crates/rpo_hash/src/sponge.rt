@@ -2,11 +2,10 @@ ghost use Rattle.std.specs.Prelude.{◌≡◌, ◌<◌, ◌++◌, false, length,
 ghost use Rattle.rpo_hash.specs.Constants.{constants_of};
 ghost use Rattle.vm_field.specs.Sponge.{absorbed, begun, hashed, squeezed};
 
-use std::marker::Model;
-use vm_field::{Felt, Word};
-
 use crate::params::Params;
 use crate::permutation::permute;
+use std::marker::Model;
+use vm_field::{Felt, Word};
 
 /// A sponge over the permutation: elements 0 to 3 of its state are the capacity, elements 4 to 11
 /// the rate.

@@ -1,4 +1,4 @@
-use Rattle.std.proofs.Common.{◌+◌, ◌≡◌, List, ℕ, Bor, take, drop, Some, option_map, sym, ap, ◌∙◌, arith, length-drop}
+use Rattle.std.proofs.Common.{◌+◌, List, ℕ, Bor, take, drop, Some, option_map, sym, ap, ◌∙◌, length-drop}
 use Rattle.rpo_hash.proofs.Lists.{whole}
 use Rattle.rpo_hash.proofs.TextLines.{one_line-position}
 use Rattle.rpo_hash.proofs.lines.next_line.Goals as goal

@@ -17,7 +17,7 @@ returns-in_err-second-clause-refused c =
     let p = err_from_is_err_and c.from_residual-in_err-second.result c.from_residual-in_err-second.ensures.1 in
     rw (p.1, p.2)
     (refused_second c.loop-k.k _ _ _ _ _ _ _ _ _ c.loop-k.invariant.read c.loop-k-test.true c.loop-k.invariant.line c.in_ok-first.ensures.read
-        c.in_ok-first.ensures.line c.in_err-second.ensures.read)
+    c.in_ok-first.ensures.line c.in_err-second.ensures.read)
 
 pub loop-k-preserved : goal.loop-k-preserved
 loop-k-preserved c =
