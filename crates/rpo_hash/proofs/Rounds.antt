@@ -1,17 +1,8 @@
 -- Rounds of the permutation, one after another under the constants of a parameter file.
 use Rattle.std.proofs.Common.{◌≡◌, ℕ, zero, suc, ◌+◌, ◌-◌, ◌*◌, ◌<◌, List, [], ◌∷◌, ◌++◌, length, get_or, take, drop, sym, refl, ap, ap₂, ◌∙◌, arith, append_assoc, length-append, drop-cons, add-one}
-use Rattle.std.proofs.Math.Seq.{take-append_seam, drop-append_seam, take-length}
 use Rattle.vm_field.specs.Permutation.{added, mixed, seventh_powers, seventh_roots, powered, before_roots, round, rounds}
 use Rattle.rpo_hash.specs.Constants.{interleaved}
-
-pub front : {X : Type 0} (n : ℕ) (xs ys : List X) → length xs ≡ n → take n (xs ++ ys) ≡ xs
-front n xs ys len = ap (λ k. take k (xs ++ ys)) (sym len) ∙ take-append_seam xs ys
-
-pub back : {X : Type 0} (n : ℕ) (xs ys : List X) → length xs ≡ n → drop n (xs ++ ys) ≡ ys
-back n xs ys len = ap (λ k. drop k (xs ++ ys)) (sym len) ∙ drop-append_seam xs ys
-
-pub whole : {X : Type 0} (n : ℕ) (xs : List X) → length xs ≡ n → take n xs ≡ xs
-whole n xs len = ap (λ k. take k xs) (sym len) ∙ take-length xs
+use Rattle.rpo_hash.proofs.Lists.{front, back, whole}
 
 -- a round, under its constants in two parts
 pub round-parts : (first second x : List ℕ) → length first ≡ 12 → length second ≡ 12
@@ -33,20 +24,28 @@ rounds-more firsts seconds n k x below lf ls twelve twelve' =
   where
     one_more : n - k ≡ suc (n - (k + 1))
     one_more = omega arith
+
     first : List ℕ
     first = get_or firsts k []
+
     second : List ℕ
     second = get_or seconds k []
+
     rest : List ℕ
     rest = interleaved (drop (k + 1) firsts) (drop (k + 1) seconds)
+
     opened : (xs : List (List ℕ)) → length xs ≡ n → drop k xs ≡ get_or xs k [] ∷ drop (k + 1) xs
     opened xs len = drop-cons xs k [] (omega arith) ∙ ap (λ m. get_or xs k [] ∷ drop m xs) (sym (add-one k))
+
     grouped : first ++ (second ++ rest) ≡ (first ++ second) ++ rest
     grouped = sym (append_assoc first second rest)
+
     sizes : length (first ++ second) ≡ 24
     sizes = length-append first second ∙ omega arith
+
     behind : drop 24 (first ++ (second ++ rest)) ≡ rest
     behind = ap (drop 24) grouped ∙ back 24 (first ++ second) rest sizes
+
     before : take 24 (first ++ (second ++ rest)) ≡ first ++ second
     before = ap (take 24) grouped ∙ front 24 (first ++ second) rest sizes
 

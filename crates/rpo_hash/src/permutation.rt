@@ -3,9 +3,8 @@ ghost use Rattle.rpo_hash.specs.Constants.{constants_of};
 ghost use Rattle.vm_field.specs.Field.{prime, felt_pow};
 ghost use Rattle.vm_field.specs.Permutation.{added, mixed, permuted, round, row_product, seventh_powers};
 
-use vm_field::{Felt, felt_at, roots7};
-
 use crate::params::Params;
+use vm_field::{Felt, felt_at, roots7};
 
 /// The permutation of a state of twelve elements.
 pub fn permute(params: &Params, state: [Felt; 12]) -> [Felt; 12]

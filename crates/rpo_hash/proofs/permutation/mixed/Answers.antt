@@ -1,4 +1,4 @@
-use Rattle.std.proofs.Common.{◌≡◌, List, [], ◌∷◌, sym, ap, ◌∙◌}
+use Rattle.std.proofs.Common.{◌≡◌, [], ◌∷◌}
 use Rattle.vm_field.specs.Permutation.{mixed}
 use Rattle.rpo_hash.proofs.Lists.{twelve_elements}
 use Rattle.rpo_hash.proofs.permutation.mixed.Goals as goal

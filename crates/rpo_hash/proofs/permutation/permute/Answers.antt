@@ -1,4 +1,4 @@
-use Rattle.std.proofs.Common.{◌≡◌, ◌+◌, ◌-◌, ◌<◌, drop, length, get_or, [], sym, refl, ap, ◌∙◌, arith, below_more}
+use Rattle.std.proofs.Common.{◌+◌, ◌-◌, drop, sym, refl, ap, ◌∙◌, arith, below_more}
 use Rattle.vm_field.specs.Permutation.{permuted, rounds}
 use Rattle.rpo_hash.specs.Constants.{interleaved}
 use Rattle.rpo_hash.proofs.Rounds.{rounds-more, rounds-none, length-interleaved}

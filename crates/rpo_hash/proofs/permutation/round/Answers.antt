@@ -1,4 +1,4 @@
-use Rattle.std.proofs.Common.{◌≡◌, map, sym, ap, subst, ◌∙◌}
+use Rattle.std.proofs.Common.{map, sym, ap, subst, ◌∙◌}
 use Rattle.vm_field.specs.Field.{seventh_root}
 use Rattle.vm_field.specs.Permutation.{added, mixed, seventh_powers}
 use Rattle.rpo_hash.proofs.Lists.{AllBelow, seventh_roots-below}

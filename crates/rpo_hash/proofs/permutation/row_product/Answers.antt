@@ -1,4 +1,3 @@
-use Rattle.std.proofs.Common.{◌≡◌, ◌∙◌}
 use Rattle.vm_field.specs.Permutation.{row_product}
 use Rattle.rpo_hash.proofs.permutation.row_product.Goals as goal
 
