@@ -1,5 +1,5 @@
 -- A batch is read digit by digit.
-use Rattle.std.specs.Prelude.{◌≡◌, ℕ, suc, ◌+◌, ◌*◌, ◌<◌, ◌==◌, if◌then◌else◌, List, [], ◌∷◌, ◌++◌, length, Option, Some, None, option_map}
+use Rattle.std.specs.Prelude.{◌≡◌, ℕ, ◌+◌, ◌*◌, ◌<◌, ◌==◌, if◌then◌else◌, List, [], ◌∷◌, ◌++◌, length, Option, Some, None, option_map}
 use Rattle.op_pack.specs.declared.reading.Next.{Next}
 use Rattle.op_pack.specs.declared.reading.Next.TheVariants.{Goes, Ends, NoReading}
 use Rattle.op_pack.specs.declared.reading.Unread.{Unread}

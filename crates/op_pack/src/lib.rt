@@ -2,7 +2,9 @@
 #![tactic(auto)]
 
 mod batches;
+mod packing;
 mod reading;
 
 pub use batches::Batches;
+pub use packing::pack;
 pub use reading::{in_use, unpack};

@@ -1,4 +1,4 @@
-use Rattle.std.proofs.Common.{◌≡◌, ◌<◌, ◌∙◌, ap, sym, arith, ℕ, ◌+◌, ◌-◌, ◌*◌, ◌/◌, length}
+use Rattle.std.proofs.Common.{◌≡◌, ◌∙◌, ap, sym, arith, ℕ, ◌+◌, ◌-◌, ◌*◌, ◌/◌, length}
 use Rattle.op_pack.specs.Digits.{go_on, size_of}
 use Rattle.op_pack.specs.Reading.{before, read_on}
 use Rattle.op_pack.proofs.ReadLemmas.{IsNext-along, read_on-full, left_of-plain, left_of-push, left_of-above}
