@@ -4,6 +4,8 @@
 mod batches;
 mod packing;
 mod reading;
+#[cfg(test)]
+mod tests;
 
 pub use batches::Batches;
 pub use packing::pack;

@@ -1,5 +1,5 @@
 ghost use Rattle.std.specs.Prelude.{◌≡◌, ◌≢◌, true, [], ◌∷◌, ◌^◌, ◌<◌, ◌≤◌, length, replicate, IfOk};
-ghost use Rattle.op_pack.specs.Packing.{IsPackable, has_immediate, fits, opens, placed, zeros_behind, batch_of, first_placed, packed};
+ghost use Rattle.op_pack.specs.Packing.{has_immediate, fits, opens, placed, zeros_behind, batch_of, first_placed, packed};
 
 use crate::batches::Batches;
 use std::alloc::Global;
@@ -124,9 +124,10 @@ fn first_batch(items: &[Item]) -> ([Felt; 8], &[Item])
 }
 
 /// Packs operations into batches, one after another: nine to a group at most, each immediate at
-/// the next free position.
+/// the next free position. What is read back are these operations up to NOOPs, where each is
+/// ordinary and has an immediate, which is not 0, exactly where it is PUSH.
 pub fn pack(alloc: Global, items: &[Item]) -> Result<Batches, Memory>
-    requires { IsPackable items.now }
+    requires { items.now ≢ [] }
     ensures is { IfOk result (λ batches. batches ≡ packed items.now) }
 {
     let (first, mut rest) = first_batch(items);

@@ -5,7 +5,7 @@ use Rattle.op_pack.proofs.packing.pack.Goals as goal
 
 pub loop-rest-init : goal.loop-rest-init
 loop-rest-init c =
-    let next = packed-push [] c.args.items.now c.first_batch-first.result.1.now c.first_batch-first.result.0 c.requires.some
+    let next = packed-push [] c.args.items.now c.first_batch-first.result.1.now c.first_batch-first.result.0 c.requires
     c.first_batch-first.ensures.batch c.first_batch-first.ensures.rest in
     rw c.in_ok-batches.ensures.one next
 
