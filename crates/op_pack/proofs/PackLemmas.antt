@@ -18,7 +18,7 @@ length-placed_rest (item ∷ items) room free =
     (length-cond_rest (opens free item) (new_group (put item (placed 8 (free - 1 - positions_of item) items))) (full (item ∷ items)) n
     (omega arith) (omega arith))
 
-fits-first : (b : Bool) → cond b (nat_lt 1 9 && nat_lt 0 7) (nat_lt 0 9) ≡ true
+pub fits-first : (b : Bool) → cond b (nat_lt 1 9 && nat_lt 0 7) (nat_lt 0 9) ≡ true
 fits-first true = refl
 fits-first false = refl
 

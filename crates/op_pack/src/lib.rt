@@ -2,11 +2,13 @@
 #![tactic(auto)]
 
 mod batches;
+mod laws;
 mod packing;
 mod reading;
 #[cfg(test)]
 mod tests;
 
 pub use batches::Batches;
+pub use laws::{packing_laws, types_cross};
 pub use packing::pack;
 pub use reading::{in_use, unpack};
