@@ -1,0 +1,7 @@
+pub mod ReadLemmas
+pub mod PackLemmas
+pub mod PlaceLemmas
+pub mod NoopLemmas
+pub mod RoundTripLemmas
+pub mod CutLemmas
+pub mod BatchLemmas

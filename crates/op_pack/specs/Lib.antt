@@ -1,2 +1,4 @@
 pub mod Reading
+pub mod Digits
 pub mod Packing
+pub mod RoundTrip

@@ -1,7 +1,8 @@
 -- How operations are placed into batches (docs/MACHINE.md, "Batches").
-use Rattle.std.specs.Prelude.{ℕ, zero, suc, ◌+◌, ◌-◌, ◌*◌, Bool, ◌&&◌, nat_lt, nat_le, if◌then◌else◌, List, [], ◌∷◌, ◌++◌, length, replicate, Option, Some, None, unwrap_or}
+use Rattle.std.specs.Prelude.{ℕ, zero, suc, ◌+◌, ◌-◌, ◌*◌, ◌≡◌, ◌≢◌, Bool, ◌&&◌, nat_lt, nat_le, if◌then◌else◌, List, [], ◌∷◌, ◌++◌, length, replicate, unwrap_or, IsTrue, MatchOption, All}
 use Rattle.vm_ops.specs.declared.item.Item.{Item}
-use Rattle.vm_ops.specs.Codes.{code_of}
+use Rattle.vm_ops.specs.Codes.{code_of, is_ordinary_op}
+use Rattle.vm_ops.specs.declared.op.Op.TheVariants.{Push}
 
 -- How a batch goes on from a place on: what is still to come of the current group's number, the positions from the next free
 -- one on, and the operations that open the next batch.
@@ -9,6 +10,16 @@ pub record Placed : Type 0 where
   pub number : ℕ
   pub positions : List ℕ
   pub rest : List Item
+
+-- What a batch may hold: an ordinary operation, with an immediate exactly at PUSH, which is not 0.
+pub record IsPlaceable (item : Item) : Type 0 where
+  pub ordinary : IsTrue (is_ordinary_op item.op)
+  pub immediate : MatchOption item.imm (item.op ≢ Push) (λ value. (item.op ≡ Push) × (value ≢ 0))
+
+-- some operations, all of which a batch may hold
+pub record IsPackable (items : List Item) : Type 0 where
+  pub some : items ≢ []
+  pub each : All IsPlaceable items
 
 abbrev pub has_immediate : Item → Bool
 has_immediate item = nat_le 69 (code_of item.op)
@@ -48,9 +59,13 @@ placed room free (item ∷ items) =
     else if opens free item then new_group (put item (placed 8 (free - 1 - positions_of item) items))
     else full (item ∷ items)
 
+-- positions that are not taken hold 0
+abbrev pub zeros_behind : ℕ → List ℕ → List ℕ
+zeros_behind free positions = positions ++ replicate (free - length positions) 0
+
 -- the eight elements of a batch
 abbrev pub batch_of : Placed → List ℕ
-batch_of p = p.number ∷ p.positions ++ replicate (7 - length p.positions) 0
+batch_of p = p.number ∷ zeros_behind 7 p.positions
 
 -- the first batch of some operations: nine to a group, and seven positions behind the first
 unfoldable pub first_placed : List Item → Placed

@@ -4,7 +4,6 @@
 -- number.
 use Rattle.std.specs.Prelude.{ℕ, zero, suc, ◌/◌, ◌%◌, Bool, ◌==◌, nat_lt, if◌then◌else◌, List, [], ◌∷◌, take, drop, slice_index, Option, Some, None, option_map, unwrap_or}
 use Rattle.std.specs.List.{list_all}
-use Rattle.vm_ops.specs.declared.op.Op.{Op}
 use Rattle.vm_ops.specs.declared.op.Op.TheVariants.{Noop}
 use Rattle.vm_ops.specs.declared.item.Item.{Item}
 use Rattle.vm_ops.specs.Codes.{op_at}

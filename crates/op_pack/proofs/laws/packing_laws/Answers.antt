@@ -1,0 +1,5 @@
+use Rattle.op_pack.proofs.BatchLemmas as batch_lemmas
+use Rattle.op_pack.proofs.laws.packing_laws.Goals as goal
+
+pub returns : goal.returns
+returns c = record { read_back = batch_lemmas.read_back }
