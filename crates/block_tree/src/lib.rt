@@ -1,0 +1,2 @@
+//! Trees of blocks: their digests, and what they do.
+#![tactic(auto)]
