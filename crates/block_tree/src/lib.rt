@@ -1,2 +1,7 @@
 //! Trees of blocks: their digests, and what they do.
 #![tactic(auto)]
+
+/// One.
+pub fn one() -> u8 {
+    1
+}
