@@ -1,3 +1,5 @@
 pub mod Parts
 pub mod Keeping
 pub mod Limits
+pub mod Refinement
+pub mod Tapes

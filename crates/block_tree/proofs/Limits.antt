@@ -106,9 +106,9 @@ module _ (constants : List ℕ) (kernel : List (List ℕ)) (j k : ℕ) where
   turn-strict limit digest body_digest body again h r s t es b =
       let l : s.core.clock ≤ b.mid.core.clock = h s b.mid b.first b.ran in
       let m : b.mid.core.clock < t.core.clock
-            = after-strict limit digest body_digest again
-                (λ u v fs d. let x : u.core.clock < v.core.clock = r u v fs d in omega arith)
-                (top b.mid.core) b.mid t b.second b.went_on in
+      = after-strict limit digest body_digest again
+      (λ u v fs d. let x : u.core.clock < v.core.clock = r u v fs d in omega arith)
+      (top b.mid.core) b.mid t b.second b.went_on in
       omega arith
 
   turns-strict : (limit : ℕ) (digest body_digest : List ℕ) (body : Part) → ((u t : State) (es : List Event) → body u ≡ Done t es → u.core.clock ≤ t.core.clock)
@@ -128,11 +128,11 @@ module _ (constants : List ℕ) (kernel : List (List ℕ)) (j k : ℕ) where
       from t es strict = record { later = omega arith; same = λ l. absurd (omega arith); short = λ l r. refl }
   agree-turns digest body_digest f g h (suc n) (suc m) s room =
       agree-then j _ _ _ _ s (h s) (λ u es e.
-        let l : s.core.clock ≤ u.core.clock = ((h s).rule u es e).later in
-        agree-at_bit j (top u.core) _ _ _ _ u (agree-cycle (EndLoop digest) u)
-        (agree-then j _ _ _ _ u (agree-cycle (Repeat body_digest) u) (λ v fs d.
-          let r : v.core.clock ≡ u.core.clock + 1 = cycle-ticks constants kernel k (Repeat body_digest) u v fs d in
-          agree-turns digest body_digest f g h n m v (omega arith))))
+      let l : s.core.clock ≤ u.core.clock = ((h s).rule u es e).later in
+      agree-at_bit j (top u.core) _ _ _ _ u (agree-cycle (EndLoop digest) u)
+      (agree-then j _ _ _ _ u (agree-cycle (Repeat body_digest) u) (λ v fs d.
+      let r : v.core.clock ≡ u.core.clock + 1 = cycle-ticks constants kernel k (Repeat body_digest) u v fs d in
+      agree-turns digest body_digest f g h n m v (omega arith))))
 
   agree-execution : (t : Tree) (s : State) → Agree j s (execution constants kernel k t s) (execution constants kernel j t s)
   agree-execution (Opaque digest) s = agree-cycle StartOpaque s
@@ -147,9 +147,9 @@ module _ (constants : List ℕ) (kernel : List (List ℕ)) (j k : ℕ) where
       agree-then j _ _ _ _ u (agree-at_bit j (top s.core) _ _ _ _ u (agree-execution b u) (agree-execution a u)) (λ v fs d. agree-cycle _ v))
   agree-execution (Loop a) s =
       agree-then j _ _ _ _ s (agree-cycle _ s) (λ u es e.
-        let l : u.core.clock ≡ s.core.clock + 1 = cycle-ticks constants kernel k _ s u es e in
-        agree-at_bit j (top s.core) _ _ _ _ u (agree-cycle _ u)
-        (agree-turns _ _ _ _ (agree-execution a) (k - s.core.clock) (j - s.core.clock) u (omega arith)))
+      let l : u.core.clock ≡ s.core.clock + 1 = cycle-ticks constants kernel k _ s u es e in
+      agree-at_bit j (top s.core) _ _ _ _ u (agree-cycle _ u)
+      (agree-turns _ _ _ _ (agree-execution a) (k - s.core.clock) (j - s.core.clock) u (omega arith)))
   agree-execution (Call a) s =
       agree-then j _ _ _ _ s (agree-cycle _ s) (λ u es e.
       agree-then j _ _ _ _ u (agree-execution a u) (λ v fs d. agree-cycle _ v))

@@ -134,10 +134,11 @@ within-inv mark n effect s t es false short e = go (ticked n s.tape (effect (tak
   where
     go : (r : Result State Cause) → ticked n s.tape (effect (take n s.tape) s.core) ≡ r → cycle_outcome mark n s r ≡ Done t es
         → (n ≤ length s.tape) × (Ticked n s.tape (effect (take n s.tape) s.core) t) × (es ≡ event_of mark n s ∷ [])
-    go (Ok u) made done =
-        ( ltb-false (length s.tape) n short
-        , ticked-inv n s.tape t (effect (take n s.tape) s.core) (made ∙ ap Ok (done-state u t (event_of mark n s ∷ []) es done))
-        , sym (done-events u t (event_of mark n s ∷ []) es done))
+    go (Ok u) made done = (
+      ltb-false (length s.tape) n short,
+      ticked-inv n s.tape t (effect (take n s.tape) s.core) (made ∙ ap Ok (done-state u t (event_of mark n s ∷ []) es done)),
+      sym (done-events u t (event_of mark n s ∷ []) es done),
+    )
     go (Err cause) made done = absurd (done-not_trap s.core.clock cause t es done)
 
 pub taking-inv : (limit : ℕ) (mark : Mark) (n : ℕ) (effect : List ℕ → Cycle) (s t : State) (es : List Event)
@@ -150,7 +151,7 @@ taking-inv limit mark n effect s t es e = go (ltb s.core.clock limit) refl e
         → Cycled limit mark n effect s t es
     go true before done =
         let within : (n ≤ length s.tape) × (Ticked n s.tape (effect (take n s.tape) s.core) t) × (es ≡ event_of mark n s ∷ [])
-              = within-inv mark n effect s t es (ltb (length s.tape) n) refl done in
+        = within-inv mark n effect s t es (ltb (length s.tape) n) refl done in
         record {
           before = ltb-true s.core.clock limit before;
           enough = within.0;
@@ -164,7 +165,7 @@ taking-inv limit mark n effect s t es e = go (ltb s.core.clock limit) refl e
 pub taking-done : (limit : ℕ) (mark : Mark) (n : ℕ) (effect : List ℕ → Cycle) (s : State) (core : Core)
     → s.core.clock < limit → n ≤ length s.tape → effect (take n s.tape) s.core ≡ Ok core
     → taking limit mark n effect s
-        ≡ Done (record { core = record core { clock = core.clock + 1 }; tape = drop n s.tape }) (event_of mark n s ∷ [])
+    ≡ Done (record { core = record core { clock = core.clock + 1 }; tape = drop n s.tape }) (event_of mark n s ∷ [])
 unfolding taking cycle_taking
 taking-done limit mark n effect s core before enough made =
     rw (lt-ltb s.core.clock limit before, le-ltb (length s.tape) n enough, made) refl

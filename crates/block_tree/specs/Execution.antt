@@ -88,8 +88,8 @@ module _ (constants : List ℕ) (kernel : List (List ℕ)) (limit : ℕ) where
   turns digest body_digest zero body s = OutOfCycles
   turns digest body_digest (suc n) body s =
       seq body (λ t. at_bit (top t.core)
-          (cycle (EndLoop digest))
-          (seq (cycle (Repeat body_digest)) (turns digest body_digest n body)) t) s
+      (cycle (EndLoop digest))
+      (seq (cycle (Repeat body_digest)) (turns digest body_digest n body)) t) s
 
   -- The run of a tree. Each turn of a loop takes a cycle at least, so that no loop makes more turns than cycles are left.
   abbrev pub execution : Tree → Part
@@ -104,8 +104,8 @@ module _ (constants : List ℕ) (kernel : List (List ℕ)) (limit : ℕ) where
   execution (Loop body) = λ s.
       seq (cycle (StartLoop (tree_digest constants body)))
       (at_bit (top s.core)
-          (cycle (End (tree_digest constants (Loop body))))
-          (turns (tree_digest constants (Loop body)) (tree_digest constants body) (limit - s.core.clock) (execution body))) s
+      (cycle (End (tree_digest constants (Loop body))))
+      (turns (tree_digest constants (Loop body)) (tree_digest constants body) (limit - s.core.clock) (execution body))) s
   execution (Call callee) = λ s.
       seq (cycle (StartCall (tree_digest constants callee)))
       (seq (execution callee) (cycle (EndCall (tree_digest constants (Call callee)) (frame_of s.core)))) s

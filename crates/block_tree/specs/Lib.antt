@@ -1,3 +1,4 @@
 pub mod Trees
 pub mod Cycles
 pub mod Execution
+pub mod Laws

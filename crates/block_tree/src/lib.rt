@@ -1,7 +1,6 @@
-//! Trees of blocks: their digests, and what they do.
+//! Trees of blocks: their digests, what they do, and the laws of both.
 #![tactic(auto)]
 
-/// One.
-pub fn one() -> u8 {
-    1
-}
+mod laws;
+
+pub use laws::{refinement_laws, run_laws};
