@@ -1,5 +1,5 @@
 -- Inverses and seventh roots modulo the prime.
-use Rattle.std.proofs.Common.{◌≡◌, ◌≢◌, ℕ, zero, suc, ◌+◌, ◌-◌, ◌*◌, ◌%◌, ◌<◌, Bool, true, false, eqb, ◌==◌, cond, sym, refl, ap, ◌∙◌, arith, eqb-true, eq-eqb, lit<}
+use Rattle.std.proofs.Common.{List, [], ◌∷◌, length, slice_index, map, ap₂, ◌≡◌, ◌≢◌, ℕ, zero, suc, ◌+◌, ◌-◌, ◌*◌, ◌%◌, ◌<◌, Bool, true, false, eqb, ◌==◌, cond, sym, refl, ap, ◌∙◌, arith, eqb-true, eq-eqb, lit<}
 use Rattle.std.proofs.lemmas.Bool.{false≢true}
 use Rattle.std.proofs.Math.Nat.{mul_comm, mul_assoc, one-mul, mul-one, mod-eq_of_lt, mod-mod}
 use Rattle.std.proofs.lemmas.Nat.{mul-mod_first, mul-mod_second}
@@ -122,3 +122,13 @@ seventh_root-is_power x below =
 
 pub seventh_root-seventh : (y : ℕ) → y < prime → seventh_root (felt_pow y 7) ≡ y
 seventh_root-seventh y low = sym (seventh_root-unique (felt_pow y 7) y (power-below prime y 7 (lit< tt)) low refl)
+
+-- the same for each element of a list
+pub seventh_roots-are_powers : (xs ys : List ℕ) → length ys ≡ length xs → ((k : ℕ) → k < length xs → slice_index xs k < prime)
+    → ((k : ℕ) → k < length xs → slice_index ys k ≡ felt_pow (slice_index xs k) root_exponent) → ys ≡ map seventh_root xs
+seventh_roots-are_powers [] [] len below same = refl
+seventh_roots-are_powers [] (y ∷ ys) len below same = absurd (omega arith)
+seventh_roots-are_powers (x ∷ xs) [] len below same = absurd (omega arith)
+seventh_roots-are_powers (x ∷ xs) (y ∷ ys) len below same =
+    ap₂ (λ (z : ℕ) (zs : List ℕ). z ∷ zs) (same 0 (omega arith) ∙ sym (seventh_root-is_power x (below 0 (omega arith))))
+    (seventh_roots-are_powers xs ys (omega arith) (λ k h. below (suc k) (omega arith)) (λ k h. same (suc k) (omega arith)))

@@ -47,7 +47,7 @@ unfoldable pub round : List ℕ → List ℕ → List ℕ
 round constants x = seventh_roots (before_roots constants x)
 
 -- that many rounds under the constants, 24 each
-abbrev pub rounds : ℕ → List ℕ → List ℕ → List ℕ
+unfoldable pub rounds : ℕ → List ℕ → List ℕ → List ℕ
 rounds zero constants x = x
 rounds (suc n) constants x = rounds n (drop 24 constants) (round (take 24 constants) x)
 

@@ -1,4 +1,4 @@
-ghost use Rattle.std.specs.Prelude.{◌≡◌, ℕ, ◌+◌, ◌-◌, ◌*◌, ◌%◌, ◌<◌, ◌≤◌, ◌↔◌, IsErr, IfOk, IfSome, Some, decimal, string_bytes};
+ghost use Rattle.std.specs.Prelude.{◌≡◌, ℕ, ◌+◌, ◌-◌, ◌*◌, ◌%◌, ◌^◌, ◌<◌, ◌≤◌, ◌↔◌, IsErr, IfOk, IfSome, Some, decimal, string_bytes};
 ghost use Rattle.std.specs.Result.{result_ok};
 ghost use Rattle.vm_field.specs.Decimal.{element_of};
 ghost use Rattle.vm_field.specs.Field.{prime, element_from, felt_add, felt_sub, felt_mul, felt_neg};
@@ -106,6 +106,20 @@ impl Felt {
         Felt { number }
     }
 
+    /// The element that a number is modulo 2^64 - 2^32 + 1, for a sum of small multiples of
+    /// elements.
+    pub fn reduced(number: u128) -> Felt
+        requires { number < 2 ^ 96 }
+        ensures is { result ≡ number % prime }
+        ensures below { result < prime }
+    {
+        let low = (number % (1 << 64)) as u64;
+        let high = (number / (1 << 64)) as u64;
+        Felt {
+            number: reduce_short(low, high),
+        }
+    }
+
     /// The product.
     pub fn mul(self, b: Felt) -> Felt
         ensures { result ≡ felt_mul self b }
@@ -130,13 +144,17 @@ fn reduce(product: u128) -> u64
     } else {
         PRIME - (high_high - low)
     };
-    let second = high_low * 4294967295;
+    reduce_short(first, high_low)
+}
+
+// The remainder of low + 2^64 high. Modulo the prime, 2^64 is 2^32 - 1.
+fn reduce_short(low: u64, high: u64) -> u64
+    requires { high < 2 ^ 32 }
+    ensures { result ≡ (low + 2 ^ 64 * high) % prime }
+{
+    let second = high * 4294967295;
     let room = PRIME - second;
-    if first < room {
-        first + second
-    } else {
-        first - room
-    }
+    if low < room { low + second } else { low - room }
 }
 
 impl fmt::Display for Felt {

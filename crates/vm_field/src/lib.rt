@@ -14,5 +14,6 @@ mod word;
 pub use element::Felt;
 pub use laws::{field_laws, text_laws, types_cross};
 pub use lists::{Bytes, Felts, Words, felt_at};
+pub use powers::roots7;
 pub use refusal::{Memory, NotCanonical};
 pub use word::Word;

@@ -1,4 +1,4 @@
-ghost use Rattle.std.specs.Prelude.{◌≡◌, ℕ, ◌+◌, ◌-◌, ◌*◌, ◌%◌, ◌^◌, ◌<◌};
+ghost use Rattle.std.specs.Prelude.{◌≡◌, ℕ, ◌+◌, ◌-◌, ◌*◌, ◌^◌, ◌<◌, map, slice_index, EachIndex};
 ghost use Rattle.vm_field.specs.Field.{prime, felt_mul, felt_pow, felt_inv, seventh_root};
 
 use crate::element::{Felt, PRIME};
@@ -40,34 +40,58 @@ impl Felt {
         ensures below { result < prime }
     {
         let _ = self.value();
-        to_root_exponent(self)
-    }
-
-    // The power to 2^n times another element.
-    fn squared_times(self, n: u32, b: Felt) -> Felt
-        ensures { result ≡ felt_mul (felt_pow self (2 ^ n)) b }
-    {
-        let mut power = self;
-        for i in 0..n {
-            power = power.mul(power);
-        }
-        power.mul(b)
+        let [root] = roots7(&[self]);
+        root
     }
 }
 
-// The power to 10540996611094048183. With b for the number that ten blocks 100 write in binary,
-// the exponent is 4 (2^32 b + 3 b) + 7, so 72 products do.
-fn to_root_exponent(x: Felt) -> Felt
-    ensures { result ≡ felt_pow x 10540996611094048183 }
+/// The seventh roots of elements, one by one. Their powers are taken side by side, which is faster
+/// than one after another.
+pub fn roots7<const N: usize>(x: &[Felt; N]) -> [Felt; N]
+    requires { EachIndex x.now (λ k. slice_index x.now k < prime) }
+    ensures { result ≡ map seventh_root x.now }
 {
-    let to_2 = x.mul(x);
-    let to_4 = to_2.mul(to_2);
-    let blocks_2 = to_4.squared_times(3, to_4);
-    let blocks_4 = blocks_2.squared_times(6, blocks_2);
-    let blocks_8 = blocks_4.squared_times(12, blocks_4);
-    let blocks_10 = blocks_8.squared_times(6, blocks_2);
-    let twice_10 = blocks_10.squared_times(31, blocks_10);
-    let high = twice_10.squared_times(1, blocks_10);
-    let low = to_4.mul(to_2).mul(x);
-    high.squared_times(2, low)
+    to_root_exponent(x)
+}
+
+// The powers to 10540996611094048183. With b for the number that ten blocks 100 write in binary,
+// the exponent is 4 (2^32 b + 3 b) + 7, so 72 products do.
+fn to_root_exponent<const N: usize>(x: &[Felt; N]) -> [Felt; N]
+    ensures { (k : ℕ) → k < N
+        → slice_index result k ≡ felt_pow (slice_index x.now k) 10540996611094048183 }
+{
+    let to_2 = products(x, x);
+    let to_4 = products(&to_2, &to_2);
+    let blocks_2 = squared_times(&to_4, 3, &to_4);
+    let blocks_4 = squared_times(&blocks_2, 6, &blocks_2);
+    let blocks_8 = squared_times(&blocks_4, 12, &blocks_4);
+    let blocks_10 = squared_times(&blocks_8, 6, &blocks_2);
+    let twice_10 = squared_times(&blocks_10, 31, &blocks_10);
+    let high = squared_times(&twice_10, 1, &blocks_10);
+    let to_6 = products(&to_4, &to_2);
+    let low = products(&to_6, x);
+    squared_times(&high, 2, &low)
+}
+
+// Powers to 2^n, times other elements.
+fn squared_times<const N: usize>(x: &[Felt; N], n: u32, y: &[Felt; N]) -> [Felt; N]
+    ensures { (k : ℕ) → k < N → slice_index result k
+        ≡ felt_mul (felt_pow (slice_index x.now k) (2 ^ n)) (slice_index y.now k) }
+{
+    let mut powers = *x;
+    for i in 0..n {
+        powers = products(&powers, &powers);
+    }
+    products(&powers, y)
+}
+
+fn products<const N: usize>(x: &[Felt; N], y: &[Felt; N]) -> [Felt; N]
+    ensures { (k : ℕ) → k < N
+        → slice_index result k ≡ felt_mul (slice_index x.now k) (slice_index y.now k) }
+{
+    let mut products = *x;
+    for i in 0..N {
+        products[i] = x[i].mul(y[i]);
+    }
+    products
 }

@@ -1,0 +1,102 @@
+//! The permutation in plain Rust, for `permute.sh` to compare with: the same reduction of products,
+//! and the same chain of 72 products for the seventh roots, taken side by side.
+use std::time::Instant;
+
+const PRIME: u64 = 18446744069414584321;
+
+const ROW: [u64; 12] = [7, 23, 8, 26, 13, 10, 9, 7, 6, 22, 21, 8];
+
+type State = [u64; 12];
+
+struct Params {
+    first: [State; 7],
+    second: [State; 7],
+}
+
+fn add(a: u64, b: u64) -> u64 {
+    let room = PRIME - b;
+    if a < room { a + b } else { a - room }
+}
+
+fn mul(a: u64, b: u64) -> u64 {
+    let product = a as u128 * b as u128;
+    let low = product as u64;
+    let high = (product >> 64) as u64;
+    let high_low = high & 0xffff_ffff;
+    let high_high = high >> 32;
+    let first = if high_high <= low {
+        low - high_high
+    } else {
+        PRIME - (high_high - low)
+    };
+    reduce_short(first, high_low)
+}
+
+fn reduce_short(low: u64, high: u64) -> u64 {
+    let second = high * 0xffff_ffff;
+    let room = PRIME - second;
+    if low < room { low + second } else { low - room }
+}
+
+fn mixed(state: &State) -> State {
+    let mut turned = *state;
+    let mut mixed = [0; 12];
+    for cell in &mut mixed {
+        let sum: u128 = ROW.iter().zip(&turned).map(|(c, x)| *c as u128 * *x as u128).sum();
+        *cell = reduce_short(sum as u64, (sum >> 64) as u64);
+        turned.rotate_left(1);
+    }
+    mixed
+}
+
+fn products(a: &State, b: &State) -> State {
+    std::array::from_fn(|i| mul(a[i], b[i]))
+}
+
+fn squared_times(a: &State, n: u32, b: &State) -> State {
+    let mut power = *a;
+    for _ in 0..n {
+        power = products(&power, &power);
+    }
+    products(&power, b)
+}
+
+fn seventh_powers(x: &State) -> State {
+    let to_2 = products(x, x);
+    let to_4 = products(&to_2, &to_2);
+    products(&products(&to_4, &to_2), x)
+}
+
+fn seventh_roots(x: &State) -> State {
+    let to_2 = products(x, x);
+    let to_4 = products(&to_2, &to_2);
+    let blocks_2 = squared_times(&to_4, 3, &to_4);
+    let blocks_4 = squared_times(&blocks_2, 6, &blocks_2);
+    let blocks_8 = squared_times(&blocks_4, 12, &blocks_4);
+    let blocks_10 = squared_times(&blocks_8, 6, &blocks_2);
+    let twice_10 = squared_times(&blocks_10, 31, &blocks_10);
+    let high = squared_times(&twice_10, 1, &blocks_10);
+    let low = products(&products(&to_4, &to_2), x);
+    squared_times(&high, 2, &low)
+}
+
+fn permute(params: &Params, mut state: State) -> State {
+    for (first, second) in params.first.iter().zip(&params.second) {
+        state = mixed(&state);
+        state = seventh_powers(&std::array::from_fn(|i| add(state[i], first[i])));
+        state = mixed(&state);
+        state = seventh_roots(&std::array::from_fn(|i| add(state[i], second[i])));
+    }
+    state
+}
+
+fn main() {
+    let constants = |from: u64| std::array::from_fn(|k| std::array::from_fn(|i| from + 1000 * k as u64 + i as u64));
+    let params = Params { first: constants(1), second: constants(7) };
+    let mut state = [0; 12];
+    let start = Instant::now();
+    for _ in 0..20000 {
+        state = permute(&params, state);
+    }
+    println!("{} {}", start.elapsed().as_micros(), state[4]);
+}

@@ -1,0 +1,30 @@
+-- Lists of twelve, and lists joined for each round.
+use Rattle.std.proofs.Common.{◌≡◌, ℕ, zero, suc, ◌+◌, ◌-◌, ◌<◌, ◌≤◌, List, [], ◌∷◌, ◌++◌, length, get_or, slice_index, map, take, drop, sym, refl, ap, ap₂, ◌∙◌, arith}
+use Rattle.vm_field.specs.Field.{prime, felt_add, seventh_root}
+use Rattle.vm_field.proofs.Inverses.{seventh_root-below}
+use Rattle.vm_field.specs.Permutation.{added}
+
+-- twelve elements, each known by its place
+pub twelve_elements : (xs : List ℕ) (a b c d e f g h i j k l : ℕ) → length xs ≡ 12 → a ≡ get_or xs 0 a → b ≡ get_or xs 1 b → c ≡ get_or xs 2 c → d ≡ get_or xs 3 d → e ≡ get_or xs 4 e → f ≡ get_or xs 5 f → g ≡ get_or xs 6 g → h ≡ get_or xs 7 h → i ≡ get_or xs 8 i → j ≡ get_or xs 9 j → k ≡ get_or xs 10 k → l ≡ get_or xs 11 l → xs ≡ a ∷ b ∷ c ∷ d ∷ e ∷ f ∷ g ∷ h ∷ i ∷ j ∷ k ∷ l ∷ []
+twelve_elements (x0 ∷ x1 ∷ x2 ∷ x3 ∷ x4 ∷ x5 ∷ x6 ∷ x7 ∷ x8 ∷ x9 ∷ x10 ∷ x11 ∷ []) a b c d e f g h i j k l len e0 e1 e2 e3 e4 e5 e6 e7 e8 e9 e10 e11 = cc
+twelve_elements _ a b c d e f g h i j k l len e0 e1 e2 e3 e4 e5 e6 e7 e8 e9 e10 e11 = absurd (omega arith)
+
+-- a list of sums is known by its places
+pub added-by_place : (xs cs ss : List ℕ) → length cs ≡ length xs → length ss ≡ length xs
+    → ((k : ℕ) → k < length xs → slice_index ss k ≡ felt_add (slice_index xs k) (slice_index cs k)) → ss ≡ added xs cs
+added-by_place [] cs [] lc ls at = refl
+added-by_place [] cs (s ∷ ss) lc ls at = absurd (omega arith)
+added-by_place (x ∷ xs) [] ss lc ls at = absurd (omega arith)
+added-by_place (x ∷ xs) (c ∷ cs) [] lc ls at = absurd (omega arith)
+added-by_place (x ∷ xs) (c ∷ cs) (s ∷ ss) lc ls at =
+    ap₂ (λ (y : ℕ) (ys : List ℕ). y ∷ ys) (at 0 (omega arith))
+    (added-by_place xs cs ss (omega arith) (omega arith) (λ k h. at (suc k) (omega arith)))
+
+-- every element of the list is below the prime
+abbrev pub AllBelow : List ℕ → Type 0
+AllBelow xs = (k : ℕ) → k < length xs → slice_index xs k < prime
+
+pub seventh_roots-below : (xs : List ℕ) → AllBelow xs → AllBelow (map seventh_root xs)
+seventh_roots-below [] below k h = absurd (omega arith)
+seventh_roots-below (x ∷ xs) below zero h = seventh_root-below x (below 0 (omega arith))
+seventh_roots-below (x ∷ xs) below (suc k) h = seventh_roots-below xs (λ j g. below (suc j) (omega arith)) k (omega arith)
