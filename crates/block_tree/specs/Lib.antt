@@ -2,3 +2,5 @@ pub mod Trees
 pub mod Cycles
 pub mod Execution
 pub mod Laws
+pub mod TreeView
+pub mod Kernels

@@ -1,6 +1,15 @@
 //! Trees of blocks: their digests, what they do, and the laws of both.
 #![tactic(auto)]
 
+mod evidence;
+mod exports;
 mod laws;
+mod program;
+mod stand_in;
+mod tree;
 
-pub use laws::{refinement_laws, run_laws};
+pub use evidence::Evidence;
+pub use exports::{Export, Exports};
+pub use laws::{refinement_laws, run_laws, types_cross};
+pub use program::Program;
+pub use tree::{Tree, copy, digest, height};
