@@ -3,3 +3,4 @@ pub mod Keeping
 pub mod Limits
 pub mod Refinement
 pub mod Tapes
+mod Examples

@@ -170,6 +170,16 @@ unfolding taking cycle_taking
 taking-done limit mark n effect s core before enough made =
     rw (lt-ltb s.core.clock limit before, le-ltb (length s.tape) n enough, made) refl
 
+pub taking-ok : (limit : ℕ) (mark : Mark) (n : ℕ) (effect : List ℕ → Cycle) (s t : State)
+    → s.core.clock < limit → cycle_taking n effect s ≡ Ok t → taking limit mark n effect s ≡ Done t (event_of mark n s ∷ [])
+unfolding taking
+taking-ok limit mark n effect s t before made = rw (lt-ltb s.core.clock limit before, made) refl
+
+pub taking-trap : (limit : ℕ) (mark : Mark) (n : ℕ) (effect : List ℕ → Cycle) (s : State) (cause : Cause)
+    → s.core.clock < limit → cycle_taking n effect s ≡ Err cause → taking limit mark n effect s ≡ Trap s.core.clock cause
+unfolding taking
+taking-trap limit mark n effect s cause before made = rw (lt-ltb s.core.clock limit before, made) refl
+
 pub taking-late : (limit : ℕ) (mark : Mark) (n : ℕ) (effect : List ℕ → Cycle) (s : State)
     → limit ≤ s.core.clock → taking limit mark n effect s ≡ OutOfCycles
 unfolding taking

@@ -1,16 +1,36 @@
 -- Refinement is reflexive and transitive, keeps the digest, and does what was done.
-use Rattle.std.proofs.Common.{◌≡◌, ℕ, zero, suc, ◌-◌, Bool, true, false, cond, ltb, List, ◌++◌, Result, Ok, Err, sym, refl, ap, subst, ◌∙◌}
+use Rattle.std.proofs.Common.{◌≡◌, ℕ, zero, suc, ◌-◌, Bool, true, false, cond, ltb, List, ◌++◌, Option, Some, None, Result, Ok, Err, sym, refl, ap, subst, ◌∙◌}
 use Rattle.vm_field.specs.Machine.{Core, State}
 use Rattle.vm_ops.specs.declared.cause.Cause.{Cause}
 use Rattle.vm_ops.specs.declared.cause.Cause.TheVariants.{NestedTooDeep, OpaqueBlock}
-use Rattle.vm_field.specs.Sponge.{digest_of_input}
+use Rattle.vm_field.specs.Sponge.{HashInput, digest_of_input}
 use Rattle.vm_ops.specs.declared.op.Op.TheVariants as op
-use Rattle.block_tree.specs.Trees.{Tree, Opaque, Span, Join, Split, Loop, Call, Syscall, Refines, opaque, span, join, split, loop, call, syscall, tree_digest, input_of_one, input_of_two}
+use Rattle.block_tree.specs.Trees.{Tree, Opaque, Span, Join, Split, Loop, Call, Syscall, Refines, opaque, span, join, split, loop, call, syscall, tree_digest, input_of, input_of_one, input_of_two}
 use Rattle.block_tree.specs.Cycles.{StartOpaque, Repeat, EndLoop, StartLoop, top, Cycle, opens, effect_of, advice_taken}
 use Rattle.block_tree.specs.Execution.{Event, Outcome, Done, OutOfCycles, Part, seq, at_bit, cycle, turns, execution}
 use Rattle.block_tree.proofs.Parts.{Between, Cycled, done-not_late, seq-inv, seq-done, taking-inv}
 
+abbrev input_in : HashInput → Option HashInput → HashInput
+input_in d (Some input) = input
+input_in d None = d
+
+abbrev HasInput : Option HashInput → Type 0
+HasInput (Some input) = Unit {0}
+HasInput None = ⊥
+
+same-digest : (constants : List ℕ) (input other : HashInput) → Some input ≡ Some other → digest_of_input constants input ≡ digest_of_input constants other
+same-digest constants input other e = ap (λ o. digest_of_input constants (input_in input o)) e
+
 module _ (constants : List ℕ) where
+  pub digest-input : (t : Tree) (input : HashInput) → input_of constants t ≡ Some input → tree_digest constants t ≡ digest_of_input constants input
+  digest-input (Opaque digest) input e = absurd (subst HasInput (sym e) tt)
+  digest-input (Span batches) input e = same-digest constants _ input e
+  digest-input (Join a b) input e = same-digest constants _ input e
+  digest-input (Split a b) input e = same-digest constants _ input e
+  digest-input (Loop a) input e = same-digest constants _ input e
+  digest-input (Call a) input e = same-digest constants _ input e
+  digest-input (Syscall a) input e = same-digest constants _ input e
+
   pub refines-refl : (t : Tree) → Refines constants t t
   refines-refl (Opaque digest) = opaque refl
   refines-refl (Span batches) = span

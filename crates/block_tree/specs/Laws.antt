@@ -1,7 +1,8 @@
--- The laws of refinement and of runs.
-use Rattle.std.specs.Prelude.{◌≡◌, ℕ, ◌<◌, ◌≤◌, List, [], ◌∷◌, ◌++◌}
+-- The laws of digests, of refinement and of runs.
+use Rattle.std.specs.Prelude.{◌≡◌, ℕ, ◌<◌, ◌≤◌, List, [], ◌∷◌, ◌++◌, Some}
 use Rattle.vm_field.specs.Machine.{State}
-use Rattle.block_tree.specs.Trees.{Tree, Refines, tree_digest}
+use Rattle.vm_field.specs.Sponge.{HashInput, digest_of_input}
+use Rattle.block_tree.specs.Trees.{Tree, Refines, input_of, tree_digest}
 use Rattle.block_tree.specs.Execution.{Event, Done, OutOfCycles, execution}
 
 -- what a run's cycles took of the tape, in order
@@ -12,10 +13,19 @@ tape_taken (event ∷ events) = event.advice ++ tape_taken events
 abbrev pub with_tape : State → List ℕ → State
 with_tape s tape = record s { tape = tape }
 
--- refinement is an order
-pub record RefinementIsOrder : Type 0 where
-  pub reflexive : (constants : List ℕ) (t : Tree) → Refines constants t t
-  pub transitive : (constants : List ℕ) (t u v : Tree) → Refines constants t u → Refines constants u v → Refines constants t v
+-- a tree's digest is that of its hash input
+abbrev pub DigestOfInput : Type 0
+DigestOfInput = (constants : List ℕ) (t : Tree) (input : HashInput)
+    → input_of constants t ≡ Some input
+    → tree_digest constants t ≡ digest_of_input constants input
+
+-- each tree refines itself
+abbrev pub RefinesItself : Type 0
+RefinesItself = (constants : List ℕ) (t : Tree) → Refines constants t t
+
+-- what refines a tree refines each tree that this one refines
+abbrev pub RefinesThrough : Type 0
+RefinesThrough = (constants : List ℕ) (t u v : Tree) → Refines constants t u → Refines constants u v → Refines constants t v
 
 -- a tree has the digest of each tree that it refines
 abbrev pub RefinedDigest : Type 0

@@ -1,14 +1,16 @@
-ghost use Rattle.block_tree.specs.Laws.{RefinementIsOrder, RefinedDigest, RefinedRun, SameAtLaterLimits, OutAtEarlierLimits, TakesPrefix, SameOnWhatItTook};
+ghost use Rattle.block_tree.specs.Laws.{DigestOfInput, RefinesItself, RefinesThrough, RefinedDigest, RefinedRun, SameAtLaterLimits, OutAtEarlierLimits, TakesPrefix, SameOnWhatItTook};
 
 use crate::evidence::Evidence;
 use crate::exports::Exports;
 use crate::program::Program;
 use crate::tree::Tree;
 
-/// The laws of refinement: it is an order, refined trees have one digest, and a tree that refines
-/// another does what the other was seen to do.
-pub fn refinement_laws()
-    ensures order { RefinementIsOrder }
+/// A tree's digest is that of its hash input. Refinement is an order, a tree has the digest of each
+/// tree that it refines, and it does what that tree was done with.
+pub fn tree_laws()
+    ensures input { DigestOfInput }
+    ensures reflexive { RefinesItself }
+    ensures transitive { RefinesThrough }
     ensures digest { RefinedDigest }
     ensures run { RefinedRun }
 {}

@@ -10,6 +10,6 @@ mod tree;
 
 pub use evidence::Evidence;
 pub use exports::{Export, Exports};
-pub use laws::{refinement_laws, run_laws, types_cross};
+pub use laws::{run_laws, tree_laws, types_cross};
 pub use program::Program;
 pub use tree::{Tree, copy, digest, height};
