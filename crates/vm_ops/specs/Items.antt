@@ -1,5 +1,5 @@
 -- Items of an operation list.
-use Rattle.std.specs.Prelude.{ℕ, Option, Some, None}
+use Rattle.std.specs.Prelude.{ℕ, Some, None}
 use Rattle.vm_ops.specs.declared.op.Op.{Op}
 use Rattle.vm_ops.specs.declared.op.Op.TheVariants.{Push}
 use Rattle.vm_ops.specs.declared.item.Item.{Item}

@@ -4,3 +4,4 @@ pub mod Causes
 pub mod Items
 pub mod Values
 pub mod Step
+pub mod Sizes
