@@ -6,6 +6,7 @@ use Rattle.std.specs.FinMap.{get}
 use Rattle.std.proofs.lemmas.Bool.{le-leb, lt-leb}
 use Rattle.vm_io.specs.Count.{Rose}
 use Rattle.vm_io.specs.Shelf.{Files, ShelfState, Told, ReadFails, with_failed_name, with_file}
+use Rattle.vm_io.specs.Shelf.{Reads as FileReads}
 use Rattle.vm_io.specs.Sink.{SinkState, SinkFails, with_piece}
 use Rattle.vm_io.proofs.ShelfLemmas.{kept_whole}
 use Rattle.miden_app.specs.declared.status.Status.{Status}
@@ -16,7 +17,7 @@ use Rattle.miden_app.specs.declared.outcome.Outcome.TheVariants as outcome
 use Rattle.miden_app.specs.Plans.{Plan, End, stop, Steps, reading, ending, ends_with, named_line}
 use Rattle.miden_app.specs.Commands.{EndsAs, Decides, Plans, ComesBehind, Reads}
 use Rattle.miden_app.specs.Serving.{written, SomeWritten, FrontWritten, NoFault, OnlyReadFault, OnlyWriteFault, CountsFit, FailsAtRead, FailsAtWrite, CarriesOut, Follows, Works, WritesPart, GivesUp, Prints, FailsToPrint, PrintsNothing, Answers}
-use Rattle.miden_app.specs.Outcomes.{IsPlanned, IsPrintable, Fits, ComesTo, Done, EndsIn, Found, Says, PrintStep, printed, refused, given_up}
+use Rattle.miden_app.specs.Outcomes.{IsPlanned, IsPrintable, Fits, ComesTo, Done, EndsIn, Says, PrintStep, printed, refused, given_up}
 
 -- what holds of all files holds of those that are told
 told_all : (told : Option Files) (Q : Files → Type 0) → ((m : Files) → Q m) → IfSome told Q
@@ -188,7 +189,7 @@ ends_from name most next bytes outcome.Memory old new short held h = record {
   ];
 }
 
-pub ends_behind : (name : List ℕ) (most : ℕ) (next : List ℕ → Steps) (bytes : List ℕ) (o : Outcome) (old mid new : ShelfState) → Found name most bytes old mid
+pub ends_behind : (name : List ℕ) (most : ℕ) (next : List ℕ → Steps) (bytes : List ℕ) (o : Outcome) (old mid new : ShelfState) → FileReads old mid name most bytes
     → EndsIn (next bytes) o mid new → EndsIn (reading name most next) o old new
 ends_behind name most next bytes o old mid new found h =
-    ends_from name most next bytes o old new found.short found.held (subst (λ s. EndsIn (next bytes) o s new) found.same h)
+    ends_from name most next bytes o old new found.within found.file (subst (λ s. EndsIn (next bytes) o s new) found.same h)

@@ -1,8 +1,7 @@
 -- What a command's work leaves before its line is printed.
-use Rattle.std.specs.Prelude.{◌≡◌, ℕ, ◌≤◌, List, length, Some, Result, Ok, Err}
+use Rattle.std.specs.Prelude.{◌≡◌, ℕ, List, Result, Ok, Err}
 use Rattle.vm_field.specs.declared.refusal.Memory.{Memory}
-use Rattle.std.specs.FinMap.{get}
-use Rattle.vm_io.specs.Shelf.{ShelfState, Told}
+use Rattle.vm_io.specs.Shelf.{ShelfState}
 use Rattle.vm_io.specs.Sink.{SinkState, SinkFails, with_piece}
 use Rattle.miden_app.specs.declared.status.Status.{Status}
 use Rattle.miden_app.specs.declared.status.Status.TheVariants as status
@@ -47,12 +46,6 @@ pub record Done (steps : Steps) (a : Answer) (old new : ShelfState) : Type 0 whe
 abbrev pub EndsIn : Steps → Outcome → ShelfState → ShelfState → Type 0
 EndsIn steps (outcome.Ends a) old new = Done steps a old new
 EndsIn steps outcome.Memory old new = GivesUp steps old new
-
--- a file was read, and nothing changed
-pub record Found (name : List ℕ) (most : ℕ) (bytes : List ℕ) (old new : ShelfState) : Type 0 where
-  pub same : new ≡ old
-  pub short : length bytes ≤ most
-  pub held : Told old (λ m. get m name ≡ Some bytes)
 
 -- an answer that is this status with this line, unless memory is refused
 abbrev pub Says : Outcome → Status → List ℕ → Type 0

@@ -1,5 +1,6 @@
 ghost use Rattle.std.specs.Prelude.{ℕ, List, ◌≤◌, length, IfOk, IfErr};
-ghost use Rattle.miden_app.specs.Outcomes.{Found, EndsIn};
+ghost use Rattle.vm_io.specs.Shelf.{Reads};
+ghost use Rattle.miden_app.specs.Outcomes.{EndsIn};
 ghost use Rattle.miden_app.specs.Plans.{Steps, reading};
 
 use crate::outcome::{Outcome, named_answer};
@@ -12,7 +13,7 @@ use vm_io::{ReadStop, Shelf};
 /// next.
 pub fn load<F: Shelf>(alloc: Global, shelf: &mut F, name: &str, most: u64) -> Result<Bytes, Outcome>
     requires { length name.now ≤ 200 }
-    ensures found { IfOk result (λ bytes. Found name.now most bytes (F.state shelf.old) (F.state shelf.new)) }
+    ensures found { IfOk result (λ bytes. Reads (F.state shelf.old) (F.state shelf.new) name.now most bytes) }
     ensures stopped { IfErr result (λ end. (next : List ℕ → Steps)
         → EndsIn (reading name.now most next) end (F.state shelf.old) (F.state shelf.new)) }
 {

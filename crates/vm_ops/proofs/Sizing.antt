@@ -30,6 +30,7 @@ length-round constants x h =
     rw (length-map, length-added (mixed (powered (take 12 constants) x)) (take 12 (drop 12 constants)) enough) mix
 
 length-rounds : (n : ℕ) (constants x : List ℕ) → 24 * n ≤ length constants → length x ≡ 12 → length (rounds n constants x) ≡ 12
+unfolding rounds
 length-rounds zero constants x h e = e
 length-rounds (suc n) constants x h e =
     length-rounds n (drop 24 constants) (round (take 24 constants) x)

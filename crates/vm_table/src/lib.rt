@@ -2,7 +2,9 @@
 #![tactic(auto)]
 
 mod table;
+#[cfg(test)]
+mod tests;
 mod view;
 
-pub use table::Table;
+pub use table::{Table, tables_cross};
 pub use view::{Row, RowPair, View};

@@ -29,7 +29,7 @@ impl<const W: usize> Model for Table<W> {
 impl<const W: usize> Table<W> {
     /// The table with no row. It allocates nothing.
     pub fn new(alloc: Global) -> Table<W>
-        ensures { result ≡ [] }
+        ensures empty { result ≡ [] }
     {
         Table {
             cells: Vec::new(alloc),
@@ -62,7 +62,7 @@ impl<const W: usize> Table<W> {
     /// The row of this number.
     pub fn row(&self, i: usize) -> Row<'_, W>
         requires { i < length self.now }
-        ensures { row_cells result ≡ slice_index_or self.now i [] }
+        ensures cells { row_cells result ≡ slice_index_or self.now i [] }
     {
         let cells = self.cells.as_slice();
         let total = cells.len();
@@ -91,4 +91,13 @@ fn read_all(cells: &[Felt])
     for cell in cells {
         let _ = cell.value();
     }
+}
+
+fn crosses<T: Send + Sync>() {}
+
+/// Tables and their rows may be sent to other threads and read by several.
+pub fn tables_cross<const W: usize>() {
+    crosses::<Table<W>>();
+    crosses::<Row<'static, W>>();
+    crosses::<RowPair<'static, W>>();
 }

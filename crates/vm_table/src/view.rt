@@ -28,7 +28,7 @@ impl<'a, const W: usize> Row<'a, W> {
     /// The row of these cells.
     pub(crate) fn of(cells: &'a [Felt]) -> Row<'a, W>
         requires { length cells.now ≡ W }
-        ensures { row_cells result ≡ cells.entry.now }
+        ensures cells { row_cells result ≡ cells.entry.now }
     {
         Row { cells }
     }

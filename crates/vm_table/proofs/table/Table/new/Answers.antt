@@ -4,4 +4,4 @@ use Rattle.vm_table.proofs.table.Table.new.Goals as goal
 
 pub returns : goal.returns
 unfolding rows_of
-returns g c = refl
+returns g c = record { empty = refl }

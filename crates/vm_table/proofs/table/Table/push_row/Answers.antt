@@ -1,5 +1,4 @@
-use Rattle.std.proofs.Common.{◌≡◌, ◌+◌, sym, ◌∙◌, ap, add-one, subst, List, ℕ, [], ◌∷◌, ◌++◌}
-use Rattle.vm_table.specs.Layout.{IsLaidOut, rows_of}
+use Rattle.std.proofs.Common.{add-one}
 use Rattle.vm_table.proofs.LayoutLemmas.{laid_with, rows_of-pushed}
 use Rattle.vm_table.proofs.table.Table.push_row.Goals as goal
 

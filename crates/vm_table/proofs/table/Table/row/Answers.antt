@@ -1,4 +1,4 @@
-use Rattle.std.proofs.Common.{◌≡◌, ◌+◌, ◌-◌, ◌*◌, ◌≤◌, length, ◌∙◌, ap, take, drop, arith}
+use Rattle.std.proofs.Common.{◌+◌, ◌*◌, ◌≤◌, length, ◌∙◌, arith}
 use Rattle.vm_table.proofs.LayoutLemmas.{seen_within, row_seen, add_sub_self}
 use Rattle.vm_table.proofs.table.Table.row.Goals as goal
 
@@ -27,5 +27,6 @@ slice_bounds-of-end g c =
     in omega (arith, h)
 
 pub returns : goal.returns
-returns g c =
-    c.of.ensures ∙ rw (add_sub_self, c.as_slice-cells.ensures.value) (row_seen _ _ _ _ _ c.self.view_is c.requires)
+returns g c = record {
+  cells = c.of.ensures.cells ∙ rw (add_sub_self, c.as_slice-cells.ensures.value) (row_seen _ _ _ _ _ c.self.view_is c.requires);
+}

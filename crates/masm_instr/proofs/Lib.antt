@@ -1,0 +1,5 @@
+pub mod NameLemmas
+pub mod Digits
+pub mod ReadingLemmas
+pub mod Joined
+pub mod Fronts

@@ -1,0 +1,27 @@
+//! The instructions of assembly sources: how a token is read as one, and the operations that it
+//! stands for.
+#![tactic(auto)]
+
+mod constant;
+mod expansion;
+mod form;
+mod instr;
+mod moves;
+mod name;
+mod number;
+mod operations;
+mod pieces;
+mod powers;
+mod reading;
+mod refusal;
+
+pub use constant::{Const, Consts};
+pub use expansion::expand;
+pub use instr::{Instr, Numbers};
+pub use name::{EVERY, Name, name_of, names_are_texts};
+pub use number::read_number;
+pub use reading::{read_instr, read_parameter, split_token};
+pub use refusal::InstrError;
+
+#[cfg(test)]
+mod tests;

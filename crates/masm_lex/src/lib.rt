@@ -1,0 +1,19 @@
+//! The tokens of an assembly source, each with its place: the longest runs of bytes between blanks
+//! and comments. The definitions stand in `specs/`.
+#![tactic(auto)]
+
+mod lexer;
+mod list;
+mod place;
+mod refusal;
+
+pub use lexer::lex;
+pub use list::{Token, Tokens, token_text, tokens_are_parts};
+pub use place::{Place, end_place};
+pub use refusal::LexError;
+
+/// The most bytes that a source may have.
+pub const MAX_SOURCE: usize = 1_048_576;
+
+#[cfg(test)]
+mod tests;
