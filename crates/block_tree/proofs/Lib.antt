@@ -3,4 +3,5 @@ pub mod Keeping
 pub mod Limits
 pub mod Refinement
 pub mod Tapes
+pub mod DistinctWords
 mod Examples

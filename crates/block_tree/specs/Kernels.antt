@@ -1,5 +1,5 @@
 -- Lists of kernel procedures, by their digests.
-use Rattle.std.specs.Prelude.{ℕ, ◌≤◌, nat_eq, List, length}
+use Rattle.std.specs.Prelude.{ℕ, nat_eq, List}
 use Rattle.std.specs.List.{IsDistinct}
 use lib.Pointwise.{pointwise}
 

@@ -3,6 +3,7 @@
 
 mod evidence;
 mod exports;
+mod kernel;
 mod laws;
 mod program;
 mod stand_in;
@@ -10,6 +11,7 @@ mod tree;
 
 pub use evidence::Evidence;
 pub use exports::{Export, Exports};
+pub use kernel::are_distinct;
 pub use laws::{run_laws, tree_laws, types_cross};
 pub use program::Program;
 pub use tree::{Tree, copy, digest, height};
