@@ -7,6 +7,8 @@ mod kernel;
 mod laws;
 mod program;
 mod stand_in;
+#[cfg(test)]
+mod tests;
 mod tree;
 
 pub use evidence::Evidence;
