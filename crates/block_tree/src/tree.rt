@@ -31,19 +31,17 @@ pub enum Tree {
 
 /// The digest of a tree.
 pub fn digest(params: &Params, tree: &Tree) -> Word
-    ensures { result ≡ tree_digest (constants_of params.now) (tree_of tree.now) }
+    ensures is { result ≡ tree_digest (constants_of params.now) (tree_of tree.now) }
 {
     match tree {
         Tree::Opaque(digest) => *digest,
         Tree::Span(batches) => digest_of(params, Felt::ZERO, batches.as_slice()),
-        Tree::Join(first, second) => {
-            digest_of_two(
-                params,
-                Op::Join,
-                digest(params, first),
-                digest(params, second),
-            )
-        }
+        Tree::Join(first, second) => digest_of_two(
+            params,
+            Op::Join,
+            digest(params, first),
+            digest(params, second),
+        ),
         Tree::Split(on_one, on_zero) => digest_of_two(
             params,
             Op::Split,
@@ -58,7 +56,7 @@ pub fn digest(params: &Params, tree: &Tree) -> Word
 
 // The digest of a block with two children.
 fn digest_of_two(params: &Params, start: Op, first: Word, second: Word) -> Word
-    ensures { result ≡ digest_of_input (constants_of params.now) (input_of_two start first second) }
+    ensures is { result ≡ digest_of_input (constants_of params.now) (input_of_two start first second) }
 {
     let domain = Felt::reduced(u128::from(opcode(start)));
     let [a, b, c, d] = first.elements();
@@ -68,14 +66,14 @@ fn digest_of_two(params: &Params, start: Op, first: Word, second: Word) -> Word
 
 // The digest of a block with one child.
 fn digest_of_one(params: &Params, start: Op, child: Word) -> Word
-    ensures { result ≡ digest_of_input (constants_of params.now) (input_of_one start child) }
+    ensures is { result ≡ digest_of_input (constants_of params.now) (input_of_one start child) }
 {
     digest_of_two(params, start, child, Word::ZERO)
 }
 
 /// The number of blocks on the tree's longest path, or 2^64 - 1 where it is more.
 pub fn height(tree: &Tree) -> u64
-    ensures { result ≡ min (tree_height (tree_of tree.now)) (2 ^ 64 - 1) }
+    ensures is { result ≡ min (tree_height (tree_of tree.now)) (2 ^ 64 - 1) }
 {
     match tree {
         Tree::Opaque(_) | Tree::Span(_) => 1,
