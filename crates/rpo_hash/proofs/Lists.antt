@@ -1,8 +1,26 @@
 -- Lists of twelve, and lists joined for each round.
-use Rattle.std.proofs.Common.{◌≡◌, ℕ, zero, suc, ◌+◌, ◌-◌, ◌<◌, ◌≤◌, List, [], ◌∷◌, ◌++◌, length, get_or, slice_index, map, take, drop, sym, refl, ap, ap₂, ◌∙◌, arith}
+use Rattle.std.proofs.Common.{◌≡◌, ℕ, zero, suc, ◌+◌, ◌-◌, ◌<◌, ◌≤◌, List, [], ◌∷◌, ◌++◌, length, get_or, slice_index, map, take, drop, set, sym, refl, ap, ap₂, ◌∙◌, arith, add-one, take-suc-set}
+use Rattle.std.proofs.Math.Seq.{take-append_seam, drop-append_seam, take-length}
 use Rattle.vm_field.specs.Field.{prime, felt_add, seventh_root}
 use Rattle.vm_field.proofs.Inverses.{seventh_root-below}
 use Rattle.vm_field.specs.Permutation.{added}
+
+-- ---- parts of lists
+
+pub front : {X : Type 0} (n : ℕ) (xs ys : List X) → length xs ≡ n → take n (xs ++ ys) ≡ xs
+front n xs ys len = ap (λ k. take k (xs ++ ys)) (sym len) ∙ take-append_seam xs ys
+
+pub back : {X : Type 0} (n : ℕ) (xs ys : List X) → length xs ≡ n → drop n (xs ++ ys) ≡ ys
+back n xs ys len = ap (λ k. drop k (xs ++ ys)) (sym len) ∙ drop-append_seam xs ys
+
+pub whole : {X : Type 0} (n : ℕ) (xs : List X) → length xs ≡ n → take n xs ≡ xs
+whole n xs len = ap (λ k. take k xs) (sym len) ∙ take-length xs
+
+-- the next place of a list that is filled
+pub take-set_next : {X : Type 0} (xs : List X) (i : ℕ) (x : X) → i < length xs → take (i + 1) (set xs i x) ≡ take i xs ++ x ∷ []
+take-set_next xs i x below = ap (λ n. take n (set xs i x)) (add-one i) ∙ take-suc-set xs i x below
+
+-- ---- lists of numbers
 
 -- twelve elements, each known by its place
 pub twelve_elements : (xs : List ℕ) (a b c d e f g h i j k l : ℕ) → length xs ≡ 12 → a ≡ get_or xs 0 a → b ≡ get_or xs 1 b → c ≡ get_or xs 2 c → d ≡ get_or xs 3 d → e ≡ get_or xs 4 e → f ≡ get_or xs 5 f → g ≡ get_or xs 6 g → h ≡ get_or xs 7 h → i ≡ get_or xs 8 i → j ≡ get_or xs 9 j → k ≡ get_or xs 10 k → l ≡ get_or xs 11 l → xs ≡ a ∷ b ∷ c ∷ d ∷ e ∷ f ∷ g ∷ h ∷ i ∷ j ∷ k ∷ l ∷ []

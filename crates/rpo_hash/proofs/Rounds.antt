@@ -1,17 +1,8 @@
 -- Rounds of the permutation, one after another under the constants of a parameter file.
 use Rattle.std.proofs.Common.{◌≡◌, ℕ, zero, suc, ◌+◌, ◌-◌, ◌*◌, ◌<◌, List, [], ◌∷◌, ◌++◌, length, get_or, take, drop, sym, refl, ap, ap₂, ◌∙◌, arith, append_assoc, length-append, drop-cons, add-one}
-use Rattle.std.proofs.Math.Seq.{take-append_seam, drop-append_seam, take-length}
 use Rattle.vm_field.specs.Permutation.{added, mixed, seventh_powers, seventh_roots, powered, before_roots, round, rounds}
 use Rattle.rpo_hash.specs.Constants.{interleaved}
-
-pub front : {X : Type 0} (n : ℕ) (xs ys : List X) → length xs ≡ n → take n (xs ++ ys) ≡ xs
-front n xs ys len = ap (λ k. take k (xs ++ ys)) (sym len) ∙ take-append_seam xs ys
-
-pub back : {X : Type 0} (n : ℕ) (xs ys : List X) → length xs ≡ n → drop n (xs ++ ys) ≡ ys
-back n xs ys len = ap (λ k. drop k (xs ++ ys)) (sym len) ∙ drop-append_seam xs ys
-
-pub whole : {X : Type 0} (n : ℕ) (xs : List X) → length xs ≡ n → take n xs ≡ xs
-whole n xs len = ap (λ k. take k xs) (sym len) ∙ take-length xs
+use Rattle.rpo_hash.proofs.Lists.{front, back, whole}
 
 -- a round, under its constants in two parts
 pub round-parts : (first second x : List ℕ) → length first ≡ 12 → length second ≡ 12

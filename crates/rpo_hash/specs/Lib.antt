@@ -1,1 +1,5 @@
 pub mod Constants
+pub mod ParamText
+pub mod CauseText
+pub mod SpongeState
+pub mod States

@@ -2,8 +2,14 @@
 //! and the text of the constants.
 #![tactic(auto)]
 
+mod laws;
+mod lines;
 mod params;
 mod permutation;
+mod sponge;
 
-pub use params::Params;
+pub use laws::{permutation_laws, sponge_laws, types_cross};
+pub use lines::next_line;
+pub use params::{ParamCause, ParamError, Params};
 pub use permutation::permute;
+pub use sponge::{Sponge, digest_of};
