@@ -1,0 +1,10 @@
+use Rattle.std.proofs.Common.{◌≡◌}
+use Rattle.op_pack.specs.Digits.{left_of, size_of, after_items}
+use Rattle.op_pack.specs.Reading.{reading}
+use Rattle.op_pack.proofs.reading.unpack.Given as goal
+
+abbrev pub invariant-loop-item : goal.invariant-loop-item
+invariant-loop-item l = reading l.fn.batch ≡ after_items l.items (left_of l.unread)
+
+abbrev pub decreases-loop-item : goal.decreases-loop-item
+decreases-loop-item l = size_of l.unread
