@@ -1,4 +1,4 @@
--- Trees of blocks, their digests and refinement (docs/PROGRAMS.md, "Trees"). A word is a list of four elements, a batch one
+-- Trees of blocks, their digests and refinement (docs/MACHINE.md, "Trees"). A word is a list of four elements, a batch one
 -- of eight. The permutation's constants are an argument throughout.
 use Rattle.std.specs.Prelude.{◌≡◌, ℕ, ◌+◌, max, List, [], ◌∷◌, ◌++◌, Option, Some, None}
 use Rattle.vm_field.specs.Machine.{zero_word}

@@ -6,7 +6,6 @@ mod exports;
 mod kernel;
 mod laws;
 mod program;
-mod stand_in;
 #[cfg(test)]
 mod tests;
 mod tree;

@@ -1,8 +1,8 @@
-use crate::stand_in::Batches;
 use crate::{
     Evidence, Export, Exports, Program, Tree, are_distinct, copy, digest, height, run_laws,
     tree_laws, types_cross,
 };
+use op_pack::Batches;
 use rpo_hash::Params;
 use std::alloc::Global;
 use std::test::Fail;

@@ -4,13 +4,13 @@ ghost use Rattle.vm_field.specs.Sponge.{digest_of_input};
 ghost use Rattle.block_tree.specs.Trees.{input_of_one, input_of_two, tree_digest, tree_height};
 ghost use Rattle.block_tree.specs.TreeView.{tree_of};
 
-use crate::stand_in::{Batches, digest_of};
-use rpo_hash::Params;
+use op_pack::Batches;
+use rpo_hash::{Params, digest_of};
 use std::alloc::Global;
 use vm_field::{Felt, Memory, Word};
 use vm_ops::{Op, opcode};
 
-/// A tree of blocks (docs/PROGRAMS.md). Contracts speak of it by `tree_of`.
+/// A tree of blocks (docs/MACHINE.md). Contracts speak of it by `tree_of`.
 #[derive(Drop)]
 pub enum Tree {
     /// A block of which only the digest is known.
