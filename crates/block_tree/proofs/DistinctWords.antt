@@ -1,7 +1,6 @@
 -- Words that are distinct, one at a time.
-use Rattle.std.proofs.Common.{◌≡◌, ◌↔◌, ℕ, Bool, true, false, not, ◌||◌, nat_eq, IsTrue, List, [], ◌∷◌, length, arith, sym, refl, ◌∙◌, true≢false, ap}
+use Rattle.std.proofs.Common.{◌≡◌, ◌↔◌, ℕ, Bool, true, false, not, ◌||◌, nat_eq, IsTrue, List, [], ◌∷◌, length, arith, sym, refl, ◌∙◌, true≢false}
 use Rattle.std.specs.List.{IsDistinct, AllByRecursion, list_any}
-use Rattle.std.specs.Cmp.{IsEquivalence}
 use Rattle.std.proofs.lemmas.Cmp.{nat_list_eq_equiv}
 use lib.Pointwise.{pointwise}
 use Rattle.block_tree.specs.Kernels.{AreDistinct}

@@ -1,8 +1,8 @@
 -- Runs of small trees, computed: the definitions give what the machine's rules say.
-use Rattle.std.proofs.Common.{◌≡◌, ℕ, zero, suc, List, [], ◌∷◌, Option, Some, None, refl, length, take, Bool, true, false, map}
-use Rattle.vm_field.specs.Machine.{State, start}
+use Rattle.std.proofs.Common.{◌≡◌, ℕ, zero, suc, List, [], ◌∷◌, refl, length, take}
+use Rattle.vm_field.specs.Machine.{start}
 use Rattle.vm_ops.specs.declared.cause.Cause.{Cause}
-use Rattle.vm_ops.specs.declared.cause.Cause.TheVariants.{NestedTooDeep, OpaqueBlock, BadBatch, NotBinary, CallInSyscall, NotInKernel, DepthAtReturn, NotU32, AdviceEmpty}
+use Rattle.vm_ops.specs.declared.cause.Cause.TheVariants.{NestedTooDeep, OpaqueBlock, BadBatch, NotBinary, NotInKernel, DepthAtReturn, NotU32, AdviceEmpty}
 use Rattle.vm_ops.specs.Step.{cycle_taking, act, left_cells, stack_after}
 use Rattle.vm_ops.specs.Codes as codes
 use Rattle.vm_ops.specs.Values.{computed, trap_of}

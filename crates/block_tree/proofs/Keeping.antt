@@ -1,14 +1,13 @@
 -- No cycle's effect touches the clock: it is ticked in one place.
-use Rattle.std.proofs.Common.{◌≡◌, ℕ, ◌+◌, ◌<◌, Bool, true, false, cond, ltb, List, ◌∷◌, Option, Some, None, Result, Ok, Err, sym, refl, ap, ◌∙◌, subst, is_some, length, slice_index, arith}
+use Rattle.std.proofs.Common.{◌≡◌, ℕ, ◌+◌, Bool, true, false, cond, ltb, List, Option, Some, None, Result, Ok, Err, refl, ap, ◌∙◌, subst, is_some, length}
 use Rattle.vm_field.specs.Machine.{Core, State}
 use Rattle.vm_ops.specs.declared.cause.Cause.{Cause}
-use Rattle.vm_ops.specs.declared.cause.Cause.TheVariants.{NestedTooDeep, OpaqueBlock, BadBatch, NotBinary, CallInSyscall, NotInKernel, DepthAtReturn}
 use Rattle.vm_ops.specs.declared.item.Item.{Item}
 use Rattle.vm_ops.specs.Values.{is_bit, trap_of}
 use Rattle.vm_ops.specs.Step.{act, seen, performed, unless_trapped}
 use Rattle.op_pack.specs.Reading.{reading}
 use Rattle.block_tree.specs.Cycles.{Cycle, Frame, Mark, StartOpaque, StartSpan, StartJoin, StartSplit, StartLoop, StartCall, StartSyscall, Respan, Repeat, Do, End, EndSpan, EndLoop, EndCall, EndSyscall, pops_bit, opens, closes, and_then, reads, enters_call, is_in_kernel, enters_syscall, returns_to, effect_of, advice_taken, top}
-use Rattle.block_tree.specs.Execution.{Event, Outcome, Done, Part, taking, cycle}
+use Rattle.block_tree.specs.Execution.{Event, Done, cycle}
 use Rattle.block_tree.proofs.Parts.{Cycled, taking-inv}
 
 abbrev clock_in : ℕ → Result Core Cause → ℕ

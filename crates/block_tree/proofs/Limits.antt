@@ -1,11 +1,11 @@
 -- What is done at one limit is done at every limit that its clock allows, and cut off at any other.
-use Rattle.std.proofs.Common.{◌≡◌, ℕ, zero, suc, ◌+◌, ◌-◌, ◌<◌, ◌≤◌, ◌⊎◌, Bool, true, false, ltb, List, [], ◌∷◌, ◌++◌, Option, Some, None, inl, inr, ⊎_elim, sym, refl, ap, ◌∙◌, subst, arith, le_refl, le_trans}
+use Rattle.std.proofs.Common.{◌≡◌, ℕ, zero, suc, ◌+◌, ◌-◌, ◌<◌, ◌≤◌, List, [], ◌∷◌, Option, Some, None, ⊎_elim, refl, ap, arith, le_trans}
 use Rattle.std.proofs.lemmas.Bool.{cases_lt}
-use Rattle.vm_field.specs.Machine.{Core, State}
+use Rattle.vm_field.specs.Machine.{State}
 use Rattle.vm_ops.specs.declared.item.Item.{Item}
 use Rattle.op_pack.specs.Reading.{reading}
-use Rattle.block_tree.specs.Trees.{Tree, Opaque, Span, Join, Split, Loop, Call, Syscall, tree_digest}
-use Rattle.block_tree.specs.Cycles.{Cycle, Mark, StartOpaque, StartSpan, StartJoin, StartSplit, StartLoop, StartCall, StartSyscall, Respan, Repeat, Do, End, EndSpan, EndLoop, EndCall, EndSyscall, top, effect_of, advice_taken}
+use Rattle.block_tree.specs.Trees.{Tree, Opaque, Span, Join, Split, Loop, Call, Syscall}
+use Rattle.block_tree.specs.Cycles.{Mark, StartOpaque, StartSpan, Respan, Repeat, Do, EndLoop, top, effect_of, advice_taken}
 use Rattle.block_tree.specs.Execution.{Event, Outcome, Done, OutOfCycles, Part, skip, seq, at_bit, cycle, operations, read_operations, batches_from, turns, execution}
 use Rattle.block_tree.proofs.Parts.{Between, Cycled, done-not_late, seq-inv, seq-done, seq-late, seq-late_second, skip-done, skip-inv, taking-inv, taking-late, taking-again}
 use Rattle.block_tree.proofs.Keeping.{cycle-ticks}

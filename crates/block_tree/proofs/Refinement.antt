@@ -1,14 +1,14 @@
 -- Refinement is reflexive and transitive, keeps the digest, and does what was done.
-use Rattle.std.proofs.Common.{◌≡◌, ℕ, zero, suc, ◌-◌, Bool, true, false, cond, ltb, List, ◌++◌, Option, Some, None, Result, Ok, Err, sym, refl, ap, subst, ◌∙◌}
+use Rattle.std.proofs.Common.{◌≡◌, ℕ, zero, suc, ◌-◌, Bool, true, false, cond, ltb, List, Option, Some, None, Result, Ok, Err, sym, refl, ap, subst, ◌∙◌}
 use Rattle.vm_field.specs.Machine.{Core, State}
 use Rattle.vm_ops.specs.declared.cause.Cause.{Cause}
 use Rattle.vm_ops.specs.declared.cause.Cause.TheVariants.{NestedTooDeep, OpaqueBlock}
 use Rattle.vm_field.specs.Sponge.{HashInput, digest_of_input}
 use Rattle.vm_ops.specs.declared.op.Op.TheVariants as op
 use Rattle.block_tree.specs.Trees.{Tree, Opaque, Span, Join, Split, Loop, Call, Syscall, Refines, opaque, span, join, split, loop, call, syscall, tree_digest, input_of, input_of_one, input_of_two}
-use Rattle.block_tree.specs.Cycles.{StartOpaque, Repeat, EndLoop, StartLoop, top, Cycle, opens, effect_of, advice_taken}
+use Rattle.block_tree.specs.Cycles.{StartOpaque, top, opens, effect_of}
 use Rattle.block_tree.specs.Execution.{Event, Outcome, Done, OutOfCycles, Part, seq, at_bit, cycle, turns, execution}
-use Rattle.block_tree.proofs.Parts.{Between, Cycled, done-not_late, seq-inv, seq-done, taking-inv}
+use Rattle.block_tree.proofs.Parts.{Between, Cycled, seq-inv, seq-done, taking-inv}
 
 abbrev input_in : HashInput → Option HashInput → HashInput
 input_in d (Some input) = input

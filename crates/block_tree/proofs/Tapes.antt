@@ -1,5 +1,5 @@
 -- What a run took of the tape is enough for it.
-use Rattle.std.proofs.Common.{◌≡◌, ℕ, zero, suc, ◌+◌, ◌-◌, ◌<◌, ◌≤◌, List, [], ◌∷◌, ◌++◌, length, take, drop, Option, Some, None, Ok, sym, refl, ap, ◌∙◌, subst, arith, append_assoc, append-nil}
+use Rattle.std.proofs.Common.{◌≡◌, ℕ, zero, suc, ◌+◌, ◌-◌, ◌≤◌, List, [], ◌∷◌, ◌++◌, length, take, drop, Option, Some, None, sym, refl, ap, ◌∙◌, subst, arith, append_assoc, append-nil}
 use Rattle.std.proofs.lemmas.List.{take-append-drop, length-append, length-take-le}
 use Rattle.std.proofs.Math.Seq.{take-append_seam, drop-append_seam}
 use Rattle.vm_field.specs.Machine.{Core, State}
@@ -7,7 +7,7 @@ use Rattle.vm_ops.specs.declared.item.Item.{Item}
 use Rattle.op_pack.specs.Reading.{reading}
 use Rattle.block_tree.specs.Trees.{Tree, Opaque, Span, Join, Split, Loop, Call, Syscall, tree_digest}
 use Rattle.block_tree.specs.Cycles.{Cycle, Mark, StartOpaque, StartSpan, StartSplit, StartLoop, StartCall, StartSyscall, Respan, Repeat, Do, End, EndLoop, EndCall, EndSyscall, frame_of, top, effect_of, advice_taken}
-use Rattle.block_tree.specs.Execution.{Event, Outcome, Done, Part, skip, seq, at_bit, event_of, taking, cycle, operations, read_operations, batches_from, turns, execution}
+use Rattle.block_tree.specs.Execution.{Event, Done, Part, skip, seq, at_bit, taking, cycle, operations, read_operations, batches_from, turns, execution}
 use Rattle.block_tree.specs.Laws.{tape_taken, with_tape}
 use Rattle.block_tree.proofs.Parts.{Between, Cycled, done-not_late, seq-inv, seq-done, skip-done, skip-inv, taking-inv, taking-done}
 

@@ -1,5 +1,5 @@
 -- What each kind of cycle does to the machine's state, and when it traps (docs/MACHINE.md, "Cycles" and "Calls").
-use Rattle.std.specs.Prelude.{ℕ, ◌+◌, ◌-◌, ◌^◌, Bool, true, false, nat_lt, nat_eq, if◌then◌else◌, List, [], ◌∷◌, ◌++◌, length, take, drop, slice_index, Option, Some, None, Result, Ok, Err, is_some}
+use Rattle.std.specs.Prelude.{ℕ, ◌+◌, ◌-◌, ◌^◌, Bool, true, nat_lt, nat_eq, if◌then◌else◌, List, ◌++◌, length, take, drop, slice_index, Result, Ok, Err, is_some}
 use Rattle.std.specs.List.{list_any}
 use lib.Pointwise.{pointwise}
 use Rattle.vm_field.specs.Machine.{Core, filled_up}

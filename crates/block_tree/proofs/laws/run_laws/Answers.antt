@@ -1,4 +1,3 @@
-use Rattle.std.proofs.Common.{ap, []}
 use Rattle.block_tree.proofs.Limits.{execution-again, execution-short}
 use Rattle.block_tree.proofs.Tapes.{fed-execution, fed-alone}
 use Rattle.block_tree.proofs.laws.run_laws.Goals as goal
