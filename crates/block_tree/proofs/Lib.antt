@@ -1,0 +1,7 @@
+pub mod Parts
+pub mod Keeping
+pub mod Limits
+pub mod Refinement
+pub mod Tapes
+pub mod DistinctWords
+mod Examples

@@ -1,0 +1,6 @@
+pub mod Trees
+pub mod Cycles
+pub mod Execution
+pub mod Laws
+pub mod TreeView
+pub mod Kernels

@@ -1,0 +1,18 @@
+//! Trees of blocks: their digests, what they do, and the laws of both.
+#![tactic(auto)]
+
+mod evidence;
+mod exports;
+mod kernel;
+mod laws;
+mod program;
+#[cfg(test)]
+mod tests;
+mod tree;
+
+pub use evidence::Evidence;
+pub use exports::{Export, Exports};
+pub use kernel::are_distinct;
+pub use laws::{run_laws, tree_laws, types_cross};
+pub use program::Program;
+pub use tree::{Tree, copy, digest, height};
