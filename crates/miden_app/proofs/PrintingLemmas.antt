@@ -1,5 +1,5 @@
 -- From a command's work and the printing of its line to what `serve` leaves.
-use Rattle.std.proofs.Common.{◌≡◌, ◌⊎◌, ℕ, ◌+◌, ◌≤◌, List, [], ◌∷◌, ◌++◌, codes, Option, Some, None, refl, sym, ap, subst, ◌∙◌, inl, inr, arith, append-nil}
+use Rattle.std.proofs.Common.{◌≡◌, ◌⊎◌, ℕ, ◌≤◌, List, [], Option, Some, None, refl, sym, subst, inl, inr, arith, append-nil}
 use Rattle.std.specs.Option.{IfSome}
 use Rattle.vm_io.specs.Shelf.{Files, ShelfState, Told}
 use Rattle.vm_io.specs.Sink.{SinkState, SinkFails, with_piece}
@@ -8,11 +8,10 @@ use Rattle.miden_app.specs.declared.status.Status.TheVariants as status
 use Rattle.miden_app.specs.declared.outcome.Answer.{Answer}
 use Rattle.miden_app.specs.declared.outcome.Outcome.{Outcome}
 use Rattle.miden_app.specs.declared.outcome.Outcome.TheVariants as outcome
-use Rattle.miden_app.specs.Plans.{Plan, stop, Steps, ending, ends_with}
-use Rattle.miden_app.specs.Commands.{Plans}
+use Rattle.miden_app.specs.Plans.{stop, Steps, ending, ends_with}
 use Rattle.miden_app.specs.Words.{Asked, nothing, check_strip, hash}
-use Rattle.miden_app.specs.Serving.{written, UsageFits, SomeWritten, FrontWritten, NoFault, CountsFit, CarriesOut, Follows, Works, WritesPart, GivesUp, Prints, FailsToPrint, PrintsNothing, Answers}
-use Rattle.miden_app.specs.Outcomes.{IsPrintable, Done, EndsIn, Says, PrintStep, printed, refused, given_up}
+use Rattle.miden_app.specs.Serving.{UsageFits, CountsFit, CarriesOut, Follows, Works, WritesPart, GivesUp, Prints, Answers}
+use Rattle.miden_app.specs.Outcomes.{IsPrintable, EndsIn, Says, PrintStep, printed, refused, given_up}
 
 -- An answer of a command is the one that is printed.
 printed_is : (steps : Steps) (s : Status) → IsPrintable s → (old new : ShelfState) (before now : SinkState) → Prints steps s old new before now → Answers steps s old new before now

@@ -1,23 +1,21 @@
 -- How the steps of a command go together: what each ending leaves, a file read in front of further steps, and printing.
-use Rattle.std.proofs.Common.{◌≡◌, ◌⊎◌, ℕ, ◌+◌, ◌<◌, ◌≤◌, Bool, true, false, leb, List, [], ◌∷◌, ◌++◌, codes, take, length, Option, Some, None, refl, sym, ap, subst, ◌∙◌, inl, inr, arith}
+use Rattle.std.proofs.Common.{◌≡◌, ℕ, ◌<◌, ◌≤◌, List, codes, length, Option, Some, None, refl, sym, subst, inl, inr, arith}
 use Rattle.std.specs.Bool.{MatchBool}
 use Rattle.std.specs.Option.{IfSome, IsSomeAnd}
 use Rattle.std.specs.FinMap.{get}
 use Rattle.std.proofs.lemmas.Bool.{le-leb, lt-leb}
 use Rattle.vm_io.specs.Count.{Rose}
-use Rattle.vm_io.specs.Shelf.{Files, ShelfState, Told, ReadFails, with_failed_name, with_file}
+use Rattle.vm_io.specs.Shelf.{Files, ShelfState, Told, ReadFails, with_failed_name}
 use Rattle.vm_io.specs.Shelf.{Reads as FileReads}
-use Rattle.vm_io.specs.Sink.{SinkState, SinkFails, with_piece}
 use Rattle.vm_io.proofs.ShelfLemmas.{kept_whole}
 use Rattle.miden_app.specs.declared.status.Status.{Status}
 use Rattle.miden_app.specs.declared.status.Status.TheVariants as status
-use Rattle.miden_app.specs.declared.outcome.Answer.{Answer}
 use Rattle.miden_app.specs.declared.outcome.Outcome.{Outcome}
 use Rattle.miden_app.specs.declared.outcome.Outcome.TheVariants as outcome
 use Rattle.miden_app.specs.Plans.{Plan, End, stop, Steps, reading, ending, ends_with, named_line}
-use Rattle.miden_app.specs.Commands.{EndsAs, Decides, Plans, ComesBehind, Reads}
-use Rattle.miden_app.specs.Serving.{written, SomeWritten, FrontWritten, NoFault, OnlyReadFault, OnlyWriteFault, CountsFit, FailsAtRead, FailsAtWrite, CarriesOut, Follows, Works, WritesPart, GivesUp, Prints, FailsToPrint, PrintsNothing, Answers}
-use Rattle.miden_app.specs.Outcomes.{IsPlanned, IsPrintable, Fits, ComesTo, Done, EndsIn, Says, PrintStep, printed, refused, given_up}
+use Rattle.miden_app.specs.Commands.{Decides, Plans}
+use Rattle.miden_app.specs.Serving.{NoFault, CountsFit, CarriesOut, Follows, WritesPart, GivesUp}
+use Rattle.miden_app.specs.Outcomes.{IsPlanned, IsPrintable, Fits, ComesTo, Done, EndsIn, Says}
 
 -- what holds of all files holds of those that are told
 told_all : (told : Option Files) (Q : Files → Type 0) → ((m : Files) → Q m) → IfSome told Q

@@ -1,17 +1,16 @@
 -- What the values of a row that are all 0 say of its operation and of the next row's cells.
-use Rattle.std.proofs.Common.{◌≡◌, ◌≢◌, ℕ, zero, suc, ◌+◌, ◌-◌, ◌*◌, ◌^◌, ◌<◌, ◌≤◌, Bool, true, false, cond, eqb, ltb, List, [], ◌∷◌, ◌++◌, length, take, drop, get_or, Option, Some, None, option_and_then, refl, sym, ap, ap₂, subst, ◌∙◌, inl, inr, arith, lit<, length-drop, length-append}
+use Rattle.std.proofs.Common.{◌≡◌, ℕ, zero, suc, ◌+◌, ◌*◌, ◌^◌, ◌<◌, true, false, cond, eqb, ltb, List, [], ◌∷◌, ◌++◌, length, drop, get_or, Option, Some, None, option_and_then, refl, sym, ap, subst, ◌∙◌, inl, inr, arith, length-drop, length-append}
 use Rattle.std.specs.List.{AllByRecursion}
-use Rattle.std.proofs.lemmas.Bool.{cases_Bool, cases_lt, ltb-true, ltb-false, lt-ltb, eqb-true}
-use Rattle.vm_field.specs.Field.{prime, felt_add, felt_sub, felt_mul}
+use Rattle.std.proofs.lemmas.Bool.{cases_Bool, lt-ltb}
+use Rattle.vm_field.specs.Field.{prime, felt_sub}
 use Rattle.vm_ops.specs.declared.op.Op.{Op}
-use Rattle.vm_ops.specs.declared.op.Op.TheVariants.{Noop, Neg, Incr, Swap, Add, Mul, Halt}
+use Rattle.vm_ops.specs.declared.op.Op.TheVariants.{Neg, Incr, Swap, Add, Mul}
 use Rattle.vm_ops.specs.Codes.{code_of}
 use Rattle.miden_app.specs.StripFlags.{bits, flag, flags, sum_flags, spelled, strip_ops, op_among, decoded}
-use Rattle.miden_app.specs.StripValues.{cells, entry_bit, entry_one_op, entry_halted, entry_cell, new_cells, term, row_values, cell_values, values_at, IsZero}
-use Rattle.miden_app.proofs.StripDecoding.{IsStripOp, IsDecoded, decoded-is, decoded_among, halt-decoded, flag_by-spelled, code_below}
+use Rattle.miden_app.specs.StripValues.{cells, entry_bit, entry_one_op, entry_cell, new_cells, term, cell_values, IsZero}
+use Rattle.miden_app.proofs.StripDecoding.{IsStripOp, decoded-is, decoded_among, flag_by-spelled, code_below}
 use Rattle.std.proofs.lemmas.List.{get_or-drop, ext_get_or}
 use Rattle.miden_app.proofs.StripCells.{bits_are_seven, entry_cell-decoded, folded_from}
-use Rattle.miden_app.proofs.StripMoves.{IsMovingOp}
 
 -- a bit whose value is 0 is 0 or 1
 pub bit_is : (bit : ℕ) → entry_bit bit ≡ 0 → ltb bit 2 ≡ true

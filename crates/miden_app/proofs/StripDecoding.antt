@@ -1,15 +1,15 @@
 -- A flag is 1 where the bits spell its operation's code and 0 where they spell another, so that each sum over flags is one
 -- operation's value.
-use Rattle.std.proofs.Common.{◌≡◌, ◌≢◌, ℕ, zero, suc, ◌+◌, ◌-◌, ◌*◌, ◌/◌, ◌%◌, ◌^◌, ◌<◌, ◌≤◌, Bool, true, false, cond, eqb, ltb, List, [], ◌∷◌, length, Option, Some, None, option_and_then, refl, sym, ap, ap₂, subst, ◌∙◌, inl, inr, arith, lit<, zero-mul}
-use Rattle.std.proofs.Math.Nat.{pow-suc, pow-succ'}
+use Rattle.std.proofs.Common.{◌≡◌, ℕ, zero, suc, ◌+◌, ◌*◌, ◌/◌, ◌%◌, ◌^◌, ◌<◌, Bool, true, false, cond, eqb, ltb, List, [], ◌∷◌, length, Option, Some, None, option_and_then, refl, sym, ap, ap₂, subst, ◌∙◌, inl, inr, arith, lit<, zero-mul}
+use Rattle.std.proofs.Math.Nat.{pow-succ'}
 use Rattle.std.proofs.lemmas.Bool.{cases_Bool, ltb-true, eqb-true}
 use Rattle.std.proofs.lemmas.Bool.Decides.{nat_tests}
 use Rattle.std.specs.List.{AllByRecursion}
-use Rattle.vm_field.specs.Field.{prime, felt_add, felt_sub, felt_mul}
+use Rattle.vm_field.specs.Field.{prime, felt_add, felt_mul}
 use Rattle.vm_ops.specs.declared.op.Op.{Op}
 use Rattle.vm_ops.specs.declared.op.Op.TheVariants.{Noop, Neg, Incr, Swap, Add, Mul, Halt}
 use Rattle.vm_ops.specs.Codes.{code_of}
-use Rattle.miden_app.specs.StripFlags.{bits, factor, flag_by, flag, sum_flags, flags, spelled, strip_ops, moving_ops, op_among, decoded}
+use Rattle.miden_app.specs.StripFlags.{factor, flag_by, flag, sum_flags, flags, spelled, strip_ops, moving_ops, op_among, decoded}
 
 -- a number is the digit and the rest of its binary form
 halves : (n b high : ℕ) → b < 2 → n ≡ b + 2 * high → (n % 2 ≡ b) × (n / 2 ≡ high)

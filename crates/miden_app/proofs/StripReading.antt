@@ -1,5 +1,5 @@
 -- How parts of equal length are read one after the other.
-use Rattle.std.proofs.Common.{◌≡◌, ℕ, zero, suc, ◌+◌, ◌-◌, ◌*◌, ◌<◌, ◌≤◌, List, [], ◌∷◌, ◌++◌, drop, take, set, length, option_map, option_and_then, Option, Some, None, refl, sym, ap, ◌∙◌, arith, append_assoc, append-nil, mul-suc}
+use Rattle.std.proofs.Common.{◌≡◌, ℕ, zero, suc, ◌+◌, ◌-◌, ◌*◌, ◌<◌, ◌≤◌, List, [], ◌∷◌, ◌++◌, drop, take, set, length, option_map, option_and_then, Option, Some, None, refl, sym, ap, ◌∙◌, arith, append_assoc, append-nil}
 use Rattle.std.proofs.Math.Seq.{take-suc-set}
 use Rattle.std.proofs.lemmas.List.{drop-drop, take_all}
 use Rattle.miden_app.specs.StripGrammar.{parts_in}

@@ -1,24 +1,23 @@
 -- An accepted strip is a run of the machine.
-use Rattle.std.proofs.Common.{◌≡◌, ◌≢◌, ℕ, zero, suc, ◌+◌, ◌<◌, ◌≤◌, Bool, true, false, cond, eqb, ltb, List, [], ◌∷◌, ◌++◌, length, take, drop, get_or, Option, Some, None, unwrap_or, Result, Ok, refl, sym, ap, subst, ◌∙◌, inl, inr, arith, lit<, length-drop}
+use Rattle.std.proofs.Common.{◌≡◌, ℕ, suc, ◌+◌, ◌<◌, ◌≤◌, false, cond, eqb, List, [], ◌∷◌, length, drop, get_or, Some, unwrap_or, Ok, refl, sym, ap, subst, ◌∙◌, inl, inr, arith, lit<, length-drop}
 use Rattle.std.specs.List.{AllByRecursion}
 use Rattle.std.proofs.lemmas.Bool.{cases_Bool, cases_lt}
 use Rattle.std.proofs.lemmas.List.{length-take, get_or-take, get_or-drop, get_or_past}
 use Rattle.vm_field.specs.Field.{prime}
 use Rattle.vm_field.specs.Machine.{State}
-use Rattle.vm_table.specs.Layout.{IsTable}
 use Rattle.vm_ops.specs.declared.op.Op.{Op}
 use Rattle.vm_ops.specs.declared.op.Op.TheVariants.{Noop, Neg, Incr, Swap, Add, Mul, Halt}
 use Rattle.vm_ops.specs.Codes.{code_of}
 use Rattle.vm_ops.specs.Items.{plain_item}
 use Rattle.vm_ops.specs.Step.{step}
-use Rattle.miden_app.specs.StripFlags.{bits, decoded, flag}
-use Rattle.miden_app.specs.StripValues.{cells, entry_bit, entry_one_op, entry_halted, row_values, cell_values, values_at, IsZero, IsAccepted}
-use Rattle.miden_app.specs.StripRun.{op_of_row, ops_of, first_cells, last_cells, after_step, run_ops}
-use Rattle.miden_app.specs.StripLaw.{ShowsRun, AcceptedStripsRun}
+use Rattle.miden_app.specs.StripFlags.{bits, decoded}
+use Rattle.miden_app.specs.StripValues.{cells, entry_one_op, entry_halted, row_values, cell_values, values_at, IsZero, IsAccepted}
+use Rattle.miden_app.specs.StripRun.{op_of_row, ops_of, last_cells, after_step, run_ops}
+use Rattle.miden_app.specs.StripLaw.{AcceptedStripsRun}
 use Rattle.miden_app.proofs.StripDecoding.{IsStripOp, halt-decoded}
 use Rattle.miden_app.proofs.StripCells.{bits_are_seven}
 use Rattle.miden_app.proofs.StripMoves.{IsMovingOp, step_goes}
-use Rattle.miden_app.proofs.StripAccepted.{AllBits, bit_is, Shows, row_shows, IsLow, cells_follow}
+use Rattle.miden_app.proofs.StripAccepted.{AllBits, bit_is, row_shows, IsLow, cells_follow}
 
 -- the values of a row that has a next one, part by part
 record Parts (row next : List ℕ) : Type 0 where

@@ -1,7 +1,6 @@
 -- What a command comes to where no call of the shelf fails.
 use Rattle.std.specs.Prelude.{ℕ, List, [], ◌++◌, codes, Option}
 use Rattle.miden_app.specs.declared.status.Status.{Status}
-use Rattle.miden_app.specs.declared.status.Status.TheVariants as status
 
 -- An end of a command: its status, what it writes and what it prints.
 pub record Plan : Type 0 where

@@ -1,4 +1,4 @@
-use Rattle.std.proofs.Common.{◌≡◌, sym, ◌∙◌, arith}
+use Rattle.std.proofs.Common.{sym, ◌∙◌}
 use Rattle.miden_app.proofs.WordsLemmas.{other_words, two_words}
 use Rattle.miden_app.proofs.words.hash_of.Goals as goal
 

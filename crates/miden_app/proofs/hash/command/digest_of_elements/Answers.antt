@@ -1,7 +1,7 @@
-use Rattle.std.proofs.Common.{◌≡◌, ◌+◌, ◌*◌, ◌/◌, length, take, drop, sym, subst, ap, ◌∙◌, arith}
+use Rattle.std.proofs.Common.{◌/◌, length, ap, ◌∙◌, arith}
 use Rattle.rpo_hash.specs.Constants.{constants_of}
 use Rattle.vm_field.specs.Sponge.{absorbed, begun, squeezed, hashed}
-use Rattle.miden_app.proofs.HashBlocks.{Absorbs, goes_on, ends}
+use Rattle.miden_app.proofs.HashBlocks.{goes_on, ends}
 use Rattle.miden_app.proofs.hash.command.digest_of_elements.Goals as goal
 
 pub loop-k-preserved : goal.loop-k-preserved

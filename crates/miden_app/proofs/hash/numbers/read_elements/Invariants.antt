@@ -1,4 +1,4 @@
-use Rattle.std.proofs.Common.{◌≡◌, ◌≤◌, ◌+◌, length}
+use Rattle.std.proofs.Common.{◌≤◌, ◌+◌, length}
 use Rattle.miden_app.proofs.HashReading.{Goes}
 use Rattle.miden_app.proofs.hash.numbers.read_elements.Given as goal
 

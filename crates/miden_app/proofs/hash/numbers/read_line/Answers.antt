@@ -1,4 +1,4 @@
-use Rattle.std.proofs.Common.{◌≡◌, option_map, sym, ap, ◌∙◌}
+use Rattle.std.proofs.Common.{option_map, sym, ap, ◌∙◌}
 use Rattle.rpo_hash.proofs.TextLines.{one_element-at}
 use Rattle.miden_app.proofs.HashReading.{shorter}
 use Rattle.miden_app.proofs.hash.numbers.read_line.Goals as goal

@@ -1,4 +1,4 @@
-use Rattle.std.proofs.Common.{◌≡◌, ◌+◌, length, sym, ◌∙◌, ap, arith, length-append}
+use Rattle.std.proofs.Common.{◌+◌, ◌∙◌, ap, arith, length-append}
 use Rattle.miden_app.specs.StripGrammar.{row_in}
 use Rattle.miden_app.proofs.StripReading.{goes_on, stops, ends}
 use Rattle.miden_app.proofs.strip.reading.read_rows.Goals as goal

@@ -1,4 +1,4 @@
-use Rattle.std.proofs.Common.{◌≢◌, ◌+◌, ◌≤◌, ◌<◌, sym, ◌∙◌, arith, rules}
+use Rattle.std.proofs.Common.{◌≢◌, ◌+◌, ◌≤◌, sym, ◌∙◌, arith, rules}
 use Rattle.miden_app.specs.StripValues.{cells}
 use Rattle.miden_app.proofs.StripCells.{folded_from, no_cell}
 use Rattle.miden_app.proofs.strip.values.folded.Goals as goal
