@@ -21,7 +21,7 @@ fn felts<const N: usize>(numbers: [u64; N]) -> Result<[Felt; N], Fail> {
     Ok(felts)
 }
 
-// Two blocks of which only the digests are known.
+// A block of which only the digest is known.
 fn opaque(alloc: Global, numbers: [u64; 4]) -> Result<Box<Tree>, Fail> {
     Ok(Box::new(alloc, Tree::Opaque(Word(felts(numbers)?)))?)
 }
