@@ -30,6 +30,15 @@ impl Batches {
         })
     }
 
+    /// A copy of these batches.
+    pub fn copy(&self, alloc: Global) -> Result<Batches, Memory>
+        ensures same { IfOk result (λ copy. copy ≡ self.now) }
+    {
+        Ok(Batches {
+            items: Vec::from_slice(alloc, self.items.as_slice())?,
+        })
+    }
+
     /// Adds a batch at the end. At `Memory` the list is as before.
     pub fn push(&mut self, batch: [Felt; 8]) -> Result<(), Memory>
         ensures ok { OnOk result (self.new ≡ self.old ++ batch ∷ []) }

@@ -1,4 +1,4 @@
-use crate::{Batches, in_use, pack, unpack};
+use crate::{Batches, in_use, pack, packing_laws, types_cross, unpack};
 use std::alloc::Global;
 use std::test::Fail;
 use vm_field::{Felt, Memory};
@@ -334,8 +334,15 @@ fn keeps_batches(rt: HostRuntime) -> Result<(), Fail> {
     let first = elements(&[1, 2, 3, 4, 5, 6, 7, 8]);
     let mut batches = Batches::of(rt.alloc(), first)?;
     batches.push([Felt::ZERO; 8])?;
+    let batches = batches.copy(rt.alloc())?;
     assert_eq!(rt; batches.len(), 2);
     assert_eq!(rt; *batches.at(0), first);
     assert_eq!(rt; batches.as_slice()[1], [Felt::ZERO; 8]);
     Ok(())
+}
+
+#[test]
+fn states_laws() {
+    packing_laws();
+    types_cross();
 }
