@@ -1,0 +1,6 @@
+pub mod Causes
+pub mod Keywords
+pub mod Words
+pub mod Trees
+pub mod Machine
+pub mod Views
