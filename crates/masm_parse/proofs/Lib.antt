@@ -1,1 +1,3 @@
 pub mod Mirror
+pub mod Laws
+pub mod Standing

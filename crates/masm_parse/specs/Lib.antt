@@ -4,3 +4,5 @@ pub mod Words
 pub mod Trees
 pub mod Machine
 pub mod Views
+pub mod Grammar
+pub mod Refusals

@@ -15,3 +15,6 @@ mod tree;
 pub use parsing::parse;
 pub use refusal::{Cause, ParseError, cause_text};
 pub use tree::{Ast, At, Proc, Stmt};
+
+#[cfg(test)]
+mod tests;

@@ -23,7 +23,8 @@ pub fn parse(
     ensures { Gives result (parsed kernel source.now tokens.now) }
 {
     let mut parser = Parser::new(alloc);
-    for token in tokens.as_slice() {
+    let items = tokens.as_slice();
+    for token in items {
         parser = match parser.step(alloc, kernel, source, *token) {
             Ok(now) => now,
             Err(Stop::Memory) => return Err(ParseError::Memory),

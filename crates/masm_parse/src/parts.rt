@@ -1,5 +1,5 @@
 ghost use Rattle.std.specs.Prelude.{◌≡◌, ◌==◌, map, IfOk};
-ghost use Rattle.std.specs.List.{slice_split};
+ghost use Rattle.std.specs.List.{list_all, slice_split};
 ghost use Rattle.masm_parse.specs.Words.{is_letter, is_name_byte, is_name};
 
 use std::alloc::{AllocError, Global};
@@ -33,6 +33,12 @@ fn is_name_byte(case: Case, byte: u8) -> bool
     is_letter(case, byte) || matches!(byte, b'0'..=b'9') || byte == b'_'
 }
 
+fn are_name_bytes(case: Case, bytes: &[u8]) -> bool
+    ensures { result ≡ list_all (is_name_byte case) bytes.now }
+{
+    bytes.iter().all(|byte| is_name_byte(case, *byte))
+}
+
 // Whether a text is a name of 1 to 100 bytes.
 #[tactic(auto, unfolding(crate::specs::Words::is_name))]
 pub(crate) fn is_name(case: Case, text: &[u8]) -> bool
@@ -41,8 +47,5 @@ pub(crate) fn is_name(case: Case, text: &[u8]) -> bool
     let Some((first, more)) = text.split_first() else {
         return false;
     };
-    if !is_letter(case, *first) || more.len() >= 100 {
-        return false;
-    }
-    more.iter().all(|byte| is_name_byte(case, *byte))
+    is_letter(case, *first) && more.len() < 100 && are_name_bytes(case, more)
 }
