@@ -1,3 +1,6 @@
 pub mod Mirror
-pub mod Laws
+pub mod Complete
 pub mod Standing
+pub mod Depth
+pub mod Settling
+pub mod Least

@@ -12,7 +12,7 @@ use Rattle.masm_parse.specs.Trees.{Body, Empty, Leaf_then, If_then, While_then, 
 use Rattle.masm_parse.specs.Machine.{Open, In_if, In_else, In_while, In_repeat, State, Top, Inside, Behind, may_begin, procedure, shut, closed, turn}
 use Rattle.masm_parse.specs.Grammar.{Spells, nothing, leaf, if_only, if_else, while, repeated, is_item, SpellsProcs, none, constant, item, SpellsMain, IsWhole, constants, IsSource}
 use Rattle.masm_parse.specs.Refusals.{Fits}
-use Rattle.masm_parse.proofs.Laws.{spells_append}
+use Rattle.masm_parse.proofs.Complete.{spells_append}
 
 -- the tokens of an open statement, from its first on
 pub data Part : Open → Body → List Sign → Type 0 where

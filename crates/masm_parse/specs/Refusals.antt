@@ -103,17 +103,18 @@ at_first (token ∷ tokens) end = at_of token
 abbrev pub source_words : Bool → List ℕ → List Token → List Word
 source_words kernel source tokens = words_of kernel source no_context tokens
 
--- what an answer says of a source
-abbrev pub Answers : Bool → List ℕ → List Token → Result Source ParseError → Type 0
-Answers kernel source tokens (Ok tree) = Reads kernel (source_words kernel source tokens) tree
-Answers kernel source tokens (Err Memory) = ⊥
-Answers kernel source tokens (Err (Bad line column cause)) =
-    (i : ℕ) × IsLeast kernel (source_words kernel source tokens) i cause
-    × (at_first (drop i tokens) (place_after source) ≡ record { line = line; column = column })
+-- What an answer says of tokens and their words, in a source that ends at the place.
+abbrev pub Answers : Bool → Place → List Token → List Word → Result Source ParseError → Type 0
+Answers kernel end tokens words (Ok tree) = Reads kernel words tree
+Answers kernel end tokens words (Err Memory) = ⊥
+Answers kernel end tokens words (Err (Bad line column cause)) =
+    (i : ℕ) × IsLeast kernel words i cause × (at_first (drop i tokens) end ≡ record { line = line; column = column })
 
 -- The machine's answer is the tree that the tokens spell where none is refused, and else the least refusal.
 abbrev pub LeastRefusal : Type 0
-LeastRefusal = (kernel : Bool) (source : List ℕ) (tokens : List Token) → Answers kernel source tokens (parsed kernel source tokens)
+LeastRefusal =
+    (kernel : Bool) (source : List ℕ) (tokens : List Token)
+    → Answers kernel (place_after source) tokens (source_words kernel source tokens) (parsed kernel source tokens)
 
 -- A source whose tokens spell a tree, with none refused, has this tree and no other.
 abbrev pub ReadsOnce : Type 0

@@ -3,6 +3,7 @@
 #![tactic(auto)]
 
 mod keyword;
+mod laws;
 mod parser;
 mod parsing;
 mod parts;
@@ -12,6 +13,7 @@ mod sign;
 mod state;
 mod tree;
 
+pub use laws::least_refusal;
 pub use parsing::parse;
 pub use refusal::{Cause, ParseError, cause_text};
 pub use tree::{Ast, At, Proc, Stmt};

@@ -134,7 +134,7 @@ dies k before more s t procs main so misfit whole =
     ∙ ap (λ o. run k o more) misfit
     ∙ run-none k more)
 
-spells_append : {b : Body} {us : List Sign} → Spells b us → (c : Body) (vs : List Sign) → Spells c vs → Spells (append b c) (us ++ vs)
+pub spells_append : {b : Body} {us : List Sign} → Spells b us → (c : Body) (vs : List Sign) → Spells c vs → Spells (append b c) (us ++ vs)
 spells_append nothing c vs e = e
 spells_append (leaf at l {b = b} {ts = ts} d) c vs e = leaf at l (spells_append d c vs e)
 spells_append (if_only at {a = x} {b = b} {us = us} {ts = ts} f d) c vs e =
