@@ -1,17 +1,14 @@
 -- The machine against the grammar: what is spelled runs, and what has run can be gone on to a source.
-use Rattle.std.proofs.Common.{◌≡◌, ℕ, Bool, true, false, ◌+◌, ◌≤◌, cond, List, [], ◌∷◌, ◌++◌, length, Option, Some, None, refl, ap, sym, subst, ◌∙◌, append_assoc, append-nil}
+use Rattle.std.proofs.Common.{◌≡◌, Bool, true, false, cond, List, [], ◌∷◌, ◌++◌, Option, Some, None, refl, ap, sym, subst, ◌∙◌, append_assoc}
 use Rattle.std.specs.Prelude.{option_and_then}
-use Rattle.masm_instr.specs.declared.constant.Const.{Const}
-use Rattle.masm_parse.specs.declared.tree.At.{At}
 use Rattle.masm_parse.specs.declared.sign.Role.{Role}
 use Rattle.masm_parse.specs.declared.sign.Role.TheVariants as roles
 use Rattle.masm_parse.specs.declared.sign.Header.{Header}
-use Rattle.masm_parse.specs.declared.sign.Leaf.{Leaf}
 use Rattle.masm_parse.specs.declared.sign.Sign.{Sign}
 use Rattle.masm_parse.specs.declared.sign.Sign.TheVariants as signs
-use Rattle.masm_parse.specs.Trees.{Body, Empty, Leaf_then, If_then, While_then, Repeat_then, Procedure, Source, append}
-use Rattle.masm_parse.specs.Machine.{Open, In_if, In_else, In_while, In_repeat, State, Top, Inside, Behind, may_begin, procedure, shut, closed, turn}
-use Rattle.masm_parse.specs.Grammar.{Spells, nothing, leaf, if_only, if_else, while, repeated, is_item, SpellsProcs, none, constant, item, SpellsMain, IsWhole, constants, IsSource}
+use Rattle.masm_parse.specs.Trees.{Body, Empty, Leaf_then, If_then, While_then, Repeat_then, Procedure, append}
+use Rattle.masm_parse.specs.Machine.{Open, In_if, In_else, In_while, In_repeat, State, Top, Inside, Behind, may_begin, procedure, closed, turn}
+use Rattle.masm_parse.specs.Grammar.{Spells, nothing, leaf, if_only, if_else, while, repeated, is_item, SpellsProcs, none, constant, item, SpellsMain, IsWhole}
 
 -- the state behind tokens, where each fits
 abbrev pub run : Bool → Option State → List Sign → Option State

@@ -1,5 +1,5 @@
 -- How many procedures and statements are open, in each state of the machine.
-use Rattle.std.proofs.Common.{◌≡◌, ℕ, Bool, true, false, ◌+◌, ◌≤◌, ◌&&◌, nat_le, cond, List, [], ◌∷◌, ◌++◌, length, Option, Some, None, refl, ap, ◌∙◌, arith, leb-true, le-leb}
+use Rattle.std.proofs.Common.{◌≡◌, Bool, true, false, ◌+◌, ◌&&◌, nat_le, cond, List, [], ◌∷◌, ◌++◌, length, Option, Some, None, refl, ap, ◌∙◌, arith, leb-true, le-leb}
 use Rattle.masm_parse.specs.declared.sign.Role.{Role}
 use Rattle.masm_parse.specs.declared.sign.Role.TheVariants as roles
 use Rattle.masm_parse.specs.declared.sign.Header.{Header}

@@ -1,5 +1,5 @@
 -- The machine's answer is the tree where no token is refused, and else the least refusal.
-use Rattle.std.proofs.Common.{◌≡◌, ℕ, zero, suc, Bool, true, false, ◌+◌, ◌<◌, ◌≤◌, ◌&&◌, nat_le, cond, List, [], ◌∷◌, ◌++◌, length, drop, map, Option, Some, None, Result, Ok, Err, ◌⊎◌, inl, inr, refl, ap, sym, subst, ◌∙◌, append_assoc, append-nil, arith, length-append, leb-true, le-leb, ltb-true, ltb-false}
+use Rattle.std.proofs.Common.{◌≡◌, ℕ, zero, suc, Bool, true, false, ◌+◌, ◌<◌, ◌≤◌, List, [], ◌∷◌, ◌++◌, length, drop, Option, Some, None, Result, Ok, Err, inl, inr, refl, ap, sym, subst, ◌∙◌, append_assoc, append-nil, arith, length-append}
 use Rattle.std.proofs.lemmas.Bool.Decides.{leb_tells}
 use Rattle.std.proofs.lemmas.List.{map-append}
 use Rattle.std.specs.Option.{option_map}
@@ -11,18 +11,15 @@ use Rattle.masm_parse.specs.declared.refusal.Cause.{Cause}
 use Rattle.masm_parse.specs.declared.refusal.Cause.TheVariants as causes
 use Rattle.masm_parse.specs.declared.refusal.ParseError.{ParseError}
 use Rattle.masm_parse.specs.declared.refusal.ParseError.TheVariants.{Bad, Memory}
-use Rattle.masm_parse.specs.declared.sign.Role.{Role}
-use Rattle.masm_parse.specs.declared.sign.Role.TheVariants as roles
-use Rattle.masm_parse.specs.declared.sign.Header.{Header}
 use Rattle.masm_parse.specs.declared.sign.Sign.{Sign}
 use Rattle.masm_parse.specs.declared.sign.Sign.TheVariants as signs
 use Rattle.masm_parse.specs.declared.sign.Word.{Word}
-use Rattle.masm_parse.specs.Causes.{order, is_early}
-use Rattle.masm_parse.specs.Words.{Context, no_context, known_after, word_of}
-use Rattle.masm_parse.specs.Trees.{Body, Empty, Procedure, Source}
-use Rattle.masm_parse.specs.Machine.{Open, In_if, In_else, In_while, In_repeat, State, Top, Inside, Behind, Reader, may_begin, procedure, closed, turn, is_opening, is_too_deep, advance, settled, moved, step, at_of, ended, parse_from, start, parsed}
+use Rattle.masm_parse.specs.Causes.{order}
+use Rattle.masm_parse.specs.Words.{Context, known_after, word_of}
+use Rattle.masm_parse.specs.Trees.{Procedure, Source}
+use Rattle.masm_parse.specs.Machine.{State, Top, Inside, Behind, Reader, turn, is_too_deep, advance, moved, step, at_of, ended, parse_from, start, parsed}
 use Rattle.masm_parse.specs.Grammar.{none, IsWhole, IsSource, constants}
-use Rattle.masm_parse.specs.Refusals.{words_of, signs_of, source_words, Fits, begins, ends, begun, done, Has, by_itself, misfit, too_deep, IsTooDeep, Stands, RefusesAt, EndsEarly, IsLeast, Reads, at_first, Answers, LeastRefusal, ReadsOnce}
+use Rattle.masm_parse.specs.Refusals.{words_of, signs_of, source_words, Fits, IsTooDeep, Stands, RefusesAt, Reads, at_first, Answers, LeastRefusal, ReadsOnce}
 use Rattle.masm_parse.proofs.Complete.{run, run-append, last_state, whole_runs, dies}
 use Rattle.masm_parse.proofs.Standing.{Standing, StandingIf, kept, Finishes, finish, finished_source, fits}
 use Rattle.masm_parse.proofs.Depth.{Counts, CountsIf, counts_kept, deep_stands, deep_found}
@@ -109,19 +106,24 @@ early : (k : Bool) (end : Place) (all : List Token) (before : List Word) (s : St
     → Standing k s (signs_of before) → ((i : ℕ) (c : Cause) → RefusesAt k before i c → length before ≤ i) → drop (length before) all ≡ []
     → Answers k end all before (Err (Bad end.line end.column causes.Syntax))
 early k end all before s never standing clear over =
-    let finishes : Finishes k (signs_of before) = finish k s (signs_of before) standing in
-    (length before,
-    record {
-      there = inr (refl, refl, record {
-        more = finishes.2;
-        source = record { consts = constants (signs_of before ++ finishes.2); procs = finishes.0; main = finishes.1 };
-        goes_on = finished_source k (signs_of before) finishes;
-        is_none = λ other x. never other.procs other.main x.whole
-      });
-      first_place = clear;
-      first_cause = λ c x. let no_token : ⊥ = omega (arith, past k before (length before) c x) in absurd no_token
-    },
-    ap (λ ts. at_first ts end) over)
+    let finishes : Finishes k (signs_of before) = finish k s (signs_of before) standing in (
+      length before,
+      record {
+        there = inr (
+          refl,
+          refl,
+          record {
+            more = finishes.2;
+            source = record { consts = constants (signs_of before ++ finishes.2); procs = finishes.0; main = finishes.1 };
+            goes_on = finished_source k (signs_of before) finishes;
+            is_none = λ other x. never other.procs other.main x.whole;
+          },
+        );
+        first_place = clear;
+        first_cause = λ c x. let no_token : ⊥ = omega (arith, past k before (length before) c x) in absurd no_token;
+      },
+      ap (λ ts. at_first ts end) over,
+    )
 
 at_end : (k : Bool) (end : Place) (all : List Token) (before : List Word) (s : State) (cs : List Const)
     → run k (Some (Top [])) (signs_of before) ≡ Some s → Standing k s (signs_of before) → constants (signs_of before) ≡ cs
@@ -130,12 +132,12 @@ at_end : (k : Bool) (end : Place) (all : List Token) (before : List Word) (s : S
 at_end true end all before (Top ps) cs so standing consts clear over =
     record {
       spelled = record { consts = sym consts; whole = standing };
-      is_clear = λ i c x. omega (arith, past true before i c x, clear i c x)
+      is_clear = λ i c x. omega (arith, past true before i c x, clear i c x);
     }
 at_end false end all before (Behind ps main) cs so standing consts clear over =
     record {
       spelled = record { consts = sym consts; whole = standing.1 };
-      is_clear = λ i c x. omega (arith, past false before i c x, clear i c x)
+      is_clear = λ i c x. omega (arith, past false before i c x, clear i c x);
     }
 at_end true end all before (Inside ps h os b) cs so standing consts clear over =
     early true end all before (Inside ps h os b)
@@ -159,8 +161,8 @@ settles k r before w so standing counts =
     settle_least w.fault (is_too_deep r.state w.sign) (advance k r w.sign) (Fits k before w.sign → ⊥) (IsTooDeep before w.sign)
     (λ e f. dies k before f.more r.state w.sign f.source.procs f.source.main so (mapped_none _ (turn k r.state w.sign) e) f.spelled.whole)
     (λ now e no. let some : (s : State) × (turn k r.state w.sign ≡ Some s) × (record { context = known_after r.context w.sign; state = s } ≡ now) = mapped_some _ (turn k r.state w.sign) now e in
-      no (fits k w.sign before (finish k some.0 (before ++ w.sign ∷ [])
-      (subst (λ o. StandingIf k o (before ++ w.sign ∷ [])) some.1 (kept k r.state w.sign before standing)))))
+    no (fits k w.sign before (finish k some.0 (before ++ w.sign ∷ [])
+    (subst (λ o. StandingIf k o (before ++ w.sign ∷ [])) some.1 (kept k r.state w.sign before standing)))))
     (deep_stands r.state w.sign before counts)
     (deep_found r.state w.sign before counts)
 
@@ -173,8 +175,8 @@ still_clear k ws before more w split none_here clear i c x =
     elim (leb_tells (length before + 1) i) [
       | inl later ↦ omega (arith, length_snoc before w, later.1)
       | inr here ↦
-        let place : i ≡ length before = omega (arith, here.1, clear i c x) in
-        absurd (none_here c (stands_here k ws before more w i c split place x))
+          let place : i ≡ length before = omega (arith, here.1, clear i c x) in
+          absurd (none_here c (stands_here k ws before more w i c split place x))
     ]
 
 -- what stands behind the tokens so far
@@ -193,24 +195,24 @@ further : (k : Bool) (source : List ℕ) (all : List Token) (ws : List Word) (t 
     → Going k source all ws ts (before ++ w ∷ []) (record { context = known_after r.context w.sign; state = s })
 further k source all ws t ts before r w s is g e none_here =
     let split : ws ≡ before ++ w ∷ words_of k source (known_after r.context w.sign) ts =
-      g.split ∙ ap (λ x. before ++ x ∷ words_of k source (known_after r.context x.sign) ts) (sym is) in
+    g.split ∙ ap (λ x. before ++ x ∷ words_of k source (known_after r.context x.sign) ts) (sym is) in
     record {
       split = split ∙ sym (append_assoc before (w ∷ []) (words_of k source (known_after r.context w.sign) ts));
       so =
-        ap (λ x. run k (Some (Top [])) x) (signs_snoc before w)
-        ∙ run-append k (Some (Top [])) (signs_of before) (w.sign ∷ [])
-        ∙ ap (λ o. run k o (w.sign ∷ [])) g.so ∙ e;
+          ap (λ x. run k (Some (Top [])) x) (signs_snoc before w)
+          ∙ run-append k (Some (Top [])) (signs_of before) (w.sign ∷ [])
+          ∙ ap (λ o. run k o (w.sign ∷ [])) g.so ∙ e;
       standing =
-        subst (λ x. Standing k s x) (sym (signs_snoc before w))
-        (subst (λ o. StandingIf k o (signs_of before ++ w.sign ∷ [])) e (kept k r.state w.sign (signs_of before) g.standing));
+          subst (λ x. Standing k s x) (sym (signs_snoc before w))
+          (subst (λ o. StandingIf k o (signs_of before ++ w.sign ∷ [])) e (kept k r.state w.sign (signs_of before) g.standing));
       counts =
-        subst (λ x. Counts s x) (sym (signs_snoc before w))
-        (subst (λ o. CountsIf o (signs_of before ++ w.sign ∷ [])) e (counts_kept k r.state w.sign (signs_of before) g.counts));
+          subst (λ x. Counts s x) (sym (signs_snoc before w))
+          (subst (λ o. CountsIf o (signs_of before ++ w.sign ∷ [])) e (counts_kept k r.state w.sign (signs_of before) g.counts));
       consts =
-        ap constants (signs_snoc before w) ∙ constants_append (signs_of before) w.sign
-        ∙ ap (λ cs. cs ++ constants (w.sign ∷ [])) g.consts ∙ known_consts r.context w.sign;
+          ap constants (signs_snoc before w) ∙ constants_append (signs_of before) w.sign
+          ∙ ap (λ cs. cs ++ constants (w.sign ∷ [])) g.consts ∙ known_consts r.context w.sign;
       clear = still_clear k ws before (words_of k source (known_after r.context w.sign) ts) w split none_here g.clear;
-      left = ap (λ n. drop n all) (length_snoc before w) ∙ drop_next (length before) all t ts g.left
+      left = ap (λ n. drop n all) (length_snoc before w) ∙ drop_next (length before) all t ts g.left;
     }
 
 abbrev pub Leads : Bool → List ℕ → List Token → List Word → Token → List Token → Result Reader Cause → Type 0
@@ -231,21 +233,22 @@ refused : (k : Bool) (source : List ℕ) (all : List Token) (ws : List Word) (t 
     → Answers k (place_after source) all ws (Err (Bad t.line t.column cause))
 refused k source all ws t ts before r w cause is g stands least =
     let split : ws ≡ before ++ w ∷ words_of k source (known_after r.context w.sign) ts =
-      g.split ∙ ap (λ x. before ++ x ∷ words_of k source (known_after r.context x.sign) ts) (sym is) in
-    (length before,
-    record {
-      there = inl (record {
-        before = before;
-        word = w;
-        more = words_of k source (known_after r.context w.sign) ts;
-        split = split;
-        place = refl;
-        stands = stands
-      });
-      first_place = g.clear;
-      first_cause = λ c x. least c (stands_here k ws before (words_of k source (known_after r.context w.sign) ts) w (length before) c split refl x)
-    },
-    ap (λ x. at_first x (place_after source)) g.left)
+    g.split ∙ ap (λ x. before ++ x ∷ words_of k source (known_after r.context x.sign) ts) (sym is) in (
+      length before,
+      record {
+        there = inl (record {
+          before = before;
+          word = w;
+          more = words_of k source (known_after r.context w.sign) ts;
+          split = split;
+          place = refl;
+          stands = stands;
+        });
+        first_place = g.clear;
+        first_cause = λ c x. least c (stands_here k ws before (words_of k source (known_after r.context w.sign) ts) w (length before) c split refl x);
+      },
+      ap (λ x. at_first x (place_after source)) g.left,
+    )
 
 -- the token decides: it is refused, or the machine goes on
 chosen : (k : Bool) (source : List ℕ) (all : List Token) (ws : List Word) (t : Token) (ts : List Token) (before : List Word) (r : Reader) (w : Word)
@@ -288,7 +291,7 @@ least_refusal k source tokens =
       counts = refl;
       consts = refl;
       clear = λ i c x. omega arith;
-      left = refl
+      left = refl;
     })
 
 -- the parts of a last state
@@ -302,9 +305,9 @@ parts_same ps qs (Some m) (Some n) e = (cc, cc)
 same_source : (k : Bool) (ts : List Sign) (a b : Source) → IsSource k a ts → IsSource k b ts → a ≡ b
 same_source k ts a b x y =
     let parts : (a.procs ≡ b.procs) × (a.main ≡ b.main) =
-      parts_same a.procs b.procs a.main b.main
-      (some_same (last_state a.procs a.main) (last_state b.procs b.main)
-      (sym (whole_runs k a.procs a.main ts x.whole) ∙ whole_runs k b.procs b.main ts y.whole)) in
+    parts_same a.procs b.procs a.main b.main
+    (some_same (last_state a.procs a.main) (last_state b.procs b.main)
+    (sym (whole_runs k a.procs a.main ts x.whole) ∙ whole_runs k b.procs b.main ts y.whole)) in
     let consts : a.consts ≡ b.consts = x.consts ∙ sym y.consts in
     λ i. record { consts = consts i; procs = parts.0 i; main = parts.1 i }
 

@@ -1,17 +1,15 @@
 -- The lists of the code against the bodies and states of the definitions.
 use Rattle.std.proofs.Common.{◌≡◌, ℕ, List, [], ◌∷◌, ◌++◌, Vec, Global, map, reverse, length, refl, ap, sym, subst, ◌∙◌}
 use Rattle.std.proofs.lemmas.List.{length-map, length-reverse, reverse-append}
-
 use Rattle.masm_instr.specs.Instructions.{Instruction}
 use Rattle.masm_parse.specs.declared.tree.At.{At}
 use Rattle.masm_parse.specs.declared.tree.Stmt.{Stmt}
 use Rattle.masm_parse.specs.declared.tree.Stmt.TheOpen.{Stmt-F}
-use Rattle.masm_parse.specs.declared.tree.Stmt.TheFolds.{fold-Stmt, fold-roll-Stmt, fold_out-Stmt}
+use Rattle.masm_parse.specs.declared.tree.Stmt.TheFolds.{fold-roll-Stmt, fold_out-Stmt}
 use Rattle.masm_parse.specs.declared.tree.Stmt.TheVariants.{Instr, If, While, Repeat, Exec, Call, Syscall, rolls-Instr, rolls-If, rolls-While, rolls-Repeat, rolls-Exec, rolls-Call, rolls-Syscall}
 use Rattle.masm_parse.specs.declared.sign.Leaf.TheVariants as leaves
 use Rattle.masm_parse.specs.declared.state.Frame.{Frame}
 use Rattle.masm_parse.specs.Trees.{Body, Empty, Leaf_then, If_then, While_then, Repeat_then, append}
-use Rattle.masm_parse.specs.Machine.{Open}
 use Rattle.masm_parse.specs.Views.{joined, add_step, stmt_view, body_of, frame_view, frames_view}
 
 pub view-Instr : (at : At) (instr : Instruction) (rest : Body) → stmt_view (Instr at instr) rest ≡ Leaf_then at (leaves.Instr instr) rest

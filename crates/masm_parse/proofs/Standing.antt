@@ -1,16 +1,14 @@
 -- What the tokens so far are in each state of the machine, and how they go on to a source.
-use Rattle.std.proofs.Common.{◌≡◌, ℕ, Bool, true, false, ◌+◌, ◌≤◌, cond, List, [], ◌∷◌, ◌++◌, length, Option, Some, None, refl, ap, sym, subst, ◌∙◌, append_assoc, append-nil, codes}
-use Rattle.masm_instr.specs.declared.constant.Const.{Const}
+use Rattle.std.proofs.Common.{◌≡◌, ℕ, Bool, true, false, cond, List, [], ◌∷◌, ◌++◌, Option, Some, None, refl, ap, sym, subst, ◌∙◌, append_assoc, append-nil, codes}
 use Rattle.masm_parse.specs.declared.tree.At.{At}
 use Rattle.masm_parse.specs.declared.sign.Role.{Role}
 use Rattle.masm_parse.specs.declared.sign.Role.TheVariants as roles
 use Rattle.masm_parse.specs.declared.sign.Header.{Header}
-use Rattle.masm_parse.specs.declared.sign.Leaf.{Leaf}
 use Rattle.masm_parse.specs.declared.sign.Sign.{Sign}
 use Rattle.masm_parse.specs.declared.sign.Sign.TheVariants as signs
-use Rattle.masm_parse.specs.Trees.{Body, Empty, Leaf_then, If_then, While_then, Repeat_then, Procedure, Source, append}
+use Rattle.masm_parse.specs.Trees.{Body, Empty, Leaf_then, If_then, While_then, Repeat_then, Procedure, append}
 use Rattle.masm_parse.specs.Machine.{Open, In_if, In_else, In_while, In_repeat, State, Top, Inside, Behind, may_begin, procedure, shut, closed, turn}
-use Rattle.masm_parse.specs.Grammar.{Spells, nothing, leaf, if_only, if_else, while, repeated, is_item, SpellsProcs, none, constant, item, SpellsMain, IsWhole, constants, IsSource}
+use Rattle.masm_parse.specs.Grammar.{Spells, nothing, leaf, if_only, if_else, while, repeated, is_item, SpellsProcs, constant, item, SpellsMain, IsWhole, constants, IsSource}
 use Rattle.masm_parse.specs.Refusals.{Fits}
 use Rattle.masm_parse.proofs.Complete.{spells_append}
 
@@ -18,10 +16,10 @@ use Rattle.masm_parse.proofs.Complete.{spells_append}
 pub data Part : Open → Body → List Sign → Type 0 where
   part_if : (at : At) (before : Body) {b : Body} {us : List Sign} → Spells b us → Part (In_if at before) b (signs.If at ∷ us)
   part_else : (at : At) (before : Body) {first b : Body} {us vs : List Sign} → Spells first us → Spells b vs
-    → Part (In_else at before first) b (signs.If at ∷ (us ++ signs.Else ∷ vs))
+      → Part (In_else at before first) b (signs.If at ∷ (us ++ signs.Else ∷ vs))
   part_while : (at : At) (before : Body) {b : Body} {us : List Sign} → Spells b us → Part (In_while at before) b (signs.While at ∷ us)
   part_repeat : (at : At) (n : ℕ) (before : Body) {b : Body} {us : List Sign} → Spells b us
-    → Part (In_repeat at n before) b (signs.Repeat at n ∷ us)
+      → Part (In_repeat at n before) b (signs.Repeat at n ∷ us)
 
 -- the statements before an open one
 abbrev pub before_of : Open → Body
@@ -112,19 +110,20 @@ closing : (k : Bool) (r : Role) (ps : List Procedure) (h : Header) (b : Body) (f
 closing k roles.Proc ps h b f us is may d s = item h {ps = ps} {b = b} {ts = f} {us = us} (ap (is_item k) is) d s
 closing k roles.Export ps h b f us is may d s =
     item h {ps = ps} {b = b} {ts = f} {us = us} (ap (is_item k) is ∙ export_kernel k may) d s
-closing k roles.Main ps h b f us is may d s =
-    (main_program k may,
-    record {
-      front = f;
-      header = h;
-      body = b;
-      inner = us;
-      role = is;
-      is = refl;
-      items = subst (λ x. SpellsProcs x ps f) (main_program k may) d;
-      spelled = s;
-      whole = refl
-    })
+closing k roles.Main ps h b f us is may d s = (
+  main_program k may,
+  record {
+    front = f;
+    header = h;
+    body = b;
+    inner = us;
+    role = is;
+    is = refl;
+    items = subst (λ x. SpellsProcs x ps f) (main_program k may) d;
+    spelled = s;
+    whole = refl;
+  },
+)
 
 longer : (ts f us : List Sign) (h : Header) (t : Sign) → ts ≡ f ++ signs.Header h ∷ us
     → ts ++ t ∷ [] ≡ f ++ signs.Header h ∷ (us ++ t ∷ [])
@@ -139,16 +138,26 @@ begun_by k ps h ts false e d = tt
 pub kept : (k : Bool) (s : State) (t : Sign) (ts : List Sign) → Standing k s ts → StandingIf k (turn k s t) (ts ++ t ∷ [])
 kept k (Top ps) (signs.Const c) ts d = constant c d
 kept k (Top ps) (signs.Header h) ts d = begun_by k ps h ts (may_begin k h.role) refl d
-kept k (Inside ps h os b) (signs.Leaf at l) ts (f, us, e, may, d, x) =
-    (f, us ++ signs.Leaf at l ∷ [], longer ts f us h (signs.Leaf at l) e, may, d,
-    extend os b us x (Leaf_then at l Empty) (signs.Leaf at l ∷ []) (leaf at l nothing))
+kept k (Inside ps h os b) (signs.Leaf at l) ts (f, us, e, may, d, x) = (
+  f,
+  us ++ signs.Leaf at l ∷ [],
+  longer ts f us h (signs.Leaf at l) e,
+  may,
+  d,
+  extend os b us x (Leaf_then at l Empty) (signs.Leaf at l ∷ []) (leaf at l nothing),
+)
 kept k (Inside ps h os b) (signs.If at) ts (f, us, e, may, d, x) =
     (f, us ++ signs.If at ∷ [], longer ts f us h (signs.If at) e, may, d, (us, signs.If at ∷ [], refl, x, part_if at b nothing))
 kept k (Inside ps h os b) (signs.While at) ts (f, us, e, may, d, x) =
     (f, us ++ signs.While at ∷ [], longer ts f us h (signs.While at) e, may, d, (us, signs.While at ∷ [], refl, x, part_while at b nothing))
-kept k (Inside ps h os b) (signs.Repeat at n) ts (f, us, e, may, d, x) =
-    (f, us ++ signs.Repeat at n ∷ [], longer ts f us h (signs.Repeat at n) e, may, d,
-    (us, signs.Repeat at n ∷ [], refl, x, part_repeat at n b nothing))
+kept k (Inside ps h os b) (signs.Repeat at n) ts (f, us, e, may, d, x) = (
+  f,
+  us ++ signs.Repeat at n ∷ [],
+  longer ts f us h (signs.Repeat at n) e,
+  may,
+  d,
+  (us, signs.Repeat at n ∷ [], refl, x, part_repeat at n b nothing),
+)
 kept k (Inside ps h (In_if at before ∷ os) b) signs.Else ts (f, us, e, may, d, x) =
     (f, us ++ signs.Else ∷ [], longer ts f us h signs.Else e, may, d, else_holds at before os b us x)
 kept k (Inside ps h [] b) signs.End ts (f, us, e, may, d, x) =
@@ -165,19 +174,22 @@ Finishes k ts = (procs : List Procedure) × (main : Option Procedure) × (more :
 finish_top : (k : Bool) (ps : List Procedure) (ts : List Sign) → SpellsProcs k ps ts → Finishes k ts
 finish_top true ps ts d = (ps, None, [], subst (λ x. SpellsProcs true ps x) (sym (append-nil ts)) d)
 finish_top false ps ts d =
-    let h : Header = record { role = roles.Main; name = codes "begin"; locals = 0; at = record { line = 1; column = 1 } } in
-    (ps, Some (procedure h Empty), signs.Header h ∷ (signs.End ∷ []),
-    record {
-      front = ts;
-      header = h;
-      body = Empty;
-      inner = [];
-      role = refl;
-      is = refl;
-      items = d;
-      spelled = nothing;
-      whole = refl
-    })
+    let h : Header = record { role = roles.Main; name = codes "begin"; locals = 0; at = record { line = 1; column = 1 } } in (
+      ps,
+      Some (procedure h Empty),
+      signs.Header h ∷ (signs.End ∷ []),
+      record {
+        front = ts;
+        header = h;
+        body = Empty;
+        inner = [];
+        role = refl;
+        is = refl;
+        items = d;
+        spelled = nothing;
+        whole = refl;
+      },
+    )
 
 finish_behind : (k : Bool) (ps : List Procedure) (main : Procedure) (ts : List Sign) → k ≡ false → SpellsMain ps main ts → Finishes k ts
 finish_behind k ps main ts is m =
@@ -216,5 +228,5 @@ fits k t ts (procs, main, more, whole) =
     record {
       source = record { consts = constants (ts ++ t ∷ more); procs = procs; main = main };
       more = more;
-      spelled = record { consts = refl; whole = subst (λ x. IsWhole k procs main x) (append_assoc ts (t ∷ []) more) whole }
+      spelled = record { consts = refl; whole = subst (λ x. IsWhole k procs main x) (append_assoc ts (t ∷ []) more) whole };
     }

@@ -16,13 +16,13 @@ pub data Spells : Body → List Sign → Type 0 where
   nothing : Spells Empty []
   leaf : (at : At) (l : Leaf) {b : Body} {ts : List Sign} → Spells b ts → Spells (Leaf_then at l b) (signs.Leaf at l ∷ ts)
   if_only : (at : At) {a b : Body} {us ts : List Sign} → Spells a us → Spells b ts
-    → Spells (If_then at a Empty b) (signs.If at ∷ (us ++ signs.End ∷ ts))
+      → Spells (If_then at a Empty b) (signs.If at ∷ (us ++ signs.End ∷ ts))
   if_else : (at : At) {a e b : Body} {us vs ts : List Sign} → Spells a us → Spells e vs → Spells b ts
-    → Spells (If_then at a e b) (signs.If at ∷ (us ++ signs.Else ∷ (vs ++ signs.End ∷ ts)))
+      → Spells (If_then at a e b) (signs.If at ∷ (us ++ signs.Else ∷ (vs ++ signs.End ∷ ts)))
   while : (at : At) {a b : Body} {us ts : List Sign} → Spells a us → Spells b ts
-    → Spells (While_then at a b) (signs.While at ∷ (us ++ signs.End ∷ ts))
+      → Spells (While_then at a b) (signs.While at ∷ (us ++ signs.End ∷ ts))
   repeated : (at : At) (times : ℕ) {a b : Body} {us ts : List Sign} → Spells a us → Spells b ts
-    → Spells (Repeat_then at times a b) (signs.Repeat at times ∷ (us ++ signs.End ∷ ts))
+      → Spells (Repeat_then at times a b) (signs.Repeat at times ∷ (us ++ signs.End ∷ ts))
 
 -- whether a header is one of a procedure, which only in a kernel may be exported
 abbrev pub is_item : Bool → Role → Bool
@@ -34,10 +34,10 @@ is_item kernel roles.Main = false
 pub data SpellsProcs (kernel : Bool) : List Procedure → List Sign → Type 0 where
   none : SpellsProcs kernel [] []
   constant : (c : Const) {ps : List Procedure} {ts : List Sign} → SpellsProcs kernel ps ts
-    → SpellsProcs kernel ps (ts ++ signs.Const c ∷ [])
+      → SpellsProcs kernel ps (ts ++ signs.Const c ∷ [])
   item : (h : Header) {ps : List Procedure} {b : Body} {ts us : List Sign} → is_item kernel h.role ≡ true
-    → SpellsProcs kernel ps ts → Spells b us
-    → SpellsProcs kernel (ps ++ procedure h b ∷ []) (ts ++ signs.Header h ∷ (us ++ signs.End ∷ []))
+      → SpellsProcs kernel ps ts → Spells b us
+      → SpellsProcs kernel (ps ++ procedure h b ∷ []) (ts ++ signs.Header h ∷ (us ++ signs.End ∷ []))
 
 -- begin, a body and end, behind constants and procedures
 pub record SpellsMain (procs : List Procedure) (main : Procedure) (ts : List Sign) : Type 0 where

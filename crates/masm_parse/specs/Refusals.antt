@@ -1,5 +1,5 @@
 -- What is refused, and the least refusal of a source.
-use Rattle.std.specs.Prelude.{◌≡◌, ℕ, ◌+◌, ◌≤◌, Bool, true, List, [], ◌∷◌, ◌++◌, length, drop, map, Option, Some, None, Result, Ok, Err, ◌⊎◌}
+use Rattle.std.specs.Prelude.{◌≡◌, ℕ, ◌+◌, ◌≤◌, Bool, true, List, [], ◌∷◌, ◌++◌, length, drop, map, Option, Some, Result, Ok, Err, ◌⊎◌}
 use Rattle.masm_lex.specs.declared.place.Place.{Place}
 use Rattle.masm_lex.specs.declared.list.Token.{Token}
 use Rattle.masm_lex.specs.Tokens.{place_after, text_of}

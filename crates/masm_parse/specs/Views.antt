@@ -1,15 +1,14 @@
 -- The trees and states of the parser as the definitions see them.
-use Rattle.std.specs.Prelude.{◌≡◌, ℕ, List, [], ◌∷◌, map, reverse, Option, Some, None, Result, Ok, Err}
+use Rattle.std.specs.Prelude.{◌≡◌, List, [], ◌∷◌, map, reverse, Result, Ok, Err}
 use Rattle.std.specs.Option.{option_map}
 use Rattle.masm_parse.specs.declared.refusal.Cause.{Cause}
 use Rattle.masm_parse.specs.declared.refusal.Stop.{Stop}
 use Rattle.masm_parse.specs.declared.refusal.Stop.TheVariants as stops
 use Rattle.masm_parse.specs.declared.refusal.ParseError.{ParseError}
-use Rattle.masm_parse.specs.declared.refusal.ParseError.TheVariants.{Bad, Memory}
+use Rattle.masm_parse.specs.declared.refusal.ParseError.TheVariants.{Memory}
 use Rattle.masm_parse.specs.declared.sign.Leaf.TheVariants as leaves
 use Rattle.masm_parse.specs.declared.tree.Stmt.{Stmt}
 use Rattle.masm_parse.specs.declared.tree.Stmt.TheOpen.{Stmt-F}
-use Rattle.masm_parse.specs.declared.tree.Stmt.TheOpen as open_stmt
 use Rattle.masm_parse.specs.declared.tree.Stmt.TheFolds.{fold-Stmt}
 use Rattle.masm_parse.specs.declared.tree.Proc.{Proc}
 use Rattle.masm_parse.specs.declared.tree.Ast.{Ast}

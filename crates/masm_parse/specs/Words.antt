@@ -19,7 +19,6 @@ use Rattle.masm_parse.specs.declared.parts.Case.TheVariants.{Upper, Lower}
 use Rattle.masm_parse.specs.declared.tree.At.{At}
 use Rattle.masm_parse.specs.declared.sign.Role.{Role}
 use Rattle.masm_parse.specs.declared.sign.Role.TheVariants as roles
-use Rattle.masm_parse.specs.declared.sign.Header.{Header}
 use Rattle.masm_parse.specs.declared.sign.Leaf.{Leaf}
 use Rattle.masm_parse.specs.declared.sign.Leaf.TheVariants as leaves
 use Rattle.masm_parse.specs.declared.sign.Sign.{Sign}

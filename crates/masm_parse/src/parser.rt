@@ -73,27 +73,33 @@ impl Parser {
         match sign {
             Sign::Const(constant) => {
                 consts.push(constant)?;
-                Ok(state.turn_constant().map(|state| Parser {
-                    consts,
-                    locals,
-                    state,
-                }))
-            }
-            Sign::Header(header) => {
-                let locals = header.locals;
-                Ok(state
-                    .turn_header(alloc, kernel, header)
-                    .map(|state| Parser {
+                Ok(
+                    state.turn_constant().map(|state| Parser {
                         consts,
                         locals,
                         state,
-                    }))
+                    }),
+                )
             }
-            sign => Ok(state.turn_statement(alloc, sign)?.map(|state| Parser {
-                consts,
-                locals,
-                state,
-            })),
+            Sign::Header(header) => {
+                let locals = header.locals;
+                Ok(
+                    state
+                        .turn_header(alloc, kernel, header)
+                        .map(|state| Parser {
+                            consts,
+                            locals,
+                            state,
+                        }),
+                )
+            }
+            sign => Ok(
+                state.turn_statement(alloc, sign)?.map(|state| Parser {
+                    consts,
+                    locals,
+                    state,
+                }),
+            ),
         }
     }
 

@@ -12,12 +12,7 @@ use std::alloc::Global;
 /// The syntax tree of a source, a kernel's or a program's, with the tokens that the lexer gave for
 /// it; or its first refusal.
 #[tactic(auto, unfolding(crate::specs::Machine::parsed))]
-pub fn parse(
-    alloc: Global,
-    source: &[u8],
-    tokens: &Tokens,
-    kernel: bool,
-) -> Result<Ast, ParseError>
+pub fn parse(alloc: Global, source: &[u8], tokens: &Tokens, kernel: bool) -> Result<Ast, ParseError>
     requires size { length source.now ≤ MAX_SOURCE }
     requires tokens { lexed source.now ≡ Ok tokens.now }
     ensures { Gives result (parsed kernel source.now tokens.now) }

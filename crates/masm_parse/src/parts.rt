@@ -5,7 +5,11 @@ ghost use Rattle.masm_parse.specs.Words.{is_letter, is_name_byte, is_name};
 use std::alloc::{AllocError, Global};
 
 // The parts of a text, which this byte parts.
-pub(crate) fn split<'a>(alloc: Global, text: &'a [u8], mark: u8) -> Result<Vec<&'a [u8]>, AllocError>
+pub(crate) fn split<'a>(
+    alloc: Global,
+    text: &'a [u8],
+    mark: u8,
+) -> Result<Vec<&'a [u8]>, AllocError>
     ensures { IfOk result (λ parts. map (λ part. part.now) parts.items ≡ slice_split (λ b. b == mark) text.entry.now) }
 {
     text.split(|byte| *byte == mark).collect(alloc)

@@ -108,7 +108,11 @@ fn read_begin(alloc: Global, at: At, parts: &[&[u8]]) -> Result<Sign, Stop>
 fn read_alone(sign: Sign, parts: &[&[u8]]) -> Result<Sign, Stop>
     ensures { Reads result (alone sign (map (λ part. part.now) parts.now)) }
 {
-    if parts.is_empty() { Ok(sign) } else { Err(SYNTAX) }
+    if parts.is_empty() {
+        Ok(sign)
+    } else {
+        Err(SYNTAX)
+    }
 }
 
 // A token with the second part `true`.

@@ -17,11 +17,13 @@ fn answer(alloc: Global, source: &[u8], kernel: bool) -> Result<String, AllocErr
     };
     match parse(alloc, source, &tokens, kernel) {
         Ok(_) => format!(in alloc; "ok"),
-        Err(ParseError::Bad {
-            line,
-            column,
-            cause,
-        }) => format!(in alloc; "{line} {column} {cause}"),
+        Err(
+            ParseError::Bad {
+                line,
+                column,
+                cause,
+            },
+        ) => format!(in alloc; "{line} {column} {cause}"),
         Err(ParseError::Memory) => Err(AllocError),
     }
 }
