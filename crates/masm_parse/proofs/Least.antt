@@ -1,0 +1,326 @@
+-- The machine's answer is the tree where no token is refused, and else the least refusal.
+use Rattle.std.proofs.Common.{◌≡◌, ℕ, zero, suc, Bool, true, false, ◌+◌, ◌<◌, ◌≤◌, List, [], ◌∷◌, ◌++◌, length, drop, Option, Some, None, Result, Ok, Err, inl, inr, refl, ap, sym, subst, ◌∙◌, append_assoc, append-nil, arith, length-append}
+use Rattle.std.proofs.lemmas.Bool.Decides.{leb_tells}
+use Rattle.std.proofs.lemmas.List.{map-append}
+use Rattle.std.specs.Option.{option_map}
+use Rattle.masm_instr.specs.declared.constant.Const.{Const}
+use Rattle.masm_lex.specs.declared.place.Place.{Place}
+use Rattle.masm_lex.specs.declared.list.Token.{Token}
+use Rattle.masm_lex.specs.Tokens.{place_after, text_of}
+use Rattle.masm_parse.specs.declared.refusal.Cause.{Cause}
+use Rattle.masm_parse.specs.declared.refusal.Cause.TheVariants as causes
+use Rattle.masm_parse.specs.declared.refusal.ParseError.{ParseError}
+use Rattle.masm_parse.specs.declared.refusal.ParseError.TheVariants.{Bad, Memory}
+use Rattle.masm_parse.specs.declared.sign.Sign.{Sign}
+use Rattle.masm_parse.specs.declared.sign.Sign.TheVariants as signs
+use Rattle.masm_parse.specs.declared.sign.Word.{Word}
+use Rattle.masm_parse.specs.Causes.{order}
+use Rattle.masm_parse.specs.Words.{Context, known_after, word_of}
+use Rattle.masm_parse.specs.Trees.{Procedure, Source}
+use Rattle.masm_parse.specs.Machine.{State, Top, Inside, Behind, Reader, turn, is_too_deep, advance, moved, step, at_of, ended, parse_from, start, parsed}
+use Rattle.masm_parse.specs.Grammar.{none, IsWhole, IsSource, constants}
+use Rattle.masm_parse.specs.Refusals.{words_of, signs_of, source_words, Fits, IsTooDeep, Stands, RefusesAt, Reads, at_first, Answers, LeastRefusal, ReadsOnce}
+use Rattle.masm_parse.proofs.Complete.{run, run-append, last_state, whole_runs, dies}
+use Rattle.masm_parse.proofs.Standing.{Standing, StandingIf, kept, Finishes, finish, finished_source, fits}
+use Rattle.masm_parse.proofs.Depth.{Counts, CountsIf, counts_kept, deep_stands, deep_found}
+use Rattle.masm_parse.proofs.Settling.{Settles, settle_least, none_some}
+
+some_same : {X : Type 0} (a b : X) → Some a ≡ Some b → a ≡ b
+some_same a b e = cc
+
+mapped_some : {X Y : Type 0} (f : X → Y) (o : Option X) (y : Y) → option_map f o ≡ Some y → (x : X) × (o ≡ Some x) × (f x ≡ y)
+mapped_some f None y e = absurd (none_some y e)
+mapped_some f (Some x) y e = (x, refl, some_same (f x) y e)
+
+mapped_none : {X Y : Type 0} (f : X → Y) (o : Option X) → option_map f o ≡ None → o ≡ None
+mapped_none f None e = refl
+mapped_none f (Some x) e = absurd (none_some (f x) (sym e))
+
+-- two splits of a list at one place are one
+same_split : (xs ys : List Word) (x y : Word) (more others : List Word) → xs ++ x ∷ more ≡ ys ++ y ∷ others → length xs ≡ length ys
+    → (xs ≡ ys) × (x ≡ y)
+same_split [] [] x y more others e n = let same : x ≡ y = cc in (refl, same)
+same_split [] (b ∷ ys) x y more others e n = let wrong : ⊥ = omega (arith, n) in absurd wrong
+same_split (a ∷ xs) [] x y more others e n = let wrong : ⊥ = omega (arith, n) in absurd wrong
+same_split (a ∷ xs) (b ∷ ys) x y more others e n =
+    let first : a ≡ b = cc in
+    let later : xs ++ x ∷ more ≡ ys ++ y ∷ others = cc in
+    let count : length xs ≡ length ys = omega (arith, n) in
+    let rest : (xs ≡ ys) × (x ≡ y) = same_split xs ys x y more others later count in
+    (ap (λ c. c ∷ xs) first ∙ ap (λ zs. b ∷ zs) rest.0, rest.1)
+
+drop_next : (n : ℕ) (xs : List Token) (y : Token) (ys : List Token) → drop n xs ≡ y ∷ ys → drop (suc n) xs ≡ ys
+drop_next zero [] y ys e = cc
+drop_next zero (x ∷ xs) y ys e = cc
+drop_next (suc n) [] y ys e = cc
+drop_next (suc n) (x ∷ xs) y ys e = drop_next n xs y ys e
+
+constants_append : (ts : List Sign) (t : Sign) → constants (ts ++ t ∷ []) ≡ constants ts ++ constants (t ∷ [])
+constants_append [] t = refl
+constants_append (signs.Const c ∷ ts) t = ap (λ cs. c ∷ cs) (constants_append ts t)
+constants_append (x ∷ ts) t = constants_append ts t
+
+known_consts : (context : Context) (t : Sign) → context.consts ++ constants (t ∷ []) ≡ (known_after context t).consts
+known_consts context (signs.Const c) = refl
+known_consts context t = append-nil context.consts
+
+signs_snoc : (before : List Word) (w : Word) → signs_of (before ++ w ∷ []) ≡ signs_of before ++ w.sign ∷ []
+signs_snoc before w = map-append (λ word. word.sign) before (w ∷ [])
+
+length_snoc : (before : List Word) (w : Word) → length (before ++ w ∷ []) ≡ suc (length before)
+length_snoc before w = length-append before (w ∷ []) ∙ omega arith
+
+-- a refused token is one of the tokens
+past : (k : Bool) (ws : List Word) (i : ℕ) (c : Cause) → RefusesAt k ws i c → i < length ws
+past k ws i c x =
+    let count : length ws ≡ length x.before + length (x.word ∷ x.more) = ap length x.split ∙ length-append x.before (x.word ∷ x.more) in
+    omega (arith, count, x.place)
+
+-- a refusal at the place of a token is one of that token
+stands_here : (k : Bool) (ws before more : List Word) (w : Word) (i : ℕ) (c : Cause) → ws ≡ before ++ w ∷ more → i ≡ length before
+    → RefusesAt k ws i c → Stands k (signs_of before) w c
+stands_here k ws before more w i c split place x =
+    let same : (x.before ≡ before) × (x.word ≡ w) =
+    same_split x.before before x.word w x.more more (sym x.split ∙ split) (x.place ∙ place) in
+    subst (λ z. Stands k (signs_of before) z c) same.1 (subst (λ z. Stands k (signs_of z) x.word c) same.0 x.stands)
+
+-- the last state of a source is the one that its tokens lead to
+is_last : (k : Bool) (s : State) (procs : List Procedure) (main : Option Procedure) (ts : List Sign) → run k (Some (Top [])) ts ≡ Some s
+    → IsWhole k procs main ts → s ≡ last_state procs main
+is_last k s procs main ts so whole = some_same s (last_state procs main) (sym so ∙ whole_runs k procs main ts whole)
+
+early_kernel : (s : State) (procs : List Procedure) (main : Option Procedure) (ts : List Sign) → ((ps : List Procedure) → s ≡ Top ps → ⊥)
+    → run true (Some (Top [])) ts ≡ Some s → IsWhole true procs main ts → ⊥
+early_kernel s procs None ts never so whole = never procs (is_last true s procs None ts so whole)
+early_kernel s procs (Some main) ts never so whole = whole
+
+early_program : (s : State) (procs : List Procedure) (main : Option Procedure) (ts : List Sign)
+    → ((ps : List Procedure) (m : Procedure) → s ≡ Behind ps m → ⊥)
+    → run false (Some (Top [])) ts ≡ Some s → IsWhole false procs main ts → ⊥
+early_program s procs None ts never so whole = whole
+early_program s procs (Some main) ts never so whole = never procs main (is_last false s procs (Some main) ts so whole)
+
+-- the source ends early
+early : (k : Bool) (end : Place) (all : List Token) (before : List Word) (s : State)
+    → ((procs : List Procedure) (main : Option Procedure) → IsWhole k procs main (signs_of before) → ⊥)
+    → Standing k s (signs_of before) → ((i : ℕ) (c : Cause) → RefusesAt k before i c → length before ≤ i) → drop (length before) all ≡ []
+    → Answers k end all before (Err (Bad end.line end.column causes.Syntax))
+early k end all before s never standing clear over =
+    let finishes : Finishes k (signs_of before) = finish k s (signs_of before) standing in (
+      length before,
+      record {
+        there = inr (
+          refl,
+          refl,
+          record {
+            more = finishes.2;
+            source = record { consts = constants (signs_of before ++ finishes.2); procs = finishes.0; main = finishes.1 };
+            goes_on = finished_source k (signs_of before) finishes;
+            is_none = λ other x. never other.procs other.main x.whole;
+          },
+        );
+        first_place = clear;
+        first_cause = λ c x. let no_token : ⊥ = omega (arith, past k before (length before) c x) in absurd no_token;
+      },
+      ap (λ ts. at_first ts end) over,
+    )
+
+at_end : (k : Bool) (end : Place) (all : List Token) (before : List Word) (s : State) (cs : List Const)
+    → run k (Some (Top [])) (signs_of before) ≡ Some s → Standing k s (signs_of before) → constants (signs_of before) ≡ cs
+    → ((i : ℕ) (c : Cause) → RefusesAt k before i c → length before ≤ i) → drop (length before) all ≡ []
+    → Answers k end all before (ended k end cs s)
+at_end true end all before (Top ps) cs so standing consts clear over =
+    record {
+      spelled = record { consts = sym consts; whole = standing };
+      is_clear = λ i c x. omega (arith, past true before i c x, clear i c x);
+    }
+at_end false end all before (Behind ps main) cs so standing consts clear over =
+    record {
+      spelled = record { consts = sym consts; whole = standing.1 };
+      is_clear = λ i c x. omega (arith, past false before i c x, clear i c x);
+    }
+at_end true end all before (Inside ps h os b) cs so standing consts clear over =
+    early true end all before (Inside ps h os b)
+    (λ procs main. early_kernel (Inside ps h os b) procs main (signs_of before) (λ qs e. cc) so) standing clear over
+at_end true end all before (Behind ps m) cs so standing consts clear over =
+    early true end all before (Behind ps m)
+    (λ procs main. early_kernel (Behind ps m) procs main (signs_of before) (λ qs e. cc) so) standing clear over
+at_end false end all before (Top ps) cs so standing consts clear over =
+    early false end all before (Top ps)
+    (λ procs main. early_program (Top ps) procs main (signs_of before) (λ qs m e. cc) so) standing clear over
+at_end false end all before (Inside ps h os b) cs so standing consts clear over =
+    early false end all before (Inside ps h os b)
+    (λ procs main. early_program (Inside ps h os b) procs main (signs_of before) (λ qs m e. cc) so) standing clear over
+
+-- what settles a token, in the machine's words
+settles : (k : Bool) (r : Reader) (before : List Sign) (w : Word) → run k (Some (Top [])) before ≡ Some r.state → Standing k r.state before
+    → Counts r.state before
+    → Settles w.fault (Fits k before w.sign → ⊥) (IsTooDeep before w.sign) (advance k r w.sign) (moved k r w)
+unfolding moved
+settles k r before w so standing counts =
+    settle_least w.fault (is_too_deep r.state w.sign) (advance k r w.sign) (Fits k before w.sign → ⊥) (IsTooDeep before w.sign)
+    (λ e f. dies k before f.more r.state w.sign f.source.procs f.source.main so (mapped_none _ (turn k r.state w.sign) e) f.spelled.whole)
+    (λ now e no. let some : (s : State) × (turn k r.state w.sign ≡ Some s) × (record { context = known_after r.context w.sign; state = s } ≡ now) = mapped_some _ (turn k r.state w.sign) now e in
+    no (fits k w.sign before (finish k some.0 (before ++ w.sign ∷ [])
+    (subst (λ o. StandingIf k o (before ++ w.sign ∷ [])) some.1 (kept k r.state w.sign before standing)))))
+    (deep_stands r.state w.sign before counts)
+    (deep_found r.state w.sign before counts)
+
+-- no refusal stands before the next token
+still_clear : (k : Bool) (ws before more : List Word) (w : Word) → ws ≡ before ++ w ∷ more
+    → ((c : Cause) → Stands k (signs_of before) w c → ⊥)
+    → ((i : ℕ) (c : Cause) → RefusesAt k ws i c → length before ≤ i)
+    → (i : ℕ) (c : Cause) → RefusesAt k ws i c → length (before ++ w ∷ []) ≤ i
+still_clear k ws before more w split none_here clear i c x =
+    elim (leb_tells (length before + 1) i) [
+      | inl later ↦ omega (arith, length_snoc before w, later.1)
+      | inr here ↦
+          let place : i ≡ length before = omega (arith, here.1, clear i c x) in
+          absurd (none_here c (stands_here k ws before more w i c split place x))
+    ]
+
+-- what stands behind the tokens so far
+pub record Going (k : Bool) (source : List ℕ) (all : List Token) (ws : List Word) (ts : List Token) (before : List Word) (r : Reader) : Type 0 where
+  pub split : ws ≡ before ++ words_of k source r.context ts
+  pub so : run k (Some (Top [])) (signs_of before) ≡ Some r.state
+  pub standing : Standing k r.state (signs_of before)
+  pub counts : Counts r.state (signs_of before)
+  pub consts : constants (signs_of before) ≡ r.context.consts
+  pub clear : (i : ℕ) (c : Cause) → RefusesAt k ws i c → length before ≤ i
+  pub left : drop (length before) all ≡ ts
+
+further : (k : Bool) (source : List ℕ) (all : List Token) (ws : List Word) (t : Token) (ts : List Token) (before : List Word) (r : Reader) (w : Word) (s : State)
+    → w ≡ word_of k r.context (at_of t) (text_of source t)
+    → Going k source all ws (t ∷ ts) before r → turn k r.state w.sign ≡ Some s → ((c : Cause) → Stands k (signs_of before) w c → ⊥)
+    → Going k source all ws ts (before ++ w ∷ []) (record { context = known_after r.context w.sign; state = s })
+further k source all ws t ts before r w s is g e none_here =
+    let split : ws ≡ before ++ w ∷ words_of k source (known_after r.context w.sign) ts =
+    g.split ∙ ap (λ x. before ++ x ∷ words_of k source (known_after r.context x.sign) ts) (sym is) in
+    record {
+      split = split ∙ sym (append_assoc before (w ∷ []) (words_of k source (known_after r.context w.sign) ts));
+      so =
+          ap (λ x. run k (Some (Top [])) x) (signs_snoc before w)
+          ∙ run-append k (Some (Top [])) (signs_of before) (w.sign ∷ [])
+          ∙ ap (λ o. run k o (w.sign ∷ [])) g.so ∙ e;
+      standing =
+          subst (λ x. Standing k s x) (sym (signs_snoc before w))
+          (subst (λ o. StandingIf k o (signs_of before ++ w.sign ∷ [])) e (kept k r.state w.sign (signs_of before) g.standing));
+      counts =
+          subst (λ x. Counts s x) (sym (signs_snoc before w))
+          (subst (λ o. CountsIf o (signs_of before ++ w.sign ∷ [])) e (counts_kept k r.state w.sign (signs_of before) g.counts));
+      consts =
+          ap constants (signs_snoc before w) ∙ constants_append (signs_of before) w.sign
+          ∙ ap (λ cs. cs ++ constants (w.sign ∷ [])) g.consts ∙ known_consts r.context w.sign;
+      clear = still_clear k ws before (words_of k source (known_after r.context w.sign) ts) w split none_here g.clear;
+      left = ap (λ n. drop n all) (length_snoc before w) ∙ drop_next (length before) all t ts g.left;
+    }
+
+abbrev pub Leads : Bool → List ℕ → List Token → List Word → Token → List Token → Result Reader Cause → Type 0
+Leads k source all ws t ts (Ok now) = Answers k (place_after source) all ws (parse_from k source now ts)
+Leads k source all ws t ts (Err cause) = Answers k (place_after source) all ws (Err (Bad t.line t.column cause))
+
+led : (k : Bool) (source : List ℕ) (all : List Token) (ws : List Word) (t : Token) (ts : List Token) (res : Result Reader Cause)
+    → Leads k source all ws t ts res
+    → Answers k (place_after source) all ws (elim res [ Ok now ↦ parse_from k source now ts | Err cause ↦ Err (Bad t.line t.column cause) ])
+led k source all ws t ts (Ok now) x = x
+led k source all ws t ts (Err cause) x = x
+
+-- a token that is refused
+refused : (k : Bool) (source : List ℕ) (all : List Token) (ws : List Word) (t : Token) (ts : List Token) (before : List Word) (r : Reader) (w : Word) (cause : Cause)
+    → w ≡ word_of k r.context (at_of t) (text_of source t)
+    → Going k source all ws (t ∷ ts) before r → Stands k (signs_of before) w cause
+    → ((c : Cause) → Stands k (signs_of before) w c → order cause ≤ order c)
+    → Answers k (place_after source) all ws (Err (Bad t.line t.column cause))
+refused k source all ws t ts before r w cause is g stands least =
+    let split : ws ≡ before ++ w ∷ words_of k source (known_after r.context w.sign) ts =
+    g.split ∙ ap (λ x. before ++ x ∷ words_of k source (known_after r.context x.sign) ts) (sym is) in (
+      length before,
+      record {
+        there = inl (record {
+          before = before;
+          word = w;
+          more = words_of k source (known_after r.context w.sign) ts;
+          split = split;
+          place = refl;
+          stands = stands;
+        });
+        first_place = g.clear;
+        first_cause = λ c x. least c (stands_here k ws before (words_of k source (known_after r.context w.sign) ts) w (length before) c split refl x);
+      },
+      ap (λ x. at_first x (place_after source)) g.left,
+    )
+
+-- the token decides: it is refused, or the machine goes on
+chosen : (k : Bool) (source : List ℕ) (all : List Token) (ws : List Word) (t : Token) (ts : List Token) (before : List Word) (r : Reader) (w : Word)
+    → w ≡ word_of k r.context (at_of t) (text_of source t)
+    → Going k source all ws (t ∷ ts) before r
+    → ((later : List Word) (now : Reader) → Going k source all ws ts later now → Answers k (place_after source) all ws (parse_from k source now ts))
+    → (res : Result Reader Cause)
+    → Settles w.fault (Fits k (signs_of before) w.sign → ⊥) (IsTooDeep (signs_of before) w.sign) (advance k r w.sign) res
+    → Leads k source all ws t ts res
+chosen k source all ws t ts before r w is g more (Ok now) (e, none_here) =
+    let some : (s : State) × (turn k r.state w.sign ≡ Some s) × (record { context = known_after r.context w.sign; state = s } ≡ now) = mapped_some _ (turn k r.state w.sign) now e in
+    subst (λ x. Answers k (place_after source) all ws (parse_from k source x ts)) some.2
+    (more (before ++ w ∷ []) (record { context = known_after r.context w.sign; state = some.0 })
+    (further k source all ws t ts before r w some.0 is g some.1 none_here))
+chosen k source all ws t ts before r w is g more (Err cause) (stands, least) =
+    refused k source all ws t ts before r w cause is g stands least
+
+goes : (k : Bool) (source : List ℕ) (all : List Token) (ws : List Word) (ts : List Token) (before : List Word) (r : Reader)
+    → Going k source all ws ts before r → Answers k (place_after source) all ws (parse_from k source r ts)
+unfolding step
+goes k source all ws [] before r g =
+    let same : ws ≡ before = g.split ∙ append-nil before in
+    subst (λ x. Answers k (place_after source) all x (ended k (place_after source) r.context.consts r.state)) (sym same)
+    (at_end k (place_after source) all before r.state r.context.consts g.so g.standing g.consts
+    (subst (λ x. (i : ℕ) (c : Cause) → RefusesAt k x i c → length before ≤ i) same g.clear) g.left)
+goes k source all ws (t ∷ ts) before r g =
+    led k source all ws t ts (step k source r t)
+    (chosen k source all ws t ts before r (word_of k r.context (at_of t) (text_of source t)) refl g
+    (λ later now x. goes k source all ws ts later now x) (step k source r t)
+    (settles k r (signs_of before) (word_of k r.context (at_of t) (text_of source t)) g.so g.standing g.counts))
+
+pub least_refusal : LeastRefusal
+unfolding parsed
+least_refusal k source tokens =
+    goes k source tokens (source_words k source tokens) tokens [] start
+    (record {
+      split = refl;
+      so = refl;
+      standing = none;
+      counts = refl;
+      consts = refl;
+      clear = λ i c x. omega arith;
+      left = refl;
+    })
+
+-- the parts of a last state
+parts_same : (ps qs : List Procedure) (m n : Option Procedure) → last_state ps m ≡ last_state qs n → (ps ≡ qs) × (m ≡ n)
+parts_same ps qs None None e = (cc, refl)
+parts_same ps qs None (Some n) e = let wrong : ⊥ = cc in absurd wrong
+parts_same ps qs (Some m) None e = let wrong : ⊥ = cc in absurd wrong
+parts_same ps qs (Some m) (Some n) e = (cc, cc)
+
+-- tokens spell one source
+same_source : (k : Bool) (ts : List Sign) (a b : Source) → IsSource k a ts → IsSource k b ts → a ≡ b
+same_source k ts a b x y =
+    let parts : (a.procs ≡ b.procs) × (a.main ≡ b.main) =
+    parts_same a.procs b.procs a.main b.main
+    (some_same (last_state a.procs a.main) (last_state b.procs b.main)
+    (sym (whole_runs k a.procs a.main ts x.whole) ∙ whole_runs k b.procs b.main ts y.whole)) in
+    let consts : a.consts ≡ b.consts = x.consts ∙ sym y.consts in
+    λ i. record { consts = consts i; procs = parts.0 i; main = parts.1 i }
+
+once : (k : Bool) (end : Place) (all : List Token) (ws : List Word) (tree : Source) (res : Result Source ParseError)
+    → Answers k end all ws res → Reads k ws tree → res ≡ Ok tree
+once k end all ws tree (Ok other) a x = ap Ok (same_source k (signs_of ws) other tree a.spelled x.spelled)
+once k end all ws tree (Err Memory) a x = absurd a
+once k end all ws tree (Err (Bad line column cause)) (i, least, place) x =
+    elim least.there [
+      | inl r ↦ absurd (x.is_clear i cause r)
+      | inr e ↦ absurd (e.2.is_none tree x.spelled)
+    ]
+
+pub reads_once : ReadsOnce
+reads_once k source tokens tree x =
+    once k (place_after source) tokens (source_words k source tokens) tree (parsed k source tokens) (least_refusal k source tokens) x

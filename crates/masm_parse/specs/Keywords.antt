@@ -1,0 +1,36 @@
+-- The first parts of tokens that the grammar knows.
+use Rattle.std.specs.Prelude.{ℕ, Bool, true, false, if◌then◌else◌, List, [], ◌∷◌, Option, Some, None, bytes_eq, codes}
+use Rattle.masm_parse.specs.declared.keyword.Keyword.{Keyword}
+use Rattle.masm_parse.specs.declared.keyword.Keyword.TheVariants as keywords
+use Rattle.masm_parse.specs.declared.keyword.TheConstants.{KEYWORDS}
+
+abbrev pub text_of_keyword : Keyword → List ℕ
+text_of_keyword keywords.Const = codes "const"
+text_of_keyword keywords.Proc = codes "proc"
+text_of_keyword keywords.Export = codes "export"
+text_of_keyword keywords.Begin = codes "begin"
+text_of_keyword keywords.If = codes "if"
+text_of_keyword keywords.Else = codes "else"
+text_of_keyword keywords.While = codes "while"
+text_of_keyword keywords.Repeat = codes "repeat"
+text_of_keyword keywords.Exec = codes "exec"
+text_of_keyword keywords.Call = codes "call"
+text_of_keyword keywords.Syscall = codes "syscall"
+text_of_keyword keywords.End = codes "end"
+
+-- the first of these keywords that has the text
+abbrev pub first_keyword : List Keyword → List ℕ → Option Keyword
+first_keyword [] text = None
+first_keyword (keyword ∷ more) text =
+    if bytes_eq (text_of_keyword keyword) text then Some keyword else first_keyword more text
+
+-- the keyword that has the text
+unfoldable pub keyword_of : List ℕ → Option Keyword
+keyword_of text = first_keyword KEYWORDS text
+
+-- whether no kernel may have it
+abbrev pub is_kept_from_kernels : Keyword → Bool
+is_kept_from_kernels keywords.Begin = true
+is_kept_from_kernels keywords.Call = true
+is_kept_from_kernels keywords.Syscall = true
+is_kept_from_kernels keyword = false

@@ -1,0 +1,164 @@
+-- The parser as a machine that reads one token at a time.
+use Rattle.std.specs.Prelude.{ℕ, Bool, true, false, ◌&&◌, nat_le, if◌then◌else◌, List, [], ◌∷◌, ◌++◌, length, Option, Some, None, Result, Ok, Err}
+use Rattle.std.specs.Option.{option_map}
+use Rattle.masm_instr.specs.declared.constant.Const.{Const}
+use Rattle.masm_lex.specs.declared.place.Place.{Place}
+use Rattle.masm_lex.specs.declared.list.Token.{Token}
+use Rattle.masm_lex.specs.Tokens.{place_after, text_of}
+use Rattle.masm_parse.specs.declared.refusal.Cause.{Cause}
+use Rattle.masm_parse.specs.declared.refusal.Cause.TheVariants as causes
+use Rattle.masm_parse.specs.declared.refusal.ParseError.{ParseError}
+use Rattle.masm_parse.specs.declared.refusal.ParseError.TheVariants.{Bad}
+use Rattle.masm_parse.specs.declared.tree.At.{At}
+use Rattle.masm_parse.specs.declared.sign.Role.{Role}
+use Rattle.masm_parse.specs.declared.sign.Role.TheVariants as roles
+use Rattle.masm_parse.specs.declared.sign.Header.{Header}
+use Rattle.masm_parse.specs.declared.sign.Sign.{Sign}
+use Rattle.masm_parse.specs.declared.sign.Sign.TheVariants as signs
+use Rattle.masm_parse.specs.declared.sign.Word.{Word}
+use Rattle.masm_parse.specs.Causes.{is_early}
+use Rattle.masm_parse.specs.Words.{Context, no_context, known_after, word_of}
+use Rattle.masm_parse.specs.Trees.{Body, Empty, Leaf_then, If_then, While_then, Repeat_then, Procedure, Source, append}
+
+-- a statement that is open: the statements before it, and for an else its first body
+pub data Open : Type 0 where
+  In_if : (at : At) (before : Body) → Open
+  In_else : (at : At) (before first : Body) → Open
+  In_while : (at : At) (before : Body) → Open
+  In_repeat : (at : At) (times : ℕ) (before : Body) → Open
+
+-- What the machine holds: the procedures so far; the header of an open one, what is open in it, the innermost first, and
+-- the statements of the innermost body; the body of begin where that has ended.
+pub data State : Type 0 where
+  Top : (procs : List Procedure) → State
+  Inside : (procs : List Procedure) (header : Header) (opens : List Open) (body : Body) → State
+  Behind : (procs : List Procedure) (main : Procedure) → State
+
+-- which headers may stand in a kernel, and which in a program
+abbrev pub may_begin : Bool → Role → Bool
+may_begin kernel roles.Proc = true
+may_begin true roles.Export = true
+may_begin false roles.Export = false
+may_begin true roles.Main = false
+may_begin false roles.Main = true
+
+abbrev pub is_export : Role → Bool
+is_export roles.Proc = false
+is_export roles.Export = true
+is_export roles.Main = false
+
+abbrev pub procedure : Header → Body → Procedure
+procedure header body =
+    record { name = header.name; locals = header.locals; exported = is_export header.role; body = body; line = header.at.line; column = header.at.column }
+
+-- the statements behind the end of what was open
+abbrev pub shut : Open → Body → Body
+shut (In_if at before) body = append before (If_then at body Empty Empty)
+shut (In_else at before first) body = append before (If_then at first body Empty)
+shut (In_while at before) body = append before (While_then at body Empty)
+shut (In_repeat at times before) body = append before (Repeat_then at times body Empty)
+
+-- the state behind the end of a procedure, or of begin
+abbrev pub closed : List Procedure → Role → Procedure → State
+closed procs roles.Proc done = Top (procs ++ done ∷ [])
+closed procs roles.Export done = Top (procs ++ done ∷ [])
+closed procs roles.Main done = Behind procs done
+
+-- a token inside a procedure
+abbrev pub turn_else : List Procedure → Header → List Open → Body → Option State
+turn_else procs header (In_if at before ∷ opens) body = Some (Inside procs header (In_else at before body ∷ opens) Empty)
+turn_else procs header opens body = None
+
+abbrev pub turn_end : List Procedure → Header → List Open → Body → Option State
+turn_end procs header [] body = Some (closed procs header.role (procedure header body))
+turn_end procs header (o ∷ opens) body = Some (Inside procs header opens (shut o body))
+
+abbrev pub turn_inside : List Procedure → Header → List Open → Body → Sign → Option State
+turn_inside procs header opens body (signs.Const c) = None
+turn_inside procs header opens body (signs.Header other) = None
+turn_inside procs header opens body (signs.Leaf at leaf) = Some (Inside procs header opens (append body (Leaf_then at leaf Empty)))
+turn_inside procs header opens body (signs.If at) = Some (Inside procs header (In_if at body ∷ opens) Empty)
+turn_inside procs header opens body signs.Else = turn_else procs header opens body
+turn_inside procs header opens body (signs.While at) = Some (Inside procs header (In_while at body ∷ opens) Empty)
+turn_inside procs header opens body (signs.Repeat at times) = Some (Inside procs header (In_repeat at times body ∷ opens) Empty)
+turn_inside procs header opens body signs.End = turn_end procs header opens body
+
+-- a token where no procedure is open
+abbrev pub turn_top : Bool → List Procedure → Sign → Option State
+turn_top kernel procs (signs.Const c) = Some (Top procs)
+turn_top kernel procs (signs.Header header) = if may_begin kernel header.role then Some (Inside procs header [] Empty) else None
+turn_top kernel procs sign = None
+
+-- the state behind a token, or none where the token does not fit
+abbrev pub turn : Bool → State → Sign → Option State
+turn kernel (Top procs) sign = turn_top kernel procs sign
+turn kernel (Inside procs header opens body) sign = turn_inside procs header opens body sign
+turn kernel (Behind procs main) sign = None
+
+-- a token that is neither a constant nor a header
+abbrev pub turn_statement : State → Sign → Option State
+turn_statement (Top procs) sign = None
+turn_statement (Inside procs header opens body) sign = turn_inside procs header opens body sign
+turn_statement (Behind procs main) sign = None
+
+abbrev pub is_opening : Sign → Bool
+is_opening (signs.If at) = true
+is_opening (signs.While at) = true
+is_opening (signs.Repeat at times) = true
+is_opening sign = false
+
+-- how many statements are open
+abbrev pub depth_of : State → ℕ
+depth_of (Top procs) = 0
+depth_of (Inside procs header opens body) = length opens
+depth_of (Behind procs main) = 0
+
+-- the machine's state with what is known of the next token
+pub record Reader : Type 0 where
+  pub context : Context
+  pub state : State
+
+abbrev pub start : Reader
+start = record { context = no_context; state = Top [] }
+
+abbrev pub advance : Bool → Reader → Sign → Option Reader
+advance kernel r sign = option_map (λ s. record { context = known_after r.context sign; state = s }) (turn kernel r.state sign)
+
+-- The first cause that stands: that of the token by itself, Syntax where it does not fit, TooDeep where it stands too
+-- deep.
+abbrev pub settled : Option Cause → Bool → Option Reader → Result Reader Cause
+settled None deep None = Err causes.Syntax
+settled None deep (Some now) = if deep then Err causes.TooDeep else Ok now
+settled (Some cause) deep None = Err (if is_early cause then cause else causes.Syntax)
+settled (Some cause) deep (Some now) = Err cause
+
+-- whether the token would be the 257th that is open
+abbrev pub is_too_deep : State → Sign → Bool
+is_too_deep state sign = is_opening sign && nat_le 256 (depth_of state)
+
+unfoldable pub moved : Bool → Reader → Word → Result Reader Cause
+moved kernel r word = settled word.fault (is_too_deep r.state word.sign) (advance kernel r word.sign)
+
+abbrev pub at_of : Token → At
+at_of token = record { line = token.line; column = token.column }
+
+unfoldable pub step : Bool → List ℕ → Reader → Token → Result Reader Cause
+step kernel source r token = moved kernel r (word_of kernel r.context (at_of token) (text_of source token))
+
+-- the tree where the source may end here; else it ends early
+abbrev pub ended : Bool → Place → List Const → State → Result Source ParseError
+ended true end consts (Top procs) = Ok (record { consts = consts; procs = procs; main = None })
+ended false end consts (Behind procs main) = Ok (record { consts = consts; procs = procs; main = Some main })
+ended kernel end consts state = Err (Bad end.line end.column causes.Syntax)
+
+abbrev pub parse_from : Bool → List ℕ → Reader → List Token → Result Source ParseError
+parse_from kernel source r [] = ended kernel (place_after source) r.context.consts r.state
+parse_from kernel source r (token ∷ tokens) =
+    elim (step kernel source r token) [
+      | Ok now ↦ parse_from kernel source now tokens
+      | Err cause ↦ Err (Bad token.line token.column cause)
+    ]
+
+-- the tree of a source with these tokens, or its first refusal
+unfoldable pub parsed : Bool → List ℕ → List Token → Result Source ParseError
+parsed kernel source tokens = parse_from kernel source start tokens

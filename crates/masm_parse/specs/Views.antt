@@ -1,0 +1,79 @@
+-- The trees and states of the parser as the definitions see them.
+use Rattle.std.specs.Prelude.{◌≡◌, List, [], ◌∷◌, map, reverse, Result, Ok, Err}
+use Rattle.std.specs.Option.{option_map}
+use Rattle.masm_parse.specs.declared.refusal.Cause.{Cause}
+use Rattle.masm_parse.specs.declared.refusal.Stop.{Stop}
+use Rattle.masm_parse.specs.declared.refusal.Stop.TheVariants as stops
+use Rattle.masm_parse.specs.declared.refusal.ParseError.{ParseError}
+use Rattle.masm_parse.specs.declared.refusal.ParseError.TheVariants.{Memory}
+use Rattle.masm_parse.specs.declared.sign.Leaf.TheVariants as leaves
+use Rattle.masm_parse.specs.declared.tree.Stmt.{Stmt}
+use Rattle.masm_parse.specs.declared.tree.Stmt.TheOpen.{Stmt-F}
+use Rattle.masm_parse.specs.declared.tree.Stmt.TheFolds.{fold-Stmt}
+use Rattle.masm_parse.specs.declared.tree.Proc.{Proc}
+use Rattle.masm_parse.specs.declared.tree.Ast.{Ast}
+use Rattle.masm_parse.specs.declared.state.Frame.{Frame}
+use Rattle.masm_parse.specs.declared.state.Frame.TheVariants as frames
+use Rattle.masm_parse.specs.declared.state.State as code
+use Rattle.masm_parse.specs.declared.state.State.TheVariants as states
+use Rattle.masm_parse.specs.declared.parser.Parser.{Parser}
+use Rattle.masm_parse.specs.Trees.{Body, Empty, Leaf_then, If_then, While_then, Repeat_then, Procedure, Source}
+use Rattle.masm_parse.specs.Machine.{Open, In_if, In_else, In_while, In_repeat, State, Top, Inside, Behind, Reader}
+
+abbrev pub joined : List (Body → Body) → Body
+joined [] = Empty
+joined (f ∷ fs) = f (joined fs)
+
+-- a statement in front of a body
+abbrev pub add_step : Stmt-F (Body → Body) → Body → Body
+add_step (Stmt-F.Instr at instr) rest = Leaf_then at (leaves.Instr instr) rest
+add_step (Stmt-F.If at first second) rest = If_then at (joined first.items) (joined second.items) rest
+add_step (Stmt-F.While at turn) rest = While_then at (joined turn.items) rest
+add_step (Stmt-F.Repeat at times turn) rest = Repeat_then at times (joined turn.items) rest
+add_step (Stmt-F.Exec at name) rest = Leaf_then at (leaves.Exec name) rest
+add_step (Stmt-F.Call at name) rest = Leaf_then at (leaves.Call name) rest
+add_step (Stmt-F.Syscall at name) rest = Leaf_then at (leaves.Syscall name) rest
+
+unfoldable pub stmt_view : Stmt → Body → Body
+stmt_view = fold-Stmt (Body → Body) add_step
+
+-- the body of a list of statements
+unfoldable pub body_of : List Stmt → Body
+body_of stmts = joined (map stmt_view stmts)
+
+abbrev pub procedure_of : Proc → Procedure
+procedure_of p =
+    record { name = p.name; locals = p.locals; exported = p.exported; body = body_of p.body.items; line = p.line; column = p.column }
+
+abbrev pub source_of : Ast → Source
+source_of ast =
+    record { consts = ast.consts; procs = map procedure_of ast.procs.items; main = option_map procedure_of ast.main }
+
+abbrev pub frame_view : Frame → Open
+frame_view (frames.If at before) = In_if at (body_of before.items)
+frame_view (frames.Else at before first) = In_else at (body_of before.items) (body_of first.items)
+frame_view (frames.While at before) = In_while at (body_of before.items)
+frame_view (frames.Repeat at times before) = In_repeat at times (body_of before.items)
+
+unfoldable pub frames_view : List Frame → List Open
+frames_view fs = map frame_view (reverse fs)
+
+abbrev pub state_view : code.State → State
+state_view (states.Top procs) = Top (map procedure_of procs.items)
+state_view (states.Inside procs header fs body) = Inside (map procedure_of procs.items) header (frames_view fs.items) (body_of body.items)
+state_view (states.Behind procs main) = Behind (map procedure_of procs.items) (procedure_of main)
+
+abbrev pub parser_view : Parser → Reader
+parser_view p = record { context = record { consts = p.consts; locals = p.locals }; state = state_view p.state }
+
+-- A step's answer is that of the definition, or the want of memory.
+abbrev pub Takes : Result Parser Stop → Result Reader Cause → Type 0
+Takes (Ok p) defined = defined ≡ Ok (parser_view p)
+Takes (Err stops.Memory) defined = Unit {0}
+Takes (Err (stops.Refused cause)) defined = defined ≡ Err cause
+
+-- An answer of the parser is that of the definition, or the want of memory.
+abbrev pub Gives : Result Ast ParseError → Result Source ParseError → Type 0
+Gives (Ok ast) defined = defined ≡ Ok (source_of ast)
+Gives (Err Memory) defined = Unit {0}
+Gives (Err refusal) defined = defined ≡ Err refusal

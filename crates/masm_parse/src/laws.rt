@@ -1,0 +1,8 @@
+ghost use Rattle.masm_parse.specs.Refusals.{LeastRefusal, ReadsOnce};
+
+/// The parser's answer is the tree that the tokens spell where no token is refused, and else the
+/// refusal of the first place and, there, of the first cause; and no other tree is read.
+pub fn least_refusal()
+    ensures answers { LeastRefusal }
+    ensures once { ReadsOnce }
+{}

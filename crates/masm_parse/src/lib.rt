@@ -1,0 +1,22 @@
+//! The grammar of assembly sources (docs/ASSEMBLY.md): from tokens to a syntax tree, or to the first
+//! refusal. The definitions stand in `specs/`.
+#![tactic(auto)]
+
+mod keyword;
+mod laws;
+mod parser;
+mod parsing;
+mod parts;
+mod reading;
+mod refusal;
+mod sign;
+mod state;
+mod tree;
+
+pub use laws::least_refusal;
+pub use parsing::parse;
+pub use refusal::{Cause, ParseError, cause_text};
+pub use tree::{Ast, At, Proc, Stmt};
+
+#[cfg(test)]
+mod tests;

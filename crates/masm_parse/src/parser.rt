@@ -1,0 +1,166 @@
+ghost use Rattle.std.specs.Prelude.{◌≡◌, IfOk};
+ghost use Rattle.std.specs.Option.{option_map};
+ghost use Rattle.masm_lex.specs.Tokens.{IsPart};
+ghost use Rattle.masm_parse.specs.Machine.{start, advance, settled, is_opening, moved, step, ended};
+ghost use Rattle.masm_parse.specs.Views.{parser_view, Takes, Gives};
+
+use crate::reading::read_word;
+use crate::refusal::{Cause, ParseError, Stop};
+use crate::sign::{Sign, Word};
+use crate::state::State;
+use crate::tree::{Ast, At};
+use masm_instr::Consts;
+use masm_lex::{Place, Token};
+use std::alloc::Global;
+use vm_field::Memory;
+
+// How many statements may be open.
+const MOST_OPEN: usize = 256;
+
+// The parser between two tokens: the constants so far, the count of locals of the procedure that
+// began last, and where it stands.
+#[derive(Drop)]
+pub(crate) struct Parser {
+    pub consts: Consts,
+    pub locals: u32,
+    pub state: State,
+}
+
+impl Sign {
+    // Whether it opens a statement that has bodies.
+    fn is_opening(&self) -> bool
+        ensures { result ≡ is_opening self.now }
+    {
+        matches!(self, Sign::If(_) | Sign::While(_) | Sign::Repeat(_, _))
+    }
+}
+
+// The first cause that stands, or the parser behind the token.
+fn settle(fault: Option<Cause>, is_deep: bool, now: Option<Parser>) -> Result<Parser, Stop>
+    ensures { Takes result (settled fault is_deep (option_map parser_view now)) }
+{
+    match (fault, now) {
+        (Some(cause), None) if cause.is_early() => Err(Stop::Refused(cause)),
+        (_, None) => Err(Stop::Refused(Cause::Syntax)),
+        (Some(cause), Some(_)) => Err(Stop::Refused(cause)),
+        (None, Some(_)) if is_deep => Err(Stop::Refused(Cause::TooDeep)),
+        (None, Some(parser)) => Ok(parser),
+    }
+}
+
+impl Parser {
+    #[tactic(auto, using(crate::proofs::Mirror::mirror))]
+    pub(crate) fn new(alloc: Global) -> Parser
+        ensures { parser_view result ≡ start }
+    {
+        Parser {
+            consts: Consts::new(alloc),
+            locals: 0,
+            state: State::Top(Vec::new(alloc)),
+        }
+    }
+
+    // The parser behind a token; none where that does not fit.
+    #[tactic(auto, using(crate::proofs::Mirror::mirror))]
+    fn turn(self, alloc: Global, kernel: bool, sign: Sign) -> Result<Option<Parser>, Memory>
+        ensures { IfOk result (λ now. option_map parser_view now ≡ advance kernel (parser_view self) sign) }
+    {
+        let Parser {
+            mut consts,
+            locals,
+            state,
+        } = self;
+        match sign {
+            Sign::Const(constant) => {
+                consts.push(constant)?;
+                Ok(
+                    state.turn_constant().map(|state| Parser {
+                        consts,
+                        locals,
+                        state,
+                    }),
+                )
+            }
+            Sign::Header(header) => {
+                let locals = header.locals;
+                Ok(
+                    state
+                        .turn_header(alloc, kernel, header)
+                        .map(|state| Parser {
+                            consts,
+                            locals,
+                            state,
+                        }),
+                )
+            }
+            sign => Ok(
+                state.turn_statement(alloc, sign)?.map(|state| Parser {
+                    consts,
+                    locals,
+                    state,
+                }),
+            ),
+        }
+    }
+
+    #[tactic(auto, unfolding(crate::specs::Machine::moved))]
+    fn take(self, alloc: Global, kernel: bool, word: Word) -> Result<Parser, Stop>
+        ensures { Takes result (moved kernel (parser_view self) word) }
+    {
+        let Word { sign, fault } = word;
+        let is_deep = sign.is_opening() && self.state.depth() >= MOST_OPEN;
+        let now = self.turn(alloc, kernel, sign)?;
+        settle(fault, is_deep, now)
+    }
+
+    // The parser behind a token of the source.
+    #[tactic(auto, unfolding(crate::specs::Machine::step))]
+    pub(crate) fn step(
+        self,
+        alloc: Global,
+        kernel: bool,
+        source: &[u8],
+        token: Token,
+    ) -> Result<Parser, Stop>
+        requires { IsPart source.now token }
+        ensures { Takes result (step kernel source.now (parser_view self) token) }
+    {
+        let at = At {
+            line: token.line,
+            column: token.column,
+        };
+        let word = read_word(
+            alloc,
+            kernel,
+            &self.consts,
+            self.locals,
+            at,
+            token.text(source),
+        )?;
+        self.take(alloc, kernel, word)
+    }
+
+    // The tree, where the source may end here.
+    pub(crate) fn finish(self, kernel: bool, end: Place) -> Result<Ast, ParseError>
+        ensures { Gives result (ended kernel end self.consts (parser_view self).state) }
+    {
+        let Parser { consts, state, .. } = self;
+        match state {
+            State::Top(procs) if kernel => Ok(Ast {
+                consts,
+                procs,
+                main: None,
+            }),
+            State::Behind(procs, main) if !kernel => Ok(Ast {
+                consts,
+                procs,
+                main: Some(main),
+            }),
+            _ => Err(ParseError::Bad {
+                line: end.line,
+                column: end.column,
+                cause: Cause::Syntax,
+            }),
+        }
+    }
+}

@@ -1,0 +1,36 @@
+ghost use Rattle.std.specs.Prelude.{◌≡◌, ◌≤◌, length, Ok};
+ghost use Rattle.masm_lex.specs.Tokens.{lexed};
+ghost use Rattle.masm_parse.specs.Machine.{parsed};
+ghost use Rattle.masm_parse.specs.Views.{Gives};
+
+use crate::parser::Parser;
+use crate::refusal::{ParseError, Stop};
+use crate::tree::Ast;
+use masm_lex::{MAX_SOURCE, Tokens, end_place};
+use std::alloc::Global;
+
+/// The syntax tree of a source, a kernel's or a program's, with the tokens that the lexer gave for
+/// it; or its first refusal.
+#[tactic(auto, unfolding(crate::specs::Machine::parsed))]
+pub fn parse(alloc: Global, source: &[u8], tokens: &Tokens, kernel: bool) -> Result<Ast, ParseError>
+    requires size { length source.now ≤ MAX_SOURCE }
+    requires tokens { lexed source.now ≡ Ok tokens.now }
+    ensures { Gives result (parsed kernel source.now tokens.now) }
+{
+    let mut parser = Parser::new(alloc);
+    let items = tokens.as_slice();
+    for token in items {
+        parser = match parser.step(alloc, kernel, source, *token) {
+            Ok(now) => now,
+            Err(Stop::Memory) => return Err(ParseError::Memory),
+            Err(Stop::Refused(cause)) => {
+                return Err(ParseError::Bad {
+                    line: token.line,
+                    column: token.column,
+                    cause,
+                });
+            }
+        };
+    }
+    parser.finish(kernel, end_place(source))
+}

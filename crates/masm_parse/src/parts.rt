@@ -1,0 +1,55 @@
+ghost use Rattle.std.specs.Prelude.{◌≡◌, ◌==◌, map, IfOk};
+ghost use Rattle.std.specs.List.{list_all, slice_split};
+ghost use Rattle.masm_parse.specs.Words.{is_letter, is_name_byte, is_name};
+
+use std::alloc::{AllocError, Global};
+
+// The parts of a text, which this byte parts.
+pub(crate) fn split<'a>(
+    alloc: Global,
+    text: &'a [u8],
+    mark: u8,
+) -> Result<Vec<&'a [u8]>, AllocError>
+    ensures { IfOk result (λ parts. map (λ part. part.now) parts.items ≡ slice_split (λ b. b == mark) text.entry.now) }
+{
+    text.split(|byte| *byte == mark).collect(alloc)
+}
+
+// The case of the letters of a name.
+#[derive(Clone, Copy, Debug, PartialEq, Eq)]
+pub(crate) enum Case {
+    Upper,
+    Lower,
+}
+
+fn is_letter(case: Case, byte: u8) -> bool
+    ensures { result ≡ is_letter case byte }
+{
+    match case {
+        Case::Upper => matches!(byte, b'A'..=b'Z'),
+        Case::Lower => matches!(byte, b'a'..=b'z'),
+    }
+}
+
+fn is_name_byte(case: Case, byte: u8) -> bool
+    ensures { result ≡ is_name_byte case byte }
+{
+    is_letter(case, byte) || matches!(byte, b'0'..=b'9') || byte == b'_'
+}
+
+fn are_name_bytes(case: Case, bytes: &[u8]) -> bool
+    ensures { result ≡ list_all (is_name_byte case) bytes.now }
+{
+    bytes.iter().all(|byte| is_name_byte(case, *byte))
+}
+
+// Whether a text is a name of 1 to 100 bytes.
+#[tactic(auto, unfolding(crate::specs::Words::is_name))]
+pub(crate) fn is_name(case: Case, text: &[u8]) -> bool
+    ensures { result ≡ is_name case text.now }
+{
+    let Some((first, more)) = text.split_first() else {
+        return false;
+    };
+    is_letter(case, *first) && more.len() < 100 && are_name_bytes(case, more)
+}

@@ -1,0 +1,51 @@
+use crate::refusal::Cause;
+use crate::tree::At;
+use masm_instr::{Const, Instr};
+use vm_field::Bytes;
+
+// What a header begins.
+#[derive(Clone, Copy, Debug, PartialEq, Eq)]
+pub(crate) enum Role {
+    Proc,
+    Export,
+    Main,
+}
+
+// A `proc`, `export` or `begin`.
+#[derive(Drop)]
+pub(crate) struct Header {
+    pub role: Role,
+    pub name: Bytes,
+    pub locals: u32,
+    pub at: At,
+}
+
+// A statement that is one token.
+#[derive(Drop)]
+pub(crate) enum Leaf {
+    Instr(Instr),
+    Exec(Bytes),
+    Call(Bytes),
+    Syscall(Bytes),
+}
+
+// What a token is to the grammar.
+#[derive(Drop)]
+pub(crate) enum Sign {
+    Const(Const),
+    Header(Header),
+    Leaf(At, Leaf),
+    If(At),
+    Else,
+    While(At),
+    Repeat(At, u32),
+    End,
+}
+
+// A token as it is read: its sign, and the first cause for which it is refused by itself, wherever
+// it stands. A token that is refused has the sign of its kind with empty names and zeros.
+#[derive(Drop)]
+pub(crate) struct Word {
+    pub sign: Sign,
+    pub fault: Option<Cause>,
+}
