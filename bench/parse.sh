@@ -5,11 +5,11 @@ set -e
 top=$(cd "$(dirname "$0")/.." && pwd)
 work=$(mktemp -d)
 trap 'rm -rf "$work"' EXIT
-mkdir -p "$work/crates/bench_parse/src"
 for crate in vm_field vm_ops masm_lex masm_instr masm_parse; do
-    cp -r "$top/crates/$crate" "$work/crates/"
+    mkdir -p "$work/crates/$crate"
+    cp -r "$top/crates/$crate"/{src,specs,proofs} "$work/crates/$crate/"
 done
-rm -rf "$work"/crates/*/must-fail
+mkdir -p "$work/crates/bench_parse/src"
 grep -E '^(vm_field|vm_ops|masm_lex|masm_instr|masm_parse):' "$top/crates.txt" >"$work/crates.txt"
 echo 'bench_parse: masm_lex masm_parse vm_field' >>"$work/crates.txt"
 cat >"$work/crates/bench_parse/src/main.rt" <<'END'
@@ -70,10 +70,9 @@ fn main(rt: HostRuntime) -> io::Result<()> {
 }
 END
 cd "$work/crates/bench_parse"
-rt run >"$work/first" 2>"$work/log" || { cat "$work/log"; exit 1; }
-program=$(find . -type f -name 'bench_parse*' -perm -u+x | head -1)
+rt run >"$work/log" 2>&1 || { cat "$work/log"; exit 1; }
 for _ in 1 2 3 4 5; do
-    "$program" >>"$work/times"
+    out/bench_parse >>"$work/times"
 done
 awk '{
     if (NF != 4) { print "the source was not read: " $0; exit 1 }

@@ -5,9 +5,11 @@ set -e
 top=$(cd "$(dirname "$0")/.." && pwd)
 work=$(mktemp -d)
 trap 'rm -rf "$work"' EXIT
+for crate in vm_field rpo_hash; do
+    mkdir -p "$work/crates/$crate"
+    cp -r "$top/crates/$crate"/{src,specs,proofs} "$work/crates/$crate/"
+done
 mkdir -p "$work/crates/bench_permute/src"
-cp -r "$top/crates/vm_field" "$top/crates/rpo_hash" "$work/crates/"
-rm -rf "$work"/crates/*/must-fail
 cat >"$work/crates.txt" <<'END'
 vm_field: thiserror hex itoa
 rpo_hash: vm_field thiserror
@@ -47,16 +49,15 @@ fn main(rt: HostRuntime) -> io::Result<()> {
 END
 rustc -O -o "$work/plain" "$top/bench/permute.rs"
 cd "$work/crates/bench_permute"
-rt run >"$work/first" 2>"$work/log" || { cat "$work/log"; exit 1; }
-proved=$(find . -type f -name 'bench_permute*' -perm -u+x | head -1)
-least() {
-    sort -n | head -1 | cut -d' ' -f1
-}
+rt run >"$work/log" 2>&1 || { cat "$work/log"; exit 1; }
 for _ in 1 2 3 4 5 6 7; do
     "$work/plain" >>"$work/plain.times"
-    "$proved" >>"$work/proved.times"
+    out/bench_permute >>"$work/proved.times"
 done
-cut -d' ' -f2 "$work/plain.times" "$work/proved.times" | sort -u | wc -l | grep -qx 1 || { echo "the results differ"; exit 1; }
-plain=$(least <"$work/plain.times")
-proved=$(least <"$work/proved.times")
+if [ "$(cut -d' ' -f2 "$work"/*.times | sort -u | wc -l)" != 1 ]; then
+    echo "the results differ"
+    exit 1
+fi
+plain=$(sort -n "$work/plain.times" | head -1 | cut -d' ' -f1)
+proved=$(sort -n "$work/proved.times" | head -1 | cut -d' ' -f1)
 echo "plain Rust $plain, rpo_hash $proved, ratio $(echo "scale=3; $proved / $plain" | bc)"
