@@ -29,7 +29,7 @@ fn append(source: &mut Vec<u8>, text: &[u8]) -> Result<(), AllocError> {
     Ok(())
 }
 
-// A program of 990,011 bytes: one long body of instructions, with and without numbers.
+// A program of 990,010 bytes: one long body of instructions, with and without numbers.
 fn program(alloc: Global) -> Result<Vec<u8>, AllocError> {
     let mut source = Vec::new(alloc);
     append(&mut source, b"begin\n")?;
@@ -43,18 +43,15 @@ fn program(alloc: Global) -> Result<Vec<u8>, AllocError> {
 fn main(rt: HostRuntime) -> io::Result<()> {
     let alloc = rt.alloc();
     let Ok(source) = program(alloc) else {
-        println!(rt; "out of memory");
-        return Ok(());
+        return println!(rt; "out of memory");
     };
     let source = source.as_slice();
     if source.len() > MAX_SOURCE {
-        println!(rt; "too long");
-        return Ok(());
+        return println!(rt; "too long");
     }
     let start = Instant::now(&rt)?;
     let Ok(tokens) = lex(alloc, source) else {
-        println!(rt; "no tokens");
-        return Ok(());
+        return println!(rt; "no tokens");
     };
     let lexed = start.elapsed(&rt)?.as_micros();
     let count = tokens.len();
@@ -66,7 +63,6 @@ fn main(rt: HostRuntime) -> io::Result<()> {
         Ok(_) => println!(rt; "{length} {count} {lexed} {parsed}"),
         Err(_) => println!(rt; "refused"),
     }
-    Ok(())
 }
 END
 cd "$work/crates/bench_parse"
