@@ -57,7 +57,10 @@ impl Stack {
         if cell < VISIBLE {
             felt_at(&self.top, cell)
         } else {
-            felt_at(self.below.as_slice(), self.below.len() - 1 - (cell - VISIBLE))
+            felt_at(
+                self.below.as_slice(),
+                self.below.len() - 1 - (cell - VISIBLE),
+            )
         }
     }
 

@@ -133,6 +133,15 @@ impl State {
         self.memory.store(context, address, word)
     }
 
+    /// The element of the tape that is taken after so many others.
+    pub fn advice_at(&self, place: usize) -> Felt
+        requires { place < length self.now.tape }
+        ensures is { result ≡ slice_index self.now.tape place }
+        ensures below { result < prime }
+    {
+        self.tape.at(place)
+    }
+
     /// Takes the next element of the tape, or answers `None` exactly where the tape is empty.
     pub fn next_advice(&mut self) -> Option<Felt>
         ensures taken { Taken self.old.tape result self.new.tape }

@@ -1,9 +1,10 @@
-ghost use Rattle.std.specs.Prelude.{◌≡◌, length, IfOk};
+ghost use Rattle.std.specs.Prelude.{◌≡◌, ◌<◌, length, slice_index, IfOk};
+ghost use Rattle.vm_field.specs.Field.{prime};
 ghost use Rattle.vm_state.specs.Tapes.{Taken};
 
 use std::alloc::Global;
 use std::marker::Model;
-use vm_field::{Felt, Memory};
+use vm_field::{Felt, Memory, felt_at};
 
 // The advice that is left.
 #[derive(Drop)]
@@ -35,6 +36,15 @@ impl Tape {
         ensures taken { Taken self.old result self.new }
     {
         self.elements.pop()
+    }
+
+    // The element that is taken after so many others.
+    pub fn at(&self, place: usize) -> Felt
+        requires { place < length self.now }
+        ensures is { result ≡ slice_index self.now place }
+        ensures below { result < prime }
+    {
+        felt_at(self.elements.as_slice(), self.elements.len() - 1 - place)
     }
 
     // How many elements are left.
