@@ -1,5 +1,5 @@
 -- The sixteen visible cells of a stack, and the cells below them, the highest last.
-use Rattle.std.proofs.Common.{◌≡◌, ℕ, suc, ◌+◌, ◌-◌, ◌≤◌, List, [], ◌∷◌, ◌++◌, length, take, drop, set, replicate, reverse, refl, sym, ap, subst, ◌∙◌, arith, length-append, append-nil, append_assoc, min, leb, Bool, true, false, ◌⊎◌, inl, inr, ◌<◌}
+use Rattle.std.proofs.Common.{◌≡◌, ℕ, ◌-◌, ◌≤◌, List, [], ◌∷◌, ◌++◌, length, take, drop, set, replicate, reverse, refl, sym, ap, subst, ◌∙◌, arith, length-append, append-nil, append_assoc, min, ◌⊎◌, inl, inr, ◌<◌}
 use Rattle.std.specs.Prelude.{Option, Some, None, unwrap_or}
 use Rattle.std.specs.Option.{MatchOption, option_to_list}
 use Rattle.std.proofs.lemmas.Option.{none-some}

@@ -1,5 +1,4 @@
 -- A state as the definitions of the machine see it.
-use Rattle.std.specs.Prelude.{ℕ, List}
 use Rattle.vm_field.specs.Machine as machine
 use Rattle.vm_field.specs.Machine.{Core}
 use Rattle.vm_state.specs.declared.state.State.{State}

@@ -1,4 +1,4 @@
-use Rattle.std.proofs.Common.{◌∙◌, ap, sym, take, drop, reverse, append-nil}
+use Rattle.std.proofs.Common.{◌∙◌, ap, take, drop, reverse, append-nil}
 use Rattle.vm_state.proofs.StackLemmas.{visible-is, hidden-is}
 use Rattle.vm_state.proofs.stack.Stack.hide.Goals as goal
 

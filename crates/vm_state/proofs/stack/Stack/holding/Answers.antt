@@ -1,4 +1,4 @@
-use Rattle.std.proofs.Common.{◌≡◌, ℕ, ◌++◌, ◌∙◌, ap, ap₂, drop, replicate, reverse}
+use Rattle.std.proofs.Common.{ℕ, ◌++◌, ◌∙◌, ap, ap₂, drop, replicate, reverse}
 use Rattle.std.proofs.lemmas.List.{reverse-reverse}
 use Rattle.vm_state.proofs.StackLemmas.{held-is, rest-is}
 use Rattle.vm_state.proofs.stack.Stack.holding.Goals as goal
