@@ -162,6 +162,8 @@ macro_rules! find_row {
 pub(crate) const EVERY: [Name; 92] = instructions!(list_names);
 
 /// The row of a name.
+// A caller that reads one part of it makes no row, where this is inlined.
+#[inline(always)]
 pub(crate) fn row_of(name: Name) -> Row
     ensures text { result.text.now ≡ (row_of name).text }
     ensures form { result.form ≡ (row_of name).form }
