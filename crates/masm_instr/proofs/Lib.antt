@@ -1,4 +1,5 @@
 pub mod NameLemmas
+pub mod ConstantLemmas
 pub mod Digits
 pub mod ReadingLemmas
 pub mod Joined

@@ -3,8 +3,9 @@ use Rattle.std.proofs.Common.{◌≡◌, ℕ, Bool, true, false, cond, List, [],
 use Rattle.std.proofs.lemmas.Slice.Eq.{bytes_eq-Decides}
 use Rattle.masm_instr.specs.declared.name.Name.{Name}
 use Rattle.masm_instr.specs.declared.name.Name.TheVariants as names
-use Rattle.masm_instr.specs.declared.name.TheConstants.{EVERY}
-use Rattle.masm_instr.specs.Names.{text_of, first_named, name_of, NamesAreTexts}
+use Rattle.masm_instr.specs.declared.table.TheConstants.{EVERY}
+use Rattle.masm_instr.specs.Table.{text_of}
+use Rattle.masm_instr.specs.Names.{first_named, name_of, NamesAreTexts}
 
 pub found : (name : Name) → first_named EVERY (text_of name) ≡ Some name
 found names.Add = refl

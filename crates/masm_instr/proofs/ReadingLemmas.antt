@@ -5,8 +5,8 @@ use Rattle.std.specs.List.{list_all}
 use Rattle.masm_instr.specs.declared.name.Name.{Name}
 use Rattle.masm_instr.specs.declared.form.Form.{Form}
 use Rattle.masm_instr.specs.declared.constant.Const.{Const}
-use Rattle.masm_instr.specs.Forms.{form_of, is_in_range}
-use Rattle.masm_instr.specs.Instructions.{IsInForm}
+use Rattle.masm_instr.specs.Table.{form_of}
+use Rattle.masm_instr.specs.Instructions.{is_in_range, IsInForm}
 use Rattle.masm_instr.specs.Reading.{both, parameter_of, parameters_of}
 
 length-both : (n : Option ℕ) (more : Option (List ℕ)) (numbers : List ℕ) (k : ℕ) → both n more ≡ Some numbers

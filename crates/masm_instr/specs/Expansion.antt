@@ -1,5 +1,5 @@
 -- The operations that each instruction stands for. An instruction's list is a front, which its numbers decide, and then
--- the operations that stand last (`Operations`).
+-- the operations that stand last (`Table`).
 use Rattle.std.specs.Prelude.{ℕ, zero, suc, ◌+◌, ◌-◌, ◌*◌, ◌/◌, ◌%◌, ◌^◌, ◌==◌, ◌||◌, nat_lt, nat_le, if◌then◌else◌, List, [], ◌∷◌, ◌++◌, map, replicate, slice_index, slice_index_or}
 use Rattle.std.specs.List.{flat_map}
 use Rattle.vm_field.specs.Field.{prime}
@@ -9,7 +9,7 @@ use Rattle.vm_ops.specs.declared.item.Item.{Item}
 use Rattle.vm_ops.specs.Items.{plain_item, push_item}
 use Rattle.masm_instr.specs.declared.name.Name.{Name}
 use Rattle.masm_instr.specs.declared.name.Name.TheVariants as names
-use Rattle.masm_instr.specs.Operations.{fixed}
+use Rattle.masm_instr.specs.Table.{fixed}
 
 -- operations with no immediate
 abbrev pub plain : List Op → List Item

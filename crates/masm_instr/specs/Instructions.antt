@@ -1,13 +1,22 @@
 -- An instruction: a name with its numbers.
-use Rattle.std.specs.Prelude.{◌≡◌, ℕ, ◌<◌, Bool, true, false, ◌&&◌, List, length, slice_index}
+use Rattle.std.specs.Prelude.{◌≡◌, ℕ, ◌<◌, Bool, true, false, ◌&&◌, nat_le, List, length, slice_index}
 use Rattle.std.specs.List.{list_all}
 use Rattle.masm_instr.specs.declared.name.Name.{Name}
 use Rattle.masm_instr.specs.declared.name.Name.TheVariants as names
-use Rattle.masm_instr.specs.Forms.{form_of, is_count, is_in_range}
+use Rattle.masm_instr.specs.declared.form.Form.{Form}
+use Rattle.masm_instr.specs.Table.{form_of}
 
 pub record Instruction : Type 0 where
   pub name : Name
   pub numbers : List ℕ
+
+-- whether a number lies in the range of a form
+abbrev pub is_in_range : Form → ℕ → Bool
+is_in_range f n = nat_le f.low n && nat_le n f.high
+
+-- whether there are as many numbers as a form wants
+abbrev pub is_count : Form → ℕ → Bool
+is_count f n = nat_le f.least n && nat_le n f.most
 
 -- as many numbers as the name takes, each in its range
 abbrev pub is_in_form : Name → List ℕ → Bool

@@ -1,7 +1,7 @@
+pub mod Table
 pub mod Names
-pub mod Forms
 pub mod Instructions
 pub mod Numbers
+pub mod Constants
 pub mod Reading
-pub mod Operations
 pub mod Expansion

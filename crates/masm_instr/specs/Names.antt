@@ -1,109 +1,16 @@
 -- The names of the instructions, as they are written in a source.
-use Rattle.std.specs.Prelude.{◌≡◌, ◌↔◌, ℕ, if◌then◌else◌, List, [], ◌∷◌, Option, Some, None, bytes_eq, codes}
+use Rattle.std.specs.Prelude.{◌≡◌, ◌↔◌, ℕ, if◌then◌else◌, List, [], ◌∷◌, Option, Some, None, bytes_eq}
 use Rattle.masm_instr.specs.declared.name.Name.{Name}
-use Rattle.masm_instr.specs.declared.name.Name.TheVariants as names
-use Rattle.masm_instr.specs.declared.name.TheConstants.{EVERY}
-
-abbrev pub text_of : Name → List ℕ
-text_of names.Add = codes "add"
-text_of names.Sub = codes "sub"
-text_of names.Mul = codes "mul"
-text_of names.Div = codes "div"
-text_of names.Neg = codes "neg"
-text_of names.Inv = codes "inv"
-text_of names.Exp = codes "exp"
-text_of names.Pow2 = codes "pow2"
-text_of names.Not = codes "not"
-text_of names.And = codes "and"
-text_of names.Or = codes "or"
-text_of names.Xor = codes "xor"
-text_of names.Eq = codes "eq"
-text_of names.Neq = codes "neq"
-text_of names.Lt = codes "lt"
-text_of names.Gt = codes "gt"
-text_of names.Lte = codes "lte"
-text_of names.Gte = codes "gte"
-text_of names.IsOdd = codes "is_odd"
-text_of names.Eqw = codes "eqw"
-text_of names.Assert = codes "assert"
-text_of names.Assertz = codes "assertz"
-text_of names.AssertEq = codes "assert_eq"
-text_of names.AssertEqw = codes "assert_eqw"
-text_of names.U32Test = codes "u32test"
-text_of names.U32Assert = codes "u32assert"
-text_of names.U32Assertw = codes "u32assertw"
-text_of names.U32Cast = codes "u32cast"
-text_of names.U32Split = codes "u32split"
-text_of names.U32CheckedAdd = codes "u32checked_add"
-text_of names.U32CheckedSub = codes "u32checked_sub"
-text_of names.U32CheckedMul = codes "u32checked_mul"
-text_of names.U32WrappingAdd = codes "u32wrapping_add"
-text_of names.U32WrappingSub = codes "u32wrapping_sub"
-text_of names.U32WrappingMul = codes "u32wrapping_mul"
-text_of names.U32OverflowingAdd = codes "u32overflowing_add"
-text_of names.U32OverflowingSub = codes "u32overflowing_sub"
-text_of names.U32OverflowingMul = codes "u32overflowing_mul"
-text_of names.U32OverflowingAdd3 = codes "u32overflowing_add3"
-text_of names.U32WrappingAdd3 = codes "u32wrapping_add3"
-text_of names.U32OverflowingMadd = codes "u32overflowing_madd"
-text_of names.U32WrappingMadd = codes "u32wrapping_madd"
-text_of names.U32CheckedDiv = codes "u32checked_div"
-text_of names.U32CheckedMod = codes "u32checked_mod"
-text_of names.U32CheckedDivmod = codes "u32checked_divmod"
-text_of names.U32CheckedAnd = codes "u32checked_and"
-text_of names.U32CheckedXor = codes "u32checked_xor"
-text_of names.U32CheckedOr = codes "u32checked_or"
-text_of names.U32CheckedNot = codes "u32checked_not"
-text_of names.U32CheckedShl = codes "u32checked_shl"
-text_of names.U32CheckedShr = codes "u32checked_shr"
-text_of names.U32CheckedRotl = codes "u32checked_rotl"
-text_of names.U32CheckedRotr = codes "u32checked_rotr"
-text_of names.U32CheckedLt = codes "u32checked_lt"
-text_of names.U32CheckedGte = codes "u32checked_gte"
-text_of names.U32CheckedGt = codes "u32checked_gt"
-text_of names.U32CheckedLte = codes "u32checked_lte"
-text_of names.U32CheckedMax = codes "u32checked_max"
-text_of names.U32CheckedMin = codes "u32checked_min"
-text_of names.Drop = codes "drop"
-text_of names.Dropw = codes "dropw"
-text_of names.Padw = codes "padw"
-text_of names.Dup = codes "dup"
-text_of names.Dupw = codes "dupw"
-text_of names.Movup = codes "movup"
-text_of names.Movdn = codes "movdn"
-text_of names.Swap = codes "swap"
-text_of names.Swapw = codes "swapw"
-text_of names.Swapdw = codes "swapdw"
-text_of names.Movupw = codes "movupw"
-text_of names.Movdnw = codes "movdnw"
-text_of names.Cswap = codes "cswap"
-text_of names.Cswapw = codes "cswapw"
-text_of names.Cdrop = codes "cdrop"
-text_of names.Cdropw = codes "cdropw"
-text_of names.Push = codes "push"
-text_of names.Sdepth = codes "sdepth"
-text_of names.Caller = codes "caller"
-text_of names.Clk = codes "clk"
-text_of names.AdvPush = codes "adv_push"
-text_of names.AdvLoadw = codes "adv_loadw"
-text_of names.MemLoad = codes "mem_load"
-text_of names.MemLoadw = codes "mem_loadw"
-text_of names.MemStore = codes "mem_store"
-text_of names.MemStorew = codes "mem_storew"
-text_of names.Locaddr = codes "locaddr"
-text_of names.LocLoad = codes "loc_load"
-text_of names.LocLoadw = codes "loc_loadw"
-text_of names.LocStore = codes "loc_store"
-text_of names.LocStorew = codes "loc_storew"
-text_of names.Hperm = codes "hperm"
-text_of names.Hmerge = codes "hmerge"
+use Rattle.masm_instr.specs.declared.table.TheConstants.{EVERY}
+use Rattle.masm_instr.specs.Table.{text_of}
 
 -- the first of these names that has the text
 abbrev pub first_named : List Name → List ℕ → Option Name
 first_named [] text = None
 first_named (name ∷ more) text = if bytes_eq (text_of name) text then Some name else first_named more text
 
--- the name that has the text
+-- The name that has the text. The names are in the order of the code's table; that none is missing says
+-- `NamesAreTexts`.
 unfoldable pub name_of : List ℕ → Option Name
 name_of text = first_named EVERY text
 

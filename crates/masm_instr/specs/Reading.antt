@@ -8,14 +8,10 @@ use Rattle.masm_instr.specs.declared.constant.Const.{Const}
 use Rattle.masm_instr.specs.declared.refusal.InstrError.{InstrError}
 use Rattle.masm_instr.specs.declared.refusal.InstrError.TheVariants as errors
 use Rattle.masm_instr.specs.Names.{name_of}
-use Rattle.masm_instr.specs.Forms.{form_of, is_count, is_in_range}
+use Rattle.masm_instr.specs.Table.{form_of}
+use Rattle.masm_instr.specs.Constants.{constant_of}
 use Rattle.masm_instr.specs.Numbers.{number}
-use Rattle.masm_instr.specs.Instructions.{Instruction}
-
--- the value of the first constant of the name
-abbrev pub constant_of : List Const → List ℕ → Option ℕ
-constant_of [] name = None
-constant_of (c ∷ cs) name = if bytes_eq c.name name then Some c.value else constant_of cs name
+use Rattle.masm_instr.specs.Instructions.{Instruction, is_count, is_in_range}
 
 -- the number that a part gives, by itself or, where constants may stand, by a constant's name
 unfoldable pub parameter_of : List Const → Bool → List ℕ → Option ℕ

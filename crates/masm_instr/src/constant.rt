@@ -1,8 +1,10 @@
-ghost use Rattle.std.specs.Prelude.{◌≡◌, [], ◌∷◌, ◌++◌, OnOk, OnErr, IfSome, ◌<◌};
-ghost use Rattle.vm_field.specs.Field.{prime};
-ghost use Rattle.masm_instr.specs.Reading.{constant_of};
+ghost use Rattle.std.specs.Prelude.{◌≡◌, ℕ, List, [], ◌∷◌, ◌++◌, OnOk, OnErr, bytes_eq, if◌then◌else◌};
+ghost use Rattle.std.specs.Option.{option_or};
+ghost use Rattle.std.specs.BTreeMap.{IsUnchanged};
+ghost use Rattle.masm_instr.specs.Constants.{constant_of, value_at};
 
 use std::alloc::Global;
+use std::collections::BTreeMap;
 use std::marker::Model;
 use vm_field::{Bytes, Felt, Memory};
 
@@ -20,16 +22,40 @@ pub struct Const {
 /// The constants of a source so far, in their order.
 #[derive(Drop)]
 pub struct Consts {
+    alloc: Global,
     items: Vec<Const>,
+    // the first value of each name
+    values: BTreeMap<Vec<u8>, Felt>,
 }
 
 impl Model for Consts {
     ghost use Rattle.std.specs.Prelude.{List};
     ghost use Rattle.masm_instr.specs.declared.constant.Const.{Const};
+    ghost use Rattle.masm_instr.specs.Constants.{IsIndex};
 
     ghost Value = { List Const };
 
     ghost view = { λ a. a.items.items };
+
+    ghost invariant = { λ a. IsIndex a.values a.items.items };
+}
+
+// Gives a name a value, unless it has one.
+fn add_value(
+    values: &mut BTreeMap<Vec<u8>, Felt>,
+    alloc: Global,
+    name: &[u8],
+    value: Felt,
+) -> Result<(), Memory>
+    ensures ok { OnOk result ((text : List ℕ) → value_at values.new text ≡ option_or (value_at values.old text) (if bytes_eq name.now text then Some value else None)) }
+    ensures err { OnErr result (IsUnchanged values.old values.new) }
+{
+    if values.contains_key(name) {
+        return Ok(());
+    }
+    let key = Vec::from_slice(alloc, name)?;
+    values.insert(key, value)?;
+    Ok(())
 }
 
 impl Consts {
@@ -38,7 +64,9 @@ impl Consts {
         ensures empty { result ≡ [] }
     {
         Consts {
+            alloc,
             items: Vec::new(alloc),
+            values: BTreeMap::new(alloc),
         }
     }
 
@@ -47,7 +75,9 @@ impl Consts {
         ensures ok { OnOk result (self.new ≡ self.old ++ x ∷ []) }
         ensures err { OnErr result (self.new ≡ self.old) }
     {
-        self.items.push(x)?;
+        self.items.reserve(1)?;
+        add_value(&mut self.values, self.alloc, x.name.as_slice(), x.value)?;
+        self.items.push_reserved(x);
         Ok(())
     }
 
@@ -62,11 +92,6 @@ impl Consts {
     pub fn value_of(&self, name: &[u8]) -> Option<Felt>
         ensures { result ≡ constant_of self.now name.now }
     {
-        for constant in self.as_slice() {
-            if constant.name.as_slice() == name {
-                return Some(constant.value);
-            }
-        }
-        None
+        self.values.get(name).copied()
     }
 }

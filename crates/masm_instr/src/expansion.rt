@@ -1,6 +1,6 @@
 ghost use Rattle.std.specs.Prelude.{◌≡◌, ◌-◌, ◌%◌, ◌^◌, ◌<◌, ◌≤◌, [], ◌∷◌, ◌++◌, true, OnOk, IfOk};
 ghost use Rattle.vm_field.specs.Field.{prime};
-ghost use Rattle.masm_instr.specs.Forms.{form_of};
+ghost use Rattle.masm_instr.specs.Table.{form_of};
 ghost use Rattle.masm_instr.specs.Instructions.{is_in_form, names_local, HasLocal};
 ghost use Rattle.vm_ops.specs.declared.op.Op.TheVariants as ops;
 ghost use Rattle.vm_ops.specs.Items.{push_item};
@@ -11,9 +11,9 @@ use crate::moves::{
     add_dup, add_dupw, add_movdn, add_movdnw, add_movup, add_movupw, add_swap, add_swapw,
 };
 use crate::name::Name;
-use crate::operations::last_operations;
 use crate::pieces::{add_literals, add_plain, add_times, element, literal};
 use crate::powers::{add_digits, add_pow2, add_power, add_push};
+use crate::table::row_of;
 use std::alloc::Global;
 use vm_field::Memory;
 use vm_ops::{Items, Op};
@@ -144,6 +144,6 @@ pub fn expand(alloc: Global, instr: &Instr, locals: u32) -> Result<Items, Memory
 {
     let mut items = Items::new(alloc);
     add_front(&mut items, instr.name(), instr.numbers(), locals)?;
-    add_plain(&mut items, last_operations(instr.name()))?;
+    add_plain(&mut items, row_of(instr.name()).last)?;
     Ok(items)
 }

@@ -9,16 +9,16 @@ mod instr;
 mod moves;
 mod name;
 mod number;
-mod operations;
 mod pieces;
 mod powers;
 mod reading;
 mod refusal;
+mod table;
 
 pub use constant::{Const, Consts};
 pub use expansion::expand;
 pub use instr::{Instr, Numbers};
-pub use name::{EVERY, Name, name_of, names_are_texts};
+pub use name::{Name, name_of, names_are_texts};
 pub use number::read_number;
 pub use reading::{read_instr, read_parameter, split_token};
 pub use refusal::InstrError;

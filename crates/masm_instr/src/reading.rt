@@ -1,15 +1,15 @@
 ghost use Rattle.std.specs.Prelude.{◌≡◌, ◌==◌, map, IfOk, OnOk, bytes_eq};
 ghost use Rattle.std.specs.List.{list_all, list_any};
-ghost use Rattle.masm_instr.specs.Forms.{is_in_range};
-ghost use Rattle.masm_instr.specs.Instructions.{IsInForm};
+ghost use Rattle.masm_instr.specs.Instructions.{is_in_range, IsInForm};
 ghost use Rattle.masm_instr.specs.Reading.{parameter_of, parameters_of, formed, is_unsupported, parts_of, read, Gives};
 
 use crate::constant::Consts;
-use crate::form::{Form, form_of};
+use crate::form::Form;
 use crate::instr::{Instr, Numbers};
 use crate::name::{Name, name_of};
 use crate::number::read_number;
 use crate::refusal::InstrError;
+use crate::table::row_of;
 use std::alloc::{AllocError, Global};
 
 /// The parts of a token: what stands between its dots. There is always a first.
@@ -114,7 +114,7 @@ fn read_named(
 ) -> Result<Instr, InstrError>
     ensures { Gives result (formed consts.now (map (λ part. part.now) parts.now) name) }
 {
-    let form = form_of(name);
+    let form = row_of(name).form;
     if parts.len() < form.least || form.most < parts.len() {
         return Err(InstrError::Syntax);
     }

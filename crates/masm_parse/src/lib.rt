@@ -16,6 +16,7 @@ mod tree;
 pub use laws::least_refusal;
 pub use parsing::parse;
 pub use refusal::{Cause, ParseError, cause_text};
+pub use sign::Leaf;
 pub use tree::{Ast, At, Proc, Stmt};
 
 #[cfg(test)]

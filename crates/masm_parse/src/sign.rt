@@ -20,12 +20,16 @@ pub(crate) struct Header {
     pub at: At,
 }
 
-// A statement that is one token.
+/// A statement that is one token.
 #[derive(Drop)]
-pub(crate) enum Leaf {
+pub enum Leaf {
+    /// An instruction.
     Instr(Instr),
+    /// The body of the procedure of this name.
     Exec(Bytes),
+    /// A call of the procedure of this name.
     Call(Bytes),
+    /// A call of the kernel's procedure of this name.
     Syscall(Bytes),
 }
 
