@@ -6,6 +6,7 @@ ghost use Rattle.vm_ops.specs.Moves.{leaves_of};
 ghost use Rattle.vm_ops.specs.Values.{advice_of};
 ghost use Rattle.vm_state.specs.Views.{state_of};
 ghost use Rattle.op_steps.specs.Outcomes.{outcome, outcome_at, reads_more, seen_of};
+ghost use Rattle.op_steps.specs.Steps.{writes_memory};
 
 use crate::cells::Cells;
 use crate::on_stack::on_stack;
@@ -26,9 +27,11 @@ pub(crate) fn advice_taken(op: Op) -> usize
     }
 }
 
-// The cells that an operation leaves on top of this state's stack, or its trap.
+// The cells that an operation leaves on top of this state's stack, or its trap, of one that writes
+// no memory.
 #[tactic(auto, unfolding(crate::specs::Outcomes::outcome_at))]
 pub(crate) fn left_cells(params: &Params, item: &Item, state: &State) -> Result<Cells, Cause>
+    requires { writes_memory item.now.op ≡ false }
     ensures is { result ≡ outcome_at (constants_of params.now) item.now (state_of state.now) }
     ensures count { IfOk result (λ left. length left ≡ leaves_of item.now.op) }
     ensures sixteen { IfOk result (λ left. 16 ≤ length state.now.stack) }
@@ -43,7 +46,8 @@ pub(crate) fn left_cells(params: &Params, item: &Item, state: &State) -> Result<
 // The same where the tape is long enough.
 #[tactic(auto, unfolding(crate::specs::Outcomes::outcome, vm_ops::specs::Step::left_cells, vm_ops::specs::Values::computed, vm_ops::specs::Values::trap_of))]
 fn on_state(params: &Params, item: &Item, state: &State) -> Result<Cells, Cause>
-    requires { advice_of item.now.op ≤ length state.now.tape }
+    requires keeps { writes_memory item.now.op ≡ false }
+    requires tape { advice_of item.now.op ≤ length state.now.tape }
     ensures is { result ≡ outcome item.now.op (seen_of (constants_of params.now) item.now (state_of state.now)) }
     ensures count { IfOk result (λ left. length left ≡ leaves_of item.now.op) }
     ensures sixteen { 16 ≤ length state.now.stack }
@@ -53,10 +57,6 @@ fn on_state(params: &Params, item: &Item, state: &State) -> Result<Cells, Cause>
         Op::FmpAdd => Ok(Cells::one(cells[0].add(state.fmp))),
         Op::MLoad => Ok(Cells::one(addressed_word(state)?[0])),
         Op::MLoadW => Ok(Cells::of_word(addressed_word(state)?)),
-        Op::MStore | Op::MStoreW => {
-            let _ = address(state)?;
-            Ok(Cells::none())
-        }
         Op::Caller => caller(state),
         Op::AdvPop => Ok(Cells::one(state.advice_at(0))),
         Op::AdvPopW => Ok(Cells::of_word(next_word(state))),

@@ -6,7 +6,7 @@ use vm_field::{Felt, felt_at};
 use vm_ops::Op;
 
 // The cells that an operation moves, top first.
-pub(crate) fn sources(op: Op) -> &'static [usize]
+fn sources(op: Op) -> &'static [usize]
     ensures is { result.now ≡ sources_of op }
     ensures few { length result.now ≤ 16 }
     ensures visible { All (λ i. i < 16) result.now }

@@ -10,7 +10,7 @@ use vm_ops::{Op, Shift, shift};
 use vm_state::State;
 
 // Writes cells over the top of the stack.
-pub(crate) fn overwrite(state: &mut State, cells: &[Felt])
+fn overwrite(state: &mut State, cells: &[Felt])
     requires few { length cells.now ≤ 16 }
     requires sixteen { 16 ≤ length state.old.stack }
     ensures { state.new ≡ record state.old { stack = cells.now ++ drop (length cells.now) state.old.stack } }
