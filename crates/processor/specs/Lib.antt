@@ -1,2 +1,6 @@
+pub mod Effects
 pub mod Events
 pub mod Executed
+pub mod Marks
+pub mod Nodes
+pub mod Settings

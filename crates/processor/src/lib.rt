@@ -1,10 +1,14 @@
 //! The processor: it runs a program's tree as it is given, and keeps what each cycle shows.
 #![tactic(auto)]
 
+mod effect;
 mod event;
 mod execution;
+mod mark;
+mod node;
 mod refusal;
 mod run;
+mod setting;
 
 pub use event::{Event, Events, Visible};
 pub use execution::execute;
