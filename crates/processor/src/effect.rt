@@ -174,7 +174,7 @@ fn enter_syscall(state: &mut State, kernel: &[Word], callee: &Word) -> Result<()
 fn is_in_kernel(kernel: &[Word], callee: &Word) -> bool
     ensures { result ≡ is_in_kernel kernel.now callee.now }
 {
-    kernel.contains(callee)
+    kernel.iter().any(|word| callee == word)
 }
 
 // What was set aside comes back.

@@ -1,6 +1,8 @@
 //! The processor: it runs a program's tree as it is given, and keeps what each cycle shows.
 #![tactic(auto)]
 
+mod blocks;
+mod cycle;
 mod effect;
 mod event;
 mod execution;

@@ -1,4 +1,4 @@
-ghost use Rattle.std.specs.Prelude.{◌≡◌, IfOk};
+ghost use Rattle.std.specs.Prelude.{◌≡◌, ℕ, List, IfOk};
 ghost use Rattle.rpo_hash.specs.Constants.{constants_of};
 ghost use Rattle.block_tree.specs.TreeView.{tree_of};
 ghost use Rattle.block_tree.specs.Trees.{tree_digest};
@@ -26,7 +26,8 @@ pub(crate) enum Node<'a> {
 impl Node<'_> {
     // The digest of the block.
     pub fn digest(&self) -> Word
-        ensures { result ≡ digest_in self.now }
+        ensures is { result ≡ digest_in self.now }
+        ensures hashed { (constants : List ℕ) → IsHashed constants self.now → result ≡ tree_digest constants (node_tree self.now) }
     {
         match self {
             Node::Opaque(digest)

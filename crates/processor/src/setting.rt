@@ -5,6 +5,7 @@ use std::alloc::Global;
 use vm_field::Word;
 
 // What stays the same over a run.
+#[derive(Clone, Copy, Drop)]
 pub(crate) struct Setting<'a> {
     pub alloc: Global,
     pub params: &'a Params,
