@@ -12,7 +12,7 @@ use Rattle.block_tree.proofs.Tapes.{fed-execution}
 use Rattle.vm_state.specs.Views.{state_of}
 use Rattle.vm_state.specs.declared.inputs.Inputs.{Inputs}
 use Rattle.processor.specs.Executed.{IsRunOf, outcome_of}
-use Rattle.processor.specs.Running.{Ran, IsDone}
+use Rattle.processor.specs.Running.{Ran, shown_in}
 use Rattle.processor.specs.Settings.{constants_in, execution_in}
 use Rattle.processor.specs.declared.cycle.Runner.{Runner}
 use Rattle.processor.specs.declared.event.Event.{Event}
@@ -29,23 +29,33 @@ front whole taken left e =
     let size : length whole - length left ≡ length taken = omega arith in
     rw size (e ∙ ap (λ x. x ++ left) (sym (ap (take (length taken)) e ∙ take-append_seam taken left)))
 
--- a setting and a start as the program and its inputs give them
-pub record IsBegun (params : Params) (program : Program) (inputs : Inputs) (limit : ℕ) (setting : Setting) (tree : Tree) (s : machine.State) : Type 0 where
-  pub params : setting.params.now ≡ params
-  pub kernel : setting.kernel.now ≡ program.kernel
-  pub limit : setting.limit ≡ limit
-  pub tree : tree ≡ tree_of program.tree
-  pub state : s ≡ start inputs.stack inputs.advice
+module _ (tree : Tree) (s : machine.State) (inputs : Inputs) where
+  tape_split : (setting : Setting) (log : List Event) {u : Unit {0}} (after : Runner) → s ≡ start inputs.stack inputs.advice
+      → Ran setting (execution_in setting tree s) log (Ok u) after
+      → inputs.advice ≡ take (length inputs.advice - length after.state.tape) inputs.advice ++ after.state.tape
+  tape_split setting log after e h =
+      front inputs.advice (tape_taken h.answer.more) after.state.tape
+      (sym (start-tape inputs.stack inputs.advice s e)
+      ∙ (fed-execution (constants_in setting) setting.kernel.now setting.limit tree s (state_of after.state) h.answer.more h.answer.done).tape)
 
-pub tape_split : (setting : Setting) (tree : Tree) (stack advice : List ℕ) (s : machine.State) (log : List Event) {u : Unit {0}} (after : Runner) → s ≡ start stack advice
-    → Ran setting (execution_in setting tree s) log (Ok u) after → advice ≡ take (length advice - length after.state.tape) advice ++ after.state.tape
-tape_split setting tree stack advice s log after e h =
-    front advice (tape_taken h.answer.more) after.state.tape
-    (sym (start-tape stack advice s e) ∙ (fed-execution (constants_in setting) setting.kernel.now setting.limit tree s (state_of after.state) h.answer.more h.answer.done).tape)
+  -- no more is left of the tape than it had
+  pub tape_fits : {setting : Setting} {log : List Event} {u : Unit {0}} {after : Runner} → Ran setting (execution_in setting tree s) log (Ok u) after
+      → s ≡ start inputs.stack inputs.advice → length after.state.tape ≤ length inputs.advice
+  tape_fits {setting} {log} {after = after} h e =
+      let split : length inputs.advice ≡ length (take (length inputs.advice - length after.state.tape) inputs.advice) + length after.state.tape
+      = ap length (tape_split setting log after e h) ∙ length-append (take (length inputs.advice - length after.state.tape) inputs.advice) after.state.tape in
+      omega arith
 
-pub tape_fits : (setting : Setting) (tree : Tree) (stack advice : List ℕ) (s : machine.State) (log : List Event) {u : Unit {0}} (after : Runner) → s ≡ start stack advice
-    → Ran setting (execution_in setting tree s) log (Ok u) after → length after.state.tape ≤ length advice
-tape_fits setting tree stack advice s log after e h =
-    let split : length advice ≡ length (take (length advice - length after.state.tape) advice) + length after.state.tape
-    = ap length (tape_split setting tree stack advice s log after e h) ∙ length-append (take (length advice - length after.state.tape) advice) after.state.tape in
-    omega arith
+  -- a run to its end
+  pub run_of : (params : Params) (program : Program) (limit : ℕ) (tape : List ℕ) {setting : Setting} {log : List Event} {u : Unit {0}} {after : Runner}
+      → Ran setting (execution_in setting tree s) log (Ok u) after → log ≡ []
+      → setting.params.now ≡ params → setting.kernel.now ≡ program.kernel → setting.limit ≡ limit
+      → tree ≡ tree_of program.tree → s ≡ start inputs.stack inputs.advice
+      → tape ≡ take (length inputs.advice - length after.state.tape) inputs.advice
+      → IsRunOf params program inputs limit (record { state = after.state; tape = tape; events = after.log })
+  run_of params program limit tape {setting} {log} {after = after} h no_log is_params is_kernel is_limit is_tree is_start is_tape = record {
+    log = h.answer.more;
+    done = rw (← is_params, ← is_kernel, ← is_limit, ← is_tree, ← is_start) h.answer.done;
+    events = rw (← is_params, ← is_kernel) (h.answer.events ∙ ap (λ x. x ++ map (shown_in setting) h.answer.more) no_log);
+    tape = rw is_tape (tape_split setting log after is_start h);
+  }
