@@ -23,3 +23,14 @@ impl From<Memory> for StepStop {
         StepStop::Memory
     }
 }
+
+impl From<Cause> for StepStop {
+    ghost use Rattle.std.specs.Prelude.{◌≡◌};
+    ghost use Rattle.op_steps.specs.declared.refusal.StepStop.TheVariants.{Trap};
+
+    ghost from_gives = { λ cause e. e ≡ Trap cause };
+
+    fn from(cause: Cause) -> StepStop {
+        StepStop::Trap(cause)
+    }
+}
