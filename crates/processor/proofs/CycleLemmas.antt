@@ -49,11 +49,13 @@ pub ran-done : (setting : Setting) (mark : cycles.Mark) (s : machine.State) (log
     → after.log ≡ log ++ event ∷ []
     → event ≡ shown_between mark (take (advice_taken mark) s.tape) s.core (core_of after.state)
     → Ran setting (cycle_in setting mark s) log (Ok u) after
-ran-done setting mark s log after u event done logged is = record { answer = record {
-  more = event_of mark (advice_taken mark) s ∷ [];
-  done = done;
-  events = logged ∙ ap (λ x. log ++ x ∷ []) is ∙ ap (λ x. log ++ x) (sym (shown-done setting mark s (state_of after.state) _ done));
-} }
+ran-done setting mark s log after u event done logged is = record {
+  answer = record {
+    more = event_of mark (advice_taken mark) s ∷ [];
+    done = done;
+    events = logged ∙ ap (λ x. log ++ x ∷ []) is ∙ ap (λ x. log ++ x) (sym (shown-done setting mark s (state_of after.state) _ done));
+  };
+}
 
 -- such a cycle takes nothing of the tape
 no_advice : (m : Mark) → advice_taken (mark_of m) ≡ 0

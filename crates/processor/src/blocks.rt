@@ -49,7 +49,11 @@ fn join(
     requires second { IsHashed (constants_in setting.now) second.now }
     ensures { Ran setting.now (execution_in setting.now (trees.Join (node_tree first.now) (node_tree second.now)) (state_of runner.old.state)) runner.old.log result runner.new }
 {
-    cycle(runner, setting, &Mark::StartJoin(first.digest(), second.digest()))?;
+    cycle(
+        runner,
+        setting,
+        &Mark::StartJoin(first.digest(), second.digest()),
+    )?;
     block(runner, setting, first)?;
     block(runner, setting, second)?;
     cycle(runner, setting, &Mark::End(*digest))
@@ -69,7 +73,11 @@ fn split(
     ensures { Ran setting.now (execution_in setting.now (trees.Split (node_tree on_one.now) (node_tree on_zero.now)) (state_of runner.old.state)) runner.old.log result runner.new }
 {
     let condition = top_of(&runner.state);
-    cycle(runner, setting, &Mark::StartSplit(on_one.digest(), on_zero.digest()))?;
+    cycle(
+        runner,
+        setting,
+        &Mark::StartSplit(on_one.digest(), on_zero.digest()),
+    )?;
     branch(runner, setting, condition, on_one, on_zero)?;
     cycle(runner, setting, &Mark::End(*digest))
 }
@@ -95,12 +103,7 @@ fn branch(
 }
 
 #[cycle(blocks)]
-fn repeated(
-    runner: &mut Runner,
-    setting: &Setting,
-    digest: &Word,
-    body: &Node,
-) -> Result<(), Stop>
+fn repeated(runner: &mut Runner, setting: &Setting, digest: &Word, body: &Node) -> Result<(), Stop>
     requires digest { digest.now ≡ digest_of setting.now (trees.Loop (node_tree body.now)) }
     requires body { IsHashed (constants_in setting.now) body.now }
     ensures { Ran setting.now (execution_in setting.now (trees.Loop (node_tree body.now)) (state_of runner.old.state)) runner.old.log result runner.new }
@@ -116,12 +119,7 @@ fn repeated(
 
 // The turns of a loop that was entered, until a 0 is on top behind one.
 #[cycle(blocks)]
-fn turns(
-    runner: &mut Runner,
-    setting: &Setting,
-    digest: &Word,
-    body: &Node,
-) -> Result<(), Stop>
+fn turns(runner: &mut Runner, setting: &Setting, digest: &Word, body: &Node) -> Result<(), Stop>
     requires body { IsHashed (constants_in setting.now) body.now }
     ensures { (n : ℕ) → setting.now.limit ≤ n + runner.old.state.clock
         → Ran setting.now (turns_in setting.now digest.now (node_tree body.now) n (state_of runner.old.state)) runner.old.log result runner.new }
@@ -136,12 +134,7 @@ fn turns(
 }
 
 #[cycle(blocks)]
-fn call(
-    runner: &mut Runner,
-    setting: &Setting,
-    digest: &Word,
-    callee: &Node,
-) -> Result<(), Stop>
+fn call(runner: &mut Runner, setting: &Setting, digest: &Word, callee: &Node) -> Result<(), Stop>
     requires digest { digest.now ≡ digest_of setting.now (trees.Call (node_tree callee.now)) }
     requires callee { IsHashed (constants_in setting.now) callee.now }
     ensures { Ran setting.now (execution_in setting.now (trees.Call (node_tree callee.now)) (state_of runner.old.state)) runner.old.log result runner.new }
@@ -153,12 +146,7 @@ fn call(
 }
 
 #[cycle(blocks)]
-fn syscall(
-    runner: &mut Runner,
-    setting: &Setting,
-    digest: &Word,
-    callee: &Node,
-) -> Result<(), Stop>
+fn syscall(runner: &mut Runner, setting: &Setting, digest: &Word, callee: &Node) -> Result<(), Stop>
     requires digest { digest.now ≡ digest_of setting.now (trees.Syscall (node_tree callee.now)) }
     requires callee { IsHashed (constants_in setting.now) callee.now }
     ensures { Ran setting.now (execution_in setting.now (trees.Syscall (node_tree callee.now)) (state_of runner.old.state)) runner.old.log result runner.new }

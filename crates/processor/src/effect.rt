@@ -15,11 +15,7 @@ use vm_ops::Cause;
 use vm_state::State;
 
 // What a cycle that is no operation does to all of the state but its clock.
-pub(crate) fn effect(
-    state: &mut State,
-    setting: &Setting,
-    mark: &Mark,
-) -> Result<(), StepStop>
+pub(crate) fn effect(state: &mut State, setting: &Setting, mark: &Mark) -> Result<(), StepStop>
     requires clock { state.old.clock ≤ 524287 }
     ensures { Effected (effect_of (constants_in setting.now) setting.now.kernel.now (mark_of mark.now) [] (core_of state.old)) result state.old state.new }
 {

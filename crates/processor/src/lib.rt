@@ -11,6 +11,8 @@ mod node;
 mod refusal;
 mod run;
 mod setting;
+#[cfg(test)]
+mod tests;
 
 pub use event::{Event, Events, Visible};
 pub use execution::execute;

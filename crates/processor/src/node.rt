@@ -42,11 +42,7 @@ impl Node<'_> {
 }
 
 // The tree with its digests.
-pub(crate) fn hashed<'a>(
-    alloc: Global,
-    params: &Params,
-    tree: &'a Tree,
-) -> Result<Node<'a>, Memory>
+pub(crate) fn hashed<'a>(alloc: Global, params: &Params, tree: &'a Tree) -> Result<Node<'a>, Memory>
     ensures hashed { IfOk result (λ node. IsHashed (constants_of params.now) node) }
     ensures tree { IfOk result (λ node. node_tree node ≡ tree_of tree.now) }
     ensures digest { IfOk result (λ node. digest_in node ≡ tree_digest (constants_of params.now) (tree_of tree.now)) }
