@@ -4,8 +4,7 @@ use op_pack::Batches;
 use rpo_hash::Params;
 use std::alloc::Global;
 use std::process::Abort;
-use std::test::Fail;
-use vm_field::{Felt, Felts, Word, Words};
+use vm_field::{Felt, Felts, Memory, Word, Words};
 use vm_ops::{Cause, Op, opcode};
 use vm_state::Inputs;
 
@@ -43,88 +42,107 @@ struct End<'a> {
     left: usize,
 }
 
-fn felts(alloc: Global, numbers: &[u64]) -> Result<Felts, Fail> {
+// A tree, if there is memory.
+type Made = Result<Tree, Memory>;
+
+fn felt(number: u64) -> Felt {
+    Felt::reduced(u128::from(number))
+}
+
+fn felts(alloc: Global, numbers: &[u64]) -> Result<Felts, Memory> {
     let mut felts = Felts::new(alloc);
     for number in numbers {
-        felts.push(Felt::try_from_u64(*number)?)?;
+        felts.push(felt(*number))?;
     }
     Ok(felts)
 }
 
 // The batch of one group, and the immediates behind it.
-fn batch(ops: &[Op], immediates: &[u64]) -> Result<[Felt; 8], Fail> {
+fn batch(ops: &[Op], immediates: &[u64]) -> [Felt; 8] {
     let mut number: u64 = 0;
     for op in ops.iter().rev() {
         number = number
             .wrapping_mul(128)
             .wrapping_add(u64::from(opcode(*op)));
     }
-    let mut batch = [Felt::ZERO; 8];
-    batch[0] = Felt::try_from_u64(number)?;
-    for (place, value) in batch[1..].iter_mut().zip(immediates) {
-        *place = Felt::try_from_u64(*value)?;
+    let mut batch = [felt(number); 8];
+    for i in 0..7 {
+        batch[1 + i] = felt(immediates.get(i).copied().unwrap_or(0));
     }
-    Ok(batch)
+    batch
 }
 
-fn span(alloc: Global, ops: &[Op], immediates: &[u64]) -> Result<Tree, Fail> {
-    Ok(Tree::Span(Batches::of(alloc, batch(ops, immediates)?)?))
+fn span(alloc: Global, ops: &[Op], immediates: &[u64]) -> Made {
+    Ok(Tree::Span(Batches::of(alloc, batch(ops, immediates))?))
 }
 
-fn two_batches(alloc: Global, first: &[Op], second: &[Op]) -> Result<Tree, Fail> {
-    let mut batches = Batches::of(alloc, batch(first, &[])?)?;
-    batches.push(batch(second, &[])?)?;
+fn two_batches(alloc: Global, first: &[Op], second: &[Op]) -> Made {
+    let mut batches = Batches::of(alloc, batch(first, &[]))?;
+    batches.push(batch(second, &[]))?;
     Ok(Tree::Span(batches))
 }
 
-fn join(alloc: Global, first: Tree, second: Tree) -> Result<Tree, Fail> {
-    Ok(Tree::Join(Box::new(alloc, first)?, Box::new(alloc, second)?))
+fn join(alloc: Global, first: Made, second: Made) -> Made {
+    Ok(Tree::Join(Box::new(alloc, first?)?, Box::new(alloc, second?)?))
 }
 
-fn split(alloc: Global, on_one: Tree, on_zero: Tree) -> Result<Tree, Fail> {
-    Ok(Tree::Split(Box::new(alloc, on_one)?, Box::new(alloc, on_zero)?))
+fn split(alloc: Global, on_one: Made, on_zero: Made) -> Made {
+    Ok(Tree::Split(Box::new(alloc, on_one?)?, Box::new(alloc, on_zero?)?))
 }
 
-fn repeated(alloc: Global, body: Tree) -> Result<Tree, Fail> {
-    Ok(Tree::Loop(Box::new(alloc, body)?))
+fn repeated(alloc: Global, body: Made) -> Made {
+    Ok(Tree::Loop(Box::new(alloc, body?)?))
 }
 
-fn call(alloc: Global, callee: Tree) -> Result<Tree, Fail> {
-    Ok(Tree::Call(Box::new(alloc, callee)?))
+fn call(alloc: Global, callee: Made) -> Made {
+    Ok(Tree::Call(Box::new(alloc, callee?)?))
 }
 
-fn syscall(alloc: Global, callee: Tree) -> Result<Tree, Fail> {
-    Ok(Tree::Syscall(Box::new(alloc, callee)?))
+fn syscall(alloc: Global, callee: Made) -> Made {
+    Ok(Tree::Syscall(Box::new(alloc, callee?)?))
 }
 
-fn opaque() -> Tree {
-    Tree::Opaque(Word::ZERO)
+fn opaque() -> Made {
+    Ok(Tree::Opaque(Word::ZERO))
 }
 
-fn ran(rt: &impl Abort, alloc: Global, tree: Tree, case: &Case) -> Result<Result<Run, Stop>, Fail> {
-    let kernel = Words::copied(alloc, case.kernel)?;
+fn digest_of(made: &Made) -> Word {
+    match made {
+        Ok(tree) => digest(&NO_CONSTANTS, tree),
+        Err(_) => Word::ZERO,
+    }
+}
+
+fn program(rt: &impl Abort, alloc: Global, made: Made, kernel: &[Word]) -> Program {
+    let tree = made.expect(rt, "a tree");
+    let kernel = Words::copied(alloc, kernel).expect(rt, "a kernel");
     assert!(rt; kernel.len() <= 255);
     assert!(rt; are_distinct(kernel.as_slice()));
-    let program = Program::new(tree, kernel, Exports::new(alloc));
-    let stack = felts(alloc, case.stack)?;
-    let advice = felts(alloc, case.advice)?;
+    Program::new(tree, kernel, Exports::new(alloc))
+}
+
+fn inputs(rt: &impl Abort, alloc: Global, case: &Case) -> Inputs {
+    let stack = felts(alloc, case.stack).expect(rt, "a stack");
+    let advice = felts(alloc, case.advice).expect(rt, "advice");
     assert!(rt; stack.len() <= 16);
     assert!(rt; advice.len() <= 1048576);
-    let inputs = Inputs::new(stack, advice);
+    Inputs::new(stack, advice)
+}
+
+fn ran(rt: &impl Abort, alloc: Global, made: Made, case: &Case) -> Result<Run, Stop> {
     assert!(rt; case.limit <= 524287);
-    Ok(execute(alloc, &NO_CONSTANTS, &program, &inputs, case.limit))
+    execute(
+        alloc,
+        &NO_CONSTANTS,
+        &program(rt, alloc, made, case.kernel),
+        &inputs(rt, alloc, case),
+        case.limit,
+    )
 }
 
 // The tree runs to such an end.
-fn ends(
-    rt: &impl Abort,
-    alloc: Global,
-    name: &str,
-    tree: Tree,
-    case: &Case,
-    end: End,
-) -> Result<(), Fail> {
-    let run = ran(rt, alloc, tree, case)??;
+fn ends(rt: &impl Abort, alloc: Global, name: &str, made: Made, case: &Case, end: End) {
+    let run = ran(rt, alloc, made, case).expect(rt, name);
     assert_eq!(rt; run.events.len(), end.cycles, "cycles of {name}");
     assert_eq!(rt; run.state.clock as usize, end.cycles, "clock of {name}");
     assert_eq!(rt; run.state.depth(), end.depth, "depth of {name}");
@@ -138,29 +156,25 @@ fn ends(
             "cell {cell} of {name}"
         );
     }
+    takes(rt, name, &run, case, end.left);
+}
+
+// The run took the tape's elements but for so many.
+fn takes(rt: &impl Abort, name: &str, run: &Run, case: &Case, left: usize) {
     for (taken, given) in run.tape.as_slice().iter().zip(case.advice) {
         assert_eq!(rt; taken.value(), *given, "tape of {name}");
     }
     assert_eq!(rt;
-        run.tape.len() + end.left,
-        case.advice.len(),
+        run.tape.len(),
+        case.advice.len().saturating_sub(left),
         "tape of {name}"
     );
-    Ok(())
 }
 
 // The tree stops so.
-fn stops(
-    rt: &impl Abort,
-    alloc: Global,
-    name: &str,
-    tree: Tree,
-    case: &Case,
-    stop: Stop,
-) -> Result<(), Fail> {
-    let stopped = ran(rt, alloc, tree, case)?.err();
+fn stops(rt: &impl Abort, alloc: Global, name: &str, made: Made, case: &Case, stop: Stop) {
+    let stopped = ran(rt, alloc, made, case).err();
     assert_eq!(rt; stopped, Some(stop), "{name}");
-    Ok(())
 }
 
 fn trap(clock: u32, cause: Cause) -> Stop {
@@ -168,7 +182,7 @@ fn trap(clock: u32, cause: Cause) -> Stop {
 }
 
 #[test]
-fn runs_spans_and_branches(rt: HostRuntime) -> Result<(), Fail> {
+fn runs_spans_and_branches(rt: HostRuntime) {
     let alloc = rt.alloc();
     let one = || span(alloc, &[Op::Incr], &[]);
     let two = || span(alloc, &[Op::Incr, Op::Incr], &[]);
@@ -176,7 +190,7 @@ fn runs_spans_and_branches(rt: HostRuntime) -> Result<(), Fail> {
         &rt,
         alloc,
         "2 + 3 and 7",
-        span(alloc, &[Op::Push, Op::Push, Op::Add, Op::Push], &[2, 3, 7])?,
+        span(alloc, &[Op::Push, Op::Push, Op::Add, Op::Push], &[2, 3, 7]),
         &plain(),
         End {
             cycles: 7,
@@ -184,12 +198,12 @@ fn runs_spans_and_branches(rt: HostRuntime) -> Result<(), Fail> {
             depth: 18,
             left: 0,
         },
-    )?;
+    );
     ends(
         &rt,
         alloc,
         "two batches",
-        two_batches(alloc, &[Op::Incr], &[Op::Incr, Op::Incr])?,
+        two_batches(alloc, &[Op::Incr], &[Op::Incr, Op::Incr]),
         &plain(),
         End {
             cycles: 6,
@@ -197,12 +211,12 @@ fn runs_spans_and_branches(rt: HostRuntime) -> Result<(), Fail> {
             depth: 16,
             left: 0,
         },
-    )?;
+    );
     ends(
         &rt,
         alloc,
         "advice",
-        span(alloc, &[Op::AdvPop, Op::AdvPop], &[])?,
+        span(alloc, &[Op::AdvPop, Op::AdvPop], &[]),
         &Case {
             advice: &[6, 7, 8],
             ..plain()
@@ -213,12 +227,12 @@ fn runs_spans_and_branches(rt: HostRuntime) -> Result<(), Fail> {
             depth: 18,
             left: 1,
         },
-    )?;
+    );
     ends(
         &rt,
         alloc,
         "join",
-        join(alloc, one()?, two()?)?,
+        join(alloc, one(), two()),
         &plain(),
         End {
             cycles: 9,
@@ -226,12 +240,12 @@ fn runs_spans_and_branches(rt: HostRuntime) -> Result<(), Fail> {
             depth: 16,
             left: 0,
         },
-    )?;
+    );
     ends(
         &rt,
         alloc,
         "split on 1",
-        split(alloc, one()?, two()?)?,
+        split(alloc, one(), two()),
         &Case {
             stack: &[1, 5],
             ..plain()
@@ -242,12 +256,12 @@ fn runs_spans_and_branches(rt: HostRuntime) -> Result<(), Fail> {
             depth: 16,
             left: 0,
         },
-    )?;
+    );
     ends(
         &rt,
         alloc,
         "split on 0",
-        split(alloc, one()?, two()?)?,
+        split(alloc, one(), two()),
         &Case {
             stack: &[0, 5],
             ..plain()
@@ -258,11 +272,11 @@ fn runs_spans_and_branches(rt: HostRuntime) -> Result<(), Fail> {
             depth: 16,
             left: 0,
         },
-    )
+    );
 }
 
 #[test]
-fn runs_loops(rt: HostRuntime) -> Result<(), Fail> {
+fn runs_loops(rt: HostRuntime) {
     let alloc = rt.alloc();
     let body = || span(alloc, &[Op::Noop], &[]);
     let rows: [(&[u64], usize); 3] = [(&[0, 4], 2), (&[1, 0, 4], 5), (&[1, 1, 0, 4], 9)];
@@ -271,7 +285,7 @@ fn runs_loops(rt: HostRuntime) -> Result<(), Fail> {
             &rt,
             alloc,
             "loop",
-            repeated(alloc, body()?)?,
+            repeated(alloc, body()),
             &Case { stack, ..plain() },
             End {
                 cycles,
@@ -279,18 +293,18 @@ fn runs_loops(rt: HostRuntime) -> Result<(), Fail> {
                 depth: 16,
                 left: 0,
             },
-        )?;
+        );
     }
     let halves = split(
         alloc,
-        span(alloc, &[Op::Swap, Op::Swap], &[])?,
-        span(alloc, &[Op::Neg, Op::Neg], &[])?,
-    )?;
+        span(alloc, &[Op::Swap, Op::Swap], &[]),
+        span(alloc, &[Op::Neg, Op::Neg], &[]),
+    );
     ends(
         &rt,
         alloc,
         "loop of a split",
-        repeated(alloc, halves)?,
+        repeated(alloc, halves),
         &Case {
             stack: &[1, 1, 1, 0, 0],
             ..plain()
@@ -301,11 +315,11 @@ fn runs_loops(rt: HostRuntime) -> Result<(), Fail> {
             depth: 16,
             left: 0,
         },
-    )
+    );
 }
 
 #[test]
-fn runs_calls(rt: HostRuntime) -> Result<(), Fail> {
+fn runs_calls(rt: HostRuntime) {
     let alloc = rt.alloc();
     let add_fmp = || span(alloc, &[Op::FmpAdd], &[]);
     let nothing = || span(alloc, &[Op::Noop], &[]);
@@ -315,9 +329,9 @@ fn runs_calls(rt: HostRuntime) -> Result<(), Fail> {
         "hidden cells come back",
         join(
             alloc,
-            span(alloc, &[Op::Push], &[9])?,
-            call(alloc, span(alloc, &[Op::Push, Op::Add], &[1])?)?,
-        )?,
+            span(alloc, &[Op::Push], &[9]),
+            call(alloc, span(alloc, &[Op::Push, Op::Add], &[1])),
+        ),
         &Case {
             stack: &[1, 2, 3, 4, 5, 6, 7, 8, 9, 10, 11, 12, 13, 14, 15, 16],
             ..plain()
@@ -328,16 +342,16 @@ fn runs_calls(rt: HostRuntime) -> Result<(), Fail> {
             depth: 17,
             left: 0,
         },
-    )?;
+    );
     ends(
         &rt,
         alloc,
         "fmp of a call",
         join(
             alloc,
-            span(alloc, &[Op::Push, Op::FmpUpdate], &[3])?,
-            call(alloc, add_fmp()?)?,
-        )?,
+            span(alloc, &[Op::Push, Op::FmpUpdate], &[3]),
+            call(alloc, add_fmp()),
+        ),
         &Case {
             stack: &[5],
             ..plain()
@@ -348,16 +362,13 @@ fn runs_calls(rt: HostRuntime) -> Result<(), Fail> {
             depth: 16,
             left: 0,
         },
-    )?;
-    let kernel = [
-        digest(&NO_CONSTANTS, &add_fmp()?),
-        digest(&NO_CONSTANTS, &nothing()?),
-    ];
+    );
+    let kernel = [digest_of(&add_fmp()), digest_of(&nothing())];
     ends(
         &rt,
         alloc,
         "fmp of a syscall",
-        syscall(alloc, add_fmp()?)?,
+        syscall(alloc, add_fmp()),
         &Case {
             kernel: &kernel,
             stack: &[5],
@@ -369,12 +380,12 @@ fn runs_calls(rt: HostRuntime) -> Result<(), Fail> {
             depth: 16,
             left: 0,
         },
-    )?;
+    );
     ends(
         &rt,
         alloc,
         "fmp behind a syscall",
-        join(alloc, syscall(alloc, nothing()?)?, add_fmp()?)?,
+        join(alloc, syscall(alloc, nothing()), add_fmp()),
         &Case {
             kernel: &kernel,
             stack: &[5],
@@ -386,14 +397,14 @@ fn runs_calls(rt: HostRuntime) -> Result<(), Fail> {
             depth: 16,
             left: 0,
         },
-    )
+    );
 }
 
 #[test]
-fn traps_at_cycles(rt: HostRuntime) -> Result<(), Fail> {
+fn traps_at_cycles(rt: HostRuntime) {
     let alloc = rt.alloc();
     let nothing = || span(alloc, &[Op::Noop], &[]);
-    let joined = join(alloc, nothing()?, opaque())?;
+    let joined = join(alloc, nothing(), opaque());
     stops(
         &rt,
         alloc,
@@ -401,7 +412,7 @@ fn traps_at_cycles(rt: HostRuntime) -> Result<(), Fail> {
         opaque(),
         &plain(),
         trap(0, Cause::OpaqueBlock),
-    )?;
+    );
     stops(
         &rt,
         alloc,
@@ -409,8 +420,8 @@ fn traps_at_cycles(rt: HostRuntime) -> Result<(), Fail> {
         joined,
         &plain(),
         trap(4, Cause::OpaqueBlock),
-    )?;
-    let bad = span(alloc, &[Op::Join], &[])?;
+    );
+    let bad = span(alloc, &[Op::Join], &[]);
     stops(
         &rt,
         alloc,
@@ -418,8 +429,8 @@ fn traps_at_cycles(rt: HostRuntime) -> Result<(), Fail> {
         bad,
         &plain(),
         trap(0, Cause::BadBatch),
-    )?;
-    let bad = two_batches(alloc, &[Op::Noop], &[Op::Push])?;
+    );
+    let bad = two_batches(alloc, &[Op::Noop], &[Op::Push]);
     stops(
         &rt,
         alloc,
@@ -427,12 +438,12 @@ fn traps_at_cycles(rt: HostRuntime) -> Result<(), Fail> {
         bad,
         &plain(),
         trap(2, Cause::BadBatch),
-    )?;
+    );
     let by_two = Case {
         stack: &[2],
         ..plain()
     };
-    let tree = split(alloc, nothing()?, nothing()?)?;
+    let tree = split(alloc, nothing(), nothing());
     stops(
         &rt,
         alloc,
@@ -440,16 +451,16 @@ fn traps_at_cycles(rt: HostRuntime) -> Result<(), Fail> {
         tree,
         &by_two,
         trap(0, Cause::NotBinary),
-    )?;
-    let tree = repeated(alloc, nothing()?)?;
-    stops(&rt, alloc, "loop", tree, &by_two, trap(0, Cause::NotBinary))?;
+    );
+    let tree = repeated(alloc, nothing());
+    stops(&rt, alloc, "loop", tree, &by_two, trap(0, Cause::NotBinary));
     let later = Case {
         stack: &[1, 2],
         ..plain()
     };
-    let tree = repeated(alloc, nothing()?)?;
-    stops(&rt, alloc, "body", tree, &later, trap(4, Cause::NotBinary))?;
-    let tree = call(alloc, span(alloc, &[Op::Push], &[1])?)?;
+    let tree = repeated(alloc, nothing());
+    stops(&rt, alloc, "body", tree, &later, trap(4, Cause::NotBinary));
+    let tree = call(alloc, span(alloc, &[Op::Push], &[1]));
     stops(
         &rt,
         alloc,
@@ -457,24 +468,21 @@ fn traps_at_cycles(rt: HostRuntime) -> Result<(), Fail> {
         tree,
         &plain(),
         trap(5, Cause::DepthAtReturn),
-    )
+    );
 }
 
 #[test]
-fn traps_in_syscalls(rt: HostRuntime) -> Result<(), Fail> {
+fn traps_in_syscalls(rt: HostRuntime) {
     let alloc = rt.alloc();
     let nothing = || span(alloc, &[Op::Noop], &[]);
-    let calls = call(alloc, nothing()?)?;
-    let serves = syscall(alloc, nothing()?)?;
-    let kernel = [
-        digest(&NO_CONSTANTS, &calls),
-        digest(&NO_CONSTANTS, &serves),
-    ];
+    let calls = call(alloc, nothing());
+    let serves = syscall(alloc, nothing());
+    let kernel = [digest_of(&calls), digest_of(&serves)];
     let case = Case {
         kernel: &kernel,
         ..plain()
     };
-    let tree = syscall(alloc, calls)?;
+    let tree = syscall(alloc, calls);
     stops(
         &rt,
         alloc,
@@ -482,8 +490,8 @@ fn traps_in_syscalls(rt: HostRuntime) -> Result<(), Fail> {
         tree,
         &case,
         trap(1, Cause::CallInSyscall),
-    )?;
-    let tree = syscall(alloc, serves)?;
+    );
+    let tree = syscall(alloc, serves);
     stops(
         &rt,
         alloc,
@@ -491,8 +499,8 @@ fn traps_in_syscalls(rt: HostRuntime) -> Result<(), Fail> {
         tree,
         &case,
         trap(1, Cause::CallInSyscall),
-    )?;
-    let tree = syscall(alloc, nothing()?)?;
+    );
+    let tree = syscall(alloc, nothing());
     stops(
         &rt,
         alloc,
@@ -500,11 +508,11 @@ fn traps_in_syscalls(rt: HostRuntime) -> Result<(), Fail> {
         tree,
         &case,
         trap(0, Cause::NotInKernel),
-    )
+    );
 }
 
 #[test]
-fn traps_in_operations(rt: HostRuntime) -> Result<(), Fail> {
+fn traps_in_operations(rt: HostRuntime) {
     let alloc = rt.alloc();
     let large: &[u64] = &[4294967296, 1];
     let rows: [(&[Op], &[u64], &[u64], Stop); 7] = [
@@ -532,40 +540,38 @@ fn traps_in_operations(rt: HostRuntime) -> Result<(), Fail> {
             advice,
             ..plain()
         };
-        stops(&rt, alloc, "operation", span(alloc, ops, &[])?, &case, stop)?;
+        stops(&rt, alloc, "operation", span(alloc, ops, &[]), &case, stop);
     }
-    Ok(())
 }
 
 #[test]
-fn traps_at_depth(rt: HostRuntime) -> Result<(), Fail> {
+fn traps_at_depth(rt: HostRuntime) {
     let alloc = rt.alloc();
     for (joins, stop) in [
         (1023, trap(1026, Cause::OpaqueBlock)),
         (1024, trap(1024, Cause::NestedTooDeep)),
     ] {
-        let mut tree = span(alloc, &[Op::Noop], &[])?;
+        let mut tree = span(alloc, &[Op::Noop], &[]);
         for _ in 0..joins {
-            tree = join(alloc, tree, opaque())?;
+            tree = join(alloc, tree, opaque());
         }
-        stops(&rt, alloc, "nesting", tree, &plain(), stop)?;
+        stops(&rt, alloc, "nesting", tree, &plain(), stop);
     }
-    Ok(())
 }
 
 #[test]
-fn stops_at_limits(rt: HostRuntime) -> Result<(), Fail> {
+fn stops_at_limits(rt: HostRuntime) {
     let alloc = rt.alloc();
     let tree = || join(
         alloc,
-        span(alloc, &[Op::Incr], &[])?,
-        span(alloc, &[Op::Pad], &[])?,
+        span(alloc, &[Op::Incr], &[]),
+        span(alloc, &[Op::Pad], &[]),
     );
     ends(
         &rt,
         alloc,
         "the last cycle",
-        tree()?,
+        tree(),
         &Case {
             limit: 8,
             ..plain()
@@ -576,23 +582,23 @@ fn stops_at_limits(rt: HostRuntime) -> Result<(), Fail> {
             depth: 17,
             left: 0,
         },
-    )?;
+    );
     for limit in 0..8 {
         let case = Case { limit, ..plain() };
-        stops(&rt, alloc, "cut off", tree()?, &case, Stop::OutOfCycles)?;
+        stops(&rt, alloc, "cut off", tree(), &case, Stop::OutOfCycles);
     }
     let none = Case {
         limit: 0,
         ..plain()
     };
-    stops(&rt, alloc, "no cycle", opaque(), &none, Stop::OutOfCycles)?;
-    let endless = repeated(alloc, span(alloc, &[Op::Dup0], &[])?)?;
+    stops(&rt, alloc, "no cycle", opaque(), &none, Stop::OutOfCycles);
+    let endless = repeated(alloc, span(alloc, &[Op::Dup0], &[]));
     let case = Case {
         stack: &[1, 1],
         limit: 500,
         ..plain()
     };
-    stops(&rt, alloc, "endless", endless, &case, Stop::OutOfCycles)
+    stops(&rt, alloc, "endless", endless, &case, Stop::OutOfCycles);
 }
 
 // What an event should show. A digest or a batch stands in `hash`.
@@ -643,18 +649,18 @@ fn shows(rt: &impl Abort, clock: usize, event: &Event, shown: &Shown) {
 
 // A call that takes a word of the tape and stores it at 40.
 #[test]
-fn logs_each_cycle(rt: HostRuntime) -> Result<(), Fail> {
+fn logs_each_cycle(rt: HostRuntime) {
     let alloc = rt.alloc();
     let ops = [Op::AdvPopW, Op::Push, Op::MStoreW];
-    let callee = span(alloc, &ops, &[40])?;
-    let of_callee = digest(&NO_CONSTANTS, &callee);
-    let tree = call(alloc, callee)?;
-    let of_call = digest(&NO_CONSTANTS, &tree);
+    let callee = span(alloc, &ops, &[40]);
+    let of_callee = digest_of(&callee);
+    let tree = call(alloc, callee);
+    let of_call = digest_of(&tree);
     let case = Case {
         advice: &[11, 12, 13, 14, 15],
         ..plain()
     };
-    let run = ran(&rt, alloc, tree, &case)??;
+    let run = ran(&rt, alloc, tree, &case).expect(&rt, "a run");
     let (zero, one) = (Felt::ZERO, Felt::ONE);
     let nothing = Shown {
         op: Op::Call,
@@ -678,7 +684,7 @@ fn logs_each_cycle(rt: HostRuntime) -> Result<(), Fail> {
         Shown {
             op: Op::Span,
             nesting: 1,
-            hash: batch(&ops, &[40])?,
+            hash: batch(&ops, &[40]),
             ..nothing
         },
         Shown {
@@ -732,5 +738,4 @@ fn logs_each_cycle(rt: HostRuntime) -> Result<(), Fail> {
     assert_eq!(rt; numbers(run.state.word_at(1, 40)), [11, 12, 13, 14]);
     assert_eq!(rt; numbers(run.state.word_at(0, 40)), [0; 4]);
     assert_eq!(rt; run.tape.len(), 4);
-    Ok(())
 }
