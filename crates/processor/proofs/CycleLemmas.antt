@@ -3,7 +3,6 @@ use Rattle.std.proofs.Common.{◌≡◌, ℕ, ◌+◌, ◌<◌, ◌≤◌, List,
 use Rattle.std.proofs.lemmas.Bool.{le-ltb}
 use Rattle.vm_field.specs.Machine as machine
 use Rattle.vm_field.specs.Machine.{Core, zero_word}
-use Rattle.vm_ops.specs.declared.cause.Cause.{Cause}
 use Rattle.vm_ops.specs.declared.op.Op.{Op}
 use Rattle.vm_ops.specs.Step.{cycle_taking}
 use Rattle.block_tree.specs.Cycles as cycles
@@ -24,7 +23,7 @@ use Rattle.processor.specs.declared.cycle.Runner.{Runner}
 use Rattle.processor.specs.declared.event.Event.{Event}
 use Rattle.processor.specs.declared.event.Visible.{Visible}
 use Rattle.processor.specs.declared.mark.Mark.{Mark}
-use Rattle.processor.specs.declared.mark.Mark.TheVariants.{StartOpaque, StartSpan, StartJoin, StartSplit, StartLoop, StartCall, StartSyscall, Respan, Repeat, End, EndSpan, EndLoop, EndCall, EndSyscall}
+use Rattle.processor.specs.declared.mark.Mark.TheVariants.{StartOpaque}
 use Rattle.processor.specs.declared.refusal.Stop.{Stop}
 use Rattle.processor.specs.declared.refusal.Stop.TheVariants.{OutOfCycles}
 use Rattle.processor.specs.declared.setting.Setting.{Setting}

@@ -1,5 +1,5 @@
 -- A whole run.
-use Rattle.std.proofs.Common.{◌≡◌, ℕ, ◌+◌, ◌-◌, ◌≤◌, List, [], ◌++◌, length, map, take, Ok, refl, sym, ap, ◌∙◌, arith, length-append}
+use Rattle.std.proofs.Common.{◌≡◌, ℕ, ◌+◌, ◌-◌, ◌≤◌, List, [], ◌++◌, length, map, take, Ok, sym, ap, ◌∙◌, arith, length-append}
 use Rattle.std.proofs.Math.Seq.{take-append_seam}
 use Rattle.vm_field.specs.Machine as machine
 use Rattle.vm_field.specs.Machine.{start}
@@ -11,7 +11,7 @@ use Rattle.block_tree.specs.declared.program.Program.{Program}
 use Rattle.block_tree.proofs.Tapes.{fed-execution}
 use Rattle.vm_state.specs.Views.{state_of}
 use Rattle.vm_state.specs.declared.inputs.Inputs.{Inputs}
-use Rattle.processor.specs.Executed.{IsRunOf, outcome_of}
+use Rattle.processor.specs.Executed.{IsRunOf}
 use Rattle.processor.specs.Running.{Ran, shown_in}
 use Rattle.processor.specs.Settings.{constants_in, execution_in}
 use Rattle.processor.specs.declared.cycle.Runner.{Runner}

@@ -1,5 +1,5 @@
 -- One part of a run behind another, as the code answers them.
-use Rattle.std.proofs.Common.{◌≡◌, List, [], ◌++◌, map, Result, Ok, Err, refl, sym, ap, ◌∙◌, append_assoc, append-nil}
+use Rattle.std.proofs.Common.{◌≡◌, List, [], ◌++◌, map, Result, Ok, Err, sym, ap, ◌∙◌, append_assoc, append-nil}
 use Rattle.std.proofs.lemmas.List.{map-append}
 use Rattle.vm_field.specs.Machine as machine
 use Rattle.block_tree.specs.Execution.{Outcome, Part, seq, skip}

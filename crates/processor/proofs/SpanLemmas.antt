@@ -1,11 +1,11 @@
 -- The batches of a span and the operations of a batch, one after another.
-use Rattle.std.proofs.Common.{◌≡◌, ℕ, ◌+◌, ◌<◌, ◌≤◌, List, [], ◌∷◌, length, drop, get_or, Ok, refl, sym, ap, ◌∙◌}
+use Rattle.std.proofs.Common.{◌≡◌, ℕ, ◌+◌, ◌<◌, ◌≤◌, List, ◌∷◌, length, drop, get_or, Ok, refl, sym, ap, ◌∙◌}
 use Rattle.std.proofs.lemmas.List.{drop_all, drop_more}
 use Rattle.vm_field.specs.Machine as machine
 use Rattle.vm_ops.specs.declared.item.Item.{Item}
 use Rattle.op_pack.specs.Reading.{reading}
 use Rattle.block_tree.specs.Cycles.{Do, EndSpan, Respan, StartSpan}
-use Rattle.block_tree.specs.Execution.{Part, seq, skip}
+use Rattle.block_tree.specs.Execution.{Part, seq}
 use Rattle.block_tree.specs.Trees.{Span}
 use Rattle.vm_state.specs.Views.{state_of}
 use Rattle.processor.specs.Running.{Ran}

@@ -1,8 +1,7 @@
 -- What the log of a run shows of each cycle (docs/MACHINE.md, "Cycles").
-use Rattle.std.specs.Prelude.{ℕ, ◌-◌, Bool, true, false, if◌then◌else◌, List, [], ◌∷◌, ◌++◌, length, take, replicate, slice_index, Option, None, Result, Ok, Err}
-use Rattle.vm_field.specs.Machine.{Core, WordMap, word_at, zero_word}
+use Rattle.std.specs.Prelude.{ℕ, ◌-◌, Bool, true, false, if◌then◌else◌, List, [], ◌∷◌, ◌++◌, length, take, replicate, Option, None, Result, Ok, Err}
+use Rattle.vm_field.specs.Machine.{Core, word_at, zero_word}
 use Rattle.vm_ops.specs.declared.cause.Cause.{Cause}
-use Rattle.vm_ops.specs.declared.item.Item.{Item}
 use Rattle.vm_ops.specs.declared.op.Op.{Op}
 use Rattle.vm_ops.specs.declared.op.Op.TheVariants as ops
 use Rattle.block_tree.specs.Cycles.{Mark, StartOpaque, StartSpan, StartJoin, StartSplit, StartLoop, StartCall, StartSyscall, Respan, Repeat, Do, End, EndSpan, EndLoop, EndCall, EndSyscall, top, effect_of}

@@ -1,4 +1,4 @@
-use Rattle.std.proofs.Common.{rules, ◌+◌, ◌-◌, ◌≡◌, ◌<◌, ◌≤◌, arith, ap, ◌∙◌}
+use Rattle.std.proofs.Common.{rules, ◌+◌, ◌-◌, ◌≡◌, ◌<◌, arith, ap, ◌∙◌}
 use Rattle.block_tree.specs.Cycles.{Repeat, StartLoop}
 use Rattle.block_tree.specs.Execution.{Part}
 use Rattle.vm_state.specs.Views.{state_of}

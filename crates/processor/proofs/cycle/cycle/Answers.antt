@@ -1,7 +1,6 @@
 use Rattle.std.proofs.Common.{rules, refl}
 use Rattle.processor.specs.Marks.{mark_of}
 use Rattle.processor.proofs.CycleLemmas.{ran-late, mark-stop, mark-done}
-use Rattle.processor.proofs.RunLemmas.{ran-memory}
 use Rattle.vm_state.specs.Views.{state_of}
 use Rattle.processor.proofs.cycle.cycle.Goals as goal
 

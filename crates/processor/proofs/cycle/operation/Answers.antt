@@ -1,4 +1,4 @@
-use Rattle.std.proofs.Common.{rules, refl}
+use Rattle.std.proofs.Common.{rules}
 use Rattle.block_tree.specs.Cycles.{Do}
 use Rattle.processor.specs.Settings.{constants_in}
 use Rattle.processor.proofs.CycleLemmas.{ran-late}

@@ -1,4 +1,4 @@
-use Rattle.std.proofs.Common.{◌≡◌, ◌++◌, ◌≤◌, drop}
+use Rattle.std.proofs.Common.{◌≡◌, ◌++◌, drop}
 use Rattle.processor.proofs.mark.cells_below.Given as goal
 
 abbrev pub invariant-loop-cell : goal.invariant-loop-cell
