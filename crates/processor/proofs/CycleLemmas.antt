@@ -34,7 +34,7 @@ pub ran-late : (setting : Setting) (mark : cycles.Mark) (s : machine.State) {log
 ran-late setting mark s late e = rw e (record { answer = taking-late setting.limit mark (advice_taken mark) (effect_of (constants_in setting) setting.kernel.now mark) s late })
 
 -- what the log shows of a cycle that was done
-pub shown-done : (setting : Setting) (mark : cycles.Mark) (s t : machine.State) (es : List run.Event) → cycle_in setting mark s ≡ Done t es
+shown-done : (setting : Setting) (mark : cycles.Mark) (s t : machine.State) (es : List run.Event) → cycle_in setting mark s ≡ Done t es
     → map (shown_in setting) es ≡ shown_between mark (take (advice_taken mark) s.tape) s.core t.core ∷ []
 shown-done setting mark s t es e = from (taking-inv setting.limit mark (advice_taken mark) (effect_of (constants_in setting) setting.kernel.now mark) s t es e)
   where

@@ -46,10 +46,6 @@ ran-fail f g {setting} {s} {log} {stop} {mid} {after} {r} e a = rw e (record { a
 pub ran-skip : (setting : Setting) (after : Runner) (u : Unit {0}) → Ran setting (skip (state_of after.state)) after.log (Ok u) after
 ran-skip setting after u = record { answer = record { more = []; done = skip-done (state_of after.state); events = sym (append-nil after.log) } }
 
--- memory was refused
-pub ran-memory : {setting : Setting} {o : Outcome} {log : List Event} {r : Result (Unit {0}) Stop} {after : Runner} → r ≡ Err Memory → Ran setting o log r after
-ran-memory e = rw e (record { answer = tt })
-
 -- the same of an equal outcome
 pub ran-along : {setting : Setting} {o p : Outcome} {log : List Event} {r : Result (Unit {0}) Stop} {after : Runner} → o ≡ p → Ran setting p log r after → Ran setting o log r after
 ran-along e a = rw e a
