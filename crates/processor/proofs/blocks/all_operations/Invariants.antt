@@ -1,0 +1,8 @@
+use Rattle.std.proofs.Common.{drop}
+use Rattle.processor.specs.Settings.{operations_in}
+use Rattle.processor.proofs.RunLemmas.{Left}
+use Rattle.processor.proofs.blocks.all_operations.Given as goal
+
+abbrev pub invariant-loop-item : goal.invariant-loop-item
+invariant-loop-item l =
+    Left l.setting (operations_in l.setting l.items) (operations_in l.setting (drop l.item-index l.items)) l.fn.runner l.runner

@@ -1,0 +1,37 @@
+use Rattle.std.proofs.Common.{rules, ◌+◌, drop, Ok}
+use Rattle.block_tree.specs.Cycles.{Respan}
+use Rattle.block_tree.specs.Execution.{seq}
+use Rattle.op_pack.specs.Reading.{reading}
+use Rattle.processor.specs.Settings.{batches_in, cycle_in, read_operations_in}
+use Rattle.processor.proofs.RunLemmas.{left-fail, left-next}
+use Rattle.processor.proofs.SpanLemmas.{left-batch, no_batches}
+use Rattle.processor.proofs.blocks.later_batches.Goals as goal
+
+pub returns-in_err-cycle : goal.returns-in_err-cycle
+returns-in_err-cycle c =
+    left-fail (cycle_in c.args.setting.now (Respan c.batch-item.result))
+    (seq (read_operations_in c.args.setting.now (reading c.batch-item.result)) (batches_in c.args.setting.now Respan (drop (c.loop-batch.batch-index + 1) c.args.batches.now)))
+    (left-batch c.args.setting.now c.args.batches.now c.loop-batch.batch-index c.batch-item.result c.loop-batch-test.true c.batch-item.is c.loop-batch.invariant)
+    (search rules) c.in_err-cycle.ensures
+
+pub returns-in_err-batch_operations : goal.returns-in_err-batch_operations
+returns-in_err-batch_operations c =
+    left-fail (read_operations_in c.args.setting.now (reading c.batch-item.result)) (batches_in c.args.setting.now Respan (drop (c.loop-batch.batch-index + 1) c.args.batches.now))
+    (left-next (cycle_in c.args.setting.now (Respan c.batch-item.result))
+    (seq (read_operations_in c.args.setting.now (reading c.batch-item.result)) (batches_in c.args.setting.now Respan (drop (c.loop-batch.batch-index + 1) c.args.batches.now)))
+    (left-batch c.args.setting.now c.args.batches.now c.loop-batch.batch-index c.batch-item.result c.loop-batch-test.true c.batch-item.is c.loop-batch.invariant)
+    c.in_ok-cycle.ensures)
+    (search rules) c.in_err-batch_operations.ensures
+
+pub loop-batch-preserved : goal.loop-batch-preserved
+loop-batch-preserved c =
+    left-next (read_operations_in c.args.setting.now (reading c.batch-item.result)) (batches_in c.args.setting.now Respan (drop (c.loop-batch.batch-index + 1) c.args.batches.now))
+    (left-next (cycle_in c.args.setting.now (Respan c.batch-item.result))
+    (seq (read_operations_in c.args.setting.now (reading c.batch-item.result)) (batches_in c.args.setting.now Respan (drop (c.loop-batch.batch-index + 1) c.args.batches.now)))
+    (left-batch c.args.setting.now c.args.batches.now c.loop-batch.batch-index c.batch-item.result c.loop-batch-test.true c.batch-item.is c.loop-batch.invariant)
+    c.in_ok-cycle.ensures)
+    c.in_ok-batch_operations.ensures
+
+pub returns : goal.returns
+returns c =
+    c.loop-batch.invariant.goes (Ok tt) c.loop-batch.runner (no_batches c.args.setting.now c.args.batches.now c.loop-batch.batch-index c.loop-batch.runner tt c.loop-batch-test.false)

@@ -1,0 +1,34 @@
+-- What `execute` answers.
+use Rattle.std.specs.Prelude.{◌≡◌, ℕ, List, ◌++◌, map, Result, Ok, Err}
+use Rattle.vm_field.specs.Machine.{start}
+use Rattle.rpo_hash.specs.Constants.{constants_of}
+use Rattle.rpo_hash.specs.declared.params.Params.{Params}
+use Rattle.block_tree.specs.Execution as run
+use Rattle.block_tree.specs.Execution.{Outcome, Done, execution}
+use Rattle.block_tree.specs.TreeView.{tree_of}
+use Rattle.block_tree.specs.declared.program.Program.{Program}
+use Rattle.vm_state.specs.Views.{state_of}
+use Rattle.vm_state.specs.declared.inputs.Inputs.{Inputs}
+use Rattle.processor.specs.Events.{shown}
+use Rattle.processor.specs.declared.run.Run.{Run}
+use Rattle.processor.specs.declared.refusal.Stop.{Stop}
+use Rattle.processor.specs.declared.refusal.Stop.TheVariants.{Trap, OutOfCycles, Memory}
+
+-- how a program comes out from its inputs within a limit of cycles
+abbrev pub outcome_of : Params → Program → Inputs → ℕ → Outcome
+outcome_of params program inputs limit =
+    execution (constants_of params) program.kernel limit (tree_of program.tree) (start inputs.stack inputs.advice)
+
+-- The run of a program to its end: the state there, an event for each cycle, and the advice that was taken.
+pub record IsRunOf (params : Params) (program : Program) (inputs : Inputs) (limit : ℕ) (r : Run) : Type 0 where
+  pub log : List run.Event
+  pub done : outcome_of params program inputs limit ≡ Done (state_of r.state) log
+  pub events : r.events ≡ map (shown (constants_of params) program.kernel) log
+  pub tape : inputs.advice ≡ r.tape ++ r.state.tape
+
+-- the run, or the trap with its clock, or that the cycles were used up
+abbrev pub Executed : Params → Program → Inputs → ℕ → Result Run Stop → Type 0
+Executed params program inputs limit (Ok r) = IsRunOf params program inputs limit r
+Executed params program inputs limit (Err (Trap clock cause)) = outcome_of params program inputs limit ≡ run.Trap clock cause
+Executed params program inputs limit (Err OutOfCycles) = outcome_of params program inputs limit ≡ run.OutOfCycles
+Executed params program inputs limit (Err Memory) = Unit {0}

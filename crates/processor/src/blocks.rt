@@ -1,0 +1,217 @@
+ghost use Rattle.std.specs.Prelude.{◌≡◌, ℕ, ◌+◌, ◌≤◌, All};
+ghost use Rattle.block_tree.specs.Cycles as cycles;
+ghost use Rattle.block_tree.specs.Execution.{at_bit};
+ghost use Rattle.block_tree.specs.Trees as trees;
+ghost use Rattle.op_pack.specs.Reading.{reading};
+ghost use Rattle.op_steps.specs.Steps.{IsOrdinaryItem};
+ghost use Rattle.vm_state.specs.Views.{state_of};
+ghost use Rattle.processor.specs.Nodes.{IsHashed, node_tree};
+ghost use Rattle.processor.specs.Running.{Ran};
+ghost use Rattle.processor.specs.Settings.{batches_in, constants_in, digest_of, execution_in, operations_in, read_operations_in, turns_in};
+
+use crate::cycle::{Runner, cycle, operation};
+use crate::effect::top_of;
+use crate::mark::{Frame, Mark};
+use crate::node::Node;
+use crate::refusal::Stop;
+use crate::setting::Setting;
+use op_pack::{Batches, unpack};
+use vm_field::{Felt, Word};
+use vm_ops::Item;
+
+// The run of a block.
+#[cycle(blocks)]
+pub(crate) fn block(runner: &mut Runner, setting: &Setting, node: &Node) -> Result<(), Stop>
+    requires hashed { IsHashed (constants_in setting.now) node.now }
+    ensures { Ran setting.now (execution_in setting.now (node_tree node.now) (state_of runner.old.state)) runner.old.log result runner.new }
+{
+    match node {
+        Node::Opaque(_) => cycle(runner, setting, &Mark::StartOpaque),
+        Node::Span(digest, batches) => span(runner, setting, digest, batches),
+        Node::Join(digest, first, second) => join(runner, setting, digest, first, second),
+        Node::Split(digest, on_one, on_zero) => split(runner, setting, digest, on_one, on_zero),
+        Node::Loop(digest, body) => repeated(runner, setting, digest, body),
+        Node::Call(digest, callee) => call(runner, setting, digest, callee),
+        Node::Syscall(digest, callee) => syscall(runner, setting, digest, callee),
+    }
+}
+
+#[cycle(blocks)]
+fn join(
+    runner: &mut Runner,
+    setting: &Setting,
+    digest: &Word,
+    first: &Node,
+    second: &Node,
+) -> Result<(), Stop>
+    requires digest { digest.now ≡ digest_of setting.now (trees.Join (node_tree first.now) (node_tree second.now)) }
+    requires first { IsHashed (constants_in setting.now) first.now }
+    requires second { IsHashed (constants_in setting.now) second.now }
+    ensures { Ran setting.now (execution_in setting.now (trees.Join (node_tree first.now) (node_tree second.now)) (state_of runner.old.state)) runner.old.log result runner.new }
+{
+    cycle(
+        runner,
+        setting,
+        &Mark::StartJoin(first.digest(), second.digest()),
+    )?;
+    block(runner, setting, first)?;
+    block(runner, setting, second)?;
+    cycle(runner, setting, &Mark::End(*digest))
+}
+
+#[cycle(blocks)]
+fn split(
+    runner: &mut Runner,
+    setting: &Setting,
+    digest: &Word,
+    on_one: &Node,
+    on_zero: &Node,
+) -> Result<(), Stop>
+    requires digest { digest.now ≡ digest_of setting.now (trees.Split (node_tree on_one.now) (node_tree on_zero.now)) }
+    requires on_one { IsHashed (constants_in setting.now) on_one.now }
+    requires on_zero { IsHashed (constants_in setting.now) on_zero.now }
+    ensures { Ran setting.now (execution_in setting.now (trees.Split (node_tree on_one.now) (node_tree on_zero.now)) (state_of runner.old.state)) runner.old.log result runner.new }
+{
+    let condition = top_of(&runner.state);
+    cycle(
+        runner,
+        setting,
+        &Mark::StartSplit(on_one.digest(), on_zero.digest()),
+    )?;
+    branch(runner, setting, condition, on_one, on_zero)?;
+    cycle(runner, setting, &Mark::End(*digest))
+}
+
+// The branch that a condition picks.
+#[cycle(blocks)]
+fn branch(
+    runner: &mut Runner,
+    setting: &Setting,
+    condition: Felt,
+    on_one: &Node,
+    on_zero: &Node,
+) -> Result<(), Stop>
+    requires on_one { IsHashed (constants_in setting.now) on_one.now }
+    requires on_zero { IsHashed (constants_in setting.now) on_zero.now }
+    ensures { Ran setting.now (at_bit condition (execution_in setting.now (node_tree on_zero.now)) (execution_in setting.now (node_tree on_one.now)) (state_of runner.old.state)) runner.old.log result runner.new }
+{
+    if condition.value() == 0 {
+        block(runner, setting, on_zero)
+    } else {
+        block(runner, setting, on_one)
+    }
+}
+
+#[cycle(blocks)]
+fn repeated(runner: &mut Runner, setting: &Setting, digest: &Word, body: &Node) -> Result<(), Stop>
+    requires digest { digest.now ≡ digest_of setting.now (trees.Loop (node_tree body.now)) }
+    requires body { IsHashed (constants_in setting.now) body.now }
+    ensures { Ran setting.now (execution_in setting.now (trees.Loop (node_tree body.now)) (state_of runner.old.state)) runner.old.log result runner.new }
+{
+    let condition = top_of(&runner.state);
+    cycle(runner, setting, &Mark::StartLoop(body.digest()))?;
+    if condition.value() == 0 {
+        cycle(runner, setting, &Mark::End(*digest))
+    } else {
+        turns(runner, setting, digest, body)
+    }
+}
+
+// The turns of a loop that was entered, until a 0 is on top behind one.
+#[cycle(blocks)]
+fn turns(runner: &mut Runner, setting: &Setting, digest: &Word, body: &Node) -> Result<(), Stop>
+    requires body { IsHashed (constants_in setting.now) body.now }
+    ensures { (n : ℕ) → setting.now.limit ≤ n + runner.old.state.clock
+        → Ran setting.now (turns_in setting.now digest.now (node_tree body.now) n (state_of runner.old.state)) runner.old.log result runner.new }
+{
+    loop {
+        block(runner, setting, body)?;
+        if top_of(&runner.state).value() == 0 {
+            return cycle(runner, setting, &Mark::EndLoop(*digest));
+        }
+        cycle(runner, setting, &Mark::Repeat(body.digest()))?;
+    }
+}
+
+#[cycle(blocks)]
+fn call(runner: &mut Runner, setting: &Setting, digest: &Word, callee: &Node) -> Result<(), Stop>
+    requires digest { digest.now ≡ digest_of setting.now (trees.Call (node_tree callee.now)) }
+    requires callee { IsHashed (constants_in setting.now) callee.now }
+    ensures { Ran setting.now (execution_in setting.now (trees.Call (node_tree callee.now)) (state_of runner.old.state)) runner.old.log result runner.new }
+{
+    let frame = Frame::of(setting.alloc, &runner.state)?;
+    cycle(runner, setting, &Mark::StartCall(callee.digest()))?;
+    block(runner, setting, callee)?;
+    cycle(runner, setting, &Mark::EndCall(*digest, frame))
+}
+
+#[cycle(blocks)]
+fn syscall(runner: &mut Runner, setting: &Setting, digest: &Word, callee: &Node) -> Result<(), Stop>
+    requires digest { digest.now ≡ digest_of setting.now (trees.Syscall (node_tree callee.now)) }
+    requires callee { IsHashed (constants_in setting.now) callee.now }
+    ensures { Ran setting.now (execution_in setting.now (trees.Syscall (node_tree callee.now)) (state_of runner.old.state)) runner.old.log result runner.new }
+{
+    let frame = Frame::of(setting.alloc, &runner.state)?;
+    cycle(runner, setting, &Mark::StartSyscall(callee.digest()))?;
+    block(runner, setting, callee)?;
+    cycle(runner, setting, &Mark::EndSyscall(*digest, frame))
+}
+
+fn span(
+    runner: &mut Runner,
+    setting: &Setting,
+    digest: &Word,
+    batches: &Batches,
+) -> Result<(), Stop>
+    requires digest { digest.now ≡ digest_of setting.now (trees.Span batches.now) }
+    ensures { Ran setting.now (execution_in setting.now (trees.Span batches.now) (state_of runner.old.state)) runner.old.log result runner.new }
+{
+    all_batches(runner, setting, batches.as_slice())?;
+    cycle(runner, setting, &Mark::EndSpan(*digest))
+}
+
+// The batches of a span.
+fn all_batches(runner: &mut Runner, setting: &Setting, batches: &[[Felt; 8]]) -> Result<(), Stop>
+    ensures { Ran setting.now (batches_in setting.now cycles.StartSpan batches.now (state_of runner.old.state)) runner.old.log result runner.new }
+{
+    match batches.split_first() {
+        None => Ok(()),
+        Some((first, later)) => {
+            cycle(runner, setting, &Mark::StartSpan(*first))?;
+            batch_operations(runner, setting, first)?;
+            later_batches(runner, setting, later)
+        }
+    }
+}
+
+// The batches behind the first.
+fn later_batches(runner: &mut Runner, setting: &Setting, batches: &[[Felt; 8]]) -> Result<(), Stop>
+    ensures { Ran setting.now (batches_in setting.now cycles.Respan batches.now (state_of runner.old.state)) runner.old.log result runner.new }
+{
+    for batch in batches {
+        cycle(runner, setting, &Mark::Respan(*batch))?;
+        batch_operations(runner, setting, batch)?;
+    }
+    Ok(())
+}
+
+// The operations of a batch. One that has no reading has trapped before.
+fn batch_operations(runner: &mut Runner, setting: &Setting, batch: &[Felt; 8]) -> Result<(), Stop>
+    ensures { Ran setting.now (read_operations_in setting.now (reading batch.now) (state_of runner.old.state)) runner.old.log result runner.new }
+{
+    match unpack(setting.alloc, batch)? {
+        None => Ok(()),
+        Some(items) => all_operations(runner, setting, items.as_slice()),
+    }
+}
+
+// One operation after another.
+fn all_operations(runner: &mut Runner, setting: &Setting, items: &[Item]) -> Result<(), Stop>
+    requires ordinary { All IsOrdinaryItem items.now }
+    ensures { Ran setting.now (operations_in setting.now items.now (state_of runner.old.state)) runner.old.log result runner.new }
+{
+    for item in items {
+        operation(runner, setting, item)?;
+    }
+    Ok(())
+}

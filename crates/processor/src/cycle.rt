@@ -1,0 +1,127 @@
+ghost use Rattle.std.specs.Prelude.{◌≡◌, ◌^◌, ◌<◌, ◌≤◌, if◌then◌else◌, length, slice_index, take, IsTrue, MatchResult};
+ghost use Rattle.block_tree.specs.Cycles.{Do};
+ghost use Rattle.op_steps.specs.Steps.{IsOrdinaryItem};
+ghost use Rattle.vm_field.specs.Machine.{word_at, zero_word};
+ghost use Rattle.vm_ops.specs.Values.{advice_of};
+ghost use Rattle.vm_state.specs.Views.{core_of, state_of};
+ghost use Rattle.processor.specs.Events.{four_of, is_memory, visible_of};
+ghost use Rattle.processor.specs.Marks.{mark_of};
+ghost use Rattle.processor.specs.Running.{Ran};
+ghost use Rattle.processor.specs.Settings.{cycle_in};
+ghost use Rattle.processor.specs.declared.refusal.Stop.TheVariants.{OutOfCycles};
+
+use crate::effect::{effect, top_of};
+use crate::event::{Event, Events, Visible};
+use crate::mark::Mark;
+use crate::refusal::{Stop, stop_at};
+use crate::setting::Setting;
+use op_steps::step;
+use vm_field::{Felt, Word};
+use vm_ops::{Item, Op};
+use vm_state::State;
+
+// The state of a run, and what its cycles have shown so far.
+#[derive(Drop)]
+pub(crate) struct Runner {
+    pub state: State,
+    pub log: Events,
+}
+
+// One cycle that is no operation.
+pub(crate) fn cycle(runner: &mut Runner, setting: &Setting, mark: &Mark) -> Result<(), Stop>
+    ensures { Ran setting.now (cycle_in setting.now (mark_of mark.now) (state_of runner.old.state)) runner.old.log result runner.new }
+{
+    let before = before_cycle(&runner.state, setting)?;
+    if let Err(stop) = effect(&mut runner.state, setting, mark) {
+        return Err(stop_at(before.clock, stop));
+    }
+    runner.state.clock += 1;
+    runner.log.push(Event {
+        op: mark.op(),
+        before,
+        imm: None,
+        tape: Word::ZERO.elements(),
+        word: Word::ZERO.elements(),
+        hash: mark.hash(),
+        result: top_of(&runner.state),
+    })?;
+    Ok(())
+}
+
+// One cycle of an operation.
+pub(crate) fn operation(runner: &mut Runner, setting: &Setting, item: &Item) -> Result<(), Stop>
+    requires item { IsOrdinaryItem item.now }
+    ensures { Ran setting.now (cycle_in setting.now (Do item.now) (state_of runner.old.state)) runner.old.log result runner.new }
+{
+    let before = before_cycle(&runner.state, setting)?;
+    let tape = next_advice(&runner.state, item.op);
+    if let Err(stop) = step(setting.alloc, setting.params, item, &mut runner.state) {
+        return Err(stop_at(before.clock, stop));
+    }
+    runner.log.push(Event {
+        op: item.op,
+        before,
+        imm: item.imm,
+        tape,
+        word: word_behind(&runner.state, item.op, &before),
+        hash: [Felt::ZERO; 8],
+        result: top_of(&runner.state),
+    })?;
+    Ok(())
+}
+
+// What is visible before a cycle, if the limit allows the cycle.
+fn before_cycle(state: &State, setting: &Setting) -> Result<Visible, Stop>
+    ensures { MatchResult result
+        (λ before. (before ≡ visible_of (core_of state.now)) × (state.now.clock < setting.now.limit))
+        (λ stop. (stop ≡ OutOfCycles) × (setting.now.limit ≤ state.now.clock)) }
+{
+    if state.clock >= setting.limit {
+        return Err(Stop::OutOfCycles);
+    }
+    Ok(Visible {
+        clock: state.clock,
+        context: state.context,
+        fmp: state.fmp,
+        in_syscall: state.in_syscall,
+        digest: state.digest,
+        nesting: state.nesting,
+        depth: state.depth(),
+        cells: state.visible(),
+    })
+}
+
+// What an operation would take of the tape, if there is enough.
+fn next_advice(state: &State, op: Op) -> [Felt; 4]
+    ensures { advice_of op ≤ length state.now.tape → result ≡ four_of (take (advice_of op) state.now.tape) }
+{
+    let zero = Felt::ZERO;
+    match op {
+        Op::AdvPop if state.advice_left() >= 1 => [state.advice_at(0), zero, zero, zero],
+        Op::AdvPopW if state.advice_left() >= 4 => [
+            state.advice_at(0),
+            state.advice_at(1),
+            state.advice_at(2),
+            state.advice_at(3),
+        ],
+        _ => [zero; 4],
+    }
+}
+
+// The word that an operation has read or written.
+fn word_behind(state: &State, op: Op, before: &Visible) -> [Felt; 4]
+    requires address { IsTrue (is_memory op) → slice_index before.now.cells 0 < 2 ^ 32 }
+    ensures { result ≡ (if is_memory op then word_at state.now.memory before.now.context (slice_index before.now.cells 0) else zero_word) }
+{
+    if is_memory(op) {
+        state.word_at(before.context, before.cells[0].value() as u32)
+    } else {
+        Word::ZERO.elements()
+    }
+}
+
+fn is_memory(op: Op) -> bool
+    ensures { result ≡ is_memory op }
+{
+    matches!(op, Op::MLoad | Op::MLoadW | Op::MStore | Op::MStoreW)
+}

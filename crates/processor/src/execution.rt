@@ -1,0 +1,53 @@
+ghost use Rattle.std.specs.Prelude.{◌≤◌};
+ghost use Rattle.processor.specs.Executed.{Executed};
+
+use crate::blocks::block;
+use crate::cycle::Runner;
+use crate::event::Events;
+use crate::node::hashed;
+use crate::refusal::Stop;
+use crate::run::Run;
+use crate::setting::Setting;
+use block_tree::Program;
+use rpo_hash::Params;
+use std::alloc::Global;
+use vm_field::Felts;
+use vm_state::{Inputs, State};
+
+/// Runs a program from its inputs. Before each cycle the clock must be below the limit.
+///
+/// # Errors
+///
+/// `Stop::Trap` at the first cycle that traps, with the clock before it; `Stop::OutOfCycles` where
+/// the program has not ended when the clock is the limit; `Stop::Memory` where the system gave no
+/// memory.
+pub fn execute(
+    alloc: Global,
+    params: &Params,
+    program: &Program,
+    inputs: &Inputs,
+    limit: u32,
+) -> Result<Run, Stop>
+    requires limit { limit ≤ 524287 }
+    ensures { Executed params.now program.now inputs.now limit result }
+{
+    let node = hashed(alloc, params, &program.tree)?;
+    let setting = Setting {
+        alloc,
+        params,
+        kernel: program.kernel.as_slice(),
+        limit,
+    };
+    let mut runner = Runner {
+        state: State::start(alloc, inputs)?,
+        log: Events::new(alloc),
+    };
+    block(&mut runner, &setting, &node)?;
+    let advice = inputs.advice.as_slice();
+    let taken = advice.len() - runner.state.advice_left();
+    Ok(Run {
+        tape: Felts::copied(alloc, &advice[..taken])?,
+        state: runner.state,
+        events: runner.log,
+    })
+}

@@ -1,0 +1,20 @@
+//! The processor: it runs a program's tree as it is given, and keeps what each cycle shows.
+#![tactic(auto)]
+
+mod blocks;
+mod cycle;
+mod effect;
+mod event;
+mod execution;
+mod mark;
+mod node;
+mod refusal;
+mod run;
+mod setting;
+#[cfg(test)]
+mod tests;
+
+pub use event::{Event, Events, Visible};
+pub use execution::execute;
+pub use refusal::Stop;
+pub use run::Run;

@@ -1,0 +1,83 @@
+ghost use Rattle.std.specs.Prelude.{◌≡◌, ℕ, List, IfOk};
+ghost use Rattle.rpo_hash.specs.Constants.{constants_of};
+ghost use Rattle.block_tree.specs.TreeView.{tree_of};
+ghost use Rattle.block_tree.specs.Trees.{tree_digest};
+ghost use Rattle.processor.specs.Nodes.{IsHashed, digest_in, node_tree};
+
+use block_tree::{Tree, digest_of_one, digest_of_two};
+use op_pack::Batches;
+use rpo_hash::{Params, digest_of};
+use std::alloc::Global;
+use vm_field::{Felt, Memory, Word};
+use vm_ops::Op;
+
+// A block with its digest in front, so that each digest is computed once.
+#[derive(Drop)]
+pub(crate) enum Node<'a> {
+    Opaque(Word),
+    Span(Word, &'a Batches),
+    Join(Word, Box<Node<'a>>, Box<Node<'a>>),
+    Split(Word, Box<Node<'a>>, Box<Node<'a>>),
+    Loop(Word, Box<Node<'a>>),
+    Call(Word, Box<Node<'a>>),
+    Syscall(Word, Box<Node<'a>>),
+}
+
+impl Node<'_> {
+    // The digest of the block.
+    pub fn digest(&self) -> Word
+        ensures is { result ≡ digest_in self.now }
+        ensures hashed { (constants : List ℕ) → IsHashed constants self.now → result ≡ tree_digest constants (node_tree self.now) }
+    {
+        match self {
+            Node::Opaque(digest)
+            | Node::Span(digest, _)
+            | Node::Join(digest, _, _)
+            | Node::Split(digest, _, _)
+            | Node::Loop(digest, _)
+            | Node::Call(digest, _)
+            | Node::Syscall(digest, _) => *digest,
+        }
+    }
+}
+
+// The tree with its digests.
+pub(crate) fn hashed<'a>(alloc: Global, params: &Params, tree: &'a Tree) -> Result<Node<'a>, Memory>
+    ensures hashed { IfOk result (λ node. IsHashed (constants_of params.now) node) }
+    ensures tree { IfOk result (λ node. node_tree node ≡ tree_of tree.now) }
+    ensures digest { IfOk result (λ node. digest_in node ≡ tree_digest (constants_of params.now) (tree_of tree.now)) }
+{
+    Ok(match tree {
+        Tree::Opaque(digest) => Node::Opaque(*digest),
+        Tree::Span(batches) => {
+            Node::Span(digest_of(params, Felt::ZERO, batches.as_slice()), batches)
+        }
+        Tree::Join(first, second) => {
+            let first = hashed(alloc, params, first)?;
+            let second = hashed(alloc, params, second)?;
+            let digest = digest_of_two(params, Op::Join, first.digest(), second.digest());
+            Node::Join(digest, Box::new(alloc, first)?, Box::new(alloc, second)?)
+        }
+        Tree::Split(on_one, on_zero) => {
+            let on_one = hashed(alloc, params, on_one)?;
+            let on_zero = hashed(alloc, params, on_zero)?;
+            let digest = digest_of_two(params, Op::Split, on_one.digest(), on_zero.digest());
+            Node::Split(digest, Box::new(alloc, on_one)?, Box::new(alloc, on_zero)?)
+        }
+        Tree::Loop(body) => {
+            let body = hashed(alloc, params, body)?;
+            let digest = digest_of_one(params, Op::Loop, body.digest());
+            Node::Loop(digest, Box::new(alloc, body)?)
+        }
+        Tree::Call(callee) => {
+            let callee = hashed(alloc, params, callee)?;
+            let digest = digest_of_one(params, Op::Call, callee.digest());
+            Node::Call(digest, Box::new(alloc, callee)?)
+        }
+        Tree::Syscall(callee) => {
+            let callee = hashed(alloc, params, callee)?;
+            let digest = digest_of_one(params, Op::Syscall, callee.digest());
+            Node::Syscall(digest, Box::new(alloc, callee)?)
+        }
+    })
+}
