@@ -15,4 +15,4 @@ pub use exports::{Export, Exports};
 pub use kernel::are_distinct;
 pub use laws::{run_laws, tree_laws, types_cross};
 pub use program::Program;
-pub use tree::{Tree, copy, digest, height};
+pub use tree::{Tree, copy, digest, digest_of_one, digest_of_two, height};

@@ -54,8 +54,8 @@ pub fn digest(params: &Params, tree: &Tree) -> Word
     }
 }
 
-// The digest of a block with two children.
-fn digest_of_two(params: &Params, start: Op, first: Word, second: Word) -> Word
+/// The digest of a block with two children, of which these are the digests.
+pub fn digest_of_two(params: &Params, start: Op, first: Word, second: Word) -> Word
     ensures is { result ≡ digest_of_input (constants_of params.now) (input_of_two start first second) }
 {
     let domain = Felt::reduced(u128::from(opcode(start)));
@@ -64,8 +64,8 @@ fn digest_of_two(params: &Params, start: Op, first: Word, second: Word) -> Word
     digest_of(params, domain, &[[a, b, c, d, e, f, g, h]])
 }
 
-// The digest of a block with one child.
-fn digest_of_one(params: &Params, start: Op, child: Word) -> Word
+/// The digest of a block with one child, of which this is the digest.
+pub fn digest_of_one(params: &Params, start: Op, child: Word) -> Word
     ensures is { result ≡ digest_of_input (constants_of params.now) (input_of_one start child) }
 {
     digest_of_two(params, start, child, Word::ZERO)
@@ -88,7 +88,7 @@ pub fn copy(alloc: Global, tree: &Tree) -> Result<Tree, Memory>
 {
     Ok(match tree {
         Tree::Opaque(digest) => Tree::Opaque(*digest),
-        Tree::Span(batches) => Tree::Span(copy_of_batches(alloc, batches)?),
+        Tree::Span(batches) => Tree::Span(batches.copy(alloc)?),
         Tree::Join(a, b) => Tree::Join(
             Box::new(alloc, copy(alloc, a)?)?,
             Box::new(alloc, copy(alloc, b)?)?,
@@ -101,16 +101,4 @@ pub fn copy(alloc: Global, tree: &Tree) -> Result<Tree, Memory>
         Tree::Call(a) => Tree::Call(Box::new(alloc, copy(alloc, a)?)?),
         Tree::Syscall(a) => Tree::Syscall(Box::new(alloc, copy(alloc, a)?)?),
     })
-}
-
-// Batches that are the same.
-fn copy_of_batches(alloc: Global, batches: &Batches) -> Result<Batches, Memory>
-    ensures same { IfOk result (λ copy. copy ≡ batches.now) }
-{
-    let batches = batches.as_slice();
-    let mut copy = Batches::of(alloc, batches[0])?;
-    for batch in &batches[1..] {
-        copy.push(*batch)?;
-    }
-    Ok(copy)
 }

@@ -206,7 +206,7 @@ const TWO: &str = "digest 000000000000000200000000000000000000000000000000000000
 
 const ZERO: &str = "digest 0000000000000000000000000000000000000000000000000000000000000000\n";
 
-const HASH_CASES: [HashCase; 14] = [
+const HASH_CASES: [HashCase; 17] = [
     (HASH, ONE_CONSTANT, BLOCK, 0, TWO),
     (HASH, ONE_CONSTANT, (16, 0, ""), 0, TWO),
     (HASH, ZEROS, BLOCK, 0, ZERO),
@@ -239,6 +239,17 @@ const HASH_CASES: [HashCase; 14] = [
     (&["hash", "--", "z", "--", "n"], ZEROS, BLOCK, 2, "usage\n"),
     (&["hash", "z"], ZEROS, BLOCK, 2, "usage\n"),
     (&["hash", "z", "m"], ZEROS, BLOCK, 6, "missing m\n"),
+    // 4,096 bytes, and two more
+    (
+        HASH,
+        (2048, 0, ""),
+        BLOCK,
+        10,
+        "malformed z line 169 Extra\n",
+    ),
+    (HASH, (2049, 0, ""), BLOCK, 11, "too long z\n"),
+    // 262,146 bytes
+    (HASH, ZEROS, (131073, 0, ""), 11, "too long n\n"),
 ];
 
 fn text_of(alloc: Global, lines: &Lines) -> Result<Vec<u8>, Memory> {

@@ -2,6 +2,7 @@
 #![tactic(auto)]
 
 mod batches;
+mod group;
 mod laws;
 mod packing;
 mod reading;

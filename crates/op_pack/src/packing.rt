@@ -2,15 +2,10 @@ ghost use Rattle.std.specs.Prelude.{◌≡◌, ◌≢◌, true, [], ◌∷◌, �
 ghost use Rattle.op_pack.specs.Packing.{has_immediate, fits, opens, placed, zeros_behind, batch_of, first_placed, packed};
 
 use crate::batches::Batches;
+use crate::group::{GROUP, PUSH};
 use std::alloc::Global;
 use vm_field::{Felt, Memory};
 use vm_ops::{Item, opcode};
-
-/// The code of PUSH, the highest that a batch may hold.
-const PUSH: u8 = 69;
-
-/// The greatest number of operations of a group.
-const GROUP: usize = 9;
 
 /// What comes from a place of a batch on: the rest of the current group's number, and the
 /// operations that open the next batch.
@@ -23,7 +18,7 @@ struct Placement<'a> {
 fn has_immediate(item: &Item) -> bool
     ensures { result ≡ has_immediate item.now }
 {
-    opcode(item.op) >= PUSH
+    u64::from(opcode(item.op)) >= PUSH
 }
 
 // Room in the current group, and for a PUSH for one more operation and a free position.

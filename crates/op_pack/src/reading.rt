@@ -2,6 +2,7 @@ ghost use Rattle.std.specs.Prelude.{◌≡◌, ◌+◌, ◌⊎◌, IfOk};
 ghost use Rattle.op_pack.specs.Digits.{IsNext, left_of, size_of, go_on, pushed_on};
 ghost use Rattle.op_pack.specs.Reading.{are_zero, positions_in_use, before, plain_digit, reading};
 
+use crate::group::{GROUP, PUSH};
 use std::alloc::Global;
 use vm_field::{Felt, Memory};
 use vm_ops::{Item, Items, Op, from_opcode};
@@ -29,12 +30,6 @@ fn are_zero(elements: &[Felt]) -> bool
 {
     elements.iter().all(|x| x.value() == 0)
 }
-
-/// The code of PUSH, the highest that a batch may hold.
-const PUSH: u64 = 69;
-
-/// The greatest number of operations of a group.
-const GROUP: usize = 9;
 
 /// What is still to be read of a batch: the positions that are not taken yet, how many operations
 /// the current group may still have, and the rest of its number.

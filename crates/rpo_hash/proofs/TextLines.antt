@@ -142,6 +142,37 @@ pub element_lines-stopped : (k m n : ℕ) (bytes : List ℕ) (error : ParamError
 unfolding joined
 element_lines-stopped k m n bytes error first = element_lines-add k m n bytes ∙ ap (λ r. joined r (element_lines m (n + k))) first
 
+ok_read : Read → List ℕ × List ℕ
+ok_read (Ok read) = read
+ok_read (Err e) = ([], [])
+
+same_read : (a b : List ℕ × List ℕ) → ◌≡◌ {A = Read} (Ok a) (Ok b) → a ≡ b
+unfolding ok_read
+same_read a b e = ap ok_read e
+
+-- k lines give k elements
+pub element_lines-length : (k n : ℕ) (bytes es rest : List ℕ) → element_lines k n bytes ≡ Ok (es, rest) → length es ≡ k
+unfolding element_lines
+element_lines-length zero n bytes es rest read =
+    ap (λ p. length p.0) (sym (same_read ([], bytes) (es, rest) read))
+element_lines-length (suc k) n bytes es rest read =
+    go (element_line n bytes) (λ first later. element_lines-length k (n + 1) first.1 later.0 later.1) read
+  where
+    more : (e : ℕ) (fs : List ℕ) → e ∷ fs ≡ es → length fs ≡ k → length es ≡ suc k
+    more e fs same size = ap length (sym same) ∙ ap suc size
+
+    inner : (first : ℕ × List ℕ) (r : Read) → ((later : List ℕ × List ℕ) → r ≡ Ok later → length later.0 ≡ k)
+        → and_then (put_first first.0) r ≡ Ok (es, rest) → length es ≡ suc k
+    inner first (Err e) size same = cc
+    inner first (Ok later) size same =
+        more first.0 later.0 (ap (λ p. p.0) (same_read (first.0 ∷ later.0, later.1) (es, rest) same)) (size later refl)
+
+    go : (r : Result (ℕ × List ℕ) ParamError)
+        → ((first : ℕ × List ℕ) (later : List ℕ × List ℕ) → element_lines k (n + 1) first.1 ≡ Ok later → length later.0 ≡ k)
+        → and_then (λ first. and_then (put_first first.0) (element_lines k (n + 1) first.1)) r ≡ Ok (es, rest) → length es ≡ suc k
+    go (Err e) sizes same = cc
+    go (Ok first) sizes same = inner first (element_lines k (n + 1) first.1) (sizes first) same
+
 -- one line is the first of one
 pub element_lines-one : (n : ℕ) (bytes : List ℕ) (e : ℕ) (rest : List ℕ) → element_line n bytes ≡ Ok (e, rest)
     → element_lines 1 n bytes ≡ Ok (e ∷ [], rest)

@@ -5,7 +5,7 @@ use Rattle.rpo_hash.specs.Constants.{interleaved}
 use Rattle.rpo_hash.specs.ParamText.{and_then, element_lines, nothing_left, parameters_of}
 use Rattle.rpo_hash.specs.declared.params.ParamError.{ParamError}
 use Rattle.rpo_hash.proofs.Lists.{take-set_next, whole}
-use Rattle.rpo_hash.proofs.TextLines.{element_lines-zero, lines_more, lines_stop}
+use Rattle.rpo_hash.proofs.TextLines.{element_lines-length, element_lines-zero, lines_more, lines_stop}
 
 interleaved-push : (firsts seconds : List (List ℕ)) (first second : List ℕ) → length seconds ≡ length firsts
     → interleaved (firsts ++ first ∷ []) (seconds ++ second ∷ []) ≡ interleaved firsts seconds ++ (first ++ second)
@@ -80,3 +80,9 @@ read_all k line bytes rest firsts seconds r read is lf ls line_is last =
     whole_read =
         ap (λ n. element_lines n 1 bytes) (ap (λ n. 24 * n) (sym is)) ∙ read
         ∙ ap₂ (λ (fs ss : List (List ℕ)). Ok (interleaved fs ss, rest)) (ap (λ n. take n firsts) is ∙ whole 7 firsts lf) (ap (λ n. take n seconds) is ∙ whole 7 seconds ls)
+
+pub length-read_all : (k : ℕ) (bytes rest : List ℕ) (firsts seconds : List (List ℕ)) → ReadRounds k bytes firsts seconds rest → k ≡ 7
+    → length firsts ≡ 7 → length seconds ≡ 7 → length (interleaved firsts seconds) ≡ 168
+length-read_all k bytes rest firsts seconds read is lf ls =
+    ap₂ (λ (fs ss : List (List ℕ)). length (interleaved fs ss)) (sym (ap (λ n. take n firsts) is ∙ whole 7 firsts lf)) (sym (ap (λ n. take n seconds) is ∙ whole 7 seconds ls))
+    ∙ element_lines-length (24 * k) 1 bytes (interleaved (take k firsts) (take k seconds)) rest read ∙ ap (λ n. 24 * n) is

@@ -1,6 +1,6 @@
 use Rattle.std.proofs.Common.{[], refl, ◌∙◌, arith, length-set}
 use Rattle.std.proofs.lemmas.Result.{err_from_is_err_and}
-use Rattle.rpo_hash.proofs.TextRounds.{read_none, read_more, read_all, refused_first, refused_second}
+use Rattle.rpo_hash.proofs.TextRounds.{read_none, read_more, read_all, length-read_all, refused_first, refused_second}
 use Rattle.rpo_hash.proofs.params.Params.read.Goals as goal
 
 pub loop-k-init : goal.loop-k-init
@@ -40,3 +40,7 @@ returns-in_err-end-clause-refused c =
 pub returns-clause-value : goal.returns-clause-value
 returns-clause-value c =
     read_all c.loop-k.k c.loop-k.lines.line _ _ _ _ _ c.loop-k.invariant.read (omega arith) c.loop-k.invariant.first_size c.loop-k.invariant.second_size (omega arith) c.in_ok-end.ensures
+
+pub returns-clause-count : goal.returns-clause-count
+returns-clause-count c =
+    length-read_all c.loop-k.k _ _ _ _ c.loop-k.invariant.read (omega arith) c.loop-k.invariant.first_size c.loop-k.invariant.second_size

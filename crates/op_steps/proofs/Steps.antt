@@ -1,0 +1,166 @@
+-- The machine's step, from the cells that the operation leaves or its trap.
+use Rattle.std.proofs.Common.{◌≡◌, ℕ, ◌+◌, ◌^◌, ◌<◌, ◌≤◌, Bool, true, false, cond, List, [], ◌∷◌, ◌++◌, length, take, drop, refl, ap, sym, ◌∙◌, nat_lt, slice_index, arith}
+use Rattle.std.proofs.lemmas.Bool.Decides.{nat_tests}
+use Rattle.std.specs.FinMap.{insert}
+use Rattle.std.specs.Prelude.{Option, Some, None, Ok, Err}
+use Rattle.vm_field.specs.Machine.{Core, State, filled_up, word_at}
+use Rattle.vm_ops.specs.declared.cause.Cause.{Cause}
+use Rattle.vm_ops.specs.declared.cause.Cause.TheVariants.{AdviceEmpty, AddressRange}
+use Rattle.vm_ops.specs.declared.item.Item.{Item}
+use Rattle.vm_ops.specs.declared.op.Op.{Op}
+use Rattle.vm_ops.specs.declared.op.Op.TheVariants.{Noop, MStore, MStoreW, FmpUpdate}
+use Rattle.vm_ops.specs.declared.op.Shift.TheVariants.{Right}
+use Rattle.vm_ops.specs.Moves.{takes_of, leaves_of, shift_of}
+use Rattle.vm_ops.specs.Step.{performed, unless_trapped, act, ticked, cycle_taking, step, left_cells, stack_after, seen}
+use Rattle.vm_ops.specs.Values.{Seen, advice_of, trap_of, written, fmp_after, computed, is_u32, unless}
+use Rattle.op_steps.proofs.Places.{placed, grown}
+use Rattle.op_steps.specs.Outcomes.{cells_unless, outcome, outcome_at, seen_of}
+use Rattle.op_steps.specs.Places.{shifted}
+use Rattle.op_steps.specs.Steps.{IsQuiet, writes_memory}
+
+abbrev later : ℕ → List ℕ → Core → State
+later n tape c = record { core = record c { clock = c.clock + 1 }; tape = drop n tape }
+
+trapped_by : (short : Bool) (trap : Option Cause) (n : ℕ) (tape cells : List ℕ) (c : Core) (cause : Cause)
+    → cond short (Err AdviceEmpty) (cells_unless trap cells) ≡ Err cause
+    → cond short (Err AdviceEmpty) (ticked n tape (unless_trapped trap c)) ≡ Err cause
+trapped_by true trap n tape cells c cause e = cc
+trapped_by false None n tape cells c cause e = cc
+trapped_by false (Some own) n tape cells c cause e = cc
+
+-- the operation's trap is the step's
+pub trapped : (constants : List ℕ) (item : Item) (s : State) (cause : Cause) → outcome_at constants item s ≡ Err cause → step constants item s ≡ Err cause
+unfolding outcome_at outcome cycle_taking act
+trapped constants item s cause e =
+    trapped_by (nat_lt (length s.tape) (advice_of item.op)) (trap_of item.op (seen_of constants item s)) (advice_of item.op) s.tape
+    (left_cells item.op (seen_of constants item s)) (performed item.op (seen_of constants item s) s.core) cause e
+
+performed_by : (short : Bool) (trap : Option Cause) (n : ℕ) (tape cells left : List ℕ) (c : Core)
+    → cond short (Err AdviceEmpty) (cells_unless trap cells) ≡ Ok left
+    → (cond short (Err AdviceEmpty) (ticked n tape (unless_trapped trap c)) ≡ Ok (later n tape c)) × (cells ≡ left)
+performed_by true trap n tape cells left c e = cc
+performed_by false None n tape cells left c e = (refl, cc)
+performed_by false (Some own) n tape cells left c e = cc
+
+-- the state behind a step, where the operation leaves these cells
+abbrev settled : List ℕ → Item → List ℕ → List ℕ → State → State
+settled constants item left stack s = record {
+  core = record (performed item.op (seen_of constants item s) s.core) { clock = s.core.clock + 1; stack = stack };
+  tape = drop (advice_of item.op) s.tape;
+}
+
+stepped : (constants : List ℕ) (item : Item) (s : State) (left : List ℕ) → outcome_at constants item s ≡ Ok left
+    → step constants item s ≡ Ok (settled constants item left (filled_up (left ++ drop (takes_of item.op) s.core.stack)) s)
+unfolding outcome_at outcome cycle_taking act stack_after
+stepped constants item s left e =
+    let done = performed_by (nat_lt (length s.tape) (advice_of item.op)) (trap_of item.op (seen_of constants item s)) (advice_of item.op) s.tape
+    (left_cells item.op (seen_of constants item s)) left (performed item.op (seen_of constants item s) s.core) e in
+    done.0 ∙ ap (λ cells. Ok (settled constants item left (filled_up (cells ++ drop (takes_of item.op) s.core.stack)) s)) done.1
+
+not_written : (op : Op) (s : Seen) → writes_memory op ≡ false → written op s ≡ None
+not_written MStore s e = cc
+not_written MStoreW s e = cc
+not_written Noop s e = refl
+not_written _ s e = refl
+
+writes_nothing : (op : Op) (s : Seen) → shift_of op ≡ Right → (written op s ≡ None) × (fmp_after op s ≡ s.fmp)
+writes_nothing MStore s e = cc
+writes_nothing MStoreW s e = cc
+writes_nothing FmpUpdate s e = cc
+writes_nothing Noop s e = (refl, refl)
+writes_nothing _ s e = (refl, refl)
+
+-- the step of a quiet operation
+pub stepped_quietly : (constants : List ℕ) (item : Item) (s : State) (left : List ℕ) (fmp : ℕ) → IsQuiet item.op → outcome_at constants item s ≡ Ok left
+    → length left ≡ leaves_of item.op → 16 ≤ length s.core.stack → fmp ≡ fmp_after item.op (seen_of constants item s)
+    → step constants item s ≡ Ok (record {
+      core = record s.core {
+        clock = s.core.clock + 1;
+        fmp = fmp;
+        stack = left ++ drop (length left) (shifted (shift_of item.op) s.core.stack);
+      };
+      tape = drop (advice_of item.op) s.tape;
+    })
+stepped_quietly constants item s left fmp quiet e count enough pointer =
+    rw (pointer, placed item.op left s.core.stack quiet.shift count enough)
+    (rw (not_written item.op (seen_of constants item s) quiet.memory) at (stepped constants item s left e))
+
+-- the step of an operation that shifts to the right
+pub stepped_growing : (constants : List ℕ) (item : Item) (s : State) (left : List ℕ) (v : ℕ) → shift_of item.op ≡ Right → outcome_at constants item s ≡ Ok left
+    → length left ≡ leaves_of item.op → 16 ≤ length s.core.stack
+    → step constants item s ≡ Ok (record {
+      core = record s.core { clock = s.core.clock + 1; stack = left ++ drop (length left) (v ∷ s.core.stack) };
+      tape = drop (advice_of item.op) s.tape;
+    })
+stepped_growing constants item s left v grows e count enough =
+    rw (grown item.op v left s.core.stack grows count enough)
+    (let none = writes_nothing item.op (seen_of constants item s) grows in rw (none.0, none.1) at (stepped constants item s left e))
+
+first_seen : (stack : List ℕ) → slice_index (take 16 stack) 0 ≡ slice_index stack 0
+first_seen [] = refl
+first_seen (x ∷ xs) = refl
+
+not_short : (n : ℕ) → nat_lt n 0 ≡ false
+not_short n = grind (arith, nat_tests)
+
+small : (a : ℕ) → a < 2 ^ 32 → is_u32 a ≡ true
+small a h = grind (arith, nat_tests)
+
+not_small : (a : ℕ) → 2 ^ 32 ≤ a → is_u32 a ≡ false
+not_small a h = grind (arith, nat_tests)
+
+outside_by : (short test : Bool) (n : ℕ) (tape : List ℕ) (c : Core) → short ≡ false → test ≡ false
+    → cond short (Err AdviceEmpty) (ticked n tape (unless_trapped (unless test AddressRange) c)) ≡ Err AddressRange
+outside_by true test n tape c e f = cc
+outside_by false true n tape c e f = cc
+outside_by false false n tape c e f = refl
+
+inside_by : (short test : Bool) (n : ℕ) (tape : List ℕ) (c : Core) → short ≡ false → test ≡ true
+    → cond short (Err AdviceEmpty) (ticked n tape (unless_trapped (unless test AddressRange) c)) ≡ Ok (later n tape c)
+inside_by true test n tape c e f = cc
+inside_by false true n tape c e f = refl
+inside_by false false n tape c e f = cc
+
+outside_at : (op : Op) (imm : Option ℕ) (constants : List ℕ) (s : State) → writes_memory op ≡ true → is_u32 (slice_index (take 16 s.core.stack) 0) ≡ false
+    → step constants (record { op = op; imm = imm }) s ≡ Err AddressRange
+unfolding cycle_taking act trap_of
+outside_at MStore imm constants s writes outside = outside_by (nat_lt (length s.tape) 0) _ 0 s.tape _ (not_short (length s.tape)) outside
+outside_at MStoreW imm constants s writes outside = outside_by (nat_lt (length s.tape) 0) _ 0 s.tape _ (not_short (length s.tape)) outside
+outside_at Noop imm constants s writes outside = cc
+outside_at _ imm constants s writes outside = cc
+
+-- a write outside the addresses
+pub stored_outside : (constants : List ℕ) (item : Item) (s : State) → writes_memory item.op ≡ true → 2 ^ 32 ≤ slice_index s.core.stack 0
+    → step constants item s ≡ Err AddressRange
+stored_outside constants item s writes outside =
+    outside_at item.op item.imm constants s writes (rw (first_seen s.core.stack) (not_small (slice_index s.core.stack 0) outside))
+
+-- the state behind a write of a word
+abbrev pub stored_state : List ℕ → State → State
+stored_state word s = record {
+  core = record s.core {
+    clock = s.core.clock + 1;
+    stack = filled_up (drop 1 s.core.stack);
+    memory = insert s.core.memory (s.core.context, slice_index s.core.stack 0) word;
+  };
+  tape = s.tape;
+}
+
+inside_at : (op : Op) (imm : Option ℕ) (constants : List ℕ) (s : State) → writes_memory op ≡ true → is_u32 (slice_index (take 16 s.core.stack) 0) ≡ true
+    → (word : List ℕ) → written op (seen constants (record { op = op; imm = imm }) [] s.core) ≡ Some word
+    → step constants (record { op = op; imm = imm }) s ≡ Ok (stored_state word s)
+unfolding cycle_taking act trap_of stack_after left_cells computed
+inside_at MStore imm constants s writes inside word is =
+    let e : word ≡ slice_index (take 16 s.core.stack) 1 ∷ drop 1 (word_at s.core.memory s.core.context (slice_index s.core.stack 0)) = cc in
+    rw e (inside_by (nat_lt (length s.tape) 0) _ 0 s.tape _ (not_short (length s.tape)) inside)
+inside_at MStoreW imm constants s writes inside word is =
+    let e : word ≡ slice_index (take 16 s.core.stack) 4 ∷ slice_index (take 16 s.core.stack) 3 ∷ slice_index (take 16 s.core.stack) 2 ∷ slice_index (take 16 s.core.stack) 1 ∷ [] = cc in
+    rw e (inside_by (nat_lt (length s.tape) 0) _ 0 s.tape _ (not_short (length s.tape)) inside)
+inside_at Noop imm constants s writes inside word is = cc
+inside_at _ imm constants s writes inside word is = cc
+
+-- a write of a word
+pub stored : (constants : List ℕ) (item : Item) (s : State) (word : List ℕ) → writes_memory item.op ≡ true → slice_index s.core.stack 0 < 2 ^ 32
+    → Some word ≡ written item.op (seen constants item [] s.core) → step constants item s ≡ Ok (stored_state word s)
+stored constants item s word writes inside is =
+    inside_at item.op item.imm constants s writes (rw (first_seen s.core.stack) (small (slice_index s.core.stack 0) inside)) word (sym is)

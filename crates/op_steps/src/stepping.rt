@@ -1,0 +1,80 @@
+ghost use Rattle.std.specs.Prelude.{◌≡◌, ◌≢◌, ◌≤◌, ◌↔◌, ℕ, List, IsTrue};
+ghost use Rattle.rpo_hash.specs.Constants.{constants_of};
+ghost use Rattle.vm_ops.specs.Moves.{shift_of};
+ghost use Rattle.vm_ops.specs.Step.{seen, step};
+ghost use Rattle.vm_ops.specs.Values.{fmp_after};
+ghost use Rattle.vm_ops.specs.declared.item.Item.{Item};
+ghost use Rattle.vm_state.specs.Views.{core_of, state_of};
+ghost use Rattle.op_steps.specs.Steps.{IsOrdinaryItem, IsQuiet, Stepped, SteppedQuietly};
+
+use crate::left::left_cells;
+use crate::place::settle;
+use crate::refusal::StepStop;
+use crate::storing::{step_storing, writes_memory};
+use rpo_hash::Params;
+use std::alloc::Global;
+use vm_field::Felt;
+use vm_ops::{Cause, Item, Op, Shift, shift};
+use vm_state::State;
+
+/// One cycle of an ordinary operation. The clock grows by one. At a trap and at `Memory` the state
+/// is as before.
+pub fn step(alloc: Global, params: &Params, item: &Item, state: &mut State) -> Result<(), StepStop>
+    requires item { IsOrdinaryItem item.now }
+    requires clock { state.old.clock ≤ 524287 }
+    ensures { Stepped (step (constants_of params.now) item.now (state_of state.old)) result (state_of state.old) (state_of state.new) }
+{
+    if shift(item.op) == Shift::Right {
+        step_growing(params, item, state)
+    } else if writes_memory(item.op) {
+        step_storing(item, state)
+    } else {
+        step_quiet(params, item, state).map_err(StepStop::Trap)
+    }
+}
+
+/// Whether the operation's step takes no memory of the system: it neither shifts the stack to the
+/// right nor writes the machine's memory.
+pub fn is_quiet(op: Op) -> bool
+    ensures { IsTrue result ↔ IsQuiet op }
+{
+    shift(op) != Shift::Right && !writes_memory(op)
+}
+
+/// One cycle of an operation that is quiet. At a trap the state is as before.
+#[tactic(auto, using(crate::proofs::Steps::stepped_quietly))]
+pub fn step_quiet(params: &Params, item: &Item, state: &mut State) -> Result<(), Cause>
+    requires item { IsOrdinaryItem item.now }
+    requires clock { state.old.clock ≤ 524287 }
+    requires quiet { IsQuiet item.now.op }
+    ensures { SteppedQuietly (step (constants_of params.now) item.now (state_of state.old)) result (state_of state.old) (state_of state.new) }
+{
+    let left = left_cells(params, item, state)?;
+    let fmp = pointer_after(item.op, state);
+    settle(item.op, &left, state);
+    state.fmp = fmp;
+    Ok(())
+}
+
+// The frame pointer behind the operation.
+fn pointer_after(op: Op, state: &State) -> Felt
+    ensures { (constants : List ℕ) (item : Item) (advice : List ℕ) → result ≡ fmp_after op (seen constants item advice (core_of state.now)) }
+{
+    match op {
+        Op::FmpUpdate => state.fmp.add(state.visible()[0]),
+        _ => state.fmp,
+    }
+}
+
+// One cycle of an operation that shifts the stack to the right.
+#[tactic(auto, using(crate::proofs::Steps::stepped_growing))]
+fn step_growing(params: &Params, item: &Item, state: &mut State) -> Result<(), StepStop>
+    requires clock { state.old.clock ≤ 524287 }
+    requires grows { shift_of item.now.op ≡ Shift.Right }
+    ensures { Stepped (step (constants_of params.now) item.now (state_of state.old)) result (state_of state.old) (state_of state.new) }
+{
+    let left = left_cells(params, item, state)?;
+    state.push(Felt::ZERO)?;
+    settle(item.op, &left, state);
+    Ok(())
+}

@@ -1,0 +1,31 @@
+ghost use Rattle.std.specs.Prelude.{◌≡◌, ◌≤◌, length};
+
+use vm_field::Felts;
+
+/// What a run is given: the stack at its start, top first, and the advice that its operations may
+/// take, in order.
+#[derive(Drop)]
+pub struct Inputs {
+    pub stack: Felts,
+    pub advice: Felts,
+    pub ghost few: { length stack ≤ 16 },
+    pub ghost short: { length advice ≤ 1048576 },
+}
+
+impl Inputs {
+    /// At most so many elements stand on the stack at the start.
+    pub const MOST_STACK: usize = 16;
+
+    /// At most so many elements are on the tape.
+    pub const MOST_ADVICE: usize = 1048576;
+
+    /// The inputs of these lists.
+    pub fn new(stack: Felts, advice: Felts) -> Inputs
+        requires few { length stack ≤ 16 }
+        requires short { length advice ≤ 1048576 }
+        ensures stack { result.stack ≡ stack }
+        ensures advice { result.advice ≡ advice }
+    {
+        Inputs { stack, advice }
+    }
+}

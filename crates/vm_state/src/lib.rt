@@ -1,0 +1,18 @@
+//! The machine's state: its stack, its memory and its tape; what a run is given; and the statement
+//! that a run proves.
+#![tactic(auto)]
+
+mod inputs;
+mod laws;
+mod memory;
+mod stack;
+mod state;
+mod statement;
+mod tape;
+#[cfg(test)]
+mod tests;
+
+pub use inputs::Inputs;
+pub use laws::types_cross;
+pub use state::State;
+pub use statement::Statement;
