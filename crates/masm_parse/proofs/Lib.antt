@@ -4,3 +4,4 @@ pub mod Standing
 pub mod Depth
 pub mod Settling
 pub mod Least
+pub mod Fitting

@@ -6,3 +6,4 @@ pub mod Machine
 pub mod Views
 pub mod Grammar
 pub mod Refusals
+pub mod Locals

@@ -1,3 +1,4 @@
+ghost use Rattle.masm_parse.specs.Locals.{LocalsFit};
 ghost use Rattle.masm_parse.specs.Refusals.{LeastRefusal, ReadsOnce};
 
 /// The parser's answer is the tree that the tokens spell where no token is refused, and else the
@@ -5,4 +6,9 @@ ghost use Rattle.masm_parse.specs.Refusals.{LeastRefusal, ReadsOnce};
 pub fn least_refusal()
     ensures answers { LeastRefusal }
     ensures once { ReadsOnce }
+{}
+
+/// Each local that an instruction names is one of its procedure's.
+pub fn locals_fit()
+    ensures { LocalsFit }
 {}

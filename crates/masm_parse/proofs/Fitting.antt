@@ -1,0 +1,283 @@
+-- Each local that is named in what the parser holds is one of its procedure's.
+use Rattle.std.proofs.Common.{◌≡◌, ℕ, Bool, true, false, ◌&&◌, cond, List, [], ◌∷◌, ◌++◌, Option, Some, None, Result, Ok, Err, refl, sym, ap, subst, nat_le, nat_lt, leb-false, bytes_eq, codes, ◌==◌}
+use Rattle.std.specs.Option.{option_map}
+use Rattle.std.specs.List.{AllByRecursion}
+use Rattle.masm_instr.specs.declared.refusal.InstrError.{InstrError}
+use Rattle.masm_instr.specs.Instructions.{Instruction, HasLocal}
+use Rattle.masm_instr.specs.declared.constant.Const.{Const}
+use Rattle.masm_instr.specs.Numbers.{number}
+use Rattle.masm_instr.specs.Reading.{read, parts_of, parameter_of}
+use Rattle.vm_field.specs.Field.{prime}
+use Rattle.std.specs.List.{slice_split}
+use Rattle.masm_parse.specs.declared.parts.Case.TheVariants.{Upper, Lower}
+use Rattle.masm_lex.specs.declared.list.Token.{Token}
+use Rattle.masm_lex.specs.declared.place.Place.{Place}
+use Rattle.masm_parse.specs.declared.refusal.ParseError.{ParseError}
+use Rattle.masm_parse.specs.declared.refusal.ParseError.TheVariants.{Bad}
+use Rattle.masm_lex.specs.Tokens.{place_after, text_of}
+use Rattle.masm_parse.specs.declared.keyword.Keyword.{Keyword}
+use Rattle.masm_parse.specs.declared.keyword.Keyword.TheVariants as keywords
+use Rattle.masm_parse.specs.declared.refusal.Cause.{Cause}
+use Rattle.masm_parse.specs.declared.refusal.Cause.TheVariants as causes
+use Rattle.masm_parse.specs.declared.sign.Header.{Header}
+use Rattle.masm_parse.specs.declared.sign.Leaf.TheVariants as leaves
+use Rattle.masm_parse.specs.declared.sign.Role.{Role}
+use Rattle.masm_parse.specs.declared.sign.Role.TheVariants as roles
+use Rattle.masm_parse.specs.declared.sign.Sign.{Sign}
+use Rattle.masm_parse.specs.declared.sign.Sign.TheVariants as signs
+use Rattle.masm_parse.specs.declared.sign.Word.{Word}
+use Rattle.masm_parse.specs.declared.tree.At.{At}
+use Rattle.masm_parse.specs.Keywords.{keyword_of, is_kept_from_kernels}
+use Rattle.masm_parse.specs.Locals.{LeafFits, HasLocals, ProcedureFits, SourceFits}
+use Rattle.masm_parse.specs.Machine.{Open, In_if, In_else, In_while, In_repeat, State, Top, Inside, Behind, Reader, start, shut, closed, procedure, may_begin, turn, settled, moved, at_of, step, ended, parse_from, parsed}
+use Rattle.masm_parse.specs.Trees.{Body, Empty, Leaf_then, If_then, While_then, Repeat_then, Procedure, Source, append}
+use Rattle.masm_parse.specs.Words.{Context, known_after, worded, local_tested, is_no_local, instruction, instruction_word, keyword_word, word_known, word_parts, word_of, phrase, usage, used, valued, definition, constant, header_with, header, locals_of, alone, on_true, repeated, repetition, main, is_name}
+
+-- what is held of a sign that is not refused
+abbrev pub SignFits : ℕ → Sign → Type 0
+SignFits locals (signs.Leaf at leaf) = LeafFits locals leaf
+SignFits locals sign = Unit {0}
+
+fits-append : (locals : ℕ) (b c : Body) → HasLocals locals b → HasLocals locals c → HasLocals locals (append b c)
+fits-append locals Empty c h k = k
+fits-append locals (Leaf_then at leaf rest) c h k = (h.0, fits-append locals rest c h.1 k)
+fits-append locals (If_then at first second rest) c h k = (h.0, h.1, fits-append locals rest c h.2 k)
+fits-append locals (While_then at body rest) c h k = (h.0, fits-append locals rest c h.1 k)
+fits-append locals (Repeat_then at times body rest) c h k = (h.0, fits-append locals rest c h.1 k)
+
+abbrev pub OpenFits : ℕ → Open → Type 0
+OpenFits locals (In_if at before) = HasLocals locals before
+OpenFits locals (In_else at before first) = HasLocals locals before × HasLocals locals first
+OpenFits locals (In_while at before) = HasLocals locals before
+OpenFits locals (In_repeat at times before) = HasLocals locals before
+
+fits-shut : (locals : ℕ) (o : Open) (b : Body) → OpenFits locals o → HasLocals locals b → HasLocals locals (shut o b)
+fits-shut locals (In_if at before) b h k = fits-append locals before (If_then at b Empty Empty) h (k, tt, tt)
+fits-shut locals (In_else at before first) b h k = fits-append locals before (If_then at first b Empty) h.0 (h.1, k, tt)
+fits-shut locals (In_while at before) b h k = fits-append locals before (While_then at b Empty) h (k, tt)
+fits-shut locals (In_repeat at times before) b h k = fits-append locals before (Repeat_then at times b Empty) h (k, tt)
+
+-- what is held of a state, where the procedure that began last has so many locals
+abbrev pub StateFits : ℕ → State → Type 0
+StateFits locals (Top procs) = AllByRecursion ProcedureFits procs
+StateFits locals (Inside procs header opens body) =
+    AllByRecursion ProcedureFits procs × (header.locals ≡ locals) × AllByRecursion (OpenFits locals) opens × HasLocals locals body
+StateFits locals (Behind procs main) = AllByRecursion ProcedureFits procs × ProcedureFits main
+
+fits-snoc : (procs : List Procedure) (p : Procedure) → AllByRecursion ProcedureFits procs → ProcedureFits p → AllByRecursion ProcedureFits (procs ++ p ∷ [])
+fits-snoc [] p h k = (k, tt)
+fits-snoc (q ∷ procs) p h k = (h.0, fits-snoc procs p h.1 k)
+
+fits-closed : (locals : ℕ) (procs : List Procedure) (role : Role) (p : Procedure) → AllByRecursion ProcedureFits procs → ProcedureFits p → StateFits locals (closed procs role p)
+fits-closed locals procs roles.Proc p h k = fits-snoc procs p h k
+fits-closed locals procs roles.Export p h k = fits-snoc procs p h k
+fits-closed locals procs roles.Main p h k = (h, k)
+
+abbrev pub StateFitsIf : ℕ → Option State → Type 0
+StateFitsIf locals None = Unit {0}
+StateFitsIf locals (Some s) = StateFits locals s
+
+fits-begun : (procs : List Procedure) (h : Header) (may : Bool) → AllByRecursion ProcedureFits procs → StateFitsIf h.locals (cond may (Some (Inside procs h [] Empty)) None)
+fits-begun procs h true k = (k, refl, tt, tt)
+fits-begun procs h false k = tt
+
+abbrev pub locals_after : ℕ → Sign → ℕ
+locals_after locals (signs.Header header) = header.locals
+locals_after locals sign = locals
+
+fits-turn : (kernel : Bool) (locals : ℕ) (s : State) (sign : Sign) → StateFits locals s → SignFits locals sign → StateFitsIf (locals_after locals sign) (turn kernel s sign)
+fits-turn kernel locals (Top procs) (signs.Const c) h k = h
+fits-turn kernel locals (Top procs) (signs.Header header) h k = fits-begun procs header (may_begin kernel header.role) h
+fits-turn kernel locals (Inside procs header opens body) (signs.Leaf at leaf) h k = (h.0, h.1, h.2, fits-append locals body (Leaf_then at leaf Empty) h.3 (k, tt))
+fits-turn kernel locals (Inside procs header opens body) (signs.If at) h k = (h.0, h.1, (h.3, h.2), tt)
+fits-turn kernel locals (Inside procs header opens body) (signs.While at) h k = (h.0, h.1, (h.3, h.2), tt)
+fits-turn kernel locals (Inside procs header opens body) (signs.Repeat at times) h k = (h.0, h.1, (h.3, h.2), tt)
+fits-turn kernel locals (Inside procs header (In_if at before ∷ opens) body) signs.Else h k = (h.0, h.1, ((h.2.0, h.3), h.2.1), tt)
+fits-turn kernel locals (Inside procs header [] body) signs.End h k =
+    fits-closed locals procs header.role (procedure header body) h.0 (subst (λ n. HasLocals n body) (sym h.1) h.3)
+fits-turn kernel locals (Inside procs header (o ∷ opens) body) signs.End h k = (h.0, h.1, h.2.1, fits-shut locals o body h.2.0 h.3)
+fits-turn kernel locals s sign h k = tt
+
+-- What a word says, where it is not refused.
+abbrev pub WordFits : ℕ → Word → Type 0
+WordFits locals word = word.fault ≡ None → SignFits locals word.sign
+
+no-local : (instr : Instruction) (locals : ℕ) → is_no_local instr locals ≡ false → HasLocal instr locals
+no-local instr locals is named = leb-false locals _ (rw named at is)
+
+fits-tested : (locals : ℕ) (at : At) (refused : Sign) (r : Result Instruction InstrError) → WordFits locals (worded refused (local_tested locals at r))
+fits-tested locals at refused (Ok instr) fine =
+    elim (is_no_local instr locals) as (λ b. is_no_local instr locals ≡ b → (worded refused (cond b (Err causes.LocalsRange) (Ok (signs.Leaf at (leaves.Instr instr))))).fault ≡ None → SignFits locals (worded refused (cond b (Err causes.LocalsRange) (Ok (signs.Leaf at (leaves.Instr instr))))).sign) [
+      | true ↦ λ is no. cc
+      | false ↦ λ is none. no-local instr locals is
+    ] refl fine
+fits-tested locals at refused (Err error) fine = cc
+
+-- a reading whose sign, if it has one, names no local
+abbrev pub NamesNone : Result Sign Cause → Type 0
+NamesNone (Ok sign) = (locals : ℕ) → SignFits locals sign
+NamesNone (Err cause) = Unit {0}
+
+none-if : (b : Bool) (x y : Result Sign Cause) → NamesNone x → NamesNone y → NamesNone (cond b x y)
+none-if true x y h k = h
+none-if false x y h k = k
+
+none-valued : (at : At) (name : List ℕ) (v : Option ℕ) → NamesNone (valued at name v)
+none-valued at name None = tt
+none-valued at name (Some v) = none-if (nat_lt v prime) _ _ (λ n. tt) tt
+
+none-definition : (at : At) (parts : List (List ℕ)) → NamesNone (definition at parts)
+none-definition at (name ∷ value ∷ []) = none-if (is_name Upper name) _ _ (none-valued at name (number value)) tt
+none-definition at parts = tt
+
+none-constant : (at : At) (parts : List (List ℕ)) → NamesNone (constant at parts)
+unfolding constant
+none-constant at (part ∷ []) = none-definition at (slice_split (λ b. b == 61) part)
+none-constant at parts = tt
+
+none-header_with : (role : Role) (at : At) (name : List ℕ) (n : Result ℕ Cause) → NamesNone (header_with role at name n)
+none-header_with role at name (Ok n) = λ m. tt
+none-header_with role at name (Err cause) = tt
+
+none-header : (role : Role) (at : At) (parts : List (List ℕ)) → NamesNone (header role at parts)
+unfolding header
+none-header role at [] = tt
+none-header role at (name ∷ more) = none-if (is_name Lower name) _ _ (none-header_with role at name (locals_of more)) tt
+
+none-alone : (sign : Sign) (parts : List (List ℕ)) → ((n : ℕ) → SignFits n sign) → NamesNone (alone sign parts)
+none-alone sign [] h = h
+none-alone sign (part ∷ parts) h = tt
+
+none-on_true : (sign : Sign) (parts : List (List ℕ)) → ((n : ℕ) → SignFits n sign) → NamesNone (on_true sign parts)
+none-on_true sign (part ∷ []) h = none-if (bytes_eq part (codes "true")) _ _ h tt
+none-on_true sign parts h = tt
+
+none-repeated : (at : At) (n : Option ℕ) → NamesNone (repeated at n)
+none-repeated at None = tt
+none-repeated at (Some n) = none-if (nat_le 1 n && nat_le n 10000) _ _ (λ m. tt) tt
+
+none-repetition : (consts : List Const) (at : At) (parts : List (List ℕ)) → NamesNone (repetition consts at parts)
+unfolding repetition
+none-repetition consts at (part ∷ []) = none-repeated at (parameter_of consts true part)
+none-repetition consts at parts = tt
+
+none-used : (k : Keyword) (name : List ℕ) (locals : ℕ) → LeafFits locals (used k name)
+none-used keywords.Call name locals = tt
+none-used keywords.Syscall name locals = tt
+none-used k name locals = tt
+
+none-usage : (k : Keyword) (at : At) (parts : List (List ℕ)) → NamesNone (usage k at parts)
+unfolding usage
+none-usage k at (name ∷ []) = none-if (is_name Lower name) _ _ (none-used k name) tt
+none-usage k at parts = tt
+
+none-phrase : (context : Context) (at : At) (parts : List (List ℕ)) (k : Keyword) → NamesNone (phrase context at parts k)
+unfolding phrase
+none-phrase context at parts keywords.Const = none-constant at parts
+none-phrase context at parts keywords.Proc = none-header roles.Proc at parts
+none-phrase context at parts keywords.Export = none-header roles.Export at parts
+none-phrase context at parts keywords.Begin = none-alone (main at) parts (λ n. tt)
+none-phrase context at parts keywords.If = none-on_true (signs.If at) parts (λ n. tt)
+none-phrase context at parts keywords.Else = none-alone signs.Else parts (λ n. tt)
+none-phrase context at parts keywords.While = none-on_true (signs.While at) parts (λ n. tt)
+none-phrase context at parts keywords.Repeat = none-repetition context.consts at parts
+none-phrase context at parts keywords.Exec = none-usage keywords.Exec at parts
+none-phrase context at parts keywords.Call = none-usage keywords.Call at parts
+none-phrase context at parts keywords.Syscall = none-usage keywords.Syscall at parts
+none-phrase context at parts keywords.End = none-alone signs.End parts (λ n. tt)
+
+none-worded : (locals : ℕ) (refused : Sign) (r : Result Sign Cause) → NamesNone r → WordFits locals (worded refused r)
+none-worded locals refused (Ok sign) h fine = h locals
+none-worded locals refused (Err cause) h fine = cc
+
+-- a token that is a keyword names no local
+fits-keyword : (kernel : Bool) (context : Context) (at : At) (parts : List (List ℕ)) (k : Keyword) → WordFits context.locals (keyword_word kernel context at parts k)
+unfolding keyword_word
+fits-keyword kernel context at parts k =
+    none-worded context.locals _ _ (none-if (kernel && is_kept_from_kernels k) _ _ tt (none-phrase context at parts k))
+
+fits-known : (kernel : Bool) (context : Context) (at : At) (text : List ℕ) (parts : List (List ℕ)) (k : Option Keyword) → WordFits context.locals (word_known kernel context at text parts k)
+unfolding instruction_word instruction
+fits-known kernel context at text parts None = fits-tested context.locals at _ (read context.consts text)
+fits-known kernel context at text parts (Some k) = fits-keyword kernel context at parts k
+
+fits-parts : (kernel : Bool) (context : Context) (at : At) (text : List ℕ) (parts : List (List ℕ)) → WordFits context.locals (word_parts kernel context at text parts)
+unfolding instruction_word instruction
+fits-parts kernel context at text [] = fits-tested context.locals at _ (read context.consts text)
+fits-parts kernel context at text (first ∷ parts) = fits-known kernel context at text parts (keyword_of first)
+
+fits-word : (kernel : Bool) (context : Context) (at : At) (text : List ℕ) → WordFits context.locals (word_of kernel context at text)
+unfolding word_of
+fits-word kernel context at text = fits-parts kernel context at text (parts_of text)
+
+-- what is held of a reader
+abbrev pub ReaderFits : Reader → Type 0
+ReaderFits r = StateFits r.context.locals r.state
+
+abbrev pub ReaderFitsOption : Option Reader → Type 0
+ReaderFitsOption None = Unit {0}
+ReaderFitsOption (Some r) = ReaderFits r
+
+abbrev pub ReaderFitsIf : Result Reader Cause → Type 0
+ReaderFitsIf (Ok r) = ReaderFits r
+ReaderFitsIf (Err cause) = Unit {0}
+
+-- known_after keeps the count of locals, but at a header
+known-locals : (context : Context) (sign : Sign) → (known_after context sign).locals ≡ locals_after context.locals sign
+known-locals context (signs.Header header) = refl
+known-locals context (signs.Const c) = refl
+known-locals context sign = refl
+
+fits-advanced : (kernel : Bool) (r : Reader) (sign : Sign) (s : Option State) → StateFitsIf (locals_after r.context.locals sign) s
+    → ReaderFitsOption (option_map (λ s. record { context = known_after r.context sign; state = s }) s)
+fits-advanced kernel r sign None h = tt
+fits-advanced kernel r sign (Some s) h = subst (λ n. StateFits n s) (sym (known-locals r.context sign)) h
+
+fits-settled : (fault : Option Cause) (deep : Bool) (now : Option Reader) → (fault ≡ None → ReaderFitsOption now) → ReaderFitsIf (settled fault deep now)
+fits-settled None deep None h = tt
+fits-settled None true (Some now) h = tt
+fits-settled None false (Some now) h = h refl
+fits-settled (Some cause) deep None h = tt
+fits-settled (Some cause) deep (Some now) h = tt
+
+fits-moved : (kernel : Bool) (r : Reader) (word : Word) → ReaderFits r → WordFits r.context.locals word → ReaderFitsIf (moved kernel r word)
+unfolding moved
+fits-moved kernel r word h k =
+    fits-settled word.fault _ _ (λ fine. fits-advanced kernel r word.sign (turn kernel r.state word.sign) (fits-turn kernel r.context.locals r.state word.sign h (k fine)))
+
+fits-step : (kernel : Bool) (source : List ℕ) (r : Reader) (token : Token) → ReaderFits r → ReaderFitsIf (step kernel source r token)
+unfolding step
+fits-step kernel source r token h = fits-moved kernel r _ h (fits-word kernel r.context (at_of token) (text_of source token))
+
+value_or : Source → Result Source ParseError → Source
+value_or other (Ok source) = source
+value_or other (Err e) = other
+
+same_source : (a b : Source) → ◌≡◌ {A = Result Source ParseError} (Ok a) (Ok b) → a ≡ b
+unfolding value_or
+same_source a b e = ap (value_or a) e
+
+fits-ended : (kernel : Bool) (locals : ℕ) (state : State) (end : Place) (consts : List Const) (source : Source) → StateFits locals state → ended kernel end consts state ≡ Ok source → SourceFits source
+fits-ended true locals (Top procs) end consts source h e = subst SourceFits (same_source _ source e) (record { procs = h; main = tt })
+fits-ended false locals (Behind procs main) end consts source h e = subst SourceFits (same_source _ source e) (record { procs = h.0; main = h.1 })
+fits-ended true locals (Inside procs header opens body) end consts source h e = cc
+fits-ended true locals (Behind procs main) end consts source h e = cc
+fits-ended false locals (Top procs) end consts source h e = cc
+fits-ended false locals (Inside procs header opens body) end consts source h e = cc
+
+-- the reading of the other tokens, behind a step
+fits-later : (s : Result Reader Cause) (token : Token) (rest : Reader → Result Source ParseError) (source : Source) → ReaderFitsIf s
+    → ((now : Reader) → ReaderFits now → rest now ≡ Ok source → SourceFits source)
+    → elim s as (λ _. Result Source ParseError) [ Ok now ↦ rest now | Err cause ↦ Err (Bad token.line token.column cause) ] ≡ Ok source → SourceFits source
+fits-later (Ok now) token rest source k h e = h now k e
+fits-later (Err cause) token rest source k h e = cc
+
+fits-parsed : (kernel : Bool) (text : List ℕ) (r : Reader) (tokens : List Token) (source : Source) → ReaderFits r → parse_from kernel text r tokens ≡ Ok source → SourceFits source
+fits-parsed kernel text r [] source h is = fits-ended kernel r.context.locals r.state (place_after text) r.context.consts source h is
+fits-parsed kernel text r (token ∷ tokens) source h is =
+    fits-later (step kernel text r token) token (λ now. parse_from kernel text now tokens) source (fits-step kernel text r token h)
+    (λ now k e. fits-parsed kernel text now tokens source k e) is
+
+pub locals-fit : (kernel : Bool) (text : List ℕ) (tokens : List Token) (source : Source) → parsed kernel text tokens ≡ Ok source → SourceFits source
+unfolding parsed
+locals-fit kernel text tokens source is = fits-parsed kernel text start tokens source tt is
