@@ -9,7 +9,7 @@ use crate::refusal::{TextCause, TextError};
 use crate::values::{array_of, elements_of, has_keys, numbers_at, value_of};
 use serde_json::{Value, json};
 use std::alloc::Global;
-use vm_field::{Bytes, Felts, Memory};
+use vm_field::{Bytes, Memory};
 use vm_state::Inputs;
 
 /// The inputs that a text writes: a JSON object of exactly the keys `advice` and `stack`, in any
