@@ -1,0 +1,4 @@
+pub mod Values
+pub mod Causes
+pub mod Inputs
+pub mod ToJson
