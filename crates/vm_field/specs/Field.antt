@@ -1,9 +1,13 @@
 -- Arithmetic modulo the prime 2^64 - 2^32 + 1. An element of the field is a number below it.
-use Rattle.std.specs.Prelude.{ℕ, zero, suc, ◌+◌, ◌-◌, ◌*◌, ◌%◌, ◌^◌, Bool, ◌==◌, nat_lt, if◌then◌else◌, Option, Some, None}
+use Rattle.std.specs.Prelude.{ℕ, zero, suc, ◌+◌, ◌-◌, ◌*◌, ◌%◌, ◌^◌, ◌<◌, Bool, ◌==◌, nat_lt, if◌then◌else◌, List, All, Option, Some, None}
 
 -- 2^64 - 2^32 + 1
 abbrev pub prime : ℕ
 prime = 18446744069414584321
+
+-- each number of a list is an element
+abbrev pub AreElements : List ℕ → Type 0
+AreElements xs = All (λ e. e < prime) xs
 
 -- the element of a number, if it is one
 abbrev pub element_from : ℕ → Option ℕ

@@ -1,8 +1,9 @@
 -- The machine's state, and where a run starts and ends (docs/MACHINE.md).
-use Rattle.std.specs.Prelude.{◌≡◌, ℕ, ◌-◌, ◌^◌, Bool, false, List, [], ◌∷◌, ◌++◌, length, replicate, unwrap_or}
+use Rattle.std.specs.Prelude.{◌≡◌, ℕ, ◌-◌, ◌^◌, ◌<◌, ◌≤◌, Bool, false, List, [], ◌∷◌, ◌++◌, length, replicate, unwrap_or}
 use Rattle.std.specs.declared.cmp.Ordering.{Ordering}
 use Rattle.std.specs.Ordering.{nat_cmp, ordering_then}
 use Rattle.std.specs.FinMap.{FinMap, get, empty}
+use Rattle.vm_field.specs.Field.{prime, AreElements}
 
 -- memory places, by context and then by address
 abbrev pub place_cmp : ℕ × ℕ → ℕ × ℕ → Ordering
@@ -15,6 +16,11 @@ WordMap = FinMap place_cmp (List ℕ)
 -- four zeros
 abbrev pub zero_word : List ℕ
 zero_word = 0 ∷ 0 ∷ 0 ∷ 0 ∷ []
+
+-- a word: four elements
+pub record IsWord (w : List ℕ) : Type 0 where
+  pub size : length w ≡ 4
+  pub below : AreElements w
 
 -- the word at an address of a context; a word that was never written is zero
 abbrev pub word_at : WordMap → ℕ → ℕ → List ℕ
@@ -34,6 +40,19 @@ pub record Core : Type 0 where
 pub record State : Type 0 where
   pub core : Core
   pub tape : List ℕ  -- the advice that is left
+
+-- at least sixteen cells, and each part is made of elements
+pub record IsWellFormedCore (c : Core) : Type 0 where
+  pub deep : 16 ≤ length c.stack
+  pub cells : AreElements c.stack
+  pub fmp : c.fmp < prime
+  pub digest : IsWord c.digest
+  pub words : (context address : ℕ) → IsWord (word_at c.memory context address)
+
+-- a state of the machine: its tape is made of elements, too
+pub record IsWellFormed (s : State) : Type 0 where
+  pub core : IsWellFormedCore s.core
+  pub tape : AreElements s.tape
 
 -- at least sixteen cells: zeros stand below
 abbrev pub filled_up : List ℕ → List ℕ
