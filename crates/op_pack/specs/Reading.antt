@@ -2,12 +2,18 @@
 -- A group's number holds operations as digits to the base 128, lowest first. What is still to be read of a batch is: the
 -- positions behind the current group that are not taken, how many operations the group may still have, and the rest of its
 -- number.
-use Rattle.std.specs.Prelude.{ℕ, zero, suc, ◌/◌, ◌%◌, Bool, ◌==◌, nat_lt, if◌then◌else◌, List, [], ◌∷◌, take, drop, slice_index, Option, Some, None, option_map, unwrap_or}
+use Rattle.std.specs.Prelude.{◌≡◌, ℕ, zero, suc, ◌/◌, ◌%◌, Bool, ◌==◌, nat_lt, if◌then◌else◌, List, [], ◌∷◌, length, take, drop, slice_index, Option, Some, None, option_map, unwrap_or}
 use Rattle.std.specs.List.{list_all}
+use Rattle.vm_field.specs.Field.{AreElements}
 use Rattle.vm_ops.specs.declared.op.Op.TheVariants.{Noop}
 use Rattle.vm_ops.specs.declared.item.Item.{Item}
 use Rattle.vm_ops.specs.Codes.{op_at}
 use Rattle.vm_ops.specs.Items.{plain_item, push_item}
+
+-- eight elements
+pub record IsBatch (batch : List ℕ) : Type 0 where
+  pub size : length batch ≡ 8
+  pub below : AreElements batch
 
 abbrev pub are_zero : List ℕ → Bool
 are_zero xs = list_all (λ x. x == 0) xs
