@@ -5,6 +5,7 @@ pub mod Inverses
 pub mod Algebra
 pub mod Places
 pub mod Elements
+pub mod PermutationLemmas
 pub mod HexText
 pub mod HexLaws
 pub mod DecimalText
