@@ -6,6 +6,7 @@ pub mod Algebra
 pub mod Places
 pub mod Elements
 pub mod PermutationLemmas
+pub mod WellFormed
 pub mod HexText
 pub mod HexLaws
 pub mod DecimalText
