@@ -18,6 +18,10 @@ pub length-mixed : (x : List ℕ) → length (mixed x) ≡ 12
 unfolding mixed
 length-mixed x = refl
 
+pub length-round_constants : (constants : List ℕ) (k : ℕ) → length constants ≡ 168 → k < 7 → length (round_constants constants k) ≡ 24
+length-round_constants constants k h below =
+    length-take-le 24 (drop (24 * k) constants) (omega (arith, length-drop (24 * k) constants))
+
 pub length-before_roots : (constants x : List ℕ) → length constants ≡ 24 → length (before_roots constants x) ≡ 12
 unfolding before_roots
 length-before_roots constants x h =
