@@ -1,4 +1,5 @@
-ghost use Rattle.std.specs.Prelude.{◌≡◌, ◌↔◌, ℕ, suc, ◌<◌, List, [], ◌∷◌, ◌++◌, length};
+ghost use Rattle.std.specs.Prelude.{◌≡◌, ◌↔◌, ℕ, suc, ◌<◌, List, [], ◌∷◌, ◌++◌, length, Ok};
+ghost use Rattle.rpo_hash.specs.ParamText.{parameters_of, text_of};
 ghost use Rattle.rpo_hash.specs.States.{IsState};
 ghost use Rattle.vm_field.specs.Field.{AreElements};
 ghost use Rattle.vm_field.specs.Machine.{IsWord};
@@ -26,6 +27,13 @@ pub fn permutation_laws()
     ensures one_to_one { (constants x y : List ℕ) → length constants ≡ 168 → IsState x → IsState y
         → permuted constants x ≡ permuted constants y → x ≡ y }
     ensures elements { (constants x : List ℕ) → length constants ≡ 168 → IsState (permuted constants x) }
+{}
+
+/// The law of the text of the constants: it reads as these exactly where it is their 168 lines,
+/// each the canonical decimal of an element and a line feed.
+pub fn parameter_laws()
+    ensures text { (text constants : List ℕ) → (parameters_of text ≡ Ok constants)
+        ↔ ((text ≡ text_of constants) × (length constants ≡ 168) × AreElements constants) }
 {}
 
 /// The laws of the sponge: what one block more leaves in it, that `hashed` is what is squeezed
