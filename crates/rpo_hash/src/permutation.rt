@@ -126,7 +126,7 @@ fn added(state: &[Felt; 12], constants: &[Felt; 12]) -> [Felt; 12]
 {
     let mut sums = *state;
     for i in 0..12 {
-        sums[i] = state[i].add(constants[i]);
+        sums[i] = state[i] + constants[i];
     }
     sums
 }

@@ -91,7 +91,7 @@ fn products<const N: usize>(x: &[Felt; N], y: &[Felt; N]) -> [Felt; N]
 {
     let mut products = *x;
     for i in 0..N {
-        products[i] = x[i].mul(y[i]);
+        products[i] = x[i] * y[i];
     }
     products
 }
