@@ -46,13 +46,22 @@ static RESULTS: [u64; 10] = [
 // A number, and its seventh root.
 static ROOTS: [(u64, u64); 5] = [(0, 0), (1, 1), (128, 2), (2187, 3), (823543, 7)];
 
-fn are(elements: &[Felt], numbers: &[u64]) -> bool {
-    elements.len() == numbers.len() && elements.iter().zip(numbers).all(|(x, n)| x.value() == *n)
+fn are(elements: &[Felt; 10], numbers: &[u64; 10]) -> bool {
+    for i in 0..10 {
+        if elements[i].value() != numbers[i] {
+            return false;
+        }
+    }
+    true
 }
 
 fn have_roots(rows: &[(u64, u64)]) -> bool {
-    rows.iter()
-        .all(|(power, root)| felt(*power).root7() == felt(*root))
+    for (power, root) in rows {
+        if felt(*power).root7().value() != *root {
+            return false;
+        }
+    }
+    true
 }
 
 #[test]
@@ -82,11 +91,21 @@ static NO_DECIMALS: [&[u8]; 9] = [
 ];
 
 fn reads(rows: &[(&[u8], u64)]) -> bool {
-    rows.iter().all(|(text, number)| Felt::read_decimal(text) == Some(felt(*number)))
+    for (text, number) in rows {
+        if Felt::read_decimal(text) != Some(felt(*number)) {
+            return false;
+        }
+    }
+    true
 }
 
 fn refuses(texts: &[&[u8]]) -> bool {
-    texts.iter().all(|text| Felt::read_decimal(text).is_none() && Word::from_hex(text).is_none())
+    for text in texts {
+        if Felt::read_decimal(text).is_some() || Word::from_hex(text).is_some() {
+            return false;
+        }
+    }
+    true
 }
 
 #[test]
