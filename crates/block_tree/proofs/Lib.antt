@@ -1,6 +1,7 @@
 pub mod Parts
 pub mod Keeping
 pub mod Limits
+pub mod WholeTrees
 pub mod Refinement
 pub mod Tapes
 pub mod DistinctWords

@@ -1,4 +1,5 @@
 pub mod Trees
+pub mod WholeTrees
 pub mod Cycles
 pub mod Execution
 pub mod Laws

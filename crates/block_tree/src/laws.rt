@@ -1,14 +1,16 @@
-ghost use Rattle.block_tree.specs.Laws.{DigestOfInput, RefinesItself, RefinesThrough, RefinedDigest, RefinedRun, SameAtLaterLimits, OutAtEarlierLimits, TakesPrefix, SameOnWhatItTook};
+ghost use Rattle.block_tree.specs.Laws.{DigestOfInput, DigestIsWord, RefinesItself, RefinesThrough, RefinedDigest, RefinedRun, SameAtLaterLimits, OutAtEarlierLimits, TakesPrefix, SameOnWhatItTook};
 
 use crate::evidence::Evidence;
 use crate::exports::Exports;
 use crate::program::Program;
 use crate::tree::Tree;
 
-/// A tree's digest is that of its hash input. Refinement is an order, a tree has the digest of each
-/// tree that it refines, and it does what that tree was done with.
+/// A tree's digest is that of its hash input, and that of a whole tree is a word. Refinement is an
+/// order, a tree has the digest of each tree that it refines, and it does what that tree was done
+/// with.
 pub fn tree_laws()
     ensures input { DigestOfInput }
+    ensures word { DigestIsWord }
     ensures reflexive { RefinesItself }
     ensures transitive { RefinesThrough }
     ensures digest { RefinedDigest }
