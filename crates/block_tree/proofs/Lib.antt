@@ -2,6 +2,9 @@ pub mod Parts
 pub mod Keeping
 pub mod Limits
 pub mod WholeTrees
+pub mod RowLemmas
+pub mod BehindLemmas
+pub mod RunSteps
 pub mod Refinement
 pub mod Tapes
 pub mod DistinctWords

@@ -1,4 +1,6 @@
+ghost use Rattle.block_tree.specs.CycleLaws.{DoneWhereAllowed, RunIsSteps};
 ghost use Rattle.block_tree.specs.Laws.{DigestOfInput, DigestIsWord, RefinesItself, RefinesThrough, RefinedDigest, RefinedRun, SameAtLaterLimits, OutAtEarlierLimits, TakesPrefix, SameOnWhatItTook};
+ghost use Rattle.block_tree.specs.RowLaws.{AccessedIsWord, FourAreWord, HashIsBatch, TakesAtMostFour};
 
 use crate::evidence::Evidence;
 use crate::exports::Exports;
@@ -24,6 +26,21 @@ pub fn run_laws()
     ensures out { OutAtEarlierLimits }
     ensures prefix { TakesPrefix }
     ensures enough { SameOnWhatItTook }
+{}
+
+/// The laws of cycles: which state is behind each, and that a run of a whole tree is one cycle after
+/// another, each of which the tasks still to be done name.
+pub fn cycle_laws()
+    ensures allowed { DoneWhereAllowed }
+    ensures steps { RunIsSteps }
+{}
+
+/// The laws of rows: what a cycle's row shows are words, and eight elements of hashing.
+pub fn row_laws()
+    ensures hash { HashIsBatch }
+    ensures four { TakesAtMostFour }
+    ensures tape { FourAreWord }
+    ensures word { AccessedIsWord }
 {}
 
 fn crosses<T: Send + Sync>() {}
