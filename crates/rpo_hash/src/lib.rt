@@ -13,5 +13,5 @@ mod tests;
 pub use laws::{permutation_laws, sponge_laws, types_cross};
 pub use lines::next_line;
 pub use params::{ParamCause, ParamError, Params};
-pub use permutation::permute;
+pub use permutation::{before_roots, known_constants, permute, round};
 pub use sponge::{Sponge, digest_of};
