@@ -1,3 +1,4 @@
 pub mod CodeLemmas
+pub mod MoveLemmas
 pub mod Sizing
 pub mod StepLemmas

@@ -1,3 +1,4 @@
+pub mod Table
 pub mod Codes
 pub mod Moves
 pub mod Causes
