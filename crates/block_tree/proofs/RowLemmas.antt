@@ -4,6 +4,7 @@ use Rattle.std.proofs.lemmas.List.{length-replicate}
 use Rattle.std.proofs.lemmas.List.Elements.{All-nil, All-cons, All-append, All-replicate}
 use Rattle.vm_field.specs.Field.{prime, AreElements}
 use Rattle.vm_field.specs.Machine.{Core, IsWord, IsWellFormedCore, zero_word, word_at}
+use Rattle.vm_field.proofs.Elements.{word-zero}
 use Rattle.vm_ops.specs.declared.op.Op.{Op}
 use Rattle.vm_ops.specs.declared.op.Op.TheVariants.{Noop}
 use Rattle.vm_ops.specs.Values.{advice_of}
@@ -18,9 +19,6 @@ word-of a b c d l m n o = record {
   below = All-cons (λ e. e < prime) a (b ∷ c ∷ d ∷ []) l (All-cons (λ e. e < prime) b (c ∷ d ∷ []) m (All-cons (λ e. e < prime) c (d ∷ []) n (All-cons (λ e. e < prime) d [] o (All-nil (λ e. e < prime)))));
 }
 
-pub zero-word : IsWord zero_word
-zero-word = word-of 0 0 0 0 (omega arith) (omega arith) (omega arith) (omega arith)
-
 -- two words are eight elements
 pub two-words : (v w : List ℕ) → IsWord v → IsWord w → IsBatch (v ++ w)
 two-words v w hv hw = record {
@@ -29,17 +27,17 @@ two-words v w hv hw = record {
 }
 
 pub hash-batch : (mark : Mark) → IsWholeMark mark → IsBatch (hash_of mark)
-hash-batch StartOpaque h = two-words _ _ zero-word zero-word
+hash-batch StartOpaque h = two-words _ _ word-zero word-zero
 hash-batch (StartSpan batch) h = h
 hash-batch (StartJoin first second) h = two-words _ _ h.0 h.1
 hash-batch (StartSplit on_one on_zero) h = two-words _ _ h.0 h.1
-hash-batch (StartLoop body) h = two-words _ _ h zero-word
-hash-batch (StartCall callee) h = two-words _ _ h zero-word
-hash-batch (StartSyscall callee) h = two-words _ _ h zero-word
+hash-batch (StartLoop body) h = two-words _ _ h word-zero
+hash-batch (StartCall callee) h = two-words _ _ h word-zero
+hash-batch (StartSyscall callee) h = two-words _ _ h word-zero
 hash-batch (Respan batch) h = h
-hash-batch (Repeat body) h = two-words _ _ h zero-word
-hash-batch (Do item) h = two-words _ _ zero-word zero-word
-hash-batch (End digest) h = two-words _ _ h zero-word
+hash-batch (Repeat body) h = two-words _ _ h word-zero
+hash-batch (Do item) h = two-words _ _ word-zero word-zero
+hash-batch (End digest) h = two-words _ _ h word-zero
 hash-batch (EndSpan digest) h = two-words _ _ h (word-of 0 1 0 0 (omega arith) (omega arith) (omega arith) (omega arith))
 hash-batch (EndLoop digest) h = two-words _ _ h (word-of 1 0 0 0 (omega arith) (omega arith) (omega arith) (omega arith))
 hash-batch (EndCall digest frame) h = two-words _ _ h.0 (word-of 0 0 1 0 (omega arith) (omega arith) (omega arith) (omega arith))
@@ -66,4 +64,4 @@ word-cond false v w hv hw = hw
 
 pub accessed-word : (mark : Mark) (before after : Core) → IsWellFormedCore after → IsWord (accessed mark before after)
 accessed-word mark before after h =
-    word-cond (is_memory (op_of mark)) (word_at after.memory before.context (top before)) zero_word (h.words before.context (top before)) zero-word
+    word-cond (is_memory (op_of mark)) (word_at after.memory before.context (top before)) zero_word (h.words before.context (top before)) word-zero
