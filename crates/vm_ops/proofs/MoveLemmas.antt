@@ -1,10 +1,12 @@
 -- The table's numbers are small.
-use Rattle.std.proofs.Common.{◌≡◌, ℕ, ◌<◌, ◌≤◌, ◌&&◌, Bool, true, false, nat_lt, List, [], ◌∷◌, length, get_or, zero, suc, refl, arith, lit≤}
+use Rattle.std.proofs.Common.{◌≡◌, ℕ, ◌+◌, ◌<◌, ◌≤◌, ◌&&◌, Bool, true, false, nat_lt, List, [], ◌∷◌, length, get_or, zero, suc, refl, arith, lit≤}
 use Rattle.std.proofs.lemmas.Bool.{ltb-true}
 use Rattle.std.specs.List.{All, list_all}
 use Rattle.vm_ops.specs.declared.op.Op.{Op}
 use Rattle.vm_ops.specs.declared.op.Op.TheVariants.{Noop}
-use Rattle.vm_ops.specs.Moves.{takes_of, leaves_of, sources_of}
+use Rattle.vm_ops.specs.declared.op.Shift.{Shift}
+use Rattle.vm_ops.specs.declared.op.Shift.TheVariants.{Left, Stay, Right}
+use Rattle.vm_ops.specs.Moves.{takes_of, leaves_of, shift_of, sources_of}
 use Rattle.vm_ops.specs.Values.{advice_of}
 
 pub takes_of-below : (op : Op) → takes_of op ≤ 16
@@ -42,5 +44,15 @@ sources_of-tested _ = refl
 
 pub sources_of-visible : (op : Op) → All (λ i. i < 16) (sources_of op)
 sources_of-visible op = all_visible (sources_of op) (sources_of-tested op)
+
+-- what a shift says of the cells taken and left
+abbrev pub ByOne : Shift → ℕ → ℕ → Type 0
+ByOne Left taken left = taken ≡ left + 1
+ByOne Stay taken left = taken ≡ left
+ByOne Right taken left = left ≡ taken + 1
+
+pub shift_of-by_one : (op : Op) → ByOne (shift_of op) (takes_of op) (leaves_of op)
+shift_of-by_one Noop = refl
+shift_of-by_one _ = refl
 
 pub ruleset move_bounds = (takes_of-below, leaves_of-below, length-sources_of, advice_of-below, sources_of-visible)

@@ -55,3 +55,13 @@ abbrev pub writes_memory : Op → Bool
 writes_memory ops.MStore = true
 writes_memory ops.MStoreW = true
 writes_memory op = false
+
+-- those of which a value depends on what their row does not show: on memory, the tape, an immediate or the permutation
+abbrev pub reads_elsewhere : Op → Bool
+reads_elsewhere ops.MLoad = true
+reads_elsewhere ops.MLoadW = true
+reads_elsewhere ops.AdvPop = true
+reads_elsewhere ops.AdvPopW = true
+reads_elsewhere ops.Push = true
+reads_elsewhere ops.HPerm = true
+reads_elsewhere op = false

@@ -6,3 +6,5 @@ pub mod Items
 pub mod Values
 pub mod Step
 pub mod Sizes
+pub mod Stepping
+pub mod Runs

@@ -13,9 +13,13 @@ takes_of op = (row_of op).takes
 abbrev pub sources_of : Op → List ℕ
 sources_of op = (row_of op).sources
 
+-- how many values are computed
+abbrev pub computes_of : Op → ℕ
+computes_of op = (row_of op).computes
+
 -- the cells left in place of those taken: the values computed, then the cells moved
 abbrev pub leaves_of : Op → ℕ
-leaves_of op = (row_of op).computes + length (row_of op).sources
+leaves_of op = computes_of op + length (sources_of op)
 
 abbrev pub shift_between : ℕ → ℕ → Shift
 shift_between taken left = if nat_lt left taken then Left else if nat_lt taken left then Right else Stay

@@ -15,7 +15,7 @@ pub use cause::{Cause, cause_text};
 pub use classes::{accesses_memory, is_ordinary, is_start, takes_advice, writes_memory};
 pub use code::{from_opcode, opcode, text};
 pub use item::{Item, Items};
-pub use laws::{code_laws, step_laws, types_cross};
+pub use laws::{code_laws, frame_laws, run_laws, step_laws, types_cross, value_laws};
 pub use moves::{advice, leaves, shift, sources, takes};
 pub use op::{Op, Shift};
 
