@@ -5,6 +5,7 @@ pub mod WholeTrees
 pub mod RowLemmas
 pub mod BehindLemmas
 pub mod RunSteps
+pub mod KeptLemmas
 pub mod Refinement
 pub mod Tapes
 pub mod DistinctWords

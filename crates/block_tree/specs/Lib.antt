@@ -8,6 +8,8 @@ pub mod Rows
 pub mod RowLaws
 pub mod Steps
 pub mod CycleLaws
+pub mod Logs
+pub mod LogLaws
 pub mod Laws
 pub mod TreeView
 pub mod Kernels
