@@ -6,6 +6,7 @@ pub mod RowLemmas
 pub mod BehindLemmas
 pub mod RunSteps
 pub mod KeptLemmas
+pub mod TaskLemmas
 pub mod Refinement
 pub mod Tapes
 pub mod DistinctWords
