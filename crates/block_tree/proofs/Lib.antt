@@ -7,6 +7,7 @@ pub mod BehindLemmas
 pub mod RunSteps
 pub mod KeptLemmas
 pub mod TaskLemmas
+pub mod AlongLemmas
 pub mod Refinement
 pub mod Tapes
 pub mod DistinctWords
