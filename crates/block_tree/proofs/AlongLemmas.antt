@@ -1,17 +1,26 @@
 -- What holds of each state of a run: nesting, depth and contexts.
-use Rattle.std.proofs.Common.{◌≡◌, ℕ, zero, suc, ◌+◌, ◌-◌, ◌<◌, ◌≤◌, max, List, [], ◌∷◌, ◌++◌, length, take, drop, refl, sym, ap, ◌∙◌, subst, arith, length-append, length-drop, All}
+use Rattle.std.proofs.Common.{◌≡◌, ℕ, ◌+◌, ◌≤◌, List, [], ◌∷◌, ◌++◌, length, take, drop, refl, sym, ap, ◌∙◌, subst, arith, length-append, length-drop, All, Some, Ok}
 use Rattle.std.proofs.lemmas.List.{length-take-le}
 use Rattle.std.proofs.lemmas.List.Elements.{All-nil, All-cons}
 use Rattle.vm_field.specs.Machine.{Core, State, IsWellFormed}
 use Rattle.vm_field.proofs.Elements.{length-filled_up}
 use Rattle.vm_ops.specs.declared.item.Item.{Item}
-use Rattle.block_tree.specs.Trees.{Tree, Span, Join, Split, Loop, Call, Syscall}
-use Rattle.block_tree.specs.Behind.{opened, closed, popped, called, syscalled, returned, core_behind, IsAllowed}
-use Rattle.block_tree.specs.Cycles.{Frame, Mark, StartOpaque, StartSpan, StartJoin, StartSplit, StartLoop, StartCall, StartSyscall, Respan, Repeat, Do, End, EndSpan, EndLoop, EndCall, EndSyscall, advice_taken}
+use Rattle.vm_ops.specs.declared.op.Shift.{Shift}
+use Rattle.vm_ops.specs.declared.op.Shift.TheVariants.{Left, Stay, Right}
+use Rattle.vm_ops.specs.Items.{IsOrdinaryItem}
+use Rattle.vm_ops.specs.Moves.{takes_of, leaves_of, shift_of}
+use Rattle.vm_ops.specs.Step.{step}
+use Rattle.vm_ops.proofs.MoveLemmas.{ByOne, shift_of-by_one, takes_of-below}
+use Rattle.vm_ops.proofs.StepLemmas.{step-depth}
+use Rattle.op_pack.specs.Reading.{IsBatch, reading}
+use Rattle.block_tree.specs.Behind.{core_behind, IsAllowed}
+use Rattle.block_tree.specs.Cycles.{Mark, StartOpaque, StartSpan, StartJoin, StartSplit, StartLoop, StartCall, StartSyscall, Respan, Repeat, Do, End, EndSpan, EndLoop, EndCall, EndSyscall, advice_taken}
 use Rattle.block_tree.specs.Execution.{Event, event_of}
 use Rattle.block_tree.specs.Logs.{IsLog, over, next}
 use Rattle.block_tree.specs.Steps.{Task, Block, Within, Turned, Closing, Returning, Leaving, Next, span, join, split_1, split_0, loop_1, loop_0, call, syscall, operation, respan, span_ends, repeats, loop_ends, closes, returns, leaves, IsCycle, Steps, ended, goes}
 use Rattle.block_tree.proofs.BehindLemmas.{behind-cycle}
+use Rattle.block_tree.proofs.KeptLemmas.{cycle-kept, cycle-step}
+use Rattle.block_tree.proofs.TaskLemmas.{AreWholeTasks, next-whole, whole-append}
 use Rattle.block_tree.proofs.Keeping.{clocks-effect}
 
 -- the blocks that are open, by the tasks that end them
@@ -177,3 +186,115 @@ module _ (constants : List ℕ) (kernel : List (List ℕ)) (limit : ℕ) where
       = next-nesting constants (take (advice_taken mark) s.tape) first (omega arith) in
       let both : opened_in (rest ++ todo) ≡ opened_in rest + opened_in todo = opened_in-append rest todo in
       steps-nesting later n (omega arith)
+
+-- ---- depth
+
+by-one : (shift : Shift) (taken left : ℕ) → ByOne shift taken left → left ≤ taken + 1
+by-one Left taken left h = omega arith
+by-one Stay taken left h = omega arith
+by-one Right taken left h = omega arith
+
+-- an operation leaves at most one cell more
+step-grows : (constants : List ℕ) (item : Item) (s t : State) → length constants ≡ 168 → IsWellFormed s → step constants item s ≡ Ok t
+    → length t.core.stack ≤ length s.core.stack + 1
+step-grows constants item s t len h e =
+    let depth = step-depth constants item s t len h e in
+    let left = by-one (shift_of item.op) (takes_of item.op) (leaves_of item.op) (shift_of-by_one item.op) in
+    let deep = h.core.deep in
+    omega (arith, takes_of-below item.op)
+
+-- the stack and the cells that calls have hidden grow by one cell at most
+next-depth : (constants advice : List ℕ) {task : Task} {c : Core} {mark : Mark} {rest : List Task} → Next constants task c mark rest
+    → 16 ≤ length c.stack
+    → ((item : Item) → mark ≡ Do item → length (core_behind constants mark advice c).stack ≤ length c.stack + 1)
+    → length (core_behind constants mark advice c).stack + hidden_in rest ≤ length c.stack + hidden_by task + 1
+next-depth constants advice (span read) h item = omega arith
+next-depth constants advice join h item = omega arith
+next-depth constants advice (split_1 {c = c} bit) h item = omega (arith, length-filled_up (drop 1 c.stack), length-drop 1 c.stack)
+next-depth constants advice (split_0 {c = c} bit) h item = omega (arith, length-filled_up (drop 1 c.stack), length-drop 1 c.stack)
+next-depth constants advice (loop_1 {c = c} bit) h item = omega (arith, length-filled_up (drop 1 c.stack), length-drop 1 c.stack)
+next-depth constants advice (loop_0 {c = c} bit) h item = omega (arith, length-filled_up (drop 1 c.stack), length-drop 1 c.stack)
+next-depth constants advice (call {c = c}) h item = omega (arith, length-take-le 16 c.stack h, length-drop 16 c.stack)
+next-depth constants advice (syscall {c = c}) h item = omega (arith, length-take-le 16 c.stack h, length-drop 16 c.stack)
+next-depth constants advice (operation {item = i}) h item = let grows = item i refl in omega arith
+next-depth constants advice (respan read) h item = omega arith
+next-depth constants advice span_ends h item = omega arith
+next-depth constants advice (repeats {c = c} bit) h item = omega (arith, length-filled_up (drop 1 c.stack), length-drop 1 c.stack)
+next-depth constants advice (loop_ends {c = c} bit) h item = omega (arith, length-filled_up (drop 1 c.stack), length-drop 1 c.stack)
+next-depth constants advice closes h item = omega arith
+next-depth constants advice (returns {c = c} {frame = frame}) h item = omega (arith, length-append c.stack frame.hidden)
+next-depth constants advice (leaves {c = c} {frame = frame}) h item = omega (arith, length-append c.stack frame.hidden)
+
+-- ---- contexts
+
+next-context : (constants advice : List ℕ) {task : Task} {c : Core} {mark : Mark} {rest : List Task} → Next constants task c mark rest
+    → c.context ≤ c.clock → IsWithin c.clock task
+    → ((core_behind constants mark advice c).context ≤ c.clock + 1) × AreWithin c.clock rest
+next-context constants advice (span read) h w = (omega arith, (tt, tt))
+next-context constants advice join h w = (omega arith, (tt, (tt, (tt, tt))))
+next-context constants advice (split_1 bit) h w = (omega arith, (tt, (tt, tt)))
+next-context constants advice (split_0 bit) h w = (omega arith, (tt, (tt, tt)))
+next-context constants advice (loop_1 bit) h w = (omega arith, (tt, (tt, tt)))
+next-context constants advice (loop_0 bit) h w = (omega arith, (tt, tt))
+next-context constants advice call h w = (omega arith, (tt, (h, tt)))
+next-context constants advice syscall h w = (omega arith, (tt, (h, tt)))
+next-context constants advice operation h w = (omega arith, (tt, tt))
+next-context constants advice (respan read) h w = (omega arith, (tt, tt))
+next-context constants advice span_ends h w = (omega arith, tt)
+next-context constants advice (repeats bit) h w = (omega arith, (tt, (tt, tt)))
+next-context constants advice (loop_ends bit) h w = (omega arith, tt)
+next-context constants advice closes h w = (omega arith, tt)
+next-context constants advice returns h w = (omega arith, tt)
+next-context constants advice leaves h w = (omega arith, tt)
+
+module _ (constants : List ℕ) (kernel : List (List ℕ)) (limit : ℕ) where
+  -- the tasks are whole, the state is well-formed, and the cells are no more than those m with the cycles since the clock n
+  abbrev pub IsShallow : ℕ → ℕ → List Task → State → Type 0
+  IsShallow n m todo s = (length s.core.stack + hidden_in todo + n ≤ m + s.core.clock) × AreWholeTasks todo × IsWellFormed s
+
+  behind-grows : (mark : Mark) (s t : State) → length constants ≡ 168 → IsCycle constants kernel limit mark s t → IsWellFormed s
+      → (item : Item) → mark ≡ Do item → length (behind constants kernel limit mark s).stack ≤ length s.core.stack + 1
+  behind-grows mark s t len c h item is =
+      subst (λ x. length x.stack ≤ length s.core.stack + 1) (behind-is constants kernel limit mark s t c)
+      (step-grows constants item s t len h (cycle-step constants kernel limit item s t (subst (λ m. IsCycle constants kernel limit m s t) is c)))
+
+  shallow-step : length constants ≡ 168
+      → ((batch : List ℕ) (items : List Item) → IsBatch batch → reading batch ≡ Some items → All IsOrdinaryItem items)
+      → (n m : ℕ) (task : Task) (rest todo : List Task) (mark : Mark) (s t : State) → Next constants task s.core mark rest
+      → IsCycle constants kernel limit mark s t → IsShallow n m (task ∷ todo) s → IsShallow n m (rest ++ todo) t
+  shallow-step len ordinary n m task rest todo mark s t first c h =
+      let w = next-whole constants len ordinary first h.1.0 h.2.core in
+      let grown = next-depth constants (take (advice_taken mark) s.tape) first h.2.core.deep (behind-grows mark s t len c h.2) in
+      let stack : length t.core.stack ≡ length (behind constants kernel limit mark s).stack = ap (λ x. length x.stack) (behind-is constants kernel limit mark s t c) in
+      let ticks = cycle-clock constants kernel limit mark s t c in
+      let both : hidden_in (rest ++ todo) ≡ hidden_in rest + hidden_in todo = hidden_in-append rest todo in
+      let before = h.0 in
+      (omega arith, whole-append rest todo w.1 h.1.1, cycle-kept constants kernel limit mark s t len c w.0 h.2)
+
+  pub steps-shallow : length constants ≡ 168
+      → ((batch : List ℕ) (items : List Item) → IsBatch batch → reading batch ≡ Some items → All IsOrdinaryItem items)
+      → {todo : List Task} {s t : State} {events : List Event} (n m : ℕ) → Steps constants kernel limit todo s events t → IsShallow n m todo s
+      → All (λ e. length e.core.stack + n ≤ m + e.core.clock) events × (length t.core.stack + n ≤ m + t.core.clock)
+  steps-shallow len ordinary n m steps h =
+      let r = steps-along constants kernel limit (IsShallow n m) (λ c. length c.stack + n ≤ m + c.clock) (shallow-step len ordinary n m)
+      (λ todo s p. let l = p.0 in omega arith) steps h in
+      let last = r.1.0 in
+      (r.0, omega arith)
+
+  abbrev pub IsReached : List Task → State → Type 0
+  IsReached todo s = (s.core.context ≤ s.core.clock) × AreWithin s.core.clock todo
+
+  reached-step : (task : Task) (rest todo : List Task) (mark : Mark) (s t : State) → Next constants task s.core mark rest
+      → IsCycle constants kernel limit mark s t → IsReached (task ∷ todo) s → IsReached (rest ++ todo) t
+  reached-step task rest todo mark s t first c h =
+      let n = next-context constants (take (advice_taken mark) s.tape) first h.0 h.1.0 in
+      let ticks = cycle-clock constants kernel limit mark s t c in
+      let context : t.core.context ≡ (behind constants kernel limit mark s).context = ap (λ x. x.context) (behind-is constants kernel limit mark s t c) in
+      let below = n.0 in
+      (omega arith, subst (λ k. AreWithin k (rest ++ todo)) (sym ticks) (all-later s.core.clock (rest ++ todo) (within-append s.core.clock rest todo n.1 h.1.1)))
+
+  pub steps-reached : {todo : List Task} {s t : State} {events : List Event} → Steps constants kernel limit todo s events t → IsReached todo s
+      → All (λ e. e.core.context ≤ e.core.clock) events × (t.core.context ≤ t.core.clock)
+  steps-reached steps h =
+      let r = steps-along constants kernel limit IsReached (λ c. c.context ≤ c.clock) reached-step (λ todo s p. p.0) steps h in
+      (r.0, r.1.0)

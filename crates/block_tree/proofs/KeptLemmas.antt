@@ -1,18 +1,17 @@
 -- What each cycle leaves of a well-formed state is one.
-use Rattle.std.proofs.Common.{◌≡◌, ℕ, ◌+◌, ◌-◌, ◌^◌, ◌<◌, ◌≤◌, max, List, [], ◌∷◌, ◌++◌, length, take, drop, Option, Some, None, unwrap_or, Result, Ok, Err, refl, sym, ap, ◌∙◌, subst, arith, length-append, length-drop}
+use Rattle.std.proofs.Common.{◌≡◌, ℕ, ◌+◌, List, length, drop, Ok, refl, sym, ap, subst, arith, length-append}
 use Rattle.std.proofs.lemmas.Bool.{le-ltb}
 use Rattle.std.proofs.lemmas.List.{length-take-le}
-use Rattle.vm_field.specs.Field.{prime, AreElements}
-use Rattle.vm_field.specs.Machine.{Core, State, IsWord, IsWellFormedCore, IsWellFormed, filled_up}
+use Rattle.vm_field.specs.Machine.{Core, State, IsWord, IsWellFormedCore, IsWellFormed}
 use Rattle.vm_field.proofs.Elements.{elements-append, elements-take, elements-drop, elements-filled_up, length-filled_up}
 use Rattle.vm_ops.specs.declared.item.Item.{Item}
 use Rattle.vm_ops.specs.Items.{IsOrdinaryItem}
-use Rattle.vm_ops.specs.Step.{act, cycle_taking, step}
+use Rattle.vm_ops.specs.Step.{cycle_taking, step}
 use Rattle.vm_ops.specs.Values.{advice_of}
 use Rattle.vm_ops.proofs.RunLemmas.{immediate-below}
 use Rattle.vm_ops.proofs.StepLemmas.{step-kept}
 use Rattle.block_tree.specs.Behind.{opened, closed, popped, called, syscalled, returned, core_behind}
-use Rattle.block_tree.specs.Cycles.{Frame, Mark, StartOpaque, StartSpan, StartJoin, StartSplit, StartLoop, StartCall, StartSyscall, Respan, Repeat, Do, End, EndSpan, EndLoop, EndCall, EndSyscall, frame_of, effect_of, advice_taken}
+use Rattle.block_tree.specs.Cycles.{Frame, Mark, StartOpaque, StartSpan, StartJoin, StartSplit, StartLoop, StartCall, StartSyscall, Respan, Repeat, Do, End, EndSpan, EndLoop, EndCall, EndSyscall, frame_of, advice_taken}
 use Rattle.block_tree.specs.Marks.{IsWholeFrame, IsWholeMark}
 use Rattle.block_tree.specs.Steps.{IsCycle}
 use Rattle.block_tree.proofs.BehindLemmas.{behind-cycle}

@@ -1,20 +1,18 @@
 -- Tasks that are whole, and what they hold of the states on the way.
-use Rattle.std.proofs.Common.{◌≡◌, ℕ, ◌+◌, ◌-◌, ◌<◌, ◌≤◌, max, List, [], ◌∷◌, ◌++◌, length, take, drop, Some, refl, sym, ap, ◌∙◌, subst, arith, length-append, length-drop, All}
+use Rattle.std.proofs.Common.{◌≡◌, ℕ, List, [], ◌∷◌, ◌++◌, length, Some, All}
 use Rattle.std.proofs.lemmas.List.{length-take-le}
 use Rattle.std.proofs.lemmas.List.Elements.{All-nil, All-cons, All-head, All-tail}
-use Rattle.vm_field.specs.Field.{prime, AreElements}
 use Rattle.vm_field.specs.Machine.{Core, State, IsWord, IsWellFormedCore, IsWellFormed}
-use Rattle.vm_field.proofs.Elements.{elements-take, length-filled_up}
+use Rattle.vm_field.proofs.Elements.{elements-take}
 use Rattle.vm_ops.specs.declared.item.Item.{Item}
 use Rattle.vm_ops.specs.Items.{IsOrdinaryItem}
 use Rattle.op_pack.specs.Reading.{IsBatch, reading}
-use Rattle.block_tree.specs.Trees.{Tree, Span, Join, Split, Loop, Call, Syscall, IsWhole, tree_digest}
-use Rattle.block_tree.specs.Cycles.{Frame, Mark, advice_taken}
+use Rattle.block_tree.specs.Trees.{Span, Join, Split, Loop, Call, Syscall, IsWhole}
+use Rattle.block_tree.specs.Cycles.{Mark, advice_taken}
 use Rattle.block_tree.specs.Execution.{Event, event_of}
 use Rattle.block_tree.specs.Logs.{IsLog, over, next, IsWholeEvent}
 use Rattle.block_tree.specs.Marks.{IsWholeFrame, IsWholeMark}
 use Rattle.block_tree.specs.Steps.{Task, Block, Within, Turned, Closing, Returning, Leaving, Next, span, join, split_1, split_0, loop_1, loop_0, call, syscall, operation, respan, span_ends, repeats, loop_ends, closes, returns, leaves, IsCycle, Steps, ended, goes}
-use Rattle.block_tree.proofs.BehindLemmas.{behind-cycle}
 use Rattle.block_tree.proofs.KeptLemmas.{cycle-kept, whole-frame}
 use Rattle.block_tree.proofs.WholeTrees.{whole-digest}
 

@@ -1,7 +1,7 @@
 -- The log of a run: one cycle after another, with an event each.
 use Rattle.std.specs.Prelude.{◌≡◌, ℕ, List, [], ◌∷◌, length}
 use Rattle.vm_field.specs.Field.{AreElements}
-use Rattle.vm_field.specs.Machine.{Core, State, IsWellFormedCore}
+use Rattle.vm_field.specs.Machine.{State, IsWellFormedCore}
 use Rattle.block_tree.specs.Cycles.{Mark, advice_taken}
 use Rattle.block_tree.specs.Execution.{Event, event_of}
 use Rattle.block_tree.specs.Marks.{IsWholeMark}

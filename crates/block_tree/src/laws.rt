@@ -1,5 +1,6 @@
 ghost use Rattle.block_tree.specs.CycleLaws.{DoneWhereAllowed, RunIsSteps};
 ghost use Rattle.block_tree.specs.Laws.{DigestOfInput, DigestIsWord, RefinesItself, RefinesThrough, RefinedDigest, RefinedRun, SameAtLaterLimits, OutAtEarlierLimits, TakesPrefix, SameOnWhatItTook};
+ghost use Rattle.block_tree.specs.LogLaws.{LogCounts, RunIsLogged, RunIsWithinContexts, RunNests};
 ghost use Rattle.block_tree.specs.RowLaws.{AccessedIsWord, FourAreWord, HashIsBatch, TakesAtMostFour};
 
 use crate::evidence::Evidence;
@@ -33,6 +34,16 @@ pub fn run_laws()
 pub fn cycle_laws()
     ensures allowed { DoneWhereAllowed }
     ensures steps { RunIsSteps }
+{}
+
+/// The laws of logs, for whole trees: the events of a run are its cycles in order, as many as the
+/// clock has moved; at most 1,024 blocks nest, and as many at the end as at the start; and a context
+/// is one that the clock has reached.
+pub fn log_laws()
+    ensures logged { RunIsLogged }
+    ensures counts { LogCounts }
+    ensures nests { RunNests }
+    ensures contexts { RunIsWithinContexts }
 {}
 
 /// The laws of rows: what a cycle's row shows are words, and eight elements of hashing.
