@@ -9,9 +9,10 @@ returns c = record {
   logged = λ constants kernel limit tree s t events w e. steps-log constants kernel limit (run-steps constants kernel limit tree s t events w e);
   counts = λ constants kernel limit s t events log. log-counts constants kernel limit log;
   nests = λ constants kernel limit tree s t events w h e.
-      let steps = run-steps constants kernel limit tree s t events w e in
-      ((log-nested constants kernel limit (steps-log constants kernel limit steps) h).0,
-      steps-nesting constants kernel limit steps s.core.nesting (omega arith));
+      let steps = run-steps constants kernel limit tree s t events w e in (
+        (log-nested constants kernel limit (steps-log constants kernel limit steps) h).0,
+        steps-nesting constants kernel limit steps s.core.nesting (omega arith),
+      );
   contexts = λ constants kernel limit tree s t events w h e.
       steps-reached constants kernel limit (run-steps constants kernel limit tree s t events w e) (h, (tt, tt));
 }
