@@ -8,6 +8,7 @@ pub mod RunSteps
 pub mod KeptLemmas
 pub mod TaskLemmas
 pub mod AlongLemmas
+pub mod StepRuns
 pub mod Refinement
 pub mod Tapes
 pub mod DistinctWords

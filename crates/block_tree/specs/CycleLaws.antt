@@ -17,3 +17,8 @@ abbrev pub RunIsSteps : Type 0
 RunIsSteps = (constants : List ℕ) (kernel : List (List ℕ)) (limit : ℕ) (tree : Tree) (s t : State) (events : List Event)
     → IsWhole tree → execution constants kernel limit tree s ≡ Done t events
     → Steps constants kernel limit (Block tree ∷ []) s events t
+
+-- and what is done one cycle after another is a run that is done
+abbrev pub StepsAreRun : Type 0
+StepsAreRun = (constants : List ℕ) (kernel : List (List ℕ)) (limit : ℕ) (tree : Tree) (s t : State) (events : List Event)
+    → Steps constants kernel limit (Block tree ∷ []) s events t → execution constants kernel limit tree s ≡ Done t events

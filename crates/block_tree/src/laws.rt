@@ -1,4 +1,4 @@
-ghost use Rattle.block_tree.specs.CycleLaws.{DoneWhereAllowed, RunIsSteps};
+ghost use Rattle.block_tree.specs.CycleLaws.{DoneWhereAllowed, RunIsSteps, StepsAreRun};
 ghost use Rattle.block_tree.specs.Laws.{DigestOfInput, DigestIsWord, RefinesItself, RefinesThrough, RefinedDigest, RefinedRun, SameAtLaterLimits, OutAtEarlierLimits, TakesPrefix, SameOnWhatItTook};
 ghost use Rattle.block_tree.specs.LogLaws.{LogCounts, RunIsLogged, RunIsWithinContexts, RunNests};
 ghost use Rattle.block_tree.specs.RowLaws.{AccessedIsWord, FourAreWord, HashIsBatch, TakesAtMostFour};
@@ -29,11 +29,12 @@ pub fn run_laws()
     ensures enough { SameOnWhatItTook }
 {}
 
-/// The laws of cycles: which state is behind each, and that a run of a whole tree is one cycle after
-/// another, each of which the tasks still to be done name.
+/// The laws of cycles: where each is done and which state is behind it, and that a run of a whole
+/// tree is one cycle after another, as the tasks that are still to be done say.
 pub fn cycle_laws()
     ensures allowed { DoneWhereAllowed }
     ensures steps { RunIsSteps }
+    ensures runs { StepsAreRun }
 {}
 
 /// The laws of logs, for whole trees: the events of a run are its cycles in order, as many as the
