@@ -16,7 +16,7 @@ mod refusal;
 mod table;
 
 pub use constant::{Const, Consts};
-pub use expansion::expand;
+pub use expansion::{expand, expansions_are_packable};
 pub use instr::{Instr, Numbers};
 pub use name::{Name, name_of, names_are_texts};
 pub use number::read_number;
