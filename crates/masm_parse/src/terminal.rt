@@ -20,6 +20,14 @@ pub(crate) struct Header {
     pub at: At,
 }
 
+// How a statement names a procedure.
+#[derive(Clone, Copy, Debug, PartialEq, Eq)]
+pub(crate) enum Use {
+    Exec,
+    Call,
+    Syscall,
+}
+
 /// A statement that is one token.
 #[derive(Drop)]
 pub enum Leaf {
@@ -35,7 +43,7 @@ pub enum Leaf {
 
 // What a token is to the grammar.
 #[derive(Drop)]
-pub(crate) enum Sign {
+pub(crate) enum Terminal {
     Const(Const),
     Header(Header),
     Leaf(At, Leaf),
@@ -46,10 +54,10 @@ pub(crate) enum Sign {
     End,
 }
 
-// A token as it is read: its sign, and the first cause for which it is refused by itself, wherever
-// it stands. A token that is refused has the sign of its kind with empty names and zeros.
+// A token as it is read: its terminal, and the first cause for which it is refused by itself, wherever
+// it stands. A token that is refused has the terminal of its kind with empty names and zeros.
 #[derive(Drop)]
-pub(crate) struct Word {
-    pub sign: Sign,
+pub(crate) struct Symbol {
+    pub terminal: Terminal,
     pub fault: Option<Cause>,
 }
