@@ -265,7 +265,8 @@ module _ (constants : List ℕ) (kernel : List (List ℕ)) (limit : ℕ) where
   shallow-step len ordinary n m task rest todo mark s t first c h =
       let w = next-whole constants len ordinary first h.1.0 h.2.core in
       let grown = next-depth constants (take (advice_taken mark) s.tape) first h.2.core.deep (behind-grows mark s t len c h.2) in
-      let stack : length t.core.stack ≡ length (behind constants kernel limit mark s).stack = ap (λ x. length x.stack) (behind-is constants kernel limit mark s t c) in
+      let stack : length t.core.stack ≡ length (behind constants kernel limit mark s).stack
+      = ap (λ x. length x.stack) (behind-is constants kernel limit mark s t c) in
       let ticks = cycle-clock constants kernel limit mark s t c in
       let both : hidden_in (rest ++ todo) ≡ hidden_in rest + hidden_in todo = hidden_in-append rest todo in
       let before = h.0 in
@@ -291,7 +292,8 @@ module _ (constants : List ℕ) (kernel : List (List ℕ)) (limit : ℕ) where
       let ticks = cycle-clock constants kernel limit mark s t c in
       let context : t.core.context ≡ (behind constants kernel limit mark s).context = ap (λ x. x.context) (behind-is constants kernel limit mark s t c) in
       let below = n.0 in
-      (omega arith, subst (λ k. AreWithin k (rest ++ todo)) (sym ticks) (all-later s.core.clock (rest ++ todo) (within-append s.core.clock rest todo n.1 h.1.1)))
+      (omega arith, subst (λ k. AreWithin k (rest ++ todo)) (sym ticks)
+      (all-later s.core.clock (rest ++ todo) (within-append s.core.clock rest todo n.1 h.1.1)))
 
   pub steps-reached : {todo : List Task} {s t : State} {events : List Event} → Steps constants kernel limit todo s events t → IsReached todo s
       → All (λ e. e.core.context ≤ e.core.clock) events × (t.core.context ≤ t.core.clock)

@@ -16,7 +16,10 @@ use Rattle.block_tree.specs.Rows.{op_of, hash_of, is_memory, accessed, four_of}
 pub word-of : (a b c d : ℕ) → a < prime → b < prime → c < prime → d < prime → IsWord (a ∷ b ∷ c ∷ d ∷ [])
 word-of a b c d l m n o = record {
   size = refl;
-  below = All-cons (λ e. e < prime) a (b ∷ c ∷ d ∷ []) l (All-cons (λ e. e < prime) b (c ∷ d ∷ []) m (All-cons (λ e. e < prime) c (d ∷ []) n (All-cons (λ e. e < prime) d [] o (All-nil (λ e. e < prime)))));
+  below =
+      All-cons (λ e. e < prime) a (b ∷ c ∷ d ∷ []) l
+      (All-cons (λ e. e < prime) b (c ∷ d ∷ []) m
+      (All-cons (λ e. e < prime) c (d ∷ []) n (All-cons (λ e. e < prime) d [] o (All-nil (λ e. e < prime)))));
 }
 
 -- two words are eight elements
