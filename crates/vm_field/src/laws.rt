@@ -1,7 +1,9 @@
 ghost use Rattle.std.specs.Prelude.{◌≡◌, ◌≢◌, ◌⊎◌, ℕ, ◌%◌, ◌<◌, List, length, All, Some, decimal};
+ghost use Rattle.std.specs.FinMap.{insert};
 ghost use Rattle.std.specs.Str.{str_to_ascii_lowercase};
 ghost use Rattle.vm_field.specs.Decimal.{element_of};
-ghost use Rattle.vm_field.specs.Field.{prime, felt_mul, felt_pow, felt_inv, seventh_root};
+ghost use Rattle.vm_field.specs.Field.{prime, AreElements, felt_mul, felt_pow, felt_inv, seventh_root};
+ghost use Rattle.vm_field.specs.Machine.{IsWellFormed, IsWord, WordMap, start, word_at};
 ghost use Rattle.vm_field.specs.WordText.{word_hex, word_of_hex};
 
 use crate::element::Felt;
@@ -37,6 +39,22 @@ pub fn text_laws()
         → word_hex w ≡ str_to_ascii_lowercase text }
     ensures word_elements { (text w : List ℕ) → word_of_hex text ≡ Some w
         → (length w ≡ 4) × All (λ e. e < prime) w }
+{}
+
+/// The laws of the machine's states: a run starts in one, a memory is made of words, a word that is
+/// written is read at its place, and at each other place what was there before.
+pub fn machine_laws()
+    ensures start { (inputs tape : List ℕ) → AreElements inputs → AreElements tape
+        → IsWellFormed (start inputs tape) }
+
+    ensures words { (memory : WordMap) (place : ℕ × ℕ) (word : List ℕ) → IsWord word
+        → ((context address : ℕ) → IsWord (word_at memory context address))
+        → (context address : ℕ) → IsWord (word_at (insert memory place word) context address) }
+    ensures written { (memory : WordMap) (context address : ℕ) (word : List ℕ)
+        → word_at (insert memory (context, address) word) context address ≡ word }
+    ensures others { (memory : WordMap) (place : ℕ × ℕ) (word : List ℕ) (context address : ℕ)
+        → (context, address) ≢ place
+        → word_at (insert memory place word) context address ≡ word_at memory context address }
 {}
 
 fn crosses<T: Send + Sync>() {}

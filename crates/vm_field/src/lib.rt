@@ -12,7 +12,7 @@ mod tests;
 mod word;
 
 pub use element::Felt;
-pub use laws::{field_laws, text_laws, types_cross};
+pub use laws::{field_laws, machine_laws, text_laws, types_cross};
 pub use lists::{Bytes, Felts, Words, felt_at};
 pub use powers::roots7;
 pub use refusal::{Memory, NotCanonical};

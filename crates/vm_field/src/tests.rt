@@ -1,5 +1,5 @@
 use crate::element::Felt;
-use crate::laws::{field_laws, text_laws, types_cross};
+use crate::laws::{field_laws, machine_laws, text_laws, types_cross};
 use crate::lists::{Bytes, Felts, Words, felt_at};
 use crate::word::Word;
 use std::test::Fail;
@@ -121,5 +121,6 @@ fn keeps_lists(rt: HostRuntime) -> Result<(), Fail> {
 fn states_laws() {
     field_laws();
     text_laws();
+    machine_laws();
     types_cross();
 }
