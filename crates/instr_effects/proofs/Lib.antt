@@ -1,0 +1,11 @@
+pub mod Windows
+pub mod Alikes
+pub mod Running
+pub mod Meeting
+pub mod Quiets
+pub mod Tables
+pub mod Moves
+pub mod Tests
+pub mod Choices
+pub mod Pushes
+mod Law
