@@ -9,3 +9,6 @@ pub mod Tests
 pub mod Choices
 pub mod Pushes
 mod Law
+pub mod Fields
+pub mod Truths
+pub mod Ordered

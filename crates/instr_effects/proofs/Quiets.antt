@@ -8,7 +8,7 @@ use Rattle.vm_ops.specs.Items.{plain_item, push_item}
 use Rattle.vm_ops.specs.Step.{left_cells}
 use Rattle.std.proofs.lemmas.Bool.{and_parts}
 use Rattle.vm_ops.specs.Values.{computed, or_else, trap_of}
-use Rattle.masm_instr.specs.Effects.{Effect, leaving}
+use Rattle.masm_instr.specs.Effects.{Effect, leaving, listed}
 use Rattle.masm_instr.specs.Expansion.{lit}
 use Rattle.instr_effects.proofs.Meeting.{Acts, Left, Meets}
 use Rattle.instr_effects.proofs.Windows.{Window, window, next, trap_in, has_room, last, trap, fits}
@@ -34,6 +34,23 @@ moves constants items s takes leaves small is none room = record {
   traps = ap is_some none;
   does = λ free. rw is (record { fmp = refl; cells = refl; memory = refl; tape = refl });
 }
+
+-- an instruction that only changes the stack
+pub acts : (constants : List ℕ) (items : List Item) (s : State) (traps : Bool) (takes : ℕ) (leaves : List ℕ) (w : Window) → takes ≤ 16
+    → fits constants s.core items w ≡ true → is_some (trap constants s.core items w) ≡ traps
+    → (last constants s.core items w).fmp ≡ s.core.fmp → (last constants s.core items w).memory ≡ s.core.memory
+    → (last constants s.core items w).tape ≡ s.tape
+    → (traps ≡ false → (last constants s.core items w).cells ≡ leaves ++ drop takes (listed 24 0 s.core.stack))
+    → Acts constants items s (leaving traps takes leaves) w
+acts constants items s traps takes leaves w small room is fmp memory tape cells = record {
+  small = small;
+  room = room;
+  traps = is;
+  does = λ free. record { fmp = fmp; cells = cells free; memory = memory; tape = tape };
+}
+
+pub first-is : (v v' : ℕ) (rest : List ℕ) → v ≡ v' → v ∷ rest ≡ v' ∷ rest
+first-is v v' rest e = ap (λ (x : ℕ). x ∷ rest) e
 
 -- one list behind another
 last-append : (constants : List ℕ) (c : Core) (xs ys : List Item) (w : Window)

@@ -1,7 +1,8 @@
 -- Tests of operands, and the traps that they decide.
-use Rattle.std.proofs.Common.{◌≡◌, ℕ, ◌+◌, ◌<◌, ◌≤◌, Bool, true, false, ◌&&◌, ◌||◌, not, cond, List, [], ◌∷◌, Option, Some, None, is_some, refl, sym, ◌∙◌, ap, arith}
+use Rattle.std.proofs.Common.{◌≡◌, ℕ, ◌+◌, ◌<◌, ◌≤◌, Bool, true, false, ◌&&◌, ◌||◌, not, cond, List, [], ◌∷◌, Option, Some, None, is_some, refl, sym, ◌∙◌, ap, arith, ◌==◌, nat_lt, nat_le, ltb-true, eq-eqb, ne_eqb, lt-ltb, le-ltb, le-leb, inl, inr}
+use Rattle.std.proofs.lemmas.Bool.{cases_eq, cases_lt, lt-leb}
 use Rattle.vm_ops.specs.declared.cause.Cause.{Cause}
-use Rattle.vm_ops.specs.Values.{or_else, unless}
+use Rattle.vm_ops.specs.Values.{bit_of, is_bit, or_else, unless}
 
 -- one test, and nothing else
 pub one-trap : (test : Bool) (cause : Cause) → is_some (or_else (unless test cause) None) ≡ not test
@@ -33,3 +34,58 @@ none-of false other e = (refl, e)
 pub both-of : (test other : Bool) → test && other ≡ true → (test ≡ true) × (other ≡ true)
 both-of true other e = (refl, e)
 both-of false other e = cc
+
+-- a test, and nothing that traps where it holds
+pub trap-alone : (test : Bool) (cause : Cause) (later : Option Cause) → (test ≡ true → is_some later ≡ false)
+    → is_some (or_else (unless test cause) later) ≡ not test
+trap-alone true cause later e = e refl
+trap-alone false cause later e = refl
+
+-- a test that holds
+pub passes : (test : Bool) (cause : Cause) (later : Option Cause) → test ≡ true → or_else (unless test cause) later ≡ later
+passes true cause later e = refl
+passes false cause later e = cc
+
+pub bit-is : (test : Bool) → (bit_of test == 1) ≡ test
+bit-is true = refl
+bit-is false = refl
+
+pub bit-small : (test : Bool) → is_bit (bit_of test) ≡ true
+bit-small true = refl
+bit-small false = refl
+
+-- an assertion that a test holds
+pub assert-bit : (test : Bool) (cause : Cause) (later : Option Cause) → or_else (unless (bit_of test == 1) cause) later ≡ or_else (unless test cause) later
+assert-bit true cause later = refl
+assert-bit false cause later = refl
+
+-- two bits
+pub bit-pairs : (P : ℕ → ℕ → Type 0) → P 0 0 → P 0 1 → P 1 0 → P 1 1 → (b a : ℕ) → is_bit b && is_bit a ≡ true → P b a
+bit-pairs P p00 p01 p10 p11 b a e =
+    let parts = both-of (is_bit b) (is_bit a) e in
+    let b_small = ltb-true b 2 parts.0 in
+    let a_small = ltb-true a 2 parts.1 in
+    elim (cases_lt b 1) [
+      | inl b_less ↦ (let b_is : b ≡ 0 = omega arith in elim (cases_lt a 1) [
+        | inl a_less ↦ (let a_is : a ≡ 0 = omega arith in rw (b_is, a_is) p00)
+        | inr a_more ↦ (let a_is : a ≡ 1 = omega arith in rw (b_is, a_is) p01)
+      ])
+      | inr b_more ↦ (let b_is : b ≡ 1 = omega arith in elim (cases_lt a 1) [
+        | inl a_less ↦ (let a_is : a ≡ 0 = omega arith in rw (b_is, a_is) p10)
+        | inr a_more ↦ (let a_is : a ≡ 1 = omega arith in rw (b_is, a_is) p11)
+      ])
+    ]
+
+pub same-back : (a b : ℕ) → (a == b) ≡ (b == a)
+same-back a b =
+    elim (cases_eq a b) [
+      | inl same ↦ eq-eqb a b same ∙ sym (eq-eqb b a (sym same))
+      | inr other ↦ ne_eqb a b other ∙ sym (ne_eqb b a (λ same. other (sym same)))
+    ]
+
+pub at-most : (a b : ℕ) → not (nat_lt b a) ≡ nat_le a b
+at-most a b =
+    elim (cases_lt b a) [
+      | inl less ↦ ap not (lt-ltb b a less) ∙ sym (lt-leb a b less)
+      | inr most ↦ ap not (le-ltb b a most) ∙ sym (le-leb a b most)
+    ]
