@@ -1,5 +1,5 @@
 -- The instructions that choose between cells, and those that copy one.
-use Rattle.std.proofs.Common.{◌≡◌, ℕ, ◌+◌, ◌%◌, ◌<◌, ◌≤◌, Bool, true, false, cond, ◌==◌, List, [], ◌∷◌, ◌++◌, drop, slice_index, refl, ap, lit≤, arith, add-zero, mod-eq_of_lt}
+use Rattle.std.proofs.Common.{◌≡◌, ℕ, ◌<◌, Bool, true, false, cond, ◌==◌, List, [], ◌∷◌, ◌++◌, drop, refl, ap, lit≤, arith, add-zero, mod-eq_of_lt}
 use Rattle.vm_field.specs.Field.{prime, felt_add}
 use Rattle.vm_field.specs.Machine.{State, IsWellFormed}
 use Rattle.vm_field.proofs.Elements.{elements-index}

@@ -1,22 +1,19 @@
 -- The instructions of field arithmetic, and tests of equality.
-use Rattle.std.proofs.Common.{◌≡◌, ◌≢◌, ℕ, zero, suc, ◌+◌, ◌-◌, ◌*◌, ◌/◌, ◌%◌, ◌^◌, ◌<◌, ◌≤◌, max, min, Bool, true, false, cond, not, ◌==◌, ◌&&◌, ◌||◌, nat_lt, nat_le, List, [], ◌∷◌, ◌++◌, length, drop, take, reverse, slice_index, Option, Some, None, is_some, refl, sym, ◌∙◌, ap, subst, inl, inr, lit≤, lit<, arith, lt-ltb, le-ltb, ltb-true, ltb-false, eq-eqb, eqb-true, bit_and, bit_or, bit_xor}
-use Rattle.std.proofs.lemmas.Bool.{and_parts, cases_eq, cases_lt, eqb-false, leb-true, leb-false}
-use Rattle.vm_field.specs.Field.{prime, felt_add, felt_sub, felt_mul, felt_neg, felt_inv, felt_pow}
-use Rattle.vm_field.specs.Machine.{State, IsWellFormed}
-use Rattle.vm_field.proofs.Elements.{elements-index}
+use Rattle.std.proofs.Common.{◌≡◌, ℕ, ◌%◌, ◌^◌, Bool, true, false, not, ◌==◌, List, [], ◌∷◌, None, is_some, refl, lit≤, arith, lt-ltb}
+use Rattle.vm_field.specs.Field.{felt_add, felt_sub, felt_neg}
+use Rattle.vm_field.specs.Machine.{State}
 use Rattle.vm_ops.specs.declared.cause.Cause.{Cause}
 use Rattle.vm_ops.specs.declared.cause.Cause.TheVariants as causes
 use Rattle.vm_ops.specs.Step.{left_cells}
 use Rattle.vm_ops.specs.Values.{bit_of, computed, is_bit, is_u32, or_else, trap_of, unless}
 use Rattle.masm_instr.specs.declared.name.Name.TheVariants as names
-use Rattle.masm_instr.specs.Effects.{are_bits, are_u32, cells, instr_effect, listed, top, same_cells, low, high_low, difference, not_u32}
-use Rattle.masm_instr.specs.Expansion.{expansion, front, plain, lit}
+use Rattle.masm_instr.specs.Effects.{instr_effect, top}
+use Rattle.masm_instr.specs.Expansion.{expansion, front, plain}
 use Rattle.masm_instr.specs.Table.{fixed}
 use Rattle.instr_effects.proofs.Moves.{MeetsAt, MeetsAll}
-use Rattle.instr_effects.proofs.Quiets.{acts, first-is, given, pushed}
-use Rattle.instr_effects.proofs.Tables.{IsAllowed, by_none, by_maybe, by_one}
-use Rattle.instr_effects.proofs.Windows.{last, trap, fits, window}
-use Rattle.instr_effects.proofs.Tests.{one-trap}
+use Rattle.instr_effects.proofs.Quiets.{acts, first-is, given}
+use Rattle.instr_effects.proofs.Tables.{IsAllowed, by_none, by_maybe}
+use Rattle.instr_effects.proofs.Windows.{last, trap, fits}
 
 -- a sum with the negative
 sub-is : (b a : ℕ) → felt_add (felt_neg b) a ≡ felt_sub a b
@@ -55,7 +52,7 @@ add-alone constants locals s =
 add-given : (constants : List ℕ) (locals : ℕ) (s : State) → (n : ℕ) → IsAllowed names.Add n → MeetsAt constants locals s names.Add (n ∷ [])
 unfolding expansion front instr_effect last trap fits left_cells computed trap_of
 add-given constants locals s n ok =
-    given constants n (plain (fixed names.Add)) s _
+    given constants n (plain (fixed names.Add)) s (instr_effect constants names.Add (n ∷ []) locals s)
     (acts _ _ _ _ _ _ _ (lit≤ tt) refl refl refl refl refl (λ free. refl))
 
 pub meets-add : (constants : List ℕ) (locals : ℕ) (s : State) → MeetsAll constants locals s names.Add
@@ -71,7 +68,7 @@ sub-alone constants locals s =
 sub-given : (constants : List ℕ) (locals : ℕ) (s : State) → (n : ℕ) → IsAllowed names.Sub n → MeetsAt constants locals s names.Sub (n ∷ [])
 unfolding expansion front instr_effect last trap fits left_cells computed trap_of
 sub-given constants locals s n ok =
-    given constants n (plain (fixed names.Sub)) s _
+    given constants n (plain (fixed names.Sub)) s (instr_effect constants names.Sub (n ∷ []) locals s)
     (acts _ _ _ _ _ _ _ (lit≤ tt) refl refl refl refl refl (λ free. first-is _ _ _ (sub-is n (top s 0))))
 
 pub meets-sub : (constants : List ℕ) (locals : ℕ) (s : State) → MeetsAll constants locals s names.Sub
@@ -87,7 +84,7 @@ mul-alone constants locals s =
 mul-given : (constants : List ℕ) (locals : ℕ) (s : State) → (n : ℕ) → IsAllowed names.Mul n → MeetsAt constants locals s names.Mul (n ∷ [])
 unfolding expansion front instr_effect last trap fits left_cells computed trap_of
 mul-given constants locals s n ok =
-    given constants n (plain (fixed names.Mul)) s _
+    given constants n (plain (fixed names.Mul)) s (instr_effect constants names.Mul (n ∷ []) locals s)
     (acts _ _ _ _ _ _ _ (lit≤ tt) refl refl refl refl refl (λ free. refl))
 
 pub meets-mul : (constants : List ℕ) (locals : ℕ) (s : State) → MeetsAll constants locals s names.Mul
@@ -103,7 +100,7 @@ div-alone constants locals s =
 div-given : (constants : List ℕ) (locals : ℕ) (s : State) → (n : ℕ) → IsAllowed names.Div n → MeetsAt constants locals s names.Div (n ∷ [])
 unfolding expansion front instr_effect last trap fits left_cells computed trap_of
 div-given constants locals s n ok =
-    given constants n (plain (fixed names.Div)) s _
+    given constants n (plain (fixed names.Div)) s (instr_effect constants names.Div (n ∷ []) locals s)
     (acts _ _ _ _ _ _ _ (lit≤ tt) refl (zero-trap n causes.ZeroInverse) refl refl refl (λ free. refl))
 
 pub meets-div : (constants : List ℕ) (locals : ℕ) (s : State) → MeetsAll constants locals s names.Div
@@ -137,7 +134,7 @@ eq-alone constants locals s =
 eq-given : (constants : List ℕ) (locals : ℕ) (s : State) → (n : ℕ) → IsAllowed names.Eq n → MeetsAt constants locals s names.Eq (n ∷ [])
 unfolding expansion front instr_effect last trap fits left_cells computed trap_of
 eq-given constants locals s n ok =
-    given constants n (plain (fixed names.Eq)) s _
+    given constants n (plain (fixed names.Eq)) s (instr_effect constants names.Eq (n ∷ []) locals s)
     (acts _ _ _ _ _ _ _ (lit≤ tt) refl refl refl refl refl (λ free. refl))
 
 pub meets-eq : (constants : List ℕ) (locals : ℕ) (s : State) → MeetsAll constants locals s names.Eq
@@ -153,7 +150,7 @@ neq-alone constants locals s =
 neq-given : (constants : List ℕ) (locals : ℕ) (s : State) → (n : ℕ) → IsAllowed names.Neq n → MeetsAt constants locals s names.Neq (n ∷ [])
 unfolding expansion front instr_effect last trap fits left_cells computed trap_of
 neq-given constants locals s n ok =
-    given constants n (plain (fixed names.Neq)) s _
+    given constants n (plain (fixed names.Neq)) s (instr_effect constants names.Neq (n ∷ []) locals s)
     (acts _ _ _ _ _ _ _ (lit≤ tt) refl (not-free (n == (top s 0)) causes.NotBinary) refl refl refl (λ free. first-is _ _ _ (not-is (n == (top s 0)))))
 
 pub meets-neq : (constants : List ℕ) (locals : ℕ) (s : State) → MeetsAll constants locals s names.Neq

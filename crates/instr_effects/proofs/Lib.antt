@@ -12,3 +12,9 @@ mod Law
 pub mod Fields
 pub mod Truths
 pub mod Ordered
+pub mod Exponents
+pub mod Powers
+pub mod Words32
+pub mod Bits32
+pub mod Memory
+pub mod Readings

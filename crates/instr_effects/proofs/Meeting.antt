@@ -1,5 +1,5 @@
 -- What is left to show of an instruction: what its list does on a window.
-use Rattle.std.proofs.Common.{◌≡◌, ℕ, suc, ◌+◌, ◌-◌, ◌<◌, ◌≤◌, max, Bool, true, false, List, [], ◌∷◌, ◌++◌, length, drop, slice_index, Option, Some, None, Result, Ok, Err, is_some, refl, sym, ◌∙◌, ap, arith, add-zero}
+use Rattle.std.proofs.Common.{◌≡◌, ℕ, ◌+◌, ◌-◌, ◌≤◌, max, Bool, true, false, List, ◌++◌, length, drop, Option, Some, None, Result, Ok, is_some, refl, sym, ◌∙◌, ap, arith, add-zero}
 use Rattle.std.proofs.lemmas.List.{length-append, length-drop, drop-append-le, append_assoc}
 use Rattle.vm_field.proofs.Elements.{length-filled_up}
 use Rattle.vm_field.specs.Machine.{Core, State, WordMap, filled_up}

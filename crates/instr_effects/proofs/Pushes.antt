@@ -1,8 +1,7 @@
 -- Values pushed one after another.
-use Rattle.std.proofs.Common.{◌≡◌, ℕ, zero, suc, ◌+◌, ◌<◌, ◌≤◌, Bool, true, false, cond, ◌==◌, ◌&&◌, ◌||◌, nat_le, List, [], ◌∷◌, ◌++◌, length, map, reverse, refl, sym, ◌∙◌, ap, ap₂, lit≤, arith, append_assoc, le-leb, eqb-true, add-zero}
-use Rattle.std.proofs.lemmas.List.{append-nil, reverse-append, length-map}
+use Rattle.std.proofs.Common.{◌≡◌, ℕ, ◌≤◌, Bool, true, false, cond, ◌==◌, ◌&&◌, ◌||◌, nat_le, List, [], ◌∷◌, ◌++◌, length, map, reverse, refl, ◌∙◌, lit≤, arith, append_assoc, le-leb, eqb-true}
+use Rattle.std.proofs.lemmas.List.{reverse-append}
 use Rattle.vm_field.specs.Machine.{Core, State}
-use Rattle.vm_ops.specs.declared.item.Item.{Item}
 use Rattle.vm_ops.specs.declared.op.Op.TheVariants as ops
 use Rattle.vm_ops.specs.Items.{plain_item, push_item}
 use Rattle.vm_ops.specs.Step.{left_cells}
@@ -10,13 +9,12 @@ use Rattle.vm_ops.specs.Values.{computed, trap_of}
 use Rattle.masm_instr.specs.declared.name.Name.TheVariants as names
 use Rattle.masm_instr.specs.Effects.{instr_effect}
 use Rattle.masm_instr.specs.Expansion.{expansion, front, lit}
-use Rattle.instr_effects.proofs.Meeting.{Acts, Meets}
-use Rattle.instr_effects.proofs.Moves.{MeetsAt, MeetsAll}
+use Rattle.instr_effects.proofs.Moves.{MeetsAll}
 use Rattle.instr_effects.proofs.Quiets.{Quiet, moved, pushed, quiet-append, acts-behind}
 use Rattle.instr_effects.proofs.Windows.{Window, last, trap, fits, window}
 
 -- there is room for one more
-room-above : (cells : List ℕ) → 24 ≤ length cells → nat_le 16 (length cells) && (nat_le 1 0 || nat_le 24 (length cells)) && true ≡ true
+pub room-above : (cells : List ℕ) → 24 ≤ length cells → nat_le 16 (length cells) && (nat_le 1 0 || nat_le 24 (length cells)) && true ≡ true
 room-above cells whole =
     rw (le-leb 16 (length cells) (omega arith), le-leb 24 (length cells) whole) refl
 
@@ -30,11 +28,11 @@ pub quiet-lit : (constants : List ℕ) (c : Core) (v : ℕ) (w : Window) → 24 
 quiet-lit constants c v w whole = quiet-lit_as constants c (v == 0) v w (eqb-true v 0) whole
 
 -- a window some operations later, with cells on top
-moved-same : (w : Window) (turns turns' : ℕ) (cells cells' : List ℕ) → turns ≡ turns' → cells ≡ cells'
+pub moved-same : (w : Window) (turns turns' : ℕ) (cells cells' : List ℕ) → turns ≡ turns' → cells ≡ cells'
     → record w { turn = turns; cells = cells } ≡ record w { turn = turns'; cells = cells' }
 moved-same w turns turns' cells cells' e f = cc
 
-reverse-cons : (n : ℕ) (ns rest : List ℕ) → reverse ns ++ n ∷ rest ≡ reverse (n ∷ ns) ++ rest
+pub reverse-cons : (n : ℕ) (ns rest : List ℕ) → reverse ns ++ n ∷ rest ≡ reverse (n ∷ ns) ++ rest
 reverse-cons n ns rest =
     let turned : reverse (n ∷ ns) ≡ reverse ns ++ n ∷ [] = reverse-append (n ∷ []) ns in
     rw (turned, append_assoc) refl

@@ -1,5 +1,5 @@
 -- Lists that don't trap, and a list behind another.
-use Rattle.std.proofs.Common.{◌≡◌, ℕ, zero, suc, ◌+◌, ◌<◌, ◌≤◌, Bool, true, false, ◌&&◌, List, [], ◌∷◌, ◌++◌, length, drop, Option, Some, None, is_some, refl, sym, ◌∙◌, ap, subst, arith, lit≤, cond, ◌==◌, eqb-true}
+use Rattle.std.proofs.Common.{◌≡◌, ℕ, suc, ◌+◌, ◌≤◌, Bool, true, false, List, [], ◌∷◌, ◌++◌, length, drop, Option, Some, None, is_some, refl, ◌∙◌, ap, cond, ◌==◌, eqb-true}
 use Rattle.vm_field.specs.Machine.{Core, State}
 use Rattle.vm_ops.specs.declared.cause.Cause.{Cause}
 use Rattle.vm_ops.specs.declared.item.Item.{Item}
@@ -10,7 +10,7 @@ use Rattle.std.proofs.lemmas.Bool.{and_parts}
 use Rattle.vm_ops.specs.Values.{computed, or_else, trap_of}
 use Rattle.masm_instr.specs.Effects.{Effect, leaving, listed}
 use Rattle.masm_instr.specs.Expansion.{lit}
-use Rattle.instr_effects.proofs.Meeting.{Acts, Left, Meets}
+use Rattle.instr_effects.proofs.Meeting.{Acts, Meets}
 use Rattle.instr_effects.proofs.Windows.{Window, window, next, trap_in, has_room, last, trap, fits}
 
 -- the list leads from one window to the other
@@ -119,3 +119,8 @@ given_as constants true v items s e none acts = at_zero (rw (none refl) at acts)
 pub given : (constants : List ℕ) (v : ℕ) (items : List Item) (s : State) (e : Effect) → Acts constants items s e (pushed v (window s))
     → Meets constants (lit v ∷ items) s e
 given constants v items s e acts = given_as constants (v == 0) v items s e (eqb-true v 0) acts
+
+-- a list behind a PUSH
+pub given-push : (constants : List ℕ) (v : ℕ) (items : List Item) (s : State) (e : Effect) → Acts constants items s e (pushed v (window s))
+    → Meets constants (push_item v ∷ items) s e
+given-push constants v items s e acts = given_as constants false v items s e (λ h. cc) acts

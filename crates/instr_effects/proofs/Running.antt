@@ -1,8 +1,8 @@
 -- A list of operations run from a state does what it does on a window of the state's stack.
-use Rattle.std.proofs.Common.{◌≡◌, ℕ, zero, suc, ◌+◌, ◌-◌, ◌<◌, ◌≤◌, max, ◌⊎◌, inl, inr, Bool, true, false, cond, ◌&&◌, ◌||◌, not, nat_le, nat_lt, List, [], ◌∷◌, ◌++◌, length, take, drop, slice_index, Option, Some, None, Result, Ok, Err, unwrap_or, refl, sym, ◌∙◌, ap, subst, arith, leb-true, ltb-false, le-ltb, lit≤}
+use Rattle.std.proofs.Common.{◌≡◌, ℕ, zero, suc, ◌+◌, ◌-◌, ◌≤◌, max, ◌⊎◌, inl, inr, Bool, true, false, cond, ◌||◌, not, nat_le, nat_lt, List, [], ◌∷◌, ◌++◌, length, take, drop, slice_index, Option, Some, None, Result, Ok, Err, refl, sym, ◌∙◌, ap, subst, arith, leb-true, ltb-false, le-ltb, lit≤}
 use Rattle.std.proofs.lemmas.Bool.{and_parts, or_cases}
 use Rattle.std.proofs.lemmas.List.{get_or_append_left, length-append, length-drop, length-take-le}
-use Rattle.vm_field.specs.Machine.{Core, State, WordMap, word_at}
+use Rattle.vm_field.specs.Machine.{Core, State, word_at}
 use Rattle.vm_ops.specs.declared.cause.Cause.{Cause}
 use Rattle.vm_ops.specs.declared.cause.Cause.TheVariants as causes
 use Rattle.vm_ops.specs.declared.item.Item.{Item}
@@ -10,8 +10,8 @@ use Rattle.vm_ops.specs.declared.op.Op.{Op}
 use Rattle.vm_ops.specs.declared.op.Op.TheVariants as ops
 use Rattle.vm_ops.specs.Moves.{takes_of, leaves_of}
 use Rattle.vm_ops.specs.Sizes.{IsSized, IsSeenBy}
-use Rattle.vm_ops.specs.Step.{seen, left_cells, stack_after, memory_with, performed, unless_trapped, act, ticked, cycle_taking, step}
-use Rattle.vm_ops.specs.Values.{Seen, advice_of, fmp_after, or_else, trap_of, unless, written}
+use Rattle.vm_ops.specs.Step.{seen, left_cells, stack_after, performed, unless_trapped, act, ticked, cycle_taking, step}
+use Rattle.vm_ops.specs.Values.{Seen, advice_of, fmp_after, or_else, trap_of, unless}
 use Rattle.vm_ops.proofs.Sizing.{length-left_cells, length-stack_after}
 use Rattle.vm_ops.proofs.StepLemmas.{step-sized}
 use Rattle.masm_instr.specs.Effects.{listed}

@@ -1,5 +1,5 @@
 -- Tests of operands, and the traps that they decide.
-use Rattle.std.proofs.Common.{◌≡◌, ℕ, ◌+◌, ◌<◌, ◌≤◌, Bool, true, false, ◌&&◌, ◌||◌, not, cond, List, [], ◌∷◌, Option, Some, None, is_some, refl, sym, ◌∙◌, ap, arith, ◌==◌, nat_lt, nat_le, ltb-true, eq-eqb, ne_eqb, lt-ltb, le-ltb, le-leb, inl, inr}
+use Rattle.std.proofs.Common.{◌≡◌, ℕ, Bool, true, false, ◌&&◌, ◌||◌, not, Option, None, is_some, refl, sym, ◌∙◌, ap, arith, ◌==◌, nat_lt, nat_le, ltb-true, eq-eqb, ne_eqb, lt-ltb, le-ltb, le-leb, inl, inr}
 use Rattle.std.proofs.lemmas.Bool.{cases_eq, cases_lt, lt-leb}
 use Rattle.vm_ops.specs.declared.cause.Cause.{Cause}
 use Rattle.vm_ops.specs.Values.{bit_of, is_bit, or_else, unless}

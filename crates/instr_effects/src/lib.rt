@@ -2,7 +2,6 @@
 #![tactic(auto)]
 
 ghost use Rattle.std.specs.Prelude.{◌≡◌, ℕ, true, List, length};
-ghost use Rattle.instr_effects.specs.Covered.{is_covered};
 ghost use Rattle.instr_effects.specs.HasEffect.{HasEffect};
 ghost use Rattle.masm_instr.specs.declared.name.Name.{Name};
 ghost use Rattle.masm_instr.specs.Effects.{instr_effect};
@@ -15,6 +14,6 @@ ghost use Rattle.vm_field.specs.Machine.{IsWellFormed, State};
 /// the instruction's effect says so, and else leaves the state that the effect leaves.
 pub fn effect_laws()
     ensures { (constants : List ℕ) (locals : ℕ) (s : State) → length constants ≡ 168 → IsWellFormed s
-        → (name : Name) (numbers : List ℕ) → is_covered name ≡ true → is_in_form name numbers ≡ true
+        → (name : Name) (numbers : List ℕ) → is_in_form name numbers ≡ true
         → HasEffect constants (expansion name numbers locals) s (instr_effect constants name numbers locals s) }
 {}
