@@ -4,3 +4,4 @@ pub mod Digits
 pub mod ReadingLemmas
 pub mod Joined
 pub mod Fronts
+pub mod Packing

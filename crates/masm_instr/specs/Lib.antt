@@ -6,3 +6,4 @@ pub mod Constants
 pub mod Reading
 pub mod Expansion
 pub mod Effects
+pub mod Packable

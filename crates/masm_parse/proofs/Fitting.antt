@@ -21,6 +21,8 @@ use Rattle.masm_parse.specs.declared.refusal.Cause.{Cause}
 use Rattle.masm_parse.specs.declared.refusal.Cause.TheVariants as causes
 use Rattle.masm_parse.specs.declared.sign.Header.{Header}
 use Rattle.masm_parse.specs.declared.sign.Leaf.TheVariants as leaves
+use Rattle.masm_parse.specs.declared.sign.Use.{Use}
+use Rattle.masm_parse.specs.declared.sign.Use.TheVariants as uses
 use Rattle.masm_parse.specs.declared.sign.Role.{Role}
 use Rattle.masm_parse.specs.declared.sign.Role.TheVariants as roles
 use Rattle.masm_parse.specs.declared.sign.Sign.{Sign}
@@ -161,12 +163,12 @@ unfolding repetition
 none-repetition consts at (part ∷ []) = none-repeated at (parameter_of consts true part)
 none-repetition consts at parts = tt
 
-none-used : (k : Keyword) (name : List ℕ) (locals : ℕ) → LeafFits locals (used k name)
-none-used keywords.Call name locals = tt
-none-used keywords.Syscall name locals = tt
-none-used k name locals = tt
+none-used : (k : Use) (name : List ℕ) (locals : ℕ) → LeafFits locals (used k name)
+none-used uses.Exec name locals = tt
+none-used uses.Call name locals = tt
+none-used uses.Syscall name locals = tt
 
-none-usage : (k : Keyword) (at : At) (parts : List (List ℕ)) → NamesNone (usage k at parts)
+none-usage : (k : Use) (at : At) (parts : List (List ℕ)) → NamesNone (usage k at parts)
 unfolding usage
 none-usage k at (name ∷ []) = none-if (is_name Lower name) _ _ (none-used k name) tt
 none-usage k at parts = tt
@@ -181,9 +183,9 @@ none-phrase context at parts keywords.If = none-on_true (signs.If at) parts (λ 
 none-phrase context at parts keywords.Else = none-alone signs.Else parts (λ n. tt)
 none-phrase context at parts keywords.While = none-on_true (signs.While at) parts (λ n. tt)
 none-phrase context at parts keywords.Repeat = none-repetition context.consts at parts
-none-phrase context at parts keywords.Exec = none-usage keywords.Exec at parts
-none-phrase context at parts keywords.Call = none-usage keywords.Call at parts
-none-phrase context at parts keywords.Syscall = none-usage keywords.Syscall at parts
+none-phrase context at parts keywords.Exec = none-usage uses.Exec at parts
+none-phrase context at parts keywords.Call = none-usage uses.Call at parts
+none-phrase context at parts keywords.Syscall = none-usage uses.Syscall at parts
 none-phrase context at parts keywords.End = none-alone signs.End parts (λ n. tt)
 
 none-worded : (locals : ℕ) (refused : Sign) (r : Result Sign Cause) → NamesNone r → WordFits locals (worded refused r)

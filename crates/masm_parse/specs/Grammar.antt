@@ -62,7 +62,13 @@ IsWhole false procs (Some main) ts = SpellsMain procs main ts
 abbrev pub constants : List Sign → List Const
 constants [] = []
 constants (signs.Const c ∷ ts) = c ∷ constants ts
-constants (sign ∷ ts) = constants ts
+constants (signs.Header header ∷ ts) = constants ts
+constants (signs.Leaf at l ∷ ts) = constants ts
+constants (signs.If at ∷ ts) = constants ts
+constants (signs.Else ∷ ts) = constants ts
+constants (signs.While at ∷ ts) = constants ts
+constants (signs.Repeat at times ∷ ts) = constants ts
+constants (signs.End ∷ ts) = constants ts
 
 -- these tokens spell this source, a kernel or a program
 pub record IsSource (kernel : Bool) (source : Source) (ts : List Sign) : Type 0 where

@@ -7,3 +7,4 @@ pub mod Views
 pub mod Grammar
 pub mod Refusals
 pub mod Locals
+pub mod Order

@@ -10,7 +10,9 @@ use Rattle.masm_parse.specs.Trees.{Body, Empty, Leaf_then, If_then, While_then, 
 
 abbrev pub LeafFits : ℕ → Leaf → Type 0
 LeafFits locals (leaves.Instr instr) = HasLocal instr locals
-LeafFits locals leaf = Unit {0}
+LeafFits locals (leaves.Exec name) = Unit {0}
+LeafFits locals (leaves.Call name) = Unit {0}
+LeafFits locals (leaves.Syscall name) = Unit {0}
 
 -- each local that the body names is one of so many
 abbrev pub HasLocals : ℕ → Body → Type 0

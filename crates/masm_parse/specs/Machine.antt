@@ -67,7 +67,10 @@ closed procs roles.Main done = Behind procs done
 -- a token inside a procedure
 abbrev pub turn_else : List Procedure → Header → List Open → Body → Option State
 turn_else procs header (In_if at before ∷ opens) body = Some (Inside procs header (In_else at before body ∷ opens) Empty)
-turn_else procs header opens body = None
+turn_else procs header [] body = None
+turn_else procs header (In_else at before first ∷ opens) body = None
+turn_else procs header (In_while at before ∷ opens) body = None
+turn_else procs header (In_repeat at times before ∷ opens) body = None
 
 abbrev pub turn_end : List Procedure → Header → List Open → Body → Option State
 turn_end procs header [] body = Some (closed procs header.role (procedure header body))
@@ -87,7 +90,12 @@ turn_inside procs header opens body signs.End = turn_end procs header opens body
 abbrev pub turn_top : Bool → List Procedure → Sign → Option State
 turn_top kernel procs (signs.Const c) = Some (Top procs)
 turn_top kernel procs (signs.Header header) = if may_begin kernel header.role then Some (Inside procs header [] Empty) else None
-turn_top kernel procs sign = None
+turn_top kernel procs (signs.Leaf at leaf) = None
+turn_top kernel procs (signs.If at) = None
+turn_top kernel procs signs.Else = None
+turn_top kernel procs (signs.While at) = None
+turn_top kernel procs (signs.Repeat at times) = None
+turn_top kernel procs signs.End = None
 
 -- the state behind a token, or none where the token does not fit
 abbrev pub turn : Bool → State → Sign → Option State
@@ -102,10 +110,14 @@ turn_statement (Inside procs header opens body) sign = turn_inside procs header 
 turn_statement (Behind procs main) sign = None
 
 abbrev pub is_opening : Sign → Bool
+is_opening (signs.Const c) = false
+is_opening (signs.Header header) = false
+is_opening (signs.Leaf at leaf) = false
 is_opening (signs.If at) = true
+is_opening signs.Else = false
 is_opening (signs.While at) = true
 is_opening (signs.Repeat at times) = true
-is_opening sign = false
+is_opening signs.End = false
 
 -- how many statements are open
 abbrev pub depth_of : State → ℕ
@@ -146,10 +158,15 @@ unfoldable pub step : Bool → List ℕ → Reader → Token → Result Reader C
 step kernel source r token = moved kernel r (word_of kernel r.context (at_of token) (text_of source token))
 
 -- the tree where the source may end here; else it ends early
+abbrev pub ends_early : Place → Result Source ParseError
+ends_early end = Err (Bad end.line end.column causes.Syntax)
+
 abbrev pub ended : Bool → Place → List Const → State → Result Source ParseError
 ended true end consts (Top procs) = Ok (record { consts = consts; procs = procs; main = None })
 ended false end consts (Behind procs main) = Ok (record { consts = consts; procs = procs; main = Some main })
-ended kernel end consts state = Err (Bad end.line end.column causes.Syntax)
+ended kernel end consts (Inside procs header opens body) = ends_early end
+ended false end consts (Top procs) = ends_early end
+ended true end consts (Behind procs main) = ends_early end
 
 abbrev pub parse_from : Bool → List ℕ → Reader → List Token → Result Source ParseError
 parse_from kernel source r [] = ended kernel (place_after source) r.context.consts r.state

@@ -35,15 +35,24 @@ pub record Fits (kernel : Bool) (before : List Sign) (sign : Sign) : Type 0 wher
 
 -- how many procedures and statements begin in these tokens, and how many end
 abbrev pub begins : Sign → ℕ
+begins (signs.Const c) = 0
 begins (signs.Header header) = 1
+begins (signs.Leaf at leaf) = 0
 begins (signs.If at) = 1
+begins signs.Else = 0
 begins (signs.While at) = 1
 begins (signs.Repeat at times) = 1
-begins sign = 0
+begins signs.End = 0
 
 abbrev pub ends : Sign → ℕ
+ends (signs.Const c) = 0
+ends (signs.Header header) = 0
+ends (signs.Leaf at leaf) = 0
+ends (signs.If at) = 0
+ends signs.Else = 0
+ends (signs.While at) = 0
+ends (signs.Repeat at times) = 0
 ends signs.End = 1
-ends sign = 0
 
 abbrev pub begun : List Sign → ℕ
 begun [] = 0

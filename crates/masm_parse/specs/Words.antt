@@ -19,6 +19,8 @@ use Rattle.masm_parse.specs.declared.parts.Case.TheVariants.{Upper, Lower}
 use Rattle.masm_parse.specs.declared.tree.At.{At}
 use Rattle.masm_parse.specs.declared.sign.Role.{Role}
 use Rattle.masm_parse.specs.declared.sign.Role.TheVariants as roles
+use Rattle.masm_parse.specs.declared.sign.Use.{Use}
+use Rattle.masm_parse.specs.declared.sign.Use.TheVariants as uses
 use Rattle.masm_parse.specs.declared.sign.Leaf.{Leaf}
 use Rattle.masm_parse.specs.declared.sign.Leaf.TheVariants as leaves
 use Rattle.masm_parse.specs.declared.sign.Sign.{Sign}
@@ -39,7 +41,12 @@ no_context = record { consts = []; locals = 0 }
 abbrev pub known_after : Context → Sign → Context
 known_after context (signs.Const c) = record { consts = context.consts ++ c ∷ []; locals = context.locals }
 known_after context (signs.Header header) = record { consts = context.consts; locals = header.locals }
-known_after context sign = context
+known_after context (signs.Leaf at leaf) = context
+known_after context (signs.If at) = context
+known_after context signs.Else = context
+known_after context (signs.While at) = context
+known_after context (signs.Repeat at times) = context
+known_after context signs.End = context
 
 -- Names: a letter, then letters, digits and _, all letters of one case, at most 100 bytes.
 abbrev pub is_letter : Case → ℕ → Bool
@@ -110,14 +117,14 @@ repetition consts at (part ∷ []) = repeated at (parameter_of consts true part)
 repetition consts at other = Err causes.Syntax
 
 -- exec.name, call.name, syscall.name
-abbrev pub used : Keyword → List ℕ → Leaf
-used keywords.Call name = leaves.Call name
-used keywords.Syscall name = leaves.Syscall name
-used keyword name = leaves.Exec name
+abbrev pub used : Use → List ℕ → Leaf
+used uses.Exec name = leaves.Exec name
+used uses.Call name = leaves.Call name
+used uses.Syscall name = leaves.Syscall name
 
-unfoldable pub usage : Keyword → At → List (List ℕ) → Result Sign Cause
-usage keyword at (name ∷ []) = if is_name Lower name then Ok (signs.Leaf at (used keyword name)) else Err causes.Syntax
-usage keyword at other = Err causes.Syntax
+unfoldable pub usage : Use → At → List (List ℕ) → Result Sign Cause
+usage use_of at (name ∷ []) = if is_name Lower name then Ok (signs.Leaf at (used use_of name)) else Err causes.Syntax
+usage use_of at other = Err causes.Syntax
 
 -- a token whose first part is a keyword, by its other parts
 unfoldable pub phrase : Context → At → List (List ℕ) → Keyword → Result Sign Cause
@@ -129,9 +136,9 @@ phrase context at parts keywords.If = on_true (signs.If at) parts
 phrase context at parts keywords.Else = alone signs.Else parts
 phrase context at parts keywords.While = on_true (signs.While at) parts
 phrase context at parts keywords.Repeat = repetition context.consts at parts
-phrase context at parts keywords.Exec = usage keywords.Exec at parts
-phrase context at parts keywords.Call = usage keywords.Call at parts
-phrase context at parts keywords.Syscall = usage keywords.Syscall at parts
+phrase context at parts keywords.Exec = usage uses.Exec at parts
+phrase context at parts keywords.Call = usage uses.Call at parts
+phrase context at parts keywords.Syscall = usage uses.Syscall at parts
 phrase context at parts keywords.End = alone signs.End parts
 
 -- another token is an instruction; a local that it names must be one of the procedure's
@@ -192,7 +199,7 @@ unfoldable pub word_of : Bool → Context → At → List ℕ → Word
 word_of kernel context at text = word_parts kernel context at text (parts_of text)
 
 -- An answer of the reader is that of the definition, or the want of memory.
-abbrev pub Reads : Result Sign Stop → Result Sign Cause → Type 0
-Reads (Ok sign) defined = defined ≡ Ok sign
-Reads (Err stops.Memory) defined = Unit {0}
-Reads (Err (stops.Refused cause)) defined = defined ≡ Err cause
+abbrev pub Gives : Result Sign Stop → Result Sign Cause → Type 0
+Gives (Ok sign) defined = defined ≡ Ok sign
+Gives (Err stops.Memory) defined = Unit {0}
+Gives (Err (stops.Refused cause)) defined = defined ≡ Err cause

@@ -13,7 +13,7 @@ mod sign;
 mod state;
 mod tree;
 
-pub use laws::{least_refusal, locals_fit};
+pub use laws::{least_refusal, locals_fit, trees_are_in_order};
 pub use parsing::parse;
 pub use refusal::{Cause, ParseError, cause_text};
 pub use sign::Leaf;

@@ -1,19 +1,6 @@
-ghost use Rattle.std.specs.Prelude.{◌≡◌, ◌==◌, map, IfOk};
-ghost use Rattle.std.specs.List.{list_all, slice_split};
+ghost use Rattle.std.specs.Prelude.{◌≡◌};
+ghost use Rattle.std.specs.List.{list_all};
 ghost use Rattle.masm_parse.specs.Words.{is_letter, is_name_byte, is_name};
-
-use std::alloc::{AllocError, Global};
-
-// The parts of a text, which this byte parts.
-pub(crate) fn split<'a>(
-    alloc: Global,
-    text: &'a [u8],
-    mark: u8,
-) -> Result<Vec<&'a [u8]>, AllocError>
-    ensures { IfOk result (λ parts. map (λ part. part.now) parts.items ≡ slice_split (λ b. b == mark) text.entry.now) }
-{
-    text.split(|byte| *byte == mark).collect(alloc)
-}
 
 // The case of the letters of a name.
 #[derive(Clone, Copy, Debug, PartialEq, Eq)]

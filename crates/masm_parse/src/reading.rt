@@ -1,14 +1,14 @@
 ghost use Rattle.std.specs.Prelude.{◌≡◌, ℕ, IfOk, map, Result};
 ghost use Rattle.masm_parse.specs.declared.sign.Sign.{Sign};
 ghost use Rattle.masm_parse.specs.declared.refusal.Cause.{Cause};
-ghost use Rattle.masm_parse.specs.Words.{constant, definition, locals_of, header, main, alone, on_true, repetition, usage, phrase, instruction, nameless, blank, blank_of, worded, keyword_word, instruction_word, word_of, Reads};
+ghost use Rattle.masm_parse.specs.Words.{constant, definition, locals_of, header, main, alone, on_true, repetition, usage, phrase, instruction, nameless, blank, blank_of, worded, keyword_word, instruction_word, word_of, Gives};
 
 use crate::keyword::{Keyword, keyword_of};
-use crate::parts::{Case, is_name, split};
+use crate::parts::{Case, is_name};
 use crate::refusal::{Cause, Stop};
-use crate::sign::{Header, Leaf, Role, Sign, Word};
+use crate::sign::{Header, Leaf, Role, Sign, Use, Word};
 use crate::tree::At;
-use masm_instr::{Const, Consts, read_instr, read_number, read_parameter};
+use masm_instr::{Const, Consts, read_instr, read_number, read_parameter, split};
 use std::alloc::{AllocError, Global};
 use vm_field::{Bytes, Felt, Memory};
 
@@ -16,7 +16,7 @@ const SYNTAX: Stop = Stop::Refused(Cause::Syntax);
 
 // A definition of a constant, by the two parts beside its `=`.
 fn read_definition(alloc: Global, at: At, parts: &[&[u8]]) -> Result<Sign, Stop>
-    ensures { Reads result (definition at (map (λ part. part.now) parts.now)) }
+    ensures { Gives result (definition at (map (λ part. part.now) parts.now)) }
 {
     let [name, value] = parts else {
         return Err(SYNTAX);
@@ -44,7 +44,7 @@ fn read_definition(alloc: Global, at: At, parts: &[&[u8]]) -> Result<Sign, Stop>
 // const.NAME=v
 #[tactic(auto, unfolding(crate::specs::Words::constant))]
 fn read_constant(alloc: Global, at: At, parts: &[&[u8]]) -> Result<Sign, Stop>
-    ensures { Reads result (constant at (map (λ part. part.now) parts.now)) }
+    ensures { Gives result (constant at (map (λ part. part.now) parts.now)) }
 {
     let [part] = parts else {
         return Err(SYNTAX);
@@ -71,7 +71,7 @@ fn read_locals(parts: &[&[u8]]) -> Result<u32, Cause>
 // proc.name, proc.name.n, and the same with export
 #[tactic(auto, unfolding(crate::specs::Words::header))]
 fn read_header(alloc: Global, role: Role, at: At, parts: &[&[u8]]) -> Result<Sign, Stop>
-    ensures { Reads result (header role at (map (λ part. part.now) parts.now)) }
+    ensures { Gives result (header role at (map (λ part. part.now) parts.now)) }
 {
     let Some((name, more)) = parts.split_first() else {
         return Err(SYNTAX);
@@ -91,7 +91,7 @@ fn read_header(alloc: Global, role: Role, at: At, parts: &[&[u8]]) -> Result<Sig
 }
 
 fn read_begin(alloc: Global, at: At, parts: &[&[u8]]) -> Result<Sign, Stop>
-    ensures { Reads result (alone (main at) (map (λ part. part.now) parts.now)) }
+    ensures { Gives result (alone (main at) (map (λ part. part.now) parts.now)) }
 {
     if !parts.is_empty() {
         return Err(SYNTAX);
@@ -106,7 +106,7 @@ fn read_begin(alloc: Global, at: At, parts: &[&[u8]]) -> Result<Sign, Stop>
 
 // A token of one part.
 fn read_alone(sign: Sign, parts: &[&[u8]]) -> Result<Sign, Stop>
-    ensures { Reads result (alone sign (map (λ part. part.now) parts.now)) }
+    ensures { Gives result (alone sign (map (λ part. part.now) parts.now)) }
 {
     if parts.is_empty() {
         Ok(sign)
@@ -117,7 +117,7 @@ fn read_alone(sign: Sign, parts: &[&[u8]]) -> Result<Sign, Stop>
 
 // A token with the second part `true`.
 fn read_on_true(sign: Sign, parts: &[&[u8]]) -> Result<Sign, Stop>
-    ensures { Reads result (on_true sign (map (λ part. part.now) parts.now)) }
+    ensures { Gives result (on_true sign (map (λ part. part.now) parts.now)) }
 {
     match parts {
         [part] if *part == b"true".as_slice() => Ok(sign),
@@ -128,7 +128,7 @@ fn read_on_true(sign: Sign, parts: &[&[u8]]) -> Result<Sign, Stop>
 // repeat.n
 #[tactic(auto, unfolding(crate::specs::Words::repetition))]
 fn read_repetition(consts: &Consts, at: At, parts: &[&[u8]]) -> Result<Sign, Stop>
-    ensures { Reads result (repetition consts.now at (map (λ part. part.now) parts.now)) }
+    ensures { Gives result (repetition consts.now at (map (λ part. part.now) parts.now)) }
 {
     let [part] = parts else {
         return Err(SYNTAX);
@@ -142,8 +142,8 @@ fn read_repetition(consts: &Consts, at: At, parts: &[&[u8]]) -> Result<Sign, Sto
 
 // exec.name, call.name, syscall.name
 #[tactic(auto, unfolding(crate::specs::Words::usage))]
-fn read_usage(alloc: Global, keyword: Keyword, at: At, parts: &[&[u8]]) -> Result<Sign, Stop>
-    ensures { Reads result (usage keyword at (map (λ part. part.now) parts.now)) }
+fn read_usage(alloc: Global, use_of: Use, at: At, parts: &[&[u8]]) -> Result<Sign, Stop>
+    ensures { Gives result (usage use_of at (map (λ part. part.now) parts.now)) }
 {
     let [name] = parts else {
         return Err(SYNTAX);
@@ -152,10 +152,10 @@ fn read_usage(alloc: Global, keyword: Keyword, at: At, parts: &[&[u8]]) -> Resul
         return Err(SYNTAX);
     }
     let name = Bytes::copied(alloc, name)?;
-    let leaf = match keyword {
-        Keyword::Call => Leaf::Call(name),
-        Keyword::Syscall => Leaf::Syscall(name),
-        _ => Leaf::Exec(name),
+    let leaf = match use_of {
+        Use::Exec => Leaf::Exec(name),
+        Use::Call => Leaf::Call(name),
+        Use::Syscall => Leaf::Syscall(name),
     };
     Ok(Sign::Leaf(at, leaf))
 }
@@ -169,7 +169,7 @@ fn read_phrase(
     parts: &[&[u8]],
     keyword: Keyword,
 ) -> Result<Sign, Stop>
-    ensures { (locals : ℕ) → Reads result (phrase (record { consts = consts.now; locals = locals }) at (map (λ part. part.now) parts.now) keyword) }
+    ensures { (locals : ℕ) → Gives result (phrase (record { consts = consts.now; locals = locals }) at (map (λ part. part.now) parts.now) keyword) }
 {
     match keyword {
         Keyword::Const => read_constant(alloc, at, parts),
@@ -180,7 +180,9 @@ fn read_phrase(
         Keyword::Else => read_alone(Sign::Else, parts),
         Keyword::While => read_on_true(Sign::While(at), parts),
         Keyword::Repeat => read_repetition(consts, at, parts),
-        Keyword::Exec | Keyword::Call | Keyword::Syscall => read_usage(alloc, keyword, at, parts),
+        Keyword::Exec => read_usage(alloc, Use::Exec, at, parts),
+        Keyword::Call => read_usage(alloc, Use::Call, at, parts),
+        Keyword::Syscall => read_usage(alloc, Use::Syscall, at, parts),
         Keyword::End => read_alone(Sign::End, parts),
     }
 }
@@ -194,7 +196,7 @@ fn read_instruction(
     at: At,
     text: &[u8],
 ) -> Result<Sign, Stop>
-    ensures { Reads result (instruction (record { consts = consts.now; locals = locals }) at text.now) }
+    ensures { Gives result (instruction (record { consts = consts.now; locals = locals }) at text.now) }
 {
     let instr = read_instr(alloc, text, consts)?;
     if instr.name().names_local()
@@ -249,7 +251,7 @@ fn blank_of(alloc: Global, at: At, keyword: Keyword) -> Sign
 }
 
 fn worded(refused: Sign, read: Result<Sign, Stop>) -> Result<Word, AllocError>
-    ensures { (defined : Result Sign Cause) → Reads read defined → IfOk result (λ word. word ≡ worded refused defined) }
+    ensures { (defined : Result Sign Cause) → Gives read defined → IfOk result (λ word. word ≡ worded refused defined) }
 {
     match read {
         Ok(sign) => Ok(Word { sign, fault: None }),

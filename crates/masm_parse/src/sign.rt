@@ -20,6 +20,14 @@ pub(crate) struct Header {
     pub at: At,
 }
 
+// How a statement names a procedure.
+#[derive(Clone, Copy, Debug, PartialEq, Eq)]
+pub(crate) enum Use {
+    Exec,
+    Call,
+    Syscall,
+}
+
 /// A statement that is one token.
 #[derive(Drop)]
 pub enum Leaf {

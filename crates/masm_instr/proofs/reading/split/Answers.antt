@@ -1,7 +1,7 @@
 use Rattle.std.proofs.Common.{rules, eqb}
 use Rattle.std.proofs.lemmas.Iterator.Consumers.{map_from_collect}
 use Rattle.std.proofs.lemmas.Iterator.Splits.{YieldsList-from_slice_split}
-use Rattle.masm_parse.proofs.parts.split.Goals as goal
+use Rattle.masm_instr.proofs.reading.split.Goals as goal
 
 pub returns : goal.returns
 returns c =

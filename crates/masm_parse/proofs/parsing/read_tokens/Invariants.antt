@@ -1,7 +1,7 @@
 use Rattle.std.proofs.Common.{◌≡◌, drop}
 use Rattle.masm_parse.specs.Machine.{parse_from, parsed}
 use Rattle.masm_parse.specs.Views.{parser_view}
-use Rattle.masm_parse.proofs.parsing.parse.Given as goal
+use Rattle.masm_parse.proofs.parsing.read_tokens.Given as goal
 
 abbrev pub invariant-loop-token : goal.invariant-loop-token
 invariant-loop-token l =
