@@ -1,7 +1,7 @@
 -- Each instruction has its effect.
 use Rattle.std.proofs.Common.{◌≡◌, ℕ, true, List, length}
 use Rattle.vm_field.specs.Machine.{Core, State, IsWellFormed, IsWellFormedCore}
-use Rattle.vm_ops.specs.Sizes.{IsSized}
+use Rattle.instr_effects.proofs.Sized.{sized-of}
 use Rattle.masm_instr.specs.declared.name.Name.{Name}
 use Rattle.masm_instr.specs.declared.name.Name.TheVariants as names
 use Rattle.masm_instr.specs.Instructions.{is_in_form}
@@ -22,8 +22,6 @@ use Rattle.instr_effects.proofs.Bits32.{meets-u32checked_and, meets-u32checked_x
 use Rattle.instr_effects.proofs.Memory.{meets-mem_load, meets-mem_loadw, meets-mem_store, meets-mem_storew, meets-locaddr, meets-loc_load, meets-loc_loadw, meets-loc_store, meets-loc_storew}
 use Rattle.instr_effects.proofs.Readings.{meets-sdepth, meets-caller, meets-clk, meets-adv_push, meets-adv_loadw, meets-hperm, meets-hmerge}
 
-sized-of : (c : Core) → IsWellFormedCore c → IsSized c
-sized-of c well = record { stack = well.deep; digest = well.digest.size; words = λ context address. (well.words context address).size }
 
 meets : (constants : List ℕ) (locals : ℕ) (s : State) → length constants ≡ 168 → IsWellFormed s → (name : Name) → MeetsAll constants locals s name
 meets constants locals s count well names.Add = meets-add constants locals s

@@ -1,3 +1,4 @@
+pub mod Sized
 pub mod Windows
 pub mod Alikes
 pub mod Running

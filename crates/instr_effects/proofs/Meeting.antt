@@ -5,11 +5,11 @@ use Rattle.vm_field.proofs.Elements.{length-filled_up}
 use Rattle.vm_field.specs.Machine.{Core, State, WordMap, filled_up}
 use Rattle.vm_ops.specs.declared.cause.Cause.{Cause}
 use Rattle.vm_ops.specs.declared.item.Item.{Item}
-use Rattle.vm_ops.specs.Sizes.{IsSized}
+use Rattle.instr_effects.proofs.Sized.{IsSized}
 use Rattle.vm_ops.specs.Step.{memory_with}
 use Rattle.masm_instr.specs.Effects.{Effect, listed}
 use Rattle.instr_effects.specs.HasEffect.{affected, Answers, HasEffect}
-use Rattle.instr_effects.specs.Runs.{run}
+use Rattle.vm_ops.specs.Runs.{run}
 use Rattle.instr_effects.proofs.Alikes.{Alike, alike-along, alike-back, alike-equal, alike-filled_up, alike-front, alike-drop, alike-listed, length-listed}
 use Rattle.instr_effects.proofs.Running.{Does, Shows, last-turn, run-does}
 use Rattle.instr_effects.proofs.Windows.{Window, window, last, trap, fits}

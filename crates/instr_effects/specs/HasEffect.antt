@@ -5,7 +5,7 @@ use Rattle.vm_ops.specs.declared.cause.Cause.{Cause}
 use Rattle.vm_ops.specs.declared.item.Item.{Item}
 use Rattle.vm_ops.specs.Step.{memory_with}
 use Rattle.masm_instr.specs.Effects.{Effect}
-use Rattle.instr_effects.specs.Runs.{run}
+use Rattle.vm_ops.specs.Runs.{run}
 
 -- the state that an effect of so many cycles leaves
 abbrev pub affected : Effect → ℕ → State → State
