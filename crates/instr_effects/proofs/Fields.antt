@@ -1,48 +1,41 @@
 -- The instructions of field arithmetic, and tests of equality.
-use Rattle.std.proofs.Common.{◌≡◌, ℕ, ◌%◌, ◌^◌, Bool, true, false, not, ◌==◌, List, [], ◌∷◌, None, is_some, refl, lit≤, arith, lt-ltb}
-use Rattle.vm_field.specs.Field.{felt_add, felt_sub, felt_neg}
-use Rattle.vm_field.specs.Machine.{State}
+use Rattle.std.proofs.Common.{◌≡◌, ◌≢◌, ℕ, zero, suc, ◌+◌, ◌-◌, ◌*◌, ◌/◌, ◌%◌, ◌^◌, ◌<◌, ◌≤◌, max, min, Bool, true, false, cond, not, ◌==◌, ◌&&◌, ◌||◌, nat_lt, nat_le, List, [], ◌∷◌, ◌++◌, length, drop, take, reverse, slice_index, Option, Some, None, is_some, refl, sym, ◌∙◌, ap, subst, inl, inr, lit≤, lit<, arith, lt-ltb, le-ltb, ltb-true, ltb-false, eq-eqb, eqb-true, bit_and, bit_or, bit_xor}
+use Rattle.std.proofs.lemmas.Bool.{and_parts, cases_eq, cases_lt, eqb-false, leb-true, leb-false}
+use Rattle.vm_field.specs.Field.{prime, felt_add, felt_sub, felt_mul, felt_neg, felt_inv, felt_pow}
+use Rattle.vm_field.specs.Machine.{State, IsWellFormed}
+use Rattle.vm_field.proofs.Elements.{elements-index}
 use Rattle.vm_ops.specs.declared.cause.Cause.{Cause}
 use Rattle.vm_ops.specs.declared.cause.Cause.TheVariants as causes
 use Rattle.vm_ops.specs.Step.{left_cells}
 use Rattle.vm_ops.specs.Values.{bit_of, computed, is_bit, is_u32, or_else, trap_of, unless}
 use Rattle.masm_instr.specs.declared.name.Name.TheVariants as names
-use Rattle.masm_instr.specs.Effects.{instr_effect, top}
-use Rattle.masm_instr.specs.Expansion.{expansion, front, plain}
+use Rattle.masm_instr.specs.Effects.{are_bits, are_u32, cells, instr_effect, listed, top, same_cells, low, high_low, difference, not_u32}
+use Rattle.masm_instr.specs.Expansion.{expansion, front, plain, lit}
 use Rattle.masm_instr.specs.Table.{fixed}
 use Rattle.instr_effects.proofs.Moves.{MeetsAt, MeetsAll}
-use Rattle.instr_effects.proofs.Quiets.{acts, first-is, given}
-use Rattle.instr_effects.proofs.Tables.{IsAllowed, by_none, by_maybe}
-use Rattle.instr_effects.proofs.Windows.{last, trap, fits}
+use Rattle.instr_effects.proofs.Quiets.{acts, first-is, given, pushed}
+use Rattle.instr_effects.proofs.Tables.{IsAllowed, by_none, by_maybe, by_one}
+use Rattle.instr_effects.proofs.Windows.{last, trap, fits, window}
+use Rattle.instr_effects.proofs.Tests.{bit-free, not-is, one-trap}
 
 -- a sum with the negative
 sub-is : (b a : ℕ) → felt_add (felt_neg b) a ≡ felt_sub a b
 sub-is b a = omega arith
 
 -- an element is 0, or it is not
-zero-trap : (a : ℕ) (cause : Cause) → is_some (or_else (unless (not (a == 0)) cause) None) ≡ (a == 0)
-zero-trap a cause = go (a == 0)
+zero-trap : (a : ℕ) → is_some (or_else (unless (not (a == 0)) causes.ZeroInverse) None) ≡ (a == 0)
+zero-trap a = go (a == 0)
   where
-    go : (test : Bool) → is_some (or_else (unless (not test) cause) None) ≡ test
+    go : (test : Bool) → is_some (or_else (unless (not test) causes.ZeroInverse) None) ≡ test
     go true = refl
     go false = refl
-
--- the other truth value
-not-is : (test : Bool) → felt_sub 1 (bit_of test) ≡ bit_of (not test)
-not-is true = refl
-not-is false = refl
-
-not-free : (test : Bool) (cause : Cause) → is_some (or_else (unless (is_bit (bit_of test)) cause) None) ≡ false
-not-free true cause = refl
-not-free false cause = refl
 
 -- the lower half is odd exactly where the number is
 odd-is : (a : ℕ) → a % 2 ^ 32 % 2 ≡ a % 2
 odd-is a = omega arith
 
-odd-free : (a : ℕ) (cause cause' : Cause)
-    → is_some (or_else (or_else (unless (is_u32 (a % 2 ^ 32)) cause) None) None) ≡ false
-odd-free a cause cause' = rw (lt-ltb (a % 2 ^ 32) (2 ^ 32) (omega arith)) refl
+odd-free : (a : ℕ) → is_some (or_else (or_else (unless (is_u32 (a % 2 ^ 32)) causes.NotU32) None) None) ≡ false
+odd-free a = rw (lt-ltb (a % 2 ^ 32) (2 ^ 32) (omega arith)) refl
 
 add-alone : (constants : List ℕ) (locals : ℕ) (s : State) → MeetsAt constants locals s names.Add []
 unfolding expansion front instr_effect last trap fits left_cells computed trap_of
@@ -95,13 +88,13 @@ meets-mul constants locals s numbers form =
 div-alone : (constants : List ℕ) (locals : ℕ) (s : State) → MeetsAt constants locals s names.Div []
 unfolding expansion front instr_effect last trap fits left_cells computed trap_of
 div-alone constants locals s =
-    acts _ _ _ _ _ _ _ (lit≤ tt) refl (zero-trap (top s 0) causes.ZeroInverse) refl refl refl (λ free. refl)
+    acts _ _ _ _ _ _ _ (lit≤ tt) refl (zero-trap (top s 0)) refl refl refl (λ free. refl)
 
 div-given : (constants : List ℕ) (locals : ℕ) (s : State) → (n : ℕ) → IsAllowed names.Div n → MeetsAt constants locals s names.Div (n ∷ [])
 unfolding expansion front instr_effect last trap fits left_cells computed trap_of
 div-given constants locals s n ok =
     given constants n (plain (fixed names.Div)) s (instr_effect constants names.Div (n ∷ []) locals s)
-    (acts _ _ _ _ _ _ _ (lit≤ tt) refl (zero-trap n causes.ZeroInverse) refl refl refl (λ free. refl))
+    (acts _ _ _ _ _ _ _ (lit≤ tt) refl (zero-trap n) refl refl refl (λ free. refl))
 
 pub meets-div : (constants : List ℕ) (locals : ℕ) (s : State) → MeetsAll constants locals s names.Div
 meets-div constants locals s numbers form =
@@ -120,7 +113,7 @@ meets-neg constants locals s numbers form =
 inv-alone : (constants : List ℕ) (locals : ℕ) (s : State) → MeetsAt constants locals s names.Inv []
 unfolding expansion front instr_effect last trap fits left_cells computed trap_of
 inv-alone constants locals s =
-    acts _ _ _ _ _ _ _ (lit≤ tt) refl (zero-trap (top s 0) causes.ZeroInverse) refl refl refl (λ free. refl)
+    acts _ _ _ _ _ _ _ (lit≤ tt) refl (zero-trap (top s 0)) refl refl refl (λ free. refl)
 
 pub meets-inv : (constants : List ℕ) (locals : ℕ) (s : State) → MeetsAll constants locals s names.Inv
 meets-inv constants locals s numbers form =
@@ -145,13 +138,13 @@ meets-eq constants locals s numbers form =
 neq-alone : (constants : List ℕ) (locals : ℕ) (s : State) → MeetsAt constants locals s names.Neq []
 unfolding expansion front instr_effect last trap fits left_cells computed trap_of
 neq-alone constants locals s =
-    acts _ _ _ _ _ _ _ (lit≤ tt) refl (not-free ((top s 0) == (top s 1)) causes.NotBinary) refl refl refl (λ free. first-is _ _ _ (not-is ((top s 0) == (top s 1))))
+    acts _ _ _ _ _ _ _ (lit≤ tt) refl (bit-free ((top s 0) == (top s 1))) refl refl refl (λ free. first-is _ _ _ (not-is ((top s 0) == (top s 1))))
 
 neq-given : (constants : List ℕ) (locals : ℕ) (s : State) → (n : ℕ) → IsAllowed names.Neq n → MeetsAt constants locals s names.Neq (n ∷ [])
 unfolding expansion front instr_effect last trap fits left_cells computed trap_of
 neq-given constants locals s n ok =
     given constants n (plain (fixed names.Neq)) s (instr_effect constants names.Neq (n ∷ []) locals s)
-    (acts _ _ _ _ _ _ _ (lit≤ tt) refl (not-free (n == (top s 0)) causes.NotBinary) refl refl refl (λ free. first-is _ _ _ (not-is (n == (top s 0)))))
+    (acts _ _ _ _ _ _ _ (lit≤ tt) refl (bit-free (n == (top s 0))) refl refl refl (λ free. first-is _ _ _ (not-is (n == (top s 0)))))
 
 pub meets-neq : (constants : List ℕ) (locals : ℕ) (s : State) → MeetsAll constants locals s names.Neq
 meets-neq constants locals s numbers form =
@@ -161,7 +154,7 @@ meets-neq constants locals s numbers form =
 is_odd-alone : (constants : List ℕ) (locals : ℕ) (s : State) → MeetsAt constants locals s names.IsOdd []
 unfolding expansion front instr_effect last trap fits left_cells computed trap_of
 is_odd-alone constants locals s =
-    acts _ _ _ _ _ _ _ (lit≤ tt) refl (odd-free (top s 0) causes.NotU32 causes.NotU32) refl refl refl (λ free. first-is _ _ _ (odd-is (top s 0)))
+    acts _ _ _ _ _ _ _ (lit≤ tt) refl (odd-free (top s 0)) refl refl refl (λ free. first-is _ _ _ (odd-is (top s 0)))
 
 pub meets-is_odd : (constants : List ℕ) (locals : ℕ) (s : State) → MeetsAll constants locals s names.IsOdd
 meets-is_odd constants locals s numbers form =

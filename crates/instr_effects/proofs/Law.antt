@@ -1,10 +1,13 @@
 -- Each instruction has its effect.
-use Rattle.std.proofs.Common.{◌≡◌, ℕ, true, List, length}
+use Rattle.std.proofs.Common.{◌≡◌, ℕ, ◌<◌, true, List, length, Ok}
 use Rattle.vm_field.specs.Machine.{Core, State, IsWellFormed, IsWellFormedCore}
 use Rattle.instr_effects.proofs.Sized.{sized-of}
 use Rattle.masm_instr.specs.declared.name.Name.{Name}
 use Rattle.masm_instr.specs.declared.name.Name.TheVariants as names
-use Rattle.masm_instr.specs.Instructions.{is_in_form}
+use Rattle.masm_instr.specs.Instructions.{first, is_in_form, names_local}
+use Rattle.masm_instr.proofs.Packing.{expansions_are_packable}
+use Rattle.vm_ops.specs.Runs.{run}
+use Rattle.vm_ops.proofs.RunLemmas.{run-kept}
 use Rattle.masm_instr.specs.Effects.{instr_effect}
 use Rattle.masm_instr.specs.Expansion.{expansion}
 use Rattle.instr_effects.specs.HasEffect.{HasEffect}
@@ -123,3 +126,10 @@ pub instruction-effects : (constants : List ℕ) (locals : ℕ) (s : State) → 
 instruction-effects constants locals s count well name numbers form =
     has-effect constants (expansion name numbers locals) s (instr_effect constants name numbers locals s) count
     (sized-of s.core well.core) (meets constants locals s count well name numbers form)
+
+pub instruction-kept : (constants : List ℕ) (locals : ℕ) (s t : State) → length constants ≡ 168 → IsWellFormed s
+    → (name : Name) (numbers : List ℕ) → is_in_form name numbers ≡ true → (names_local name ≡ true → first numbers < locals)
+    → run constants (expansion name numbers locals) s ≡ Ok t → IsWellFormed t
+instruction-kept constants locals s t count well name numbers form local e =
+    let each = (expansions_are_packable name numbers locals form local).each in
+    run-kept constants (expansion name numbers locals) s t count (λ k item h. (each k item h).ordinary) well e

@@ -1,21 +1,22 @@
 -- The order of elements as numbers, from their halves.
-use Rattle.std.proofs.Common.{◌≡◌, ℕ, ◌/◌, ◌%◌, ◌^◌, ◌<◌, Bool, true, false, not, ◌==◌, ◌&&◌, ◌||◌, nat_lt, nat_le, List, [], Option, None, is_some, refl, sym, ◌∙◌, ap, lit≤, arith, lt-ltb, le-ltb, ltb-true, ltb-false, eqb-true}
-use Rattle.std.proofs.lemmas.Bool.{eqb-false}
-use Rattle.vm_field.specs.Field.{prime, felt_add, felt_sub, felt_mul}
+use Rattle.std.proofs.Common.{◌≡◌, ◌≢◌, ℕ, zero, suc, ◌+◌, ◌-◌, ◌*◌, ◌/◌, ◌%◌, ◌^◌, ◌<◌, ◌≤◌, max, min, Bool, true, false, cond, not, ◌==◌, ◌&&◌, ◌||◌, nat_lt, nat_le, List, [], ◌∷◌, ◌++◌, length, drop, take, reverse, slice_index, Option, Some, None, is_some, refl, sym, ◌∙◌, ap, subst, inl, inr, lit≤, lit<, arith, lt-ltb, le-ltb, ltb-true, ltb-false, eq-eqb, eqb-true, bit_and, bit_or, bit_xor}
+use Rattle.std.proofs.lemmas.Bool.{and_parts, cases_eq, cases_lt, eqb-false, leb-true, leb-false}
+use Rattle.vm_field.specs.Field.{prime, felt_add, felt_sub, felt_mul, felt_neg, felt_inv, felt_pow}
 use Rattle.vm_field.specs.Machine.{State, IsWellFormed}
 use Rattle.vm_field.proofs.Elements.{elements-index}
 use Rattle.vm_ops.specs.declared.cause.Cause.{Cause}
 use Rattle.vm_ops.specs.declared.cause.Cause.TheVariants as causes
 use Rattle.vm_ops.specs.Step.{left_cells}
-use Rattle.vm_ops.specs.Values.{bit_of, computed, is_bit, or_else, trap_of, unless}
+use Rattle.vm_ops.specs.Values.{bit_of, computed, is_bit, is_u32, or_else, trap_of, unless}
 use Rattle.masm_instr.specs.declared.name.Name.TheVariants as names
-use Rattle.masm_instr.specs.Effects.{are_bits, are_u32, instr_effect, top}
-use Rattle.masm_instr.specs.Expansion.{expansion, front}
+use Rattle.masm_instr.specs.Effects.{are_bits, are_u32, cells, instr_effect, listed, top, same_cells, low, high_low, difference, not_u32}
+use Rattle.masm_instr.specs.Expansion.{expansion, front, plain, lit}
+use Rattle.masm_instr.specs.Table.{fixed}
 use Rattle.instr_effects.proofs.Moves.{MeetsAt, MeetsAll}
-use Rattle.instr_effects.proofs.Quiets.{acts, first-is}
-use Rattle.instr_effects.proofs.Tables.{by_none}
-use Rattle.instr_effects.proofs.Windows.{last, trap, fits}
-use Rattle.instr_effects.proofs.Tests.{at-most, passes}
+use Rattle.instr_effects.proofs.Quiets.{acts, first-is, given, pushed}
+use Rattle.instr_effects.proofs.Tables.{IsAllowed, by_none, by_maybe, by_one}
+use Rattle.instr_effects.proofs.Windows.{last, trap, fits, window}
+use Rattle.instr_effects.proofs.Tests.{at-most, bit-free, not-is, passes}
 
 -- the bit that tells the order, from the tests of the halves
 abbrev order_bit : Bool → Bool → Bool → ℕ
@@ -65,12 +66,8 @@ order_of a b = order_bit (above a b) (below a b) (level a b)
 order-is : (a b : ℕ) → order_of a b ≡ bit_of (nat_lt a b)
 order-is a b = order-bit (above a b) (below a b) (level a b) ∙ ap bit_of (sym (halves-tell a b))
 
-not-is : (test : Bool) (bit : ℕ) → bit ≡ bit_of test → felt_sub 1 bit ≡ bit_of (not test)
-not-is true bit e = rw e refl
-not-is false bit e = rw e refl
-
 at-most-is : (a b : ℕ) → felt_sub 1 (order_of b a) ≡ bit_of (nat_le a b)
-at-most-is a b = not-is (nat_lt b a) (order_of b a) (order-is b a) ∙ ap bit_of (at-most a b)
+at-most-is a b = ap (felt_sub 1) (order-is b a) ∙ (not-is (nat_lt b a) ∙ ap bit_of (at-most a b))
 
 -- the traps of the comparison, before what follows it
 abbrev order_trap : ℕ → ℕ → Option Cause → Option Cause
@@ -110,13 +107,11 @@ order-free a b later h k =
 order-alone : (a b : ℕ) → a < prime → b < prime → is_some (order_trap a b None) ≡ false
 order-alone a b h k = ap is_some (order-free a b None h k)
 
-not-free : (test : Bool) (bit : ℕ) → bit ≡ bit_of test → is_some (or_else (unless (is_bit bit) causes.NotBinary) None) ≡ false
-not-free true bit e = rw e refl
-not-free false bit e = rw e refl
-
 order-denied : (a b : ℕ) → a < prime → b < prime
     → is_some (order_trap a b (or_else (unless (is_bit (order_of a b)) causes.NotBinary) None)) ≡ false
-order-denied a b h k = ap is_some (order-free a b _ h k) ∙ not-free (nat_lt a b) (order_of a b) (order-is a b)
+order-denied a b h k =
+    ap is_some (order-free a b (or_else (unless (is_bit (order_of a b)) causes.NotBinary) None) h k)
+    ∙ (ap (λ bit. is_some (or_else (unless (is_bit bit) causes.NotBinary) None)) (order-is a b) ∙ bit-free (nat_lt a b))
 
 cell-small : (s : State) (k : ℕ) → IsWellFormed s → top s k < prime
 cell-small s k well = elements-index s.core.stack k well.core.cells

@@ -1,26 +1,27 @@
 -- Powers of two, and the shifts and rotations that are products with them.
-use Rattle.std.proofs.Common.{◌≡◌, ℕ, ◌-◌, ◌*◌, ◌/◌, ◌%◌, ◌^◌, ◌<◌, ◌≤◌, Bool, true, false, not, ◌==◌, ◌&&◌, nat_lt, List, [], ◌∷◌, Option, None, is_some, refl, sym, ◌∙◌, ap, inl, inr, lit≤, arith, lt-ltb, le-ltb, ltb-true, eqb-true, ne_eqb}
-use Rattle.std.proofs.lemmas.Bool.{cases_lt}
-use Rattle.vm_field.specs.Field.{felt_add, felt_mul}
-use Rattle.vm_field.specs.Machine.{State}
+use Rattle.std.proofs.Common.{◌≡◌, ◌≢◌, ℕ, zero, suc, ◌+◌, ◌-◌, ◌*◌, ◌/◌, ◌%◌, ◌^◌, ◌<◌, ◌≤◌, max, min, Bool, true, false, cond, not, ◌==◌, ◌&&◌, ◌||◌, nat_lt, nat_le, List, [], ◌∷◌, ◌++◌, length, drop, take, reverse, slice_index, Option, Some, None, is_some, refl, sym, ◌∙◌, ap, subst, inl, inr, lit≤, lit<, arith, lt-ltb, le-ltb, ltb-true, ltb-false, eq-eqb, eqb-true, ne_eqb, bit_and, bit_or, bit_xor}
+use Rattle.std.proofs.lemmas.Bool.{and_parts, cases_eq, cases_lt, eqb-false, leb-true, leb-false}
+use Rattle.vm_field.specs.Field.{prime, felt_add, felt_sub, felt_mul, felt_neg, felt_inv, felt_pow}
+use Rattle.vm_field.specs.Machine.{State, IsWellFormed}
+use Rattle.vm_field.proofs.Elements.{elements-index}
 use Rattle.vm_ops.specs.declared.cause.Cause.{Cause}
 use Rattle.vm_ops.specs.declared.cause.Cause.TheVariants as causes
 use Rattle.vm_ops.specs.Step.{left_cells}
-use Rattle.vm_ops.specs.Values.{bit_of, computed, is_u32, or_else, trap_of, unless}
+use Rattle.vm_ops.specs.Values.{bit_of, computed, is_bit, is_u32, or_else, trap_of, unless}
 use Rattle.masm_instr.specs.declared.name.Name.TheVariants as names
-use Rattle.masm_instr.specs.Effects.{instr_effect, top}
-use Rattle.masm_instr.specs.Expansion.{expansion, front, plain}
+use Rattle.masm_instr.specs.Effects.{are_bits, are_u32, cells, instr_effect, listed, top, same_cells, low, high_low, difference, not_u32}
+use Rattle.masm_instr.specs.Expansion.{expansion, front, plain, lit}
 use Rattle.masm_instr.specs.Table.{fixed}
 use Rattle.instr_effects.proofs.Moves.{MeetsAt, MeetsAll}
-use Rattle.instr_effects.proofs.Quiets.{acts, first-is}
+use Rattle.instr_effects.proofs.Quiets.{acts, first-is, given, pushed}
 use Rattle.instr_effects.proofs.Tables.{IsAllowed, by_none, by_maybe, by_one}
-use Rattle.instr_effects.proofs.Windows.{last, trap, fits}
-use Rattle.std.proofs.lemmas.Bool.{agree_below_at}
+use Rattle.instr_effects.proofs.Windows.{last, trap, fits, window}
+use Rattle.std.proofs.lemmas.Bool.{agree_below, agree_below_at}
 use Rattle.masm_instr.specs.Effects.{no_shift, turned_left, turned_right}
-use Rattle.masm_instr.specs.Expansion.{pow2}
+use Rattle.masm_instr.specs.Expansion.{pow2, pow2_step}
 use Rattle.instr_effects.proofs.Quiets.{given-push}
 use Rattle.instr_effects.proofs.Tables.{Each, of_each}
-use Rattle.instr_effects.proofs.Tests.{both-of, free-of, one-trap}
+use Rattle.instr_effects.proofs.Tests.{both-of, free-of, one-trap, passes}
 
 -- what a step makes of the power so far: a factor, less 1, where the operand that is left is odd
 abbrev raised : ℕ → ℕ → ℕ → ℕ
@@ -137,205 +138,79 @@ power-there : (b a : ℕ) → no_shift b a ≡ false → power_of b ≡ 2 ^ b
 power-there b a free = let within = (shiftable b a free).amount in power-is b (omega arith)
 
 turns-left-table : Each (λ b. (a : ℕ) → a < 2 ^ 32 → felt_add (a * 2 ^ b / 2 ^ 32) (a * 2 ^ b % 2 ^ 32) ≡ turned_left a b) 32
-turns-left-table = (
-  (
-    (
-      (
-        (
-          (
-            (
-              (
-                (
-                  (
-                    (
-                      (
-                        (
-                          (
-                            (
-                              (
-                                (
-                                  (
-                                    (
-                                      (
-                                        (
-                                          (
-                                            (
-                                              (
-                                                (
-                                                  (
-                                                    (
-                                                      (
-                                                        (
-                                                          (
-                                                            (
-                                                              (
-                                                                tt,
-                                                                λ a h. omega arith,
-                                                              ),
-                                                              λ a h. omega arith,
-                                                            ),
-                                                            λ a h. omega arith,
-                                                          ),
-                                                          λ a h. omega arith,
-                                                        ),
-                                                        λ a h. omega arith,
-                                                      ),
-                                                      λ a h. omega arith,
-                                                    ),
-                                                    λ a h. omega arith,
-                                                  ),
-                                                  λ a h. omega arith,
-                                                ),
-                                                λ a h. omega arith,
-                                              ),
-                                              λ a h. omega arith,
-                                            ),
-                                            λ a h. omega arith,
-                                          ),
-                                          λ a h. omega arith,
-                                        ),
-                                        λ a h. omega arith,
-                                      ),
-                                      λ a h. omega arith,
-                                    ),
-                                    λ a h. omega arith,
-                                  ),
-                                  λ a h. omega arith,
-                                ),
-                                λ a h. omega arith,
-                              ),
-                              λ a h. omega arith,
-                            ),
-                            λ a h. omega arith,
-                          ),
-                          λ a h. omega arith,
-                        ),
-                        λ a h. omega arith,
-                      ),
-                      λ a h. omega arith,
-                    ),
-                    λ a h. omega arith,
-                  ),
-                  λ a h. omega arith,
-                ),
-                λ a h. omega arith,
-              ),
-              λ a h. omega arith,
-            ),
-            λ a h. omega arith,
-          ),
-          λ a h. omega arith,
-        ),
-        λ a h. omega arith,
-      ),
-      λ a h. omega arith,
-    ),
-    λ a h. omega arith,
-  ),
-  λ a h. omega arith,
-)
+turns-left-table =
+    ((((((((((((((((((((((((((((((((tt,
+    λ a h. omega arith),
+    λ a h. omega arith),
+    λ a h. omega arith),
+    λ a h. omega arith),
+    λ a h. omega arith),
+    λ a h. omega arith),
+    λ a h. omega arith),
+    λ a h. omega arith),
+    λ a h. omega arith),
+    λ a h. omega arith),
+    λ a h. omega arith),
+    λ a h. omega arith),
+    λ a h. omega arith),
+    λ a h. omega arith),
+    λ a h. omega arith),
+    λ a h. omega arith),
+    λ a h. omega arith),
+    λ a h. omega arith),
+    λ a h. omega arith),
+    λ a h. omega arith),
+    λ a h. omega arith),
+    λ a h. omega arith),
+    λ a h. omega arith),
+    λ a h. omega arith),
+    λ a h. omega arith),
+    λ a h. omega arith),
+    λ a h. omega arith),
+    λ a h. omega arith),
+    λ a h. omega arith),
+    λ a h. omega arith),
+    λ a h. omega arith),
+    λ a h. omega arith)
 
 turns-left : (b a : ℕ) → b < 32 → a < 2 ^ 32 → felt_add (a * 2 ^ b / 2 ^ 32) (a * 2 ^ b % 2 ^ 32) ≡ turned_left a b
 turns-left b a h k = of_each (λ b. (a : ℕ) → a < 2 ^ 32 → felt_add (a * 2 ^ b / 2 ^ 32) (a * 2 ^ b % 2 ^ 32) ≡ turned_left a b) 32 b turns-left-table h a k
 
 turns-right-table : Each (λ b. (a : ℕ) → a < 2 ^ 32 → felt_add (a * 2 ^ ((32 - b) % 32) / 2 ^ 32) (a * 2 ^ ((32 - b) % 32) % 2 ^ 32) ≡ turned_right a b) 32
-turns-right-table = (
-  (
-    (
-      (
-        (
-          (
-            (
-              (
-                (
-                  (
-                    (
-                      (
-                        (
-                          (
-                            (
-                              (
-                                (
-                                  (
-                                    (
-                                      (
-                                        (
-                                          (
-                                            (
-                                              (
-                                                (
-                                                  (
-                                                    (
-                                                      (
-                                                        (
-                                                          (
-                                                            (
-                                                              (
-                                                                tt,
-                                                                λ a h. omega arith,
-                                                              ),
-                                                              λ a h. omega arith,
-                                                            ),
-                                                            λ a h. omega arith,
-                                                          ),
-                                                          λ a h. omega arith,
-                                                        ),
-                                                        λ a h. omega arith,
-                                                      ),
-                                                      λ a h. omega arith,
-                                                    ),
-                                                    λ a h. omega arith,
-                                                  ),
-                                                  λ a h. omega arith,
-                                                ),
-                                                λ a h. omega arith,
-                                              ),
-                                              λ a h. omega arith,
-                                            ),
-                                            λ a h. omega arith,
-                                          ),
-                                          λ a h. omega arith,
-                                        ),
-                                        λ a h. omega arith,
-                                      ),
-                                      λ a h. omega arith,
-                                    ),
-                                    λ a h. omega arith,
-                                  ),
-                                  λ a h. omega arith,
-                                ),
-                                λ a h. omega arith,
-                              ),
-                              λ a h. omega arith,
-                            ),
-                            λ a h. omega arith,
-                          ),
-                          λ a h. omega arith,
-                        ),
-                        λ a h. omega arith,
-                      ),
-                      λ a h. omega arith,
-                    ),
-                    λ a h. omega arith,
-                  ),
-                  λ a h. omega arith,
-                ),
-                λ a h. omega arith,
-              ),
-              λ a h. omega arith,
-            ),
-            λ a h. omega arith,
-          ),
-          λ a h. omega arith,
-        ),
-        λ a h. omega arith,
-      ),
-      λ a h. omega arith,
-    ),
-    λ a h. omega arith,
-  ),
-  λ a h. omega arith,
-)
+turns-right-table =
+    ((((((((((((((((((((((((((((((((tt,
+    λ a h. omega arith),
+    λ a h. omega arith),
+    λ a h. omega arith),
+    λ a h. omega arith),
+    λ a h. omega arith),
+    λ a h. omega arith),
+    λ a h. omega arith),
+    λ a h. omega arith),
+    λ a h. omega arith),
+    λ a h. omega arith),
+    λ a h. omega arith),
+    λ a h. omega arith),
+    λ a h. omega arith),
+    λ a h. omega arith),
+    λ a h. omega arith),
+    λ a h. omega arith),
+    λ a h. omega arith),
+    λ a h. omega arith),
+    λ a h. omega arith),
+    λ a h. omega arith),
+    λ a h. omega arith),
+    λ a h. omega arith),
+    λ a h. omega arith),
+    λ a h. omega arith),
+    λ a h. omega arith),
+    λ a h. omega arith),
+    λ a h. omega arith),
+    λ a h. omega arith),
+    λ a h. omega arith),
+    λ a h. omega arith),
+    λ a h. omega arith),
+    λ a h. omega arith)
 
 turns-right : (b a : ℕ) → b < 32 → a < 2 ^ 32 → felt_add (a * 2 ^ ((32 - b) % 32) / 2 ^ 32) (a * 2 ^ ((32 - b) % 32) % 2 ^ 32) ≡ turned_right a b
 turns-right b a h k = of_each (λ b. (a : ℕ) → a < 2 ^ 32 → felt_add (a * 2 ^ ((32 - b) % 32) / 2 ^ 32) (a * 2 ^ ((32 - b) % 32) % 2 ^ 32) ≡ turned_right a b) 32 b turns-right-table h a k
@@ -369,64 +244,57 @@ unfolding pow2 expansion front instr_effect last trap fits left_cells computed t
 u32checked_shl-alone constants locals s =
     acts _ _ _ _ _ _ _ (lit≤ tt) refl (shift-trap (top s 0) (top s 1)) refl refl refl (λ free. first-is _ _ _ (ap (λ power. top s 1 * power % 2 ^ 32) (power-there (top s 0) (top s 1) free)))
 
-u32checked_shl-given : (constants : List ℕ) (locals : ℕ) (s : State) → (n : ℕ) → IsAllowed names.U32CheckedShl n → MeetsAt constants locals s names.U32CheckedShl (n ∷ [])
+u32checked_shl-given : (constants : List ℕ) (locals : ℕ) (s : State) → (n : ℕ) → n < 64 → MeetsAt constants locals s names.U32CheckedShl (n ∷ [])
 unfolding expansion front instr_effect last trap fits left_cells computed trap_of
-u32checked_shl-given constants locals s n ok =
-    let most = ok.most in
-    let within : n < 64 = omega arith in
+u32checked_shl-given constants locals s n within =
     given-push constants (2 ^ n) (plain (fixed names.U32CheckedShl)) s (instr_effect constants names.U32CheckedShl (n ∷ []) locals s)
     (acts _ _ _ _ _ _ _ (lit≤ tt) refl (product-trap n (top s 0) within) refl refl refl (λ free. refl))
 
 pub meets-u32checked_shl : (constants : List ℕ) (locals : ℕ) (s : State) → MeetsAll constants locals s names.U32CheckedShl
 meets-u32checked_shl constants locals s numbers form =
     by_maybe names.U32CheckedShl (MeetsAt constants locals s names.U32CheckedShl) numbers refl form (u32checked_shl-alone constants locals s)
-    (u32checked_shl-given constants locals s)
+    (λ n ok. let most = ok.most in u32checked_shl-given constants locals s n (omega arith))
 
 u32checked_shr-alone : (constants : List ℕ) (locals : ℕ) (s : State) → MeetsAt constants locals s names.U32CheckedShr []
 unfolding pow2 expansion front instr_effect last trap fits left_cells computed trap_of
 u32checked_shr-alone constants locals s =
     acts _ _ _ _ _ _ _ (lit≤ tt) refl (divide-trap (top s 0) (top s 1)) refl refl refl (λ free. first-is _ _ _ (ap (λ power. top s 1 / power) (power-there (top s 0) (top s 1) free)))
 
-u32checked_shr-given : (constants : List ℕ) (locals : ℕ) (s : State) → (n : ℕ) → IsAllowed names.U32CheckedShr n → MeetsAt constants locals s names.U32CheckedShr (n ∷ [])
+u32checked_shr-given : (constants : List ℕ) (locals : ℕ) (s : State) → (n : ℕ) → n < 64 → MeetsAt constants locals s names.U32CheckedShr (n ∷ [])
 unfolding expansion front instr_effect last trap fits left_cells computed trap_of
-u32checked_shr-given constants locals s n ok =
-    let most = ok.most in
-    let within : n < 64 = omega arith in
+u32checked_shr-given constants locals s n within =
     given-push constants (2 ^ n) (plain (fixed names.U32CheckedShr)) s (instr_effect constants names.U32CheckedShr (n ∷ []) locals s)
     (acts _ _ _ _ _ _ _ (lit≤ tt) refl (quotient-trap n (top s 0) within) refl refl refl (λ free. refl))
 
 pub meets-u32checked_shr : (constants : List ℕ) (locals : ℕ) (s : State) → MeetsAll constants locals s names.U32CheckedShr
 meets-u32checked_shr constants locals s numbers form =
     by_maybe names.U32CheckedShr (MeetsAt constants locals s names.U32CheckedShr) numbers refl form (u32checked_shr-alone constants locals s)
-    (u32checked_shr-given constants locals s)
+    (λ n ok. let most = ok.most in u32checked_shr-given constants locals s n (omega arith))
 
 u32checked_rotl-alone : (constants : List ℕ) (locals : ℕ) (s : State) → MeetsAt constants locals s names.U32CheckedRotl []
 unfolding pow2 expansion front instr_effect last trap fits left_cells computed trap_of
 u32checked_rotl-alone constants locals s =
     acts _ _ _ _ _ _ _ (lit≤ tt) refl (shift-trap (top s 0) (top s 1)) refl refl refl (λ free. first-is _ _ _ (turned-there (top s 0) (top s 1) free))
 
-u32checked_rotl-given : (constants : List ℕ) (locals : ℕ) (s : State) → (n : ℕ) → IsAllowed names.U32CheckedRotl n → MeetsAt constants locals s names.U32CheckedRotl (n ∷ [])
+u32checked_rotl-given : (constants : List ℕ) (locals : ℕ) (s : State) → (n : ℕ) → n < 64 → MeetsAt constants locals s names.U32CheckedRotl (n ∷ [])
 unfolding expansion front instr_effect last trap fits left_cells computed trap_of
-u32checked_rotl-given constants locals s n ok =
-    let most = ok.most in
-    let within : n < 64 = omega arith in
+u32checked_rotl-given constants locals s n within =
     given-push constants (2 ^ n) (plain (fixed names.U32CheckedRotl)) s (instr_effect constants names.U32CheckedRotl (n ∷ []) locals s)
     (acts _ _ _ _ _ _ _ (lit≤ tt) refl (product-trap n (top s 0) within) refl refl refl (λ free. first-is _ _ _ (turned n (top s 0) free)))
 
 pub meets-u32checked_rotl : (constants : List ℕ) (locals : ℕ) (s : State) → MeetsAll constants locals s names.U32CheckedRotl
 meets-u32checked_rotl constants locals s numbers form =
     by_maybe names.U32CheckedRotl (MeetsAt constants locals s names.U32CheckedRotl) numbers refl form (u32checked_rotl-alone constants locals s)
-    (u32checked_rotl-given constants locals s)
+    (λ n ok. let most = ok.most in u32checked_rotl-given constants locals s n (omega arith))
 
-u32checked_rotr-given : (constants : List ℕ) (locals : ℕ) (s : State) → (n : ℕ) → IsAllowed names.U32CheckedRotr n → MeetsAt constants locals s names.U32CheckedRotr (n ∷ [])
+u32checked_rotr-given : (constants : List ℕ) (locals : ℕ) (s : State) → (n : ℕ) → n < 32 → MeetsAt constants locals s names.U32CheckedRotr (n ∷ [])
 unfolding expansion front instr_effect last trap fits left_cells computed trap_of
-u32checked_rotr-given constants locals s n ok =
-    let most = ok.most in
-    let within : n < 32 = omega arith in
+u32checked_rotr-given constants locals s n within =
     given-push constants (2 ^ ((32 - n) % 32)) (plain (fixed names.U32CheckedRotr)) s
     (instr_effect constants names.U32CheckedRotr (n ∷ []) locals s)
     (acts _ _ _ _ _ _ _ (lit≤ tt) refl (back-trap n (top s 0) within) refl refl refl (λ free. first-is _ _ _ (turned-back n (top s 0) within free)))
 
 pub meets-u32checked_rotr : (constants : List ℕ) (locals : ℕ) (s : State) → MeetsAll constants locals s names.U32CheckedRotr
 meets-u32checked_rotr constants locals s numbers form =
-    by_one names.U32CheckedRotr (MeetsAt constants locals s names.U32CheckedRotr) numbers refl refl form (u32checked_rotr-given constants locals s)
+    by_one names.U32CheckedRotr (MeetsAt constants locals s names.U32CheckedRotr) numbers refl refl form
+    (λ n ok. let most = ok.most in u32checked_rotr-given constants locals s n (omega arith))

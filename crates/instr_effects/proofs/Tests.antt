@@ -1,8 +1,11 @@
 -- Tests of operands, and the traps that they decide.
-use Rattle.std.proofs.Common.{◌≡◌, ℕ, Bool, true, false, ◌&&◌, ◌||◌, not, Option, None, is_some, refl, sym, ◌∙◌, ap, arith, ◌==◌, nat_lt, nat_le, ltb-true, eq-eqb, ne_eqb, lt-ltb, le-ltb, le-leb, inl, inr}
+use Rattle.std.proofs.Common.{◌≡◌, ℕ, Bool, true, false, ◌&&◌, ◌||◌, not, Option, None, is_some, refl, sym, ◌∙◌, ap, arith, ◌==◌, nat_lt, nat_le, ltb-true, eq-eqb, ne_eqb, lt-ltb, le-ltb, le-leb, inl, inr, ◌^◌, ◌<◌}
 use Rattle.std.proofs.lemmas.Bool.{cases_eq, cases_lt, lt-leb}
+use Rattle.vm_field.specs.Field.{felt_sub}
 use Rattle.vm_ops.specs.declared.cause.Cause.{Cause}
-use Rattle.vm_ops.specs.Values.{bit_of, is_bit, or_else, unless}
+use Rattle.vm_ops.specs.declared.cause.Cause.TheVariants as causes
+use Rattle.vm_ops.specs.Values.{bit_of, is_bit, is_u32, or_else, unless}
+use Rattle.masm_instr.specs.Effects.{are_u32, not_u32}
 
 -- one test, and nothing else
 pub one-trap : (test : Bool) (cause : Cause) → is_some (or_else (unless test cause) None) ≡ not test
@@ -46,19 +49,6 @@ pub passes : (test : Bool) (cause : Cause) (later : Option Cause) → test ≡ t
 passes true cause later e = refl
 passes false cause later e = cc
 
-pub bit-is : (test : Bool) → (bit_of test == 1) ≡ test
-bit-is true = refl
-bit-is false = refl
-
-pub bit-small : (test : Bool) → is_bit (bit_of test) ≡ true
-bit-small true = refl
-bit-small false = refl
-
--- an assertion that a test holds
-pub assert-bit : (test : Bool) (cause : Cause) (later : Option Cause) → or_else (unless (bit_of test == 1) cause) later ≡ or_else (unless test cause) later
-assert-bit true cause later = refl
-assert-bit false cause later = refl
-
 -- two bits
 pub bit-pairs : (P : ℕ → ℕ → Type 0) → P 0 0 → P 0 1 → P 1 0 → P 1 1 → (b a : ℕ) → is_bit b && is_bit a ≡ true → P b a
 bit-pairs P p00 p01 p10 p11 b a e =
@@ -89,3 +79,23 @@ at-most a b =
       | inl less ↦ ap not (lt-ltb b a less) ∙ sym (lt-leb a b less)
       | inr most ↦ ap not (le-ltb b a most) ∙ sym (le-leb a b most)
     ]
+
+-- the other truth value
+pub not-is : (test : Bool) → felt_sub 1 (bit_of test) ≡ bit_of (not test)
+not-is true = refl
+not-is false = refl
+
+-- a truth value is a bit
+pub bit-free : (test : Bool) → is_some (or_else (unless (is_bit (bit_of test)) causes.NotBinary) None) ≡ false
+bit-free true = refl
+bit-free false = refl
+
+-- operands of 32 bits
+pub record Small (b a : ℕ) : Type 0 where
+  pub first : b < 2 ^ 32
+  pub second : a < 2 ^ 32
+
+pub small : (b a : ℕ) → not_u32 b a ≡ false → Small b a
+small b a free =
+    let parts = both-of (is_u32 b) (is_u32 a) (free-of (are_u32 b a) free) in
+    record { first = ltb-true _ _ parts.0; second = ltb-true _ _ parts.1 }

@@ -1,19 +1,22 @@
 -- The instructions on numbers of 32 bits, but for shifts and rotations: tests and arithmetic.
-use Rattle.std.proofs.Common.{◌≡◌, ℕ, ◌+◌, ◌-◌, ◌*◌, ◌/◌, ◌%◌, ◌^◌, ◌<◌, Bool, true, false, not, ◌==◌, ◌||◌, nat_lt, List, [], ◌∷◌, None, is_some, refl, sym, ◌∙◌, ap, inl, inr, lit≤, arith, lt-ltb, le-ltb, ltb-true, ltb-false, eq-eqb, ne_eqb}
-use Rattle.std.proofs.lemmas.Bool.{and_parts, cases_lt}
-use Rattle.vm_field.specs.Machine.{State}
+use Rattle.std.proofs.Common.{◌≡◌, ◌≢◌, ℕ, zero, suc, ◌+◌, ◌-◌, ◌*◌, ◌/◌, ◌%◌, ◌^◌, ◌<◌, ◌≤◌, max, min, Bool, true, false, cond, not, ◌==◌, ◌&&◌, ◌||◌, nat_lt, nat_le, List, [], ◌∷◌, ◌++◌, length, drop, take, reverse, slice_index, Option, Some, None, is_some, refl, sym, ◌∙◌, ap, subst, inl, inr, lit≤, lit<, arith, lt-ltb, le-ltb, ltb-true, ltb-false, eq-eqb, eqb-true, ne_eqb, bit_and, bit_or, bit_xor}
+use Rattle.std.proofs.lemmas.Bool.{and_parts, cases_eq, cases_lt, eqb-false, leb-true, leb-false}
+use Rattle.vm_field.specs.Field.{prime, felt_add, felt_sub, felt_mul, felt_neg, felt_inv, felt_pow}
+use Rattle.vm_field.specs.Machine.{State, IsWellFormed}
+use Rattle.vm_field.proofs.Elements.{elements-index}
+use Rattle.vm_ops.specs.declared.cause.Cause.{Cause}
 use Rattle.vm_ops.specs.declared.cause.Cause.TheVariants as causes
 use Rattle.vm_ops.specs.Step.{left_cells}
-use Rattle.vm_ops.specs.Values.{bit_of, computed, is_u32, or_else, trap_of, unless}
+use Rattle.vm_ops.specs.Values.{bit_of, computed, is_bit, is_u32, or_else, trap_of, unless}
 use Rattle.masm_instr.specs.declared.name.Name.TheVariants as names
-use Rattle.masm_instr.specs.Effects.{are_u32, are_three_u32, instr_effect, top, difference, not_u32}
-use Rattle.masm_instr.specs.Expansion.{expansion, front, plain}
+use Rattle.masm_instr.specs.Effects.{are_bits, are_u32, are_three_u32, cells, instr_effect, listed, top, same_cells, low, high_low, difference, not_u32}
+use Rattle.masm_instr.specs.Expansion.{expansion, front, plain, lit}
 use Rattle.masm_instr.specs.Table.{fixed}
 use Rattle.instr_effects.proofs.Moves.{MeetsAt, MeetsAll}
-use Rattle.instr_effects.proofs.Quiets.{acts, first-is, given}
-use Rattle.instr_effects.proofs.Tables.{IsAllowed, by_none, by_maybe}
-use Rattle.instr_effects.proofs.Windows.{last, trap, fits}
-use Rattle.instr_effects.proofs.Tests.{none-of, one-trap, two-traps}
+use Rattle.instr_effects.proofs.Quiets.{acts, first-is, given, pushed}
+use Rattle.instr_effects.proofs.Tables.{IsAllowed, by_none, by_maybe, by_one}
+use Rattle.instr_effects.proofs.Windows.{last, trap, fits, window}
+use Rattle.instr_effects.proofs.Tests.{free-of, none-of, one-trap, small, two-traps}
 
 -- the high part is 0 exactly where the number has 32 bits
 high-none : (n : ℕ) → (n / 2 ^ 32 == 0) ≡ is_u32 n
@@ -26,7 +29,7 @@ high-none n =
 -- a result of more than 32 bits traps
 carry-trap : (test : Bool) (n : ℕ)
     → is_some (or_else (unless test causes.NotU32) (or_else (unless (bit_of (n / 2 ^ 32 == 0) == 1) causes.AssertFailed) None))
-    ≡ not test || not (is_u32 n)
+        ≡ not test || not (is_u32 n)
 carry-trap test n = rw high-none (go test (is_u32 n))
   where
     go : (test small : Bool)
@@ -35,30 +38,17 @@ carry-trap test n = rw high-none (go test (is_u32 n))
     go true false = refl
     go false small = refl
 
-not-back : (test : Bool) → not test ≡ false → test ≡ true
-not-back true e = refl
-not-back false e = cc
-
 -- else the low part is the result
 carry-is : (test : Bool) (n : ℕ) → not test || not (is_u32 n) ≡ false → n % 2 ^ 32 ≡ n
 carry-is test n free =
-    let small = ltb-true n (2 ^ 32) (not-back (is_u32 n) (none-of (not test) (not (is_u32 n)) free).1) in omega arith
+    let small = ltb-true n (2 ^ 32) (free-of (is_u32 n) (none-of (not test) (not (is_u32 n)) free).1) in omega arith
 
 borrow-trap : (test less : Bool)
     → is_some (or_else (unless test causes.NotU32) (or_else (unless (bit_of (bit_of less == 0) == 1) causes.AssertFailed) None))
-    ≡ not test || less
+        ≡ not test || less
 borrow-trap true true = refl
 borrow-trap true false = refl
 borrow-trap false less = refl
-
-record Small (b a : ℕ) : Type 0 where
-  first : b < 2 ^ 32
-  second : a < 2 ^ 32
-
-small : (b a : ℕ) → not_u32 b a ≡ false → Small b a
-small b a free =
-    let parts = and_parts (is_u32 b) (is_u32 a) (not-back (are_u32 b a) free) in
-    record { first = ltb-true _ _ parts.0; second = ltb-true _ _ parts.1 }
 
 borrow-is : (b a : ℕ) → not_u32 b a || nat_lt a b ≡ false → difference a b ≡ a - b
 borrow-is b a free =

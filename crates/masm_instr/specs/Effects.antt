@@ -1,6 +1,6 @@
 -- What each instruction does to a state, apart from the operations that it stands for (docs/ASSEMBLY.md, the tables of the
 -- instructions). b is the top cell and a the one below in "b a".
-use Rattle.std.specs.Prelude.{ℕ, zero, suc, ◌+◌, ◌-◌, ◌*◌, ◌/◌, ◌%◌, ◌^◌, Bool, true, false, ◌==◌, ◌&&◌, ◌||◌, not, max, min, nat_lt, nat_le, if◌then◌else◌, List, [], ◌∷◌, ◌++◌, length, reverse, slice_index, slice_index_or, Option, Some, None, bit_and, bit_or, bit_xor}
+use Rattle.std.specs.Prelude.{ℕ, zero, suc, ◌+◌, ◌-◌, ◌*◌, ◌/◌, ◌%◌, ◌^◌, Bool, true, false, ◌==◌, ◌&&◌, ◌||◌, not, max, min, nat_lt, nat_le, if◌then◌else◌, List, [], ◌∷◌, ◌++◌, length, reverse, slice_index, Option, Some, None, bit_and, bit_or, bit_xor}
 use Rattle.vm_field.specs.Field.{prime, felt_add, felt_sub, felt_mul, felt_neg, felt_inv, felt_pow}
 use Rattle.vm_field.specs.Machine.{State, word_at}
 use Rattle.vm_field.specs.Permutation.{permuted}
@@ -8,6 +8,7 @@ use Rattle.vm_field.specs.Sponge.{hashed}
 use Rattle.vm_ops.specs.Values.{bit_of, is_bit, is_u32}
 use Rattle.masm_instr.specs.declared.name.Name.{Name}
 use Rattle.masm_instr.specs.declared.name.Name.TheVariants as names
+use Rattle.masm_instr.specs.Instructions.{first, first_or}
 
 -- Where it doesn't trap, it takes cells from the top and leaves others in their place, writes a word of this context's
 -- memory or none, and takes elements of the tape. No instruction changes the frame pointer.
@@ -31,10 +32,6 @@ top s k = slice_index s.core.stack k
 -- n cells of the stack from the k-th on
 abbrev pub cells : State → ℕ → ℕ → List ℕ
 cells s n k = listed n k s.core.stack
-
--- the first number, or the default where none is given
-abbrev pub number_or : ℕ → List ℕ → ℕ
-number_or default numbers = slice_index_or numbers 0 default
 
 -- an effect on the stack alone
 abbrev pub leaving : Bool → ℕ → List ℕ → Effect
@@ -134,7 +131,7 @@ address_in numbers s = slice_index (numbers ++ s.core.stack) 0
 
 -- the address of local i of so many: so much below the frame pointer
 abbrev pub local_address : ℕ → List ℕ → State → ℕ
-local_address locals numbers s = felt_sub s.core.fmp (locals - slice_index numbers 0)
+local_address locals numbers s = felt_sub s.core.fmp (locals - first numbers)
 
 -- so many elements of the tape replace so many cells, the last on top
 abbrev pub taking_advice : ℕ → ℕ → State → Effect
@@ -149,7 +146,7 @@ instr_effect constants names.Mul ns locals s = of_two never (λ b a. felt_mul b 
 instr_effect constants names.Div ns locals s = of_two (λ b a. b == 0) (λ b a. felt_mul (felt_inv b) a ∷ []) ns s
 instr_effect constants names.Neg ns locals s = of_one (λ a. false) (λ a. felt_neg a ∷ []) s
 instr_effect constants names.Inv ns locals s = of_one (λ a. a == 0) (λ a. felt_inv a ∷ []) s
-instr_effect constants names.Exp ns locals s = of_one (λ a. false) (λ a. felt_pow a (slice_index ns 0) ∷ []) s
+instr_effect constants names.Exp ns locals s = of_one (λ a. false) (λ a. felt_pow a (first ns) ∷ []) s
 instr_effect constants names.Pow2 ns locals s = of_one (λ a. not (nat_lt a 64)) (λ a. 2 ^ a ∷ []) s
 instr_effect constants names.Not ns locals s = of_one (λ a. not (is_bit a)) (λ a. felt_sub 1 a ∷ []) s
 instr_effect constants names.And ns locals s = of_two not_bits (λ b a. felt_mul b a ∷ []) [] s
@@ -213,22 +210,22 @@ instr_effect constants names.U32CheckedMin ns locals s = of_two not_u32 (λ b a.
 instr_effect constants names.Drop ns locals s = leaving false 1 []
 instr_effect constants names.Dropw ns locals s = leaving false 4 []
 instr_effect constants names.Padw ns locals s = leaving false 0 (0 ∷ 0 ∷ 0 ∷ 0 ∷ [])
-instr_effect constants names.Dup ns locals s = leaving false 0 (top s (number_or 0 ns) ∷ [])
-instr_effect constants names.Dupw ns locals s = leaving false 0 (cells s 4 (4 * number_or 0 ns))
+instr_effect constants names.Dup ns locals s = leaving false 0 (top s (first_or 0 ns) ∷ [])
+instr_effect constants names.Dupw ns locals s = leaving false 0 (cells s 4 (4 * first_or 0 ns))
 instr_effect constants names.Movup ns locals s =
-    leaving false (slice_index ns 0 + 1) (top s (slice_index ns 0) ∷ cells s (slice_index ns 0) 0)
+    leaving false (first ns + 1) (top s (first ns) ∷ cells s (first ns) 0)
 instr_effect constants names.Movdn ns locals s =
-    leaving false (slice_index ns 0 + 1) (cells s (slice_index ns 0) 1 ++ top s 0 ∷ [])
+    leaving false (first ns + 1) (cells s (first ns) 1 ++ top s 0 ∷ [])
 instr_effect constants names.Swap ns locals s =
-    leaving false (number_or 1 ns + 1) (top s (number_or 1 ns) ∷ (cells s (number_or 1 ns - 1) 1 ++ top s 0 ∷ []))
+    leaving false (first_or 1 ns + 1) (top s (first_or 1 ns) ∷ (cells s (first_or 1 ns - 1) 1 ++ top s 0 ∷ []))
 instr_effect constants names.Swapw ns locals s =
-    leaving false (4 * number_or 1 ns + 4)
-    (cells s 4 (4 * number_or 1 ns) ++ cells s (4 * number_or 1 ns - 4) 4 ++ cells s 4 0)
+    leaving false (4 * first_or 1 ns + 4)
+    (cells s 4 (4 * first_or 1 ns) ++ cells s (4 * first_or 1 ns - 4) 4 ++ cells s 4 0)
 instr_effect constants names.Swapdw ns locals s = leaving false 16 (cells s 8 8 ++ cells s 8 0)
 instr_effect constants names.Movupw ns locals s =
-    leaving false (4 * slice_index ns 0 + 4) (cells s 4 (4 * slice_index ns 0) ++ cells s (4 * slice_index ns 0) 0)
+    leaving false (4 * first ns + 4) (cells s 4 (4 * first ns) ++ cells s (4 * first ns) 0)
 instr_effect constants names.Movdnw ns locals s =
-    leaving false (4 * slice_index ns 0 + 4) (cells s (4 * slice_index ns 0) 4 ++ cells s 4 0)
+    leaving false (4 * first ns + 4) (cells s (4 * first ns) 4 ++ cells s 4 0)
 instr_effect constants names.Cswap ns locals s =
     leaving (not (is_bit (top s 0))) 3 (if top s 0 == 0 then cells s 2 1 else cells s 1 2 ++ cells s 1 1)
 instr_effect constants names.Cswapw ns locals s =
@@ -241,7 +238,7 @@ instr_effect constants names.Push ns locals s = leaving false 0 (reverse ns)
 instr_effect constants names.Sdepth ns locals s = leaving false 0 (length s.core.stack % prime ∷ [])
 instr_effect constants names.Caller ns locals s = leaving (not s.core.in_syscall) 4 (laid s.core.digest)
 instr_effect constants names.Clk ns locals s = leaving false 0 (s.core.clock % prime ∷ [])
-instr_effect constants names.AdvPush ns locals s = taking_advice (slice_index ns 0) 0 s
+instr_effect constants names.AdvPush ns locals s = taking_advice (first ns) 0 s
 instr_effect constants names.AdvLoadw ns locals s = taking_advice 4 4 s
 instr_effect constants names.MemLoad ns locals s = loading (1 - length ns) (address_in ns s) s
 instr_effect constants names.MemLoadw ns locals s = loading_word (5 - length ns) (address_in ns s) s
