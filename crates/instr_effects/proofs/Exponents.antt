@@ -1,20 +1,16 @@
 -- The power of an element by the digits of the exponent, the highest first.
-use Rattle.std.proofs.Common.{◌≡◌, ◌≢◌, ℕ, zero, suc, ◌+◌, ◌-◌, ◌*◌, ◌/◌, ◌%◌, ◌^◌, ◌<◌, ◌≤◌, max, min, Bool, true, false, cond, not, ◌==◌, ◌&&◌, ◌||◌, nat_lt, nat_le, List, [], ◌∷◌, ◌++◌, length, drop, take, reverse, slice_index, Option, Some, None, is_some, refl, sym, ◌∙◌, ap, subst, inl, inr, lit≤, lit<, arith, lt-ltb, le-ltb, ltb-true, ltb-false, eq-eqb, eqb-true, bit_and, bit_or, bit_xor}
-use Rattle.std.proofs.lemmas.Bool.{and_parts, cases_eq, cases_lt, eqb-false, leb-true, leb-false}
-use Rattle.vm_field.specs.Field.{prime, felt_add, felt_sub, felt_mul, felt_neg, felt_inv, felt_pow}
-use Rattle.vm_field.specs.Machine.{State, IsWellFormed}
-use Rattle.vm_field.proofs.Elements.{elements-index}
-use Rattle.vm_ops.specs.declared.cause.Cause.{Cause}
-use Rattle.vm_ops.specs.declared.cause.Cause.TheVariants as causes
+use Rattle.std.proofs.Common.{◌≡◌, ℕ, zero, suc, ◌+◌, ◌/◌, ◌%◌, ◌^◌, Bool, true, false, cond, ◌==◌, List, [], ◌∷◌, ◌++◌, refl, sym, ◌∙◌, ap, lit≤, arith, eqb-true}
+use Rattle.std.proofs.lemmas.Bool.{eqb-false}
+use Rattle.vm_field.specs.Field.{prime, felt_mul, felt_pow}
+use Rattle.vm_field.specs.Machine.{State}
 use Rattle.vm_ops.specs.Step.{left_cells}
-use Rattle.vm_ops.specs.Values.{bit_of, computed, is_bit, is_u32, or_else, trap_of, unless}
+use Rattle.vm_ops.specs.Values.{computed, trap_of}
 use Rattle.masm_instr.specs.declared.name.Name.TheVariants as names
-use Rattle.masm_instr.specs.Effects.{are_bits, are_u32, cells, instr_effect, listed, top, same_cells, low, high_low, difference, not_u32}
-use Rattle.masm_instr.specs.Expansion.{expansion, front, plain, lit}
-use Rattle.masm_instr.specs.Table.{fixed}
+use Rattle.masm_instr.specs.Effects.{instr_effect, listed, top}
+use Rattle.masm_instr.specs.Expansion.{expansion, front, plain}
 use Rattle.instr_effects.proofs.Moves.{MeetsAt, MeetsAll}
-use Rattle.instr_effects.proofs.Quiets.{acts, first-is, given, pushed}
-use Rattle.instr_effects.proofs.Tables.{IsAllowed, by_none, by_maybe, by_one}
+use Rattle.instr_effects.proofs.Quiets.{acts, given, pushed}
+use Rattle.instr_effects.proofs.Tables.{IsAllowed, by_one}
 use Rattle.instr_effects.proofs.Windows.{last, trap, fits, window}
 use Rattle.std.proofs.Common.{mul_comm, div-one, add-one}
 use Rattle.std.proofs.lemmas.List.{map-append}
@@ -50,8 +46,8 @@ digit_value leading one a v = cond leading v (cond one (felt_mul a (felt_mul v v
 
 digit-does : (constants : List ℕ) (s : State) (leading one : Bool) (turn v : ℕ)
     → Becomes constants s
-        (plain (cond leading [] (cond one (ops.Dup0 ∷ ops.Mul ∷ ops.Dup1 ∷ ops.Mul ∷ []) (ops.Dup0 ∷ ops.Mul ∷ []))))
-        turn v (digit_value leading one (top s 0) v)
+    (plain (cond leading [] (cond one (ops.Dup0 ∷ ops.Mul ∷ ops.Dup1 ∷ ops.Mul ∷ []) (ops.Dup0 ∷ ops.Mul ∷ []))))
+    turn v (digit_value leading one (top s 0) v)
 unfolding last trap fits left_cells computed trap_of
 digit-does constants s true one turn v = record { turns = turn; quiet = record { last = refl; trap = refl; fits = refl } }
 digit-does constants s false true turn v =

@@ -1,6 +1,6 @@
 -- Each instruction has its effect.
 use Rattle.std.proofs.Common.{◌≡◌, ℕ, ◌<◌, true, List, length, Ok}
-use Rattle.vm_field.specs.Machine.{Core, State, IsWellFormed, IsWellFormedCore}
+use Rattle.vm_field.specs.Machine.{State, IsWellFormed}
 use Rattle.instr_effects.proofs.Sized.{sized-of}
 use Rattle.masm_instr.specs.declared.name.Name.{Name}
 use Rattle.masm_instr.specs.declared.name.Name.TheVariants as names
@@ -24,7 +24,6 @@ use Rattle.instr_effects.proofs.Words32.{meets-u32test, meets-u32assert, meets-u
 use Rattle.instr_effects.proofs.Bits32.{meets-u32checked_and, meets-u32checked_xor, meets-u32checked_or, meets-u32checked_not, meets-u32checked_lt, meets-u32checked_gte, meets-u32checked_gt, meets-u32checked_lte, meets-u32checked_max, meets-u32checked_min}
 use Rattle.instr_effects.proofs.Memory.{meets-mem_load, meets-mem_loadw, meets-mem_store, meets-mem_storew, meets-locaddr, meets-loc_load, meets-loc_loadw, meets-loc_store, meets-loc_storew}
 use Rattle.instr_effects.proofs.Readings.{meets-sdepth, meets-caller, meets-clk, meets-adv_push, meets-adv_loadw, meets-hperm, meets-hmerge}
-
 
 meets : (constants : List ℕ) (locals : ℕ) (s : State) → length constants ≡ 168 → IsWellFormed s → (name : Name) → MeetsAll constants locals s name
 meets constants locals s count well names.Add = meets-add constants locals s

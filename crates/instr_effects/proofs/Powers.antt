@@ -1,27 +1,26 @@
 -- Powers of two, and the shifts and rotations that are products with them.
-use Rattle.std.proofs.Common.{◌≡◌, ◌≢◌, ℕ, zero, suc, ◌+◌, ◌-◌, ◌*◌, ◌/◌, ◌%◌, ◌^◌, ◌<◌, ◌≤◌, max, min, Bool, true, false, cond, not, ◌==◌, ◌&&◌, ◌||◌, nat_lt, nat_le, List, [], ◌∷◌, ◌++◌, length, drop, take, reverse, slice_index, Option, Some, None, is_some, refl, sym, ◌∙◌, ap, subst, inl, inr, lit≤, lit<, arith, lt-ltb, le-ltb, ltb-true, ltb-false, eq-eqb, eqb-true, ne_eqb, bit_and, bit_or, bit_xor}
-use Rattle.std.proofs.lemmas.Bool.{and_parts, cases_eq, cases_lt, eqb-false, leb-true, leb-false}
-use Rattle.vm_field.specs.Field.{prime, felt_add, felt_sub, felt_mul, felt_neg, felt_inv, felt_pow}
-use Rattle.vm_field.specs.Machine.{State, IsWellFormed}
-use Rattle.vm_field.proofs.Elements.{elements-index}
+use Rattle.std.proofs.Common.{◌≡◌, ℕ, ◌-◌, ◌*◌, ◌/◌, ◌%◌, ◌^◌, ◌<◌, ◌≤◌, Bool, true, false, not, ◌==◌, ◌&&◌, nat_lt, List, [], ◌∷◌, Option, None, is_some, refl, sym, ◌∙◌, ap, inl, inr, lit≤, arith, lt-ltb, le-ltb, ltb-true, eqb-true, ne_eqb}
+use Rattle.std.proofs.lemmas.Bool.{cases_lt}
+use Rattle.vm_field.specs.Field.{felt_add, felt_mul}
+use Rattle.vm_field.specs.Machine.{State}
 use Rattle.vm_ops.specs.declared.cause.Cause.{Cause}
 use Rattle.vm_ops.specs.declared.cause.Cause.TheVariants as causes
 use Rattle.vm_ops.specs.Step.{left_cells}
-use Rattle.vm_ops.specs.Values.{bit_of, computed, is_bit, is_u32, or_else, trap_of, unless}
+use Rattle.vm_ops.specs.Values.{bit_of, computed, is_u32, or_else, trap_of, unless}
 use Rattle.masm_instr.specs.declared.name.Name.TheVariants as names
-use Rattle.masm_instr.specs.Effects.{are_bits, are_u32, cells, instr_effect, listed, top, same_cells, low, high_low, difference, not_u32}
-use Rattle.masm_instr.specs.Expansion.{expansion, front, plain, lit}
+use Rattle.masm_instr.specs.Effects.{instr_effect, top}
+use Rattle.masm_instr.specs.Expansion.{expansion, front, plain}
 use Rattle.masm_instr.specs.Table.{fixed}
 use Rattle.instr_effects.proofs.Moves.{MeetsAt, MeetsAll}
-use Rattle.instr_effects.proofs.Quiets.{acts, first-is, given, pushed}
-use Rattle.instr_effects.proofs.Tables.{IsAllowed, by_none, by_maybe, by_one}
-use Rattle.instr_effects.proofs.Windows.{last, trap, fits, window}
-use Rattle.std.proofs.lemmas.Bool.{agree_below, agree_below_at}
+use Rattle.instr_effects.proofs.Quiets.{acts, first-is}
+use Rattle.instr_effects.proofs.Tables.{by_none, by_maybe, by_one}
+use Rattle.instr_effects.proofs.Windows.{last, trap, fits}
+use Rattle.std.proofs.lemmas.Bool.{agree_below_at}
 use Rattle.masm_instr.specs.Effects.{no_shift, turned_left, turned_right}
-use Rattle.masm_instr.specs.Expansion.{pow2, pow2_step}
+use Rattle.masm_instr.specs.Expansion.{pow2}
 use Rattle.instr_effects.proofs.Quiets.{given-push}
 use Rattle.instr_effects.proofs.Tables.{Each, of_each}
-use Rattle.instr_effects.proofs.Tests.{both-of, free-of, one-trap, passes}
+use Rattle.instr_effects.proofs.Tests.{both-of, free-of, one-trap}
 
 -- what a step makes of the power so far: a factor, less 1, where the operand that is left is odd
 abbrev raised : ℕ → ℕ → ℕ → ℕ
@@ -138,79 +137,205 @@ power-there : (b a : ℕ) → no_shift b a ≡ false → power_of b ≡ 2 ^ b
 power-there b a free = let within = (shiftable b a free).amount in power-is b (omega arith)
 
 turns-left-table : Each (λ b. (a : ℕ) → a < 2 ^ 32 → felt_add (a * 2 ^ b / 2 ^ 32) (a * 2 ^ b % 2 ^ 32) ≡ turned_left a b) 32
-turns-left-table =
-    ((((((((((((((((((((((((((((((((tt,
-    λ a h. omega arith),
-    λ a h. omega arith),
-    λ a h. omega arith),
-    λ a h. omega arith),
-    λ a h. omega arith),
-    λ a h. omega arith),
-    λ a h. omega arith),
-    λ a h. omega arith),
-    λ a h. omega arith),
-    λ a h. omega arith),
-    λ a h. omega arith),
-    λ a h. omega arith),
-    λ a h. omega arith),
-    λ a h. omega arith),
-    λ a h. omega arith),
-    λ a h. omega arith),
-    λ a h. omega arith),
-    λ a h. omega arith),
-    λ a h. omega arith),
-    λ a h. omega arith),
-    λ a h. omega arith),
-    λ a h. omega arith),
-    λ a h. omega arith),
-    λ a h. omega arith),
-    λ a h. omega arith),
-    λ a h. omega arith),
-    λ a h. omega arith),
-    λ a h. omega arith),
-    λ a h. omega arith),
-    λ a h. omega arith),
-    λ a h. omega arith),
-    λ a h. omega arith)
+turns-left-table = (
+  (
+    (
+      (
+        (
+          (
+            (
+              (
+                (
+                  (
+                    (
+                      (
+                        (
+                          (
+                            (
+                              (
+                                (
+                                  (
+                                    (
+                                      (
+                                        (
+                                          (
+                                            (
+                                              (
+                                                (
+                                                  (
+                                                    (
+                                                      (
+                                                        (
+                                                          (
+                                                            (
+                                                              (
+                                                                tt,
+                                                                λ a h. omega arith,
+                                                              ),
+                                                              λ a h. omega arith,
+                                                            ),
+                                                            λ a h. omega arith,
+                                                          ),
+                                                          λ a h. omega arith,
+                                                        ),
+                                                        λ a h. omega arith,
+                                                      ),
+                                                      λ a h. omega arith,
+                                                    ),
+                                                    λ a h. omega arith,
+                                                  ),
+                                                  λ a h. omega arith,
+                                                ),
+                                                λ a h. omega arith,
+                                              ),
+                                              λ a h. omega arith,
+                                            ),
+                                            λ a h. omega arith,
+                                          ),
+                                          λ a h. omega arith,
+                                        ),
+                                        λ a h. omega arith,
+                                      ),
+                                      λ a h. omega arith,
+                                    ),
+                                    λ a h. omega arith,
+                                  ),
+                                  λ a h. omega arith,
+                                ),
+                                λ a h. omega arith,
+                              ),
+                              λ a h. omega arith,
+                            ),
+                            λ a h. omega arith,
+                          ),
+                          λ a h. omega arith,
+                        ),
+                        λ a h. omega arith,
+                      ),
+                      λ a h. omega arith,
+                    ),
+                    λ a h. omega arith,
+                  ),
+                  λ a h. omega arith,
+                ),
+                λ a h. omega arith,
+              ),
+              λ a h. omega arith,
+            ),
+            λ a h. omega arith,
+          ),
+          λ a h. omega arith,
+        ),
+        λ a h. omega arith,
+      ),
+      λ a h. omega arith,
+    ),
+    λ a h. omega arith,
+  ),
+  λ a h. omega arith,
+)
 
 turns-left : (b a : ℕ) → b < 32 → a < 2 ^ 32 → felt_add (a * 2 ^ b / 2 ^ 32) (a * 2 ^ b % 2 ^ 32) ≡ turned_left a b
 turns-left b a h k = of_each (λ b. (a : ℕ) → a < 2 ^ 32 → felt_add (a * 2 ^ b / 2 ^ 32) (a * 2 ^ b % 2 ^ 32) ≡ turned_left a b) 32 b turns-left-table h a k
 
 turns-right-table : Each (λ b. (a : ℕ) → a < 2 ^ 32 → felt_add (a * 2 ^ ((32 - b) % 32) / 2 ^ 32) (a * 2 ^ ((32 - b) % 32) % 2 ^ 32) ≡ turned_right a b) 32
-turns-right-table =
-    ((((((((((((((((((((((((((((((((tt,
-    λ a h. omega arith),
-    λ a h. omega arith),
-    λ a h. omega arith),
-    λ a h. omega arith),
-    λ a h. omega arith),
-    λ a h. omega arith),
-    λ a h. omega arith),
-    λ a h. omega arith),
-    λ a h. omega arith),
-    λ a h. omega arith),
-    λ a h. omega arith),
-    λ a h. omega arith),
-    λ a h. omega arith),
-    λ a h. omega arith),
-    λ a h. omega arith),
-    λ a h. omega arith),
-    λ a h. omega arith),
-    λ a h. omega arith),
-    λ a h. omega arith),
-    λ a h. omega arith),
-    λ a h. omega arith),
-    λ a h. omega arith),
-    λ a h. omega arith),
-    λ a h. omega arith),
-    λ a h. omega arith),
-    λ a h. omega arith),
-    λ a h. omega arith),
-    λ a h. omega arith),
-    λ a h. omega arith),
-    λ a h. omega arith),
-    λ a h. omega arith),
-    λ a h. omega arith)
+turns-right-table = (
+  (
+    (
+      (
+        (
+          (
+            (
+              (
+                (
+                  (
+                    (
+                      (
+                        (
+                          (
+                            (
+                              (
+                                (
+                                  (
+                                    (
+                                      (
+                                        (
+                                          (
+                                            (
+                                              (
+                                                (
+                                                  (
+                                                    (
+                                                      (
+                                                        (
+                                                          (
+                                                            (
+                                                              (
+                                                                tt,
+                                                                λ a h. omega arith,
+                                                              ),
+                                                              λ a h. omega arith,
+                                                            ),
+                                                            λ a h. omega arith,
+                                                          ),
+                                                          λ a h. omega arith,
+                                                        ),
+                                                        λ a h. omega arith,
+                                                      ),
+                                                      λ a h. omega arith,
+                                                    ),
+                                                    λ a h. omega arith,
+                                                  ),
+                                                  λ a h. omega arith,
+                                                ),
+                                                λ a h. omega arith,
+                                              ),
+                                              λ a h. omega arith,
+                                            ),
+                                            λ a h. omega arith,
+                                          ),
+                                          λ a h. omega arith,
+                                        ),
+                                        λ a h. omega arith,
+                                      ),
+                                      λ a h. omega arith,
+                                    ),
+                                    λ a h. omega arith,
+                                  ),
+                                  λ a h. omega arith,
+                                ),
+                                λ a h. omega arith,
+                              ),
+                              λ a h. omega arith,
+                            ),
+                            λ a h. omega arith,
+                          ),
+                          λ a h. omega arith,
+                        ),
+                        λ a h. omega arith,
+                      ),
+                      λ a h. omega arith,
+                    ),
+                    λ a h. omega arith,
+                  ),
+                  λ a h. omega arith,
+                ),
+                λ a h. omega arith,
+              ),
+              λ a h. omega arith,
+            ),
+            λ a h. omega arith,
+          ),
+          λ a h. omega arith,
+        ),
+        λ a h. omega arith,
+      ),
+      λ a h. omega arith,
+    ),
+    λ a h. omega arith,
+  ),
+  λ a h. omega arith,
+)
 
 turns-right : (b a : ℕ) → b < 32 → a < 2 ^ 32 → felt_add (a * 2 ^ ((32 - b) % 32) / 2 ^ 32) (a * 2 ^ ((32 - b) % 32) % 2 ^ 32) ≡ turned_right a b
 turns-right b a h k = of_each (λ b. (a : ℕ) → a < 2 ^ 32 → felt_add (a * 2 ^ ((32 - b) % 32) / 2 ^ 32) (a * 2 ^ ((32 - b) % 32) % 2 ^ 32) ≡ turned_right a b) 32 b turns-right-table h a k

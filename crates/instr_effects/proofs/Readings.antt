@@ -1,34 +1,30 @@
 -- The instructions that read the state, the advice, and those that hash.
-use Rattle.std.proofs.Common.{◌≡◌, ◌≢◌, ℕ, zero, suc, ◌+◌, ◌-◌, ◌*◌, ◌/◌, ◌%◌, ◌^◌, ◌<◌, ◌≤◌, max, min, Bool, true, false, cond, not, ◌==◌, ◌&&◌, ◌||◌, nat_lt, nat_le, List, [], ◌∷◌, ◌++◌, length, drop, take, reverse, slice_index, Option, Some, None, is_some, refl, sym, ◌∙◌, ap, subst, inl, inr, lit≤, lit<, arith, lt-ltb, le-ltb, ltb-true, ltb-false, eq-eqb, eqb-true, bit_and, bit_or, bit_xor}
-use Rattle.std.proofs.lemmas.Bool.{and_parts, cases_eq, cases_lt, eqb-false, leb-true, leb-false}
-use Rattle.vm_field.specs.Field.{prime, felt_add, felt_sub, felt_mul, felt_neg, felt_inv, felt_pow}
+use Rattle.std.proofs.Common.{◌≡◌, ℕ, zero, suc, ◌+◌, ◌-◌, ◌%◌, ◌≤◌, max, Bool, true, false, not, ◌&&◌, ◌||◌, nat_lt, nat_le, List, [], ◌∷◌, ◌++◌, length, drop, take, reverse, slice_index, Option, None, is_some, refl, sym, ◌∙◌, ap, subst, inl, inr, lit≤, arith, lt-ltb, le-ltb, ltb-true, ltb-false}
+use Rattle.std.proofs.lemmas.Bool.{cases_lt}
+use Rattle.vm_field.specs.Field.{prime}
 use Rattle.vm_field.specs.Machine.{State, IsWellFormed}
-use Rattle.vm_field.proofs.Elements.{elements-index}
 use Rattle.vm_ops.specs.declared.cause.Cause.{Cause}
 use Rattle.vm_ops.specs.declared.cause.Cause.TheVariants as causes
 use Rattle.vm_ops.specs.Step.{left_cells}
-use Rattle.vm_ops.specs.Values.{bit_of, computed, is_bit, is_u32, or_else, trap_of, unless}
+use Rattle.vm_ops.specs.Values.{computed, or_else, trap_of, unless}
 use Rattle.masm_instr.specs.declared.name.Name.TheVariants as names
-use Rattle.masm_instr.specs.Effects.{are_bits, are_u32, cells, instr_effect, listed, top, same_cells, low, high_low, difference, not_u32}
-use Rattle.masm_instr.specs.Expansion.{expansion, front, plain, lit}
-use Rattle.masm_instr.specs.Table.{fixed}
+use Rattle.masm_instr.specs.Effects.{cells, instr_effect, listed}
+use Rattle.masm_instr.specs.Expansion.{expansion, front, plain}
 use Rattle.instr_effects.proofs.Moves.{MeetsAt, MeetsAll}
-use Rattle.instr_effects.proofs.Quiets.{acts, first-is, given, pushed}
-use Rattle.instr_effects.proofs.Tables.{IsAllowed, by_none, by_maybe, by_one}
+use Rattle.instr_effects.proofs.Quiets.{acts, first-is}
+use Rattle.instr_effects.proofs.Tables.{IsAllowed, by_none, by_one}
 use Rattle.instr_effects.proofs.Windows.{last, trap, fits, window}
-use Rattle.std.proofs.Common.{ap₂, add-zero, le-leb, append_assoc, append-nil, replicate, map, length-drop}
+use Rattle.std.proofs.Common.{add-zero, append-nil, replicate, length-drop}
 use Rattle.std.proofs.lemmas.List.{length-reverse}
 use Rattle.vm_field.specs.Permutation.{permuted}
 use Rattle.vm_field.specs.Sponge.{hashed}
 use Rattle.vm_field.proofs.PermutationLemmas.{length-permuted}
 use Rattle.vm_field.specs.Machine.{Core}
-use Rattle.vm_ops.specs.declared.item.Item.{Item}
 use Rattle.vm_ops.specs.declared.op.Op.TheVariants as ops
 use Rattle.instr_effects.proofs.Alikes.{listed-all}
-use Rattle.instr_effects.proofs.Pushes.{moved-same, reverse-cons, room-above}
-use Rattle.instr_effects.proofs.Quiets.{moved}
+use Rattle.instr_effects.proofs.Pushes.{reverse-cons, room-above}
 use Rattle.instr_effects.proofs.Tests.{one-trap}
-use Rattle.instr_effects.proofs.Windows.{Window, is_short}
+use Rattle.instr_effects.proofs.Windows.{Window}
 
 -- the window's depth is the stack's
 depth-is : (depth : ℕ) → 16 ≤ depth → max 16 (24 + depth - 24) % prime ≡ depth % prime

@@ -1,5 +1,5 @@
 -- The sizes of a state's parts, which an operation keeps whatever it pushes.
-use Rattle.std.proofs.Common.{◌≡◌, ◌≢◌, ◌⊎◌, inl, inr, ℕ, ◌+◌, ◌≤◌, List, drop, length, slice_index, Option, Some, None, Ok, refl, sym, subst, arith}
+use Rattle.std.proofs.Common.{◌≡◌, inl, inr, ℕ, ◌≤◌, List, drop, length, slice_index, Option, Some, None, Ok, refl, subst, arith}
 use Rattle.std.proofs.lemmas.List.{length-drop, length-take-le}
 use Rattle.std.specs.FinMap.{insert}
 use Rattle.std.specs.Option.{MatchOption}

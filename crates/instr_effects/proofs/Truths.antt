@@ -1,21 +1,18 @@
 -- The instructions on truth values, and assertions.
-use Rattle.std.proofs.Common.{◌≡◌, ◌≢◌, ℕ, zero, suc, ◌+◌, ◌-◌, ◌*◌, ◌/◌, ◌%◌, ◌^◌, ◌<◌, ◌≤◌, max, min, Bool, true, false, cond, not, ◌==◌, ◌&&◌, ◌||◌, nat_lt, nat_le, List, [], ◌∷◌, ◌++◌, length, drop, take, reverse, slice_index, Option, Some, None, is_some, refl, sym, ◌∙◌, ap, subst, inl, inr, lit≤, lit<, arith, lt-ltb, le-ltb, ltb-true, ltb-false, eq-eqb, eqb-true, bit_and, bit_or, bit_xor}
-use Rattle.std.proofs.lemmas.Bool.{and_parts, cases_eq, cases_lt, eqb-false, leb-true, leb-false}
-use Rattle.vm_field.specs.Field.{prime, felt_add, felt_sub, felt_mul, felt_neg, felt_inv, felt_pow}
-use Rattle.vm_field.specs.Machine.{State, IsWellFormed}
-use Rattle.vm_field.proofs.Elements.{elements-index}
+use Rattle.std.proofs.Common.{◌≡◌, ℕ, Bool, true, false, not, ◌==◌, ◌&&◌, List, [], Option, None, is_some, refl, lit≤}
+use Rattle.vm_field.specs.Field.{felt_add, felt_sub, felt_mul}
+use Rattle.vm_field.specs.Machine.{State}
 use Rattle.vm_ops.specs.declared.cause.Cause.{Cause}
 use Rattle.vm_ops.specs.declared.cause.Cause.TheVariants as causes
 use Rattle.vm_ops.specs.Step.{left_cells}
-use Rattle.vm_ops.specs.Values.{bit_of, computed, is_bit, is_u32, or_else, trap_of, unless}
+use Rattle.vm_ops.specs.Values.{bit_of, computed, is_bit, or_else, trap_of, unless}
 use Rattle.masm_instr.specs.declared.name.Name.TheVariants as names
-use Rattle.masm_instr.specs.Effects.{are_bits, are_u32, cells, instr_effect, listed, top, same_cells, low, high_low, difference, not_u32}
-use Rattle.masm_instr.specs.Expansion.{expansion, front, plain, lit}
-use Rattle.masm_instr.specs.Table.{fixed}
+use Rattle.masm_instr.specs.Effects.{are_bits, instr_effect, top, same_cells}
+use Rattle.masm_instr.specs.Expansion.{expansion, front}
 use Rattle.instr_effects.proofs.Moves.{MeetsAt, MeetsAll}
-use Rattle.instr_effects.proofs.Quiets.{acts, first-is, given, pushed}
-use Rattle.instr_effects.proofs.Tables.{IsAllowed, by_none, by_maybe, by_one}
-use Rattle.instr_effects.proofs.Windows.{last, trap, fits, window}
+use Rattle.instr_effects.proofs.Quiets.{acts, first-is}
+use Rattle.instr_effects.proofs.Tables.{by_none}
+use Rattle.instr_effects.proofs.Windows.{last, trap, fits}
 use Rattle.instr_effects.proofs.Tests.{bit-pairs, free-of, one-trap, same-back, trap-alone}
 
 -- the traps of the four operations of `xor` that have one

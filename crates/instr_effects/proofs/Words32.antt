@@ -1,21 +1,18 @@
 -- The instructions on numbers of 32 bits, but for shifts and rotations: tests and arithmetic.
-use Rattle.std.proofs.Common.{◌≡◌, ◌≢◌, ℕ, zero, suc, ◌+◌, ◌-◌, ◌*◌, ◌/◌, ◌%◌, ◌^◌, ◌<◌, ◌≤◌, max, min, Bool, true, false, cond, not, ◌==◌, ◌&&◌, ◌||◌, nat_lt, nat_le, List, [], ◌∷◌, ◌++◌, length, drop, take, reverse, slice_index, Option, Some, None, is_some, refl, sym, ◌∙◌, ap, subst, inl, inr, lit≤, lit<, arith, lt-ltb, le-ltb, ltb-true, ltb-false, eq-eqb, eqb-true, ne_eqb, bit_and, bit_or, bit_xor}
-use Rattle.std.proofs.lemmas.Bool.{and_parts, cases_eq, cases_lt, eqb-false, leb-true, leb-false}
-use Rattle.vm_field.specs.Field.{prime, felt_add, felt_sub, felt_mul, felt_neg, felt_inv, felt_pow}
-use Rattle.vm_field.specs.Machine.{State, IsWellFormed}
-use Rattle.vm_field.proofs.Elements.{elements-index}
-use Rattle.vm_ops.specs.declared.cause.Cause.{Cause}
+use Rattle.std.proofs.Common.{◌≡◌, ℕ, ◌+◌, ◌-◌, ◌*◌, ◌/◌, ◌%◌, ◌^◌, Bool, true, false, not, ◌==◌, ◌||◌, nat_lt, List, [], ◌∷◌, None, is_some, refl, sym, ◌∙◌, ap, inl, inr, lit≤, arith, lt-ltb, le-ltb, ltb-true, ltb-false, eq-eqb, ne_eqb}
+use Rattle.std.proofs.lemmas.Bool.{cases_lt}
+use Rattle.vm_field.specs.Machine.{State}
 use Rattle.vm_ops.specs.declared.cause.Cause.TheVariants as causes
 use Rattle.vm_ops.specs.Step.{left_cells}
-use Rattle.vm_ops.specs.Values.{bit_of, computed, is_bit, is_u32, or_else, trap_of, unless}
+use Rattle.vm_ops.specs.Values.{bit_of, computed, is_u32, or_else, trap_of, unless}
 use Rattle.masm_instr.specs.declared.name.Name.TheVariants as names
-use Rattle.masm_instr.specs.Effects.{are_bits, are_u32, are_three_u32, cells, instr_effect, listed, top, same_cells, low, high_low, difference, not_u32}
-use Rattle.masm_instr.specs.Expansion.{expansion, front, plain, lit}
+use Rattle.masm_instr.specs.Effects.{are_u32, are_three_u32, instr_effect, top, difference, not_u32}
+use Rattle.masm_instr.specs.Expansion.{expansion, front, plain}
 use Rattle.masm_instr.specs.Table.{fixed}
 use Rattle.instr_effects.proofs.Moves.{MeetsAt, MeetsAll}
-use Rattle.instr_effects.proofs.Quiets.{acts, first-is, given, pushed}
-use Rattle.instr_effects.proofs.Tables.{IsAllowed, by_none, by_maybe, by_one}
-use Rattle.instr_effects.proofs.Windows.{last, trap, fits, window}
+use Rattle.instr_effects.proofs.Quiets.{acts, first-is, given}
+use Rattle.instr_effects.proofs.Tables.{IsAllowed, by_none, by_maybe}
+use Rattle.instr_effects.proofs.Windows.{last, trap, fits}
 use Rattle.instr_effects.proofs.Tests.{free-of, none-of, one-trap, small, two-traps}
 
 -- the high part is 0 exactly where the number has 32 bits
@@ -29,7 +26,7 @@ high-none n =
 -- a result of more than 32 bits traps
 carry-trap : (test : Bool) (n : ℕ)
     → is_some (or_else (unless test causes.NotU32) (or_else (unless (bit_of (n / 2 ^ 32 == 0) == 1) causes.AssertFailed) None))
-        ≡ not test || not (is_u32 n)
+    ≡ not test || not (is_u32 n)
 carry-trap test n = rw high-none (go test (is_u32 n))
   where
     go : (test small : Bool)
@@ -45,7 +42,7 @@ carry-is test n free =
 
 borrow-trap : (test less : Bool)
     → is_some (or_else (unless test causes.NotU32) (or_else (unless (bit_of (bit_of less == 0) == 1) causes.AssertFailed) None))
-        ≡ not test || less
+    ≡ not test || less
 borrow-trap true true = refl
 borrow-trap true false = refl
 borrow-trap false less = refl
