@@ -259,11 +259,10 @@ module _ (constants : List ℕ) (kernel : List (List ℕ)) (limit : ℕ) where
       (step-grows constants item s t len h (cycle-step constants kernel limit item s t (subst (λ m. IsCycle constants kernel limit m s t) is c)))
 
   shallow-step : length constants ≡ 168
-      → ((batch : List ℕ) (items : List Item) → IsBatch batch → reading batch ≡ Some items → All IsOrdinaryItem items)
       → (n m : ℕ) (task : Task) (rest todo : List Task) (mark : Mark) (s t : State) → Next constants task s.core mark rest
       → IsCycle constants kernel limit mark s t → IsShallow n m (task ∷ todo) s → IsShallow n m (rest ++ todo) t
-  shallow-step len ordinary n m task rest todo mark s t first c h =
-      let w = next-whole constants len ordinary first h.1.0 h.2.core in
+  shallow-step len n m task rest todo mark s t first c h =
+      let w = next-whole constants len first h.1.0 h.2.core in
       let grown = next-depth constants (take (advice_taken mark) s.tape) first h.2.core.deep (behind-grows mark s t len c h.2) in
       let stack : length t.core.stack ≡ length (behind constants kernel limit mark s).stack
       = ap (λ x. length x.stack) (behind-is constants kernel limit mark s t c) in
@@ -273,11 +272,10 @@ module _ (constants : List ℕ) (kernel : List (List ℕ)) (limit : ℕ) where
       (omega arith, whole-append rest todo w.1 h.1.1, cycle-kept constants kernel limit mark s t len c w.0 h.2)
 
   pub steps-shallow : length constants ≡ 168
-      → ((batch : List ℕ) (items : List Item) → IsBatch batch → reading batch ≡ Some items → All IsOrdinaryItem items)
       → {todo : List Task} {s t : State} {events : List Event} (n m : ℕ) → Steps constants kernel limit todo s events t → IsShallow n m todo s
       → All (λ e. length e.core.stack + n ≤ m + e.core.clock) events × (length t.core.stack + n ≤ m + t.core.clock)
-  steps-shallow len ordinary n m steps h =
-      let r = steps-along constants kernel limit (IsShallow n m) (λ c. length c.stack + n ≤ m + c.clock) (shallow-step len ordinary n m)
+  steps-shallow len n m steps h =
+      let r = steps-along constants kernel limit (IsShallow n m) (λ c. length c.stack + n ≤ m + c.clock) (shallow-step len n m)
       (λ todo s p. let l = p.0 in omega arith) steps h in
       let last = r.1.0 in
       (r.0, omega arith)

@@ -1,6 +1,6 @@
 ghost use Rattle.block_tree.specs.CycleLaws.{DoneWhereAllowed, RunIsSteps, StepsAreRun};
 ghost use Rattle.block_tree.specs.Laws.{DigestOfInput, DigestIsWord, RefinesItself, RefinesThrough, RefinedDigest, RefinedRun, SameAtLaterLimits, OutAtEarlierLimits, TakesPrefix, SameOnWhatItTook};
-ghost use Rattle.block_tree.specs.LogLaws.{LogCounts, RunIsLogged, RunIsWithinContexts, RunNests};
+ghost use Rattle.block_tree.specs.LogLaws.{LogCounts, RunIsLogged, RunIsShallow, RunIsWhole, RunIsWithinContexts, RunNests};
 ghost use Rattle.block_tree.specs.RowLaws.{AccessedIsWord, FourAreWord, HashIsBatch, TakesAtMostFour};
 
 use crate::evidence::Evidence;
@@ -38,12 +38,15 @@ pub fn cycle_laws()
 {}
 
 /// The laws of logs, for whole trees: the events of a run are its cycles in order, as many as the
-/// clock has moved; at most 1,024 blocks nest, and as many at the end as at the start; and a context
-/// is one that the clock has reached.
+/// clock has moved. From a well-formed state each is whole, and the last state is well-formed. At
+/// most 1,024 blocks nest, and as many at the end as at the start; the stack has at most as many
+/// cells more as the clock has moved; and a context is one that the clock has reached.
 pub fn log_laws()
     ensures logged { RunIsLogged }
     ensures counts { LogCounts }
+    ensures whole { RunIsWhole }
     ensures nests { RunNests }
+    ensures shallow { RunIsShallow }
     ensures contexts { RunIsWithinContexts }
 {}
 
