@@ -1,12 +1,11 @@
 -- Tasks that are whole, and what they hold of the states on the way.
-use Rattle.std.proofs.Common.{◌≡◌, ℕ, List, [], ◌∷◌, ◌++◌, length, Some, All}
+use Rattle.std.proofs.Common.{◌≡◌, ℕ, List, [], ◌∷◌, ◌++◌, length, All}
 use Rattle.std.proofs.lemmas.List.{length-take-le}
 use Rattle.std.proofs.lemmas.List.Elements.{All-nil, All-cons, All-head, All-tail}
 use Rattle.vm_field.specs.Machine.{Core, State, IsWord, IsWellFormedCore, IsWellFormed}
 use Rattle.vm_field.proofs.Elements.{elements-take}
-use Rattle.vm_ops.specs.declared.item.Item.{Item}
 use Rattle.vm_ops.specs.Items.{IsOrdinaryItem}
-use Rattle.op_pack.specs.Reading.{IsBatch, reading}
+use Rattle.op_pack.specs.Reading.{IsBatch}
 use Rattle.op_pack.proofs.OrdinaryLemmas.{ordinary_reading}
 use Rattle.block_tree.specs.Trees.{Span, Join, Split, Loop, Call, Syscall, IsWhole}
 use Rattle.block_tree.specs.Cycles.{Mark, advice_taken}
@@ -79,7 +78,7 @@ module _ (constants : List ℕ) (kernel : List (List ℕ)) (limit : ℕ) where
   }
 
   pub steps-whole : length constants ≡ 168
-        → {todo : List Task} {s t : State} {events : List Event} → Steps constants kernel limit todo s events t → AreWholeTasks todo → IsWellFormed s
+      → {todo : List Task} {s t : State} {events : List Event} → Steps constants kernel limit todo s events t → AreWholeTasks todo → IsWellFormed s
       → All IsWholeEvent events × IsWellFormed t
   steps-whole len ended w h = (All-nil IsWholeEvent, h)
   steps-whole len (goes {rest = rest} {todo = todo} {mark = mark} {s = s} {t = t} {events = events} task cycle later) w h =

@@ -1,7 +1,7 @@
 ghost use Rattle.block_tree.specs.CycleLaws.{DoneWhereAllowed, RunIsSteps, StepsAreRun};
 ghost use Rattle.block_tree.specs.Laws.{DigestOfInput, DigestIsWord, RefinesItself, RefinesThrough, RefinedDigest, RefinedRun, SameAtLaterLimits, OutAtEarlierLimits, TakesPrefix, SameOnWhatItTook};
 ghost use Rattle.block_tree.specs.LogLaws.{LogCounts, RunIsLogged, RunIsShallow, RunIsWhole, RunIsWithinContexts, RunNests};
-ghost use Rattle.block_tree.specs.RowLaws.{AccessedIsWord, FourAreWord, HashIsBatch, TakesAtMostFour};
+ghost use Rattle.block_tree.specs.RowLaws.{AccessedIsWord, FourAreWord, HashIsBatch, ShownBehind, TakesAtMostFour};
 
 use crate::evidence::Evidence;
 use crate::exports::Exports;
@@ -50,12 +50,14 @@ pub fn log_laws()
     ensures contexts { RunIsWithinContexts }
 {}
 
-/// The laws of rows: what a cycle's row shows are words, and eight elements of hashing.
+/// The laws of rows: what a cycle's row shows are words and eight elements of hashing, and what it
+/// shows of the state behind it stands in the next row's state.
 pub fn row_laws()
     ensures hash { HashIsBatch }
     ensures four { TakesAtMostFour }
     ensures tape { FourAreWord }
     ensures word { AccessedIsWord }
+    ensures behind { ShownBehind }
 {}
 
 fn crosses<T: Send + Sync>() {}
