@@ -1,5 +1,5 @@
 -- What holds of each state of a run: nesting, depth and contexts.
-use Rattle.std.proofs.Common.{◌≡◌, ℕ, ◌+◌, ◌≤◌, List, [], ◌∷◌, ◌++◌, length, take, drop, refl, sym, ap, ◌∙◌, subst, arith, length-append, length-drop, All, Some, Ok}
+use Rattle.std.proofs.Common.{◌≡◌, ℕ, ◌+◌, ◌≤◌, List, [], ◌∷◌, ◌++◌, length, take, drop, refl, sym, ap, ◌∙◌, subst, arith, length-append, length-drop, All, Ok}
 use Rattle.std.proofs.lemmas.List.{length-take-le}
 use Rattle.std.proofs.lemmas.List.Elements.{All-nil, All-cons}
 use Rattle.vm_field.specs.Machine.{Core, State, IsWellFormed}
@@ -7,12 +7,10 @@ use Rattle.vm_field.proofs.Elements.{length-filled_up}
 use Rattle.vm_ops.specs.declared.item.Item.{Item}
 use Rattle.vm_ops.specs.declared.op.Shift.{Shift}
 use Rattle.vm_ops.specs.declared.op.Shift.TheVariants.{Left, Stay, Right}
-use Rattle.vm_ops.specs.Items.{IsOrdinaryItem}
 use Rattle.vm_ops.specs.Moves.{takes_of, leaves_of, shift_of}
 use Rattle.vm_ops.specs.Step.{step}
 use Rattle.vm_ops.proofs.MoveLemmas.{ByOne, shift_of-by_one, takes_of-below}
 use Rattle.vm_ops.proofs.StepLemmas.{step-depth}
-use Rattle.op_pack.specs.Reading.{IsBatch, reading}
 use Rattle.block_tree.specs.Behind.{core_behind, IsAllowed}
 use Rattle.block_tree.specs.Cycles.{Mark, StartOpaque, StartSpan, StartJoin, StartSplit, StartLoop, StartCall, StartSyscall, Respan, Repeat, Do, End, EndSpan, EndLoop, EndCall, EndSyscall, advice_taken}
 use Rattle.block_tree.specs.Execution.{Event, event_of}
@@ -259,11 +257,10 @@ module _ (constants : List ℕ) (kernel : List (List ℕ)) (limit : ℕ) where
       (step-grows constants item s t len h (cycle-step constants kernel limit item s t (subst (λ m. IsCycle constants kernel limit m s t) is c)))
 
   shallow-step : length constants ≡ 168
-      → ((batch : List ℕ) (items : List Item) → IsBatch batch → reading batch ≡ Some items → All IsOrdinaryItem items)
       → (n m : ℕ) (task : Task) (rest todo : List Task) (mark : Mark) (s t : State) → Next constants task s.core mark rest
       → IsCycle constants kernel limit mark s t → IsShallow n m (task ∷ todo) s → IsShallow n m (rest ++ todo) t
-  shallow-step len ordinary n m task rest todo mark s t first c h =
-      let w = next-whole constants len ordinary first h.1.0 h.2.core in
+  shallow-step len n m task rest todo mark s t first c h =
+      let w = next-whole constants len first h.1.0 h.2.core in
       let grown = next-depth constants (take (advice_taken mark) s.tape) first h.2.core.deep (behind-grows mark s t len c h.2) in
       let stack : length t.core.stack ≡ length (behind constants kernel limit mark s).stack
       = ap (λ x. length x.stack) (behind-is constants kernel limit mark s t c) in
@@ -273,11 +270,10 @@ module _ (constants : List ℕ) (kernel : List (List ℕ)) (limit : ℕ) where
       (omega arith, whole-append rest todo w.1 h.1.1, cycle-kept constants kernel limit mark s t len c w.0 h.2)
 
   pub steps-shallow : length constants ≡ 168
-      → ((batch : List ℕ) (items : List Item) → IsBatch batch → reading batch ≡ Some items → All IsOrdinaryItem items)
       → {todo : List Task} {s t : State} {events : List Event} (n m : ℕ) → Steps constants kernel limit todo s events t → IsShallow n m todo s
       → All (λ e. length e.core.stack + n ≤ m + e.core.clock) events × (length t.core.stack + n ≤ m + t.core.clock)
-  steps-shallow len ordinary n m steps h =
-      let r = steps-along constants kernel limit (IsShallow n m) (λ c. length c.stack + n ≤ m + c.clock) (shallow-step len ordinary n m)
+  steps-shallow len n m steps h =
+      let r = steps-along constants kernel limit (IsShallow n m) (λ c. length c.stack + n ≤ m + c.clock) (shallow-step len n m)
       (λ todo s p. let l = p.0 in omega arith) steps h in
       let last = r.1.0 in
       (r.0, omega arith)
@@ -291,9 +287,11 @@ module _ (constants : List ℕ) (kernel : List (List ℕ)) (limit : ℕ) where
       let n = next-context constants (take (advice_taken mark) s.tape) first h.0 h.1.0 in
       let ticks = cycle-clock constants kernel limit mark s t c in
       let context : t.core.context ≡ (behind constants kernel limit mark s).context = ap (λ x. x.context) (behind-is constants kernel limit mark s t c) in
-      let below = n.0 in
-      (omega arith, subst (λ k. AreWithin k (rest ++ todo)) (sym ticks)
-      (all-later s.core.clock (rest ++ todo) (within-append s.core.clock rest todo n.1 h.1.1)))
+      let below = n.0 in (
+        omega arith,
+        subst (λ k. AreWithin k (rest ++ todo)) (sym ticks)
+            (all-later s.core.clock (rest ++ todo) (within-append s.core.clock rest todo n.1 h.1.1)),
+      )
 
   pub steps-reached : {todo : List Task} {s t : State} {events : List Event} → Steps constants kernel limit todo s events t → IsReached todo s
       → All (λ e. e.core.context ≤ e.core.clock) events × (t.core.context ≤ t.core.clock)

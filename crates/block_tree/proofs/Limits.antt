@@ -57,8 +57,10 @@ agree-at_bit j (suc n) f g f' g' s h h' = h'
 -- at two limits, j and k
 module _ (constants : List ℕ) (kernel : List (List ℕ)) (j k : ℕ) where
   agree-cycle : (mark : Mark) (s : State) → Agree j s (cycle constants kernel k mark s) (cycle constants kernel j mark s)
-  agree-cycle mark s = record { rule = λ t es e. from t es (taking-inv k mark (advice_taken mark) (effect_of constants kernel mark) s t es e)
-      (cycle-ticks constants kernel k mark s t es e) }
+  agree-cycle mark s = record {
+    rule = λ t es e. from t es (taking-inv k mark (advice_taken mark) (effect_of constants kernel mark) s t es e)
+        (cycle-ticks constants kernel k mark s t es e);
+  }
     where
       from : (t : State) (es : List Event) → Cycled k mark (advice_taken mark) (effect_of constants kernel mark) s t es → t.core.clock ≡ s.core.clock + 1
           → Same j (cycle constants kernel j mark s) s t es
@@ -126,8 +128,10 @@ module _ (constants : List ℕ) (kernel : List (List ℕ)) (j k : ℕ) where
       → (n m : ℕ) (s : State) → j ≤ m + s.core.clock
       → Agree j s (turns constants kernel k digest body_digest n f s) (turns constants kernel j digest body_digest m g s)
   agree-turns digest body_digest f g h zero m s room = record { rule = λ t es e. absurd (done-not_late t es e) }
-  agree-turns digest body_digest f g h (suc n) zero s room = record { rule = λ t es e. from t es (turns-strict k digest body_digest f
-      (λ u v fs d. ((h u).rule v fs d).later) (suc n) s t es e) }
+  agree-turns digest body_digest f g h (suc n) zero s room = record {
+    rule = λ t es e. from t es (turns-strict k digest body_digest f
+        (λ u v fs d. ((h u).rule v fs d).later) (suc n) s t es e);
+  }
     where
       from : (t : State) (es : List Event) → s.core.clock < t.core.clock → Same j OutOfCycles s t es
       from t es strict = record { later = omega arith; same = λ l. absurd (omega arith); short = λ l r. refl }

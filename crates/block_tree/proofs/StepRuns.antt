@@ -36,7 +36,7 @@ module _ (constants : List ℕ) (kernel : List (List ℕ)) (limit : ℕ) where
     pub all : es ≡ first ++ second
     pub later : s.core.clock ≤ mid.core.clock
 
-  cycle-done : (mark : Mark) (s t : State) → Cycling mark s t
+  pub cycle-done : (mark : Mark) (s t : State) → Cycling mark s t
       → cycle_of mark s ≡ Done t (event_of mark (advice_taken mark) s ∷ [])
   cycle-done mark s t c =
       rw c.now (taking-done limit mark (advice_taken mark) (effect_of constants kernel mark) s c.core c.before c.enough c.made)

@@ -39,7 +39,7 @@ fed-then f g s t es e h h' = from (seq-inv f g s t es e)
         let split : tape_taken es ≡ tape_taken b.first ++ tape_taken b.second = ap tape_taken b.all ∙ taken-append b.first b.second in
         record {
           tape = one.tape ∙ ap (λ x. tape_taken b.first ++ x) two.tape
-          ∙ sym (append_assoc (tape_taken b.first) (tape_taken b.second) t.tape) ∙ ap (λ x. x ++ t.tape) (sym split);
+              ∙ sym (append_assoc (tape_taken b.first) (tape_taken b.second) t.tape) ∙ ap (λ x. x ++ t.tape) (sym split);
           again = λ rest.
               ap (λ x. seq f g (with_tape s x)) (ap (λ x. x ++ rest) split ∙ append_assoc (tape_taken b.first) (tape_taken b.second) rest)
               ∙ seq-done f g (with_tape s (tape_taken b.first ++ (tape_taken b.second ++ rest)))

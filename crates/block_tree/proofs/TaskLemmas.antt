@@ -1,12 +1,12 @@
 -- Tasks that are whole, and what they hold of the states on the way.
-use Rattle.std.proofs.Common.{◌≡◌, ℕ, List, [], ◌∷◌, ◌++◌, length, Some, All}
+use Rattle.std.proofs.Common.{◌≡◌, ℕ, List, [], ◌∷◌, ◌++◌, length, All}
 use Rattle.std.proofs.lemmas.List.{length-take-le}
 use Rattle.std.proofs.lemmas.List.Elements.{All-nil, All-cons, All-head, All-tail}
 use Rattle.vm_field.specs.Machine.{Core, State, IsWord, IsWellFormedCore, IsWellFormed}
 use Rattle.vm_field.proofs.Elements.{elements-take}
-use Rattle.vm_ops.specs.declared.item.Item.{Item}
 use Rattle.vm_ops.specs.Items.{IsOrdinaryItem}
-use Rattle.op_pack.specs.Reading.{IsBatch, reading}
+use Rattle.op_pack.specs.Reading.{IsBatch}
+use Rattle.op_pack.proofs.OrdinaryLemmas.{ordinary_reading}
 use Rattle.block_tree.specs.Trees.{Span, Join, Split, Loop, Call, Syscall, IsWhole}
 use Rattle.block_tree.specs.Cycles.{Mark, advice_taken}
 use Rattle.block_tree.specs.Execution.{Event, event_of}
@@ -33,35 +33,34 @@ whole-append [] b h g = g
 whole-append (task ∷ tasks) b h g = (h.0, whole-append tasks b h.1 g)
 
 pub next-whole : (constants : List ℕ) → length constants ≡ 168
-    → ((batch : List ℕ) (items : List Item) → IsBatch batch → reading batch ≡ Some items → All IsOrdinaryItem items)
     → {task : Task} {c : Core} {mark : Mark} {rest : List Task} → Next constants task c mark rest → IsWholeTask task → IsWellFormedCore c
     → IsWholeMark mark × AreWholeTasks rest
-next-whole constants len ordinary (span {batch = batch} {later = later} {items = items} read) w h =
+next-whole constants len (span {batch = batch} {later = later} {items = items} read) w h =
     let begun = All-head IsBatch batch later w.1 in
-    (begun, ((ordinary batch items begun read, All-tail IsBatch batch later w.1, whole-digest constants (Span (batch ∷ later)) len w), tt))
-next-whole constants len ordinary (join {a = a} {b = b}) w h =
+    (begun, ((ordinary_reading batch items begun read, All-tail IsBatch batch later w.1, whole-digest constants (Span (batch ∷ later)) len w), tt))
+next-whole constants len (join {a = a} {b = b}) w h =
     ((whole-digest constants a len w.0, whole-digest constants b len w.1), (w.0, (w.1, (whole-digest constants (Join a b) len w, tt))))
-next-whole constants len ordinary (split_1 {a = a} {b = b} bit) w h =
+next-whole constants len (split_1 {a = a} {b = b} bit) w h =
     ((whole-digest constants a len w.0, whole-digest constants b len w.1), (w.0, (whole-digest constants (Split a b) len w, tt)))
-next-whole constants len ordinary (split_0 {a = a} {b = b} bit) w h =
+next-whole constants len (split_0 {a = a} {b = b} bit) w h =
     ((whole-digest constants a len w.0, whole-digest constants b len w.1), (w.1, (whole-digest constants (Split a b) len w, tt)))
-next-whole constants len ordinary (loop_1 {a = a} bit) w h = (whole-digest constants a len w, (w, (w, tt)))
-next-whole constants len ordinary (loop_0 {a = a} bit) w h = (whole-digest constants a len w, (whole-digest constants (Loop a) len w, tt))
-next-whole constants len ordinary (call {c = c} {a = a}) w h =
+next-whole constants len (loop_1 {a = a} bit) w h = (whole-digest constants a len w, (w, (w, tt)))
+next-whole constants len (loop_0 {a = a} bit) w h = (whole-digest constants a len w, (whole-digest constants (Loop a) len w, tt))
+next-whole constants len (call {c = c} {a = a}) w h =
     (whole-digest constants a len w, (w, ((whole-digest constants (Call a) len w, whole-frame c h), tt)))
-next-whole constants len ordinary (syscall {c = c} {a = a}) w h =
+next-whole constants len (syscall {c = c} {a = a}) w h =
     (whole-digest constants a len w, (w, ((whole-digest constants (Syscall a) len w, whole-frame c h), tt)))
-next-whole constants len ordinary (operation {item = item} {items = items}) w h =
+next-whole constants len (operation {item = item} {items = items}) w h =
     (All-head IsOrdinaryItem item items w.0, ((All-tail IsOrdinaryItem item items w.0, w.1, w.2), tt))
-next-whole constants len ordinary (respan {batch = batch} {later = later} {items = items} read) w h =
+next-whole constants len (respan {batch = batch} {later = later} {items = items} read) w h =
     let begun = All-head IsBatch batch later w.1 in
-    (begun, ((ordinary batch items begun read, All-tail IsBatch batch later w.1, w.2), tt))
-next-whole constants len ordinary span_ends w h = (w.2, tt)
-next-whole constants len ordinary (repeats {a = a} bit) w h = (whole-digest constants a len w, (w, (w, tt)))
-next-whole constants len ordinary (loop_ends {a = a} bit) w h = (whole-digest constants (Loop a) len w, tt)
-next-whole constants len ordinary closes w h = (w, tt)
-next-whole constants len ordinary returns w h = (w, tt)
-next-whole constants len ordinary leaves w h = (w, tt)
+    (begun, ((ordinary_reading batch items begun read, All-tail IsBatch batch later w.1, w.2), tt))
+next-whole constants len span_ends w h = (w.2, tt)
+next-whole constants len (repeats {a = a} bit) w h = (whole-digest constants a len w, (w, (w, tt)))
+next-whole constants len (loop_ends {a = a} bit) w h = (whole-digest constants (Loop a) len w, tt)
+next-whole constants len closes w h = (w, tt)
+next-whole constants len returns w h = (w, tt)
+next-whole constants len leaves w h = (w, tt)
 
 module _ (constants : List ℕ) (kernel : List (List ℕ)) (limit : ℕ) where
   pub steps-log : {todo : List Task} {s t : State} {events : List Event} → Steps constants kernel limit todo s events t
@@ -79,11 +78,10 @@ module _ (constants : List ℕ) (kernel : List (List ℕ)) (limit : ℕ) where
   }
 
   pub steps-whole : length constants ≡ 168
-      → ((batch : List ℕ) (items : List Item) → IsBatch batch → reading batch ≡ Some items → All IsOrdinaryItem items)
       → {todo : List Task} {s t : State} {events : List Event} → Steps constants kernel limit todo s events t → AreWholeTasks todo → IsWellFormed s
       → All IsWholeEvent events × IsWellFormed t
-  steps-whole len ordinary ended w h = (All-nil IsWholeEvent, h)
-  steps-whole len ordinary (goes {rest = rest} {todo = todo} {mark = mark} {s = s} {t = t} {events = events} task cycle later) w h =
-      let n = next-whole constants len ordinary task w.0 h.core in
-      let r = steps-whole len ordinary later (whole-append rest todo n.1 w.1) (cycle-kept constants kernel limit mark s t len cycle n.0 h) in
+  steps-whole len ended w h = (All-nil IsWholeEvent, h)
+  steps-whole len (goes {rest = rest} {todo = todo} {mark = mark} {s = s} {t = t} {events = events} task cycle later) w h =
+      let n = next-whole constants len task w.0 h.core in
+      let r = steps-whole len later (whole-append rest todo n.1 w.1) (cycle-kept constants kernel limit mark s t len cycle n.0 h) in
       (All-cons IsWholeEvent (event_of mark (advice_taken mark) s) events (whole-event mark s t cycle n.0 h) r.0, r.1)

@@ -1,7 +1,7 @@
 ghost use Rattle.block_tree.specs.CycleLaws.{DoneWhereAllowed, RunIsSteps, StepsAreRun};
 ghost use Rattle.block_tree.specs.Laws.{DigestOfInput, DigestIsWord, RefinesItself, RefinesThrough, RefinedDigest, RefinedRun, SameAtLaterLimits, OutAtEarlierLimits, TakesPrefix, SameOnWhatItTook};
-ghost use Rattle.block_tree.specs.LogLaws.{LogCounts, RunIsLogged, RunIsWithinContexts, RunNests};
-ghost use Rattle.block_tree.specs.RowLaws.{AccessedIsWord, FourAreWord, HashIsBatch, TakesAtMostFour};
+ghost use Rattle.block_tree.specs.LogLaws.{LogCounts, RunIsLogged, RunIsShallow, RunIsWhole, RunIsWithinContexts, RunNests};
+ghost use Rattle.block_tree.specs.RowLaws.{AccessedIsWord, FourAreWord, HashIsBatch, ShownBehind, TakesAtMostFour};
 
 use crate::evidence::Evidence;
 use crate::exports::Exports;
@@ -38,21 +38,26 @@ pub fn cycle_laws()
 {}
 
 /// The laws of logs, for whole trees: the events of a run are its cycles in order, as many as the
-/// clock has moved; at most 1,024 blocks nest, and as many at the end as at the start; and a context
-/// is one that the clock has reached.
+/// clock has moved. From a well-formed state each is whole, and the last state is well-formed. At
+/// most 1,024 blocks nest, and as many at the end as at the start; the stack has at most as many
+/// cells more as the clock has moved; and a context is one that the clock has reached.
 pub fn log_laws()
     ensures logged { RunIsLogged }
     ensures counts { LogCounts }
+    ensures whole { RunIsWhole }
     ensures nests { RunNests }
+    ensures shallow { RunIsShallow }
     ensures contexts { RunIsWithinContexts }
 {}
 
-/// The laws of rows: what a cycle's row shows are words, and eight elements of hashing.
+/// The laws of rows: what a cycle's row shows are words and eight elements of hashing, and what it
+/// shows of the state behind it stands in the next row's state.
 pub fn row_laws()
     ensures hash { HashIsBatch }
     ensures four { TakesAtMostFour }
     ensures tape { FourAreWord }
     ensures word { AccessedIsWord }
+    ensures behind { ShownBehind }
 {}
 
 fn crosses<T: Send + Sync>() {}
