@@ -8,9 +8,9 @@ use crate::exports::Exports;
 use crate::program::Program;
 use crate::tree::Tree;
 
-/// A tree's digest is that of its hash input, and that of a whole tree is a word. Refinement is an
-/// order, a tree has the digest of each tree that it refines, and it does what that tree was done
-/// with.
+/// A tree's digest is that of its hash input, and that of a whole tree is a word. A tree refines
+/// itself and what the trees that it refines refine, has the digest of each of them, and does what
+/// they were done with.
 pub fn tree_laws()
     ensures input { DigestOfInput }
     ensures word { DigestIsWord }
