@@ -2,8 +2,10 @@ ghost use Rattle.std.specs.Prelude.{◌≡◌, ◌<◌, ◌≤◌, [], ◌∷◌
 ghost use Rattle.vm_field.specs.Field.{prime};
 ghost use Rattle.vm_field.specs.Machine.{filled_up};
 
+use crate::aside::Aside;
 use std::alloc::Global;
 use std::marker::Model;
+use std::mem;
 use vm_field::{Felt, Felts, Memory, felt_at};
 
 /// How many cells operations see.
@@ -43,7 +45,8 @@ impl Stack {
 
     // How many cells there are.
     pub fn depth(&self) -> usize
-        ensures { result ≡ length self.now }
+        ensures is { result ≡ length self.now }
+        ensures deep { 16 ≤ result }
     {
         VISIBLE + self.below.len()
     }
@@ -120,5 +123,24 @@ impl Stack {
         self.below.extend_from_slice(hidden)?;
         self.below.reverse();
         Ok(())
+    }
+
+    // Takes out the cells below the visible ones, as they are kept.
+    pub fn set_aside(&mut self) -> Aside
+        ensures aside { result ≡ drop 16 self.old }
+        ensures left { self.new ≡ take 16 self.old }
+    {
+        let none = Vec::new(*self.below.allocator());
+        Aside {
+            below: mem::replace(&mut self.below, none),
+        }
+    }
+
+    // Puts what was set aside below the visible cells, where there are no others.
+    pub fn bring_back(&mut self, aside: Aside)
+        requires { length self.old ≡ 16 }
+        ensures { self.new ≡ self.old ++ aside }
+    {
+        self.below = aside.below;
     }
 }

@@ -76,6 +76,21 @@ fn keeps_cells(rt: HostRuntime) -> Result<(), Fail> {
 }
 
 #[test]
+fn sets_cells_aside(rt: HostRuntime) -> Result<(), Fail> {
+    let mut state = started(rt.alloc())?;
+    state.push(element(31))?;
+    state.push(element(32))?;
+    let aside = state.set_aside();
+    assert_eq!(rt; state.depth(), 16);
+    state.drop_top();
+    state.bring_back(aside);
+    assert_eq!(rt; state.depth(), 18);
+    // behind the zero that came in
+    assert_eq!(rt; (state.peek(15), state.peek(16), state.peek(17)), (Felt::ZERO, element(15), element(16)));
+    Ok(())
+}
+
+#[test]
 fn keeps_words_and_the_tape(rt: HostRuntime) -> Result<(), Fail> {
     let mut state = started(rt.alloc())?;
     let word = [element(1), element(2), element(3), element(4)];
