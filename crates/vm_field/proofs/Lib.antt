@@ -4,6 +4,9 @@ pub mod Prime
 pub mod Inverses
 pub mod Algebra
 pub mod Places
+pub mod Elements
+pub mod PermutationLemmas
+pub mod WellFormed
 pub mod HexText
 pub mod HexLaws
 pub mod DecimalText

@@ -1,11 +1,14 @@
 ghost use Rattle.std.specs.Prelude.{◌≡◌, ◌≢◌, ◌⊎◌, ℕ, ◌%◌, ◌<◌, List, length, All, Some, decimal};
+ghost use Rattle.std.specs.FinMap.{insert};
 ghost use Rattle.std.specs.Str.{str_to_ascii_lowercase};
 ghost use Rattle.vm_field.specs.Decimal.{element_of};
-ghost use Rattle.vm_field.specs.Field.{prime, felt_mul, felt_pow, felt_inv, seventh_root};
+ghost use Rattle.vm_field.specs.Field.{prime, AreElements, felt_mul, felt_pow, felt_inv, seventh_root};
+ghost use Rattle.vm_field.specs.Machine.{IsWellFormed, IsWord, WordMap, start, word_at};
 ghost use Rattle.vm_field.specs.WordText.{word_hex, word_of_hex};
 
 use crate::element::Felt;
 use crate::lists::{Bytes, Felts, Words};
+use crate::sequence::Sequence;
 use crate::word::Word;
 
 /// The laws of the field: the modulus is prime, a product is 0 only where a factor is, each
@@ -39,6 +42,22 @@ pub fn text_laws()
         → (length w ≡ 4) × All (λ e. e < prime) w }
 {}
 
+/// The laws of the machine's states: a run starts in one, a memory is made of words, a word that is
+/// written is read at its place, and at each other place what was there before.
+pub fn machine_laws()
+    ensures start { (inputs tape : List ℕ) → AreElements inputs → AreElements tape
+        → IsWellFormed (start inputs tape) }
+
+    ensures words { (memory : WordMap) (place : ℕ × ℕ) (word : List ℕ) → IsWord word
+        → ((context address : ℕ) → IsWord (word_at memory context address))
+        → (context address : ℕ) → IsWord (word_at (insert memory place word) context address) }
+    ensures written { (memory : WordMap) (context address : ℕ) (word : List ℕ)
+        → word_at (insert memory (context, address) word) context address ≡ word }
+    ensures others { (memory : WordMap) (place : ℕ × ℕ) (word : List ℕ) (context address : ℕ)
+        → (context, address) ≢ place
+        → word_at (insert memory place word) context address ≡ word_at memory context address }
+{}
+
 fn crosses<T: Send + Sync>() {}
 
 /// Elements, words and lists may be sent to other threads and read by several.
@@ -48,4 +67,5 @@ pub fn types_cross() {
     crosses::<Felts>();
     crosses::<Words>();
     crosses::<Bytes>();
+    crosses::<Sequence<Word>>();
 }

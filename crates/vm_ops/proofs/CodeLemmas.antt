@@ -57,3 +57,5 @@ op_at-outside code = (
   λ none. elim (slice_get_cases every_op code).1 [ inl found ↦ let some = found.2 in cc | inr past ↦ (let count = every_op-length in omega (arith, past.0)) ],
   λ past. slice_get_past every_op code (rw every_op-length past),
 )
+
+pub ruleset code_bounds = (code_of-below)

@@ -1,3 +1,4 @@
+pub mod Table
 pub mod Codes
 pub mod Moves
 pub mod Causes
@@ -5,3 +6,5 @@ pub mod Items
 pub mod Values
 pub mod Step
 pub mod Sizes
+pub mod Stepping
+pub mod Runs

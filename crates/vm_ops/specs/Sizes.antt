@@ -1,23 +1,26 @@
--- How long the parts of a state are, and what an operation then sees.
-use Rattle.std.specs.Prelude.{◌≡◌, ℕ, ◌+◌, ◌-◌, ◌≤◌, max, length}
-use Rattle.vm_field.specs.Machine.{Core, word_at}
+-- What an operation sees of a well-formed state, and how deep the stack is behind it.
+use Rattle.std.specs.Prelude.{◌≡◌, ℕ, ◌+◌, ◌-◌, ◌<◌, max, length}
+use Rattle.vm_field.specs.Field.{prime, AreElements}
 use Rattle.vm_ops.specs.declared.op.Op.{Op}
 use Rattle.vm_ops.specs.Moves.{takes_of, leaves_of}
 use Rattle.vm_ops.specs.Values.{Seen, advice_of}
 
--- at least sixteen cells, and words of four elements
-pub record IsSized (c : Core) : Type 0 where
-  pub stack : 16 ≤ length c.stack
-  pub digest : length c.digest ≡ 4
-  pub words : (context address : ℕ) → length (word_at c.memory context address) ≡ 4
-
--- what an operation sees of such a state
+-- sixteen cells, words of four elements, and as much advice as the operation takes
 pub record IsSeenBy (op : Op) (s : Seen) : Type 0 where
   pub constants : length s.constants ≡ 168
   pub cells : length s.cells ≡ 16
   pub word : length s.word ≡ 4
   pub digest : length s.digest ≡ 4
   pub advice : length s.advice ≡ advice_of op
+
+-- each part that an operation may leave in the state is made of elements
+pub record IsMadeOfElements (s : Seen) : Type 0 where
+  pub immediate : s.immediate < prime
+  pub advice : AreElements s.advice
+  pub word : AreElements s.word
+  pub fmp : s.fmp < prime
+  pub digest : AreElements s.digest
+  pub cells : AreElements s.cells
 
 -- the depth behind an operation
 abbrev pub depth_after : Op → ℕ → ℕ

@@ -4,45 +4,8 @@ use Rattle.std.specs.Prelude.{ℕ, ◌+◌, ◌-◌, ◌*◌, ◌/◌, ◌%◌, 
 use Rattle.vm_field.specs.Field.{prime, felt_add, felt_sub, felt_mul, felt_neg, felt_inv}
 use Rattle.vm_field.specs.Permutation.{permuted}
 use Rattle.vm_ops.specs.declared.op.Op.{Op}
-use Rattle.vm_ops.specs.declared.op.Op.TheVariants.{
-  Eqz,
-  Neg,
-  Inv,
-  Incr,
-  Not,
-  FmpAdd,
-  MLoad,
-  Caller,
-  AdvPopW,
-  HPerm,
-  U32Add,
-  U32Sub,
-  U32Mul,
-  U32Div,
-  U32Assert2,
-  Assert,
-  Eq,
-  Add,
-  Mul,
-  And,
-  Or,
-  U32And,
-  U32Xor,
-  CSwap,
-  CSwapW,
-  MLoadW,
-  MStore,
-  MStoreW,
-  FmpUpdate,
-  U32Add3,
-  U32MAdd,
-  Pad,
-  AdvPop,
-  SDepth,
-  Clk,
-  U32Split,
-  Push,
-}
+use Rattle.vm_ops.specs.declared.op.Op.TheVariants as ops
+use Rattle.vm_ops.specs.Table.{row_of}
 use Rattle.vm_ops.specs.declared.cause.Cause.{Cause}
 use Rattle.vm_ops.specs.declared.cause.Cause.TheVariants.{NotBinary, ZeroInverse, AddressRange, NotInSyscall, NotU32, DivideByZero, AssertFailed}
 
@@ -76,57 +39,55 @@ borrowed a b = bit_of (nat_lt a b) ∷ (a + (2 ^ 32 - b)) % 2 ^ 32 ∷ []
 
 -- The values that an operation leaves on top, from the cells that it takes. A pure move computes none.
 unfoldable pub computed : Op → Seen → List ℕ
-computed Eqz s = bit_of (cell s 0 == 0) ∷ []
-computed Neg s = felt_neg (cell s 0) ∷ []
-computed Inv s = felt_inv (cell s 0) ∷ []
-computed Incr s = felt_add (cell s 0) 1 ∷ []
-computed Not s = felt_sub 1 (cell s 0) ∷ []
-computed FmpAdd s = felt_add (cell s 0) s.fmp ∷ []
-computed MLoad s = slice_index s.word 0 ∷ []
-computed Caller s = reverse s.digest
-computed AdvPopW s = reverse s.advice
-computed HPerm s = reverse (permuted s.constants (reverse (take 12 s.cells)))
-computed U32Add s = two_words (cell s 1 + cell s 0)
-computed U32Sub s = borrowed (cell s 1) (cell s 0)
-computed U32Mul s = two_words (cell s 1 * cell s 0)
-computed U32Div s = cell s 1 % cell s 0 ∷ cell s 1 / cell s 0 ∷ []
-computed Eq s = bit_of (cell s 0 == cell s 1) ∷ []
-computed Add s = felt_add (cell s 0) (cell s 1) ∷ []
-computed Mul s = felt_mul (cell s 0) (cell s 1) ∷ []
-computed And s = felt_mul (cell s 0) (cell s 1) ∷ []
-computed Or s = felt_sub (felt_add (cell s 0) (cell s 1)) (felt_mul (cell s 0) (cell s 1)) ∷ []
-computed U32And s = bit_and (cell s 1) (cell s 0) ∷ []
-computed U32Xor s = bit_xor (cell s 1) (cell s 0) ∷ []
-computed CSwap s = if cell s 0 == 0 then cell s 1 ∷ cell s 2 ∷ [] else cell s 2 ∷ cell s 1 ∷ []
-computed CSwapW s =
+computed ops.Eqz s = bit_of (cell s 0 == 0) ∷ []
+computed ops.Neg s = felt_neg (cell s 0) ∷ []
+computed ops.Inv s = felt_inv (cell s 0) ∷ []
+computed ops.Incr s = felt_add (cell s 0) 1 ∷ []
+computed ops.Not s = felt_sub 1 (cell s 0) ∷ []
+computed ops.FmpAdd s = felt_add (cell s 0) s.fmp ∷ []
+computed ops.MLoad s = slice_index s.word 0 ∷ []
+computed ops.Caller s = reverse s.digest
+computed ops.AdvPopW s = reverse s.advice
+computed ops.HPerm s = reverse (permuted s.constants (reverse (take 12 s.cells)))
+computed ops.U32Add s = two_words (cell s 1 + cell s 0)
+computed ops.U32Sub s = borrowed (cell s 1) (cell s 0)
+computed ops.U32Mul s = two_words (cell s 1 * cell s 0)
+computed ops.U32Div s = cell s 1 % cell s 0 ∷ cell s 1 / cell s 0 ∷ []
+computed ops.Eq s = bit_of (cell s 0 == cell s 1) ∷ []
+computed ops.Add s = felt_add (cell s 0) (cell s 1) ∷ []
+computed ops.Mul s = felt_mul (cell s 0) (cell s 1) ∷ []
+computed ops.And s = felt_mul (cell s 0) (cell s 1) ∷ []
+computed ops.Or s = felt_sub (felt_add (cell s 0) (cell s 1)) (felt_mul (cell s 0) (cell s 1)) ∷ []
+computed ops.U32And s = bit_and (cell s 1) (cell s 0) ∷ []
+computed ops.U32Xor s = bit_xor (cell s 1) (cell s 0) ∷ []
+computed ops.CSwap s = if cell s 0 == 0 then cell s 1 ∷ cell s 2 ∷ [] else cell s 2 ∷ cell s 1 ∷ []
+computed ops.CSwapW s =
     if cell s 0 == 0 then take 8 (drop 1 s.cells) else take 4 (drop 5 s.cells) ++ take 4 (drop 1 s.cells)
-computed MLoadW s = reverse s.word
-computed U32Add3 s = two_words (cell s 2 + cell s 1 + cell s 0)
-computed U32MAdd s = two_words (cell s 1 * cell s 0 + cell s 2)
-computed Pad s = 0 ∷ []
-computed AdvPop s = s.advice
-computed SDepth s = s.depth % prime ∷ []
-computed Clk s = s.clock % prime ∷ []
-computed U32Split s = two_words (cell s 0)
-computed Push s = s.immediate ∷ []
+computed ops.MLoadW s = reverse s.word
+computed ops.U32Add3 s = two_words (cell s 2 + cell s 1 + cell s 0)
+computed ops.U32MAdd s = two_words (cell s 1 * cell s 0 + cell s 2)
+computed ops.Pad s = 0 ∷ []
+computed ops.AdvPop s = s.advice
+computed ops.SDepth s = s.depth % prime ∷ []
+computed ops.Clk s = s.clock % prime ∷ []
+computed ops.U32Split s = two_words (cell s 0)
+computed ops.Push s = s.immediate ∷ []
 computed op s = []
 
 -- the frame pointer behind the operation
 abbrev pub fmp_after : Op → Seen → ℕ
-fmp_after FmpUpdate s = felt_add s.fmp (cell s 0)
+fmp_after ops.FmpUpdate s = felt_add s.fmp (cell s 0)
 fmp_after op s = s.fmp
 
 -- the word that the operation writes at the address on top
 abbrev pub written : Op → Seen → Option (List ℕ)
-written MStore s = Some (cell s 1 ∷ drop 1 s.word)
-written MStoreW s = Some (cell s 4 ∷ cell s 3 ∷ cell s 2 ∷ cell s 1 ∷ [])
+written ops.MStore s = Some (cell s 1 ∷ drop 1 s.word)
+written ops.MStoreW s = Some (cell s 4 ∷ cell s 3 ∷ cell s 2 ∷ cell s 1 ∷ [])
 written op s = None
 
 -- how many elements of the tape the operation takes
 abbrev pub advice_of : Op → ℕ
-advice_of AdvPop = 1
-advice_of AdvPopW = 4
-advice_of op = 0
+advice_of op = (row_of op).advice
 
 abbrev pub is_bit : ℕ → Bool
 is_bit a = nat_lt a 2
@@ -155,25 +116,25 @@ address s = unless (is_u32 (cell s 0)) AddressRange
 
 -- The operation's own trap, but for an empty tape: the first of its line's causes that stands.
 unfoldable pub trap_of : Op → Seen → Option Cause
-trap_of Inv s = unless (not (cell s 0 == 0)) ZeroInverse
-trap_of Not s = unless (is_bit (cell s 0)) NotBinary
-trap_of MLoad s = address s
-trap_of Caller s = unless s.in_syscall NotInSyscall
-trap_of U32Add s = two_u32 s
-trap_of U32Sub s = two_u32 s
-trap_of U32Mul s = two_u32 s
-trap_of U32Div s = or_else (two_u32 s) (unless (not (cell s 0 == 0)) DivideByZero)
-trap_of U32Assert2 s = two_u32 s
-trap_of Assert s = unless (cell s 0 == 1) AssertFailed
-trap_of And s = unless (is_bit (cell s 0) && is_bit (cell s 1)) NotBinary
-trap_of Or s = unless (is_bit (cell s 0) && is_bit (cell s 1)) NotBinary
-trap_of U32And s = two_u32 s
-trap_of U32Xor s = two_u32 s
-trap_of CSwap s = unless (is_bit (cell s 0)) NotBinary
-trap_of CSwapW s = unless (is_bit (cell s 0)) NotBinary
-trap_of MLoadW s = address s
-trap_of MStore s = address s
-trap_of MStoreW s = address s
-trap_of U32Add3 s = three_u32 s
-trap_of U32MAdd s = three_u32 s
+trap_of ops.Inv s = unless (not (cell s 0 == 0)) ZeroInverse
+trap_of ops.Not s = unless (is_bit (cell s 0)) NotBinary
+trap_of ops.MLoad s = address s
+trap_of ops.Caller s = unless s.in_syscall NotInSyscall
+trap_of ops.U32Add s = two_u32 s
+trap_of ops.U32Sub s = two_u32 s
+trap_of ops.U32Mul s = two_u32 s
+trap_of ops.U32Div s = or_else (two_u32 s) (unless (not (cell s 0 == 0)) DivideByZero)
+trap_of ops.U32Assert2 s = two_u32 s
+trap_of ops.Assert s = unless (cell s 0 == 1) AssertFailed
+trap_of ops.And s = unless (is_bit (cell s 0) && is_bit (cell s 1)) NotBinary
+trap_of ops.Or s = unless (is_bit (cell s 0) && is_bit (cell s 1)) NotBinary
+trap_of ops.U32And s = two_u32 s
+trap_of ops.U32Xor s = two_u32 s
+trap_of ops.CSwap s = unless (is_bit (cell s 0)) NotBinary
+trap_of ops.CSwapW s = unless (is_bit (cell s 0)) NotBinary
+trap_of ops.MLoadW s = address s
+trap_of ops.MStore s = address s
+trap_of ops.MStoreW s = address s
+trap_of ops.U32Add3 s = three_u32 s
+trap_of ops.U32MAdd s = three_u32 s
 trap_of op s = None

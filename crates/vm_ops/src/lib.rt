@@ -3,16 +3,21 @@
 #![tactic(auto)]
 
 mod cause;
+mod classes;
+mod code;
 mod item;
 mod laws;
+mod moves;
 mod op;
 mod table;
 
 pub use cause::{Cause, cause_text};
+pub use classes::{accesses_memory, is_ordinary, is_start, takes_advice, writes_memory};
+pub use code::{from_opcode, opcode, text};
 pub use item::{Item, Items};
-pub use laws::{code_laws, step_laws, types_cross};
+pub use laws::{code_laws, frame_laws, run_laws, step_laws, types_cross, value_laws};
+pub use moves::{advice, leaves, shift, sources, takes};
 pub use op::{Op, Shift};
-pub use table::{from_opcode, is_ordinary, is_start, opcode, shift, text};
 
 #[cfg(test)]
 mod tests;

@@ -1,4 +1,4 @@
-use crate::table::text;
+use crate::code::text;
 use std::fmt;
 
 /// An operation of the machine (docs/MACHINE.md), one variant for each code from 0 on.

@@ -1,226 +1,148 @@
-ghost use Rattle.std.specs.Prelude.{◌≡◌, ◌<◌, slice_get};
-ghost use Rattle.vm_ops.specs.Codes.{code_of, op_at, is_ordinary_op, is_start_op, text_of_op};
-ghost use Rattle.vm_ops.specs.Moves.{shift_of};
+ghost use Rattle.std.specs.Prelude.{◌≡◌};
+ghost use Rattle.vm_ops.specs.Table.{row_of};
 
-use crate::op::{Op, Shift};
+use crate::op::Op;
+
+/// What the table says of an operation.
+#[derive(Clone, Copy)]
+pub(crate) struct Row {
+    /// The operation's code.
+    pub code: u8,
+    /// Its name, in capital letters and digits.
+    pub text: &'static str,
+    /// How many cells it takes from the top of the stack.
+    pub takes: usize,
+    /// The cells of which it leaves copies, top first.
+    pub sources: &'static [usize],
+    /// How many values it computes and leaves.
+    pub computes: usize,
+    /// How many elements it takes from the tape.
+    pub advice: usize,
+}
+
+// The table: a row is an operation, and what `Row` says of it in that order. It is written once,
+// and handed to each macro that reads it: the list of the operations and the match on one.
+macro_rules! operations {
+    ($reader:ident $($of:ident)?) => {
+        $reader! { $($of)?;
+            Noop => 0, "NOOP", 0, [], 0, 0;
+            Eqz => 1, "EQZ", 1, [], 1, 0;
+            Neg => 2, "NEG", 1, [], 1, 0;
+            Inv => 3, "INV", 1, [], 1, 0;
+            Incr => 4, "INCR", 1, [], 1, 0;
+            Not => 5, "NOT", 1, [], 1, 0;
+            FmpAdd => 6, "FMPADD", 1, [], 1, 0;
+            MLoad => 7, "MLOAD", 1, [], 1, 0;
+            Swap => 8, "SWAP", 2, [1, 0], 0, 0;
+            Caller => 9, "CALLER", 4, [], 4, 0;
+            MovUp2 => 10, "MOVUP2", 3, [2, 0, 1], 0, 0;
+            MovDn2 => 11, "MOVDN2", 3, [1, 2, 0], 0, 0;
+            MovUp3 => 12, "MOVUP3", 4, [3, 0, 1, 2], 0, 0;
+            MovDn3 => 13, "MOVDN3", 4, [1, 2, 3, 0], 0, 0;
+            MovUp4 => 14, "MOVUP4", 5, [4, 0, 1, 2, 3], 0, 0;
+            MovDn4 => 15, "MOVDN4", 5, [1, 2, 3, 4, 0], 0, 0;
+            MovUp5 => 16, "MOVUP5", 6, [5, 0, 1, 2, 3, 4], 0, 0;
+            MovDn5 => 17, "MOVDN5", 6, [1, 2, 3, 4, 5, 0], 0, 0;
+            MovUp6 => 18, "MOVUP6", 7, [6, 0, 1, 2, 3, 4, 5], 0, 0;
+            MovDn6 => 19, "MOVDN6", 7, [1, 2, 3, 4, 5, 6, 0], 0, 0;
+            MovUp7 => 20, "MOVUP7", 8, [7, 0, 1, 2, 3, 4, 5, 6], 0, 0;
+            MovDn7 => 21, "MOVDN7", 8, [1, 2, 3, 4, 5, 6, 7, 0], 0, 0;
+            MovUp8 => 22, "MOVUP8", 9, [8, 0, 1, 2, 3, 4, 5, 6, 7], 0, 0;
+            MovDn8 => 23, "MOVDN8", 9, [1, 2, 3, 4, 5, 6, 7, 8, 0], 0, 0;
+            SwapW => 24, "SWAPW", 16, [4, 5, 6, 7, 0, 1, 2, 3, 8, 9, 10, 11, 12, 13, 14, 15], 0, 0;
+            SwapW2 => 25, "SWAPW2", 16, [8, 9, 10, 11, 4, 5, 6, 7, 0, 1, 2, 3, 12, 13, 14, 15], 0, 0;
+            SwapW3 => 26, "SWAPW3", 16, [12, 13, 14, 15, 4, 5, 6, 7, 8, 9, 10, 11, 0, 1, 2, 3], 0, 0;
+            SwapDW => 27, "SWAPDW", 16, [8, 9, 10, 11, 12, 13, 14, 15, 0, 1, 2, 3, 4, 5, 6, 7], 0, 0;
+            AdvPopW => 28, "ADVPOPW", 4, [], 4, 4;
+            HPerm => 29, "HPERM", 12, [], 12, 0;
+            U32Add => 30, "U32ADD", 2, [], 2, 0;
+            U32Sub => 31, "U32SUB", 2, [], 2, 0;
+            U32Mul => 32, "U32MUL", 2, [], 2, 0;
+            U32Div => 33, "U32DIV", 2, [], 2, 0;
+            U32Assert2 => 34, "U32ASSERT2", 2, [0, 1], 0, 0;
+            Assert => 35, "ASSERT", 1, [], 0, 0;
+            Eq => 36, "EQ", 2, [], 1, 0;
+            Add => 37, "ADD", 2, [], 1, 0;
+            Mul => 38, "MUL", 2, [], 1, 0;
+            And => 39, "AND", 2, [], 1, 0;
+            Or => 40, "OR", 2, [], 1, 0;
+            U32And => 41, "U32AND", 2, [], 1, 0;
+            U32Xor => 42, "U32XOR", 2, [], 1, 0;
+            Drop => 43, "DROP", 1, [], 0, 0;
+            CSwap => 44, "CSWAP", 3, [], 2, 0;
+            CSwapW => 45, "CSWAPW", 9, [], 8, 0;
+            MLoadW => 46, "MLOADW", 5, [], 4, 0;
+            MStore => 47, "MSTORE", 1, [], 0, 0;
+            MStoreW => 48, "MSTOREW", 1, [], 0, 0;
+            FmpUpdate => 49, "FMPUPDATE", 1, [], 0, 0;
+            U32Add3 => 50, "U32ADD3", 3, [], 2, 0;
+            U32MAdd => 51, "U32MADD", 3, [], 2, 0;
+            Pad => 52, "PAD", 0, [], 1, 0;
+            Dup0 => 53, "DUP0", 0, [0], 0, 0;
+            Dup1 => 54, "DUP1", 0, [1], 0, 0;
+            Dup2 => 55, "DUP2", 0, [2], 0, 0;
+            Dup3 => 56, "DUP3", 0, [3], 0, 0;
+            Dup4 => 57, "DUP4", 0, [4], 0, 0;
+            Dup5 => 58, "DUP5", 0, [5], 0, 0;
+            Dup6 => 59, "DUP6", 0, [6], 0, 0;
+            Dup7 => 60, "DUP7", 0, [7], 0, 0;
+            Dup9 => 61, "DUP9", 0, [9], 0, 0;
+            Dup11 => 62, "DUP11", 0, [11], 0, 0;
+            Dup13 => 63, "DUP13", 0, [13], 0, 0;
+            Dup15 => 64, "DUP15", 0, [15], 0, 0;
+            AdvPop => 65, "ADVPOP", 0, [], 1, 1;
+            SDepth => 66, "SDEPTH", 0, [], 1, 0;
+            Clk => 67, "CLK", 0, [], 1, 0;
+            U32Split => 68, "U32SPLIT", 1, [], 2, 0;
+            Push => 69, "PUSH", 0, [], 1, 0;
+            Join => 70, "JOIN", 0, [], 0, 0;
+            Split => 71, "SPLIT", 1, [], 0, 0;
+            Loop => 72, "LOOP", 1, [], 0, 0;
+            Span => 73, "SPAN", 0, [], 0, 0;
+            Call => 74, "CALL", 0, [], 0, 0;
+            Syscall => 75, "SYSCALL", 0, [], 0, 0;
+            End => 76, "END", 0, [], 0, 0;
+            Repeat => 77, "REPEAT", 1, [], 0, 0;
+            Respan => 78, "RESPAN", 0, [], 0, 0;
+            Halt => 79, "HALT", 0, [], 0, 0;
+        }
+    };
+}
+
+macro_rules! list_operations {
+    (; $($op:ident => $code:literal, $text:literal, $takes:literal, $sources:tt, $computes:literal, $advice:literal;)*) => {
+        [$(Op::$op),*]
+    };
+}
+
+macro_rules! find_row {
+    ($of:ident; $($op:ident => $code:literal, $text:literal, $takes:literal, $sources:tt, $computes:literal, $advice:literal;)*) => {
+        match $of {
+            $(Op::$op => Row {
+                code: $code,
+                text: $text,
+                takes: $takes,
+                sources: &$sources,
+                computes: $computes,
+                advice: $advice,
+            },)*
+        }
+    };
+}
 
 /// All operations, in the order of their codes.
-const EVERY_OP: [Op; 80] = [
-    Op::Noop,
-    Op::Eqz,
-    Op::Neg,
-    Op::Inv,
-    Op::Incr,
-    Op::Not,
-    Op::FmpAdd,
-    Op::MLoad,
-    Op::Swap,
-    Op::Caller,
-    Op::MovUp2,
-    Op::MovDn2,
-    Op::MovUp3,
-    Op::MovDn3,
-    Op::MovUp4,
-    Op::MovDn4,
-    Op::MovUp5,
-    Op::MovDn5,
-    Op::MovUp6,
-    Op::MovDn6,
-    Op::MovUp7,
-    Op::MovDn7,
-    Op::MovUp8,
-    Op::MovDn8,
-    Op::SwapW,
-    Op::SwapW2,
-    Op::SwapW3,
-    Op::SwapDW,
-    Op::AdvPopW,
-    Op::HPerm,
-    Op::U32Add,
-    Op::U32Sub,
-    Op::U32Mul,
-    Op::U32Div,
-    Op::U32Assert2,
-    Op::Assert,
-    Op::Eq,
-    Op::Add,
-    Op::Mul,
-    Op::And,
-    Op::Or,
-    Op::U32And,
-    Op::U32Xor,
-    Op::Drop,
-    Op::CSwap,
-    Op::CSwapW,
-    Op::MLoadW,
-    Op::MStore,
-    Op::MStoreW,
-    Op::FmpUpdate,
-    Op::U32Add3,
-    Op::U32MAdd,
-    Op::Pad,
-    Op::Dup0,
-    Op::Dup1,
-    Op::Dup2,
-    Op::Dup3,
-    Op::Dup4,
-    Op::Dup5,
-    Op::Dup6,
-    Op::Dup7,
-    Op::Dup9,
-    Op::Dup11,
-    Op::Dup13,
-    Op::Dup15,
-    Op::AdvPop,
-    Op::SDepth,
-    Op::Clk,
-    Op::U32Split,
-    Op::Push,
-    Op::Join,
-    Op::Split,
-    Op::Loop,
-    Op::Span,
-    Op::Call,
-    Op::Syscall,
-    Op::End,
-    Op::Repeat,
-    Op::Respan,
-    Op::Halt,
-];
+pub(crate) const EVERY_OP: [Op; 80] = operations!(list_operations);
 
-/// The operation's code.
-pub fn opcode(op: Op) -> u8
-    ensures is { result ≡ code_of op }
-    ensures below { result < 80 }
+/// The row of an operation.
+// A caller that reads one part of it makes no row, where this is inlined.
+#[inline(always)]
+pub(crate) fn row_of(op: Op) -> Row
+    ensures code { result.code ≡ (row_of op).code }
+    ensures text { result.text.now ≡ (row_of op).text }
+    ensures takes { result.takes ≡ (row_of op).takes }
+    ensures sources { result.sources.now ≡ (row_of op).sources }
+    ensures computes { result.computes ≡ (row_of op).computes }
+    ensures advice { result.advice ≡ (row_of op).advice }
 {
-    op as u8
-}
-
-/// The operation of a code, or none exactly where the code is outside the table.
-#[tactic(auto, unfolding(crate::specs::Codes::op_at, crate::specs::Codes::every_op))]
-pub fn from_opcode(code: u8) -> Option<Op>
-    ensures is { result ≡ op_at code }
-{
-    op_in(&EVERY_OP, usize::from(code))
-}
-
-fn op_in(ops: &[Op], place: usize) -> Option<Op>
-    ensures { result ≡ slice_get ops.now place }
-{
-    ops.get(place).copied()
-}
-
-/// Where the operation shifts the cells below those that it takes. SPLIT, LOOP and REPEAT pop
-/// their condition.
-pub fn shift(op: Op) -> Shift
-    ensures { result ≡ shift_of op }
-{
-    match opcode(op) {
-        35..=51 | 71 | 72 | 77 => Shift::Left,
-        52..=69 => Shift::Right,
-        _ => Shift::Stay,
-    }
-}
-
-/// Whether a batch may hold the operation.
-pub fn is_ordinary(op: Op) -> bool
-    ensures { result ≡ is_ordinary_op op }
-{
-    opcode(op) < 70
-}
-
-/// Whether the operation starts a block.
-pub fn is_start(op: Op) -> bool
-    ensures { result ≡ is_start_op op }
-{
-    let code = opcode(op);
-    70 <= code && code < 76
-}
-
-/// The operation's name, in capital letters and digits.
-pub fn text(op: Op) -> &'static str
-    ensures { result.now ≡ text_of_op op }
-{
-    match op {
-        Op::Noop => "NOOP",
-        Op::Eqz => "EQZ",
-        Op::Neg => "NEG",
-        Op::Inv => "INV",
-        Op::Incr => "INCR",
-        Op::Not => "NOT",
-        Op::FmpAdd => "FMPADD",
-        Op::MLoad => "MLOAD",
-        Op::Swap => "SWAP",
-        Op::Caller => "CALLER",
-        Op::MovUp2 => "MOVUP2",
-        Op::MovDn2 => "MOVDN2",
-        Op::MovUp3 => "MOVUP3",
-        Op::MovDn3 => "MOVDN3",
-        Op::MovUp4 => "MOVUP4",
-        Op::MovDn4 => "MOVDN4",
-        Op::MovUp5 => "MOVUP5",
-        Op::MovDn5 => "MOVDN5",
-        Op::MovUp6 => "MOVUP6",
-        Op::MovDn6 => "MOVDN6",
-        Op::MovUp7 => "MOVUP7",
-        Op::MovDn7 => "MOVDN7",
-        Op::MovUp8 => "MOVUP8",
-        Op::MovDn8 => "MOVDN8",
-        Op::SwapW => "SWAPW",
-        Op::SwapW2 => "SWAPW2",
-        Op::SwapW3 => "SWAPW3",
-        Op::SwapDW => "SWAPDW",
-        Op::AdvPopW => "ADVPOPW",
-        Op::HPerm => "HPERM",
-        Op::U32Add => "U32ADD",
-        Op::U32Sub => "U32SUB",
-        Op::U32Mul => "U32MUL",
-        Op::U32Div => "U32DIV",
-        Op::U32Assert2 => "U32ASSERT2",
-        Op::Assert => "ASSERT",
-        Op::Eq => "EQ",
-        Op::Add => "ADD",
-        Op::Mul => "MUL",
-        Op::And => "AND",
-        Op::Or => "OR",
-        Op::U32And => "U32AND",
-        Op::U32Xor => "U32XOR",
-        Op::Drop => "DROP",
-        Op::CSwap => "CSWAP",
-        Op::CSwapW => "CSWAPW",
-        Op::MLoadW => "MLOADW",
-        Op::MStore => "MSTORE",
-        Op::MStoreW => "MSTOREW",
-        Op::FmpUpdate => "FMPUPDATE",
-        Op::U32Add3 => "U32ADD3",
-        Op::U32MAdd => "U32MADD",
-        Op::Pad => "PAD",
-        Op::Dup0 => "DUP0",
-        Op::Dup1 => "DUP1",
-        Op::Dup2 => "DUP2",
-        Op::Dup3 => "DUP3",
-        Op::Dup4 => "DUP4",
-        Op::Dup5 => "DUP5",
-        Op::Dup6 => "DUP6",
-        Op::Dup7 => "DUP7",
-        Op::Dup9 => "DUP9",
-        Op::Dup11 => "DUP11",
-        Op::Dup13 => "DUP13",
-        Op::Dup15 => "DUP15",
-        Op::AdvPop => "ADVPOP",
-        Op::SDepth => "SDEPTH",
-        Op::Clk => "CLK",
-        Op::U32Split => "U32SPLIT",
-        Op::Push => "PUSH",
-        Op::Join => "JOIN",
-        Op::Split => "SPLIT",
-        Op::Loop => "LOOP",
-        Op::Span => "SPAN",
-        Op::Call => "CALL",
-        Op::Syscall => "SYSCALL",
-        Op::End => "END",
-        Op::Repeat => "REPEAT",
-        Op::Respan => "RESPAN",
-        Op::Halt => "HALT",
-    }
+    operations!(find_row op)
 }
