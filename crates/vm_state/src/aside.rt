@@ -18,6 +18,10 @@ impl Model for Aside {
     ghost Value = { List ℕ };
 
     ghost view = { λ a. reverse a.below.items };
+
+    ghost use Rattle.vm_field.specs.Field.{AreElements};
+
+    ghost invariant = { λ a. AreElements a.below.items };
 }
 
 impl Aside {

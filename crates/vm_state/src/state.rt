@@ -1,7 +1,7 @@
 ghost use Rattle.std.specs.Prelude.{◌≡◌, ◌<◌, ◌≤◌, [], ◌∷◌, ◌++◌, drop, length, take, slice_index, slice_set, Some, None, OnOk, OnErr, IfOk};
 ghost use Rattle.std.specs.FinMap as map;
 ghost use Rattle.vm_field.specs.Field.{prime};
-ghost use Rattle.vm_field.specs.Machine.{filled_up, start, word_at};
+ghost use Rattle.vm_field.specs.Machine.{IsWellFormed, filled_up, start, word_at};
 ghost use Rattle.vm_state.specs.Views.{state_of};
 ghost use Rattle.vm_state.specs.Tapes.{Taken};
 
@@ -53,6 +53,19 @@ impl State {
             memory: WordMemory::new(alloc),
             tape,
         })
+    }
+
+    /// Reads the state, so that a proof learns that each part is made of elements. A run does
+    /// nothing.
+    pub fn known(&self)
+        ensures { IsWellFormed (state_of self.now) }
+    {
+        self.stack.known();
+        let _ = self.stack.depth();
+        let _ = self.fmp.value();
+        self.digest.known();
+        self.memory.known();
+        self.tape.known();
     }
 
     /// How many cells the stack has.
