@@ -1,0 +1,28 @@
+-- What is known of procedures in memory, as flattening sees it.
+use Rattle.std.specs.Prelude.{ℕ, List, [], Option, Vec, unwrap_or, option_and_then, bytes_eq, slice_get}
+use Rattle.std.specs.Global.{Global}
+use Rattle.std.specs.List.{position, find}
+use Rattle.std.specs.Option.{option_map}
+use Rattle.vm_field.specs.Machine.{zero_word}
+use Rattle.block_tree.specs.Trees.{Tree, Opaque}
+use Rattle.block_tree.specs.TreeView.{tree_of}
+use Rattle.masm_link.specs.declared.known.KernelProc.{KernelProc}
+use Rattle.masm_link.specs.declared.known.Lists.{Lists}
+use Rattle.masm_link.specs.declared.piece.Piece as code
+use Rattle.masm_link.specs.Blocks.{Piece}
+use Rattle.masm_link.specs.Flattening.{Known}
+use Rattle.masm_link.specs.Views.{pieces_of}
+
+-- the list of this number
+abbrev pub list_at : List (Vec code.Piece Global) → Option ℕ → List (Piece Tree)
+list_at lists number = unwrap_or (option_map (λ v. pieces_of v.items) (option_and_then (slice_get lists) number)) []
+
+-- the tree of the kernel's first procedure of that name
+abbrev pub tree_at : List KernelProc → List ℕ → Tree
+tree_at kernel name = unwrap_or (option_map (λ p. tree_of p.tree) (find (λ p. bytes_eq p.name name) kernel)) (Opaque zero_word)
+
+abbrev pub known_of : Lists → Known Tree
+known_of l = record {
+  list = λ name. list_at l.lists.now (position (λ n. bytes_eq n name) l.names.now);
+  exported = tree_at l.kernel.now;
+}
