@@ -1,33 +1,21 @@
-//! Linking: from syntax trees to trees of blocks.
+//! Assembling: from sources to programs (docs/ASSEMBLY.md).
 #![tactic(auto)]
 
-mod appending;
-mod dangling;
-mod doubles;
-mod exports;
-mod flattening;
-mod heights;
-mod joining;
-mod known;
-mod known_sizes;
-mod links;
-mod measuring;
-mod missing;
-mod names;
-mod order;
-mod piece;
-mod procedure;
-mod reach;
-mod recursion;
+mod assembling;
+mod building;
+mod kernel;
+mod laws;
+mod limits;
+mod linking;
+mod listing;
+mod program;
+mod reading;
 mod refusal;
-mod settling;
-mod shape;
-mod size;
-mod users;
+mod sizing;
 
-pub use refusal::{LinkCause, Refusal, cause_text};
+pub use assembling::assemble;
+pub use laws::assembled_trees;
+pub use refusal::{AsmCause, AsmError, cause_text};
 
 #[cfg(test)]
 mod tests;
-#[cfg(test)]
-mod use_tests;

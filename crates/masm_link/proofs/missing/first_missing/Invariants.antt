@@ -1,7 +1,0 @@
-use Rattle.masm_link.specs.Among.{AmongFirst}
-use Rattle.masm_link.specs.Dangling.{IsMissing}
-use Rattle.masm_link.specs.Least.{Answers}
-use Rattle.masm_link.proofs.missing.first_missing.Given as goal
-
-abbrev pub invariant-loop-link : goal.invariant-loop-link
-invariant-loop-link l = Answers (AmongFirst (λ place link. IsMissing link) l.row l.link-index) l.first

@@ -1,9 +1,0 @@
-use block_tree::Tree;
-use vm_ops::Item;
-
-/// What a body is flattened to: operations and blocks.
-#[derive(Drop)]
-pub(crate) enum Piece {
-    Operation(Item),
-    Whole(Tree),
-}
