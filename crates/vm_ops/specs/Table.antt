@@ -3,7 +3,7 @@
 use Rattle.std.specs.Prelude.{ℕ, List, [], ◌∷◌, codes}
 use Rattle.vm_ops.specs.declared.op.Op.{Op}
 use Rattle.vm_ops.specs.declared.op.Op.TheVariants as ops
-use Rattle.vm_ops.specs.declared.table.Row as code
+use Rattle.vm_ops.specs.declared.table.Row as declared
 
 pub record Row : Type 0 where
   pub code : ℕ
@@ -100,5 +100,5 @@ row_of ops.Respan = row 78 (codes "RESPAN") 0 [] 0 0
 row_of ops.Halt = row 79 (codes "HALT") 0 [] 0 0
 
 -- a row of the code, as one of this table
-abbrev pub row_in : code.Row → Row
+abbrev pub row_in : declared.Row → Row
 row_in r = row r.code r.text.now r.takes r.sources.now r.computes r.advice
