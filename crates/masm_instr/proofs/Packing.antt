@@ -15,14 +15,11 @@ use Rattle.masm_instr.specs.declared.form.Form.{Form}
 use Rattle.masm_instr.specs.Table.{one_amount, form_of, fixed}
 use Rattle.masm_instr.specs.Instructions.{first, first_or, is_in_range, is_count, is_in_form, names_local}
 use Rattle.masm_instr.specs.Expansion.{plain, lit, dups, movups, movdns, swapws, entry, dup, movup, movdn, swap, movupw, movdnw, exp_digit, exp_digits, pow2, pow2_step, two_to, assert_u32, local, front, expansion}
+use Rattle.masm_instr.proofs.Conjunction.{both_true}
 use Rattle.masm_instr.specs.Packable.{ExpansionsArePackable}
 
 abbrev pub Each : List Item → Type 0
 Each items = AllByRecursion IsPackableItem items
-
-both : (a b : Bool) → (a && b) ≡ true → (a ≡ true) × (b ≡ true)
-both true b e = (refl, e)
-both false b e = (e, cc)
 
 -- an operation of a batch that takes no immediate
 abbrev pub is_plain : Op → Bool
@@ -33,7 +30,7 @@ no_push op e is = let wrong : not (code_of ops.Push == 69) ≡ true = subst (λ 
 
 plain_packs : (op : Op) → is_plain op ≡ true → IsPackableItem (plain_item op)
 plain_packs op e =
-    let two : (is_ordinary_op op ≡ true) × (not (code_of op == 69) ≡ true) = both (is_ordinary_op op) (not (code_of op == 69)) e in
+    let two : (is_ordinary_op op ≡ true) × (not (code_of op == 69) ≡ true) = both_true (is_ordinary_op op) (not (code_of op == 69)) e in
     record { ordinary = record { ordinary = two.0; immediate = no_push op two.1 }; immediate = tt }
 
 push_packs : (v : ℕ) → v < prime → v ≢ 0 → IsPackableItem (push_item v)
@@ -57,13 +54,13 @@ are_plain operations = list_all is_plain operations
 each_plain : (operations : List Op) → are_plain operations ≡ true → Each (plain operations)
 each_plain [] e = tt
 each_plain (op ∷ more) e =
-    let two : (is_plain op ≡ true) × (are_plain more ≡ true) = both (is_plain op) (are_plain more) e in
+    let two : (is_plain op ≡ true) × (are_plain more ≡ true) = both_true (is_plain op) (are_plain more) e in
     (plain_packs op two.0, each_plain more two.1)
 
 plain_append : (xs ys : List Op) → are_plain xs ≡ true → are_plain ys ≡ true → are_plain (xs ++ ys) ≡ true
 plain_append [] ys h k = k
 plain_append (x ∷ xs) ys h k =
-    let two : (is_plain x ≡ true) × (are_plain xs ≡ true) = both (is_plain x) (are_plain xs) h in
+    let two : (is_plain x ≡ true) × (are_plain xs ≡ true) = both_true (is_plain x) (are_plain xs) h in
     ap (λ b. b && are_plain (xs ++ ys)) two.0 ∙ plain_append xs ys two.1 k
 
 plain_if : (test : Bool) (xs ys : List Op) → are_plain xs ≡ true → are_plain ys ≡ true → are_plain (cond test xs ys) ≡ true
@@ -73,8 +70,8 @@ plain_if false xs ys h k = k
 -- an entry of a table, and the operations round it
 plain_entry : (table : List Op) (n : ℕ) → are_plain table ≡ true → is_plain (entry table n) ≡ true
 plain_entry [] n e = refl
-plain_entry (op ∷ table) zero e = (both (is_plain op) (are_plain table) e).0
-plain_entry (op ∷ table) (suc n) e = plain_entry table n (both (is_plain op) (are_plain table) e).1
+plain_entry (op ∷ table) zero e = (both_true (is_plain op) (are_plain table) e).0
+plain_entry (op ∷ table) (suc n) e = plain_entry table n (both_true (is_plain op) (are_plain table) e).1
 
 around : (xs ys : List Op) (op : Op) → are_plain xs ≡ true → is_plain op ≡ true → are_plain ys ≡ true → are_plain (xs ++ op ∷ ys) ≡ true
 around xs ys op h o k = plain_append xs (op ∷ ys) h (ap (λ b. b && are_plain ys) o ∙ k)
@@ -146,8 +143,8 @@ each_step less small some = (
 each_steps : (factors : List ℕ) → list_all (λ n. nat_lt 0 n && nat_lt n prime) factors ≡ true → Each (flat_map pow2_step factors)
 each_steps [] e = tt
 each_steps (n ∷ factors) e =
-    let two : ((nat_lt 0 n && nat_lt n prime) ≡ true) × (list_all (λ n. nat_lt 0 n && nat_lt n prime) factors ≡ true) = both (nat_lt 0 n && nat_lt n prime) _ e in
-    let bounds : (nat_lt 0 n ≡ true) × (nat_lt n prime ≡ true) = both (nat_lt 0 n) (nat_lt n prime) two.0 in
+    let two : ((nat_lt 0 n && nat_lt n prime) ≡ true) × (list_all (λ n. nat_lt 0 n && nat_lt n prime) factors ≡ true) = both_true (nat_lt 0 n && nat_lt n prime) _ e in
+    let bounds : (nat_lt 0 n ≡ true) × (nat_lt n prime ≡ true) = both_true (nat_lt 0 n) (nat_lt n prime) two.0 in
     let some : 0 < n = ltb-true 0 n bounds.0 in
     each_append (pow2_step n) (flat_map pow2_step factors) (each_step n (ltb-true n prime bounds.1) (λ is. omega arith)) (each_steps factors two.1)
 
@@ -171,16 +168,16 @@ record InForm (f : Form) (numbers : List ℕ) : Type 0 where
 in_form : (name : Name) (numbers : List ℕ) → is_in_form name numbers ≡ true → InForm (form_of name) numbers
 in_form name numbers e =
     let two : (is_count (form_of name) (length numbers) ≡ true) × (list_all (is_in_range (form_of name)) numbers ≡ true) =
-    both (is_count (form_of name) (length numbers)) _ e in
+    both_true (is_count (form_of name) (length numbers)) _ e in
     let counts : (nat_le (form_of name).least (length numbers) ≡ true) × (nat_le (length numbers) (form_of name).most ≡ true) =
-    both (nat_le (form_of name).least (length numbers)) _ two.0 in
+    both_true (nat_le (form_of name).least (length numbers)) _ two.0 in
     record { least = leb-true _ _ counts.0; most = leb-true _ _ counts.1; ranged = two.1 }
 
 range : (f : Form) (n : ℕ) (numbers : List ℕ) → list_all (is_in_range f) (n ∷ numbers) ≡ true
     → (f.low ≤ n) × (n ≤ f.high) × (list_all (is_in_range f) numbers ≡ true)
 range f n numbers e =
-    let two : (is_in_range f n ≡ true) × (list_all (is_in_range f) numbers ≡ true) = both (is_in_range f n) _ e in
-    let bounds : (nat_le f.low n ≡ true) × (nat_le n f.high ≡ true) = both (nat_le f.low n) (nat_le n f.high) two.0 in
+    let two : (is_in_range f n ≡ true) × (list_all (is_in_range f) numbers ≡ true) = both_true (is_in_range f n) _ e in
+    let bounds : (nat_le f.low n ≡ true) × (nat_le n f.high ≡ true) = both_true (nat_le f.low n) (nat_le n f.high) two.0 in
     (leb-true _ _ bounds.0, leb-true _ _ bounds.1, two.1)
 
 first_high : (f : Form) (numbers : List ℕ) → list_all (is_in_range f) numbers ≡ true → first numbers ≤ f.high

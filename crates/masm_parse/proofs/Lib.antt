@@ -6,5 +6,5 @@ pub mod Settling
 pub mod Least
 pub mod Fitting
 pub mod Places
-pub mod SignPlaces
+pub mod TerminalPlaces
 pub mod Ordering

@@ -11,19 +11,20 @@ use Rattle.masm_lex.proofs.Ascending.{tokens_ascend}
 use Rattle.masm_parse.specs.declared.refusal.Cause.{Cause}
 use Rattle.masm_parse.specs.declared.refusal.ParseError.{ParseError}
 use Rattle.masm_parse.specs.declared.refusal.ParseError.TheVariants.{Bad}
-use Rattle.masm_parse.specs.declared.sign.Sign.{Sign}
-use Rattle.masm_parse.specs.declared.sign.Sign.TheVariants as signs
-use Rattle.masm_parse.specs.declared.sign.Word.{Word}
+use Rattle.masm_parse.specs.declared.terminal.Terminal.{Terminal}
+use Rattle.masm_parse.specs.declared.terminal.Terminal.TheVariants as terminals
+use Rattle.masm_parse.specs.declared.terminal.Symbol.{Symbol}
 use Rattle.masm_parse.specs.declared.tree.At.{At}
 use Rattle.masm_parse.specs.declared.tree.Ast.{Ast}
 use Rattle.masm_parse.specs.Grammar.{constants}
-use Rattle.masm_parse.specs.Machine.{State, Top, Inside, Behind, Reader, start, turn, settled, moved, at_of, step, ended, parse_from, parsed}
+use Rattle.masm_parse.specs.Machine.{State, Top, Inside, Behind, Reader, start, shift, settled, moved, at_of, step, ended, parse_from, parsed}
 use Rattle.masm_parse.specs.Order.{IsBefore, const_places, procedure_places, IsInOrder, TreesAreInOrder}
 use Rattle.masm_parse.specs.Trees.{Source}
 use Rattle.masm_parse.specs.Views.{source_of, Gives}
-use Rattle.masm_parse.specs.Words.{Context, known_after, word_of}
-use Rattle.masm_parse.proofs.Places.{sign_places, procs_places, state_places, HasPlaces, places_turned}
-use Rattle.masm_parse.proofs.SignPlaces.{AreAt, IsAt, at-word}
+use Rattle.masm_parse.specs.Classify.{Context, known_after, classify}
+use Rattle.masm_parse.proofs.Fitting.{same_tree}
+use Rattle.masm_parse.proofs.Places.{terminal_places, procs_places, state_places, HasPlaces, places_shifted}
+use Rattle.masm_parse.proofs.TerminalPlaces.{AreAt, IsAt, at-symbol}
 
 -- an element less
 each_less : (P : At → Type 0) (xs ys : List At) (y : At) → AllByRecursion P (xs ++ y ∷ ys) → AllByRecursion P (xs ++ ys)
@@ -49,10 +50,10 @@ pub record Going (r : Reader) (tokens : List Token) : Type 0 where
   pub consts : Ascends IsBefore (const_places r.context.consts ++ places_of tokens)
   pub procs : Ascends IsBefore (state_places r.state ++ places_of tokens)
 
-const_places_after : (context : Context) (sign : Sign)
-    → const_places (known_after context sign).consts ≡ const_places context.consts ++ const_places (constants (sign ∷ []))
-const_places_after context (signs.Const c) = map-append _ context.consts (c ∷ [])
-const_places_after context sign = sym (append-nil (const_places context.consts))
+const_places_after : (context : Context) (terminal : Terminal)
+    → const_places (known_after context terminal).consts ≡ const_places context.consts ++ const_places (constants (terminal ∷ []))
+const_places_after context (terminals.Const c) = map-append _ context.consts (c ∷ [])
+const_places_after context terminal = sym (append-nil (const_places context.consts))
 
 abbrev pub GoingOption : Option Reader → List Token → Type 0
 GoingOption None tokens = Unit {0}
@@ -62,17 +63,17 @@ abbrev pub GoingIf : Result Reader Cause → List Token → Type 0
 GoingIf (Ok r) tokens = Going r tokens
 GoingIf (Err cause) tokens = Unit {0}
 
-advanced : (r : Reader) (token : Token) (tokens : List Token) (sign : Sign) (o : Option State) → IsAt (at_of token) sign
-    → HasPlaces o (state_places r.state ++ sign_places sign) → Going r (token ∷ tokens)
-    → GoingOption (option_map (λ s. record { context = known_after r.context sign; state = s }) o) tokens
-advanced r token tokens sign None at places h = tt
-advanced r token tokens sign (Some s) at places h = record {
+advanced : (r : Reader) (token : Token) (tokens : List Token) (terminal : Terminal) (o : Option State) → IsAt (at_of token) terminal
+    → HasPlaces o (state_places r.state ++ terminal_places terminal) → Going r (token ∷ tokens)
+    → GoingOption (option_map (λ s. record { context = known_after r.context terminal; state = s }) o) tokens
+advanced r token tokens terminal None at places h = tt
+advanced r token tokens terminal (Some s) at places h = record {
   consts =
-      subst (λ zs. Ascends IsBefore (zs ++ places_of tokens)) (sym (const_places_after r.context sign))
-      (goes_on (const_places r.context.consts) (const_places (constants (sign ∷ []))) (places_of tokens) (at_of token) at.consts h.consts);
+      subst (λ zs. Ascends IsBefore (zs ++ places_of tokens)) (sym (const_places_after r.context terminal))
+      (goes_on (const_places r.context.consts) (const_places (constants (terminal ∷ []))) (places_of tokens) (at_of token) at.consts h.consts);
   procs =
       subst (λ zs. Ascends IsBefore (zs ++ places_of tokens)) (sym places)
-      (goes_on (state_places r.state) (sign_places sign) (places_of tokens) (at_of token) at.procs h.procs);
+      (goes_on (state_places r.state) (terminal_places terminal) (places_of tokens) (at_of token) at.procs h.procs);
 }
 
 going_settled : (fault : Option Cause) (deep : Bool) (now : Option Reader) (tokens : List Token) → GoingOption now tokens
@@ -83,35 +84,27 @@ going_settled None false (Some now) tokens h = h
 going_settled (Some cause) deep None tokens h = tt
 going_settled (Some cause) deep (Some now) tokens h = tt
 
-going_moved : (kernel : Bool) (r : Reader) (token : Token) (tokens : List Token) (word : Word) → IsAt (at_of token) word.sign
-    → Going r (token ∷ tokens) → GoingIf (moved kernel r word) tokens
+going_moved : (kernel : Bool) (r : Reader) (token : Token) (tokens : List Token) (symbol : Symbol) → IsAt (at_of token) symbol.terminal
+    → Going r (token ∷ tokens) → GoingIf (moved kernel r symbol) tokens
 unfolding moved
-going_moved kernel r token tokens word at h =
-    going_settled word.fault _ _ tokens
-    (advanced r token tokens word.sign (turn kernel r.state word.sign) at (places_turned kernel r.state word.sign) h)
+going_moved kernel r token tokens symbol at h =
+    going_settled symbol.fault _ _ tokens
+    (advanced r token tokens symbol.terminal (shift kernel r.state symbol.terminal) at (places_shifted kernel r.state symbol.terminal) h)
 
 going_step : (kernel : Bool) (text : List ℕ) (r : Reader) (token : Token) (tokens : List Token) → Going r (token ∷ tokens)
     → GoingIf (step kernel text r token) tokens
 unfolding step
 going_step kernel text r token tokens h =
-    going_moved kernel r token tokens (word_of kernel r.context (at_of token) (text_of text token))
-    (at-word kernel r.context (at_of token) (text_of text token)) h
-
-value_or : Source → Result Source ParseError → Source
-value_or other (Ok source) = source
-value_or other (Err e) = other
-
-same_source : (a b : Source) → ◌≡◌ {A = Result Source ParseError} (Ok a) (Ok b) → a ≡ b
-unfolding value_or
-same_source a b e = ap (value_or a) e
+    going_moved kernel r token tokens (classify kernel r.context (at_of token) (text_of text token))
+    (at-symbol kernel r.context (at_of token) (text_of text token)) h
 
 ordered_end : (kernel : Bool) (context : Context) (state : State) (end : Place) (source : Source)
     → Going (record { context = context; state = state }) [] → ended kernel end context.consts state ≡ Ok source → IsInOrder source
 ordered_end true context (Top procs) end source h e =
-    subst IsInOrder (same_source _ source e)
+    subst IsInOrder (same_tree _ source e)
     (record { consts = subst (Ascends IsBefore) (append-nil (const_places context.consts)) h.consts; procs = h.procs })
 ordered_end false context (Behind procs main) end source h e =
-    subst IsInOrder (same_source _ source e) (record {
+    subst IsInOrder (same_tree _ source e) (record {
       consts = subst (Ascends IsBefore) (append-nil (const_places context.consts)) h.consts;
       procs = subst (Ascends IsBefore) (append-nil (procs_places procs ++ procedure_places main)) h.procs;
     })

@@ -2,25 +2,25 @@
 use Rattle.std.proofs.Common.{◌≡◌, Bool, true, false, cond, List, [], ◌∷◌, ◌++◌, Option, Some, None, refl, ap, sym, ◌∙◌, append_assoc, append-nil}
 use Rattle.std.specs.List.{flat_map}
 use Rattle.masm_parse.specs.declared.tree.At.{At}
-use Rattle.masm_parse.specs.declared.sign.Role.{Role}
-use Rattle.masm_parse.specs.declared.sign.Role.TheVariants as roles
-use Rattle.masm_parse.specs.declared.sign.Header.{Header}
-use Rattle.masm_parse.specs.declared.sign.Sign.{Sign}
-use Rattle.masm_parse.specs.declared.sign.Sign.TheVariants as signs
+use Rattle.masm_parse.specs.declared.terminal.Role.{Role}
+use Rattle.masm_parse.specs.declared.terminal.Role.TheVariants as roles
+use Rattle.masm_parse.specs.declared.terminal.Header.{Header}
+use Rattle.masm_parse.specs.declared.terminal.Terminal.{Terminal}
+use Rattle.masm_parse.specs.declared.terminal.Terminal.TheVariants as terminals
 use Rattle.masm_parse.specs.Trees.{Body, Empty, Leaf_then, If_then, While_then, Repeat_then, Procedure, append}
-use Rattle.masm_parse.specs.Machine.{Open, In_if, In_else, In_while, In_repeat, State, Top, Inside, Behind, may_begin, procedure, shut, closed, turn}
+use Rattle.masm_parse.specs.Machine.{Open, In_if, In_else, In_while, In_repeat, State, Top, Inside, Behind, may_begin, procedure, reduce, closed, shift}
 use Rattle.masm_parse.specs.Order.{body_places, procedure_places}
 
 -- the place that a token adds to those of procedures and statements
-abbrev pub sign_places : Sign → List At
-sign_places (signs.Const c) = []
-sign_places (signs.Header header) = header.at ∷ []
-sign_places (signs.Leaf at leaf) = at ∷ []
-sign_places (signs.If at) = at ∷ []
-sign_places signs.Else = []
-sign_places (signs.While at) = at ∷ []
-sign_places (signs.Repeat at times) = at ∷ []
-sign_places signs.End = []
+abbrev pub terminal_places : Terminal → List At
+terminal_places (terminals.Const c) = []
+terminal_places (terminals.Header header) = header.at ∷ []
+terminal_places (terminals.Leaf at leaf) = at ∷ []
+terminal_places (terminals.If at) = at ∷ []
+terminal_places terminals.Else = []
+terminal_places (terminals.While at) = at ∷ []
+terminal_places (terminals.Repeat at times) = at ∷ []
+terminal_places terminals.End = []
 
 abbrev pub open_places : Open → List At
 open_places (In_if at before) = body_places before ++ at ∷ []
@@ -55,11 +55,11 @@ places_append (Repeat_then at times body rest) c =
     ap (λ ps. at ∷ (body_places body ++ ps)) (places_append rest c)
     ∙ ap (λ ps. at ∷ ps) (sym (append_assoc (body_places body) (body_places rest) (body_places c)))
 
-places_shut : (o : Open) (b : Body) → body_places (shut o b) ≡ open_places o ++ body_places b
-places_shut (In_if at before) b = places_append before (If_then at b Empty Empty) ∙ simp (append_assoc, append-nil)
-places_shut (In_else at before first) b = places_append before (If_then at first b Empty) ∙ simp (append_assoc, append-nil)
-places_shut (In_while at before) b = places_append before (While_then at b Empty) ∙ simp (append_assoc, append-nil)
-places_shut (In_repeat at times before) b = places_append before (Repeat_then at times b Empty) ∙ simp (append_assoc, append-nil)
+places_reduced : (o : Open) (b : Body) → body_places (reduce o b) ≡ open_places o ++ body_places b
+places_reduced (In_if at before) b = places_append before (If_then at b Empty Empty) ∙ simp (append_assoc, append-nil)
+places_reduced (In_else at before first) b = places_append before (If_then at first b Empty) ∙ simp (append_assoc, append-nil)
+places_reduced (In_while at before) b = places_append before (While_then at b Empty) ∙ simp (append_assoc, append-nil)
+places_reduced (In_repeat at times before) b = places_append before (Repeat_then at times b Empty) ∙ simp (append_assoc, append-nil)
 
 procs_places_push : (procs : List Procedure) (p : Procedure) → procs_places (procs ++ p ∷ []) ≡ procs_places procs ++ procedure_places p
 procs_places_push [] p = append-nil (procedure_places p)
@@ -85,25 +85,25 @@ places_begun procs header false = tt
 longer : (f o b more : List At) (at : At) → f ++ at ∷ (o ++ (b ++ more)) ≡ (f ++ at ∷ (o ++ b)) ++ more
 longer f o b more at = simp append_assoc
 
--- each turn adds the token's place
-pub places_turned : (kernel : Bool) (s : State) (t : Sign) → HasPlaces (turn kernel s t) (state_places s ++ sign_places t)
-places_turned kernel (Top procs) (signs.Const c) = sym (append-nil (procs_places procs))
-places_turned kernel (Top procs) (signs.Header header) = places_begun procs header (may_begin kernel header.role)
-places_turned kernel (Inside procs header opens body) (signs.Leaf at leaf) =
+-- each shift adds the token's place
+pub places_shifted : (kernel : Bool) (s : State) (t : Terminal) → HasPlaces (shift kernel s t) (state_places s ++ terminal_places t)
+places_shifted kernel (Top procs) (terminals.Const c) = sym (append-nil (procs_places procs))
+places_shifted kernel (Top procs) (terminals.Header header) = places_begun procs header (may_begin kernel header.role)
+places_shifted kernel (Inside procs header opens body) (terminals.Leaf at leaf) =
     ap (λ ps. procs_places procs ++ header.at ∷ (opens_places opens ++ ps)) (places_append body (Leaf_then at leaf Empty))
     ∙ longer (procs_places procs) (opens_places opens) (body_places body) (at ∷ []) header.at
-places_turned kernel (Inside procs header opens body) (signs.If at) =
+places_shifted kernel (Inside procs header opens body) (terminals.If at) =
     ap (λ ps. procs_places procs ++ header.at ∷ ps) (append-nil (opens_places opens ++ (body_places body ++ at ∷ [])))
     ∙ longer (procs_places procs) (opens_places opens) (body_places body) (at ∷ []) header.at
-places_turned kernel (Inside procs header opens body) (signs.While at) =
+places_shifted kernel (Inside procs header opens body) (terminals.While at) =
     ap (λ ps. procs_places procs ++ header.at ∷ ps) (append-nil (opens_places opens ++ (body_places body ++ at ∷ [])))
     ∙ longer (procs_places procs) (opens_places opens) (body_places body) (at ∷ []) header.at
-places_turned kernel (Inside procs header opens body) (signs.Repeat at times) =
+places_shifted kernel (Inside procs header opens body) (terminals.Repeat at times) =
     ap (λ ps. procs_places procs ++ header.at ∷ ps) (append-nil (opens_places opens ++ (body_places body ++ at ∷ [])))
     ∙ longer (procs_places procs) (opens_places opens) (body_places body) (at ∷ []) header.at
-places_turned kernel (Inside procs header (In_if at before ∷ opens) body) signs.Else = simp (append_assoc, append-nil)
-places_turned kernel (Inside procs header [] body) signs.End =
+places_shifted kernel (Inside procs header (In_if at before ∷ opens) body) terminals.Else = simp (append_assoc, append-nil)
+places_shifted kernel (Inside procs header [] body) terminals.End =
     places_closed procs header.role (procedure header body) ∙ sym (append-nil (procs_places procs ++ header.at ∷ body_places body))
-places_turned kernel (Inside procs header (o ∷ opens) body) signs.End =
-    ap (λ ps. procs_places procs ++ header.at ∷ (opens_places opens ++ ps)) (places_shut o body) ∙ simp (append_assoc, append-nil)
-places_turned kernel s t = tt
+places_shifted kernel (Inside procs header (o ∷ opens) body) terminals.End =
+    ap (λ ps. procs_places procs ++ header.at ∷ (opens_places opens ++ ps)) (places_reduced o body) ∙ simp (append_assoc, append-nil)
+places_shifted kernel s t = tt

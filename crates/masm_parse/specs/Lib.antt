@@ -1,6 +1,6 @@
 pub mod Causes
 pub mod Keywords
-pub mod Words
+pub mod Classify
 pub mod Trees
 pub mod Machine
 pub mod Views

@@ -17,8 +17,8 @@ abbrev pub body_places : Body → List At
 body_places Empty = []
 body_places (Leaf_then at leaf rest) = at ∷ body_places rest
 body_places (If_then at first second rest) = at ∷ (body_places first ++ (body_places second ++ body_places rest))
-body_places (While_then at turn rest) = at ∷ (body_places turn ++ body_places rest)
-body_places (Repeat_then at times turn rest) = at ∷ (body_places turn ++ body_places rest)
+body_places (While_then at body rest) = at ∷ (body_places body ++ body_places rest)
+body_places (Repeat_then at times body rest) = at ∷ (body_places body ++ body_places rest)
 
 -- the place of a procedure, and those of its statements
 abbrev pub procedure_places : Procedure → List At

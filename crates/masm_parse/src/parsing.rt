@@ -10,7 +10,7 @@ use crate::tree::Ast;
 use masm_lex::{MAX_SOURCE, Tokens, end_place};
 use std::alloc::Global;
 
-// The parser's turns, a token each.
+// The parser, a token at a time.
 #[tactic(auto, unfolding(crate::specs::Machine::parsed))]
 fn read_tokens(
     alloc: Global,

@@ -1,11 +1,11 @@
--- What blocks leave in a sponge, and that a digest is four elements.
+-- What blocks leave in a sponge, and that a digest is a word.
 use Rattle.std.proofs.Common.{◌≡◌, ℕ, ◌<◌, List, [], ◌∷◌, ◌++◌, length, take, drop, refl, arith, length-drop}
 use Rattle.std.proofs.lemmas.List.{length-take-le}
-use Rattle.std.proofs.lemmas.List.Elements.{All-drop, All-take}
 use Rattle.std.proofs.lemmas.List.Sums.{fold-append}
-use Rattle.vm_field.specs.Field.{prime}
 use Rattle.vm_field.specs.Sponge.{absorbed, begun, hashed, sponge_after, squeezed}
-use Rattle.rpo_hash.specs.States.{IsState, IsDigest}
+use Rattle.vm_field.specs.Machine.{IsWord}
+use Rattle.rpo_hash.specs.States.{IsState}
+use Rattle.vm_field.proofs.Elements.{elements-drop, elements-take}
 use Rattle.rpo_hash.proofs.OneToOne.{permuted-IsState}
 
 -- one block more
@@ -23,15 +23,15 @@ after_some : (constants state : List ℕ) (block : List ℕ) (blocks : List (Lis
 after_some constants state block [] len = permuted-IsState constants (take 4 state ++ block) len
 after_some constants state block (next ∷ blocks) len = after_some constants (absorbed constants state block) next blocks len
 
-squeezed-IsDigest : (state : List ℕ) → IsState state → IsDigest (squeezed state)
-squeezed-IsDigest state s = record {
+squeezed-IsWord : (state : List ℕ) → IsState state → IsWord (squeezed state)
+squeezed-IsWord state s = record {
   size = length-take-le 4 (drop 4 state) (omega (arith, length-drop 4 state, s.size));
-  below = All-take (λ e. e < prime) 4 (drop 4 state) (All-drop (λ e. e < prime) 4 state s.below);
+  below = elements-take 4 (drop 4 state) (elements-drop 4 state s.below);
 }
 
-pub hashed-IsDigest : (constants : List ℕ) (domain : ℕ) (blocks : List (List ℕ)) → length constants ≡ 168 → 0 < length blocks
-    → IsDigest (hashed constants domain blocks)
+pub hashed-IsWord : (constants : List ℕ) (domain : ℕ) (blocks : List (List ℕ)) → length constants ≡ 168 → 0 < length blocks
+    → IsWord (hashed constants domain blocks)
 unfolding hashed
-hashed-IsDigest constants domain [] len some = absurd (omega arith)
-hashed-IsDigest constants domain (block ∷ blocks) len some =
-    squeezed-IsDigest (sponge_after constants (begun domain) (block ∷ blocks)) (after_some constants (begun domain) block blocks len)
+hashed-IsWord constants domain [] len some = absurd (omega arith)
+hashed-IsWord constants domain (block ∷ blocks) len some =
+    squeezed-IsWord (sponge_after constants (begun domain) (block ∷ blocks)) (after_some constants (begun domain) block blocks len)

@@ -5,3 +5,4 @@ pub mod TextRounds
 pub mod Matrix
 pub mod OneToOne
 pub mod Digests
+pub mod WholeText

@@ -1,9 +1,8 @@
 -- The matrix of the permutation has an inverse: a second circulant matrix, whose product with it is the identity.
-use Rattle.std.proofs.Common.{◌≡◌, ℕ, ◌+◌, ◌*◌, ◌/◌, ◌%◌, ◌<◌, List, [], ◌∷◌, length, map, All, lit<, sym, refl, ap, ◌∙◌, arith}
+use Rattle.std.proofs.Common.{◌≡◌, ℕ, ◌+◌, ◌*◌, ◌/◌, ◌%◌, ◌<◌, List, [], ◌∷◌, length, All, lit<, sym, ap, ◌∙◌, arith}
 use Rattle.std.proofs.Math.Nat.{mod-eq_of_lt}
-use Rattle.std.proofs.lemmas.List.Elements.{All-cons, All-nil}
 use Rattle.vm_field.specs.Field.{prime}
-use Rattle.vm_field.specs.Permutation.{mixed, rotated, row_product}
+use Rattle.vm_field.specs.Permutation.{mixed, row_product}
 use Rattle.vm_field.proofs.Algebra.{same_mod}
 
 -- the first row of the second matrix, times twelve numbers
@@ -53,22 +52,3 @@ unmixed-mixed _ len below = absurd (omega arith)
 pub same_from_mixed : (x y : List ℕ) → length x ≡ 12 → length y ≡ 12 → All (λ e. e < prime) x → All (λ e. e < prime) y
     → mixed x ≡ mixed y → x ≡ y
 same_from_mixed x y lx ly bx by same = sym (unmixed-mixed x lx bx) ∙ ap unmixed same ∙ unmixed-mixed y ly by
-
-pub length-mixed : (x : List ℕ) → length (mixed x) ≡ 12
-unfolding mixed
-length-mixed x = refl
-
-row_product-below : (x : List ℕ) → row_product x < prime
-unfolding row_product
-row_product-below x = omega arith
-
-products-below : (xs : List (List ℕ)) → All (λ e. e < prime) (map row_product xs)
-products-below [] = All-nil (λ e. e < prime)
-products-below (x ∷ xs) =
-    All-cons (λ e. e < prime) (row_product x) (map row_product xs) (row_product-below x) (products-below xs)
-
-pub mixed-below : (x : List ℕ) → All (λ e. e < prime) (mixed x)
-unfolding mixed
-mixed-below x =
-    products-below
-    (rotated 0 x ∷ rotated 1 x ∷ rotated 2 x ∷ rotated 3 x ∷ rotated 4 x ∷ rotated 5 x ∷ rotated 6 x ∷ rotated 7 x ∷ rotated 8 x ∷ rotated 9 x ∷ rotated 10 x ∷ rotated 11 x ∷ [])

@@ -1,25 +1,15 @@
 -- The permutation takes no two states of twelve elements to one.
-use Rattle.std.proofs.Common.{◌≡◌, ℕ, zero, suc, ◌*◌, ◌<◌, List, [], ◌∷◌, length, map, take, drop, All, sym, refl, ap, ap₂, subst, ◌∙◌, arith, lit<, length-drop}
+use Rattle.std.proofs.Common.{◌≡◌, ℕ, zero, suc, ◌*◌, ◌<◌, List, [], ◌∷◌, length, map, take, drop, All, sym, refl, ap, ap₂, ◌∙◌, arith, length-drop}
 use Rattle.std.proofs.lemmas.List.{length-take-le, length-map}
-use Rattle.std.proofs.lemmas.List.Elements.{All-cons, All-head, All-nil, All-tail}
+use Rattle.std.proofs.lemmas.List.Elements.{All-head, All-tail}
 use Rattle.vm_field.specs.Field.{prime, felt_add, felt_pow, seventh_root}
 use Rattle.vm_field.specs.Permutation.{added, mixed, seventh_powers, seventh_roots, powered, before_roots, round, rounds, permuted}
-use Rattle.vm_field.proofs.Inverses.{felt_pow-seventh_root, same_from_seventh, seventh_root-below}
-use Rattle.vm_field.proofs.PowerLaws.{power-below}
+use Rattle.vm_field.proofs.Inverses.{felt_pow-seventh_root, same_from_seventh}
+use Rattle.vm_field.proofs.PermutationLemmas.{elements-added, elements-before_roots, elements-mixed, elements-round, elements-seventh_powers, elements-seventh_roots, length-added, length-before_roots, length-mixed, length-round}
 use Rattle.rpo_hash.specs.States.{IsState}
-use Rattle.rpo_hash.proofs.Matrix.{same_from_mixed, length-mixed, mixed-below}
+use Rattle.rpo_hash.proofs.Matrix.{same_from_mixed}
 
 -- ---- sums
-
-length-added : (x c : List ℕ) → length c ≡ length x → length (added x c) ≡ length x
-length-added [] c len = refl
-length-added (a ∷ x) [] len = absurd (omega arith)
-length-added (a ∷ x) (b ∷ c) len = ap suc (length-added x c (omega arith))
-
-added-below : (x c : List ℕ) → All (λ e. e < prime) (added x c)
-added-below [] c = All-nil (λ e. e < prime)
-added-below (a ∷ x) [] = All-nil (λ e. e < prime)
-added-below (a ∷ x) (b ∷ c) = All-cons (λ e. e < prime) (felt_add a b) (added x c) (omega arith) (added-below x c)
 
 same_term : (a b c : ℕ) → a < prime → b < prime → felt_add a c ≡ felt_add b c → a ≡ b
 same_term a b c ha hb e = omega arith
@@ -52,12 +42,6 @@ same_from_map f one (a ∷ x) (b ∷ y) bx by e =
     (one a b (All-head (λ e. e < prime) a x bx) (All-head (λ e. e < prime) b y by) heads)
     (same_from_map f one x y (All-tail (λ e. e < prime) a x bx) (All-tail (λ e. e < prime) b y by) tails)
 
-map-below : (f : ℕ → ℕ) → ((a : ℕ) → a < prime → f a < prime) → (x : List ℕ) → All (λ e. e < prime) x → All (λ e. e < prime) (map f x)
-map-below f one [] below = All-nil (λ e. e < prime)
-map-below f one (a ∷ x) below =
-    All-cons (λ e. e < prime) (f a) (map f x) (one a (All-head (λ e. e < prime) a x below))
-    (map-below f one x (All-tail (λ e. e < prime) a x below))
-
 same_from_root : (a b : ℕ) → a < prime → b < prime → seventh_root a ≡ seventh_root b → a ≡ b
 same_from_root a b ha hb e = sym (felt_pow-seventh_root a ha) ∙ ap (λ r. felt_pow r 7) e ∙ felt_pow-seventh_root b hb
 
@@ -69,27 +53,24 @@ half c x = added (mixed x) c
 half-IsState : (c x : List ℕ) → length c ≡ 12 → IsState (half c x)
 unfolding half
 half-IsState c x lc = record {
-  size = length-added (mixed x) c (lc ∙ sym (length-mixed x)) ∙ length-mixed x;
-  below = added-below (mixed x) c;
+  size = length-added (mixed x) c (omega (arith, length-mixed x)) ∙ length-mixed x;
+  below = elements-added (mixed x) c;
 }
 
 same_from_half : (c x y : List ℕ) → length c ≡ 12 → IsState x → IsState y → half c x ≡ half c y → x ≡ y
 unfolding half
 same_from_half c x y lc sx sy e =
     same_from_mixed x y sx.size sy.size sx.below sy.below
-    (same_from_added (mixed x) (mixed y) c (length-mixed y ∙ sym (length-mixed x)) (lc ∙ sym (length-mixed x)) (mixed-below x) (mixed-below y) e)
+    (same_from_added (mixed x) (mixed y) c (length-mixed y ∙ sym (length-mixed x)) (lc ∙ sym (length-mixed x)) (elements-mixed x) (elements-mixed y) e)
 
 powers-IsState : (x : List ℕ) → IsState x → IsState (seventh_powers x)
 powers-IsState x s = record {
   size = length-map x (λ e. felt_pow e 7) ∙ s.size;
-  below = map-below (λ e. felt_pow e 7) (λ a below. power-below prime a 7 (lit< tt)) x s.below;
+  below = elements-seventh_powers x;
 }
 
-roots-IsState : (x : List ℕ) → IsState x → IsState (seventh_roots x)
-roots-IsState x s = record {
-  size = length-map x seventh_root ∙ s.size;
-  below = map-below seventh_root seventh_root-below x s.below;
-}
+pub roots-IsState : (x : List ℕ) → IsState x → IsState (seventh_roots x)
+roots-IsState x s = record { size = length-map x seventh_root ∙ s.size; below = elements-seventh_roots x }
 
 -- ---- rounds
 
@@ -103,10 +84,11 @@ first_twelve c lc = length-take-le 12 c (omega arith)
 second_twelve : (c : List ℕ) → length c ≡ 24 → length (take 12 (drop 12 c)) ≡ 12
 second_twelve c lc = length-take-le 12 (drop 12 c) (omega (arith, length-drop 12 c))
 
-round-IsState : (c x : List ℕ) → length c ≡ 24 → IsState (round c x)
-round-IsState c x lc =
-    subst IsState (sym (round-halves c x))
-    (roots-IsState (half (take 12 (drop 12 c)) (seventh_powers (half (take 12 c) x))) (half-IsState (take 12 (drop 12 c)) (seventh_powers (half (take 12 c) x)) (second_twelve c lc)))
+pub before_roots-IsState : (c x : List ℕ) → length c ≡ 24 → IsState (before_roots c x)
+before_roots-IsState c x lc = record { size = length-before_roots c x lc; below = elements-before_roots c x }
+
+pub round-IsState : (c x : List ℕ) → length c ≡ 24 → IsState (round c x)
+round-IsState c x lc = record { size = length-round c x lc; below = elements-round c x }
 
 same_from_round : (c x y : List ℕ) → length c ≡ 24 → IsState x → IsState y → round c x ≡ round c y → x ≡ y
 same_from_round c x y lc sx sy e =

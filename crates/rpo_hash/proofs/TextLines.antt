@@ -74,10 +74,10 @@ one_element-at bytes l e = ap (option_and_then (λ p. option_map (λ x. (x, p.1)
 -- ---- some lines, and then more
 
 -- what was read, and what is behind
-abbrev Read : Type 0
+abbrev pub Read : Type 0
 Read = Result (List ℕ × List ℕ) ParamError
 
-abbrev put_first : ℕ → List ℕ × List ℕ → Read
+abbrev pub put_first : ℕ → List ℕ × List ℕ → Read
 put_first e later = Ok (e ∷ later.0, later.1)
 
 abbrev put_behind : List ℕ → List ℕ × List ℕ → Read
@@ -146,7 +146,7 @@ ok_read : Read → List ℕ × List ℕ
 ok_read (Ok read) = read
 ok_read (Err e) = ([], [])
 
-same_read : (a b : List ℕ × List ℕ) → ◌≡◌ {A = Read} (Ok a) (Ok b) → a ≡ b
+pub same_read : (a b : List ℕ × List ℕ) → ◌≡◌ {A = Read} (Ok a) (Ok b) → a ≡ b
 unfolding ok_read
 same_read a b e = ap ok_read e
 

@@ -10,8 +10,8 @@ mod sponge;
 #[cfg(test)]
 mod tests;
 
-pub use laws::{permutation_laws, sponge_laws, types_cross};
+pub use laws::{parameter_laws, permutation_laws, sponge_laws, types_cross};
 pub use lines::next_line;
 pub use params::{ParamCause, ParamError, Params};
-pub use permutation::permute;
+pub use permutation::{before_roots, known_constants, permute, round};
 pub use sponge::{Sponge, digest_of};

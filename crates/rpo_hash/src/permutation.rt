@@ -1,33 +1,70 @@
-ghost use Rattle.std.specs.Prelude.{◌≡◌, ℕ, ◌<◌, ◌++◌, length, EachIndex, slice_index};
+ghost use Rattle.std.specs.Prelude.{◌≡◌, ℕ, ◌<◌, [], length, EachIndex, slice_index, slice_index_or};
 ghost use Rattle.rpo_hash.specs.Constants.{constants_of};
+ghost use Rattle.rpo_hash.specs.States.{IsState};
 ghost use Rattle.vm_field.specs.Field.{prime, felt_pow};
-ghost use Rattle.vm_field.specs.Permutation.{added, mixed, permuted, round, row_product, seventh_powers};
+ghost use Rattle.vm_field.specs.Permutation.{added, before_roots, mixed, permuted, round, round_constants, row_product, seventh_powers};
 
 use crate::params::Params;
 use vm_field::{Felt, felt_at, roots7};
 
-/// The permutation of a state of twelve elements.
+/// The permutation of a state of twelve elements: seven rounds.
 pub fn permute(params: &Params, state: [Felt; 12]) -> [Felt; 12]
     ensures is { result ≡ permuted (constants_of params.now) state }
     ensures below { EachIndex result (λ k. slice_index result k < prime) }
     ensures constants { length (constants_of params.now) ≡ 168 }
 {
+    known_constants(params);
     let mut state = state;
     for k in 0..7 {
-        state = round(&params.first[k], &params.second[k], &state);
+        state = round(params, k, &state);
     }
     state
 }
 
-// One round.
-fn round(first: &[Felt; 12], second: &[Felt; 12], state: &[Felt; 12]) -> [Felt; 12]
-    ensures is { result ≡ round (first.now ++ second.now) state.now }
-    ensures below { EachIndex result (λ k. slice_index result k < prime) }
-    ensures first_twelve { length first.now ≡ 12 }
-    ensures second_twelve { length second.now ≡ 12 }
+/// The round of number k, from 0: the seventh roots of what `before_roots` gives.
+pub fn round(params: &Params, k: usize, state: &[Felt; 12]) -> [Felt; 12]
+    requires { k < 7 }
+    ensures is { result ≡ round (round_constants (constants_of params.now) k) state.now }
+    ensures state { IsState result }
 {
-    let powers = seventh_powers(&added(&mixed(state), first));
-    roots7(&added(&mixed(&powers), second))
+    roots7(&before_roots(params, k, state))
+}
+
+/// The state of the round of number k, from 0, before its seventh roots: the matrix and the round's
+/// first constants, seventh powers, and the matrix and its second constants.
+pub fn before_roots(params: &Params, k: usize, state: &[Felt; 12]) -> [Felt; 12]
+    requires { k < 7 }
+    ensures is { result ≡ before_roots (round_constants (constants_of params.now) k) state.now }
+    ensures state { IsState result }
+{
+    known_constants(params);
+    let powers = seventh_powers(&half(state, &params.first[k]));
+    half(&powers, &params.second[k])
+}
+
+/// Looks at each round's constants, so that a proof learns that they are twelve and twelve. A run
+/// does nothing.
+pub fn known_constants(params: &Params)
+    ensures twelve { (k : ℕ) → k < 7
+        → (length (slice_index_or params.now.first k []) ≡ 12)
+        × (length (slice_index_or params.now.second k []) ≡ 12) }
+    ensures count { length (constants_of params.now) ≡ 168 }
+{
+    for k in 0..7 {
+        known_twelve(&params.first[k]);
+        known_twelve(&params.second[k]);
+    }
+}
+
+fn known_twelve(constants: &[Felt; 12])
+    ensures { length constants.now ≡ 12 }
+{}
+
+// The matrix times the state, and constants.
+fn half(state: &[Felt; 12], constants: &[Felt; 12]) -> [Felt; 12]
+    ensures { result ≡ added (mixed state.now) constants.now }
+{
+    added(&mixed(state), constants)
 }
 
 // The matrix times the state.
@@ -89,7 +126,7 @@ fn added(state: &[Felt; 12], constants: &[Felt; 12]) -> [Felt; 12]
 {
     let mut sums = *state;
     for i in 0..12 {
-        sums[i] = state[i].add(constants[i]);
+        sums[i] = state[i] + constants[i];
     }
     sums
 }

@@ -1,9 +1,10 @@
--- What the steps of the permutation give: how many elements, and that they are elements.
-use Rattle.std.proofs.Common.{◌≡◌, ℕ, zero, suc, ◌*◌, ◌<◌, ◌≤◌, Bool, true, false, cond, ◌==◌, List, [], ◌∷◌, length, map, take, drop, refl, ap, arith, lit<}
-use Rattle.std.proofs.lemmas.List.{length-drop, length-map, length-take-le}
-use Rattle.std.proofs.lemmas.List.Elements.{All-cons, All-nil}
+-- What the steps of the permutation give: how many elements, and that they are elements; and its rounds one by one.
+use Rattle.std.proofs.Common.{◌≡◌, ◌↔◌, ℕ, zero, suc, ◌+◌, ◌*◌, ◌<◌, ◌≤◌, Bool, true, false, cond, ◌==◌, List, [], ◌∷◌, length, map, take, drop, refl, sym, ap, ap₂, ◌∙◌, arith, lit<}
+use Rattle.std.proofs.lemmas.List.{drop-drop, length-drop, length-map, length-take-le}
+use Rattle.std.proofs.lemmas.List.Elements.{All-cons, All-head, All-nil, All-tail}
 use Rattle.vm_field.specs.Field.{prime, AreElements, felt_add, felt_pow, one_below, seventh_root}
-use Rattle.vm_field.specs.Permutation.{added, mixed, rotated, row_product, powered, before_roots, round, rounds, permuted, seventh_powers, seventh_roots}
+use Rattle.vm_field.specs.Permutation.{added, mixed, rotated, row_product, powered, before_roots, round, rounds, permuted, round_constants, seventh_powers, seventh_roots}
+use Rattle.vm_field.proofs.Inverses.{felt_pow-seventh_root, seventh_root-seventh}
 use Rattle.vm_field.proofs.PowerLaws.{power-below}
 
 -- ---- how many
@@ -16,6 +17,10 @@ length-added (x ∷ xs) (c ∷ constants) h = ap suc (length-added xs constants 
 pub length-mixed : (x : List ℕ) → length (mixed x) ≡ 12
 unfolding mixed
 length-mixed x = refl
+
+pub length-round_constants : (constants : List ℕ) (k : ℕ) → length constants ≡ 168 → k < 7 → length (round_constants constants k) ≡ 24
+length-round_constants constants k h below =
+    length-take-le 24 (drop (24 * k) constants) (omega (arith, length-drop (24 * k) constants))
 
 pub length-before_roots : (constants x : List ℕ) → length constants ≡ 24 → length (before_roots constants x) ≡ 12
 unfolding before_roots
@@ -63,7 +68,8 @@ pub elements-mixed : (x : List ℕ) → AreElements (mixed x)
 unfolding mixed
 elements-mixed x =
     elements-products
-    (rotated 0 x ∷ rotated 1 x ∷ rotated 2 x ∷ rotated 3 x ∷ rotated 4 x ∷ rotated 5 x ∷ rotated 6 x ∷ rotated 7 x ∷ rotated 8 x ∷ rotated 9 x ∷ rotated 10 x ∷ rotated 11 x ∷ [])
+    (rotated 0 x ∷ rotated 1 x ∷ rotated 2 x ∷ rotated 3 x ∷ rotated 4 x ∷ rotated 5 x
+    ∷ rotated 6 x ∷ rotated 7 x ∷ rotated 8 x ∷ rotated 9 x ∷ rotated 10 x ∷ rotated 11 x ∷ [])
 
 -- whatever is mapped, where the map gives elements
 elements-mapped : (f : ℕ → ℕ) → ((e : ℕ) → f e < prime) → (xs : List ℕ) → AreElements (map f xs)
@@ -110,3 +116,46 @@ pub elements-permuted : (constants x : List ℕ) → length constants ≡ 168 �
 unfolding permuted rounds
 elements-permuted constants x h e =
     elements-rounds 6 (drop 24 constants) (round (take 24 constants) x) (elements-round (take 24 constants) x)
+
+-- ---- rounds, one by one
+
+pub rounds-none : (constants x : List ℕ) → rounds 0 constants x ≡ x
+unfolding rounds
+rounds-none constants x = refl
+
+-- one round more is the round under the next constants
+pub rounds-last : (k : ℕ) (constants x : List ℕ)
+    → rounds (suc k) constants x ≡ round (round_constants constants k) (rounds k constants x)
+unfolding rounds
+rounds-last zero constants x = refl
+rounds-last (suc k) constants x =
+    rounds-last k (drop 24 constants) (round (take 24 constants) x)
+    ∙ ap (λ cs. round (take 24 cs) (rounds k (drop 24 constants) (round (take 24 constants) x)))
+    (drop-drop (24 * k) 24 constants ∙ ap (λ n. drop n constants) next)
+  where
+    next : 24 + 24 * k ≡ 24 * suc k
+    next = omega arith
+
+pub permuted-is : (constants x : List ℕ) → permuted constants x ≡ rounds 7 constants x
+unfolding permuted
+permuted-is constants x = refl
+
+powers-roots : (xs : List ℕ) → AreElements xs → seventh_powers (seventh_roots xs) ≡ xs
+powers-roots [] below = refl
+powers-roots (x ∷ xs) below =
+    ap₂ (λ (e : ℕ) (es : List ℕ). e ∷ es) (felt_pow-seventh_root x (All-head (λ e. e < prime) x xs below))
+    (powers-roots xs (All-tail (λ e. e < prime) x xs below))
+
+roots-powers : (xs : List ℕ) → AreElements xs → seventh_roots (seventh_powers xs) ≡ xs
+roots-powers [] below = refl
+roots-powers (x ∷ xs) below =
+    ap₂ (λ (e : ℕ) (es : List ℕ). e ∷ es) (seventh_root-seventh x (All-head (λ e. e < prime) x xs below))
+    (roots-powers xs (All-tail (λ e. e < prime) x xs below))
+
+-- a round is known by the seventh powers of what it gives
+pub round-powers : (constants x y : List ℕ) → AreElements y → (y ≡ round constants x) ↔ (seventh_powers y ≡ before_roots constants x)
+unfolding round
+round-powers constants x y below = (
+  λ is. ap seventh_powers is ∙ powers-roots (before_roots constants x) (elements-before_roots constants x),
+  λ is. sym (roots-powers y below) ∙ ap seventh_roots is,
+)

@@ -1,4 +1,5 @@
 pub mod Field
+pub mod Signs
 pub mod Permutation
 pub mod Sponge
 pub mod Machine

@@ -34,6 +34,10 @@ seventh_powers x = map (λ e. felt_pow e 7) x
 abbrev pub seventh_roots : List ℕ → List ℕ
 seventh_roots x = map seventh_root x
 
+-- the 24 constants of a round, counted from 0
+abbrev pub round_constants : List ℕ → ℕ → List ℕ
+round_constants constants k = take 24 (drop (24 * k) constants)
+
 -- the first half of a round: matrix, first constants, seventh powers
 unfoldable pub powered : List ℕ → List ℕ → List ℕ
 powered constants x = seventh_powers (added (mixed x) constants)

@@ -61,6 +61,15 @@ impl Felt {
         }
     }
 
+    /// The element of a number of 32 bits.
+    pub fn from_u32(v: u32) -> Felt
+        ensures { result ≡ v }
+    {
+        Felt {
+            number: u64::from(v),
+        }
+    }
+
     /// The element's number.
     pub fn value(self) -> u64
         ensures is { result ≡ self }

@@ -8,6 +8,7 @@ ghost use Rattle.vm_field.specs.WordText.{word_hex, word_of_hex};
 
 use crate::element::Felt;
 use crate::lists::{Bytes, Felts, Words};
+use crate::sequence::Sequence;
 use crate::word::Word;
 
 /// The laws of the field: the modulus is prime, a product is 0 only where a factor is, each
@@ -66,4 +67,5 @@ pub fn types_cross() {
     crosses::<Felts>();
     crosses::<Words>();
     crosses::<Bytes>();
+    crosses::<Sequence<Word>>();
 }

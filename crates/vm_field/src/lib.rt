@@ -5,15 +5,18 @@
 mod element;
 mod laws;
 mod lists;
+mod operators;
 mod powers;
 mod refusal;
+mod sequence;
 #[cfg(test)]
 mod tests;
 mod word;
 
 pub use element::Felt;
 pub use laws::{field_laws, machine_laws, text_laws, types_cross};
-pub use lists::{Bytes, Felts, Words, felt_at};
+pub use lists::{Bytes, Felts, Words, felt_at, known_elements, known_words};
 pub use powers::roots7;
 pub use refusal::{Memory, NotCanonical};
+pub use sequence::Sequence;
 pub use word::Word;

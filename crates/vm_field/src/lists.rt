@@ -1,5 +1,6 @@
-ghost use Rattle.std.specs.Prelude.{◌≡◌, ◌↔◌, ℕ, ◌<◌, List, [], ◌∷◌, ◌++◌, length, slice_get, slice_index, IsTrue, OnOk, OnErr, IfOk};
-ghost use Rattle.vm_field.specs.Field.{prime};
+ghost use Rattle.std.specs.Prelude.{◌≡◌, ◌↔◌, ℕ, ◌<◌, List, [], ◌∷◌, ◌++◌, length, slice_get, slice_index, All, IsTrue, OnOk, OnErr, IfOk};
+ghost use Rattle.vm_field.specs.Field.{prime, AreElements};
+ghost use Rattle.vm_field.specs.Machine.{IsWord};
 
 use crate::element::Felt;
 use crate::refusal::Memory;
@@ -17,6 +18,8 @@ impl Model for Felts {
     ghost Value = { List ℕ };
 
     ghost view = { λ a. a.items.items };
+
+    ghost invariant = { λ a. AreElements a.items.items };
 }
 
 impl Felts {
@@ -33,6 +36,7 @@ impl Felts {
     pub fn from_vec(items: Vec<Felt>) -> Felts
         ensures items { result ≡ items.items }
     {
+        known_elements(items.as_slice());
         Felts { items }
     }
 
@@ -40,6 +44,7 @@ impl Felts {
     pub fn copied(alloc: Global, elements: &[Felt]) -> Result<Felts, Memory>
         ensures items { IfOk result (λ copy. copy ≡ elements.now) }
     {
+        known_elements(elements);
         Ok(Felts {
             items: Vec::from_slice(alloc, elements)?,
         })
@@ -50,6 +55,7 @@ impl Felts {
         ensures ok { OnOk result (self.new ≡ self.old ++ x ∷ []) }
         ensures err { OnErr result (self.new ≡ self.old) }
     {
+        let _ = x.value();
         self.items.push(x)?;
         Ok(())
     }
@@ -57,6 +63,7 @@ impl Felts {
     /// The elements, in order.
     pub fn as_slice(&self) -> &[Felt]
         ensures items { result.now ≡ self.now }
+        ensures below { AreElements result.now }
     {
         self.items.as_slice()
     }
@@ -64,6 +71,7 @@ impl Felts {
     /// How many elements there are.
     pub fn len(&self) -> usize
         ensures count { result ≡ length self.now }
+        ensures below { AreElements self.now }
     {
         self.items.len()
     }
@@ -82,6 +90,16 @@ impl Felts {
         ensures below { result < prime }
     {
         felt_at(self.items.as_slice(), i)
+    }
+}
+
+/// Reads each element, so that a proof learns that all are below 2^64 - 2^32 + 1. A run does
+/// nothing.
+pub fn known_elements(elements: &[Felt])
+    ensures { AreElements elements.now }
+{
+    for element in elements {
+        let _ = element.value();
     }
 }
 
@@ -184,6 +202,8 @@ impl Model for Words {
     ghost Value = { List (List ℕ) };
 
     ghost view = { λ a. a.items.items };
+
+    ghost invariant = { λ a. All IsWord a.items.items };
 }
 
 impl Words {
@@ -200,6 +220,7 @@ impl Words {
     pub fn from_vec(items: Vec<Word>) -> Words
         ensures items { result ≡ items.items }
     {
+        known_words(items.as_slice());
         Words { items }
     }
 
@@ -207,6 +228,7 @@ impl Words {
     pub fn copied(alloc: Global, words: &[Word]) -> Result<Words, Memory>
         ensures items { IfOk result (λ copy. copy ≡ words.now) }
     {
+        known_words(words);
         Ok(Words {
             items: Vec::from_slice(alloc, words)?,
         })
@@ -217,6 +239,7 @@ impl Words {
         ensures ok { OnOk result (self.new ≡ self.old ++ x ∷ []) }
         ensures err { OnErr result (self.new ≡ self.old) }
     {
+        x.known();
         self.items.push(x)?;
         Ok(())
     }
@@ -224,6 +247,7 @@ impl Words {
     /// The words, in order.
     pub fn as_slice(&self) -> &[Word]
         ensures items { result.now ≡ self.now }
+        ensures words { All IsWord result.now }
     {
         self.items.as_slice()
     }
@@ -231,6 +255,7 @@ impl Words {
     /// How many words there are.
     pub fn len(&self) -> usize
         ensures count { result ≡ length self.now }
+        ensures words { All IsWord self.now }
     {
         self.items.len()
     }
@@ -247,10 +272,21 @@ impl Words {
         requires { i < length self.now }
         ensures is { slice_get self.now i ≡ Some result }
         ensures four { length result ≡ 4 }
+        ensures word { IsWord result }
     {
         let word = self.items[i];
-        let _ = word.elements();
+        word.known();
         word
+    }
+}
+
+/// Reads each word, so that a proof learns that all are words of elements below 2^64 - 2^32 + 1. A
+/// run does nothing.
+pub fn known_words(words: &[Word])
+    ensures { All IsWord words.now }
+{
+    for word in words {
+        word.known();
     }
 }
 

@@ -1,7 +1,8 @@
-ghost use Rattle.std.specs.Prelude.{◌≡◌, ℕ, ◌+◌, ◌-◌, ◌*◌, ◌^◌, ◌<◌, map, slice_index, EachIndex};
+ghost use Rattle.std.specs.Prelude.{◌≡◌, ℕ, ◌+◌, ◌-◌, ◌*◌, ◌^◌, ◌<◌, map, slice_index};
 ghost use Rattle.vm_field.specs.Field.{prime, felt_mul, felt_pow, felt_inv, seventh_root};
 
 use crate::element::{Felt, PRIME};
+use crate::lists::known_elements;
 
 impl Felt {
     /// The power to an exponent. 0 to the power 0 is 1.
@@ -39,7 +40,6 @@ impl Felt {
         ensures root { felt_pow result 7 ≡ self }
         ensures below { result < prime }
     {
-        let _ = self.value();
         let [root] = roots7(&[self]);
         root
     }
@@ -48,9 +48,9 @@ impl Felt {
 /// The seventh roots of elements, one by one. Their powers are taken side by side, which is faster
 /// than one after another.
 pub fn roots7<const N: usize>(x: &[Felt; N]) -> [Felt; N]
-    requires { EachIndex x.now (λ k. slice_index x.now k < prime) }
     ensures { result ≡ map seventh_root x.now }
 {
+    known_elements(x);
     to_root_exponent(x)
 }
 
@@ -91,7 +91,7 @@ fn products<const N: usize>(x: &[Felt; N], y: &[Felt; N]) -> [Felt; N]
 {
     let mut products = *x;
     for i in 0..N {
-        products[i] = x[i].mul(y[i]);
+        products[i] = x[i] * y[i];
     }
     products
 }

@@ -1,9 +1,11 @@
 ghost use Rattle.std.specs.Prelude.{◌≡◌, ◌<◌, length, slice_index, IfOk, string_bytes};
 ghost use Rattle.hex.specs.Hex.{encode_lower};
 ghost use Rattle.vm_field.specs.Field.{prime};
+ghost use Rattle.vm_field.specs.Machine.{IsWord};
 ghost use Rattle.vm_field.specs.WordText.{word_hex, word_of_hex, element_of_hex};
 
 use crate::element::Felt;
+use crate::lists::known_elements;
 use crate::refusal::Memory;
 use std::alloc::Global;
 use std::marker::Model;
@@ -46,6 +48,14 @@ impl Word {
         ensures { result ≡ self.now }
     {
         self.0
+    }
+
+    /// Reads the four elements, so that a proof learns that each is below 2^64 - 2^32 + 1. A run
+    /// does nothing.
+    pub fn known(&self)
+        ensures { IsWord self.now }
+    {
+        known_elements(&self.0);
     }
 
     /// The word's text: sixteen lower-case hexadecimal digits for each element, the highest digit
@@ -106,6 +116,7 @@ fn element_from_hex(digits: &[u8]) -> Option<Felt>
 
 impl fmt::Display for Word {
     ghost use Rattle.std.specs.Prelude.{Some};
+    ghost use Rattle.vm_field.specs.Machine.{IsWord};
     ghost use Rattle.vm_field.specs.WordText.{word_hex};
 
     ghost output = { λ w. Some (word_hex w) };

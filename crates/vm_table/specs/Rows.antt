@@ -3,5 +3,5 @@ use Rattle.std.specs.Prelude.{ℕ, List}
 use Rattle.vm_table.specs.declared.view.Row.{Row}
 
 -- a row's cells, in the order of the columns
-abbrev pub row_cells : {W : ℕ} → Row W → List ℕ
+unfoldable pub row_cells : {W : ℕ} → Row W → List ℕ
 row_cells r = r.cells.now

@@ -1,12 +1,11 @@
-ghost use Rattle.std.specs.Prelude.{◌≡◌, ℕ, ◌+◌, ◌<◌, List, [], ◌∷◌, ◌++◌, length, slice_index, slice_index_or, OnOk, OnErr};
-ghost use Rattle.vm_field.specs.Field.{prime};
+ghost use Rattle.std.specs.Prelude.{◌≡◌, ◌+◌, ◌<◌, [], ◌∷◌, ◌++◌, length, slice_index_or, OnOk, OnErr};
 ghost use Rattle.vm_table.specs.Layout.{IsTable};
 ghost use Rattle.vm_table.specs.Rows.{row_cells};
 
 use crate::view::{Row, RowPair};
 use std::alloc::Global;
 use std::marker::Model;
-use vm_field::{Felt, Memory};
+use vm_field::{Felt, Memory, known_elements};
 
 /// A table of W columns, seen as the list of its rows.
 #[derive(Drop)]
@@ -53,9 +52,20 @@ impl<const W: usize> Table<W> {
         let Some(count) = self.count.checked_add(1) else {
             return Err(Memory::Memory);
         };
-        read_all(row);
+        known_elements(row);
         self.cells.extend_from_slice(row)?;
         self.count = count;
+        Ok(())
+    }
+
+    /// Asks for the memory of that many further rows at once. The table stays as it is.
+    pub fn reserve(&mut self, rows: usize) -> Result<(), Memory>
+        ensures { self.new ≡ self.old }
+    {
+        let Some(cells) = rows.checked_mul(W) else {
+            return Err(Memory::Memory);
+        };
+        self.cells.reserve(cells)?;
         Ok(())
     }
 
@@ -81,15 +91,6 @@ impl<const W: usize> Table<W> {
             cur: self.row(i),
             next: self.row(i + 1),
         }
-    }
-}
-
-// Each element is below the prime. A proof learns it of the elements that the code reads.
-fn read_all(cells: &[Felt])
-    ensures below { (k : ℕ) → slice_index cells.now k < prime }
-{
-    for cell in cells {
-        let _ = cell.value();
     }
 }
 

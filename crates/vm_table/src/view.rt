@@ -5,14 +5,15 @@ use vm_field::Felt;
 
 /// A row that can be read cell by cell, however it lies in memory.
 pub trait View<const W: usize> {
-    /// The row's elements, in the order of the columns.
+    /// The row's elements, W of them, in the order of the columns.
     ghost cells: { Self → List ℕ };
 
     /// The row's element of this number.
     fn cell(&self, column: usize) -> Felt
         requires { column < W }
         ensures is { result ≡ slice_index (cells self.now) column }
-        ensures below { result < prime };
+        ensures below { result < prime }
+        ensures wide { length (cells self.now) ≡ W };
 }
 
 /// A row of a table.
@@ -26,6 +27,7 @@ impl<'a, const W: usize> Row<'a, W> {
     ghost use Rattle.vm_table.specs.Rows.{row_cells};
 
     /// The row of these cells.
+    #[tactic(auto, unfolding(crate::specs::Rows::row_cells))]
     pub(crate) fn of(cells: &'a [Felt]) -> Row<'a, W>
         requires { length cells.now ≡ W }
         ensures cells { row_cells result ≡ cells.entry.now }
@@ -39,6 +41,7 @@ impl<'a, const W: usize> View<W> for Row<'a, W> {
 
     ghost cells = { row_cells };
 
+    #[tactic(auto, unfolding(crate::specs::Rows::row_cells))]
     fn cell(&self, column: usize) -> Felt {
         let element = self.cells[column];
         let _ = element.value();

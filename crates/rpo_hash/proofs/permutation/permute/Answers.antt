@@ -1,37 +1,30 @@
-use Rattle.std.proofs.Common.{◌+◌, ◌-◌, drop, sym, refl, ap, ◌∙◌, arith, below_more}
-use Rattle.vm_field.specs.Permutation.{permuted, rounds}
-use Rattle.rpo_hash.specs.Constants.{interleaved}
-use Rattle.rpo_hash.proofs.Rounds.{rounds-more, rounds-none, length-interleaved}
+use Rattle.std.proofs.Common.{sym, ap, ◌∙◌, arith, add-one}
+use Rattle.vm_field.specs.Permutation.{round, round_constants, rounds}
+use Rattle.vm_field.proofs.PermutationLemmas.{permuted-is, rounds-last, rounds-none}
+use Rattle.rpo_hash.specs.Constants.{constants_of}
 use Rattle.rpo_hash.proofs.permutation.permute.Goals as goal
 
 pub loop-k-init : goal.loop-k-init
-unfolding permuted
 loop-k-init c = record {
-  rounds_left = refl;
-  below = λ h. absurd (omega arith);
-  twelve = λ j h. absurd (omega arith);
+  rounds = sym (rounds-none (constants_of c.args.params.now) c.args.state);
+  state = λ h. absurd (omega arith);
 }
 
 pub loop-k-preserved : goal.loop-k-preserved
 loop-k-preserved c =
-    let firsts = c.args.params.now.first in
-    let seconds = c.args.params.now.second in
+    let constants = constants_of c.args.params.now in
     let k = c.loop-k.k in
     record {
-      rounds_left =
-          ap (rounds (7 - (k + 1)) (interleaved (drop (k + 1) firsts) (drop (k + 1) seconds))) c.round-state.ensures.is
-          ∙ sym (rounds-more firsts seconds 7 k c.loop-k.state c.loop-k-test.true (omega arith) (omega arith) c.round-state.ensures.first_twelve c.round-state.ensures.second_twelve)
-          ∙ c.loop-k.invariant.rounds_left;
-      below = λ h. c.round-state.ensures.below;
-      twelve = below_more _ k c.loop-k.invariant.twelve (c.round-state.ensures.first_twelve, c.round-state.ensures.second_twelve);
+      rounds =
+          c.round-state.ensures.is ∙ ap (round (round_constants constants k)) c.loop-k.invariant.rounds
+          ∙ sym (rounds-last k constants c.args.state) ∙ ap (λ n. rounds n constants c.args.state) (sym (add-one k));
+      state = λ h. c.round-state.ensures.state;
     }
 
-pub returns : goal.returns
-returns c =
-    let firsts = c.args.params.now.first in
-    let seconds = c.args.params.now.second in
-    record {
-      is = sym (rounds-none (7 - c.loop-k.k) _ c.loop-k.state (omega arith)) ∙ c.loop-k.invariant.rounds_left;
-      below = c.loop-k.invariant.below (omega arith);
-      constants = length-interleaved firsts seconds (omega arith) (λ j h. c.loop-k.invariant.twelve j (omega arith)) ∙ omega arith;
-    }
+pub returns-clause-is : goal.returns-clause-is
+returns-clause-is c =
+    let constants = constants_of c.args.params.now in
+    c.loop-k.invariant.rounds ∙ ap (λ n. rounds n constants c.args.state) (omega arith) ∙ sym (permuted-is constants c.args.state)
+
+pub returns-clause-below : goal.returns-clause-below
+returns-clause-below c = λ k h. (c.loop-k.invariant.state (omega arith)).below k 0 h

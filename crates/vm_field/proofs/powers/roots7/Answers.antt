@@ -7,4 +7,4 @@ returns g c =
     let xs = c.args.x.now in
     let ys = c.to_root_exponent.result in
     let len : length ys ≡ length xs = omega arith in
-    seventh_roots-are_powers xs ys len c.requires (λ k h. c.to_root_exponent.ensures k (omega arith))
+    seventh_roots-are_powers xs ys len (λ k h. c.known_elements.ensures k 0 h) (λ k h. c.to_root_exponent.ensures k (omega arith))
