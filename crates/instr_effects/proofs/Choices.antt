@@ -53,7 +53,7 @@ meets-cswapw constants locals s numbers form =
     by_none names.Cswapw (MeetsAt constants locals s names.Cswapw) numbers refl form (cswapw-alone constants locals s)
 
 cdrop-leaves : (test : Bool) (s : State) (rest : List ℕ)
-    → drop 1 (listed 2 0 (cond test (cells s 2 1) (cells s 1 2 ++ cells s 1 1) ++ [])) ++ rest ≡ cond test (cells s 1 2) (cells s 1 1) ++ rest
+    → drop 1 (listed 2 0 (cond test (cells s 2 1) (cells s 1 2 ++ cells s 1 1) ++ [])) ++ rest ≡ cond test (top s 2) (top s 1) ∷ rest
 cdrop-leaves true s rest = refl
 cdrop-leaves false s rest = refl
 

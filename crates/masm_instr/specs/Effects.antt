@@ -227,11 +227,11 @@ instr_effect constants names.Movupw ns locals s =
 instr_effect constants names.Movdnw ns locals s =
     leaving false (4 * first ns + 4) (cells s (4 * first ns) 4 ++ cells s 4 0)
 instr_effect constants names.Cswap ns locals s =
-    leaving (not (is_bit (top s 0))) 3 (if top s 0 == 0 then cells s 2 1 else cells s 1 2 ++ cells s 1 1)
+    of_three (λ c b a. not (is_bit c)) (λ c b a. if c == 0 then b ∷ a ∷ [] else a ∷ b ∷ []) s
 instr_effect constants names.Cswapw ns locals s =
     leaving (not (is_bit (top s 0))) 9 (if top s 0 == 0 then cells s 8 1 else cells s 4 5 ++ cells s 4 1)
 instr_effect constants names.Cdrop ns locals s =
-    leaving (not (is_bit (top s 0))) 3 (if top s 0 == 0 then cells s 1 2 else cells s 1 1)
+    of_three (λ c b a. not (is_bit c)) (λ c b a. (if c == 0 then a else b) ∷ []) s
 instr_effect constants names.Cdropw ns locals s =
     leaving (not (is_bit (top s 0))) 9 (if top s 0 == 0 then cells s 4 5 else cells s 4 1)
 instr_effect constants names.Push ns locals s = leaving false 0 (reverse ns)
