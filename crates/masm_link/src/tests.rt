@@ -6,7 +6,7 @@ use std::alloc::{AllocError, Global};
 use std::test::Fail;
 use vm_field::Felt;
 
-static NO_CONSTANTS: Params = Params {
+const NO_CONSTANTS: Params = Params {
     first: [[Felt::ZERO; 12]; 7],
     second: [[Felt::ZERO; 12]; 7],
 };
