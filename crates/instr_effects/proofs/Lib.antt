@@ -9,7 +9,7 @@ pub mod Moves
 pub mod Tests
 pub mod Choices
 pub mod Pushes
-mod Law
+pub mod Law
 pub mod Fields
 pub mod Truths
 pub mod Ordered
