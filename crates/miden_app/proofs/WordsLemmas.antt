@@ -11,7 +11,7 @@ use Rattle.vm_field.specs.FileName.{is_name_byte, begins_with_dash, is_file_name
 use Rattle.std.specs.declared.vec.Vec.{Vec}
 use Rattle.std.specs.declared.alloc.Global.{Global}
 use Rattle.std.proofs.lemmas.List.{length-map}
-use Rattle.miden_app.specs.Words.{nothing, hash, hash_words, without_dashes, texts}
+use Rattle.miden_app.specs.Asked.{nothing, hash, hash_words, without_dashes, texts}
 
 and_parts : (a b : Bool) → (a && b) ≡ true → (a ≡ true) × (b ≡ true)
 and_parts true b h = (refl, h)

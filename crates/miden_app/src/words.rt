@@ -2,8 +2,8 @@ ghost use Rattle.std.specs.Prelude.{◌≡◌, ◌≤◌, ◌∷◌, [], codes, 
 ghost use Rattle.std.specs.Str.{bytes_eq};
 ghost use Rattle.vm_field.specs.FileName.{is_file_name, is_name_byte as name_byte, begins_with_dash as first_is_dash};
 ghost use Rattle.std.specs.List.{list_all};
-ghost use Rattle.miden_app.specs.Words.{nothing, check_strip, hash, check_words, hash_words, without_dashes, asked, texts};
-ghost use Rattle.miden_app.specs.Asking.{asks, IsNamed};
+ghost use Rattle.miden_app.specs.Asked.{nothing, check_strip, hash, check_words, hash_words, without_dashes, asked, texts};
+ghost use Rattle.miden_app.specs.Inside.Asking.{asks, IsNamed};
 
 /// What the words after the program's name ask for.
 pub enum Command<'a> {
@@ -16,7 +16,7 @@ pub enum Command<'a> {
 }
 
 /// Reads the words.
-#[tactic(auto, unfolding(crate::specs::Words::asked))]
+#[tactic(auto, unfolding(crate::specs::Asked::asked))]
 pub fn command_of(words: &[Vec<u8>]) -> Command<'_>
     ensures asks { asks result ≡ asked (texts words.now) }
     ensures named { IsNamed result }
@@ -60,7 +60,7 @@ fn hash_of(words: &[Vec<u8>]) -> Command<'_>
 }
 
 // One of the three has to be the dashes, and may stand at any place.
-#[tactic(auto, unfolding(crate::specs::Words::without_dashes))]
+#[tactic(auto, unfolding(crate::specs::Asked::without_dashes))]
 fn hash_of_three<'a>(first: &'a [u8], second: &'a [u8], third: &'a [u8]) -> Command<'a>
     ensures asks { asks result
         ≡ hash_words (without_dashes (first.entry.now ∷ second.entry.now ∷ third.entry.now ∷ [])) }

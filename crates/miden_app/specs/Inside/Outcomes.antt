@@ -1,5 +1,5 @@
 -- What a command's work leaves before its line is printed.
-use Rattle.std.specs.Prelude.{◌≡◌, ℕ, List, Result, Ok, Err}
+use Rattle.std.specs.Prelude.{◌≡◌, ℕ, List, Option, Some, Result, Ok, Err}
 use Rattle.vm_field.specs.declared.refusal.Memory.{Memory}
 use Rattle.vm_io.specs.Shelf.{ShelfState}
 use Rattle.vm_io.specs.Sink.{SinkState, SinkFails, with_piece}
@@ -8,48 +8,33 @@ use Rattle.miden_app.specs.declared.status.Status.TheVariants as status
 use Rattle.miden_app.specs.declared.outcome.Answer.{Answer}
 use Rattle.miden_app.specs.declared.outcome.Outcome.{Outcome}
 use Rattle.miden_app.specs.declared.outcome.Outcome.TheVariants as outcome
-use Rattle.miden_app.specs.Plans.{End, Steps, ends_with}
+use Rattle.miden_app.specs.Statuses.{planned, kind_of}
+use Rattle.miden_app.specs.Steps.{End, Steps, ends_with}
 use Rattle.miden_app.specs.Commands.{EndsAs}
 use Rattle.miden_app.specs.Serving.{Works, GivesUp}
 
--- a status with which a plan can end
-abbrev pub IsPlanned : Status → Type 0
-IsPlanned status.ReadFault = ⊥
-IsPlanned status.WriteFault = ⊥
-IsPlanned status.SinkFault = ⊥
-IsPlanned status.Memory = ⊥
-IsPlanned status.Usage = ⊥
-IsPlanned s = Unit {0}
-
--- an answer whose line can be printed
-abbrev pub IsPrintable : Status → Type 0
-IsPrintable status.SinkFault = ⊥
-IsPrintable status.Memory = ⊥
-IsPrintable status.Usage = ⊥
-IsPrintable s = Unit {0}
-
--- the answer is one of the end's plans, with nothing written
+-- the answer is one of the end's
 pub record Fits (end : End) (a : Answer) : Type 0 where
-  pub plan : EndsAs end (ends_with a.status a.line)
-  pub planned : IsPlanned a.status
+  pub ends : EndsAs end a
+  pub kind : kind_of a.status ≡ planned
 
 -- What the command's own work comes to, with no call of the shelf. Want of memory says nothing.
 abbrev pub ComesTo : End → Outcome → Type 0
 ComesTo end (outcome.Ends a) = Fits end a
 ComesTo end outcome.Memory = Unit {0}
 
-pub record Done (steps : Steps) (a : Answer) (old new : ShelfState) : Type 0 where
-  pub works : Works steps a.status a.line old new
-  pub printable : IsPrintable a.status
-
 -- these steps ended, from the old shelf to the new one
-abbrev pub EndsIn : Steps → Outcome → ShelfState → ShelfState → Type 0
-EndsIn steps (outcome.Ends a) old new = Done steps a old new
+abbrev pub EndsIn : Option Steps → Outcome → ShelfState → ShelfState → Type 0
+EndsIn steps (outcome.Ends a) old new = Works steps (kind_of a.status) a old new
 EndsIn steps outcome.Memory old new = GivesUp steps old new
+
+-- However the rest ends from here, so the steps end from where they began.
+abbrev pub GoesOn : Steps → Steps → ShelfState → ShelfState → Type 0
+GoesOn steps rest old mid = (end : Outcome) (new : ShelfState) → EndsIn (Some rest) end mid new → EndsIn (Some steps) end old new
 
 -- an answer that is this status with this line, unless memory is refused
 abbrev pub Says : Outcome → Status → List ℕ → Type 0
-Says (outcome.Ends a) s line = a ≡ record { status = s; line = line }
+Says (outcome.Ends a) s line = a ≡ ends_with s line
 Says outcome.Memory s line = Unit {0}
 
 -- the answer with a line, where there was memory for it

@@ -2,7 +2,7 @@
 use Rattle.std.specs.Prelude.{◌≤◌, length}
 use Rattle.miden_app.specs.declared.words.Command.{Command}
 use Rattle.miden_app.specs.declared.words.Command.TheVariants as command
-use Rattle.miden_app.specs.Words.{Asked, nothing, check_strip, hash}
+use Rattle.miden_app.specs.Asked.{Asked, nothing, check_strip, hash}
 
 abbrev pub asks : Command → Asked
 asks command.Nothing = nothing

@@ -8,7 +8,7 @@ use Rattle.miden_app.specs.declared.hash.numbers.NumbersCause.{NumbersCause}
 use Rattle.miden_app.specs.declared.hash.numbers.NumbersCause.TheVariants as cause
 use Rattle.miden_app.specs.declared.hash.numbers.NumbersError.{NumbersError}
 use Rattle.miden_app.specs.declared.status.Status.TheVariants as status
-use Rattle.miden_app.specs.Plans.{End, stop}
+use Rattle.miden_app.specs.Steps.{End, stop}
 use Rattle.miden_app.specs.HashGrammar.{blocks_of}
 
 abbrev pub malformed_line : List ℕ → ℕ → List ℕ → List ℕ

@@ -7,7 +7,7 @@ use Rattle.miden_app.specs.declared.hash.numbers.NumbersStop.{NumbersStop}
 use Rattle.miden_app.specs.declared.hash.numbers.NumbersStop.TheVariants.{Malformed, Memory}
 
 -- the elements, or the line that is wrong; want of memory says nothing
-abbrev pub Gives : Result (Vec ℕ Global) NumbersStop → Result (List ℕ) NumbersError → Type 0
-Gives (Ok elements) read = read ≡ Ok elements.items
-Gives (Err (Malformed e)) read = read ≡ Err e
-Gives (Err Memory) read = Unit {0}
+abbrev pub ReadsNumbers : Result (Vec ℕ Global) NumbersStop → Result (List ℕ) NumbersError → Type 0
+ReadsNumbers (Ok elements) read = read ≡ Ok elements.items
+ReadsNumbers (Err (Malformed e)) read = read ≡ Err e
+ReadsNumbers (Err Memory) read = Unit {0}

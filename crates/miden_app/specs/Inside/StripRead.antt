@@ -5,7 +5,7 @@ use Rattle.miden_app.specs.declared.strip.reading.StripError.{StripError}
 use Rattle.miden_app.specs.declared.strip.reading.StripError.TheVariants.{Malformed, Memory}
 
 -- the rows, or `Malformed` where there are none; want of memory says nothing
-abbrev pub ReadsAs : Result (Table 23) StripError → Option (List (List ℕ)) → Type 0
-ReadsAs (Ok table) rows = rows ≡ Some table
-ReadsAs (Err Malformed) rows = rows ≡ None
-ReadsAs (Err Memory) rows = Unit {0}
+abbrev pub ReadsStrip : Result (Table 23) StripError → Option (List (List ℕ)) → Type 0
+ReadsStrip (Ok table) rows = rows ≡ Some table
+ReadsStrip (Err Malformed) rows = rows ≡ None
+ReadsStrip (Err Memory) rows = Unit {0}
