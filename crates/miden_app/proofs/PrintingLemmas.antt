@@ -1,10 +1,8 @@
 -- From a command's work and the printing of its line to what `serve` leaves.
-use Rattle.std.proofs.Common.{◌≡◌, ℕ, List, Option, Some, None, refl, inl, inr}
-use Rattle.std.specs.Option.{IfSome}
+use Rattle.std.proofs.Common.{Option, Some, None, inl, inr}
 use Rattle.vm_io.specs.Shelf.{Files, ShelfState}
 use Rattle.vm_io.specs.Sink.{SinkState}
 use Rattle.miden_app.specs.declared.status.Status.{Status}
-use Rattle.miden_app.specs.declared.status.Status.TheVariants as status
 use Rattle.miden_app.specs.declared.outcome.Answer.{Answer}
 use Rattle.miden_app.specs.declared.outcome.Outcome.{Outcome}
 use Rattle.miden_app.specs.declared.outcome.Outcome.TheVariants as outcome
@@ -13,9 +11,8 @@ use Rattle.miden_app.specs.Steps.{Steps}
 use Rattle.miden_app.specs.Serving.{Leads, Works, GivesUp, Prints, Answers}
 use Rattle.miden_app.specs.Inside.Outcomes.{EndsIn, PrintStep, printed, refused, given_up}
 
-weaker : (told : Option Files) (steps : Steps) (P Q : Steps → Files → Type 0) → ((left : Steps) (now : Files) → P left now → Q left now) → IfSome told (Leads steps P) → IfSome told (Leads steps Q)
-weaker None steps P Q from h = tt
-weaker (Some m) steps P Q from h = record { left = h.left; now = h.now; passes = h.passes; there = from h.left h.now h.there }
+weaker : (told : Option Files) (steps : Steps) (P Q : Steps → Option Files → Type 0) → ((left : Steps) (now : Option Files) → P left now → Q left now) → Leads steps P told → Leads steps Q told
+weaker told steps P Q from h = record { left = h.left; now = h.now; passes = h.passes; there = from h.left h.now h.there }
 
 -- With the work done and no memory to print with, what was read and written stands.
 works_left : (steps : Option Steps) (kind : Kind) (a : Answer) (old new : ShelfState) → Works steps kind a old new → GivesUp steps old new

@@ -1,7 +1,8 @@
 -- How the steps of a command go together: what each stop leaves, and a file read or written in front of further steps.
-use Rattle.std.proofs.Common.{◌≡◌, ◌⊎◌, ℕ, ◌<◌, ◌≤◌, List, codes, length, take, Option, Some, None, refl, sym, ap, subst, inl, inr, ◌∙◌}
+use Rattle.std.proofs.Common.{◌≡◌, ℕ, ◌<◌, ◌≤◌, List, codes, length, replicate, ◌+◌, arith, Option, Some, None, refl, sym, subst, inl, inr, ◌∙◌}
 use Rattle.std.specs.Option.{IfSome, IsSomeAnd}
-use Rattle.std.specs.FinMap.{get, insert}
+use Rattle.std.proofs.lemmas.List.{length-replicate}
+use Rattle.std.specs.FinMap.{get}
 use Rattle.vm_io.specs.Count.{Rose}
 use Rattle.vm_io.specs.Shelf.{Files, ShelfState, Told, Reads, ReadFails, WriteFails, with_failed_name, with_file}
 use Rattle.vm_io.proofs.ShelfLemmas.{kept_whole}
@@ -10,43 +11,31 @@ use Rattle.miden_app.specs.declared.status.Status.TheVariants as status
 use Rattle.miden_app.specs.declared.outcome.Answer.{Answer}
 use Rattle.miden_app.specs.declared.outcome.Outcome.{Outcome}
 use Rattle.miden_app.specs.declared.outcome.Outcome.TheVariants as outcome
-use Rattle.miden_app.specs.Statuses.{Kind, planned, no_command, failed_read, failed_write, failed_print, no_memory, kind_of}
+use Rattle.miden_app.specs.Statuses.{Kind, planned, failed_read, failed_write, kind_of}
 use Rattle.miden_app.specs.Steps.{End, stop, Right, Steps, reading, writing, ending, ends_with, named_line}
 use Rattle.miden_app.specs.Commands.{IsRight}
-use Rattle.miden_app.specs.Serving.{Passes, none_yet, past_read, past_write, Leads, RefusesFile, Concludes, IsReading, FrontWritten, NoFault, OnlyReadFault, OnlyWriteFault, Ends, Stops, FailsAtRead, FailsAtWrite, Works, GivesUp}
+use Rattle.miden_app.specs.Serving.{none_yet, past_read, past_write, Leads, Concludes, NoFault, Ends, Stops, FailsAtRead, FailsAtWrite, Works, GivesUp}
 use Rattle.miden_app.specs.Inside.Outcomes.{Fits, ComesTo, EndsIn, GoesOn, Says}
-
--- what holds of all files holds of those that are told
-told_all : (told : Option Files) (Q : Files → Type 0) → ((m : Files) → told ≡ Some m → Q m) → IfSome told Q
-told_all None Q h = tt
-told_all (Some m) Q h = h m refl
 
 no_fault : (s : ShelfState) → NoFault s s
 no_fault s = record { reads = refl; writes = refl }
 
 -- the steps stand where they began
-here : (steps : Steps) (P : Steps → Files → Type 0) (m : Files) → P steps m → Leads steps P m
+here : (steps : Steps) (P : Steps → Option Files → Type 0) (m : Option Files) → P steps m → Leads steps P m
 here steps P m there = record { left = steps; now = m; passes = none_yet; there = there }
 
 -- no step was taken
-stops_here : (steps : Steps) (s : ShelfState) → Stops steps s s
-stops_here steps s = record { counts = no_fault s; files = told_all s.files _ (λ m is. here steps _ m is) }
-
 pub same_again : (steps : Steps) (s : ShelfState) → EndsIn (Some steps) outcome.Memory s s
-same_again steps s = inl (stops_here steps s)
+same_again steps s = inl (record { counts = no_fault s; files = here steps _ s.files refl })
 
 -- an answer to the next step ends the steps
-concluded : (steps : Steps) (a : Answer) (s : ShelfState) → kind_of a.status ≡ planned → Told s (λ m. Concludes steps m a) → Works (Some steps) (kind_of a.status) a s s
+concluded : (steps : Steps) (a : Answer) (s : ShelfState) → kind_of a.status ≡ planned → Concludes steps s.files a → Works (Some steps) (kind_of a.status) a s s
 concluded steps a s kind last =
-    subst (λ k. Works (Some steps) k a s s) (sym kind) (record { counts = no_fault s; files = go s.files last })
-  where
-    go : (told : Option Files) → IfSome told (λ m. Concludes steps m a) → IfSome told (Leads steps (λ left now. Concludes left now a × (told ≡ Some now)))
-    go None h = tt
-    go (Some m) h = here steps _ m (h, refl)
+    subst (λ k. Works (Some steps) k a s s) (sym kind) (record { counts = no_fault s; files = here steps _ s.files (last, refl) })
 
 -- A command's own work ends its steps.
 pub work_ends : (end : End) (o : Outcome) (s : ShelfState) → ComesTo end o → EndsIn (Some (ending end)) o s s
-work_ends end (outcome.Ends a) s h = concluded (ending end) a s h.kind (told_all s.files _ (λ m is. h.ends))
+work_ends end (outcome.Ends a) s h = concluded (ending end) a s h.kind h.ends
 work_ends end outcome.Memory s h = same_again (ending end) s
 
 -- what is said is the end that is determined
@@ -64,36 +53,32 @@ said steps s line outcome.Memory old new is works gives_up = gives_up
 pub usage_ends : (o : Outcome) (s : ShelfState) → Says o status.Usage (codes "usage\n") → EndsIn None o s s
 usage_ends o s is = said None status.Usage (codes "usage\n") o s s is (refl, refl) refl
 
+-- a file that is missing, or too long
 refused_file : (name : List ℕ) (most : ℕ) (next : List ℕ → Steps) (a : Answer) (o : Outcome) (old new : ShelfState) → new ≡ old → kind_of a.status ≡ planned
-    → Told old (λ m. RefusesFile name most (get m name) a) → Says o a.status a.line → EndsIn (Some (reading name most next)) o old new
+    → Concludes (reading name most next) old.files a → Says o a.status a.line → EndsIn (Some (reading name most next)) o old new
 refused_file name most next a o old new same kind last is =
     subst (EndsIn (Some (reading name most next)) o old) (sym same)
     (said (Some (reading name most next)) a.status a.line o old old is (concluded (reading name most next) a old kind last) (same_again (reading name most next) old))
 
-told_from : (told : Option Files) (P Q : Files → Type 0) → ((m : Files) → P m → Q m) → IfSome told P → IfSome told Q
-told_from None P Q h p = tt
-told_from (Some m) P Q h p = h m p
-
 pub missing_ends : (name : List ℕ) (most : ℕ) (next : List ℕ → Steps) (o : Outcome) (old new : ShelfState) → new ≡ old → Told old (λ m. get m name ≡ None)
     → Says o status.Missing (named_line (codes "missing ") name) → EndsIn (Some (reading name most next)) o old new
-missing_ends name most next o old new same none is = refused_file name most next answer o old new same refl (told_from old.files _ _ none_there none) is
-  where
-    answer : Answer
-    answer = ends_with status.Missing (named_line (codes "missing ") name)
-
-    none_there : (m : Files) → get m name ≡ None → RefusesFile name most (get m name) answer
-    none_there m h = subst (λ file. RefusesFile name most file answer) (sym h) refl
+missing_ends name most next o old new same none is =
+    refused_file name most next (ends_with status.Missing (named_line (codes "missing ") name)) o old new same refl (None, none, refl) is
 
 pub too_long_ends : (name : List ℕ) (most : ℕ) (next : List ℕ → Steps) (o : Outcome) (old new : ShelfState) → new ≡ old → Told old (λ m. IsSomeAnd (get m name) (λ bytes. most < length bytes))
     → Says o status.TooLong (named_line (codes "too long ") name) → EndsIn (Some (reading name most next)) o old new
-too_long_ends name most next o old new same long is = refused_file name most next answer o old new same refl (told_from old.files _ _ (λ m h. too_long (get m name) h) long) is
+too_long_ends name most next o old new same long is = refused_file name most next answer o old new same refl (told old.files long) is
   where
     answer : Answer
     answer = ends_with status.TooLong (named_line (codes "too long ") name)
 
-    too_long : (file : Option (List ℕ)) → IsSomeAnd file (λ bytes. most < length bytes) → RefusesFile name most file answer
-    too_long None h = absurd h
-    too_long (Some bytes) h = (h, refl)
+    file : (m : Files) (held : Option (List ℕ)) → get m name ≡ held → IsSomeAnd held (λ bytes. most < length bytes) → Concludes (reading name most next) (Some m) answer
+    file m None is h = absurd h
+    file m (Some bytes) is h = (Some bytes, is, (h, refl))
+
+    told : (files : Option Files) → IfSome files (λ m. IsSomeAnd (get m name) (λ bytes. most < length bytes)) → Concludes (reading name most next) files answer
+    told None h = (Some (replicate (most + 1) 0), tt, (omega (arith, length-replicate {A = ℕ} (most + 1) 0), refl))
+    told (Some m) h = file m (get m name) refl h
 
 named : (told new : Option (List ℕ)) (name : List ℕ) → length name ≤ 200 → new ≡ with_failed_name told name → IfSome new (λ failed. failed ≡ name)
 named None new name short is = subst (λ o. IfSome o (λ failed. failed ≡ name)) (sym is) tt
@@ -108,7 +93,7 @@ read_fault_ends name most next o old new short f is =
     fails = record {
       counts = record { reads = f.read_faults; writes = f.write_faults };
       told = named old.failed_name new.failed_name name short f.failed_name;
-      files = told_all old.files _ (λ m is. here (reading name most next) _ m (refl, f.files ∙ is));
+      files = here (reading name most next) _ old.files (refl, f.files);
     }
 
 pub write_fault_ends : (name : List ℕ) (right : Right) (next : List ℕ → Steps) (bytes : List ℕ) (o : Outcome) (old new : ShelfState) → length name ≤ 200 → IsRight right bytes → WriteFails old new name bytes
@@ -120,17 +105,12 @@ write_fault_ends name right next bytes o old new short fit f is =
     fails = record {
       counts = record { reads = f.read_faults; writes = f.write_faults };
       told = named old.failed_name new.failed_name name short f.failed_name;
-      files = told_all old.files _ (λ m is. here (writing name right next) _ m (record {
-        bytes = bytes;
-        right = (refl, fit);
-        front = f.front;
-        files = f.files ∙ ap (λ told. with_file told name (take f.front bytes)) is;
-      }));
+      files = here (writing name right next) _ old.files (record { bytes = bytes; right = (refl, fit); front = f.front; files = f.files });
     }
 
 -- The rest of the steps goes on from where these steps came to without a fault.
 module _ (steps rest : Steps) (old mid : ShelfState) (counts : NoFault old mid)
-    (behind : (P : Steps → Files → Type 0) → Told mid (Leads rest P) → Told old (Leads steps P)) where
+    (behind : (P : Steps → Option Files → Type 0) → Leads rest P mid.files → Leads steps P old.files) where
   ends_further : (a : Answer) (new : ShelfState) → Ends rest a mid new → Ends steps a old new
   ends_further a new h = record {
     counts = record { reads = h.counts.reads ∙ counts.reads; writes = h.counts.writes ∙ counts.writes };
@@ -173,19 +153,17 @@ module _ (steps rest : Steps) (old mid : ShelfState) (counts : NoFault old mid)
 pub goes_past_read : (name : List ℕ) (most : ℕ) (next : List ℕ → Steps) (bytes : List ℕ) (old mid : ShelfState) → Reads old mid name most bytes → GoesOn (reading name most next) (next bytes) old mid
 goes_past_read name most next bytes old mid found =
     subst (GoesOn (reading name most next) (next bytes) old) (sym found.same)
-    (goes_further (reading name most next) (next bytes) old old (no_fault old) (λ P h. past old.files P found.file h))
+    (goes_further (reading name most next) (next bytes) old old (no_fault old) past)
   where
-    past : (told : Option Files) (P : Steps → Files → Type 0) → IfSome told (λ m. get m name ≡ Some bytes) → IfSome told (Leads (next bytes) P) → IfSome told (Leads (reading name most next) P)
-    past None P held h = tt
-    past (Some m) P held h = record { left = h.left; now = h.now; passes = past_read name most next bytes held found.within h.passes; there = h.there }
+    past : (P : Steps → Option Files → Type 0) → Leads (next bytes) P old.files → Leads (reading name most next) P old.files
+    past P h = record { left = h.left; now = h.now; passes = past_read name most next bytes found.file found.within h.passes; there = h.there }
 
 -- a file that was written
 pub goes_past_write : (name : List ℕ) (right : Right) (next : List ℕ → Steps) (bytes : List ℕ) (old mid : ShelfState) → IsRight right bytes → mid ≡ record old { files = with_file old.files name bytes }
     → GoesOn (writing name right next) (next bytes) old mid
 goes_past_write name right next bytes old mid fit is =
     subst (GoesOn (writing name right next) (next bytes) old) (sym is)
-    (goes_further (writing name right next) (next bytes) old _ (record { reads = refl; writes = refl }) (λ P h. past old.files P h))
+    (goes_further (writing name right next) (next bytes) old _ (record { reads = refl; writes = refl }) past)
   where
-    past : (told : Option Files) (P : Steps → Files → Type 0) → IfSome (with_file told name bytes) (Leads (next bytes) P) → IfSome told (Leads (writing name right next) P)
-    past None P h = tt
-    past (Some m) P h = record { left = h.left; now = h.now; passes = past_write name right next bytes fit h.passes; there = h.there }
+    past : (P : Steps → Option Files → Type 0) → Leads (next bytes) P (with_file old.files name bytes) → Leads (writing name right next) P old.files
+    past P h = record { left = h.left; now = h.now; passes = past_write name right next bytes fit h.passes; there = h.there }

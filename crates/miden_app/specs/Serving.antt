@@ -1,8 +1,8 @@
 -- What `serve` leaves, for each answer.
 use Rattle.std.specs.Prelude.{◌≡◌, ◌⊎◌, ℕ, ◌<◌, ◌≤◌, List, codes, length, take, Option, Some, None, IfSome}
-use Rattle.std.specs.FinMap.{get, insert}
+use Rattle.std.specs.FinMap.{get}
 use Rattle.vm_io.specs.Count.{Rose}
-use Rattle.vm_io.specs.Shelf.{Files, ShelfState, Told}
+use Rattle.vm_io.specs.Shelf.{Files, ShelfState, with_file}
 use Rattle.vm_io.specs.Sink.{SinkState, SinkFails, with_piece}
 use Rattle.miden_app.specs.declared.status.Status.{Status}
 use Rattle.miden_app.specs.declared.status.Status.TheVariants as status
@@ -12,29 +12,34 @@ use Rattle.miden_app.specs.Asked.{asked}
 use Rattle.miden_app.specs.Steps.{Right, Steps, reading, writing, ending, ends_with, named_line}
 use Rattle.miden_app.specs.Commands.{steps_of, EndsAs, IsRight}
 
+-- as far as the files are told, this stands under the name
+abbrev pub Holds : Option Files → List ℕ → Option (List ℕ) → Type 0
+Holds told name file = IfSome told (λ m. get m name ≡ file)
+
 -- Without a fault the steps lead from files m to files n, with the steps `left` still to come.
-pub data Passes : Steps → Files → Steps → Files → Type 0 where
-  none_yet : {steps : Steps} {m : Files} → Passes steps m steps m
-  past_read : (name : List ℕ) (most : ℕ) (next : List ℕ → Steps) (bytes : List ℕ) {m n : Files} {left : Steps}
-      → get m name ≡ Some bytes → length bytes ≤ most → Passes (next bytes) m left n → Passes (reading name most next) m left n
-  past_write : (name : List ℕ) (right : Right) (next : List ℕ → Steps) (bytes : List ℕ) {m n : Files} {left : Steps}
-      → IsRight right bytes → Passes (next bytes) (insert m name bytes) left n → Passes (writing name right next) m left n
+-- A shelf that does not tell its files may give any bytes.
+pub data Passes : Steps → Option Files → Steps → Option Files → Type 0 where
+  none_yet : {steps : Steps} {m : Option Files} → Passes steps m steps m
+  past_read : (name : List ℕ) (most : ℕ) (next : List ℕ → Steps) (bytes : List ℕ) {m n : Option Files} {left : Steps}
+      → Holds m name (Some bytes) → length bytes ≤ most → Passes (next bytes) m left n → Passes (reading name most next) m left n
+  past_write : (name : List ℕ) (right : Right) (next : List ℕ → Steps) (bytes : List ℕ) {m n : Option Files} {left : Steps}
+      → IsRight right bytes → Passes (next bytes) (with_file m name bytes) left n → Passes (writing name right next) m left n
 
 -- The steps come to a place where P holds of those that are left and of the files.
-pub record Leads (steps : Steps) (P : Steps → Files → Type 0) (m : Files) : Type 0 where
+pub record Leads (steps : Steps) (P : Steps → Option Files → Type 0) (m : Option Files) : Type 0 where
   pub left : Steps
-  pub now : Files
+  pub now : Option Files
   pub passes : Passes steps m left now
   pub there : P left now
 
--- a file that is not read: it is missing, or too long
+-- the answer to a file that is missing, or too long
 abbrev pub RefusesFile : List ℕ → ℕ → Option (List ℕ) → Answer → Type 0
 RefusesFile name most None a = a ≡ ends_with status.Missing (named_line (codes "missing ") name)
 RefusesFile name most (Some bytes) a = (most < length bytes) × (a ≡ ends_with status.TooLong (named_line (codes "too long ") name))
 
 -- The next step is the last one, with this answer.
-abbrev pub Concludes : Steps → Files → Answer → Type 0
-Concludes (reading name most next) m a = RefusesFile name most (get m name) a
+abbrev pub Concludes : Steps → Option Files → Answer → Type 0
+Concludes (reading name most next) m a = (file : Option (List ℕ)) × Holds m name file × RefusesFile name most file a
 Concludes (writing name right next) m a = ⊥
 Concludes (ending end) m a = EndsAs end a
 
@@ -65,31 +70,31 @@ pub record OnlyWriteFault (old new : ShelfState) : Type 0 where
 -- The steps went to their end, which is this answer.
 pub record Ends (steps : Steps) (a : Answer) (old new : ShelfState) : Type 0 where
   pub counts : NoFault old new
-  pub files : Told old (Leads steps (λ left now. Concludes left now a × (new.files ≡ Some now)))
+  pub files : Leads steps (λ left now. Concludes left now a × (new.files ≡ now)) old.files
 
 -- The steps stopped behind one of them, without a fault.
 pub record Stops (steps : Steps) (old new : ShelfState) : Type 0 where
   pub counts : NoFault old new
-  pub files : Told old (Leads steps (λ left now. new.files ≡ Some now))
+  pub files : Leads steps (λ left now. new.files ≡ now) old.files
 
 -- The read of this file failed when its turn had come.
 pub record FailsAtRead (steps : Steps) (name : List ℕ) (old new : ShelfState) : Type 0 where
   pub counts : OnlyReadFault old new
   pub told : IfSome new.failed_name (λ failed. failed ≡ name)
-  pub files : Told old (Leads steps (λ left now. IsReading name left × (new.files ≡ Some now)))
+  pub files : Leads steps (λ left now. IsReading name left × (new.files ≡ now)) old.files
 
 -- a front of right bytes stands under the name, and the writes before it are whole
-pub record FrontWritten (name : List ℕ) (left : Steps) (before : Files) (now : Option Files) : Type 0 where
+pub record FrontWritten (name : List ℕ) (left : Steps) (before now : Option Files) : Type 0 where
   pub bytes : List ℕ
   pub right : IsWriting name bytes left
   pub front : ℕ
-  pub files : now ≡ Some (insert before name (take front bytes))
+  pub files : now ≡ with_file before name (take front bytes)
 
 -- The write of this file failed when its turn had come.
 pub record FailsAtWrite (steps : Steps) (name : List ℕ) (old new : ShelfState) : Type 0 where
   pub counts : OnlyWriteFault old new
   pub told : IfSome new.failed_name (λ failed. failed ≡ name)
-  pub files : Told old (Leads steps (λ left before. FrontWritten name left before new.files))
+  pub files : Leads steps (λ left before. FrontWritten name left before new.files) old.files
 
 -- The work of a command, before its answer is printed, by the kind of the answer's status.
 abbrev pub Works : Option Steps → Kind → Answer → ShelfState → ShelfState → Type 0
