@@ -1,36 +1,29 @@
--- What the words after the program's name ask for (docs/FORMATS.md).
-use Rattle.std.specs.Prelude.{ℕ, ◌&&◌, if◌then◌else◌, List, [], ◌∷◌, codes, map}
+-- What the words behind the program's name ask for (docs/FORMATS.md).
+use Rattle.std.specs.Prelude.{ℕ, if◌then◌else◌, List, [], ◌∷◌, codes, Option, Some}
 use Rattle.std.specs.Str.{bytes_eq}
-use Rattle.std.specs.declared.vec.Vec.{Vec}
-use Rattle.std.specs.declared.alloc.Global.{Global}
 use Rattle.vm_field.specs.FileName.{is_file_name}
+use Rattle.miden_app.specs.Words.{is_form, name_at}
 
 pub data Asked : Type 0 where
   nothing : Asked  -- the words are of no command
   check_strip : (strip : List ℕ) → Asked
   hash : (params numbers : List ℕ) → Asked
 
--- `check` and the name of a strip
+-- `check` and the name of a strip, and no other word
 abbrev pub check_words : List (List ℕ) → Asked
 check_words [] = nothing
 check_words (name ∷ []) = if is_file_name name then check_strip name else nothing
 check_words (name ∷ more ∷ words) = nothing
 
--- the words without the first `--` among them
-unfoldable pub without_dashes : List (List ℕ) → List (List ℕ)
-without_dashes [] = []
-without_dashes (word ∷ words) = if bytes_eq word (codes "--") then words else word ∷ without_dashes words
+abbrev pub hash_of_names : Option (List ℕ) → Option (List ℕ) → Asked
+hash_of_names (Some params) (Some numbers) = hash params numbers
+hash_of_names params numbers = nothing
 
 -- `hash` and the names of the parameters and of the numbers
 abbrev pub hash_words : List (List ℕ) → Asked
-hash_words (params ∷ numbers ∷ []) = if is_file_name params && is_file_name numbers then hash params numbers else nothing
-hash_words words = nothing
+hash_words words = if is_form 2 [] words then hash_of_names (name_at 0 words) (name_at 1 words) else nothing
 
 unfoldable pub asked : List (List ℕ) → Asked
 asked [] = nothing
 asked (command ∷ words) =
-    if bytes_eq command (codes "check") then check_words words else if bytes_eq command (codes "hash") then hash_words (without_dashes words) else nothing
-
--- words as lists of bytes
-abbrev pub texts : List (Vec ℕ Global) → List (List ℕ)
-texts words = map (λ w. w.items) words
+    if bytes_eq command (codes "check") then check_words words else if bytes_eq command (codes "hash") then hash_words words else nothing

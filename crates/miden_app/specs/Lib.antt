@@ -1,4 +1,5 @@
 pub mod Statuses
+pub mod Words
 pub mod Asked
 pub mod Steps
 pub mod Commands
