@@ -4,6 +4,7 @@ pub mod Asked
 pub mod Steps
 pub mod Commands
 pub mod Serving
+pub mod Laws
 pub mod Inside
 pub mod StripEnds
 pub mod StripGrammar

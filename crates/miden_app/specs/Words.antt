@@ -1,9 +1,10 @@
 -- The form of the words behind a command: positionals and options in any order (docs/FORMATS.md).
-use Rattle.std.specs.Prelude.{ℕ, ◌+◌, ◌-◌, ◌==◌, Bool, false, ◌&&◌, not, nat_le, if◌then◌else◌, List, [], ◌∷◌, take, drop, length, codes, map, position, Option, Some, None, is_some, option_and_then}
+use Rattle.std.specs.Prelude.{ℕ, ◌+◌, ◌-◌, ◌==◌, Bool, false, ◌&&◌, not, nat_le, if◌then◌else◌, List, [], ◌∷◌, take, drop, length, codes, map, position, Option, Some, None, is_some, option_map, option_and_then}
 use Rattle.std.specs.List.{list_any}
 use Rattle.std.specs.Str.{bytes_eq}
 use Rattle.std.specs.declared.vec.Vec.{Vec}
 use Rattle.std.specs.declared.alloc.Global.{Global}
+use Rattle.vm_field.specs.Decimal.{element_of}
 use Rattle.vm_field.specs.FileName.{is_file_name}
 
 pub data Part : Type 0 where
@@ -96,6 +97,26 @@ file_name_of word = if is_file_name word then Some word else None
 -- the file name that stands as this positional
 abbrev pub name_at : ℕ → List (List ℕ) → Option (List ℕ)
 name_at i words = option_and_then file_name_of (positional_at i (parts_from anything words))
+
+-- what the value of an option is read as, if the option is given
+abbrev pub optional : {A : Type 0} → (List ℕ → Option A) → Option (List ℕ) → Option (Option A)
+optional reading None = Some None
+optional reading (Some value) = option_map Some (reading value)
+
+-- the file name that an option gives, and none where its value is no file name
+abbrev pub optional_name : List ℕ → List (List ℕ) → Option (Option (List ℕ))
+optional_name option words = optional file_name_of (value_of option (parts_from anything words))
+
+abbrev pub within : ℕ → ℕ → ℕ → Option ℕ
+within least most number = if nat_le least number && nat_le number most then Some number else None
+
+-- a word as a number from `least` to `most`: decimal digits without sign or leading zero
+abbrev pub number_of_word : ℕ → ℕ → List ℕ → Option ℕ
+number_of_word least most word = option_and_then (within least most) (element_of word)
+
+-- the number that an option gives, and none where its value is no such number
+abbrev pub optional_number : ℕ → ℕ → List ℕ → List (List ℕ) → Option (Option ℕ)
+optional_number least most option words = optional (number_of_word least most) (value_of option (parts_from anything words))
 
 -- words as lists of bytes
 abbrev pub texts : List (Vec ℕ Global) → List (List ℕ)

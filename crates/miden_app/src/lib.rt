@@ -2,8 +2,10 @@
 #![tactic(auto)]
 
 mod hash;
+mod laws;
 mod loading;
 mod outcome;
+mod saving;
 mod serving;
 mod status;
 mod strip;
@@ -11,5 +13,6 @@ mod strip;
 mod tests;
 mod words;
 
+pub use laws::{other_files_stay, usage_is_for_no_command};
 pub use serving::serve;
 pub use status::Status;

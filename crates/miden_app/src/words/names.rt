@@ -1,7 +1,9 @@
 ghost use Rattle.std.specs.Prelude.{◌≡◌, ◌≤◌, length, option_map, IfSome};
 ghost use Rattle.std.specs.List.{list_all};
 ghost use Rattle.vm_field.specs.FileName.{is_file_name, is_name_byte as name_byte, begins_with_dash as first_is_dash};
-ghost use Rattle.miden_app.specs.Words.{file_name_of};
+ghost use Rattle.miden_app.specs.Words.{file_name_of, number_of_word};
+
+use vm_field::Felt;
 
 /// The word as a file name, if it is one.
 pub fn file_name(word: &[u8]) -> Option<&str>
@@ -12,6 +14,19 @@ pub fn file_name(word: &[u8]) -> Option<&str>
         return None;
     };
     if is_name(word) { Some(name) } else { None }
+}
+
+/// The word as a number from `least` to `most`, if it is one: decimal digits without sign or leading
+/// zero.
+pub fn number_in(least: u64, most: u64, word: &[u8]) -> Option<u64>
+    ensures { result ≡ number_of_word least most word.now }
+{
+    let number = Felt::read_decimal(word)?.value();
+    if least <= number && number <= most {
+        Some(number)
+    } else {
+        None
+    }
 }
 
 fn is_name(word: &[u8]) -> bool

@@ -1,10 +1,10 @@
 ghost use Rattle.std.specs.Prelude.{ℕ, List, ◌≡◌, ◌≤◌, ◌==◌, length, map, option_map, IfSome, Some, None, codes};
 ghost use Rattle.std.specs.Str.{bytes_eq};
 ghost use Rattle.std.specs.List.{list_any};
-ghost use Rattle.miden_app.specs.Words.{anything, parts_from, has_form as parts_have_form, is_form as words_are_form, name_at as name_in, begins_with_dashes as two_dashes, sign_in as place_of_sign, part_in as part_by, mode_behind as mode_after, positional_at as positional_in, value_of as value_in, option_part, texts};
+ghost use Rattle.miden_app.specs.Words.{anything, parts_from, has_form as parts_have_form, is_form as words_are_form, name_at as name_in, begins_with_dashes as two_dashes, sign_in as place_of_sign, part_in as part_by, mode_behind as mode_after, positional_at as positional_in, value_of as value_in, option_part, optional_name as name_by_option, optional_number as number_by_option, texts};
 ghost use Rattle.miden_app.specs.Inside.Parts.{part_of, mode_of};
 
-use crate::words::names::file_name;
+use crate::words::names::{file_name, number_in};
 
 /// A part that a word completes.
 #[derive(Clone, Copy)]
@@ -40,6 +40,35 @@ pub fn name_at(i: usize, words: &[Vec<u8>]) -> Option<&str>
     match positional_at(i, WordMode::Anything, words) {
         Some(word) => file_name(word),
         None => None,
+    }
+}
+
+/// The file name that this option gives, if it stands among the words. `None` where its value is no
+/// file name.
+pub fn optional_name<'a>(option: &str, words: &'a [Vec<u8>]) -> Option<Option<&'a str>>
+    ensures name { option_map (λ o. option_map (λ n. n.now) o) result ≡ name_by_option option.now (texts words.entry.now) }
+    ensures short { IfSome result (λ o. IfSome o (λ n. length n.now ≤ 200)) }
+{
+    match value_of(option.as_bytes(), WordMode::Anything, words) {
+        Some(value) => match file_name(value) {
+            Some(name) => Some(Some(name)),
+            None => None,
+        },
+        None => Some(None),
+    }
+}
+
+/// The number from `least` to `most` that this option gives, if it stands among the words. `None`
+/// where its value is no such number.
+pub fn optional_number(least: u64, most: u64, option: &str, words: &[Vec<u8>]) -> Option<Option<u64>>
+    ensures { result ≡ number_by_option least most option.now (texts words.now) }
+{
+    match value_of(option.as_bytes(), WordMode::Anything, words) {
+        Some(value) => match number_in(least, most, value) {
+            Some(number) => Some(Some(number)),
+            None => None,
+        },
+        None => Some(None),
     }
 }
 
