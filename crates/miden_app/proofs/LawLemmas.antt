@@ -1,6 +1,6 @@
 -- The laws of `specs/Laws`.
-use Rattle.std.proofs.Common.{◌≡◌, ◌≢◌, ◌⊎◌, ℕ, List, [], Option, Some, None, refl, sym, ap, subst, inl, inr, ◌∙◌, Contains, take, Result, Ok, Err}
-use Rattle.std.specs.FinMap.{get, insert}
+use Rattle.std.proofs.Common.{◌≡◌, ◌⊎◌, ℕ, List, [], Option, Some, None, refl, sym, ap, subst, inl, inr, ◌∙◌, Contains, take, Result, Ok, Err}
+use Rattle.std.specs.FinMap.{insert}
 use Rattle.rpo_hash.specs.declared.params.ParamError.{ParamError}
 use Rattle.rpo_hash.specs.ParamText.{parameters_of}
 use Rattle.vm_io.specs.Shelf.{Files, ShelfState, with_file}
@@ -13,7 +13,7 @@ use Rattle.miden_app.specs.Statuses.{Kind, planned, no_command, failed_read, fai
 use Rattle.miden_app.specs.Asked.{Asked, nothing, check_strip, hash, asked}
 use Rattle.miden_app.specs.Steps.{Steps, reading, writing, ending}
 use Rattle.miden_app.specs.Commands.{steps_of, with_params, numbers_steps}
-use Rattle.miden_app.specs.Serving.{Passes, none_yet, past_read, past_write, Leads, IsWriting, FrontWritten, Works, GivesUp, Prints, Answers, Serves}
+use Rattle.miden_app.specs.Serving.{Passes, none_yet, past_read, past_write, Leads, IsWriting, FrontWritten, Works, GivesUp, Prints, Answers}
 use Rattle.miden_app.specs.Laws.{WritesOnly, StayBeside, OtherFilesStay, NoneWrites, UsageMeansNothing, NothingGivesUsage}
 
 -- the files of m stay in what is told now

@@ -9,8 +9,6 @@ mod saving;
 mod serving;
 mod status;
 mod strip;
-#[cfg(test)]
-mod tests;
 mod words;
 
 pub use laws::{other_files_stay, usage_is_for_no_command};

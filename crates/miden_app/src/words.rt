@@ -6,6 +6,8 @@ ghost use Rattle.miden_app.specs.Inside.Asking.{asks, IsNamed};
 
 mod names;
 mod parts;
+#[cfg(test)]
+mod tests;
 
 use names::file_name;
 use parts::{is_form, name_at};
