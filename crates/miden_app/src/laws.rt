@@ -6,8 +6,7 @@ ghost use Rattle.miden_app.specs.Laws.{OtherFilesStay, NoneWrites, UsageMeansNot
 pub fn other_files_stay()
     ensures stay { OtherFilesStay }
     ensures none { NoneWrites }
-{
-}
+{}
 
 /// `Usage` comes exactly at words of no command, unless printing fails or memory is refused. They
 /// leave every shelf untouched.
@@ -15,5 +14,4 @@ pub fn other_files_stay()
 pub fn usage_is_for_no_command()
     ensures only { UsageMeansNothing }
     ensures always { NothingGivesUsage }
-{
-}
+{}

@@ -20,7 +20,12 @@ pub fn save<F: Shelf>(alloc: Global, shelf: &mut F, name: &str, bytes: &[u8]) ->
 {
     match shelf.write(alloc, name, bytes) {
         Ok(()) => Ok(()),
-        Err(WriteStop::Failed) => Err(named_answer(alloc, Status::WriteFault, "write fault ", name)),
+        Err(WriteStop::Failed) => Err(named_answer(
+            alloc,
+            Status::WriteFault,
+            "write fault ",
+            name,
+        )),
         Err(WriteStop::Memory) => Err(Outcome::Memory),
     }
 }

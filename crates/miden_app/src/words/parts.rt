@@ -60,7 +60,12 @@ pub fn optional_name<'a>(option: &str, words: &'a [Vec<u8>]) -> Option<Option<&'
 
 /// The number from `least` to `most` that this option gives, if it stands among the words. `None`
 /// where its value is no such number.
-pub fn optional_number(least: u64, most: u64, option: &str, words: &[Vec<u8>]) -> Option<Option<u64>>
+pub fn optional_number(
+    least: u64,
+    most: u64,
+    option: &str,
+    words: &[Vec<u8>],
+) -> Option<Option<u64>>
     ensures { result ≡ number_by_option least most option.now (texts words.now) }
 {
     match value_of(option.as_bytes(), WordMode::Anything, words) {

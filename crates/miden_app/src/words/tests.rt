@@ -11,7 +11,12 @@ type Row = (&'static [&'static str], &'static str, &'static str, u64);
 static READ: [Row; 6] = [
     (&["z", "s", "i"], "i", "", 524287),
     (&["--kernel", "k", "z", "s", "i"], "i", "k", 524287),
-    (&["z", "--kernel=k", "s", "--limit", "3", "a/b"], "a/b", "k", 3),
+    (
+        &["z", "--kernel=k", "s", "--limit", "3", "a/b"],
+        "a/b",
+        "k",
+        3,
+    ),
     (&["z", "s", "i", "--limit=524287", "--"], "i", "", 524287),
     (&["--", "z", "s", "i"], "i", "", 524287),
     (&["--limit", "1", "z", "--", "s", "i"], "i", "", 1),
