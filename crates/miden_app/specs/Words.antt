@@ -1,6 +1,7 @@
 -- The form of the words behind a command: positionals and options in any order (docs/FORMATS.md).
-use Rattle.std.specs.Prelude.{ℕ, ◌+◌, ◌-◌, ◌==◌, Bool, false, ◌&&◌, not, nat_le, if◌then◌else◌, List, [], ◌∷◌, take, drop, length, codes, map, position, Option, Some, None, is_some, option_map, option_and_then}
+use Rattle.std.specs.Prelude.{ℕ, ◌+◌, ◌-◌, ◌==◌, Bool, false, ◌&&◌, not, nat_le, if◌then◌else◌, List, [], ◌∷◌, take, drop, codes, map, position, Option, Some, None, is_some, option_map, option_and_then}
 use Rattle.std.specs.List.{list_any}
+use Rattle.std.specs.Option.{option_or}
 use Rattle.std.specs.Str.{bytes_eq}
 use Rattle.std.specs.declared.vec.Vec.{Vec}
 use Rattle.std.specs.declared.alloc.Global.{Global}
@@ -71,12 +72,17 @@ positional_at i (positional word ∷ parts) = if i == 0 then Some word else posi
 positional_at i (given name value ∷ parts) = positional_at i parts
 positional_at i (lacking ∷ parts) = positional_at i parts
 
+-- the value of an option of this name
+abbrev pub value_in_part : List ℕ → Option Part → Option (List ℕ)
+value_in_part wanted None = None
+value_in_part wanted (Some (positional word)) = None
+value_in_part wanted (Some (given name value)) = if bytes_eq name wanted then Some value else None
+value_in_part wanted (Some lacking) = None
+
 -- the value of the first option of this name
 abbrev pub value_of : List ℕ → List Part → Option (List ℕ)
 value_of wanted [] = None
-value_of wanted (positional word ∷ parts) = value_of wanted parts
-value_of wanted (given name value ∷ parts) = if bytes_eq name wanted then Some value else value_of wanted parts
-value_of wanted (lacking ∷ parts) = value_of wanted parts
+value_of wanted (part ∷ parts) = option_or (value_in_part wanted (Some part)) (value_of wanted parts)
 
 -- so many positionals, and options of these names with their values, each at most once
 abbrev pub has_form : ℕ → List (List ℕ) → List Part → Bool
@@ -86,9 +92,9 @@ has_form count names (given name value ∷ parts) =
     list_any (bytes_eq name) names && not (is_some (value_of name parts)) && has_form count names parts
 has_form count names (lacking ∷ parts) = false
 
--- These words are of that form. No command's form has more than 32.
+-- these words are of that form
 abbrev pub is_form : ℕ → List (List ℕ) → List (List ℕ) → Bool
-is_form count names words = nat_le (length words) 32 && has_form count names (parts_from anything words)
+is_form count names words = has_form count names (parts_from anything words)
 
 -- a word as a file name, if it is one
 abbrev pub file_name_of : List ℕ → Option (List ℕ)

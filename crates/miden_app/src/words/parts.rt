@@ -1,7 +1,7 @@
 ghost use Rattle.std.specs.Prelude.{ℕ, List, ◌≡◌, ◌≤◌, ◌==◌, length, map, option_map, IfSome, Some, None, codes};
 ghost use Rattle.std.specs.Str.{bytes_eq};
 ghost use Rattle.std.specs.List.{list_any};
-ghost use Rattle.miden_app.specs.Words.{anything, parts_from, has_form as parts_have_form, is_form as words_are_form, name_at as name_in, begins_with_dashes as two_dashes, sign_in as place_of_sign, part_in as part_by, mode_behind as mode_after, positional_at as positional_in, value_of as value_in, option_part, optional_name as name_by_option, optional_number as number_by_option, texts};
+ghost use Rattle.miden_app.specs.Words.{anything, parts_from, has_form as parts_have_form, is_form as words_are_form, name_at as name_in, begins_with_dashes as two_dashes, sign_in as place_of_sign, part_in as part_by, mode_behind as mode_after, positional_at as positional_in, value_of as value_in, value_in_part, option_part, optional_name as name_by_option, optional_number as number_by_option, texts};
 ghost use Rattle.miden_app.specs.Inside.Parts.{part_of, mode_of};
 
 use crate::words::names::{file_name, number_in};
@@ -26,13 +26,17 @@ pub enum WordMode<'a> {
 
 /// Whether these words are so many positionals, and options of these names with their values, each
 /// at most once.
+///
+/// However many the words are, it goes no deeper than a good form does: it ends at a positional too
+/// many, at an unknown option and at one that comes again.
 pub fn is_form(count: usize, names: &[&str], words: &[Vec<u8>]) -> bool
     ensures { result ≡ words_are_form count (map (λ n. n.now) names.now) (texts words.now) }
 {
-    words.len() <= 32 && has_form(count, names, WordMode::Anything, words)
+    has_form(count, names, WordMode::Anything, words)
 }
 
-/// The file name that stands as this positional, counted from 0.
+/// The file name that stands as this positional, counted from 0. It is for words of a good form, as it
+/// goes as deep as there are words.
 pub fn name_at(i: usize, words: &[Vec<u8>]) -> Option<&str>
     ensures name { option_map (λ n. n.now) result ≡ name_in i (texts words.entry.now) }
     ensures short { IfSome result (λ n. length n.now ≤ 200) }
@@ -127,23 +131,29 @@ fn positional_at<'a>(i: usize, mode: WordMode<'a>, words: &'a [Vec<u8>]) -> Opti
 }
 
 // The value of the first option of this name.
-#[tactic(auto, unfolding(crate::specs::Words::parts_from))]
 fn value_of<'a>(wanted: &[u8], mode: WordMode<'a>, words: &'a [Vec<u8>]) -> Option<&'a [u8]>
     ensures { option_map (λ w. w.now) result ≡ value_in wanted.now (parts_from (mode_of mode.entry) (texts words.entry.now)) }
 {
-    let [word, rest @ ..] = words else {
-        return None;
-    };
-    let behind = mode_behind(mode, word.as_slice());
-    match part_in(mode, word.as_slice()) {
-        Some(WordPart::Given(name, value)) => {
-            if name == wanted {
-                Some(value)
-            } else {
-                value_of(wanted, behind, rest)
-            }
+    let mut next = mode;
+    let mut rest = words;
+    while let [word, behind @ ..] = rest {
+        let word = word.as_slice();
+        if let Some(value) = value_by(wanted, next, word) {
+            return Some(value);
         }
-        _ => value_of(wanted, behind, rest),
+        next = mode_behind(next, word);
+        rest = behind;
+    }
+    None
+}
+
+// The value of the option of this name that a word completes.
+fn value_by<'a>(wanted: &[u8], mode: WordMode<'a>, word: &'a [u8]) -> Option<&'a [u8]>
+    ensures { option_map (λ w. w.now) result ≡ value_in_part wanted.now (part_by (mode_of mode.entry) word.entry.now) }
+{
+    match part_in(mode, word) {
+        Some(WordPart::Given(name, value)) if name == wanted => Some(value),
+        _ => None,
     }
 }
 
