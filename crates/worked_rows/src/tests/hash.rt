@@ -2,8 +2,16 @@ use crate::tests::content::Content;
 use crate::tests::row::{Row, all_hold};
 use std::test::Fail;
 
-static ROWS: [Row; 21] = [
+static ROWS: [Row; 22] = [
     // The second constant of element 4 in the last round is 2^7.
+    Row {
+        words: &["hash", "z", "--", "n"],
+        files: &[("z", Content::Lines(168, 161, "128")), ("n", Content::Lines(8, 0, ""))],
+        failing_call: 0,
+        failing_write: 0,
+        number: 0,
+        printed: "digest 0000000000000002000000000000000000000000000000000000000000000000\n",
+    },
     Row {
         words: &["hash", "z", "n"],
         files: &[("z", Content::Lines(168, 161, "128")), ("n", Content::Lines(8, 0, ""))],
