@@ -22,9 +22,10 @@ use vm_io::{Gate, Shelf, Sink, SinkStop};
 /// was not taken whole, behind work that was done. At `Memory` nothing was printed, and no call of
 /// the shelf had failed, or one read, or one write.
 ///
-/// Of a shelf that does not tell its files less is known: `Usage` comes exactly where the words are
-/// of no command, and the shelf is then untouched; a count of faults rises exactly at a status that
-/// says so, or at `Memory`; and what is printed at `Usage` and at a fault is as ever.
+/// A shelf that does not tell its files may hold any: status and line are then what the words come
+/// to with some bytes for each file that was read, no more than are read of it. All else holds of it
+/// as of others: words of no command leave it untouched, and its counts of faults rise exactly where
+/// a status says so, behind a line that was not printed, or at `Memory`.
 #[tactic(auto, using(crate::proofs::PrintingLemmas::serves_steps))]
 pub fn serve<F: Shelf, K: Sink, G: Gate>(
     alloc: Global,
