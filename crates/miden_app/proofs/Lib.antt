@@ -8,6 +8,7 @@ pub mod StripRunLaw
 pub mod OutcomeLemmas
 pub mod ServingLemmas
 pub mod PrintingLemmas
+pub mod LawLemmas
 pub mod StripLine
 pub mod WordsLemmas
 pub mod StripJudging

@@ -4,7 +4,7 @@ use Rattle.std.specs.Result.{IfOk}
 use Rattle.vm_field.specs.declared.refusal.Memory.{Memory}
 use Rattle.miden_app.specs.declared.status.Status.{Status}
 use Rattle.miden_app.specs.declared.outcome.Outcome.{Outcome}
-use Rattle.miden_app.specs.Outcomes.{Says, SaysLine}
+use Rattle.miden_app.specs.Inside.Outcomes.{Says, SaysLine}
 
 -- the answer has the line that was made
 pub says_line : (o : Outcome) (s : Status) (made : Result (List ℕ) Memory) (line : List ℕ) → SaysLine o s made → IfOk made (λ l. l ≡ line) → Says o s line

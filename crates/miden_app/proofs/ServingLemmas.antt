@@ -1,198 +1,169 @@
--- How the steps of a command go together: what each ending leaves, a file read in front of further steps, and printing.
-use Rattle.std.proofs.Common.{◌≡◌, ℕ, ◌<◌, ◌≤◌, List, codes, length, Option, Some, None, refl, sym, subst, inl, inr, arith}
-use Rattle.std.specs.Bool.{MatchBool}
+-- How the steps of a command go together: what each stop leaves, and a file read or written in front of further steps.
+use Rattle.std.proofs.Common.{◌≡◌, ℕ, ◌<◌, ◌≤◌, List, codes, length, replicate, ◌+◌, arith, Option, Some, None, refl, sym, subst, inl, inr, ◌∙◌}
 use Rattle.std.specs.Option.{IfSome, IsSomeAnd}
+use Rattle.std.proofs.lemmas.List.{length-replicate}
 use Rattle.std.specs.FinMap.{get}
-use Rattle.std.proofs.lemmas.Bool.{le-leb, lt-leb}
 use Rattle.vm_io.specs.Count.{Rose}
-use Rattle.vm_io.specs.Shelf.{Files, ShelfState, Told, ReadFails, with_failed_name}
-use Rattle.vm_io.specs.Shelf.{Reads as FileReads}
+use Rattle.vm_io.specs.Shelf.{Files, ShelfState, Told, Reads, ReadFails, WriteFails, with_failed_name, with_file}
 use Rattle.vm_io.proofs.ShelfLemmas.{kept_whole}
 use Rattle.miden_app.specs.declared.status.Status.{Status}
 use Rattle.miden_app.specs.declared.status.Status.TheVariants as status
+use Rattle.miden_app.specs.declared.outcome.Answer.{Answer}
 use Rattle.miden_app.specs.declared.outcome.Outcome.{Outcome}
 use Rattle.miden_app.specs.declared.outcome.Outcome.TheVariants as outcome
-use Rattle.miden_app.specs.Plans.{Plan, End, stop, Steps, reading, ending, ends_with, named_line}
-use Rattle.miden_app.specs.Commands.{Decides, Plans}
-use Rattle.miden_app.specs.Serving.{NoFault, CountsFit, CarriesOut, Follows, WritesPart, GivesUp}
-use Rattle.miden_app.specs.Outcomes.{IsPlanned, IsPrintable, Fits, ComesTo, Done, EndsIn, Says}
-
--- what holds of all files holds of those that are told
-told_all : (told : Option Files) (Q : Files → Type 0) → ((m : Files) → Q m) → IfSome told Q
-told_all None Q h = tt
-told_all (Some m) Q h = h m
-
-told_from : (told : Option Files) (P Q : Files → Type 0) → ((m : Files) → P m → Q m) → IfSome told P → IfSome told Q
-told_from None P Q h p = tt
-told_from (Some m) P Q h p = h m p
-
-told_both : (told : Option Files) (P Q R : Files → Type 0) → ((m : Files) → P m → Q m → R m) → IfSome told P → IfSome told Q → IfSome told R
-told_both None P Q R h p q = tt
-told_both (Some m) P Q R h p q = h m p q
+use Rattle.miden_app.specs.Statuses.{Kind, planned, failed_read, failed_write, kind_of}
+use Rattle.miden_app.specs.Steps.{End, stop, Right, Steps, reading, writing, ending, ends_with, named_line}
+use Rattle.miden_app.specs.Commands.{IsRight}
+use Rattle.miden_app.specs.Serving.{none_yet, past_read, past_write, Leads, Concludes, NoFault, Ends, Stops, FailsAtRead, FailsAtWrite, Works, GivesUp}
+use Rattle.miden_app.specs.Inside.Outcomes.{Fits, ComesTo, EndsIn, GoesOn, Says}
 
 no_fault : (s : ShelfState) → NoFault s s
 no_fault s = record { reads = refl; writes = refl }
 
-same_again : (steps : Steps) (s : ShelfState) → GivesUp steps s s
-same_again steps s = record { reads = omega arith; writes = omega arith; files = inl refl }
+-- the steps stand where they began
+here : (steps : Steps) (P : Steps → Option Files → Type 0) (m : Option Files) → P steps m → Leads steps P m
+here steps P m there = record { left = steps; now = m; passes = none_yet; there = there }
 
--- A plan of a status of its own was carried out, with nothing written.
-counts_planned : (s : Status) → IsPlanned s → (old new : ShelfState) → NoFault old new → CountsFit s old new
-counts_planned status.Ok p old new h = h
-counts_planned status.Refused p old new h = h
-counts_planned status.Source p old new h = h
-counts_planned status.Trap p old new h = h
-counts_planned status.OutOfCycles p old new h = h
-counts_planned status.Missing p old new h = h
-counts_planned status.Malformed p old new h = h
-counts_planned status.TooLong p old new h = h
-counts_planned s p old new h = absurd p
+-- no step was taken
+pub same_again : (steps : Steps) (s : ShelfState) → EndsIn (Some steps) outcome.Memory s s
+same_again steps s = inl (record { counts = no_fault s; files = here steps _ s.files refl })
 
-follows_planned : (s : Status) → IsPlanned s → (steps : Steps) (m : Files) (line : List ℕ) (old new : ShelfState) → CarriesOut steps m s line old new → Follows steps m s line old new
-follows_planned status.Ok p steps m line old new h = h
-follows_planned status.Refused p steps m line old new h = h
-follows_planned status.Source p steps m line old new h = h
-follows_planned status.Trap p steps m line old new h = h
-follows_planned status.OutOfCycles p steps m line old new h = h
-follows_planned status.Missing p steps m line old new h = h
-follows_planned status.Malformed p steps m line old new h = h
-follows_planned status.TooLong p steps m line old new h = h
-follows_planned s p steps m line old new h = absurd p
-
-printable_planned : (s : Status) → IsPlanned s → IsPrintable s
-printable_planned status.Ok p = tt
-printable_planned status.Refused p = tt
-printable_planned status.Source p = tt
-printable_planned status.Trap p = tt
-printable_planned status.OutOfCycles p = tt
-printable_planned status.Missing p = tt
-printable_planned status.Malformed p = tt
-printable_planned status.TooLong p = tt
-printable_planned s p = absurd p
-
-carried : (steps : Steps) (s : Status) (line : List ℕ) (p : IsPlanned s) (old : ShelfState) → IfSome old.files (λ m. Plans steps m (ends_with s line)) → Done steps (record { status = s; line = line }) old old
-carried steps s line p old planned = record {
-  works = record {
-    counts = counts_planned s p old old (no_fault old);
-    follows = told_from old.files _ _ (λ m h. follows_planned s p steps m line old old (record { plan = ends_with s line; planned = h; status_is = refl; line_is = refl; files = refl })) planned;
-  };
-  printable = printable_planned s p;
-}
+-- an answer to the next step ends the steps
+concluded : (steps : Steps) (a : Answer) (s : ShelfState) → kind_of a.status ≡ planned → Concludes steps s.files a → Works (Some steps) (kind_of a.status) a s s
+concluded steps a s kind last =
+    subst (λ k. Works (Some steps) k a s s) (sym kind) (record { counts = no_fault s; files = here steps _ s.files (last, refl) })
 
 -- A command's own work ends its steps.
-pub work_ends : (end : End) (o : Outcome) (old : ShelfState) → ComesTo end o → EndsIn (ending end) o old old
-work_ends end (outcome.Ends a) old h = carried (ending end) a.status a.line h.planned old (told_all old.files _ (λ m. h.plan))
-work_ends end outcome.Memory old h = same_again (ending end) old
+pub work_ends : (end : End) (o : Outcome) (s : ShelfState) → ComesTo end o → EndsIn (Some (ending end)) o s s
+work_ends end (outcome.Ends a) s h = concluded (ending end) a s h.kind h.ends
+work_ends end outcome.Memory s h = same_again (ending end) s
 
 -- what is said is the end that is determined
-pub says_comes : (s : Status) → IsPlanned s → (line : List ℕ) (o : Outcome) → Says o s line → ComesTo (stop s line) o
-says_comes s p line (outcome.Ends a) is = subst (Fits (stop s line)) (sym is) (record { plan = refl; planned = p })
-says_comes s p line outcome.Memory is = tt
+pub says_comes : (s : Status) (line : List ℕ) (o : Outcome) → kind_of s ≡ planned → Says o s line → ComesTo (stop s line) o
+says_comes s line (outcome.Ends a) kind is = subst (Fits (stop s line)) (sym is) (record { ends = refl; kind = kind })
+says_comes s line outcome.Memory kind is = tt
 
--- What is said with a status and a line is carried out where it is a plan.
-said : (steps : Steps) (s : Status) (line : List ℕ) (p : IsPlanned s) (o : Outcome) (old : ShelfState) → IfSome old.files (λ m. Plans steps m (ends_with s line)) → Says o s line → EndsIn steps o old old
-said steps s line p (outcome.Ends a) old planned is = subst (λ x. Done steps x old old) (sym is) (carried steps s line p old planned)
-said steps s line p outcome.Memory old planned is = same_again steps old
+-- what is said, for what holds of the answer and at want of memory
+said : (steps : Option Steps) (s : Status) (line : List ℕ) (o : Outcome) (old new : ShelfState) → Says o s line
+    → Works steps (kind_of s) (ends_with s line) old new → GivesUp steps old new → EndsIn steps o old new
+said steps s line (outcome.Ends a) old new is works gives_up = subst (λ (x : Answer). Works steps (kind_of x.status) x old new) (sym is) works
+said steps s line outcome.Memory old new is works gives_up = gives_up
+
+-- words of no command
+pub usage_ends : (o : Outcome) (s : ShelfState) → Says o status.Usage (codes "usage\n") → EndsIn None o s s
+usage_ends o s is = said None status.Usage (codes "usage\n") o s s is (refl, refl) refl
+
+-- a file that is missing, or too long
+refused_file : (name : List ℕ) (most : ℕ) (next : List ℕ → Steps) (a : Answer) (o : Outcome) (old new : ShelfState) → new ≡ old → kind_of a.status ≡ planned
+    → Concludes (reading name most next) old.files a → Says o a.status a.line → EndsIn (Some (reading name most next)) o old new
+refused_file name most next a o old new same kind last is =
+    subst (EndsIn (Some (reading name most next)) o old) (sym same)
+    (said (Some (reading name most next)) a.status a.line o old old is (concluded (reading name most next) a old kind last) (same_again (reading name most next) old))
 
 pub missing_ends : (name : List ℕ) (most : ℕ) (next : List ℕ → Steps) (o : Outcome) (old new : ShelfState) → new ≡ old → Told old (λ m. get m name ≡ None)
-    → Says o status.Missing (named_line (codes "missing ") name) → EndsIn (reading name most next) o old new
+    → Says o status.Missing (named_line (codes "missing ") name) → EndsIn (Some (reading name most next)) o old new
 missing_ends name most next o old new same none is =
-    subst (EndsIn (reading name most next) o old) (sym same)
-    (said (reading name most next) status.Missing _ tt o old
-    (told_from old.files _ _ (λ m h. subst (λ file. Decides name most (λ bytes. Plans (next bytes) m) file (ends_with status.Missing (named_line (codes "missing ") name))) (sym h) refl) none) is)
-
-decides_long : (name : List ℕ) (most : ℕ) (P : List ℕ → Plan → Type 0) (file : Option (List ℕ)) → IsSomeAnd file (λ bytes. most < length bytes)
-    → Decides name most P file (ends_with status.TooLong (named_line (codes "too long ") name))
-decides_long name most P None h = absurd h
-decides_long name most P (Some bytes) h =
-    subst (λ b. MatchBool b (P bytes (ends_with status.TooLong (named_line (codes "too long ") name))) (ends_with status.TooLong (named_line (codes "too long ") name) ≡ ends_with status.TooLong (named_line (codes "too long ") name)))
-    (sym (lt-leb (length bytes) most h)) refl
+    refused_file name most next (ends_with status.Missing (named_line (codes "missing ") name)) o old new same refl (None, none, refl) is
 
 pub too_long_ends : (name : List ℕ) (most : ℕ) (next : List ℕ → Steps) (o : Outcome) (old new : ShelfState) → new ≡ old → Told old (λ m. IsSomeAnd (get m name) (λ bytes. most < length bytes))
-    → Says o status.TooLong (named_line (codes "too long ") name) → EndsIn (reading name most next) o old new
-too_long_ends name most next o old new same long is =
-    subst (EndsIn (reading name most next) o old) (sym same)
-    (said (reading name most next) status.TooLong _ tt o old
-    (told_from old.files _ _ (λ m h. decides_long name most (λ bytes. Plans (next bytes) m) (get m name) h) long) is)
+    → Says o status.TooLong (named_line (codes "too long ") name) → EndsIn (Some (reading name most next)) o old new
+too_long_ends name most next o old new same long is = refused_file name most next answer o old new same refl (told old.files long) is
+  where
+    answer : Answer
+    answer = ends_with status.TooLong (named_line (codes "too long ") name)
+
+    file : (m : Files) (held : Option (List ℕ)) → get m name ≡ held → IsSomeAnd held (λ bytes. most < length bytes) → Concludes (reading name most next) (Some m) answer
+    file m None is h = absurd h
+    file m (Some bytes) is h = (Some bytes, is, (h, refl))
+
+    told : (files : Option Files) → IfSome files (λ m. IsSomeAnd (get m name) (λ bytes. most < length bytes)) → Concludes (reading name most next) files answer
+    told None h = (Some (replicate (most + 1) 0), tt, (omega (arith, length-replicate {A = ℕ} (most + 1) 0), refl))
+    told (Some m) h = file m (get m name) refl h
 
 named : (told new : Option (List ℕ)) (name : List ℕ) → length name ≤ 200 → new ≡ with_failed_name told name → IfSome new (λ failed. failed ≡ name)
 named None new name short is = subst (λ o. IfSome o (λ failed. failed ≡ name)) (sym is) tt
 named (Some old) new name short is = subst (λ o. IfSome o (λ failed. failed ≡ name)) (sym is) (kept_whole name short)
 
-rose_later : (before now : ℕ) → Rose before now → before ≤ now
-rose_later before now r = r.later
-
 pub read_fault_ends : (name : List ℕ) (most : ℕ) (next : List ℕ → Steps) (o : Outcome) (old new : ShelfState) → length name ≤ 200 → ReadFails old new name
-    → Says o status.ReadFault (named_line (codes "read fault ") name) → EndsIn (reading name most next) o old new
-read_fault_ends name most next (outcome.Ends a) old new short f is =
-    subst (λ x. Done (reading name most next) x old new) (sym is) (record {
-      works = record {
-        counts = record { reads = f.read_faults; writes = f.write_faults };
-        follows = told_all old.files _ (λ m. record {
-          name = name;
-          read = inl refl;
-          line_is = refl;
-          told = named old.failed_name new.failed_name name short f.failed_name;
-          files = f.files;
-        });
-      };
-      printable = tt;
-    })
-read_fault_ends name most next outcome.Memory old new short f is =
-    record { reads = f.read_faults.later; writes = omega (arith, f.write_faults); files = inl f.files }
+    → Says o status.ReadFault (named_line (codes "read fault ") name) → EndsIn (Some (reading name most next)) o old new
+read_fault_ends name most next o old new short f is =
+    said (Some (reading name most next)) status.ReadFault _ o old new is (name, fails, refl) (inr (inl (name, fails)))
+  where
+    fails : FailsAtRead (reading name most next) name old new
+    fails = record {
+      counts = record { reads = f.read_faults; writes = f.write_faults };
+      told = named old.failed_name new.failed_name name short f.failed_name;
+      files = here (reading name most next) _ old.files (refl, f.files);
+    }
 
--- A file read in front of further steps.
-decides_next : (name : List ℕ) (most : ℕ) (next : List ℕ → Steps) (bytes : List ℕ) (m : Files) (plan : Plan) → length bytes ≤ most → get m name ≡ Some bytes → Plans (next bytes) m plan → Plans (reading name most next) m plan
-decides_next name most next bytes m plan short held planned =
-    subst (λ file. Decides name most (λ b. Plans (next b) m) file plan) (sym held)
-    (subst (λ b. MatchBool b (Plans (next bytes) m plan) (plan ≡ ends_with status.TooLong (named_line (codes "too long ") name))) (sym (le-leb (length bytes) most short)) planned)
+pub write_fault_ends : (name : List ℕ) (right : Right) (next : List ℕ → Steps) (bytes : List ℕ) (o : Outcome) (old new : ShelfState) → length name ≤ 200 → IsRight right bytes → WriteFails old new name bytes
+    → Says o status.WriteFault (named_line (codes "write fault ") name) → EndsIn (Some (writing name right next)) o old new
+write_fault_ends name right next bytes o old new short fit f is =
+    said (Some (writing name right next)) status.WriteFault _ o old new is (name, fails, refl) (inr (inr (name, fails)))
+  where
+    fails : FailsAtWrite (writing name right next) name old new
+    fails = record {
+      counts = record { reads = f.read_faults; writes = f.write_faults };
+      told = named old.failed_name new.failed_name name short f.failed_name;
+      files = here (writing name right next) _ old.files (record { bytes = bytes; right = (refl, fit); front = f.front; files = f.files });
+    }
 
-module _ (name : List ℕ) (most : ℕ) (next : List ℕ → Steps) (bytes : List ℕ) (m : Files) (short : length bytes ≤ most) (held : get m name ≡ Some bytes) where
-  carries_behind : (s : Status) (line : List ℕ) (old new : ShelfState) → CarriesOut (next bytes) m s line old new → CarriesOut (reading name most next) m s line old new
-  carries_behind s line old new h = record { plan = h.plan; planned = decides_next name most next bytes m h.plan short held h.planned; status_is = h.status_is; line_is = h.line_is; files = h.files }
-
-  follows_behind : (s : Status) (line : List ℕ) (old new : ShelfState) → Follows (next bytes) m s line old new → Follows (reading name most next) m s line old new
-  follows_behind status.ReadFault line old new h = record {
-    name = h.name;
-    read = inr (record { bytes = bytes; held = held; short = short; then = h.read });
-    line_is = h.line_is;
-    told = h.told;
-    files = h.files;
+-- The rest of the steps goes on from where these steps came to without a fault.
+module _ (steps rest : Steps) (old mid : ShelfState) (counts : NoFault old mid)
+    (behind : (P : Steps → Option Files → Type 0) → Leads rest P mid.files → Leads steps P old.files) where
+  ends_further : (a : Answer) (new : ShelfState) → Ends rest a mid new → Ends steps a old new
+  ends_further a new h = record {
+    counts = record { reads = h.counts.reads ∙ counts.reads; writes = h.counts.writes ∙ counts.writes };
+    files = behind _ h.files;
   }
-  follows_behind status.WriteFault line old new h = record {
-    plan = h.plan;
-    planned = decides_next name most next bytes m h.plan short held h.planned;
-    well = h.well;
-    name = h.name;
-    line_is = h.line_is;
-    told = h.told;
-    files = h.files;
+
+  stops_further : (new : ShelfState) → Stops rest mid new → Stops steps old new
+  stops_further new h = record {
+    counts = record { reads = h.counts.reads ∙ counts.reads; writes = h.counts.writes ∙ counts.writes };
+    files = behind _ h.files;
   }
-  follows_behind status.Ok line old new h = carries_behind status.Ok line old new h
-  follows_behind s line old new h = carries_behind s line old new h
 
-  part_behind : (old new : ShelfState) → WritesPart (next bytes) m old new → WritesPart (reading name most next) m old new
-  part_behind old new h = record { plan = h.plan; planned = decides_next name most next bytes m h.plan short held h.planned; files = h.files }
+  read_fails_further : (name : List ℕ) (new : ShelfState) → FailsAtRead rest name mid new → FailsAtRead steps name old new
+  read_fails_further name new h = record {
+    counts = record { reads = subst (λ n. Rose n new.read_faults) counts.reads h.counts.reads; writes = h.counts.writes ∙ counts.writes };
+    told = h.told;
+    files = behind _ h.files;
+  }
 
-ends_from : (name : List ℕ) (most : ℕ) (next : List ℕ → Steps) (bytes : List ℕ) (o : Outcome) (old new : ShelfState) → length bytes ≤ most → Told old (λ m. get m name ≡ Some bytes)
-    → EndsIn (next bytes) o old new → EndsIn (reading name most next) o old new
-ends_from name most next bytes (outcome.Ends a) old new short held h = record {
-  works = record {
-    counts = h.works.counts;
-    follows = told_both old.files _ _ _ (λ m g f. follows_behind name most next bytes m short g a.status a.line old new f) held h.works.follows;
-  };
-  printable = h.printable;
-}
-ends_from name most next bytes outcome.Memory old new short held h = record {
-  reads = h.reads;
-  writes = h.writes;
-  files = elim h.files [
-    | inl same ↦ inl same
-    | inr part ↦ inr (told_both old.files _ _ _ (λ m g p. part_behind name most next bytes m short g old new p) held part)
-  ];
-}
+  write_fails_further : (name : List ℕ) (new : ShelfState) → FailsAtWrite rest name mid new → FailsAtWrite steps name old new
+  write_fails_further name new h = record {
+    counts = record { reads = h.counts.reads ∙ counts.reads; writes = subst (λ n. Rose n new.write_faults) counts.writes h.counts.writes };
+    told = h.told;
+    files = behind _ h.files;
+  }
 
-pub ends_behind : (name : List ℕ) (most : ℕ) (next : List ℕ → Steps) (bytes : List ℕ) (o : Outcome) (old mid new : ShelfState) → FileReads old mid name most bytes
-    → EndsIn (next bytes) o mid new → EndsIn (reading name most next) o old new
-ends_behind name most next bytes o old mid new found h =
-    ends_from name most next bytes o old new found.within found.file (subst (λ s. EndsIn (next bytes) o s new) found.same h)
+  works_further : (kind : Kind) (a : Answer) (new : ShelfState) → Works (Some rest) kind a mid new → Works (Some steps) kind a old new
+  works_further planned a new h = ends_further a new h
+  works_further failed_read a new h = (h.0, read_fails_further h.0 new h.1, h.2)
+  works_further failed_write a new h = (h.0, write_fails_further h.0 new h.1, h.2)
+  works_further kind a new h = absurd h
+
+  goes_further : GoesOn steps rest old mid
+  goes_further (outcome.Ends a) new h = works_further (kind_of a.status) a new h
+  goes_further outcome.Memory new (inl h) = inl (stops_further new h)
+  goes_further outcome.Memory new (inr (inl h)) = inr (inl (h.0, read_fails_further h.0 new h.1))
+  goes_further outcome.Memory new (inr (inr h)) = inr (inr (h.0, write_fails_further h.0 new h.1))
+
+-- a file that was read
+pub goes_past_read : (name : List ℕ) (most : ℕ) (next : List ℕ → Steps) (bytes : List ℕ) (old mid : ShelfState) → Reads old mid name most bytes → GoesOn (reading name most next) (next bytes) old mid
+goes_past_read name most next bytes old mid found =
+    subst (GoesOn (reading name most next) (next bytes) old) (sym found.same)
+    (goes_further (reading name most next) (next bytes) old old (no_fault old) past)
+  where
+    past : (P : Steps → Option Files → Type 0) → Leads (next bytes) P old.files → Leads (reading name most next) P old.files
+    past P h = record { left = h.left; now = h.now; passes = past_read name most next bytes found.file found.within h.passes; there = h.there }
+
+-- a file that was written
+pub goes_past_write : (name : List ℕ) (right : Right) (next : List ℕ → Steps) (bytes : List ℕ) (old mid : ShelfState) → IsRight right bytes → mid ≡ record old { files = with_file old.files name bytes }
+    → GoesOn (writing name right next) (next bytes) old mid
+goes_past_write name right next bytes old mid fit is =
+    subst (GoesOn (writing name right next) (next bytes) old) (sym is)
+    (goes_further (writing name right next) (next bytes) old _ (record { reads = refl; writes = refl }) past)
+  where
+    past : (P : Steps → Option Files → Type 0) → Leads (next bytes) P (with_file old.files name bytes) → Leads (writing name right next) P old.files
+    past P h = record { left = h.left; now = h.now; passes = past_write name right next bytes fit h.passes; there = h.there }

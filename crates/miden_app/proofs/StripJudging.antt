@@ -9,10 +9,10 @@ use Rattle.miden_app.specs.declared.status.Status.TheVariants as status
 use Rattle.miden_app.specs.declared.outcome.Answer.{Answer}
 use Rattle.miden_app.specs.declared.outcome.Outcome.{Outcome}
 use Rattle.miden_app.specs.declared.outcome.Outcome.TheVariants as outcome
-use Rattle.miden_app.specs.Plans.{strip}
-use Rattle.miden_app.specs.Outcomes.{Fits, ComesTo, Says, SaysLine}
+use Rattle.miden_app.specs.Steps.{strip}
+use Rattle.miden_app.specs.Inside.Outcomes.{Fits, ComesTo, Says, SaysLine}
 use Rattle.miden_app.specs.StripValues.{values_at, first_fault_of, head_of, refused_at, first_refused, IsZero, IsAccepted}
-use Rattle.miden_app.specs.StripPlans.{accepted_line, AcceptsStrip}
+use Rattle.miden_app.specs.StripEnds.{accepted_line, AcceptsStrip}
 use Rattle.miden_app.proofs.OutcomeLemmas.{says_line}
 use Rattle.miden_app.proofs.StripRunLaw.{accepted_strips_run}
 
@@ -40,16 +40,16 @@ accepted-no_refusal i (row ∷ rows) none = go (accepted-no_refusal (i + 1) rows
 some_rows : (rows : List (List ℕ)) → 1 ≤ length rows → rows ≢ []
 some_rows rows some is = let none : length rows ≡ 0 = ap length is in absurd (omega arith)
 
--- What is said of an accepted strip is its plan.
+-- What is said of an accepted strip is how it ends.
 pub accepted_fits : (name : List ℕ) (rows : List (List ℕ)) (o : Outcome) (made : Result (List ℕ) Memory) → IsTable 23 rows → 1 ≤ length rows → None ≡ first_refused 0 rows
     → SaysLine o status.Ok made → IfOk made (λ line. line ≡ accepted_line rows) → ComesTo (strip name (Some rows)) o
 accepted_fits name rows o made table some none says is = go o (says_line o status.Ok made (accepted_line rows) says is)
   where
-    plan : AcceptsStrip rows (record { status = status.Ok; writes = []; line = accepted_line rows })
-    plan =
+    ends : AcceptsStrip rows (record { status = status.Ok; line = accepted_line rows })
+    ends =
         let accepted = accepted-no_refusal 0 rows (sym none) in
         record { accepted = accepted; run = accepted_strips_run rows table (some_rows rows some) accepted; is = refl }
 
     go : (end : Outcome) → Says end status.Ok (accepted_line rows) → ComesTo (strip name (Some rows)) end
-    go (outcome.Ends a) s = let P : Answer → Type 0 = Fits (strip name (Some rows)) in subst P (sym s) (record { plan = inl plan; planned = tt })
+    go (outcome.Ends a) s = let P : Answer → Type 0 = Fits (strip name (Some rows)) in subst P (sym s) (record { ends = inl ends; kind = refl })
     go outcome.Memory s = tt

@@ -1,34 +1,59 @@
 -- What `serve` leaves, for each answer.
-use Rattle.std.specs.Prelude.{◌≡◌, ◌⊎◌, ℕ, ◌≤◌, List, [], ◌∷◌, ◌++◌, codes, take, Option, IfSome}
+use Rattle.std.specs.Prelude.{◌≡◌, ◌⊎◌, ℕ, ◌<◌, ◌≤◌, List, codes, length, take, Option, Some, None, IfSome}
+use Rattle.std.specs.FinMap.{get}
 use Rattle.vm_io.specs.Count.{Rose}
-use Rattle.vm_io.specs.Shelf.{Files, ShelfState, Told, with_file}
+use Rattle.vm_io.specs.Shelf.{Files, ShelfState, with_file}
 use Rattle.vm_io.specs.Sink.{SinkState, SinkFails, with_piece}
 use Rattle.miden_app.specs.declared.status.Status.{Status}
 use Rattle.miden_app.specs.declared.status.Status.TheVariants as status
-use Rattle.miden_app.specs.Words.{Asked, nothing, asked}
-use Rattle.miden_app.specs.Plans.{Plan, Steps, named_line}
-use Rattle.miden_app.specs.Commands.{steps_of, Plans, Reads}
+use Rattle.miden_app.specs.declared.outcome.Answer.{Answer}
+use Rattle.miden_app.specs.Statuses.{Kind, planned, no_command, failed_read, failed_write, failed_print, no_memory, kind_of}
+use Rattle.miden_app.specs.Asked.{asked}
+use Rattle.miden_app.specs.Steps.{Right, Steps, reading, writing, ending, ends_with, named_line}
+use Rattle.miden_app.specs.Commands.{steps_of, EndsAs, IsRight}
 
--- the files with what was written, in order
-abbrev pub written : List (List ℕ × List ℕ) → Option Files → Option Files
-written [] told = told
-written (w ∷ ws) told = written ws (with_file told w.0 w.1)
+-- as far as the files are told, this stands under the name
+abbrev pub Holds : Option Files → List ℕ → Option (List ℕ) → Type 0
+Holds told name file = IfSome told (λ m. get m name ≡ file)
 
--- some of the writes are whole
-pub record SomeWritten (writes : List (List ℕ × List ℕ)) (old new : Option Files) : Type 0 where
-  pub whole : List (List ℕ × List ℕ)
-  pub later : List (List ℕ × List ℕ)
-  pub split : writes ≡ whole ++ later
-  pub files : new ≡ written whole old
+-- Without a fault the steps lead from files m to files n, with the steps `left` still to come.
+-- A shelf that does not tell its files may give any bytes.
+pub data Passes : Steps → Option Files → Steps → Option Files → Type 0 where
+  none_yet : {steps : Steps} {m : Option Files} → Passes steps m steps m
+  past_read : (name : List ℕ) (most : ℕ) (next : List ℕ → Steps) (bytes : List ℕ) {m n : Option Files} {left : Steps}
+      → Holds m name (Some bytes) → length bytes ≤ most → Passes (next bytes) m left n → Passes (reading name most next) m left n
+  past_write : (name : List ℕ) (right : Right) (next : List ℕ → Steps) (bytes : List ℕ) {m n : Option Files} {left : Steps}
+      → IsRight right bytes → Passes (next bytes) (with_file m name bytes) left n → Passes (writing name right next) m left n
 
--- some of the writes are whole, and a front of the next one stands under its name
-pub record FrontWritten (writes : List (List ℕ × List ℕ)) (name : List ℕ) (old new : Option Files) : Type 0 where
-  pub whole : List (List ℕ × List ℕ)
-  pub bytes : List ℕ
-  pub later : List (List ℕ × List ℕ)
-  pub front : ℕ
-  pub split : writes ≡ whole ++ (name, bytes) ∷ later
-  pub files : new ≡ with_file (written whole old) name (take front bytes)
+-- The steps come to a place where P holds of those that are left and of the files.
+pub record Leads (steps : Steps) (P : Steps → Option Files → Type 0) (m : Option Files) : Type 0 where
+  pub left : Steps
+  pub now : Option Files
+  pub passes : Passes steps m left now
+  pub there : P left now
+
+-- the answer to a file that is missing, or too long
+abbrev pub RefusesFile : List ℕ → ℕ → Option (List ℕ) → Answer → Type 0
+RefusesFile name most None a = a ≡ ends_with status.Missing (named_line (codes "missing ") name)
+RefusesFile name most (Some bytes) a = (most < length bytes) × (a ≡ ends_with status.TooLong (named_line (codes "too long ") name))
+
+-- The next step is the last one, with this answer.
+abbrev pub Concludes : Steps → Option Files → Answer → Type 0
+Concludes (reading name most next) m a = (file : Option (List ℕ)) × Holds m name file × RefusesFile name most file a
+Concludes (writing name right next) m a = ⊥
+Concludes (ending end) m a = EndsAs end a
+
+-- the next step reads this file
+abbrev pub IsReading : List ℕ → Steps → Type 0
+IsReading wanted (reading name most next) = wanted ≡ name
+IsReading wanted (writing name right next) = ⊥
+IsReading wanted (ending end) = ⊥
+
+-- the next step writes this file, and these bytes are right
+abbrev pub IsWriting : List ℕ → List ℕ → Steps → Type 0
+IsWriting wanted bytes (reading name most next) = ⊥
+IsWriting wanted bytes (writing name right next) = (wanted ≡ name) × IsRight right bytes
+IsWriting wanted bytes (ending end) = ⊥
 
 pub record NoFault (old new : ShelfState) : Type 0 where
   pub reads : new.read_faults ≡ old.read_faults
@@ -42,92 +67,71 @@ pub record OnlyWriteFault (old new : ShelfState) : Type 0 where
   pub reads : new.read_faults ≡ old.read_faults
   pub writes : Rose old.write_faults new.write_faults
 
--- the counts of faults, whether or not the shelf tells its files
-abbrev pub CountsFit : Status → ShelfState → ShelfState → Type 0
-CountsFit status.ReadFault old new = OnlyReadFault old new
-CountsFit status.WriteFault old new = OnlyWriteFault old new
-CountsFit s old new = NoFault old new
+-- The steps went to their end, which is this answer.
+pub record Ends (steps : Steps) (a : Answer) (old new : ShelfState) : Type 0 where
+  pub counts : NoFault old new
+  pub files : Leads steps (λ left now. Concludes left now a × (new.files ≡ now)) old.files
 
--- A read failed, behind steps that had passed. Nothing was written.
-pub record FailsAtRead (steps : Steps) (m : Files) (line : List ℕ) (old new : ShelfState) : Type 0 where
-  pub name : List ℕ
-  pub read : Reads steps m name
-  pub line_is : line ≡ named_line (codes "read fault ") name
+-- The steps stopped behind one of them, without a fault.
+pub record Stops (steps : Steps) (old new : ShelfState) : Type 0 where
+  pub counts : NoFault old new
+  pub files : Leads steps (λ left now. new.files ≡ now) old.files
+
+-- The read of this file failed when its turn had come.
+pub record FailsAtRead (steps : Steps) (name : List ℕ) (old new : ShelfState) : Type 0 where
+  pub counts : OnlyReadFault old new
   pub told : IfSome new.failed_name (λ failed. failed ≡ name)
-  pub files : new.files ≡ old.files
+  pub files : Leads steps (λ left now. IsReading name left × (new.files ≡ now)) old.files
 
--- A write of a plan that had gone well failed. The writes before it are whole.
-pub record FailsAtWrite (steps : Steps) (m : Files) (line : List ℕ) (old new : ShelfState) : Type 0 where
-  pub plan : Plan
-  pub planned : Plans steps m plan
-  pub well : plan.status ≡ status.Ok
-  pub name : List ℕ
-  pub line_is : line ≡ named_line (codes "write fault ") name
+-- a front of right bytes stands under the name, and the writes before it are whole
+pub record FrontWritten (name : List ℕ) (left : Steps) (before now : Option Files) : Type 0 where
+  pub bytes : List ℕ
+  pub right : IsWriting name bytes left
+  pub front : ℕ
+  pub files : now ≡ with_file before name (take front bytes)
+
+-- The write of this file failed when its turn had come.
+pub record FailsAtWrite (steps : Steps) (name : List ℕ) (old new : ShelfState) : Type 0 where
+  pub counts : OnlyWriteFault old new
   pub told : IfSome new.failed_name (λ failed. failed ≡ name)
-  pub files : FrontWritten plan.writes name old.files new.files
+  pub files : Leads steps (λ left before. FrontWritten name left before new.files) old.files
 
--- A plan was carried out.
-pub record CarriesOut (steps : Steps) (m : Files) (s : Status) (line : List ℕ) (old new : ShelfState) : Type 0 where
-  pub plan : Plan
-  pub planned : Plans steps m plan
-  pub status_is : s ≡ plan.status
-  pub line_is : line ≡ plan.line
-  pub files : new.files ≡ written plan.writes old.files
+-- The work of a command, before its answer is printed, by the kind of the answer's status.
+abbrev pub Works : Option Steps → Kind → Answer → ShelfState → ShelfState → Type 0
+Works None no_command a old new = (a.line ≡ codes "usage\n") × (new ≡ old)
+Works (Some steps) planned a old new = Ends steps a old new
+Works (Some steps) failed_read a old new = (name : List ℕ) × FailsAtRead steps name old new × (a.line ≡ named_line (codes "read fault ") name)
+Works (Some steps) failed_write a old new = (name : List ℕ) × FailsAtWrite steps name old new × (a.line ≡ named_line (codes "write fault ") name)
+Works steps kind a old new = ⊥
 
-abbrev pub Follows : Steps → Files → Status → List ℕ → ShelfState → ShelfState → Type 0
-Follows steps m status.ReadFault line old new = FailsAtRead steps m line old new
-Follows steps m status.WriteFault line old new = FailsAtWrite steps m line old new
-Follows steps m s line old new = CarriesOut steps m s line old new
-
--- The work of a command, before its line is printed: its status and its line.
-pub record Works (steps : Steps) (s : Status) (line : List ℕ) (old new : ShelfState) : Type 0 where
-  pub counts : CountsFit s old new
-  pub follows : Told old (λ m. Follows steps m s line old new)
-
--- a part of a plan's writes was carried out
-pub record WritesPart (steps : Steps) (m : Files) (old new : ShelfState) : Type 0 where
-  pub plan : Plan
-  pub planned : Plans steps m plan
-  pub files : SomeWritten plan.writes old.files new.files ⊎ ((name : List ℕ) × FrontWritten plan.writes name old.files new.files)
-
--- Memory was refused. What was written so far stands, and no count has fallen.
-pub record GivesUp (steps : Steps) (old new : ShelfState) : Type 0 where
-  pub reads : old.read_faults ≤ new.read_faults
-  pub writes : old.write_faults ≤ new.write_faults
-  pub files : (new.files ≡ old.files) ⊎ Told old (λ m. WritesPart steps m old new)
+-- Memory was refused: no call of the shelf had failed, or one read, or one write.
+abbrev pub GivesUp : Option Steps → ShelfState → ShelfState → Type 0
+GivesUp None old new = new ≡ old
+GivesUp (Some steps) old new =
+    Stops steps old new ⊎ (((name : List ℕ) × FailsAtRead steps name old new) ⊎ ((name : List ℕ) × FailsAtWrite steps name old new))
 
 -- The work was done and its line was printed.
-pub record Prints (steps : Steps) (s : Status) (old new : ShelfState) (before now : SinkState) : Type 0 where
+pub record Prints (steps : Option Steps) (s : Status) (old new : ShelfState) (before now : SinkState) : Type 0 where
   pub line : List ℕ
-  pub works : Works steps s line old new
+  pub works : Works steps (kind_of s) (ends_with s line) old new
   pub taken : now ≡ record before { taken = with_piece before.taken line }
 
--- The work was done, with a status of its own, and the sink failed to take its line.
-pub record FailsToPrint (steps : Steps) (old new : ShelfState) (before now : SinkState) : Type 0 where
-  pub status : Status
-  pub line : List ℕ
-  pub works : Works steps status line old new
-  pub failed : SinkFails before now line
+-- The work was done, with an answer of its own, and the sink failed to take its line.
+pub record FailsToPrint (steps : Option Steps) (old new : ShelfState) (before now : SinkState) : Type 0 where
+  pub answer : Answer
+  pub works : Works steps (kind_of answer.status) answer old new
+  pub failed : SinkFails before now answer.line
 
 -- Memory was refused, and nothing was printed.
-pub record PrintsNothing (steps : Steps) (old new : ShelfState) (before now : SinkState) : Type 0 where
+pub record PrintsNothing (steps : Option Steps) (old new : ShelfState) (before now : SinkState) : Type 0 where
   pub gives_up : GivesUp steps old new
   pub taken : now ≡ before
 
-abbrev pub Answers : Steps → Status → ShelfState → ShelfState → SinkState → SinkState → Type 0
-Answers steps status.SinkFault old new before now = FailsToPrint steps old new before now
-Answers steps status.Memory old new before now = PrintsNothing steps old new before now
-Answers steps s old new before now = Prints steps s old new before now
+abbrev pub Answers : Kind → Option Steps → Status → ShelfState → ShelfState → SinkState → SinkState → Type 0
+Answers failed_print steps s old new before now = FailsToPrint steps old new before now
+Answers no_memory steps s old new before now = PrintsNothing steps old new before now
+Answers kind steps s old new before now = Prints steps s old new before now
 
 -- `serve` with these words ended so, from the old shelf and sink to the new ones.
 abbrev pub Serves : List (List ℕ) → Status → ShelfState → ShelfState → SinkState → SinkState → Type 0
-Serves words s old new before now = Answers (steps_of (asked words)) s old new before now
-
--- Usage comes exactly where the words are of no command, unless printing fails or memory is refused, whatever the files are.
-abbrev pub UsageFits : Asked → Status → Type 0
-UsageFits nothing status.Usage = Unit {0}
-UsageFits nothing status.SinkFault = Unit {0}
-UsageFits nothing status.Memory = Unit {0}
-UsageFits nothing s = ⊥
-UsageFits command status.Usage = ⊥
-UsageFits command s = Unit {0}
+Serves words s old new before now = Answers (kind_of s) (steps_of (asked words)) s old new before now

@@ -2,14 +2,15 @@
 #![tactic(auto)]
 
 mod hash;
+mod laws;
 mod loading;
 mod outcome;
+mod saving;
 mod serving;
 mod status;
 mod strip;
-#[cfg(test)]
-mod tests;
 mod words;
 
+pub use laws::{other_files_stay, usage_is_for_no_command};
 pub use serving::serve;
 pub use status::Status;

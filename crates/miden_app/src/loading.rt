@@ -1,7 +1,6 @@
-ghost use Rattle.std.specs.Prelude.{ℕ, List, ◌≤◌, length, IfOk, IfErr};
-ghost use Rattle.vm_io.specs.Shelf.{Reads};
-ghost use Rattle.miden_app.specs.Outcomes.{EndsIn};
-ghost use Rattle.miden_app.specs.Plans.{Steps, reading};
+ghost use Rattle.std.specs.Prelude.{ℕ, List, Some, ◌≤◌, length, IfOk, IfErr};
+ghost use Rattle.miden_app.specs.Inside.Outcomes.{EndsIn, GoesOn};
+ghost use Rattle.miden_app.specs.Steps.{Steps, reading};
 
 use crate::outcome::{Outcome, named_answer};
 use crate::status::Status;
@@ -11,11 +10,14 @@ use vm_io::{ReadStop, Shelf};
 
 /// Reads a file of at most `most` bytes. An `Err` is how the command ends, whatever was to come
 /// next.
+#[tactic(auto, using(crate::proofs::ServingLemmas::goes_past_read, crate::proofs::ServingLemmas::same_again))]
 pub fn load<F: Shelf>(alloc: Global, shelf: &mut F, name: &str, most: u64) -> Result<Bytes, Outcome>
     requires { length name.now ≤ 200 }
-    ensures found { IfOk result (λ bytes. Reads (F.state shelf.old) (F.state shelf.new) name.now most bytes) }
+    ensures found { IfOk result (λ bytes. (next : List ℕ → Steps)
+        → GoesOn (reading name.now most next) (next bytes) (F.state shelf.old) (F.state shelf.new)) }
+    ensures short { IfOk result (λ bytes. length bytes ≤ most) }
     ensures stopped { IfErr result (λ end. (next : List ℕ → Steps)
-        → EndsIn (reading name.now most next) end (F.state shelf.old) (F.state shelf.new)) }
+        → EndsIn (Some (reading name.now most next)) end (F.state shelf.old) (F.state shelf.new)) }
 {
     match shelf.read(alloc, name, most) {
         Ok(bytes) => Ok(bytes),

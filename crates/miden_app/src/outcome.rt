@@ -1,6 +1,6 @@
 ghost use Rattle.std.specs.Prelude.{◌≡◌, IfOk};
-ghost use Rattle.miden_app.specs.Outcomes.{Says, SaysLine};
-ghost use Rattle.miden_app.specs.Plans.{named_line};
+ghost use Rattle.miden_app.specs.Inside.Outcomes.{Says, SaysLine};
+ghost use Rattle.miden_app.specs.Steps.{named_line};
 
 use crate::status::Status;
 use std::alloc::Global;

@@ -1,7 +1,9 @@
 ghost use Rattle.std.specs.Prelude.{codes};
-ghost use Rattle.miden_app.specs.Words.{asked, texts};
-ghost use Rattle.miden_app.specs.Outcomes.{PrintStep, Says};
-ghost use Rattle.miden_app.specs.Serving.{Serves, UsageFits};
+ghost use Rattle.miden_app.specs.Asked.{asked};
+ghost use Rattle.miden_app.specs.Words.{texts};
+ghost use Rattle.miden_app.specs.Commands.{steps_of};
+ghost use Rattle.miden_app.specs.Inside.Outcomes.{EndsIn, PrintStep, Says};
+ghost use Rattle.miden_app.specs.Serving.{Serves};
 
 use crate::hash::hash_files;
 use crate::outcome::{Outcome, answered};
@@ -17,7 +19,14 @@ use vm_io::{Gate, Shelf, Sink, SinkStop};
 ///
 /// Each status other than `SinkFault` and `Memory` is the one that the words and the files come to,
 /// or says that a read or a write failed, and its line was printed. `SinkFault` says that the line
-/// was not taken whole, behind work that was done. At `Memory` nothing was printed.
+/// was not taken whole, behind work that was done. At `Memory` nothing was printed, and no call of
+/// the shelf had failed, or one read, or one write.
+///
+/// A shelf that does not tell its files may hold any: status and line are then what the words come
+/// to with some bytes for each file that was read, no more than are read of it. All else holds of it
+/// as of others: words of no command leave it untouched, and its counts of faults rise exactly where
+/// a status says so, behind a line that was not printed, or at `Memory`.
+#[tactic(auto, using(crate::proofs::PrintingLemmas::serves_steps))]
 pub fn serve<F: Shelf, K: Sink, G: Gate>(
     alloc: Global,
     words: &[Vec<u8>],
@@ -25,20 +34,22 @@ pub fn serve<F: Shelf, K: Sink, G: Gate>(
     out: &mut K,
     _gate: &G,
 ) -> Status
-    ensures serves { Serves (texts words.now) result (F.state shelf.old) (F.state shelf.new)
+    ensures { Serves (texts words.now) result (F.state shelf.old) (F.state shelf.new)
         (K.state out.old) (K.state out.new) }
-    ensures usage { UsageFits (asked (texts words.now)) result }
+{
+    let outcome = obey(alloc, words, shelf);
+    print(alloc, out, outcome)
+}
+
+// Does the work of the command, and leaves its line to be printed.
+#[tactic(auto, using(crate::proofs::ServingLemmas::usage_ends))]
+fn obey<F: Shelf>(alloc: Global, words: &[Vec<u8>], shelf: &mut F) -> Outcome
+    ensures { EndsIn (steps_of (asked (texts words.now))) result (F.state shelf.old) (F.state shelf.new) }
 {
     match command_of(words) {
-        Command::CheckStrip { strip } => {
-            let end = check_strip_file(alloc, shelf, strip);
-            print(alloc, out, end)
-        }
-        Command::Hash { params, numbers } => {
-            let end = hash_files(alloc, shelf, params, numbers);
-            print(alloc, out, end)
-        }
-        Command::Nothing => print(alloc, out, usage(alloc)),
+        Command::CheckStrip { strip } => check_strip_file(alloc, shelf, strip),
+        Command::Hash { params, numbers } => hash_files(alloc, shelf, params, numbers),
+        Command::Nothing => usage(alloc),
     }
 }
 

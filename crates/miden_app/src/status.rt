@@ -1,5 +1,5 @@
 ghost use Rattle.std.specs.Prelude.{◌≡◌};
-ghost use Rattle.miden_app.specs.Numbers.{number_of};
+ghost use Rattle.miden_app.specs.Statuses.{number_of};
 
 /// How a call of `serve` ended.
 #[derive(Clone, Copy, Debug, PartialEq, Eq)]

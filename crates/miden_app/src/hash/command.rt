@@ -1,11 +1,10 @@
-ghost use Rattle.std.specs.Prelude.{◌≡◌, ◌≤◌, ◌++◌, ◌+◌, ◌*◌, length, take, drop, IfOk};
+ghost use Rattle.std.specs.Prelude.{◌≡◌, ◌≤◌, ◌++◌, ◌+◌, ◌*◌, length, take, drop, IfOk, Some};
 ghost use Rattle.rpo_hash.specs.CauseText.{cause_text as param_cause_text};
 ghost use Rattle.rpo_hash.specs.Constants.{constants_of};
-ghost use Rattle.miden_app.specs.Words.{hash};
-ghost use Rattle.miden_app.specs.Commands.{steps_of, hash_steps};
-ghost use Rattle.miden_app.specs.Outcomes.{ComesTo, EndsIn, Says};
+ghost use Rattle.miden_app.specs.Commands.{hash_steps, numbers_steps};
+ghost use Rattle.miden_app.specs.Inside.Outcomes.{ComesTo, EndsIn, Says};
 ghost use Rattle.miden_app.specs.HashGrammar.{numbers_of};
-ghost use Rattle.miden_app.specs.HashPlans.{hash_end, malformed_line, numbers_cause_text, digest_line, digest_of_elements as digest_by_eight};
+ghost use Rattle.miden_app.specs.HashEnds.{hash_end, malformed_line, numbers_cause_text, digest_line, digest_of_elements as digest_by_eight};
 
 use crate::hash::numbers::{NumbersCause, NumbersStop, read_numbers};
 use crate::loading::load;
@@ -24,10 +23,11 @@ const MOST_NUMBERS_BYTES: u64 = 262144;
 
 /// `hash`: reads the parameters, then the numbers, and hashes these, eight to a block, with
 /// domain 0.
+#[tactic(auto, using(crate::proofs::ServingLemmas::work_ends, crate::proofs::ServingLemmas::says_comes))]
 pub fn hash_files<F: Shelf>(alloc: Global, shelf: &mut F, params: &str, numbers: &str) -> Outcome
     requires params { length params.now ≤ 200 }
     requires numbers { length numbers.now ≤ 200 }
-    ensures { EndsIn (steps_of (hash params.now numbers.now)) result (F.state shelf.old) (F.state shelf.new) }
+    ensures { EndsIn (Some (hash_steps params.now numbers.now)) result (F.state shelf.old) (F.state shelf.new) }
 {
     match load(alloc, shelf, params, MOST_PARAMS_BYTES) {
         Ok(bytes) => match Params::read(bytes.as_slice()) {
@@ -39,9 +39,10 @@ pub fn hash_files<F: Shelf>(alloc: Global, shelf: &mut F, params: &str, numbers:
 }
 
 // Reads and hashes the numbers.
+#[tactic(auto, using(crate::proofs::ServingLemmas::work_ends))]
 fn hash_file<F: Shelf>(alloc: Global, shelf: &mut F, constants: &Params, name: &str) -> Outcome
     requires { length name.now ≤ 200 }
-    ensures { EndsIn (hash_steps name.now (constants_of constants.now)) result (F.state shelf.old) (F.state shelf.new) }
+    ensures { EndsIn (Some (numbers_steps name.now (constants_of constants.now))) result (F.state shelf.old) (F.state shelf.new) }
 {
     match load(alloc, shelf, name, MOST_NUMBERS_BYTES) {
         Ok(bytes) => hash_bytes(alloc, constants, name, bytes.as_slice()),

@@ -1,7 +1,7 @@
 ghost use Rattle.std.specs.Prelude.{◌≡◌, ◌≤◌, ◌<◌, ◌+◌, ◌-◌, ◌^◌, length, option_map, IfSome, IfOk};
 ghost use Rattle.rpo_hash.specs.ParamText.{one_element};
 ghost use Rattle.miden_app.specs.HashGrammar.{elements_from, is_good_count, numbers_of};
-ghost use Rattle.miden_app.specs.HashAnswers.{Gives};
+ghost use Rattle.miden_app.specs.Inside.NumbersRead.{ReadsNumbers};
 
 use rpo_hash::next_line;
 use std::alloc::{AllocFailed, Global};
@@ -48,7 +48,7 @@ impl<T: Drop> From<AllocFailed<T>> for NumbersStop {
 /// The elements that a file of numbers writes.
 pub fn read_numbers(alloc: Global, bytes: &[u8]) -> Result<Vec<Felt>, NumbersStop>
     requires { length bytes.now ≤ 262144 }
-    ensures { Gives result (numbers_of bytes.now) }
+    ensures { ReadsNumbers result (numbers_of bytes.now) }
 {
     let elements = read_elements(alloc, bytes)?;
     let count = elements.len();
@@ -67,7 +67,7 @@ fn is_count(count: usize) -> bool
 
 fn read_elements(alloc: Global, bytes: &[u8]) -> Result<Vec<Felt>, NumbersStop>
     requires { length bytes.now ≤ 262144 }
-    ensures gives { Gives result (elements_from (length bytes.now) 1 bytes.now) }
+    ensures gives { ReadsNumbers result (elements_from (length bytes.now) 1 bytes.now) }
     ensures few { IfOk result (λ elements. length elements.items ≤ length bytes.now) }
 {
     let mut elements = Vec::new(alloc);

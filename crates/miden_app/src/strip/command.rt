@@ -1,12 +1,11 @@
 ghost use Rattle.std.specs.Prelude.{◌≡◌, ◌<◌, ◌≤◌, ◌^◌, ◌++◌, ◌∷◌, [], length, slice_index_or, decimal, IfOk, OnOk, Some};
 ghost use Rattle.vm_ops.specs.Codes.{text_of_op};
-ghost use Rattle.miden_app.specs.Words.{check_strip};
-ghost use Rattle.miden_app.specs.Plans.{strip};
-ghost use Rattle.miden_app.specs.Commands.{steps_of};
-ghost use Rattle.miden_app.specs.Outcomes.{ComesTo, EndsIn};
+ghost use Rattle.miden_app.specs.Steps.{strip};
+ghost use Rattle.miden_app.specs.Commands.{check_steps};
+ghost use Rattle.miden_app.specs.Inside.Outcomes.{ComesTo, EndsIn};
 ghost use Rattle.miden_app.specs.StripGrammar.{strip_of};
 ghost use Rattle.miden_app.specs.StripRun.{op_of_row};
-ghost use Rattle.miden_app.specs.StripPlans.{accepted_line, refused_line};
+ghost use Rattle.miden_app.specs.StripEnds.{accepted_line, refused_line};
 
 use crate::loading::load;
 use crate::outcome::{Outcome, answered, named_answer};
@@ -24,9 +23,10 @@ use vm_table::Table;
 const MOST_TABLE_BYTES: u64 = 1073741824;
 
 /// `check` of a strip: reads it, and judges its table.
+#[tactic(auto, using(crate::proofs::ServingLemmas::work_ends))]
 pub fn check_strip_file<F: Shelf>(alloc: Global, shelf: &mut F, name: &str) -> Outcome
     requires { length name.now ≤ 200 }
-    ensures { EndsIn (steps_of (check_strip name.now)) result (F.state shelf.old) (F.state shelf.new) }
+    ensures { EndsIn (Some (check_steps name.now)) result (F.state shelf.old) (F.state shelf.new) }
 {
     match load(alloc, shelf, name, MOST_TABLE_BYTES) {
         Ok(bytes) => judge(alloc, name, bytes.as_slice()),

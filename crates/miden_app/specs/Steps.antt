@@ -1,0 +1,30 @@
+-- The steps of a command: the files that it reads and writes, one after the other, and how it ends.
+use Rattle.std.specs.Prelude.{ℕ, List, ◌++◌, codes, Option}
+use Rattle.miden_app.specs.declared.status.Status.{Status}
+use Rattle.miden_app.specs.declared.outcome.Answer.{Answer}
+
+-- What the files of a command lead to. Each command has its own kind of end.
+pub data End : Type 0 where
+  -- a status and a line that are determined
+  stop : (s : Status) (line : List ℕ) → End
+  -- a strip of this name is judged by its rows; there are none where the file is no strip
+  strip : (name : List ℕ) (rows : Option (List (List ℕ))) → End
+
+-- Which bytes are right for a file that is written. There may be several.
+pub data Right : Type 0 where
+  exactly : (bytes : List ℕ) → Right
+
+-- What was read and written decides how the steps go on.
+pub data Steps : Type 0 where
+  -- a file of at most so many bytes is read
+  reading : (name : List ℕ) (most : ℕ) (next : List ℕ → Steps) → Steps
+  -- right bytes are written
+  writing : (name : List ℕ) (right : Right) (next : List ℕ → Steps) → Steps
+  ending : (end : End) → Steps
+
+abbrev pub ends_with : Status → List ℕ → Answer
+ends_with s line = record { status = s; line = line }
+
+-- a text and a name behind it, as one line
+abbrev pub named_line : List ℕ → List ℕ → List ℕ
+named_line text name = text ++ name ++ codes "\n"

@@ -1,0 +1,4 @@
+mod check;
+mod content;
+mod hash;
+mod row;

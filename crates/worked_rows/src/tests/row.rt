@@ -1,0 +1,82 @@
+use crate::tests::content::{Content, bytes_of};
+use miden_app::serve;
+use std::alloc::Global;
+use std::process::Abort;
+use std::test::Fail;
+use vm_field::Memory;
+use vm_io::{MemShelf, MemSink, OpenGate};
+
+/// One call of `serve`, and what it leaves.
+pub struct Row {
+    pub words: &'static [&'static str],
+
+    /// The files that stand on the shelf, before and after.
+    pub files: &'static [(&'static str, Content)],
+
+    /// The call of the shelf that fails, from 1; 0 for none.
+    pub failing_call: u64,
+
+    /// The write of the sink that fails, from 1; 0 for none.
+    pub failing_write: u64,
+
+    pub number: u8,
+    pub printed: &'static str,
+}
+
+/// Fails at the first row that is not so.
+pub fn all_hold(rt: &(impl Abort + AllocGlobal), rows: &[Row]) -> Result<(), Fail> {
+    for row in rows {
+        let holds = holds(rt.alloc(), row)?;
+        assert!(rt; holds, "{}", row.printed);
+    }
+    Ok(())
+}
+
+// Whether `serve` answers as the row says.
+fn holds(alloc: Global, row: &Row) -> Result<bool, Memory> {
+    let mut shelf = shelf_of(alloc, row)?;
+    let mut sink = MemSink::new(alloc);
+    if row.failing_write != 0 {
+        sink.fail(row.failing_write)?;
+    }
+    let words = words_of(alloc, row.words)?;
+    let status = serve(alloc, words.as_slice(), &mut shelf, &mut sink, &OpenGate);
+    Ok(status.number() == row.number
+        && sink.taken() == row.printed.as_bytes()
+        && files_stand(alloc, &shelf, row.files)?)
+}
+
+fn shelf_of(alloc: Global, row: &Row) -> Result<MemShelf, Memory> {
+    let mut shelf = MemShelf::new(alloc);
+    for (name, content) in row.files {
+        shelf.put(name, bytes_of(alloc, content)?.as_slice())?;
+    }
+    if row.failing_call != 0 {
+        shelf.fail(row.failing_call)?;
+    }
+    Ok(shelf)
+}
+
+fn words_of(alloc: Global, texts: &[&str]) -> Result<Vec<Vec<u8>>, Memory> {
+    let mut words = Vec::new(alloc);
+    for text in texts {
+        words.push(Vec::from_slice(alloc, text.as_bytes())?)?;
+    }
+    Ok(words)
+}
+
+fn files_stand(alloc: Global, shelf: &MemShelf, files: &[(&str, Content)]) -> Result<bool, Memory> {
+    for (name, content) in files {
+        if !stands(shelf, name, bytes_of(alloc, content)?.as_slice()) {
+            return Ok(false);
+        }
+    }
+    Ok(true)
+}
+
+fn stands(shelf: &MemShelf, name: &str, bytes: &[u8]) -> bool {
+    match shelf.get(name) {
+        Some(file) => file == bytes,
+        None => false,
+    }
+}
