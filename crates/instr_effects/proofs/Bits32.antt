@@ -91,7 +91,8 @@ meets-u32checked_xor constants locals s numbers form =
 u32checked_or-alone : (constants : List ℕ) (locals : ℕ) (s : State) → MeetsAt constants locals s names.U32CheckedOr []
 unfolding expansion front instr_effect last trap fits left_cells computed trap_of
 u32checked_or-alone constants locals s =
-    acts _ _ _ _ _ _ _ (lit≤ tt) refl (one-trap (are_u32 (top s 0) (top s 1)) causes.NotU32) refl refl refl (λ free. first-is _ _ _ (or-is (top s 0) (top s 1) free))
+    acts _ _ _ _ _ _ _ (lit≤ tt) refl (one-trap (are_u32 (top s 0) (top s 1)) causes.NotU32) refl refl refl
+    (λ free. first-is _ _ _ (or-is (top s 0) (top s 1) free))
 
 pub meets-u32checked_or : (constants : List ℕ) (locals : ℕ) (s : State) → MeetsAll constants locals s names.U32CheckedOr
 meets-u32checked_or constants locals s numbers form =
@@ -118,7 +119,8 @@ meets-u32checked_lt constants locals s numbers form =
 u32checked_gte-alone : (constants : List ℕ) (locals : ℕ) (s : State) → MeetsAt constants locals s names.U32CheckedGte []
 unfolding expansion front instr_effect last trap fits left_cells computed trap_of
 u32checked_gte-alone constants locals s =
-    acts _ _ _ _ _ _ _ (lit≤ tt) refl (then-not (are_u32 (top s 0) (top s 1)) (nat_lt (top s 1) (top s 0))) refl refl refl (λ free. first-is _ _ _ (at-most-is (top s 0) (top s 1)))
+    acts _ _ _ _ _ _ _ (lit≤ tt) refl (then-not (are_u32 (top s 0) (top s 1)) (nat_lt (top s 1) (top s 0))) refl refl refl
+    (λ free. first-is _ _ _ (at-most-is (top s 0) (top s 1)))
 
 pub meets-u32checked_gte : (constants : List ℕ) (locals : ℕ) (s : State) → MeetsAll constants locals s names.U32CheckedGte
 meets-u32checked_gte constants locals s numbers form =
@@ -145,7 +147,8 @@ meets-u32checked_lte constants locals s numbers form =
 u32checked_max-alone : (constants : List ℕ) (locals : ℕ) (s : State) → MeetsAt constants locals s names.U32CheckedMax []
 unfolding expansion front instr_effect last trap fits left_cells computed trap_of
 u32checked_max-alone constants locals s =
-    acts _ _ _ _ _ _ _ (lit≤ tt) refl (then-not (are_u32 (top s 0) (top s 1)) (nat_lt (top s 1) (top s 0))) refl refl refl (λ free. first-is _ _ _ (max-is (top s 0) (top s 1)))
+    acts _ _ _ _ _ _ _ (lit≤ tt) refl (then-not (are_u32 (top s 0) (top s 1)) (nat_lt (top s 1) (top s 0))) refl refl refl
+    (λ free. first-is _ _ _ (max-is (top s 0) (top s 1)))
 
 pub meets-u32checked_max : (constants : List ℕ) (locals : ℕ) (s : State) → MeetsAll constants locals s names.U32CheckedMax
 meets-u32checked_max constants locals s numbers form =
@@ -154,7 +157,8 @@ meets-u32checked_max constants locals s numbers form =
 u32checked_min-alone : (constants : List ℕ) (locals : ℕ) (s : State) → MeetsAt constants locals s names.U32CheckedMin []
 unfolding expansion front instr_effect last trap fits left_cells computed trap_of
 u32checked_min-alone constants locals s =
-    acts _ _ _ _ _ _ _ (lit≤ tt) refl (then-not (are_u32 (top s 0) (top s 1)) (nat_lt (top s 1) (top s 0))) refl refl refl (λ free. first-is _ _ _ (min-is (top s 0) (top s 1)))
+    acts _ _ _ _ _ _ _ (lit≤ tt) refl (then-not (are_u32 (top s 0) (top s 1)) (nat_lt (top s 1) (top s 0))) refl refl refl
+    (λ free. first-is _ _ _ (min-is (top s 0) (top s 1)))
 
 pub meets-u32checked_min : (constants : List ℕ) (locals : ℕ) (s : State) → MeetsAll constants locals s names.U32CheckedMin
 meets-u32checked_min constants locals s numbers form =

@@ -118,7 +118,8 @@ cell-small s k well = elements-index s.core.stack k well.core.cells
 lt-alone : (constants : List ℕ) (locals : ℕ) (s : State) → IsWellFormed s → MeetsAt constants locals s names.Lt []
 unfolding expansion front instr_effect last trap fits left_cells computed trap_of
 lt-alone constants locals s well =
-    acts _ _ _ _ _ _ _ (lit≤ tt) refl (order-alone (top s 1) (top s 0) (cell-small s 1 well) (cell-small s 0 well)) refl refl refl (λ free. first-is _ _ _ (order-is (top s 1) (top s 0)))
+    acts _ _ _ _ _ _ _ (lit≤ tt) refl (order-alone (top s 1) (top s 0) (cell-small s 1 well) (cell-small s 0 well)) refl refl refl
+    (λ free. first-is _ _ _ (order-is (top s 1) (top s 0)))
 
 pub meets-lt : (constants : List ℕ) (locals : ℕ) (s : State) → IsWellFormed s → MeetsAll constants locals s names.Lt
 meets-lt constants locals s well numbers form =
@@ -127,7 +128,8 @@ meets-lt constants locals s well numbers form =
 gt-alone : (constants : List ℕ) (locals : ℕ) (s : State) → IsWellFormed s → MeetsAt constants locals s names.Gt []
 unfolding expansion front instr_effect last trap fits left_cells computed trap_of
 gt-alone constants locals s well =
-    acts _ _ _ _ _ _ _ (lit≤ tt) refl (order-alone (top s 0) (top s 1) (cell-small s 0 well) (cell-small s 1 well)) refl refl refl (λ free. first-is _ _ _ (order-is (top s 0) (top s 1)))
+    acts _ _ _ _ _ _ _ (lit≤ tt) refl (order-alone (top s 0) (top s 1) (cell-small s 0 well) (cell-small s 1 well)) refl refl refl
+    (λ free. first-is _ _ _ (order-is (top s 0) (top s 1)))
 
 pub meets-gt : (constants : List ℕ) (locals : ℕ) (s : State) → IsWellFormed s → MeetsAll constants locals s names.Gt
 meets-gt constants locals s well numbers form =
@@ -136,7 +138,8 @@ meets-gt constants locals s well numbers form =
 lte-alone : (constants : List ℕ) (locals : ℕ) (s : State) → IsWellFormed s → MeetsAt constants locals s names.Lte []
 unfolding expansion front instr_effect last trap fits left_cells computed trap_of
 lte-alone constants locals s well =
-    acts _ _ _ _ _ _ _ (lit≤ tt) refl (order-denied (top s 0) (top s 1) (cell-small s 0 well) (cell-small s 1 well)) refl refl refl (λ free. first-is _ _ _ (at-most-is (top s 1) (top s 0)))
+    acts _ _ _ _ _ _ _ (lit≤ tt) refl (order-denied (top s 0) (top s 1) (cell-small s 0 well) (cell-small s 1 well)) refl refl refl
+    (λ free. first-is _ _ _ (at-most-is (top s 1) (top s 0)))
 
 pub meets-lte : (constants : List ℕ) (locals : ℕ) (s : State) → IsWellFormed s → MeetsAll constants locals s names.Lte
 meets-lte constants locals s well numbers form =
@@ -145,7 +148,8 @@ meets-lte constants locals s well numbers form =
 gte-alone : (constants : List ℕ) (locals : ℕ) (s : State) → IsWellFormed s → MeetsAt constants locals s names.Gte []
 unfolding expansion front instr_effect last trap fits left_cells computed trap_of
 gte-alone constants locals s well =
-    acts _ _ _ _ _ _ _ (lit≤ tt) refl (order-denied (top s 1) (top s 0) (cell-small s 1 well) (cell-small s 0 well)) refl refl refl (λ free. first-is _ _ _ (at-most-is (top s 0) (top s 1)))
+    acts _ _ _ _ _ _ _ (lit≤ tt) refl (order-denied (top s 1) (top s 0) (cell-small s 1 well) (cell-small s 0 well)) refl refl refl
+    (λ free. first-is _ _ _ (at-most-is (top s 0) (top s 1)))
 
 pub meets-gte : (constants : List ℕ) (locals : ℕ) (s : State) → IsWellFormed s → MeetsAll constants locals s names.Gte
 meets-gte constants locals s well numbers form =

@@ -136,7 +136,11 @@ shiftable b a free =
 power-there : (b a : ℕ) → no_shift b a ≡ false → power_of b ≡ 2 ^ b
 power-there b a free = let within = (shiftable b a free).amount in power-is b (omega arith)
 
-turns-left-table : Each (λ b. (a : ℕ) → a < 2 ^ 32 → felt_add (a * 2 ^ b / 2 ^ 32) (a * 2 ^ b % 2 ^ 32) ≡ turned_left a b) 32
+-- a rotation to the left by b, and its sum of two halves
+abbrev TurnsLeft : ℕ → Type 0
+TurnsLeft b = (a : ℕ) → a < 2 ^ 32 → felt_add (a * 2 ^ b / 2 ^ 32) (a * 2 ^ b % 2 ^ 32) ≡ turned_left a b
+
+turns-left-table : Each TurnsLeft 32
 turns-left-table = (
   (
     (
@@ -236,9 +240,13 @@ turns-left-table = (
 )
 
 turns-left : (b a : ℕ) → b < 32 → a < 2 ^ 32 → felt_add (a * 2 ^ b / 2 ^ 32) (a * 2 ^ b % 2 ^ 32) ≡ turned_left a b
-turns-left b a h k = of_each (λ b. (a : ℕ) → a < 2 ^ 32 → felt_add (a * 2 ^ b / 2 ^ 32) (a * 2 ^ b % 2 ^ 32) ≡ turned_left a b) 32 b turns-left-table h a k
+turns-left b a h k = of_each TurnsLeft 32 b turns-left-table h a k
 
-turns-right-table : Each (λ b. (a : ℕ) → a < 2 ^ 32 → felt_add (a * 2 ^ ((32 - b) % 32) / 2 ^ 32) (a * 2 ^ ((32 - b) % 32) % 2 ^ 32) ≡ turned_right a b) 32
+-- a rotation to the right by b, which is one to the left by the other bits
+abbrev TurnsRight : ℕ → Type 0
+TurnsRight b = (a : ℕ) → a < 2 ^ 32 → felt_add (a * 2 ^ ((32 - b) % 32) / 2 ^ 32) (a * 2 ^ ((32 - b) % 32) % 2 ^ 32) ≡ turned_right a b
+
+turns-right-table : Each TurnsRight 32
 turns-right-table = (
   (
     (
@@ -338,7 +346,7 @@ turns-right-table = (
 )
 
 turns-right : (b a : ℕ) → b < 32 → a < 2 ^ 32 → felt_add (a * 2 ^ ((32 - b) % 32) / 2 ^ 32) (a * 2 ^ ((32 - b) % 32) % 2 ^ 32) ≡ turned_right a b
-turns-right b a h k = of_each (λ b. (a : ℕ) → a < 2 ^ 32 → felt_add (a * 2 ^ ((32 - b) % 32) / 2 ^ 32) (a * 2 ^ ((32 - b) % 32) % 2 ^ 32) ≡ turned_right a b) 32 b turns-right-table h a k
+turns-right b a h k = of_each TurnsRight 32 b turns-right-table h a k
 
 turned : (b a : ℕ) → no_shift b a ≡ false → felt_add (a * 2 ^ b / 2 ^ 32) (a * 2 ^ b % 2 ^ 32) ≡ turned_left a b
 turned b a free = let ok = shiftable b a free in turns-left b a ok.amount ok.small
@@ -358,7 +366,8 @@ back-trap b a h =
 pow2-alone : (constants : List ℕ) (locals : ℕ) (s : State) → MeetsAt constants locals s names.Pow2 []
 unfolding pow2 expansion front instr_effect last trap fits left_cells computed trap_of
 pow2-alone constants locals s =
-    acts _ _ _ _ _ _ _ (lit≤ tt) refl (power-trap (top s 0)) refl refl refl (λ free. first-is _ _ _ (power-is (top s 0) (ltb-true (top s 0) 64 (free-of (nat_lt (top s 0) 64) free))))
+    acts _ _ _ _ _ _ _ (lit≤ tt) refl (power-trap (top s 0)) refl refl refl
+    (λ free. first-is _ _ _ (power-is (top s 0) (ltb-true (top s 0) 64 (free-of (nat_lt (top s 0) 64) free))))
 
 pub meets-pow2 : (constants : List ℕ) (locals : ℕ) (s : State) → MeetsAll constants locals s names.Pow2
 meets-pow2 constants locals s numbers form =
@@ -367,7 +376,8 @@ meets-pow2 constants locals s numbers form =
 u32checked_shl-alone : (constants : List ℕ) (locals : ℕ) (s : State) → MeetsAt constants locals s names.U32CheckedShl []
 unfolding pow2 expansion front instr_effect last trap fits left_cells computed trap_of
 u32checked_shl-alone constants locals s =
-    acts _ _ _ _ _ _ _ (lit≤ tt) refl (shift-trap (top s 0) (top s 1)) refl refl refl (λ free. first-is _ _ _ (ap (λ power. top s 1 * power % 2 ^ 32) (power-there (top s 0) (top s 1) free)))
+    acts _ _ _ _ _ _ _ (lit≤ tt) refl (shift-trap (top s 0) (top s 1)) refl refl refl
+    (λ free. first-is _ _ _ (ap (λ power. top s 1 * power % 2 ^ 32) (power-there (top s 0) (top s 1) free)))
 
 u32checked_shl-given : (constants : List ℕ) (locals : ℕ) (s : State) → (n : ℕ) → n < 64 → MeetsAt constants locals s names.U32CheckedShl (n ∷ [])
 unfolding expansion front instr_effect last trap fits left_cells computed trap_of
@@ -383,7 +393,8 @@ meets-u32checked_shl constants locals s numbers form =
 u32checked_shr-alone : (constants : List ℕ) (locals : ℕ) (s : State) → MeetsAt constants locals s names.U32CheckedShr []
 unfolding pow2 expansion front instr_effect last trap fits left_cells computed trap_of
 u32checked_shr-alone constants locals s =
-    acts _ _ _ _ _ _ _ (lit≤ tt) refl (divide-trap (top s 0) (top s 1)) refl refl refl (λ free. first-is _ _ _ (ap (λ power. top s 1 / power) (power-there (top s 0) (top s 1) free)))
+    acts _ _ _ _ _ _ _ (lit≤ tt) refl (divide-trap (top s 0) (top s 1)) refl refl refl
+    (λ free. first-is _ _ _ (ap (λ power. top s 1 / power) (power-there (top s 0) (top s 1) free)))
 
 u32checked_shr-given : (constants : List ℕ) (locals : ℕ) (s : State) → (n : ℕ) → n < 64 → MeetsAt constants locals s names.U32CheckedShr (n ∷ [])
 unfolding expansion front instr_effect last trap fits left_cells computed trap_of

@@ -179,7 +179,8 @@ all-left xs rest twelve =
 hperm-alone : (constants : List ℕ) (locals : ℕ) (s : State) → length constants ≡ 168 → MeetsAt constants locals s names.Hperm []
 unfolding expansion front instr_effect last trap fits left_cells computed trap_of
 hperm-alone constants locals s count =
-    acts _ _ _ _ _ _ _ (lit≤ tt) refl refl refl refl refl (λ free. all-left (permuted_cells constants (cells s 12 0)) _ (twelve-left constants (cells s 12 0) count refl))
+    acts _ _ _ _ _ _ _ (lit≤ tt) refl refl refl refl refl
+    (λ free. all-left (permuted_cells constants (cells s 12 0)) _ (twelve-left constants (cells s 12 0) count refl))
 
 pub meets-hperm : (constants : List ℕ) (locals : ℕ) (s : State) → length constants ≡ 168 → MeetsAll constants locals s names.Hperm
 meets-hperm constants locals s count numbers form =
@@ -195,7 +196,9 @@ digest-left xs rest twelve =
 hmerge-alone : (constants : List ℕ) (locals : ℕ) (s : State) → length constants ≡ 168 → MeetsAt constants locals s names.Hmerge []
 unfolding hashed expansion front instr_effect last trap fits left_cells computed trap_of
 hmerge-alone constants locals s count =
-    acts _ _ _ _ _ _ _ (lit≤ tt) refl refl refl refl refl (λ free. digest-left (permuted_cells constants (cells s 8 0 ++ 0 ∷ 0 ∷ 0 ∷ 0 ∷ [])) _ (twelve-left constants (cells s 8 0 ++ 0 ∷ 0 ∷ 0 ∷ 0 ∷ []) count refl))
+    acts _ _ _ _ _ _ _ (lit≤ tt) refl refl refl refl refl
+    (λ free. digest-left (permuted_cells constants (cells s 8 0 ++ 0 ∷ 0 ∷ 0 ∷ 0 ∷ [])) _
+    (twelve-left constants (cells s 8 0 ++ 0 ∷ 0 ∷ 0 ∷ 0 ∷ []) count refl))
 
 pub meets-hmerge : (constants : List ℕ) (locals : ℕ) (s : State) → length constants ≡ 168 → MeetsAll constants locals s names.Hmerge
 meets-hmerge constants locals s count numbers form =

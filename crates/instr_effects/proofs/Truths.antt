@@ -136,7 +136,8 @@ meets-or constants locals s numbers form =
 xor-alone : (constants : List ℕ) (locals : ℕ) (s : State) → MeetsAt constants locals s names.Xor []
 unfolding expansion front instr_effect last trap fits left_cells computed trap_of
 xor-alone constants locals s =
-    acts _ _ _ _ _ _ _ (lit≤ tt) refl (xor-trap (top s 0) (top s 1)) refl refl refl (λ free. first-is _ _ _ (xor-is (top s 0) (top s 1) (free-of (are_bits (top s 0) (top s 1)) free)))
+    acts _ _ _ _ _ _ _ (lit≤ tt) refl (xor-trap (top s 0) (top s 1)) refl refl refl
+    (λ free. first-is _ _ _ (xor-is (top s 0) (top s 1) (free-of (are_bits (top s 0) (top s 1)) free)))
 
 pub meets-xor : (constants : List ℕ) (locals : ℕ) (s : State) → MeetsAll constants locals s names.Xor
 meets-xor constants locals s numbers form =
@@ -145,7 +146,8 @@ meets-xor constants locals s numbers form =
 eqw-alone : (constants : List ℕ) (locals : ℕ) (s : State) → MeetsAt constants locals s names.Eqw []
 unfolding expansion front instr_effect last trap fits left_cells computed trap_of
 eqw-alone constants locals s =
-    acts _ _ _ _ _ _ _ (lit≤ tt) refl (eqw-free (top s 0 == top s 4) (top s 1 == top s 5) (top s 2 == top s 6) (top s 3 == top s 7)) refl refl refl (λ free. first-is _ _ _ (eqw-is (top s 0 == top s 4) (top s 1 == top s 5) (top s 2 == top s 6) (top s 3 == top s 7)))
+    acts _ _ _ _ _ _ _ (lit≤ tt) refl (eqw-free (top s 0 == top s 4) (top s 1 == top s 5) (top s 2 == top s 6) (top s 3 == top s 7)) refl refl refl
+    (λ free. first-is _ _ _ (eqw-is (top s 0 == top s 4) (top s 1 == top s 5) (top s 2 == top s 6) (top s 3 == top s 7)))
 
 pub meets-eqw : (constants : List ℕ) (locals : ℕ) (s : State) → MeetsAll constants locals s names.Eqw
 meets-eqw constants locals s numbers form =

@@ -91,7 +91,8 @@ meets-u32assert constants locals s numbers form =
 u32assertw-alone : (constants : List ℕ) (locals : ℕ) (s : State) → MeetsAt constants locals s names.U32Assertw []
 unfolding expansion front instr_effect last trap fits left_cells computed trap_of
 u32assertw-alone constants locals s =
-    acts _ _ _ _ _ _ _ (lit≤ tt) refl (two-traps (are_u32 (top s 0) (top s 1)) (are_u32 (top s 2) (top s 3)) causes.NotU32 causes.NotU32) refl refl refl (λ free. refl)
+    acts _ _ _ _ _ _ _ (lit≤ tt) refl (two-traps (are_u32 (top s 0) (top s 1)) (are_u32 (top s 2) (top s 3)) causes.NotU32 causes.NotU32) refl refl refl
+    (λ free. refl)
 
 pub meets-u32assertw : (constants : List ℕ) (locals : ℕ) (s : State) → MeetsAll constants locals s names.U32Assertw
 meets-u32assertw constants locals s numbers form =
@@ -120,13 +121,16 @@ meets-u32split constants locals s numbers form =
 u32checked_add-alone : (constants : List ℕ) (locals : ℕ) (s : State) → MeetsAt constants locals s names.U32CheckedAdd []
 unfolding expansion front instr_effect last trap fits left_cells computed trap_of
 u32checked_add-alone constants locals s =
-    acts _ _ _ _ _ _ _ (lit≤ tt) refl (carry-trap (are_u32 (top s 0) (top s 1)) ((top s 1) + (top s 0))) refl refl refl (λ free. first-is _ _ _ (carry-is (are_u32 (top s 0) (top s 1)) ((top s 1) + (top s 0)) free))
+    acts _ _ _ _ _ _ _ (lit≤ tt) refl (carry-trap (are_u32 (top s 0) (top s 1)) ((top s 1) + (top s 0))) refl refl refl
+    (λ free. first-is _ _ _ (carry-is (are_u32 (top s 0) (top s 1)) ((top s 1) + (top s 0)) free))
 
-u32checked_add-given : (constants : List ℕ) (locals : ℕ) (s : State) → (n : ℕ) → IsAllowed names.U32CheckedAdd n → MeetsAt constants locals s names.U32CheckedAdd (n ∷ [])
+u32checked_add-given : (constants : List ℕ) (locals : ℕ) (s : State) → (n : ℕ) → IsAllowed names.U32CheckedAdd n
+    → MeetsAt constants locals s names.U32CheckedAdd (n ∷ [])
 unfolding expansion front instr_effect last trap fits left_cells computed trap_of
 u32checked_add-given constants locals s n ok =
     given constants n (plain (fixed names.U32CheckedAdd)) s (instr_effect constants names.U32CheckedAdd (n ∷ []) locals s)
-    (acts _ _ _ _ _ _ _ (lit≤ tt) refl (carry-trap (are_u32 n (top s 0)) ((top s 0) + n)) refl refl refl (λ free. first-is _ _ _ (carry-is (are_u32 n (top s 0)) ((top s 0) + n) free)))
+    (acts _ _ _ _ _ _ _ (lit≤ tt) refl (carry-trap (are_u32 n (top s 0)) ((top s 0) + n)) refl refl refl
+    (λ free. first-is _ _ _ (carry-is (are_u32 n (top s 0)) ((top s 0) + n) free)))
 
 pub meets-u32checked_add : (constants : List ℕ) (locals : ℕ) (s : State) → MeetsAll constants locals s names.U32CheckedAdd
 meets-u32checked_add constants locals s numbers form =
@@ -136,13 +140,16 @@ meets-u32checked_add constants locals s numbers form =
 u32checked_mul-alone : (constants : List ℕ) (locals : ℕ) (s : State) → MeetsAt constants locals s names.U32CheckedMul []
 unfolding expansion front instr_effect last trap fits left_cells computed trap_of
 u32checked_mul-alone constants locals s =
-    acts _ _ _ _ _ _ _ (lit≤ tt) refl (carry-trap (are_u32 (top s 0) (top s 1)) ((top s 1) * (top s 0))) refl refl refl (λ free. first-is _ _ _ (carry-is (are_u32 (top s 0) (top s 1)) ((top s 1) * (top s 0)) free))
+    acts _ _ _ _ _ _ _ (lit≤ tt) refl (carry-trap (are_u32 (top s 0) (top s 1)) ((top s 1) * (top s 0))) refl refl refl
+    (λ free. first-is _ _ _ (carry-is (are_u32 (top s 0) (top s 1)) ((top s 1) * (top s 0)) free))
 
-u32checked_mul-given : (constants : List ℕ) (locals : ℕ) (s : State) → (n : ℕ) → IsAllowed names.U32CheckedMul n → MeetsAt constants locals s names.U32CheckedMul (n ∷ [])
+u32checked_mul-given : (constants : List ℕ) (locals : ℕ) (s : State) → (n : ℕ) → IsAllowed names.U32CheckedMul n
+    → MeetsAt constants locals s names.U32CheckedMul (n ∷ [])
 unfolding expansion front instr_effect last trap fits left_cells computed trap_of
 u32checked_mul-given constants locals s n ok =
     given constants n (plain (fixed names.U32CheckedMul)) s (instr_effect constants names.U32CheckedMul (n ∷ []) locals s)
-    (acts _ _ _ _ _ _ _ (lit≤ tt) refl (carry-trap (are_u32 n (top s 0)) ((top s 0) * n)) refl refl refl (λ free. first-is _ _ _ (carry-is (are_u32 n (top s 0)) ((top s 0) * n) free)))
+    (acts _ _ _ _ _ _ _ (lit≤ tt) refl (carry-trap (are_u32 n (top s 0)) ((top s 0) * n)) refl refl refl
+    (λ free. first-is _ _ _ (carry-is (are_u32 n (top s 0)) ((top s 0) * n) free)))
 
 pub meets-u32checked_mul : (constants : List ℕ) (locals : ℕ) (s : State) → MeetsAll constants locals s names.U32CheckedMul
 meets-u32checked_mul constants locals s numbers form =
@@ -152,13 +159,16 @@ meets-u32checked_mul constants locals s numbers form =
 u32checked_sub-alone : (constants : List ℕ) (locals : ℕ) (s : State) → MeetsAt constants locals s names.U32CheckedSub []
 unfolding expansion front instr_effect last trap fits left_cells computed trap_of
 u32checked_sub-alone constants locals s =
-    acts _ _ _ _ _ _ _ (lit≤ tt) refl (borrow-trap (are_u32 (top s 0) (top s 1)) (nat_lt (top s 1) (top s 0))) refl refl refl (λ free. first-is _ _ _ (borrow-is (top s 0) (top s 1) free))
+    acts _ _ _ _ _ _ _ (lit≤ tt) refl (borrow-trap (are_u32 (top s 0) (top s 1)) (nat_lt (top s 1) (top s 0))) refl refl refl
+    (λ free. first-is _ _ _ (borrow-is (top s 0) (top s 1) free))
 
-u32checked_sub-given : (constants : List ℕ) (locals : ℕ) (s : State) → (n : ℕ) → IsAllowed names.U32CheckedSub n → MeetsAt constants locals s names.U32CheckedSub (n ∷ [])
+u32checked_sub-given : (constants : List ℕ) (locals : ℕ) (s : State) → (n : ℕ) → IsAllowed names.U32CheckedSub n
+    → MeetsAt constants locals s names.U32CheckedSub (n ∷ [])
 unfolding expansion front instr_effect last trap fits left_cells computed trap_of
 u32checked_sub-given constants locals s n ok =
     given constants n (plain (fixed names.U32CheckedSub)) s (instr_effect constants names.U32CheckedSub (n ∷ []) locals s)
-    (acts _ _ _ _ _ _ _ (lit≤ tt) refl (borrow-trap (are_u32 n (top s 0)) (nat_lt (top s 0) n)) refl refl refl (λ free. first-is _ _ _ (borrow-is n (top s 0) free)))
+    (acts _ _ _ _ _ _ _ (lit≤ tt) refl (borrow-trap (are_u32 n (top s 0)) (nat_lt (top s 0) n)) refl refl refl
+    (λ free. first-is _ _ _ (borrow-is n (top s 0) free)))
 
 pub meets-u32checked_sub : (constants : List ℕ) (locals : ℕ) (s : State) → MeetsAll constants locals s names.U32CheckedSub
 meets-u32checked_sub constants locals s numbers form =
@@ -170,7 +180,8 @@ unfolding expansion front instr_effect last trap fits left_cells computed trap_o
 u32wrapping_add-alone constants locals s =
     acts _ _ _ _ _ _ _ (lit≤ tt) refl (one-trap (are_u32 (top s 0) (top s 1)) causes.NotU32) refl refl refl (λ free. refl)
 
-u32wrapping_add-given : (constants : List ℕ) (locals : ℕ) (s : State) → (n : ℕ) → IsAllowed names.U32WrappingAdd n → MeetsAt constants locals s names.U32WrappingAdd (n ∷ [])
+u32wrapping_add-given : (constants : List ℕ) (locals : ℕ) (s : State) → (n : ℕ) → IsAllowed names.U32WrappingAdd n
+    → MeetsAt constants locals s names.U32WrappingAdd (n ∷ [])
 unfolding expansion front instr_effect last trap fits left_cells computed trap_of
 u32wrapping_add-given constants locals s n ok =
     given constants n (plain (fixed names.U32WrappingAdd)) s (instr_effect constants names.U32WrappingAdd (n ∷ []) locals s)
@@ -186,7 +197,8 @@ unfolding expansion front instr_effect last trap fits left_cells computed trap_o
 u32wrapping_sub-alone constants locals s =
     acts _ _ _ _ _ _ _ (lit≤ tt) refl (one-trap (are_u32 (top s 0) (top s 1)) causes.NotU32) refl refl refl (λ free. refl)
 
-u32wrapping_sub-given : (constants : List ℕ) (locals : ℕ) (s : State) → (n : ℕ) → IsAllowed names.U32WrappingSub n → MeetsAt constants locals s names.U32WrappingSub (n ∷ [])
+u32wrapping_sub-given : (constants : List ℕ) (locals : ℕ) (s : State) → (n : ℕ) → IsAllowed names.U32WrappingSub n
+    → MeetsAt constants locals s names.U32WrappingSub (n ∷ [])
 unfolding expansion front instr_effect last trap fits left_cells computed trap_of
 u32wrapping_sub-given constants locals s n ok =
     given constants n (plain (fixed names.U32WrappingSub)) s (instr_effect constants names.U32WrappingSub (n ∷ []) locals s)
@@ -202,7 +214,8 @@ unfolding expansion front instr_effect last trap fits left_cells computed trap_o
 u32wrapping_mul-alone constants locals s =
     acts _ _ _ _ _ _ _ (lit≤ tt) refl (one-trap (are_u32 (top s 0) (top s 1)) causes.NotU32) refl refl refl (λ free. refl)
 
-u32wrapping_mul-given : (constants : List ℕ) (locals : ℕ) (s : State) → (n : ℕ) → IsAllowed names.U32WrappingMul n → MeetsAt constants locals s names.U32WrappingMul (n ∷ [])
+u32wrapping_mul-given : (constants : List ℕ) (locals : ℕ) (s : State) → (n : ℕ) → IsAllowed names.U32WrappingMul n
+    → MeetsAt constants locals s names.U32WrappingMul (n ∷ [])
 unfolding expansion front instr_effect last trap fits left_cells computed trap_of
 u32wrapping_mul-given constants locals s n ok =
     given constants n (plain (fixed names.U32WrappingMul)) s (instr_effect constants names.U32WrappingMul (n ∷ []) locals s)
@@ -218,7 +231,8 @@ unfolding expansion front instr_effect last trap fits left_cells computed trap_o
 u32overflowing_add-alone constants locals s =
     acts _ _ _ _ _ _ _ (lit≤ tt) refl (one-trap (are_u32 (top s 0) (top s 1)) causes.NotU32) refl refl refl (λ free. refl)
 
-u32overflowing_add-given : (constants : List ℕ) (locals : ℕ) (s : State) → (n : ℕ) → IsAllowed names.U32OverflowingAdd n → MeetsAt constants locals s names.U32OverflowingAdd (n ∷ [])
+u32overflowing_add-given : (constants : List ℕ) (locals : ℕ) (s : State) → (n : ℕ) → IsAllowed names.U32OverflowingAdd n
+    → MeetsAt constants locals s names.U32OverflowingAdd (n ∷ [])
 unfolding expansion front instr_effect last trap fits left_cells computed trap_of
 u32overflowing_add-given constants locals s n ok =
     given constants n (plain (fixed names.U32OverflowingAdd)) s (instr_effect constants names.U32OverflowingAdd (n ∷ []) locals s)
@@ -234,7 +248,8 @@ unfolding expansion front instr_effect last trap fits left_cells computed trap_o
 u32overflowing_sub-alone constants locals s =
     acts _ _ _ _ _ _ _ (lit≤ tt) refl (one-trap (are_u32 (top s 0) (top s 1)) causes.NotU32) refl refl refl (λ free. refl)
 
-u32overflowing_sub-given : (constants : List ℕ) (locals : ℕ) (s : State) → (n : ℕ) → IsAllowed names.U32OverflowingSub n → MeetsAt constants locals s names.U32OverflowingSub (n ∷ [])
+u32overflowing_sub-given : (constants : List ℕ) (locals : ℕ) (s : State) → (n : ℕ) → IsAllowed names.U32OverflowingSub n
+    → MeetsAt constants locals s names.U32OverflowingSub (n ∷ [])
 unfolding expansion front instr_effect last trap fits left_cells computed trap_of
 u32overflowing_sub-given constants locals s n ok =
     given constants n (plain (fixed names.U32OverflowingSub)) s (instr_effect constants names.U32OverflowingSub (n ∷ []) locals s)
@@ -250,7 +265,8 @@ unfolding expansion front instr_effect last trap fits left_cells computed trap_o
 u32overflowing_mul-alone constants locals s =
     acts _ _ _ _ _ _ _ (lit≤ tt) refl (one-trap (are_u32 (top s 0) (top s 1)) causes.NotU32) refl refl refl (λ free. refl)
 
-u32overflowing_mul-given : (constants : List ℕ) (locals : ℕ) (s : State) → (n : ℕ) → IsAllowed names.U32OverflowingMul n → MeetsAt constants locals s names.U32OverflowingMul (n ∷ [])
+u32overflowing_mul-given : (constants : List ℕ) (locals : ℕ) (s : State) → (n : ℕ) → IsAllowed names.U32OverflowingMul n
+    → MeetsAt constants locals s names.U32OverflowingMul (n ∷ [])
 unfolding expansion front instr_effect last trap fits left_cells computed trap_of
 u32overflowing_mul-given constants locals s n ok =
     given constants n (plain (fixed names.U32OverflowingMul)) s (instr_effect constants names.U32OverflowingMul (n ∷ []) locals s)
@@ -304,7 +320,8 @@ unfolding expansion front instr_effect last trap fits left_cells computed trap_o
 u32checked_div-alone constants locals s =
     acts _ _ _ _ _ _ _ (lit≤ tt) refl (divide-trap (are_u32 (top s 0) (top s 1)) ((top s 0) == 0)) refl refl refl (λ free. refl)
 
-u32checked_div-given : (constants : List ℕ) (locals : ℕ) (s : State) → (n : ℕ) → IsAllowed names.U32CheckedDiv n → MeetsAt constants locals s names.U32CheckedDiv (n ∷ [])
+u32checked_div-given : (constants : List ℕ) (locals : ℕ) (s : State) → (n : ℕ) → IsAllowed names.U32CheckedDiv n
+    → MeetsAt constants locals s names.U32CheckedDiv (n ∷ [])
 unfolding expansion front instr_effect last trap fits left_cells computed trap_of
 u32checked_div-given constants locals s n ok =
     given constants n (plain (fixed names.U32CheckedDiv)) s (instr_effect constants names.U32CheckedDiv (n ∷ []) locals s)
@@ -320,7 +337,8 @@ unfolding expansion front instr_effect last trap fits left_cells computed trap_o
 u32checked_mod-alone constants locals s =
     acts _ _ _ _ _ _ _ (lit≤ tt) refl (divide-trap (are_u32 (top s 0) (top s 1)) ((top s 0) == 0)) refl refl refl (λ free. refl)
 
-u32checked_mod-given : (constants : List ℕ) (locals : ℕ) (s : State) → (n : ℕ) → IsAllowed names.U32CheckedMod n → MeetsAt constants locals s names.U32CheckedMod (n ∷ [])
+u32checked_mod-given : (constants : List ℕ) (locals : ℕ) (s : State) → (n : ℕ) → IsAllowed names.U32CheckedMod n
+    → MeetsAt constants locals s names.U32CheckedMod (n ∷ [])
 unfolding expansion front instr_effect last trap fits left_cells computed trap_of
 u32checked_mod-given constants locals s n ok =
     given constants n (plain (fixed names.U32CheckedMod)) s (instr_effect constants names.U32CheckedMod (n ∷ []) locals s)
@@ -336,7 +354,8 @@ unfolding expansion front instr_effect last trap fits left_cells computed trap_o
 u32checked_divmod-alone constants locals s =
     acts _ _ _ _ _ _ _ (lit≤ tt) refl (divide-trap (are_u32 (top s 0) (top s 1)) ((top s 0) == 0)) refl refl refl (λ free. refl)
 
-u32checked_divmod-given : (constants : List ℕ) (locals : ℕ) (s : State) → (n : ℕ) → IsAllowed names.U32CheckedDivmod n → MeetsAt constants locals s names.U32CheckedDivmod (n ∷ [])
+u32checked_divmod-given : (constants : List ℕ) (locals : ℕ) (s : State) → (n : ℕ) → IsAllowed names.U32CheckedDivmod n
+    → MeetsAt constants locals s names.U32CheckedDivmod (n ∷ [])
 unfolding expansion front instr_effect last trap fits left_cells computed trap_of
 u32checked_divmod-given constants locals s n ok =
     given constants n (plain (fixed names.U32CheckedDivmod)) s (instr_effect constants names.U32CheckedDivmod (n ∷ []) locals s)
