@@ -1,7 +1,7 @@
 -- A body has a list where the procedures that it uses have one, and its system calls lead to the kernel.
 use Rattle.std.proofs.Common.{◌≡◌, ℕ, List, [], ◌∷◌, ◌++◌, map, Some}
 use Rattle.masm_instr.specs.Expansion.{expansion}
-use Rattle.masm_parse.specs.declared.sign.Leaf.TheVariants as leaves
+use Rattle.masm_parse.specs.declared.terminal.Leaf.TheVariants as leaves
 use Rattle.masm_parse.specs.Trees.{Body, Empty, Leaf_then, If_then, While_then, Repeat_then, Procedure}
 use Rattle.masm_flat.specs.Blocks.{Block, Split, Loop, Call, Syscall, Piece, Operation, Whole, block_of}
 use Rattle.masm_flat.specs.Lists.{Exported, IsList, nothing, instr, exec, call, syscall, branches, loops, repeated, first_procedure, first_export, times, with_locals}

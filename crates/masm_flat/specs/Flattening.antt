@@ -1,7 +1,7 @@
 -- What a body is flattened to, where the lists of the procedures that it uses are given.
 use Rattle.std.specs.Prelude.{ℕ, List, [], ◌∷◌, ◌++◌, map}
 use Rattle.masm_instr.specs.Expansion.{expansion}
-use Rattle.masm_parse.specs.declared.sign.Leaf.TheVariants as leaves
+use Rattle.masm_parse.specs.declared.terminal.Leaf.TheVariants as leaves
 use Rattle.masm_parse.specs.Trees.{Body, Empty, Leaf_then, If_then, While_then, Repeat_then}
 use Rattle.masm_flat.specs.Blocks.{View, Piece, Operation, Whole, whole}
 use Rattle.masm_flat.specs.Lists.{times}

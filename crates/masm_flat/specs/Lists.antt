@@ -5,7 +5,7 @@ use Rattle.vm_ops.specs.declared.op.Op.TheVariants.{FmpUpdate}
 use Rattle.vm_ops.specs.Items.{plain_item}
 use Rattle.masm_instr.specs.declared.instr.Instr.{Instr}
 use Rattle.masm_instr.specs.Expansion.{lit, expansion}
-use Rattle.masm_parse.specs.declared.sign.Leaf.TheVariants as leaves
+use Rattle.masm_parse.specs.declared.terminal.Leaf.TheVariants as leaves
 use Rattle.masm_parse.specs.declared.tree.At.{At}
 use Rattle.masm_parse.specs.Trees.{Body, Empty, Leaf_then, If_then, While_then, Repeat_then, Procedure}
 use Rattle.masm_flat.specs.Blocks.{Block, Split, Loop, Call, Syscall, Piece, Operation, Whole, block_of}

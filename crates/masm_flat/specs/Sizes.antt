@@ -3,7 +3,7 @@
 use Rattle.std.specs.Prelude.{ℕ, zero, suc, ◌+◌, min, max, Bool, true, false, nat_le, if◌then◌else◌, List, [], ◌∷◌, ◌++◌, length, map}
 use Rattle.vm_ops.specs.declared.item.Item.{Item}
 use Rattle.masm_instr.specs.Expansion.{expansion}
-use Rattle.masm_parse.specs.declared.sign.Leaf.TheVariants as leaves
+use Rattle.masm_parse.specs.declared.terminal.Leaf.TheVariants as leaves
 use Rattle.masm_parse.specs.Trees.{Body, Empty, Leaf_then, If_then, While_then, Repeat_then}
 use Rattle.masm_flat.specs.declared.shape.Shape.{Shape}
 use Rattle.masm_flat.specs.declared.shape.Shape.TheVariants as shapes
