@@ -12,7 +12,8 @@ or-false false b h = (refl, h)
 apart : (x : List ℕ) (xs : List (List ℕ)) → list_any (λ y. pointwise nat_eq y x) xs ≡ false → AllByRecursion (λ y. pointwise nat_eq x y ≡ false) xs
 apart x [] h = tt
 apart x (y ∷ ys) h =
-    let parts : (pointwise nat_eq y x ≡ false) × (list_any (λ z. pointwise nat_eq z x) ys ≡ false) = or-false (pointwise nat_eq y x) (list_any (λ z. pointwise nat_eq z x) ys) h in
+    let parts : (pointwise nat_eq y x ≡ false) × (list_any (λ z. pointwise nat_eq z x) ys ≡ false)
+    = or-false (pointwise nat_eq y x) (list_any (λ z. pointwise nat_eq z x) ys) h in
     (nat_list_eq_equiv.symm x y ∙ parts.0, apart x ys parts.1)
 
 met : (x : List ℕ) (xs : List (List ℕ)) → AllByRecursion (λ y. pointwise nat_eq x y ≡ false) xs → list_any (λ y. pointwise nat_eq y x) xs ≡ false

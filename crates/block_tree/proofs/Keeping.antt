@@ -90,5 +90,6 @@ module _ (constants : List ℕ) (kernel : List (List ℕ)) where
   pub cycle-ticks : (limit : ℕ) (mark : Mark) (s t : State) (es : List Event) → cycle constants kernel limit mark s ≡ Done t es
       → t.core.clock ≡ s.core.clock + 1
   cycle-ticks limit mark s t es e =
-      let c : Cycled limit mark (advice_taken mark) (effect_of constants kernel mark) s t es = taking-inv limit mark (advice_taken mark) (effect_of constants kernel mark) s t es e in
+      let c : Cycled limit mark (advice_taken mark) (effect_of constants kernel mark) s t es
+      = taking-inv limit mark (advice_taken mark) (effect_of constants kernel mark) s t es e in
       ap (λ x. x.core.clock) c.now ∙ ap (λ x. x + 1) ((clocks-effect mark _ s.core).rule c.core c.made)

@@ -57,7 +57,10 @@ agree-at_bit j (suc n) f g f' g' s h h' = h'
 -- at two limits, j and k
 module _ (constants : List ℕ) (kernel : List (List ℕ)) (j k : ℕ) where
   agree-cycle : (mark : Mark) (s : State) → Agree j s (cycle constants kernel k mark s) (cycle constants kernel j mark s)
-  agree-cycle mark s = record { rule = λ t es e. from t es (taking-inv k mark (advice_taken mark) (effect_of constants kernel mark) s t es e) (cycle-ticks constants kernel k mark s t es e) }
+  agree-cycle mark s = record {
+    rule = λ t es e. from t es (taking-inv k mark (advice_taken mark) (effect_of constants kernel mark) s t es e)
+        (cycle-ticks constants kernel k mark s t es e);
+  }
     where
       from : (t : State) (es : List Event) → Cycled k mark (advice_taken mark) (effect_of constants kernel mark) s t es → t.core.clock ≡ s.core.clock + 1
           → Same j (cycle constants kernel j mark s) s t es
@@ -84,11 +87,13 @@ module _ (constants : List ℕ) (kernel : List (List ℕ)) (j k : ℕ) where
       (λ u es e. agree-then j _ _ _ _ u (agree-read (reading batch) u) (λ v fs d. agree-batches later Respan v))
 
   -- what stands behind a turn's body: it takes a cycle at least
-  after-strict : (limit : ℕ) (digest body_digest : List ℕ) (again : Part) → ((u t : State) (es : List Event) → again u ≡ Done t es → u.core.clock ≤ t.core.clock)
+  after-strict : (limit : ℕ) (digest body_digest : List ℕ) (again : Part)
+      → ((u t : State) (es : List Event) → again u ≡ Done t es → u.core.clock ≤ t.core.clock)
       → (n : ℕ) (u t : State) (es : List Event)
       → at_bit n (cycle constants kernel limit (EndLoop digest)) (seq (cycle constants kernel limit (Repeat body_digest)) again) u ≡ Done t es
       → u.core.clock < t.core.clock
-  after-strict limit digest body_digest again h zero u t es e = let l : t.core.clock ≡ u.core.clock + 1 = cycle-ticks constants kernel limit (EndLoop digest) u t es e in omega arith
+  after-strict limit digest body_digest again h zero u t es e =
+      let l : t.core.clock ≡ u.core.clock + 1 = cycle-ticks constants kernel limit (EndLoop digest) u t es e in omega arith
   after-strict limit digest body_digest again h (suc n) u t es e = from (seq-inv (cycle constants kernel limit (Repeat body_digest)) again u t es e)
     where
       from : Between (cycle constants kernel limit (Repeat body_digest)) again u t es → u.core.clock < t.core.clock
@@ -101,7 +106,8 @@ module _ (constants : List ℕ) (kernel : List (List ℕ)) (j k : ℕ) where
       → ((u t : State) (es : List Event) → body u ≡ Done t es → u.core.clock ≤ t.core.clock)
       → ((u t : State) (es : List Event) → again u ≡ Done t es → u.core.clock < t.core.clock)
       → (s t : State) (es : List Event)
-      → Between body (λ u. at_bit (top u.core) (cycle constants kernel limit (EndLoop digest)) (seq (cycle constants kernel limit (Repeat body_digest)) again) u) s t es
+      → Between body (λ u. at_bit (top u.core) (cycle constants kernel limit (EndLoop digest))
+      (seq (cycle constants kernel limit (Repeat body_digest)) again) u) s t es
       → s.core.clock < t.core.clock
   turn-strict limit digest body_digest body again h r s t es b =
       let l : s.core.clock ≤ b.mid.core.clock = h s b.mid b.first b.ran in
@@ -122,7 +128,10 @@ module _ (constants : List ℕ) (kernel : List (List ℕ)) (j k : ℕ) where
       → (n m : ℕ) (s : State) → j ≤ m + s.core.clock
       → Agree j s (turns constants kernel k digest body_digest n f s) (turns constants kernel j digest body_digest m g s)
   agree-turns digest body_digest f g h zero m s room = record { rule = λ t es e. absurd (done-not_late t es e) }
-  agree-turns digest body_digest f g h (suc n) zero s room = record { rule = λ t es e. from t es (turns-strict k digest body_digest f (λ u v fs d. ((h u).rule v fs d).later) (suc n) s t es e) }
+  agree-turns digest body_digest f g h (suc n) zero s room = record {
+    rule = λ t es e. from t es (turns-strict k digest body_digest f
+        (λ u v fs d. ((h u).rule v fs d).later) (suc n) s t es e);
+  }
     where
       from : (t : State) (es : List Event) → s.core.clock < t.core.clock → Same j OutOfCycles s t es
       from t es strict = record { later = omega arith; same = λ l. absurd (omega arith); short = λ l r. refl }

@@ -86,7 +86,8 @@ pub seq-trap : (f g : Part) (s : State) (clock : ℕ) (cause : Cause) → f s �
 unfolding seq
 seq-trap f g s clock cause trap = rw trap refl
 
-pub seq-trap_second : (f g : Part) (s mid : State) (first : List Event) (clock : ℕ) (cause : Cause) → f s ≡ Done mid first → g mid ≡ Trap clock cause → seq f g s ≡ Trap clock cause
+pub seq-trap_second : (f g : Part) (s mid : State) (first : List Event) (clock : ℕ) (cause : Cause)
+    → f s ≡ Done mid first → g mid ≡ Trap clock cause → seq f g s ≡ Trap clock cause
 unfolding seq
 seq-trap_second f g s mid first clock cause ran trap = rw (ran, trap) refl
 
@@ -147,7 +148,8 @@ unfolding taking cycle_taking
 taking-inv limit mark n effect s t es e = go (ltb s.core.clock limit) refl e
   where
     go : (b : Bool) → ltb s.core.clock limit ≡ b
-        → cond b (cycle_outcome mark n s (cond (ltb (length s.tape) n) (Err AdviceEmpty) (ticked n s.tape (effect (take n s.tape) s.core)))) OutOfCycles ≡ Done t es
+        → cond b (cycle_outcome mark n s (cond (ltb (length s.tape) n) (Err AdviceEmpty)
+        (ticked n s.tape (effect (take n s.tape) s.core)))) OutOfCycles ≡ Done t es
         → Cycled limit mark n effect s t es
     go true before done =
         let within : (n ≤ length s.tape) × (Ticked n s.tape (effect (take n s.tape) s.core) t) × (es ≡ event_of mark n s ∷ [])

@@ -71,9 +71,11 @@ unfolding opens
 opens-opaque c d e = unopened (ltb c.nesting 1024) c (subst IsFine (sym e) tt)
 
 -- an opaque block is never done
-opaque-not_done : (constants : List ℕ) (kernel : List (List ℕ)) (limit : ℕ) (s t : State) (es : List Event) → cycle constants kernel limit StartOpaque s ≡ Done t es → ⊥
+opaque-not_done : (constants : List ℕ) (kernel : List (List ℕ)) (limit : ℕ) (s t : State) (es : List Event)
+    → cycle constants kernel limit StartOpaque s ≡ Done t es → ⊥
 opaque-not_done constants kernel limit s t es e =
-    let c : Cycled limit StartOpaque 0 (effect_of constants kernel StartOpaque) s t es = taking-inv limit StartOpaque 0 (effect_of constants kernel StartOpaque) s t es e in
+    let c : Cycled limit StartOpaque 0 (effect_of constants kernel StartOpaque) s t es
+    = taking-inv limit StartOpaque 0 (effect_of constants kernel StartOpaque) s t es e in
     opens-opaque s.core c.core c.made
 
 -- what the one outcome is done at, the other is done at as well
@@ -107,9 +109,11 @@ module _ (constants : List ℕ) (kernel : List (List ℕ)) (limit : ℕ) where
   keep-execution (join a b) s = rw (refines-digest constants a, refines-digest constants b)
       (keep-then _ _ _ _ s (keep-refl _) (λ u. keep-then _ _ _ _ u (keep-execution a u) (λ v. keep-then _ _ _ _ v (keep-execution b v) (λ w. keep-refl _))))
   keep-execution (split a b) s = rw (refines-digest constants a, refines-digest constants b)
-      (keep-then _ _ _ _ s (keep-refl _) (λ u. keep-then _ _ _ _ u (keep-at_bit (top s.core) _ _ _ _ u (keep-execution b u) (keep-execution a u)) (λ v. keep-refl _)))
+      (keep-then _ _ _ _ s (keep-refl _)
+      (λ u. keep-then _ _ _ _ u (keep-at_bit (top s.core) _ _ _ _ u (keep-execution b u) (keep-execution a u)) (λ v. keep-refl _)))
   keep-execution (loop a) s = rw (refines-digest constants a)
-      (keep-then _ _ _ _ s (keep-refl _) (λ u. keep-at_bit (top s.core) _ _ _ _ u (keep-refl _) (keep-turns _ _ _ _ (keep-execution a) (limit - s.core.clock) u)))
+      (keep-then _ _ _ _ s (keep-refl _)
+      (λ u. keep-at_bit (top s.core) _ _ _ _ u (keep-refl _) (keep-turns _ _ _ _ (keep-execution a) (limit - s.core.clock) u)))
   keep-execution (call a) s = rw (refines-digest constants a)
       (keep-then _ _ _ _ s (keep-refl _) (λ u. keep-then _ _ _ _ u (keep-execution a u) (λ v. keep-refl _)))
   keep-execution (syscall a) s = rw (refines-digest constants a)

@@ -38,10 +38,12 @@ fed-then f g s t es e h h' = from (seq-inv f g s t es e)
         let two : Fed g b.mid t b.second = h' b.mid b.second b.went_on in
         let split : tape_taken es ≡ tape_taken b.first ++ tape_taken b.second = ap tape_taken b.all ∙ taken-append b.first b.second in
         record {
-          tape = one.tape ∙ ap (λ x. tape_taken b.first ++ x) two.tape ∙ sym (append_assoc (tape_taken b.first) (tape_taken b.second) t.tape) ∙ ap (λ x. x ++ t.tape) (sym split);
+          tape = one.tape ∙ ap (λ x. tape_taken b.first ++ x) two.tape
+              ∙ sym (append_assoc (tape_taken b.first) (tape_taken b.second) t.tape) ∙ ap (λ x. x ++ t.tape) (sym split);
           again = λ rest.
               ap (λ x. seq f g (with_tape s x)) (ap (λ x. x ++ rest) split ∙ append_assoc (tape_taken b.first) (tape_taken b.second) rest)
-              ∙ seq-done f g (with_tape s (tape_taken b.first ++ (tape_taken b.second ++ rest))) (with_tape b.mid (tape_taken b.second ++ rest)) (with_tape t rest) b.first b.second
+              ∙ seq-done f g (with_tape s (tape_taken b.first ++ (tape_taken b.second ++ rest)))
+              (with_tape b.mid (tape_taken b.second ++ rest)) (with_tape t rest) b.first b.second
               (one.again (tape_taken b.second ++ rest)) (two.again rest)
               ∙ ap (λ x. Done (with_tape t rest) x) (sym b.all);
         }
@@ -55,7 +57,8 @@ fed-at_bit (suc n) f g s t es e h h' = h' e
 fed-core : (part : Core → Part) (s t : State) (es : List Event) → Fed (part s.core) s t es → Fed (λ v. part v.core v) s t es
 fed-core part s t es fed = record { tape = fed.tape; again = fed.again }
 
-front : (n : ℕ) (tape rest : List ℕ) → n ≤ length tape → (take n (take n tape ++ rest) ≡ take n tape) × (drop n (take n tape ++ rest) ≡ rest) × (n ≤ length (take n tape ++ rest))
+front : (n : ℕ) (tape rest : List ℕ) → n ≤ length tape
+    → (take n (take n tape ++ rest) ≡ take n tape) × (drop n (take n tape ++ rest) ≡ rest) × (n ≤ length (take n tape ++ rest))
 front n tape rest enough = (
   subst (λ k. take k (take n tape ++ rest) ≡ take n tape) (length-take-le n tape enough) (take-append_seam (take n tape) rest),
   subst (λ k. drop k (take n tape ++ rest) ≡ rest) (length-take-le n tape enough) (drop-append_seam (take n tape) rest),
@@ -70,9 +73,11 @@ fed-taking limit mark n effect s t es c =
     record {
       tape = rw (taken, left) (sym (take-append-drop n s.tape));
       again = λ rest.
-          let f : (take n (take n s.tape ++ rest) ≡ take n s.tape) × (drop n (take n s.tape ++ rest) ≡ rest) × (n ≤ length (take n s.tape ++ rest)) = front n s.tape rest c.enough in
+          let f : (take n (take n s.tape ++ rest) ≡ take n s.tape) × (drop n (take n s.tape ++ rest) ≡ rest) × (n ≤ length (take n s.tape ++ rest))
+          = front n s.tape rest c.enough in
           rw taken (taking-done limit mark n effect (with_tape s (take n s.tape ++ rest)) c.core c.before f.2 (ap (λ x. effect x s.core) f.0 ∙ c.made)
-          ∙ (λ i. Done (record { core = record c.core { clock = c.core.clock + 1 }; tape = f.1 i }) (record { mark = mark; core = s.core; advice = f.0 i } ∷ []))
+          ∙ (λ i. Done (record { core = record c.core { clock = c.core.clock + 1 }; tape = f.1 i })
+          (record { mark = mark; core = s.core; advice = f.0 i } ∷ []))
           ∙ (λ i. Done (with_tape (sym c.now i) rest) (sym c.event i)));
     }
 
@@ -82,11 +87,13 @@ module _ (constants : List ℕ) (kernel : List (List ℕ)) (limit : ℕ) where
       fed-taking limit mark (advice_taken mark) (effect_of constants kernel mark) s t es
       (taking-inv limit mark (advice_taken mark) (effect_of constants kernel mark) s t es e)
 
-  fed-operations : (items : List Item) (s t : State) (es : List Event) → operations constants kernel limit items s ≡ Done t es → Fed (operations constants kernel limit items) s t es
+  fed-operations : (items : List Item) (s t : State) (es : List Event)
+      → operations constants kernel limit items s ≡ Done t es → Fed (operations constants kernel limit items) s t es
   fed-operations [] s t es e = fed-skip s t es e
   fed-operations (item ∷ items) s t es e = fed-then _ _ s t es e (fed-cycle (Do item) s) (λ u fs d. fed-operations items u t fs d)
 
-  fed-read : (o : Option (List Item)) (s t : State) (es : List Event) → read_operations constants kernel limit o s ≡ Done t es → Fed (read_operations constants kernel limit o) s t es
+  fed-read : (o : Option (List Item)) (s t : State) (es : List Event)
+      → read_operations constants kernel limit o s ≡ Done t es → Fed (read_operations constants kernel limit o) s t es
   fed-read None s t es e = fed-skip s t es e
   fed-read (Some items) s t es e = fed-operations items s t es e
 
@@ -114,21 +121,28 @@ module _ (constants : List ℕ) (kernel : List (List ℕ)) (limit : ℕ) where
       → Fed (turns constants kernel limit digest body_digest n body) s t es
   fed-turns digest body_digest body h zero s t es e = absurd (done-not_late t es e)
   fed-turns digest body_digest body h (suc n) s t es e =
-      let fed : Fed (seq body (λ v. at_bit (top v.core) (cycle constants kernel limit (EndLoop digest)) (seq (cycle constants kernel limit (Repeat body_digest)) (turns constants kernel limit digest body_digest n body)) v)) s t es
-      = fed-then _ _ s t es e (h s) (λ u fs d. fed-turn digest body_digest (turns constants kernel limit digest body_digest n body) (fed-turns digest body_digest body h n) u t fs d) in
+      let fed : Fed (seq body (λ v. at_bit (top v.core) (cycle constants kernel limit (EndLoop digest))
+      (seq (cycle constants kernel limit (Repeat body_digest)) (turns constants kernel limit digest body_digest n body)) v))
+      s t es
+      = fed-then _ _ s t es e (h s)
+      (λ u fs d. fed-turn digest body_digest (turns constants kernel limit digest body_digest n body) (fed-turns digest body_digest body h n) u t fs d) in
       record { tape = fed.tape; again = fed.again }
 
-  pub fed-execution : (u : Tree) (s t : State) (es : List Event) → execution constants kernel limit u s ≡ Done t es → Fed (execution constants kernel limit u) s t es
+  pub fed-execution : (u : Tree) (s t : State) (es : List Event)
+      → execution constants kernel limit u s ≡ Done t es → Fed (execution constants kernel limit u) s t es
   fed-execution (Opaque digest) s t es e = fed-cycle StartOpaque s t es e
   fed-execution (Span batches) s t es e = fed-then _ _ s t es e (fed-batches batches StartSpan s) (λ u fs d. fed-cycle _ u t fs d)
   fed-execution (Join a b) s t es e =
-      fed-then _ _ s t es e (fed-cycle _ s) (λ u fs d. fed-then _ _ u t fs d (fed-execution a u) (λ v gs c. fed-then _ _ v t gs c (fed-execution b v) (λ w hs i. fed-cycle _ w t hs i)))
+      fed-then _ _ s t es e (fed-cycle _ s)
+      (λ u fs d. fed-then _ _ u t fs d (fed-execution a u) (λ v gs c. fed-then _ _ v t gs c (fed-execution b v) (λ w hs i. fed-cycle _ w t hs i)))
   fed-execution (Split a b) s t es e =
       fed-core (λ c. seq (cycle constants kernel limit (StartSplit (tree_digest constants a) (tree_digest constants b)))
-      (seq (at_bit (top c) (execution constants kernel limit b) (execution constants kernel limit a)) (cycle constants kernel limit (End (tree_digest constants (Split a b))))))
+      (seq (at_bit (top c) (execution constants kernel limit b) (execution constants kernel limit a))
+      (cycle constants kernel limit (End (tree_digest constants (Split a b))))))
       s t es
       (fed-then _ _ s t es e (fed-cycle _ s) (λ u fs d.
-      fed-then _ _ u t fs d (λ v gs c. fed-at_bit (top s.core) _ _ u v gs c (fed-execution b u v gs) (fed-execution a u v gs)) (λ v gs c. fed-cycle _ v t gs c)))
+      fed-then _ _ u t fs d
+      (λ v gs c. fed-at_bit (top s.core) _ _ u v gs c (fed-execution b u v gs) (fed-execution a u v gs)) (λ v gs c. fed-cycle _ v t gs c)))
   fed-execution (Loop a) s t es e =
       fed-core (λ c. seq (cycle constants kernel limit (StartLoop (tree_digest constants a)))
       (at_bit (top c)

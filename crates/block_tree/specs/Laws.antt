@@ -1,8 +1,8 @@
 -- The laws of digests, of refinement and of runs.
-use Rattle.std.specs.Prelude.{◌≡◌, ℕ, ◌<◌, ◌≤◌, List, [], ◌∷◌, ◌++◌, Some}
-use Rattle.vm_field.specs.Machine.{State}
+use Rattle.std.specs.Prelude.{◌≡◌, ℕ, ◌<◌, ◌≤◌, List, [], ◌∷◌, ◌++◌, length, Some}
+use Rattle.vm_field.specs.Machine.{State, IsWord}
 use Rattle.vm_field.specs.Sponge.{HashInput, digest_of_input}
-use Rattle.block_tree.specs.Trees.{Tree, Refines, input_of, tree_digest}
+use Rattle.block_tree.specs.Trees.{Tree, IsWhole, Refines, input_of, tree_digest}
 use Rattle.block_tree.specs.Execution.{Event, Done, OutOfCycles, execution}
 
 -- what a run's cycles took of the tape, in order
@@ -18,6 +18,10 @@ abbrev pub DigestOfInput : Type 0
 DigestOfInput = (constants : List ℕ) (t : Tree) (input : HashInput)
     → input_of constants t ≡ Some input
     → tree_digest constants t ≡ digest_of_input constants input
+
+-- the digest of a whole tree is a word
+abbrev pub DigestIsWord : Type 0
+DigestIsWord = (constants : List ℕ) (t : Tree) → length constants ≡ 168 → IsWhole t → IsWord (tree_digest constants t)
 
 -- each tree refines itself
 abbrev pub RefinesItself : Type 0

@@ -1,6 +1,15 @@
 pub mod Trees
+pub mod WholeTrees
 pub mod Cycles
 pub mod Execution
+pub mod Behind
+pub mod Marks
+pub mod Rows
+pub mod RowLaws
+pub mod Steps
+pub mod CycleLaws
+pub mod Logs
+pub mod LogLaws
 pub mod Laws
 pub mod TreeView
 pub mod Kernels

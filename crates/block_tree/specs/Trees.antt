@@ -1,11 +1,12 @@
 -- Trees of blocks, their digests and refinement (docs/MACHINE.md, "Trees"). A word is a list of four elements, a batch one
 -- of eight. The permutation's constants are an argument throughout.
-use Rattle.std.specs.Prelude.{◌≡◌, ℕ, ◌+◌, max, List, [], ◌∷◌, ◌++◌, Option, Some, None}
-use Rattle.vm_field.specs.Machine.{zero_word}
+use Rattle.std.specs.Prelude.{◌≡◌, ◌≢◌, ℕ, ◌+◌, max, List, [], ◌∷◌, ◌++◌, All, Option, Some, None}
+use Rattle.vm_field.specs.Machine.{IsWord, zero_word}
 use Rattle.vm_field.specs.Sponge.{HashInput, digest_of_input}
 use Rattle.vm_ops.specs.declared.op.Op.{Op}
 use Rattle.vm_ops.specs.declared.op.Op.TheVariants as op
 use Rattle.vm_ops.specs.Codes.{code_of}
+use Rattle.op_pack.specs.Reading.{IsBatch}
 
 pub data Tree : Type 0 where
   Opaque : (digest : List ℕ) → Tree  -- a block of which only the digest is known
@@ -15,6 +16,16 @@ pub data Tree : Type 0 where
   Loop : (body : Tree) → Tree
   Call : (callee : Tree) → Tree
   Syscall : (callee : Tree) → Tree
+
+-- a tree as the machine has it: each span has a batch, batches are eight elements, and digests of opaque blocks are words
+abbrev pub IsWhole : Tree → Type 0
+IsWhole (Opaque digest) = IsWord digest
+IsWhole (Span batches) = (batches ≢ []) × All IsBatch batches
+IsWhole (Join first second) = IsWhole first × IsWhole second
+IsWhole (Split on_one on_zero) = IsWhole on_one × IsWhole on_zero
+IsWhole (Loop body) = IsWhole body
+IsWhole (Call callee) = IsWhole callee
+IsWhole (Syscall callee) = IsWhole callee
 
 -- batches are hashed with the domain 0
 abbrev pub input_of_batches : List (List ℕ) → HashInput

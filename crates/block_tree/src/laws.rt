@@ -1,14 +1,19 @@
-ghost use Rattle.block_tree.specs.Laws.{DigestOfInput, RefinesItself, RefinesThrough, RefinedDigest, RefinedRun, SameAtLaterLimits, OutAtEarlierLimits, TakesPrefix, SameOnWhatItTook};
+ghost use Rattle.block_tree.specs.CycleLaws.{DoneWhereAllowed, RunIsSteps, StepsAreRun};
+ghost use Rattle.block_tree.specs.Laws.{DigestOfInput, DigestIsWord, RefinesItself, RefinesThrough, RefinedDigest, RefinedRun, SameAtLaterLimits, OutAtEarlierLimits, TakesPrefix, SameOnWhatItTook};
+ghost use Rattle.block_tree.specs.LogLaws.{LogCounts, RunIsLogged, RunIsShallow, RunIsWhole, RunIsWithinContexts, RunNests};
+ghost use Rattle.block_tree.specs.RowLaws.{AccessedIsWord, FourAreWord, HashIsBatch, ShownBehind, TakesAtMostFour};
 
 use crate::evidence::Evidence;
 use crate::exports::Exports;
 use crate::program::Program;
 use crate::tree::Tree;
 
-/// A tree's digest is that of its hash input. Refinement is an order, a tree has the digest of each
-/// tree that it refines, and it does what that tree was done with.
+/// A tree's digest is that of its hash input, and that of a whole tree is a word. A tree refines
+/// itself and what the trees that it refines refine, has the digest of each of them, and does what
+/// they were done with.
 pub fn tree_laws()
     ensures input { DigestOfInput }
+    ensures word { DigestIsWord }
     ensures reflexive { RefinesItself }
     ensures transitive { RefinesThrough }
     ensures digest { RefinedDigest }
@@ -22,6 +27,37 @@ pub fn run_laws()
     ensures out { OutAtEarlierLimits }
     ensures prefix { TakesPrefix }
     ensures enough { SameOnWhatItTook }
+{}
+
+/// The laws of cycles: where each is done and which state is behind it, and that a run of a whole
+/// tree is one cycle after another, as the tasks that are still to be done say.
+pub fn cycle_laws()
+    ensures allowed { DoneWhereAllowed }
+    ensures steps { RunIsSteps }
+    ensures runs { StepsAreRun }
+{}
+
+/// The laws of logs, for whole trees: the events of a run are its cycles in order, as many as the
+/// clock has moved. From a well-formed state each is whole, and the last state is well-formed. At
+/// most 1,024 blocks nest, and as many at the end as at the start; the stack has at most as many
+/// cells more as the clock has moved; and a context is one that the clock has reached.
+pub fn log_laws()
+    ensures logged { RunIsLogged }
+    ensures counts { LogCounts }
+    ensures whole { RunIsWhole }
+    ensures nests { RunNests }
+    ensures shallow { RunIsShallow }
+    ensures contexts { RunIsWithinContexts }
+{}
+
+/// The laws of rows: what a cycle's row shows are words and eight elements of hashing, and what it
+/// shows of the state behind it stands in the next row's state.
+pub fn row_laws()
+    ensures hash { HashIsBatch }
+    ensures four { TakesAtMostFour }
+    ensures tape { FourAreWord }
+    ensures word { AccessedIsWord }
+    ensures behind { ShownBehind }
 {}
 
 fn crosses<T: Send + Sync>() {}

@@ -9,10 +9,12 @@ mod program;
 #[cfg(test)]
 mod tests;
 mod tree;
+mod whole;
 
 pub use evidence::Evidence;
 pub use exports::{Export, Exports};
 pub use kernel::are_distinct;
-pub use laws::{run_laws, tree_laws, types_cross};
+pub use laws::{cycle_laws, log_laws, row_laws, run_laws, tree_laws, types_cross};
 pub use program::Program;
 pub use tree::{Tree, copy, digest, digest_of_one, digest_of_two, height};
+pub use whole::known_whole;

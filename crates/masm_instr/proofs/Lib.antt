@@ -4,3 +4,5 @@ pub mod Digits
 pub mod ReadingLemmas
 pub mod Joined
 pub mod Fronts
+pub mod Conjunction
+pub mod Packing

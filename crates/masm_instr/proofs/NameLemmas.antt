@@ -3,11 +3,11 @@ use Rattle.std.proofs.Common.{◌≡◌, ℕ, Bool, true, false, cond, List, [],
 use Rattle.std.proofs.lemmas.Slice.Eq.{bytes_eq-Decides}
 use Rattle.masm_instr.specs.declared.name.Name.{Name}
 use Rattle.masm_instr.specs.declared.name.Name.TheVariants as names
-use Rattle.masm_instr.specs.declared.table.TheConstants.{EVERY}
 use Rattle.masm_instr.specs.Table.{text_of}
-use Rattle.masm_instr.specs.Names.{first_named, name_of, NamesAreTexts}
+use Rattle.masm_instr.specs.Names.{every_name, first_named, name_of, NamesAreTexts}
 
-pub found : (name : Name) → first_named EVERY (text_of name) ≡ Some name
+pub found : (name : Name) → first_named every_name (text_of name) ≡ Some name
+unfolding every_name
 found names.Add = refl
 found name = refl
 
@@ -27,4 +27,4 @@ has_text (here ∷ more) text name e =
 
 pub names_are_texts : NamesAreTexts
 unfolding name_of
-names_are_texts name text = (has_text EVERY text name, λ same. rw (← same) (found name))
+names_are_texts name text = (has_text every_name text name, λ same. rw (← same) (found name))

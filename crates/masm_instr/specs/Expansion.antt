@@ -1,6 +1,6 @@
 -- The operations that each instruction stands for. An instruction's list is a front, which its numbers decide, and then
 -- the operations that stand last (`Table`).
-use Rattle.std.specs.Prelude.{ℕ, zero, suc, ◌+◌, ◌-◌, ◌*◌, ◌/◌, ◌%◌, ◌^◌, ◌==◌, ◌||◌, nat_lt, nat_le, if◌then◌else◌, List, [], ◌∷◌, ◌++◌, map, replicate, slice_index, slice_index_or}
+use Rattle.std.specs.Prelude.{ℕ, zero, suc, ◌+◌, ◌-◌, ◌*◌, ◌/◌, ◌%◌, ◌^◌, ◌==◌, ◌||◌, nat_lt, nat_le, if◌then◌else◌, List, [], ◌∷◌, ◌++◌, map, replicate, slice_index_or}
 use Rattle.std.specs.List.{flat_map}
 use Rattle.vm_field.specs.Field.{prime}
 use Rattle.vm_ops.specs.declared.op.Op.{Op}
@@ -10,6 +10,7 @@ use Rattle.vm_ops.specs.Items.{plain_item, push_item}
 use Rattle.masm_instr.specs.declared.name.Name.{Name}
 use Rattle.masm_instr.specs.declared.name.Name.TheVariants as names
 use Rattle.masm_instr.specs.Table.{fixed}
+use Rattle.masm_instr.specs.Instructions.{first, first_or}
 
 -- operations with no immediate
 abbrev pub plain : List Op → List Item
@@ -18,14 +19,6 @@ plain operations = map plain_item operations
 -- PAD for 0, else PUSH
 abbrev pub lit : ℕ → Item
 lit v = if v == 0 then plain_item ops.Pad else push_item v
-
--- the first number
-abbrev pub first : List ℕ → ℕ
-first numbers = slice_index numbers 0
-
--- the first number, or the default where none is given
-abbrev pub first_or : ℕ → List ℕ → ℕ
-first_or default numbers = slice_index_or numbers 0 default
 
 -- The operations that copy cells, by the cell; NOOP stands where there is none.
 abbrev pub dups : List Op

@@ -1,5 +1,5 @@
 -- An instruction: a name with its numbers.
-use Rattle.std.specs.Prelude.{◌≡◌, ℕ, ◌<◌, Bool, true, false, ◌&&◌, nat_le, List, length, slice_index}
+use Rattle.std.specs.Prelude.{◌≡◌, ℕ, ◌<◌, Bool, true, false, ◌&&◌, nat_le, List, length, slice_index, slice_index_or}
 use Rattle.std.specs.List.{list_all}
 use Rattle.masm_instr.specs.declared.name.Name.{Name}
 use Rattle.masm_instr.specs.declared.name.Name.TheVariants as names
@@ -9,6 +9,14 @@ use Rattle.masm_instr.specs.Table.{form_of}
 pub record Instruction : Type 0 where
   pub name : Name
   pub numbers : List ℕ
+
+-- the first number
+abbrev pub first : List ℕ → ℕ
+first numbers = slice_index numbers 0
+
+-- the first number, or the default where none is given
+abbrev pub first_or : ℕ → List ℕ → ℕ
+first_or default numbers = slice_index_or numbers 0 default
 
 -- whether a number lies in the range of a form
 abbrev pub is_in_range : Form → ℕ → Bool
@@ -36,4 +44,4 @@ names_local name = false
 
 -- a local that the instruction names is one of so many
 abbrev pub HasLocal : Instruction → ℕ → Type 0
-HasLocal instr locals = names_local instr.name ≡ true → slice_index instr.numbers 0 < locals
+HasLocal instr locals = names_local instr.name ≡ true → first instr.numbers < locals

@@ -5,3 +5,5 @@ pub mod Numbers
 pub mod Constants
 pub mod Reading
 pub mod Expansion
+pub mod Effects
+pub mod Packable

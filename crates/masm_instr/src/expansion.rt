@@ -1,10 +1,11 @@
 ghost use Rattle.std.specs.Prelude.{◌≡◌, ◌-◌, ◌%◌, ◌^◌, ◌<◌, ◌≤◌, [], ◌∷◌, ◌++◌, true, OnOk, IfOk};
 ghost use Rattle.vm_field.specs.Field.{prime};
 ghost use Rattle.masm_instr.specs.Table.{form_of};
-ghost use Rattle.masm_instr.specs.Instructions.{is_in_form, names_local, HasLocal};
+ghost use Rattle.masm_instr.specs.Instructions.{first, first_or, is_in_form, IsInForm, names_local, HasLocal};
 ghost use Rattle.vm_ops.specs.declared.op.Op.TheVariants as ops;
 ghost use Rattle.vm_ops.specs.Items.{push_item};
-ghost use Rattle.masm_instr.specs.Expansion.{first, first_or, plain, lit, local, assert_u32, two_to, exp_digits, front, expansion};
+ghost use Rattle.masm_instr.specs.Packable.{ArePackable, ExpansionsArePackable};
+ghost use Rattle.masm_instr.specs.Expansion.{plain, lit, local, assert_u32, two_to, exp_digits, front, expansion};
 
 use crate::instr::Instr;
 use crate::moves::{
@@ -136,14 +137,31 @@ fn add_front(items: &mut Items, name: Name, numbers: &[u128], locals: u32) -> Re
     }
 }
 
-/// The operations that an instruction stands for, in a procedure of so many locals.
+// The operations of an instruction: its front, and those that stand last.
 #[tactic(auto, unfolding(crate::specs::Expansion::expansion))]
+fn add_expansion(items: &mut Items, instr: &Instr, locals: u32) -> Result<(), Memory>
+    requires { HasLocal instr.now locals }
+    ensures items { OnOk result (items.new ≡ items.old ++ expansion instr.now.name instr.now.numbers locals) }
+    ensures form { IsInForm instr.now }
+{
+    add_front(items, instr.name(), instr.numbers(), locals)?;
+    add_plain(items, row_of(instr.name()).last)
+}
+
+/// The operations that an instruction stands for, in a procedure of so many locals. There is at
+/// least one, and each can be packed into a batch.
 pub fn expand(alloc: Global, instr: &Instr, locals: u32) -> Result<Items, Memory>
     requires { HasLocal instr.now locals }
-    ensures { IfOk result (λ items. items ≡ expansion instr.now.name instr.now.numbers locals) }
+    ensures items { IfOk result (λ items. items ≡ expansion instr.now.name instr.now.numbers locals) }
+    ensures packable { IfOk result (λ items. ArePackable items) }
 {
     let mut items = Items::new(alloc);
-    add_front(&mut items, instr.name(), instr.numbers(), locals)?;
-    add_plain(&mut items, row_of(instr.name()).last)?;
+    add_expansion(&mut items, instr, locals)?;
     Ok(items)
 }
+
+/// Numbers in form, and a local that is one of so many, give at least one operation, each of which
+/// can be packed into a batch.
+pub fn expansions_are_packable()
+    ensures { ExpansionsArePackable }
+{}

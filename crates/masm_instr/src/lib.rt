@@ -16,11 +16,11 @@ mod refusal;
 mod table;
 
 pub use constant::{Const, Consts};
-pub use expansion::expand;
+pub use expansion::{expand, expansions_are_packable};
 pub use instr::{Instr, Numbers};
 pub use name::{Name, name_of, names_are_texts};
 pub use number::read_number;
-pub use reading::{read_instr, read_parameter, split_token};
+pub use reading::{read_instr, read_parameter, split};
 pub use refusal::InstrError;
 
 #[cfg(test)]

@@ -134,7 +134,7 @@ fn find_name(names: &[Name], text: &[u8]) -> Option<Name>
 }
 
 /// The name that has this text.
-#[tactic(auto, unfolding(crate::specs::Names::name_of))]
+#[tactic(auto, unfolding(crate::specs::Names::name_of, crate::specs::Names::every_name))]
 pub fn name_of(text: &[u8]) -> Option<Name>
     ensures { result ≡ name_of text.now }
 {

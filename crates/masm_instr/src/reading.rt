@@ -1,5 +1,5 @@
 ghost use Rattle.std.specs.Prelude.{◌≡◌, ◌==◌, map, IfOk, OnOk, bytes_eq};
-ghost use Rattle.std.specs.List.{list_all, list_any};
+ghost use Rattle.std.specs.List.{list_all, list_any, slice_split};
 ghost use Rattle.masm_instr.specs.Instructions.{is_in_range, IsInForm};
 ghost use Rattle.masm_instr.specs.Reading.{parameter_of, parameters_of, formed, is_unsupported, parts_of, read, Gives};
 
@@ -12,11 +12,11 @@ use crate::refusal::InstrError;
 use crate::table::row_of;
 use std::alloc::{AllocError, Global};
 
-/// The parts of a token: what stands between its dots. There is always a first.
-pub fn split_token<'a>(alloc: Global, token: &'a [u8]) -> Result<Vec<&'a [u8]>, AllocError>
-    ensures { IfOk result (λ parts. map (λ part. part.now) parts.items ≡ parts_of token.entry.now) }
+/// The parts of a text: what stands between the bytes that are this mark. There is always a first.
+pub fn split<'a>(alloc: Global, text: &'a [u8], mark: u8) -> Result<Vec<&'a [u8]>, AllocError>
+    ensures { IfOk result (λ parts. map (λ part. part.now) parts.items ≡ slice_split (λ b. b == mark) text.entry.now) }
 {
-    token.split(|byte| *byte == b'.').collect(alloc)
+    text.split(|byte| *byte == mark).collect(alloc)
 }
 
 fn is_among(words: &[&[u8]], text: &[u8]) -> bool
@@ -135,7 +135,7 @@ fn read_named(
 pub fn read_instr(alloc: Global, token: &[u8], consts: &Consts) -> Result<Instr, InstrError>
     ensures { Gives result (read consts.now token.now) }
 {
-    let parts = split_token(alloc, token)?;
+    let parts = split(alloc, token, b'.')?;
     let Some((first, parts)) = parts.as_slice().split_first() else {
         return Err(InstrError::UnknownInstruction);
     };

@@ -1,3 +1,4 @@
 pub mod Places
 pub mod Lexing
 pub mod Parts
+pub mod Ascending

@@ -8,7 +8,7 @@ mod place;
 mod refusal;
 
 pub use lexer::lex;
-pub use list::{Token, Tokens, token_text, tokens_are_parts};
+pub use list::{Token, Tokens, token_text, tokens_are_parts, tokens_ascend};
 pub use place::{Place, end_place};
 pub use refusal::LexError;
 

@@ -1,6 +1,7 @@
 ghost use Rattle.std.specs.Prelude.{◌≡◌, ◌<◌, ◌↔◌, List, [], ◌∷◌, ◌++◌, length, IsTrue, OnOk, OnErr, Ok};
 ghost use Rattle.std.specs.List.{HoldsAt};
 ghost use Rattle.masm_lex.specs.Tokens.{lexed, text_of, IsPart, TokensAreParts};
+ghost use Rattle.masm_lex.specs.Order.{TokensAscend};
 
 use std::alloc::{AllocError, Global};
 use std::marker::Model;
@@ -96,4 +97,10 @@ pub fn token_text<'a>(source: &'a [u8], tokens: &Tokens, i: usize) -> &'a [u8]
 /// Each token of a source is a part of it, and has the place of its first byte.
 pub fn tokens_are_parts()
     ensures { TokensAreParts }
+{}
+
+/// The tokens of a source stand in its order: each begins behind the end of those before it, on a
+/// later line or in a later column.
+pub fn tokens_ascend()
+    ensures { TokensAscend }
 {}

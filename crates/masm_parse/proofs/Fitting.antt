@@ -19,24 +19,26 @@ use Rattle.masm_parse.specs.declared.keyword.Keyword.{Keyword}
 use Rattle.masm_parse.specs.declared.keyword.Keyword.TheVariants as keywords
 use Rattle.masm_parse.specs.declared.refusal.Cause.{Cause}
 use Rattle.masm_parse.specs.declared.refusal.Cause.TheVariants as causes
-use Rattle.masm_parse.specs.declared.sign.Header.{Header}
-use Rattle.masm_parse.specs.declared.sign.Leaf.TheVariants as leaves
-use Rattle.masm_parse.specs.declared.sign.Role.{Role}
-use Rattle.masm_parse.specs.declared.sign.Role.TheVariants as roles
-use Rattle.masm_parse.specs.declared.sign.Sign.{Sign}
-use Rattle.masm_parse.specs.declared.sign.Sign.TheVariants as signs
-use Rattle.masm_parse.specs.declared.sign.Word.{Word}
+use Rattle.masm_parse.specs.declared.terminal.Header.{Header}
+use Rattle.masm_parse.specs.declared.terminal.Leaf.TheVariants as leaves
+use Rattle.masm_parse.specs.declared.terminal.Use.{Use}
+use Rattle.masm_parse.specs.declared.terminal.Use.TheVariants as uses
+use Rattle.masm_parse.specs.declared.terminal.Role.{Role}
+use Rattle.masm_parse.specs.declared.terminal.Role.TheVariants as roles
+use Rattle.masm_parse.specs.declared.terminal.Terminal.{Terminal}
+use Rattle.masm_parse.specs.declared.terminal.Terminal.TheVariants as terminals
+use Rattle.masm_parse.specs.declared.terminal.Symbol.{Symbol}
 use Rattle.masm_parse.specs.declared.tree.At.{At}
 use Rattle.masm_parse.specs.Keywords.{keyword_of, is_kept_from_kernels}
 use Rattle.masm_parse.specs.Locals.{LeafFits, HasLocals, ProcedureFits, SourceFits}
-use Rattle.masm_parse.specs.Machine.{Open, In_if, In_else, In_while, In_repeat, State, Top, Inside, Behind, Reader, start, shut, closed, procedure, may_begin, turn, settled, moved, at_of, step, ended, parse_from, parsed}
+use Rattle.masm_parse.specs.Machine.{Open, In_if, In_else, In_while, In_repeat, State, Top, Inside, Behind, Reader, start, reduce, closed, procedure, may_begin, shift, settled, moved, at_of, step, ended, parse_from, parsed}
 use Rattle.masm_parse.specs.Trees.{Body, Empty, Leaf_then, If_then, While_then, Repeat_then, Procedure, Source, append}
-use Rattle.masm_parse.specs.Words.{Context, known_after, worded, local_tested, is_no_local, instruction, instruction_word, keyword_word, word_known, word_parts, word_of, phrase, usage, used, valued, definition, constant, header_with, header, locals_of, alone, on_true, repeated, repetition, main, is_name}
+use Rattle.masm_parse.specs.Classify.{Context, known_after, symbol_with, local_tested, is_no_local, instruction, classify_instruction, classify_keyword, classify_known, classify_parts, classify, phrase, usage, used, valued, definition, constant, header_with, header, locals_of, alone, on_true, repeated, repetition, main, is_name}
 
--- what is held of a sign that is not refused
-abbrev pub SignFits : ℕ → Sign → Type 0
-SignFits locals (signs.Leaf at leaf) = LeafFits locals leaf
-SignFits locals sign = Unit {0}
+-- what is held of a terminal that is not refused
+abbrev pub TerminalFits : ℕ → Terminal → Type 0
+TerminalFits locals (terminals.Leaf at leaf) = LeafFits locals leaf
+TerminalFits locals terminal = Unit {0}
 
 fits-append : (locals : ℕ) (b c : Body) → HasLocals locals b → HasLocals locals c → HasLocals locals (append b c)
 fits-append locals Empty c h k = k
@@ -51,11 +53,11 @@ OpenFits locals (In_else at before first) = HasLocals locals before × HasLocals
 OpenFits locals (In_while at before) = HasLocals locals before
 OpenFits locals (In_repeat at times before) = HasLocals locals before
 
-fits-shut : (locals : ℕ) (o : Open) (b : Body) → OpenFits locals o → HasLocals locals b → HasLocals locals (shut o b)
-fits-shut locals (In_if at before) b h k = fits-append locals before (If_then at b Empty Empty) h (k, tt, tt)
-fits-shut locals (In_else at before first) b h k = fits-append locals before (If_then at first b Empty) h.0 (h.1, k, tt)
-fits-shut locals (In_while at before) b h k = fits-append locals before (While_then at b Empty) h (k, tt)
-fits-shut locals (In_repeat at times before) b h k = fits-append locals before (Repeat_then at times b Empty) h (k, tt)
+fits-reduce : (locals : ℕ) (o : Open) (b : Body) → OpenFits locals o → HasLocals locals b → HasLocals locals (reduce o b)
+fits-reduce locals (In_if at before) b h k = fits-append locals before (If_then at b Empty Empty) h (k, tt, tt)
+fits-reduce locals (In_else at before first) b h k = fits-append locals before (If_then at first b Empty) h.0 (h.1, k, tt)
+fits-reduce locals (In_while at before) b h k = fits-append locals before (While_then at b Empty) h (k, tt)
+fits-reduce locals (In_repeat at times before) b h k = fits-append locals before (Repeat_then at times b Empty) h (k, tt)
 
 -- what is held of a state, where the procedure that began last has so many locals
 abbrev pub StateFits : ℕ → State → Type 0
@@ -81,44 +83,44 @@ fits-begun : (procs : List Procedure) (h : Header) (may : Bool) → AllByRecursi
 fits-begun procs h true k = (k, refl, tt, tt)
 fits-begun procs h false k = tt
 
-abbrev pub locals_after : ℕ → Sign → ℕ
-locals_after locals (signs.Header header) = header.locals
-locals_after locals sign = locals
+abbrev pub locals_after : ℕ → Terminal → ℕ
+locals_after locals (terminals.Header header) = header.locals
+locals_after locals terminal = locals
 
-fits-turn : (kernel : Bool) (locals : ℕ) (s : State) (sign : Sign) → StateFits locals s → SignFits locals sign → StateFitsIf (locals_after locals sign) (turn kernel s sign)
-fits-turn kernel locals (Top procs) (signs.Const c) h k = h
-fits-turn kernel locals (Top procs) (signs.Header header) h k = fits-begun procs header (may_begin kernel header.role) h
-fits-turn kernel locals (Inside procs header opens body) (signs.Leaf at leaf) h k = (h.0, h.1, h.2, fits-append locals body (Leaf_then at leaf Empty) h.3 (k, tt))
-fits-turn kernel locals (Inside procs header opens body) (signs.If at) h k = (h.0, h.1, (h.3, h.2), tt)
-fits-turn kernel locals (Inside procs header opens body) (signs.While at) h k = (h.0, h.1, (h.3, h.2), tt)
-fits-turn kernel locals (Inside procs header opens body) (signs.Repeat at times) h k = (h.0, h.1, (h.3, h.2), tt)
-fits-turn kernel locals (Inside procs header (In_if at before ∷ opens) body) signs.Else h k = (h.0, h.1, ((h.2.0, h.3), h.2.1), tt)
-fits-turn kernel locals (Inside procs header [] body) signs.End h k =
+fits-shift : (kernel : Bool) (locals : ℕ) (s : State) (terminal : Terminal) → StateFits locals s → TerminalFits locals terminal → StateFitsIf (locals_after locals terminal) (shift kernel s terminal)
+fits-shift kernel locals (Top procs) (terminals.Const c) h k = h
+fits-shift kernel locals (Top procs) (terminals.Header header) h k = fits-begun procs header (may_begin kernel header.role) h
+fits-shift kernel locals (Inside procs header opens body) (terminals.Leaf at leaf) h k = (h.0, h.1, h.2, fits-append locals body (Leaf_then at leaf Empty) h.3 (k, tt))
+fits-shift kernel locals (Inside procs header opens body) (terminals.If at) h k = (h.0, h.1, (h.3, h.2), tt)
+fits-shift kernel locals (Inside procs header opens body) (terminals.While at) h k = (h.0, h.1, (h.3, h.2), tt)
+fits-shift kernel locals (Inside procs header opens body) (terminals.Repeat at times) h k = (h.0, h.1, (h.3, h.2), tt)
+fits-shift kernel locals (Inside procs header (In_if at before ∷ opens) body) terminals.Else h k = (h.0, h.1, ((h.2.0, h.3), h.2.1), tt)
+fits-shift kernel locals (Inside procs header [] body) terminals.End h k =
     fits-closed locals procs header.role (procedure header body) h.0 (subst (λ n. HasLocals n body) (sym h.1) h.3)
-fits-turn kernel locals (Inside procs header (o ∷ opens) body) signs.End h k = (h.0, h.1, h.2.1, fits-shut locals o body h.2.0 h.3)
-fits-turn kernel locals s sign h k = tt
+fits-shift kernel locals (Inside procs header (o ∷ opens) body) terminals.End h k = (h.0, h.1, h.2.1, fits-reduce locals o body h.2.0 h.3)
+fits-shift kernel locals s terminal h k = tt
 
--- What a word says, where it is not refused.
-abbrev pub WordFits : ℕ → Word → Type 0
-WordFits locals word = word.fault ≡ None → SignFits locals word.sign
+-- What a symbol says, where it is not refused.
+abbrev pub SymbolFits : ℕ → Symbol → Type 0
+SymbolFits locals symbol = symbol.fault ≡ None → TerminalFits locals symbol.terminal
 
 no-local : (instr : Instruction) (locals : ℕ) → is_no_local instr locals ≡ false → HasLocal instr locals
 no-local instr locals is named = leb-false locals _ (rw named at is)
 
-fits-tested : (locals : ℕ) (at : At) (refused : Sign) (r : Result Instruction InstrError) → WordFits locals (worded refused (local_tested locals at r))
+fits-tested : (locals : ℕ) (at : At) (refused : Terminal) (r : Result Instruction InstrError) → SymbolFits locals (symbol_with refused (local_tested locals at r))
 fits-tested locals at refused (Ok instr) fine =
-    elim (is_no_local instr locals) as (λ b. is_no_local instr locals ≡ b → (worded refused (cond b (Err causes.LocalsRange) (Ok (signs.Leaf at (leaves.Instr instr))))).fault ≡ None → SignFits locals (worded refused (cond b (Err causes.LocalsRange) (Ok (signs.Leaf at (leaves.Instr instr))))).sign) [
+    elim (is_no_local instr locals) as (λ b. is_no_local instr locals ≡ b → (symbol_with refused (cond b (Err causes.LocalsRange) (Ok (terminals.Leaf at (leaves.Instr instr))))).fault ≡ None → TerminalFits locals (symbol_with refused (cond b (Err causes.LocalsRange) (Ok (terminals.Leaf at (leaves.Instr instr))))).terminal) [
       | true ↦ λ is no. cc
       | false ↦ λ is none. no-local instr locals is
     ] refl fine
 fits-tested locals at refused (Err error) fine = cc
 
--- a reading whose sign, if it has one, names no local
-abbrev pub NamesNone : Result Sign Cause → Type 0
-NamesNone (Ok sign) = (locals : ℕ) → SignFits locals sign
+-- a reading whose terminal, if it has one, names no local
+abbrev pub NamesNone : Result Terminal Cause → Type 0
+NamesNone (Ok terminal) = (locals : ℕ) → TerminalFits locals terminal
 NamesNone (Err cause) = Unit {0}
 
-none-if : (b : Bool) (x y : Result Sign Cause) → NamesNone x → NamesNone y → NamesNone (cond b x y)
+none-if : (b : Bool) (x y : Result Terminal Cause) → NamesNone x → NamesNone y → NamesNone (cond b x y)
 none-if true x y h k = h
 none-if false x y h k = k
 
@@ -144,13 +146,13 @@ unfolding header
 none-header role at [] = tt
 none-header role at (name ∷ more) = none-if (is_name Lower name) _ _ (none-header_with role at name (locals_of more)) tt
 
-none-alone : (sign : Sign) (parts : List (List ℕ)) → ((n : ℕ) → SignFits n sign) → NamesNone (alone sign parts)
-none-alone sign [] h = h
-none-alone sign (part ∷ parts) h = tt
+none-alone : (terminal : Terminal) (parts : List (List ℕ)) → ((n : ℕ) → TerminalFits n terminal) → NamesNone (alone terminal parts)
+none-alone terminal [] h = h
+none-alone terminal (part ∷ parts) h = tt
 
-none-on_true : (sign : Sign) (parts : List (List ℕ)) → ((n : ℕ) → SignFits n sign) → NamesNone (on_true sign parts)
-none-on_true sign (part ∷ []) h = none-if (bytes_eq part (codes "true")) _ _ h tt
-none-on_true sign parts h = tt
+none-on_true : (terminal : Terminal) (parts : List (List ℕ)) → ((n : ℕ) → TerminalFits n terminal) → NamesNone (on_true terminal parts)
+none-on_true terminal (part ∷ []) h = none-if (bytes_eq part (codes "true")) _ _ h tt
+none-on_true terminal parts h = tt
 
 none-repeated : (at : At) (n : Option ℕ) → NamesNone (repeated at n)
 none-repeated at None = tt
@@ -161,12 +163,12 @@ unfolding repetition
 none-repetition consts at (part ∷ []) = none-repeated at (parameter_of consts true part)
 none-repetition consts at parts = tt
 
-none-used : (k : Keyword) (name : List ℕ) (locals : ℕ) → LeafFits locals (used k name)
-none-used keywords.Call name locals = tt
-none-used keywords.Syscall name locals = tt
-none-used k name locals = tt
+none-used : (k : Use) (name : List ℕ) (locals : ℕ) → LeafFits locals (used k name)
+none-used uses.Exec name locals = tt
+none-used uses.Call name locals = tt
+none-used uses.Syscall name locals = tt
 
-none-usage : (k : Keyword) (at : At) (parts : List (List ℕ)) → NamesNone (usage k at parts)
+none-usage : (k : Use) (at : At) (parts : List (List ℕ)) → NamesNone (usage k at parts)
 unfolding usage
 none-usage k at (name ∷ []) = none-if (is_name Lower name) _ _ (none-used k name) tt
 none-usage k at parts = tt
@@ -177,38 +179,38 @@ none-phrase context at parts keywords.Const = none-constant at parts
 none-phrase context at parts keywords.Proc = none-header roles.Proc at parts
 none-phrase context at parts keywords.Export = none-header roles.Export at parts
 none-phrase context at parts keywords.Begin = none-alone (main at) parts (λ n. tt)
-none-phrase context at parts keywords.If = none-on_true (signs.If at) parts (λ n. tt)
-none-phrase context at parts keywords.Else = none-alone signs.Else parts (λ n. tt)
-none-phrase context at parts keywords.While = none-on_true (signs.While at) parts (λ n. tt)
+none-phrase context at parts keywords.If = none-on_true (terminals.If at) parts (λ n. tt)
+none-phrase context at parts keywords.Else = none-alone terminals.Else parts (λ n. tt)
+none-phrase context at parts keywords.While = none-on_true (terminals.While at) parts (λ n. tt)
 none-phrase context at parts keywords.Repeat = none-repetition context.consts at parts
-none-phrase context at parts keywords.Exec = none-usage keywords.Exec at parts
-none-phrase context at parts keywords.Call = none-usage keywords.Call at parts
-none-phrase context at parts keywords.Syscall = none-usage keywords.Syscall at parts
-none-phrase context at parts keywords.End = none-alone signs.End parts (λ n. tt)
+none-phrase context at parts keywords.Exec = none-usage uses.Exec at parts
+none-phrase context at parts keywords.Call = none-usage uses.Call at parts
+none-phrase context at parts keywords.Syscall = none-usage uses.Syscall at parts
+none-phrase context at parts keywords.End = none-alone terminals.End parts (λ n. tt)
 
-none-worded : (locals : ℕ) (refused : Sign) (r : Result Sign Cause) → NamesNone r → WordFits locals (worded refused r)
-none-worded locals refused (Ok sign) h fine = h locals
-none-worded locals refused (Err cause) h fine = cc
+none-symbol_with : (locals : ℕ) (refused : Terminal) (r : Result Terminal Cause) → NamesNone r → SymbolFits locals (symbol_with refused r)
+none-symbol_with locals refused (Ok terminal) h fine = h locals
+none-symbol_with locals refused (Err cause) h fine = cc
 
 -- a token that is a keyword names no local
-fits-keyword : (kernel : Bool) (context : Context) (at : At) (parts : List (List ℕ)) (k : Keyword) → WordFits context.locals (keyword_word kernel context at parts k)
-unfolding keyword_word
+fits-keyword : (kernel : Bool) (context : Context) (at : At) (parts : List (List ℕ)) (k : Keyword) → SymbolFits context.locals (classify_keyword kernel context at parts k)
+unfolding classify_keyword
 fits-keyword kernel context at parts k =
-    none-worded context.locals _ _ (none-if (kernel && is_kept_from_kernels k) _ _ tt (none-phrase context at parts k))
+    none-symbol_with context.locals _ _ (none-if (kernel && is_kept_from_kernels k) _ _ tt (none-phrase context at parts k))
 
-fits-known : (kernel : Bool) (context : Context) (at : At) (text : List ℕ) (parts : List (List ℕ)) (k : Option Keyword) → WordFits context.locals (word_known kernel context at text parts k)
-unfolding instruction_word instruction
+fits-known : (kernel : Bool) (context : Context) (at : At) (text : List ℕ) (parts : List (List ℕ)) (k : Option Keyword) → SymbolFits context.locals (classify_known kernel context at text parts k)
+unfolding classify_instruction instruction
 fits-known kernel context at text parts None = fits-tested context.locals at _ (read context.consts text)
 fits-known kernel context at text parts (Some k) = fits-keyword kernel context at parts k
 
-fits-parts : (kernel : Bool) (context : Context) (at : At) (text : List ℕ) (parts : List (List ℕ)) → WordFits context.locals (word_parts kernel context at text parts)
-unfolding instruction_word instruction
+fits-parts : (kernel : Bool) (context : Context) (at : At) (text : List ℕ) (parts : List (List ℕ)) → SymbolFits context.locals (classify_parts kernel context at text parts)
+unfolding classify_instruction instruction
 fits-parts kernel context at text [] = fits-tested context.locals at _ (read context.consts text)
 fits-parts kernel context at text (first ∷ parts) = fits-known kernel context at text parts (keyword_of first)
 
-fits-word : (kernel : Bool) (context : Context) (at : At) (text : List ℕ) → WordFits context.locals (word_of kernel context at text)
-unfolding word_of
-fits-word kernel context at text = fits-parts kernel context at text (parts_of text)
+fits-symbol : (kernel : Bool) (context : Context) (at : At) (text : List ℕ) → SymbolFits context.locals (classify kernel context at text)
+unfolding classify
+fits-symbol kernel context at text = fits-parts kernel context at text (parts_of text)
 
 -- what is held of a reader
 abbrev pub ReaderFits : Reader → Type 0
@@ -223,15 +225,15 @@ ReaderFitsIf (Ok r) = ReaderFits r
 ReaderFitsIf (Err cause) = Unit {0}
 
 -- known_after keeps the count of locals, but at a header
-known-locals : (context : Context) (sign : Sign) → (known_after context sign).locals ≡ locals_after context.locals sign
-known-locals context (signs.Header header) = refl
-known-locals context (signs.Const c) = refl
-known-locals context sign = refl
+known-locals : (context : Context) (terminal : Terminal) → (known_after context terminal).locals ≡ locals_after context.locals terminal
+known-locals context (terminals.Header header) = refl
+known-locals context (terminals.Const c) = refl
+known-locals context terminal = refl
 
-fits-advanced : (kernel : Bool) (r : Reader) (sign : Sign) (s : Option State) → StateFitsIf (locals_after r.context.locals sign) s
-    → ReaderFitsOption (option_map (λ s. record { context = known_after r.context sign; state = s }) s)
-fits-advanced kernel r sign None h = tt
-fits-advanced kernel r sign (Some s) h = subst (λ n. StateFits n s) (sym (known-locals r.context sign)) h
+fits-advanced : (kernel : Bool) (r : Reader) (terminal : Terminal) (s : Option State) → StateFitsIf (locals_after r.context.locals terminal) s
+    → ReaderFitsOption (option_map (λ s. record { context = known_after r.context terminal; state = s }) s)
+fits-advanced kernel r terminal None h = tt
+fits-advanced kernel r terminal (Some s) h = subst (λ n. StateFits n s) (sym (known-locals r.context terminal)) h
 
 fits-settled : (fault : Option Cause) (deep : Bool) (now : Option Reader) → (fault ≡ None → ReaderFitsOption now) → ReaderFitsIf (settled fault deep now)
 fits-settled None deep None h = tt
@@ -240,26 +242,26 @@ fits-settled None false (Some now) h = h refl
 fits-settled (Some cause) deep None h = tt
 fits-settled (Some cause) deep (Some now) h = tt
 
-fits-moved : (kernel : Bool) (r : Reader) (word : Word) → ReaderFits r → WordFits r.context.locals word → ReaderFitsIf (moved kernel r word)
+fits-moved : (kernel : Bool) (r : Reader) (symbol : Symbol) → ReaderFits r → SymbolFits r.context.locals symbol → ReaderFitsIf (moved kernel r symbol)
 unfolding moved
-fits-moved kernel r word h k =
-    fits-settled word.fault _ _ (λ fine. fits-advanced kernel r word.sign (turn kernel r.state word.sign) (fits-turn kernel r.context.locals r.state word.sign h (k fine)))
+fits-moved kernel r symbol h k =
+    fits-settled symbol.fault _ _ (λ fine. fits-advanced kernel r symbol.terminal (shift kernel r.state symbol.terminal) (fits-shift kernel r.context.locals r.state symbol.terminal h (k fine)))
 
 fits-step : (kernel : Bool) (source : List ℕ) (r : Reader) (token : Token) → ReaderFits r → ReaderFitsIf (step kernel source r token)
 unfolding step
-fits-step kernel source r token h = fits-moved kernel r _ h (fits-word kernel r.context (at_of token) (text_of source token))
+fits-step kernel source r token h = fits-moved kernel r _ h (fits-symbol kernel r.context (at_of token) (text_of source token))
 
 value_or : Source → Result Source ParseError → Source
 value_or other (Ok source) = source
 value_or other (Err e) = other
 
-same_source : (a b : Source) → ◌≡◌ {A = Result Source ParseError} (Ok a) (Ok b) → a ≡ b
+pub same_tree : (a b : Source) → ◌≡◌ {A = Result Source ParseError} (Ok a) (Ok b) → a ≡ b
 unfolding value_or
-same_source a b e = ap (value_or a) e
+same_tree a b e = ap (value_or a) e
 
 fits-ended : (kernel : Bool) (locals : ℕ) (state : State) (end : Place) (consts : List Const) (source : Source) → StateFits locals state → ended kernel end consts state ≡ Ok source → SourceFits source
-fits-ended true locals (Top procs) end consts source h e = subst SourceFits (same_source _ source e) (record { procs = h; main = tt })
-fits-ended false locals (Behind procs main) end consts source h e = subst SourceFits (same_source _ source e) (record { procs = h.0; main = h.1 })
+fits-ended true locals (Top procs) end consts source h e = subst SourceFits (same_tree _ source e) (record { procs = h; main = tt })
+fits-ended false locals (Behind procs main) end consts source h e = subst SourceFits (same_tree _ source e) (record { procs = h.0; main = h.1 })
 fits-ended true locals (Inside procs header opens body) end consts source h e = cc
 fits-ended true locals (Behind procs main) end consts source h e = cc
 fits-ended false locals (Top procs) end consts source h e = cc

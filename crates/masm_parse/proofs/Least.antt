@@ -11,15 +11,15 @@ use Rattle.masm_parse.specs.declared.refusal.Cause.{Cause}
 use Rattle.masm_parse.specs.declared.refusal.Cause.TheVariants as causes
 use Rattle.masm_parse.specs.declared.refusal.ParseError.{ParseError}
 use Rattle.masm_parse.specs.declared.refusal.ParseError.TheVariants.{Bad, Memory}
-use Rattle.masm_parse.specs.declared.sign.Sign.{Sign}
-use Rattle.masm_parse.specs.declared.sign.Sign.TheVariants as signs
-use Rattle.masm_parse.specs.declared.sign.Word.{Word}
+use Rattle.masm_parse.specs.declared.terminal.Terminal.{Terminal}
+use Rattle.masm_parse.specs.declared.terminal.Terminal.TheVariants as terminals
+use Rattle.masm_parse.specs.declared.terminal.Symbol.{Symbol}
 use Rattle.masm_parse.specs.Causes.{order}
-use Rattle.masm_parse.specs.Words.{Context, known_after, word_of}
+use Rattle.masm_parse.specs.Classify.{Context, known_after, classify}
 use Rattle.masm_parse.specs.Trees.{Procedure, Source}
-use Rattle.masm_parse.specs.Machine.{State, Top, Inside, Behind, Reader, turn, is_too_deep, advance, moved, step, at_of, ended, parse_from, start, parsed}
+use Rattle.masm_parse.specs.Machine.{State, Top, Inside, Behind, Reader, shift, is_too_deep, advance, moved, step, at_of, ended, parse_from, start, parsed}
 use Rattle.masm_parse.specs.Grammar.{none, IsWhole, IsSource, constants}
-use Rattle.masm_parse.specs.Refusals.{words_of, signs_of, source_words, Fits, IsTooDeep, Stands, RefusesAt, Reads, at_first, Answers, LeastRefusal, ReadsOnce}
+use Rattle.masm_parse.specs.Refusals.{symbols_of, terminals_of, source_symbols, Fits, IsTooDeep, Stands, RefusesAt, Parses, at_first, Answers, LeastRefusal, ParsesOnce}
 use Rattle.masm_parse.proofs.Complete.{run, run-append, last_state, whole_runs, dies}
 use Rattle.masm_parse.proofs.Standing.{Standing, StandingIf, kept, Finishes, finish, finished_source, fits}
 use Rattle.masm_parse.proofs.Depth.{Counts, CountsIf, counts_kept, deep_stands, deep_found}
@@ -37,7 +37,7 @@ mapped_none f None e = refl
 mapped_none f (Some x) e = absurd (none_some (f x) (sym e))
 
 -- two splits of a list at one place are one
-same_split : (xs ys : List Word) (x y : Word) (more others : List Word) → xs ++ x ∷ more ≡ ys ++ y ∷ others → length xs ≡ length ys
+same_split : (xs ys : List Symbol) (x y : Symbol) (more others : List Symbol) → xs ++ x ∷ more ≡ ys ++ y ∷ others → length xs ≡ length ys
     → (xs ≡ ys) × (x ≡ y)
 same_split [] [] x y more others e n = let same : x ≡ y = cc in (refl, same)
 same_split [] (b ∷ ys) x y more others e n = let wrong : ⊥ = omega (arith, n) in absurd wrong
@@ -55,58 +55,58 @@ drop_next zero (x ∷ xs) y ys e = cc
 drop_next (suc n) [] y ys e = cc
 drop_next (suc n) (x ∷ xs) y ys e = drop_next n xs y ys e
 
-constants_append : (ts : List Sign) (t : Sign) → constants (ts ++ t ∷ []) ≡ constants ts ++ constants (t ∷ [])
+constants_append : (ts : List Terminal) (t : Terminal) → constants (ts ++ t ∷ []) ≡ constants ts ++ constants (t ∷ [])
 constants_append [] t = refl
-constants_append (signs.Const c ∷ ts) t = ap (λ cs. c ∷ cs) (constants_append ts t)
+constants_append (terminals.Const c ∷ ts) t = ap (λ cs. c ∷ cs) (constants_append ts t)
 constants_append (x ∷ ts) t = constants_append ts t
 
-known_consts : (context : Context) (t : Sign) → context.consts ++ constants (t ∷ []) ≡ (known_after context t).consts
-known_consts context (signs.Const c) = refl
+known_consts : (context : Context) (t : Terminal) → context.consts ++ constants (t ∷ []) ≡ (known_after context t).consts
+known_consts context (terminals.Const c) = refl
 known_consts context t = append-nil context.consts
 
-signs_snoc : (before : List Word) (w : Word) → signs_of (before ++ w ∷ []) ≡ signs_of before ++ w.sign ∷ []
-signs_snoc before w = map-append (λ word. word.sign) before (w ∷ [])
+terminals_snoc : (before : List Symbol) (w : Symbol) → terminals_of (before ++ w ∷ []) ≡ terminals_of before ++ w.terminal ∷ []
+terminals_snoc before w = map-append (λ symbol. symbol.terminal) before (w ∷ [])
 
-length_snoc : (before : List Word) (w : Word) → length (before ++ w ∷ []) ≡ suc (length before)
+length_snoc : (before : List Symbol) (w : Symbol) → length (before ++ w ∷ []) ≡ suc (length before)
 length_snoc before w = length-append before (w ∷ []) ∙ omega arith
 
 -- a refused token is one of the tokens
-past : (k : Bool) (ws : List Word) (i : ℕ) (c : Cause) → RefusesAt k ws i c → i < length ws
+past : (k : Bool) (ws : List Symbol) (i : ℕ) (c : Cause) → RefusesAt k ws i c → i < length ws
 past k ws i c x =
-    let count : length ws ≡ length x.before + length (x.word ∷ x.more) = ap length x.split ∙ length-append x.before (x.word ∷ x.more) in
+    let count : length ws ≡ length x.before + length (x.symbol ∷ x.more) = ap length x.split ∙ length-append x.before (x.symbol ∷ x.more) in
     omega (arith, count, x.place)
 
 -- a refusal at the place of a token is one of that token
-stands_here : (k : Bool) (ws before more : List Word) (w : Word) (i : ℕ) (c : Cause) → ws ≡ before ++ w ∷ more → i ≡ length before
-    → RefusesAt k ws i c → Stands k (signs_of before) w c
+stands_here : (k : Bool) (ws before more : List Symbol) (w : Symbol) (i : ℕ) (c : Cause) → ws ≡ before ++ w ∷ more → i ≡ length before
+    → RefusesAt k ws i c → Stands k (terminals_of before) w c
 stands_here k ws before more w i c split place x =
-    let same : (x.before ≡ before) × (x.word ≡ w) =
-    same_split x.before before x.word w x.more more (sym x.split ∙ split) (x.place ∙ place) in
-    subst (λ z. Stands k (signs_of before) z c) same.1 (subst (λ z. Stands k (signs_of z) x.word c) same.0 x.stands)
+    let same : (x.before ≡ before) × (x.symbol ≡ w) =
+    same_split x.before before x.symbol w x.more more (sym x.split ∙ split) (x.place ∙ place) in
+    subst (λ z. Stands k (terminals_of before) z c) same.1 (subst (λ z. Stands k (terminals_of z) x.symbol c) same.0 x.stands)
 
 -- the last state of a source is the one that its tokens lead to
-is_last : (k : Bool) (s : State) (procs : List Procedure) (main : Option Procedure) (ts : List Sign) → run k (Some (Top [])) ts ≡ Some s
+is_last : (k : Bool) (s : State) (procs : List Procedure) (main : Option Procedure) (ts : List Terminal) → run k (Some (Top [])) ts ≡ Some s
     → IsWhole k procs main ts → s ≡ last_state procs main
 is_last k s procs main ts so whole = some_same s (last_state procs main) (sym so ∙ whole_runs k procs main ts whole)
 
-early_kernel : (s : State) (procs : List Procedure) (main : Option Procedure) (ts : List Sign) → ((ps : List Procedure) → s ≡ Top ps → ⊥)
+early_kernel : (s : State) (procs : List Procedure) (main : Option Procedure) (ts : List Terminal) → ((ps : List Procedure) → s ≡ Top ps → ⊥)
     → run true (Some (Top [])) ts ≡ Some s → IsWhole true procs main ts → ⊥
 early_kernel s procs None ts never so whole = never procs (is_last true s procs None ts so whole)
 early_kernel s procs (Some main) ts never so whole = whole
 
-early_program : (s : State) (procs : List Procedure) (main : Option Procedure) (ts : List Sign)
+early_program : (s : State) (procs : List Procedure) (main : Option Procedure) (ts : List Terminal)
     → ((ps : List Procedure) (m : Procedure) → s ≡ Behind ps m → ⊥)
     → run false (Some (Top [])) ts ≡ Some s → IsWhole false procs main ts → ⊥
 early_program s procs None ts never so whole = whole
 early_program s procs (Some main) ts never so whole = never procs main (is_last false s procs (Some main) ts so whole)
 
 -- the source ends early
-early : (k : Bool) (end : Place) (all : List Token) (before : List Word) (s : State)
-    → ((procs : List Procedure) (main : Option Procedure) → IsWhole k procs main (signs_of before) → ⊥)
-    → Standing k s (signs_of before) → ((i : ℕ) (c : Cause) → RefusesAt k before i c → length before ≤ i) → drop (length before) all ≡ []
+early : (k : Bool) (end : Place) (all : List Token) (before : List Symbol) (s : State)
+    → ((procs : List Procedure) (main : Option Procedure) → IsWhole k procs main (terminals_of before) → ⊥)
+    → Standing k s (terminals_of before) → ((i : ℕ) (c : Cause) → RefusesAt k before i c → length before ≤ i) → drop (length before) all ≡ []
     → Answers k end all before (Err (Bad end.line end.column causes.Syntax))
 early k end all before s never standing clear over =
-    let finishes : Finishes k (signs_of before) = finish k s (signs_of before) standing in (
+    let finishes : Finishes k (terminals_of before) = finish k s (terminals_of before) standing in (
       length before,
       record {
         there = inr (
@@ -114,8 +114,8 @@ early k end all before s never standing clear over =
           refl,
           record {
             more = finishes.2;
-            source = record { consts = constants (signs_of before ++ finishes.2); procs = finishes.0; main = finishes.1 };
-            goes_on = finished_source k (signs_of before) finishes;
+            source = record { consts = constants (terminals_of before ++ finishes.2); procs = finishes.0; main = finishes.1 };
+            goes_on = finished_source k (terminals_of before) finishes;
             is_none = λ other x. never other.procs other.main x.whole;
           },
         );
@@ -125,8 +125,8 @@ early k end all before s never standing clear over =
       ap (λ ts. at_first ts end) over,
     )
 
-at_end : (k : Bool) (end : Place) (all : List Token) (before : List Word) (s : State) (cs : List Const)
-    → run k (Some (Top [])) (signs_of before) ≡ Some s → Standing k s (signs_of before) → constants (signs_of before) ≡ cs
+at_end : (k : Bool) (end : Place) (all : List Token) (before : List Symbol) (s : State) (cs : List Const)
+    → run k (Some (Top [])) (terminals_of before) ≡ Some s → Standing k s (terminals_of before) → constants (terminals_of before) ≡ cs
     → ((i : ℕ) (c : Cause) → RefusesAt k before i c → length before ≤ i) → drop (length before) all ≡ []
     → Answers k end all before (ended k end cs s)
 at_end true end all before (Top ps) cs so standing consts clear over =
@@ -141,34 +141,34 @@ at_end false end all before (Behind ps main) cs so standing consts clear over =
     }
 at_end true end all before (Inside ps h os b) cs so standing consts clear over =
     early true end all before (Inside ps h os b)
-    (λ procs main. early_kernel (Inside ps h os b) procs main (signs_of before) (λ qs e. cc) so) standing clear over
+    (λ procs main. early_kernel (Inside ps h os b) procs main (terminals_of before) (λ qs e. cc) so) standing clear over
 at_end true end all before (Behind ps m) cs so standing consts clear over =
     early true end all before (Behind ps m)
-    (λ procs main. early_kernel (Behind ps m) procs main (signs_of before) (λ qs e. cc) so) standing clear over
+    (λ procs main. early_kernel (Behind ps m) procs main (terminals_of before) (λ qs e. cc) so) standing clear over
 at_end false end all before (Top ps) cs so standing consts clear over =
     early false end all before (Top ps)
-    (λ procs main. early_program (Top ps) procs main (signs_of before) (λ qs m e. cc) so) standing clear over
+    (λ procs main. early_program (Top ps) procs main (terminals_of before) (λ qs m e. cc) so) standing clear over
 at_end false end all before (Inside ps h os b) cs so standing consts clear over =
     early false end all before (Inside ps h os b)
-    (λ procs main. early_program (Inside ps h os b) procs main (signs_of before) (λ qs m e. cc) so) standing clear over
+    (λ procs main. early_program (Inside ps h os b) procs main (terminals_of before) (λ qs m e. cc) so) standing clear over
 
--- what settles a token, in the machine's words
-settles : (k : Bool) (r : Reader) (before : List Sign) (w : Word) → run k (Some (Top [])) before ≡ Some r.state → Standing k r.state before
+-- what settles a token, in the machine's terms
+settles : (k : Bool) (r : Reader) (before : List Terminal) (w : Symbol) → run k (Some (Top [])) before ≡ Some r.state → Standing k r.state before
     → Counts r.state before
-    → Settles w.fault (Fits k before w.sign → ⊥) (IsTooDeep before w.sign) (advance k r w.sign) (moved k r w)
+    → Settles w.fault (Fits k before w.terminal → ⊥) (IsTooDeep before w.terminal) (advance k r w.terminal) (moved k r w)
 unfolding moved
 settles k r before w so standing counts =
-    settle_least w.fault (is_too_deep r.state w.sign) (advance k r w.sign) (Fits k before w.sign → ⊥) (IsTooDeep before w.sign)
-    (λ e f. dies k before f.more r.state w.sign f.source.procs f.source.main so (mapped_none _ (turn k r.state w.sign) e) f.spelled.whole)
-    (λ now e no. let some : (s : State) × (turn k r.state w.sign ≡ Some s) × (record { context = known_after r.context w.sign; state = s } ≡ now) = mapped_some _ (turn k r.state w.sign) now e in
-    no (fits k w.sign before (finish k some.0 (before ++ w.sign ∷ [])
-    (subst (λ o. StandingIf k o (before ++ w.sign ∷ [])) some.1 (kept k r.state w.sign before standing)))))
-    (deep_stands r.state w.sign before counts)
-    (deep_found r.state w.sign before counts)
+    settle_least w.fault (is_too_deep r.state w.terminal) (advance k r w.terminal) (Fits k before w.terminal → ⊥) (IsTooDeep before w.terminal)
+    (λ e f. dies k before f.more r.state w.terminal f.source.procs f.source.main so (mapped_none _ (shift k r.state w.terminal) e) f.spelled.whole)
+    (λ now e no. let some : (s : State) × (shift k r.state w.terminal ≡ Some s) × (record { context = known_after r.context w.terminal; state = s } ≡ now) = mapped_some _ (shift k r.state w.terminal) now e in
+    no (fits k w.terminal before (finish k some.0 (before ++ w.terminal ∷ [])
+    (subst (λ o. StandingIf k o (before ++ w.terminal ∷ [])) some.1 (kept k r.state w.terminal before standing)))))
+    (deep_stands r.state w.terminal before counts)
+    (deep_found r.state w.terminal before counts)
 
 -- no refusal stands before the next token
-still_clear : (k : Bool) (ws before more : List Word) (w : Word) → ws ≡ before ++ w ∷ more
-    → ((c : Cause) → Stands k (signs_of before) w c → ⊥)
+still_clear : (k : Bool) (ws before more : List Symbol) (w : Symbol) → ws ≡ before ++ w ∷ more
+    → ((c : Cause) → Stands k (terminals_of before) w c → ⊥)
     → ((i : ℕ) (c : Cause) → RefusesAt k ws i c → length before ≤ i)
     → (i : ℕ) (c : Cause) → RefusesAt k ws i c → length (before ++ w ∷ []) ≤ i
 still_clear k ws before more w split none_here clear i c x =
@@ -180,93 +180,93 @@ still_clear k ws before more w split none_here clear i c x =
     ]
 
 -- what stands behind the tokens so far
-pub record Going (k : Bool) (source : List ℕ) (all : List Token) (ws : List Word) (ts : List Token) (before : List Word) (r : Reader) : Type 0 where
-  pub split : ws ≡ before ++ words_of k source r.context ts
-  pub so : run k (Some (Top [])) (signs_of before) ≡ Some r.state
-  pub standing : Standing k r.state (signs_of before)
-  pub counts : Counts r.state (signs_of before)
-  pub consts : constants (signs_of before) ≡ r.context.consts
+pub record Going (k : Bool) (source : List ℕ) (all : List Token) (ws : List Symbol) (ts : List Token) (before : List Symbol) (r : Reader) : Type 0 where
+  pub split : ws ≡ before ++ symbols_of k source r.context ts
+  pub so : run k (Some (Top [])) (terminals_of before) ≡ Some r.state
+  pub standing : Standing k r.state (terminals_of before)
+  pub counts : Counts r.state (terminals_of before)
+  pub consts : constants (terminals_of before) ≡ r.context.consts
   pub clear : (i : ℕ) (c : Cause) → RefusesAt k ws i c → length before ≤ i
   pub left : drop (length before) all ≡ ts
 
-further : (k : Bool) (source : List ℕ) (all : List Token) (ws : List Word) (t : Token) (ts : List Token) (before : List Word) (r : Reader) (w : Word) (s : State)
-    → w ≡ word_of k r.context (at_of t) (text_of source t)
-    → Going k source all ws (t ∷ ts) before r → turn k r.state w.sign ≡ Some s → ((c : Cause) → Stands k (signs_of before) w c → ⊥)
-    → Going k source all ws ts (before ++ w ∷ []) (record { context = known_after r.context w.sign; state = s })
+further : (k : Bool) (source : List ℕ) (all : List Token) (ws : List Symbol) (t : Token) (ts : List Token) (before : List Symbol) (r : Reader) (w : Symbol) (s : State)
+    → w ≡ classify k r.context (at_of t) (text_of source t)
+    → Going k source all ws (t ∷ ts) before r → shift k r.state w.terminal ≡ Some s → ((c : Cause) → Stands k (terminals_of before) w c → ⊥)
+    → Going k source all ws ts (before ++ w ∷ []) (record { context = known_after r.context w.terminal; state = s })
 further k source all ws t ts before r w s is g e none_here =
-    let split : ws ≡ before ++ w ∷ words_of k source (known_after r.context w.sign) ts =
-    g.split ∙ ap (λ x. before ++ x ∷ words_of k source (known_after r.context x.sign) ts) (sym is) in
+    let split : ws ≡ before ++ w ∷ symbols_of k source (known_after r.context w.terminal) ts =
+    g.split ∙ ap (λ x. before ++ x ∷ symbols_of k source (known_after r.context x.terminal) ts) (sym is) in
     record {
-      split = split ∙ sym (append_assoc before (w ∷ []) (words_of k source (known_after r.context w.sign) ts));
+      split = split ∙ sym (append_assoc before (w ∷ []) (symbols_of k source (known_after r.context w.terminal) ts));
       so =
-          ap (λ x. run k (Some (Top [])) x) (signs_snoc before w)
-          ∙ run-append k (Some (Top [])) (signs_of before) (w.sign ∷ [])
-          ∙ ap (λ o. run k o (w.sign ∷ [])) g.so ∙ e;
+          ap (λ x. run k (Some (Top [])) x) (terminals_snoc before w)
+          ∙ run-append k (Some (Top [])) (terminals_of before) (w.terminal ∷ [])
+          ∙ ap (λ o. run k o (w.terminal ∷ [])) g.so ∙ e;
       standing =
-          subst (λ x. Standing k s x) (sym (signs_snoc before w))
-          (subst (λ o. StandingIf k o (signs_of before ++ w.sign ∷ [])) e (kept k r.state w.sign (signs_of before) g.standing));
+          subst (λ x. Standing k s x) (sym (terminals_snoc before w))
+          (subst (λ o. StandingIf k o (terminals_of before ++ w.terminal ∷ [])) e (kept k r.state w.terminal (terminals_of before) g.standing));
       counts =
-          subst (λ x. Counts s x) (sym (signs_snoc before w))
-          (subst (λ o. CountsIf o (signs_of before ++ w.sign ∷ [])) e (counts_kept k r.state w.sign (signs_of before) g.counts));
+          subst (λ x. Counts s x) (sym (terminals_snoc before w))
+          (subst (λ o. CountsIf o (terminals_of before ++ w.terminal ∷ [])) e (counts_kept k r.state w.terminal (terminals_of before) g.counts));
       consts =
-          ap constants (signs_snoc before w) ∙ constants_append (signs_of before) w.sign
-          ∙ ap (λ cs. cs ++ constants (w.sign ∷ [])) g.consts ∙ known_consts r.context w.sign;
-      clear = still_clear k ws before (words_of k source (known_after r.context w.sign) ts) w split none_here g.clear;
+          ap constants (terminals_snoc before w) ∙ constants_append (terminals_of before) w.terminal
+          ∙ ap (λ cs. cs ++ constants (w.terminal ∷ [])) g.consts ∙ known_consts r.context w.terminal;
+      clear = still_clear k ws before (symbols_of k source (known_after r.context w.terminal) ts) w split none_here g.clear;
       left = ap (λ n. drop n all) (length_snoc before w) ∙ drop_next (length before) all t ts g.left;
     }
 
-abbrev pub Leads : Bool → List ℕ → List Token → List Word → Token → List Token → Result Reader Cause → Type 0
+abbrev pub Leads : Bool → List ℕ → List Token → List Symbol → Token → List Token → Result Reader Cause → Type 0
 Leads k source all ws t ts (Ok now) = Answers k (place_after source) all ws (parse_from k source now ts)
 Leads k source all ws t ts (Err cause) = Answers k (place_after source) all ws (Err (Bad t.line t.column cause))
 
-led : (k : Bool) (source : List ℕ) (all : List Token) (ws : List Word) (t : Token) (ts : List Token) (res : Result Reader Cause)
+led : (k : Bool) (source : List ℕ) (all : List Token) (ws : List Symbol) (t : Token) (ts : List Token) (res : Result Reader Cause)
     → Leads k source all ws t ts res
     → Answers k (place_after source) all ws (elim res [ Ok now ↦ parse_from k source now ts | Err cause ↦ Err (Bad t.line t.column cause) ])
 led k source all ws t ts (Ok now) x = x
 led k source all ws t ts (Err cause) x = x
 
 -- a token that is refused
-refused : (k : Bool) (source : List ℕ) (all : List Token) (ws : List Word) (t : Token) (ts : List Token) (before : List Word) (r : Reader) (w : Word) (cause : Cause)
-    → w ≡ word_of k r.context (at_of t) (text_of source t)
-    → Going k source all ws (t ∷ ts) before r → Stands k (signs_of before) w cause
-    → ((c : Cause) → Stands k (signs_of before) w c → order cause ≤ order c)
+refused : (k : Bool) (source : List ℕ) (all : List Token) (ws : List Symbol) (t : Token) (ts : List Token) (before : List Symbol) (r : Reader) (w : Symbol) (cause : Cause)
+    → w ≡ classify k r.context (at_of t) (text_of source t)
+    → Going k source all ws (t ∷ ts) before r → Stands k (terminals_of before) w cause
+    → ((c : Cause) → Stands k (terminals_of before) w c → order cause ≤ order c)
     → Answers k (place_after source) all ws (Err (Bad t.line t.column cause))
 refused k source all ws t ts before r w cause is g stands least =
-    let split : ws ≡ before ++ w ∷ words_of k source (known_after r.context w.sign) ts =
-    g.split ∙ ap (λ x. before ++ x ∷ words_of k source (known_after r.context x.sign) ts) (sym is) in (
+    let split : ws ≡ before ++ w ∷ symbols_of k source (known_after r.context w.terminal) ts =
+    g.split ∙ ap (λ x. before ++ x ∷ symbols_of k source (known_after r.context x.terminal) ts) (sym is) in (
       length before,
       record {
         there = inl (record {
           before = before;
-          word = w;
-          more = words_of k source (known_after r.context w.sign) ts;
+          symbol = w;
+          more = symbols_of k source (known_after r.context w.terminal) ts;
           split = split;
           place = refl;
           stands = stands;
         });
         first_place = g.clear;
-        first_cause = λ c x. least c (stands_here k ws before (words_of k source (known_after r.context w.sign) ts) w (length before) c split refl x);
+        first_cause = λ c x. least c (stands_here k ws before (symbols_of k source (known_after r.context w.terminal) ts) w (length before) c split refl x);
       },
       ap (λ x. at_first x (place_after source)) g.left,
     )
 
 -- the token decides: it is refused, or the machine goes on
-chosen : (k : Bool) (source : List ℕ) (all : List Token) (ws : List Word) (t : Token) (ts : List Token) (before : List Word) (r : Reader) (w : Word)
-    → w ≡ word_of k r.context (at_of t) (text_of source t)
+chosen : (k : Bool) (source : List ℕ) (all : List Token) (ws : List Symbol) (t : Token) (ts : List Token) (before : List Symbol) (r : Reader) (w : Symbol)
+    → w ≡ classify k r.context (at_of t) (text_of source t)
     → Going k source all ws (t ∷ ts) before r
-    → ((later : List Word) (now : Reader) → Going k source all ws ts later now → Answers k (place_after source) all ws (parse_from k source now ts))
+    → ((later : List Symbol) (now : Reader) → Going k source all ws ts later now → Answers k (place_after source) all ws (parse_from k source now ts))
     → (res : Result Reader Cause)
-    → Settles w.fault (Fits k (signs_of before) w.sign → ⊥) (IsTooDeep (signs_of before) w.sign) (advance k r w.sign) res
+    → Settles w.fault (Fits k (terminals_of before) w.terminal → ⊥) (IsTooDeep (terminals_of before) w.terminal) (advance k r w.terminal) res
     → Leads k source all ws t ts res
 chosen k source all ws t ts before r w is g more (Ok now) (e, none_here) =
-    let some : (s : State) × (turn k r.state w.sign ≡ Some s) × (record { context = known_after r.context w.sign; state = s } ≡ now) = mapped_some _ (turn k r.state w.sign) now e in
+    let some : (s : State) × (shift k r.state w.terminal ≡ Some s) × (record { context = known_after r.context w.terminal; state = s } ≡ now) = mapped_some _ (shift k r.state w.terminal) now e in
     subst (λ x. Answers k (place_after source) all ws (parse_from k source x ts)) some.2
-    (more (before ++ w ∷ []) (record { context = known_after r.context w.sign; state = some.0 })
+    (more (before ++ w ∷ []) (record { context = known_after r.context w.terminal; state = some.0 })
     (further k source all ws t ts before r w some.0 is g some.1 none_here))
 chosen k source all ws t ts before r w is g more (Err cause) (stands, least) =
     refused k source all ws t ts before r w cause is g stands least
 
-goes : (k : Bool) (source : List ℕ) (all : List Token) (ws : List Word) (ts : List Token) (before : List Word) (r : Reader)
+goes : (k : Bool) (source : List ℕ) (all : List Token) (ws : List Symbol) (ts : List Token) (before : List Symbol) (r : Reader)
     → Going k source all ws ts before r → Answers k (place_after source) all ws (parse_from k source r ts)
 unfolding step
 goes k source all ws [] before r g =
@@ -276,14 +276,14 @@ goes k source all ws [] before r g =
     (subst (λ x. (i : ℕ) (c : Cause) → RefusesAt k x i c → length before ≤ i) same g.clear) g.left)
 goes k source all ws (t ∷ ts) before r g =
     led k source all ws t ts (step k source r t)
-    (chosen k source all ws t ts before r (word_of k r.context (at_of t) (text_of source t)) refl g
+    (chosen k source all ws t ts before r (classify k r.context (at_of t) (text_of source t)) refl g
     (λ later now x. goes k source all ws ts later now x) (step k source r t)
-    (settles k r (signs_of before) (word_of k r.context (at_of t) (text_of source t)) g.so g.standing g.counts))
+    (settles k r (terminals_of before) (classify k r.context (at_of t) (text_of source t)) g.so g.standing g.counts))
 
 pub least_refusal : LeastRefusal
 unfolding parsed
 least_refusal k source tokens =
-    goes k source tokens (source_words k source tokens) tokens [] start
+    goes k source tokens (source_symbols k source tokens) tokens [] start
     (record {
       split = refl;
       so = refl;
@@ -302,7 +302,7 @@ parts_same ps qs (Some m) None e = let wrong : ⊥ = cc in absurd wrong
 parts_same ps qs (Some m) (Some n) e = (cc, cc)
 
 -- tokens spell one source
-same_source : (k : Bool) (ts : List Sign) (a b : Source) → IsSource k a ts → IsSource k b ts → a ≡ b
+same_source : (k : Bool) (ts : List Terminal) (a b : Source) → IsSource k a ts → IsSource k b ts → a ≡ b
 same_source k ts a b x y =
     let parts : (a.procs ≡ b.procs) × (a.main ≡ b.main) =
     parts_same a.procs b.procs a.main b.main
@@ -311,9 +311,9 @@ same_source k ts a b x y =
     let consts : a.consts ≡ b.consts = x.consts ∙ sym y.consts in
     λ i. record { consts = consts i; procs = parts.0 i; main = parts.1 i }
 
-once : (k : Bool) (end : Place) (all : List Token) (ws : List Word) (tree : Source) (res : Result Source ParseError)
-    → Answers k end all ws res → Reads k ws tree → res ≡ Ok tree
-once k end all ws tree (Ok other) a x = ap Ok (same_source k (signs_of ws) other tree a.spelled x.spelled)
+once : (k : Bool) (end : Place) (all : List Token) (ws : List Symbol) (tree : Source) (res : Result Source ParseError)
+    → Answers k end all ws res → Parses k ws tree → res ≡ Ok tree
+once k end all ws tree (Ok other) a x = ap Ok (same_source k (terminals_of ws) other tree a.spelled x.spelled)
 once k end all ws tree (Err Memory) a x = absurd a
 once k end all ws tree (Err (Bad line column cause)) (i, least, place) x =
     elim least.there [
@@ -321,6 +321,6 @@ once k end all ws tree (Err (Bad line column cause)) (i, least, place) x =
       | inr e ↦ absurd (e.2.is_none tree x.spelled)
     ]
 
-pub reads_once : ReadsOnce
-reads_once k source tokens tree x =
-    once k (place_after source) tokens (source_words k source tokens) tree (parsed k source tokens) (least_refusal k source tokens) x
+pub parses_once : ParsesOnce
+parses_once k source tokens tree x =
+    once k (place_after source) tokens (source_symbols k source tokens) tree (parsed k source tokens) (least_refusal k source tokens) x

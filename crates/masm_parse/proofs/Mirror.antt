@@ -7,7 +7,7 @@ use Rattle.masm_parse.specs.declared.tree.Stmt.{Stmt}
 use Rattle.masm_parse.specs.declared.tree.Stmt.TheOpen.{Stmt-F}
 use Rattle.masm_parse.specs.declared.tree.Stmt.TheFolds.{fold-roll-Stmt, fold_out-Stmt}
 use Rattle.masm_parse.specs.declared.tree.Stmt.TheVariants.{Instr, If, While, Repeat, Exec, Call, Syscall, rolls-Instr, rolls-If, rolls-While, rolls-Repeat, rolls-Exec, rolls-Call, rolls-Syscall}
-use Rattle.masm_parse.specs.declared.sign.Leaf.TheVariants as leaves
+use Rattle.masm_parse.specs.declared.terminal.Leaf.TheVariants as leaves
 use Rattle.masm_parse.specs.declared.state.Frame.{Frame}
 use Rattle.masm_parse.specs.Trees.{Body, Empty, Leaf_then, If_then, While_then, Repeat_then, append}
 use Rattle.masm_parse.specs.Views.{joined, add_step, stmt_view, body_of, frame_view, frames_view}

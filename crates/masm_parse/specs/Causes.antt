@@ -43,5 +43,8 @@ cause_of errors.Memory = causes.Syntax
 
 -- what ends a token's reading
 abbrev pub stop_of : InstrError → Stop
+stop_of errors.Unsupported = stops.Refused causes.Unsupported
+stop_of errors.UnknownInstruction = stops.Refused causes.UnknownInstruction
+stop_of errors.Syntax = stops.Refused causes.Syntax
+stop_of errors.NumberRange = stops.Refused causes.NumberRange
 stop_of errors.Memory = stops.Memory
-stop_of error = stops.Refused (cause_of error)

@@ -1,28 +1,28 @@
--- The grammar of sources, over the signs of their tokens: which lists of signs spell which trees.
+-- The grammar of sources, over the terminals of their tokens: which lists of terminals spell which trees.
 use Rattle.std.specs.Prelude.{◌≡◌, ℕ, Bool, true, false, List, [], ◌∷◌, ◌++◌, Option, Some, None}
 use Rattle.masm_instr.specs.declared.constant.Const.{Const}
 use Rattle.masm_parse.specs.declared.tree.At.{At}
-use Rattle.masm_parse.specs.declared.sign.Role.{Role}
-use Rattle.masm_parse.specs.declared.sign.Role.TheVariants as roles
-use Rattle.masm_parse.specs.declared.sign.Header.{Header}
-use Rattle.masm_parse.specs.declared.sign.Leaf.{Leaf}
-use Rattle.masm_parse.specs.declared.sign.Sign.{Sign}
-use Rattle.masm_parse.specs.declared.sign.Sign.TheVariants as signs
+use Rattle.masm_parse.specs.declared.terminal.Role.{Role}
+use Rattle.masm_parse.specs.declared.terminal.Role.TheVariants as roles
+use Rattle.masm_parse.specs.declared.terminal.Header.{Header}
+use Rattle.masm_parse.specs.declared.terminal.Leaf.{Leaf}
+use Rattle.masm_parse.specs.declared.terminal.Terminal.{Terminal}
+use Rattle.masm_parse.specs.declared.terminal.Terminal.TheVariants as terminals
 use Rattle.masm_parse.specs.Trees.{Body, Empty, Leaf_then, If_then, While_then, Repeat_then, Procedure, Source}
 use Rattle.masm_parse.specs.Machine.{procedure}
 
 -- these tokens spell this body
-pub data Spells : Body → List Sign → Type 0 where
+pub data Spells : Body → List Terminal → Type 0 where
   nothing : Spells Empty []
-  leaf : (at : At) (l : Leaf) {b : Body} {ts : List Sign} → Spells b ts → Spells (Leaf_then at l b) (signs.Leaf at l ∷ ts)
-  if_only : (at : At) {a b : Body} {us ts : List Sign} → Spells a us → Spells b ts
-      → Spells (If_then at a Empty b) (signs.If at ∷ (us ++ signs.End ∷ ts))
-  if_else : (at : At) {a e b : Body} {us vs ts : List Sign} → Spells a us → Spells e vs → Spells b ts
-      → Spells (If_then at a e b) (signs.If at ∷ (us ++ signs.Else ∷ (vs ++ signs.End ∷ ts)))
-  while : (at : At) {a b : Body} {us ts : List Sign} → Spells a us → Spells b ts
-      → Spells (While_then at a b) (signs.While at ∷ (us ++ signs.End ∷ ts))
-  repeated : (at : At) (times : ℕ) {a b : Body} {us ts : List Sign} → Spells a us → Spells b ts
-      → Spells (Repeat_then at times a b) (signs.Repeat at times ∷ (us ++ signs.End ∷ ts))
+  leaf : (at : At) (l : Leaf) {b : Body} {ts : List Terminal} → Spells b ts → Spells (Leaf_then at l b) (terminals.Leaf at l ∷ ts)
+  if_only : (at : At) {a b : Body} {us ts : List Terminal} → Spells a us → Spells b ts
+      → Spells (If_then at a Empty b) (terminals.If at ∷ (us ++ terminals.End ∷ ts))
+  if_else : (at : At) {a e b : Body} {us vs ts : List Terminal} → Spells a us → Spells e vs → Spells b ts
+      → Spells (If_then at a e b) (terminals.If at ∷ (us ++ terminals.Else ∷ (vs ++ terminals.End ∷ ts)))
+  while : (at : At) {a b : Body} {us ts : List Terminal} → Spells a us → Spells b ts
+      → Spells (While_then at a b) (terminals.While at ∷ (us ++ terminals.End ∷ ts))
+  repeated : (at : At) (times : ℕ) {a b : Body} {us ts : List Terminal} → Spells a us → Spells b ts
+      → Spells (Repeat_then at times a b) (terminals.Repeat at times ∷ (us ++ terminals.End ∷ ts))
 
 -- whether a header is one of a procedure, which only in a kernel may be exported
 abbrev pub is_item : Bool → Role → Bool
@@ -31,40 +31,46 @@ is_item kernel roles.Export = kernel
 is_item kernel roles.Main = false
 
 -- these tokens spell constants and these procedures, in any order
-pub data SpellsProcs (kernel : Bool) : List Procedure → List Sign → Type 0 where
+pub data SpellsProcs (kernel : Bool) : List Procedure → List Terminal → Type 0 where
   none : SpellsProcs kernel [] []
-  constant : (c : Const) {ps : List Procedure} {ts : List Sign} → SpellsProcs kernel ps ts
-      → SpellsProcs kernel ps (ts ++ signs.Const c ∷ [])
-  item : (h : Header) {ps : List Procedure} {b : Body} {ts us : List Sign} → is_item kernel h.role ≡ true
+  constant : (c : Const) {ps : List Procedure} {ts : List Terminal} → SpellsProcs kernel ps ts
+      → SpellsProcs kernel ps (ts ++ terminals.Const c ∷ [])
+  item : (h : Header) {ps : List Procedure} {b : Body} {ts us : List Terminal} → is_item kernel h.role ≡ true
       → SpellsProcs kernel ps ts → Spells b us
-      → SpellsProcs kernel (ps ++ procedure h b ∷ []) (ts ++ signs.Header h ∷ (us ++ signs.End ∷ []))
+      → SpellsProcs kernel (ps ++ procedure h b ∷ []) (ts ++ terminals.Header h ∷ (us ++ terminals.End ∷ []))
 
 -- begin, a body and end, behind constants and procedures
-pub record SpellsMain (procs : List Procedure) (main : Procedure) (ts : List Sign) : Type 0 where
-  pub front : List Sign
+pub record SpellsMain (procs : List Procedure) (main : Procedure) (ts : List Terminal) : Type 0 where
+  pub front : List Terminal
   pub header : Header
   pub body : Body
-  pub inner : List Sign
+  pub inner : List Terminal
   pub role : header.role ≡ roles.Main
   pub is : main ≡ procedure header body
   pub items : SpellsProcs false procs front
   pub spelled : Spells body inner
-  pub whole : ts ≡ front ++ signs.Header header ∷ (inner ++ signs.End ∷ [])
+  pub whole : ts ≡ front ++ terminals.Header header ∷ (inner ++ terminals.End ∷ [])
 
 -- procedures alone in a kernel; procedures and begin in a program
-abbrev pub IsWhole : Bool → List Procedure → Option Procedure → List Sign → Type 0
+abbrev pub IsWhole : Bool → List Procedure → Option Procedure → List Terminal → Type 0
 IsWhole true procs None ts = SpellsProcs true procs ts
 IsWhole true procs (Some main) ts = ⊥
 IsWhole false procs None ts = ⊥
 IsWhole false procs (Some main) ts = SpellsMain procs main ts
 
 -- the constants of the tokens, in order
-abbrev pub constants : List Sign → List Const
+abbrev pub constants : List Terminal → List Const
 constants [] = []
-constants (signs.Const c ∷ ts) = c ∷ constants ts
-constants (sign ∷ ts) = constants ts
+constants (terminals.Const c ∷ ts) = c ∷ constants ts
+constants (terminals.Header header ∷ ts) = constants ts
+constants (terminals.Leaf at l ∷ ts) = constants ts
+constants (terminals.If at ∷ ts) = constants ts
+constants (terminals.Else ∷ ts) = constants ts
+constants (terminals.While at ∷ ts) = constants ts
+constants (terminals.Repeat at times ∷ ts) = constants ts
+constants (terminals.End ∷ ts) = constants ts
 
 -- these tokens spell this source, a kernel or a program
-pub record IsSource (kernel : Bool) (source : Source) (ts : List Sign) : Type 0 where
+pub record IsSource (kernel : Bool) (source : Source) (ts : List Terminal) : Type 0 where
   pub consts : source.consts ≡ constants ts
   pub whole : IsWhole kernel source.procs source.main ts

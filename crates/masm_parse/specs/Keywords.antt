@@ -2,7 +2,6 @@
 use Rattle.std.specs.Prelude.{ℕ, Bool, true, false, if◌then◌else◌, List, [], ◌∷◌, Option, Some, None, bytes_eq, codes}
 use Rattle.masm_parse.specs.declared.keyword.Keyword.{Keyword}
 use Rattle.masm_parse.specs.declared.keyword.Keyword.TheVariants as keywords
-use Rattle.masm_parse.specs.declared.keyword.TheConstants.{KEYWORDS}
 
 abbrev pub text_of_keyword : Keyword → List ℕ
 text_of_keyword keywords.Const = codes "const"
@@ -18,6 +17,12 @@ text_of_keyword keywords.Call = codes "call"
 text_of_keyword keywords.Syscall = codes "syscall"
 text_of_keyword keywords.End = codes "end"
 
+-- every keyword
+unfoldable pub every_keyword : List Keyword
+every_keyword =
+    keywords.Const ∷ keywords.Proc ∷ keywords.Export ∷ keywords.Begin ∷ keywords.If ∷ keywords.Else ∷ keywords.While
+    ∷ keywords.Repeat ∷ keywords.Exec ∷ keywords.Call ∷ keywords.Syscall ∷ keywords.End ∷ []
+
 -- the first of these keywords that has the text
 abbrev pub first_keyword : List Keyword → List ℕ → Option Keyword
 first_keyword [] text = None
@@ -26,11 +31,19 @@ first_keyword (keyword ∷ more) text =
 
 -- the keyword that has the text
 unfoldable pub keyword_of : List ℕ → Option Keyword
-keyword_of text = first_keyword KEYWORDS text
+keyword_of text = first_keyword every_keyword text
 
 -- whether no kernel may have it
 abbrev pub is_kept_from_kernels : Keyword → Bool
+is_kept_from_kernels keywords.Const = false
+is_kept_from_kernels keywords.Proc = false
+is_kept_from_kernels keywords.Export = false
 is_kept_from_kernels keywords.Begin = true
+is_kept_from_kernels keywords.If = false
+is_kept_from_kernels keywords.Else = false
+is_kept_from_kernels keywords.While = false
+is_kept_from_kernels keywords.Repeat = false
+is_kept_from_kernels keywords.Exec = false
 is_kept_from_kernels keywords.Call = true
 is_kept_from_kernels keywords.Syscall = true
-is_kept_from_kernels keyword = false
+is_kept_from_kernels keywords.End = false

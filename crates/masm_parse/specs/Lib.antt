@@ -1,9 +1,10 @@
 pub mod Causes
 pub mod Keywords
-pub mod Words
+pub mod Classify
 pub mod Trees
 pub mod Machine
 pub mod Views
 pub mod Grammar
 pub mod Refusals
 pub mod Locals
+pub mod Order

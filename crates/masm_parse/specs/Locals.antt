@@ -3,22 +3,24 @@ use Rattle.std.specs.Prelude.{◌≡◌, ℕ, Bool, List, Option, Some, None, Ok
 use Rattle.std.specs.List.{AllByRecursion}
 use Rattle.masm_instr.specs.Instructions.{HasLocal}
 use Rattle.masm_lex.specs.declared.list.Token.{Token}
-use Rattle.masm_parse.specs.declared.sign.Leaf.{Leaf}
-use Rattle.masm_parse.specs.declared.sign.Leaf.TheVariants as leaves
+use Rattle.masm_parse.specs.declared.terminal.Leaf.{Leaf}
+use Rattle.masm_parse.specs.declared.terminal.Leaf.TheVariants as leaves
 use Rattle.masm_parse.specs.Machine.{parsed}
 use Rattle.masm_parse.specs.Trees.{Body, Empty, Leaf_then, If_then, While_then, Repeat_then, Procedure, Source}
 
 abbrev pub LeafFits : ℕ → Leaf → Type 0
 LeafFits locals (leaves.Instr instr) = HasLocal instr locals
-LeafFits locals leaf = Unit {0}
+LeafFits locals (leaves.Exec name) = Unit {0}
+LeafFits locals (leaves.Call name) = Unit {0}
+LeafFits locals (leaves.Syscall name) = Unit {0}
 
 -- each local that the body names is one of so many
 abbrev pub HasLocals : ℕ → Body → Type 0
 HasLocals locals Empty = Unit {0}
 HasLocals locals (Leaf_then at leaf rest) = LeafFits locals leaf × HasLocals locals rest
 HasLocals locals (If_then at first second rest) = HasLocals locals first × HasLocals locals second × HasLocals locals rest
-HasLocals locals (While_then at turn rest) = HasLocals locals turn × HasLocals locals rest
-HasLocals locals (Repeat_then at times turn rest) = HasLocals locals turn × HasLocals locals rest
+HasLocals locals (While_then at body rest) = HasLocals locals body × HasLocals locals rest
+HasLocals locals (Repeat_then at times body rest) = HasLocals locals body × HasLocals locals rest
 
 abbrev pub ProcedureFits : Procedure → Type 0
 ProcedureFits p = HasLocals p.locals p.body

@@ -10,14 +10,14 @@ use Rattle.masm_parse.specs.declared.refusal.Cause.TheVariants as causes
 use Rattle.masm_parse.specs.declared.refusal.ParseError.{ParseError}
 use Rattle.masm_parse.specs.declared.refusal.ParseError.TheVariants.{Bad}
 use Rattle.masm_parse.specs.declared.tree.At.{At}
-use Rattle.masm_parse.specs.declared.sign.Role.{Role}
-use Rattle.masm_parse.specs.declared.sign.Role.TheVariants as roles
-use Rattle.masm_parse.specs.declared.sign.Header.{Header}
-use Rattle.masm_parse.specs.declared.sign.Sign.{Sign}
-use Rattle.masm_parse.specs.declared.sign.Sign.TheVariants as signs
-use Rattle.masm_parse.specs.declared.sign.Word.{Word}
+use Rattle.masm_parse.specs.declared.terminal.Role.{Role}
+use Rattle.masm_parse.specs.declared.terminal.Role.TheVariants as roles
+use Rattle.masm_parse.specs.declared.terminal.Header.{Header}
+use Rattle.masm_parse.specs.declared.terminal.Terminal.{Terminal}
+use Rattle.masm_parse.specs.declared.terminal.Terminal.TheVariants as terminals
+use Rattle.masm_parse.specs.declared.terminal.Symbol.{Symbol}
 use Rattle.masm_parse.specs.Causes.{is_early}
-use Rattle.masm_parse.specs.Words.{Context, no_context, known_after, word_of}
+use Rattle.masm_parse.specs.Classify.{Context, no_context, known_after, classify}
 use Rattle.masm_parse.specs.Trees.{Body, Empty, Leaf_then, If_then, While_then, Repeat_then, Procedure, Source, append}
 
 -- a statement that is open: the statements before it, and for an else its first body
@@ -52,11 +52,11 @@ procedure header body =
     record { name = header.name; locals = header.locals; exported = is_export header.role; body = body; line = header.at.line; column = header.at.column }
 
 -- the statements behind the end of what was open
-abbrev pub shut : Open → Body → Body
-shut (In_if at before) body = append before (If_then at body Empty Empty)
-shut (In_else at before first) body = append before (If_then at first body Empty)
-shut (In_while at before) body = append before (While_then at body Empty)
-shut (In_repeat at times before) body = append before (Repeat_then at times body Empty)
+abbrev pub reduce : Open → Body → Body
+reduce (In_if at before) body = append before (If_then at body Empty Empty)
+reduce (In_else at before first) body = append before (If_then at first body Empty)
+reduce (In_while at before) body = append before (While_then at body Empty)
+reduce (In_repeat at times before) body = append before (Repeat_then at times body Empty)
 
 -- the state behind the end of a procedure, or of begin
 abbrev pub closed : List Procedure → Role → Procedure → State
@@ -65,47 +65,59 @@ closed procs roles.Export done = Top (procs ++ done ∷ [])
 closed procs roles.Main done = Behind procs done
 
 -- a token inside a procedure
-abbrev pub turn_else : List Procedure → Header → List Open → Body → Option State
-turn_else procs header (In_if at before ∷ opens) body = Some (Inside procs header (In_else at before body ∷ opens) Empty)
-turn_else procs header opens body = None
+abbrev pub shift_else : List Procedure → Header → List Open → Body → Option State
+shift_else procs header (In_if at before ∷ opens) body = Some (Inside procs header (In_else at before body ∷ opens) Empty)
+shift_else procs header [] body = None
+shift_else procs header (In_else at before first ∷ opens) body = None
+shift_else procs header (In_while at before ∷ opens) body = None
+shift_else procs header (In_repeat at times before ∷ opens) body = None
 
-abbrev pub turn_end : List Procedure → Header → List Open → Body → Option State
-turn_end procs header [] body = Some (closed procs header.role (procedure header body))
-turn_end procs header (o ∷ opens) body = Some (Inside procs header opens (shut o body))
+abbrev pub shift_end : List Procedure → Header → List Open → Body → Option State
+shift_end procs header [] body = Some (closed procs header.role (procedure header body))
+shift_end procs header (o ∷ opens) body = Some (Inside procs header opens (reduce o body))
 
-abbrev pub turn_inside : List Procedure → Header → List Open → Body → Sign → Option State
-turn_inside procs header opens body (signs.Const c) = None
-turn_inside procs header opens body (signs.Header other) = None
-turn_inside procs header opens body (signs.Leaf at leaf) = Some (Inside procs header opens (append body (Leaf_then at leaf Empty)))
-turn_inside procs header opens body (signs.If at) = Some (Inside procs header (In_if at body ∷ opens) Empty)
-turn_inside procs header opens body signs.Else = turn_else procs header opens body
-turn_inside procs header opens body (signs.While at) = Some (Inside procs header (In_while at body ∷ opens) Empty)
-turn_inside procs header opens body (signs.Repeat at times) = Some (Inside procs header (In_repeat at times body ∷ opens) Empty)
-turn_inside procs header opens body signs.End = turn_end procs header opens body
+abbrev pub shift_inside : List Procedure → Header → List Open → Body → Terminal → Option State
+shift_inside procs header opens body (terminals.Const c) = None
+shift_inside procs header opens body (terminals.Header other) = None
+shift_inside procs header opens body (terminals.Leaf at leaf) = Some (Inside procs header opens (append body (Leaf_then at leaf Empty)))
+shift_inside procs header opens body (terminals.If at) = Some (Inside procs header (In_if at body ∷ opens) Empty)
+shift_inside procs header opens body terminals.Else = shift_else procs header opens body
+shift_inside procs header opens body (terminals.While at) = Some (Inside procs header (In_while at body ∷ opens) Empty)
+shift_inside procs header opens body (terminals.Repeat at times) = Some (Inside procs header (In_repeat at times body ∷ opens) Empty)
+shift_inside procs header opens body terminals.End = shift_end procs header opens body
 
 -- a token where no procedure is open
-abbrev pub turn_top : Bool → List Procedure → Sign → Option State
-turn_top kernel procs (signs.Const c) = Some (Top procs)
-turn_top kernel procs (signs.Header header) = if may_begin kernel header.role then Some (Inside procs header [] Empty) else None
-turn_top kernel procs sign = None
+abbrev pub shift_top : Bool → List Procedure → Terminal → Option State
+shift_top kernel procs (terminals.Const c) = Some (Top procs)
+shift_top kernel procs (terminals.Header header) = if may_begin kernel header.role then Some (Inside procs header [] Empty) else None
+shift_top kernel procs (terminals.Leaf at leaf) = None
+shift_top kernel procs (terminals.If at) = None
+shift_top kernel procs terminals.Else = None
+shift_top kernel procs (terminals.While at) = None
+shift_top kernel procs (terminals.Repeat at times) = None
+shift_top kernel procs terminals.End = None
 
 -- the state behind a token, or none where the token does not fit
-abbrev pub turn : Bool → State → Sign → Option State
-turn kernel (Top procs) sign = turn_top kernel procs sign
-turn kernel (Inside procs header opens body) sign = turn_inside procs header opens body sign
-turn kernel (Behind procs main) sign = None
+abbrev pub shift : Bool → State → Terminal → Option State
+shift kernel (Top procs) terminal = shift_top kernel procs terminal
+shift kernel (Inside procs header opens body) terminal = shift_inside procs header opens body terminal
+shift kernel (Behind procs main) terminal = None
 
 -- a token that is neither a constant nor a header
-abbrev pub turn_statement : State → Sign → Option State
-turn_statement (Top procs) sign = None
-turn_statement (Inside procs header opens body) sign = turn_inside procs header opens body sign
-turn_statement (Behind procs main) sign = None
+abbrev pub shift_statement : State → Terminal → Option State
+shift_statement (Top procs) terminal = None
+shift_statement (Inside procs header opens body) terminal = shift_inside procs header opens body terminal
+shift_statement (Behind procs main) terminal = None
 
-abbrev pub is_opening : Sign → Bool
-is_opening (signs.If at) = true
-is_opening (signs.While at) = true
-is_opening (signs.Repeat at times) = true
-is_opening sign = false
+abbrev pub is_opening : Terminal → Bool
+is_opening (terminals.Const c) = false
+is_opening (terminals.Header header) = false
+is_opening (terminals.Leaf at leaf) = false
+is_opening (terminals.If at) = true
+is_opening terminals.Else = false
+is_opening (terminals.While at) = true
+is_opening (terminals.Repeat at times) = true
+is_opening terminals.End = false
 
 -- how many statements are open
 abbrev pub depth_of : State → ℕ
@@ -121,8 +133,8 @@ pub record Reader : Type 0 where
 abbrev pub start : Reader
 start = record { context = no_context; state = Top [] }
 
-abbrev pub advance : Bool → Reader → Sign → Option Reader
-advance kernel r sign = option_map (λ s. record { context = known_after r.context sign; state = s }) (turn kernel r.state sign)
+abbrev pub advance : Bool → Reader → Terminal → Option Reader
+advance kernel r terminal = option_map (λ s. record { context = known_after r.context terminal; state = s }) (shift kernel r.state terminal)
 
 -- The first cause that stands: that of the token by itself, Syntax where it does not fit, TooDeep where it stands too
 -- deep.
@@ -133,23 +145,28 @@ settled (Some cause) deep None = Err (if is_early cause then cause else causes.S
 settled (Some cause) deep (Some now) = Err cause
 
 -- whether the token would be the 257th that is open
-abbrev pub is_too_deep : State → Sign → Bool
-is_too_deep state sign = is_opening sign && nat_le 256 (depth_of state)
+abbrev pub is_too_deep : State → Terminal → Bool
+is_too_deep state terminal = is_opening terminal && nat_le 256 (depth_of state)
 
-unfoldable pub moved : Bool → Reader → Word → Result Reader Cause
-moved kernel r word = settled word.fault (is_too_deep r.state word.sign) (advance kernel r word.sign)
+unfoldable pub moved : Bool → Reader → Symbol → Result Reader Cause
+moved kernel r symbol = settled symbol.fault (is_too_deep r.state symbol.terminal) (advance kernel r symbol.terminal)
 
 abbrev pub at_of : Token → At
 at_of token = record { line = token.line; column = token.column }
 
 unfoldable pub step : Bool → List ℕ → Reader → Token → Result Reader Cause
-step kernel source r token = moved kernel r (word_of kernel r.context (at_of token) (text_of source token))
+step kernel source r token = moved kernel r (classify kernel r.context (at_of token) (text_of source token))
 
 -- the tree where the source may end here; else it ends early
+abbrev pub ends_early : Place → Result Source ParseError
+ends_early end = Err (Bad end.line end.column causes.Syntax)
+
 abbrev pub ended : Bool → Place → List Const → State → Result Source ParseError
 ended true end consts (Top procs) = Ok (record { consts = consts; procs = procs; main = None })
 ended false end consts (Behind procs main) = Ok (record { consts = consts; procs = procs; main = Some main })
-ended kernel end consts state = Err (Bad end.line end.column causes.Syntax)
+ended kernel end consts (Inside procs header opens body) = ends_early end
+ended false end consts (Top procs) = ends_early end
+ended true end consts (Behind procs main) = ends_early end
 
 abbrev pub parse_from : Bool → List ℕ → Reader → List Token → Result Source ParseError
 parse_from kernel source r [] = ended kernel (place_after source) r.context.consts r.state

@@ -8,48 +8,57 @@ use Rattle.masm_parse.specs.declared.refusal.Cause.TheVariants as causes
 use Rattle.masm_parse.specs.declared.refusal.ParseError.{ParseError}
 use Rattle.masm_parse.specs.declared.refusal.ParseError.TheVariants.{Bad, Memory}
 use Rattle.masm_parse.specs.declared.tree.At.{At}
-use Rattle.masm_parse.specs.declared.sign.Sign.{Sign}
-use Rattle.masm_parse.specs.declared.sign.Sign.TheVariants as signs
-use Rattle.masm_parse.specs.declared.sign.Word.{Word}
+use Rattle.masm_parse.specs.declared.terminal.Terminal.{Terminal}
+use Rattle.masm_parse.specs.declared.terminal.Terminal.TheVariants as terminals
+use Rattle.masm_parse.specs.declared.terminal.Symbol.{Symbol}
 use Rattle.masm_parse.specs.Causes.{order}
-use Rattle.masm_parse.specs.Words.{Context, no_context, known_after, word_of}
+use Rattle.masm_parse.specs.Classify.{Context, no_context, known_after, classify}
 use Rattle.masm_parse.specs.Trees.{Source}
 use Rattle.masm_parse.specs.Grammar.{IsSource}
 use Rattle.masm_parse.specs.Machine.{is_opening, at_of, parsed}
 
 -- the tokens of a source as they are read, each with what the tokens before it say
-abbrev pub words_of : Bool → List ℕ → Context → List Token → List Word
-words_of kernel source context [] = []
-words_of kernel source context (token ∷ tokens) =
-    word_of kernel context (at_of token) (text_of source token)
-    ∷ words_of kernel source (known_after context (word_of kernel context (at_of token) (text_of source token)).sign) tokens
+abbrev pub symbols_of : Bool → List ℕ → Context → List Token → List Symbol
+symbols_of kernel source context [] = []
+symbols_of kernel source context (token ∷ tokens) =
+    classify kernel context (at_of token) (text_of source token)
+    ∷ symbols_of kernel source (known_after context (classify kernel context (at_of token) (text_of source token)).terminal) tokens
 
-abbrev pub signs_of : List Word → List Sign
-signs_of words = map (λ word. word.sign) words
+abbrev pub terminals_of : List Symbol → List Terminal
+terminals_of symbols = map (λ symbol. symbol.terminal) symbols
 
 -- A token fits where the tokens before it, followed by it, begin some list of tokens of the grammar.
-pub record Fits (kernel : Bool) (before : List Sign) (sign : Sign) : Type 0 where
+pub record Fits (kernel : Bool) (before : List Terminal) (terminal : Terminal) : Type 0 where
   pub source : Source
-  pub more : List Sign
-  pub spelled : IsSource kernel source (before ++ sign ∷ more)
+  pub more : List Terminal
+  pub spelled : IsSource kernel source (before ++ terminal ∷ more)
 
 -- how many procedures and statements begin in these tokens, and how many end
-abbrev pub begins : Sign → ℕ
-begins (signs.Header header) = 1
-begins (signs.If at) = 1
-begins (signs.While at) = 1
-begins (signs.Repeat at times) = 1
-begins sign = 0
+abbrev pub begins : Terminal → ℕ
+begins (terminals.Const c) = 0
+begins (terminals.Header header) = 1
+begins (terminals.Leaf at leaf) = 0
+begins (terminals.If at) = 1
+begins terminals.Else = 0
+begins (terminals.While at) = 1
+begins (terminals.Repeat at times) = 1
+begins terminals.End = 0
 
-abbrev pub ends : Sign → ℕ
-ends signs.End = 1
-ends sign = 0
+abbrev pub ends : Terminal → ℕ
+ends (terminals.Const c) = 0
+ends (terminals.Header header) = 0
+ends (terminals.Leaf at leaf) = 0
+ends (terminals.If at) = 0
+ends terminals.Else = 0
+ends (terminals.While at) = 0
+ends (terminals.Repeat at times) = 0
+ends terminals.End = 1
 
-abbrev pub begun : List Sign → ℕ
+abbrev pub begun : List Terminal → ℕ
 begun [] = 0
 begun (t ∷ ts) = begins t + begun ts
 
-abbrev pub done : List Sign → ℕ
+abbrev pub done : List Terminal → ℕ
 done [] = 0
 done (t ∷ ts) = ends t + done ts
 
@@ -60,64 +69,64 @@ pub data Has (own : Option Cause) (Misfit Deep : Type 0) : Cause → Type 0 wher
   too_deep : Deep → Has own Misfit Deep causes.TooDeep
 
 -- it opens a statement, where a procedure and 256 statements are open
-abbrev pub IsTooDeep : List Sign → Sign → Type 0
-IsTooDeep before sign = (is_opening sign ≡ true) × (257 + done before ≤ begun before)
+abbrev pub IsTooDeep : List Terminal → Terminal → Type 0
+IsTooDeep before terminal = (is_opening terminal ≡ true) × (257 + done before ≤ begun before)
 
--- the cause stands of the token behind these signs
-abbrev pub Stands : Bool → List Sign → Word → Cause → Type 0
-Stands kernel before word cause = Has word.fault (Fits kernel before word.sign → ⊥) (IsTooDeep before word.sign) cause
+-- the cause stands of the token behind these terminals
+abbrev pub Stands : Bool → List Terminal → Symbol → Cause → Type 0
+Stands kernel before symbol cause = Has symbol.fault (Fits kernel before symbol.terminal → ⊥) (IsTooDeep before symbol.terminal) cause
 
 -- the i-th token is refused for the cause
-pub record RefusesAt (kernel : Bool) (words : List Word) (i : ℕ) (cause : Cause) : Type 0 where
-  pub before : List Word
-  pub word : Word
-  pub more : List Word
-  pub split : words ≡ before ++ word ∷ more
+pub record RefusesAt (kernel : Bool) (symbols : List Symbol) (i : ℕ) (cause : Cause) : Type 0 where
+  pub before : List Symbol
+  pub symbol : Symbol
+  pub more : List Symbol
+  pub split : symbols ≡ before ++ symbol ∷ more
   pub place : length before ≡ i
-  pub stands : Stands kernel (signs_of before) word cause
+  pub stands : Stands kernel (terminals_of before) symbol cause
 
 -- the tokens begin a source, and are none
-pub record EndsEarly (kernel : Bool) (words : List Word) : Type 0 where
-  pub more : List Sign
+pub record EndsEarly (kernel : Bool) (symbols : List Symbol) : Type 0 where
+  pub more : List Terminal
   pub source : Source
-  pub goes_on : IsSource kernel source (signs_of words ++ more)
-  pub is_none : (other : Source) → IsSource kernel other (signs_of words) → ⊥
+  pub goes_on : IsSource kernel source (terminals_of symbols ++ more)
+  pub is_none : (other : Source) → IsSource kernel other (terminals_of symbols) → ⊥
 
 -- the first place with a refusal, and the first cause there; the early end comes behind all tokens
-pub record IsLeast (kernel : Bool) (words : List Word) (i : ℕ) (cause : Cause) : Type 0 where
-  pub there : RefusesAt kernel words i cause ⊎ ((i ≡ length words) × (cause ≡ causes.Syntax) × EndsEarly kernel words)
-  pub first_place : (k : ℕ) (other : Cause) → RefusesAt kernel words k other → i ≤ k
-  pub first_cause : (other : Cause) → RefusesAt kernel words i other → order cause ≤ order other
+pub record IsLeast (kernel : Bool) (symbols : List Symbol) (i : ℕ) (cause : Cause) : Type 0 where
+  pub there : RefusesAt kernel symbols i cause ⊎ ((i ≡ length symbols) × (cause ≡ causes.Syntax) × EndsEarly kernel symbols)
+  pub first_place : (k : ℕ) (other : Cause) → RefusesAt kernel symbols k other → i ≤ k
+  pub first_cause : (other : Cause) → RefusesAt kernel symbols i other → order cause ≤ order other
 
 -- the tokens spell the tree, and none is refused
-pub record Reads (kernel : Bool) (words : List Word) (tree : Source) : Type 0 where
-  pub spelled : IsSource kernel tree (signs_of words)
-  pub is_clear : (k : ℕ) (cause : Cause) → RefusesAt kernel words k cause → ⊥
+pub record Parses (kernel : Bool) (symbols : List Symbol) (tree : Source) : Type 0 where
+  pub spelled : IsSource kernel tree (terminals_of symbols)
+  pub is_clear : (k : ℕ) (cause : Cause) → RefusesAt kernel symbols k cause → ⊥
 
 -- the place of the first of these tokens, or one past the source's last byte
 abbrev pub at_first : List Token → Place → At
 at_first [] end = record { line = end.line; column = end.column }
 at_first (token ∷ tokens) end = at_of token
 
--- the words of a source
-abbrev pub source_words : Bool → List ℕ → List Token → List Word
-source_words kernel source tokens = words_of kernel source no_context tokens
+-- the symbols of a source
+abbrev pub source_symbols : Bool → List ℕ → List Token → List Symbol
+source_symbols kernel source tokens = symbols_of kernel source no_context tokens
 
--- What an answer says of tokens and their words, in a source that ends at the place.
-abbrev pub Answers : Bool → Place → List Token → List Word → Result Source ParseError → Type 0
-Answers kernel end tokens words (Ok tree) = Reads kernel words tree
-Answers kernel end tokens words (Err Memory) = ⊥
-Answers kernel end tokens words (Err (Bad line column cause)) =
-    (i : ℕ) × IsLeast kernel words i cause × (at_first (drop i tokens) end ≡ record { line = line; column = column })
+-- What an answer says of tokens and their symbols, in a source that ends at the place.
+abbrev pub Answers : Bool → Place → List Token → List Symbol → Result Source ParseError → Type 0
+Answers kernel end tokens symbols (Ok tree) = Parses kernel symbols tree
+Answers kernel end tokens symbols (Err Memory) = ⊥
+Answers kernel end tokens symbols (Err (Bad line column cause)) =
+    (i : ℕ) × IsLeast kernel symbols i cause × (at_first (drop i tokens) end ≡ record { line = line; column = column })
 
 -- The machine's answer is the tree that the tokens spell where none is refused, and else the least refusal.
 abbrev pub LeastRefusal : Type 0
 LeastRefusal =
     (kernel : Bool) (source : List ℕ) (tokens : List Token)
-    → Answers kernel (place_after source) tokens (source_words kernel source tokens) (parsed kernel source tokens)
+    → Answers kernel (place_after source) tokens (source_symbols kernel source tokens) (parsed kernel source tokens)
 
 -- A source whose tokens spell a tree, with none refused, has this tree and no other.
-abbrev pub ReadsOnce : Type 0
-ReadsOnce =
+abbrev pub ParsesOnce : Type 0
+ParsesOnce =
     (kernel : Bool) (source : List ℕ) (tokens : List Token) (tree : Source)
-    → Reads kernel (source_words kernel source tokens) tree → parsed kernel source tokens ≡ Ok tree
+    → Parses kernel (source_symbols kernel source tokens) tree → parsed kernel source tokens ≡ Ok tree

@@ -2,14 +2,14 @@
 use Rattle.std.specs.Prelude.{ℕ, Bool, List, Option}
 use Rattle.masm_instr.specs.declared.constant.Const.{Const}
 use Rattle.masm_parse.specs.declared.tree.At.{At}
-use Rattle.masm_parse.specs.declared.sign.Leaf.{Leaf}
+use Rattle.masm_parse.specs.declared.terminal.Leaf.{Leaf}
 
 pub data Body : Type 0 where
   Empty : Body
   Leaf_then : (at : At) (leaf : Leaf) (rest : Body) → Body
   If_then : (at : At) (first second rest : Body) → Body
-  While_then : (at : At) (turn rest : Body) → Body
-  Repeat_then : (at : At) (times : ℕ) (turn rest : Body) → Body
+  While_then : (at : At) (body rest : Body) → Body
+  Repeat_then : (at : At) (times : ℕ) (body rest : Body) → Body
 
 pub record Procedure : Type 0 where
   pub name : List ℕ
@@ -29,5 +29,5 @@ abbrev pub append : Body → Body → Body
 append Empty c = c
 append (Leaf_then at leaf rest) c = Leaf_then at leaf (append rest c)
 append (If_then at first second rest) c = If_then at first second (append rest c)
-append (While_then at turn rest) c = While_then at turn (append rest c)
-append (Repeat_then at times turn rest) c = Repeat_then at times turn (append rest c)
+append (While_then at body rest) c = While_then at body (append rest c)
+append (Repeat_then at times body rest) c = Repeat_then at times body (append rest c)

@@ -6,7 +6,7 @@ use Rattle.masm_parse.specs.declared.refusal.Stop.{Stop}
 use Rattle.masm_parse.specs.declared.refusal.Stop.TheVariants as stops
 use Rattle.masm_parse.specs.declared.refusal.ParseError.{ParseError}
 use Rattle.masm_parse.specs.declared.refusal.ParseError.TheVariants.{Memory}
-use Rattle.masm_parse.specs.declared.sign.Leaf.TheVariants as leaves
+use Rattle.masm_parse.specs.declared.terminal.Leaf.TheVariants as leaves
 use Rattle.masm_parse.specs.declared.tree.Stmt.{Stmt}
 use Rattle.masm_parse.specs.declared.tree.Stmt.TheOpen.{Stmt-F}
 use Rattle.masm_parse.specs.declared.tree.Stmt.TheFolds.{fold-Stmt}
@@ -28,8 +28,8 @@ joined (f ∷ fs) = f (joined fs)
 abbrev pub add_step : Stmt-F (Body → Body) → Body → Body
 add_step (Stmt-F.Instr at instr) rest = Leaf_then at (leaves.Instr instr) rest
 add_step (Stmt-F.If at first second) rest = If_then at (joined first.items) (joined second.items) rest
-add_step (Stmt-F.While at turn) rest = While_then at (joined turn.items) rest
-add_step (Stmt-F.Repeat at times turn) rest = Repeat_then at times (joined turn.items) rest
+add_step (Stmt-F.While at body) rest = While_then at (joined body.items) rest
+add_step (Stmt-F.Repeat at times body) rest = Repeat_then at times (joined body.items) rest
 add_step (Stmt-F.Exec at name) rest = Leaf_then at (leaves.Exec name) rest
 add_step (Stmt-F.Call at name) rest = Leaf_then at (leaves.Call name) rest
 add_step (Stmt-F.Syscall at name) rest = Leaf_then at (leaves.Syscall name) rest

@@ -73,7 +73,7 @@ fn find_keyword(keywords: &[Keyword], text: &[u8]) -> Option<Keyword>
 }
 
 // The keyword that has this text.
-#[tactic(auto, unfolding(crate::specs::Keywords::keyword_of))]
+#[tactic(auto, unfolding(crate::specs::Keywords::keyword_of, crate::specs::Keywords::every_keyword))]
 pub(crate) fn keyword_of(text: &[u8]) -> Option<Keyword>
     ensures { result ≡ keyword_of text.now }
 {

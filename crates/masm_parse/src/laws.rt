@@ -1,14 +1,22 @@
 ghost use Rattle.masm_parse.specs.Locals.{LocalsFit};
-ghost use Rattle.masm_parse.specs.Refusals.{LeastRefusal, ReadsOnce};
+ghost use Rattle.masm_parse.specs.Order.{TreesAreInOrder};
+ghost use Rattle.masm_parse.specs.Refusals.{LeastRefusal, ParsesOnce};
 
 /// The parser's answer is the tree that the tokens spell where no token is refused, and else the
 /// refusal of the first place and, there, of the first cause; and no other tree is read.
 pub fn least_refusal()
     ensures answers { LeastRefusal }
-    ensures once { ReadsOnce }
+    ensures once { ParsesOnce }
 {}
 
 /// Each local that an instruction names is one of its procedure's.
 pub fn locals_fit()
     ensures { LocalsFit }
+{}
+
+/// The constants of a tree stand in it in the order of its source, and so do its procedures, with
+/// `begin` behind them, and all their statements: each place is an earlier line, or an earlier
+/// column of the same line, than those that come behind it.
+pub fn trees_are_in_order()
+    ensures { TreesAreInOrder }
 {}

@@ -9,14 +9,14 @@ mod parsing;
 mod parts;
 mod reading;
 mod refusal;
-mod sign;
 mod state;
+mod terminal;
 mod tree;
 
-pub use laws::{least_refusal, locals_fit};
+pub use laws::{least_refusal, locals_fit, trees_are_in_order};
 pub use parsing::parse;
 pub use refusal::{Cause, ParseError, cause_text};
-pub use sign::Leaf;
+pub use terminal::Leaf;
 pub use tree::{Ast, At, Proc, Stmt};
 
 #[cfg(test)]

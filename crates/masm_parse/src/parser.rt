@@ -4,10 +4,10 @@ ghost use Rattle.masm_lex.specs.Tokens.{IsPart};
 ghost use Rattle.masm_parse.specs.Machine.{start, advance, settled, is_opening, moved, step, ended};
 ghost use Rattle.masm_parse.specs.Views.{parser_view, Takes, Gives};
 
-use crate::reading::read_word;
+use crate::reading::classify;
 use crate::refusal::{Cause, ParseError, Stop};
-use crate::sign::{Sign, Word};
 use crate::state::State;
+use crate::terminal::{Symbol, Terminal};
 use crate::tree::{Ast, At};
 use masm_instr::Consts;
 use masm_lex::{Place, Token};
@@ -26,12 +26,15 @@ pub(crate) struct Parser {
     pub state: State,
 }
 
-impl Sign {
+impl Terminal {
     // Whether it opens a statement that has bodies.
     fn is_opening(&self) -> bool
         ensures { result ≡ is_opening self.now }
     {
-        matches!(self, Sign::If(_) | Sign::While(_) | Sign::Repeat(_, _))
+        matches!(
+            self,
+            Terminal::If(_) | Terminal::While(_) | Terminal::Repeat(_, _)
+        )
     }
 }
 
@@ -62,30 +65,35 @@ impl Parser {
 
     // The parser behind a token; none where that does not fit.
     #[tactic(auto, using(crate::proofs::Mirror::mirror))]
-    fn turn(self, alloc: Global, kernel: bool, sign: Sign) -> Result<Option<Parser>, Memory>
-        ensures { IfOk result (λ now. option_map parser_view now ≡ advance kernel (parser_view self) sign) }
+    fn shift(
+        self,
+        alloc: Global,
+        kernel: bool,
+        terminal: Terminal,
+    ) -> Result<Option<Parser>, Memory>
+        ensures { IfOk result (λ now. option_map parser_view now ≡ advance kernel (parser_view self) terminal) }
     {
         let Parser {
             mut consts,
             locals,
             state,
         } = self;
-        match sign {
-            Sign::Const(constant) => {
+        match terminal {
+            Terminal::Const(constant) => {
                 consts.push(constant)?;
                 Ok(
-                    state.turn_constant().map(|state| Parser {
+                    state.shift_constant().map(|state| Parser {
                         consts,
                         locals,
                         state,
                     }),
                 )
             }
-            Sign::Header(header) => {
+            Terminal::Header(header) => {
                 let locals = header.locals;
                 Ok(
                     state
-                        .turn_header(alloc, kernel, header)
+                        .shift_header(alloc, kernel, header)
                         .map(|state| Parser {
                             consts,
                             locals,
@@ -93,8 +101,8 @@ impl Parser {
                         }),
                 )
             }
-            sign => Ok(
-                state.turn_statement(alloc, sign)?.map(|state| Parser {
+            terminal => Ok(
+                state.shift_statement(alloc, terminal)?.map(|state| Parser {
                     consts,
                     locals,
                     state,
@@ -104,12 +112,12 @@ impl Parser {
     }
 
     #[tactic(auto, unfolding(crate::specs::Machine::moved))]
-    fn take(self, alloc: Global, kernel: bool, word: Word) -> Result<Parser, Stop>
-        ensures { Takes result (moved kernel (parser_view self) word) }
+    fn take(self, alloc: Global, kernel: bool, symbol: Symbol) -> Result<Parser, Stop>
+        ensures { Takes result (moved kernel (parser_view self) symbol) }
     {
-        let Word { sign, fault } = word;
-        let is_deep = sign.is_opening() && self.state.depth() >= MOST_OPEN;
-        let now = self.turn(alloc, kernel, sign)?;
+        let Symbol { terminal, fault } = symbol;
+        let is_deep = terminal.is_opening() && self.state.depth() >= MOST_OPEN;
+        let now = self.shift(alloc, kernel, terminal)?;
         settle(fault, is_deep, now)
     }
 
@@ -129,7 +137,7 @@ impl Parser {
             line: token.line,
             column: token.column,
         };
-        let word = read_word(
+        let symbol = classify(
             alloc,
             kernel,
             &self.consts,
@@ -137,7 +145,7 @@ impl Parser {
             at,
             token.text(source),
         )?;
-        self.take(alloc, kernel, word)
+        self.take(alloc, kernel, symbol)
     }
 
     // The tree, where the source may end here.

@@ -1,7 +1,8 @@
-ghost use Rattle.std.specs.Prelude.{◌≡◌, ◌≤◌, length, Ok};
+ghost use Rattle.std.specs.Prelude.{◌≡◌, ◌≤◌, length, Ok, IfOk};
 ghost use Rattle.masm_lex.specs.Tokens.{lexed};
 ghost use Rattle.masm_parse.specs.Machine.{parsed};
-ghost use Rattle.masm_parse.specs.Views.{Gives};
+ghost use Rattle.masm_parse.specs.Order.{IsInOrder};
+ghost use Rattle.masm_parse.specs.Views.{source_of, Gives};
 
 use crate::parser::Parser;
 use crate::refusal::{ParseError, Stop};
@@ -9,10 +10,14 @@ use crate::tree::Ast;
 use masm_lex::{MAX_SOURCE, Tokens, end_place};
 use std::alloc::Global;
 
-/// The syntax tree of a source, a kernel's or a program's, with the tokens that the lexer gave for
-/// it; or its first refusal.
+// The parser, a token at a time.
 #[tactic(auto, unfolding(crate::specs::Machine::parsed))]
-pub fn parse(alloc: Global, source: &[u8], tokens: &Tokens, kernel: bool) -> Result<Ast, ParseError>
+fn read_tokens(
+    alloc: Global,
+    source: &[u8],
+    tokens: &Tokens,
+    kernel: bool,
+) -> Result<Ast, ParseError>
     requires size { length source.now ≤ MAX_SOURCE }
     requires tokens { lexed source.now ≡ Ok tokens.now }
     ensures { Gives result (parsed kernel source.now tokens.now) }
@@ -33,4 +38,15 @@ pub fn parse(alloc: Global, source: &[u8], tokens: &Tokens, kernel: bool) -> Res
         };
     }
     parser.finish(kernel, end_place(source))
+}
+
+/// The syntax tree of a source, a kernel's or a program's, with the tokens that the lexer gave for
+/// it; or its first refusal. What the tree holds stands in the order of the source.
+pub fn parse(alloc: Global, source: &[u8], tokens: &Tokens, kernel: bool) -> Result<Ast, ParseError>
+    requires size { length source.now ≤ MAX_SOURCE }
+    requires tokens { lexed source.now ≡ Ok tokens.now }
+    ensures tree { Gives result (parsed kernel source.now tokens.now) }
+    ensures order { IfOk result (λ ast. IsInOrder (source_of ast)) }
+{
+    read_tokens(alloc, source, tokens, kernel)
 }

@@ -1,19 +1,6 @@
-ghost use Rattle.std.specs.Prelude.{◌≡◌, ◌==◌, map, IfOk};
-ghost use Rattle.std.specs.List.{list_all, slice_split};
-ghost use Rattle.masm_parse.specs.Words.{is_letter, is_name_byte, is_name};
-
-use std::alloc::{AllocError, Global};
-
-// The parts of a text, which this byte parts.
-pub(crate) fn split<'a>(
-    alloc: Global,
-    text: &'a [u8],
-    mark: u8,
-) -> Result<Vec<&'a [u8]>, AllocError>
-    ensures { IfOk result (λ parts. map (λ part. part.now) parts.items ≡ slice_split (λ b. b == mark) text.entry.now) }
-{
-    text.split(|byte| *byte == mark).collect(alloc)
-}
+ghost use Rattle.std.specs.Prelude.{◌≡◌};
+ghost use Rattle.std.specs.List.{list_all};
+ghost use Rattle.masm_parse.specs.Classify.{is_letter, is_name_byte, is_name};
 
 // The case of the letters of a name.
 #[derive(Clone, Copy, Debug, PartialEq, Eq)]
@@ -44,7 +31,7 @@ fn are_name_bytes(case: Case, bytes: &[u8]) -> bool
 }
 
 // Whether a text is a name of 1 to 100 bytes.
-#[tactic(auto, unfolding(crate::specs::Words::is_name))]
+#[tactic(auto, unfolding(crate::specs::Classify::is_name))]
 pub(crate) fn is_name(case: Case, text: &[u8]) -> bool
     ensures { result ≡ is_name case text.now }
 {

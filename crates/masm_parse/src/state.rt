@@ -1,12 +1,12 @@
 ghost use Rattle.std.specs.Prelude.{◌≡◌, ◌∷◌, Bool, map, IfOk};
 ghost use Rattle.std.specs.Option.{option_map};
 ghost use Rattle.masm_instr.specs.declared.constant.Const.{Const};
-ghost use Rattle.masm_parse.specs.declared.sign.Sign.TheVariants as signs;
+ghost use Rattle.masm_parse.specs.declared.terminal.Terminal.TheVariants as terminals;
 ghost use Rattle.masm_parse.specs.Trees.{Empty, Leaf_then, append};
-ghost use Rattle.masm_parse.specs.Machine.{procedure, shut, closed, may_begin, Inside, turn, turn_statement, turn_else, turn_end, turn_inside, depth_of};
+ghost use Rattle.masm_parse.specs.Machine.{procedure, reduce, closed, may_begin, Inside, shift, shift_statement, shift_else, shift_end, shift_inside, depth_of};
 ghost use Rattle.masm_parse.specs.Views.{stmt_view, body_of, procedure_of, frame_view, frames_view, state_view};
 
-use crate::sign::{Header, Leaf, Role, Sign};
+use crate::terminal::{Header, Leaf, Role, Terminal};
 use crate::tree::{At, Proc, Stmt};
 use std::alloc::{AllocError, Global};
 
@@ -53,8 +53,8 @@ fn with_leaf(body: Vec<Stmt>, at: At, leaf: Leaf) -> Result<Vec<Stmt>, AllocErro
 
 // The statements behind the end of an open one.
 #[tactic(auto, using(crate::proofs::Mirror::mirror))]
-fn shut(alloc: Global, frame: Frame, body: Vec<Stmt>) -> Result<Vec<Stmt>, AllocError>
-    ensures { IfOk result (λ now. body_of now.items ≡ shut (frame_view frame) (body_of body.items)) }
+fn reduce(alloc: Global, frame: Frame, body: Vec<Stmt>) -> Result<Vec<Stmt>, AllocError>
+    ensures { IfOk result (λ now. body_of now.items ≡ reduce (frame_view frame) (body_of body.items)) }
 {
     match frame {
         Frame::If(at, before) => with(before, Stmt::If(at, body, Vec::new(alloc))),
@@ -106,14 +106,14 @@ fn open(
 }
 
 #[tactic(auto, using(crate::proofs::Mirror::mirror))]
-fn turn_else(
+fn shift_else(
     alloc: Global,
     procs: Vec<Proc>,
     header: Header,
     mut frames: Vec<Frame>,
     body: Vec<Stmt>,
 ) -> Result<Option<State>, AllocError>
-    ensures { IfOk result (λ now. option_map state_view now ≡ turn_else (map procedure_of procs.items) header (frames_view frames.items) (body_of body.items)) }
+    ensures { IfOk result (λ now. option_map state_view now ≡ shift_else (map procedure_of procs.items) header (frames_view frames.items) (body_of body.items)) }
 {
     match frames.pop() {
         Some(Frame::If(at, before)) => {
@@ -125,46 +125,46 @@ fn turn_else(
 }
 
 #[tactic(auto, using(crate::proofs::Mirror::mirror))]
-fn turn_end(
+fn shift_end(
     alloc: Global,
     procs: Vec<Proc>,
     header: Header,
     mut frames: Vec<Frame>,
     body: Vec<Stmt>,
 ) -> Result<Option<State>, AllocError>
-    ensures { IfOk result (λ now. option_map state_view now ≡ turn_end (map procedure_of procs.items) header (frames_view frames.items) (body_of body.items)) }
+    ensures { IfOk result (λ now. option_map state_view now ≡ shift_end (map procedure_of procs.items) header (frames_view frames.items) (body_of body.items)) }
 {
     match frames.pop() {
         None => Ok(Some(close(procs, header, body)?)),
         Some(frame) => {
-            let body = shut(alloc, frame, body)?;
+            let body = reduce(alloc, frame, body)?;
             Ok(Some(State::Inside(procs, header, frames, body)))
         }
     }
 }
 
 #[tactic(auto, using(crate::proofs::Mirror::mirror))]
-fn turn_inside(
+fn shift_inside(
     alloc: Global,
     procs: Vec<Proc>,
     header: Header,
     frames: Vec<Frame>,
     body: Vec<Stmt>,
-    sign: Sign,
+    terminal: Terminal,
 ) -> Result<Option<State>, AllocError>
-    ensures { IfOk result (λ now. option_map state_view now ≡ turn_inside (map procedure_of procs.items) header (frames_view frames.items) (body_of body.items) sign) }
+    ensures { IfOk result (λ now. option_map state_view now ≡ shift_inside (map procedure_of procs.items) header (frames_view frames.items) (body_of body.items) terminal) }
 {
-    let frame = match sign {
-        Sign::Const(_) | Sign::Header(_) => return Ok(None),
-        Sign::Leaf(at, leaf) => {
+    let frame = match terminal {
+        Terminal::Const(_) | Terminal::Header(_) => return Ok(None),
+        Terminal::Leaf(at, leaf) => {
             let body = with_leaf(body, at, leaf)?;
             return Ok(Some(State::Inside(procs, header, frames, body)));
         }
-        Sign::Else => return turn_else(alloc, procs, header, frames, body),
-        Sign::End => return turn_end(alloc, procs, header, frames, body),
-        Sign::If(at) => Frame::If(at, body),
-        Sign::While(at) => Frame::While(at, body),
-        Sign::Repeat(at, times) => Frame::Repeat(at, times, body),
+        Terminal::Else => return shift_else(alloc, procs, header, frames, body),
+        Terminal::End => return shift_end(alloc, procs, header, frames, body),
+        Terminal::If(at) => Frame::If(at, body),
+        Terminal::While(at) => Frame::While(at, body),
+        Terminal::Repeat(at, times) => Frame::Repeat(at, times, body),
     };
     let now = open(alloc, procs, header, frames, frame)?;
     Ok(Some(now))
@@ -196,8 +196,8 @@ impl State {
     }
 
     // The state behind a constant; none where that does not fit.
-    pub(crate) fn turn_constant(self) -> Option<State>
-        ensures { (kernel : Bool) (c : Const) → option_map state_view result ≡ turn kernel (state_view self) (signs.Const c) }
+    pub(crate) fn shift_constant(self) -> Option<State>
+        ensures { (kernel : Bool) (c : Const) → option_map state_view result ≡ shift kernel (state_view self) (terminals.Const c) }
     {
         match self {
             State::Top(procs) => Some(State::Top(procs)),
@@ -207,8 +207,8 @@ impl State {
 
     // The state behind a header.
     #[tactic(auto, using(crate::proofs::Mirror::mirror))]
-    pub(crate) fn turn_header(self, alloc: Global, kernel: bool, header: Header) -> Option<State>
-        ensures { option_map state_view result ≡ turn kernel (state_view self) (signs.Header header) }
+    pub(crate) fn shift_header(self, alloc: Global, kernel: bool, header: Header) -> Option<State>
+        ensures { option_map state_view result ≡ shift kernel (state_view self) (terminals.Header header) }
     {
         match self {
             State::Top(procs) if header.role.may_begin(kernel) => Some(State::Inside(
@@ -222,16 +222,16 @@ impl State {
     }
 
     // The state behind another token.
-    pub(crate) fn turn_statement(
+    pub(crate) fn shift_statement(
         self,
         alloc: Global,
-        sign: Sign,
+        terminal: Terminal,
     ) -> Result<Option<State>, AllocError>
-        ensures { IfOk result (λ now. option_map state_view now ≡ turn_statement (state_view self) sign) }
+        ensures { IfOk result (λ now. option_map state_view now ≡ shift_statement (state_view self) terminal) }
     {
         match self {
             State::Inside(procs, header, frames, body) => {
-                turn_inside(alloc, procs, header, frames, body, sign)
+                shift_inside(alloc, procs, header, frames, body, terminal)
             }
             _ => Ok(None),
         }

@@ -9,11 +9,11 @@ use Rattle.op_pack.proofs.CutLemmas.{IsFine, cut-zeros}
 use Rattle.op_pack.proofs.NoopLemmas.{Reads, kept, skipped}
 use Rattle.op_pack.proofs.PackLemmas.{first_rest-shorter}
 use Rattle.op_pack.proofs.RoundTripLemmas.{Each, first_read}
-use Rattle.op_pack.specs.Packing.{IsPlaceable, IsPackable, Placed, has_immediate, positions_of, with_immediate, fits, opens, placed, first_placed, zeros_behind, batch_of, batches_within, packed}
+use Rattle.op_pack.specs.Packing.{IsPackable, Placed, has_immediate, positions_of, with_immediate, fits, opens, placed, first_placed, zeros_behind, batch_of, batches_within, packed}
 use Rattle.op_pack.specs.Reading.{are_zero, positions_in_use, read_on, reading}
 use Rattle.op_pack.specs.RoundTrip.{is_noop, without_noops, read_batches, IsReadAs}
 use Rattle.vm_ops.specs.declared.item.Item.{Item}
-use Rattle.vm_ops.specs.declared.op.Op.TheVariants.{Push}
+use Rattle.vm_ops.specs.Items.{IsPackableItem}
 
 -- at most as many positions as are free
 length-with_immediate : (item : Item) (positions : List ℕ) → length (with_immediate item positions) ≡ positions_of item + length positions
@@ -48,7 +48,7 @@ within-next false true item items room free h e f =
     rw (e, f) (omega arith)
 within-next false false item items room free h e f = rw (e, f) (omega arith)
 
-length-placed : (items : List Item) (room free : ℕ) → length (placed room free items).positions ≤ free
+pub length-placed : (items : List Item) (room free : ℕ) → length (placed room free items).positions ≤ free
 length-placed [] room free = omega arith
 length-placed (item ∷ items) room free =
     within-next (fits room free item) (opens free item) item items room free (length-placed items) refl refl
@@ -81,14 +81,14 @@ used x xs h = go (are_zero xs) (are_zero (drop 1 xs)) (are_zero (drop 3 xs)) ref
     go false false true e f g = record { free = length (drop 3 xs); is = cut_behind 3 xs g }
     go false false false e f g = record { free = 0; is = append-nil (take 7 xs) ∙ take_all 7 xs h }
 
-fine-item : (item : Item) → IsPlaceable item → item.imm ≢ Some 0
+fine-item : (item : Item) → IsPackableItem item → item.imm ≢ Some 0
 fine-item item h = go item.imm h.immediate
   where
-    go : (imm : Option ℕ) → MatchOption imm (item.op ≢ Push) (λ value. (item.op ≡ Push) × (value ≢ 0)) → imm ≢ Some 0
+    go : (imm : Option ℕ) → MatchOption imm (Unit {0}) (λ value. value ≢ 0) → imm ≢ Some 0
     go None k = λ e. cc
-    go (Some value) k = λ e. k.1 cc
+    go (Some value) k = λ e. k cc
 
-fine-next : (noop : Bool) (item : Item) (items : List Item) → is_noop item ≡ noop → IsPlaceable item → IsFine (without_noops items)
+fine-next : (noop : Bool) (item : Item) (items : List Item) → is_noop item ≡ noop → IsPackableItem item → IsFine (without_noops items)
     → IsFine (without_noops (item ∷ items))
 fine-next true item items e h later = rw (skipped item items e) later
 fine-next false item items e h later = rw (kept item items e) (fine-item item h, later)
@@ -131,7 +131,7 @@ each-rest [] room free h = tt
 each-rest (item ∷ items) room free h =
     each-next (fits room free item) (opens free item) item items room free h (λ r f. each-rest items r f h.1) refl refl
 
-each-first : (items : List Item) → Each items → Each (first_placed items).rest
+pub each-first : (items : List Item) → Each items → Each (first_placed items).rest
 unfolding first_placed
 each-first items h = each-rest items 9 7 h
 
@@ -153,7 +153,7 @@ batches_read (suc n) (item ∷ items) h each =
           ∙ ap (λ (ys : List Item). without_noops first.read ++ ys) later.same ∙ first.same;
     }
 
-each-all : (items : List Item) → All IsPlaceable items → Each items
+pub each-all : (items : List Item) → All IsPackableItem items → Each items
 each-all [] h = tt
 each-all (item ∷ items) h = (h 0 item (omega arith), each-all items (λ k d l. h (suc k) d (omega arith)))
 

@@ -5,3 +5,5 @@ pub mod NoopLemmas
 pub mod RoundTripLemmas
 pub mod CutLemmas
 pub mod BatchLemmas
+pub mod OrdinaryLemmas
+pub mod PackedLemmas

@@ -6,14 +6,14 @@ use Rattle.op_pack.proofs.PackLemmas.{placed-fits, fits-first}
 use Rattle.op_pack.proofs.PlaceLemmas.{room-fits}
 use Rattle.op_pack.proofs.ReadLemmas.{read_on-plain, read_on-push}
 use Rattle.op_pack.specs.Digits.{go_on, next_group}
-use Rattle.op_pack.specs.Packing.{IsPlaceable, Placed, has_immediate, positions_of, with_immediate, fits, opens, put, new_group, full, placed, first_placed}
+use Rattle.op_pack.specs.Packing.{Placed, has_immediate, positions_of, with_immediate, fits, opens, put, new_group, full, placed, first_placed}
 use Rattle.op_pack.specs.Reading.{before, plain_digit, read_on}
 use Rattle.vm_ops.proofs.CodeLemmas.{code_of-different, op_at-code_of}
 use Rattle.vm_ops.specs.Codes.{code_of}
 use Rattle.vm_ops.specs.declared.item.Item.{Item}
 use Rattle.vm_ops.specs.declared.op.Op.{Op}
 use Rattle.vm_ops.specs.declared.op.Op.TheVariants.{Noop, Push}
-use Rattle.vm_ops.specs.Items.{plain_item, push_item}
+use Rattle.vm_ops.specs.Items.{plain_item, push_item, IsPackableItem}
 
 pub plain_digit-code_of : (op : Op) → plain_digit (code_of op) ≡ plain_item op
 plain_digit-code_of op = ap (λ o. plain_item (unwrap_or o Noop)) (op_at-code_of op)
@@ -48,15 +48,15 @@ reads-list o rest items others e h = rw e h
 
 -- an operation next in a group is read in front of what follows it
 put_as : (op : Op) (imm : Option ℕ) (items rest : List Item) (room number : ℕ) (positions : List ℕ)
-    → IsPlaceable (record { op = op; imm = imm }) → (has_immediate (record { op = op; imm = imm }) ≡ true → 0 < room)
+    → IsPackableItem (record { op = op; imm = imm }) → (has_immediate (record { op = op; imm = imm }) ≡ true → 0 < room)
     → Reads (go_on positions room number) rest items
     → Reads (read_on (with_immediate (record { op = op; imm = imm }) positions) (suc room) (code_of op + 128 * number)) rest
     (record { op = op; imm = imm } ∷ items)
 put_as op None items rest room number positions h some reads =
     let item : Item = record { op = op; imm = None } in
     let n : ℕ = code_of op + 128 * number in
-    let ordinary : code_of op < 70 = ltb-true (code_of op) 70 h.ordinary in
-    let other : code_of op ≢ 69 = λ e. h.immediate (code_of-different op Push e) in
+    let ordinary : code_of op < 70 = ltb-true (code_of op) 70 h.ordinary.ordinary in
+    let other : code_of op ≢ 69 = λ e. h.ordinary.immediate (code_of-different op Push e) in
     let plain : code_of op < 69 = omega arith in
     let same : with_immediate item positions ≡ positions = cond-false (has_immediate item) _ _ (lt-leb 69 (code_of op) plain) in
     let low : n % 128 ≡ code_of op = digit_of (code_of op) number (omega arith) in
@@ -70,7 +70,7 @@ put_as op None items rest room number positions h some reads =
 put_as op (Some value) items rest room number positions h some reads =
     let item : Item = record { op = op; imm = Some value } in
     let n : ℕ = code_of op + 128 * number in
-    let push : code_of op ≡ 69 = ap code_of h.immediate.0 in
+    let push : code_of op ≡ 69 = ap code_of h.ordinary.immediate.0 in
     let has : has_immediate item ≡ true = le-leb 69 (code_of op) (omega arith) in
     let taken : with_immediate item positions ≡ value ∷ positions = cond-true (has_immediate item) _ _ has in
     let low : n % 128 ≡ code_of op = digit_of (code_of op) number (omega arith) in
@@ -78,12 +78,12 @@ put_as op (Some value) items rest room number positions h some reads =
     let e : read_on (with_immediate item positions) (suc room) n ≡ before (push_item value) (read_on positions room number) =
     ap (λ (ps : List ℕ). read_on ps (suc room) n) taken ∙ read_on-push (value ∷ positions) room n (low ∙ push)
     ∙ ap (λ (m : ℕ). before (push_item value) (read_on positions room m)) high in
-    let is : item ≡ push_item value = ap (λ (o : Op). record { op = o; imm = Some value }) h.immediate.0 in
+    let is : item ≡ push_item value = ap (λ (o : Op). record { op = o; imm = Some value }) h.ordinary.immediate.0 in
     let open_group = kept_open positions room number rest items (some has) reads in
     reads-along _ _ rest _ e
     (reads-list _ rest _ _ (ap (λ (i : Item). i ∷ items) is) (reads-before (push_item value) _ rest items open_group))
 
-put_read : (item : Item) (items rest : List Item) (room number : ℕ) (positions : List ℕ) → IsPlaceable item
+put_read : (item : Item) (items rest : List Item) (room number : ℕ) (positions : List ℕ) → IsPackableItem item
     → (has_immediate item ≡ true → 0 < room) → Reads (go_on positions room number) rest items
     → Reads (read_on (with_immediate item positions) (suc room) (code_of item.op + 128 * number)) rest (item ∷ items)
 put_read item items rest room number positions h some reads = put_as item.op item.imm items rest room number positions h some reads
@@ -91,7 +91,7 @@ put_read item items rest room number positions h some reads = put_as item.op ite
 -- each item is one that a batch may hold
 abbrev pub Each : List Item → Type 0
 Each [] = Unit {0}
-Each (item ∷ items) = IsPlaceable item × Each items
+Each (item ∷ items) = IsPackableItem item × Each items
 
 with_immediate-append : (item : Item) (positions zeros : List ℕ) → with_immediate item positions ++ zeros ≡ with_immediate item (positions ++ zeros)
 with_immediate-append item positions zeros = go (has_immediate item)
@@ -110,7 +110,7 @@ push_room room free item e has =
     go false h k = cc
 
 -- an operation in the current group
-fitting : (item : Item) (items rest : List Item) (room number : ℕ) (positions : List ℕ) → IsPlaceable item → 0 < room
+fitting : (item : Item) (items rest : List Item) (room number : ℕ) (positions : List ℕ) → IsPackableItem item → 0 < room
     → (has_immediate item ≡ true → 0 < room - 1) → Reads (go_on positions (room - 1) number) rest items
     → Reads (go_on (with_immediate item positions) room (code_of item.op + 128 * number)) rest (item ∷ items)
 fitting item items rest room number positions h some push reads = go (n == 0) refl
@@ -141,14 +141,14 @@ abbrev ReadsPlaced : ℕ → List ℕ → List Item → Placed → Type 0
 ReadsPlaced room zeros items p = Reads (go_on (p.positions ++ zeros) room p.number) p.rest items
 
 -- an operation that opens a group, or that does not fit, with zeros behind it
-opening : (item : Item) (items : List Item) (q : Placed) (zeros : List ℕ) → IsPlaceable item → ReadsPlaced 8 zeros items q
+opening : (item : Item) (items : List Item) (q : Placed) (zeros : List ℕ) → IsPackableItem item → ReadsPlaced 8 zeros items q
     → Reads (read_on (with_immediate item q.positions ++ zeros) 9 (code_of item.op + 128 * q.number)) q.rest (item ∷ items)
 opening item items q zeros h reads =
     reads-along _ _ q.rest _
     (ap (λ (ps : List ℕ). read_on ps 9 (code_of item.op + 128 * q.number)) (with_immediate-append item q.positions zeros))
     (put_read item items q.rest 8 q.number (q.positions ++ zeros) h (λ has. lit< tt) reads)
 
-placed_next : (item : Item) (items : List Item) (room free z : ℕ) → IsPlaceable item
+placed_next : (item : Item) (items : List Item) (room free z : ℕ) → IsPackableItem item
     → ((r f : ℕ) → ReadsPlaced r (replicate z 0) items (placed r f items))
     → (b c : Bool) → fits room free item ≡ b → opens free item ≡ c
     → ReadsPlaced room (replicate z 0) (item ∷ items) (placed room free (item ∷ items))

@@ -4,7 +4,7 @@ use Rattle.op_pack.specs.declared.reading.Next.{Next}
 use Rattle.op_pack.specs.declared.reading.Next.TheVariants.{Goes, Ends, NoReading}
 use Rattle.op_pack.specs.declared.reading.Unread.{Unread}
 use Rattle.op_pack.specs.Reading.{before, read_on}
-use Rattle.vm_ops.specs.Items.{push_item}
+use Rattle.vm_ops.specs.Items.{push_item, IsOrdinaryItem}
 use Rattle.vm_ops.specs.declared.item.Item.{Item}
 
 -- what is still to be read
@@ -34,6 +34,12 @@ abbrev pub IsNext : Option (List Item) → ℕ → Next → Type 0
 IsNext reading size (Goes item later) = (reading ≡ before item (left_of later)) × (size_of later < size)
 IsNext reading size (Ends item) = reading ≡ Some (item ∷ [])
 IsNext reading size NoReading = reading ≡ None
+
+-- an operation that is read is an ordinary item
+abbrev pub IsOrdinaryNext : Next → Type 0
+IsOrdinaryNext (Goes item later) = IsOrdinaryItem item
+IsOrdinaryNext (Ends item) = IsOrdinaryItem item
+IsOrdinaryNext NoReading = Unit {0}
 
 -- what was read, in front of what is still to be read
 abbrev pub after_items : List Item → Option (List Item) → Option (List Item)

@@ -1,8 +1,9 @@
 -- How operations are placed into batches (docs/MACHINE.md, "Batches").
-use Rattle.std.specs.Prelude.{ℕ, zero, suc, ◌+◌, ◌-◌, ◌*◌, ◌≡◌, ◌≢◌, Bool, ◌&&◌, nat_lt, nat_le, if◌then◌else◌, List, [], ◌∷◌, ◌++◌, length, replicate, unwrap_or, IsTrue, MatchOption, All}
+use Rattle.std.specs.Prelude.{ℕ, zero, suc, ◌+◌, ◌-◌, ◌*◌, ◌≢◌, Bool, ◌&&◌, nat_lt, nat_le, if◌then◌else◌, List, [], ◌∷◌, ◌++◌, length, replicate, unwrap_or, All}
 use Rattle.vm_ops.specs.declared.item.Item.{Item}
-use Rattle.vm_ops.specs.Codes.{code_of, is_ordinary_op}
-use Rattle.vm_ops.specs.declared.op.Op.TheVariants.{Push}
+use Rattle.vm_ops.specs.Codes.{code_of}
+use Rattle.vm_ops.specs.Items.{IsPackableItem}
+use Rattle.op_pack.specs.Reading.{push_code}
 
 -- How a batch goes on from a place on: what is still to come of the current group's number, the positions from the next free
 -- one on, and the operations that open the next batch.
@@ -11,18 +12,13 @@ pub record Placed : Type 0 where
   pub positions : List ℕ
   pub rest : List Item
 
--- What a batch may hold: an ordinary operation, with an immediate exactly at PUSH, which is not 0.
-pub record IsPlaceable (item : Item) : Type 0 where
-  pub ordinary : IsTrue (is_ordinary_op item.op)
-  pub immediate : MatchOption item.imm (item.op ≢ Push) (λ value. (item.op ≡ Push) × (value ≢ 0))
-
--- some operations, all of which a batch may hold
+-- some operations, all of which can be packed
 pub record IsPackable (items : List Item) : Type 0 where
   pub some : items ≢ []
-  pub each : All IsPlaceable items
+  pub each : All IsPackableItem items
 
 abbrev pub has_immediate : Item → Bool
-has_immediate item = nat_le 69 (code_of item.op)
+has_immediate item = nat_le push_code (code_of item.op)
 
 -- how many positions an operation's immediate takes
 abbrev pub positions_of : Item → ℕ

@@ -1,6 +1,7 @@
-ghost use Rattle.std.specs.Prelude.{◌≡◌, ◌+◌, ◌⊎◌, IfOk};
-ghost use Rattle.op_pack.specs.Digits.{IsNext, left_of, size_of, go_on, pushed_on};
+ghost use Rattle.std.specs.Prelude.{◌≡◌, ◌+◌, ◌⊎◌, ◌<◌, All, IfOk, IfSome};
+ghost use Rattle.op_pack.specs.Digits.{IsNext, IsOrdinaryNext, left_of, size_of, go_on, pushed_on};
 ghost use Rattle.op_pack.specs.Reading.{are_zero, positions_in_use, before, plain_digit, reading};
+ghost use Rattle.vm_ops.specs.Items.{IsOrdinaryItem};
 
 use crate::group::{GROUP, PUSH};
 use std::alloc::Global;
@@ -52,7 +53,8 @@ pub(crate) enum Next<'a> {
 
 impl<'a> Unread<'a> {
     fn next(self) -> Next<'a>
-        ensures { IsNext (left_of self.entry) (size_of self.entry) result }
+        ensures is { IsNext (left_of self.entry) (size_of self.entry) result }
+        ensures ordinary { IsOrdinaryNext result }
     {
         if self.room == 0 {
             return Next::NoReading;
@@ -74,7 +76,9 @@ impl<'a> Unread<'a> {
 
     // Where the number is used up, the next position is the next group.
     fn after_plain(self, item: Item) -> Next<'a>
-        ensures { IsNext (before item (go_on self.entry.positions.now self.entry.room self.entry.number)) (size_of self.entry + 1) result }
+        requires { IsOrdinaryItem item }
+        ensures is { IsNext (before item (go_on self.entry.positions.now self.entry.room self.entry.number)) (size_of self.entry + 1) result }
+        ensures ordinary { IsOrdinaryNext result }
     {
         if self.number != 0 {
             return Next::Goes(item, self);
@@ -94,7 +98,8 @@ impl<'a> Unread<'a> {
 
     // PUSH takes the next position as its immediate.
     fn after_push(self) -> Next<'a>
-        ensures { IsNext (pushed_on self.entry.positions.now self.entry.room self.entry.number) (size_of self.entry + 1) result }
+        ensures is { IsNext (pushed_on self.entry.positions.now self.entry.room self.entry.number) (size_of self.entry + 1) result }
+        ensures ordinary { IsOrdinaryNext result }
     {
         match self.positions.split_first() {
             Some((position, later)) => Next::Goes(
@@ -111,7 +116,9 @@ impl<'a> Unread<'a> {
 }
 
 fn plain_digit(digit: u8) -> Item
-    ensures { result ≡ plain_digit digit }
+    requires { digit < 69 }
+    ensures is { result ≡ plain_digit digit }
+    ensures ordinary { IsOrdinaryItem result }
 {
     Item::plain(from_opcode(digit).unwrap_or(Op::Noop))
 }
@@ -121,6 +128,7 @@ fn plain_digit(digit: u8) -> Item
 #[tactic(auto, unfolding(crate::specs::Reading::reading))]
 pub fn unpack(alloc: Global, batch: &[Felt; 8]) -> Result<Option<Items>, Memory>
     ensures is { IfOk result (λ items. items ≡ reading batch.now) }
+    ensures ordinary { IfOk result (λ reading. IfSome reading (λ items. All IsOrdinaryItem items)) }
 {
     let mut items = Items::new(alloc);
     let elements = &batch[..];

@@ -39,35 +39,51 @@ fn items_of(alloc: Global, codes: &[u64]) -> Result<Items, Memory> {
     Ok(items)
 }
 
+// Whether these batches are those of these numbers.
+fn are_batches(batches: &[[Felt; 8]], numbers: &[[u64; 8]]) -> bool {
+    let mut same = batches.len() == numbers.len();
+    for (batch, row) in batches.iter().zip(numbers) {
+        same = same && *batch == elements(row);
+    }
+    same
+}
+
+// Whether operations are packed into these batches; none are not packed.
+fn packs(alloc: Global, codes: &[u64], numbers: &[[u64; 8]]) -> Result<bool, Memory> {
+    let items = items_of(alloc, codes)?;
+    if items.is_empty() {
+        return Ok(true);
+    }
+    let packed = pack(alloc, items.as_slice())?;
+    Ok(are_batches(packed.as_slice(), numbers))
+}
+
 #[test]
 fn packs_operations(rt: HostRuntime) -> Result<(), Fail> {
-    for (codes, batches) in PACKED {
-        let items = items_of(rt.alloc(), codes)?;
-        if items.is_empty() {
-            continue;
-        }
-        let packed = pack(rt.alloc(), items.as_slice())?;
-        assert_eq!(rt; packed.len(), batches.len());
-        for (batch, numbers) in packed.as_slice().iter().zip(batches) {
-            assert_eq!(rt; *batch, elements(numbers));
-        }
+    for row in &PACKED {
+        assert_eq!(rt; packs(rt.alloc(), row.0, row.1)?, true);
     }
     Ok(())
 }
 
+// Whether a batch is read as these operations, or has no reading as wanted.
+fn reads(alloc: Global, batch: &[Felt; 8], wanted: Option<&[u64]>) -> Result<bool, Memory> {
+    match (unpack(alloc, batch)?, wanted) {
+        (Some(items), Some(codes)) => {
+            let wanted = items_of(alloc, codes)?;
+            Ok(items.as_slice() == wanted.as_slice())
+        }
+        (None, None) => Ok(true),
+        _ => Ok(false),
+    }
+}
+
 #[test]
 fn reads_batches(rt: HostRuntime) -> Result<(), Fail> {
-    for (numbers, used, reading) in READ {
-        let batch = elements(&numbers);
-        assert_eq!(rt; in_use(&batch), used);
-        match (unpack(rt.alloc(), &batch)?, reading) {
-            (Some(items), Some(codes)) => {
-                let wanted = items_of(rt.alloc(), codes)?;
-                assert_eq!(rt; items.as_slice(), wanted.as_slice());
-            }
-            (None, None) => {}
-            _ => assert_eq!(rt; true, false),
-        }
+    for row in &READ {
+        let batch = elements(&row.0);
+        assert_eq!(rt; in_use(&batch), row.1);
+        assert_eq!(rt; reads(rt.alloc(), &batch, row.2)?, true);
     }
     Ok(())
 }

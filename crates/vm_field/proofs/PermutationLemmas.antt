@@ -68,7 +68,8 @@ pub elements-mixed : (x : List ℕ) → AreElements (mixed x)
 unfolding mixed
 elements-mixed x =
     elements-products
-    (rotated 0 x ∷ rotated 1 x ∷ rotated 2 x ∷ rotated 3 x ∷ rotated 4 x ∷ rotated 5 x ∷ rotated 6 x ∷ rotated 7 x ∷ rotated 8 x ∷ rotated 9 x ∷ rotated 10 x ∷ rotated 11 x ∷ [])
+    (rotated 0 x ∷ rotated 1 x ∷ rotated 2 x ∷ rotated 3 x ∷ rotated 4 x ∷ rotated 5 x
+    ∷ rotated 6 x ∷ rotated 7 x ∷ rotated 8 x ∷ rotated 9 x ∷ rotated 10 x ∷ rotated 11 x ∷ [])
 
 -- whatever is mapped, where the map gives elements
 elements-mapped : (f : ℕ → ℕ) → ((e : ℕ) → f e < prime) → (xs : List ℕ) → AreElements (map f xs)

@@ -1,7 +1,8 @@
 -- What a step keeps of a state, and how it moves the stack.
-use Rattle.std.proofs.Common.{◌≡◌, ◌≢◌, ℕ, zero, suc, ◌+◌, ◌-◌, ◌<◌, ◌≤◌, ◌⊎◌, inl, inr, false, List, [], ◌∷◌, ◌++◌, map, drop, length, replicate, None, Ok, slice_index, refl, ap, sym, ◌∙◌, arith, append-nil}
-use Rattle.std.proofs.lemmas.List.{drop-drop, drop_all, drop_at, drop_more, get_or_append_left, get_or-append_right, get_or-drop, get_or-map, get_or-take, get_or_past, length-append, length-replicate}
+use Rattle.std.proofs.Common.{◌≡◌, ◌≢◌, ℕ, zero, suc, ◌+◌, ◌-◌, ◌<◌, ◌≤◌, max, ◌⊎◌, inl, inr, false, List, [], ◌∷◌, ◌++◌, map, drop, length, replicate, None, Ok, slice_index, refl, ap, sym, ◌∙◌, arith, append-nil}
+use Rattle.std.proofs.lemmas.List.{drop-drop, drop_all, drop_at, drop_more, get_or_append_left, get_or-append_right, get_or-drop, get_or-map, get_or-take, get_or_past}
 use Rattle.std.proofs.lemmas.List.Elements.{All-get_or}
+use Rattle.vm_field.proofs.Elements.{length-filled_up}
 use Rattle.vm_field.specs.Machine.{State, filled_up, IsWellFormed}
 use Rattle.vm_ops.proofs.MoveLemmas.{ByOne, leaves_of-below, shift_of-by_one, sources_of-visible, takes_of-below}
 use Rattle.vm_ops.proofs.Sizing.{length-computed, length-left_cells}
@@ -111,7 +112,8 @@ drop-filled_up cells = go deep
     go (inl h) =
         let none : 16 - length cells ≡ 0 = omega arith in rw (none, append-nil cells) refl
     go (inr h) =
-        let short : length (filled_up cells) ≤ 16 = omega (arith, length-append cells (replicate (16 - length cells) 0), length-replicate {A = ℕ} (16 - length cells) 0) in
+        let size : length (filled_up cells) ≡ max 16 (length cells) = length-filled_up cells in
+        let short : length (filled_up cells) ≤ 16 = omega arith in
         drop_all 16 (filled_up cells) short ∙ sym (drop_all 16 cells (omega arith))
 
 drop_behind : (xs ys : List ℕ) (n k : ℕ) → length xs ≡ n → n ≤ k → drop k (xs ++ ys) ≡ drop (k - n) ys

@@ -3,6 +3,7 @@
 use Rattle.std.specs.Prelude.{ℕ, List, [], ◌∷◌, codes}
 use Rattle.vm_ops.specs.declared.op.Op.{Op}
 use Rattle.vm_ops.specs.declared.op.Op.TheVariants as ops
+use Rattle.vm_ops.specs.declared.table.Row as declared
 
 pub record Row : Type 0 where
   pub code : ℕ
@@ -97,3 +98,7 @@ row_of ops.End = row 76 (codes "END") 0 [] 0 0
 row_of ops.Repeat = row 77 (codes "REPEAT") 1 [] 0 0
 row_of ops.Respan = row 78 (codes "RESPAN") 0 [] 0 0
 row_of ops.Halt = row 79 (codes "HALT") 0 [] 0 0
+
+-- a row of the code, as one of this table
+abbrev pub row_in : declared.Row → Row
+row_in r = row r.code r.text.now r.takes r.sources.now r.computes r.advice

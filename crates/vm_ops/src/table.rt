@@ -1,5 +1,5 @@
 ghost use Rattle.std.specs.Prelude.{◌≡◌};
-ghost use Rattle.vm_ops.specs.Table.{row_of};
+ghost use Rattle.vm_ops.specs.Table.{row_in, row_of};
 
 use crate::op::Op;
 
@@ -137,12 +137,7 @@ pub(crate) const EVERY_OP: [Op; 80] = operations!(list_operations);
 // A caller that reads one part of it makes no row, where this is inlined.
 #[inline(always)]
 pub(crate) fn row_of(op: Op) -> Row
-    ensures code { result.code ≡ (row_of op).code }
-    ensures text { result.text.now ≡ (row_of op).text }
-    ensures takes { result.takes ≡ (row_of op).takes }
-    ensures sources { result.sources.now ≡ (row_of op).sources }
-    ensures computes { result.computes ≡ (row_of op).computes }
-    ensures advice { result.advice ≡ (row_of op).advice }
+    ensures { row_in result ≡ row_of op }
 {
     operations!(find_row op)
 }

@@ -2,7 +2,7 @@
 //! is its code, and behind that of PUSH stands the immediate.
 
 /// Operations, and the batches into which they are packed.
-pub const PACKED: [(&[u64], &[[u64; 8]]); 44] = [
+pub static PACKED: [(&[u64], &[[u64; 8]]); 44] = [
     (
         &[69, 2, 69, 3, 37, 69, 7],
         &[[145318597, 2, 3, 7, 0, 0, 0, 0]],
@@ -566,7 +566,7 @@ pub const PACKED: [(&[u64], &[[u64; 8]]); 44] = [
 ];
 
 /// Batches, how many of their positions are in use, and what they are read as.
-pub const READ: [([u64; 8], usize, Option<&[u64]>); 32] = [
+pub static READ: [([u64; 8], usize, Option<&[u64]>); 32] = [
     ([70, 0, 0, 0, 0, 0, 0, 0], 1, None),
     ([69, 0, 0, 0, 0, 0, 0, 0], 1, None),
     ([0, 0, 0, 0, 0, 0, 0, 0], 1, Some(&[0])),

@@ -1,6 +1,6 @@
 //! Constants for which permutations and digests were computed outside.
 
-pub const FIRST: [[u64; 12]; 7] = [
+pub static FIRST: [[u64; 12]; 7] = [
     [
         8359755829403592089,
         15956520908790614878,
@@ -101,7 +101,7 @@ pub const FIRST: [[u64; 12]; 7] = [
     ],
 ];
 
-pub const SECOND: [[u64; 12]; 7] = [
+pub static SECOND: [[u64; 12]; 7] = [
     [
         11609334717046878889,
         11389318553773406182,

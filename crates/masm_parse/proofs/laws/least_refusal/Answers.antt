@@ -1,5 +1,5 @@
-use Rattle.masm_parse.proofs.Least.{least_refusal, reads_once}
+use Rattle.masm_parse.proofs.Least.{least_refusal, parses_once}
 use Rattle.masm_parse.proofs.laws.least_refusal.Goals as goal
 
 pub returns : goal.returns
-returns c = record { answers = least_refusal; once = reads_once }
+returns c = record { answers = least_refusal; once = parses_once }

@@ -1,9 +1,6 @@
-use Rattle.std.proofs.Common.{◌<◌, length, subst}
-use Rattle.masm_lex.proofs.Parts.{tokens_are_parts}
+use Rattle.masm_parse.proofs.Ordering.{given_in_order}
 use Rattle.masm_parse.proofs.parsing.parse.Goals as goal
 
-pub step-requires : goal.step-requires
-step-requires c =
-    rw c.as_slice-items.ensures.items
-    (tokens_are_parts c.args.source.now c.args.tokens.now c.requires.tokens c.loop-token.token-index _
-    (subst (λ items. c.loop-token.token-index < length items) c.as_slice-items.ensures.items c.loop-token-test.true))
+pub returns-clause-order : goal.returns-clause-order
+returns-clause-order c =
+    given_in_order c.args.kernel c.args.source.now c.args.tokens.now c.read_tokens.result c.requires.tokens c.read_tokens.ensures

@@ -1,0 +1,63 @@
+use crate::refusal::Cause;
+use crate::tree::At;
+use masm_instr::{Const, Instr};
+use vm_field::Bytes;
+
+// What a header begins.
+#[derive(Clone, Copy, Debug, PartialEq, Eq)]
+pub(crate) enum Role {
+    Proc,
+    Export,
+    Main,
+}
+
+// A `proc`, `export` or `begin`.
+#[derive(Drop)]
+pub(crate) struct Header {
+    pub role: Role,
+    pub name: Bytes,
+    pub locals: u32,
+    pub at: At,
+}
+
+// How a statement names a procedure.
+#[derive(Clone, Copy, Debug, PartialEq, Eq)]
+pub(crate) enum Use {
+    Exec,
+    Call,
+    Syscall,
+}
+
+/// A statement that is one token.
+#[derive(Drop)]
+pub enum Leaf {
+    /// An instruction.
+    Instr(Instr),
+    /// The body of the procedure of this name.
+    Exec(Bytes),
+    /// A call of the procedure of this name.
+    Call(Bytes),
+    /// A call of the kernel's procedure of this name.
+    Syscall(Bytes),
+}
+
+// What a token is to the grammar.
+#[derive(Drop)]
+pub(crate) enum Terminal {
+    Const(Const),
+    Header(Header),
+    Leaf(At, Leaf),
+    If(At),
+    Else,
+    While(At),
+    Repeat(At, u32),
+    End,
+}
+
+// A token as it is read: its terminal, and the first cause for which it is refused by itself, wherever
+// it stands. A token that is refused has the terminal of its kind with empty names and zeros.
+#[derive(Drop)]
+pub(crate) struct Symbol {
+    pub terminal: Terminal,
+    pub fault: Option<Cause>,
+}

@@ -1,0 +1,93 @@
+-- Packed operations are batches: eight elements each, and at least one.
+use Rattle.std.proofs.Common.{◌≡◌, ◌≢◌, ℕ, zero, suc, ◌-◌, ◌^◌, ◌<◌, ◌≤◌, Bool, true, false, cond, List, [], ◌∷◌, length, replicate, unwrap_or, refl, arith, lit<}
+use Rattle.std.proofs.Math.Nat.{one-le-pow}
+use Rattle.std.proofs.lemmas.List.{length-append, length-replicate}
+use Rattle.std.proofs.lemmas.List.Elements.{All-append, All-cons, All-nil, All-replicate}
+use Rattle.std.specs.List.{All}
+use Rattle.op_pack.proofs.BatchLemmas.{each-all, each-first, length-placed}
+use Rattle.op_pack.proofs.PackLemmas.{packed-next}
+use Rattle.op_pack.proofs.PlaceLemmas.{below_next, room-fits}
+use Rattle.op_pack.proofs.RoundTripLemmas.{Each}
+use Rattle.op_pack.specs.Packing.{IsPackable, Placed, has_immediate, positions_of, with_immediate, fits, opens, put, new_group, full, placed, first_placed, zeros_behind, batch_of, batches_within, packed}
+use Rattle.op_pack.specs.Reading.{IsBatch}
+use Rattle.vm_field.specs.Field.{prime, AreElements}
+use Rattle.vm_ops.proofs.CodeLemmas.{code_of-below}
+use Rattle.vm_ops.proofs.RunLemmas.{immediate-below}
+use Rattle.vm_ops.specs.Codes.{code_of}
+use Rattle.vm_ops.specs.declared.item.Item.{Item}
+use Rattle.vm_ops.specs.Items.{IsPackableItem}
+
+-- a group's number, and elements behind it
+record IsSmall (room : ℕ) (p : Placed) : Type 0 where
+  number : p.number < 128 ^ room
+  positions : AreElements p.positions
+
+small-along : (room : ℕ) (p q : Placed) → p ≡ q → IsSmall room q → IsSmall room p
+small-along room p q e h = rw e h
+
+elements-with_immediate : (item : Item) (positions : List ℕ) → IsPackableItem item → AreElements positions → AreElements (with_immediate item positions)
+elements-with_immediate item positions h below = go (has_immediate item)
+  where
+    go : (has : Bool) → AreElements (cond has (unwrap_or item.imm 0 ∷ positions) positions)
+    go true = All-cons (λ e. e < prime) (unwrap_or item.imm 0) positions (immediate-below item h.ordinary) below
+    go false = below
+
+small-put : (room : ℕ) (item : Item) (p : Placed) → 0 < room → IsPackableItem item → IsSmall (room - 1) p → IsSmall room (put item p)
+small-put room item p some h small = record {
+  number = below_next room (code_of item.op) p.number some (code_of-below item.op) small.number;
+  positions = elements-with_immediate item p.positions h small.positions;
+}
+
+group-below : (number : ℕ) → number < 128 ^ 9 → number < prime
+group-below number h = omega arith
+
+small-group : (room : ℕ) (p : Placed) → IsSmall 9 p → IsSmall room (new_group p)
+small-group room p small = record {
+  number = one-le-pow room 128 (lit< tt);
+  positions = All-cons (λ e. e < prime) p.number p.positions (group-below p.number small.number) small.positions;
+}
+
+small-full : (room : ℕ) (items : List Item) → IsSmall room (full items)
+small-full room items = record { number = one-le-pow room 128 (lit< tt); positions = All-nil (λ e. e < prime) }
+
+small-next : (b c : Bool) (item : Item) (items : List Item) (room free : ℕ) → IsPackableItem item
+    → ((r f : ℕ) → IsSmall r (placed r f items)) → fits room free item ≡ b → opens free item ≡ c
+    → IsSmall room (placed room free (item ∷ items))
+small-next true c item items room free h later e f =
+    small-along room _ (put item (placed (room - 1) (free - positions_of item) items)) (rw e refl)
+    (small-put room item _ (room-fits room free item e) h (later (room - 1) (free - positions_of item)))
+small-next false true item items room free h later e f =
+    small-along room _ (new_group (put item (placed 8 (free - 1 - positions_of item) items))) (rw (e, f) refl)
+    (small-group room _ (small-put 9 item _ (lit< tt) h (later 8 (free - 1 - positions_of item))))
+small-next false false item items room free h later e f = small-along room _ (full (item ∷ items)) (rw (e, f) refl) (small-full room (item ∷ items))
+
+small-placed : (items : List Item) (room free : ℕ) → Each items → IsSmall room (placed room free items)
+small-placed [] room free each = small-full room []
+small-placed (item ∷ items) room free each =
+    small-next (fits room free item) (opens free item) item items room free each.0 (λ r f. small-placed items r f each.1) refl refl
+
+batch_of-IsBatch : (p : Placed) → length p.positions ≤ 7 → IsSmall 9 p → IsBatch (batch_of p)
+batch_of-IsBatch p few small = record {
+  size = (let count : length (zeros_behind 7 p.positions) ≡ 7 = rw (length-append, length-replicate) (omega arith) in omega arith);
+  below = All-cons (λ e. e < prime) p.number (zeros_behind 7 p.positions) (group-below p.number small.number)
+      (All-append (λ e. e < prime) p.positions (replicate (7 - length p.positions) 0) small.positions
+      (All-replicate (λ e. e < prime) (7 - length p.positions) 0 (lit< tt)));
+}
+
+first-IsBatch : (items : List Item) → Each items → IsBatch (batch_of (first_placed items))
+unfolding first_placed
+first-IsBatch items each = batch_of-IsBatch (placed 9 7 items) (length-placed items 9 7) (small-placed items 9 7 each)
+
+batches-IsBatch : (n : ℕ) (items : List Item) → Each items → All IsBatch (batches_within n items)
+batches-IsBatch zero items each = All-nil IsBatch
+batches-IsBatch (suc n) [] each = All-nil IsBatch
+batches-IsBatch (suc n) (item ∷ items) each =
+    All-cons IsBatch (batch_of (first_placed (item ∷ items))) (batches_within n (first_placed (item ∷ items)).rest)
+    (first-IsBatch (item ∷ items) each) (batches-IsBatch n (first_placed (item ∷ items)).rest (each-first (item ∷ items) each))
+
+pub packed-IsBatch : (items : List Item) → IsPackable items → All IsBatch (packed items)
+unfolding packed
+packed-IsBatch items h = batches-IsBatch (length items) items (each-all items h.each)
+
+pub packed-some : (items : List Item) → items ≢ [] → packed items ≢ []
+packed-some items some none = let next = packed-next items some in cc
