@@ -17,8 +17,8 @@ mod rows;
 
 use constants::{FIRST, SECOND};
 use rows::{
-    After, At, BITS, COPIES, FIELD, Gives, INPUTS, MEMORY, QUOTIENTS, Row, SWAPS, Sees, TURNS,
-    WORDS,
+    After, At, BITS, COPIES, FIELD, Gives, INPUTS, MEMORY, QUOTIENTS, Row, SWAPS, Sees, TRAPS,
+    TURNS, Trap, WORDS,
 };
 
 fn felt(number: u64) -> Felt {
@@ -103,8 +103,10 @@ fn item(row: &Row) -> Item
     requires { IsTrue (is_ordinary_op row.now.op) }
     ensures { IsOrdinaryItem result }
 {
+    let imm = felt(row.imm);
+    let _ = imm.value();
     if row.op == Op::Push {
-        Item::push(felt(row.imm))
+        Item::push(imm)
     } else {
         Item::plain(row.op)
     }
@@ -199,6 +201,30 @@ fn check_rows(rt: &impl Abort, alloc: Global, rows: &[Row]) -> Result<(), Memory
         check_row(rt, alloc, &params, row)?;
     }
     Ok(())
+}
+
+// Each operation traps so.
+fn check_traps(rt: &impl Abort, alloc: Global, traps: &[Trap]) -> Result<(), Memory> {
+    let params = params();
+    for trap in traps {
+        let Trap(op, stack, tape, cause) = *trap;
+        let row = Row {
+            op,
+            imm: 0,
+            at: At(7, 1, 1073741824, false),
+            sees: Sees::Stack,
+            stack,
+            tape,
+            gives: Gives::Trap(cause),
+        };
+        check_row(rt, alloc, &params, &row)?;
+    }
+    Ok(())
+}
+
+#[test]
+fn traps(rt: HostRuntime) -> Result<(), Memory> {
+    check_traps(&rt, rt.alloc(), &TRAPS)
 }
 
 #[test]

@@ -1,4 +1,4 @@
-ghost use Rattle.std.specs.Prelude.{◌≡◌, ℕ, ◌+◌, ◌≤◌, All};
+ghost use Rattle.std.specs.Prelude.{◌≡◌, ℕ, ◌+◌, ◌≤◌, All, IfSome};
 ghost use Rattle.block_tree.specs.Cycles as cycles;
 ghost use Rattle.block_tree.specs.Execution.{at_bit};
 ghost use Rattle.block_tree.specs.Trees as trees;
@@ -17,7 +17,7 @@ use crate::node::Node;
 use crate::refusal::Stop;
 use crate::setting::Setting;
 use op_pack::{Batches, unpack};
-use vm_field::{Felt, Word, known_elements};
+use vm_field::{Felt, Word};
 use vm_ops::{Item, Items};
 
 // The run of a block.
@@ -212,9 +212,9 @@ fn batch_operations(
     items: &Option<Items>,
 ) -> Result<(), Stop>
     requires read { items.now ≡ reading batch.now }
+    requires ordinary { IfSome items.now (λ items. All IsOrdinaryItem items) }
     ensures { Ran setting.now (read_operations_in setting.now (reading batch.now) (state_of runner.old.state)) runner.old.log result runner.new }
 {
-    known_elements(batch);
     match items {
         None => Ok(()),
         Some(items) => all_operations(runner, setting, items.as_slice()),

@@ -770,7 +770,7 @@ fn flagged(digest: Word, place: usize) -> [Felt; 8] {
     behind(digest, flags)
 }
 
-static NO_HASH: [Felt; 8] = [Felt::ZERO; 8];
+const NO_HASH: [Felt; 8] = [Felt::ZERO; 8];
 
 #[test]
 fn logs_spans_and_joins(rt: HostRuntime) {

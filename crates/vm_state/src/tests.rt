@@ -82,7 +82,10 @@ fn sets_cells_aside(rt: HostRuntime) -> Result<(), Fail> {
     state.bring_back(aside);
     assert_eq!(rt; state.depth(), 18);
     // behind the zero that came in
-    assert_eq!(rt; (state.peek(15), state.peek(16), state.peek(17)), (Felt::ZERO, element(15), element(16)));
+    assert_eq!(rt;
+        (state.peek(15), state.peek(16), state.peek(17)),
+        (Felt::ZERO, element(15), element(16))
+    );
     Ok(())
 }
 

@@ -9,6 +9,7 @@ mod inputs;
 mod memory;
 mod quotients;
 mod swaps;
+mod traps;
 mod turns;
 mod words;
 
@@ -19,10 +20,12 @@ pub use inputs::INPUTS;
 pub use memory::MEMORY;
 pub use quotients::QUOTIENTS;
 pub use swaps::SWAPS;
+pub use traps::TRAPS;
 pub use turns::TURNS;
 pub use words::WORDS;
 
 /// One operation on a state.
+#[derive(Clone, Copy)]
 pub struct Row {
     pub op: Op,
     pub imm: u64,
@@ -32,6 +35,10 @@ pub struct Row {
     pub tape: &'static [u64],
     pub gives: Gives,
 }
+
+/// An operation that traps: the cells on top, the tape, and the cause.
+#[derive(Clone, Copy)]
+pub struct Trap(pub Op, pub &'static [u64], pub &'static [u64], pub Cause);
 
 /// The clock, the context, the frame pointer, and whether a procedure of the kernel runs.
 #[derive(Clone, Copy)]
@@ -47,6 +54,7 @@ pub enum Sees {
 }
 
 /// What the operation gives.
+#[derive(Clone, Copy)]
 pub enum Gives {
     Left(After),
     Trap(Cause),

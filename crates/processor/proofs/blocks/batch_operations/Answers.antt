@@ -2,12 +2,8 @@ use Rattle.std.proofs.Common.{rules, ◌≡◌, None, ap}
 use Rattle.op_pack.specs.Reading.{reading}
 use Rattle.vm_state.specs.Views.{state_of}
 use Rattle.processor.specs.Settings.{read_operations_in}
-use Rattle.processor.proofs.ReadingLemmas.{reading-ordinary}
 use Rattle.processor.proofs.RunLemmas.{ran-along, ran-skip}
 use Rattle.processor.proofs.blocks.batch_operations.Goals as goal
-
-pub all_operations-requires : goal.all_operations-requires
-all_operations-requires c = record { ordinary = reading-ordinary c.args.batch.now c.as_slice.result.now c.known_elements.ensures (search rules) }
 
 pub returns-in-None : goal.returns-in-None
 returns-in-None c =
