@@ -20,8 +20,10 @@ use Rattle.miden_app.specs.Laws.{WritesOnly, StayBeside, OtherFilesStay, NoneWri
 abbrev Stayed : List (List ℕ) → Files → Option Files → Type 0
 Stayed outputs m now = (n : Files) × (now ≡ Some n) × StayBeside outputs m n
 
-put_beside : (outputs : List (List ℕ)) (m n : Files) (name bytes : List ℕ) → Contains outputs name → StayBeside outputs m n → StayBeside outputs m (insert n name bytes)
-put_beside outputs m n name bytes within stay other out = get_beside n name bytes other (λ same. out (subst (Contains outputs) (sym same) within)) ∙ stay other out
+put_beside : (outputs : List (List ℕ)) (m n : Files) (name bytes : List ℕ) → Contains outputs name → StayBeside outputs m n
+    → StayBeside outputs m (insert n name bytes)
+put_beside outputs m n name bytes within stay other out = get_beside n name bytes other (λ same. out (subst (Contains outputs) (sym same) within))
+    ∙ stay other out
 
 -- Steps without a fault.
 passes_stay : (outputs : List (List ℕ)) (first m : Files) (steps left : Steps) (told now : Option Files) → Passes steps told left now → WritesOnly outputs steps
@@ -34,7 +36,8 @@ passes_stay outputs first m steps left told now (past_write name right next byte
     (put_beside outputs first m name bytes only.0 stay)
 
 -- a front of a file that is written
-front_stays : (outputs : List (List ℕ)) (m : Files) (name : List ℕ) (left : Steps) (before now : Option Files) → FrontWritten name left before now → WritesOnly outputs left
+front_stays : (outputs : List (List ℕ)) (m : Files) (name : List ℕ) (left : Steps) (before now : Option Files) → FrontWritten name left before now
+    → WritesOnly outputs left
     → Stayed outputs m before → Stayed outputs m now
 front_stays outputs m name left before now front only (n, is, stay) =
     let bytes = take front.front front.bytes in
@@ -46,7 +49,8 @@ front_stays outputs m name left before now front only (n, is, stay) =
     its (ending end) writes only = absurd writes
 
 module _ (outputs : List (List ℕ)) (steps : Steps) (only : WritesOnly outputs steps) (m : Files) (old new : ShelfState) (is : old.files ≡ Some m) where
-  led : (P : Steps → Option Files → Type 0) → ((left : Steps) (now : Option Files) → P left now → WritesOnly outputs left → Stayed outputs m now → Stayed outputs m new.files)
+  led : (P : Steps → Option Files → Type 0)
+      → ((left : Steps) (now : Option Files) → P left now → WritesOnly outputs left → Stayed outputs m now → Stayed outputs m new.files)
       → Leads steps P old.files → Stayed outputs m new.files
   led P so h = let all = passes_stay outputs m m steps h.left old.files h.now h.passes only is (λ name out. refl) in so h.left h.now h.there all.1 all.0
 

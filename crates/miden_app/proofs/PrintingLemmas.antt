@@ -11,7 +11,8 @@ use Rattle.miden_app.specs.Steps.{Steps}
 use Rattle.miden_app.specs.Serving.{Leads, Works, GivesUp, Prints, Answers}
 use Rattle.miden_app.specs.Inside.Outcomes.{EndsIn, PrintStep, printed, refused, given_up}
 
-weaker : (told : Option Files) (steps : Steps) (P Q : Steps → Option Files → Type 0) → ((left : Steps) (now : Option Files) → P left now → Q left now) → Leads steps P told → Leads steps Q told
+weaker : (told : Option Files) (steps : Steps) (P Q : Steps → Option Files → Type 0) → ((left : Steps) (now : Option Files) → P left now → Q left now)
+    → Leads steps P told → Leads steps Q told
 weaker told steps P Q from h = record { left = h.left; now = h.now; passes = h.passes; there = from h.left h.now h.there }
 
 -- With the work done and no memory to print with, what was read and written stands.
@@ -40,7 +41,8 @@ prints failed_read steps a s old new before now works h = h
 prints failed_write steps a s old new before now works h = h
 
 -- A command's work and then its printing.
-pub serves_steps : (steps : Option Steps) (o : Outcome) (s : Status) (old new : ShelfState) (before now : SinkState) → EndsIn steps o old new → PrintStep o s before now
+pub serves_steps : (steps : Option Steps) (o : Outcome) (s : Status) (old new : ShelfState) (before now : SinkState) → EndsIn steps o old new
+    → PrintStep o s before now
     → Answers (kind_of s) steps s old new before now
 serves_steps steps o s old new before now h (printed a taken) =
     prints (kind_of a.status) steps a a.status old new before now h (record { line = a.line; works = h; taken = taken })

@@ -65,14 +65,16 @@ pub missing_ends : (name : List ℕ) (most : ℕ) (next : List ℕ → Steps) (o
 missing_ends name most next o old new same none is =
     refused_file name most next (ends_with status.Missing (named_line (codes "missing ") name)) o old new same refl (None, none, refl) is
 
-pub too_long_ends : (name : List ℕ) (most : ℕ) (next : List ℕ → Steps) (o : Outcome) (old new : ShelfState) → new ≡ old → Told old (λ m. IsSomeAnd (get m name) (λ bytes. most < length bytes))
+pub too_long_ends : (name : List ℕ) (most : ℕ) (next : List ℕ → Steps) (o : Outcome) (old new : ShelfState) → new ≡ old
+    → Told old (λ m. IsSomeAnd (get m name) (λ bytes. most < length bytes))
     → Says o status.TooLong (named_line (codes "too long ") name) → EndsIn (Some (reading name most next)) o old new
 too_long_ends name most next o old new same long is = refused_file name most next answer o old new same refl (told old.files long) is
   where
     answer : Answer
     answer = ends_with status.TooLong (named_line (codes "too long ") name)
 
-    file : (m : Files) (held : Option (List ℕ)) → get m name ≡ held → IsSomeAnd held (λ bytes. most < length bytes) → Concludes (reading name most next) (Some m) answer
+    file : (m : Files) (held : Option (List ℕ)) → get m name ≡ held → IsSomeAnd held (λ bytes. most < length bytes)
+        → Concludes (reading name most next) (Some m) answer
     file m None is h = absurd h
     file m (Some bytes) is h = (Some bytes, is, (h, refl))
 
@@ -96,7 +98,8 @@ read_fault_ends name most next o old new short f is =
       files = here (reading name most next) _ old.files (refl, f.files);
     }
 
-pub write_fault_ends : (name : List ℕ) (right : Right) (next : List ℕ → Steps) (bytes : List ℕ) (o : Outcome) (old new : ShelfState) → length name ≤ 200 → IsRight right bytes → WriteFails old new name bytes
+pub write_fault_ends : (name : List ℕ) (right : Right) (next : List ℕ → Steps) (bytes : List ℕ) (o : Outcome) (old new : ShelfState) → length name ≤ 200
+    → IsRight right bytes → WriteFails old new name bytes
     → Says o status.WriteFault (named_line (codes "write fault ") name) → EndsIn (Some (writing name right next)) o old new
 write_fault_ends name right next bytes o old new short fit f is =
     said (Some (writing name right next)) status.WriteFault _ o old new is (name, fails, refl) (inr (inr (name, fails)))
@@ -150,7 +153,8 @@ module _ (steps rest : Steps) (old mid : ShelfState) (counts : NoFault old mid)
   goes_further outcome.Memory new (inr (inr h)) = inr (inr (h.0, write_fails_further h.0 new h.1))
 
 -- a file that was read
-pub goes_past_read : (name : List ℕ) (most : ℕ) (next : List ℕ → Steps) (bytes : List ℕ) (old mid : ShelfState) → Reads old mid name most bytes → GoesOn (reading name most next) (next bytes) old mid
+pub goes_past_read : (name : List ℕ) (most : ℕ) (next : List ℕ → Steps) (bytes : List ℕ) (old mid : ShelfState) → Reads old mid name most bytes
+    → GoesOn (reading name most next) (next bytes) old mid
 goes_past_read name most next bytes old mid found =
     subst (GoesOn (reading name most next) (next bytes) old) (sym found.same)
     (goes_further (reading name most next) (next bytes) old old (no_fault old) past)
@@ -159,7 +163,8 @@ goes_past_read name most next bytes old mid found =
     past P h = record { left = h.left; now = h.now; passes = past_read name most next bytes found.file found.within h.passes; there = h.there }
 
 -- a file that was written
-pub goes_past_write : (name : List ℕ) (right : Right) (next : List ℕ → Steps) (bytes : List ℕ) (old mid : ShelfState) → IsRight right bytes → mid ≡ record old { files = with_file old.files name bytes }
+pub goes_past_write : (name : List ℕ) (right : Right) (next : List ℕ → Steps) (bytes : List ℕ) (old mid : ShelfState) → IsRight right bytes
+    → mid ≡ record old { files = with_file old.files name bytes }
     → GoesOn (writing name right next) (next bytes) old mid
 goes_past_write name right next bytes old mid fit is =
     subst (GoesOn (writing name right next) (next bytes) old) (sym is)

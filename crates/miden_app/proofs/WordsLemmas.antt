@@ -45,7 +45,8 @@ value_of_first wanted mode word words = go mode
     first None parts = refl
     first (Some part) parts = refl
 
-    go : (mode : Mode) → value_of wanted (parts_from mode (word ∷ words)) ≡ option_or (value_in_part wanted (part_in mode word)) (value_of wanted (parts_from (mode_behind mode word) words))
+    go : (mode : Mode)
+        → value_of wanted (parts_from mode (word ∷ words)) ≡ option_or (value_in_part wanted (part_in mode word)) (value_of wanted (parts_from (mode_behind mode word) words))
     go anything = first (part_in anything word) (parts_from (mode_behind anything word) words)
     go positionals = first (part_in positionals word) (parts_from positionals words)
     go (value_comes name) = first (part_in (value_comes name) word) (parts_from anything words)
@@ -64,7 +65,8 @@ pub value_behind : (wanted : List ℕ) (mode : Mode) (word : Vec ℕ Global) (wo
 value_behind wanted mode word words none = sym (value_of_first wanted mode word.items (texts words) ∙ ap (λ o. option_or o (value_of wanted (parts_from (mode_behind mode word.items) (texts words)))) none)
 
 -- the same of words whose first is known by its place
-pub value_further : (wanted : List ℕ) (mode next : Mode) (slice : List ℕ) (word : Vec ℕ Global) (rest : List (Vec ℕ Global)) → 1 ≤ length rest → word ≡ get_or rest 0 word → slice ≡ word.items
+pub value_further : (wanted : List ℕ) (mode next : Mode) (slice : List ℕ) (word : Vec ℕ Global) (rest : List (Vec ℕ Global)) → 1 ≤ length rest
+    → word ≡ get_or rest 0 word → slice ≡ word.items
     → None ≡ value_in_part wanted (part_in mode slice) → next ≡ mode_behind mode slice
     → value_of wanted (parts_from next (texts (take (length rest - 1) (drop 1 rest)))) ≡ value_of wanted (parts_from mode (texts rest))
 value_further wanted mode next slice word [] some is same none behind = absurd (omega arith)
@@ -77,7 +79,8 @@ value_further wanted mode next slice word (v ∷ vs) some is same none behind =
     slices : slice ≡ v.items
     slices = same ∙ ap (λ (w : Vec ℕ Global). w.items) is
 
-pub value_here : (wanted : List ℕ) (mode : Mode) (slice value : List ℕ) (word : Vec ℕ Global) (rest : List (Vec ℕ Global)) → 1 ≤ length rest → word ≡ get_or rest 0 word → slice ≡ word.items
+pub value_here : (wanted : List ℕ) (mode : Mode) (slice value : List ℕ) (word : Vec ℕ Global) (rest : List (Vec ℕ Global)) → 1 ≤ length rest
+    → word ≡ get_or rest 0 word → slice ≡ word.items
     → Some value ≡ value_in_part wanted (part_in mode slice) → Some value ≡ value_of wanted (parts_from mode (texts rest))
 value_here wanted mode slice value word [] some is same found = absurd (omega arith)
 value_here wanted mode slice value word (v ∷ vs) some is same found =

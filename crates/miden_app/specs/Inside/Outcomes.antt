@@ -44,6 +44,7 @@ SaysLine o s (Err e) = o ≡ outcome.Memory
 
 -- What printing a command's line leaves. A status other than the command's own says that the sink or memory failed.
 pub data PrintStep : Outcome → Status → SinkState → SinkState → Type 0 where
-  printed : (a : Answer) {before now : SinkState} → now ≡ record before { taken = with_piece before.taken a.line } → PrintStep (outcome.Ends a) a.status before now
+  printed : (a : Answer) {before now : SinkState} → now ≡ record before { taken = with_piece before.taken a.line }
+      → PrintStep (outcome.Ends a) a.status before now
   refused : (a : Answer) {before now : SinkState} → SinkFails before now a.line → PrintStep (outcome.Ends a) status.SinkFault before now
   given_up : (o : Outcome) {before now : SinkState} → now ≡ before → PrintStep o status.Memory before now

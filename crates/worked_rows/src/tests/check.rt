@@ -13,7 +13,10 @@ static ROWS: [Row; 15] = [
     },
     Row {
         words: &["check", "t"],
-        files: &[("t", Content::Strip(&[(4, [1, 2, 0]), (37, [2, 2, 0]), (79, [4, 0, 0])], 564))],
+        files: &[(
+            "t",
+            Content::Strip(&[(4, [1, 2, 0]), (37, [2, 2, 0]), (79, [4, 0, 0])], 564),
+        )],
         failing_call: 0,
         failing_write: 0,
         number: 0,
@@ -21,7 +24,10 @@ static ROWS: [Row; 15] = [
     },
     Row {
         words: &["check", "t"],
-        files: &[("t", Content::Strip(&[(4, [1, 2, 0]), (37, [2, 2, 0]), (79, [5, 0, 0])], 564))],
+        files: &[(
+            "t",
+            Content::Strip(&[(4, [1, 2, 0]), (37, [2, 2, 0]), (79, [5, 0, 0])], 564),
+        )],
         failing_call: 0,
         failing_write: 0,
         number: 1,
@@ -61,7 +67,10 @@ static ROWS: [Row; 15] = [
     },
     Row {
         words: &["check", "t"],
-        files: &[("t", Content::Strip(&[(4, [1, 2, 0]), (37, [2, 2, 0]), (79, [4, 0, 0])], 564))],
+        files: &[(
+            "t",
+            Content::Strip(&[(4, [1, 2, 0]), (37, [2, 2, 0]), (79, [4, 0, 0])], 564),
+        )],
         failing_call: 1,
         failing_write: 0,
         number: 7,
@@ -69,7 +78,10 @@ static ROWS: [Row; 15] = [
     },
     Row {
         words: &["check", "t"],
-        files: &[("t", Content::Strip(&[(4, [1, 2, 0]), (37, [2, 2, 0]), (79, [4, 0, 0])], 564))],
+        files: &[(
+            "t",
+            Content::Strip(&[(4, [1, 2, 0]), (37, [2, 2, 0]), (79, [4, 0, 0])], 564),
+        )],
         failing_call: 2,
         failing_write: 0,
         number: 0,
@@ -77,7 +89,10 @@ static ROWS: [Row; 15] = [
     },
     Row {
         words: &["check", "t"],
-        files: &[("t", Content::Strip(&[(4, [1, 2, 0]), (37, [2, 2, 0]), (79, [4, 0, 0])], 564))],
+        files: &[(
+            "t",
+            Content::Strip(&[(4, [1, 2, 0]), (37, [2, 2, 0]), (79, [4, 0, 0])], 564),
+        )],
         failing_call: 0,
         failing_write: 1,
         number: 9,
@@ -85,7 +100,10 @@ static ROWS: [Row; 15] = [
     },
     Row {
         words: &["check"],
-        files: &[("t", Content::Strip(&[(4, [1, 2, 0]), (37, [2, 2, 0]), (79, [4, 0, 0])], 564))],
+        files: &[(
+            "t",
+            Content::Strip(&[(4, [1, 2, 0]), (37, [2, 2, 0]), (79, [4, 0, 0])], 564),
+        )],
         failing_call: 0,
         failing_write: 0,
         number: 2,
@@ -93,7 +111,10 @@ static ROWS: [Row; 15] = [
     },
     Row {
         words: &["check", "--", "t"],
-        files: &[("t", Content::Strip(&[(4, [1, 2, 0]), (37, [2, 2, 0]), (79, [4, 0, 0])], 564))],
+        files: &[(
+            "t",
+            Content::Strip(&[(4, [1, 2, 0]), (37, [2, 2, 0]), (79, [4, 0, 0])], 564),
+        )],
         failing_call: 0,
         failing_write: 0,
         number: 2,
@@ -101,7 +122,10 @@ static ROWS: [Row; 15] = [
     },
     Row {
         words: &["--help"],
-        files: &[("t", Content::Strip(&[(4, [1, 2, 0]), (37, [2, 2, 0]), (79, [4, 0, 0])], 564))],
+        files: &[(
+            "t",
+            Content::Strip(&[(4, [1, 2, 0]), (37, [2, 2, 0]), (79, [4, 0, 0])], 564),
+        )],
         failing_call: 0,
         failing_write: 0,
         number: 2,
@@ -109,7 +133,10 @@ static ROWS: [Row; 15] = [
     },
     Row {
         words: &["check"],
-        files: &[("t", Content::Strip(&[(4, [1, 2, 0]), (37, [2, 2, 0]), (79, [4, 0, 0])], 564))],
+        files: &[(
+            "t",
+            Content::Strip(&[(4, [1, 2, 0]), (37, [2, 2, 0]), (79, [4, 0, 0])], 564),
+        )],
         failing_call: 0,
         failing_write: 1,
         number: 9,
@@ -117,7 +144,10 @@ static ROWS: [Row; 15] = [
     },
     Row {
         words: &[],
-        files: &[("t", Content::Strip(&[(4, [1, 2, 0]), (37, [2, 2, 0]), (79, [4, 0, 0])], 564))],
+        files: &[(
+            "t",
+            Content::Strip(&[(4, [1, 2, 0]), (37, [2, 2, 0]), (79, [4, 0, 0])], 564),
+        )],
         failing_call: 0,
         failing_write: 0,
         number: 2,

@@ -6,7 +6,10 @@ static ROWS: [Row; 22] = [
     // The second constant of element 4 in the last round is 2^7.
     Row {
         words: &["hash", "z", "--", "n"],
-        files: &[("z", Content::Lines(168, 161, "128")), ("n", Content::Lines(8, 0, ""))],
+        files: &[
+            ("z", Content::Lines(168, 161, "128")),
+            ("n", Content::Lines(8, 0, "")),
+        ],
         failing_call: 0,
         failing_write: 0,
         number: 0,
@@ -14,7 +17,10 @@ static ROWS: [Row; 22] = [
     },
     Row {
         words: &["hash", "z", "n"],
-        files: &[("z", Content::Lines(168, 161, "128")), ("n", Content::Lines(8, 0, ""))],
+        files: &[
+            ("z", Content::Lines(168, 161, "128")),
+            ("n", Content::Lines(8, 0, "")),
+        ],
         failing_call: 0,
         failing_write: 0,
         number: 0,
@@ -22,7 +28,10 @@ static ROWS: [Row; 22] = [
     },
     Row {
         words: &["hash", "z", "n"],
-        files: &[("z", Content::Lines(168, 161, "128")), ("n", Content::Lines(16, 0, ""))],
+        files: &[
+            ("z", Content::Lines(168, 161, "128")),
+            ("n", Content::Lines(16, 0, "")),
+        ],
         failing_call: 0,
         failing_write: 0,
         number: 0,
@@ -30,7 +39,10 @@ static ROWS: [Row; 22] = [
     },
     Row {
         words: &["hash", "z", "n"],
-        files: &[("z", Content::Lines(168, 0, "")), ("n", Content::Lines(8, 0, ""))],
+        files: &[
+            ("z", Content::Lines(168, 0, "")),
+            ("n", Content::Lines(8, 0, "")),
+        ],
         failing_call: 0,
         failing_write: 0,
         number: 0,
@@ -38,7 +50,10 @@ static ROWS: [Row; 22] = [
     },
     Row {
         words: &["hash", "z", "n"],
-        files: &[("z", Content::Lines(168, 0, "")), ("n", Content::Lines(7, 0, ""))],
+        files: &[
+            ("z", Content::Lines(168, 0, "")),
+            ("n", Content::Lines(7, 0, "")),
+        ],
         failing_call: 0,
         failing_write: 0,
         number: 10,
@@ -46,7 +61,10 @@ static ROWS: [Row; 22] = [
     },
     Row {
         words: &["hash", "z", "n"],
-        files: &[("z", Content::Lines(168, 0, "")), ("n", Content::Lines(0, 0, ""))],
+        files: &[
+            ("z", Content::Lines(168, 0, "")),
+            ("n", Content::Lines(0, 0, "")),
+        ],
         failing_call: 0,
         failing_write: 0,
         number: 10,
@@ -54,7 +72,10 @@ static ROWS: [Row; 22] = [
     },
     Row {
         words: &["hash", "z", "n"],
-        files: &[("z", Content::Lines(168, 0, "")), ("n", Content::Lines(9, 3, "-1"))],
+        files: &[
+            ("z", Content::Lines(168, 0, "")),
+            ("n", Content::Lines(9, 3, "-1")),
+        ],
         failing_call: 0,
         failing_write: 0,
         number: 10,
@@ -62,7 +83,10 @@ static ROWS: [Row; 22] = [
     },
     Row {
         words: &["hash", "z", "n"],
-        files: &[("z", Content::Lines(167, 0, "")), ("n", Content::Lines(7, 0, ""))],
+        files: &[
+            ("z", Content::Lines(167, 0, "")),
+            ("n", Content::Lines(7, 0, "")),
+        ],
         failing_call: 0,
         failing_write: 0,
         number: 10,
@@ -70,7 +94,10 @@ static ROWS: [Row; 22] = [
     },
     Row {
         words: &["hash", "z", "n"],
-        files: &[("z", Content::Lines(168, 5, "01")), ("n", Content::Lines(8, 0, ""))],
+        files: &[
+            ("z", Content::Lines(168, 5, "01")),
+            ("n", Content::Lines(8, 0, "")),
+        ],
         failing_call: 0,
         failing_write: 0,
         number: 10,
@@ -78,7 +105,10 @@ static ROWS: [Row; 22] = [
     },
     Row {
         words: &["hash", "z", "n"],
-        files: &[("z", Content::Lines(169, 0, "")), ("n", Content::Lines(8, 0, ""))],
+        files: &[
+            ("z", Content::Lines(169, 0, "")),
+            ("n", Content::Lines(8, 0, "")),
+        ],
         failing_call: 0,
         failing_write: 0,
         number: 10,
@@ -86,7 +116,10 @@ static ROWS: [Row; 22] = [
     },
     Row {
         words: &["hash", "--", "z", "n"],
-        files: &[("z", Content::Lines(168, 0, "")), ("n", Content::Lines(8, 0, ""))],
+        files: &[
+            ("z", Content::Lines(168, 0, "")),
+            ("n", Content::Lines(8, 0, "")),
+        ],
         failing_call: 0,
         failing_write: 0,
         number: 0,
@@ -94,7 +127,10 @@ static ROWS: [Row; 22] = [
     },
     Row {
         words: &["hash", "z", "n", "--"],
-        files: &[("z", Content::Lines(168, 0, "")), ("n", Content::Lines(8, 0, ""))],
+        files: &[
+            ("z", Content::Lines(168, 0, "")),
+            ("n", Content::Lines(8, 0, "")),
+        ],
         failing_call: 0,
         failing_write: 0,
         number: 0,
@@ -102,7 +138,10 @@ static ROWS: [Row; 22] = [
     },
     Row {
         words: &["hash", "--", "z", "--", "n"],
-        files: &[("z", Content::Lines(168, 0, "")), ("n", Content::Lines(8, 0, ""))],
+        files: &[
+            ("z", Content::Lines(168, 0, "")),
+            ("n", Content::Lines(8, 0, "")),
+        ],
         failing_call: 0,
         failing_write: 0,
         number: 2,
@@ -110,7 +149,10 @@ static ROWS: [Row; 22] = [
     },
     Row {
         words: &["hash", "z"],
-        files: &[("z", Content::Lines(168, 0, "")), ("n", Content::Lines(8, 0, ""))],
+        files: &[
+            ("z", Content::Lines(168, 0, "")),
+            ("n", Content::Lines(8, 0, "")),
+        ],
         failing_call: 0,
         failing_write: 0,
         number: 2,
@@ -118,7 +160,10 @@ static ROWS: [Row; 22] = [
     },
     Row {
         words: &["hash", "z", "n", "--limit=3"],
-        files: &[("z", Content::Lines(168, 0, "")), ("n", Content::Lines(8, 0, ""))],
+        files: &[
+            ("z", Content::Lines(168, 0, "")),
+            ("n", Content::Lines(8, 0, "")),
+        ],
         failing_call: 0,
         failing_write: 0,
         number: 2,
@@ -126,7 +171,10 @@ static ROWS: [Row; 22] = [
     },
     Row {
         words: &["hash", "z", "m"],
-        files: &[("z", Content::Lines(168, 0, "")), ("n", Content::Lines(8, 0, ""))],
+        files: &[
+            ("z", Content::Lines(168, 0, "")),
+            ("n", Content::Lines(8, 0, "")),
+        ],
         failing_call: 0,
         failing_write: 0,
         number: 6,
@@ -150,7 +198,10 @@ static ROWS: [Row; 22] = [
     },
     Row {
         words: &["hash", "z", "n"],
-        files: &[("z", Content::Lines(168, 0, "")), ("n", Content::Lines(8, 0, ""))],
+        files: &[
+            ("z", Content::Lines(168, 0, "")),
+            ("n", Content::Lines(8, 0, "")),
+        ],
         failing_call: 2,
         failing_write: 0,
         number: 7,
@@ -159,7 +210,10 @@ static ROWS: [Row; 22] = [
     // 4,096 bytes, and two more
     Row {
         words: &["hash", "z", "n"],
-        files: &[("z", Content::Lines(2048, 0, "")), ("n", Content::Lines(8, 0, ""))],
+        files: &[
+            ("z", Content::Lines(2048, 0, "")),
+            ("n", Content::Lines(8, 0, "")),
+        ],
         failing_call: 0,
         failing_write: 0,
         number: 10,
@@ -167,7 +221,10 @@ static ROWS: [Row; 22] = [
     },
     Row {
         words: &["hash", "z", "n"],
-        files: &[("z", Content::Lines(2049, 0, "")), ("n", Content::Lines(8, 0, ""))],
+        files: &[
+            ("z", Content::Lines(2049, 0, "")),
+            ("n", Content::Lines(8, 0, "")),
+        ],
         failing_call: 0,
         failing_write: 0,
         number: 11,
@@ -176,7 +233,10 @@ static ROWS: [Row; 22] = [
     // 262,146 bytes
     Row {
         words: &["hash", "z", "n"],
-        files: &[("z", Content::Lines(168, 0, "")), ("n", Content::Lines(131073, 0, ""))],
+        files: &[
+            ("z", Content::Lines(168, 0, "")),
+            ("n", Content::Lines(131073, 0, "")),
+        ],
         failing_call: 0,
         failing_write: 0,
         number: 11,

@@ -41,9 +41,11 @@ fn holds(alloc: Global, row: &Row) -> Result<bool, Memory> {
     }
     let words = words_of(alloc, row.words)?;
     let status = serve(alloc, words.as_slice(), &mut shelf, &mut sink, &OpenGate);
-    Ok(status.number() == row.number
-        && sink.taken() == row.printed.as_bytes()
-        && files_stand(alloc, &shelf, row.files)?)
+    Ok(
+        status.number() == row.number
+            && sink.taken() == row.printed.as_bytes()
+            && files_stand(alloc, &shelf, row.files)?,
+    )
 }
 
 fn shelf_of(alloc: Global, row: &Row) -> Result<MemShelf, Memory> {
