@@ -5,6 +5,7 @@ use Rattle.std.proofs.lemmas.List.Elements.{All-nil, All-cons, All-append, All-r
 use Rattle.vm_field.specs.Field.{prime, AreElements}
 use Rattle.vm_field.specs.Machine.{Core, State, IsWord, IsWellFormedCore, zero_word, word_at}
 use Rattle.vm_field.proofs.Elements.{word-zero}
+use Rattle.vm_ops.specs.Codes.{accesses_memory}
 use Rattle.vm_ops.specs.declared.op.Op.{Op}
 use Rattle.vm_ops.specs.declared.op.Op.TheVariants.{Noop}
 use Rattle.vm_ops.specs.Values.{advice_of}
@@ -12,7 +13,7 @@ use Rattle.op_pack.specs.Reading.{IsBatch}
 use Rattle.block_tree.specs.Cycles.{Mark, StartOpaque, StartSpan, StartJoin, StartSplit, StartLoop, StartCall, StartSyscall, Respan, Repeat, Do, End, EndSpan, EndLoop, EndCall, EndSyscall, top, advice_taken}
 use Rattle.block_tree.specs.Marks.{IsWholeMark}
 use Rattle.block_tree.specs.RowLaws.{core_after}
-use Rattle.block_tree.specs.Rows.{op_of, hash_of, is_memory, accessed, behind, four_of}
+use Rattle.block_tree.specs.Rows.{op_of, hash_of, accessed, behind, four_of}
 use Rattle.block_tree.specs.Steps.{IsCycle}
 
 pub word-of : (a b c d : ℕ) → a < prime → b < prime → c < prime → d < prime → IsWord (a ∷ b ∷ c ∷ d ∷ [])
@@ -69,7 +70,7 @@ word-cond false v w hv hw = hw
 
 pub accessed-word : (mark : Mark) (before after : Core) → IsWellFormedCore after → IsWord (accessed mark before after)
 accessed-word mark before after h =
-    word-cond (is_memory (op_of mark)) (word_at after.memory before.context (top before)) zero_word (h.words before.context (top before)) word-zero
+    word-cond (accesses_memory (op_of mark)) (word_at after.memory before.context (top before)) zero_word (h.words before.context (top before)) word-zero
 
 pub shown-behind : (constants : List ℕ) (kernel : List (List ℕ)) (limit : ℕ) (mark : Mark) (s t : State) → IsCycle constants kernel limit mark s t
     → (accessed mark s.core (core_after constants kernel mark s) ≡ accessed mark s.core t.core) × (top (core_after constants kernel mark s) ≡ top t.core)

@@ -15,7 +15,8 @@ use Rattle.op_steps.specs.declared.refusal.StepStop.TheVariants as step_stop
 use Rattle.vm_state.specs.Views.{core_of, state_of}
 use Rattle.vm_state.specs.declared.state.State.{State}
 use Rattle.processor.specs.Effects.{Effected}
-use Rattle.processor.specs.Events.{hash_of, op_of, shown_between, visible_of}
+use Rattle.block_tree.specs.Rows.{hash_of, op_of}
+use Rattle.processor.specs.Events.{shown_between, visible_of}
 use Rattle.processor.specs.Marks.{mark_of}
 use Rattle.processor.specs.Running.{Ran, RanAs, shown_in, stop_at}
 use Rattle.processor.specs.Settings.{constants_in, cycle_in}

@@ -20,7 +20,8 @@ use Rattle.op_steps.specs.declared.refusal.StepStop.{StepStop}
 use Rattle.op_steps.specs.declared.refusal.StepStop.TheVariants as step_stop
 use Rattle.vm_state.specs.Views.{core_of, state_of}
 use Rattle.vm_state.specs.declared.state.State.{State}
-use Rattle.processor.specs.Events.{four_of, visible_of}
+use Rattle.block_tree.specs.Rows.{four_of}
+use Rattle.processor.specs.Events.{visible_of}
 use Rattle.processor.specs.Running.{Ran, RanAs, stop_at}
 use Rattle.processor.specs.Settings.{constants_in, cycle_in}
 use Rattle.processor.specs.declared.cycle.Runner.{Runner}

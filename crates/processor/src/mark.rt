@@ -1,6 +1,6 @@
 ghost use Rattle.std.specs.Prelude.{◌≡◌, ◌++◌, ◌<◌, slice_set};
 ghost use Rattle.vm_field.specs.Machine.{zero_word};
-ghost use Rattle.processor.specs.Events.{hash_of, op_of};
+ghost use Rattle.block_tree.specs.Rows.{hash_of, op_of};
 ghost use Rattle.processor.specs.Marks.{mark_of};
 
 use crate::batch::Batch;
