@@ -2,23 +2,23 @@
 //! and the same chain of 72 products for the seventh roots, taken side by side.
 use std::time::Instant;
 
-const PRIME: u64 = 18446744069414584321;
+pub const PRIME: u64 = 18446744069414584321;
 
 const ROW: [u64; 12] = [7, 23, 8, 26, 13, 10, 9, 7, 6, 22, 21, 8];
 
-type State = [u64; 12];
+pub type State = [u64; 12];
 
-struct Params {
-    first: [State; 7],
-    second: [State; 7],
+pub struct Params {
+    pub first: [State; 7],
+    pub second: [State; 7],
 }
 
-fn add(a: u64, b: u64) -> u64 {
+pub fn add(a: u64, b: u64) -> u64 {
     let room = PRIME - b;
     if a < room { a + b } else { a - room }
 }
 
-fn mul(a: u64, b: u64) -> u64 {
+pub fn mul(a: u64, b: u64) -> u64 {
     let product = a as u128 * b as u128;
     let low = product as u64;
     let high = (product >> 64) as u64;
@@ -80,7 +80,7 @@ fn seventh_roots(x: &State) -> State {
     squared_times(&high, 2, &low)
 }
 
-fn permute(params: &Params, mut state: State) -> State {
+pub fn permute(params: &Params, mut state: State) -> State {
     for (first, second) in params.first.iter().zip(&params.second) {
         state = mixed(&state);
         state = seventh_powers(&std::array::from_fn(|i| add(state[i], first[i])));

@@ -18,8 +18,8 @@ use Rattle.masm_parse.specs.declared.tree.At.{At}
 use Rattle.masm_parse.specs.declared.tree.Ast.{Ast}
 use Rattle.masm_parse.specs.Grammar.{constants}
 use Rattle.masm_parse.specs.Machine.{State, Top, Inside, Behind, Reader, start, shift, settled, moved, at_of, step, ended, parse_from, parsed}
-use Rattle.masm_parse.specs.Order.{IsBefore, const_places, procedure_places, IsInOrder, TreesAreInOrder}
-use Rattle.masm_parse.specs.Trees.{Source}
+use Rattle.masm_parse.specs.Order.{IsBefore, body_places, place_of, procedure_places, main_places, const_places, IsInOrder, TreesAreInOrder, ProceduresAscend}
+use Rattle.masm_parse.specs.Trees.{Procedure, Source}
 use Rattle.masm_parse.specs.Views.{source_of, Gives}
 use Rattle.masm_parse.specs.Classify.{Context, known_after, classify}
 use Rattle.masm_parse.proofs.Fitting.{same_tree}
@@ -147,3 +147,37 @@ pub given_in_order : (kernel : Bool) (text : List ℕ) (tokens : List Token) (an
     → Gives answer (parsed kernel text tokens) → IfOk answer (λ ast. IsInOrder (source_of ast))
 given_in_order kernel text tokens (Ok ast) read is = trees_are_in_order kernel text tokens (source_of ast) read is
 given_in_order kernel text tokens (Err error) read is = tt
+
+-- the places behind others
+each_behind : (P : At → Type 0) (xs ys : List At) → AllByRecursion P (xs ++ ys) → AllByRecursion P ys
+each_behind P [] ys h = h
+each_behind P (x ∷ xs) ys h = each_behind P xs ys h.1
+
+ascends_behind : (xs ys : List At) → Ascends IsBefore (xs ++ ys) → Ascends IsBefore ys
+ascends_behind [] ys h = h
+ascends_behind (x ∷ xs) ys h = ascends_behind xs ys h.1
+
+-- and those in front of others
+each_before : (P : At → Type 0) (xs ys : List At) → AllByRecursion P (xs ++ ys) → AllByRecursion P xs
+each_before P [] ys h = tt
+each_before P (x ∷ xs) ys h = (h.0, each_before P xs ys h.1)
+
+ascends_before : (xs ys : List At) → Ascends IsBefore (xs ++ ys) → Ascends IsBefore xs
+ascends_before [] ys h = tt
+ascends_before (x ∷ xs) ys h = (each_before (IsBefore x) xs ys h.0, ascends_before xs ys h.1)
+
+-- the places of procedures without those of their statements
+each_procedure : (P : At → Type 0) (procs : List Procedure) → AllByRecursion P (procs_places procs) → AllByRecursion P (map place_of procs)
+each_procedure P [] h = tt
+each_procedure P (p ∷ procs) h = (h.0, each_procedure P procs (each_behind P (body_places p.body) (procs_places procs) h.1))
+
+procedures_ascend_in : (procs : List Procedure) → Ascends IsBefore (procs_places procs) → Ascends IsBefore (map place_of procs)
+procedures_ascend_in [] h = tt
+procedures_ascend_in (p ∷ procs) h = (
+  each_procedure (IsBefore (place_of p)) procs (each_behind (IsBefore (place_of p)) (body_places p.body) (procs_places procs) h.0),
+  procedures_ascend_in procs (ascends_behind (body_places p.body) (procs_places procs) h.1),
+)
+
+pub procedures_ascend : ProceduresAscend
+procedures_ascend source h =
+    procedures_ascend_in source.procs (ascends_before (procs_places source.procs) (main_places source.main) h.procs)

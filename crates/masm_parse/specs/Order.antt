@@ -20,9 +20,12 @@ body_places (If_then at first second rest) = at ∷ (body_places first ++ (body_
 body_places (While_then at body rest) = at ∷ (body_places body ++ body_places rest)
 body_places (Repeat_then at times body rest) = at ∷ (body_places body ++ body_places rest)
 
+abbrev pub place_of : Procedure → At
+place_of p = record { line = p.line; column = p.column }
+
 -- the place of a procedure, and those of its statements
 abbrev pub procedure_places : Procedure → List At
-procedure_places p = record { line = p.line; column = p.column } ∷ body_places p.body
+procedure_places p = place_of p ∷ body_places p.body
 
 abbrev pub main_places : Option Procedure → List At
 main_places None = []
@@ -45,3 +48,7 @@ abbrev pub TreesAreInOrder : Type 0
 TreesAreInOrder =
     (kernel : Bool) (text : List ℕ) (tokens : List Token) (source : Source) → lexed text ≡ Ok tokens
     → parsed kernel text tokens ≡ Ok source → IsInOrder source
+
+-- so its procedures alone ascend
+abbrev pub ProceduresAscend : Type 0
+ProceduresAscend = (source : Source) → IsInOrder source → Ascends IsBefore (map place_of source.procs)

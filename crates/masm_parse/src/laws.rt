@@ -1,5 +1,5 @@
 ghost use Rattle.masm_parse.specs.Locals.{LocalsFit};
-ghost use Rattle.masm_parse.specs.Order.{TreesAreInOrder};
+ghost use Rattle.masm_parse.specs.Order.{TreesAreInOrder, ProceduresAscend};
 ghost use Rattle.masm_parse.specs.Refusals.{LeastRefusal, ParsesOnce};
 
 /// The parser's answer is the tree that the tokens spell where no token is refused, and else the
@@ -16,7 +16,9 @@ pub fn locals_fit()
 
 /// The constants of a tree stand in it in the order of its source, and so do its procedures, with
 /// `begin` behind them, and all their statements: each place is an earlier line, or an earlier
-/// column of the same line, than those that come behind it.
+/// column of the same line, than those that come behind it. So of two procedures of one name the
+/// first in the tree is the first in the source.
 pub fn trees_are_in_order()
-    ensures { TreesAreInOrder }
+    ensures trees { TreesAreInOrder }
+    ensures procedures { ProceduresAscend }
 {}

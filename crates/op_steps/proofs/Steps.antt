@@ -10,13 +10,14 @@ use Rattle.vm_ops.specs.declared.item.Item.{Item}
 use Rattle.vm_ops.specs.declared.op.Op.{Op}
 use Rattle.vm_ops.specs.declared.op.Op.TheVariants.{Noop, MStore, MStoreW, FmpUpdate}
 use Rattle.vm_ops.specs.declared.op.Shift.TheVariants.{Right}
+use Rattle.vm_ops.specs.Codes.{writes_memory}
 use Rattle.vm_ops.specs.Moves.{takes_of, leaves_of, shift_of}
 use Rattle.vm_ops.specs.Step.{performed, unless_trapped, act, ticked, cycle_taking, step, left_cells, stack_after, seen}
 use Rattle.vm_ops.specs.Values.{Seen, advice_of, trap_of, written, fmp_after, computed, is_u32, unless}
 use Rattle.op_steps.proofs.Places.{placed, grown}
 use Rattle.op_steps.specs.Outcomes.{cells_unless, outcome, outcome_at, seen_of}
 use Rattle.op_steps.specs.Places.{shifted}
-use Rattle.op_steps.specs.Steps.{IsQuiet, writes_memory}
+use Rattle.op_steps.specs.Steps.{IsQuiet}
 
 abbrev later : ℕ → List ℕ → Core → State
 later n tape c = record { core = record c { clock = c.clock + 1 }; tape = drop n tape }

@@ -1,26 +1,13 @@
 -- What the answer of a step says of the machine's step.
-use Rattle.std.specs.Prelude.{◌≡◌, Bool, true, false, ◌≢◌, Result, Ok, Err, IsTrue, MatchOption}
+use Rattle.std.specs.Prelude.{◌≡◌, false, ◌≢◌, Result, Ok, Err}
 use Rattle.vm_field.specs.Machine.{State}
 use Rattle.vm_ops.specs.declared.cause.Cause.{Cause}
-use Rattle.vm_ops.specs.declared.item.Item.{Item}
 use Rattle.vm_ops.specs.declared.op.Op.{Op}
-use Rattle.vm_ops.specs.declared.op.Op.TheVariants.{Push, MStore, MStoreW}
 use Rattle.vm_ops.specs.declared.op.Shift.TheVariants.{Right}
-use Rattle.vm_ops.specs.Codes.{is_ordinary_op}
+use Rattle.vm_ops.specs.Codes.{writes_memory}
 use Rattle.vm_ops.specs.Moves.{shift_of}
 use Rattle.op_steps.specs.declared.refusal.StepStop.{StepStop}
 use Rattle.op_steps.specs.declared.refusal.StepStop.TheVariants.{Trap, Memory}
-
--- an ordinary operation, with an immediate exactly at PUSH
-pub record IsOrdinaryItem (item : Item) : Type 0 where
-  pub ordinary : IsTrue (is_ordinary_op item.op)
-  pub immediate : MatchOption item.imm (item.op ≢ Push) (λ value. item.op ≡ Push)
-
--- the operations that write memory
-abbrev pub writes_memory : Op → Bool
-writes_memory MStore = true
-writes_memory MStoreW = true
-writes_memory op = false
 
 -- an operation that neither shifts to the right nor writes memory
 pub record IsQuiet (op : Op) : Type 0 where

@@ -2,30 +2,19 @@ ghost use Rattle.std.specs.Prelude.{◌≡◌, ◌<◌, ◌≤◌, ◌^◌, ℕ,
 ghost use Rattle.rpo_hash.specs.Constants.{constants_of};
 ghost use Rattle.vm_field.specs.Machine.{word_at};
 ghost use Rattle.vm_field.specs.Permutation.{permuted};
+ghost use Rattle.vm_ops.specs.Codes.{writes_memory};
 ghost use Rattle.vm_ops.specs.Moves.{leaves_of};
 ghost use Rattle.vm_ops.specs.Values.{advice_of};
 ghost use Rattle.vm_state.specs.Views.{state_of};
 ghost use Rattle.op_steps.specs.Outcomes.{outcome, outcome_at, reads_more, seen_of};
-ghost use Rattle.op_steps.specs.Steps.{writes_memory};
 
 use crate::cells::Cells;
 use crate::on_stack::on_stack;
 use crate::words::number;
 use rpo_hash::{Params, permute};
 use vm_field::Felt;
-use vm_ops::{Cause, Item, Op};
+use vm_ops::{Cause, Item, Op, advice};
 use vm_state::State;
-
-// How many elements of the tape an operation takes.
-pub(crate) fn advice_taken(op: Op) -> usize
-    ensures { result ≡ advice_of op }
-{
-    match op {
-        Op::AdvPop => 1,
-        Op::AdvPopW => 4,
-        _ => 0,
-    }
-}
 
 // The cells that an operation leaves on top of this state's stack, or its trap, of one that writes
 // no memory.
@@ -36,7 +25,7 @@ pub(crate) fn left_cells(params: &Params, item: &Item, state: &State) -> Result<
     ensures count { IfOk result (λ left. length left ≡ leaves_of item.now.op) }
     ensures sixteen { IfOk result (λ left. 16 ≤ length state.now.stack) }
 {
-    if state.advice_left() < advice_taken(item.op) {
+    if state.advice_left() < advice(item.op) {
         Err(Cause::AdviceEmpty)
     } else {
         on_state(params, item, state)

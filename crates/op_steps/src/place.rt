@@ -4,9 +4,8 @@ ghost use Rattle.vm_ops.specs.Values.{advice_of};
 ghost use Rattle.op_steps.specs.Places.{shifted};
 
 use crate::cells::Cells;
-use crate::left::advice_taken;
 use vm_field::Felt;
-use vm_ops::{Op, Shift, shift};
+use vm_ops::{Op, Shift, advice, shift};
 use vm_state::State;
 
 // Writes cells over the top of the stack.
@@ -42,7 +41,7 @@ pub(crate) fn settle(op: Op, left: &Cells, state: &mut State)
 {
     shift_left(op, state);
     overwrite(state, left.as_slice());
-    skip_advice(state, advice_taken(op));
+    skip_advice(state, advice(op));
     state.clock += 1;
 }
 

@@ -1,20 +1,21 @@
 ghost use Rattle.std.specs.Prelude.{◌≡◌, ◌≢◌, ◌≤◌, ◌↔◌, ℕ, List, IsTrue};
 ghost use Rattle.rpo_hash.specs.Constants.{constants_of};
+ghost use Rattle.vm_ops.specs.Items.{IsOrdinaryItem};
 ghost use Rattle.vm_ops.specs.Moves.{shift_of};
 ghost use Rattle.vm_ops.specs.Step.{seen, step};
 ghost use Rattle.vm_ops.specs.Values.{fmp_after};
 ghost use Rattle.vm_ops.specs.declared.item.Item.{Item};
 ghost use Rattle.vm_state.specs.Views.{core_of, state_of};
-ghost use Rattle.op_steps.specs.Steps.{IsOrdinaryItem, IsQuiet, Stepped, SteppedQuietly};
+ghost use Rattle.op_steps.specs.Steps.{IsQuiet, Stepped, SteppedQuietly};
 
 use crate::left::left_cells;
 use crate::place::settle;
 use crate::refusal::StepStop;
-use crate::storing::{step_storing, writes_memory};
+use crate::storing::step_storing;
 use rpo_hash::Params;
 use std::alloc::Global;
 use vm_field::Felt;
-use vm_ops::{Cause, Item, Op, Shift, shift};
+use vm_ops::{Cause, Item, Op, Shift, shift, writes_memory};
 use vm_state::State;
 
 /// One cycle of an ordinary operation. The clock grows by one. At a trap and at `Memory` the state

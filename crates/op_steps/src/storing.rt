@@ -1,25 +1,16 @@
 ghost use Rattle.std.specs.Prelude.{◌≡◌, ◌≤◌, ◌<◌, ◌^◌, ℕ, true, List, [], Some, slice_index};
+ghost use Rattle.vm_ops.specs.Codes.{writes_memory};
 ghost use Rattle.vm_ops.specs.Step.{seen, step};
 ghost use Rattle.vm_ops.specs.Values.{written};
 ghost use Rattle.vm_ops.specs.declared.item.Item.{Item};
 ghost use Rattle.vm_state.specs.Views.{core_of, state_of};
-ghost use Rattle.op_steps.specs.Steps.{writes_memory, Stepped};
+ghost use Rattle.op_steps.specs.Steps.{Stepped};
 
 use crate::left::address;
 use crate::refusal::StepStop;
 use vm_field::Felt;
 use vm_ops::{Item, Op};
 use vm_state::State;
-
-// Whether the operation writes memory.
-pub(crate) fn writes_memory(op: Op) -> bool
-    ensures { result ≡ writes_memory op }
-{
-    match op {
-        Op::MStore | Op::MStoreW => true,
-        _ => false,
-    }
-}
 
 // One cycle of an operation that writes memory.
 #[tactic(auto, using(crate::proofs::Steps::stored, crate::proofs::Steps::stored_outside))]

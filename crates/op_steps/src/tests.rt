@@ -1,6 +1,6 @@
 ghost use Rattle.std.specs.Prelude.{◌≡◌, ◌≤◌, IfOk, IsTrue, length};
 ghost use Rattle.vm_ops.specs.Codes.{is_ordinary_op};
-ghost use Rattle.op_steps.specs.Steps.{IsOrdinaryItem};
+ghost use Rattle.vm_ops.specs.Items.{IsOrdinaryItem};
 
 use crate::refusal::StepStop;
 use crate::stepping::{is_quiet, step, step_quiet};

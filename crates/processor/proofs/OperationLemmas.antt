@@ -9,6 +9,7 @@ use Rattle.vm_ops.specs.declared.cause.Cause.TheVariants.{AddressRange}
 use Rattle.vm_ops.specs.declared.item.Item.{Item}
 use Rattle.vm_ops.specs.declared.op.Op.{Op}
 use Rattle.vm_ops.specs.declared.op.Op.TheVariants.{MLoad, MLoadW, MStore, MStoreW}
+use Rattle.vm_ops.specs.Codes.{accesses_memory}
 use Rattle.vm_ops.specs.Step.{act, performed, seen, step, unless_trapped}
 use Rattle.vm_ops.specs.Values.{Seen, advice_of, cell, is_u32, trap_of, unless}
 use Rattle.block_tree.specs.Cycles.{Do, top}
@@ -19,7 +20,7 @@ use Rattle.op_steps.specs.declared.refusal.StepStop.{StepStop}
 use Rattle.op_steps.specs.declared.refusal.StepStop.TheVariants as step_stop
 use Rattle.vm_state.specs.Views.{core_of, state_of}
 use Rattle.vm_state.specs.declared.state.State.{State}
-use Rattle.processor.specs.Events.{four_of, is_memory, visible_of}
+use Rattle.processor.specs.Events.{four_of, visible_of}
 use Rattle.processor.specs.Running.{Ran, RanAs, stop_at}
 use Rattle.processor.specs.Settings.{constants_in, cycle_in}
 use Rattle.processor.specs.declared.cycle.Runner.{Runner}
@@ -38,7 +39,7 @@ unless-true true cause e = refl
 unless-true false cause e = cc
 
 -- a memory operation that does not trap has an address on top
-fits : (op : Op) (s : Seen) → trap_of op s ≡ None → IsTrue (is_memory op) → cell s 0 < 2 ^ 32
+fits : (op : Op) (s : Seen) → trap_of op s ≡ None → IsTrue (accesses_memory op) → cell s 0 < 2 ^ 32
 unfolding trap_of
 fits MLoad s e h = ltb-true (cell s 0) (2 ^ 32) (unless-true (is_u32 (cell s 0)) AddressRange e)
 fits MLoadW s e h = ltb-true (cell s 0) (2 ^ 32) (unless-true (is_u32 (cell s 0)) AddressRange e)
@@ -47,7 +48,7 @@ fits MStoreW s e h = ltb-true (cell s 0) (2 ^ 32) (unless-true (is_u32 (cell s 0
 fits _ s e h = cc
 
 module _ (constants : List ℕ) (item : Item) (state : State) where
-  step-fits : (t : machine.State) → step constants item (state_of state) ≡ Ok t → IsTrue (is_memory item.op)
+  step-fits : (t : machine.State) → step constants item (state_of state) ≡ Ok t → IsTrue (accesses_memory item.op)
       → slice_index (take 16 state.stack) 0 < 2 ^ 32
   unfolding act
   step-fits t e h = from (taking-inv (state.clock + 1) (Do item) (advice_of item.op) (act constants item) (state_of state) t _ (taking-ok (state.clock + 1) (Do item) (advice_of item.op) (act constants item) (state_of state) t (omega arith) e))
@@ -62,7 +63,7 @@ module _ (constants : List ℕ) (item : Item) (state : State) where
   step-enough t e = (taking-inv (state.clock + 1) (Do item) (advice_of item.op) (act constants item) (state_of state) t _ (taking-ok (state.clock + 1) (Do item) (advice_of item.op) (act constants item) (state_of state) t (omega arith) e)).enough
 
   pub address-fits : (t : machine.State) (visible : Visible) → visible ≡ visible_of (core_of state) → step constants item (state_of state) ≡ Ok t
-      → IsTrue (is_memory item.op) → slice_index visible.cells 0 < 4294967296
+      → IsTrue (accesses_memory item.op) → slice_index visible.cells 0 < 4294967296
   address-fits t visible is e h = rw is (step-fits t e h)
 
 module _ (setting : Setting) (item : Item) (before : State) where
@@ -82,16 +83,16 @@ module _ (setting : Setting) (item : Item) (before : State) where
   operation-stop {log} {after} stop mid visible stopped began is e = rw (is, began.0) (record { answer = stop-as log after mid stop began.1 e })
 
   -- the word at the address on top
-  same_word : (after : Core) → (if is_memory item.op then word_at after.memory before.context (slice_index (take 16 before.stack) 0) else zero_word)
-      ≡ (if is_memory item.op then word_at after.memory before.context (top (core_of before)) else zero_word)
-  same_word after = ap (λ x. if is_memory item.op then word_at after.memory before.context x else zero_word) (get_or-take 16 before.stack 0 0 (omega arith))
+  same_word : (after : Core) → (if accesses_memory item.op then word_at after.memory before.context (slice_index (take 16 before.stack) 0) else zero_word)
+      ≡ (if accesses_memory item.op then word_at after.memory before.context (top (core_of before)) else zero_word)
+  same_word after = ap (λ x. if accesses_memory item.op then word_at after.memory before.context x else zero_word) (get_or-take 16 before.stack 0 0 (omega arith))
 
   -- the cycle was done
   pub operation-done : {log : List Event} {after : Runner} {u : Unit {0}} (visible : Visible) (tape word : List ℕ) (result : ℕ)
       → (visible ≡ visible_of (core_of before)) × (before.clock < setting.limit)
       → step (constants_in setting) item (state_of before) ≡ Ok (state_of after.state)
       → (advice_of item.op ≤ length before.tape → tape ≡ four_of (take (advice_of item.op) before.tape))
-      → word ≡ (if is_memory item.op then word_at after.state.memory visible.context (slice_index visible.cells 0) else zero_word)
+      → word ≡ (if accesses_memory item.op then word_at after.state.memory visible.context (slice_index visible.cells 0) else zero_word)
       → result ≡ top (core_of after.state)
       → after.log ≡ log ++ (record { op = item.op; before = visible; imm = item.imm; tape = tape; word = word; hash = zero_word ++ zero_word; result = result }) ∷ []
       → Ran setting (cycle_in setting (Do item) (state_of before)) log (Ok u) after

@@ -2,14 +2,15 @@
 use Rattle.std.proofs.Common.{◌≡◌, ℕ, zero, suc, ◌/◌, ◌%◌, ◌<◌, Bool, true, false, cond, ltb, eqb, List, [], ◌∷◌, drop, take, slice_index, Option, Some, None, unwrap_or, refl, ap, subst, arith}
 use Rattle.std.specs.List.{All}
 use Rattle.std.proofs.lemmas.Bool.{ltb-true, lt-ltb}
-use Rattle.std.proofs.lemmas.List.Elements.{All-nil, All-cons}
+use Rattle.std.proofs.lemmas.List.Elements.{All-nil, All-cons, All-head, All-tail}
 use Rattle.op_pack.specs.Reading.{before, plain_digit, positions_in_use, push_code, read_last, read_more, read_on, reading}
-use Rattle.op_steps.specs.Steps.{IsOrdinaryItem}
 use Rattle.vm_ops.specs.declared.item.Item.{Item}
 use Rattle.vm_ops.specs.declared.op.Op.{Op}
 use Rattle.vm_ops.specs.declared.op.Op.TheVariants.{Noop}
 use Rattle.vm_ops.specs.Codes.{code_of, op_at}
-use Rattle.vm_ops.specs.Items.{plain_item, push_item}
+use Rattle.vm_field.specs.Field.{prime, AreElements}
+use Rattle.vm_field.proofs.Elements.{elements-drop, elements-take}
+use Rattle.vm_ops.specs.Items.{IsOrdinaryItem, plain_item, push_item}
 use Rattle.vm_ops.proofs.CodeLemmas.{code_of-op_at}
 
 abbrev AreOrdinary : Option (List Item) → Type 0
@@ -36,8 +37,8 @@ ordinary-plain digit h = go (op_at digit) refl
           immediate = λ push. (let same : code_of op ≡ 69 = ap code_of push in omega arith);
         }
 
-ordinary-push : (value : ℕ) → IsOrdinaryItem (push_item value)
-ordinary-push value = record { ordinary = refl; immediate = refl }
+ordinary-push : (value : ℕ) → value < prime → IsOrdinaryItem (push_item value)
+ordinary-push value below = record { ordinary = refl; immediate = (refl, below) }
 
 ordinary-last : (room number : ℕ) → AreOrdinary (read_last room number)
 ordinary-last zero number = tt
@@ -46,22 +47,25 @@ ordinary-last (suc room) number =
     (λ h. ordinary-before _ _ (ordinary-plain (number % 128) (ltb-true (number % 128) push_code h))
     (ordinary-cond (eqb (number / 128) 0) (Some []) _ (λ e. All-nil IsOrdinaryItem) (ordinary-last room (number / 128)))) tt
 
-ordinary-more : (position : ℕ) (later : ℕ → ℕ → Option (List Item)) → ((room number : ℕ) → AreOrdinary (later room number))
+ordinary-more : (position : ℕ) (later : ℕ → ℕ → Option (List Item)) → position < prime → ((room number : ℕ) → AreOrdinary (later room number))
     → (room number : ℕ) → AreOrdinary (read_more position later room number)
-ordinary-more position later h zero number = tt
-ordinary-more position later h (suc room) number =
+ordinary-more position later below h zero number = tt
+ordinary-more position later below h (suc room) number =
     ordinary-cond (ltb (number % 128) push_code) _ _
     (λ l. ordinary-before _ _ (ordinary-plain (number % 128) (ltb-true (number % 128) push_code l))
-    (ordinary-cond (eqb (number / 128) 0) _ _ (λ e. h 9 position) (ordinary-more position later h room (number / 128))))
+    (ordinary-cond (eqb (number / 128) 0) _ _ (λ e. h 9 position) (ordinary-more position later below h room (number / 128))))
     (ordinary-cond (eqb (number % 128) push_code) _ None
-    (λ e. ordinary-before _ _ (ordinary-push position) (h room (number / 128))) tt)
+    (λ e. ordinary-before _ _ (ordinary-push position below) (h room (number / 128))) tt)
 
-ordinary-on : (positions : List ℕ) (room number : ℕ) → AreOrdinary (read_on positions room number)
+ordinary-on : (positions : List ℕ) → AreElements positions → (room number : ℕ) → AreOrdinary (read_on positions room number)
 unfolding read_on
-ordinary-on [] room number = ordinary-last room number
-ordinary-on (position ∷ later) room number = ordinary-more position (read_on later) (ordinary-on later) room number
+ordinary-on [] below room number = ordinary-last room number
+ordinary-on (position ∷ later) below room number =
+    ordinary-more position (read_on later) (All-head (λ e. e < prime) position later below)
+    (ordinary-on later (All-tail (λ e. e < prime) position later below)) room number
 
-pub reading-ordinary : (batch : List ℕ) (items : List Item) → reading batch ≡ Some items → All IsOrdinaryItem items
+pub reading-ordinary : (batch : List ℕ) (items : List Item) → AreElements batch → reading batch ≡ Some items → All IsOrdinaryItem items
 unfolding reading
-reading-ordinary batch items e =
-    subst AreOrdinary e (ordinary-on (drop 1 (take (positions_in_use batch) batch)) 9 (slice_index batch 0))
+reading-ordinary batch items below e =
+    subst AreOrdinary e
+    (ordinary-on (drop 1 (take (positions_in_use batch) batch)) (elements-drop 1 _ (elements-take (positions_in_use batch) batch below)) 9 (slice_index batch 0))

@@ -50,6 +50,11 @@ ran-skip setting after u = record { answer = record { more = []; done = skip-don
 pub ran-along : {setting : Setting} {o p : Outcome} {log : List Event} {r : Result (Unit {0}) Stop} {after : Runner} → o ≡ p → Ran setting p log r after → Ran setting o log r after
 ran-along e a = rw e a
 
+-- the same of a runner with the same state and log
+pub ran-kept : {setting : Setting} {o : Outcome} {log : List Event} {u v : Unit {0}} {before after : Runner}
+    → after.state ≡ before.state → after.log ≡ before.log → Ran setting o log (Ok u) before → Ran setting o log (Ok v) after
+ran-kept s l h = record { answer = record { more = h.answer.more; done = rw s h.answer.done; events = l ∙ h.answer.events } }
+
 -- what is still to be run, from one state, of a whole that began at another
 pub record Left (setting : Setting) (whole rest : Part) (from now : Runner) : Type 0 where
   pub goes : (r : Result (Unit {0}) Stop) (after : Runner) → Ran setting (rest (state_of now.state)) now.log r after

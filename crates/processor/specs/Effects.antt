@@ -16,6 +16,8 @@ Effected outcome (Err Memory) before after = Unit {0}
 
 -- a block started, whatever its start does then, or its start traps
 abbrev pub Opened : Result (Unit {0}) StepStop → State → State → Type 0
-Opened (Ok _) before after = ((effect : Cycle) → opens effect (core_of before) ≡ effect (core_of after)) × (after.tape ≡ before.tape) × (after.clock ≡ before.clock)
+Opened (Ok _) before after =
+    ((effect : Cycle) → opens effect (core_of before) ≡ effect (core_of after)) × (after.tape ≡ before.tape) × (after.clock ≡ before.clock)
+    × (after.stack ≡ before.stack)
 Opened (Err (Trap cause)) before after = (effect : Cycle) → opens effect (core_of before) ≡ Err cause
 Opened (Err Memory) before after = ⊥

@@ -1,6 +1,7 @@
 -- What the log of a run shows of each cycle (docs/MACHINE.md, "Cycles").
-use Rattle.std.specs.Prelude.{ℕ, ◌-◌, Bool, true, false, if◌then◌else◌, List, [], ◌∷◌, ◌++◌, length, take, replicate, Option, None, Result, Ok, Err}
+use Rattle.std.specs.Prelude.{ℕ, ◌-◌, if◌then◌else◌, List, [], ◌∷◌, ◌++◌, length, take, replicate, Option, None, Result, Ok, Err}
 use Rattle.vm_field.specs.Machine.{Core, word_at, zero_word}
+use Rattle.vm_ops.specs.Codes.{accesses_memory}
 use Rattle.vm_ops.specs.declared.cause.Cause.{Cause}
 use Rattle.vm_ops.specs.declared.op.Op.{Op}
 use Rattle.vm_ops.specs.declared.op.Op.TheVariants as ops
@@ -64,17 +65,9 @@ hash_of (EndSpan digest) = digest ++ (0 ∷ 1 ∷ 0 ∷ 0 ∷ [])
 hash_of (EndCall digest frame) = digest ++ (0 ∷ 0 ∷ 1 ∷ 0 ∷ [])
 hash_of (EndSyscall digest frame) = digest ++ (0 ∷ 0 ∷ 0 ∷ 1 ∷ [])
 
--- whether the operation reads or writes memory
-abbrev pub is_memory : Op → Bool
-is_memory ops.MLoad = true
-is_memory ops.MLoadW = true
-is_memory ops.MStore = true
-is_memory ops.MStoreW = true
-is_memory op = false
-
 -- the word that the cycle reads or writes, as it stands behind the cycle
 abbrev pub accessed : Mark → Core → Core → List ℕ
-accessed mark before after = if is_memory (op_of mark) then word_at after.memory before.context (top before) else zero_word
+accessed mark before after = if accesses_memory (op_of mark) then word_at after.memory before.context (top before) else zero_word
 
 -- the elements that the cycle takes of the tape, and zeros behind them
 abbrev pub four_of : List ℕ → List ℕ

@@ -1,5 +1,5 @@
 -- What `execute` answers.
-use Rattle.std.specs.Prelude.{◌≡◌, ℕ, List, ◌++◌, map, Result, Ok, Err}
+use Rattle.std.specs.Prelude.{◌≡◌, ℕ, ◌≤◌, List, ◌++◌, map, Result, Ok, Err}
 use Rattle.vm_field.specs.Machine.{start}
 use Rattle.rpo_hash.specs.Constants.{constants_of}
 use Rattle.rpo_hash.specs.declared.params.Params.{Params}
@@ -25,6 +25,13 @@ pub record IsRunOf (params : Params) (program : Program) (inputs : Inputs) (limi
   pub done : outcome_of params program inputs limit ≡ Done (state_of r.state) log
   pub events : r.events ≡ map (shown (constants_of params) program.kernel) log
   pub tape : inputs.advice ≡ r.tape ++ r.state.tape
+
+-- the run that `execute` answers for some inputs within some limit
+pub record WasExecuted (params : Params) (program : Program) (answer : Run) : Type 0 where
+  pub inputs : Inputs
+  pub limit : ℕ
+  pub below : limit ≤ 524287
+  pub ran : IsRunOf params program inputs limit answer
 
 -- the run, or the trap with its clock, or that the cycles were used up
 abbrev pub Executed : Params → Program → Inputs → ℕ → Result Run Stop → Type 0

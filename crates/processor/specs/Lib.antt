@@ -1,3 +1,4 @@
+pub mod Digests
 pub mod Effects
 pub mod Events
 pub mod Executed
@@ -5,3 +6,4 @@ pub mod Marks
 pub mod Nodes
 pub mod Running
 pub mod Settings
+pub mod Sizes

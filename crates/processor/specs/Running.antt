@@ -18,6 +18,11 @@ abbrev pub stop_at : ℕ → StepStop → Stop
 stop_at clock (step_stop.Trap cause) = Trap clock cause
 stop_at clock step_stop.Memory = Memory
 
+-- that a part was done, whatever it answers
+abbrev pub done_of : {A : Type 0} → Result A Stop → Result (Unit {0}) Stop
+done_of (Ok answer) = Ok tt
+done_of (Err stop) = Err stop
+
 abbrev pub shown_in : Setting → run.Event → Event
 shown_in setting e = shown (constants_in setting) setting.kernel.now e
 

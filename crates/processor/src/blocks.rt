@@ -3,21 +3,22 @@ ghost use Rattle.block_tree.specs.Cycles as cycles;
 ghost use Rattle.block_tree.specs.Execution.{at_bit};
 ghost use Rattle.block_tree.specs.Trees as trees;
 ghost use Rattle.op_pack.specs.Reading.{reading};
-ghost use Rattle.op_steps.specs.Steps.{IsOrdinaryItem};
+ghost use Rattle.vm_ops.specs.Items.{IsOrdinaryItem};
 ghost use Rattle.vm_state.specs.Views.{state_of};
 ghost use Rattle.processor.specs.Nodes.{IsHashed, node_tree};
 ghost use Rattle.processor.specs.Running.{Ran};
 ghost use Rattle.processor.specs.Settings.{batches_in, constants_in, digest_of, execution_in, operations_in, read_operations_in, turns_in};
 
-use crate::cycle::{Runner, cycle, operation};
+use crate::batch::Batch;
+use crate::cycle::{Runner, cycle, enter, operation};
 use crate::effect::top_of;
-use crate::mark::{Frame, Mark};
+use crate::mark::Mark;
 use crate::node::Node;
 use crate::refusal::Stop;
 use crate::setting::Setting;
 use op_pack::{Batches, unpack};
-use vm_field::{Felt, Word};
-use vm_ops::Item;
+use vm_field::{Felt, Word, known_elements};
+use vm_ops::{Item, Items};
 
 // The run of a block.
 #[cycle(blocks)]
@@ -26,7 +27,7 @@ pub(crate) fn block(runner: &mut Runner, setting: &Setting, node: &Node) -> Resu
     ensures { Ran setting.now (execution_in setting.now (node_tree node.now) (state_of runner.old.state)) runner.old.log result runner.new }
 {
     match node {
-        Node::Opaque(_) => cycle(runner, setting, &Mark::StartOpaque),
+        Node::Opaque(_) => cycle(runner, setting, Mark::StartOpaque),
         Node::Span(digest, batches) => span(runner, setting, digest, batches),
         Node::Join(digest, first, second) => join(runner, setting, digest, first, second),
         Node::Split(digest, on_one, on_zero) => split(runner, setting, digest, on_one, on_zero),
@@ -52,11 +53,11 @@ fn join(
     cycle(
         runner,
         setting,
-        &Mark::StartJoin(first.digest(), second.digest()),
+        Mark::StartJoin(first.digest(), second.digest()),
     )?;
     block(runner, setting, first)?;
     block(runner, setting, second)?;
-    cycle(runner, setting, &Mark::End(*digest))
+    cycle(runner, setting, Mark::End(*digest))
 }
 
 #[cycle(blocks)]
@@ -76,10 +77,10 @@ fn split(
     cycle(
         runner,
         setting,
-        &Mark::StartSplit(on_one.digest(), on_zero.digest()),
+        Mark::StartSplit(on_one.digest(), on_zero.digest()),
     )?;
     branch(runner, setting, condition, on_one, on_zero)?;
-    cycle(runner, setting, &Mark::End(*digest))
+    cycle(runner, setting, Mark::End(*digest))
 }
 
 // The branch that a condition picks.
@@ -109,9 +110,9 @@ fn repeated(runner: &mut Runner, setting: &Setting, digest: &Word, body: &Node) 
     ensures { Ran setting.now (execution_in setting.now (trees.Loop (node_tree body.now)) (state_of runner.old.state)) runner.old.log result runner.new }
 {
     let condition = top_of(&runner.state);
-    cycle(runner, setting, &Mark::StartLoop(body.digest()))?;
+    cycle(runner, setting, Mark::StartLoop(body.digest()))?;
     if condition.value() == 0 {
-        cycle(runner, setting, &Mark::End(*digest))
+        cycle(runner, setting, Mark::End(*digest))
     } else {
         turns(runner, setting, digest, body)
     }
@@ -127,9 +128,9 @@ fn turns(runner: &mut Runner, setting: &Setting, digest: &Word, body: &Node) -> 
     loop {
         block(runner, setting, body)?;
         if top_of(&runner.state).value() == 0 {
-            return cycle(runner, setting, &Mark::EndLoop(*digest));
+            return cycle(runner, setting, Mark::EndLoop(*digest));
         }
-        cycle(runner, setting, &Mark::Repeat(body.digest()))?;
+        cycle(runner, setting, Mark::Repeat(body.digest()))?;
     }
 }
 
@@ -139,10 +140,9 @@ fn call(runner: &mut Runner, setting: &Setting, digest: &Word, callee: &Node) ->
     requires callee { IsHashed (constants_in setting.now) callee.now }
     ensures { Ran setting.now (execution_in setting.now (trees.Call (node_tree callee.now)) (state_of runner.old.state)) runner.old.log result runner.new }
 {
-    let frame = Frame::of(setting.alloc, &runner.state)?;
-    cycle(runner, setting, &Mark::StartCall(callee.digest()))?;
+    let frame = enter(runner, setting, Mark::StartCall(callee.digest()))?;
     block(runner, setting, callee)?;
-    cycle(runner, setting, &Mark::EndCall(*digest, frame))
+    cycle(runner, setting, Mark::EndCall(*digest, frame))
 }
 
 #[cycle(blocks)]
@@ -151,10 +151,9 @@ fn syscall(runner: &mut Runner, setting: &Setting, digest: &Word, callee: &Node)
     requires callee { IsHashed (constants_in setting.now) callee.now }
     ensures { Ran setting.now (execution_in setting.now (trees.Syscall (node_tree callee.now)) (state_of runner.old.state)) runner.old.log result runner.new }
 {
-    let frame = Frame::of(setting.alloc, &runner.state)?;
-    cycle(runner, setting, &Mark::StartSyscall(callee.digest()))?;
+    let frame = enter(runner, setting, Mark::StartSyscall(callee.digest()))?;
     block(runner, setting, callee)?;
-    cycle(runner, setting, &Mark::EndSyscall(*digest, frame))
+    cycle(runner, setting, Mark::EndSyscall(*digest, frame))
 }
 
 fn span(
@@ -167,7 +166,7 @@ fn span(
     ensures { Ran setting.now (execution_in setting.now (trees.Span batches.now) (state_of runner.old.state)) runner.old.log result runner.new }
 {
     all_batches(runner, setting, batches.as_slice())?;
-    cycle(runner, setting, &Mark::EndSpan(*digest))
+    cycle(runner, setting, Mark::EndSpan(*digest))
 }
 
 // The batches of a span.
@@ -177,8 +176,13 @@ fn all_batches(runner: &mut Runner, setting: &Setting, batches: &[[Felt; 8]]) ->
     match batches.split_first() {
         None => Ok(()),
         Some((first, later)) => {
-            cycle(runner, setting, &Mark::StartSpan(*first))?;
-            batch_operations(runner, setting, first)?;
+            let items = unpack(setting.alloc, first)?;
+            let batch = Batch {
+                elements: *first,
+                is_read: items.is_some(),
+            };
+            cycle(runner, setting, Mark::StartSpan(batch))?;
+            batch_operations(runner, setting, first, &items)?;
             later_batches(runner, setting, later)
         }
     }
@@ -189,17 +193,29 @@ fn later_batches(runner: &mut Runner, setting: &Setting, batches: &[[Felt; 8]]) 
     ensures { Ran setting.now (batches_in setting.now cycles.Respan batches.now (state_of runner.old.state)) runner.old.log result runner.new }
 {
     for batch in batches {
-        cycle(runner, setting, &Mark::Respan(*batch))?;
-        batch_operations(runner, setting, batch)?;
+        let items = unpack(setting.alloc, batch)?;
+        let read = Batch {
+            elements: *batch,
+            is_read: items.is_some(),
+        };
+        cycle(runner, setting, Mark::Respan(read))?;
+        batch_operations(runner, setting, batch, &items)?;
     }
     Ok(())
 }
 
-// The operations of a batch. One that has no reading has trapped before.
-fn batch_operations(runner: &mut Runner, setting: &Setting, batch: &[Felt; 8]) -> Result<(), Stop>
+// The operations of a batch, as it is read. One that has no reading has trapped before.
+fn batch_operations(
+    runner: &mut Runner,
+    setting: &Setting,
+    batch: &[Felt; 8],
+    items: &Option<Items>,
+) -> Result<(), Stop>
+    requires read { items.now ≡ reading batch.now }
     ensures { Ran setting.now (read_operations_in setting.now (reading batch.now) (state_of runner.old.state)) runner.old.log result runner.new }
 {
-    match unpack(setting.alloc, batch)? {
+    known_elements(batch);
+    match items {
         None => Ok(()),
         Some(items) => all_operations(runner, setting, items.as_slice()),
     }

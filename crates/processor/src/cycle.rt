@@ -1,51 +1,80 @@
-ghost use Rattle.std.specs.Prelude.{◌≡◌, ◌^◌, ◌<◌, ◌≤◌, if◌then◌else◌, length, slice_index, take, IsTrue, MatchResult};
-ghost use Rattle.block_tree.specs.Cycles.{Do};
-ghost use Rattle.op_steps.specs.Steps.{IsOrdinaryItem};
+ghost use Rattle.std.specs.Prelude.{◌≡◌, ◌^◌, ◌<◌, ◌≤◌, if◌then◌else◌, length, slice_index, take, IsTrue, IfOk, OnOk, MatchResult};
+ghost use Rattle.block_tree.specs.Cycles.{Do, frame_of};
+ghost use Rattle.vm_ops.specs.Codes.{accesses_memory};
+ghost use Rattle.vm_ops.specs.Items.{IsOrdinaryItem};
 ghost use Rattle.vm_field.specs.Machine.{word_at, zero_word};
 ghost use Rattle.vm_ops.specs.Values.{advice_of};
 ghost use Rattle.vm_state.specs.Views.{core_of, state_of};
-ghost use Rattle.processor.specs.Events.{four_of, is_memory, visible_of};
-ghost use Rattle.processor.specs.Marks.{mark_of};
-ghost use Rattle.processor.specs.Running.{Ran};
+ghost use Rattle.processor.specs.Events.{four_of, visible_of};
+ghost use Rattle.processor.specs.Marks.{IsEntry, SetsAside, frame_in, mark_of};
+ghost use Rattle.processor.specs.Running.{Ran, done_of};
 ghost use Rattle.processor.specs.Settings.{cycle_in};
 ghost use Rattle.processor.specs.declared.refusal.Stop.TheVariants.{OutOfCycles};
 
 use crate::effect::{effect, top_of};
 use crate::event::{Event, Events, Visible};
-use crate::mark::Mark;
+use crate::mark::{Frame, Mark};
 use crate::refusal::{Stop, stop_at};
 use crate::setting::Setting;
 use op_steps::step;
+use std::mem;
 use vm_field::{Felt, Word};
-use vm_ops::{Item, Op};
-use vm_state::State;
+use vm_ops::{Item, Op, accesses_memory};
+use vm_state::{Aside, State};
 
 // The state of a run, and what its cycles have shown so far.
 #[derive(Drop)]
 pub(crate) struct Runner {
     pub state: State,
+    // what the latest call has set aside
+    pub hidden: Aside,
     pub log: Events,
 }
 
 // One cycle that is no operation.
-pub(crate) fn cycle(runner: &mut Runner, setting: &Setting, mark: &Mark) -> Result<(), Stop>
-    ensures { Ran setting.now (cycle_in setting.now (mark_of mark.now) (state_of runner.old.state)) runner.old.log result runner.new }
+pub(crate) fn cycle(runner: &mut Runner, setting: &Setting, mark: Mark) -> Result<(), Stop>
+    ensures ran { Ran setting.now (cycle_in setting.now (mark_of mark) (state_of runner.old.state)) runner.old.log result runner.new }
+    ensures hidden { OnOk result (SetsAside mark runner.old.state.stack runner.new.hidden) }
 {
     let before = before_cycle(&runner.state, setting)?;
-    if let Err(stop) = effect(&mut runner.state, setting, mark) {
+    let op = mark.op();
+    let hash = mark.hash();
+    if let Err(stop) = effect(&mut runner.state, &mut runner.hidden, setting, mark) {
         return Err(stop_at(before.clock, stop));
     }
     runner.state.clock += 1;
     runner.log.push(Event {
-        op: mark.op(),
+        op,
         before,
         imm: None,
         tape: Word::ZERO.elements(),
         word: Word::ZERO.elements(),
-        hash: mark.hash(),
+        hash,
         result: top_of(&runner.state),
     })?;
     Ok(())
+}
+
+// The cycle that starts a call or a syscall, and what it sets aside.
+pub(crate) fn enter(runner: &mut Runner, setting: &Setting, mark: Mark) -> Result<Frame, Stop>
+    requires entry { IsEntry mark }
+    ensures ran { Ran setting.now (cycle_in setting.now (mark_of mark) (state_of runner.old.state)) runner.old.log (done_of result) runner.new }
+    ensures frame { IfOk result (λ frame. frame_in frame ≡ frame_of (core_of runner.old.state)) }
+{
+    let context = runner.state.context;
+    let fmp = runner.state.fmp;
+    let in_syscall = runner.state.in_syscall;
+    let digest = runner.state.digest;
+    match cycle(runner, setting, mark) {
+        Err(stop) => Err(stop),
+        Ok(()) => Ok(Frame {
+            context,
+            fmp,
+            in_syscall,
+            digest,
+            hidden: mem::replace(&mut runner.hidden, Aside::none(setting.alloc)),
+        }),
+    }
 }
 
 // One cycle of an operation.
@@ -110,18 +139,12 @@ fn next_advice(state: &State, op: Op) -> [Felt; 4]
 
 // The word that an operation has read or written.
 fn word_behind(state: &State, op: Op, before: &Visible) -> [Felt; 4]
-    requires address { IsTrue (is_memory op) → slice_index before.now.cells 0 < 2 ^ 32 }
-    ensures { result ≡ (if is_memory op then word_at state.now.memory before.now.context (slice_index before.now.cells 0) else zero_word) }
+    requires address { IsTrue (accesses_memory op) → slice_index before.now.cells 0 < 2 ^ 32 }
+    ensures { result ≡ (if accesses_memory op then word_at state.now.memory before.now.context (slice_index before.now.cells 0) else zero_word) }
 {
-    if is_memory(op) {
+    if accesses_memory(op) {
         state.word_at(before.context, before.cells[0].value() as u32)
     } else {
         Word::ZERO.elements()
     }
-}
-
-fn is_memory(op: Op) -> bool
-    ensures { result ≡ is_memory op }
-{
-    matches!(op, Op::MLoad | Op::MLoadW | Op::MStore | Op::MStoreW)
 }

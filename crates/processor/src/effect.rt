@@ -1,32 +1,37 @@
-ghost use Rattle.std.specs.Prelude.{◌≡◌, ◌+◌, ◌-◌, ◌^◌, ◌<◌, ◌≤◌, Err, [], length, nat_lt};
+ghost use Rattle.std.specs.Prelude.{◌≡◌, ◌+◌, ◌-◌, ◌^◌, ◌<◌, ◌≤◌, Err, [], drop, length, nat_lt, OnOk};
 ghost use Rattle.block_tree.specs.Cycles.{and_then, closes, effect_of, enters_call, enters_syscall, is_in_kernel, opens, pops_bit, reads, returns_to, top};
 ghost use Rattle.vm_state.specs.Views.{core_of};
 ghost use Rattle.processor.specs.Effects.{Effected, Opened};
-ghost use Rattle.processor.specs.Marks.{frame_in, mark_of};
+ghost use Rattle.processor.specs.Marks.{SetsAside, frame_in, mark_of};
 ghost use Rattle.processor.specs.Settings.{constants_in};
 
+use crate::batch::Batch;
 use crate::mark::{Frame, Mark};
 use crate::setting::Setting;
-use op_pack::unpack;
 use op_steps::StepStop;
-use std::alloc::Global;
 use vm_field::{Felt, Word};
 use vm_ops::Cause;
-use vm_state::State;
+use vm_state::{Aside, State};
 
 // What a cycle that is no operation does to all of the state but its clock.
-pub(crate) fn effect(state: &mut State, setting: &Setting, mark: &Mark) -> Result<(), StepStop>
+pub(crate) fn effect(
+    state: &mut State,
+    hidden: &mut Aside,
+    setting: &Setting,
+    mark: Mark,
+) -> Result<(), StepStop>
     requires clock { state.old.clock ≤ 524287 }
-    ensures { Effected (effect_of (constants_in setting.now) setting.now.kernel.now (mark_of mark.now) [] (core_of state.old)) result state.old state.new }
+    ensures effect { Effected (effect_of (constants_in setting.now) setting.now.kernel.now (mark_of mark) [] (core_of state.old)) result state.old state.new }
+    ensures hidden { OnOk result (SetsAside mark state.old.stack hidden.new) }
 {
     match mark {
         Mark::StartOpaque => start_opaque(state),
-        Mark::StartSpan(batch) => start_span(setting.alloc, state, batch),
+        Mark::StartSpan(batch) => start_span(state, &batch),
         Mark::StartJoin(..) => start_join(state),
         Mark::StartSplit(..) | Mark::StartLoop(_) => start_on_bit(state),
-        Mark::StartCall(callee) => start_call(state, callee),
-        Mark::StartSyscall(callee) => start_syscall(state, setting.kernel, callee),
-        Mark::Respan(batch) => read(setting.alloc, state, batch),
+        Mark::StartCall(callee) => start_call(state, hidden, &callee),
+        Mark::StartSyscall(callee) => start_syscall(state, hidden, setting.kernel, &callee),
+        Mark::Respan(batch) => read(state, &batch),
         Mark::Repeat(_) => pop_bit(state),
         Mark::End(_) | Mark::EndSpan(_) => close(state),
         Mark::EndLoop(_) => end_loop(state),
@@ -44,11 +49,11 @@ fn start_opaque(state: &mut State) -> Result<(), StepStop>
     Err(StepStop::Trap(Cause::OpaqueBlock))
 }
 
-fn start_span(alloc: Global, state: &mut State, batch: &[Felt; 8]) -> Result<(), StepStop>
-    ensures { Effected (opens (reads batch.now) (core_of state.old)) result state.old state.new }
+fn start_span(state: &mut State, batch: &Batch) -> Result<(), StepStop>
+    ensures { Effected (opens (reads batch.now.elements) (core_of state.old)) result state.old state.new }
 {
     open(state)?;
-    read(alloc, state, batch)
+    read(state, batch)
 }
 
 fn start_join(state: &mut State) -> Result<(), StepStop>
@@ -64,19 +69,26 @@ fn start_on_bit(state: &mut State) -> Result<(), StepStop>
     pop_bit(state)
 }
 
-fn start_call(state: &mut State, callee: &Word) -> Result<(), StepStop>
+fn start_call(state: &mut State, hidden: &mut Aside, callee: &Word) -> Result<(), StepStop>
     requires clock { state.old.clock ≤ 524287 }
-    ensures { Effected (opens (enters_call callee.now) (core_of state.old)) result state.old state.new }
+    ensures effect { Effected (opens (enters_call callee.now) (core_of state.old)) result state.old state.new }
+    ensures hidden { OnOk result (hidden.new ≡ drop 16 state.old.stack) }
 {
     open(state)?;
-    enter_call(state, callee)
+    enter_call(state, hidden, callee)
 }
 
-fn start_syscall(state: &mut State, kernel: &[Word], callee: &Word) -> Result<(), StepStop>
-    ensures { Effected (opens (enters_syscall kernel.now callee.now) (core_of state.old)) result state.old state.new }
+fn start_syscall(
+    state: &mut State,
+    hidden: &mut Aside,
+    kernel: &[Word],
+    callee: &Word,
+) -> Result<(), StepStop>
+    ensures effect { Effected (opens (enters_syscall kernel.now callee.now) (core_of state.old)) result state.old state.new }
+    ensures hidden { OnOk result (hidden.new ≡ drop 16 state.old.stack) }
 {
     open(state)?;
-    enter_syscall(state, kernel, callee)
+    enter_syscall(state, hidden, kernel, callee)
 }
 
 fn end_loop(state: &mut State) -> Result<(), StepStop>
@@ -123,10 +135,10 @@ fn pop_bit(state: &mut State) -> Result<(), StepStop>
 
 // The batch must have a reading.
 #[tactic(auto, unfolding(block_tree::specs::Cycles::reads))]
-fn read(alloc: Global, state: &mut State, batch: &[Felt; 8]) -> Result<(), StepStop>
-    ensures { Effected (reads batch.now (core_of state.old)) result state.old state.new }
+fn read(state: &mut State, batch: &Batch) -> Result<(), StepStop>
+    ensures { Effected (reads batch.now.elements (core_of state.old)) result state.old state.new }
 {
-    if unpack(alloc, batch)?.is_some() {
+    if batch.is_read {
         Ok(())
     } else {
         Err(StepStop::Trap(Cause::BadBatch))
@@ -135,14 +147,15 @@ fn read(alloc: Global, state: &mut State, batch: &[Felt; 8]) -> Result<(), StepS
 
 // The callee has a context and a digest of its own.
 #[tactic(auto, unfolding(block_tree::specs::Cycles::enters_call))]
-fn enter_call(state: &mut State, callee: &Word) -> Result<(), StepStop>
+fn enter_call(state: &mut State, hidden: &mut Aside, callee: &Word) -> Result<(), StepStop>
     requires clock { state.old.clock ≤ 524287 }
-    ensures { Effected (enters_call callee.now (core_of state.old)) result state.old state.new }
+    ensures effect { Effected (enters_call callee.now (core_of state.old)) result state.old state.new }
+    ensures hidden { OnOk result (hidden.new ≡ drop 16 state.old.stack) }
 {
     if state.in_syscall {
         return Err(StepStop::Trap(Cause::CallInSyscall));
     }
-    let _hidden = state.hide()?;
+    *hidden = state.set_aside();
     state.context = state.clock + 1;
     state.fmp = Felt::reduced(1 << 30);
     state.digest = *callee;
@@ -151,8 +164,14 @@ fn enter_call(state: &mut State, callee: &Word) -> Result<(), StepStop>
 
 // The callee, which must be of the kernel's list, runs in context 0.
 #[tactic(auto, unfolding(block_tree::specs::Cycles::enters_syscall))]
-fn enter_syscall(state: &mut State, kernel: &[Word], callee: &Word) -> Result<(), StepStop>
-    ensures { Effected (enters_syscall kernel.now callee.now (core_of state.old)) result state.old state.new }
+fn enter_syscall(
+    state: &mut State,
+    hidden: &mut Aside,
+    kernel: &[Word],
+    callee: &Word,
+) -> Result<(), StepStop>
+    ensures effect { Effected (enters_syscall kernel.now callee.now (core_of state.old)) result state.old state.new }
+    ensures hidden { OnOk result (hidden.new ≡ drop 16 state.old.stack) }
 {
     if state.in_syscall {
         return Err(StepStop::Trap(Cause::CallInSyscall));
@@ -160,7 +179,7 @@ fn enter_syscall(state: &mut State, kernel: &[Word], callee: &Word) -> Result<()
     if !is_in_kernel(kernel, callee) {
         return Err(StepStop::Trap(Cause::NotInKernel));
     }
-    let _hidden = state.hide()?;
+    *hidden = state.set_aside();
     state.context = 0;
     state.fmp = Felt::reduced(1 << 31);
     state.in_syscall = true;
@@ -175,13 +194,13 @@ fn is_in_kernel(kernel: &[Word], callee: &Word) -> bool
 
 // What was set aside comes back.
 #[tactic(auto, unfolding(block_tree::specs::Cycles::returns_to))]
-fn return_to(state: &mut State, frame: &Frame) -> Result<(), StepStop>
-    ensures { Effected (returns_to (frame_in frame.now) (core_of state.old)) result state.old state.new }
+fn return_to(state: &mut State, frame: Frame) -> Result<(), StepStop>
+    ensures { Effected (returns_to (frame_in frame) (core_of state.old)) result state.old state.new }
 {
     if is_deep(state) {
         return Err(StepStop::Trap(Cause::DepthAtReturn));
     }
-    state.restore(&frame.hidden)?;
+    state.bring_back(frame.hidden);
     state.context = frame.context;
     state.fmp = frame.fmp;
     state.in_syscall = frame.in_syscall;
@@ -195,7 +214,7 @@ fn is_deep(state: &State) -> bool
     ensures is { result ≡ nat_lt 16 (length state.now.stack) }
     ensures full { 16 ≤ length state.now.stack }
 {
-    state.visible().len() < state.depth()
+    16 < state.depth()
 }
 
 // The cell on top.

@@ -1,4 +1,5 @@
-ghost use Rattle.std.specs.Prelude.{◌≡◌, [], ◌∷◌, ◌++◌, length, OnOk, OnErr};
+ghost use Rattle.std.specs.Prelude.{◌≡◌, [], ◌∷◌, ◌++◌, length, All, OnOk, OnErr};
+ghost use Rattle.processor.specs.Sizes.{HasSizes};
 
 use std::alloc::Global;
 use std::marker::Model;
@@ -52,6 +53,11 @@ impl Model for Events {
     ghost Value = { List Event };
 
     ghost view = { λ a. a.items.items };
+
+    ghost use Rattle.std.specs.Prelude.{All};
+    ghost use Rattle.processor.specs.Sizes.{HasSizes};
+
+    ghost invariant = { λ a. All HasSizes a.items.items };
 }
 
 impl Events {
@@ -76,6 +82,7 @@ impl Events {
     /// The events, in order.
     pub fn as_slice(&self) -> &[Event]
         ensures items { result.now ≡ self.now }
+        ensures sizes { All HasSizes self.now }
     {
         self.items.as_slice()
     }

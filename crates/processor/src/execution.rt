@@ -1,5 +1,5 @@
-ghost use Rattle.std.specs.Prelude.{◌≤◌};
-ghost use Rattle.processor.specs.Executed.{Executed};
+ghost use Rattle.std.specs.Prelude.{◌≤◌, IfOk};
+ghost use Rattle.processor.specs.Executed.{Executed, WasExecuted};
 
 use crate::blocks::block;
 use crate::cycle::Runner;
@@ -12,7 +12,7 @@ use block_tree::Program;
 use rpo_hash::Params;
 use std::alloc::Global;
 use vm_field::Felts;
-use vm_state::{Inputs, State};
+use vm_state::{Aside, Inputs, State};
 
 /// Runs a program from its inputs. Before each cycle the clock must be below the limit.
 ///
@@ -29,7 +29,8 @@ pub fn execute(
     limit: u32,
 ) -> Result<Run, Stop>
     requires limit { limit ≤ 524287 }
-    ensures { Executed params.now program.now inputs.now limit result }
+    ensures is { Executed params.now program.now inputs.now limit result }
+    ensures was { IfOk result (WasExecuted params.now program.now) }
 {
     let node = hashed(alloc, params, &program.tree)?;
     let setting = Setting {
@@ -40,6 +41,7 @@ pub fn execute(
     };
     let mut runner = Runner {
         state: State::start(alloc, inputs)?,
+        hidden: Aside::none(alloc),
         log: Events::new(alloc),
     };
     block(&mut runner, &setting, &node)?;

@@ -1,8 +1,10 @@
 //! The processor: it runs a program's tree as it is given, and keeps what each cycle shows.
 #![tactic(auto)]
 
+mod batch;
 mod blocks;
 mod cycle;
+mod digests;
 mod effect;
 mod event;
 mod execution;

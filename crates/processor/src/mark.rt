@@ -1,14 +1,12 @@
-ghost use Rattle.std.specs.Prelude.{◌≡◌, ◌++◌, ◌<◌, drop, slice_set, IfOk};
+ghost use Rattle.std.specs.Prelude.{◌≡◌, ◌++◌, ◌<◌, slice_set};
 ghost use Rattle.vm_field.specs.Machine.{zero_word};
-ghost use Rattle.block_tree.specs.Cycles.{frame_of};
-ghost use Rattle.vm_state.specs.Views.{core_of};
 ghost use Rattle.processor.specs.Events.{hash_of, op_of};
-ghost use Rattle.processor.specs.Marks.{frame_in, mark_of};
+ghost use Rattle.processor.specs.Marks.{mark_of};
 
-use std::alloc::Global;
-use vm_field::{Felt, Felts, Memory, Word};
+use crate::batch::Batch;
+use vm_field::{Felt, Word};
 use vm_ops::Op;
-use vm_state::State;
+use vm_state::Aside;
 
 // What a call sets aside until it ends.
 #[derive(Drop)]
@@ -18,46 +16,20 @@ pub(crate) struct Frame {
     pub in_syscall: bool,
     pub digest: Word,
     // the cells below the sixteenth
-    pub hidden: Felts,
-}
-
-impl Frame {
-    // What a call from this state sets aside.
-    pub fn of(alloc: Global, state: &State) -> Result<Frame, Memory>
-        ensures { IfOk result (λ frame. frame_in frame ≡ frame_of (core_of state.now)) }
-    {
-        Ok(Frame {
-            context: state.context,
-            fmp: state.fmp,
-            in_syscall: state.in_syscall,
-            digest: state.digest,
-            hidden: cells_below(alloc, state)?,
-        })
-    }
-}
-
-// A copy of the cells below the sixteenth.
-fn cells_below(alloc: Global, state: &State) -> Result<Felts, Memory>
-    ensures { IfOk result (λ cells. cells ≡ drop 16 state.now.stack) }
-{
-    let mut cells = Felts::new(alloc);
-    for cell in 16..state.depth() {
-        cells.push(state.peek(cell))?;
-    }
-    Ok(cells)
+    pub hidden: Aside,
 }
 
 // A cycle that is no operation, with what its row shows.
 #[derive(Drop)]
 pub(crate) enum Mark {
     StartOpaque,
-    StartSpan([Felt; 8]),
+    StartSpan(Batch),
     StartJoin(Word, Word),
     StartSplit(Word, Word),
     StartLoop(Word),
     StartCall(Word),
     StartSyscall(Word),
-    Respan([Felt; 8]),
+    Respan(Batch),
     Repeat(Word),
     End(Word),
     EndSpan(Word),
@@ -95,7 +67,7 @@ impl Mark {
         let zeros = Word::ZERO;
         match self {
             Mark::StartOpaque => pair(&zeros, &zeros),
-            Mark::StartSpan(batch) | Mark::Respan(batch) => *batch,
+            Mark::StartSpan(batch) | Mark::Respan(batch) => batch.elements,
             Mark::StartJoin(first, second) | Mark::StartSplit(first, second) => pair(first, second),
             Mark::StartLoop(child)
             | Mark::StartCall(child)
@@ -111,7 +83,7 @@ impl Mark {
 }
 
 // One word and then the other.
-fn pair(first: &Word, second: &Word) -> [Felt; 8]
+pub(crate) fn pair(first: &Word, second: &Word) -> [Felt; 8]
     ensures { result ≡ first.now ++ second.now }
 {
     let [a, b, c, d] = first.elements();

@@ -4,11 +4,12 @@ ghost use Rattle.block_tree.specs.TreeView.{tree_of};
 ghost use Rattle.block_tree.specs.Trees.{tree_digest};
 ghost use Rattle.processor.specs.Nodes.{IsHashed, digest_in, node_tree};
 
-use block_tree::{Tree, digest_of_one, digest_of_two};
+use crate::digests::Digests;
+use block_tree::Tree;
 use op_pack::Batches;
-use rpo_hash::{Params, digest_of};
+use rpo_hash::Params;
 use std::alloc::Global;
-use vm_field::{Felt, Memory, Word};
+use vm_field::{Memory, Word};
 use vm_ops::Op;
 
 // A block with its digest in front, so that each digest is computed once.
@@ -41,42 +42,51 @@ impl Node<'_> {
     }
 }
 
-// The tree with its digests.
+// The tree with its digests. A block is hashed once, whatever its copies.
 pub(crate) fn hashed<'a>(alloc: Global, params: &Params, tree: &'a Tree) -> Result<Node<'a>, Memory>
     ensures hashed { IfOk result (λ node. IsHashed (constants_of params.now) node) }
     ensures tree { IfOk result (λ node. node_tree node ≡ tree_of tree.now) }
     ensures digest { IfOk result (λ node. digest_in node ≡ tree_digest (constants_of params.now) (tree_of tree.now)) }
 {
+    let mut digests = Digests::new(alloc, params);
+    node_of(alloc, &mut digests, tree)
+}
+
+// The tree with its digests, of which some may be known.
+fn node_of<'a>(alloc: Global, digests: &mut Digests, tree: &'a Tree) -> Result<Node<'a>, Memory>
+    ensures hashed { IfOk result (λ node. IsHashed (constants_of digests.old.params.now) node) }
+    ensures tree { IfOk result (λ node. node_tree node ≡ tree_of tree.now) }
+    ensures digest { IfOk result (λ node. digest_in node ≡ tree_digest (constants_of digests.old.params.now) (tree_of tree.now)) }
+    ensures params { digests.new.params.now ≡ digests.old.params.now }
+{
     Ok(match tree {
         Tree::Opaque(digest) => Node::Opaque(*digest),
-        Tree::Span(batches) => {
-            Node::Span(digest_of(params, Felt::ZERO, batches.as_slice()), batches)
-        }
+        Tree::Span(batches) => Node::Span(digests.of_span(alloc, batches)?, batches),
         Tree::Join(first, second) => {
-            let first = hashed(alloc, params, first)?;
-            let second = hashed(alloc, params, second)?;
-            let digest = digest_of_two(params, Op::Join, first.digest(), second.digest());
+            let first = node_of(alloc, digests, first)?;
+            let second = node_of(alloc, digests, second)?;
+            let digest = digests.of_two(alloc, Op::Join, first.digest(), second.digest())?;
             Node::Join(digest, Box::new(alloc, first)?, Box::new(alloc, second)?)
         }
         Tree::Split(on_one, on_zero) => {
-            let on_one = hashed(alloc, params, on_one)?;
-            let on_zero = hashed(alloc, params, on_zero)?;
-            let digest = digest_of_two(params, Op::Split, on_one.digest(), on_zero.digest());
+            let on_one = node_of(alloc, digests, on_one)?;
+            let on_zero = node_of(alloc, digests, on_zero)?;
+            let digest = digests.of_two(alloc, Op::Split, on_one.digest(), on_zero.digest())?;
             Node::Split(digest, Box::new(alloc, on_one)?, Box::new(alloc, on_zero)?)
         }
         Tree::Loop(body) => {
-            let body = hashed(alloc, params, body)?;
-            let digest = digest_of_one(params, Op::Loop, body.digest());
+            let body = node_of(alloc, digests, body)?;
+            let digest = digests.of_two(alloc, Op::Loop, body.digest(), Word::ZERO)?;
             Node::Loop(digest, Box::new(alloc, body)?)
         }
         Tree::Call(callee) => {
-            let callee = hashed(alloc, params, callee)?;
-            let digest = digest_of_one(params, Op::Call, callee.digest());
+            let callee = node_of(alloc, digests, callee)?;
+            let digest = digests.of_two(alloc, Op::Call, callee.digest(), Word::ZERO)?;
             Node::Call(digest, Box::new(alloc, callee)?)
         }
         Tree::Syscall(callee) => {
-            let callee = hashed(alloc, params, callee)?;
-            let digest = digest_of_one(params, Op::Syscall, callee.digest());
+            let callee = node_of(alloc, digests, callee)?;
+            let digest = digests.of_two(alloc, Op::Syscall, callee.digest(), Word::ZERO)?;
             Node::Syscall(digest, Box::new(alloc, callee)?)
         }
     })

@@ -739,3 +739,141 @@ fn logs_each_cycle(rt: HostRuntime) {
     assert_eq!(rt; numbers(run.state.word_at(0, 40)), [0; 4]);
     assert_eq!(rt; run.tape.len(), 4);
 }
+
+// What a row shows: its operation, its hash, and the cell on top behind it.
+type Row = (Op, [Felt; 8], u64);
+
+// The run shows these rows.
+fn logs(rt: &impl Abort, alloc: Global, name: &str, made: Made, case: &Case, rows: &[Row]) {
+    let run = ran(rt, alloc, made, case).expect(rt, name);
+    assert_eq!(rt; run.events.len(), rows.len(), "rows of {name}");
+    for (event, (op, hash, result)) in run.events.as_slice().iter().zip(rows) {
+        assert_eq!(rt; event.op, *op, "operation of {name}");
+        assert_eq!(rt; event.hash, *hash, "hash at {op} of {name}");
+        assert_eq!(rt;
+            event.result.value(),
+            *result,
+            "cell on top behind {op} of {name}"
+        );
+    }
+}
+
+// Two digests.
+fn both(first: Word, second: Word) -> [Felt; 8] {
+    behind(first, second.elements())
+}
+
+// A digest, and a 1 at this place behind it.
+fn flagged(digest: Word, place: usize) -> [Felt; 8] {
+    let mut flags = [Felt::ZERO; 4];
+    flags[place % 4] = Felt::ONE;
+    behind(digest, flags)
+}
+
+static NO_HASH: [Felt; 8] = [Felt::ZERO; 8];
+
+#[test]
+fn logs_spans_and_joins(rt: HostRuntime) {
+    let alloc = rt.alloc();
+    let (first, second) = (batch(&[Op::Incr], &[]), batch(&[Op::Neg, Op::Neg], &[]));
+    let two = || two_batches(alloc, &[Op::Incr], &[Op::Neg, Op::Neg]);
+    let one = || span(alloc, &[Op::Incr], &[]);
+    let (of_two, of_one) = (digest_of(&two()), digest_of(&one()));
+    let of_join = digest_of(&join(alloc, two(), one()));
+    let rows: [Row; 11] = [
+        (Op::Join, both(of_two, of_one), 0),
+        (Op::Span, first, 0),
+        (Op::Incr, NO_HASH, 1),
+        (Op::Respan, second, 1),
+        (Op::Neg, NO_HASH, 18446744069414584320),
+        (Op::Neg, NO_HASH, 1),
+        (Op::End, flagged(of_two, 1), 1),
+        (Op::Span, first, 1),
+        (Op::Incr, NO_HASH, 2),
+        (Op::End, flagged(of_one, 1), 2),
+        (Op::End, both(of_join, Word::ZERO), 2),
+    ];
+    logs(
+        &rt,
+        alloc,
+        "join",
+        join(alloc, two(), one()),
+        &plain(),
+        &rows,
+    );
+}
+
+#[test]
+fn logs_loops_of_splits(rt: HostRuntime) {
+    let alloc = rt.alloc();
+    let (first, second) = (batch(&[Op::Noop], &[]), batch(&[Op::Incr], &[]));
+    let on_one = || span(alloc, &[Op::Noop], &[]);
+    let on_zero = || span(alloc, &[Op::Incr], &[]);
+    let halves = || split(alloc, on_one(), on_zero());
+    let (of_one, of_zero) = (digest_of(&on_one()), digest_of(&on_zero()));
+    let of_halves = digest_of(&halves());
+    let of_loop = digest_of(&repeated(alloc, halves()));
+    let rows: [Row; 13] = [
+        (Op::Loop, both(of_halves, Word::ZERO), 1),
+        (Op::Split, both(of_one, of_zero), 1),
+        (Op::Span, first, 1),
+        (Op::Noop, NO_HASH, 1),
+        (Op::End, flagged(of_one, 1), 1),
+        (Op::End, both(of_halves, Word::ZERO), 1),
+        (Op::Repeat, both(of_halves, Word::ZERO), 0),
+        (Op::Split, both(of_one, of_zero), 18446744069414584320),
+        (Op::Span, second, 18446744069414584320),
+        (Op::Incr, NO_HASH, 0),
+        (Op::End, flagged(of_zero, 1), 0),
+        (Op::End, both(of_halves, Word::ZERO), 0),
+        (Op::End, flagged(of_loop, 0), 7),
+    ];
+    let case = Case {
+        stack: &[1, 1, 1, 0, 18446744069414584320, 7],
+        ..plain()
+    };
+    logs(&rt, alloc, "loop", repeated(alloc, halves()), &case, &rows);
+    let skipped: [Row; 2] = [
+        (Op::Loop, both(of_halves, Word::ZERO), 7),
+        (Op::End, both(of_loop, Word::ZERO), 7),
+    ];
+    let case = Case {
+        stack: &[0, 7],
+        ..plain()
+    };
+    logs(
+        &rt,
+        alloc,
+        "no turn",
+        repeated(alloc, halves()),
+        &case,
+        &skipped,
+    );
+}
+
+#[test]
+fn logs_syscalls(rt: HostRuntime) {
+    let alloc = rt.alloc();
+    let callee = || span(alloc, &[Op::Incr], &[]);
+    let of_callee = digest_of(&callee());
+    let of_syscall = digest_of(&syscall(alloc, callee()));
+    let rows: [Row; 5] = [
+        (Op::Syscall, both(of_callee, Word::ZERO), 0),
+        (Op::Span, batch(&[Op::Incr], &[]), 0),
+        (Op::Incr, NO_HASH, 1),
+        (Op::End, flagged(of_callee, 1), 1),
+        (Op::End, flagged(of_syscall, 3), 1),
+    ];
+    let case = Case {
+        kernel: &[of_callee],
+        ..plain()
+    };
+    logs(
+        &rt,
+        alloc,
+        "syscall",
+        syscall(alloc, callee()),
+        &case,
+        &rows,
+    );
+}

@@ -1,4 +1,5 @@
 ghost use Rattle.std.specs.Prelude.{◌≡◌, ◌≤◌, length};
+ghost use Rattle.vm_field.specs.Field.{AreElements};
 
 use vm_field::Felts;
 
@@ -10,6 +11,8 @@ pub struct Inputs {
     pub advice: Felts,
     pub ghost few: { length stack ≤ 16 },
     pub ghost short: { length advice ≤ 1048576 },
+    pub ghost cells: { AreElements stack },
+    pub ghost elements: { AreElements advice },
 }
 
 impl Inputs {
@@ -26,6 +29,7 @@ impl Inputs {
         ensures stack { result.stack ≡ stack }
         ensures advice { result.advice ≡ advice }
     {
+        let _ = (stack.len(), advice.len());
         Inputs { stack, advice }
     }
 }

@@ -2,6 +2,7 @@
 //! that a run proves.
 #![tactic(auto)]
 
+mod aside;
 mod inputs;
 mod laws;
 mod memory;
@@ -12,6 +13,7 @@ mod tape;
 #[cfg(test)]
 mod tests;
 
+pub use aside::Aside;
 pub use inputs::Inputs;
 pub use laws::types_cross;
 pub use state::State;

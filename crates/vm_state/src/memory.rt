@@ -1,6 +1,6 @@
-ghost use Rattle.std.specs.Prelude.{◌≡◌, OnOk, OnErr};
+ghost use Rattle.std.specs.Prelude.{◌≡◌, ℕ, OnOk, OnErr};
 ghost use Rattle.std.specs.FinMap as map;
-ghost use Rattle.vm_field.specs.Machine.{word_at};
+ghost use Rattle.vm_field.specs.Machine.{IsWord, word_at};
 
 use std::alloc::Global;
 use std::collections::BTreeMap;
@@ -14,7 +14,8 @@ pub(crate) struct WordMemory {
 }
 
 impl Model for WordMemory {
-    ghost use Rattle.vm_field.specs.Machine.{WordMap};
+    ghost use Rattle.std.specs.Prelude.{ℕ};
+    ghost use Rattle.vm_field.specs.Machine.{IsWord, WordMap, word_at};
     ghost use Rattle.vm_state.specs.Memory.{words_code, words_of};
 
     ghost Value = { WordMap };
@@ -22,6 +23,8 @@ impl Model for WordMemory {
     ghost coded = { words_code };
 
     ghost view = { λ a. words_of a.words.entries };
+
+    ghost invariant = { λ a. (context address : ℕ) → IsWord (word_at (words_of a.words.entries) context address) };
 }
 
 impl WordMemory {
@@ -32,6 +35,13 @@ impl WordMemory {
         WordMemory {
             words: BTreeMap::new(alloc),
         }
+    }
+
+    // There is a word at each place.
+    pub fn known(&self)
+        ensures { (context address : ℕ) → IsWord (word_at self.now context address) }
+    {
+        let _ = &self.words;
     }
 
     // The word at an address of a context.
@@ -51,7 +61,9 @@ impl WordMemory {
         ensures ok { OnOk result (self.new ≡ map.insert self.old (context, address) word) }
         ensures err { OnErr result (self.new ≡ self.old) }
     {
-        self.words.insert((context, address), Word(word))?;
+        let word = Word(word);
+        word.known();
+        self.words.insert((context, address), word)?;
         Ok(())
     }
 }

@@ -1,10 +1,12 @@
 ghost use Rattle.std.specs.Prelude.{◌≡◌, ◌<◌, ◌≤◌, [], ◌∷◌, ◌++◌, drop, length, take, slice_index, slice_set, OnOk, OnErr, IfOk};
-ghost use Rattle.vm_field.specs.Field.{prime};
+ghost use Rattle.vm_field.specs.Field.{AreElements, prime};
 ghost use Rattle.vm_field.specs.Machine.{filled_up};
 
+use crate::aside::Aside;
 use std::alloc::Global;
 use std::marker::Model;
-use vm_field::{Felt, Felts, Memory, felt_at};
+use std::mem;
+use vm_field::{Felt, Felts, Memory, felt_at, known_elements};
 
 /// How many cells operations see.
 pub(crate) const VISIBLE: usize = 16;
@@ -20,12 +22,13 @@ pub(crate) struct Stack {
 
 impl Model for Stack {
     ghost use Rattle.std.specs.Prelude.{◌≡◌, ℕ, List, ◌++◌, length, reverse};
+    ghost use Rattle.vm_field.specs.Field.{AreElements};
 
     ghost Value = { List ℕ };
 
     ghost view = { λ a. a.top ++ reverse a.below.items };
 
-    ghost invariant = { λ a. length a.top ≡ 16 };
+    ghost invariant = { λ a. (length a.top ≡ 16) × AreElements a.top × AreElements a.below.items };
 }
 
 impl Stack {
@@ -38,12 +41,22 @@ impl Stack {
         top[..visible].copy_from_slice(&cells[..visible]);
         let mut below = Vec::from_slice(alloc, &cells[visible..])?;
         below.reverse();
+        known_elements(&top);
+        known_elements(below.as_slice());
         Ok(Stack { top, below })
+    }
+
+    // The cells are elements.
+    pub fn known(&self)
+        ensures { AreElements self.now }
+    {
+        let _ = &self.top;
     }
 
     // How many cells there are.
     pub fn depth(&self) -> usize
-        ensures { result ≡ length self.now }
+        ensures is { result ≡ length self.now }
+        ensures deep { 16 ≤ result }
     {
         VISIBLE + self.below.len()
     }
@@ -77,9 +90,11 @@ impl Stack {
         ensures err { OnErr result (self.new ≡ self.old) }
     {
         let lowest = self.top[VISIBLE - 1];
+        let _ = lowest.value();
         self.below.push(lowest)?;
         self.top.rotate_right(1);
         self.top[0] = v;
+        known_elements(&self.top);
         Ok(())
     }
 
@@ -90,6 +105,7 @@ impl Stack {
         let incoming = self.below.pop().unwrap_or(Felt::ZERO);
         self.top.rotate_left(1);
         self.top[VISIBLE - 1] = incoming;
+        known_elements(&self.top);
     }
 
     // Overwrites a visible cell.
@@ -98,6 +114,7 @@ impl Stack {
         ensures { self.new ≡ slice_set self.old cell v }
     {
         self.top[cell] = v;
+        known_elements(&self.top);
     }
 
     // Takes out the cells below the visible ones.
@@ -117,8 +134,28 @@ impl Stack {
         ensures ok { OnOk result (self.new ≡ self.old ++ hidden.now) }
         ensures err { OnErr result (self.new ≡ self.old) }
     {
+        known_elements(hidden);
         self.below.extend_from_slice(hidden)?;
         self.below.reverse();
         Ok(())
+    }
+
+    // Takes out the cells below the visible ones, as they are kept.
+    pub fn set_aside(&mut self) -> Aside
+        ensures aside { result ≡ drop 16 self.old }
+        ensures left { self.new ≡ take 16 self.old }
+    {
+        let none = Vec::new(*self.below.allocator());
+        Aside {
+            below: mem::replace(&mut self.below, none),
+        }
+    }
+
+    // Puts what was set aside below the visible cells, where there are no others.
+    pub fn bring_back(&mut self, aside: Aside)
+        requires { length self.old ≡ 16 }
+        ensures { self.new ≡ self.old ++ aside }
+    {
+        self.below = aside.below;
     }
 }

@@ -1,10 +1,11 @@
-ghost use Rattle.std.specs.Prelude.{◌≡◌, ◌<◌, [], ◌∷◌, ◌++◌, drop, length, take, slice_index, slice_set, Some, None, OnOk, OnErr, IfOk};
+ghost use Rattle.std.specs.Prelude.{◌≡◌, ◌<◌, ◌≤◌, [], ◌∷◌, ◌++◌, drop, length, take, slice_index, slice_set, Some, None, OnOk, OnErr, IfOk};
 ghost use Rattle.std.specs.FinMap as map;
 ghost use Rattle.vm_field.specs.Field.{prime};
-ghost use Rattle.vm_field.specs.Machine.{filled_up, start, word_at};
+ghost use Rattle.vm_field.specs.Machine.{IsWellFormed, filled_up, start, word_at};
 ghost use Rattle.vm_state.specs.Views.{state_of};
 ghost use Rattle.vm_state.specs.Tapes.{Taken};
 
+use crate::aside::Aside;
 use crate::inputs::Inputs;
 use crate::memory::WordMemory;
 use crate::stack::Stack;
@@ -54,9 +55,23 @@ impl State {
         })
     }
 
+    /// Reads the state, so that a proof learns that each part is made of elements. A run does
+    /// nothing.
+    pub fn known(&self)
+        ensures { IsWellFormed (state_of self.now) }
+    {
+        self.stack.known();
+        let _ = self.stack.depth();
+        let _ = self.fmp.value();
+        self.digest.known();
+        self.memory.known();
+        self.tape.known();
+    }
+
     /// How many cells the stack has.
     pub fn depth(&self) -> usize
-        ensures { result ≡ length self.now.stack }
+        ensures is { result ≡ length self.now.stack }
+        ensures deep { 16 ≤ result }
     {
         self.stack.depth()
     }
@@ -116,6 +131,23 @@ impl State {
         ensures err { OnErr result (self.new ≡ self.old) }
     {
         self.stack.restore(hidden.as_slice())
+    }
+
+    /// Moves the cells below the sixteenth out of the stack. It takes no memory, and the time that
+    /// it takes does not grow with the depth.
+    pub fn set_aside(&mut self) -> Aside
+        ensures aside { result ≡ drop 16 self.old.stack }
+        ensures left { self.new ≡ record self.old { stack = take 16 self.old.stack } }
+    {
+        self.stack.set_aside()
+    }
+
+    /// Moves these cells below the sixteen that stand, as `set_aside` does.
+    pub fn bring_back(&mut self, aside: Aside)
+        requires { length self.old.stack ≡ 16 }
+        ensures { self.new ≡ record self.old { stack = self.old.stack ++ aside } }
+    {
+        self.stack.bring_back(aside);
     }
 
     /// The word of memory at an address of a context, which is zero where none was stored.

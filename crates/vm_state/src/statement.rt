@@ -1,4 +1,6 @@
-ghost use Rattle.std.specs.Prelude.{◌≡◌, ◌≤◌, length, nat_eq};
+ghost use Rattle.std.specs.Prelude.{◌≡◌, ◌≤◌, All, length, nat_eq};
+ghost use Rattle.vm_field.specs.Field.{AreElements};
+ghost use Rattle.vm_field.specs.Machine.{IsWord};
 ghost use Rattle.std.specs.List.{IsDistinct};
 ghost use Rattle.std.proofs.lemmas.Map.Keys.{IsDistinct-prop};
 ghost use lib.Pointwise.{pointwise};
@@ -18,6 +20,10 @@ pub struct Statement {
     pub ghost inputs_few: { length inputs ≤ 16 },
     pub ghost outputs_full: { 16 ≤ length outputs },
     pub ghost outputs_few: { length outputs ≤ 524303 },
+    pub ghost digest_word: { IsWord digest },
+    pub ghost kernel_words: { All IsWord kernel },
+    pub ghost inputs_below: { AreElements inputs },
+    pub ghost outputs_below: { AreElements outputs },
 }
 
 impl Statement {
@@ -42,6 +48,8 @@ impl Statement {
         ensures inputs { result.inputs ≡ inputs }
         ensures outputs { result.outputs ≡ outputs }
     {
+        digest.known();
+        let _ = (kernel.len(), inputs.len(), outputs.len());
         Statement {
             digest,
             kernel,

@@ -1,10 +1,10 @@
 ghost use Rattle.std.specs.Prelude.{◌≡◌, ◌<◌, length, slice_index, IfOk};
-ghost use Rattle.vm_field.specs.Field.{prime};
+ghost use Rattle.vm_field.specs.Field.{AreElements, prime};
 ghost use Rattle.vm_state.specs.Tapes.{Taken};
 
 use std::alloc::Global;
 use std::marker::Model;
-use vm_field::{Felt, Memory, felt_at};
+use vm_field::{Felt, Memory, felt_at, known_elements};
 
 // The advice that is left.
 #[derive(Drop)]
@@ -19,6 +19,10 @@ impl Model for Tape {
     ghost Value = { List ℕ };
 
     ghost view = { λ a. reverse a.elements.items };
+
+    ghost use Rattle.vm_field.specs.Field.{AreElements};
+
+    ghost invariant = { λ a. AreElements a.elements.items };
 }
 
 impl Tape {
@@ -28,7 +32,15 @@ impl Tape {
     {
         let mut elements = Vec::from_slice(alloc, elements)?;
         elements.reverse();
+        known_elements(elements.as_slice());
         Ok(Tape { elements })
+    }
+
+    // They are elements.
+    pub fn known(&self)
+        ensures { AreElements self.now }
+    {
+        let _ = &self.elements;
     }
 
     // Takes the next element.

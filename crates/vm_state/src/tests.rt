@@ -62,16 +62,27 @@ fn keeps_cells(rt: HostRuntime) -> Result<(), Fail> {
     let hidden = state.hide()?;
     assert_eq!(rt; state.depth(), 16);
     assert_eq!(rt; hidden.as_slice(), [element(16), Felt::ZERO].as_slice());
-    if state.depth() == 16 {
-        state.restore(&hidden)?;
-    }
+    state.restore(&hidden)?;
     assert_eq!(rt; state.depth(), 18);
-    if state.depth() == 18 {
-        assert_eq!(rt; state.peek(0), element(32));
-        assert_eq!(rt; state.peek(15), element(33));
-        assert_eq!(rt; state.peek(16), element(16));
-        assert_eq!(rt; state.peek(17), Felt::ZERO);
-    }
+    assert_eq!(rt; state.peek(0), element(32));
+    assert_eq!(rt; state.peek(15), element(33));
+    assert_eq!(rt; state.peek(16), element(16));
+    assert_eq!(rt; state.peek(17), Felt::ZERO);
+    Ok(())
+}
+
+#[test]
+fn sets_cells_aside(rt: HostRuntime) -> Result<(), Fail> {
+    let mut state = started(rt.alloc())?;
+    state.push(element(31))?;
+    state.push(element(32))?;
+    let aside = state.set_aside();
+    assert_eq!(rt; state.depth(), 16);
+    state.drop_top();
+    state.bring_back(aside);
+    assert_eq!(rt; state.depth(), 18);
+    // behind the zero that came in
+    assert_eq!(rt; (state.peek(15), state.peek(16), state.peek(17)), (Felt::ZERO, element(15), element(16)));
     Ok(())
 }
 
@@ -84,9 +95,8 @@ fn keeps_words_and_the_tape(rt: HostRuntime) -> Result<(), Fail> {
     assert_eq!(rt; state.word_at(4294967295, 7), [Felt::ZERO; 4]);
     state.store(7, 4294967295, [Felt::ONE; 4])?;
     assert_eq!(rt; state.word_at(7, 4294967295), [Felt::ONE; 4]);
-    if 2 < state.advice_left() {
-        assert_eq!(rt; state.advice_at(2), element(23));
-    }
+    assert!(rt; 2 < state.advice_left());
+    assert_eq!(rt; state.advice_at(2), element(23));
     assert_eq!(rt; state.next_advice(), Some(element(21)));
     assert_eq!(rt; state.next_advice(), Some(element(22)));
     assert_eq!(rt; state.next_advice(), Some(element(23)));
@@ -98,16 +108,15 @@ fn keeps_words_and_the_tape(rt: HostRuntime) -> Result<(), Fail> {
 #[test]
 fn holds_a_statement(rt: HostRuntime) -> Result<(), Fail> {
     let outputs = counted(rt.alloc(), 1, 17)?;
-    if outputs.len() == 16 {
-        let statement = Statement::new(
-            Word::ZERO,
-            Words::new(rt.alloc()),
-            Felts::new(rt.alloc()),
-            outputs,
-        );
-        assert_eq!(rt; statement.outputs.len(), 16);
-        assert_eq!(rt; statement.kernel.len(), 0);
-    }
+    assert!(rt; outputs.len() == 16);
+    let statement = Statement::new(
+        Word::ZERO,
+        Words::new(rt.alloc()),
+        Felts::new(rt.alloc()),
+        outputs,
+    );
+    assert_eq!(rt; statement.outputs.len(), 16);
+    assert_eq!(rt; statement.kernel.len(), 0);
     types_cross();
     Ok(())
 }

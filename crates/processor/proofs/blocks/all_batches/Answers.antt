@@ -9,12 +9,12 @@ use Rattle.processor.proofs.blocks.all_batches.Goals as goal
 pub returns-in_err-cycle-in-Some : goal.returns-in_err-cycle-in-Some
 returns-in_err-cycle-in-Some c =
     ran-along (ap (λ bs. batches_in c.args.setting.now StartSpan bs (state_of c.args.runner.now.state)) c.in-Some.ensures.cases.0)
-    (ran-fail _ _ (search rules) c.in_err-cycle-in-Some.ensures)
+    (ran-fail _ _ (search rules) c.in_err-cycle-in-Some.ensures.ran)
 
 pub returns-in_err-batch_operations-in-Some : goal.returns-in_err-batch_operations-in-Some
 returns-in_err-batch_operations-in-Some c =
     ran-along (ap (λ bs. batches_in c.args.setting.now StartSpan bs (state_of c.args.runner.now.state)) c.in-Some.ensures.cases.0)
-    (ran-then _ _ c.in_ok-cycle-in-Some.ensures (ran-fail _ _ (search rules) c.in_err-batch_operations-in-Some.ensures))
+    (ran-then _ _ c.in_ok-cycle-in-Some.ensures.ran (ran-fail _ _ (search rules) c.in_err-batch_operations-in-Some.ensures))
 
 pub returns-in-None : goal.returns-in-None
 returns-in-None c =
@@ -24,4 +24,4 @@ returns-in-None c =
 pub returns-in_ok-batch_operations-in-Some : goal.returns-in_ok-batch_operations-in-Some
 returns-in_ok-batch_operations-in-Some c =
     ran-along (ap (λ bs. batches_in c.args.setting.now StartSpan bs (state_of c.args.runner.now.state)) c.in-Some.ensures.cases.0)
-    (ran-then _ _ c.in_ok-cycle-in-Some.ensures (ran-then _ _ c.in_ok-batch_operations-in-Some.ensures c.later_batches.ensures))
+    (ran-then _ _ c.in_ok-cycle-in-Some.ensures.ran (ran-then _ _ c.in_ok-batch_operations-in-Some.ensures c.later_batches.ensures))

@@ -7,7 +7,7 @@ use Rattle.processor.proofs.RunLemmas.{ran-along, ran-skip}
 use Rattle.processor.proofs.blocks.batch_operations.Goals as goal
 
 pub all_operations-requires : goal.all_operations-requires
-all_operations-requires c = record { ordinary = reading-ordinary c.args.batch.now c.as_slice.result.now (search rules) }
+all_operations-requires c = record { ordinary = reading-ordinary c.args.batch.now c.as_slice.result.now c.known_elements.ensures (search rules) }
 
 pub returns-in-None : goal.returns-in-None
 returns-in-None c =

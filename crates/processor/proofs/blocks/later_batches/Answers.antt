@@ -12,7 +12,7 @@ returns-in_err-cycle c =
     left-fail (cycle_in c.args.setting.now (Respan c.batch-item.result))
     (seq (read_operations_in c.args.setting.now (reading c.batch-item.result)) (batches_in c.args.setting.now Respan (drop (c.loop-batch.batch-index + 1) c.args.batches.now)))
     (left-batch c.args.setting.now c.args.batches.now c.loop-batch.batch-index c.batch-item.result c.loop-batch-test.true c.batch-item.is c.loop-batch.invariant)
-    (search rules) c.in_err-cycle.ensures
+    (search rules) c.in_err-cycle.ensures.ran
 
 pub returns-in_err-batch_operations : goal.returns-in_err-batch_operations
 returns-in_err-batch_operations c =
@@ -20,7 +20,7 @@ returns-in_err-batch_operations c =
     (left-next (cycle_in c.args.setting.now (Respan c.batch-item.result))
     (seq (read_operations_in c.args.setting.now (reading c.batch-item.result)) (batches_in c.args.setting.now Respan (drop (c.loop-batch.batch-index + 1) c.args.batches.now)))
     (left-batch c.args.setting.now c.args.batches.now c.loop-batch.batch-index c.batch-item.result c.loop-batch-test.true c.batch-item.is c.loop-batch.invariant)
-    c.in_ok-cycle.ensures)
+    c.in_ok-cycle.ensures.ran)
     (search rules) c.in_err-batch_operations.ensures
 
 pub loop-batch-preserved : goal.loop-batch-preserved
@@ -29,7 +29,7 @@ loop-batch-preserved c =
     (left-next (cycle_in c.args.setting.now (Respan c.batch-item.result))
     (seq (read_operations_in c.args.setting.now (reading c.batch-item.result)) (batches_in c.args.setting.now Respan (drop (c.loop-batch.batch-index + 1) c.args.batches.now)))
     (left-batch c.args.setting.now c.args.batches.now c.loop-batch.batch-index c.batch-item.result c.loop-batch-test.true c.batch-item.is c.loop-batch.invariant)
-    c.in_ok-cycle.ensures)
+    c.in_ok-cycle.ensures.ran)
     c.in_ok-batch_operations.ensures
 
 pub returns : goal.returns

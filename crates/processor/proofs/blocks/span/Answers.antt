@@ -12,4 +12,4 @@ returns-in_err-all_batches c =
 pub returns : goal.returns
 returns c =
     ran-along (span-as c.args.setting.now c.args.batches.now c.as_slice.result.now c.args.digest.now (state_of c.args.runner.now.state) c.as_slice.ensures.items c.requires.digest)
-    (ran-then _ _ c.in_ok-all_batches.ensures c.cycle.ensures)
+    (ran-then _ _ c.in_ok-all_batches.ensures c.cycle.ensures.ran)

@@ -4,17 +4,17 @@ use Rattle.processor.proofs.CycleLemmas.{ran-late, mark-stop, mark-done}
 use Rattle.vm_state.specs.Views.{state_of}
 use Rattle.processor.proofs.cycle.cycle.Goals as goal
 
-pub returns-in_err-before : goal.returns-in_err-before
-returns-in_err-before c =
-    ran-late c.args.setting.now (mark_of c.args.mark.now) (state_of c.args.runner.now.state) c.in_err-before.ensures.1 (search rules)
+pub returns-in_err-before-clause-ran : goal.returns-in_err-before-clause-ran
+returns-in_err-before-clause-ran c =
+    ran-late c.args.setting.now (mark_of c.args.mark) (state_of c.args.runner.now.state) c.in_err-before.ensures.1 (search rules)
 
-pub returns-in-Err : goal.returns-in-Err
-returns-in-Err c =
-    mark-stop c.args.setting.now c.args.mark.now c.args.runner.now.state c.effect.new.state c.in-Err.stop c.in_ok-before.before c.stop_at.result
-    c.in_ok-before.ensures c.stop_at.ensures c.in-Err.ensures
+pub returns-in-Err-clause-ran : goal.returns-in-Err-clause-ran
+returns-in-Err-clause-ran c =
+    mark-stop c.args.setting.now c.args.mark c.args.runner.now.state c.effect.new.state c.in-Err.stop c.in_ok-before.before c.stop_at.result
+    c.in_ok-before.ensures c.stop_at.ensures c.in-Err.ensures.effect
 
-pub returns : goal.returns
-returns c =
-    mark-done c.args.setting.now c.args.mark.now c.args.runner.now.state c.effect.new.state
-    c.op.result c.in_ok-before.before c.elements.result c.elements-2.result c.hash.result c.top_of.result
-    c.in_ok-before.ensures c.in_default.ensures refl c.op.ensures c.elements.ensures c.elements-2.ensures c.hash.ensures c.top_of.ensures c.in_ok-push.ensures.ok
+pub returns-clause-ran : goal.returns-clause-ran
+returns-clause-ran c =
+    mark-done c.args.setting.now c.args.mark c.args.runner.now.state c.effect.new.state
+    c.op-op.result c.in_ok-before.before c.elements.result c.elements-2.result c.hash-hash.result c.top_of.result
+    c.in_ok-before.ensures c.in_default.ensures.effect refl c.op-op.ensures c.elements.ensures c.elements-2.ensures c.hash-hash.ensures c.top_of.ensures c.in_ok-push.ensures.ok

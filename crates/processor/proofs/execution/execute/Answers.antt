@@ -1,5 +1,6 @@
 use Rattle.std.proofs.Common.{refl}
 use Rattle.vm_state.specs.Views.{state_of}
+use Rattle.processor.specs.Executed.{IsRunOf}
 use Rattle.processor.specs.Nodes.{node_tree}
 use Rattle.processor.proofs.ExecutionLemmas.{run_of, tape_fits}
 use Rattle.processor.proofs.execution.execute.Goals as goal
@@ -11,6 +12,8 @@ overflow_sub-taken c =
 
 pub returns : goal.returns
 returns c =
+    let run : IsRunOf c.args.params.now c.args.program.now c.args.inputs.now c.args.limit _ =
     run_of (node_tree c.in_ok-node.node) (state_of c.in_ok-start.field-0) c.args.inputs.now c.args.params.now c.args.program.now c.args.limit c.in_ok-copied.field-0
     c.in_ok-block.ensures c.new.ensures.empty refl c.as_slice.ensures.items refl c.in_ok-node.ensures.tree c.in_ok-start.ensures
-    (rw (← c.as_slice-advice.ensures.items, ← c.advice_left.ensures) c.in_ok-copied.ensures.items)
+    (rw (← c.as_slice-advice.ensures.items, ← c.advice_left.ensures) c.in_ok-copied.ensures.items) in
+    record { is = run; was = record { inputs = c.args.inputs.now; limit = c.args.limit; below = c.requires.limit; ran = run } }

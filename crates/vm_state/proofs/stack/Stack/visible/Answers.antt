@@ -3,4 +3,4 @@ use Rattle.vm_state.proofs.StackLemmas.{visible-is}
 use Rattle.vm_state.proofs.stack.Stack.visible.Goals as goal
 
 pub returns : goal.returns
-returns c = visible-is _ _ c.self.invariant ∙ ap (take 16) c.self.view_is
+returns c = visible-is _ _ c.self.invariant.0 ∙ ap (take 16) c.self.view_is

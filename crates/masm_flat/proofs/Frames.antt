@@ -1,0 +1,20 @@
+-- The list of a procedure with locals.
+use Rattle.std.proofs.Common.{◌≡◌, ℕ, zero, suc, ◌<◌, ◌-◌, List, [], ◌∷◌, ◌++◌, refl, arith}
+use Rattle.vm_field.specs.Field.{prime}
+use Rattle.vm_ops.specs.declared.op.Op.TheVariants.{FmpUpdate}
+use Rattle.vm_ops.specs.Items.{plain_item}
+use Rattle.masm_instr.specs.Expansion.{lit}
+use Rattle.masm_flat.specs.Blocks.{Piece, Operation}
+use Rattle.masm_flat.specs.Lists.{with_locals}
+
+pub with_none : {A : Type 0} (n : ℕ) (pieces : List (Piece A)) → n ≡ 0 → with_locals n pieces ≡ pieces
+with_none zero pieces h = refl
+with_none (suc n) pieces h = absurd (omega arith)
+
+pub with_some : {A : Type 0} (n : ℕ) (pieces : List (Piece A)) → 0 < n
+    → with_locals n pieces
+    ≡ Operation (lit n) ∷ Operation (plain_item FmpUpdate) ∷ (pieces ++ Operation (lit (prime - n)) ∷ Operation (plain_item FmpUpdate) ∷ [])
+with_some zero pieces h = absurd (omega arith)
+with_some (suc n) pieces h = refl
+
+pub ruleset frames = (with_none, with_some)

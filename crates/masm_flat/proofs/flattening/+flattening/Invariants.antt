@@ -1,0 +1,28 @@
+use Rattle.std.proofs.Common.{◌≡◌, ◌+◌, ◌*◌, ◌≤◌, ◌++◌, drop}
+use Rattle.masm_parse.specs.Trees.{Empty}
+use Rattle.masm_parse.specs.Views.{stmt_view, body_of}
+use Rattle.masm_flat.specs.Blocks.{as_tree}
+use Rattle.masm_flat.specs.Flattening.{flat_with}
+use Rattle.masm_parse.specs.Locals.{HasLocals}
+use Rattle.masm_flat.specs.KnownLists.{known_of}
+use Rattle.masm_flat.specs.Views.{pieces_of}
+use Rattle.masm_flat.proofs.Statements.{weight}
+use Rattle.masm_flat.proofs.flattening.+flattening.Given as goal
+
+abbrev pub invariant-flatten-loop-stmt : goal.invariant-flatten-loop-stmt
+invariant-flatten-loop-stmt l = record {
+  flat :
+      pieces_of l.out.items ++ flat_with as_tree (known_of l.lists) l.locals (body_of (drop l.stmt-index l.body))
+      ≡ pieces_of l.fn.out.items ++ flat_with as_tree (known_of l.lists) l.locals (body_of l.body);
+  locals : HasLocals l.locals (body_of (drop l.stmt-index l.body));
+  light : weight (body_of (drop l.stmt-index l.body)) ≤ weight (body_of l.body);
+}
+
+abbrev pub decreases-flatten : goal.decreases-flatten
+decreases-flatten l = 3 * weight (body_of l.body.now) + 1
+
+abbrev pub decreases-add_statement : goal.decreases-add_statement
+decreases-add_statement l = 3 * weight (stmt_view l.stmt.now Empty)
+
+abbrev pub decreases-list_of : goal.decreases-list_of
+decreases-list_of l = 3 * weight (body_of l.body.now) + 2

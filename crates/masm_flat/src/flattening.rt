@@ -1,0 +1,115 @@
+ghost use Rattle.std.specs.Prelude.{◌≡◌, ◌++◌, IfOk, OnOk};
+ghost use Rattle.block_tree.specs.Trees as trees;
+ghost use Rattle.block_tree.specs.TreeView.{tree_of};
+ghost use Rattle.masm_parse.specs.Trees.{Empty};
+ghost use Rattle.masm_parse.specs.Views.{stmt_view, body_of};
+ghost use Rattle.masm_flat.specs.Blocks.{as_tree, whole};
+ghost use Rattle.masm_flat.specs.Flattening.{flat_with};
+ghost use Rattle.masm_parse.specs.Locals.{HasLocals};
+ghost use Rattle.masm_flat.specs.KnownLists.{known_of};
+ghost use Rattle.masm_flat.specs.Views.{pieces_of};
+
+use crate::appending::{add_copies, add_instr, add_times, add_tree};
+use crate::joining::tree_of_list;
+use crate::known::Lists;
+use crate::piece::Piece;
+use block_tree::Tree;
+use masm_parse::Stmt;
+use std::alloc::Global;
+use vm_field::{Bytes, Memory};
+
+// A call of the procedure of that name.
+fn called(alloc: Global, lists: &Lists, name: &Bytes) -> Result<Tree, Memory>
+    ensures { IfOk result (λ tree. tree_of tree ≡ trees.Call (whole as_tree ((known_of lists.now).list name.now))) }
+{
+    let mut list = Vec::new(alloc);
+    add_copies(alloc, lists.list(name), &mut list)?;
+    Ok(Tree::Call(Box::new(alloc, tree_of_list(alloc, list)?)?))
+}
+
+// A call of the kernel's procedure of that name.
+fn kernel_called(alloc: Global, lists: &Lists, name: &Bytes) -> Result<Tree, Memory>
+    ensures { IfOk result (λ tree. tree_of tree ≡ trees.Syscall ((known_of lists.now).exported name.now)) }
+{
+    Ok(Tree::Syscall(Box::new(alloc, lists.exported(alloc, name)?)?))
+}
+
+// A block that takes the list of either of two bodies.
+fn split(alloc: Global, on_one: Vec<Piece>, on_zero: Vec<Piece>) -> Result<Tree, Memory>
+    ensures { IfOk result (λ tree. tree_of tree ≡ trees.Split (whole as_tree (pieces_of on_one.items)) (whole as_tree (pieces_of on_zero.items))) }
+{
+    let on_one = tree_of_list(alloc, on_one)?;
+    let on_zero = tree_of_list(alloc, on_zero)?;
+    Ok(Tree::Split(Box::new(alloc, on_one)?, Box::new(alloc, on_zero)?))
+}
+
+// A block that runs a list again and again.
+fn repeating(alloc: Global, turn: Vec<Piece>) -> Result<Tree, Memory>
+    ensures { IfOk result (λ tree. tree_of tree ≡ trees.Loop (whole as_tree (pieces_of turn.items))) }
+{
+    Ok(Tree::Loop(Box::new(alloc, tree_of_list(alloc, turn)?)?))
+}
+
+/// Adds the list of a body (docs/ASSEMBLY.md, "Blocks"), in a procedure of so many locals, where
+/// the lists of the procedures that it uses are given.
+#[cycle(flattening)]
+pub fn flatten(
+    alloc: Global,
+    lists: &Lists,
+    locals: u32,
+    body: &[Stmt],
+    out: &mut Vec<Piece>,
+) -> Result<(), Memory>
+    requires { HasLocals locals (body_of body.now) }
+    ensures { OnOk result (pieces_of out.new.items ≡ pieces_of out.old.items ++ flat_with as_tree (known_of lists.now) locals (body_of body.now)) }
+{
+    for stmt in body {
+        add_statement(alloc, lists, locals, stmt, out)?;
+    }
+    Ok(())
+}
+
+// The list of one statement.
+#[cycle(flattening)]
+#[tactic(auto, using(crate::proofs::Statements::lists))]
+fn add_statement(
+    alloc: Global,
+    lists: &Lists,
+    locals: u32,
+    stmt: &Stmt,
+    out: &mut Vec<Piece>,
+) -> Result<(), Memory>
+    requires { HasLocals locals (stmt_view stmt.now Empty) }
+    ensures { OnOk result (pieces_of out.new.items ≡ pieces_of out.old.items ++ flat_with as_tree (known_of lists.now) locals (stmt_view stmt.now Empty)) }
+{
+    match stmt {
+        Stmt::Instr(_, instr) => add_instr(alloc, instr, locals, out),
+        Stmt::Exec(_, name) => add_copies(alloc, lists.list(name), out),
+        Stmt::Call(_, name) => add_tree(called(alloc, lists, name)?, out),
+        Stmt::Syscall(_, name) => add_tree(kernel_called(alloc, lists, name)?, out),
+        Stmt::If(_, first, second) => {
+            let on_one = list_of(alloc, lists, locals, first)?;
+            let on_zero = list_of(alloc, lists, locals, second)?;
+            add_tree(split(alloc, on_one, on_zero)?, out)
+        }
+        Stmt::While(_, turn) => {
+            let list = list_of(alloc, lists, locals, turn)?;
+            add_tree(repeating(alloc, list)?, out)
+        }
+        Stmt::Repeat(_, count, turn) => {
+            let list = list_of(alloc, lists, locals, turn)?;
+            add_times(alloc, *count, &list, out)
+        }
+    }
+}
+
+// The list of a body alone.
+#[cycle(flattening)]
+fn list_of(alloc: Global, lists: &Lists, locals: u32, body: &[Stmt]) -> Result<Vec<Piece>, Memory>
+    requires { HasLocals locals (body_of body.now) }
+    ensures { IfOk result (λ list. pieces_of list.items ≡ flat_with as_tree (known_of lists.now) locals (body_of body.now)) }
+{
+    let mut list = Vec::new(alloc);
+    flatten(alloc, lists, locals, body, &mut list)?;
+    Ok(list)
+}

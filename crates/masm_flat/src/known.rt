@@ -1,0 +1,75 @@
+ghost use Rattle.std.specs.Prelude.{◌≡◌, IfOk};
+ghost use Rattle.std.specs.List.{find};
+ghost use Rattle.std.specs.Option.{option_copied};
+ghost use Rattle.std.specs.Str.{bytes_eq};
+ghost use Rattle.block_tree.specs.TreeView.{tree_of};
+ghost use Rattle.masm_flat.specs.KnownLists.{list_at, known_of};
+ghost use Rattle.masm_flat.specs.Views.{pieces_of};
+
+use crate::piece::Piece;
+use crate::shape::Extent;
+use block_tree::{Tree, copy};
+use masm_uses::Names;
+use std::alloc::Global;
+use vm_field::{Bytes, Memory, Word};
+
+/// A procedure that a kernel exports, by its name, with its tree.
+#[derive(Drop)]
+pub struct KernelProc {
+    pub name: Bytes,
+    pub tree: Tree,
+    /// How large the tree is.
+    pub extent: Extent,
+}
+
+/// What is known of procedures when a body is flattened.
+#[derive(Clone, Copy)]
+pub struct Lists<'a> {
+    /// The places of the names of the source's procedures.
+    pub names: &'a Names,
+    /// The lists of the source's procedures, in order; of one that is missing the list is empty.
+    pub lists: &'a [Vec<Piece>],
+    /// The procedures that the kernel exports.
+    pub kernel: &'a [KernelProc],
+}
+
+// The list of this number; it is empty where there is none.
+fn numbered<'a>(lists: &'a [Vec<Piece>], number: Option<usize>) -> &'a [Piece]
+    ensures { pieces_of result.now ≡ list_at lists.now number }
+{
+    let Some(number) = number else {
+        return &[];
+    };
+    if number < lists.len() {
+        lists[number].as_slice()
+    } else {
+        &[]
+    }
+}
+
+// The kernel's first procedure of that name.
+pub(crate) fn first<'a>(kernel: &'a [KernelProc], name: &Bytes) -> Option<&'a KernelProc>
+    ensures { option_copied result ≡ find (λ p. bytes_eq p.name name.now) kernel.now }
+{
+    kernel.iter().find(|p| p.name == *name)
+}
+
+impl<'a> Lists<'a> {
+    /// The list of the first procedure of that name. It is empty where there is none.
+    pub fn list(&self, name: &Bytes) -> &'a [Piece]
+        ensures { pieces_of result.now ≡ (known_of self.now).list name.now }
+    {
+        numbered(self.lists, self.names.place(name.as_slice()))
+    }
+
+    /// A copy of the tree of the kernel's first procedure of that name. Where there is none it is
+    /// a block of which only a digest of zeros is known.
+    pub fn exported(&self, alloc: Global, name: &Bytes) -> Result<Tree, Memory>
+        ensures { IfOk result (λ tree. tree_of tree ≡ (known_of self.now).exported name.now) }
+    {
+        match first(self.kernel, name) {
+            Some(proc) => copy(alloc, &proc.tree),
+            None => Ok(Tree::Opaque(Word::ZERO)),
+        }
+    }
+}

@@ -1,0 +1,9 @@
+pub mod Assembled
+pub mod Closed
+pub mod Exist
+pub mod Finding
+pub mod Known
+pub mod Linked
+pub mod Over
+pub mod WholeTrees
+pub mod Words

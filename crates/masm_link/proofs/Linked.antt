@@ -1,0 +1,336 @@
+-- The least refusal of a source, and what it links to where nothing is refused.
+use Rattle.std.proofs.Common.{◌≡◌, ℕ, ◌+◌, ◌<◌, ◌≤◌, true, false, cond, List, [], ◌∷◌, ◌++◌, length, map, slice_get, Option, Some, None, MatchOption, Vec, Global, inl, inr, refl, sym, ap, ap₂, subst, ◌∙◌, append-nil, zero, suc, Bool, take, get_or, is_some, arith}
+use Rattle.std.proofs.lemmas.Bool.{cases_lt}
+use Rattle.std.proofs.lemmas.List.{map-append, take_more, length-take-le}
+use Rattle.std.proofs.lemmas.List.Elements.{filter-append, Contains-append_left}
+use Rattle.std.proofs.lemmas.Option.{slice_get_within}
+use Rattle.std.specs.List.{AllZip, Contains}
+use Rattle.std.specs.Option.{option_map, option_to_list}
+use Rattle.block_tree.specs.declared.tree.Tree as code
+use Rattle.block_tree.specs.TreeView.{tree_of}
+use Rattle.masm_parse.specs.declared.tree.At.{At}
+use Rattle.masm_parse.specs.declared.tree.Ast.{Ast}
+use Rattle.masm_parse.specs.declared.tree.Proc.{Proc}
+use Rattle.masm_parse.specs.Trees.{Procedure, Source}
+use Rattle.masm_parse.specs.Views.{body_of, procedure_of, source_of}
+use Rattle.masm_uses.specs.declared.refusal.LinkCause.{LinkCause}
+use Rattle.masm_uses.specs.declared.refusal.LinkCause.TheVariants as causes
+use Rattle.masm_uses.specs.declared.refusal.Refusal.{Refusal}
+use Rattle.masm_uses.specs.Among.{Among}
+use Rattle.masm_uses.specs.Earlier.{earlier}
+use Rattle.masm_uses.specs.Least.{IsLeast, Answers}
+use Rattle.masm_uses.specs.Naming.{Dangles, Doubles, IsClosed, at_procedure, exported_of}
+use Rattle.masm_uses.specs.UseOrders.{IsUseOrder}
+use Rattle.masm_uses.proofs.LeastLemmas.{Either, Answers-same, Answers-earlier}
+use Rattle.masm_uses.proofs.UsedLemmas.{unmapped, mapped, contains_at}
+use Rattle.masm_flat.specs.declared.known.KernelProc.{KernelProc}
+use Rattle.masm_flat.specs.declared.piece.Piece as piece
+use Rattle.masm_flat.specs.declared.shape.Extent.{Extent}
+use Rattle.masm_flat.specs.declared.shape.Size as shape
+use Rattle.masm_flat.specs.Blocks.{Block, Piece, seen_as, seen_pieces, block_of, as_tree, as_operations, as_height, whole}
+use Rattle.masm_flat.specs.Flattening.{flat_with}
+use Rattle.masm_flat.specs.KnownLists.{list_at, lists_known}
+use Rattle.masm_flat.specs.KnownSizes.{size_at, sizes_known}
+use Rattle.masm_flat.specs.Lists.{Exported, IsList, IsBlockOf, with_locals}
+use Rattle.masm_flat.specs.Sizes.{as_extent, extent_of, size_of, procedure_size}
+use Rattle.masm_flat.proofs.Flattened.{seen-block}
+use Rattle.masm_flat.proofs.Sized.{operations-block, height-block, procedure-sized}
+use Rattle.masm_link.specs.declared.linking.Linked.{Linked}
+use Rattle.masm_link.specs.declared.linking.Measured.{Measured}
+use Rattle.masm_link.specs.Building.{IsBuilt, AreBuilt, none, exported, inner}
+use Rattle.masm_link.specs.Kernels.{IsExport, AreExports, names_in}
+use Rattle.masm_link.specs.Limits.{IsOver}
+use Rattle.masm_link.specs.Measures.{IsMeasured, IsClean, AreReady, IsLinked}
+use Rattle.masm_link.specs.Refusals.{IsTooLarge, too_many_operations, too_deep, Oversized, names_of, RefusesAt, double, dangling, oversized, Links}
+use Rattle.masm_link.specs.Tables.{AreLists}
+use Rattle.masm_link.proofs.Closed.{Behind, uses_main}
+use Rattle.masm_link.proofs.Exist.{list_of_procedure, list_of_main}
+use Rattle.masm_link.proofs.Finding.{names_same}
+use Rattle.masm_link.proofs.Known.{has_operations, sizes_fit, listed}
+use Rattle.masm_link.proofs.Over.{Answers-fewer, extents_agree, some_operation, the_block_is, over_large, large_over, Answers-oversized}
+
+abbrev no_block : Option Block
+no_block = None
+
+module _ (source : Source) (exports : List Exported) where
+  -- where a use leads nowhere or back
+  pub refused_use : (doubled : Option Refusal) (u first : Refusal) → Answers (Doubles source) doubled → Answers (Dangles source (names_of exports)) (Some u)
+      → Some first ≡ earlier doubled (Some u) → IsLeast (RefusesAt source exports) first.at first.cause
+  refused_use doubled u first p q is =
+      Answers-same (Either (Doubles source) (Dangles source (names_of exports))) (RefusesAt source exports) (Some first)
+      (λ at cause h. elim h [ inl d ↦ double d | inr d ↦ dangling d ])
+      (λ at cause h. elim h [ double d ↦ inl d | dangling d ↦ inr d | oversized closed o ↦ absurd (closed u.at u.cause q.stands) ])
+      (subst (Answers (Either (Doubles source) (Dangles source (names_of exports)))) (sym is)
+      (Answers-earlier (Doubles source) (Dangles source (names_of exports)) doubled (Some u) p q))
+
+  -- where none does
+  pub refused_size : IsClosed source (names_of exports) → (doubled large : Option Refusal) → Answers (Doubles source) doubled
+      → Answers (Oversized source exports) large → Answers (RefusesAt source exports) (earlier doubled large)
+  refused_size closed doubled large p q =
+      Answers-same (Either (Doubles source) (Oversized source exports)) (RefusesAt source exports) (earlier doubled large)
+      (λ at cause h. elim h [ inl d ↦ double d | inr o ↦ oversized closed o ])
+      (λ at cause h. elim h [ double d ↦ inl d | dangling d ↦ absurd (closed at cause d) | oversized closed' o ↦ inr o ])
+      (Answers-earlier (Doubles source) (Oversized source exports) doubled large p q)
+
+  pub closed_names : (kernel : List KernelProc) → AreExports exports kernel → IsClosed source (names_in kernel) → IsClosed source (names_of exports)
+  closed_names kernel are closed = subst (IsClosed source) (names_same exports kernel are) closed
+
+-- Exports, as they are built one behind the other.
+zip_push : {X Y : Type 0} (R : X → Y → Type 0) (xs : List X) (ys : List Y) (x : X) (y : Y) → AllZip R xs ys → R x y → AllZip R (xs ++ x ∷ []) (ys ++ y ∷ [])
+zip_push R [] [] x y h r = (r, tt)
+zip_push R [] (z ∷ ys) x y h r = absurd h
+zip_push R (w ∷ xs) [] x y h r = absurd h
+zip_push R (w ∷ xs) (z ∷ ys) x y h r = (h.0, zip_push R xs ys x y h.1 r)
+
+got_before : {X : Type 0} (xs ys : List X) (k : ℕ) (x : X) → slice_get xs k ≡ Some x → slice_get (xs ++ ys) k ≡ Some x
+got_before [] ys k x e = cc
+got_before (z ∷ xs) ys zero x e = e
+got_before (z ∷ xs) ys (suc k) x e = got_before xs ys k x e
+
+got_last : {X : Type 0} (xs : List X) (x : X) → slice_get (xs ++ x ∷ []) (length xs) ≡ Some x
+got_last [] x = refl
+got_last (z ∷ xs) x = got_last xs x
+
+module _ (procs : List Procedure) (exports : List Exported) (sizes : List shape.Size) (lists : List (Vec piece.Piece Global)) where
+  abbrev IsOwn : Procedure → Exported → Type 0
+  IsOwn p e = (e.name ≡ p.name) × IsBlockOf procs exports p e.block
+
+  abbrev IsReady : ℕ → Procedure → Type 0
+  IsReady place p =
+      (block : Block) × IsBlockOf procs exports p block × (whole as_tree (list_at lists (Some place)) ≡ seen_as as_tree block)
+      × (extent_of (size_at sizes (Some place)) ≡ seen_as as_extent block) × (1 ≤ seen_as as_operations block)
+
+  one_more : (front : List Proc) (p : Proc) (b : Bool) → p.exported ≡ b
+      → exported_of (map procedure_of (front ++ p ∷ [])) ≡ exported_of (map procedure_of front) ++ cond b (procedure_of p ∷ []) []
+  one_more front p b is =
+      ap exported_of (map-append procedure_of front (p ∷ []))
+      ∙ filter-append (λ (q : Procedure). q.exported) (map procedure_of front) (procedure_of p ∷ [])
+      ∙ ap (λ t. exported_of (map procedure_of front) ++ cond t (procedure_of p ∷ []) []) is
+
+  pub own_of : {front : List Proc} {out : List KernelProc} → AreBuilt sizes lists front out
+      → ((place : ℕ) (p : Proc) → slice_get front place ≡ Some p → IsReady place (procedure_of p))
+      → (own : List Exported) × AllZip IsOwn (exported_of (map procedure_of front)) own × AreExports own out
+  own_of none ready = ([], tt, tt)
+  own_of (exported {procs = front} {exports = out} p export before is built) ready =
+      let rest = own_of before (λ place q here. ready place q (got_before front (p ∷ []) place q here)) in
+      let r = ready (length front) p (got_last front p) in
+      let e : Exported = record { name = p.name; block = r.0 } in (
+        rest.0 ++ e ∷ [],
+        subst (λ ps. AllZip IsOwn ps (rest.0 ++ e ∷ [])) (sym (one_more front p true is)) (zip_push IsOwn (exported_of
+            (map procedure_of front)) rest.0 (procedure_of p) e rest.1 (refl, r.1)),
+        zip_push IsExport rest.0 out e export rest.2 (record { name = built.name; tree = built.tree ∙ r.2; extent = built.extent ∙ r.3; some = r.4 }),
+      )
+  own_of (inner {procs = front} {exports = out} p before is) ready =
+      let rest = own_of before (λ place q here. ready place q (got_before front (p ∷ []) place q here)) in
+      (rest.0, subst (λ ps. AllZip IsOwn ps rest.0) (sym (one_more front p false is ∙ append-nil (exported_of (map procedure_of front)))) rest.1, rest.2)
+
+-- one more procedure, exported or not
+module _ (sizes : List shape.Size) (lists : List (Vec piece.Piece Global)) (procs : List Proc) (i : ℕ) (p : Proc) (below : i < length procs)
+    (is : p ≡ get_or procs i p) where
+  longer : take (i + 1) procs ≡ take i procs ++ p ∷ []
+  longer = take_more procs i p below ∙ ap (λ q. take i procs ++ q ∷ []) (sym is)
+
+  pub built_more : (out new : List KernelProc) (export : KernelProc) → AreBuilt sizes lists (take i procs) out → p.exported ≡ true
+      → IsBuilt sizes lists i p export → new ≡ out ++ export ∷ [] → AreBuilt sizes lists (take (i + 1) procs) new
+  built_more out new export before is_so built e =
+      subst (AreBuilt sizes lists (take (i + 1) procs)) (sym e)
+      (subst (λ ps. AreBuilt sizes lists ps (out ++ export ∷ [])) (sym longer)
+      (exported p export before is_so (subst (λ k. IsBuilt sizes lists k p export) (sym (length-take-le i procs (omega arith))) built)))
+
+  pub built_same : (out new : List KernelProc) → AreBuilt sizes lists (take i procs) out → p.exported ≡ false → new ≡ out → AreBuilt sizes lists (take
+      (i + 1) procs) new
+  built_same out new before not_so e =
+      subst (AreBuilt sizes lists (take (i + 1) procs)) (sym e) (subst (λ ps. AreBuilt sizes lists ps out) (sym longer) (inner p before not_so))
+
+pub some_same : {A B C : Type 0} (f : A → C) (g : B → C) (a : Option A) (b : Option B) → option_map f a ≡ option_map g b → is_some a ≡ is_some b
+some_same f g None None e = refl
+some_same f g None (Some y) e = cc
+some_same f g (Some x) None e = cc
+some_same f g (Some x) (Some y) e = refl
+
+-- What is measured of a source in memory.
+module _ (ast : Ast) (kernel : List KernelProc) (m : Measured) (is : IsMeasured (source_of ast) kernel m) (exports : List Exported)
+    (are : AreExports exports kernel) where
+  abbrev source : Source
+  source = source_of ast
+
+  abbrev HasListOf : Procedure → Type 0
+  HasListOf p = (xs : List (Piece Block)) × IsList source.procs exports p.locals p.body xs
+
+  list_at_place : (place : ℕ) (p : Procedure) → slice_get source.procs place ≡ Some p → HasListOf p
+  list_at_place = list_of_procedure source (names_in kernel) is.closed exports (names_same exports kernel are) m.order.items is.order
+
+  list_of_body : (p : Procedure) → source.main ≡ Some p → HasListOf p
+  list_of_body = list_of_main source (names_in kernel) is.closed exports (names_same exports kernel are) m.order.items is.order
+
+  abbrev the_extent : Procedure → List (Piece Block) → Extent
+  the_extent p xs = extent_of (size_of (seen_pieces (seen_as as_extent) (with_locals p.locals xs)))
+
+  extent_is : (place : ℕ) (p : Procedure) (here : slice_get source.procs place ≡ Some p) → extent_of (size_at m.sizes.items
+      (Some place)) ≡ the_extent p (list_at_place place p here).0
+  extent_is place p here =
+      let list = list_at_place place p here in
+      ap extent_of (is.sizes exports are place p list.0 (is.order.all place (slice_get_within source.procs place p here)) here list.1)
+
+  main_extent : (p : Procedure) (main : source.main ≡ Some p) → extent_of (procedure_size (sizes_known m.names m.sizes.items kernel) p.locals p.body) ≡
+      the_extent p (list_of_body p main).0
+  main_extent p main =
+      let list = list_of_body p main in
+      ap extent_of (procedure-sized (has_operations source exports kernel are m.names is.names) (Behind source.procs m.order.items)
+      (sizes_known m.names m.sizes.items kernel)
+      (sizes_fit source exports kernel are m.names is.names m.order.items m.sizes.items (is.sizes exports are)) p list.0 list.1
+      (uses_main source (names_in kernel) is.closed m.order.items is.order p main))
+
+  large_procs : (first : Option Refusal)
+      → Answers (Among (λ place p. IsOver (at_procedure (procedure_of p)) (extent_of (size_at m.sizes.items (Some place)))) ast.procs.items) first
+      → Answers (Among (λ place p at cause. IsTooLarge source.procs exports p at cause) source.procs) first
+  large_procs first =
+      Answers-fewer (Among (λ place p. IsOver (at_procedure (procedure_of p)) (extent_of (size_at m.sizes.items (Some place)))) ast.procs.items)
+      (Among (λ place p at cause. IsTooLarge source.procs exports p at cause) source.procs) first
+      (λ at cause h.
+      let p = procedure_of h.1.0 in
+      let here = mapped procedure_of ast.procs.items h.0 h.1.0 h.1.1 in
+      let list = list_at_place h.0 p here in (
+        h.0,
+        (
+          p,
+          here,
+          over_large source.procs exports (has_operations source exports kernel are m.names is.names) p list.0 list.1 at cause
+              (subst (λ e. IsOver (at_procedure p) e at cause) (extent_is h.0 p here) h.1.2),
+        ),
+      ))
+      (λ at cause h.
+      let found = unmapped procedure_of ast.procs.items h.0 h.1.0 h.1.1 in
+      let p = procedure_of found.0 in
+      let here = mapped procedure_of ast.procs.items h.0 found.0 found.1 in
+      let list = list_at_place h.0 p here in
+      let over = large_over source.procs exports (has_operations source exports kernel are m.names is.names) p list.0 list.1 at cause
+      (subst (λ q. IsTooLarge source.procs exports q at cause) found.2 h.1.2) in
+      (over.0, (h.0, (found.0, found.1, subst (λ e. IsOver (at_procedure p) e at over.0) (sym (extent_is h.0 p here)) over.1)), over.2))
+
+  abbrev LargeMain : At → LinkCause → Type 0
+  LargeMain at cause = (p : Procedure) × (source.main ≡ Some p) × IsTooLarge source.procs exports p at cause
+
+  large_main : (main : Option Proc) → ast.main ≡ main → (first : Option Refusal)
+      → MatchOption main (first ≡ None) (λ p. Answers (IsOver (at_procedure (procedure_of p)) (extent_of (procedure_size
+      (sizes_known m.names m.sizes.items kernel) p.locals (body_of p.body.items)))) first)
+      → Answers LargeMain first
+  large_main None same first e = subst (Answers LargeMain) (sym e) (λ at cause h. let other = ap (option_map procedure_of) same in let is_main = h.1 in cc)
+  large_main (Some q) same first a =
+      let p = procedure_of q in
+      let main : source.main ≡ Some p = ap (option_map procedure_of) same in
+      let list = list_of_body p main in
+      Answers-fewer (IsOver (at_procedure p) (extent_of (procedure_size (sizes_known m.names m.sizes.items kernel) p.locals p.body))) LargeMain first
+      (λ at cause h. (
+        p,
+        main,
+        over_large source.procs exports (has_operations source exports kernel are m.names is.names) p list.0 list.1 at cause
+            (subst (λ e. IsOver (at_procedure p) e at cause) (main_extent p main) h),
+      ))
+      (λ at cause h.
+      let over = large_over source.procs exports (has_operations source exports kernel are m.names is.names) p list.0 list.1 at cause
+      (subst (λ r. IsTooLarge source.procs exports r at cause) (same_some h.0 p (sym h.1 ∙ main)) h.2) in
+      (over.0, subst (λ e. IsOver (at_procedure p) e at over.0) (sym (main_extent p main)) over.1, over.2))
+      a
+    where
+      same_some : (a b : Procedure) → Some a ≡ Some b → a ≡ b
+      same_some a b e = cc
+
+  pub Answers-large : (procs main : Option Refusal)
+      → Answers (Among (λ place p. IsOver (at_procedure (procedure_of p)) (extent_of (size_at m.sizes.items (Some place)))) ast.procs.items) procs
+      → MatchOption ast.main (main ≡ None) (λ p. Answers (IsOver (at_procedure (procedure_of p)) (extent_of (procedure_size
+      (sizes_known m.names m.sizes.items kernel) p.locals (body_of p.body.items)))) main)
+      → Answers (Oversized source exports) (earlier procs main)
+  Answers-large procs main p q = Answers-oversized source exports procs main (large_procs procs p) (large_main ast.main refl main q)
+
+  -- the tables tell each procedure's block, where not_so tree is too large
+  module _ (clean : (at : At) (cause : LinkCause) → ¬ (RefusesAt source exports at cause)) (lists : List (Vec piece.Piece Global))
+      (known : AreLists source.procs exports m.order.items lists) where
+    ready : AreReady source exports m.sizes.items lists
+    ready place p here =
+        let list = list_at_place place p here in
+        let some = has_operations source exports kernel are m.names is.names in
+        let zs = with_locals p.locals list.0 in
+        let block = block_of zs in
+        let tree = ap (whole as_tree) (known place p list.0 (is.order.all place (slice_get_within source.procs place p here)) here list.1) ∙ sym
+        (seen-block as_tree zs) in (
+          block,
+          the_block_is source.procs exports some p list.0 list.1,
+          tree,
+          extent_is place p here
+              ∙ same_extent place p here,
+          some_operation source.procs exports some p list.0 list.1,
+        )
+      where
+        in_bodies : (place : ℕ) (p : Procedure) → slice_get source.procs place ≡ Some p → (at : At) (cause : LinkCause)
+            → IsTooLarge source.procs exports p at cause
+            → Oversized source exports at cause
+        in_bodies place p here at cause large =
+            let there = Contains-append_left source.procs (option_to_list source.main) p (contains_at source.procs place p here) in
+            (there.0, p, there.1, there.2, large)
+
+        same_extent : (place : ℕ) (p : Procedure) (here : slice_get source.procs place ≡ Some p)
+            → the_extent p (list_at_place place p here).0 ≡ seen_as as_extent (block_of (with_locals p.locals (list_at_place place p here).0))
+        same_extent place p here =
+            let list = list_at_place place p here in
+            let some = has_operations source exports kernel are m.names is.names in
+            let agree = extents_agree source.procs exports some p list.0 list.1 in
+            let block = block_of (with_locals p.locals list.0) in
+            let counted = operations-block block in
+            let few : seen_as as_operations block ≤ 524288 = elim (cases_lt 524288 (seen_as as_operations block)) [
+              | inl more ↦ absurd (clean (at_procedure p) causes.TooManyOps (oversized (closed_names source exports kernel are is.closed)
+                  (in_bodies place p here (at_procedure p) causes.TooManyOps (too_many_operations block
+                  (the_block_is source.procs exports some p list.0 list.1) more))))
+              | inr few ↦ few
+            ] in
+            let same = agree.operations in
+            ap₂ (λ o h. record { operations = o; height = h }) agree.operations (agree.height (omega arith))
+
+    pub built_exports : (out : List KernelProc) → AreBuilt m.sizes.items lists ast.procs.items out
+        → (own : List Exported) × AllZip (λ p e. (e.name ≡ p.name) × IsBlockOf source.procs exports p e.block)
+        (exported_of source.procs) own × AreExports own out
+    built_exports out built = own_of source.procs exports m.sizes.items lists built (λ place p here. ready place (procedure_of p)
+        (mapped procedure_of ast.procs.items place p here))
+
+    -- the tree of the main body
+    pub main_block : (main : Option code.Tree)
+        → option_map tree_of main ≡ option_map (λ p. whole as_tree (with_locals p.locals (flat_with as_tree
+        (lists_known m.names lists kernel) p.locals (body_of p.body.items)))) ast.main
+        → (block : Option Block) × MatchOption source.main (block ≡ None) (λ p. (b : Block) × (block ≡ Some b) × IsBlockOf source.procs exports p b)
+        × (option_map tree_of main ≡ option_map (seen_as as_tree) block)
+    main_block main e = by ast.main refl e
+      where
+        by : (o : Option Proc) → ast.main ≡ o
+            → option_map tree_of main ≡ option_map (λ p. whole as_tree (with_locals p.locals (flat_with as_tree
+            (lists_known m.names lists kernel) p.locals (body_of p.body.items)))) o
+            → (block : Option Block) × MatchOption (option_map procedure_of ast.main) (block ≡ None) (λ p. (b : Block) ×
+            (block ≡ Some b) × IsBlockOf source.procs exports p b)
+            × (option_map tree_of main ≡ option_map (seen_as as_tree) block)
+        by None there e' = (
+          no_block,
+          subst (λ o. MatchOption (option_map procedure_of o) (no_block ≡ no_block) (λ p. (b : Block) ×
+              (no_block ≡ Some b) × IsBlockOf source.procs exports p b)) (sym there) refl,
+          e',
+        )
+        by (Some q) there e' =
+            let p = procedure_of q in
+            let main_is : source.main ≡ Some p = ap (option_map procedure_of) there in
+            let list = list_of_body p main_is in
+            let zs = with_locals p.locals list.0 in
+            let block = block_of zs in (
+              Some block,
+              subst (λ o. MatchOption (option_map procedure_of o) (Some block ≡ None) (λ r. (b : Block) ×
+                  (Some block ≡ Some b) × IsBlockOf source.procs exports r b)) (sym there)
+                  (block, refl, the_block_is source.procs exports (has_operations source exports kernel are m.names is.names) p list.0 list.1),
+              e' ∙ ap Some (ap (whole as_tree) (listed source exports kernel are m.names is.names m.order.items lists known p list.0 list.1
+                  (uses_main source (names_in kernel) is.closed m.order.items is.order p main_is)) ∙ sym (seen-block as_tree zs)),
+            )
+
+    pub linked_is : (linked : Linked) → AreBuilt m.sizes.items lists ast.procs.items linked.exports.items
+        → option_map tree_of linked.main ≡ option_map (λ p. whole as_tree (with_locals p.locals (flat_with as_tree
+        (lists_known m.names lists kernel) p.locals (body_of p.body.items)))) ast.main
+        → IsLinked source exports linked
+    linked_is linked built e =
+        let own = built_exports linked.exports.items built in
+        let body = main_block linked.main e in
+        record { exports = own.0; main = body.0; links = record { clean = clean; exported = own.1; body = body.1 }; are = own.2; tree = body.2 }

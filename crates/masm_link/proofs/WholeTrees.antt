@@ -1,0 +1,79 @@
+-- The trees of assembled programs are within the limits.
+use Rattle.std.proofs.Common.{◌≡◌, ℕ, ◌+◌, ◌<◌, ◌≤◌, max, List, [], Option, Some, None, MatchOption, Ok, inl, inr, refl, sym, ap, ap₂, subst, ◌∙◌, arith}
+use Rattle.std.proofs.lemmas.Bool.{cases_lt}
+use Rattle.std.proofs.lemmas.List.Elements.{Contains-append_right}
+use Rattle.std.proofs.lemmas.Option.{same_Some}
+use Rattle.std.specs.List.{Contains}
+use Rattle.std.specs.Option.{option_to_list}
+use Rattle.block_tree.specs.declared.program.Program.{Program}
+use Rattle.block_tree.specs.Trees.{Tree, tree_height}
+use Rattle.block_tree.specs.TreeView.{tree_of}
+use Rattle.masm_parse.specs.declared.tree.At.{At}
+use Rattle.masm_parse.specs.Trees.{Procedure, Source}
+use Rattle.masm_uses.specs.declared.refusal.LinkCause.{LinkCause}
+use Rattle.masm_uses.specs.declared.refusal.LinkCause.TheVariants as causes
+use Rattle.masm_uses.specs.Naming.{at_procedure}
+use Rattle.masm_uses.proofs.UseOrderLemmas.{cons_here}
+use Rattle.masm_flat.specs.Blocks.{Block, Span, Join, Split, Loop, Call, Syscall, seen_as, as_tree, as_operations, as_height}
+use Rattle.masm_flat.specs.Lists.{Exported, IsBlockOf}
+use Rattle.masm_link.specs.Assembling.{Assembles, assembled}
+use Rattle.masm_link.specs.Laws.{HasNoOpaque, IsWithinLimits, AssembledTrees}
+use Rattle.masm_link.specs.Refusals.{IsTooLarge, too_many_operations, too_deep, Oversized, RefusesAt, dangling, oversized, Links}
+
+-- a block's tree is whole, and as high as the block
+seen_whole : (b : Block) → HasNoOpaque (seen_as as_tree b)
+seen_whole (Span items) = tt
+seen_whole (Join a b) = (seen_whole a, seen_whole b)
+seen_whole (Split a b) = (seen_whole a, seen_whole b)
+seen_whole (Loop a) = seen_whole a
+seen_whole (Call a) = seen_whole a
+seen_whole (Syscall a) = seen_whole a
+
+seen_height : (b : Block) → tree_height (seen_as as_tree b) ≡ seen_as as_height b
+seen_height (Span items) = refl
+seen_height (Join a b) = ap₂ (λ m n. 1 + max m n) (seen_height a) (seen_height b)
+seen_height (Split a b) = ap₂ (λ m n. 1 + max m n) (seen_height a) (seen_height b)
+seen_height (Loop a) = ap (λ n. 1 + n) (seen_height a)
+seen_height (Call a) = ap (λ n. 1 + n) (seen_height a)
+seen_height (Syscall a) = ap (λ n. 1 + n) (seen_height a)
+
+module _ (source : Source) (exports own : List Exported) (block : Block) (links : Links source exports own (Some block)) where
+  main_of : (main : Option Procedure) → source.main ≡ main
+      → MatchOption main (Some block ≡ None) (λ p. (b : Block) × (Some block ≡ Some b) × IsBlockOf source.procs exports p b)
+      → (p : Procedure) × (source.main ≡ Some p) × IsBlockOf source.procs exports p block
+  main_of None is h = cc
+  main_of (Some p) is h = (p, is, subst (IsBlockOf source.procs exports p) (sym (same_Some block h.0 h.1)) h.2)
+
+  found : (p : Procedure) × (source.main ≡ Some p) × IsBlockOf source.procs exports p block
+  found = main_of source.main refl links.body
+
+  not_large : (at : At) (cause : LinkCause) → ¬ (IsTooLarge source.procs exports found.0 at cause)
+  not_large at cause large =
+      let p = found.0 in
+      let there = Contains-append_right source.procs (option_to_list source.main) p (subst (λ o. Contains (option_to_list o) p) (sym found.1)
+      (cons_here p [])) in
+      links.clean at cause (oversized (λ a c d. links.clean a c (dangling d)) (there.0, p, there.1, there.2, large))
+
+  few_operations : seen_as as_operations block ≤ 524288
+  few_operations = elim (cases_lt 524288 (seen_as as_operations block)) [
+    | inl more ↦ absurd (not_large (at_procedure found.0) causes.TooManyOps (too_many_operations block found.2 more))
+    | inr few ↦ few
+  ]
+
+  low : seen_as as_height block ≤ 1024
+  low = elim (cases_lt 1024 (seen_as as_height block)) [
+    | inl more ↦ absurd (not_large (at_procedure found.0) causes.TooDeep (too_deep block found.2 more))
+    | inr few ↦ few
+  ]
+
+  pub within : (tree : Tree) → tree ≡ seen_as as_tree block → IsWithinLimits tree block
+  within tree is = record {
+    is = is;
+    operations = few_operations;
+    height = let a = ap tree_height is in let b = seen_height block in let c = low in omega arith;
+    whole = subst HasNoOpaque (sym is) (seen_whole block);
+  }
+
+pub assembled-trees : AssembledTrees
+assembled-trees constants text kernel program (assembled exports own block _ k links is) =
+    (block, within links.source exports own block links.links (tree_of program.tree) is.tree)

@@ -1,0 +1,30 @@
+use Rattle.std.proofs.Common.{◌≡◌, None, Some, MatchOption, sym, subst}
+use Rattle.masm_flat.specs.KnownSizes.{size_at, sizes_known}
+use Rattle.masm_flat.specs.Sizes.{extent_of, procedure_size}
+use Rattle.masm_parse.specs.Views.{body_of, procedure_of, source_of}
+use Rattle.masm_uses.specs.Among.{Among}
+use Rattle.masm_uses.specs.Least.{Answers}
+use Rattle.masm_uses.specs.Naming.{at_procedure}
+use Rattle.masm_link.specs.Limits.{IsOver}
+use Rattle.masm_link.specs.Refusals.{Oversized}
+use Rattle.masm_link.proofs.Linked.{Answers-large}
+use Rattle.masm_link.proofs.linking.first_oversized.Goals as goal
+
+pub returns : goal.returns
+returns c = λ exports are.
+    let ast = c.args.ast.now in
+    let m = c.args.measured.now in
+    let kernel = c.args.kernel.now in
+    let procs =
+    subst (λ ss. Answers (Among (λ place p. IsOver (at_procedure (procedure_of p)) (extent_of (size_at ss
+    (Some place)))) ast.procs.items) c.in_ok-procs.procs) c.deref-2.ensures.value
+    (subst (λ ps. Answers (Among (λ place p. IsOver (at_procedure (procedure_of p)) (extent_of (size_at c.deref-2.result.now
+    (Some place)))) ps) c.in_ok-procs.procs) c.deref.ensures.value
+    c.in_ok-procs.ensures) in
+    let main =
+    subst (λ ss. MatchOption ast.main (c.in_ok-main.main ≡ None)
+    (λ p. Answers (IsOver (at_procedure (procedure_of p)) (extent_of (procedure_size (sizes_known m.names ss kernel) p.locals
+    (body_of p.body.items)))) c.in_ok-main.main))
+    c.deref-3.ensures.value c.in_ok-main.ensures in
+    subst (Answers (Oversized (source_of ast) exports)) (sym c.earlier.ensures) (Answers-large ast kernel m c.requires.measured exports are
+    c.in_ok-procs.procs c.in_ok-main.main procs main)

@@ -1,0 +1,34 @@
+use Rattle.std.proofs.Common.{sym, subst, ◌∙◌}
+use Rattle.masm_parse.specs.Views.{source_of}
+use Rattle.masm_uses.specs.Least.{Answers}
+use Rattle.masm_uses.specs.Naming.{Dangles}
+use Rattle.masm_link.specs.Refusals.{names_of, RefusesAt}
+use Rattle.masm_link.proofs.Finding.{names_same}
+use Rattle.masm_link.proofs.Linked.{refused_use, refused_size, closed_names}
+use Rattle.masm_link.proofs.linking.measure.Goals as goal
+
+pub returns-in-Some : goal.returns-in-Some
+returns-in-Some c = λ exports are.
+    let source = source_of c.args.ast.now in
+    let names = c.deref.ensures.value ∙ c.in_ok-exported.ensures ∙ names_same exports c.args.kernel.now are in
+    let dangling =
+    subst (Answers (Dangles source (names_of exports))) c.in-Some.is (subst (λ ns. Answers
+    (Dangles source ns) c.in_ok-refusal.field-0) names c.in_ok-refusal.ensures) in
+    refused_use source exports c.in_ok-double.double c.in-Some.refusal c.first_of.result c.in_ok-double.ensures dangling c.first_of.ensures
+
+pub returns-in-Some-earlier : goal.returns-in-Some-earlier
+returns-in-Some-earlier c = λ exports are.
+    let source = source_of c.args.ast.now in
+    let closed = closed_names source exports c.args.kernel.now are c.in_ok-measured.ensures.closed in
+    subst (Answers (RefusesAt source exports)) (sym c.earlier.ensures ∙ c.in-Some-earlier.is)
+    (refused_size source exports closed c.in_ok-double.double c.in_ok-oversized.oversized c.in_ok-double.ensures (c.in_ok-oversized.ensures exports are))
+
+pub returns : goal.returns
+returns c = (
+  c.in_ok-measured.ensures,
+  λ exports are.
+      let source = source_of c.args.ast.now in
+      let closed = closed_names source exports c.args.kernel.now are c.in_ok-measured.ensures.closed in
+      subst (Answers (RefusesAt source exports)) (sym c.earlier.ensures ∙ c.in-None.is)
+      (refused_size source exports closed c.in_ok-double.double c.in_ok-oversized.oversized c.in_ok-double.ensures (c.in_ok-oversized.ensures exports are)),
+)

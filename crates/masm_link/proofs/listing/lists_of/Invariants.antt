@@ -1,0 +1,11 @@
+use Rattle.std.proofs.Common.{◌≡◌, List, length, take}
+use Rattle.masm_flat.specs.Lists.{Exported}
+use Rattle.masm_parse.specs.Views.{source_of}
+use Rattle.masm_link.specs.Kernels.{AreExports}
+use Rattle.masm_link.specs.Tables.{AreLists}
+use Rattle.masm_link.proofs.listing.lists_of.Given as goal
+
+abbrev pub invariant-loop-place : goal.invariant-loop-place
+invariant-loop-place l =
+    (length l.lists.items ≡ length (source_of l.ast).procs)
+    × ((exports : List Exported) → AreExports exports l.kernel → AreLists (source_of l.ast).procs exports (take l.place-index l.order) l.lists.items)

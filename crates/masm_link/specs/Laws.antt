@@ -1,0 +1,28 @@
+-- The trees of assembled programs.
+use Rattle.std.specs.Prelude.{◌≡◌, ℕ, ◌≤◌, List, Option, Ok}
+use Rattle.block_tree.specs.declared.program.Program.{Program}
+use Rattle.block_tree.specs.Trees.{Tree, Opaque, Span, Join, Split, Loop, Call, Syscall, tree_height}
+use Rattle.block_tree.specs.TreeView.{tree_of}
+use Rattle.masm_flat.specs.Blocks.{Block, seen_as, as_tree, as_operations}
+use Rattle.masm_link.specs.Assembling.{Assembles}
+
+-- each block of the tree is known whole
+abbrev pub HasNoOpaque : Tree → Type 0
+HasNoOpaque (Opaque digest) = ⊥
+HasNoOpaque (Span batches) = Unit {0}
+HasNoOpaque (Join first second) = HasNoOpaque first × HasNoOpaque second
+HasNoOpaque (Split on_one on_zero) = HasNoOpaque on_one × HasNoOpaque on_zero
+HasNoOpaque (Loop body) = HasNoOpaque body
+HasNoOpaque (Call callee) = HasNoOpaque callee
+HasNoOpaque (Syscall callee) = HasNoOpaque callee
+
+-- the tree of a block within the limits
+pub record IsWithinLimits (tree : Tree) (block : Block) : Type 0 where
+  pub is : tree ≡ seen_as as_tree block
+  pub operations : seen_as as_operations block ≤ 524288
+  pub height : tree_height tree ≤ 1024
+  pub whole : HasNoOpaque tree
+
+abbrev pub AssembledTrees : Type 0
+AssembledTrees = (constants text : List ℕ) (kernel : Option (List ℕ)) (program : Program)
+    → Assembles constants text kernel (Ok program) → (block : Block) × IsWithinLimits (tree_of program.tree) block

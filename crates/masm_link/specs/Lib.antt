@@ -1,0 +1,10 @@
+pub mod Assembling
+pub mod Building
+pub mod Causes
+pub mod Kernels
+pub mod Laws
+pub mod Limits
+pub mod Measures
+pub mod Programs
+pub mod Refusals
+pub mod Tables

@@ -1,0 +1,73 @@
+-- What is known of a source before anything is built, and what it links to in memory.
+use Rattle.std.specs.Prelude.{◌≡◌, ℕ, ◌≤◌, List, length, map, Option, Some, None, Result, Ok, Err, Vec, slice_get}
+use Rattle.std.specs.Global.{Global}
+use Rattle.std.specs.Option.{option_map}
+use Rattle.block_tree.specs.TreeView.{tree_of}
+use Rattle.masm_parse.specs.declared.tree.At.{At}
+use Rattle.masm_parse.specs.Trees.{Procedure, Source}
+use Rattle.masm_flat.specs.declared.known.KernelProc.{KernelProc}
+use Rattle.masm_flat.specs.declared.piece.Piece as piece
+use Rattle.masm_flat.specs.declared.shape.Size as shape
+use Rattle.masm_flat.specs.Blocks.{Block, seen_as, as_tree, as_operations, whole}
+use Rattle.masm_flat.specs.KnownLists.{list_at}
+use Rattle.masm_flat.specs.KnownSizes.{size_at}
+use Rattle.masm_flat.specs.Lists.{Exported, IsBlockOf}
+use Rattle.masm_flat.specs.Sizes.{as_extent, extent_of}
+use Rattle.masm_uses.specs.declared.refusal.LinkCause.{LinkCause}
+use Rattle.masm_uses.specs.declared.refusal.Refusal.{Refusal}
+use Rattle.masm_uses.specs.Least.{IsLeast}
+use Rattle.masm_uses.specs.Names.{place_at}
+use Rattle.masm_uses.specs.Naming.{IsClosed}
+use Rattle.masm_uses.specs.UseOrders.{IsUseOrder}
+use Rattle.masm_uses.specs.Uses.{first_place}
+use Rattle.masm_link.specs.declared.linking.Linked.{Linked}
+use Rattle.masm_link.specs.declared.linking.Measured.{Measured}
+use Rattle.masm_link.specs.declared.linking.Stop.{Stop}
+use Rattle.masm_link.specs.declared.linking.Stop.TheVariants.{Refused, Memory}
+use Rattle.masm_link.specs.Kernels.{AreExports, names_in}
+use Rattle.masm_link.specs.Refusals.{RefusesAt, Links}
+use Rattle.masm_link.specs.Tables.{AreSizes}
+
+-- no use leads nowhere or back, and these are the procedures in order and the sizes of their lists
+pub record IsMeasured (source : Source) (kernel : List KernelProc) (m : Measured) : Type 0 where
+  pub names : (name : List ℕ) → place_at m.names name ≡ first_place source.procs name
+  pub closed : IsClosed source (names_in kernel)
+  pub order : IsUseOrder source.procs m.order.items
+  pub count : length m.sizes.items ≡ length source.procs
+  pub sizes : (exports : List Exported) → AreExports exports kernel → AreSizes source.procs exports m.order.items m.sizes.items
+
+-- nothing is refused, whatever the kernel's exports in memory are
+abbrev pub IsClean : Source → List KernelProc → Type 0
+IsClean source kernel =
+    (exports : List Exported) → AreExports exports kernel → (at : At) (cause : LinkCause) → ¬ (RefusesAt source exports at cause)
+
+abbrev pub IsFirstRefused : Source → List KernelProc → Refusal → Type 0
+IsFirstRefused source kernel refusal =
+    (exports : List Exported) → AreExports exports kernel → IsLeast (RefusesAt source exports) refusal.at refusal.cause
+
+-- the sizes where nothing is refused, and else the least refusal
+abbrev pub Measures : Source → List KernelProc → Result Measured Stop → Type 0
+Measures source kernel (Ok m) = IsMeasured source kernel m × IsClean source kernel
+Measures source kernel (Err (Refused refusal)) = IsFirstRefused source kernel refusal
+Measures source kernel (Err Memory) = Unit {0}
+
+-- the table of lists and that of sizes tell each procedure's block
+abbrev pub AreReady : Source → List Exported → List shape.Size → List (Vec piece.Piece Global) → Type 0
+AreReady source exports sizes lists =
+    (place : ℕ) (p : Procedure) → slice_get source.procs place ≡ Some p
+    → (block : Block) × IsBlockOf source.procs exports p block × (whole as_tree (list_at lists (Some place)) ≡ seen_as as_tree block)
+    × (extent_of (size_at sizes (Some place)) ≡ seen_as as_extent block) × (1 ≤ seen_as as_operations block)
+
+-- what a source links to, in memory
+pub record IsLinked (source : Source) (kernel : List Exported) (linked : Linked) : Type 0 where
+  pub exports : List Exported
+  pub main : Option Block
+  pub links : Links source kernel exports main
+  pub are : AreExports exports linked.exports.items
+  pub tree : option_map tree_of linked.main ≡ option_map (seen_as as_tree) main
+
+-- what a source links to where nothing is refused, and else the least refusal
+abbrev pub LinksTo : Source → List KernelProc → Result Linked Stop → Type 0
+LinksTo source kernel (Ok linked) = (exports : List Exported) → AreExports exports kernel → IsLinked source exports linked
+LinksTo source kernel (Err (Refused refusal)) = IsFirstRefused source kernel refusal
+LinksTo source kernel (Err Memory) = Unit {0}

@@ -1,0 +1,40 @@
+-- What the parts of the assembler say of their answers in memory.
+use Rattle.std.specs.Prelude.{◌≡◌, ℕ, Bool, true, List, [], map, Option, Some, Result, Ok, Err, Vec, ◌⊎◌}
+use Rattle.std.specs.Global.{Global}
+use Rattle.block_tree.specs.declared.exports.Export.{Export}
+use Rattle.block_tree.specs.Trees.{tree_digest}
+use Rattle.block_tree.specs.TreeView.{tree_of}
+use Rattle.masm_flat.specs.declared.known.KernelProc.{KernelProc}
+use Rattle.masm_flat.specs.Lists.{Exported}
+use Rattle.masm_parse.specs.declared.tree.Ast.{Ast}
+use Rattle.masm_parse.specs.Trees.{Source}
+use Rattle.masm_parse.specs.Views.{source_of}
+use Rattle.masm_link.specs.declared.linking.Linked.{Linked}
+use Rattle.masm_link.specs.declared.refusal.AsmError.{AsmError}
+use Rattle.masm_link.specs.declared.refusal.AsmError.TheVariants.{Memory}
+use Rattle.masm_link.specs.Assembling.{reads, Refuses, KernelExports}
+use Rattle.masm_link.specs.Kernels.{AreExports}
+use Rattle.masm_link.specs.Measures.{IsLinked}
+
+-- an answer of the reader is that of the definition, or the want of memory
+abbrev pub Gives : Result Ast AsmError → Result Source AsmError → Type 0
+Gives (Ok ast) defined = defined ≡ Ok (source_of ast)
+Gives (Err refusal) defined = (refusal ≡ Memory) ⊎ (defined ≡ Err refusal)
+
+-- what a source links to with a kernel's exports in memory, or its first refusal, or the want of memory
+abbrev pub LinksIn : Bool → List ℕ → List KernelProc → Result Linked AsmError → Type 0
+LinksIn is_kernel text kernel (Ok linked) =
+    (exports : List Exported) → AreExports exports kernel → (source : Source) × (reads is_kernel text ≡ Ok source) × IsLinked source exports linked
+LinksIn is_kernel text kernel (Err refusal) =
+    (refusal ≡ Memory) ⊎ ((exports : List Exported) → AreExports exports kernel → Refuses is_kernel text exports refusal)
+
+-- a kernel's exports in memory, or the kernel's first refusal, or the want of memory
+abbrev pub ExportsIn : Option (List ℕ) → Result (Vec KernelProc Global) AsmError → Type 0
+ExportsIn kernel (Ok procs) = (exports : List Exported) × KernelExports kernel exports × AreExports exports procs.items
+ExportsIn kernel (Err refusal) = (refusal ≡ Memory) ⊎ ((text : List ℕ) × (kernel ≡ Some text) × Refuses true text [] refusal)
+
+abbrev pub digest_in : List ℕ → KernelProc → List ℕ
+digest_in constants p = tree_digest constants (tree_of p.tree)
+
+abbrev pub export_in : List ℕ → KernelProc → Export
+export_in constants p = record { name = p.name; digest = digest_in constants p }

@@ -1,0 +1,27 @@
+-- Tables of what is known of procedures, by their places.
+use Rattle.std.specs.Prelude.{◌≡◌, ℕ, List, Some, Vec, slice_get}
+use Rattle.std.specs.Global.{Global}
+use Rattle.std.specs.List.{Contains}
+use Rattle.masm_parse.specs.Trees.{Procedure}
+use Rattle.masm_flat.specs.declared.piece.Piece as piece
+use Rattle.masm_flat.specs.declared.shape.Size as shape
+use Rattle.masm_flat.specs.Blocks.{Block, Piece, seen_as, seen_pieces, as_tree}
+use Rattle.masm_flat.specs.KnownLists.{list_at}
+use Rattle.masm_flat.specs.KnownSizes.{size_at}
+use Rattle.masm_flat.specs.Lists.{Exported, IsList, with_locals}
+use Rattle.masm_flat.specs.Sizes.{as_extent, size_of}
+
+-- at these places stand the values of the procedures' lists
+abbrev pub AreKnown : {T : Type 0} (procs : List Procedure) (kernel : List Exported) (value : List (Piece Block) → T) (done : List ℕ) → (ℕ → T) → Type 0
+AreKnown procs kernel value done table =
+    (place : ℕ) (p : Procedure) (pieces : List (Piece Block)) → Contains done place → slice_get procs place ≡ Some p
+    → IsList procs kernel p.locals p.body pieces → table place ≡ value (with_locals p.locals pieces)
+
+-- the sizes of the lists
+abbrev pub AreSizes : List Procedure → List Exported → List ℕ → List shape.Size → Type 0
+AreSizes procs kernel done sizes =
+    AreKnown procs kernel (λ pieces. size_of (seen_pieces (seen_as as_extent) pieces)) done (λ place. size_at sizes (Some place))
+
+-- the lists, with the trees of their blocks
+abbrev pub AreLists : List Procedure → List Exported → List ℕ → List (Vec piece.Piece Global) → Type 0
+AreLists procs kernel done lists = AreKnown procs kernel (seen_pieces (seen_as as_tree)) done (λ place. list_at lists (Some place))

@@ -1,0 +1,86 @@
+ghost use Rattle.std.specs.Prelude.{◌≡◌, length, IfOk};
+ghost use Rattle.std.specs.Option.{option_map};
+ghost use Rattle.block_tree.specs.TreeView.{tree_of};
+ghost use Rattle.masm_flat.specs.Blocks.{as_tree, whole};
+ghost use Rattle.masm_flat.specs.Flattening.{flat_with};
+ghost use Rattle.masm_flat.specs.KnownLists.{lists_known};
+ghost use Rattle.masm_flat.specs.Lists.{with_locals};
+ghost use Rattle.masm_flat.specs.Sizes.{extent_of, size_view};
+ghost use Rattle.masm_flat.specs.Views.{pieces_of};
+ghost use Rattle.masm_parse.specs.Locals.{MainFits};
+ghost use Rattle.masm_parse.specs.Views.{body_of, procedure_of};
+ghost use Rattle.masm_link.specs.Building.{AreBuilt};
+
+use block_tree::Tree;
+use masm_flat::{
+    KernelProc, Lists, Piece, Size, add_copies, extent_of, list_of_procedure, tree_of_list,
+};
+use masm_parse::Proc;
+use masm_uses::Names;
+use std::alloc::Global;
+use vm_field::{Bytes, Memory};
+
+// The export of a procedure with this list.
+fn export_of(
+    alloc: Global,
+    procedure: &Proc,
+    size: &Size,
+    list: &[Piece],
+) -> Result<KernelProc, Memory>
+    ensures name { IfOk result (λ export. export.name ≡ procedure.now.name) }
+    ensures tree { IfOk result (λ export. tree_of export.tree ≡ whole as_tree (pieces_of list.now)) }
+    ensures extent { IfOk result (λ export. export.extent ≡ extent_of (size_view size.now)) }
+{
+    let mut pieces = Vec::new(alloc);
+    add_copies(alloc, list, &mut pieces)?;
+    Ok(KernelProc {
+        name: Bytes::copied(alloc, procedure.name.as_slice())?,
+        tree: tree_of_list(alloc, pieces)?,
+        extent: extent_of(alloc, size.part())?,
+    })
+}
+
+// The exports among procedures, of whose lists these are the sizes and the pieces.
+pub(crate) fn exports_of(
+    alloc: Global,
+    procs: &[Proc],
+    sizes: &[Size],
+    lists: &[Vec<Piece>],
+) -> Result<Vec<KernelProc>, Memory>
+    requires sizes { length sizes.now ≡ length procs.now }
+    requires lists { length lists.now ≡ length procs.now }
+    ensures { IfOk result (λ exports. AreBuilt sizes.now lists.now procs.now exports.items) }
+{
+    let mut exports = Vec::new(alloc);
+    for (place, procedure) in procs.iter().enumerate() {
+        if procedure.exported {
+            exports.push(export_of(alloc, procedure, &sizes[place], &lists[place])?)?;
+        }
+    }
+    Ok(exports)
+}
+
+// The tree of the body between `begin` and `end`.
+pub(crate) fn main_tree(
+    alloc: Global,
+    names: &Names,
+    kernel: &[KernelProc],
+    main: &Option<Proc>,
+    lists: &[Vec<Piece>],
+) -> Result<Option<Tree>, Memory>
+    requires { MainFits (option_map procedure_of main.now) }
+    ensures { IfOk result (λ tree. option_map tree_of tree
+        ≡ option_map (λ p. whole as_tree (with_locals p.locals
+        (flat_with as_tree (lists_known names.now lists.now kernel.now) p.locals (body_of p.body.items)))) main.now) }
+{
+    let Some(procedure) = main else {
+        return Ok(None);
+    };
+    let known = Lists {
+        names,
+        lists,
+        kernel,
+    };
+    let list = list_of_procedure(alloc, &known, procedure)?;
+    Ok(Some(tree_of_list(alloc, list)?))
+}

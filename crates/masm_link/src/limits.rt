@@ -1,0 +1,87 @@
+ghost use Rattle.std.specs.Prelude.{◌≡◌, length, Some, None, MatchOption, IfOk};
+ghost use Rattle.std.specs.Option.{option_map};
+ghost use Rattle.masm_flat.specs.KnownSizes.{size_at, sizes_known};
+ghost use Rattle.masm_flat.specs.Sizes.{extent_of, procedure_size};
+ghost use Rattle.masm_parse.specs.Locals.{MainFits};
+ghost use Rattle.masm_parse.specs.Views.{body_of, procedure_of};
+ghost use Rattle.masm_uses.specs.Among.{Among};
+ghost use Rattle.masm_uses.specs.Least.{Answers};
+ghost use Rattle.masm_uses.specs.Naming.{at_procedure};
+ghost use Rattle.masm_link.specs.Limits.{size_cause, IsOver};
+
+use masm_flat::{Extent, KernelProc, Size, Sizes, extent_of, size_of_procedure};
+use masm_parse::{At, Proc};
+use masm_uses::{Defined, LinkCause, Names, Refusal, earlier};
+use std::alloc::Global;
+use vm_field::Memory;
+
+// How many operations a tree may have.
+const MOST_OPERATIONS: u32 = 524_288;
+
+// How many blocks may stand on one path of a tree.
+const MOST_BLOCKS: u32 = 1_024;
+
+fn size_cause(extent: Extent) -> Option<LinkCause>
+    ensures { result ≡ size_cause extent }
+{
+    if extent.operations > MOST_OPERATIONS {
+        return Some(LinkCause::TooManyOps);
+    }
+    if extent.height > MOST_BLOCKS {
+        return Some(LinkCause::TooDeep);
+    }
+    None
+}
+
+// The refusal of a procedure at this place whose tree has this extent.
+fn too_large(at: At, extent: Extent) -> Option<Refusal>
+    ensures { Answers (IsOver at extent) result }
+{
+    match size_cause(extent) {
+        Some(cause) => Some(Refusal { at, cause }),
+        None => None,
+    }
+}
+
+// The first procedure whose tree is too large.
+pub(crate) fn first_too_large(
+    alloc: Global,
+    procs: &[Proc],
+    sizes: &[Size],
+) -> Result<Option<Refusal>, Memory>
+    requires { length sizes.now ≡ length procs.now }
+    ensures { IfOk result (λ first. Answers (Among (λ place p.
+        IsOver (at_procedure (procedure_of p)) (extent_of (size_at sizes.now (Some place)))) procs.now) first) }
+{
+    let mut first = None;
+    for (place, procedure) in procs.iter().enumerate() {
+        let extent = extent_of(alloc, sizes[place].part())?;
+        first = earlier(first, too_large(procedure.at(), extent));
+    }
+    Ok(first)
+}
+
+// The refusal of the body between `begin` and `end`, if its tree is too large.
+pub(crate) fn main_too_large(
+    alloc: Global,
+    names: &Names,
+    kernel: &[KernelProc],
+    main: &Option<Proc>,
+    sizes: &[Size],
+) -> Result<Option<Refusal>, Memory>
+    requires { MainFits (option_map procedure_of main.now) }
+    ensures { IfOk result (λ first. MatchOption main.now (first ≡ None)
+        (λ p. Answers (IsOver (at_procedure (procedure_of p))
+        (extent_of (procedure_size (sizes_known names.now sizes.now kernel.now) p.locals (body_of p.body.items)))) first)) }
+{
+    let Some(procedure) = main else {
+        return Ok(None);
+    };
+    let known = Sizes {
+        names,
+        sizes,
+        kernel,
+    };
+    let size = size_of_procedure(alloc, &known, procedure)?;
+    Ok(too_large(procedure.at(), extent_of(alloc, size.part())?))
+}

@@ -1,0 +1,171 @@
+ghost use Rattle.std.specs.Prelude.{◌≡◌, ℕ, List, Some, is_some, IfOk};
+ghost use Rattle.masm_flat.specs.Lists.{Exported};
+ghost use Rattle.masm_link.specs.declared.linking.Stop.TheVariants as stops;
+ghost use Rattle.masm_link.specs.Kernels.{AreExports, names_in};
+ghost use Rattle.masm_link.specs.Measures.{IsMeasured, IsClean, Measures, IsLinked, LinksTo};
+ghost use Rattle.masm_link.specs.Refusals.{Oversized};
+ghost use Rattle.masm_parse.specs.Locals.{SourceFits};
+ghost use Rattle.masm_parse.specs.Views.{source_of};
+ghost use Rattle.masm_uses.specs.Earlier.{earlier};
+ghost use Rattle.masm_uses.specs.Least.{Answers};
+ghost use Rattle.masm_uses.specs.Names.{place_at};
+ghost use Rattle.masm_uses.specs.Naming.{IsClosed};
+ghost use Rattle.masm_uses.specs.Uses.{first_place};
+
+use crate::building::{exports_of, main_tree};
+use crate::kernel::export_names;
+use crate::limits::{first_too_large, main_too_large};
+use crate::listing::lists_of;
+use crate::sizing::sizes_of;
+use block_tree::Tree;
+use masm_flat::{KernelProc, Size};
+use masm_parse::Ast;
+use masm_uses::{
+    Names, Refusal, earlier, first_dangling, first_double, procedure_names, use_order,
+};
+use std::alloc::{AllocError, Global};
+use thiserror::Error;
+use vm_field::{Bytes, Memory};
+
+// Why a source is not linked.
+#[derive(Clone, Copy, Debug, PartialEq, Eq, Error)]
+pub(crate) enum Stop {
+    #[error("{}", .0.cause)]
+    Refused(Refusal),
+    #[error("out of memory")]
+    Memory,
+}
+
+impl From<AllocError> for Stop {
+    ghost from_gives = { λ _ e. e ≡ stops.Memory };
+
+    fn from(_error: AllocError) -> Stop {
+        Stop::Memory
+    }
+}
+
+impl From<Memory> for Stop {
+    ghost from_gives = { λ _ e. e ≡ stops.Memory };
+
+    fn from(_error: Memory) -> Stop {
+        Stop::Memory
+    }
+}
+
+// What is known of a source's procedures before any tree is built.
+#[derive(Drop)]
+pub(crate) struct Measured {
+    // The places of their names.
+    pub names: Names,
+    // Their places, each behind those of the procedures that it uses.
+    pub order: Vec<usize>,
+    // The sizes of their lists, by their places.
+    pub sizes: Vec<Size>,
+}
+
+// What a source links to.
+#[derive(Drop)]
+pub(crate) struct Linked {
+    // What it exports, in order.
+    pub exports: Vec<KernelProc>,
+    // The tree of the body between `begin` and `end`.
+    pub main: Option<Tree>,
+}
+
+// The sizes of the lists, where no use leads nowhere or back.
+fn sized(
+    alloc: Global,
+    ast: &Ast,
+    kernel: &[KernelProc],
+    names: Names,
+    exported: &[Bytes],
+) -> Result<Measured, Memory>
+    requires names { (name : List ℕ) → place_at names name ≡ first_place (source_of ast.now).procs name }
+    requires fits { SourceFits (source_of ast.now) }
+    requires exported { exported.now ≡ names_in kernel.now }
+    requires closed { IsClosed (source_of ast.now) (names_in kernel.now) }
+    ensures { IfOk result (IsMeasured (source_of ast.now) kernel.now) }
+{
+    let order = use_order(alloc, ast, &names, exported)?;
+    let sizes = sizes_of(alloc, ast, &names, kernel, &order)?;
+    Ok(Measured {
+        names,
+        order,
+        sizes,
+    })
+}
+
+// The first procedure whose tree is too large.
+fn first_oversized(
+    alloc: Global,
+    ast: &Ast,
+    kernel: &[KernelProc],
+    measured: &Measured,
+) -> Result<Option<Refusal>, Memory>
+    requires fits { SourceFits (source_of ast.now) }
+    requires measured { IsMeasured (source_of ast.now) kernel.now measured.now }
+    ensures { IfOk result (λ first. (exports : List Exported) → AreExports exports kernel.now → Answers (Oversized (source_of ast.now) exports) first) }
+{
+    let procs = first_too_large(alloc, &ast.procs, &measured.sizes)?;
+    let main = main_too_large(alloc, &measured.names, kernel, &ast.main, &measured.sizes)?;
+    Ok(earlier(procs, main))
+}
+
+fn first_of(a: Option<Refusal>, b: Refusal) -> Refusal
+    ensures { Some result ≡ earlier a (Some b) }
+{
+    match earlier(a, Some(b)) {
+        Some(first) => first,
+        None => b,
+    }
+}
+
+// The sizes of a source's lists, or its first refusal. Sizes are tested only where no use leads
+// nowhere or back.
+fn measure(alloc: Global, ast: &Ast, kernel: &[KernelProc]) -> Result<Measured, Stop>
+    requires { SourceFits (source_of ast.now) }
+    ensures { Measures (source_of ast.now) kernel.now result }
+{
+    let names = procedure_names(alloc, ast)?;
+    let exported = export_names(alloc, kernel)?;
+    let double = first_double(alloc, ast)?;
+    if let Some(refusal) = first_dangling(alloc, ast, &names, &exported)? {
+        return Err(Stop::Refused(first_of(double, refusal)));
+    }
+    let measured = sized(alloc, ast, kernel, names, &exported)?;
+    let oversized = first_oversized(alloc, ast, kernel, &measured)?;
+    match earlier(double, oversized) {
+        Some(refusal) => Err(Stop::Refused(refusal)),
+        None => Ok(measured),
+    }
+}
+
+// The trees of a source that is not refused.
+fn built(
+    alloc: Global,
+    ast: &Ast,
+    kernel: &[KernelProc],
+    measured: &Measured,
+) -> Result<Linked, Memory>
+    requires fits { SourceFits (source_of ast.now) }
+    requires measured { IsMeasured (source_of ast.now) kernel.now measured.now }
+    requires clean { IsClean (source_of ast.now) kernel.now }
+    ensures linked { IfOk result (λ linked. (exports : List Exported) → AreExports exports kernel.now → IsLinked (source_of ast.now) exports linked) }
+    ensures main { IfOk result (λ linked. is_some linked.main ≡ is_some ast.now.main) }
+{
+    let lists = lists_of(alloc, ast, &measured.names, kernel, &measured.order)?;
+    let exports = exports_of(alloc, &ast.procs, &measured.sizes, &lists)?;
+    let main = main_tree(alloc, &measured.names, kernel, &ast.main, &lists)?;
+    Ok(Linked { exports, main })
+}
+
+// What a source links to with a kernel's exports, or its first refusal.
+pub(crate) fn link(alloc: Global, ast: &Ast, kernel: &[KernelProc]) -> Result<Linked, Stop>
+    requires { SourceFits (source_of ast.now) }
+    ensures linked { LinksTo (source_of ast.now) kernel.now result }
+    ensures main { IfOk result (λ linked. is_some linked.main ≡ is_some ast.now.main) }
+{
+    let measured = measure(alloc, ast, kernel)?;
+    let linked = built(alloc, ast, kernel, &measured)?;
+    Ok(linked)
+}

@@ -1,0 +1,81 @@
+ghost use Rattle.std.specs.Prelude.{◌≡◌, ℕ, ◌<◌, List, Vec, length, slice_set, IfOk, OnOk};
+ghost use Rattle.std.specs.Global.{Global};
+ghost use Rattle.masm_flat.specs.declared.piece.Piece.{Piece};
+ghost use Rattle.masm_flat.specs.Blocks.{as_tree};
+ghost use Rattle.masm_flat.specs.Flattening.{flat_with};
+ghost use Rattle.masm_flat.specs.KnownLists.{lists_known};
+ghost use Rattle.masm_flat.specs.Lists.{Exported, with_locals};
+ghost use Rattle.masm_flat.specs.Views.{pieces_of};
+ghost use Rattle.masm_parse.specs.Locals.{HasLocals, SourceFits};
+ghost use Rattle.masm_parse.specs.Views.{body_of, source_of};
+ghost use Rattle.masm_uses.specs.Names.{place_at};
+ghost use Rattle.masm_uses.specs.Naming.{IsClosed};
+ghost use Rattle.masm_uses.specs.UseOrders.{IsUseOrder};
+ghost use Rattle.masm_uses.specs.Uses.{first_place};
+ghost use Rattle.masm_link.specs.Kernels.{AreExports, names_in};
+ghost use Rattle.masm_link.specs.Tables.{AreLists};
+
+use masm_flat::{KernelProc, Lists, Piece, list_of_procedure};
+use masm_parse::{Ast, Proc};
+use masm_uses::Names;
+use std::alloc::{AllocError, Global};
+use vm_field::Memory;
+
+fn empty_lists(alloc: Global, count: usize) -> Result<Vec<Vec<Piece>>, AllocError>
+    ensures { IfOk result (λ lists. length lists.items ≡ count) }
+{
+    let mut lists = Vec::new(alloc);
+    for _ in 0..count {
+        lists.push(Vec::new(alloc))?;
+    }
+    Ok(lists)
+}
+
+// Puts a procedure's list into the table, which has those of the procedures that it uses.
+fn add_list(
+    alloc: Global,
+    names: &Names,
+    kernel: &[KernelProc],
+    procedure: &Proc,
+    place: usize,
+    lists: &mut Vec<Vec<Piece>>,
+) -> Result<(), Memory>
+    requires place { place < length lists.old.items }
+    requires locals { HasLocals procedure.now.locals (body_of procedure.now.body.items) }
+    ensures { OnOk result ((list : Vec Piece Global) × (lists.new.items ≡ slice_set lists.old.items place list)
+        × (pieces_of list.items ≡ with_locals procedure.now.locals
+        (flat_with as_tree (lists_known names.now lists.old.items kernel.now) procedure.now.locals (body_of procedure.now.body.items)))) }
+{
+    let known = Lists {
+        names,
+        lists: lists.as_slice(),
+        kernel,
+    };
+    let list = list_of_procedure(alloc, &known, procedure)?;
+    lists[place] = list;
+    Ok(())
+}
+
+// The procedures' lists, by their places. In the order each procedure stands behind those that it
+// uses.
+pub(crate) fn lists_of(
+    alloc: Global,
+    ast: &Ast,
+    names: &Names,
+    kernel: &[KernelProc],
+    order: &[usize],
+) -> Result<Vec<Vec<Piece>>, Memory>
+    requires names { (name : List ℕ) → place_at names.now name ≡ first_place (source_of ast.now).procs name }
+    requires fits { SourceFits (source_of ast.now) }
+    requires closed { IsClosed (source_of ast.now) (names_in kernel.now) }
+    requires order { IsUseOrder (source_of ast.now).procs order.now }
+    ensures count { IfOk result (λ lists. length lists.items ≡ length (source_of ast.now).procs) }
+    ensures lists { IfOk result (λ lists. (exports : List Exported) → AreExports exports kernel.now
+        → AreLists (source_of ast.now).procs exports order.now lists.items) }
+{
+    let mut lists = empty_lists(alloc, ast.procs.len())?;
+    for place in order {
+        add_list(alloc, names, kernel, &ast.procs[*place], *place, &mut lists)?;
+    }
+    Ok(lists)
+}

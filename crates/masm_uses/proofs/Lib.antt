@@ -1,0 +1,16 @@
+pub mod DanglingAnswers
+pub mod DanglingLemmas
+pub mod DoubleAnswers
+pub mod DoubleLemmas
+pub mod LeastLemmas
+pub mod NameLemmas
+pub mod RankLemmas
+pub mod SettlingLemmas
+pub mod SortLemmas
+pub mod Stuck
+pub mod UseLemmas
+pub mod UseOrderLemmas
+pub mod UsedLemmas
+pub mod UserLemmas
+pub mod UsesOnly
+pub mod WalkLemmas

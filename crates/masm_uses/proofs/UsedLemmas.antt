@@ -1,0 +1,196 @@
+-- The rows of uses against the uses of a source.
+use Rattle.std.proofs.Common.{◌≡◌, ℕ, suc, zero, ◌+◌, ◌<◌, Bool, true, false, cond, List, [], ◌∷◌, map, length, get_or, slice_get, Option, Some, None, ◌⊎◌, inl, inr, refl, sym, ap, subst, ◌∙◌, bytes_eq, unwrap_or, arith}
+use Rattle.std.proofs.lemmas.Bool.{cases_Bool}
+use Rattle.std.proofs.lemmas.List.{length-map}
+use Rattle.std.proofs.lemmas.List.Elements.{Contains-append_left, Contains-append_right, Contains-append_cases, Contains-push}
+use Rattle.std.proofs.lemmas.Option.{slice_get-map, slice_get-get_or, slice_get_within, get_or_from_slice_get, slice_get_cases}
+use Rattle.std.proofs.lemmas.Simd.{map-map}
+use Rattle.std.proofs.lemmas.Slice.Eq.{bytes_eq-Decides}
+use Rattle.std.specs.List.{flat_map, Contains}
+use Rattle.std.specs.Option.{option_map}
+use Rattle.masm_parse.specs.declared.tree.Proc.{Proc}
+use Rattle.masm_parse.specs.Trees.{Procedure}
+use Rattle.masm_parse.specs.Views.{procedure_of, body_of}
+use Rattle.masm_uses.specs.declared.links.Target.TheVariants as targets
+use Rattle.masm_uses.specs.declared.refusal.LinkCause.{LinkCause}
+use Rattle.masm_uses.specs.declared.refusal.LinkCause.TheVariants as causes
+use Rattle.masm_uses.specs.Dangling.{missing_cause}
+use Rattle.masm_uses.specs.Graph.{Leads, itself, through}
+use Rattle.masm_uses.specs.Links.{own_target, kernel_target, target_of, link_of, links_in}
+use Rattle.masm_uses.specs.Users.{Goes, AreUsers}
+use Rattle.masm_uses.specs.Uses as uses
+use Rattle.masm_uses.specs.Uses.{Kind, Own, Kernel, Use, uses_of, place_in, first_place, UsedIn, Reaches}
+use Rattle.masm_uses.proofs.DoubleLemmas.{contains_cons}
+use Rattle.masm_uses.proofs.UserLemmas.{user_within}
+use Rattle.masm_uses.proofs.WalkLemmas.{Leads-push}
+
+-- Elements by their places.
+pub contains_at : {X : Type 0} (xs : List X) (k : ℕ) (x : X) → slice_get xs k ≡ Some x → Contains xs x
+contains_at xs k x e = (k, slice_get_within xs k x e, get_or_from_slice_get xs k x x e)
+
+pub at_contains : {X : Type 0} (xs : List X) (x : X) → Contains xs x → (k : ℕ) × (slice_get xs k ≡ Some x)
+at_contains xs x h = (h.0, slice_get-get_or xs h.0 x h.1 ∙ ap Some h.2)
+
+pub in_all : {X Y : Type 0} (f : X → List Y) (xs : List X) (i : ℕ) (x : X) (y : Y) → slice_get xs i ≡ Some x → Contains (f x) y → Contains (flat_map f xs) y
+in_all f [] i x y e h = cc
+in_all f (z ∷ xs) zero x y e h =
+    Contains-append_left (f z) (flat_map f xs) y (subst (λ w. Contains (f w) y) (ap (λ o. unwrap_or o z) (sym e)) h)
+in_all f (z ∷ xs) (suc i) x y e h = Contains-append_right (f z) (flat_map f xs) y (in_all f xs i x y e h)
+
+pub all_in : {X Y : Type 0} (f : X → List Y) (xs : List X) (y : Y) → Contains (flat_map f xs) y → (i : ℕ) × (x : X) × (slice_get xs i ≡ Some x) × Contains (f x) y
+all_in f [] y h = absurd (omega (arith, h.1))
+all_in f (z ∷ xs) y h = elim (Contains-append_cases (f z) (flat_map f xs) y h) [
+  | inl here ↦ (0, z, refl, here)
+  | inr later ↦ let found = all_in f xs y later in (suc found.0, found.1, found.2, found.3)
+]
+
+-- what a mapped list has at a place
+pub unmapped : {X Y : Type 0} (f : X → Y) (xs : List X) (k : ℕ) (y : Y) → slice_get (map f xs) k ≡ Some y → (x : X) × (slice_get xs k ≡ Some x) × (y ≡ f x)
+unmapped {X} f xs k y e = by (slice_get xs k) refl
+  where
+    by : (o : Option X) → slice_get xs k ≡ o → (x : X) × (slice_get xs k ≡ Some x) × (y ≡ f x)
+    by None none = absurd (let other : slice_get (map f xs) k ≡ None = slice_get-map f xs k ∙ ap (option_map f) none in cc)
+    by (Some x) there = (x, there, ap (λ o. unwrap_or o y) (sym e ∙ (slice_get-map f xs k ∙ ap (option_map f) there)))
+
+pub mapped : {X Y : Type 0} (f : X → Y) (xs : List X) (k : ℕ) (x : X) → slice_get xs k ≡ Some x → slice_get (map f xs) k ≡ Some (f x)
+mapped f xs k x e = slice_get-map f xs k ∙ ap (option_map f) e
+
+-- names that stand nowhere
+pub place_none : (names : List (List ℕ)) (name : List ℕ) → place_in names name ≡ None → ¬ (Contains names name)
+place_none [] name e h = omega (arith, h.1)
+place_none (n ∷ names) name e h = elim (cases_Bool (bytes_eq n name)) [
+  | inl same ↦ let some = ap (λ b. cond b (Some 0) (option_map (λ i. i + 1) (place_in names name))) same in cc
+  | inr other ↦ elim (contains_cons n names name h) [
+    | inl is ↦ let same = (bytes_eq-Decides n name).1 is in cc
+    | inr later ↦ place_none names name (none_less (place_in names name) (sym (ap (λ b. cond b (Some 0) (option_map (λ i. i + 1) (place_in names name))) other) ∙ e)) later
+  ]
+]
+  where
+    none_less : (o : Option ℕ) → option_map (λ i. i + 1) o ≡ None → o ≡ None
+    none_less None e = refl
+    none_less (Some k) e = cc
+
+pub none_place : (names : List (List ℕ)) (name : List ℕ) → ¬ (Contains names name) → place_in names name ≡ None
+none_place [] name h = refl
+none_place (n ∷ names) name h = elim (cases_Bool (bytes_eq n name)) [
+  | inl same ↦ absurd (h (subst (Contains (n ∷ names)) ((bytes_eq-Decides n name).0 same) (Contains-append_left (n ∷ []) names n (Contains-push [] n))))
+  | inr other ↦
+      ap (λ b. cond b (Some 0) (option_map (λ i. i + 1) (place_in names name))) other
+      ∙ ap (option_map (λ i. i + 1)) (none_place names name (λ later. h (Contains-append_right (n ∷ []) names name later)))
+]
+
+pub place_within : (names : List (List ℕ)) (name : List ℕ) (k : ℕ) → place_in names name ≡ Some k → k < length names
+place_within [] name k e = cc
+place_within (n ∷ names) name k e = by (bytes_eq n name) (place_in names name) (λ j. place_within names name j) e
+  where
+    by : (b : Bool) (o : Option ℕ) → ((j : ℕ) → o ≡ Some j → j < length names) → cond b (Some 0) (option_map (λ i. i + 1) o) ≡ Some k → k < suc (length names)
+    by true o within e = let is : 0 ≡ k = ap (λ o. unwrap_or o 0) e in omega arith
+    by false None within e = cc
+    by false (Some j) within e = let is : j + 1 ≡ k = ap (λ o. unwrap_or o 0) e in let below = within j refl in omega arith
+
+-- the places of the procedures' names
+pub names_places : (f : List ℕ → Option ℕ) (xs procs : List Proc) → xs ≡ procs → ((name : List ℕ) → f name ≡ place_in (map (λ p. p.name) xs) name)
+    → (name : List ℕ) → f name ≡ first_place (map procedure_of procs) name
+names_places f xs procs same places name =
+    places name ∙ ap (λ names. place_in names name) (ap (map (λ p. p.name)) same ∙ sym (map-map (λ (q : Procedure). q.name) procedure_of procs))
+
+-- What the target of a use says.
+own_missing : (o : Option ℕ) (cause : LinkCause) → missing_cause (own_target o) ≡ Some cause → (o ≡ None) × (cause ≡ causes.UnknownProcedure)
+own_missing None cause e = (refl, ap (λ c. unwrap_or c cause) (sym e))
+own_missing (Some j) cause e = cc
+
+kernel_missing : (o : Option ℕ) (cause : LinkCause) → missing_cause (kernel_target o) ≡ Some cause → (o ≡ None) × (cause ≡ causes.NotInKernel)
+kernel_missing None cause e = (refl, ap (λ c. unwrap_or c cause) (sym e))
+kernel_missing (Some j) cause e = cc
+
+own_leads : (o : Option ℕ) (j : ℕ) → own_target o ≡ targets.Own j → o ≡ Some j
+own_leads None j e = cc
+own_leads (Some k) j e = cc
+
+kernel_leads : (o : Option ℕ) (j : ℕ) → kernel_target o ≡ targets.Own j → ⊥
+kernel_leads None j e = cc
+kernel_leads (Some k) j e = cc
+
+module _ (own kernel : List ℕ → Option ℕ) where
+  pub missing_by : (kind : Kind) (name : List ℕ) (cause : LinkCause) → missing_cause (target_of own kernel kind name) ≡ Some cause
+      → ((kind ≡ Own) × (own name ≡ None) × (cause ≡ causes.UnknownProcedure)) ⊎ ((kind ≡ Kernel) × (kernel name ≡ None) × (cause ≡ causes.NotInKernel))
+  missing_by Own name cause e = let m = own_missing (own name) cause e in inl (refl, m.0, m.1)
+  missing_by Kernel name cause e = let m = kernel_missing (kernel name) cause e in inr (refl, m.0, m.1)
+
+  pub missing_own : (kind : Kind) (name : List ℕ) → kind ≡ Own → own name ≡ None → missing_cause (target_of own kernel kind name) ≡ Some causes.UnknownProcedure
+  missing_own kind name is none = ap (λ k. missing_cause (target_of own kernel k name)) is ∙ ap (λ o. missing_cause (own_target o)) none
+
+  pub missing_kernel : (kind : Kind) (name : List ℕ) → kind ≡ Kernel → kernel name ≡ None → missing_cause (target_of own kernel kind name) ≡ Some causes.NotInKernel
+  missing_kernel kind name is none = ap (λ k. missing_cause (target_of own kernel k name)) is ∙ ap (λ o. missing_cause (kernel_target o)) none
+
+  pub leads_by : (kind : Kind) (name : List ℕ) (j : ℕ) → target_of own kernel kind name ≡ targets.Own j → (kind ≡ Own) × (own name ≡ Some j)
+  leads_by Own name j e = (refl, own_leads (own name) j e)
+  leads_by Kernel name j e = absurd (kernel_leads (kernel name) j e)
+
+  pub leads_own : (kind : Kind) (name : List ℕ) (j : ℕ) → kind ≡ Own → own name ≡ Some j → target_of own kernel kind name ≡ targets.Own j
+  leads_own kind name j is some = ap (λ k. target_of own kernel k name) is ∙ ap own_target some
+
+-- The uses of the source's own procedures, where a name's place is the first one.
+module _ (own kernel : List ℕ → Option ℕ) (procs : List Proc) (places : (name : List ℕ) → own name ≡ first_place (map procedure_of procs) name) where
+  pub used : (i : ℕ) (p : Proc) (u : Use) (j : ℕ) → slice_get procs i ≡ Some p → Contains (uses_of (body_of p.body.items)) u
+      → target_of own kernel u.kind u.name ≡ targets.Own j → UsedIn (map procedure_of procs) i u j
+  used i p u j here among leads =
+      let by = leads_by own kernel u.kind u.name j leads in
+      record { procedure = procedure_of p; here = mapped procedure_of procs i p here; among = among; own = by.0; target = sym (places u.name) ∙ by.1 }
+
+  pub used_by : (i : ℕ) (u : Use) (j : ℕ) → UsedIn (map procedure_of procs) i u j
+      → (p : Proc) × (slice_get procs i ≡ Some p) × Contains (uses_of (body_of p.body.items)) u × (target_of own kernel u.kind u.name ≡ targets.Own j)
+  used_by i u j is =
+      let found = unmapped procedure_of procs i is.procedure is.here in
+      (found.0, found.1, subst (λ q. Contains (uses_of q.body) u) found.2 is.among, leads_own own kernel u.kind u.name j is.own (places u.name ∙ is.target))
+
+  pub goes_used : (i j : ℕ) → Goes (map (links_in own kernel) procs) i j → (u : Use) × UsedIn (map procedure_of procs) i u j
+  goes_used i j goes =
+      elim (slice_get_cases (map (links_in own kernel) procs) i).1 [
+        | inl row ↦
+            let found = unmapped (links_in own kernel) procs i row.0 row.2 in
+            let p = found.0 in
+            let same = row.3 ∙ found.2 in
+            let has = subst (λ r. Goes r i j) refl goes in
+            let k = has.0 in
+            let link = has.1 in
+            let at_k : slice_get (get_or (map (links_in own kernel) procs) i []) k ≡ Some link = slice_get-get_or _ k link has.2 ∙ ap Some has.3 in
+            let row_is : get_or (map (links_in own kernel) procs) i [] ≡ links_in own kernel p = get_or_from_slice_get _ i row.0 [] row.2 ∙ found.2 in
+            let use_at_k = unmapped (link_of own kernel) (uses_of (body_of p.body.items)) k link (sym (ap (λ r. slice_get r k) row_is) ∙ at_k) in
+            (use_at_k.0, used i p use_at_k.0 j found.1 (contains_at _ k use_at_k.0 use_at_k.1) (sym (ap (λ l. l.target) use_at_k.2) ∙ has.4))
+        | inr past ↦ absurd (let within = user_within _ i j goes in let l = past.0 in omega arith)
+      ]
+
+  pub goes_within : (i j : ℕ) → Goes (map (links_in own kernel) procs) i j → j < length procs
+  goes_within i j goes =
+      let found = goes_used i j goes in
+      let below = place_within (map (λ (q : Procedure). q.name) (map procedure_of procs)) found.0.name j found.1.target in
+      let counts = length-map (map procedure_of procs) (λ (q : Procedure). q.name) in
+      let count = length-map procs procedure_of in
+      omega arith
+
+  pub used_goes : (i : ℕ) (u : Use) (j : ℕ) → UsedIn (map procedure_of procs) i u j → Goes (map (links_in own kernel) procs) i j
+  used_goes i u j is =
+      let by = used_by i u j is in
+      let p = by.0 in
+      let row_is : get_or (map (links_in own kernel) procs) i [] ≡ links_in own kernel p = get_or_from_slice_get _ i (links_in own kernel p) [] (mapped (links_in own kernel) procs i p by.1) in
+      let at_k = at_contains (uses_of (body_of p.body.items)) u by.2 in
+      let link_at = contains_at (links_in own kernel p) at_k.0 (link_of own kernel u) (mapped (link_of own kernel) _ at_k.0 u at_k.1) in
+      let there = subst (λ r. Contains r (link_of own kernel u)) (sym row_is) link_at in
+      (there.0, link_of own kernel u, there.1, there.2, by.3)
+
+  module _ (users : List (List ℕ)) (are : AreUsers (map (links_in own kernel) procs) users) where
+    reaches_push : (a b c : ℕ) (u : Use) → Reaches (map procedure_of procs) a b → UsedIn (map procedure_of procs) b u c → Reaches (map procedure_of procs) a c
+    reaches_push a b c u uses.itself last = uses.through u last uses.itself
+    reaches_push a b c u (uses.through {j = d} v first more) last = uses.through v first (reaches_push d b c u more last)
+
+    pub leads_reaches : (a b : ℕ) → Leads users a b → Reaches (map procedure_of procs) b a
+    leads_reaches a b itself = uses.itself
+    leads_reaches a b (through {b = c} edge more) =
+        let goes = goes_used c a ((are.edges a c).0 edge) in
+        reaches_push b c a goes.0 (leads_reaches c b more) goes.1
+
+    pub reaches_leads : (a b : ℕ) → Reaches (map procedure_of procs) b a → Leads users a b
+    reaches_leads a b uses.itself = itself
+    reaches_leads a b (uses.through {j = c} u first more) =
+        Leads-push users a c b (reaches_leads a c more) ((are.edges c b).1 (used_goes b u c first))

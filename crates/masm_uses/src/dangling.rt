@@ -1,0 +1,42 @@
+ghost use Rattle.std.specs.Prelude.{◌≡◌, ℕ, List, IfOk};
+ghost use Rattle.masm_parse.specs.Views.{source_of};
+ghost use Rattle.masm_uses.specs.Least.{Answers};
+ghost use Rattle.masm_uses.specs.Names.{place_at};
+ghost use Rattle.masm_uses.specs.Naming.{Dangles};
+ghost use Rattle.masm_uses.specs.Uses.{first_place};
+
+use crate::links::{all_links, main_links};
+use crate::missing::{first_missing, first_missing_of};
+use crate::names::Names;
+use crate::recursion::first_recursion;
+use crate::refusal::{Refusal, earlier};
+use crate::users::users_of;
+use masm_parse::Ast;
+use std::alloc::Global;
+use vm_field::{Bytes, Memory};
+
+/// The places of the procedures' names.
+pub fn procedure_names(alloc: Global, ast: &Ast) -> Result<Names, Memory>
+    ensures { IfOk result (λ names. (name : List ℕ) → place_at names name ≡ first_place (source_of ast.now).procs name) }
+{
+    let names = Names::of(alloc, &ast.procs)?;
+    Ok(names)
+}
+
+/// The first use that leads nowhere or back, where the kernel exports these names.
+pub fn first_dangling(
+    alloc: Global,
+    ast: &Ast,
+    names: &Names,
+    kernel: &[Bytes],
+) -> Result<Option<Refusal>, Memory>
+    requires names { (name : List ℕ) → place_at names.now name ≡ first_place (source_of ast.now).procs name }
+    ensures { IfOk result (λ first. Answers (Dangles (source_of ast.now) kernel.now) first) }
+{
+    let exports = Names::of(alloc, kernel)?;
+    let rows = all_links(alloc, names, &exports, &ast.procs)?;
+    let main = main_links(alloc, names, &exports, &ast.main)?;
+    let users = users_of(alloc, &rows)?;
+    let missing = earlier(first_missing_of(&rows), first_missing(&main));
+    Ok(earlier(missing, first_recursion(alloc, &users, &rows)?))
+}

@@ -1,0 +1,120 @@
+ghost use Rattle.std.specs.Prelude.{◌≡◌, ◌<◌, length, All, IfOk, IfSome};
+ghost use Rattle.block_tree.specs.Trees.{input_of_batches, input_of_two};
+ghost use Rattle.rpo_hash.specs.Constants.{constants_of};
+ghost use Rattle.vm_field.specs.Sponge.{digest_of_input, hashed};
+ghost use Rattle.vm_ops.specs.Codes.{code_of};
+ghost use Rattle.processor.specs.Digests.{IsDigest};
+
+use crate::mark::pair;
+use op_pack::Batches;
+use rpo_hash::{Params, digest_of};
+use std::alloc::Global;
+use std::collections::BTreeMap;
+use vm_field::{Felt, Memory, Word};
+use vm_ops::{Op, opcode};
+
+// Blocks that were hashed under a domain, and their digest.
+#[derive(Drop)]
+struct Known {
+    domain: Felt,
+    blocks: Vec<[Felt; 8]>,
+    digest: Word,
+}
+
+// The digests that were computed, so that none is computed twice.
+#[derive(Drop)]
+pub(crate) struct Digests<'a> {
+    params: &'a Params,
+    known: Vec<Known>,
+    // where a digest stands, by its input's fingerprint; another input may have the same one
+    places: BTreeMap<u64, usize>,
+    ghost known_right: { All (IsDigest (constants_of params.now)) known.items },
+}
+
+impl<'a> Digests<'a> {
+    // No digests yet.
+    pub fn new(alloc: Global, params: &'a Params) -> Digests<'a>
+        ensures { result.params.now ≡ params.entry.now }
+    {
+        Digests {
+            params,
+            known: Vec::new(alloc),
+            places: BTreeMap::new(alloc),
+        }
+    }
+
+    // The digest of a span.
+    pub fn of_span(&mut self, alloc: Global, batches: &Batches) -> Result<Word, Memory>
+        ensures digest { IfOk result (λ digest. digest ≡ digest_of_input (constants_of self.old.params.now) (input_of_batches batches.now)) }
+        ensures params { self.new.params.now ≡ self.old.params.now }
+    {
+        self.of(alloc, Felt::ZERO, batches.as_slice())
+    }
+
+    // The digest of a block whose start is this operation, with children of these digests.
+    pub fn of_two(
+        &mut self,
+        alloc: Global,
+        start: Op,
+        first: Word,
+        second: Word,
+    ) -> Result<Word, Memory>
+        ensures digest { IfOk result (λ digest. digest ≡ digest_of_input (constants_of self.old.params.now) (input_of_two start first second)) }
+        ensures params { self.new.params.now ≡ self.old.params.now }
+    {
+        self.of(alloc, domain_of(start), &[pair(&first, &second)])
+    }
+
+    // The digest of blocks of eight elements under a domain.
+    fn of(&mut self, alloc: Global, domain: Felt, blocks: &[[Felt; 8]]) -> Result<Word, Memory>
+        requires some { 0 < length blocks.now }
+        ensures digest { IfOk result (λ digest. digest ≡ hashed (constants_of self.old.params.now) domain blocks.now) }
+        ensures params { self.new.params.now ≡ self.old.params.now }
+    {
+        let fingerprint = fingerprint(domain, blocks);
+        if let Some(digest) = self.known_digest(fingerprint, domain, blocks) {
+            return Ok(digest);
+        }
+        let digest = digest_of(self.params, domain, blocks);
+        let blocks = Vec::from_slice(alloc, blocks)?;
+        self.places.insert(fingerprint, self.known.len())?;
+        self.known.push(Known {
+            domain,
+            blocks,
+            digest,
+        })?;
+        Ok(digest)
+    }
+
+    // The digest, if it was computed.
+    fn known_digest(&self, fingerprint: u64, domain: Felt, blocks: &[[Felt; 8]]) -> Option<Word>
+        ensures { IfSome result (λ digest. digest ≡ hashed (constants_of self.now.params.now) domain blocks.now) }
+    {
+        let known = self.known.get(*self.places.get(&fingerprint)?)?;
+        if known.domain == domain && known.blocks.as_slice() == blocks {
+            Some(known.digest)
+        } else {
+            None
+        }
+    }
+}
+
+// The domain of a block whose start is this operation.
+fn domain_of(start: Op) -> Felt
+    ensures { result ≡ code_of start }
+{
+    Felt::reduced(u128::from(opcode(start)))
+}
+
+// A number that tells inputs apart, mostly.
+fn fingerprint(domain: Felt, blocks: &[[Felt; 8]]) -> u64 {
+    let mut fingerprint = domain.value();
+    for block in blocks {
+        for element in block {
+            fingerprint = (fingerprint.rotate_left(5) ^ element.value()).wrapping_mul(
+                0x517c_c1b7_2722_0a95,
+            );
+        }
+    }
+    fingerprint
+}
