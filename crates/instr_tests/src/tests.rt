@@ -1,6 +1,6 @@
 ghost use Rattle.std.specs.Prelude.{◌≤◌, IsTrue};
-ghost use Rattle.op_steps.specs.Steps.{IsOrdinaryItem};
 ghost use Rattle.vm_ops.specs.Codes.{is_ordinary_op};
+ghost use Rattle.vm_ops.specs.Items.{IsOrdinaryItem};
 
 use masm_instr::{Consts, expand, read_instr};
 use op_steps::{StepStop, step};
@@ -77,7 +77,9 @@ fn same(item: &Item) -> Item
     ensures { IsOrdinaryItem result }
 {
     if item.op == Op::Push {
-        Item::push(item.imm.unwrap_or(Felt::ZERO))
+        let value = item.imm.unwrap_or(Felt::ZERO);
+        let _ = value.value();
+        Item::push(value)
     } else {
         Item::plain(item.op)
     }
