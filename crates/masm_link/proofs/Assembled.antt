@@ -1,5 +1,5 @@
 -- What is answered for a source and a kernel, from what is found of each.
-use Rattle.std.proofs.Common.{◌≡◌, ℕ, zero, suc, ◌<◌, ◌≤◌, Bool, true, false, cond, List, [], ◌∷◌, ◌++◌, length, map, Option, Some, None, Ok, Err, Vec, Global, ◌⊎◌, inl, inr, refl, sym, ap, ap₂, subst, ◌∙◌, is_some, arith}
+use Rattle.std.proofs.Common.{◌≡◌, ℕ, zero, suc, ◌<◌, ◌≤◌, true, false, cond, List, [], ◌∷◌, ◌++◌, length, map, Option, Some, None, Ok, Err, Vec, Global, inl, inr, refl, sym, ap, ap₂, subst, ◌∙◌, is_some, arith}
 use Rattle.std.proofs.lemmas.Bool.{cases_Bool, cases_lt}
 use Rattle.std.proofs.lemmas.Option.{same_Some}
 use Rattle.std.specs.List.{AllZip}
@@ -10,14 +10,13 @@ use Rattle.block_tree.specs.Trees.{tree_digest}
 use Rattle.block_tree.specs.TreeView.{tree_of}
 use Rattle.masm_parse.specs.Trees.{Procedure, Source}
 use Rattle.masm_uses.specs.declared.refusal.LinkCause.TheVariants as causes
-use Rattle.masm_uses.specs.Naming.{Doubles, one_export_more, at_procedure, exported_of}
+use Rattle.masm_uses.specs.Naming.{one_export_more, at_procedure, exported_of}
 use Rattle.masm_flat.specs.declared.known.KernelProc.{KernelProc}
 use Rattle.masm_flat.specs.Blocks.{Block, seen_as, as_tree}
 use Rattle.masm_flat.specs.Lists.{Exported}
 use Rattle.masm_link.specs.declared.linking.Linked.{Linked}
 use Rattle.masm_link.specs.declared.refusal.AsmError.{AsmError}
-use Rattle.masm_link.specs.declared.refusal.AsmError.TheVariants.{Memory}
-use Rattle.masm_link.specs.Assembling.{reads, Refuses, LinksText, KernelExports, no_kernel, of_kernel, export_digest, export_of, without_repeats, IsProgram, Assembles, assembled, kernel_refused, refused, no_memory}
+use Rattle.masm_link.specs.Assembling.{reads, KernelExports, no_kernel, of_kernel, export_digest, export_of, without_repeats, Assembles, assembled, kernel_refused, refused, no_memory}
 use Rattle.masm_link.specs.Kernels.{IsExport, AreExports}
 use Rattle.masm_link.specs.Measures.{IsLinked}
 use Rattle.masm_link.specs.Programs.{LinksIn, ExportsIn, digest_in, export_in}

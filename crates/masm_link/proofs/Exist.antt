@@ -1,5 +1,5 @@
 -- Each procedure of a source of which no use leads nowhere or back has a list.
-use Rattle.std.proofs.Common.{◌≡◌, ℕ, zero, suc, ◌<◌, ◌≤◌, List, length, get_or, take, slice_get, Some, sym, ap, subst, ◌∙◌, arith}
+use Rattle.std.proofs.Common.{◌≡◌, ℕ, zero, suc, ◌<◌, ◌≤◌, List, length, get_or, take, slice_get, Some, sym, ap, ◌∙◌, arith}
 use Rattle.std.proofs.lemmas.List.{length-take-le, get_or-take, get_or_default}
 use Rattle.std.proofs.lemmas.Option.{slice_get_within}
 use Rattle.std.specs.List.{Contains}
@@ -7,7 +7,7 @@ use Rattle.masm_parse.specs.Trees.{Procedure, Source}
 use Rattle.masm_uses.specs.Naming.{IsClosed}
 use Rattle.masm_uses.specs.UseOrders.{IsUseOrder}
 use Rattle.masm_flat.specs.Blocks.{Block, Piece}
-use Rattle.masm_flat.specs.Lists.{Exported, IsList, first_procedure}
+use Rattle.masm_flat.specs.Lists.{Exported, IsList}
 use Rattle.masm_flat.proofs.HasList.{has_list}
 use Rattle.masm_link.specs.Refusals.{names_of}
 use Rattle.masm_link.proofs.Closed.{Behind, IsExportName, uses_behind, uses_main, syscalls_procs, syscalls_main}

@@ -1,5 +1,5 @@
 -- Procedures and exports by their names.
-use Rattle.std.proofs.Common.{◌≡◌, ℕ, zero, suc, ◌+◌, ◌≤◌, true, cond, List, [], ◌∷◌, map, Option, Some, None, inl, inr, refl, sym, ap, ap₂, subst, ◌∙◌, bytes_eq, slice_get, arith}
+use Rattle.std.proofs.Common.{◌≡◌, ℕ, suc, ◌+◌, ◌≤◌, cond, List, [], ◌∷◌, Option, Some, None, inl, inr, refl, sym, ap, ap₂, subst, ◌∙◌, bytes_eq, slice_get, arith}
 use Rattle.std.proofs.lemmas.Bool.{cases_Bool}
 use Rattle.std.proofs.lemmas.Option.{same_Some}
 use Rattle.std.proofs.lemmas.Slice.Eq.{bytes_eq-Decides}
@@ -13,7 +13,7 @@ use Rattle.masm_flat.specs.Sizes.{as_extent}
 use Rattle.masm_parse.specs.Trees.{Procedure}
 use Rattle.masm_uses.specs.Uses.{first_place}
 use Rattle.masm_uses.proofs.UseOrderLemmas.{cons_cases}
-use Rattle.masm_link.specs.Kernels.{IsExport, AreExports, names_in}
+use Rattle.masm_link.specs.Kernels.{AreExports, names_in}
 use Rattle.masm_link.specs.Refusals.{names_of}
 
 -- a name has its first place where its first procedure stands

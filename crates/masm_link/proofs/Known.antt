@@ -1,5 +1,5 @@
 -- Tables of sizes and lists, as they are filled.
-use Rattle.std.proofs.Common.{◌≡◌, ◌≢◌, ℕ, zero, suc, ◌+◌, ◌<◌, List, [], ◌∷◌, length, get_or, set, take, slice_get, Option, Some, inl, inr, refl, sym, ap, subst, ◌∙◌, unwrap_or, Vec, Global, arith}
+use Rattle.std.proofs.Common.{◌≡◌, ◌≢◌, ℕ, zero, suc, ◌+◌, ◌<◌, List, [], ◌∷◌, length, get_or, set, take, slice_get, Some, inl, inr, refl, sym, ap, subst, ◌∙◌, unwrap_or, Vec, Global, arith}
 use Rattle.std.proofs.lemmas.Bool.Decides.{eqb_tells}
 use Rattle.std.proofs.lemmas.List.{take_more, length-map}
 use Rattle.std.proofs.lemmas.List.Elements.{Contains-push_cases}
@@ -27,9 +27,9 @@ use Rattle.masm_flat.specs.declared.piece.Piece as piece
 use Rattle.masm_flat.specs.declared.shape.Size as shape
 use Rattle.masm_flat.specs.Blocks.{Block, Piece, Operation, seen_as, seen_pieces, as_tree}
 use Rattle.masm_flat.specs.Flattening.{flat_with}
-use Rattle.masm_flat.specs.KnownLists.{list_at, tree_at, lists_known}
-use Rattle.masm_flat.specs.KnownSizes.{size_at, extent_at, sizes_known}
-use Rattle.masm_flat.specs.Lists.{Exported, IsList, first_procedure, first_export, with_locals}
+use Rattle.masm_flat.specs.KnownLists.{list_at, lists_known}
+use Rattle.masm_flat.specs.KnownSizes.{size_at, sizes_known}
+use Rattle.masm_flat.specs.Lists.{Exported, IsList, with_locals}
 use Rattle.masm_flat.specs.Sizes.{as_extent, size_of, extent, nothing, size_view, procedure_size}
 use Rattle.masm_flat.specs.Views.{pieces_of}
 use Rattle.masm_flat.proofs.Flattened.{Fits, flat-is, seen-append}

@@ -4,7 +4,7 @@ use Rattle.std.proofs.lemmas.Bool.{cases_lt}
 use Rattle.std.proofs.lemmas.List.{map-append, take_more, length-take-le}
 use Rattle.std.proofs.lemmas.List.Elements.{filter-append, Contains-append_left}
 use Rattle.std.proofs.lemmas.Option.{slice_get_within}
-use Rattle.std.specs.List.{AllZip, Contains}
+use Rattle.std.specs.List.{AllZip}
 use Rattle.std.specs.Option.{option_map, option_to_list}
 use Rattle.block_tree.specs.declared.tree.Tree as code
 use Rattle.block_tree.specs.TreeView.{tree_of}
@@ -20,28 +20,27 @@ use Rattle.masm_uses.specs.Among.{Among}
 use Rattle.masm_uses.specs.Earlier.{earlier}
 use Rattle.masm_uses.specs.Least.{IsLeast, Answers}
 use Rattle.masm_uses.specs.Naming.{Dangles, Doubles, IsClosed, at_procedure, exported_of}
-use Rattle.masm_uses.specs.UseOrders.{IsUseOrder}
 use Rattle.masm_uses.proofs.LeastLemmas.{Either, Answers-same, Answers-earlier}
 use Rattle.masm_uses.proofs.UsedLemmas.{unmapped, mapped, contains_at}
 use Rattle.masm_flat.specs.declared.known.KernelProc.{KernelProc}
 use Rattle.masm_flat.specs.declared.piece.Piece as piece
 use Rattle.masm_flat.specs.declared.shape.Extent.{Extent}
 use Rattle.masm_flat.specs.declared.shape.Size as shape
-use Rattle.masm_flat.specs.Blocks.{Block, Piece, seen_as, seen_pieces, block_of, as_tree, as_operations, as_height, whole}
+use Rattle.masm_flat.specs.Blocks.{Block, Piece, seen_as, seen_pieces, block_of, as_tree, as_operations, whole}
 use Rattle.masm_flat.specs.Flattening.{flat_with}
 use Rattle.masm_flat.specs.KnownLists.{list_at, lists_known}
 use Rattle.masm_flat.specs.KnownSizes.{size_at, sizes_known}
 use Rattle.masm_flat.specs.Lists.{Exported, IsList, IsBlockOf, with_locals}
 use Rattle.masm_flat.specs.Sizes.{as_extent, extent_of, size_of, procedure_size}
 use Rattle.masm_flat.proofs.Flattened.{seen-block}
-use Rattle.masm_flat.proofs.Sized.{operations-block, height-block, procedure-sized}
+use Rattle.masm_flat.proofs.Sized.{operations-block, procedure-sized}
 use Rattle.masm_link.specs.declared.linking.Linked.{Linked}
 use Rattle.masm_link.specs.declared.linking.Measured.{Measured}
 use Rattle.masm_link.specs.Building.{IsBuilt, AreBuilt, none, exported, inner}
 use Rattle.masm_link.specs.Kernels.{IsExport, AreExports, names_in}
 use Rattle.masm_link.specs.Limits.{IsOver}
-use Rattle.masm_link.specs.Measures.{IsMeasured, IsClean, AreReady, IsLinked}
-use Rattle.masm_link.specs.Refusals.{IsTooLarge, too_many_operations, too_deep, Oversized, names_of, RefusesAt, double, dangling, oversized, Links}
+use Rattle.masm_link.specs.Measures.{IsMeasured, AreReady, IsLinked}
+use Rattle.masm_link.specs.Refusals.{IsTooLarge, too_many_operations, Oversized, names_of, RefusesAt, double, dangling, oversized}
 use Rattle.masm_link.specs.Tables.{AreLists}
 use Rattle.masm_link.proofs.Closed.{Behind, uses_main}
 use Rattle.masm_link.proofs.Exist.{list_of_procedure, list_of_main}

@@ -1,25 +1,22 @@
 -- The least refusal of procedures whose trees are too large.
-use Rattle.std.proofs.Common.{◌≡◌, ℕ, zero, suc, ◌<◌, ◌≤◌, List, [], ◌∷◌, ◌++◌, length, map, slice_get, Option, Some, None, ◌⊎◌, inl, inr, ◌↔◌, refl, sym, ap, subst, ◌∙◌, unwrap_or, arith}
+use Rattle.std.proofs.Common.{◌≡◌, zero, suc, ◌<◌, ◌≤◌, List, [], ◌∷◌, Option, Some, None, inl, inr, ◌↔◌, refl, sym, ap, subst, ◌∙◌, unwrap_or, arith}
 use Rattle.std.proofs.lemmas.Bool.{cases_lt}
 use Rattle.std.proofs.lemmas.Bool.Decides.{nat_tests}
 use Rattle.std.proofs.lemmas.List.Elements.{Contains-append_left, Contains-append_right, Contains-append_cases}
-use Rattle.std.specs.List.{Any, Contains}
-use Rattle.std.specs.Option.{option_map, option_to_list}
+use Rattle.std.specs.List.{Contains}
+use Rattle.std.specs.Option.{option_to_list}
 use Rattle.masm_parse.specs.declared.tree.At.{At}
-use Rattle.masm_parse.specs.declared.tree.Proc.{Proc}
 use Rattle.masm_parse.specs.Trees.{Procedure, Source}
-use Rattle.masm_parse.specs.Views.{procedure_of}
 use Rattle.masm_uses.specs.declared.refusal.LinkCause.{LinkCause}
 use Rattle.masm_uses.specs.declared.refusal.LinkCause.TheVariants as causes
 use Rattle.masm_uses.specs.declared.refusal.Refusal.{Refusal}
 use Rattle.masm_uses.specs.Among.{Among}
 use Rattle.masm_uses.specs.Causes.{order}
 use Rattle.masm_uses.specs.Earlier.{earlier}
-use Rattle.masm_uses.specs.Least.{IsLeast, Answers}
+use Rattle.masm_uses.specs.Least.{Answers}
 use Rattle.masm_uses.specs.Naming.{at_procedure}
-use Rattle.masm_uses.specs.Uses.{bodies_of}
 use Rattle.masm_uses.proofs.LeastLemmas.{Either, Answers-same, Answers-earlier, no_later-trans}
-use Rattle.masm_uses.proofs.UsedLemmas.{contains_at, at_contains, unmapped, mapped}
+use Rattle.masm_uses.proofs.UsedLemmas.{contains_at, at_contains}
 use Rattle.masm_uses.proofs.UseOrderLemmas.{cons_here}
 use Rattle.masm_flat.specs.declared.shape.Extent.{Extent}
 use Rattle.masm_flat.specs.Blocks.{Block, Piece, seen_as, seen_pieces, block_of, as_operations, as_height}

@@ -1,11 +1,10 @@
 -- The trees of assembled programs are within the limits.
-use Rattle.std.proofs.Common.{◌≡◌, ℕ, ◌+◌, ◌<◌, ◌≤◌, max, List, [], Option, Some, None, MatchOption, Ok, inl, inr, refl, sym, ap, ap₂, subst, ◌∙◌, arith}
+use Rattle.std.proofs.Common.{◌≡◌, ◌+◌, ◌≤◌, max, List, [], Option, Some, None, MatchOption, inl, inr, refl, sym, ap, ap₂, subst, arith}
 use Rattle.std.proofs.lemmas.Bool.{cases_lt}
 use Rattle.std.proofs.lemmas.List.Elements.{Contains-append_right}
 use Rattle.std.proofs.lemmas.Option.{same_Some}
 use Rattle.std.specs.List.{Contains}
 use Rattle.std.specs.Option.{option_to_list}
-use Rattle.block_tree.specs.declared.program.Program.{Program}
 use Rattle.block_tree.specs.Trees.{Tree, tree_height}
 use Rattle.block_tree.specs.TreeView.{tree_of}
 use Rattle.masm_parse.specs.declared.tree.At.{At}
@@ -16,9 +15,9 @@ use Rattle.masm_uses.specs.Naming.{at_procedure}
 use Rattle.masm_uses.proofs.UseOrderLemmas.{cons_here}
 use Rattle.masm_flat.specs.Blocks.{Block, Span, Join, Split, Loop, Call, Syscall, seen_as, as_tree, as_operations, as_height}
 use Rattle.masm_flat.specs.Lists.{Exported, IsBlockOf}
-use Rattle.masm_link.specs.Assembling.{Assembles, assembled}
+use Rattle.masm_link.specs.Assembling.{assembled}
 use Rattle.masm_link.specs.Laws.{HasNoOpaque, IsWithinLimits, AssembledTrees}
-use Rattle.masm_link.specs.Refusals.{IsTooLarge, too_many_operations, too_deep, Oversized, RefusesAt, dangling, oversized, Links}
+use Rattle.masm_link.specs.Refusals.{IsTooLarge, too_many_operations, too_deep, dangling, oversized, Links}
 
 -- a block's tree is whole, and as high as the block
 seen_whole : (b : Block) → HasNoOpaque (seen_as as_tree b)

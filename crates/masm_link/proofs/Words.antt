@@ -1,5 +1,5 @@
 -- The digests of a kernel's exports, each once.
-use Rattle.std.proofs.Common.{◌≡◌, ℕ, ◌+◌, ◌≤◌, true, false, cond, ◌||◌, nat_eq, List, [], ◌∷◌, ◌++◌, length, fold, inl, inr, refl, sym, ap, ap₂, subst, ◌∙◌, bytes_eq, arith}
+use Rattle.std.proofs.Common.{◌≡◌, ℕ, ◌+◌, ◌≤◌, cond, ◌||◌, nat_eq, List, [], ◌∷◌, ◌++◌, length, fold, inl, inr, refl, sym, ap, ap₂, subst, ◌∙◌, bytes_eq, arith}
 use Rattle.std.proofs.lemmas.Bool.{cases_Bool}
 use Rattle.std.proofs.lemmas.Cmp.{nat_list_eq_equiv}
 use Rattle.std.proofs.lemmas.List.{length-append}

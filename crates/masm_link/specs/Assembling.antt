@@ -1,5 +1,5 @@
 -- What the assembler answers for a source and a kernel, told by their bytes (docs/ASSEMBLY.md).
-use Rattle.std.specs.Prelude.{◌≡◌, ℕ, Bool, true, false, List, [], ◌∷◌, ◌++◌, fold, map, Option, Some, None, Result, Ok, Err, ◌⊎◌, bytes_eq, if◌then◌else◌}
+use Rattle.std.specs.Prelude.{◌≡◌, ℕ, Bool, true, false, List, [], ◌∷◌, ◌++◌, fold, map, Option, Some, None, Result, Ok, Err, bytes_eq, if◌then◌else◌}
 use Rattle.std.specs.List.{list_any}
 use Rattle.block_tree.specs.declared.exports.Export.{Export}
 use Rattle.block_tree.specs.declared.program.Program.{Program}

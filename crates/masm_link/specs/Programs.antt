@@ -1,5 +1,5 @@
 -- What the parts of the assembler say of their answers in memory.
-use Rattle.std.specs.Prelude.{◌≡◌, ℕ, Bool, true, List, [], map, Option, Some, Result, Ok, Err, Vec, ◌⊎◌}
+use Rattle.std.specs.Prelude.{◌≡◌, ℕ, Bool, true, List, [], Option, Some, Result, Ok, Err, Vec, ◌⊎◌}
 use Rattle.std.specs.Global.{Global}
 use Rattle.block_tree.specs.declared.exports.Export.{Export}
 use Rattle.block_tree.specs.Trees.{tree_digest}
