@@ -10,9 +10,9 @@ use Rattle.miden_app.specs.declared.status.Status.{Status}
 use Rattle.miden_app.specs.declared.status.Status.TheVariants as status
 use Rattle.miden_app.specs.declared.outcome.Answer.{Answer}
 use Rattle.miden_app.specs.Statuses.{Kind, planned, no_command, failed_read, failed_write, failed_print, no_memory, kind_of}
-use Rattle.miden_app.specs.Asked.{Asked, nothing, check_strip, hash, asked}
-use Rattle.miden_app.specs.Steps.{Steps, reading, writing, ending}
-use Rattle.miden_app.specs.Commands.{steps_of, with_params, numbers_steps}
+use Rattle.miden_app.specs.Asked.{Asked, nothing, check_strip, hash, assemble, asked}
+use Rattle.miden_app.specs.Steps.{SourceFile, Steps, reading, writing, ending}
+use Rattle.miden_app.specs.Commands.{steps_of, with_params, with_kernel, numbers_steps, assembly_steps}
 use Rattle.miden_app.specs.Serving.{Passes, none_yet, past_read, past_write, Leads, IsWriting, FrontWritten, Works, GivesUp, Prints, Answers}
 use Rattle.miden_app.specs.Laws.{WritesOnly, StayBeside, OtherFilesStay, NoneWrites, UsageMeansNothing, NothingGivesUsage}
 
@@ -83,19 +83,30 @@ other_files_stay words s old new before now steps outputs m serves command only 
 some_steps : (a b : Steps) → Some a ≡ Some b → a ≡ b
 some_steps a b same = cc
 
+only_behind_params : (name : List ℕ) (next : List ℕ → Steps) → ((constants : List ℕ) → WritesOnly [] (next constants)) → (read : Result (List ℕ) ParamError)
+    → WritesOnly [] (with_params name next read)
+only_behind_params name next only (Ok constants) = only constants
+only_behind_params name next only (Err e) = tt
+
+only_behind_kernel : (kernel : Option (List ℕ)) (next : Option SourceFile → Steps) → ((k : Option SourceFile) → WritesOnly [] (next k))
+    → WritesOnly [] (with_kernel kernel next)
+only_behind_kernel None next only = only None
+only_behind_kernel (Some name) next only = λ text. only (Some (record { name = name; text = text }))
+
 pub none_writes : NoneWrites
 none_writes nothing steps is = absurd (cc)
 none_writes (check_strip name) steps is = subst (WritesOnly []) (some_steps _ _ is) (λ bytes. tt)
-none_writes (hash params numbers) steps is = subst (WritesOnly []) (some_steps _ _ is) (λ bytes. behind params numbers (parameters_of bytes))
-  where
-    behind : (params numbers : List ℕ) (read : Result (List ℕ) ParamError) → WritesOnly [] (with_params params (numbers_steps numbers) read)
-    behind params numbers (Ok constants) = λ bytes. tt
-    behind params numbers (Err e) = tt
+none_writes (hash params numbers) steps is =
+    subst (WritesOnly []) (some_steps _ _ is) (λ bytes. only_behind_params params (numbers_steps numbers) (λ constants text. tt) (parameters_of bytes))
+none_writes (assemble params source kernel) steps is =
+    subst (WritesOnly []) (some_steps _ _ is)
+    (λ bytes. only_behind_params params (assembly_steps source kernel) (λ constants text. only_behind_kernel kernel _ (λ k. tt)) (parameters_of bytes))
 
 no_steps : (command : Asked) → steps_of command ≡ None → command ≡ nothing
 no_steps nothing none = refl
 no_steps (check_strip name) none = absurd (cc)
 no_steps (hash params numbers) none = absurd (cc)
+no_steps (assemble params source kernel) none = absurd (cc)
 
 pub usage_means_nothing : UsageMeansNothing
 usage_means_nothing words old new before now serves = no_steps (asked words) (go (steps_of (asked words)) serves)

@@ -6,6 +6,7 @@ pub mod StripMoves
 pub mod StripAccepted
 pub mod StripRunLaw
 pub mod OutcomeLemmas
+pub mod SourceLemmas
 pub mod ServingLemmas
 pub mod PrintingLemmas
 pub mod LawLemmas

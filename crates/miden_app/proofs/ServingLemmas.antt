@@ -13,7 +13,7 @@ use Rattle.miden_app.specs.declared.outcome.Outcome.{Outcome}
 use Rattle.miden_app.specs.declared.outcome.Outcome.TheVariants as outcome
 use Rattle.miden_app.specs.Statuses.{Kind, planned, failed_read, failed_write, kind_of}
 use Rattle.miden_app.specs.Steps.{End, stop, Right, Steps, reading, writing, ending, ends_with, named_line}
-use Rattle.miden_app.specs.Commands.{IsRight}
+use Rattle.miden_app.specs.Commands.{IsRight, EndsAs}
 use Rattle.miden_app.specs.Serving.{none_yet, past_read, past_write, Leads, Concludes, NoFault, Ends, Stops, FailsAtRead, FailsAtWrite, Works, GivesUp}
 use Rattle.miden_app.specs.Inside.Outcomes.{Fits, ComesTo, EndsIn, GoesOn, Says}
 
@@ -38,10 +38,14 @@ pub work_ends : (end : End) (o : Outcome) (s : ShelfState) → ComesTo end o →
 work_ends end (outcome.Ends a) s h = concluded (ending end) a s h.kind h.ends
 work_ends end outcome.Memory s h = same_again (ending end) s
 
+-- what is said is one of the end's answers
+pub says_ends : (end : End) (s : Status) (line : List ℕ) (o : Outcome) → kind_of s ≡ planned → EndsAs end (ends_with s line) → Says o s line → ComesTo end o
+says_ends end s line (outcome.Ends a) kind ends is = subst (Fits end) (sym is) (record { ends = ends; kind = kind })
+says_ends end s line outcome.Memory kind ends is = tt
+
 -- what is said is the end that is determined
 pub says_comes : (s : Status) (line : List ℕ) (o : Outcome) → kind_of s ≡ planned → Says o s line → ComesTo (stop s line) o
-says_comes s line (outcome.Ends a) kind is = subst (Fits (stop s line)) (sym is) (record { ends = refl; kind = kind })
-says_comes s line outcome.Memory kind is = tt
+says_comes s line o kind is = says_ends (stop s line) s line o kind refl is
 
 -- what is said, for what holds of the answer and at want of memory
 said : (steps : Option Steps) (s : Status) (line : List ℕ) (o : Outcome) (old new : ShelfState) → Says o s line

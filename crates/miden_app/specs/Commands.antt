@@ -3,12 +3,14 @@ use Rattle.std.specs.Prelude.{◌≡◌, ℕ, List, Option, Some, None, Result, 
 use Rattle.rpo_hash.specs.declared.params.ParamError.{ParamError}
 use Rattle.rpo_hash.specs.ParamText.{parameters_of}
 use Rattle.miden_app.specs.declared.outcome.Answer.{Answer}
-use Rattle.miden_app.specs.Asked.{Asked, nothing, check_strip, hash}
-use Rattle.miden_app.specs.Steps.{End, stop, strip, Right, exactly, Steps, reading, ending, ends_with}
+use Rattle.miden_app.specs.Asked.{Asked, nothing, check_strip, hash, assemble}
+use Rattle.miden_app.specs.Steps.{SourceFile, End, stop, strip, assembly, Right, exactly, Steps, reading, ending, ends_with}
 use Rattle.miden_app.specs.StripGrammar.{strip_of}
 use Rattle.miden_app.specs.StripEnds.{JudgesStrip}
 use Rattle.miden_app.specs.HashGrammar.{numbers_of}
-use Rattle.miden_app.specs.HashEnds.{bad_params, hash_end}
+use Rattle.miden_app.specs.HashEnds.{hash_end}
+use Rattle.miden_app.specs.Malformed.{bad_params}
+use Rattle.miden_app.specs.AssembleEnds.{AnswersAssembly}
 
 -- the longest file of a table
 abbrev pub most_table_bytes : ℕ
@@ -20,6 +22,10 @@ most_params_bytes = 4096
 
 abbrev pub most_numbers_bytes : ℕ
 most_numbers_bytes = 262144
+
+-- the longest source, a kernel's too
+abbrev pub most_source_bytes : ℕ
+most_source_bytes = 1048576
 
 abbrev pub check_steps : List ℕ → Steps
 check_steps name = reading name most_table_bytes (λ bytes. ending (strip name (strip_of bytes)))
@@ -35,16 +41,31 @@ numbers_steps name constants = reading name most_numbers_bytes (λ bytes. ending
 abbrev pub hash_steps : List ℕ → List ℕ → Steps
 hash_steps params numbers = reading params most_params_bytes (λ bytes. with_params params (numbers_steps numbers) (parameters_of bytes))
 
+-- a command that reads a kernel where the words name one goes on with it
+abbrev pub with_kernel : Option (List ℕ) → (Option SourceFile → Steps) → Steps
+with_kernel None next = next None
+with_kernel (Some name) next = reading name most_source_bytes (λ text. next (Some (record { name = name; text = text })))
+
+abbrev pub assembly_steps : List ℕ → Option (List ℕ) → List ℕ → Steps
+assembly_steps source kernel constants =
+    reading source most_source_bytes (λ text. with_kernel kernel (λ k. ending (assembly constants (record { name = source; text = text }) k)))
+
+abbrev pub assemble_steps : List ℕ → List ℕ → Option (List ℕ) → Steps
+assemble_steps params source kernel =
+    reading params most_params_bytes (λ bytes. with_params params (assembly_steps source kernel) (parameters_of bytes))
+
 -- The steps of each command; words of no command have none.
 abbrev pub steps_of : Asked → Option Steps
 steps_of nothing = None
 steps_of (check_strip name) = Some (check_steps name)
 steps_of (hash params numbers) = Some (hash_steps params numbers)
+steps_of (assemble params source kernel) = Some (assemble_steps params source kernel)
 
 -- what a command may end with
 abbrev pub EndsAs : End → Answer → Type 0
 EndsAs (stop s line) a = a ≡ ends_with s line
 EndsAs (strip name rows) a = JudgesStrip name rows a
+EndsAs (assembly constants source kernel) a = AnswersAssembly constants source kernel a
 
 -- what may be written
 abbrev pub IsRight : Right → List ℕ → Type 0

@@ -1,22 +1,14 @@
 -- The ends of `hash` (docs/FORMATS.md).
-use Rattle.std.specs.Prelude.{ℕ, ◌/◌, List, ◌++◌, codes, decimal, length, Result, Ok, Err}
+use Rattle.std.specs.Prelude.{ℕ, ◌/◌, List, ◌++◌, codes, length, Result, Ok, Err}
 use Rattle.vm_field.specs.Sponge.{hashed}
 use Rattle.vm_field.specs.WordText.{word_hex}
-use Rattle.rpo_hash.specs.CauseText.{cause_text}
-use Rattle.rpo_hash.specs.declared.params.ParamError.{ParamError}
 use Rattle.miden_app.specs.declared.hash.numbers.NumbersCause.{NumbersCause}
 use Rattle.miden_app.specs.declared.hash.numbers.NumbersCause.TheVariants as cause
 use Rattle.miden_app.specs.declared.hash.numbers.NumbersError.{NumbersError}
 use Rattle.miden_app.specs.declared.status.Status.TheVariants as status
 use Rattle.miden_app.specs.Steps.{End, stop}
 use Rattle.miden_app.specs.HashGrammar.{blocks_of}
-
-abbrev pub malformed_line : List ℕ → ℕ → List ℕ → List ℕ
-malformed_line name line cause = codes "malformed " ++ name ++ codes " line " ++ decimal line ++ codes " " ++ cause ++ codes "\n"
-
--- a file of parameters is of no good form
-abbrev pub bad_params : List ℕ → ParamError → End
-bad_params name e = stop status.Malformed (malformed_line name e.line (cause_text e.cause))
+use Rattle.miden_app.specs.Malformed.{malformed_line}
 
 abbrev pub numbers_cause_text : NumbersCause → List ℕ
 numbers_cause_text cause.Number = codes "Number"

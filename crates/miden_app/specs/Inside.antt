@@ -4,3 +4,4 @@ pub mod Parts
 pub mod Outcomes
 pub mod NumbersRead
 pub mod StripRead
+pub mod Sources

@@ -14,3 +14,6 @@ pub mod StripRun
 pub mod StripLaw
 pub mod HashGrammar
 pub mod HashEnds
+pub mod Malformed
+pub mod SourceEnds
+pub mod AssembleEnds

@@ -3,12 +3,19 @@ use Rattle.std.specs.Prelude.{ℕ, List, ◌++◌, codes, Option}
 use Rattle.miden_app.specs.declared.status.Status.{Status}
 use Rattle.miden_app.specs.declared.outcome.Answer.{Answer}
 
+-- a file of source: its name and its bytes
+pub record SourceFile : Type 0 where
+  pub name : List ℕ
+  pub text : List ℕ
+
 -- What the files of a command lead to. Each command has its own kind of end.
 pub data End : Type 0 where
   -- a status and a line that are determined
   stop : (s : Status) (line : List ℕ) → End
   -- a strip of this name is judged by its rows; there are none where the file is no strip
   strip : (name : List ℕ) (rows : Option (List (List ℕ))) → End
+  -- a source is assembled under these constants, with a kernel where there is one
+  assembly : (constants : List ℕ) (source : SourceFile) (kernel : Option SourceFile) → End
 
 -- Which bytes are right for a file that is written. There may be several.
 pub data Right : Type 0 where

@@ -2,7 +2,6 @@ ghost use Rattle.miden_app.specs.Laws.{OtherFilesStay, NoneWrites, UsageMeansNot
 
 /// Which files `serve` may change, over a shelf that tells its files: whatever the answer, those
 /// that the command writes and no others. None of the commands writes.
-#[tactic(auto, using(crate::proofs::LawLemmas::none_writes))]
 pub fn other_files_stay()
     ensures stay { OtherFilesStay }
     ensures none { NoneWrites }

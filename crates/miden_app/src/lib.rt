@@ -1,12 +1,16 @@
 //! The commands of the program, over a shelf of files and a sink for what is printed.
 #![tactic(auto)]
 
+mod assembly;
 mod hash;
 mod laws;
+mod lines;
 mod loading;
+mod malformed;
 mod outcome;
 mod saving;
 mod serving;
+mod source;
 mod status;
 mod strip;
 mod words;

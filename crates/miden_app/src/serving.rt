@@ -5,6 +5,7 @@ ghost use Rattle.miden_app.specs.Commands.{steps_of};
 ghost use Rattle.miden_app.specs.Inside.Outcomes.{EndsIn, PrintStep, Says};
 ghost use Rattle.miden_app.specs.Serving.{Serves};
 
+use crate::assembly::assemble_files;
 use crate::hash::hash_files;
 use crate::outcome::{Outcome, answered};
 use crate::status::Status;
@@ -49,6 +50,11 @@ fn obey<F: Shelf>(alloc: Global, words: &[Vec<u8>], shelf: &mut F) -> Outcome
     match command_of(words) {
         Command::CheckStrip { strip } => check_strip_file(alloc, shelf, strip),
         Command::Hash { params, numbers } => hash_files(alloc, shelf, params, numbers),
+        Command::Assemble {
+            params,
+            source,
+            kernel,
+        } => assemble_files(alloc, shelf, params, source, kernel),
         Command::Nothing => usage(alloc),
     }
 }

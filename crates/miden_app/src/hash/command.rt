@@ -1,22 +1,20 @@
 ghost use Rattle.std.specs.Prelude.{◌≡◌, ◌≤◌, ◌++◌, ◌+◌, ◌*◌, length, take, drop, IfOk, Some};
-ghost use Rattle.rpo_hash.specs.CauseText.{cause_text as param_cause_text};
 ghost use Rattle.rpo_hash.specs.Constants.{constants_of};
 ghost use Rattle.miden_app.specs.Commands.{hash_steps, numbers_steps};
 ghost use Rattle.miden_app.specs.Inside.Outcomes.{ComesTo, EndsIn, Says};
 ghost use Rattle.miden_app.specs.HashGrammar.{numbers_of};
-ghost use Rattle.miden_app.specs.HashEnds.{hash_end, malformed_line, numbers_cause_text, digest_line, digest_of_elements as digest_by_eight};
+ghost use Rattle.miden_app.specs.HashEnds.{hash_end, numbers_cause_text, digest_line, digest_of_elements as digest_by_eight};
 
 use crate::hash::numbers::{NumbersCause, NumbersStop, read_numbers};
-use crate::loading::load;
+use crate::lines::append_word;
+use crate::loading::{MOST_PARAMS_BYTES, load};
+use crate::malformed::{malformed, malformed_params};
 use crate::outcome::{Outcome, answered};
 use crate::status::Status;
-use rpo_hash::{ParamCause, Params, Sponge};
+use rpo_hash::{Params, Sponge};
 use std::alloc::Global;
 use vm_field::{Bytes, Felt, Memory, Word};
 use vm_io::Shelf;
-
-/// The longest file of parameters, in bytes.
-const MOST_PARAMS_BYTES: u64 = 4096;
 
 /// The longest file of numbers, in bytes.
 const MOST_NUMBERS_BYTES: u64 = 262144;
@@ -32,7 +30,7 @@ pub fn hash_files<F: Shelf>(alloc: Global, shelf: &mut F, params: &str, numbers:
     match load(alloc, shelf, params, MOST_PARAMS_BYTES) {
         Ok(bytes) => match Params::read(bytes.as_slice()) {
             Ok(constants) => hash_file(alloc, shelf, &constants, numbers),
-            Err(error) => malformed(alloc, params, error.line, param_cause(error.cause)),
+            Err(error) => malformed_params(alloc, params, error),
         },
         Err(end) => end,
     }
@@ -93,43 +91,10 @@ fn block_at(elements: &[Felt], k: usize) -> [Felt; 8]
 fn digest_text(alloc: Global, digest: &Word) -> Result<Bytes, Memory>
     ensures { IfOk result (λ line. line ≡ digest_line digest.now) }
 {
-    let text = digest.hex(alloc)?;
     let mut line = Bytes::copied(alloc, b"digest ")?;
-    line.append(text.as_bytes())?;
+    append_word(alloc, &mut line, digest)?;
     line.append(b"\n")?;
     Ok(line)
-}
-
-// `malformed NAME line N CAUSE`
-#[tactic(auto, using(crate::proofs::OutcomeLemmas::says_line))]
-fn malformed(alloc: Global, name: &str, line: u32, cause: &str) -> Outcome
-    ensures { Says result Status.Malformed (malformed_line name.now line cause.now) }
-{
-    answered(Status::Malformed, malformed_text(alloc, name, line, cause))
-}
-
-fn malformed_text(alloc: Global, name: &str, line: u32, cause: &str) -> Result<Bytes, Memory>
-    ensures { IfOk result (λ text. text ≡ malformed_line name.now line cause.now) }
-{
-    let mut buffer = itoa::Buffer::new();
-    let mut text = Bytes::copied(alloc, b"malformed ")?;
-    text.append(name.as_bytes())?;
-    text.append(b" line ")?;
-    text.append(buffer.format(line).as_bytes())?;
-    text.append(b" ")?;
-    text.append(cause.as_bytes())?;
-    text.append(b"\n")?;
-    Ok(text)
-}
-
-fn param_cause(cause: ParamCause) -> &'static str
-    ensures { result.now ≡ param_cause_text cause }
-{
-    match cause {
-        ParamCause::Ended => "Ended",
-        ParamCause::Number => "Number",
-        ParamCause::Extra => "Extra",
-    }
 }
 
 fn numbers_cause(cause: NumbersCause) -> &'static str

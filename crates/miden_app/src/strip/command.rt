@@ -1,4 +1,4 @@
-ghost use Rattle.std.specs.Prelude.{◌≡◌, ◌<◌, ◌≤◌, ◌^◌, ◌++◌, ◌∷◌, [], length, slice_index_or, decimal, IfOk, OnOk, Some};
+ghost use Rattle.std.specs.Prelude.{◌≡◌, ◌<◌, ◌≤◌, ◌^◌, ◌++◌, ◌∷◌, [], length, slice_index_or, IfOk, OnOk, Some};
 ghost use Rattle.vm_ops.specs.Codes.{text_of_op};
 ghost use Rattle.miden_app.specs.Steps.{strip};
 ghost use Rattle.miden_app.specs.Commands.{check_steps};
@@ -7,6 +7,7 @@ ghost use Rattle.miden_app.specs.StripGrammar.{strip_of};
 ghost use Rattle.miden_app.specs.StripRun.{op_of_row};
 ghost use Rattle.miden_app.specs.StripEnds.{accepted_line, refused_line};
 
+use crate::lines::append_number;
 use crate::loading::load;
 use crate::outcome::{Outcome, answered, named_answer};
 use crate::status::Status;
@@ -71,14 +72,6 @@ fn refused_text(alloc: Global, refusal: &Refusal) -> Result<Bytes, Memory>
     append_number(&mut line, refusal.value.value())?;
     line.append(b"\n")?;
     Ok(line)
-}
-
-// Adds a number in decimal.
-fn append_number(line: &mut Bytes, number: u64) -> Result<(), Memory>
-    ensures { OnOk result (line.new ≡ line.old ++ decimal number) }
-{
-    let mut buffer = itoa::Buffer::new();
-    line.append(buffer.format(number).as_bytes())
 }
 
 // `accepted` and the operations of all rows but the last

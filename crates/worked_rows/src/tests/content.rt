@@ -10,6 +10,8 @@ pub enum Content {
     Strip(&'static [StripRow], usize),
     /// So many lines, each `0`, but the line of this number is this one.
     Lines(usize, usize, &'static str),
+    /// This text.
+    Text(&'static str),
 }
 
 /// The bytes of a file.
@@ -17,6 +19,7 @@ pub fn bytes_of(alloc: Global, content: &Content) -> Result<Vec<u8>, Memory> {
     match content {
         Content::Strip(rows, kept) => strip(alloc, rows, *kept),
         Content::Lines(count, place, other) => lines(alloc, *count, *place, other),
+        Content::Text(text) => Ok(Vec::from_slice(alloc, text.as_bytes())?),
     }
 }
 

@@ -7,6 +7,7 @@ use vm_field::Memory;
 use vm_io::{MemShelf, MemSink, OpenGate};
 
 /// One call of `serve`, and what it leaves.
+#[derive(Drop)]
 pub struct Row {
     pub words: &'static [&'static str],
 
@@ -28,6 +29,26 @@ pub fn all_hold(rt: &(impl Abort + AllocGlobal), rows: &[Row]) -> Result<(), Fai
     for row in rows {
         let holds = holds(rt.alloc(), row)?;
         assert!(rt; holds, "{}", row.printed);
+    }
+    Ok(())
+}
+
+/// Fails at the first words that are those of a command.
+pub fn all_wrong(
+    rt: &(impl Abort + AllocGlobal),
+    rows: &[&'static [&'static str]],
+) -> Result<(), Fail> {
+    for words in rows {
+        let row = Row {
+            words,
+            files: &[],
+            failing_call: 0,
+            failing_write: 0,
+            number: 2,
+            printed: "usage\n",
+        };
+        let holds = holds(rt.alloc(), &row)?;
+        assert!(rt; holds, "{}", words.len());
     }
     Ok(())
 }

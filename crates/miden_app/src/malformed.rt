@@ -1,0 +1,50 @@
+// Files that are not of their form.
+ghost use Rattle.std.specs.Prelude.{◌≡◌, IfOk};
+ghost use Rattle.rpo_hash.specs.CauseText.{cause_text as param_cause_text};
+ghost use Rattle.miden_app.specs.Inside.Outcomes.{Says};
+ghost use Rattle.miden_app.specs.Malformed.{malformed_line};
+
+use crate::outcome::{Outcome, answered};
+use crate::status::Status;
+use rpo_hash::{ParamCause, ParamError};
+use std::alloc::Global;
+use vm_field::{Bytes, Memory};
+
+/// `malformed NAME line N CAUSE`
+#[tactic(auto, using(crate::proofs::OutcomeLemmas::says_line))]
+pub fn malformed(alloc: Global, name: &str, line: u32, cause: &str) -> Outcome
+    ensures { Says result Status.Malformed (malformed_line name.now line cause.now) }
+{
+    answered(Status::Malformed, malformed_text(alloc, name, line, cause))
+}
+
+/// The answer to parameters that are not of their form.
+pub fn malformed_params(alloc: Global, name: &str, error: ParamError) -> Outcome
+    ensures { Says result Status.Malformed (malformed_line name.now error.line (param_cause_text error.cause)) }
+{
+    malformed(alloc, name, error.line, param_cause(error.cause))
+}
+
+fn malformed_text(alloc: Global, name: &str, line: u32, cause: &str) -> Result<Bytes, Memory>
+    ensures { IfOk result (λ text. text ≡ malformed_line name.now line cause.now) }
+{
+    let mut buffer = itoa::Buffer::new();
+    let mut text = Bytes::copied(alloc, b"malformed ")?;
+    text.append(name.as_bytes())?;
+    text.append(b" line ")?;
+    text.append(buffer.format(line).as_bytes())?;
+    text.append(b" ")?;
+    text.append(cause.as_bytes())?;
+    text.append(b"\n")?;
+    Ok(text)
+}
+
+fn param_cause(cause: ParamCause) -> &'static str
+    ensures { result.now ≡ param_cause_text cause }
+{
+    match cause {
+        ParamCause::Ended => "Ended",
+        ParamCause::Number => "Number",
+        ParamCause::Extra => "Extra",
+    }
+}
