@@ -3,6 +3,8 @@ use Rattle.std.proofs.Common.{◌≡◌, ◌⊎◌, ℕ, List, [], Option, Some,
 use Rattle.std.specs.FinMap.{insert}
 use Rattle.rpo_hash.specs.declared.params.ParamError.{ParamError}
 use Rattle.rpo_hash.specs.ParamText.{parameters_of}
+use Rattle.statement.specs.Inputs.{Given, inputs_of}
+use Rattle.statement.specs.declared.refusal.TextCause.{TextCause}
 use Rattle.vm_io.specs.Shelf.{Files, ShelfState, with_file}
 use Rattle.vm_io.specs.Sink.{SinkState}
 use Rattle.vm_io.proofs.ShelfLemmas.{get_beside}
@@ -10,9 +12,9 @@ use Rattle.miden_app.specs.declared.status.Status.{Status}
 use Rattle.miden_app.specs.declared.status.Status.TheVariants as status
 use Rattle.miden_app.specs.declared.outcome.Answer.{Answer}
 use Rattle.miden_app.specs.Statuses.{Kind, planned, no_command, failed_read, failed_write, failed_print, no_memory, kind_of}
-use Rattle.miden_app.specs.Asked.{Asked, nothing, check_strip, hash, assemble, asked}
+use Rattle.miden_app.specs.Asked.{Asked, nothing, check_strip, hash, assemble, run, asked}
 use Rattle.miden_app.specs.Steps.{SourceFile, Steps, reading, writing, ending}
-use Rattle.miden_app.specs.Commands.{steps_of, with_params, with_kernel, numbers_steps, assembly_steps}
+use Rattle.miden_app.specs.Commands.{steps_of, with_params, with_kernel, with_inputs, numbers_steps, assembly_steps, run_source_steps, running_steps}
 use Rattle.miden_app.specs.Serving.{Passes, none_yet, past_read, past_write, Leads, IsWriting, FrontWritten, Works, GivesUp, Prints, Answers}
 use Rattle.miden_app.specs.Laws.{WritesOnly, StayBeside, OtherFilesStay, NoneWrites, UsageMeansNothing, NothingGivesUsage}
 
@@ -93,6 +95,11 @@ only_behind_kernel : (kernel : Option (List ℕ)) (next : Option SourceFile → 
 only_behind_kernel None next only = only None
 only_behind_kernel (Some name) next only = λ text. only (Some (record { name = name; text = text }))
 
+only_behind_inputs : (name : List ℕ) (next : Given → Steps) → ((given : Given) → WritesOnly [] (next given)) → (read : Result Given TextCause)
+    → WritesOnly [] (with_inputs name next read)
+only_behind_inputs name next only (Ok given) = only given
+only_behind_inputs name next only (Err cause) = tt
+
 pub none_writes : NoneWrites
 none_writes nothing steps is = absurd (cc)
 none_writes (check_strip name) steps is = subst (WritesOnly []) (some_steps _ _ is) (λ bytes. tt)
@@ -101,12 +108,18 @@ none_writes (hash params numbers) steps is =
 none_writes (assemble params source kernel) steps is =
     subst (WritesOnly []) (some_steps _ _ is)
     (λ bytes. only_behind_params params (assembly_steps source kernel) (λ constants text. only_behind_kernel kernel _ (λ k. tt)) (parameters_of bytes))
+none_writes (run params source inputs kernel limit) steps is =
+    subst (WritesOnly []) (some_steps _ _ is)
+    (λ bytes. only_behind_params params (run_source_steps source inputs kernel limit) (λ constants text more.
+    only_behind_inputs inputs (running_steps constants (record { name = source; text = text }) kernel limit)
+    (λ given. only_behind_kernel kernel _ (λ k. tt)) (inputs_of more)) (parameters_of bytes))
 
 no_steps : (command : Asked) → steps_of command ≡ None → command ≡ nothing
 no_steps nothing none = refl
 no_steps (check_strip name) none = absurd (cc)
 no_steps (hash params numbers) none = absurd (cc)
 no_steps (assemble params source kernel) none = absurd (cc)
+no_steps (run params source inputs kernel limit) none = absurd (cc)
 
 pub usage_means_nothing : UsageMeansNothing
 usage_means_nothing words old new before now serves = no_steps (asked words) (go (steps_of (asked words)) serves)

@@ -1,14 +1,15 @@
 -- What the words behind the program's name ask for (docs/FORMATS.md).
-use Rattle.std.specs.Prelude.{ℕ, if◌then◌else◌, List, [], ◌∷◌, codes, Option, Some}
+use Rattle.std.specs.Prelude.{ℕ, if◌then◌else◌, List, [], ◌∷◌, codes, Option, Some, option_map, unwrap_or}
 use Rattle.std.specs.Str.{bytes_eq}
 use Rattle.vm_field.specs.FileName.{is_file_name}
-use Rattle.miden_app.specs.Words.{is_form, name_at, optional_name}
+use Rattle.miden_app.specs.Words.{is_form, name_at, optional_name, optional_number}
 
 pub data Asked : Type 0 where
   nothing : Asked  -- the words are of no command
   check_strip : (strip : List ℕ) → Asked
   hash : (params numbers : List ℕ) → Asked
   assemble : (params source : List ℕ) (kernel : Option (List ℕ)) → Asked
+  run : (params source inputs : List ℕ) (kernel : Option (List ℕ)) (limit : ℕ) → Asked
 
 -- `check` and the name of a strip, and no other word
 abbrev pub check_words : List (List ℕ) → Asked
@@ -34,10 +35,30 @@ assemble_words words =
     if is_form 2 (codes "--kernel" ∷ []) words
     then assemble_of_names (name_at 0 words) (name_at 1 words) (optional_name (codes "--kernel") words) else nothing
 
+-- the most cycles of a run, and how many it may have where no limit is given
+abbrev pub most_cycles : ℕ
+most_cycles = 524287
+
+-- the limit of cycles that the words give, the most where they give none
+abbrev pub limit_in : List (List ℕ) → Option ℕ
+limit_in words = option_map (λ limit. unwrap_or limit most_cycles) (optional_number 1 most_cycles (codes "--limit") words)
+
+abbrev pub run_of_names : Option (List ℕ) → Option (List ℕ) → Option (List ℕ) → Option (Option (List ℕ)) → Option ℕ → Asked
+run_of_names (Some params) (Some source) (Some inputs) (Some kernel) (Some limit) = run params source inputs kernel limit
+run_of_names params source inputs kernel limit = nothing
+
+-- `run`, the names of the parameters, the source and the inputs, a kernel's where it is given, and a limit of cycles
+abbrev pub run_words : List (List ℕ) → Asked
+run_words words =
+    if is_form 3 (codes "--kernel" ∷ codes "--limit" ∷ []) words
+    then run_of_names (name_at 0 words) (name_at 1 words) (name_at 2 words) (optional_name (codes "--kernel") words) (limit_in words)
+    else nothing
+
 unfoldable pub asked : List (List ℕ) → Asked
 asked [] = nothing
 asked (command ∷ words) =
     if bytes_eq command (codes "check") then check_words words
     else if bytes_eq command (codes "hash") then hash_words words
     else if bytes_eq command (codes "assemble") then assemble_words words
+    else if bytes_eq command (codes "run") then run_words words
     else nothing

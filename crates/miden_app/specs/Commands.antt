@@ -3,14 +3,17 @@ use Rattle.std.specs.Prelude.{◌≡◌, ℕ, List, Option, Some, None, Result, 
 use Rattle.rpo_hash.specs.declared.params.ParamError.{ParamError}
 use Rattle.rpo_hash.specs.ParamText.{parameters_of}
 use Rattle.miden_app.specs.declared.outcome.Answer.{Answer}
-use Rattle.miden_app.specs.Asked.{Asked, nothing, check_strip, hash, assemble}
-use Rattle.miden_app.specs.Steps.{SourceFile, End, stop, strip, assembly, Right, exactly, Steps, reading, ending, ends_with}
+use Rattle.miden_app.specs.Asked.{Asked, nothing, check_strip, hash, assemble, run}
+use Rattle.miden_app.specs.Steps.{SourceFile, End, stop, strip, assembly, running, Right, exactly, Steps, reading, ending, ends_with}
 use Rattle.miden_app.specs.StripGrammar.{strip_of}
 use Rattle.miden_app.specs.StripEnds.{JudgesStrip}
 use Rattle.miden_app.specs.HashGrammar.{numbers_of}
 use Rattle.miden_app.specs.HashEnds.{hash_end}
-use Rattle.miden_app.specs.Malformed.{bad_params}
+use Rattle.miden_app.specs.Malformed.{bad_params, bad_inputs}
 use Rattle.miden_app.specs.AssembleEnds.{AnswersAssembly}
+use Rattle.miden_app.specs.RunEnds.{AnswersRun}
+use Rattle.statement.specs.Inputs.{Given, inputs_of}
+use Rattle.statement.specs.declared.refusal.TextCause.{TextCause}
 
 -- the longest file of a table
 abbrev pub most_table_bytes : ℕ
@@ -26,6 +29,9 @@ most_numbers_bytes = 262144
 -- the longest source, a kernel's too
 abbrev pub most_source_bytes : ℕ
 most_source_bytes = 1048576
+
+abbrev pub most_inputs_bytes : ℕ
+most_inputs_bytes = 33554432
 
 abbrev pub check_steps : List ℕ → Steps
 check_steps name = reading name most_table_bytes (λ bytes. ending (strip name (strip_of bytes)))
@@ -54,18 +60,40 @@ abbrev pub assemble_steps : List ℕ → List ℕ → Option (List ℕ) → Step
 assemble_steps params source kernel =
     reading params most_params_bytes (λ bytes. with_params params (assembly_steps source kernel) (parameters_of bytes))
 
+-- a command that reads a file of inputs of this name goes on with them
+abbrev pub with_inputs : List ℕ → (Given → Steps) → Result Given TextCause → Steps
+with_inputs name next (Ok given) = next given
+with_inputs name next (Err cause) = ending (bad_inputs name cause)
+
+abbrev pub running_steps : List ℕ → SourceFile → Option (List ℕ) → ℕ → Given → Steps
+running_steps constants source kernel limit given = with_kernel kernel (λ k. ending (running constants source k given limit))
+
+abbrev pub inputs_steps : List ℕ → SourceFile → List ℕ → Option (List ℕ) → ℕ → Steps
+inputs_steps constants source inputs kernel limit =
+    reading inputs most_inputs_bytes (λ bytes. with_inputs inputs (running_steps constants source kernel limit) (inputs_of bytes))
+
+abbrev pub run_source_steps : List ℕ → List ℕ → Option (List ℕ) → ℕ → List ℕ → Steps
+run_source_steps source inputs kernel limit constants =
+    reading source most_source_bytes (λ text. inputs_steps constants (record { name = source; text = text }) inputs kernel limit)
+
+abbrev pub run_steps : List ℕ → List ℕ → List ℕ → Option (List ℕ) → ℕ → Steps
+run_steps params source inputs kernel limit =
+    reading params most_params_bytes (λ bytes. with_params params (run_source_steps source inputs kernel limit) (parameters_of bytes))
+
 -- The steps of each command; words of no command have none.
 abbrev pub steps_of : Asked → Option Steps
 steps_of nothing = None
 steps_of (check_strip name) = Some (check_steps name)
 steps_of (hash params numbers) = Some (hash_steps params numbers)
 steps_of (assemble params source kernel) = Some (assemble_steps params source kernel)
+steps_of (run params source inputs kernel limit) = Some (run_steps params source inputs kernel limit)
 
 -- what a command may end with
 abbrev pub EndsAs : End → Answer → Type 0
 EndsAs (stop s line) a = a ≡ ends_with s line
 EndsAs (strip name rows) a = JudgesStrip name rows a
 EndsAs (assembly constants source kernel) a = AnswersAssembly constants source kernel a
+EndsAs (running constants source kernel given limit) a = AnswersRun constants source kernel given limit a
 
 -- what may be written
 abbrev pub IsRight : Right → List ℕ → Type 0

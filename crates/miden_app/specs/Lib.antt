@@ -17,3 +17,4 @@ pub mod HashEnds
 pub mod Malformed
 pub mod SourceEnds
 pub mod AssembleEnds
+pub mod RunEnds

@@ -2,6 +2,7 @@
 use Rattle.std.specs.Prelude.{ℕ, List, ◌++◌, codes, Option}
 use Rattle.miden_app.specs.declared.status.Status.{Status}
 use Rattle.miden_app.specs.declared.outcome.Answer.{Answer}
+use Rattle.statement.specs.Inputs.{Given}
 
 -- a file of source: its name and its bytes
 pub record SourceFile : Type 0 where
@@ -16,6 +17,8 @@ pub data End : Type 0 where
   strip : (name : List ℕ) (rows : Option (List (List ℕ))) → End
   -- a source is assembled under these constants, with a kernel where there is one
   assembly : (constants : List ℕ) (source : SourceFile) (kernel : Option SourceFile) → End
+  -- it is assembled so and run on these inputs, within so many cycles
+  running : (constants : List ℕ) (source : SourceFile) (kernel : Option SourceFile) (given : Given) (limit : ℕ) → End
 
 -- Which bytes are right for a file that is written. There may be several.
 pub data Right : Type 0 where

@@ -34,7 +34,8 @@ pub fn assemble_files<F: Shelf>(
     requires params { length params.now ≤ 200 }
     requires source { length source.now ≤ 200 }
     requires kernel { IfSome kernel (λ k. length k.now ≤ 200) }
-    ensures { EndsIn (Some (assemble_steps params.now source.now (option_map (λ k. k.now) kernel.entry))) result (F.state shelf.old) (F.state shelf.new) }
+    ensures { EndsIn (Some (assemble_steps params.now source.now (option_map (λ k. k.now) kernel.entry))) result
+        (F.state shelf.old) (F.state shelf.new) }
 {
     match load(alloc, shelf, params, MOST_PARAMS_BYTES) {
         Ok(bytes) => match Params::read(bytes.as_slice()) {
@@ -55,7 +56,8 @@ fn assemble_file<F: Shelf>(
 ) -> Outcome
     requires name { length name.now ≤ 200 }
     requires kernel { IfSome kernel (λ k. length k.now ≤ 200) }
-    ensures { EndsIn (Some (assembly_steps name.now (option_map (λ k. k.now) kernel.entry) (constants_of constants.now))) result (F.state shelf.old) (F.state shelf.new) }
+    ensures { EndsIn (Some (assembly_steps name.now (option_map (λ k. k.now) kernel.entry) (constants_of constants.now))) result
+        (F.state shelf.old) (F.state shelf.new) }
 {
     match load(alloc, shelf, name, MOST_SOURCE_BYTES) {
         Ok(bytes) => {
@@ -77,7 +79,9 @@ fn assemble_with_kernel<F: Shelf>(
 ) -> Outcome
     requires source { length source.text.now ≤ 1048576 }
     requires kernel { IfSome kernel (λ k. length k.now ≤ 200) }
-    ensures { EndsIn (Some (with_kernel (option_map (λ k. k.now) kernel.entry) (λ k. ending (assembly (constants_of constants.now) (file_of source.entry) k)))) result (F.state shelf.old) (F.state shelf.new) }
+    ensures { EndsIn (Some (with_kernel (option_map (λ k. k.now) kernel.entry)
+        (λ k. ending (assembly (constants_of constants.now) (file_of source.entry) k)))) result
+        (F.state shelf.old) (F.state shelf.new) }
 {
     match kernel {
         Some(name) => match load(alloc, shelf, name, MOST_SOURCE_BYTES) {

@@ -8,6 +8,7 @@ mod lines;
 mod loading;
 mod malformed;
 mod outcome;
+mod running;
 mod saving;
 mod serving;
 mod source;

@@ -14,6 +14,9 @@ pub const MOST_PARAMS_BYTES: u64 = 4096;
 /// The longest source, in bytes; a kernel's, too.
 pub const MOST_SOURCE_BYTES: u64 = 1_048_576;
 
+/// The longest file of inputs, in bytes.
+pub const MOST_INPUTS_BYTES: u64 = 33_554_432;
+
 /// Reads a file of at most `most` bytes. An `Err` is how the command ends, whatever was to come
 /// next.
 #[tactic(auto, using(crate::proofs::ServingLemmas::goes_past_read, crate::proofs::ServingLemmas::same_again))]

@@ -2,11 +2,12 @@
 ghost use Rattle.std.specs.Prelude.{◌≡◌, IfOk};
 ghost use Rattle.rpo_hash.specs.CauseText.{cause_text as param_cause_text};
 ghost use Rattle.miden_app.specs.Inside.Outcomes.{Says};
-ghost use Rattle.miden_app.specs.Malformed.{malformed_line};
+ghost use Rattle.miden_app.specs.Malformed.{malformed_line, malformed_text_line};
 
 use crate::outcome::{Outcome, answered};
 use crate::status::Status;
 use rpo_hash::{ParamCause, ParamError};
+use statement::{TextCause, cause_text};
 use std::alloc::Global;
 use vm_field::{Bytes, Memory};
 
@@ -15,7 +16,7 @@ use vm_field::{Bytes, Memory};
 pub fn malformed(alloc: Global, name: &str, line: u32, cause: &str) -> Outcome
     ensures { Says result Status.Malformed (malformed_line name.now line cause.now) }
 {
-    answered(Status::Malformed, malformed_text(alloc, name, line, cause))
+    answered(Status::Malformed, malformed_line(alloc, name, line, cause))
 }
 
 /// The answer to parameters that are not of their form.
@@ -25,7 +26,7 @@ pub fn malformed_params(alloc: Global, name: &str, error: ParamError) -> Outcome
     malformed(alloc, name, error.line, param_cause(error.cause))
 }
 
-fn malformed_text(alloc: Global, name: &str, line: u32, cause: &str) -> Result<Bytes, Memory>
+fn malformed_line(alloc: Global, name: &str, line: u32, cause: &str) -> Result<Bytes, Memory>
     ensures { IfOk result (λ text. text ≡ malformed_line name.now line cause.now) }
 {
     let mut buffer = itoa::Buffer::new();
@@ -35,6 +36,25 @@ fn malformed_text(alloc: Global, name: &str, line: u32, cause: &str) -> Result<B
     text.append(buffer.format(line).as_bytes())?;
     text.append(b" ")?;
     text.append(cause.as_bytes())?;
+    text.append(b"\n")?;
+    Ok(text)
+}
+
+/// The answer to a JSON text that is not of its form: `malformed NAME CAUSE`.
+#[tactic(auto, using(crate::proofs::OutcomeLemmas::says_line))]
+pub fn malformed_text(alloc: Global, name: &str, cause: TextCause) -> Outcome
+    ensures { Says result Status.Malformed (malformed_text_line name.now cause) }
+{
+    answered(Status::Malformed, malformed_text_line(alloc, name, cause))
+}
+
+fn malformed_text_line(alloc: Global, name: &str, cause: TextCause) -> Result<Bytes, Memory>
+    ensures { IfOk result (λ text. text ≡ malformed_text_line name.now cause) }
+{
+    let mut text = Bytes::copied(alloc, b"malformed ")?;
+    text.append(name.as_bytes())?;
+    text.append(b" ")?;
+    text.append(cause_text(cause).as_bytes())?;
     text.append(b"\n")?;
     Ok(text)
 }

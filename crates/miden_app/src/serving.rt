@@ -8,6 +8,7 @@ ghost use Rattle.miden_app.specs.Serving.{Serves};
 use crate::assembly::assemble_files;
 use crate::hash::hash_files;
 use crate::outcome::{Outcome, answered};
+use crate::running::run_files;
 use crate::status::Status;
 use crate::strip::check_strip_file;
 use crate::words::{Command, command_of};
@@ -55,6 +56,13 @@ fn obey<F: Shelf>(alloc: Global, words: &[Vec<u8>], shelf: &mut F) -> Outcome
             source,
             kernel,
         } => assemble_files(alloc, shelf, params, source, kernel),
+        Command::Run {
+            params,
+            source,
+            inputs,
+            kernel,
+            limit,
+        } => run_files(alloc, shelf, params, source, inputs, kernel, limit),
         Command::Nothing => usage(alloc),
     }
 }

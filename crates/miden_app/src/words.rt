@@ -1,7 +1,7 @@
 //! What the words behind the program's name ask for.
-ghost use Rattle.std.specs.Prelude.{◌≡◌};
+ghost use Rattle.std.specs.Prelude.{◌≡◌, ◌≤◌, IfSome};
 ghost use Rattle.miden_app.specs.Words.{texts};
-ghost use Rattle.miden_app.specs.Asked.{nothing, check_strip, hash, assemble, check_words, hash_words, hash_of_names, assemble_words, assemble_of_names, asked};
+ghost use Rattle.miden_app.specs.Asked.{nothing, check_strip, hash, assemble, check_words, hash_words, hash_of_names, assemble_words, assemble_of_names, run, run_words, run_of_names, limit_in, asked};
 ghost use Rattle.miden_app.specs.Inside.Asking.{asks, IsNamed};
 
 mod names;
@@ -10,7 +10,7 @@ mod parts;
 mod tests;
 
 use names::file_name;
-use parts::{is_form, name_at, optional_name};
+use parts::{is_form, name_at, optional_name, optional_number};
 
 /// What the words after the program's name ask for.
 pub enum Command<'a> {
@@ -31,7 +31,18 @@ pub enum Command<'a> {
         source: &'a str,
         kernel: Option<&'a str>,
     },
+    /// `run` of a source on inputs, with a kernel where one is named.
+    Run {
+        params: &'a str,
+        source: &'a str,
+        inputs: &'a str,
+        kernel: Option<&'a str>,
+        limit: u32,
+    },
 }
+
+// The most cycles of a run.
+const MOST_CYCLES: u32 = 524_287;
 
 /// Reads the words.
 #[tactic(auto, unfolding(crate::specs::Asked::asked))]
@@ -43,6 +54,7 @@ pub fn command_of(words: &[Vec<u8>]) -> Command<'_>
         [command, rest @ ..] if command.as_slice() == b"check".as_slice() => check_of(rest),
         [command, rest @ ..] if command.as_slice() == b"hash".as_slice() => hash_of(rest),
         [command, rest @ ..] if command.as_slice() == b"assemble".as_slice() => assemble_of(rest),
+        [command, rest @ ..] if command.as_slice() == b"run".as_slice() => run_of(rest),
         _ => Command::Nothing,
     }
 }
@@ -93,5 +105,48 @@ fn assemble_of(words: &[Vec<u8>]) -> Command<'_>
             kernel,
         },
         None => Command::Nothing,
+    }
+}
+
+fn run_of(words: &[Vec<u8>]) -> Command<'_>
+    ensures asks { asks result ≡ run_words (texts words.entry.now) }
+    ensures named { IsNamed result }
+{
+    if !is_form(3, &["--kernel", "--limit"], words) {
+        return Command::Nothing;
+    }
+    let Some(params) = name_at(0, words) else {
+        return Command::Nothing;
+    };
+    let Some(source) = name_at(1, words) else {
+        return Command::Nothing;
+    };
+    let Some(inputs) = name_at(2, words) else {
+        return Command::Nothing;
+    };
+    let Some(kernel) = optional_name("--kernel", words) else {
+        return Command::Nothing;
+    };
+    match limit_of(words) {
+        Some(limit) => Command::Run {
+            params,
+            source,
+            inputs,
+            kernel,
+            limit,
+        },
+        None => Command::Nothing,
+    }
+}
+
+// The limit of cycles that the words give, the most where they give none.
+fn limit_of(words: &[Vec<u8>]) -> Option<u32>
+    ensures is { result ≡ limit_in (texts words.now) }
+    ensures small { IfSome result (λ limit. limit ≤ 524287) }
+{
+    match optional_number(1, u64::from(MOST_CYCLES), "--limit", words) {
+        Some(Some(limit)) => Some(limit as u32),
+        Some(None) => Some(MOST_CYCLES),
+        None => None,
     }
 }

@@ -37,6 +37,10 @@ abbrev pub Says : Outcome → Status → List ℕ → Type 0
 Says (outcome.Ends a) s line = a ≡ ends_with s line
 Says outcome.Memory s line = Unit {0}
 
+-- an answer that is this one, unless memory is refused
+abbrev pub SaysAnswer : Outcome → Answer → Type 0
+SaysAnswer o a = Says o a.status a.line
+
 -- the answer with a line, where there was memory for it
 abbrev pub SaysLine : Outcome → Status → Result (List ℕ) Memory → Type 0
 SaysLine o s (Ok line) = Says o s line

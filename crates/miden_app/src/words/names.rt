@@ -19,7 +19,8 @@ pub fn file_name(word: &[u8]) -> Option<&str>
 /// The word as a number from `least` to `most`, if it is one: decimal digits without sign or leading
 /// zero.
 pub fn number_in(least: u64, most: u64, word: &[u8]) -> Option<u64>
-    ensures { result ≡ number_of_word least most word.now }
+    ensures number { result ≡ number_of_word least most word.now }
+    ensures small { IfSome result (λ n. n ≤ most) }
 {
     let number = Felt::read_decimal(word)?.value();
     if least <= number && number <= most {

@@ -70,7 +70,8 @@ pub fn optional_number(
     option: &str,
     words: &[Vec<u8>],
 ) -> Option<Option<u64>>
-    ensures { result ≡ number_by_option least most option.now (texts words.now) }
+    ensures number { result ≡ number_by_option least most option.now (texts words.now) }
+    ensures small { IfSome result (λ o. IfSome o (λ n. n ≤ most)) }
 {
     match value_of(option.as_bytes(), WordMode::Anything, words) {
         Some(value) => match number_in(least, most, value) {

@@ -2,7 +2,7 @@ use crate::tests::content::Content;
 use crate::tests::row::{Row, all_hold, all_wrong};
 use std::test::Fail;
 
-static ROWS: [Row; 19] = [
+static ROWS: [Row; 20] = [
     Row {
         words: &["assemble", "z", "s"],
         files: &[
@@ -13,6 +13,19 @@ static ROWS: [Row; 19] = [
         failing_write: 0,
         number: 0,
         printed: "digest 0000000000000000000000000000000000000000000000000000000000000000\n",
+    },
+    // The program is a syscall of a block whose digest is 0.
+    Row {
+        words: &["assemble", "z", "s", "--kernel", "k"],
+        files: &[
+            ("z", Content::Lines(168, 0, "")),
+            ("s", Content::Text("begin syscall.k end")),
+            ("k", Content::Text("export.k end")),
+        ],
+        failing_call: 0,
+        failing_write: 0,
+        number: 0,
+        printed: "digest c911729d207be088dee0827b410430dc99baabca2df4787e72a183b24c73071d\nkernel k 0000000000000000000000000000000000000000000000000000000000000000\n",
     },
     Row {
         words: &["assemble", "--kernel=k", "z", "--", "s"],
