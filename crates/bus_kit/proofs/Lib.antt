@@ -1,0 +1,5 @@
+pub mod PairLemmas
+pub mod ScanLemmas
+pub mod SingleLemmas
+pub mod WidthLemmas
+pub mod AnswerLemmas
