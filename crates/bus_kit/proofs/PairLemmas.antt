@@ -29,6 +29,13 @@ added_at m n side t count v u at is =
     | false ↦ λ apart got. ap (λ o. unwrap_or o (0, 0)) got ∙ sym (more_on_zero side (both_in m u))
     ] refl at
 
+hits_zero : (t u : List ℕ) (count : ℕ) → count ≡ 0 → hits t count u ≡ 0
+hits_zero t u count none = elim (pointwise nat_eq t u) as (λ b. cond b count 0 ≡ 0) [ true ↦ none | false ↦ refl ]
+
+-- the count 0 adds nothing
+pub added_zero : (side : Side) (t : List ℕ) (count : ℕ) (b : List ℕ → ℕ × ℕ) → count ≡ 0 → (u : List ℕ) → b u ≡ more_on side (hits t count u) (b u)
+added_zero side t count b none u = sym (more_on_zero side (b u)) ∙ ap (λ n. more_on side n (b u)) (sym (hits_zero t u count none))
+
 -- the other side
 abbrev pub other_side : Side → Side
 other_side Asked = Given

@@ -1,4 +1,4 @@
-ghost use Rattle.std.specs.Prelude.{◌≡◌, ◌≤◌};
+ghost use Rattle.std.specs.Prelude.{◌≡◌, ◌<◌, ◌≤◌};
 ghost use Rattle.bus_kit.specs.Buses.{bus_number, text_of_bus};
 
 use std::fmt;
@@ -46,7 +46,7 @@ impl Bus {
     /// The number of the bus, from 1 to 10.
     pub fn number(self) -> u8
         ensures is { result ≡ bus_number self }
-        ensures within { result ≤ 10 }
+        ensures within { (0 < result) × (result ≤ 10) }
     {
         match self {
             Bus::Blocks => 1,

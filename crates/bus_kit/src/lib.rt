@@ -13,3 +13,6 @@ pub use bus::Bus;
 pub use laws::types_cross;
 pub use tuple::{Tuple, Unequal};
 pub use tally::Tally;
+
+#[cfg(test)]
+mod tests;

@@ -7,7 +7,6 @@ use crate::counts::{Counts, Side};
 use crate::tuple::Unequal;
 use crate::values::Singles;
 use std::alloc::Global;
-use std::cmp::Ordering;
 use vm_field::{Felt, Memory};
 
 /// How often each tuple was asked, and how often it was given. Both counts are exact. A tuple has as
@@ -46,8 +45,21 @@ impl Tally {
         }
     }
 
-    // Counts a tuple on one side, in the counts of its width.
+    // Counts a tuple on one side, unless the count is 0.
     fn add(&mut self, side: Side, tuple: &[Felt], count: u64) -> Result<(), Memory>
+        requires width { is_width (length tuple.now) ≡ true }
+        requires fits { on_side side (both_at self.old tuple.now) + count < 2 ^ 128 }
+        ensures added { IsAdded side tuple.now count (both_at self.old) (both_at self.new) result }
+        ensures zero { count ≡ 0 → IsOk result }
+    {
+        if count == 0 {
+            return Ok(());
+        }
+        self.add_in_width(side, tuple, count)
+    }
+
+    // Counts a tuple on one side, in the counts of its width.
+    fn add_in_width(&mut self, side: Side, tuple: &[Felt], count: u64) -> Result<(), Memory>
         requires width { is_width (length tuple.now) ≡ true }
         requires fits { on_side side (both_at self.old tuple.now) + count < 2 ^ 128 }
         ensures { IsAdded side tuple.now count (both_at self.old) (both_at self.new) result }
@@ -80,9 +92,6 @@ impl Tally {
         ensures absent { OnErr result ((asked_in self.old tuple.now ≡ 0) × (given_in self.old tuple.now ≡ 0)) }
         ensures err { OnErr result ((u : List ℕ) → (asked_in self.new u ≡ asked_in self.old u) × (given_in self.new u ≡ given_in self.old u)) }
     {
-        if count == 0 {
-            return Ok(());
-        }
         self.add(Side::Asked, tuple, count)
     }
 
@@ -98,9 +107,6 @@ impl Tally {
         ensures absent { OnErr result ((asked_in self.old tuple.now ≡ 0) × (given_in self.old tuple.now ≡ 0)) }
         ensures err { OnErr result ((u : List ℕ) → (asked_in self.new u ≡ asked_in self.old u) × (given_in self.new u ≡ given_in self.old u)) }
     {
-        if count == 0 {
-            return Ok(());
-        }
         self.add(Side::Given, tuple, count)
     }
 
