@@ -1,9 +1,9 @@
 -- The answer over all widths, from those over each.
-use Rattle.std.proofs.Common.{◌≡◌, ◌≢◌, ℕ, ◌==◌, Bool, true, false, cond, nat_eq, nat_cmp, Less, List, length, Option, Some, None, IfSome, refl, sym, ap, ◌∙◌}
+use Rattle.std.proofs.Common.{◌≡◌, ℕ, ◌==◌, true, false, cond, nat_cmp, Less, List, length, Option, Some, None, IfSome, refl, sym, ap, ◌∙◌}
 use Rattle.std.specs.Ordering.{is_lt}
 use Rattle.std.specs.Cmp.Lexicographic.{slice_cmp}
 use Rattle.std.proofs.lemmas.Cmp.{nat_list_cmp_total}
-use Rattle.std.proofs.lemmas.Bool.{eqb-true, eqb-false, eq-eqb}
+use Rattle.std.proofs.lemmas.Bool.{eqb-true, eq-eqb}
 use Rattle.bus_kit.specs.Answers.{IsLeastApart}
 use Rattle.bus_kit.specs.Scanning.{IsAnswerOf, lesser_told}
 use Rattle.bus_kit.specs.Tallies.{at_width}
@@ -34,10 +34,10 @@ least_there : (width : ℕ) (f h : List ℕ → ℕ × ℕ) (y : Unequal) → Is
     → IsLeastApart (λ u. (at_width width f h u).0) (λ u. (at_width width f h u).1) y.tuple y.asked y.given
 least_there width f h y is none rest =
     let there : at_width width f h y.tuple ≡ h y.tuple =
-        elim (length y.tuple == width) as (λ b. (length y.tuple == width) ≡ b → cond b (f y.tuple) (h y.tuple) ≡ h y.tuple) [
-          true ↦ λ e. let zero = none y.tuple (eqb-true (length y.tuple) width e) in absurd (is.apart (is.asked_is ∙ ap (λ k. k.0) zero ∙ sym (is.given_is ∙ ap (λ k. k.1) zero)))
-        | false ↦ λ _. refl
-        ] refl in
+    elim (length y.tuple == width) as (λ b. (length y.tuple == width) ≡ b → cond b (f y.tuple) (h y.tuple) ≡ h y.tuple) [
+      | true ↦ λ e. let zero = none y.tuple (eqb-true (length y.tuple) width e) in absurd (is.apart (is.asked_is ∙ ap (λ k. k.0) zero ∙ sym (is.given_is ∙ ap (λ k. k.1) zero)))
+      | false ↦ λ _. refl
+    ] refl in
     record {
       asked_is = is.asked_is ∙ ap (λ k. k.0) (sym there);
       given_is = is.given_is ∙ ap (λ k. k.1) (sym there);
@@ -53,8 +53,8 @@ answer_at width f h None (Some y) p q none = least_there width f h y q none (λ 
 answer_at width f h (Some x) None p q none = least_here width f h x p.0 p.1 (λ u _. q u)
 answer_at width f h (Some x) (Some y) p q none =
     elim (is_lt (slice_cmp nat_cmp y.tuple x.tuple)) as (λ b. is_lt (slice_cmp nat_cmp y.tuple x.tuple) ≡ b → IsAnswerOf (at_width width f h) (cond b (Some y) (Some x))) [
-      true ↦ λ e. least_there width f h y q none (λ u less. p.0.least u (nat_list_cmp_total.trans u y.tuple x.tuple less (less_from_is_lt (slice_cmp nat_cmp y.tuple x.tuple) e)))
-    | false ↦ λ e. least_here width f h x p.0 p.1 (λ u less. q.least u (less_than_rest nat_list_cmp_total u y.tuple x.tuple less e))
+      | true ↦ λ e. least_there width f h y q none (λ u less. p.0.least u (nat_list_cmp_total.trans u y.tuple x.tuple less (less_from_is_lt (slice_cmp nat_cmp y.tuple x.tuple) e)))
+      | false ↦ λ e. least_here width f h x p.0 p.1 (λ u less. q.least u (less_than_rest nat_list_cmp_total u y.tuple x.tuple less e))
     ] refl
 
 -- the same of a value that is the lesser

@@ -1,5 +1,5 @@
 -- Both counts of a tuple behind one more.
-use Rattle.std.proofs.Common.{◌≡◌, ℕ, ◌+◌, Bool, true, false, cond, List, ◌≤◌, Option, Some, None, Result, Ok, Err, OnOk, OnErr, nat_eq, unwrap_or, Equal, Less, Greater, refl, sym, ap, ◌∙◌, subst, arith, add-zero}
+use Rattle.std.proofs.Common.{◌≡◌, ℕ, ◌+◌, true, false, cond, List, ◌≤◌, Some, Result, Ok, Err, OnOk, OnErr, nat_eq, unwrap_or, Equal, Less, Greater, refl, sym, ap, ◌∙◌, arith, add-zero}
 use Rattle.std.specs.HashMap.{HashMap, get}
 use Rattle.std.specs.Cmp.Lexicographic.{slice_cmp, texts_ties}
 use Rattle.std.specs.Ordering.{is_eq, nat_cmp}
@@ -25,8 +25,8 @@ pub added_at : {S : Type 0} (m n : HashMap (List ℕ) (ℕ × ℕ) S) (side : Si
     → both_in n u ≡ more_on side (hits t count u) (both_in m u)
 added_at m n side t count v u at is =
     elim (pointwise nat_eq t u) as (λ b. pointwise nat_eq t u ≡ b → get (pointwise nat_eq) n u ≡ cond b (Some v) (get (pointwise nat_eq) m u) → both_in n u ≡ more_on side (cond b count 0) (both_in m u)) [
-      true ↦ λ same got. ap (λ o. unwrap_or o (0, 0)) got ∙ is ∙ ap (λ k. more_on side count (both_in m k)) (same_from_pointwise t u same)
-    | false ↦ λ apart got. ap (λ o. unwrap_or o (0, 0)) got ∙ sym (more_on_zero side (both_in m u))
+      | true ↦ λ same got. ap (λ o. unwrap_or o (0, 0)) got ∙ is ∙ ap (λ k. more_on side count (both_in m k)) (same_from_pointwise t u same)
+      | false ↦ λ apart got. ap (λ o. unwrap_or o (0, 0)) got ∙ sym (more_on_zero side (both_in m u))
     ] refl at
 
 hits_zero : (t u : List ℕ) (count : ℕ) → count ≡ 0 → hits t count u ≡ 0

@@ -1,5 +1,5 @@
 -- The pass over a map's entries finds the least tuple apart.
-use Rattle.std.proofs.Common.{◌≡◌, ◌≢◌, ◌⊎◌, ℕ, ◌==◌, Bool, true, false, cond, List, [], ◌∷◌, Option, Some, None, All, IfSome, fold, nat_eq, nat_cmp, Ordering, Less, Equal, Greater, unwrap_or, option_map, refl, sym, ap, ◌∙◌, subst}
+use Rattle.std.proofs.Common.{◌≡◌, ◌≢◌, ℕ, ◌==◌, true, false, cond, List, [], ◌∷◌, Option, Some, None, All, IfSome, fold, nat_eq, nat_cmp, Ordering, Less, Equal, Greater, unwrap_or, option_map, refl, sym, ap, ◌∙◌, subst}
 use Rattle.std.specs.Ordering.{is_lt, ordering_reverse}
 use Rattle.std.specs.Cmp.{IsTotalOrder}
 use Rattle.std.specs.Cmp.Lexicographic.{slice_cmp, texts_ties}
@@ -33,9 +33,9 @@ apart_from_less u v h = rw (texts_ties u v, h) refl
 pub less_than_rest : {K : Type 0} {R : K → K → Ordering} → IsTotalOrder R → (u v w : K) → R u w ≡ Less → is_lt (R v w) ≡ false → R u v ≡ Less
 less_than_rest {K} {R} o u v w h e =
     elim (R v w) as (λ r. R v w ≡ r → is_lt r ≡ false → R u v ≡ Less) [
-      Less ↦ λ _ k. cc
-    | Equal ↦ λ same _. o.antisymm u v ∙ ap ordering_reverse (o.congr v w u same ∙ o.antisymm w u ∙ ap ordering_reverse h)
-    | Greater ↦ λ more _. o.trans u w v h (o.antisymm w v ∙ ap ordering_reverse more)
+      | Less ↦ λ _ k. cc
+      | Equal ↦ λ same _. o.antisymm u v ∙ ap ordering_reverse (o.congr v w u same ∙ o.antisymm w u ∙ ap ordering_reverse h)
+      | Greater ↦ λ more _. o.trans u w v h (o.antisymm w v ∙ ap ordering_reverse more)
     ] refl e
 
 pub less_from_is_lt : (r : Ordering) → is_lt r ≡ true → r ≡ Less
@@ -47,8 +47,8 @@ below_lesser : (u : List ℕ) (e : Entry) (best : Option Entry) → Below u (les
 below_lesser u e None h = (tt, apart_from_less u e.0 h)
 below_lesser u e (Some best) h =
     elim (is_lt (slice_cmp nat_cmp e.0 best.0)) as (λ b. is_lt (slice_cmp nat_cmp e.0 best.0) ≡ b → Below u (cond b (Some e) (Some best)) → Below u (Some best) × (pointwise nat_eq u e.0 ≡ false)) [
-      true ↦ λ less below. (nat_list_cmp_total.trans u e.0 best.0 below (less_from_is_lt (slice_cmp nat_cmp e.0 best.0) less), apart_from_less u e.0 below)
-    | false ↦ λ more below. (below, apart_from_less u e.0 (less_than_rest nat_list_cmp_total u e.0 best.0 below more))
+      | true ↦ λ less below. (nat_list_cmp_total.trans u e.0 best.0 below (less_from_is_lt (slice_cmp nat_cmp e.0 best.0) less), apart_from_less u e.0 below)
+      | false ↦ λ more below. (below, apart_from_less u e.0 (less_than_rest nat_list_cmp_total u e.0 best.0 below more))
     ] refl h
 
 -- what is lesser than the best of some entries is lesser than the best before, and alike in the entries
@@ -57,8 +57,8 @@ scan_below u [] best h = (h, refl)
 scan_below u (e ∷ es) best h =
     let rest = scan_below u es (scanned best e) h in
     elim (e.1.0 == e.1.1) as (λ b. (e.1.0 == e.1.1) ≡ b → Below u (cond b best (lesser e best)) → Below u best × ((look (e ∷ es) u).0 ≡ (look (e ∷ es) u).1)) [
-      true ↦ λ alike below. (below, elim (pointwise nat_eq u e.0) as (λ b. (unwrap_or (cond b (Some e.1) (lookup (pointwise nat_eq u) es)) (0, 0)).0 ≡ (unwrap_or (cond b (Some e.1) (lookup (pointwise nat_eq u) es)) (0, 0)).1) [ true ↦ eqb-true e.1.0 e.1.1 alike | false ↦ rest.1 ])
-    | false ↦ λ apart below. let both = below_lesser u e best below in (both.0, rw both.1 rest.1)
+      | true ↦ λ alike below. (below, elim (pointwise nat_eq u e.0) as (λ b. (unwrap_or (cond b (Some e.1) (lookup (pointwise nat_eq u) es)) (0, 0)).0 ≡ (unwrap_or (cond b (Some e.1) (lookup (pointwise nat_eq u) es)) (0, 0)).1) [ true ↦ eqb-true e.1.0 e.1.1 alike | false ↦ rest.1 ])
+      | false ↦ λ apart below. let both = below_lesser u e best below in (both.0, rw both.1 rest.1)
     ] refl rest.0
 
 lesser_keeps : (P : Entry → Type 0) (e : Entry) (best : Option Entry) → P e → (e.1.0 ≢ e.1.1) → IfSome best (λ e. P e × (e.1.0 ≢ e.1.1)) → IfSome (lesser e best) (λ e. P e × (e.1.0 ≢ e.1.1))
@@ -71,8 +71,8 @@ scan_keeps : (P : Entry → Type 0) (es : List Entry) (best : Option Entry) → 
 scan_keeps P [] best all had = had
 scan_keeps P (e ∷ es) best all had = scan_keeps P es (scanned best e) (All-tail P e es all)
     (elim (e.1.0 == e.1.1) as (λ b. (e.1.0 == e.1.1) ≡ b → IfSome (cond b best (lesser e best)) (λ e. P e × (e.1.0 ≢ e.1.1))) [
-      true ↦ λ _. had
-    | false ↦ λ apart. lesser_keeps P e best (All-head P e es all) (eqb-false e.1.0 e.1.1 apart) had
+      | true ↦ λ _. had
+      | false ↦ λ apart. lesser_keeps P e best (All-head P e es all) (eqb-false e.1.0 e.1.1 apart) had
     ] refl)
 
 -- the pass over a map's entries finds the least tuple apart

@@ -1,9 +1,7 @@
 -- The answer over single elements, where no small one is apart.
-use Rattle.std.proofs.Common.{◌≡◌, ◌≢◌, ℕ, ◌+◌, ◌<◌, ◌≤◌, Bool, true, false, cond, nat_lt, List, [], ◌∷◌, length, slice_index_or, Option, Some, None, IfSome, nat_eq, nat_cmp, Less, refl, ⊎_elim, sym, ap, ◌∙◌, arith}
-use Rattle.std.specs.Cmp.Lexicographic.{slice_cmp}
+use Rattle.std.proofs.Common.{◌≡◌, ◌≢◌, ℕ, ◌<◌, true, false, cond, nat_lt, List, [], ◌∷◌, length, slice_index_or, Option, Some, None, IfSome, refl, ⊎_elim, sym, ap, ◌∙◌, arith}
 use Rattle.std.proofs.lemmas.List.{get_or_past}
 use Rattle.std.proofs.lemmas.Bool.{ltb-true, cases_lt}
-use Rattle.bus_kit.specs.Answers.{IsAnswer, IsLeastApart, AreAlike}
 use Rattle.bus_kit.specs.Scanning.{IsAnswerOf}
 use Rattle.bus_kit.specs.Singles.{one_at, AreAlikeBelow}
 use Rattle.bus_kit.specs.declared.tuple.Unequal.{Unequal}
@@ -26,8 +24,8 @@ one_great : (small : List (ℕ × ℕ)) (great : List ℕ → ℕ × ℕ) (u : L
 one_great small great [] none e apart = cc
 one_great small great (v ∷ []) none e apart =
     elim (nat_lt v 65536) as (λ b. nat_lt v 65536 ≡ b → cond b (slice_index_or small v (0, 0)) (great (v ∷ [])) ≡ great (v ∷ [])) [
-      true ↦ λ below. absurd (apart (ap (λ k. k.0) (none v (ltb-true v 65536 below)) ∙ sym (ap (λ k. k.1) (none v (ltb-true v 65536 below)))))
-    | false ↦ λ _. refl
+      | true ↦ λ below. absurd (apart (ap (λ k. k.0) (none v (ltb-true v 65536 below)) ∙ sym (ap (λ k. k.1) (none v (ltb-true v 65536 below)))))
+      | false ↦ λ _. refl
     ] refl
 one_great small great (v ∷ w ∷ us) none e apart = absurd (omega arith)
 

@@ -1,7 +1,6 @@
 -- The counts of all widths, from those of each.
-use Rattle.std.proofs.Common.{◌≡◌, ◌≢◌, ℕ, ◌==◌, Bool, true, false, cond, nat_eq, List, [], ◌∷◌, length, get_or, arith, Option, Some, None, IfSome, Result, Ok, Err, refl, sym, ap, ◌∙◌}
-use Rattle.std.specs.Cmp.Lexicographic.{slice_cmp, unequal}
-use lib.Pointwise.{pointwise}
+use Rattle.std.proofs.Common.{◌≡◌, ◌≢◌, ℕ, ◌==◌, Bool, true, false, cond, nat_eq, List, [], ◌∷◌, length, get_or, arith, Result, Ok, Err, refl, sym, ap, ◌∙◌}
+use Rattle.std.specs.Cmp.Lexicographic.{unequal}
 use Rattle.std.proofs.lemmas.Bool.{eqb-true, eqb-false}
 use Rattle.bus_kit.specs.Counting.{both_in, hits, more_on, IsAdded}
 use Rattle.bus_kit.specs.Tallies.{both_at, one_of}
@@ -28,15 +27,17 @@ pub added_in_width : {E : Type 0} (side : Side) (t : List ℕ) (count width : �
     → IsAdded side t count f g r → IsAdded side t count a b r
 added_in_width side t count width f g a b (Ok x) wide before behind others added = λ u.
     elim (length u == width) as (λ w. (length u == width) ≡ w → b u ≡ more_on side (hits t count u) (a u)) [
-      true ↦ λ e. let same = eqb-true (length u) width e in behind u same ∙ added u ∙ ap (more_on side (hits t count u)) (sym (before u same))
-    | false ↦ λ e. others u e ∙ sym (rw (hits_other t u count (λ same. eqb-false (length u) width e (sym same ∙ wide))) (more_on_zero side (a u)))
+      | true ↦ λ e. let same = eqb-true (length u) width e in behind u same ∙ added u ∙ ap (more_on side (hits t count u)) (sym (before u same))
+      | false ↦ λ e. others u e ∙ sym (rw (hits_other t u count (λ same. eqb-false (length u) width e (sym same ∙ wide))) (more_on_zero side (a u)))
     ] refl
-added_in_width side t count width f g a b (Err x) wide before behind others added =
-    (before t wide ∙ added.0, λ u.
-    elim (length u == width) as (λ w. (length u == width) ≡ w → b u ≡ a u) [
-      true ↦ λ e. let same = eqb-true (length u) width e in behind u same ∙ added.1 u ∙ sym (before u same)
-    | false ↦ λ e. others u e
-    ] refl)
+added_in_width side t count width f g a b (Err x) wide before behind others added = (
+  before t wide ∙ added.0,
+  λ u.
+      elim (length u == width) as (λ w. (length u == width) ≡ w → b u ≡ a u) [
+        | true ↦ λ e. let same = eqb-true (length u) width e in behind u same ∙ added.1 u ∙ sym (before u same)
+        | false ↦ λ e. others u e
+      ] refl,
+)
 
 -- The counts of each width: what the tally has at it, and that what is added to them is added to the tally.
 

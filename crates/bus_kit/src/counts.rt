@@ -44,7 +44,11 @@ fn key_of<const N: usize>(tuple: &[Felt]) -> [Felt; N]
 }
 
 // The best entry so far, behind one more.
-fn scanned<const N: usize>(best: Option<Entry<N>>, tuple: &[Felt; N], both: &Both) -> Option<Entry<N>>
+fn scanned<const N: usize>(
+    best: Option<Entry<N>>,
+    tuple: &[Felt; N],
+    both: &Both,
+) -> Option<Entry<N>>
     requires { N ≤ 14 }
     ensures { result ≡ scanned_of best.entry (tuple.now, both.now) }
 {

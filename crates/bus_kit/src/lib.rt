@@ -11,8 +11,8 @@ mod values;
 
 pub use bus::Bus;
 pub use laws::types_cross;
-pub use tuple::{Tuple, Unequal};
 pub use tally::Tally;
+pub use tuple::{Tuple, Unequal};
 
 #[cfg(test)]
 mod tests;

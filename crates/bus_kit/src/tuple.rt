@@ -122,7 +122,11 @@ impl Unequal {
         match (first, second) {
             (None, second) => second,
             (first, None) => first,
-            (Some(x), Some(y)) => Some(if y.tuple.cmp(&x.tuple) == Ordering::Less { y } else { x }),
+            (Some(x), Some(y)) => Some(if y.tuple.cmp(&x.tuple) == Ordering::Less {
+                y
+            } else {
+                x
+            }),
         }
     }
 }

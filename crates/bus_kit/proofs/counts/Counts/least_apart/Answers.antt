@@ -1,6 +1,5 @@
 -- Behind the pass, the best is the least entry apart.
 use Rattle.std.proofs.Common.{Some, option_map, ap, sym, ◌∙◌}
-use Rattle.std.proofs.lemmas.Map.Iter.{rest_all}
 use Rattle.bus_kit.specs.Scanning.{told}
 use Rattle.bus_kit.proofs.ScanLemmas.{scan_told}
 use Rattle.bus_kit.proofs.counts.Counts.least_apart.Goals as goal
