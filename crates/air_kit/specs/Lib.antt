@@ -1,0 +1,15 @@
+pub mod Flags
+pub mod Places
+pub mod OpcodeValues
+pub mod BoundaryValues
+pub mod BlockValues
+pub mod SpanValues
+pub mod StackValues
+pub mod U32Values
+pub mod MainValues
+pub mod ChipPlaces
+pub mod RangeValues
+pub mod KernelValues
+pub mod HasherValues
+pub mod BitwiseValues
+pub mod MemoryValues
