@@ -9,36 +9,7 @@ use Rattle.vm_ops.specs.declared.op.Op.TheVariants as ops
 use Rattle.vm_ops.specs.declared.op.Shift.{Shift}
 use Rattle.vm_ops.specs.declared.op.Shift.TheVariants.{Left, Stay, Right}
 use Rattle.vm_table.specs.MainColumns.{b}
-
--- The operations that rows may have so far; the flag of another one is 0.
-abbrev pub is_built : Op → Bool
-is_built ops.FmpAdd = false
-is_built ops.FmpUpdate = false
-is_built ops.Caller = false
-is_built ops.AdvPop = false
-is_built ops.AdvPopW = false
-is_built ops.HPerm = false
-is_built ops.MLoad = false
-is_built ops.MLoadW = false
-is_built ops.MStore = false
-is_built ops.MStoreW = false
-is_built ops.U32Add = false
-is_built ops.U32Sub = false
-is_built ops.U32Mul = false
-is_built ops.U32Div = false
-is_built ops.U32Assert2 = false
-is_built ops.U32And = false
-is_built ops.U32Xor = false
-is_built ops.U32Add3 = false
-is_built ops.U32MAdd = false
-is_built ops.U32Split = false
-is_built ops.Join = false
-is_built ops.Split = false
-is_built ops.Loop = false
-is_built ops.Call = false
-is_built ops.Syscall = false
-is_built ops.Repeat = false
-is_built op = true
+use Rattle.air_kit.specs.Built.{is_built}
 
 -- the bit itself where the digit is 1, else 1 less the bit
 abbrev pub factor : ℕ → ℕ → ℕ

@@ -1,3 +1,4 @@
+pub mod Built
 pub mod Flags
 pub mod Places
 pub mod OpcodeValues
@@ -13,3 +14,7 @@ pub mod KernelValues
 pub mod HasherValues
 pub mod BitwiseValues
 pub mod MemoryValues
+pub mod Sets
+pub mod Tables
+pub mod Decoding
+pub mod Rows

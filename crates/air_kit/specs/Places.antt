@@ -56,7 +56,7 @@ family zero value = []
 family (suc n) value = value 0 ∷ family n (λ j. value (suc j))
 
 -- the first value of a list that is not 0, with its number, where the numbers count up from this one
-unfoldable pub first_fault_of : ℕ → List ℕ → Option (ℕ × ℕ)
+abbrev pub first_fault_of : ℕ → List ℕ → Option (ℕ × ℕ)
 first_fault_of number [] = None
 first_fault_of number (v ∷ vs) = if v == 0 then first_fault_of (number + 1) vs else Some (number, v)
 
