@@ -18,3 +18,7 @@ pub mod Sets
 pub mod Tables
 pub mod Decoding
 pub mod Rows
+pub mod MainTuples
+pub mod ChipTuples
+pub mod Traces
+pub mod Acceptance
