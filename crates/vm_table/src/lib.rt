@@ -1,10 +1,12 @@
 //! Tables of elements: a list of rows, and views that read a row cell by cell.
 #![tactic(auto)]
 
+mod main_view;
 mod table;
 #[cfg(test)]
 mod tests;
 mod view;
 
+pub use main_view::MainView;
 pub use table::{Table, tables_cross};
 pub use view::{Row, RowPair, View};

@@ -1,0 +1,65 @@
+-- What decoding a row finds, and sums over the operations from a code on.
+use Rattle.std.proofs.Common.{◌≡◌, ℕ, zero, suc, ◌+◌, ◌*◌, ◌<◌, ◌≤◌, cond, Bool, true, List, [], ◌∷◌, drop, length, Option, Some, None, IfSome, refl, sym, ap, subst, ◌∙◌, inl, inr, arith, lit<}
+use Rattle.std.specs.List.{slice_get}
+use Rattle.std.proofs.lemmas.Option.{slice_get_past, slice_get_cases}
+use Rattle.vm_field.specs.Field.{prime, felt_add}
+use Rattle.vm_ops.specs.declared.op.Op.{Op}
+use Rattle.vm_ops.specs.Codes.{code_of, every_op, op_at}
+use Rattle.vm_ops.proofs.CodeLemmas.{code_of-op_at, op_at-outside}
+use Rattle.vm_table.specs.MainColumns.{b}
+use Rattle.air_kit.specs.Built.{is_built}
+use Rattle.air_kit.specs.Flags.{flag, Flags, sum_of, flags_of, spelled, one_hot, HasOp}
+use Rattle.air_kit.specs.Decoding.{IsDecoded, IsSpelled}
+use Rattle.air_kit.proofs.FlagLemmas.{has_op-from, flags_of-hot, at_op}
+
+-- seven numbers below 2 that are a row's bits
+pub spelled_by : (row : List ℕ) (n0 n1 n2 n3 n4 n5 n6 : ℕ) → n0 ≡ b row 0 → n1 ≡ b row 1 → n2 ≡ b row 2 → n3 ≡ b row 3 → n4 ≡ b row 4 → n5 ≡ b row 5 → n6 ≡ b row 6
+    → n0 < 2 → n1 < 2 → n2 < 2 → n3 < 2 → n4 < 2 → n5 < 2 → n6 < 2
+    → IsSpelled row (n0 + 2 * n1 + 4 * n2 + 8 * n3 + 16 * n4 + 32 * n5 + 64 * n6)
+unfolding spelled
+spelled_by row n0 n1 n2 n3 n4 n5 n6 e0 e1 e2 e3 e4 e5 e6 l0 l1 l2 l3 l4 l5 l6 = record {
+  bits = λ j h. low j h;
+  is = omega (arith, e0, e1, e2, e3, e4, e5, e6);
+}
+  where
+    low : (j : ℕ) → j < 7 → b row j < 2
+    low zero h = subst (λ n. n < 2) e0 l0
+    low (suc zero) h = subst (λ n. n < 2) e1 l1
+    low (suc (suc zero)) h = subst (λ n. n < 2) e2 l2
+    low (suc (suc (suc zero))) h = subst (λ n. n < 2) e3 l3
+    low (suc (suc (suc (suc zero)))) h = subst (λ n. n < 2) e4 l4
+    low (suc (suc (suc (suc (suc zero))))) h = subst (λ n. n < 2) e5 l5
+    low (suc (suc (suc (suc (suc (suc zero)))))) h = subst (λ n. n < 2) e6 l6
+    low (suc (suc (suc (suc (suc (suc (suc j))))))) h = absurd (omega (arith, h))
+
+-- the operation of a spelled code, where it is built
+pub decoded_at : (row : List ℕ) (code : ℕ) (own : Op) → IsSpelled row code → op_at code ≡ Some own → is_built own ≡ true → IsDecoded row (Some own)
+decoded_at row code own spells found built op e =
+    let same : own ≡ op = cc in
+    subst (HasOp row) same (has_op-from row own built spells.bits (code_of-op_at code own found ∙ spells.is))
+
+-- a sum of flags of a decoded row
+pub sum_decoded : (row : List ℕ) (found : Option Op) (own : Op) (test : Op → Bool) → IsDecoded row found → found ≡ Some own → flags_of test (flag row) ≡ cond (test own) 1 0
+sum_decoded row found own test decoded is = at_op (decoded own is) (flags_of test) ∙ flags_of-hot own test
+
+-- the operations from a code on are that of the code and those behind it
+from_code : (ops : List Op) (i : ℕ) (op : Op) → slice_get ops i ≡ Some op → drop i ops ≡ op ∷ drop (suc i) ops
+from_code [] i op e = absurd (cc)
+from_code (o ∷ ops) zero op e = let same : o ≡ op = cc in ap (λ x. x ∷ ops) same
+from_code (o ∷ ops) (suc i) op e = from_code ops i op e
+
+pub no_code : drop 80 every_op ≡ []
+unfolding every_op
+no_code = refl
+
+-- one more term of a sum over the operations from a code on
+pub sum_step : (value : Op → ℕ) (code next term rest : ℕ) → next ≡ suc code → code < 80 → IfSome (op_at code) (λ op. term ≡ value op) → rest ≡ sum_of (drop next every_op) value → felt_add term rest ≡ sum_of (drop code every_op) value
+unfolding sum_of op_at
+sum_step value code next term rest step low is later = go (slice_get every_op code) refl is
+  where
+    go : (found : Option Op) → slice_get every_op code ≡ found → IfSome found (λ op. term ≡ value op) → felt_add term rest ≡ sum_of (drop code every_op) value
+    go None e h = absurd (let out = (op_at-outside code).0 e in omega (arith, out, low))
+    go (Some op) e h =
+        let split : drop code every_op ≡ op ∷ drop (suc code) every_op = from_code every_op code op e in
+        let rest_is : rest ≡ sum_of (drop (suc code) every_op) value = subst (λ n. rest ≡ sum_of (drop n every_op) value) step later in
+        rw (split, h, rest_is) refl

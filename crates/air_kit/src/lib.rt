@@ -1,0 +1,16 @@
+//! What the constraints speak of: the trace, the place of a row, faults, and, in `specs/`, each entry, each bus and what an
+//! accepted trace is (docs/CONSTRAINTS.md).
+#![tactic(auto)]
+
+mod fault;
+mod flags;
+mod place;
+mod seen;
+mod sets;
+mod trace;
+
+pub use fault::{Fault, first_nonzero, or_next};
+pub use place::Place;
+pub use seen::Seen;
+pub use sets::{OpSet, is_built};
+pub use trace::{Public, TableName, Trace, table_text, types_cross};

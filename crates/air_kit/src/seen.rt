@@ -1,0 +1,122 @@
+ghost use Rattle.std.specs.Prelude.{◌≡◌, ◌<◌, ◌≤◌, IfSome, if◌then◌else◌};
+ghost use Rattle.vm_ops.specs.Codes.{op_at};
+ghost use Rattle.air_kit.specs.Decoding.{IsDecoded, IsSpelled};
+ghost use Rattle.air_kit.specs.Flags.{flag, flags_of};
+ghost use Rattle.air_kit.specs.Sets.{passes_of};
+
+use crate::flags::flag_in;
+use crate::sets::{OpSet, is_built};
+use vm_field::Felt;
+use vm_ops::{Op, from_opcode, opcode};
+use vm_table::MainView;
+
+/// A row of the main table with its operation, where its bits spell one that rows may have. Flags and their sums are then a
+/// comparison; else they are the products and sums that they stand for.
+#[derive(Drop)]
+pub struct Seen<'a, V: MainView> {
+    pub row: &'a V,
+    op: Option<Op>,
+    ghost decoded: { IsDecoded (V.cells row.now) op },
+}
+
+impl<'a, V: MainView> Seen<'a, V> {
+    /// The row, decoded.
+    pub fn of(row: &'a V) -> Seen<'a, V>
+        ensures row { result.row ≡ row.entry }
+    {
+        let op = operation_of(row);
+        Seen { row, op }
+    }
+
+    /// The row's operation; none where its bits spell none.
+    pub fn operation(&self) -> Option<Op>
+        ensures { IsDecoded (V.cells self.now.row.now) result }
+    {
+        self.op
+    }
+
+    /// The flag of an operation.
+    pub fn one(&self, op: Op) -> Felt
+        ensures { result ≡ flag (V.cells self.now.row.now) op }
+    {
+        match self.op {
+            Some(own) => one_if(opcode(op) == opcode(own)),
+            None => flag_in(self.row, op),
+        }
+    }
+
+    /// The sum of the flags of a set.
+    pub fn sum(&self, set: OpSet) -> Felt
+        ensures { result ≡ flags_of (passes_of set) (flag (V.cells self.now.row.now)) }
+    {
+        match self.op {
+            Some(own) => one_if(set.holds(own)),
+            None => sum_in(self.row, set),
+        }
+    }
+}
+
+fn one_if(test: bool) -> Felt
+    ensures { result ≡ if test then 1 else 0 }
+{
+    if test { Felt::ONE } else { Felt::ZERO }
+}
+
+// The sum of the flags of a set, operation by operation.
+fn sum_in<V: MainView>(row: &V, set: OpSet) -> Felt
+    ensures { result ≡ flags_of (passes_of set) (flag (V.cells row.now)) }
+{
+    let mut total = Felt::ZERO;
+    for code in (0..80u8).rev() {
+        total = flag_at(row, set, code) + total;
+    }
+    total
+}
+
+// The term of the operation of a code.
+fn flag_at<V: MainView>(row: &V, set: OpSet, code: u8) -> Felt
+    requires { code < 80 }
+    ensures { IfSome (op_at code) (λ op. result ≡ (if passes_of set op then flag (V.cells row.now) op else 0)) }
+{
+    match from_opcode(code) {
+        Some(op) => {
+            if set.holds(op) {
+                flag_in(row, op)
+            } else {
+                Felt::ZERO
+            }
+        }
+        None => Felt::ZERO,
+    }
+}
+
+// The operation that the row's bits spell, if rows may have it.
+fn operation_of<V: MainView>(row: &V) -> Option<Op>
+    ensures { IsDecoded (V.cells row.now) result }
+{
+    let op = from_opcode(code_of(row)?)?;
+    if is_built(op) { Some(op) } else { None }
+}
+
+// The number that the row's bits spell; none where one of them is neither 0 nor 1.
+fn code_of<V: MainView>(row: &V) -> Option<u8>
+    ensures { IfSome result (IsSpelled (V.cells row.now)) }
+{
+    let b0 = bit(row.b0())?;
+    let b1 = bit(row.b1())?;
+    let b2 = bit(row.b2())?;
+    let b3 = bit(row.b3())?;
+    let b4 = bit(row.b4())?;
+    let b5 = bit(row.b5())?;
+    let b6 = bit(row.b6())?;
+    Some(b0 + 2 * b1 + 4 * b2 + 8 * b3 + 16 * b4 + 32 * b5 + 64 * b6)
+}
+
+// The bit that an element is.
+fn bit(element: Felt) -> Option<u8>
+    ensures is { IfSome result (λ bit. bit ≡ element) }
+    ensures below { IfSome result (λ bit. bit < 2) }
+{
+    let number = element.value();
+    if number < 2 { Some(number as u8) } else { None }
+}
