@@ -4,7 +4,7 @@ use Rattle.std.specs.Ordering.{is_lt}
 use Rattle.std.specs.Cmp.Lexicographic.{slice_cmp}
 use Rattle.std.proofs.lemmas.Cmp.{nat_list_cmp_total}
 use Rattle.std.proofs.lemmas.Bool.{eqb-true, eq-eqb}
-use Rattle.bus_kit.specs.Answers.{IsLeastApart}
+use Rattle.buses.specs.Counts.{IsLeastApart}
 use Rattle.bus_kit.specs.Scanning.{IsAnswerOf, lesser_told}
 use Rattle.bus_kit.specs.Tallies.{at_width}
 use Rattle.bus_kit.specs.declared.tuple.Unequal.{Unequal}

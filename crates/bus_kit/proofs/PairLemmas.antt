@@ -5,7 +5,8 @@ use Rattle.std.specs.Cmp.Lexicographic.{slice_cmp, texts_ties}
 use Rattle.std.specs.Ordering.{is_eq, nat_cmp}
 use Rattle.std.proofs.lemmas.Map.Lookups.{exact_bytes}
 use lib.Pointwise.{pointwise}
-use Rattle.bus_kit.specs.Counting.{both_in, hits, more_on, on_side, IsAdded}
+use Rattle.bus_kit.specs.Counting.{both_in, more_on, on_side, IsAdded}
+use Rattle.buses.specs.Counts.{hits}
 use Rattle.bus_kit.specs.declared.counts.Side.{Side}
 use Rattle.bus_kit.specs.declared.counts.Side.TheVariants.{Asked, Given}
 

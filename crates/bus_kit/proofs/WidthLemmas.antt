@@ -2,7 +2,8 @@
 use Rattle.std.proofs.Common.{◌≡◌, ◌≢◌, ℕ, ◌==◌, Bool, true, false, cond, nat_eq, List, [], ◌∷◌, length, get_or, arith, Result, Ok, Err, refl, sym, ap, ◌∙◌}
 use Rattle.std.specs.Cmp.Lexicographic.{unequal}
 use Rattle.std.proofs.lemmas.Bool.{eqb-true, eqb-false}
-use Rattle.bus_kit.specs.Counting.{both_in, hits, more_on, IsAdded}
+use Rattle.bus_kit.specs.Counting.{both_in, more_on, IsAdded}
+use Rattle.buses.specs.Counts.{hits}
 use Rattle.bus_kit.specs.Tallies.{both_at, one_of}
 use Rattle.bus_kit.specs.declared.counts.Counts.{Counts}
 use Rattle.bus_kit.specs.declared.tally.Tally.{Tally}

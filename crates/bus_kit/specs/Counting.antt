@@ -1,13 +1,10 @@
 -- Both counts of tuples, in a map.
-use Rattle.std.specs.Prelude.{ℕ, ◌+◌, nat_eq, if◌then◌else◌, List, unwrap_or, ◌≡◌, Result, Ok, Err}
+use Rattle.std.specs.Prelude.{ℕ, ◌+◌, nat_eq, List, unwrap_or, ◌≡◌, Result, Ok, Err}
 use Rattle.std.specs.HashMap.{HashMap, get}
 use lib.Pointwise.{pointwise}
+use Rattle.buses.specs.Counts.{hits}
 use Rattle.bus_kit.specs.declared.counts.Side.{Side}
 use Rattle.bus_kit.specs.declared.counts.Side.TheVariants.{Asked, Given}
-
--- the count where u is the tuple, and 0 elsewhere
-abbrev pub hits : List ℕ → ℕ → List ℕ → ℕ
-hits tuple count u = if pointwise nat_eq tuple u then count else 0
 
 -- the count of one side
 abbrev pub on_side : Side → ℕ × ℕ → ℕ

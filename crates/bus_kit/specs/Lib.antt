@@ -1,6 +1,6 @@
-pub mod Buses
 pub mod Answers
 pub mod Counting
 pub mod Scanning
 pub mod Singles
 pub mod Tallies
+pub mod ByBus

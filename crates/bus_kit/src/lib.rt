@@ -1,16 +1,16 @@
-//! The ten buses, the tuples that are asked and given on them, and the exact counts of these.
+//! Tuples, and the exact counts of how often each is asked and given on each bus.
 #![tactic(auto)]
 
-mod bus;
 mod counts;
 mod laws;
 mod singles;
+mod tallies;
 mod tally;
 mod tuple;
 mod values;
 
-pub use bus::Bus;
 pub use laws::types_cross;
+pub use tallies::Tallies;
 pub use tally::Tally;
 pub use tuple::{Tuple, Unequal};
 

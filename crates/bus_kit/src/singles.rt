@@ -21,6 +21,7 @@ impl Singles {
     }
 
     /// Counts an element on one side. At `Memory` it had no count, and all counts are as before.
+    #[inline(always)]
     pub fn add(&mut self, side: Side, element: Felt, count: u64) -> Result<(), Memory>
         requires { on_side side (one_of self.old (element ∷ [])) + count < 2 ^ 128 }
         ensures { IsAdded side (element ∷ []) count (one_of self.old) (one_of self.new) result }

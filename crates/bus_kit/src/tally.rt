@@ -1,6 +1,7 @@
 ghost use Rattle.std.specs.Prelude.{◌≡◌, ℕ, ◌+◌, ◌^◌, ◌<◌, ◌≤◌, List, length, true, IsOk, OnOk, OnErr};
 ghost use Rattle.bus_kit.specs.Answers.{IsAnswer};
-ghost use Rattle.bus_kit.specs.Counting.{hits, on_side, IsAdded};
+ghost use Rattle.bus_kit.specs.Counting.{on_side, IsAdded};
+ghost use Rattle.buses.specs.Counts.{hits};
 ghost use Rattle.bus_kit.specs.Tallies.{asked_in, both_at, given_in, is_width};
 
 use crate::counts::{Counts, Side};

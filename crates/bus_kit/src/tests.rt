@@ -1,4 +1,4 @@
-use crate::{Bus, Tally, Tuple};
+use crate::{Tally, Tuple};
 use std::alloc::Global;
 use std::test::Fail;
 use vm_field::{Felt, Memory};
@@ -24,10 +24,4 @@ fn finds_the_least_apart(rt: HostRuntime) -> Result<(), Fail> {
     let ones = Tuple::of(&[Felt::ONE, Felt::ZERO, Felt::ONE]);
     assert_eq!(rt; least(rt.alloc(), 5)?, Some((ones, 0, 2)));
     Ok(())
-}
-
-#[test]
-fn names_buses(rt: HostRuntime) {
-    assert_eq!(rt; Bus::EVERY[4].text(), "overflow");
-    assert_eq!(rt; Bus::Kernel.number(), 10);
 }
