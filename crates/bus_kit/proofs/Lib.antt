@@ -3,3 +3,4 @@ pub mod ScanLemmas
 pub mod SingleLemmas
 pub mod WidthLemmas
 pub mod AnswerLemmas
+pub mod AddingLemmas

@@ -3,4 +3,5 @@ pub mod Counting
 pub mod Scanning
 pub mod Singles
 pub mod Tallies
+pub mod Adding
 pub mod ByBus

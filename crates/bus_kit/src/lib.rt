@@ -1,6 +1,7 @@
 //! Tuples, and the exact counts of how often each is asked and given on each bus.
 #![tactic(auto)]
 
+mod adding;
 mod counts;
 mod laws;
 mod singles;
@@ -9,6 +10,7 @@ mod tally;
 mod tuple;
 mod values;
 
+pub use adding::{ask, ask_if, give, give_if, give_times};
 pub use laws::types_cross;
 pub use tallies::Tallies;
 pub use tally::Tally;

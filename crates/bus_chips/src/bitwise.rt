@@ -1,0 +1,24 @@
+ghost use Rattle.std.specs.Prelude.{◌≡◌, ◌^◌, OnOk, option_map};
+ghost use Rattle.air_kit.specs.ChipTuples.{chip_given, chip_asked};
+ghost use Rattle.air_kit.specs.Rows.{claim_at};
+ghost use Rattle.air_kit.specs.declared.trace.TableName.TheVariants as table;
+ghost use Rattle.bus_kit.specs.ByBus.{AreCounted, HaveRoom};
+
+use air_kit::Place;
+use bus_kit::{Tallies, give};
+use chip_columns::BitwiseView;
+use vm_field::Memory;
+
+/// The operation that ends in a row, given once. At `Memory` a part may be counted.
+pub fn tuples_bitwise<V: BitwiseView>(place: &Place<'_, V>, tallies: &mut Tallies) -> Result<(), Memory>
+    requires { HaveRoom tallies.old }
+    ensures { OnOk result (AreCounted (2 ^ 66) tallies.old tallies.new
+        (λ bus. chip_asked (claim_at place.now) bus table.Bitwise place.now.row (V.cells place.now.cur) (option_map V.cells place.now.next))
+        (λ bus. chip_given bus table.Bitwise place.now.row (V.cells place.now.cur) (option_map V.cells place.now.next))) }
+{
+    if place.row % 8 != 7 {
+        return Ok(());
+    }
+    let row = &place.cur;
+    give(&mut tallies.bitwise, &[row.op(), row.a(), row.b(), row.z()])
+}
