@@ -19,3 +19,8 @@ HasRoom t = (u : List ℕ) → (asked_in t u < 2 ^ 127) × (given_in t u < 2 ^ 1
 abbrev pub once_if : Option (List ℕ) → List Counted
 once_if None = []
 once_if (Some tuple) = once tuple ∷ []
+
+-- each value as a tuple of its own
+abbrev pub singles : List ℕ → List Counted
+singles [] = []
+singles (v ∷ vs) = once (v ∷ []) ∷ singles vs

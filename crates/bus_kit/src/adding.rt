@@ -1,5 +1,5 @@
 ghost use Rattle.std.specs.Prelude.{◌≡◌, ℕ, ◌+◌, ◌^◌, ◌<◌, ◌≤◌, List, [], ◌∷◌, length, true, OnOk};
-ghost use Rattle.bus_kit.specs.Adding.{IsCounted, once_if};
+ghost use Rattle.bus_kit.specs.Adding.{IsCounted, once_if, singles};
 ghost use Rattle.buses.specs.Counts.{once};
 ghost use Rattle.bus_kit.specs.Tallies.{asked_in, given_in, is_width};
 
@@ -57,4 +57,17 @@ pub fn give_times(tally: &mut Tally, tuple: &[Felt], count: Felt) -> Result<(), 
     ensures { OnOk result (IsCounted (2 ^ 64) tally.old tally.new [] (record { tuple = tuple.now; count = count } ∷ [])) }
 {
     tally.give(tuple, count.value())
+}
+
+/// Asks each of these values as a tuple of its own.
+pub fn ask_values(tally: &mut Tally, values: &[Felt]) -> Result<(), Memory>
+    requires few { length values.now ≤ 16 }
+    requires room { (u : List ℕ) → asked_in tally.old u + 2 ^ 65 < 2 ^ 128 }
+    ensures { OnOk result (IsCounted 16 tally.old tally.new (singles values.now) []) }
+{
+    for value in values {
+        let tuple = [*value];
+        ask(tally, &tuple)?;
+    }
+    Ok(())
 }

@@ -10,7 +10,7 @@ mod tally;
 mod tuple;
 mod values;
 
-pub use adding::{ask, ask_if, give, give_if, give_times};
+pub use adding::{ask, ask_if, ask_values, give, give_if, give_times};
 pub use laws::types_cross;
 pub use tallies::Tallies;
 pub use tally::Tally;
