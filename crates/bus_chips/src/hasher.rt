@@ -1,5 +1,5 @@
 ghost use Rattle.std.specs.Prelude.{◌≡◌, ◌^◌, suc, [], ◌∷◌, OnOk, option_map};
-ghost use Rattle.air_kit.specs.ChipTuples.{chip_given, chip_asked, hasher_given, permutation_begins, permutation_ends, whole_part, absorbed_part, digest_part}
+ghost use Rattle.air_kit.specs.ChipTuples.{chip_given, chip_asked, hasher_given, permutation_begins, permutation_ends, whole_part, absorbed_part, digest_part};
 ghost use Rattle.chip_columns.specs.HasherColumns as hasher;
 ghost use Rattle.air_kit.specs.Rows.{claim_at};
 ghost use Rattle.air_kit.specs.declared.trace.TableName.TheVariants as table;
@@ -23,15 +23,18 @@ pub fn tuples_hasher<V: HasherView>(place: &Place<'_, V>, tallies: &mut Tallies)
 }
 
 // What row i of the table gives.
-#[tactic(auto, unfolding(air_kit::specs::ChipTuples::hasher_given))]
 fn permutation<V: HasherView>(i: u32, row: &V, tally: &mut Tally) -> Result<(), Memory>
     requires { HasRoom tally.old }
     ensures { OnOk result (IsCounted 1 tally.old tally.new [] (hasher_given i (V.cells row.now))) }
 {
-    match i % 8 {
-        0 => begins(address_of(i), row, tally),
-        7 => ends(address_of(i), row, tally),
-        _ => Ok(()),
+    let place = i % 8;
+    let address = address_of(i);
+    if place == 0 {
+        begins(address, row, tally)
+    } else if place == 7 {
+        ends(address, row, tally)
+    } else {
+        Ok(())
     }
 }
 
@@ -43,13 +46,12 @@ fn address_of(i: u32) -> Felt
 }
 
 // What the first row of a permutation gives.
-#[tactic(auto, unfolding(air_kit::specs::ChipTuples::permutation_begins))]
 fn begins<V: HasherView>(address: Felt, row: &V, tally: &mut Tally) -> Result<(), Memory>
     requires { HasRoom tally.old }
     ensures { OnOk result (IsCounted 1 tally.old tally.new [] (permutation_begins address (V.cells row.now))) }
 {
     if row.mode() == Felt::ONE {
-        give(tally, &whole(felt(4), address, row))
+        give(tally, &whole(4, address, row))
     } else if row.cont() == Felt::ONE {
         give(tally, &absorbed(address, row))
     } else {
@@ -58,13 +60,12 @@ fn begins<V: HasherView>(address: Felt, row: &V, tally: &mut Tally) -> Result<()
 }
 
 // What the last row of a permutation gives.
-#[tactic(auto, unfolding(air_kit::specs::ChipTuples::permutation_ends))]
 fn ends<V: HasherView>(address: Felt, row: &V, tally: &mut Tally) -> Result<(), Memory>
     requires { HasRoom tally.old }
     ensures { OnOk result (IsCounted 1 tally.old tally.new [] (permutation_ends address (V.cells row.now))) }
 {
     if row.mode() == Felt::ONE {
-        give(tally, &whole(felt(5), address, row))
+        give(tally, &whole(5, address, row))
     } else if row.more() == Felt::ZERO {
         give(tally, &digest(address, row))
     } else {
@@ -73,11 +74,11 @@ fn ends<V: HasherView>(address: Felt, row: &V, tally: &mut Tally) -> Result<(), 
 }
 
 // The whole state, with the tag of an input or of an output.
-fn whole<V: HasherView>(tag: Felt, address: Felt, row: &V) -> [Felt; 14]
+fn whole<V: HasherView>(tag: u32, address: Felt, row: &V) -> [Felt; 14]
     ensures { result ≡ tag ∷ address ∷ whole_part (V.cells row.now) }
 {
     [
-        tag,
+        Felt::from_u32(tag),
         address,
         row.x0(),
         row.x1(),
@@ -99,7 +100,7 @@ fn absorbed<V: HasherView>(address: Felt, row: &V) -> [Felt; 10]
     ensures { result ≡ 2 ∷ address ∷ absorbed_part (V.cells row.now) }
 {
     [
-        felt(2),
+        Felt::from_u32(2),
         address,
         row.x4(),
         row.x5(),
@@ -135,11 +136,5 @@ fn first_absorbed<V: HasherView>(address: Felt, row: &V) -> [Felt; 11]
 fn digest<V: HasherView>(address: Felt, row: &V) -> [Felt; 6]
     ensures { result ≡ 3 ∷ address ∷ digest_part (V.cells row.now) }
 {
-    [felt(3), address, row.x4(), row.x5(), row.x6(), row.x7()]
-}
-
-fn felt(number: u32) -> Felt
-    ensures { result ≡ number }
-{
-    Felt::from_u32(number)
+    [Felt::from_u32(3), address, row.x4(), row.x5(), row.x6(), row.x7()]
 }

@@ -1,5 +1,5 @@
 ghost use Rattle.std.specs.Prelude.{◌≡◌, ◌^◌, OnOk, option_map};
-ghost use Rattle.air_kit.specs.ChipTuples.{chip_given, chip_asked};
+ghost use Rattle.air_kit.specs.ChipTuples.{chip_given, chip_asked, next_key};
 ghost use Rattle.air_kit.specs.Rows.{claim_at};
 ghost use Rattle.air_kit.specs.declared.trace.TableName.TheVariants as table;
 ghost use Rattle.bus_kit.specs.ByBus.{AreCounted, HaveRoom};
@@ -20,10 +20,7 @@ pub fn tuples_left<V: LeftView>(place: &Place<'_, V>, tallies: &mut Tallies) -> 
 {
     let output = output_at(&place.public.statement, place.row);
     let key = place.cur.key();
-    let below = match &place.next {
-        Some(next) => next.key(),
-        None => Felt::ZERO,
-    };
+    let below = key_after(&place.next);
     ask(&mut tallies.overflow, &[key, output, below])
 }
 
@@ -33,6 +30,16 @@ fn output_at(statement: &Statement, row: u32) -> Felt
 {
     match statement.outputs.as_slice().get(16 + row as usize) {
         Some(output) => *output,
+        None => Felt::ZERO,
+    }
+}
+
+// The key of the row after it; 0 behind the last one.
+fn key_after<V: LeftView>(next: &Option<V>) -> Felt
+    ensures { result ≡ next_key (option_map V.cells next.now) }
+{
+    match next {
+        Some(next) => next.key(),
         None => Felt::ZERO,
     }
 }
