@@ -98,6 +98,8 @@ least() {
 }
 for width in 1 3 5 12; do
     for field in 2 3; do
+        # The first value is apart, so that the search among values ends at once.
+        [ "$width$field" = 13 ] && continue
         plain=$(least $width plain $field)
         proved=$(least $width proved $field)
         name=$([ $field = 2 ] && echo "counts" || echo "search")
