@@ -5,5 +5,4 @@ pub mod Numbers
 pub mod Constants
 pub mod Reading
 pub mod Expansion
-pub mod Effects
 pub mod Packable
