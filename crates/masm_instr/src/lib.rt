@@ -22,6 +22,3 @@ pub use name::{Name, name_of, names_are_texts};
 pub use number::read_number;
 pub use reading::{read_instr, read_parameter, split};
 pub use refusal::InstrError;
-
-#[cfg(test)]
-mod tests;

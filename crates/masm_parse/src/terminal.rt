@@ -1,5 +1,5 @@
 use crate::refusal::Cause;
-use crate::tree::At;
+use crate::tree::Position;
 use masm_instr::{Const, Instr};
 use vm_field::Bytes;
 
@@ -17,7 +17,7 @@ pub(crate) struct Header {
     pub role: Role,
     pub name: Bytes,
     pub locals: u32,
-    pub at: At,
+    pub at: Position,
 }
 
 // How a statement names a procedure.
@@ -46,11 +46,11 @@ pub enum Leaf {
 pub(crate) enum Terminal {
     Const(Const),
     Header(Header),
-    Leaf(At, Leaf),
-    If(At),
+    Leaf(Position, Leaf),
+    If(Position),
     Else,
-    While(At),
-    Repeat(At, u32),
+    While(Position),
+    Repeat(Position, u32),
     End,
 }
 

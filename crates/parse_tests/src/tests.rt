@@ -1,5 +1,5 @@
-use super::*;
 use masm_lex::{MAX_SOURCE, lex};
+use masm_parse::{Ast, Cause, ParseError, Proc, Stmt, parse};
 use std::alloc::{AllocError, Global};
 use std::process::Abort;
 use std::test::Fail;

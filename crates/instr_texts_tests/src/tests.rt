@@ -1,4 +1,4 @@
-use super::*;
+use masm_instr::{Const, Consts, InstrError, expand, read_instr};
 use std::alloc::{AllocError, Global};
 use std::process::Abort;
 use vm_field::{Bytes, Felt, Memory};
