@@ -1,4 +1,5 @@
-use masm_instr::{Const, Consts, InstrError, expand, read_instr};
+use instr_reading::{Const, Consts, InstrError, read_instr};
+use masm_instr::expand;
 use std::alloc::{AllocError, Global};
 use std::process::Abort;
 use vm_field::{Bytes, Felt, Memory};

@@ -3,11 +3,11 @@
 use Rattle.std.specs.Prelude.{◌≡◌, ℕ, Bool, true, false, ◌==◌, ◌&&◌, ◌||◌, nat_lt, nat_le, if◌then◌else◌, List, [], ◌∷◌, ◌++◌, length, slice_index, Option, Some, None, Result, Ok, Err, bytes_eq, codes}
 use Rattle.std.specs.List.{list_all, slice_split}
 use Rattle.vm_field.specs.Field.{prime}
-use Rattle.masm_instr.specs.declared.constant.Const.{Const}
-use Rattle.masm_instr.specs.declared.refusal.InstrError.{InstrError}
+use Rattle.instr_reading.specs.declared.constant.Const.{Const}
+use Rattle.instr_reading.specs.declared.refusal.InstrError.{InstrError}
 use Rattle.masm_instr.specs.Instructions.{Instruction, names_local}
-use Rattle.masm_instr.specs.Numbers.{number}
-use Rattle.masm_instr.specs.Reading.{parameter_of, parts_of, read}
+use Rattle.instr_reading.specs.Numbers.{number}
+use Rattle.instr_reading.specs.Reading.{parameter_of, parts_of, read}
 use Rattle.masm_parse.specs.declared.refusal.Cause.{Cause}
 use Rattle.masm_parse.specs.declared.refusal.Cause.TheVariants as causes
 use Rattle.masm_parse.specs.declared.refusal.Stop.{Stop}

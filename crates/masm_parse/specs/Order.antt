@@ -1,7 +1,7 @@
 -- The order in which the parts of a tree stand in its source.
 use Rattle.std.specs.Prelude.{◌≡◌, ℕ, Bool, List, [], ◌∷◌, ◌++◌, map, Option, Some, None, Ok}
 use Rattle.std.specs.List.{flat_map}
-use Rattle.masm_instr.specs.declared.constant.Const.{Const}
+use Rattle.instr_reading.specs.declared.constant.Const.{Const}
 use Rattle.masm_lex.specs.declared.list.Token.{Token}
 use Rattle.masm_lex.specs.Tokens.{lexed}
 use Rattle.masm_lex.specs.Order.{Ascends, IsEarlier}

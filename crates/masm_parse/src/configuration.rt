@@ -1,6 +1,6 @@
 ghost use Rattle.std.specs.Prelude.{◌≡◌, ◌∷◌, Bool, map, IfOk};
 ghost use Rattle.std.specs.Option.{option_map};
-ghost use Rattle.masm_instr.specs.declared.constant.Const.{Const};
+ghost use Rattle.instr_reading.specs.declared.constant.Const.{Const};
 ghost use Rattle.masm_parse.specs.declared.terminal.Terminal.TheVariants as terminals;
 ghost use Rattle.masm_parse.specs.Trees.{Empty, Leaf_then, append};
 ghost use Rattle.masm_parse.specs.Machine.{procedure, reduce, closed, may_begin, Inside, shift, shift_statement, shift_else, shift_end, shift_inside, depth_of};

@@ -9,7 +9,7 @@ use crate::reading::classify;
 use crate::refusal::{Cause, ParseError, Stop};
 use crate::terminal::{Symbol, Terminal};
 use crate::tree::{Ast, Position};
-use masm_instr::Consts;
+use instr_reading::Consts;
 use masm_lex::{Place, Token};
 use std::alloc::Global;
 use vm_field::Memory;

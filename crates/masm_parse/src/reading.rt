@@ -8,7 +8,7 @@ use crate::parts::{Case, is_name};
 use crate::refusal::{Cause, Stop};
 use crate::terminal::{Header, Leaf, Role, Symbol, Terminal, Use};
 use crate::tree::Position;
-use masm_instr::{Const, Consts, read_instr, read_number, read_parameter, split};
+use instr_reading::{Const, Consts, read_instr, read_number, read_parameter, split};
 use std::alloc::{AllocError, Global};
 use vm_field::{Bytes, Felt, Memory};
 

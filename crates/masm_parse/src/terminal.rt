@@ -1,6 +1,7 @@
 use crate::refusal::Cause;
 use crate::tree::Position;
-use masm_instr::{Const, Instr};
+use instr_reading::Const;
+use masm_instr::Instr;
 use vm_field::Bytes;
 
 // What a header begins.

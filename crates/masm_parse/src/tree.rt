@@ -1,4 +1,5 @@
-use masm_instr::{Consts, Instr};
+use instr_reading::Consts;
+use masm_instr::Instr;
 use vm_field::Bytes;
 
 /// The place of a token.

@@ -1,7 +1,7 @@
 -- What is refused of the names and the uses of a source (docs/ASSEMBLY.md, "What is refused").
 use Rattle.std.specs.Prelude.{◌≡◌, ℕ, true, List, ◌∷◌, ◌++◌, length, None}
 use Rattle.std.specs.List.{filter, Any, Contains}
-use Rattle.masm_instr.specs.declared.constant.Const.{Const}
+use Rattle.instr_reading.specs.declared.constant.Const.{Const}
 use Rattle.masm_parse.specs.declared.tree.Position.{Position}
 use Rattle.masm_parse.specs.Trees.{Procedure, Source}
 use Rattle.masm_uses.specs.declared.refusal.LinkCause.{LinkCause}

@@ -4,7 +4,7 @@ ghost use Rattle.masm_uses.specs.Names.{place_at};
 ghost use Rattle.masm_uses.specs.Uses.{place_in};
 
 use indexmap::IndexMap;
-use masm_instr::Const;
+use instr_reading::Const;
 use masm_parse::{Position, Proc};
 use std::alloc::Global;
 use vm_field::{Bytes, Memory};
