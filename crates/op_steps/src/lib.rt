@@ -14,6 +14,3 @@ mod words;
 
 pub use refusal::StepStop;
 pub use stepping::{is_quiet, step, step_quiet};
-
-#[cfg(test)]
-mod tests;
