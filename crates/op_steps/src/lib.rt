@@ -8,6 +8,7 @@ mod moves;
 mod on_stack;
 mod place;
 mod refusal;
+mod single;
 mod stepping;
 mod storing;
 mod words;
