@@ -1,13 +1,10 @@
-// A library with one function.
+//! The constraints of the stack: entries 115 to 139 of the main table (docs/CONSTRAINTS.md).
 #![tactic(auto)]
 
-ghost use Rattle.std.specs.Prelude.{◌≡◌};
-ghost use Rattle.air_stack.specs.Echo.{echo_of};
+mod cells;
+mod depth;
+mod fault;
+mod moves;
+mod operands;
 
-// The `ensures` clause is the contract: what `echo` returns is `echo_of` of its argument, a definition
-// in `specs/Echo.antt`, which a caller's clause can cite too.
-pub fn echo(x: usize) -> usize
-    ensures { result ≡ echo_of x }
-{
-    x
-}
+pub use fault::first_fault;
