@@ -1,4 +1,3 @@
-use Rattle.std.proofs.Common.{◌≡◌}
 use Rattle.air_kit.specs.StackValues.{entry_119}
 use Rattle.air_stack.proofs.TermLemmas.{cell_decoded}
 use Rattle.air_stack.proofs.cells.entry_119.Goals as goal

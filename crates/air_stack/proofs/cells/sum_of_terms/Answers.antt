@@ -1,4 +1,4 @@
-use Rattle.std.proofs.Common.{◌≡◌, ℕ, suc, ◌-◌, arith, drop, refl, sym, ap, ◌∙◌}
+use Rattle.std.proofs.Common.{◌≡◌, ◌-◌, arith, drop, refl, ap, ◌∙◌}
 use Rattle.vm_field.specs.Field.{felt_mul}
 use Rattle.vm_ops.specs.Codes.{every_op}
 use Rattle.air_kit.specs.Flags.{flag, sum_over, sum_of}
