@@ -18,3 +18,10 @@ pub mod Sets
 pub mod Tables
 pub mod Decoding
 pub mod Rows
+pub mod MainTuples
+pub mod ChipTuples
+pub mod Traces
+pub mod Acceptance
+pub mod Hashes
+pub mod Requests
+pub mod RowStates
