@@ -23,12 +23,8 @@ fn row<const W: usize>(numbers: &[u64; W]) -> [Felt; W] {
 fn statement(alloc: Global) -> Result<Statement, Memory> {
     let kernel = Words::copied(alloc, &[Word(row(&[1, 2, 3, 4]))])?;
     let outputs = Felts::copied(alloc, &[Felt::ZERO; 16])?;
-    Ok(Statement::new(
-        Word::ZERO,
-        kernel,
-        Felts::new(alloc),
-        outputs,
-    ))
+    let statement = Statement::new(Word::ZERO, kernel, Felts::new(alloc), outputs);
+    Ok(statement)
 }
 
 fn public(alloc: Global) -> Result<Public, Memory> {

@@ -4,4 +4,4 @@ use Rattle.air_hasher.proofs.tests.public.Goals as goal
 -- no word stands twice in no words
 pub new-statement-requires-clause-distinct : goal.new-statement-requires-clause-distinct
 unfolding IsDistinct
-new-statement-requires-clause-distinct g c = rw c.new.ensures.empty tt
+new-statement-requires-clause-distinct c = rw c.new.ensures.empty tt

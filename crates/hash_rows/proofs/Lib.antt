@@ -1,0 +1,5 @@
+pub mod RowLemmas
+pub mod ZeroLemmas
+pub mod BlockLemmas
+pub mod ZerosAreRows
+pub mod RowsAreZero
