@@ -3,3 +3,5 @@ pub mod ZeroLemmas
 pub mod BlockLemmas
 pub mod ZerosAreRows
 pub mod RowsAreZero
+pub mod Totals
+pub mod GivenLemmas

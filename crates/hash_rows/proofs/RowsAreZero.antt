@@ -83,7 +83,7 @@ rounds-IsState constants p k len h s = record {
   below = elements-rounds k constants p.start s.below;
 }
 
-row_state : (constants : List ℕ) (p : Perm) (k : ℕ) (going : Bool) → length constants ≡ 168 → k ≤ 7 → IsState p.start
+pub row_state : (constants : List ℕ) (p : Perm) (k : ℕ) (going : Bool) → length constants ≡ 168 → k ≤ 7 → IsState p.start
     → state (perm_row constants p k going) ≡ rounds k constants p.start
 unfolding perm_row
 row_state constants p k going len h s = state_is _ _ _ (rounds k constants p.start) (rounds-IsState constants p k len h s).size
@@ -170,11 +170,11 @@ bit_below : (b : Bool) → bit_number b < prime
 bit_below true = lit< tt
 bit_below false = lit< tt
 
-perm_row-mode : (constants : List ℕ) (p : Perm) (k : ℕ) (going : Bool) → mode (perm_row constants p k going) ≡ bit_number p.mode
+pub perm_row-mode : (constants : List ℕ) (p : Perm) (k : ℕ) (going : Bool) → mode (perm_row constants p k going) ≡ bit_number p.mode
 unfolding perm_row
 perm_row-mode constants p k going = refl
 
-perm_row-cont : (constants : List ℕ) (p : Perm) (k : ℕ) (going : Bool) → cont (perm_row constants p k going) ≡ bit_number p.cont
+pub perm_row-cont : (constants : List ℕ) (p : Perm) (k : ℕ) (going : Bool) → cont (perm_row constants p k going) ≡ bit_number p.cont
 unfolding perm_row
 perm_row-cont constants p k going = refl
 
@@ -222,7 +222,7 @@ chain_next going row y last is below same l =
     family_zero 4 _ (λ j h. ap (λ m. felt_mul m (felt_sub (x y j) (x row j))) is
     ∙ chained_zero going (x y j) (x row j) (below (3 + j)) (λ on. capacity_at y row (l.1 on ∙ ap (take 4) (sym same)) j h))
 
-perm_row-more : (constants : List ℕ) (p : Perm) (k : ℕ) (going : Bool) → more (perm_row constants p k going) ≡ bit_number going
+pub perm_row-more : (constants : List ℕ) (p : Perm) (k : ℕ) (going : Bool) → more (perm_row constants p k going) ≡ bit_number going
 unfolding perm_row
 perm_row-more constants p k going = refl
 
@@ -331,7 +331,7 @@ unfolding rows_of rows_before
 rows_of-size constants [] = refl
 rows_of-size constants (p ∷ perms) = let e = rows_of-size constants perms in omega (arith, e)
 
-bit_again : (b : Bool) → (bit_number b == 1) ≡ b
+pub bit_again : (b : Bool) → (bit_number b == 1) ≡ b
 bit_again true = refl
 bit_again false = refl
 
