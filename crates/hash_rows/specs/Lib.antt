@@ -1,0 +1,2 @@
+pub mod PermRows
+pub mod HashTables
