@@ -1,14 +1,15 @@
-ghost use Rattle.std.specs.Prelude.{◌≡◌, ℕ, ◌<◌, ◌≤◌, [], ◌∷◌, ◌++◌, length, slice_index, slice_index_or, slice_set, false, true, IsTrue, IfOk, OnOk};
+ghost use Rattle.std.specs.Prelude.{◌≡◌, ℕ, ◌<◌, ◌≤◌, [], ◌∷◌, ◌++◌, length, slice_index, slice_index_or, slice_set, false, true, IfOk, OnOk};
 ghost use Rattle.std.specs.List.{All, Contains};
 ghost use Rattle.masm_uses.specs.Graph.{rows_of, IsGraph};
-ghost use Rattle.masm_uses.specs.Orders.{IsAcyclic, IsOrder};
+ghost use Rattle.masm_uses.specs.Orders.{IsAcyclic, IsOrder, StandsBehind};
+ghost use Rattle.masm_uses.specs.Walks.{AreMarks};
 
 use crate::reach::Walk;
 use std::alloc::{AllocError, Global};
 use std::mem;
 
-// The places of a graph that were seen, each behind those to which it has edges. Each other one waits for a place that was not
-// seen, so that its row is read once.
+// The places of a graph that were seen, each behind those to which it has edges. Each other one waits
+// for a place that was not seen, so that its row is read once.
 #[derive(Drop)]
 struct Sorter {
     walk: Walk,
@@ -116,11 +117,12 @@ impl Sorter {
     }
 }
 
-// The places of a graph in an order in which each stands behind those to which it has edges.
-pub(crate) fn order(alloc: Global, graph: &[Vec<usize>]) -> Result<Vec<usize>, AllocError>
-    requires graph { IsGraph (rows_of graph.now) }
-    requires acyclic { IsAcyclic (rows_of graph.now) }
-    ensures { IfOk result (λ order. IsOrder (rows_of graph.now) order.items) }
+// The places of a graph from which no way leads back, each behind those to which it has edges.
+pub(crate) fn sorted(alloc: Global, graph: &[Vec<usize>]) -> Result<Walk, AllocError>
+    requires { IsGraph (rows_of graph.now) }
+    ensures marks { IfOk result (λ walk. AreMarks walk.marks.items walk.seen.items) }
+    ensures behind { IfOk result (λ walk. StandsBehind (rows_of graph.now) walk.seen.items) }
+    ensures all { IfOk result (λ walk. IsAcyclic (rows_of graph.now) → IsOrder (rows_of graph.now) walk.seen.items) }
 {
     let mut sorter = Sorter::new(alloc, graph)?;
     for place in 0..graph.len() {
@@ -133,71 +135,15 @@ pub(crate) fn order(alloc: Global, graph: &[Vec<usize>]) -> Result<Vec<usize>, A
         sorter.settle_all(graph, waiters.as_slice())?;
         next += 1;
     }
-    Ok(sorter.walk.seen)
+    Ok(sorter.walk)
 }
 
-#[cfg(test)]
-mod tests {
-    use super::*;
-    use std::test::Fail;
-
-    // A graph's rows, a rank for each place, and which places stand first and last where these are the same in each order.
-    static CASES: [(&[&[usize]], &[usize], Option<(usize, usize)>); 5] = [
-        (&[], &[], None),
-        (&[&[], &[], &[]], &[0, 0, 0], None),
-        (&[&[], &[0], &[1], &[2, 0]], &[0, 1, 2, 3], Some((0, 3))),
-        (&[&[3, 1], &[2], &[3], &[]], &[3, 2, 1, 0], Some((3, 0))),
-        (&[&[1, 2], &[3], &[3, 3], &[]], &[2, 1, 1, 0], Some((3, 0))),
-    ];
-
-    fn graph_of(alloc: Global, rows: &[&[usize]]) -> Result<Vec<Vec<usize>>, AllocError> {
-        let mut graph = Vec::new(alloc);
-        for row in rows {
-            graph.push(Vec::from_slice(alloc, row)?)?;
-        }
-        Ok(graph)
-    }
-
-    fn is_row_ranked(row: &[usize], ranks: &[usize], rank: usize) -> bool
-        ensures { IsTrue result → All (λ place. (place < length ranks.now) × (slice_index ranks.now place < rank)) row.now }
-    {
-        for place in row {
-            if *place >= ranks.len() || ranks[*place] >= rank {
-                return false;
-            }
-        }
-        true
-    }
-
-    // Whether each edge leads to a place of a lower rank, so that none is part of a way back.
-    fn is_ranked(graph: &[Vec<usize>], ranks: &[usize]) -> bool
-        ensures graph { IsTrue result → IsGraph (rows_of graph.now) }
-        ensures acyclic { IsTrue result → IsAcyclic (rows_of graph.now) }
-    {
-        if ranks.len() != graph.len() {
-            return false;
-        }
-        for place in 0..graph.len() {
-            if !is_row_ranked(graph[place].as_slice(), ranks, ranks[place]) {
-                return false;
-            }
-        }
-        true
-    }
-
-    #[test]
-    fn orders_places(rt: HostRuntime) -> Result<(), Fail> {
-        for (rows, ranks, ends) in CASES {
-            let graph = graph_of(rt.alloc(), rows)?;
-            let graph = graph.as_slice();
-            assert!(rt; is_ranked(graph, ranks));
-            let order = order(rt.alloc(), graph)?;
-            assert_eq!(rt; order.len(), rows.len());
-            if let Some((first, last)) = ends {
-                assert_eq!(rt; order.first(), Some(&first));
-                assert_eq!(rt; order.last(), Some(&last));
-            }
-        }
-        Ok(())
-    }
+// The places of a graph with no way back, each behind those to which it has edges.
+pub(crate) fn order(alloc: Global, graph: &[Vec<usize>]) -> Result<Vec<usize>, AllocError>
+    requires graph { IsGraph (rows_of graph.now) }
+    requires acyclic { IsAcyclic (rows_of graph.now) }
+    ensures { IfOk result (λ order. IsOrder (rows_of graph.now) order.items) }
+{
+    let walk = sorted(alloc, graph)?;
+    Ok(walk.seen)
 }

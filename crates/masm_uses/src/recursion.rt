@@ -95,10 +95,10 @@ pub(crate) fn first_recursion(
     requires { AreUsers (rows_of rows.now) (rows_of users.now) }
     ensures { IfOk result (λ first. Answers (Recursions (rows_of users.now) (rows_of rows.now)) first) }
 {
-    let marks = settled(alloc, rows, users)?;
+    let settled = settled(alloc, rows, users)?;
     let mut first = None;
     for (user, row) in rows.iter().enumerate() {
-        first = with_row(alloc, users, is_marked(&marks, user), user, row, first)?;
+        first = with_row(alloc, users, settled.has(user), user, row, first)?;
     }
     Ok(first)
 }
