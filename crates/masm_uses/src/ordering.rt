@@ -1,4 +1,5 @@
-ghost use Rattle.std.specs.Prelude.{◌≡◌, ℕ, ◌<◌, ◌≤◌, [], ◌∷◌, ◌++◌, length, slice_index, slice_index_or, slice_set, false, true, IfOk, OnOk};
+ghost use Rattle.std.specs.Prelude.{◌≡◌, ℕ, ◌<◌, ◌≤◌, [], ◌∷◌, ◌++◌, length, slice_index, slice_index_or};
+ghost use Rattle.std.specs.Prelude.{slice_set, false, true, IfOk, OnOk};
 ghost use Rattle.std.specs.List.{All, Contains};
 ghost use Rattle.masm_uses.specs.Graph.{rows_of, IsGraph};
 ghost use Rattle.masm_uses.specs.Orders.{IsAcyclic, IsOrder, StandsBehind};
@@ -49,8 +50,10 @@ impl Sorter {
     // The first edge of a row, from this one on, that leads to a place that was not seen.
     fn first_unseen(&self, row: &[usize], from: usize) -> usize
         requires { All (λ place. place < length self.now.walk.marks.items) row.now }
-        ensures seen { (k : ℕ) → from ≤ k → k < result → slice_index_or self.now.walk.marks.items (slice_index row.now k) false ≡ true }
-        ensures unseen { result < length row.now → slice_index_or self.now.walk.marks.items (slice_index row.now result) false ≡ false }
+        ensures seen { (k : ℕ) → from ≤ k → k < result
+            → slice_index_or self.now.walk.marks.items (slice_index row.now k) false ≡ true }
+        ensures unseen { result < length row.now
+            → slice_index_or self.now.walk.marks.items (slice_index row.now result) false ≡ false }
     {
         let mut edge = from;
         while edge < row.len() && self.walk.marks[row[edge]] {
@@ -65,7 +68,8 @@ impl Sorter {
         ensures walk { self.new.walk ≡ self.old.walk }
         ensures passed { self.new.passed ≡ self.old.passed }
         ensures count { length self.new.waiting.items ≡ length self.old.waiting.items }
-        ensures rows { OnOk result (rows_of self.new.waiting.items ≡ slice_set (rows_of self.old.waiting.items) other (waiters self.old other ++ place ∷ [])) }
+        ensures rows { OnOk result (rows_of self.new.waiting.items
+            ≡ slice_set (rows_of self.old.waiting.items) other (waiters self.old other ++ place ∷ [])) }
     {
         self.waiting[other].push(place)?;
         Ok(())
@@ -108,7 +112,8 @@ impl Sorter {
         requires sorting { IsSorting (rows_of graph.now) self.old }
         ensures sorting { OnOk result (IsSorting (rows_of graph.now) self.new) }
         ensures grows { OnOk result (Grows self.old self.new) }
-        ensures settled { OnOk result ((place : ℕ) → Contains places.now place → IsSettled (rows_of graph.now) self.old.walk.seen.items self.new place) }
+        ensures settled { OnOk result ((place : ℕ) → Contains places.now place
+            → IsSettled (rows_of graph.now) self.old.walk.seen.items self.new place) }
     {
         for place in places {
             self.settle(graph, *place)?;

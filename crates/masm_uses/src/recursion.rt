@@ -73,8 +73,10 @@ fn with_row(
 ) -> Result<Option<Refusal>, AllocError>
     requires graph { IsGraph (rows_of users.now) }
     requires user { user < length users.now }
-    requires settled { is_settled ≡ true → (place : ℕ) → HasOwn row.now place → ¬ (Leads (rows_of users.now) user place) }
-    ensures { IfOk result (λ now. Answers (λ at cause. (first ≡ Some (record { at = at; cause = cause })) ⊎ Returns (Leads (rows_of users.now) user) row.now at cause) now) }
+    requires settled { is_settled ≡ true → (place : ℕ) → HasOwn row.now place
+        → ¬ (Leads (rows_of users.now) user place) }
+    ensures { IfOk result (λ now. Answers (λ at cause. (first ≡ Some (record { at = at; cause = cause }))
+        ⊎ Returns (Leads (rows_of users.now) user) row.now at cause) now) }
 {
     if is_settled {
         return Ok(first);

@@ -9,8 +9,8 @@ use crate::procedures::own_graph;
 use crate::reach::is_marked;
 use std::alloc::{AllocError, Global};
 
-// Marks of procedures to which no use of theirs leads back: those from which no procedure is reached that reaches itself, and
-// those that are reached from none such.
+// Marks of procedures to which no use of theirs leads back: those from which no procedure is reached
+// that uses itself, and those that are reached from none such.
 #[derive(Drop)]
 pub(crate) struct SettledMarks {
     below: Vec<bool>,
@@ -33,7 +33,8 @@ pub(crate) fn settled(
     users: &[Vec<usize>],
 ) -> Result<SettledMarks, AllocError>
     requires { AreUsers (rows_of rows.now) (rows_of users.now) }
-    ensures { IfOk result (λ settled. (user place : ℕ) → is_settled settled user ≡ true → Goes (rows_of rows.now) user place → ¬ (Leads (rows_of users.now) user place)) }
+    ensures { IfOk result (λ settled. (user place : ℕ) → is_settled settled user ≡ true
+        → Goes (rows_of rows.now) user place → ¬ (Leads (rows_of users.now) user place)) }
 {
     let graph = own_graph(alloc, rows)?;
     let below = sorted(alloc, &graph)?;
