@@ -51,25 +51,25 @@ fn both(a: Tally, b: Tally) -> Tally {
 }
 
 fn of_batches(batches: &Batches) -> Tally {
-    let mut tally = Tally { batches: 0, sum: 0 };
+    let mut found = Tally { batches: 0, sum: 0 };
     for batch in batches.as_slice() {
-        tally.batches = tally.batches.wrapping_add(1);
+        found.batches = found.batches.wrapping_add(1);
         for felt in batch {
-            tally.sum = tally.sum.wrapping_add(felt.value());
+            found.sum = found.sum.wrapping_add(felt.value());
         }
     }
-    tally
+    found
 }
 
-fn tally(tree: &Tree) -> Tally {
+fn of_tree(tree: &Tree) -> Tally {
     match tree {
         Tree::Opaque(_) => Tally { batches: 0, sum: 0 },
         Tree::Span(batches) => of_batches(batches),
-        Tree::Join(a, b) => both(tally(a), tally(b)),
-        Tree::Split(a, b) => both(tally(a), tally(b)),
-        Tree::Loop(a) => tally(a),
-        Tree::Call(a) => tally(a),
-        Tree::Syscall(a) => tally(a),
+        Tree::Join(a, b) => both(of_tree(a), of_tree(b)),
+        Tree::Split(a, b) => both(of_tree(a), of_tree(b)),
+        Tree::Loop(a) => of_tree(a),
+        Tree::Call(a) => of_tree(a),
+        Tree::Syscall(a) => of_tree(a),
     }
 }
 
@@ -86,9 +86,9 @@ fn time(rt: &HostRuntime, case: &str, source: &Bytes) -> io::Result<()> {
     let length = source.len();
     match answer {
         Ok(program) => {
-            let tally = tally(&program.tree);
-            let batches = tally.batches;
-            let sum = tally.sum;
+            let found = of_tree(&program.tree);
+            let batches = found.batches;
+            let sum = found.sum;
             println!(rt; "{case} {micros} {length} tree {batches} {sum}")
         }
         Err(AsmError::Bad { line, column, cause, .. }) => {

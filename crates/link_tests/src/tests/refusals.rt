@@ -33,7 +33,11 @@ static PROGRAMS: [Row; 25] = [
         22,
         AsmCause::Duplicate,
     ),
-    ("proc.f end proc.f exec.f end begin end", 12, AsmCause::Duplicate),
+    (
+        "proc.f end proc.f exec.f end begin end",
+        12,
+        AsmCause::Duplicate,
+    ),
     ("proc.f exec.f end begin end", 8, AsmCause::Recursive),
     (
         "proc.f exec.g end proc.g call.f end begin end",

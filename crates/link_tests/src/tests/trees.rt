@@ -21,7 +21,10 @@ static TWO_BATCHES: [[u64; 8]; 2] = [[145249953336295682; 8], [2, 0, 0, 0, 0, 0,
 
 // Trees by their spans' first groups, joins in brackets. ADD is 37, and two of them are 37 + 128 * 37.
 static TREES: [(&str, &str); 5] = [
-    ("begin add while.true end add add while.true end end", "((37 L0) (4773 L0))"),
+    (
+        "begin add while.true end add add while.true end end",
+        "((37 L0) (4773 L0))",
+    ),
     (
         "begin while.true end while.true add end while.true add add end end",
         "((L0 L37) L4773)",
