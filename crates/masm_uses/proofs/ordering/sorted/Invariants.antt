@@ -1,7 +1,7 @@
 use Rattle.std.proofs.Common.{ℕ, ◌-◌, ◌<◌, length, take, []}
 use Rattle.masm_uses.specs.Graph.{rows_of}
 use Rattle.masm_uses.specs.Sorting.{IsSorting, IsSettled}
-use Rattle.masm_uses.proofs.ordering.order.Given as goal
+use Rattle.masm_uses.proofs.ordering.sorted.Given as goal
 
 abbrev pub invariant-loop-place : goal.invariant-loop-place
 invariant-loop-place l =

@@ -6,7 +6,7 @@ use Rattle.std.specs.List.{Contains}
 use Rattle.masm_uses.specs.Graph.{rows_of}
 use Rattle.masm_uses.specs.Sorting.{waiters, IsSettled}
 use Rattle.masm_uses.proofs.SortLemmas.{IsSettled-grows, IsSettled-fewer, IsSettled-next, IsSorting-take, IsOrder-end, contains_none, seen-low}
-use Rattle.masm_uses.proofs.ordering.order.Goals as goal
+use Rattle.masm_uses.proofs.ordering.sorted.Goals as goal
 
 pub loop-place-preserved : goal.loop-place-preserved
 loop-place-preserved c =
@@ -64,9 +64,15 @@ loop-next-preserved c =
           (c.loop-next.invariant.1 q below),
     )
 
-pub returns : goal.returns
-returns c =
+pub returns-clause-marks : goal.returns-clause-marks
+returns-clause-marks c = c.loop-next.invariant.0.marks
+
+pub returns-clause-behind : goal.returns-clause-behind
+returns-clause-behind c = c.loop-next.invariant.0.behind
+
+pub returns-clause-all : goal.returns-clause-all
+returns-clause-all c = λ acyclic.
     let ended : length c.loop-next.sorter.walk.seen.items ≤ c.loop-next.next = search rules in
     let count = length-map c.args.graph.now (λ vec. vec.items) in
-    IsOrder-end (rows_of c.args.graph.now) _ c.loop-next.next c.requires.graph c.requires.acyclic c.loop-next.invariant.0 ended
+    IsOrder-end (rows_of c.args.graph.now) _ c.loop-next.next c.requires acyclic c.loop-next.invariant.0 ended
     (λ q below. c.loop-next.invariant.1 q (omega arith))
