@@ -3,7 +3,7 @@ use Rattle.std.proofs.Common.{◌≡◌, ℕ, suc, ◌+◌, ◌<◌, List, [], �
 use Rattle.std.proofs.Math.Seq.{drop-cons}
 use Rattle.std.proofs.lemmas.List.{drop_all}
 use Rattle.vm_ops.specs.Codes.{text_of_op}
-use Rattle.miden_app.specs.StripRun.{op_of_row, ops_of, names_of}
+use Rattle.strip_table.specs.Run.{op_of_row, ops_of, names_of}
 
 ops_step : (rows : List (List ℕ)) (i : ℕ) → i + 1 < length rows → ops_of (drop i rows) ≡ op_of_row (get_or rows i []) ∷ ops_of (drop (i + 1) rows)
 ops_step rows i h =

@@ -1,4 +1,4 @@
-pub mod Reading
+pub mod Parts
 pub mod Decoding
 pub mod Cells
 pub mod Faults

@@ -1,7 +1,7 @@
 use Rattle.std.proofs.Common.{sym, ◌∙◌, arith}
 use Rattle.std.proofs.Math.ListN.{length-set}
 use Rattle.strip_table.specs.Grammar.{element_in, row_in}
-use Rattle.strip_table.proofs.Reading.{goes_on_in, stops, ends_in}
+use Rattle.strip_table.proofs.Parts.{goes_on_in, stops, ends_in}
 use Rattle.strip_table.proofs.reading.read_row.Goals as goal
 
 pub returns-in_default : goal.returns-in_default

@@ -1,6 +1,6 @@
 use Rattle.std.proofs.Common.{◌≡◌, take, length}
 use Rattle.strip_table.specs.Grammar.{element_in}
-use Rattle.strip_table.proofs.Reading.{Goes}
+use Rattle.strip_table.proofs.Parts.{Goes}
 use Rattle.strip_table.proofs.reading.read_row.Given as goal
 
 -- what is read so far, with what the rest reads as, is the whole row

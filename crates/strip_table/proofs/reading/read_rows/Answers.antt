@@ -1,6 +1,6 @@
 use Rattle.std.proofs.Common.{◌+◌, ◌∙◌, ap, arith, length-append}
 use Rattle.strip_table.specs.Grammar.{row_in}
-use Rattle.strip_table.proofs.Reading.{goes_on, stops, ends}
+use Rattle.strip_table.proofs.Parts.{goes_on, stops, ends}
 use Rattle.strip_table.proofs.reading.read_rows.Goals as goal
 
 pub returns-in_default-clause-reads : goal.returns-in_default-clause-reads

@@ -1,6 +1,6 @@
 use Rattle.std.proofs.Common.{◌≡◌, length}
 use Rattle.strip_table.specs.Grammar.{row_in}
-use Rattle.strip_table.proofs.Reading.{Goes}
+use Rattle.strip_table.proofs.Parts.{Goes}
 use Rattle.strip_table.proofs.reading.read_rows.Given as goal
 
 -- the rows so far, with those that the rest has, are all rows

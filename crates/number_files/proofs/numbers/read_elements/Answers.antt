@@ -1,6 +1,6 @@
 use Rattle.std.proofs.Common.{◌≡◌, ◌+◌, ◌≤◌, length, sym, subst, ◌∙◌, arith}
-use Rattle.miden_app.proofs.HashReading.{Goes, one_more_fits, goes_on, stops, ends, some_left, none_is_left}
-use Rattle.miden_app.proofs.hash.numbers.read_elements.Goals as goal
+use Rattle.number_files.proofs.Lines.{Goes, one_more_fits, goes_on, stops, ends, some_left, none_is_left}
+use Rattle.number_files.proofs.numbers.read_elements.Goals as goal
 
 pub returns-in_default-clause-gives : goal.returns-in_default-clause-gives
 returns-in_default-clause-gives c =

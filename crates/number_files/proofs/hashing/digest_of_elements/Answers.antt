@@ -1,8 +1,8 @@
 use Rattle.std.proofs.Common.{◌/◌, length, ap, ◌∙◌, arith}
 use Rattle.rpo_hash.specs.Constants.{constants_of}
 use Rattle.vm_field.specs.Sponge.{absorbed, begun, squeezed, hashed}
-use Rattle.miden_app.proofs.HashBlocks.{goes_on, ends}
-use Rattle.miden_app.proofs.hash.command.digest_of_elements.Goals as goal
+use Rattle.number_files.proofs.Blocks.{goes_on, ends}
+use Rattle.number_files.proofs.hashing.digest_of_elements.Goals as goal
 
 pub loop-k-preserved : goal.loop-k-preserved
 loop-k-preserved c = record {

@@ -1,6 +1,6 @@
 use Rattle.std.proofs.Common.{◌≤◌, ◌+◌, length}
-use Rattle.miden_app.proofs.HashReading.{Goes}
-use Rattle.miden_app.proofs.hash.numbers.read_elements.Given as goal
+use Rattle.number_files.proofs.Lines.{Goes}
+use Rattle.number_files.proofs.numbers.read_elements.Given as goal
 
 -- the elements so far, in front of those of the rest, are all elements; each took a line
 abbrev pub invariant-loop-rest : goal.invariant-loop-rest

@@ -1,7 +1,7 @@
 use Rattle.std.proofs.Common.{option_map, sym, ap, ◌∙◌}
 use Rattle.rpo_hash.proofs.TextLines.{one_element-at}
-use Rattle.miden_app.proofs.HashReading.{shorter}
-use Rattle.miden_app.proofs.hash.numbers.read_line.Goals as goal
+use Rattle.number_files.proofs.Lines.{shorter}
+use Rattle.number_files.proofs.numbers.read_line.Goals as goal
 
 pub returns-in_err-line-clause-is : goal.returns-in_err-line-clause-is
 returns-in_err-line-clause-is c = rw c.from_residual.ensures (sym (one_element-at _ _ c.in_err-line.ensures.is))

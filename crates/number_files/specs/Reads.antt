@@ -2,9 +2,9 @@
 use Rattle.std.specs.Prelude.{◌≡◌, ℕ, List, Result, Ok, Err}
 use Rattle.std.specs.declared.vec.Vec.{Vec}
 use Rattle.std.specs.declared.alloc.Global.{Global}
-use Rattle.miden_app.specs.declared.hash.numbers.NumbersError.{NumbersError}
-use Rattle.miden_app.specs.declared.hash.numbers.NumbersStop.{NumbersStop}
-use Rattle.miden_app.specs.declared.hash.numbers.NumbersStop.TheVariants.{Malformed, Memory}
+use Rattle.number_files.specs.declared.numbers.NumbersError.{NumbersError}
+use Rattle.number_files.specs.declared.numbers.NumbersStop.{NumbersStop}
+use Rattle.number_files.specs.declared.numbers.NumbersStop.TheVariants.{Malformed, Memory}
 
 -- the elements, or the line that is wrong; want of memory says nothing
 abbrev pub ReadsNumbers : Result (Vec ℕ Global) NumbersStop → Result (List ℕ) NumbersError → Type 0

@@ -2,8 +2,8 @@ use Rattle.std.proofs.Common.{◌<◌, ◌/◌, length}
 use Rattle.std.specs.Bool.{IsTrue}
 use Rattle.rpo_hash.specs.Constants.{constants_of}
 use Rattle.vm_field.specs.Sponge.{absorbed, begun}
-use Rattle.miden_app.proofs.HashBlocks.{Absorbs}
-use Rattle.miden_app.proofs.hash.command.digest_of_elements.Given as goal
+use Rattle.number_files.proofs.Blocks.{Absorbs}
+use Rattle.number_files.proofs.hashing.digest_of_elements.Given as goal
 
 -- the state so far goes on through the blocks that are left
 abbrev pub invariant-loop-k : goal.invariant-loop-k

@@ -1,7 +1,8 @@
 ghost use Rattle.std.specs.Prelude.{◌≡◌, ◌≤◌, ◌<◌, ◌+◌, ◌-◌, ◌^◌, length, option_map, IfSome, IfOk};
 ghost use Rattle.rpo_hash.specs.ParamText.{one_element};
-ghost use Rattle.miden_app.specs.HashGrammar.{elements_from, is_good_count, numbers_of};
-ghost use Rattle.miden_app.specs.Inside.NumbersRead.{ReadsNumbers};
+ghost use Rattle.number_files.specs.Causes.{text_of_cause};
+ghost use Rattle.number_files.specs.Grammar.{elements_from, is_good_count, numbers_of};
+ghost use Rattle.number_files.specs.Reads.{ReadsNumbers};
 
 use rpo_hash::next_line;
 use std::alloc::{AllocFailed, Global};
@@ -14,6 +15,16 @@ pub enum NumbersCause {
     Number,
     /// It is the line behind the last one, and the number of lines is no good one.
     Count,
+}
+
+/// The cause's name, as it is printed.
+pub fn cause_text(cause: NumbersCause) -> &'static str
+    ensures { result.now ≡ text_of_cause cause }
+{
+    match cause {
+        NumbersCause::Number => "Number",
+        NumbersCause::Count => "Count",
+    }
 }
 
 /// The first line that is wrong.
@@ -36,7 +47,7 @@ pub enum NumbersStop {
 
 impl<T: Drop> From<AllocFailed<T>> for NumbersStop {
     ghost use Rattle.std.specs.Prelude.{◌≡◌};
-    ghost use Rattle.miden_app.specs.declared.hash.numbers.NumbersStop.TheVariants as stop;
+    ghost use Rattle.number_files.specs.declared.numbers.NumbersStop.TheVariants as stop;
 
     ghost from_gives = { λ _ e. e ≡ stop.Memory };
 
@@ -45,7 +56,7 @@ impl<T: Drop> From<AllocFailed<T>> for NumbersStop {
     }
 }
 
-/// The elements that a file of numbers writes.
+/// The elements that a file of numbers writes, or its first line that is wrong.
 pub fn read_numbers(alloc: Global, bytes: &[u8]) -> Result<Vec<Felt>, NumbersStop>
     requires { length bytes.now ≤ 262144 }
     ensures { ReadsNumbers result (numbers_of bytes.now) }

@@ -2,9 +2,9 @@
 use Rattle.std.proofs.Common.{◌≡◌, ℕ, zero, suc, ◌+◌, ◌-◌, ◌<◌, ◌≤◌, ◌==◌, Bool, true, false, cond, option_map, List, [], ◌∷◌, ◌++◌, length, Option, Some, None, Result, Ok, Err, refl, sym, ap, ◌∙◌, arith, append_assoc, append-nil, length-append}
 use Rattle.std.proofs.lemmas.Bool.Decides.{nat_tests}
 use Rattle.rpo_hash.specs.ParamText.{one_line, one_element}
-use Rattle.miden_app.specs.declared.hash.numbers.NumbersCause.TheVariants as cause
-use Rattle.miden_app.specs.declared.hash.numbers.NumbersError.{NumbersError}
-use Rattle.miden_app.specs.HashGrammar.{with_first, one_more, elements_from}
+use Rattle.number_files.specs.declared.numbers.NumbersCause.TheVariants as cause
+use Rattle.number_files.specs.declared.numbers.NumbersError.{NumbersError}
+use Rattle.number_files.specs.Grammar.{with_first, one_more, elements_from}
 
 abbrev Read : Type 0
 Read = Result (List ℕ) NumbersError

@@ -1,6 +1,6 @@
 use Rattle.std.proofs.Common.{◌≡◌, ◌+◌, ◌<◌, ◌++◌, length, codes, ◌∙◌, ap, arith}
 use Rattle.miden_app.proofs.StripLine.{name_more, names_end}
-use Rattle.miden_app.proofs.strip.command.accepted_text.Goals as goal
+use Rattle.miden_app.proofs.strip.accepted_text.Goals as goal
 
 pub loop-i-preserved : goal.loop-i-preserved
 loop-i-preserved c =

@@ -1,5 +1,5 @@
 use Rattle.miden_app.proofs.StripJudging.{accepted_fits}
-use Rattle.miden_app.proofs.strip.command.judge_rows.Goals as goal
+use Rattle.miden_app.proofs.strip.judge_rows.Goals as goal
 
 pub returns-in-None : goal.returns-in-None
 returns-in-None c =

@@ -2,7 +2,7 @@
 use Rattle.std.proofs.Common.{◌≡◌, ℕ, zero, suc, ◌+◌, ◌-◌, ◌*◌, ◌<◌, ◌≤◌, List, take, drop, refl, sym, ap, ◌∙◌, arith}
 use Rattle.std.specs.Prelude.{fold}
 use Rattle.std.proofs.lemmas.List.{drop-drop}
-use Rattle.miden_app.specs.HashGrammar.{blocks_of}
+use Rattle.number_files.specs.Hashing.{blocks_of}
 
 -- the state so far goes on through the blocks that are left to what all blocks give
 abbrev pub Absorbs : (List ℕ → List ℕ → List ℕ) → List ℕ → ℕ → List ℕ → ℕ → List ℕ → Type 0

@@ -1,8 +1,8 @@
 -- The text of the numbers that are hashed (docs/FORMATS.md): lines of one element each, a positive multiple of eight of them.
-use Rattle.std.specs.Prelude.{ℕ, Bool, zero, suc, ◌+◌, ◌%◌, ◌==◌, ◌&&◌, nat_le, if◌then◌else◌, List, [], ◌∷◌, length, take, drop, Option, Some, None, Result, Ok, Err}
+use Rattle.std.specs.Prelude.{ℕ, Bool, zero, suc, ◌+◌, ◌%◌, ◌==◌, ◌&&◌, nat_le, if◌then◌else◌, List, [], ◌∷◌, length, Option, Some, None, Result, Ok, Err}
 use Rattle.rpo_hash.specs.ParamText.{one_element}
-use Rattle.miden_app.specs.declared.hash.numbers.NumbersCause.TheVariants as cause
-use Rattle.miden_app.specs.declared.hash.numbers.NumbersError.{NumbersError}
+use Rattle.number_files.specs.declared.numbers.NumbersCause.TheVariants as cause
+use Rattle.number_files.specs.declared.numbers.NumbersError.{NumbersError}
 
 abbrev pub with_first : ℕ → Result (List ℕ) NumbersError → Result (List ℕ) NumbersError
 with_first element (Ok elements) = Ok (element ∷ elements)
@@ -30,8 +30,3 @@ counted (Err e) = Err e
 -- the elements that a text writes, or what is wrong with it; a line has at least one byte
 abbrev pub numbers_of : List ℕ → Result (List ℕ) NumbersError
 numbers_of bytes = counted (elements_from (length bytes) 1 bytes)
-
--- k blocks of eight
-unfoldable pub blocks_of : ℕ → List ℕ → List (List ℕ)
-blocks_of zero elements = []
-blocks_of (suc k) elements = take 8 elements ∷ blocks_of k (drop 8 elements)

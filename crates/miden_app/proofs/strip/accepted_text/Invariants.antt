@@ -1,6 +1,6 @@
 use Rattle.std.proofs.Common.{◌≡◌, ◌++◌, codes, drop}
-use Rattle.miden_app.specs.StripRun.{ops_of, names_of}
-use Rattle.miden_app.proofs.strip.command.accepted_text.Given as goal
+use Rattle.strip_table.specs.Run.{ops_of, names_of}
+use Rattle.miden_app.proofs.strip.accepted_text.Given as goal
 
 -- the line so far, with the names that are left, is the line of all
 abbrev pub invariant-loop-i : goal.invariant-loop-i
