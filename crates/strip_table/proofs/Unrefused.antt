@@ -4,7 +4,6 @@ use Rattle.std.specs.List.{AllByRecursion}
 use Rattle.std.proofs.lemmas.Bool.{cases_Bool, eqb-true}
 use Rattle.strip_table.specs.Values.{values_at, first_fault_of, head_of, refused_at, first_refused, IsZero, IsAccepted}
 use Rattle.strip_table.specs.Law.{UnrefusedStripsAreAccepted}
-use Rattle.strip_table.proofs.RunLaw.{accepted_strips_run}
 
 no_pair : (x : ℕ × ℕ) → Some x ≡ None → ⊥
 no_pair x h = cc
@@ -40,5 +39,3 @@ no_refusal-accepted i (row ∷ rows) ok =
 
 pub unrefused_strips_are_accepted : UnrefusedStripsAreAccepted
 unrefused_strips_are_accepted rows = (accepted-no_refusal 0 rows, no_refusal-accepted 0 rows)
-
-pub ruleset strip_laws = (unrefused_strips_are_accepted, accepted_strips_run)

@@ -2,7 +2,6 @@ ghost use Rattle.strip_table.specs.Law.{AcceptedStripsRun, UnrefusedStripsAreAcc
 
 /// A strip of which no place is refused is accepted: each value of its rows is 0. Then the
 /// operations of its rows, run one after another, lead from the first row's cells to the last row's.
-#[tactic(auto, using(crate::proofs::Unrefused::strip_laws))]
 pub fn strip_laws()
     ensures accepted { UnrefusedStripsAreAccepted }
     ensures run { AcceptedStripsRun }
