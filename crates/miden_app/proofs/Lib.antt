@@ -3,5 +3,4 @@ pub mod SourceLemmas
 pub mod ServingLemmas
 pub mod PrintingLemmas
 pub mod LawLemmas
-pub mod StripLine
 pub mod StripJudging

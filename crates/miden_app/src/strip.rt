@@ -1,6 +1,5 @@
 // `check` of a strip: the operations that its rows run, or the least place that is refused.
-ghost use Rattle.std.specs.Prelude.{◌≡◌, ◌≤◌, ◌^◌, ◌++◌, ◌∷◌, length, IfOk, OnOk, Some};
-ghost use Rattle.vm_ops.specs.Codes.{text_of_op};
+ghost use Rattle.std.specs.Prelude.{◌≡◌, ◌≤◌, ◌^◌, length, IfOk, Some};
 ghost use Rattle.miden_app.specs.Steps.{strip};
 ghost use Rattle.miden_app.specs.Commands.{check_steps};
 ghost use Rattle.miden_app.specs.Inside.Outcomes.{ComesTo, EndsIn};
@@ -12,10 +11,9 @@ use crate::loading::load;
 use crate::outcome::{Outcome, answered, named_answer};
 use crate::status::Status;
 use std::alloc::Global;
-use strip_table::{Refusal, StripError, first_refusal, op_at, read_strip};
+use strip_table::{Refusal, StripError, append_ops, first_refusal, read_strip};
 use vm_field::{Bytes, Memory};
 use vm_io::Shelf;
-use vm_ops::{Op, text};
 use vm_table::Table;
 
 /// The longest file of a table, in bytes.
@@ -78,17 +76,7 @@ fn accepted_text(alloc: Global, table: &Table<23>) -> Result<Bytes, Memory>
     ensures { IfOk result (λ line. line ≡ accepted_line table.now) }
 {
     let mut line = Bytes::copied(alloc, b"accepted")?;
-    let count = table.rows();
-    for i in 0..count - 1 {
-        append_op(&mut line, op_at(table, i))?;
-    }
+    append_ops(&mut line, table)?;
     line.append(b"\n")?;
     Ok(line)
-}
-
-fn append_op(line: &mut Bytes, op: Op) -> Result<(), Memory>
-    ensures { OnOk result (line.new ≡ line.old ++ 32 ∷ text_of_op op) }
-{
-    line.push(b' ')?;
-    line.append(text(op).as_bytes())
 }

@@ -6,3 +6,4 @@ pub mod Moves
 pub mod Accepted
 pub mod RunLaw
 pub mod Unrefused
+pub mod Line

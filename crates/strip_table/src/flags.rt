@@ -1,11 +1,10 @@
-ghost use Rattle.std.specs.Prelude.{◌≡◌, ◌<◌, ◌≤◌, ◌^◌, [], length, slice_index_or, IfSome};
+ghost use Rattle.std.specs.Prelude.{◌≡◌, ◌<◌, ◌≤◌, ◌^◌, length, IfSome};
 ghost use Rattle.vm_ops.specs.Codes.{code_of};
 ghost use Rattle.strip_table.specs.Flags.{bits, flag_by, flags, spelled, op_among, decoded};
-ghost use Rattle.strip_table.specs.Run.{op_of_row};
 
 use vm_field::Felt;
 use vm_ops::{Op, opcode};
-use vm_table::{Table, View};
+use vm_table::View;
 
 /// The operations of a strip.
 pub const STRIP_OPS: [Op; 7] = [
@@ -111,14 +110,4 @@ fn op_with(ops: &[Op], code: u8) -> Option<Op>
             }
         }
     }
-}
-
-/// The operation of row i, NOOP where its bits spell none.
-#[tactic(auto, unfolding(crate::specs::Run::op_of_row))]
-pub fn op_at(table: &Table<23>, i: usize) -> Op
-    requires { i < length table.now }
-    ensures { result ≡ op_of_row (slice_index_or table.now i []) }
-{
-    let row = table.row(i);
-    decode(&bits_of(&row)).unwrap_or(Op::Noop)
 }

@@ -4,10 +4,11 @@
 
 mod flags;
 mod laws;
+mod ops;
 mod reading;
 mod values;
 
-pub use flags::op_at;
 pub use laws::strip_laws;
+pub use ops::append_ops;
 pub use reading::{StripError, read_strip};
 pub use values::{Refusal, first_refusal};

@@ -1,6 +1,6 @@
-use Rattle.std.proofs.Common.{◌≡◌, ◌+◌, ◌<◌, ◌++◌, length, codes, ◌∙◌, ap, arith}
-use Rattle.miden_app.proofs.StripLine.{name_more, names_end}
-use Rattle.miden_app.proofs.strip.accepted_text.Goals as goal
+use Rattle.std.proofs.Common.{◌≡◌, ◌+◌, ◌<◌, length, arith}
+use Rattle.strip_table.proofs.Line.{name_more, names_end}
+use Rattle.strip_table.proofs.ops.append_ops.Goals as goal
 
 pub loop-i-preserved : goal.loop-i-preserved
 loop-i-preserved c =
@@ -10,4 +10,4 @@ loop-i-preserved c =
 pub returns : goal.returns
 returns c =
     let last : c.loop-i.i + 1 ≡ length c.args.table.now = omega arith in
-    c.in_ok-append.ensures.ok ∙ ap (λ line. line ++ codes "\n") (names_end c.args.table.now c.loop-i.i _ _ last c.loop-i.invariant)
+    names_end c.args.table.now c.loop-i.i _ _ last c.loop-i.invariant
