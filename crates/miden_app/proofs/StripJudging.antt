@@ -1,5 +1,5 @@
 -- A strip with no refusal is accepted, and is the run that is printed.
-use Rattle.std.proofs.Common.{◌≡◌, ◌≢◌, ℕ, ◌+◌, ◌≤◌, eqb, List, [], ◌∷◌, length, Option, Some, None, Result, refl, sym, ap, subst, inl, inr, arith}
+use Rattle.std.proofs.Common.{◌≡◌, ◌≢◌, ℕ, ◌≤◌, List, [], length, Some, None, Result, refl, sym, ap, subst, inl, arith}
 use Rattle.std.specs.Result.{IfOk}
 use Rattle.vm_field.specs.declared.refusal.Memory.{Memory}
 use Rattle.vm_table.specs.Layout.{IsTable}
