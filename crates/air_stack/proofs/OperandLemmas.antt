@@ -52,9 +52,13 @@ pair_off entry x (Some y) off = off y
 pub no_fault : (p : Spot) → HasNoOperands (flag p.cur) → first_fault_of 135 (operand_values p) ≡ None
 unfolding operand_values
 no_fault p n =
-    rw (pair_off entry_135 p.cur p.next (λ y. off_135 (flag p.cur) (flag y) p.cur y n),
-      pair_off entry_136 p.cur p.next (λ y. off_136 (flag p.cur) (flag y) p.cur y n), off_137 (flag p.cur) p.cur n,
-      off_138 (flag p.cur) p.cur n, off_139 (flag p.cur) p.cur n)
+    rw (
+      pair_off entry_135 p.cur p.next (λ y. off_135 (flag p.cur) (flag y) p.cur y n),
+      pair_off entry_136 p.cur p.next (λ y. off_136 (flag p.cur) (flag y) p.cur y n),
+      off_137 (flag p.cur) p.cur n,
+      off_138 (flag p.cur) p.cur n,
+      off_139 (flag p.cur) p.cur n,
+    )
     refl
 
 pub not_so : (test holds : Bool) → test ≡ holds → IsTrue (not test) → holds ≡ false
