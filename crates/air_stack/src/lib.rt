@@ -6,5 +6,7 @@ mod depth;
 mod fault;
 mod moves;
 mod operands;
+#[cfg(test)]
+mod tests;
 
 pub use fault::first_fault;

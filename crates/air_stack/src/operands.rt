@@ -1,8 +1,8 @@
-ghost use Rattle.std.specs.Prelude.{◌≡◌, option_map};
+ghost use Rattle.std.specs.Prelude.{◌≡◌, IsTrue, option_map};
 ghost use Rattle.air_kit.specs.Flags.{flag};
 ghost use Rattle.air_kit.specs.Places.{between, first_fault_of};
 ghost use Rattle.air_kit.specs.StackValues.{entry_135, entry_136, entry_137, entry_138, entry_139, operand_values};
-ghost use Rattle.air_stack.specs.Parts.{spot_of};
+ghost use Rattle.air_stack.specs.Parts.{has_operands, HasNoOperands, spot_of};
 
 use air_kit::{Seen, first_nonzero};
 use vm_field::Felt;
@@ -14,6 +14,9 @@ use vm_table::MainView;
 pub(crate) fn operand_fault<V: MainView>(x: &Seen<'_, V>, next: &Option<V>) -> Option<(u16, Felt)>
     ensures { result ≡ first_fault_of 135 (operand_values (spot_of (V.cells x.now.row.now) (option_map V.cells next.now))) }
 {
+    if lacks_operands(x) {
+        return None;
+    }
     let values = [
         entry_135(x, next),
         entry_136(x, next),
@@ -22,6 +25,26 @@ pub(crate) fn operand_fault<V: MainView>(x: &Seen<'_, V>, next: &Option<V>) -> O
         entry_139(x),
     ];
     first_nonzero(&values, 135)
+}
+
+// Whether the row's operation has no operand that is tested, where these entries are 0.
+fn lacks_operands<V: MainView>(x: &Seen<'_, V>) -> bool
+    ensures { IsTrue result → HasNoOperands (flag (V.cells x.now.row.now)) }
+{
+    match x.operation() {
+        Some(op) => !has_operands(op),
+        None => false,
+    }
+}
+
+// The operations whose operands are tested.
+fn has_operands(op: Op) -> bool
+    ensures { result ≡ has_operands op }
+{
+    matches!(
+        op,
+        Op::Eqz | Op::Eq | Op::Not | Op::And | Op::Or | Op::CSwap | Op::CSwapW | Op::Assert
+    )
 }
 
 // EQZ leaves 0 where the cell is not 0.

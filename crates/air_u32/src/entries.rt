@@ -1,8 +1,9 @@
-ghost use Rattle.std.specs.Prelude.{◌≡◌, ◌<◌, option_map};
+ghost use Rattle.std.specs.Prelude.{◌≡◌, ◌<◌, IsTrue, option_map};
 ghost use Rattle.air_kit.specs.Flags.{flag};
 ghost use Rattle.air_kit.specs.Places.{between, first_fault_of};
 ghost use Rattle.air_kit.specs.Rows.{spot_at};
 ghost use Rattle.air_kit.specs.U32Values.{limbs, takes_two, takes_three, two_left, entry_140, entry_141, entry_142, entry_143, entry_144, entry_145, entry_146, entry_147, u32_values};
+ghost use Rattle.air_u32.specs.Limbs.{has_limbs, HasNoLimbs};
 
 use air_kit::{Place, Seen, first_nonzero};
 use vm_field::Felt;
@@ -15,6 +16,9 @@ pub fn first_fault<V: MainView>(place: &Place<'_, V>) -> Option<(u16, Felt)>
     ensures { result ≡ first_fault_of 140 (u32_values (spot_at V.cells place.now)) }
 {
     let x = Seen::of(&place.cur);
+    if lacks_limbs(&x) {
+        return None;
+    }
     let values = [
         entry_140(&x),
         entry_141(&x),
@@ -26,6 +30,33 @@ pub fn first_fault<V: MainView>(place: &Place<'_, V>) -> Option<(u16, Felt)>
         entry_147(&x),
     ];
     first_nonzero(&values, 140)
+}
+
+// Whether the row's operation is one without limbs, where all entries are 0.
+fn lacks_limbs<V: MainView>(x: &Seen<'_, V>) -> bool
+    ensures { IsTrue result → HasNoLimbs (flag (V.cells x.now.row.now)) }
+{
+    match x.operation() {
+        Some(op) => !has_limbs(op),
+        None => false,
+    }
+}
+
+// The operations with limbs.
+fn has_limbs(op: Op) -> bool
+    ensures { result ≡ has_limbs op }
+{
+    matches!(
+        op,
+        Op::U32Split
+            | Op::U32Add
+            | Op::U32Sub
+            | Op::U32Mul
+            | Op::U32Div
+            | Op::U32Assert2
+            | Op::U32Add3
+            | Op::U32MAdd
+    )
 }
 
 // The number of the limbs j and j + 1.

@@ -2,5 +2,7 @@
 #![tactic(auto)]
 
 mod entries;
+#[cfg(test)]
+mod tests;
 
 pub use entries::first_fault;
