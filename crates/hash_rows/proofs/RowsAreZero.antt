@@ -16,7 +16,7 @@ use Rattle.air_kit.specs.Places.{Claim, at_number, family}
 use Rattle.air_kit.specs.HasherValues.{begins_at_zero, bit_value, hasher_flag_values, chain_values, round_values, hasher_values, hasher_values_by}
 use Rattle.air_kit.specs.Requests.{FollowsOn}
 use Rattle.hash_rows.specs.PermRows.{bit_number, perm_row, rows_before, rows_of, perm_of, perms_in}
-use Rattle.hash_rows.specs.HashTables.{IsZero, Fit, ShowsPerms}
+use Rattle.hash_rows.specs.HashTables.{IsZero, Fit}
 use Rattle.hash_rows.proofs.RowLemmas.{state_is, state-IsState, zero_cons, zeros_at}
 use Rattle.hash_rows.proofs.ZeroLemmas.{AllZero, CellsBelow}
 use Rattle.hash_rows.proofs.BlockLemmas.{EightZero, ZeroFrom, first_of, zero_behind}
@@ -368,10 +368,3 @@ rows_are_zero c perms len fit = record {
 
     row_none : (k : ℕ) → k ≡ 8 * 0 + k
     row_none k = omega arith
-
-pub rows_show : (c : Claim) (perms : List Perm) → length c.constants ≡ 168 → Fit c.constants perms → ShowsPerms c perms (rows_of c.constants perms)
-rows_show c perms len fit = record {
-  size = rows_of-size c.constants perms;
-  zero = rows_are_zero c perms len fit;
-  perms_are = perms_again c.constants perms len fit.states;
-}

@@ -13,7 +13,7 @@ use Rattle.air_kit.specs.Places.{Claim, at_number}
 use Rattle.air_kit.specs.HasherValues.{hasher_values}
 use Rattle.air_kit.specs.Requests.{FollowsOn}
 use Rattle.hash_rows.specs.PermRows.{bit_number, perm_row, rows_before, rows_of, perm_of, perms_in}
-use Rattle.hash_rows.specs.HashTables.{IsZero, Fit, AreRows}
+use Rattle.hash_rows.specs.HashTables.{IsZero, Fit}
 use Rattle.hash_rows.proofs.RowLemmas.{row_is, state-IsState, bit_is}
 use Rattle.hash_rows.proofs.ZeroLemmas.{CellsBelow, GoesOn, goes_on, Begins, begins, Ends, ends, LinkedTo}
 use Rattle.hash_rows.proofs.BlockLemmas.{EightZero, ZeroFrom, eight, first_of, zero_from}
@@ -251,14 +251,20 @@ first_links constants _ len t z = absurd z
 row_none : (k : ℕ) → 8 * 0 + k ≡ k
 row_none k = omega arith
 
-pub zeros_are_rows : (c : Claim) (rows : List (List ℕ)) → length c.constants ≡ 168 → IsZero c rows → AreRows c.constants rows
-zeros_are_rows c rows len z = record {
-  fit = record {
-    follows = follows c.constants true false [] rows len z.table zero_is (first_links c.constants rows len z.table zero_is);
-    states = states rows z.table;
-  };
-  rows_are = rows_are c.constants true rows len z.table zero_is;
+-- ---- the whole table
+
+zero_is : (c : Claim) (rows : List (List ℕ)) → IsZero c rows → ZeroFrom c.constants true rows
+zero_is c rows z =
+    zero_from c 0 rows z.whole
+    (λ k n h. ap (λ row. at_number (hasher_values c (record { row = row; cur = slice_index_or rows k []; next = slice_get rows (suc k) })) n) (row_none k)
+    ∙ z.zero k n h)
+
+pub fit_of : (c : Claim) (rows : List (List ℕ)) → length c.constants ≡ 168 → IsZero c rows → Fit c.constants (perms_in rows)
+fit_of c rows len z = record {
+  follows =
+      follows c.constants true false [] rows len z.table (zero_is c rows z) (first_links c.constants rows len z.table (zero_is c rows z));
+  states = states rows z.table;
 }
-  where
-    zero_is : ZeroFrom c.constants true rows
-    zero_is = zero_from c 0 rows z.whole (λ k n h. ap (λ row. at_number (hasher_values c (record { row = row; cur = slice_index_or rows k []; next = slice_get rows (suc k) })) n) (row_none k) ∙ z.zero k n h)
+
+pub are_rows : (c : Claim) (rows : List (List ℕ)) → length c.constants ≡ 168 → IsZero c rows → rows ≡ rows_of c.constants (perms_in rows)
+are_rows c rows len z = rows_are c.constants true rows len z.table (zero_is c rows z)
