@@ -38,9 +38,9 @@ missed false n e is = is
 once_same : (t u : List ℕ) → 0 < counted (once t ∷ []) u → u ≡ t
 unfolding counted
 once_same t u h = elim (cases_Bool (pointwise nat_eq t u)) [
-    | inl is ↦ sym (same_text t u (sym is))
-    | inr not ↦ absurd (let e = missed (pointwise nat_eq t u) (counted (once t ∷ []) u) not refl in omega (arith, e, h))
-  ]
+  | inl is ↦ sym (same_text t u (sym is))
+  | inr not ↦ absurd (let e = missed (pointwise nat_eq t u) (counted (once t ∷ []) u) not refl in omega (arith, e, h))
+]
 
 once_counts : (t u : List ℕ) → counted (once t ∷ []) u ≤ 1
 unfolding counted
@@ -51,7 +51,7 @@ none_counts u = omega (arith, counted-none u)
 
 begins_from : (a : ℕ) (p : Perm) (m c : Bool) (u : List ℕ) → p.mode ≡ m → p.cont ≡ c
     → 0 < counted (if m then once (4 ∷ a ∷ p.start) ∷ []
-        else if c then once (2 ∷ a ∷ drop 4 p.start) ∷ [] else once (1 ∷ a ∷ slice_index p.start 1 ∷ drop 4 p.start) ∷ []) u
+    else if c then once (2 ∷ a ∷ drop 4 p.start) ∷ [] else once (1 ∷ a ∷ slice_index p.start 1 ∷ drop 4 p.start) ∷ []) u
     → BeginsAs a p u
 begins_from a p true c u em ec h = enters em (once_same _ u h)
 begins_from a p false true u em ec h = goes_on em ec (once_same _ u h)
@@ -59,7 +59,7 @@ begins_from a p false false u em ec h = opens em ec (once_same _ u h)
 
 ends_from : (constants : List ℕ) (a : ℕ) (p : Perm) (m e : Bool) (u : List ℕ) → p.mode ≡ m → p.more ≡ e
     → 0 < counted (if m then once (5 ∷ a ∷ permuted constants p.start) ∷ []
-        else if e then [] else once (3 ∷ a ∷ take 4 (drop 4 (permuted constants p.start))) ∷ []) u
+    else if e then [] else once (3 ∷ a ∷ take 4 (drop 4 (permuted constants p.start))) ∷ []) u
     → EndsAs constants a p u
 ends_from constants a p true e u em ee h = leaves em (once_same _ u h)
 ends_from constants a p false true u em ee h = absurd (omega (arith, counted-none u, h))
@@ -67,20 +67,20 @@ ends_from constants a p false false u em ee h = closes em ee (once_same _ u h)
 
 begins_most : (a : ℕ) (p : Perm) (m c : Bool) (u : List ℕ)
     → counted (if m then once (4 ∷ a ∷ p.start) ∷ []
-        else if c then once (2 ∷ a ∷ drop 4 p.start) ∷ [] else once (1 ∷ a ∷ slice_index p.start 1 ∷ drop 4 p.start) ∷ []) u ≤ 1
+    else if c then once (2 ∷ a ∷ drop 4 p.start) ∷ [] else once (1 ∷ a ∷ slice_index p.start 1 ∷ drop 4 p.start) ∷ []) u ≤ 1
 begins_most a p true c u = once_counts _ u
 begins_most a p false true u = once_counts _ u
 begins_most a p false false u = once_counts _ u
 
 ends_most : (constants : List ℕ) (a : ℕ) (p : Perm) (m e : Bool) (u : List ℕ)
     → counted (if m then once (5 ∷ a ∷ permuted constants p.start) ∷ []
-        else if e then [] else once (3 ∷ a ∷ take 4 (drop 4 (permuted constants p.start))) ∷ []) u ≤ 1
+    else if e then [] else once (3 ∷ a ∷ take 4 (drop 4 (permuted constants p.start))) ∷ []) u ≤ 1
 ends_most constants a p true e u = once_counts _ u
 ends_most constants a p false true u = none_counts u
 ends_most constants a p false false u = once_counts _ u
 
 -- the counts of the first permutation and of those behind it
-head_is : (constants : List ℕ) (a : ℕ) (p : Perm) (perms : List Perm) (u : List ℕ)
+pub head_is : (constants : List ℕ) (a : ℕ) (p : Perm) (perms : List Perm) (u : List ℕ)
     → counted (perms_given constants a (p ∷ perms)) u
     ≡ counted (perm_begins a p) u + (counted (perm_ends constants (a + 7) p) u + counted (perms_given constants (a + 8) perms) u)
 unfolding perms_given
@@ -99,12 +99,12 @@ unfolding IsGivenBy perms_given
 given_by_one constants a [] u h = omega (arith, counted-none u, h)
 given_by_one constants a (p ∷ perms) u h =
     elim (one_of_three (counted (perm_begins a p) u) (counted (perm_ends constants (a + 7) p) u) (counted (perms_given constants (a + 8) perms) u)
-        (let e = head_is constants a p perms u in omega (arith, e, h))) [
+    (let e = head_is constants a p perms u in omega (arith, e, h))) [
       | inl k ↦ inl (begins_from a p p.mode p.cont u refl refl k)
       | inr later ↦ inr (elim later [
-          | inl k ↦ inl (ends_from constants (a + 7) p p.mode p.more u refl refl k)
-          | inr k ↦ inr (given_by_one constants (a + 8) perms u k)
-        ])
+        | inl k ↦ inl (ends_from constants (a + 7) p p.mode p.more u refl refl k)
+        | inr k ↦ inr (given_by_one constants (a + 8) perms u k)
+      ])
     ]
 
 -- ---- addresses
@@ -180,10 +180,10 @@ unfolding perms_given
 given-once constants a [] u = none_counts u
 given-once constants a (p ∷ perms) u =
     let whole = at_most (counted (perm_begins a p) u) (counted (perm_ends constants (a + 7) p) u) (counted (perms_given constants (a + 8) perms) u)
-            (begins_most a p p.mode p.cont u) (ends_most constants (a + 7) p p.mode p.more u) (given-once constants (a + 8) perms u)
-            (λ k l. let e = begun k in let f = ended l in omega (arith, e, f))
-            (λ k m. let e = begun k in let f = behind m in omega (arith, e, f))
-            (λ l m. let e = ended l in let f = behind m in omega (arith, e, f)) in
+    (begins_most a p p.mode p.cont u) (ends_most constants (a + 7) p p.mode p.more u) (given-once constants (a + 8) perms u)
+    (λ k l. let e = begun k in let f = ended l in omega (arith, e, f))
+    (λ k m. let e = begun k in let f = behind m in omega (arith, e, f))
+    (λ l m. let e = ended l in let f = behind m in omega (arith, e, f)) in
     let e = head_is constants a p perms u in omega (arith, e, whole)
   where
     begun : 0 < counted (perm_begins a p) u → address_of u ≡ a

@@ -10,3 +10,4 @@ pub mod Given
 pub mod MeaningLemmas
 pub mod RowMeaning
 pub mod TableMeaning
+pub mod InputLemmas

@@ -92,7 +92,7 @@ none_by : (constants : List ℕ) (a : ℕ) (u : List ℕ) → IsGivenBy constant
 unfolding IsGivenBy
 none_by constants a u g = g
 
-joined : (n : ℕ) (xs : List ℕ) → take n xs ++ drop n xs ≡ xs
+pub joined : (n : ℕ) (xs : List ℕ) → take n xs ++ drop n xs ≡ xs
 joined zero xs = refl
 joined (suc n) [] = refl
 joined (suc n) (x ∷ xs) = ap (λ (ys : List ℕ). x ∷ ys) (joined n xs)
@@ -111,12 +111,13 @@ chain constants a p (q ∷ rest) (block ∷ blocks) digest f g =
     let c = goes_on-head constants (a + 8) q rest block (later_by constants a p (q ∷ rest) (2 ∷ (a + 8) ∷ block) (omega arith) g.0) in
     let h = chain constants (a + 8) q rest blocks digest f.4 (later_on constants a p (q ∷ rest) (a + 8) blocks digest (omega arith) g.1) in
     let same : take 4 (permuted constants p.start) ++ block ≡ q.start =
-            ap₂ (λ (xs ys : List ℕ). xs ++ ys) (sym (f.2 c.0)) c.1 ∙ joined 4 q.start in
-    (ap (λ b. drop 4 p.start ∷ (if b then blocks_in (q ∷ rest) else [])) (sym f.0 ∙ c.0)
-    ∙ ap (λ (bs : List (List ℕ)). drop 4 p.start ∷ bs) (h.0 ∙ ap (λ (b : List ℕ). b ∷ blocks) (sym c.1)),
-    h.1 ∙ ap (λ s. squeezed (sponge_after constants (permuted constants s) blocks)) (sym same))
+    ap₂ (λ (xs ys : List ℕ). xs ++ ys) (sym (f.2 c.0)) c.1 ∙ joined 4 q.start in (
+      ap (λ b. drop 4 p.start ∷ (if b then blocks_in (q ∷ rest) else [])) (sym f.0 ∙ c.0)
+          ∙ ap (λ (bs : List (List ℕ)). drop 4 p.start ∷ bs) (h.0 ∙ ap (λ (b : List ℕ). b ∷ blocks) (sym c.1)),
+      h.1 ∙ ap (λ s. squeezed (sponge_after constants (permuted constants s) blocks)) (sym same),
+    )
 
-start_is : (s : List ℕ) → length s ≡ 12 → slice_index s 0 ≡ 0 → slice_index s 2 ≡ 0 → slice_index s 3 ≡ 0
+pub start_is : (s : List ℕ) → length s ≡ 12 → slice_index s 0 ≡ 0 → slice_index s 2 ≡ 0 → slice_index s 3 ≡ 0
     → 0 ∷ slice_index s 1 ∷ 0 ∷ 0 ∷ drop 4 s ≡ s
 start_is (a ∷ b ∷ c ∷ d ∷ s) len e0 e2 e3 = cc
 start_is _ len e0 e2 e3 = absurd (omega arith)
@@ -146,7 +147,7 @@ opened constants a p rest domain block blocks digest s m c zeros f e g =
     let t : block ≡ drop 4 p.start = ap (drop 1) e in
     let z = zeros m c in
     let same : 0 ∷ domain ∷ 0 ∷ 0 ∷ block ≡ p.start =
-            ap₂ (λ (n : ℕ) (xs : List ℕ). 0 ∷ n ∷ 0 ∷ 0 ∷ xs) d t ∙ start_is p.start s.size z.0 z.1 z.2 in
+    ap₂ (λ (n : ℕ) (xs : List ℕ). 0 ∷ n ∷ 0 ∷ 0 ∷ xs) d t ∙ start_is p.start s.size z.0 z.1 z.2 in
     record {
       number = 0;
       at = omega arith;

@@ -127,7 +127,7 @@ round_none constants row next = refl
 flags_inside : (constants : List ℕ) (first begins : Bool) (p : Perm) (k : ℕ) (going : Bool)
     → (first ≡ true → p.cont ≡ false) → (p.mode ≡ true → p.cont ≡ false)
     → (begins ≡ true → p.mode ≡ false → p.cont ≡ false
-        → (x (perm_row constants p k false) 0 ≡ 0) × (x (perm_row constants p k false) 2 ≡ 0) × (x (perm_row constants p k false) 3 ≡ 0))
+    → (x (perm_row constants p k false) 0 ≡ 0) × (x (perm_row constants p k false) 2 ≡ 0) × (x (perm_row constants p k false) 3 ≡ 0))
     → hasher_flag_values first begins true false (perm_row constants p k false) (Some (perm_row constants p (suc k) going)) ≡ replicate 13 0
 unfolding hasher_flag_values perm_row
 flags_inside constants first begins p k going no_first no_cont zeros =
@@ -144,7 +144,7 @@ flags_inside constants first begins p k going no_first no_cont zeros =
 inside_zero : (constants : List ℕ) (first begins : Bool) (p : Perm) (k : ℕ) (going : Bool) → length constants ≡ 168 → k < 7 → IsState p.start
     → (first ≡ true → p.cont ≡ false) → (p.mode ≡ true → p.cont ≡ false)
     → (begins ≡ true → p.mode ≡ false → p.cont ≡ false
-        → (x (perm_row constants p k false) 0 ≡ 0) × (x (perm_row constants p k false) 2 ≡ 0) × (x (perm_row constants p k false) 3 ≡ 0))
+    → (x (perm_row constants p k false) 0 ≡ 0) × (x (perm_row constants p k false) 2 ≡ 0) × (x (perm_row constants p k false) 3 ≡ 0))
     → AllZero (hasher_values_by first begins true false (round_constants constants k) (perm_row constants p k false) (Some (perm_row constants p (suc k) going)))
 inside_zero constants first begins p k going len h s no_first no_cont zeros =
     joined_zero first begins true false (round_constants constants k) cur (Some next) flags chain
@@ -275,10 +275,11 @@ next_links : (constants : List ℕ) (going : Bool) (last : List ℕ) (perms : Li
     → FollowsOn constants going last perms → LinksTo going last (first_of (rows_of constants perms))
 unfolding LinksTo rows_of rows_before
 next_links constants going last [] len s f = f
-next_links constants going last (p ∷ perms) len s f =
-    (perm_row-cont constants p 0 false ∙ ap bit_number f.0,
-    λ on. ap (take 4) (row_state constants p 0 false len (omega arith) (All-head (λ p. IsState p.start) p perms s) ∙ rounds-none constants p.start)
-    ∙ f.2 (f.0 ∙ on))
+next_links constants going last (p ∷ perms) len s f = (
+  perm_row-cont constants p 0 false ∙ ap bit_number f.0,
+  λ on. ap (take 4) (row_state constants p 0 false len (omega arith) (All-head (λ p. IsState p.start) p perms s) ∙ rounds-none constants p.start)
+      ∙ f.2 (f.0 ∙ on),
+)
 
 rows_zero : (constants : List ℕ) (first going : Bool) (last : List ℕ) (perms : List Perm) → length constants ≡ 168 → All (λ p. IsState p.start) perms
     → FollowsOn constants going last perms → (first ≡ true → going ≡ false) → ZeroFrom constants first (rows_of constants perms)
@@ -286,7 +287,7 @@ unfolding ZeroFrom rows_of rows_before
 rows_zero constants first going last [] len s f no_first = tt
 rows_zero constants first going last (p ∷ perms) len s f no_first = (
   block_zero constants first p (first_of (rows_of constants perms)) len (All-head (λ p. IsState p.start) p perms s) (λ on. f.0 ∙ no_first on)
-  f.1 f.3 (next_links constants p.more (permuted constants p.start) perms len (All-tail (λ p. IsState p.start) p perms s) f.4),
+      f.1 f.3 (next_links constants p.more (permuted constants p.start) perms len (All-tail (λ p. IsState p.start) p perms s) f.4),
   rows_zero constants false p.more (permuted constants p.start) perms len (All-tail (λ p. IsState p.start) p perms s) f.4 (λ e. absurd (cc)),
 )
 

@@ -213,14 +213,17 @@ unfolding ZeroFrom perms_in perm_of LinksTo state
 follows constants first going last [] len t z l = l
 follows constants first going last (r0 ∷ r1 ∷ r2 ∷ r3 ∷ r4 ∷ r5 ∷ r6 ∷ r7 ∷ rows) len t z l =
     let rest = table_rest r0 r1 r2 r3 r4 r5 r6 r7 rows t in
-    let b = block_shows constants first r0 r1 r2 r3 r4 r5 r6 r7 (first_of rows) len (table_eight r0 r1 r2 r3 r4 r5 r6 r7 rows t) (table_next rows rest) z.0 in
-    (cont_linked going last r0 l,
-    λ is. (ap (λ n. n == 1) (b.starts.no_hash (eqb-true (mode r0) 1 is)),
-      ap (λ n. n == 1) (b.stops.no_hash (b.mode_same ∙ eqb-true (mode r0) 1 is))),
-    λ is. capacity_linked going last r0 l (sym (cont_linked going last r0 l) ∙ is),
-    λ m c. b.starts.zeros (zero_bit (mode r0) b.starts.mode_bit m) (zero_bit (cont r0) b.starts.cont_bit c),
-    follows constants false (more r7 == 1) (permuted constants (state r0)) rows len rest z.1
-    (links r7 (permuted constants (state r0)) (first_of rows) b.stops.more_bit b.behind b.stops.linked))
+    let b = block_shows constants first r0 r1 r2 r3 r4 r5 r6 r7 (first_of rows) len (table_eight r0 r1 r2 r3 r4 r5 r6 r7 rows t) (table_next rows rest) z.0 in (
+      cont_linked going last r0 l,
+      λ is. (
+        ap (λ n. n == 1) (b.starts.no_hash (eqb-true (mode r0) 1 is)),
+        ap (λ n. n == 1) (b.stops.no_hash (b.mode_same ∙ eqb-true (mode r0) 1 is)),
+      ),
+      λ is. capacity_linked going last r0 l (sym (cont_linked going last r0 l) ∙ is),
+      λ m c. b.starts.zeros (zero_bit (mode r0) b.starts.mode_bit m) (zero_bit (cont r0) b.starts.cont_bit c),
+      follows constants false (more r7 == 1) (permuted constants (state r0)) rows len rest z.1
+          (links r7 (permuted constants (state r0)) (first_of rows) b.stops.more_bit b.behind b.stops.linked),
+    )
 follows constants first going last _ len t z l = absurd z
 
 rows_are : (constants : List ℕ) (first : Bool) (rows : List (List ℕ)) → length constants ≡ 168 → IsTable 15 rows
