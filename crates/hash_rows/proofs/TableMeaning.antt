@@ -1,5 +1,5 @@
 -- What a table whose entries are 0 gives.
-use Rattle.std.proofs.Common.{◌≡◌, ℕ, zero, suc, ◌+◌, ◌*◌, ◌<◌, ◌≤◌, false, List, [], ◌∷◌, length, Some, All, refl, sym, ap, subst, ◌∙◌, arith}
+use Rattle.std.proofs.Common.{All, List, Some, [], ap, arith, drop, false, length, refl, slice_index, subst, suc, sym, zero, ℕ, ◌*◌, ◌+◌, ◌<◌, ◌∙◌, ◌∷◌, ◌≡◌, ◌≤◌}
 use Rattle.vm_field.specs.Permutation.{permuted}
 use Rattle.buses.specs.Counts.{counted, over_rows}
 use Rattle.buses.specs.declared.bus.Bus.TheVariants as bus
@@ -12,10 +12,12 @@ use Rattle.air_kit.specs.Places.{Claim}
 use Rattle.air_kit.specs.Requests.{FollowsOn, perms_given}
 use Rattle.hash_rows.specs.PermRows.{rows_of, perms_in}
 use Rattle.hash_rows.specs.HashTables.{IsZero, AreRows, Gives}
-use Rattle.hash_rows.specs.HashMeaning.{GivesOn, IsHash, TableGives}
+use Rattle.hash_rows.specs.HashMeaning.{GivesOn, IsGivenWhole, IsHash, TableGives}
 use Rattle.hash_rows.proofs.Given.{IsGivenBy, given_by_one, given-address, given-same, given-once}
-use Rattle.hash_rows.proofs.MeaningLemmas.{GivesOnBy, FoundAt, permutes_by, hash_by}
-use Rattle.hash_rows.proofs.RowMeaning.{found_computes}
+use Rattle.hash_rows.proofs.MeaningLemmas.{GivesOnBy, FoundAt, blocks_in, permutes_by, hash_by}
+use Rattle.hash_rows.proofs.InputLemmas.{IsOpened, further, given_counts, opened_by}
+use Rattle.vm_field.specs.Sponge.{HashInput}
+use Rattle.hash_rows.proofs.RowMeaning.{ComputesAt, computes_at, found_computes}
 use Rattle.hash_rows.proofs.RowsAreZero.{rows_of-size}
 use Rattle.hash_rows.proofs.TableLaws.{zeros_are_rows}
 
@@ -29,6 +31,37 @@ unfolding GivesOn GivesOnBy
 gives_on_one constants perms given is address [] digest g = given_one constants perms given is _ g
 gives_on_one constants perms given is address (block ∷ blocks) digest g =
     (given_one constants perms given is _ g.0, gives_on_one constants perms given is (address + 8) blocks digest g.1)
+
+one_counts : (constants : List ℕ) (perms : List Perm) (given : List ℕ → ℕ) → ((u : List ℕ) → given u ≡ counted (perms_given constants 1 perms) u)
+    → (u : List ℕ) → IsGivenBy constants 1 perms u → 0 < given u
+one_counts constants perms given is u g = let e = is u in let k = given_counts constants 1 perms u g in omega (arith, e, k)
+
+gives_on_counts : (constants : List ℕ) (perms : List Perm) (given : List ℕ → ℕ) → ((u : List ℕ) → given u ≡ counted (perms_given constants 1 perms) u)
+    → (address : ℕ) (blocks : List (List ℕ)) (digest : List ℕ) → GivesOnBy constants 1 perms address blocks digest → GivesOn given address blocks digest
+unfolding GivesOn GivesOnBy
+gives_on_counts constants perms given is address [] digest g = one_counts constants perms given is _ g
+gives_on_counts constants perms given is address (block ∷ blocks) digest g =
+    (one_counts constants perms given is _ g.0, gives_on_counts constants perms given is (address + 8) blocks digest g.1)
+
+input_given : (constants : List ℕ) (perms : List Perm) (given : List ℕ → ℕ) → All (λ p. IsState p.start) perms
+    → FollowsOn constants false [] perms → ((u : List ℕ) → given u ≡ counted (perms_given constants 1 perms) u)
+    → (address : ℕ) (input : HashInput) → ComputesAt constants perms address input → IsGivenWhole constants given address input
+unfolding blocks_in
+input_given constants perms given s f is address input at =
+    subst (λ b. IsGivenWhole constants given b input) (sym at.at)
+    (subst (IsGivenWhole constants given (1 + 8 * at.number)) at.input_is whole)
+  where
+    o : IsOpened constants perms (1 + 8 * at.number) (slice_index at.p.start 1) (drop 4 at.p.start) (further at.p.more at.rest)
+    o = opened_by constants at.number perms at.p at.rest s f at.rest_is at.mode_none at.cont_none
+
+    whole : IsGivenWhole constants given (1 + 8 * at.number) (record { domain = slice_index at.p.start 1; blocks = blocks_in (at.p ∷ at.rest) })
+    whole = record {
+      block = drop 4 at.p.start;
+      blocks = further at.p.more at.rest;
+      blocks_are = refl;
+      opens = one_counts constants perms given is _ o.opens_by;
+      goes_on = gives_on_counts constants perms given is (1 + 8 * at.number) (further at.p.more at.rest) _ o.goes_on_by;
+    }
 
 perms_give : (constants : List ℕ) (perms : List Perm) (rows : List (List ℕ)) (given : List ℕ → ℕ) → length constants ≡ 168
     → All (λ p. IsState p.start) perms → FollowsOn constants false [] perms → rows ≡ rows_of constants perms
@@ -45,6 +78,9 @@ perms_give constants perms rows given len s f rows_are is = record {
   hashes = λ address domain block blocks digest g h.
       hash_from (hash_by constants 1 false [] perms address domain block blocks digest s f (given_one constants perms given is _ g)
       (gives_on_one constants perms given is address blocks digest h));
+  inputs = λ address input e.
+      input_given constants perms given s f is address input
+      (computes_at constants perms address input len s (ap (λ rs. computation_at rs address) (sym rows_are) ∙ e));
 }
   where
     size : length rows ≡ 8 * length perms

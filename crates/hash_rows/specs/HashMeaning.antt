@@ -1,7 +1,7 @@
 -- What tuples that are given on the hasher's bus mean.
 use Rattle.std.specs.Prelude.{◌≡◌, ℕ, ◌+◌, ◌<◌, ◌≤◌, List, [], ◌∷◌, length, Some}
 use Rattle.vm_field.specs.Permutation.{permuted}
-use Rattle.vm_field.specs.Sponge.{hashed}
+use Rattle.vm_field.specs.Sponge.{HashInput, digest_of_input, hashed}
 use Rattle.air_kit.specs.Hashes.{computation_at}
 
 -- from this address on, these further blocks are given, and behind them this digest
@@ -15,6 +15,14 @@ pub record IsHash (constants : List ℕ) (rows : List (List ℕ)) (address domai
   pub computation : computation_at rows address ≡ Some (record { domain = domain; blocks = blocks })
   pub digest_is : digest ≡ hashed constants domain blocks
 
+-- this computation is given whole at this address: its first block, the others, and its digest
+pub record IsGivenWhole (constants : List ℕ) (given : List ℕ → ℕ) (address : ℕ) (input : HashInput) : Type 0 where
+  pub block : List ℕ
+  pub blocks : List (List ℕ)
+  pub blocks_are : input.blocks ≡ block ∷ blocks
+  pub opens : 0 < given (1 ∷ address ∷ input.domain ∷ block)
+  pub goes_on : GivesOn given address blocks (digest_of_input constants input)
+
 -- What a table gives: each tuple at most once, one at an address, and at addresses of its rows; hashes and permutations.
 pub record TableGives (constants : List ℕ) (rows : List (List ℕ)) (given : List ℕ → ℕ) : Type 0 where
   pub once : (u : List ℕ) → given u ≤ 1
@@ -26,3 +34,4 @@ pub record TableGives (constants : List ℕ) (rows : List (List ℕ)) (given : L
   pub hashes : (address domain : ℕ) (block : List ℕ) (blocks : List (List ℕ)) (digest : List ℕ)
       → 0 < given (1 ∷ address ∷ domain ∷ block) → GivesOn given address blocks digest
       → IsHash constants rows address domain (block ∷ blocks) digest
+  pub inputs : (address : ℕ) (input : HashInput) → computation_at rows address ≡ Some input → IsGivenWhole constants given address input
