@@ -1,5 +1,5 @@
 -- The first fault of lists that are joined.
-use Rattle.std.proofs.Common.{◌≡◌, ℕ, suc, ◌+◌, Bool, true, false, cond, ◌==◌, List, [], ◌∷◌, ◌++◌, length, Option, Some, None, refl, sym, ap, ap₂, ◌∙◌, arith}
+use Rattle.std.proofs.Common.{◌≡◌, ℕ, ◌+◌, List, ◌++◌, length, Option, sym, ap, ap₂, ◌∙◌}
 use Rattle.air_kit.proofs.FaultLemmas.{first_append}
 use Rattle.air_kit.specs.Places.{first_fault_of, or_next}
 
