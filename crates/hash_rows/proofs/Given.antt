@@ -4,7 +4,7 @@ use Rattle.std.proofs.lemmas.Bool.{cases_Bool}
 use Rattle.std.specs.Cmp.Lexicographic.{same_text}
 use lib.Pointwise.{pointwise}
 use Rattle.vm_field.specs.Permutation.{permuted}
-use Rattle.buses.specs.Counts.{Counted, counted, hits, once}
+use Rattle.buses.specs.Counts.{counted, once}
 use Rattle.air_kit.specs.declared.requests.Perm.{Perm}
 use Rattle.air_kit.specs.Requests.{perm_begins, perm_ends, perms_given}
 use Rattle.hash_rows.proofs.Totals.{counted-append, counted-none}

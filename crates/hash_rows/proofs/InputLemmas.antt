@@ -1,15 +1,15 @@
 -- The hash computations that rows show are given.
-use Rattle.std.proofs.Common.{◌≡◌, ℕ, zero, suc, ◌+◌, ◌*◌, ◌-◌, ◌/◌, ◌%◌, ◌<◌, ◌≤◌, ◌==◌, ◌&&◌, ◌⊎◌, inl, inr, Bool, true, false, cond, if◌then◌else◌, List, [], ◌∷◌, ◌++◌, length, slice_index, take, drop, nat_eq, Option, Some, None, All, refl, sym, ap, ap₂, subst, ◌∙◌, arith}
-use Rattle.std.proofs.lemmas.Bool.{cases_Bool, eqb-true}
-use Rattle.std.proofs.lemmas.List.Elements.{All-head, All-tail, All-drop}
+use Rattle.std.proofs.Common.{◌≡◌, ℕ, zero, suc, ◌+◌, ◌*◌, ◌<◌, inl, inr, Bool, true, false, cond, if◌then◌else◌, List, [], ◌∷◌, ◌++◌, slice_index, take, drop, nat_eq, All, refl, sym, ap, subst, ◌∙◌, arith}
+use Rattle.std.proofs.lemmas.Bool.{cases_Bool}
+use Rattle.std.proofs.lemmas.List.Elements.{All-head, All-drop}
 use Rattle.std.specs.Cmp.Lexicographic.{other_text}
 use lib.Pointwise.{pointwise}
 use Rattle.vm_field.specs.Permutation.{permuted}
-use Rattle.vm_field.specs.Sponge.{HashInput, sponge_after, squeezed, hashed, digest_of_input}
-use Rattle.buses.specs.Counts.{Counted, counted, once}
+use Rattle.vm_field.specs.Sponge.{sponge_after, squeezed, hashed}
+use Rattle.buses.specs.Counts.{counted, once}
 use Rattle.rpo_hash.specs.States.{IsState}
 use Rattle.air_kit.specs.declared.requests.Perm.{Perm}
-use Rattle.air_kit.specs.Requests.{FollowsOn, perm_begins, perm_ends, perms_given}
+use Rattle.air_kit.specs.Requests.{FollowsOn, perms_given}
 use Rattle.hash_rows.proofs.Given.{BeginsAs, enters, goes_on, opens, EndsAs, leaves, closes, IsGivenBy, head_is}
 use Rattle.hash_rows.proofs.MeaningLemmas.{blocks_in, GivesOnBy, joined, start_is}
 

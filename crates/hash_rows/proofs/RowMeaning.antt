@@ -1,11 +1,10 @@
 -- What the rows of permutations mean by their tuples: computations at addresses.
 use Rattle.std.proofs.lemmas.Bool.{cases_Bool, eqb-true}
-use Rattle.std.proofs.Common.{◌/◌, inl, inr, ◌≡◌, ℕ, zero, suc, ◌+◌, ◌*◌, ◌-◌, ◌%◌, ◌<◌, ◌≤◌, ◌==◌, ◌&&◌, Bool, true, false, if◌then◌else◌, List, [], ◌∷◌, length, slice_index, take, drop, Option, Some, None, All, refl, sym, ap, ap₂, subst, ◌∙◌, arith}
+use Rattle.std.proofs.Common.{◌/◌, inl, inr, ◌≡◌, ℕ, zero, suc, ◌+◌, ◌*◌, ◌-◌, ◌%◌, ◌==◌, ◌&&◌, Bool, true, false, if◌then◌else◌, List, [], ◌∷◌, length, slice_index, drop, Option, Some, None, All, refl, sym, ap, ap₂, subst, ◌∙◌, arith}
 use Rattle.std.proofs.lemmas.List.Elements.{All-head, All-tail, All-drop}
-use Rattle.vm_field.specs.Permutation.{rounds}
 use Rattle.vm_field.specs.Sponge.{HashInput}
 use Rattle.vm_field.proofs.PermutationLemmas.{rounds-none}
-use Rattle.chip_columns.specs.HasherColumns.{mode, cont, more, x, state}
+use Rattle.chip_columns.specs.HasherColumns.{mode, cont, x, state}
 use Rattle.rpo_hash.specs.States.{IsState}
 use Rattle.air_kit.specs.declared.requests.Perm.{Perm}
 use Rattle.air_kit.specs.ChipTuples.{absorbed_part}
@@ -122,19 +121,19 @@ opens_from : (constants : List ℕ) (perms : List Perm) (input : HashInput) → 
 unfolding rows_of rows_before
 opens_from constants [] input len s e = absurd (cc)
 opens_from constants (p ∷ rest) input len s e = elim (cases_Bool p.mode) [
-    | inl m ↦ absurd (not_found (begins_hash r0) _ input (hperm m) e)
-    | inr n ↦ elim (cases_Bool p.cont) [
-        | inl c ↦ absurd (not_found (begins_hash r0) _ input (later c) e)
-        | inr d ↦ record {
-            p = p;
-            rest = rest;
-            rest_is = refl;
-            mode_none = n;
-            cont_none = d;
-            input_is = let h = sym (first_computes constants p rest len s n d) ∙ e in cc;
-          }
-      ]
+  | inl m ↦ absurd (not_found (begins_hash r0) _ input (hperm m) e)
+  | inr n ↦ elim (cases_Bool p.cont) [
+    | inl c ↦ absurd (not_found (begins_hash r0) _ input (later c) e)
+    | inr d ↦ record {
+      p = p;
+      rest = rest;
+      rest_is = refl;
+      mode_none = n;
+      cont_none = d;
+      input_is = let h = sym (first_computes constants p rest len s n d) ∙ e in cc;
+    }
   ]
+]
   where
     r0 : List ℕ
     r0 = perm_row constants p 0 false
@@ -151,15 +150,15 @@ place_is b h = omega (arith, h)
 pub computes_at : (constants : List ℕ) (perms : List Perm) (b : ℕ) (input : HashInput) → length constants ≡ 168
     → All (λ p. IsState p.start) perms → computation_at (rows_of constants perms) b ≡ Some input → ComputesAt constants perms b input
 computes_at constants perms b input len s e = elim (cases_Bool (b % 8 == 1)) [
-    | inr not ↦ absurd (not_found (b % 8 == 1) (computation_from (drop (b - 1) (rows_of constants perms))) input not e)
-    | inl is ↦ found (place_is b (eqb-true (b % 8) 1 is))
-  ]
+  | inr not ↦ absurd (not_found (b % 8 == 1) (computation_from (drop (b - 1) (rows_of constants perms))) input not e)
+  | inl is ↦ found (place_is b (eqb-true (b % 8) 1 is))
+]
   where
     found : b ≡ 1 + 8 * (b / 8) → ComputesAt constants perms b input
     found at =
         let o = opens_from constants (drop (b / 8) perms) input len (All-drop (λ p. IsState p.start) (b / 8) perms s)
-                (ap computation_from (sym (rows_behind constants (b / 8) perms)) ∙ sym (at_first (rows_of constants perms) (b / 8))
-                ∙ ap (computation_at (rows_of constants perms)) (sym at) ∙ e) in
+        (ap computation_from (sym (rows_behind constants (b / 8) perms)) ∙ sym (at_first (rows_of constants perms) (b / 8))
+        ∙ ap (computation_at (rows_of constants perms)) (sym at) ∙ e) in
         record {
           number = b / 8;
           at = at;

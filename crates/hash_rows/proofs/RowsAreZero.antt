@@ -1,23 +1,23 @@
 -- The rows of permutations that fit have all entries 0, and show these permutations again.
-use Rattle.std.proofs.Common.{◌≡◌, ℕ, zero, suc, ◌+◌, ◌*◌, ◌%◌, ◌<◌, ◌≤◌, ◌==◌, Bool, true, false, List, [], ◌∷◌, ◌++◌, length, slice_get, slice_index, slice_index_or, take, replicate, Option, Some, None, All, refl, sym, ap, ap₂, subst, ◌∙◌, arith, lit<}
+use Rattle.std.proofs.Common.{◌≡◌, ℕ, zero, suc, ◌+◌, ◌*◌, ◌<◌, ◌≤◌, ◌==◌, Bool, true, false, List, [], ◌∷◌, ◌++◌, length, slice_get, slice_index, slice_index_or, take, replicate, Option, Some, None, All, refl, sym, ap, ap₂, subst, ◌∙◌, arith, lit<}
 use Rattle.std.proofs.lemmas.List.Elements.{All-head, All-tail}
 use Rattle.vm_field.specs.Field.{prime, AreElements, felt_pow, felt_sub, felt_mul, felt_add}
 use Rattle.vm_field.specs.Permutation.{before_roots, round, rounds, round_constants, permuted, seventh_powers}
 use Rattle.vm_field.proofs.Algebra.{felt_sub-same, felt_mul-zero_first, felt_mul-zero_second}
-use Rattle.vm_field.proofs.PermutationLemmas.{elements-round, elements-rounds, length-round_constants, length-rounds, permuted-is, rounds-last, rounds-none, round-powers}
+use Rattle.vm_field.proofs.PermutationLemmas.{elements-round, elements-rounds, length-rounds, permuted-is, rounds-last, rounds-none, round-powers}
 use Rattle.vm_field.proofs.PowerLaws.{power-below}
 use Rattle.vm_field.proofs.Elements.{elements-index}
 use Rattle.vm_table.specs.Layout.{IsTable}
 use Rattle.chip_columns.specs.HasherColumns.{mode, cont, more, x, state}
 use Rattle.rpo_hash.specs.States.{IsState}
 use Rattle.air_kit.specs.declared.requests.Perm.{Perm}
-use Rattle.air_kit.specs.ChipPlaces.{only, paired, in_last}
+use Rattle.air_kit.specs.ChipPlaces.{only}
 use Rattle.air_kit.specs.Places.{Claim, at_number, family}
 use Rattle.air_kit.specs.HasherValues.{begins_at_zero, bit_value, hasher_flag_values, chain_values, round_values, hasher_values, hasher_values_by}
 use Rattle.air_kit.specs.Requests.{FollowsOn}
 use Rattle.hash_rows.specs.PermRows.{bit_number, perm_row, rows_before, rows_of, perm_of, perms_in}
 use Rattle.hash_rows.specs.HashTables.{IsZero, Fit}
-use Rattle.hash_rows.proofs.RowLemmas.{state_is, state-IsState, zero_cons, zeros_at}
+use Rattle.hash_rows.proofs.RowLemmas.{state_is, zero_cons, zeros_at}
 use Rattle.hash_rows.proofs.ZeroLemmas.{AllZero, CellsBelow}
 use Rattle.hash_rows.proofs.BlockLemmas.{EightZero, ZeroFrom, first_of, zero_behind}
 use Rattle.hash_rows.proofs.ZerosAreRows.{LinksTo}

@@ -1,6 +1,5 @@
 -- What a table whose entries are 0 gives.
-use Rattle.std.proofs.Common.{All, List, Some, [], ap, arith, drop, false, length, refl, slice_index, subst, suc, sym, zero, ℕ, ◌*◌, ◌+◌, ◌<◌, ◌∙◌, ◌∷◌, ◌≡◌, ◌≤◌}
-use Rattle.vm_field.specs.Permutation.{permuted}
+use Rattle.std.proofs.Common.{All, List, [], ap, arith, drop, false, length, refl, slice_index, subst, sym, ℕ, ◌*◌, ◌+◌, ◌<◌, ◌∙◌, ◌∷◌, ◌≡◌}
 use Rattle.buses.specs.Counts.{counted, over_rows}
 use Rattle.buses.specs.declared.bus.Bus.TheVariants as bus
 use Rattle.rpo_hash.specs.States.{IsState}
@@ -11,7 +10,7 @@ use Rattle.air_kit.specs.Hashes.{computation_at}
 use Rattle.air_kit.specs.Places.{Claim}
 use Rattle.air_kit.specs.Requests.{FollowsOn, perms_given}
 use Rattle.hash_rows.specs.PermRows.{rows_of, perms_in}
-use Rattle.hash_rows.specs.HashTables.{IsZero, AreRows, Gives}
+use Rattle.hash_rows.specs.HashTables.{IsZero}
 use Rattle.hash_rows.specs.HashMeaning.{GivesOn, IsGivenWhole, IsHash, TableGives}
 use Rattle.hash_rows.proofs.Given.{IsGivenBy, given_by_one, given-address, given-same, given-once}
 use Rattle.hash_rows.proofs.MeaningLemmas.{GivesOnBy, FoundAt, blocks_in, permutes_by, hash_by}

@@ -1,8 +1,8 @@
 -- Values that are 0 at a row of a permutation, and what they say of the row and the next one.
-use Rattle.std.proofs.Common.{◌≡◌, ℕ, zero, suc, ◌+◌, ◌*◌, ◌%◌, ◌<◌, ◌==◌, nat_lt, Bool, true, false, List, [], ◌∷◌, ◌++◌, length, slice_index, take, Option, Some, None, refl, sym, ap, ap₂, ◌∙◌, inl, inr, arith, lit<}
+use Rattle.std.proofs.Common.{◌≡◌, ℕ, zero, suc, ◌+◌, ◌*◌, ◌%◌, ◌<◌, Bool, true, false, List, [], ◌∷◌, length, slice_index, take, Option, Some, None, refl, sym, ap, ap₂, ◌∙◌, arith, lit<}
 use Rattle.vm_field.specs.Field.{prime, felt_pow, felt_sub, felt_mul}
-use Rattle.vm_field.specs.Permutation.{before_roots, round, round_constants, seventh_powers}
-use Rattle.vm_field.proofs.Algebra.{same_from_sub, zero_factor, bit_from_product}
+use Rattle.vm_field.specs.Permutation.{before_roots, round, seventh_powers}
+use Rattle.vm_field.proofs.Algebra.{same_from_sub, bit_from_product}
 use Rattle.vm_field.proofs.PermutationLemmas.{round-powers}
 use Rattle.vm_field.proofs.PowerLaws.{power-below}
 use Rattle.vm_field.proofs.Elements.{elements-index}
@@ -10,7 +10,7 @@ use Rattle.chip_columns.specs.HasherColumns.{mode, cont, more, x, state}
 use Rattle.rpo_hash.specs.States.{IsState}
 use Rattle.rpo_hash.proofs.OneToOne.{before_roots-IsState}
 use Rattle.air_kit.specs.Places.{family}
-use Rattle.air_kit.specs.HasherValues.{begins_at_zero, bit_value, hasher_flag_values, chain_values, round_values, hasher_values_by}
+use Rattle.air_kit.specs.HasherValues.{begins_at_zero, hasher_flag_values, chain_values, round_values, hasher_values_by}
 use Rattle.hash_rows.proofs.RowLemmas.{twelve_same, state-IsState}
 
 -- each value is 0

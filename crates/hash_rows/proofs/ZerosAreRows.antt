@@ -1,12 +1,11 @@
 -- A table whose entries are 0 has the rows of the permutations that it shows, and these fit.
-use Rattle.std.proofs.Common.{◌≡◌, ℕ, zero, suc, ◌+◌, ◌*◌, ◌%◌, ◌<◌, ◌==◌, Bool, true, false, List, [], ◌∷◌, ◌++◌, length, slice_get, slice_index, slice_index_or, take, Option, Some, None, All, refl, sym, ap, ap₂, subst, ◌∙◌, arith, lit<}
+use Rattle.std.proofs.Common.{◌≡◌, ℕ, zero, suc, ◌+◌, ◌*◌, ◌<◌, ◌==◌, Bool, true, false, List, [], ◌∷◌, length, slice_get, slice_index_or, take, Option, Some, None, All, refl, sym, ap, subst, ◌∙◌, arith, lit<}
 use Rattle.std.proofs.lemmas.Bool.{eqb-true}
 use Rattle.std.proofs.lemmas.List.Elements.{All-cons, All-nil}
-use Rattle.vm_field.specs.Field.{prime}
 use Rattle.vm_field.specs.Permutation.{round, rounds, round_constants, permuted}
 use Rattle.vm_field.proofs.PermutationLemmas.{length-round_constants, permuted-is, rounds-last, rounds-none}
 use Rattle.vm_table.specs.Layout.{IsTable}
-use Rattle.chip_columns.specs.HasherColumns.{mode, cont, more, x, state}
+use Rattle.chip_columns.specs.HasherColumns.{mode, cont, more, state}
 use Rattle.rpo_hash.specs.States.{IsState}
 use Rattle.air_kit.specs.declared.requests.Perm.{Perm}
 use Rattle.air_kit.specs.Places.{Claim, at_number}
