@@ -1,8 +1,8 @@
 -- The first value of a list that is not 0.
-use Rattle.std.proofs.Common.{◌≡◌, ◌≢◌, ℕ, zero, suc, ◌+◌, ◌-◌, ◌<◌, ◌≤◌, true, false, cond, eqb, List, [], ◌∷◌, ◌++◌, length, slice_index, Option, Some, None, refl, sym, ap, subst, ◌∙◌, inl, inr, arith}
+use Rattle.std.proofs.Common.{◌≡◌, ◌≢◌, ℕ, zero, suc, ◌+◌, ◌<◌, true, false, cond, eqb, List, [], ◌∷◌, ◌++◌, length, slice_index, Some, None, refl, ap, subst, ◌∙◌, inl, inr, arith}
 use Rattle.std.proofs.lemmas.Bool.{cases_Bool, eqb-true}
 use Rattle.std.proofs.lemmas.Bool.Decides.{nat_tests}
-use Rattle.air_kit.specs.Places.{family, first_fault_of, at_number, or_next}
+use Rattle.air_kit.specs.Places.{family, first_fault_of, or_next}
 
 -- over two lists one behind the other
 pub first_append : (n : ℕ) (xs ys : List ℕ) → first_fault_of n (xs ++ ys) ≡ or_next (first_fault_of n xs) (first_fault_of (n + length xs) ys)
@@ -49,6 +49,7 @@ first_some n (v ∷ vs) f some =
     earlier_of : v ≡ 0 → (r : IsFirst (n + 1) vs f) → (k : ℕ) → k < suc r.place → slice_index (v ∷ vs) k ≡ 0
     earlier_of is r zero h = is
     earlier_of is r (suc k) h = r.earlier k (omega (arith, h))
+
     later : v ≡ 0 → IsFirst (n + 1) vs f → IsFirst n (v ∷ vs) f
     later is r = record {
       place = suc r.place;

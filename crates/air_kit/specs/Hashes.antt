@@ -1,5 +1,5 @@
 -- The hash computations that a hasher's table shows, by their addresses.
-use Rattle.std.specs.Prelude.{ℕ, suc, ◌+◌, ◌-◌, ◌/◌, ◌%◌, Bool, true, false, ◌==◌, ◌&&◌, if◌then◌else◌, List, [], ◌∷◌, drop, length, slice_index, slice_index_or, Option, Some, None}
+use Rattle.std.specs.Prelude.{ℕ, ◌-◌, ◌%◌, Bool, ◌==◌, ◌&&◌, if◌then◌else◌, List, [], ◌∷◌, drop, Option, Some, None}
 use Rattle.vm_field.specs.Sponge.{HashInput}
 use Rattle.chip_columns.specs.HasherColumns.{mode, cont, more, x}
 use Rattle.air_kit.specs.ChipTuples.{absorbed_part}

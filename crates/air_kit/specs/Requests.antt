@@ -1,6 +1,5 @@
 -- What the main table asks of the small ones, when that can be answered, and when tables answer it.
-use Rattle.std.specs.Prelude.{◌≡◌, ◌≢◌, ◌⊎◌, ℕ, suc, ◌+◌, ◌*◌, ◌^◌, ◌<◌, ◌≤◌, Bool, true, false, if◌then◌else◌, List, [], ◌∷◌, ◌++◌, map, take, drop, length, slice_index, slice_index_or, All, bit_and, bit_xor}
-use Rattle.std.specs.List.{AllByRecursion}
+use Rattle.std.specs.Prelude.{◌≡◌, ◌≢◌, ℕ, ◌+◌, ◌*◌, ◌^◌, ◌<◌, ◌≤◌, Bool, true, false, if◌then◌else◌, List, [], ◌∷◌, ◌++◌, map, take, drop, length, slice_index, slice_index_or, All, bit_and, bit_xor}
 use Rattle.vm_field.specs.Machine.{zero_word}
 use Rattle.vm_field.specs.Permutation.{permuted}
 use Rattle.buses.specs.Counts.{Counted, counted, once, over_rows}

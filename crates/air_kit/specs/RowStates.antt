@@ -1,6 +1,6 @@
 -- The state of the machine that a row shows, with what no row shows: the cells below the sixteenth, memory, and the tape that is
 -- left. These come from the rows before it and behind it.
-use Rattle.std.specs.Prelude.{ℕ, zero, suc, ◌==◌, ◌&&◌, ◌||◌, Bool, if◌then◌else◌, List, [], ◌∷◌, ◌++◌, drop, length, slice_index_or, Option, Some, None}
+use Rattle.std.specs.Prelude.{ℕ, zero, suc, ◌==◌, ◌&&◌, Bool, if◌then◌else◌, List, [], ◌∷◌, ◌++◌, drop, slice_index_or, Option, Some, None}
 use Rattle.std.specs.FinMap.{empty, insert}
 use Rattle.vm_field.specs.Machine.{Core, State, WordMap}
 use Rattle.vm_field.specs.Signs.{◌⊞◌}

@@ -1,6 +1,5 @@
 -- A trace: the rows of its tables, how many each may have, and the values of all entries.
-use Rattle.std.specs.Prelude.{◌≡◌, ℕ, suc, ◌*◌, ◌^◌, ◌≤◌, ◌%◌, List, [], ◌∷◌, length, slice_get, slice_index, slice_index_or, Option}
-use Rattle.vm_table.specs.Layout.{IsTable}
+use Rattle.std.specs.Prelude.{◌≡◌, ℕ, suc, ◌^◌, ◌≤◌, ◌%◌, List, [], ◌∷◌, length, slice_get, slice_index_or}
 use Rattle.chip_columns.specs.LeftColumns.{key}
 use Rattle.rpo_hash.specs.Constants.{constants_of}
 use Rattle.air_kit.specs.declared.trace.Public.{Public}

@@ -1,0 +1,2 @@
+//! What the entries of a row say where they are 0.
+#![tactic(auto)]
