@@ -1,5 +1,5 @@
 -- The entries of a round, by whether the row is inside its eight and whether one follows.
-use Rattle.std.proofs.Common.{◌≡◌, ℕ, Bool, true, false, List, [], ◌∷◌, length, slice_index, Option, Some, None, replicate, refl, sym, ap, ap₂, ◌∙◌}
+use Rattle.std.proofs.Common.{◌≡◌, ℕ, Bool, true, false, List, length, slice_index, Option, Some, None, replicate, refl, sym, ap, ap₂, ◌∙◌}
 use Rattle.vm_field.specs.Field.{felt_pow}
 use Rattle.vm_field.specs.Permutation.{before_roots}
 use Rattle.vm_field.specs.Signs.{◌⊟◌}

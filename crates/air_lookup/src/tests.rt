@@ -43,13 +43,22 @@ fn numbers(fault: Option<(u16, Felt)>) -> Option<(u16, u64)> {
     Some((number, value.value()))
 }
 
-fn range_fault(alloc: Global, row: u32, value: u64, next: Option<u64>) -> Result<Option<(u16, u64)>, Memory> {
+fn range_fault(
+    alloc: Global,
+    row: u32,
+    value: u64,
+    next: Option<u64>,
+) -> Result<Option<(u16, u64)>, Memory> {
     let mut table = Table::<2>::new(alloc);
     table.push_row(&[Felt::ZERO, felt(value)])?;
     table.push_row(&[Felt::ZERO, felt(next.unwrap_or(0))])?;
     let place = Place {
         cur: table.row(0),
-        next: if next.is_some() { Some(table.row(1)) } else { None },
+        next: if next.is_some() {
+            Some(table.row(1))
+        } else {
+            None
+        },
         row,
         lengths: [0; 7],
         left_key: Felt::ZERO,
@@ -58,7 +67,11 @@ fn range_fault(alloc: Global, row: u32, value: u64, next: Option<u64>) -> Result
     Ok(numbers(first_fault_range(&place)))
 }
 
-fn kernel_fault(alloc: Global, number: u32, digest: &[u64; 5]) -> Result<Option<(u16, u64)>, Memory> {
+fn kernel_fault(
+    alloc: Global,
+    number: u32,
+    digest: &[u64; 5],
+) -> Result<Option<(u16, u64)>, Memory> {
     let mut table = Table::<5>::new(alloc);
     table.push_row(&row(digest))?;
     let place = Place {
@@ -82,7 +95,10 @@ static STEPS: [(u32, u64, Option<u64>, Option<(u16, u64)>); 5] = [
     (9, 10, Some(12), Some((3, 18446733484239877571))),
 ];
 
-fn steps_are(alloc: Global, steps: &[(u32, u64, Option<u64>, Option<(u16, u64)>)]) -> Result<bool, Memory> {
+fn steps_are(
+    alloc: Global,
+    steps: &[(u32, u64, Option<u64>, Option<(u16, u64)>)],
+) -> Result<bool, Memory> {
     for (row, value, next, fault) in steps {
         if range_fault(alloc, *row, *value, *next)? != *fault {
             return Ok(false);
@@ -99,7 +115,10 @@ static DIGESTS: [(u32, [u64; 5], Option<(u16, u64)>); 4] = [
     (1, [1, 2, 3, 4, 9], Some((1, 1))),
 ];
 
-fn digests_are(alloc: Global, rows: &[(u32, [u64; 5], Option<(u16, u64)>)]) -> Result<bool, Memory> {
+fn digests_are(
+    alloc: Global,
+    rows: &[(u32, [u64; 5], Option<(u16, u64)>)],
+) -> Result<bool, Memory> {
     for (number, cells, fault) in rows {
         if kernel_fault(alloc, *number, cells)? != *fault {
             return Ok(false);

@@ -1,12 +1,10 @@
 -- Tables whose values are 0, eight rows by eight.
-use Rattle.std.proofs.Common.{◌≡◌, ℕ, zero, suc, ◌+◌, ◌*◌, ◌%◌, ◌<◌, ◌==◌, nat_lt, Bool, true, false, List, [], ◌∷◌, ◌++◌, length, slice_get, slice_index, slice_index_or, Option, Some, None, refl, sym, ap, ap₂, subst, ◌∙◌, arith, lit<}
+use Rattle.std.proofs.Common.{◌≡◌, ℕ, zero, suc, ◌+◌, ◌*◌, ◌%◌, ◌<◌, ◌==◌, nat_lt, Bool, false, List, [], ◌∷◌, length, slice_get, slice_index, slice_index_or, Option, Some, None, refl, sym, ap, subst, ◌∙◌, arith, lit<}
 use Rattle.std.proofs.lemmas.Bool.{ne_eqb}
-use Rattle.vm_field.specs.Field.{prime}
 use Rattle.vm_field.specs.Permutation.{round_constants}
-use Rattle.vm_table.specs.Layout.{IsTable}
 use Rattle.air_kit.specs.Places.{Claim, Spot, at_number}
 use Rattle.air_kit.specs.HasherValues.{hasher_values, hasher_values_by}
-use Rattle.hash_rows.proofs.ZeroLemmas.{AllZero, CellsBelow}
+use Rattle.hash_rows.proofs.ZeroLemmas.{AllZero}
 
 -- the values of the row at place k of its eight
 abbrev pub values_at : List ℕ → Bool → ℕ → List ℕ → Option (List ℕ) → List ℕ

@@ -1,10 +1,10 @@
 -- What the rows of permutations give on the hasher's bus.
-use Rattle.std.proofs.Common.{◌≡◌, ℕ, zero, suc, ◌+◌, ◌*◌, ◌%◌, ◌<◌, ◌≤◌, ◌==◌, Bool, true, false, if◌then◌else◌, List, [], ◌∷◌, ◌++◌, length, slice_get, slice_index, slice_index_or, take, drop, Option, Some, None, All, refl, sym, ap, ap₂, ◌∙◌, arith, lit<}
+use Rattle.std.proofs.Common.{◌≡◌, ℕ, suc, ◌+◌, ◌*◌, ◌%◌, ◌<◌, ◌==◌, Bool, true, false, if◌then◌else◌, List, [], ◌∷◌, ◌++◌, length, slice_index, slice_index_or, take, drop, All, refl, sym, ap, ◌∙◌, arith, lit<}
 use Rattle.std.proofs.lemmas.List.Elements.{All-head, All-tail}
-use Rattle.vm_field.specs.Permutation.{permuted, rounds}
+use Rattle.vm_field.specs.Permutation.{permuted}
 use Rattle.vm_field.proofs.PermutationLemmas.{permuted-is, rounds-none}
 use Rattle.buses.specs.Counts.{Counted, counted, once, over_first, over_rows, total}
-use Rattle.chip_columns.specs.HasherColumns.{mode, cont, more, x, state}
+use Rattle.chip_columns.specs.HasherColumns.{mode, cont, more, state}
 use Rattle.rpo_hash.specs.States.{IsState}
 use Rattle.air_kit.specs.declared.requests.Perm.{Perm}
 use Rattle.air_kit.specs.ChipTuples.{hasher_given, permutation_begins, permutation_ends}

@@ -5,3 +5,9 @@ pub mod ZerosAreRows
 pub mod RowsAreZero
 pub mod Totals
 pub mod GivenLemmas
+pub mod TableLaws
+pub mod Given
+pub mod MeaningLemmas
+pub mod RowMeaning
+pub mod TableMeaning
+pub mod InputLemmas

@@ -1,7 +1,7 @@
 -- Rows of the hasher's table: their flags and their states.
-use Rattle.std.proofs.Common.{◌≡◌, ℕ, zero, suc, ◌+◌, ◌<◌, ◌==◌, Bool, true, false, List, [], ◌∷◌, ◌++◌, length, slice_index, slice_index_or, replicate, refl, sym, ap, ap₂, ◌∙◌, arith}
-use Rattle.vm_field.specs.Field.{prime, AreElements, felt_pow}
-use Rattle.chip_columns.specs.HasherColumns.{mode, cont, more, x, state}
+use Rattle.std.proofs.Common.{◌≡◌, ℕ, zero, suc, ◌<◌, ◌==◌, List, [], ◌∷◌, length, slice_index, slice_index_or, replicate, refl, ap₂, arith}
+use Rattle.vm_field.specs.Field.{prime}
+use Rattle.chip_columns.specs.HasherColumns.{mode, cont, more, state}
 use Rattle.rpo_hash.specs.States.{IsState}
 use Rattle.hash_rows.specs.PermRows.{bit_number}
 

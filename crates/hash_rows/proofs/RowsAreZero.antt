@@ -1,23 +1,23 @@
 -- The rows of permutations that fit have all entries 0, and show these permutations again.
-use Rattle.std.proofs.Common.{◌≡◌, ℕ, zero, suc, ◌+◌, ◌*◌, ◌%◌, ◌<◌, ◌≤◌, ◌==◌, Bool, true, false, List, [], ◌∷◌, ◌++◌, length, slice_get, slice_index, slice_index_or, take, replicate, Option, Some, None, All, refl, sym, ap, ap₂, subst, ◌∙◌, arith, lit<}
+use Rattle.std.proofs.Common.{◌≡◌, ℕ, zero, suc, ◌+◌, ◌*◌, ◌<◌, ◌≤◌, ◌==◌, Bool, true, false, List, [], ◌∷◌, ◌++◌, length, slice_get, slice_index, slice_index_or, take, replicate, Option, Some, None, All, refl, sym, ap, ap₂, subst, ◌∙◌, arith, lit<}
 use Rattle.std.proofs.lemmas.List.Elements.{All-head, All-tail}
 use Rattle.vm_field.specs.Field.{prime, AreElements, felt_pow, felt_sub, felt_mul, felt_add}
 use Rattle.vm_field.specs.Permutation.{before_roots, round, rounds, round_constants, permuted, seventh_powers}
 use Rattle.vm_field.proofs.Algebra.{felt_sub-same, felt_mul-zero_first, felt_mul-zero_second}
-use Rattle.vm_field.proofs.PermutationLemmas.{elements-round, elements-rounds, length-round_constants, length-rounds, permuted-is, rounds-last, rounds-none, round-powers}
+use Rattle.vm_field.proofs.PermutationLemmas.{elements-round, elements-rounds, length-rounds, permuted-is, rounds-last, rounds-none, round-powers}
 use Rattle.vm_field.proofs.PowerLaws.{power-below}
 use Rattle.vm_field.proofs.Elements.{elements-index}
 use Rattle.vm_table.specs.Layout.{IsTable}
 use Rattle.chip_columns.specs.HasherColumns.{mode, cont, more, x, state}
 use Rattle.rpo_hash.specs.States.{IsState}
 use Rattle.air_kit.specs.declared.requests.Perm.{Perm}
-use Rattle.air_kit.specs.ChipPlaces.{only, paired, in_last}
+use Rattle.air_kit.specs.ChipPlaces.{only}
 use Rattle.air_kit.specs.Places.{Claim, at_number, family}
 use Rattle.air_kit.specs.HasherValues.{begins_at_zero, bit_value, hasher_flag_values, chain_values, round_values, hasher_values, hasher_values_by}
 use Rattle.air_kit.specs.Requests.{FollowsOn}
 use Rattle.hash_rows.specs.PermRows.{bit_number, perm_row, rows_before, rows_of, perm_of, perms_in}
-use Rattle.hash_rows.specs.HashTables.{IsZero, Fit, ShowsPerms}
-use Rattle.hash_rows.proofs.RowLemmas.{state_is, state-IsState, zero_cons, zeros_at}
+use Rattle.hash_rows.specs.HashTables.{IsZero, Fit}
+use Rattle.hash_rows.proofs.RowLemmas.{state_is, zero_cons, zeros_at}
 use Rattle.hash_rows.proofs.ZeroLemmas.{AllZero, CellsBelow}
 use Rattle.hash_rows.proofs.BlockLemmas.{EightZero, ZeroFrom, first_of, zero_behind}
 use Rattle.hash_rows.proofs.ZerosAreRows.{LinksTo}
@@ -127,7 +127,7 @@ round_none constants row next = refl
 flags_inside : (constants : List ℕ) (first begins : Bool) (p : Perm) (k : ℕ) (going : Bool)
     → (first ≡ true → p.cont ≡ false) → (p.mode ≡ true → p.cont ≡ false)
     → (begins ≡ true → p.mode ≡ false → p.cont ≡ false
-        → (x (perm_row constants p k false) 0 ≡ 0) × (x (perm_row constants p k false) 2 ≡ 0) × (x (perm_row constants p k false) 3 ≡ 0))
+    → (x (perm_row constants p k false) 0 ≡ 0) × (x (perm_row constants p k false) 2 ≡ 0) × (x (perm_row constants p k false) 3 ≡ 0))
     → hasher_flag_values first begins true false (perm_row constants p k false) (Some (perm_row constants p (suc k) going)) ≡ replicate 13 0
 unfolding hasher_flag_values perm_row
 flags_inside constants first begins p k going no_first no_cont zeros =
@@ -144,7 +144,7 @@ flags_inside constants first begins p k going no_first no_cont zeros =
 inside_zero : (constants : List ℕ) (first begins : Bool) (p : Perm) (k : ℕ) (going : Bool) → length constants ≡ 168 → k < 7 → IsState p.start
     → (first ≡ true → p.cont ≡ false) → (p.mode ≡ true → p.cont ≡ false)
     → (begins ≡ true → p.mode ≡ false → p.cont ≡ false
-        → (x (perm_row constants p k false) 0 ≡ 0) × (x (perm_row constants p k false) 2 ≡ 0) × (x (perm_row constants p k false) 3 ≡ 0))
+    → (x (perm_row constants p k false) 0 ≡ 0) × (x (perm_row constants p k false) 2 ≡ 0) × (x (perm_row constants p k false) 3 ≡ 0))
     → AllZero (hasher_values_by first begins true false (round_constants constants k) (perm_row constants p k false) (Some (perm_row constants p (suc k) going)))
 inside_zero constants first begins p k going len h s no_first no_cont zeros =
     joined_zero first begins true false (round_constants constants k) cur (Some next) flags chain
@@ -275,10 +275,11 @@ next_links : (constants : List ℕ) (going : Bool) (last : List ℕ) (perms : Li
     → FollowsOn constants going last perms → LinksTo going last (first_of (rows_of constants perms))
 unfolding LinksTo rows_of rows_before
 next_links constants going last [] len s f = f
-next_links constants going last (p ∷ perms) len s f =
-    (perm_row-cont constants p 0 false ∙ ap bit_number f.0,
-    λ on. ap (take 4) (row_state constants p 0 false len (omega arith) (All-head (λ p. IsState p.start) p perms s) ∙ rounds-none constants p.start)
-    ∙ f.2 (f.0 ∙ on))
+next_links constants going last (p ∷ perms) len s f = (
+  perm_row-cont constants p 0 false ∙ ap bit_number f.0,
+  λ on. ap (take 4) (row_state constants p 0 false len (omega arith) (All-head (λ p. IsState p.start) p perms s) ∙ rounds-none constants p.start)
+      ∙ f.2 (f.0 ∙ on),
+)
 
 rows_zero : (constants : List ℕ) (first going : Bool) (last : List ℕ) (perms : List Perm) → length constants ≡ 168 → All (λ p. IsState p.start) perms
     → FollowsOn constants going last perms → (first ≡ true → going ≡ false) → ZeroFrom constants first (rows_of constants perms)
@@ -286,7 +287,7 @@ unfolding ZeroFrom rows_of rows_before
 rows_zero constants first going last [] len s f no_first = tt
 rows_zero constants first going last (p ∷ perms) len s f no_first = (
   block_zero constants first p (first_of (rows_of constants perms)) len (All-head (λ p. IsState p.start) p perms s) (λ on. f.0 ∙ no_first on)
-  f.1 f.3 (next_links constants p.more (permuted constants p.start) perms len (All-tail (λ p. IsState p.start) p perms s) f.4),
+      f.1 f.3 (next_links constants p.more (permuted constants p.start) perms len (All-tail (λ p. IsState p.start) p perms s) f.4),
   rows_zero constants false p.more (permuted constants p.start) perms len (All-tail (λ p. IsState p.start) p perms s) f.4 (λ e. absurd (cc)),
 )
 
@@ -368,10 +369,3 @@ rows_are_zero c perms len fit = record {
 
     row_none : (k : ℕ) → k ≡ 8 * 0 + k
     row_none k = omega arith
-
-pub rows_show : (c : Claim) (perms : List Perm) → length c.constants ≡ 168 → Fit c.constants perms → ShowsPerms c perms (rows_of c.constants perms)
-rows_show c perms len fit = record {
-  size = rows_of-size c.constants perms;
-  zero = rows_are_zero c perms len fit;
-  perms_are = perms_again c.constants perms len fit.states;
-}

@@ -1,8 +1,8 @@
 -- Values that are 0 at a row of a permutation, and what they say of the row and the next one.
-use Rattle.std.proofs.Common.{◌≡◌, ℕ, zero, suc, ◌+◌, ◌*◌, ◌%◌, ◌<◌, ◌==◌, nat_lt, Bool, true, false, List, [], ◌∷◌, ◌++◌, length, slice_index, take, Option, Some, None, refl, sym, ap, ap₂, ◌∙◌, inl, inr, arith, lit<}
+use Rattle.std.proofs.Common.{◌≡◌, ℕ, zero, suc, ◌+◌, ◌*◌, ◌%◌, ◌<◌, Bool, true, false, List, [], ◌∷◌, length, slice_index, take, Option, Some, None, refl, sym, ap, ap₂, ◌∙◌, arith, lit<}
 use Rattle.vm_field.specs.Field.{prime, felt_pow, felt_sub, felt_mul}
-use Rattle.vm_field.specs.Permutation.{before_roots, round, round_constants, seventh_powers}
-use Rattle.vm_field.proofs.Algebra.{same_from_sub, zero_factor, bit_from_product}
+use Rattle.vm_field.specs.Permutation.{before_roots, round, seventh_powers}
+use Rattle.vm_field.proofs.Algebra.{same_from_sub, bit_from_product}
 use Rattle.vm_field.proofs.PermutationLemmas.{round-powers}
 use Rattle.vm_field.proofs.PowerLaws.{power-below}
 use Rattle.vm_field.proofs.Elements.{elements-index}
@@ -10,7 +10,7 @@ use Rattle.chip_columns.specs.HasherColumns.{mode, cont, more, x, state}
 use Rattle.rpo_hash.specs.States.{IsState}
 use Rattle.rpo_hash.proofs.OneToOne.{before_roots-IsState}
 use Rattle.air_kit.specs.Places.{family}
-use Rattle.air_kit.specs.HasherValues.{begins_at_zero, bit_value, hasher_flag_values, chain_values, round_values, hasher_values_by}
+use Rattle.air_kit.specs.HasherValues.{begins_at_zero, hasher_flag_values, chain_values, round_values, hasher_values_by}
 use Rattle.hash_rows.proofs.RowLemmas.{twelve_same, state-IsState}
 
 -- each value is 0
@@ -82,17 +82,17 @@ pub record Begins (first : Bool) (cur : List ℕ) : Type 0 where
   pub first_one : first ≡ true → cont cur ≡ 0
   pub zeros : mode cur ≡ 0 → cont cur ≡ 0 → (x cur 0 ≡ 0) × (x cur 2 ≡ 0) × (x cur 3 ≡ 0)
 
-
 other_none : (a b c : ℕ) → a ≡ 1 → b < 2 → c < 2 → felt_mul a ((b + c) % prime) ≡ 0 → (b ≡ 0) × (c ≡ 0)
-other_none a b c ea hb hc zero_is =
-    (let e : (1 * ((b + c) % prime)) % prime ≡ 0 = ap (λ n. (n * ((b + c) % prime)) % prime) (sym ea) ∙ zero_is in omega (arith, e),
-    let e : (1 * ((b + c) % prime)) % prime ≡ 0 = ap (λ n. (n * ((b + c) % prime)) % prime) (sym ea) ∙ zero_is in omega (arith, e))
+other_none a b c ea hb hc zero_is = (
+  let e : (1 * ((b + c) % prime)) % prime ≡ 0 = ap (λ n. (n * ((b + c) % prime)) % prime) (sym ea) ∙ zero_is in omega (arith, e),
+  let e : (1 * ((b + c) % prime)) % prime ≡ 0 = ap (λ n. (n * ((b + c) % prime)) % prime) (sym ea) ∙ zero_is in omega (arith, e),
+)
 
 at_zero : (row : List ℕ) (j : ℕ) → x row j < prime → mode row ≡ 0 → cont row ≡ 0 → begins_at_zero row j ≡ 0 → x row j ≡ 0
 unfolding begins_at_zero
 at_zero row j below m c zero_is =
     let e : ((felt_mul (felt_sub 1 0) (felt_sub 1 0)) * x row j) % prime ≡ 0 =
-            ap₂ (λ a b. felt_mul (felt_mul (felt_sub 1 a) (felt_sub 1 b)) (x row j)) (sym m) (sym c) ∙ zero_is in
+    ap₂ (λ a b. felt_mul (felt_mul (felt_sub 1 a) (felt_sub 1 b)) (x row j)) (sym m) (sym c) ∙ zero_is in
     omega (arith, e)
 
 pub begins : (first : Bool) (constants cur : List ℕ) (next : Option (List ℕ)) → CellsBelow cur
@@ -142,13 +142,14 @@ linked : (first : Bool) (constants cur : List ℕ) (next : Option (List ℕ)) �
 unfolding hasher_values_by hasher_flag_values chain_values family state
 linked first constants cur None below below_next zero_is = zero_is 5
 linked first constants cur (Some y) below below_next zero_is =
-    let below_y = below_next y refl in
-    (same_from_sub (cont y) (more cur) (below_y 1) (below 2) (zero_is 9),
-    λ is. four_same _ _ _ _ _ _ _ _
-    (chained (more cur) (x y 0) (x cur 0) is (below_y 3) (below 3) (zero_is 13))
-    (chained (more cur) (x y 1) (x cur 1) is (below_y 4) (below 4) (zero_is 14))
-    (chained (more cur) (x y 2) (x cur 2) is (below_y 5) (below 5) (zero_is 15))
-    (chained (more cur) (x y 3) (x cur 3) is (below_y 6) (below 6) (zero_is 16)))
+    let below_y = below_next y refl in (
+      same_from_sub (cont y) (more cur) (below_y 1) (below 2) (zero_is 9),
+      λ is. four_same _ _ _ _ _ _ _ _
+          (chained (more cur) (x y 0) (x cur 0) is (below_y 3) (below 3) (zero_is 13))
+          (chained (more cur) (x y 1) (x cur 1) is (below_y 4) (below 4) (zero_is 14))
+          (chained (more cur) (x y 2) (x cur 2) is (below_y 5) (below 5) (zero_is 15))
+          (chained (more cur) (x y 3) (x cur 3) is (below_y 6) (below 6) (zero_is 16)),
+    )
 
 pub ends : (first : Bool) (constants cur : List ℕ) (next : Option (List ℕ)) → CellsBelow cur → ((y : List ℕ) → next ≡ Some y → CellsBelow y)
     → AllZero (hasher_values_by first false false true constants cur next) → Ends cur next

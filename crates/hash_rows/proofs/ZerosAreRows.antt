@@ -1,19 +1,18 @@
 -- A table whose entries are 0 has the rows of the permutations that it shows, and these fit.
-use Rattle.std.proofs.Common.{◌≡◌, ℕ, zero, suc, ◌+◌, ◌*◌, ◌%◌, ◌<◌, ◌==◌, Bool, true, false, List, [], ◌∷◌, ◌++◌, length, slice_get, slice_index, slice_index_or, take, Option, Some, None, All, refl, sym, ap, ap₂, subst, ◌∙◌, arith, lit<}
+use Rattle.std.proofs.Common.{◌≡◌, ℕ, zero, suc, ◌+◌, ◌*◌, ◌<◌, ◌==◌, Bool, true, false, List, [], ◌∷◌, length, slice_get, slice_index_or, take, Option, Some, None, All, refl, sym, ap, subst, ◌∙◌, arith, lit<}
 use Rattle.std.proofs.lemmas.Bool.{eqb-true}
 use Rattle.std.proofs.lemmas.List.Elements.{All-cons, All-nil}
-use Rattle.vm_field.specs.Field.{prime}
 use Rattle.vm_field.specs.Permutation.{round, rounds, round_constants, permuted}
 use Rattle.vm_field.proofs.PermutationLemmas.{length-round_constants, permuted-is, rounds-last, rounds-none}
 use Rattle.vm_table.specs.Layout.{IsTable}
-use Rattle.chip_columns.specs.HasherColumns.{mode, cont, more, x, state}
+use Rattle.chip_columns.specs.HasherColumns.{mode, cont, more, state}
 use Rattle.rpo_hash.specs.States.{IsState}
 use Rattle.air_kit.specs.declared.requests.Perm.{Perm}
 use Rattle.air_kit.specs.Places.{Claim, at_number}
 use Rattle.air_kit.specs.HasherValues.{hasher_values}
 use Rattle.air_kit.specs.Requests.{FollowsOn}
 use Rattle.hash_rows.specs.PermRows.{bit_number, perm_row, rows_before, rows_of, perm_of, perms_in}
-use Rattle.hash_rows.specs.HashTables.{IsZero, Fit, AreRows}
+use Rattle.hash_rows.specs.HashTables.{IsZero, Fit}
 use Rattle.hash_rows.proofs.RowLemmas.{row_is, state-IsState, bit_is}
 use Rattle.hash_rows.proofs.ZeroLemmas.{CellsBelow, GoesOn, goes_on, Begins, begins, Ends, ends, LinkedTo}
 use Rattle.hash_rows.proofs.BlockLemmas.{EightZero, ZeroFrom, eight, first_of, zero_from}
@@ -213,14 +212,17 @@ unfolding ZeroFrom perms_in perm_of LinksTo state
 follows constants first going last [] len t z l = l
 follows constants first going last (r0 ∷ r1 ∷ r2 ∷ r3 ∷ r4 ∷ r5 ∷ r6 ∷ r7 ∷ rows) len t z l =
     let rest = table_rest r0 r1 r2 r3 r4 r5 r6 r7 rows t in
-    let b = block_shows constants first r0 r1 r2 r3 r4 r5 r6 r7 (first_of rows) len (table_eight r0 r1 r2 r3 r4 r5 r6 r7 rows t) (table_next rows rest) z.0 in
-    (cont_linked going last r0 l,
-    λ is. (ap (λ n. n == 1) (b.starts.no_hash (eqb-true (mode r0) 1 is)),
-      ap (λ n. n == 1) (b.stops.no_hash (b.mode_same ∙ eqb-true (mode r0) 1 is))),
-    λ is. capacity_linked going last r0 l (sym (cont_linked going last r0 l) ∙ is),
-    λ m c. b.starts.zeros (zero_bit (mode r0) b.starts.mode_bit m) (zero_bit (cont r0) b.starts.cont_bit c),
-    follows constants false (more r7 == 1) (permuted constants (state r0)) rows len rest z.1
-    (links r7 (permuted constants (state r0)) (first_of rows) b.stops.more_bit b.behind b.stops.linked))
+    let b = block_shows constants first r0 r1 r2 r3 r4 r5 r6 r7 (first_of rows) len (table_eight r0 r1 r2 r3 r4 r5 r6 r7 rows t) (table_next rows rest) z.0 in (
+      cont_linked going last r0 l,
+      λ is. (
+        ap (λ n. n == 1) (b.starts.no_hash (eqb-true (mode r0) 1 is)),
+        ap (λ n. n == 1) (b.stops.no_hash (b.mode_same ∙ eqb-true (mode r0) 1 is)),
+      ),
+      λ is. capacity_linked going last r0 l (sym (cont_linked going last r0 l) ∙ is),
+      λ m c. b.starts.zeros (zero_bit (mode r0) b.starts.mode_bit m) (zero_bit (cont r0) b.starts.cont_bit c),
+      follows constants false (more r7 == 1) (permuted constants (state r0)) rows len rest z.1
+          (links r7 (permuted constants (state r0)) (first_of rows) b.stops.more_bit b.behind b.stops.linked),
+    )
 follows constants first going last _ len t z l = absurd z
 
 rows_are : (constants : List ℕ) (first : Bool) (rows : List (List ℕ)) → length constants ≡ 168 → IsTable 15 rows
@@ -251,14 +253,20 @@ first_links constants _ len t z = absurd z
 row_none : (k : ℕ) → 8 * 0 + k ≡ k
 row_none k = omega arith
 
-pub zeros_are_rows : (c : Claim) (rows : List (List ℕ)) → length c.constants ≡ 168 → IsZero c rows → AreRows c.constants rows
-zeros_are_rows c rows len z = record {
-  fit = record {
-    follows = follows c.constants true false [] rows len z.table zero_is (first_links c.constants rows len z.table zero_is);
-    states = states rows z.table;
-  };
-  rows_are = rows_are c.constants true rows len z.table zero_is;
+-- ---- the whole table
+
+zero_is : (c : Claim) (rows : List (List ℕ)) → IsZero c rows → ZeroFrom c.constants true rows
+zero_is c rows z =
+    zero_from c 0 rows z.whole
+    (λ k n h. ap (λ row. at_number (hasher_values c (record { row = row; cur = slice_index_or rows k []; next = slice_get rows (suc k) })) n) (row_none k)
+    ∙ z.zero k n h)
+
+pub fit_of : (c : Claim) (rows : List (List ℕ)) → length c.constants ≡ 168 → IsZero c rows → Fit c.constants (perms_in rows)
+fit_of c rows len z = record {
+  follows =
+      follows c.constants true false [] rows len z.table (zero_is c rows z) (first_links c.constants rows len z.table (zero_is c rows z));
+  states = states rows z.table;
 }
-  where
-    zero_is : ZeroFrom c.constants true rows
-    zero_is = zero_from c 0 rows z.whole (λ k n h. ap (λ row. at_number (hasher_values c (record { row = row; cur = slice_index_or rows k []; next = slice_get rows (suc k) })) n) (row_none k) ∙ z.zero k n h)
+
+pub are_rows : (c : Claim) (rows : List (List ℕ)) → length c.constants ≡ 168 → IsZero c rows → rows ≡ rows_of c.constants (perms_in rows)
+are_rows c rows len z = rows_are c.constants true rows len z.table (zero_is c rows z)
