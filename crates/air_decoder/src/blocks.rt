@@ -80,7 +80,11 @@ fn entry_61<V: MainView>(x: &Seen<'_, V>) -> Felt
 fn entry_62<V: MainView>(x: &Seen<'_, V>, y: &Seen<'_, V>) -> Felt
     ensures { result ≡ of_pair entry_62 (V.cells x.now.row.now) (V.cells y.now.row.now) }
 {
-    let opens = x.one(Op::Join) + x.one(Op::Split) + calls(x) + x.one(Op::Repeat) + x.one(Op::Loop) * x.row.s(0);
+    let opens = x.one(Op::Join)
+        + x.one(Op::Split)
+        + calls(x)
+        + x.one(Op::Repeat)
+        + x.one(Op::Loop) * x.row.s(0);
     opens * (Felt::ONE - starts(y))
 }
 
@@ -347,7 +351,10 @@ fn kept_faults<V: MainView>(x: &Seen<'_, V>, next: &Option<Seen<'_, V>>) -> Opti
 }
 
 /// The first of entries 60 to 91 that is not 0.
-pub(crate) fn block_faults<V: MainView>(x: &Seen<'_, V>, next: &Option<Seen<'_, V>>) -> Option<(u16, Felt)>
+pub(crate) fn block_faults<V: MainView>(
+    x: &Seen<'_, V>,
+    next: &Option<Seen<'_, V>>,
+) -> Option<(u16, Felt)>
     ensures { result ≡ first_fault_of 60 (block_values (spot_of 0 (V.cells x.now.row.now) (option_map (λ y. V.cells y.row.now) next.now))) }
 {
     let follow = follow_faults(x, next);

@@ -228,7 +228,16 @@ fn end_faults<V: MainView>(place: &Place<'_, V>, x: &Seen<'_, V>) -> Option<(u16
     };
     match &place.next {
         Some(_) => first_nonzero(&[kernel, left, Felt::ZERO, Felt::ZERO, Felt::ZERO], 39),
-        None => first_nonzero(&[kernel, left, entry_41(x), entry_42(place, x), entry_43(place, x)], 39),
+        None => first_nonzero(
+            &[
+                kernel,
+                left,
+                entry_41(x),
+                entry_42(place, x),
+                entry_43(place, x),
+            ],
+            39,
+        ),
     }
 }
 
@@ -265,7 +274,10 @@ fn outputs_faults<V: MainView>(place: &Place<'_, V>, x: &Seen<'_, V>) -> Option<
 }
 
 /// The first of entries 11 to 59 that is not 0.
-pub(crate) fn boundary_faults<V: MainView>(place: &Place<'_, V>, x: &Seen<'_, V>) -> Option<(u16, Felt)>
+pub(crate) fn boundary_faults<V: MainView>(
+    place: &Place<'_, V>,
+    x: &Seen<'_, V>,
+) -> Option<(u16, Felt)>
     requires { x.now.row.now ≡ place.now.cur }
     ensures { result ≡ first_fault_of 11 (boundary_values (claim_at place.now) (spot_at V.cells place.now)) }
 {

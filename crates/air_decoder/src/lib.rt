@@ -6,5 +6,7 @@ mod boundary;
 mod decoder;
 mod opcode;
 mod spans;
+#[cfg(test)]
+mod tests;
 
 pub use decoder::first_fault;

@@ -43,7 +43,11 @@ fn entry_10<V: MainView>(x: &Seen<'_, V>, y: &Seen<'_, V>) -> Felt
 
 /// The first of entries 1 to 10 that is not 0.
 #[tactic(auto, unfolding(air_kit::specs::OpcodeValues::opcode_values, air_kit::specs::Places::family))]
-pub(crate) fn opcode_faults<V: MainView>(row: u32, x: &Seen<'_, V>, next: &Option<Seen<'_, V>>) -> Option<(u16, Felt)>
+pub(crate) fn opcode_faults<V: MainView>(
+    row: u32,
+    x: &Seen<'_, V>,
+    next: &Option<Seen<'_, V>>,
+) -> Option<(u16, Felt)>
     ensures { result ≡ first_fault_of 1 (opcode_values (spot_of row (V.cells x.now.row.now) (option_map (λ y. V.cells y.row.now) next.now))) }
 {
     let starts = if row == 0 { entry_9(x) } else { Felt::ZERO };

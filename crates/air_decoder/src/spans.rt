@@ -104,7 +104,8 @@ fn entry_103<V: MainView>(x: &Seen<'_, V>) -> Felt
 {
     let r = x.row;
     batches(x)
-        * (r.c(0) * (r.h(4) * r.w(0) + r.h(5) * r.w(1) + r.h(6) * r.w(2) + r.h(7) * r.w(3) - Felt::ONE)
+        * (r.c(0)
+            * (r.h(4) * r.w(0) + r.h(5) * r.w(1) + r.h(6) * r.w(2) + r.h(7) * r.w(3) - Felt::ONE)
             + r.c(1) * (r.h(2) * r.w(0) + r.h(3) * r.w(1) - Felt::ONE)
             + r.c(2) * (r.h(1) * r.w(0) - Felt::ONE))
 }
@@ -294,7 +295,10 @@ fn group_faults<V: MainView>(x: &Seen<'_, V>, next: &Option<Seen<'_, V>>) -> Opt
 }
 
 /// The first of entries 92 to 114 that is not 0.
-pub(crate) fn span_faults<V: MainView>(x: &Seen<'_, V>, next: &Option<Seen<'_, V>>) -> Option<(u16, Felt)>
+pub(crate) fn span_faults<V: MainView>(
+    x: &Seen<'_, V>,
+    next: &Option<Seen<'_, V>>,
+) -> Option<(u16, Felt)>
     ensures { result ≡ first_fault_of 92 (span_values (spot_of 0 (V.cells x.now.row.now) (option_map (λ y. V.cells y.row.now) next.now))) }
 {
     let batch = batch_faults(x, next);
