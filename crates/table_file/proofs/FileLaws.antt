@@ -70,10 +70,15 @@ module _ (bytes : List ℕ) where
 
   counts-same : (c : Counts) (t : Trace) → TablesSay c t → counts_in t ≡ c
   counts-same c t say =
-      rw (rows-count bytes 65 c.main 36 t.main say.main, rows-count bytes 2 c.range (range_place c) t.range say.range,
-        rows-count bytes 15 c.hasher (hasher_place c) t.hasher say.hasher, rows-count bytes 12 c.bitwise (bitwise_place c) t.bitwise say.bitwise,
-        rows-count bytes 14 c.memory (memory_place c) t.memory say.memory, rows-count bytes 5 c.kernel (kernel_place c) t.kernel say.kernel,
-        rows-count bytes 1 c.left (left_place c) t.left say.left) refl
+      rw (
+        rows-count bytes 65 c.main 36 t.main say.main,
+        rows-count bytes 2 c.range (range_place c) t.range say.range,
+        rows-count bytes 15 c.hasher (hasher_place c) t.hasher say.hasher,
+        rows-count bytes 12 c.bitwise (bitwise_place c) t.bitwise say.bitwise,
+        rows-count bytes 14 c.memory (memory_place c) t.memory say.memory,
+        rows-count bytes 5 c.kernel (kernel_place c) t.kernel say.kernel,
+        rows-count bytes 1 c.left (left_place c) t.left say.left,
+      ) refl
 
   shaped : (t : Trace) (c : Counts) → TablesSay c t → AreTables t
   shaped t c say table.Main = rows-table bytes 65 c.main 36 t.main say.main
@@ -128,10 +133,10 @@ module _ (bytes : List ℕ) where
       let tables =
       joined (table_bytes t.main) (table_bytes t.range ++ (table_bytes t.hasher ++ (table_bytes t.bitwise ++ (table_bytes t.memory ++ (table_bytes t.kernel ++ table_bytes t.left))))) 36 (range_place c) (rows-written bytes low 65 c.main 36 t.main say.main)
       (joined (table_bytes t.range) (table_bytes t.hasher ++ (table_bytes t.bitwise ++ (table_bytes t.memory ++ (table_bytes t.kernel ++ table_bytes t.left)))) (range_place c) (hasher_place c) (rows-written bytes low 2 c.range (range_place c) t.range say.range)
-        (joined (table_bytes t.hasher) (table_bytes t.bitwise ++ (table_bytes t.memory ++ (table_bytes t.kernel ++ table_bytes t.left))) (hasher_place c) (bitwise_place c) (rows-written bytes low 15 c.hasher (hasher_place c) t.hasher say.hasher)
-          (joined (table_bytes t.bitwise) (table_bytes t.memory ++ (table_bytes t.kernel ++ table_bytes t.left)) (bitwise_place c) (memory_place c) (rows-written bytes low 12 c.bitwise (bitwise_place c) t.bitwise say.bitwise)
-            (joined (table_bytes t.memory) (table_bytes t.kernel ++ table_bytes t.left) (memory_place c) (kernel_place c) (rows-written bytes low 14 c.memory (memory_place c) t.memory say.memory)
-              (joined (table_bytes t.kernel) (table_bytes t.left) (kernel_place c) (left_place c) (rows-written bytes low 5 c.kernel (kernel_place c) t.kernel say.kernel) last))))) in
+      (joined (table_bytes t.hasher) (table_bytes t.bitwise ++ (table_bytes t.memory ++ (table_bytes t.kernel ++ table_bytes t.left))) (hasher_place c) (bitwise_place c) (rows-written bytes low 15 c.hasher (hasher_place c) t.hasher say.hasher)
+      (joined (table_bytes t.bitwise) (table_bytes t.memory ++ (table_bytes t.kernel ++ table_bytes t.left)) (bitwise_place c) (memory_place c) (rows-written bytes low 12 c.bitwise (bitwise_place c) t.bitwise say.bitwise)
+      (joined (table_bytes t.memory) (table_bytes t.kernel ++ table_bytes t.left) (memory_place c) (kernel_place c) (rows-written bytes low 14 c.memory (memory_place c) t.memory say.memory)
+      (joined (table_bytes t.kernel) (table_bytes t.left) (kernel_place c) (left_place c) (rows-written bytes low 5 c.kernel (kernel_place c) t.kernel say.kernel) last))))) in
       sym (head-written bytes low c h.1) ∙ ap₂ (λ (k : Counts) (bs : List ℕ). head_bytes k ++ bs) (sym (counts-same c t say)) (sym tables)
 
 may-stand : (bytes : List ℕ) (t : Trace) → HasCounts t → MayStand bytes (counts_in t)

@@ -109,13 +109,13 @@ module _ (bytes : List ℕ) where
       let rest = drop 36 bytes in
       joined (codes "MDTB") (count_bytes 1 ++ (count_bytes c.main ++ (count_bytes c.range ++ (count_bytes c.hasher ++ (count_bytes c.bitwise ++ (count_bytes c.memory ++ (count_bytes c.kernel ++ count_bytes c.left))))))) rest 0 4 first
       (joined (count_bytes 1) (count_bytes c.main ++ (count_bytes c.range ++ (count_bytes c.hasher ++ (count_bytes c.bitwise ++ (count_bytes c.memory ++ (count_bytes c.kernel ++ count_bytes c.left)))))) rest 4 8 second
-        (joined (count_bytes c.main) (count_bytes c.range ++ (count_bytes c.hasher ++ (count_bytes c.bitwise ++ (count_bytes c.memory ++ (count_bytes c.kernel ++ count_bytes c.left))))) rest 8 12 (count-written low table.Main 8 c.main says.main)
-          (joined (count_bytes c.range) (count_bytes c.hasher ++ (count_bytes c.bitwise ++ (count_bytes c.memory ++ (count_bytes c.kernel ++ count_bytes c.left)))) rest 12 16 (count-written low table.Range 12 c.range says.range)
-            (joined (count_bytes c.hasher) (count_bytes c.bitwise ++ (count_bytes c.memory ++ (count_bytes c.kernel ++ count_bytes c.left))) rest 16 20 (count-written low table.Hasher 16 c.hasher says.hasher)
-              (joined (count_bytes c.bitwise) (count_bytes c.memory ++ (count_bytes c.kernel ++ count_bytes c.left)) rest 20 24 (count-written low table.Bitwise 20 c.bitwise says.bitwise)
-                (joined (count_bytes c.memory) (count_bytes c.kernel ++ count_bytes c.left) rest 24 28 (count-written low table.Memory 24 c.memory says.memory)
-                  (joined (count_bytes c.kernel) (count_bytes c.left) rest 28 32 (count-written low table.Kernel 28 c.kernel says.kernel)
-                    (count-written low table.Left 32 c.left says.left))))))))
+      (joined (count_bytes c.main) (count_bytes c.range ++ (count_bytes c.hasher ++ (count_bytes c.bitwise ++ (count_bytes c.memory ++ (count_bytes c.kernel ++ count_bytes c.left))))) rest 8 12 (count-written low table.Main 8 c.main says.main)
+      (joined (count_bytes c.range) (count_bytes c.hasher ++ (count_bytes c.bitwise ++ (count_bytes c.memory ++ (count_bytes c.kernel ++ count_bytes c.left)))) rest 12 16 (count-written low table.Range 12 c.range says.range)
+      (joined (count_bytes c.hasher) (count_bytes c.bitwise ++ (count_bytes c.memory ++ (count_bytes c.kernel ++ count_bytes c.left))) rest 16 20 (count-written low table.Hasher 16 c.hasher says.hasher)
+      (joined (count_bytes c.bitwise) (count_bytes c.memory ++ (count_bytes c.kernel ++ count_bytes c.left)) rest 20 24 (count-written low table.Bitwise 20 c.bitwise says.bitwise)
+      (joined (count_bytes c.memory) (count_bytes c.kernel ++ count_bytes c.left) rest 24 28 (count-written low table.Memory 24 c.memory says.memory)
+      (joined (count_bytes c.kernel) (count_bytes c.left) rest 28 32 (count-written low table.Kernel 28 c.kernel says.kernel)
+      (count-written low table.Left 32 c.left says.left))))))))
 
   field-read : (why : FileCause) (test : ℕ → Bool) (at n : ℕ) (rest : List ℕ) → n < 256 ^ 4 → test n ≡ true → drop at bytes ≡ little_bytes 4 n ++ rest → (number_at bytes 4 why test at ≡ Ok n) × (drop (at + 4) bytes ≡ rest)
   field-read why test at n rest fits good is =

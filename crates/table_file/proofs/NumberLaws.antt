@@ -38,7 +38,7 @@ spelled (suc n) (b ∷ ys) len low =
     let above : (b + 256 * r) / 256 ≡ r = omega arith in
     ap (λ (v : ℕ). bytes_low_first 0 (suc n) v ++ drop n ys) value
     ∙ ap₂ (λ (x : ℕ) (xs : List ℕ). x ∷ (xs ++ drop n ys)) first
-      (low_first-suc 0 n (b + 256 * r) ∙ ap (bytes_low_first 0 n) above)
+    (low_first-suc 0 n (b + 256 * r) ∙ ap (bytes_low_first 0 n) above)
     ∙ ap (λ (xs : List ℕ). b ∷ xs) (spelled n ys (omega arith) (All-tail (λ x. x < 256) b ys low))
 
 picked : (ends passes : Bool) (e f : FileError) (r : Result ℕ FileError) (n x : ℕ) → r ≡ Ok n → cond ends (Err e) (cond passes r (Err f)) ≡ Ok x → (ends ≡ false) × (passes ≡ true) × (n ≡ x)

@@ -73,4 +73,4 @@ module _ {A : Type 0} (part : ℕ → Result A FileError) (size : ℕ) where
           let there : drop at bytes ≡ write x ++ (parts_bytes write xs ++ rest) = is ∙ append_assoc (write x) (parts_bytes write xs) rest in
           parts_more part size (length xs) at x (each at x (parts_bytes write xs ++ rest) first there)
           ∙ ap (λ r. behind r (λ ys. Ok (x ∷ ys)))
-            (parts-read each xs (at + size) rest (All-tail Good x xs good) (behind_part bytes (write x) (parts_bytes write xs ++ rest) at size (wide x first) there))
+          (parts-read each xs (at + size) rest (All-tail Good x xs good) (behind_part bytes (write x) (parts_bytes write xs ++ rest) at size (wide x first) there))

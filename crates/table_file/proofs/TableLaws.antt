@@ -63,21 +63,22 @@ module _ (bytes : List ℕ) where
   rows-written low w n at rows is =
       parts-written (row_at bytes w) (8 * w) bytes row_bytes
       (λ place row is-row. parts-written (element_at bytes) 8 bytes (little_bytes 8)
-        (λ spot x is-x. number-written bytes 8 cause.Element (λ k. nat_lt k prime) spot x low is-x) w place row is-row)
+      (λ spot x is-x. number-written bytes 8 cause.Element (λ k. nat_lt k prime) spot x low is-x) w place row is-row)
       n at rows is
 
   row-reads : (w at : ℕ) (row rest : List ℕ) → IsRow w row → drop at bytes ≡ row_bytes row ++ rest → row_at bytes w at ≡ Ok row
   row-reads w at row rest good is =
       subst (λ n. parts_at (element_at bytes) 8 n at ≡ Ok row) good.0
       (parts-read (element_at bytes) 8 bytes (little_bytes 8) IsElement wide-element
-        (λ spot x more below there.
-          let fits : x < 256 ^ 8 = omega arith in
-          number-reads bytes 8 cause.Element (λ k. nat_lt k prime) spot x more (omega arith) fits (lt-ltb x prime below) there)
-        row at rest good.1 is)
+      (λ spot x more below there.
+      let fits : x < 256 ^ 8 = omega arith in
+      number-reads bytes 8 cause.Element (λ k. nat_lt k prime) spot x more (omega arith) fits (lt-ltb x prime below) there)
+      row at rest good.1 is)
 
   -- the bytes of a table read as it, and what follows stands behind it
   pub rows-read : (w at : ℕ) (rows : List (List ℕ)) (rest : List ℕ) → IsTable w rows → drop at bytes ≡ table_bytes rows ++ rest → (rows_at bytes w (length rows) at ≡ Ok rows) × (drop (at + 8 * w * length rows) bytes ≡ rest)
   rows-read w at rows rest shape is =
-      let good = from-table w rows shape in
-      ( parts-read (row_at bytes w) (8 * w) bytes row_bytes (IsRow w) (wide-row w) (λ place row more. row-reads w place row more) rows at rest good is
-      , behind_part bytes (table_bytes rows) rest at (8 * w * length rows) (parts-wide (row_at bytes w) (8 * w) bytes row_bytes (IsRow w) (wide-row w) rows good) is )
+      let good = from-table w rows shape in (
+        parts-read (row_at bytes w) (8 * w) bytes row_bytes (IsRow w) (wide-row w) (λ place row more. row-reads w place row more) rows at rest good is,
+        behind_part bytes (table_bytes rows) rest at (8 * w * length rows) (parts-wide (row_at bytes w) (8 * w) bytes row_bytes (IsRow w) (wide-row w) rows good) is,
+      )

@@ -5,8 +5,8 @@ mod cause;
 mod counts;
 mod laws;
 mod reading;
-
-
+#[cfg(test)]
+mod tests;
 mod writing;
 
 pub use cause::{FileCause, FileError, cause_text};

@@ -80,11 +80,7 @@ fn write_table<const W: usize>(bytes: &mut Vec<u8>, table: &Table<W>) -> Result<
     Ok(())
 }
 
-fn write_row<const W: usize>(
-    bytes: &mut Vec<u8>,
-    table: &Table<W>,
-    i: usize,
-) -> Result<(), Memory>
+fn write_row<const W: usize>(bytes: &mut Vec<u8>, table: &Table<W>, i: usize) -> Result<(), Memory>
     requires { i < length table.now }
     ensures { OnOk result (bytes.new.items ≡ bytes.old.items ++ row_bytes (slice_index_or table.now i [])) }
 {

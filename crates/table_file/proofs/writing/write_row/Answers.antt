@@ -12,5 +12,5 @@ loop-j-preserved g c =
     let inside : c.loop-j.j < length row = omega (arith, c.loop-j-test.true, c.rows-shape.ensures.shape.wide c.args.i c.requires) in
     c.in_ok-write_u64.ensures
     ∙ ap (λ (x : ℕ). c.loop-j.bytes.items ++ little_bytes 8 x)
-      (c.value.ensures.is ∙ c.cell.ensures.is ∙ ap (λ (cells : List ℕ). get_or cells c.loop-j.j 0) c.row-row.ensures.cells)
+    (c.value.ensures.is ∙ c.cell.ensures.is ∙ ap (λ (cells : List ℕ). get_or cells c.loop-j.j 0) c.row-row.ensures.cells)
     ∙ one_written (little_bytes 8) _ _ row c.loop-j.j 0 inside c.loop-j.invariant
