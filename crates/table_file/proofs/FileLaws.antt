@@ -1,8 +1,7 @@
 -- The laws of table files.
-use Rattle.std.proofs.Common.{◌≡◌, ℕ, ◌+◌, ◌*◌, ◌%◌, ◌<◌, ◌≤◌, Bool, true, false, cond, nat_lt, List, [], ◌++◌, length, drop, Result, Ok, Err, refl, sym, ap, ap₂, subst, ◌∙◌, arith, append-nil}
+use Rattle.std.proofs.Common.{◌≡◌, ℕ, ◌≤◌, Bool, true, false, cond, nat_lt, List, [], ◌++◌, length, drop, Result, Ok, Err, refl, sym, ap, ap₂, subst, ◌∙◌, arith, append-nil}
 use Rattle.std.proofs.lemmas.Bool.{ltb-false, le-ltb}
 use Rattle.std.proofs.lemmas.List.{drop_all, length-drop}
-use Rattle.vm_table.specs.Layout.{IsTable}
 use Rattle.air_kit.specs.Traces.{HasCounts, most_rows, rows_of}
 use Rattle.air_kit.specs.declared.trace.TableName.{TableName}
 use Rattle.air_kit.specs.declared.trace.TableName.TheVariants as table
@@ -12,7 +11,7 @@ use Rattle.table_file.specs.declared.cause.FileError.{FileError}
 use Rattle.table_file.specs.declared.cause.FileError.TheVariants.{Bad}
 use Rattle.table_file.specs.declared.counts.Counts.{Counts}
 use Rattle.table_file.specs.Fields.{rows_at, table_bytes}
-use Rattle.table_file.specs.Files.{AreTables, bytes_of, columns, count_at, counts_in, end_place, bitwise_place, hasher_place, kernel_place, left_place, memory_place, range_place, ended_at, head_bytes, head_of, may_have, tables_of, trace_of}
+use Rattle.table_file.specs.Files.{AreTables, bytes_of, counts_in, end_place, bitwise_place, hasher_place, kernel_place, left_place, memory_place, range_place, ended_at, head_bytes, head_of, tables_of, trace_of}
 use Rattle.table_file.proofs.Chains.{chain}
 use Rattle.table_file.proofs.NumberLaws.{AreBytes}
 use Rattle.table_file.proofs.HeadLaws.{HeadSays, MayStand, head-says, head-written, head-read, count-fits, may-have-if}

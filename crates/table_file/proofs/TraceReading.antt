@@ -1,11 +1,11 @@
 -- What the tables of a file read as, table by table.
-use Rattle.std.proofs.Common.{◌≡◌, ℕ, ◌<◌, ◌≤◌, List, length, Result, Ok, Err, IfOk, refl, sym, subst, arith}
+use Rattle.std.proofs.Common.{◌≡◌, ℕ, ◌<◌, ◌≤◌, List, length, Result, Ok, Err, IfOk, refl, sym, subst}
 use Rattle.std.proofs.lemmas.Bool.{le-ltb, lt-ltb}
 use Rattle.air_kit.specs.Traces.{HasCounts}
 use Rattle.air_kit.specs.declared.trace.Trace.{Trace}
 use Rattle.table_file.specs.declared.cause.FileCause.TheVariants as cause
 use Rattle.table_file.specs.declared.cause.FileError.{FileError}
-use Rattle.table_file.specs.declared.cause.FileError.TheVariants.{Bad, Memory}
+use Rattle.table_file.specs.declared.cause.FileError.TheVariants.{Bad}
 use Rattle.table_file.specs.declared.counts.Counts.{Counts}
 use Rattle.table_file.specs.Fields.{IsRead, rows_at}
 use Rattle.table_file.specs.Files.{AreTables, bitwise_place, end_place, ended_at, hasher_place, head_of, kernel_place, left_place, memory_place, range_place, tables_of, trace_of}
