@@ -1,0 +1,6 @@
+pub mod PairLemmas
+pub mod ScanLemmas
+pub mod SingleLemmas
+pub mod WidthLemmas
+pub mod AnswerLemmas
+pub mod AddingLemmas
