@@ -6,14 +6,15 @@ set -e
 top=$(cd "$(dirname "$0")/.." && pwd)
 work=$(mktemp -d)
 trap 'rm -rf "$work"' EXIT
-for crate in vm_field bus_kit; do
+for crate in vm_field buses bus_kit; do
     mkdir -p "$work/crates/$crate"
     cp -r "$top/crates/$crate"/{src,specs,proofs} "$work/crates/$crate/"
 done
 mkdir -p "$work/crates/bench_tally/src" "$work/crates/bench_tally/proofs/ask_all"
 cat >"$work/crates.txt" <<'END'
 vm_field: thiserror hex itoa
-bus_kit: vm_field arrayvec
+buses:
+bus_kit: buses vm_field arrayvec
 bench_tally: bus_kit vm_field anyhow
 END
 cat >"$work/crates/bench_tally/src/main.rt" <<'END'

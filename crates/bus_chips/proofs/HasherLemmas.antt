@@ -1,8 +1,8 @@
 -- What the first and the last row of a permutation give, by the row's flags.
-use Rattle.std.proofs.Common.{◌≡◌, ◌≢◌, ℕ, suc, ◌+◌, ◌%◌, ◌==◌, Bool, true, false, List, [], ◌∷◌, refl, sym, ap, ◌∙◌}
+use Rattle.std.proofs.Common.{◌≡◌, ◌≢◌, ℕ, suc, ◌%◌, ◌==◌, true, false, List, [], ◌∷◌, refl, sym, ap, ◌∙◌}
 use Rattle.std.proofs.lemmas.Bool.{eqb-true}
 use Rattle.air_kit.specs.ChipTuples.{absorbed_part, digest_part, hasher_given, permutation_begins, permutation_ends, whole_part}
-use Rattle.buses.specs.Counts.{Counted, once}
+use Rattle.buses.specs.Counts.{once}
 use Rattle.chip_columns.specs.HasherColumns as hasher
 
 pub begins_permutation : (address : ℕ) (row t : List ℕ) (m0 : ℕ)

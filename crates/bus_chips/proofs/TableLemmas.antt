@@ -1,5 +1,5 @@
 -- What one table gives or asks on its bus is all that it gives and asks.
-use Rattle.std.proofs.Common.{ℕ, ◌^◌, List, [], ◌∷◌, Option, Result, Ok, Err, OnOk, ◌≡◌, subst, lit≤}
+use Rattle.std.proofs.Common.{ℕ, ◌^◌, List, [], Option, Result, Ok, Err, OnOk, ◌≡◌, subst, lit≤}
 use Rattle.buses.specs.Counts.{Counted}
 use Rattle.air_kit.specs.ChipTuples.{chip_asked, chip_given, hasher_given, kernel_given, left_asked, range_given}
 use Rattle.air_kit.specs.Places.{Claim}

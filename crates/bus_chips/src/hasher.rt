@@ -13,7 +13,10 @@ use vm_field::{Felt, Memory};
 
 /// What the first or the last row of a permutation gives: its input, or its output. At `Memory` a part
 /// may be counted.
-pub fn tuples_hasher<V: HasherView>(place: &Place<'_, V>, tallies: &mut Tallies) -> Result<(), Memory>
+pub fn tuples_hasher<V: HasherView>(
+    place: &Place<'_, V>,
+    tallies: &mut Tallies,
+) -> Result<(), Memory>
     requires { HaveRoom tallies.old }
     ensures { OnOk result (AreCounted (2 ^ 66) tallies.old tallies.new
         (λ bus. chip_asked (claim_at place.now) bus table.Hasher place.now.row (V.cells place.now.cur) (option_map V.cells place.now.next))
@@ -136,5 +139,12 @@ fn first_absorbed<V: HasherView>(address: Felt, row: &V) -> [Felt; 11]
 fn digest<V: HasherView>(address: Felt, row: &V) -> [Felt; 6]
     ensures { result ≡ 3 ∷ address ∷ digest_part (V.cells row.now) }
 {
-    [Felt::from_u32(3), address, row.x4(), row.x5(), row.x6(), row.x7()]
+    [
+        Felt::from_u32(3),
+        address,
+        row.x4(),
+        row.x5(),
+        row.x6(),
+        row.x7(),
+    ]
 }

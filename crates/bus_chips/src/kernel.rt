@@ -10,12 +10,20 @@ use chip_columns::KernelView;
 use vm_field::Memory;
 
 /// The digest of a row, given as often as the row says. At `Memory` a part may be counted.
-pub fn tuples_kernel<V: KernelView>(place: &Place<'_, V>, tallies: &mut Tallies) -> Result<(), Memory>
+pub fn tuples_kernel<V: KernelView>(
+    place: &Place<'_, V>,
+    tallies: &mut Tallies,
+) -> Result<(), Memory>
     requires { HaveRoom tallies.old }
     ensures { OnOk result (AreCounted (2 ^ 66) tallies.old tallies.new
         (λ bus. chip_asked (claim_at place.now) bus table.Kernel place.now.row (V.cells place.now.cur) (option_map V.cells place.now.next))
         (λ bus. chip_given bus table.Kernel place.now.row (V.cells place.now.cur) (option_map V.cells place.now.next))) }
 {
-    let digest = [place.cur.d0(), place.cur.d1(), place.cur.d2(), place.cur.d3()];
+    let digest = [
+        place.cur.d0(),
+        place.cur.d1(),
+        place.cur.d2(),
+        place.cur.d3(),
+    ];
     give_times(&mut tallies.kernel, &digest, place.cur.count())
 }

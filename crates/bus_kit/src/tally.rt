@@ -47,6 +47,7 @@ impl Tally {
     }
 
     // Counts a tuple on one side, unless the count is 0.
+    #[inline(always)]
     fn add(&mut self, side: Side, tuple: &[Felt], count: u64) -> Result<(), Memory>
         requires width { is_width (length tuple.now) ≡ true }
         requires fits { on_side side (both_at self.old tuple.now) + count < 2 ^ 128 }
@@ -60,6 +61,7 @@ impl Tally {
     }
 
     // Counts a tuple on one side, in the counts of its width.
+    #[inline(always)]
     fn add_in_width(&mut self, side: Side, tuple: &[Felt], count: u64) -> Result<(), Memory>
         requires width { is_width (length tuple.now) ≡ true }
         requires fits { on_side side (both_at self.old tuple.now) + count < 2 ^ 128 }
