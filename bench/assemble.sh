@@ -1,14 +1,14 @@
 #!/bin/bash
 # Assembles three sources by masm_link and by plain Rust (assemble.rs, rustc -O) in turn, and prints for each the least
 # time of both in microseconds, the peak memory of both processes, and the ratios, each of which is to be at most 1.3.
-# The sources are many procedures in 1,000,000 bytes; a chain of 600 procedures, each used by the next one and by
-# begin, whose tree has near 524,288 operations; and a chain of 1,000,000 bytes into a cycle, which is refused. The
+# The sources are many procedures in near 900,000 bytes; a chain of 600 procedures, each used by the next one and by
+# begin, whose tree has near 524,288 operations; and a chain of near 950,000 bytes into a cycle, which is refused. The
 # program over masm_link is made in a temporary folder.
 set -e
 top=$(cd "$(dirname "$0")/.." && pwd)
 work=$(mktemp -d)
 trap 'rm -rf "$work"' EXIT
-libraries='vm_field vm_io vm_ops rpo_hash op_pack block_tree masm_lex masm_instr masm_parse masm_uses masm_flat
+libraries='vm_field vm_io vm_ops rpo_hash op_pack block_tree masm_lex masm_instr instr_reading masm_parse masm_uses masm_flat
     masm_link'
 for crate in $libraries; do
     mkdir -p "$work/crates/$crate"

@@ -7,7 +7,7 @@ set -e
 top=$(cd "$(dirname "$0")/.." && pwd)
 work=$(mktemp -d)
 trap 'rm -rf "$work"' EXIT
-libraries='vm_field vm_io vm_ops rpo_hash op_pack vm_state op_steps block_tree processor masm_lex masm_instr masm_parse
+libraries='vm_field vm_io vm_ops rpo_hash op_pack vm_state op_steps block_tree processor masm_lex masm_instr instr_reading masm_parse
     masm_uses masm_flat masm_link'
 for crate in $libraries; do
     mkdir -p "$work/crates/$crate"
