@@ -20,6 +20,7 @@ enum Op {
     Swap,
     MovUp3,
     U32Add,
+    Eq,
     Add,
     Mul,
     Drop,
@@ -38,7 +39,7 @@ enum Op {
 }
 
 // The operations of the cases by their codes.
-const CODES: [(Op, u64); 16] = [
+const CODES: [(Op, u64); 17] = [
     (Op::Noop, 0),
     (Op::Eqz, 1),
     (Op::Incr, 4),
@@ -47,6 +48,7 @@ const CODES: [(Op, u64); 16] = [
     (Op::Swap, 8),
     (Op::MovUp3, 12),
     (Op::U32Add, 30),
+    (Op::Eq, 36),
     (Op::Add, 37),
     (Op::Mul, 38),
     (Op::Drop, 43),
@@ -59,7 +61,7 @@ const CODES: [(Op, u64); 16] = [
 
 type Word = [u64; 4];
 
-type Batch = [u64; 8];
+pub type Batch = [u64; 8];
 
 #[derive(Clone, Copy)]
 struct Item {
@@ -67,7 +69,7 @@ struct Item {
     imm: Option<u64>,
 }
 
-enum Tree {
+pub enum Tree {
     Span(Vec<Batch>),
     Join(Box<Tree>, Box<Tree>),
     Loop(Box<Tree>),
@@ -265,6 +267,10 @@ impl State {
             Op::U32Add if a < 1 << 32 && b < 1 << 32 => {
                 self.top[0] = (a + b) >> 32;
                 self.top[1] = (a + b) & 0xffff_ffff;
+            }
+            Op::Eq => {
+                self.drop_top();
+                self.top[0] = u64::from(a == b);
             }
             Op::Add => {
                 self.drop_top();
@@ -535,6 +541,14 @@ fn balanced(height: u32) -> Tree {
 
 fn constants(from: u64) -> [[u64; 12]; 7] {
     std::array::from_fn(|k| std::array::from_fn(|i| from + 1000 * k as u64 + i as u64))
+}
+
+/// The cycles of a run from a stack of zeros, and its visible cells.
+#[allow(dead_code)]
+pub fn cycles_and_cells(tree: &Tree) -> (usize, [u64; 16]) {
+    let params = Params { first: constants(1), second: constants(7) };
+    let run = execute(params, tree, &[], 524287).expect("the run ends");
+    (run.log.len(), run.state.top)
 }
 
 // Prints a case's name, its time in microseconds, its cycles, and what it came to.

@@ -1,19 +1,18 @@
 -- Where a row's seven bits are bits, the flag of an operation is 1 if they spell its code, else 0. Each sum over flags is then
 -- the term of one operation.
-use Rattle.std.proofs.Common.{◌≡◌, ◌≢◌, ℕ, zero, suc, ◌+◌, ◌*◌, ◌/◌, ◌%◌, ◌^◌, ◌<◌, ◌≤◌, Bool, true, false, ◌&&◌, cond, eqb, ltb, List, [], ◌∷◌, length, Option, Some, None, unwrap_or, refl, sym, ap, ap₂, subst, ◌∙◌, inl, inr, arith, lit<, zero-mul}
+use Rattle.std.proofs.Common.{◌≡◌, ◌≢◌, ℕ, zero, suc, ◌+◌, ◌*◌, ◌/◌, ◌%◌, ◌^◌, ◌<◌, ◌≤◌, Bool, true, false, ◌&&◌, cond, eqb, List, [], ◌∷◌, length, Option, Some, None, unwrap_or, refl, sym, ap, subst, ◌∙◌, inl, inr, arith, lit<, zero-mul}
 use Rattle.std.proofs.Math.Nat.{pow-succ'}
-use Rattle.std.proofs.lemmas.Bool.{cases_Bool, ltb-true, eqb-true}
+use Rattle.std.proofs.lemmas.Bool.{cases_Bool, eqb-true}
 use Rattle.std.proofs.lemmas.Bool.Decides.{nat_tests}
-use Rattle.std.specs.List.{slice_get}
 use mathlib.Core.Path.{fun_ext}
-use Rattle.vm_field.specs.Field.{prime, felt_add, felt_sub, felt_mul}
+use Rattle.vm_field.specs.Field.{prime, felt_sub, felt_mul}
 use Rattle.vm_ops.specs.declared.op.Op.{Op}
 use Rattle.vm_ops.specs.declared.op.Op.TheVariants.{Noop}
 use Rattle.vm_ops.specs.Codes.{code_of, every_op, op_at}
 use Rattle.vm_ops.proofs.CodeLemmas.{code_of-below, code_of-different, code_of-op_at, op_at-code_of}
 use Rattle.vm_table.specs.MainColumns.{b}
 use Rattle.air_kit.specs.Built.{is_built}
-use Rattle.air_kit.specs.Flags.{factor, flag_by, flag, Flags, sum_of, sum_over, flags_of, is_op, spelled, op_of, one_hot, HasOp}
+use Rattle.air_kit.specs.Flags.{factor, flag_by, flag, Flags, sum_of, sum_over, flags_of, spelled, op_of, one_hot, HasOp}
 
 -- a digit that is the bit leaves the rest of the product, another one makes it 0
 factor_of : (digit bit rest : ℕ) → digit < 2 → bit < 2 → rest < 2 → felt_mul (factor digit bit) rest ≡ cond (eqb digit bit) rest 0

@@ -1,5 +1,5 @@
 -- An accepted trace, and the first refusal of another one (docs/CONSTRAINTS.md).
-use Rattle.std.specs.Prelude.{◌≡◌, ◌≢◌, ◌⊎◌, ℕ, ◌+◌, ◌<◌, List, [], ◌∷◌, ◌++◌, length, Option, Some, None}
+use Rattle.std.specs.Prelude.{◌≡◌, ◌≢◌, ℕ, ◌+◌, ◌<◌, List, [], ◌∷◌, ◌++◌, length, Option, Some, None}
 use Rattle.buses.specs.Counts.{Counted, AreAlike, IsLeastApart, counted, once, over_rows, with_next}
 use Rattle.buses.specs.Names.{bus_number}
 use Rattle.buses.specs.declared.bus.Bus.{Bus}

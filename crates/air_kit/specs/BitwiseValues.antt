@@ -1,5 +1,5 @@
 -- The entries of the bitwise table: eight rows an operation on 32 bits, four bits a row, the highest first.
-use Rattle.std.specs.Prelude.{ℕ, ◌%◌, Bool, ◌==◌, nat_lt, List, [], ◌∷◌, ◌++◌, Option}
+use Rattle.std.specs.Prelude.{ℕ, ◌%◌, Bool, ◌==◌, nat_lt, List, [], ◌∷◌, Option}
 use Rattle.vm_field.specs.Signs.{◌⊞◌, ◌⊟◌, ◌⊠◌}
 use Rattle.chip_columns.specs.BitwiseColumns.{op, a, b, a0, a1, a2, a3, b0, b1, b2, b3, z}
 use Rattle.air_kit.specs.Places.{Spot}

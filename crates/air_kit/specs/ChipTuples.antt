@@ -1,5 +1,5 @@
 -- What a row of the small tables gives and asks on each bus, by its number, its cells and those of the row after it.
-use Rattle.std.specs.Prelude.{ℕ, suc, ◌+◌, ◌%◌, ◌==◌, if◌then◌else◌, List, [], ◌∷◌, Option, Some, None, drop, slice_index}
+use Rattle.std.specs.Prelude.{ℕ, suc, ◌+◌, ◌%◌, ◌==◌, if◌then◌else◌, List, [], ◌∷◌, Option, Some, None, slice_index}
 use Rattle.buses.specs.Counts.{Counted, OfRow, once}
 use Rattle.buses.specs.declared.bus.Bus.{Bus}
 use Rattle.buses.specs.declared.bus.Bus.TheVariants as bus

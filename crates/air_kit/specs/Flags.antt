@@ -1,6 +1,6 @@
 -- The flag of an operation: a product over the seven bits of a row, 1 where they spell its code and 0 where they spell
 -- another one (docs/CONSTRAINTS.md, "Flags").
-use Rattle.std.specs.Prelude.{◌≡◌, ℕ, zero, suc, ◌+◌, ◌*◌, ◌/◌, ◌%◌, ◌<◌, Bool, true, false, ◌==◌, if◌then◌else◌, List, [], ◌∷◌, Option, unwrap_or}
+use Rattle.std.specs.Prelude.{◌≡◌, ℕ, zero, suc, ◌+◌, ◌*◌, ◌/◌, ◌%◌, ◌<◌, Bool, true, false, ◌==◌, if◌then◌else◌, List, [], ◌∷◌, unwrap_or}
 use Rattle.vm_field.specs.Signs.{◌⊞◌, ◌⊟◌, ◌⊠◌}
 use Rattle.vm_ops.specs.Codes.{code_of, every_op, op_at}
 use Rattle.vm_ops.specs.Moves.{shift_of}

@@ -1,5 +1,5 @@
 -- The entries of the hasher's table: eight rows a permutation, of which a hash has one or more (docs/CONSTRAINTS.md).
-use Rattle.std.specs.Prelude.{ℕ, zero, suc, ◌+◌, ◌%◌, Bool, true, false, ◌==◌, nat_lt, List, [], ◌∷◌, ◌++◌, Option, Some, None, slice_index}
+use Rattle.std.specs.Prelude.{ℕ, ◌%◌, Bool, ◌==◌, nat_lt, List, [], ◌∷◌, ◌++◌, Option, slice_index}
 use Rattle.vm_field.specs.Field.{felt_pow}
 use Rattle.vm_field.specs.Permutation.{before_roots, round_constants}
 use Rattle.vm_field.specs.Signs.{◌⊞◌, ◌⊟◌, ◌⊠◌}

@@ -22,3 +22,6 @@ pub mod MainTuples
 pub mod ChipTuples
 pub mod Traces
 pub mod Acceptance
+pub mod Hashes
+pub mod Requests
+pub mod RowStates

@@ -1,5 +1,5 @@
 -- What a row of the main table gives and asks on each bus, by its operation, its cells and those of the row after it.
-use Rattle.std.specs.Prelude.{ℕ, zero, suc, ◌+◌, ◌-◌, Bool, true, false, ◌==◌, ◌&&◌, ◌||◌, nat_lt, nat_le, if◌then◌else◌, List, [], ◌∷◌, ◌++◌}
+use Rattle.std.specs.Prelude.{ℕ, zero, suc, ◌-◌, Bool, ◌==◌, ◌&&◌, ◌||◌, if◌then◌else◌, List, [], ◌∷◌, ◌++◌}
 use Rattle.vm_field.specs.Signs.{◌⊞◌, ◌⊟◌, ◌⊠◌}
 use Rattle.vm_ops.specs.Codes.{code_of, is_ordinary_op, is_start_op}
 use Rattle.vm_ops.specs.declared.op.Op.{Op}
@@ -9,7 +9,7 @@ use Rattle.buses.specs.Counts.{Counted, once}
 use Rattle.buses.specs.declared.bus.Bus.{Bus}
 use Rattle.buses.specs.declared.bus.Bus.TheVariants as bus
 use Rattle.air_kit.specs.Flags.{is_op, is_left, is_right, op_of}
-use Rattle.air_kit.specs.SpanValues.{rest_flag, size_flags}
+use Rattle.air_kit.specs.SpanValues.{rest_flag}
 
 -- Blocks: a start gives its block, its parent, its kind, and, where it calls, what the END brings back.
 abbrev pub no_frame : List ℕ

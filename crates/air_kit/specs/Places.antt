@@ -1,5 +1,5 @@
 -- Where an entry stands: in each row, in each row and the one after it, in the first row, or in the last.
-use Rattle.std.specs.Prelude.{◌≡◌, ℕ, zero, suc, ◌+◌, ◌==◌, if◌then◌else◌, List, [], ◌∷◌, Option, Some, None, slice_index}
+use Rattle.std.specs.Prelude.{ℕ, zero, suc, ◌+◌, ◌==◌, if◌then◌else◌, List, [], ◌∷◌, Option, Some, None, slice_index}
 use Rattle.air_kit.specs.Flags.{Flags, flag}
 
 -- What the entries read beside the rows: the constants of the permutation, the statement, how many rows the tables have, and

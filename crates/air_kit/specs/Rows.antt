@@ -1,5 +1,5 @@
 -- A place of the code, as the definitions see it.
-use Rattle.std.specs.Prelude.{ℕ, List, Option, option_map}
+use Rattle.std.specs.Prelude.{ℕ, List, option_map}
 use Rattle.rpo_hash.specs.Constants.{constants_of}
 use Rattle.air_kit.specs.declared.place.Place.{Place}
 use Rattle.air_kit.specs.Places.{Claim, Spot}

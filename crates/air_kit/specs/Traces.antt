@@ -1,6 +1,5 @@
 -- A trace: the rows of its tables, how many each may have, and the values of all entries.
-use Rattle.std.specs.Prelude.{◌≡◌, ℕ, suc, ◌*◌, ◌^◌, ◌≤◌, ◌%◌, List, [], ◌∷◌, length, slice_get, slice_index, slice_index_or, Option}
-use Rattle.vm_table.specs.Layout.{IsTable}
+use Rattle.std.specs.Prelude.{◌≡◌, ℕ, suc, ◌^◌, ◌≤◌, ◌%◌, List, [], ◌∷◌, length, slice_get, slice_index_or}
 use Rattle.chip_columns.specs.LeftColumns.{key}
 use Rattle.rpo_hash.specs.Constants.{constants_of}
 use Rattle.air_kit.specs.declared.trace.Public.{Public}
@@ -31,15 +30,23 @@ lengths_of t =
     length t.main ∷ length t.range ∷ length t.hasher ∷ length t.bitwise ∷ length t.memory ∷ length t.kernel ∷ length t.left
     ∷ []
 
--- How many rows the tables may have. Bitwise operations and accesses of memory are not built so far, and their tables are empty.
+-- How many rows a table may have. Bitwise operations and accesses of memory are not built so far, and their tables are empty.
+abbrev pub most_rows : TableName → ℕ
+most_rows table.Main = 2 ^ 19
+most_rows table.Range = 2 ^ 17
+most_rows table.Hasher = 2 ^ 22
+most_rows table.Bitwise = 0
+most_rows table.Memory = 0
+most_rows table.Kernel = 255
+most_rows table.Left = 2 ^ 19
+
+-- each table has as many rows as it may, and whole operations
 pub record HasCounts (t : Trace) : Type 0 where
-  pub main : (1 ≤ length t.main) × (length t.main ≤ 2 ^ 19)
-  pub range : (1 ≤ length t.range) × (length t.range ≤ 2 ^ 17)
-  pub hasher : (length t.hasher ≤ 2 ^ 22) × (length t.hasher % 8 ≡ 0)
-  pub bitwise : length t.bitwise ≡ 0
-  pub memory : length t.memory ≡ 0
-  pub kernel : length t.kernel ≤ 255
-  pub left : length t.left ≤ 2 ^ 19
+  pub most : (name : TableName) → length (rows_of t name) ≤ most_rows name
+  pub main : 1 ≤ length t.main
+  pub range : 1 ≤ length t.range
+  pub hasher : length t.hasher % 8 ≡ 0
+  pub bitwise : length t.bitwise % 8 ≡ 0
 
 -- what stands beside the rows
 abbrev pub claim_of : Public → Trace → Claim

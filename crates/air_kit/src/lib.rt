@@ -5,12 +5,14 @@
 mod fault;
 mod flags;
 mod place;
+mod requests;
 mod seen;
 mod sets;
 mod trace;
 
 pub use fault::{Fault, first_nonzero, or_next};
 pub use place::Place;
+pub use requests::{Access, BitOp, Perm, Requests};
 pub use seen::Seen;
 pub use sets::{OpSet, is_built};
 pub use trace::{Public, TableName, Trace, table_text, types_cross};

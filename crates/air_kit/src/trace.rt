@@ -2,6 +2,7 @@ ghost use Rattle.std.specs.Prelude.{◌≡◌};
 ghost use Rattle.air_kit.specs.Tables.{table_number, text_of_table};
 
 use crate::fault::Fault;
+use crate::requests::{Perm, Requests};
 use rpo_hash::Params;
 use std::fmt;
 use vm_state::Statement;
@@ -108,4 +109,6 @@ pub fn types_cross() {
     crosses::<TableName>();
     crosses::<Public>();
     crosses::<Fault>();
+    crosses::<Perm>();
+    crosses::<Requests>();
 }

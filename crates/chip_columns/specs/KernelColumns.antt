@@ -1,5 +1,5 @@
 -- The columns of the kernel table, by name (docs/CONSTRAINTS.md). A row is the list of its elements.
-use Rattle.std.specs.Prelude.{ℕ, ◌+◌, List, slice_index}
+use Rattle.std.specs.Prelude.{ℕ, List, slice_index}
 
 -- elements of the digest
 abbrev pub d : List ℕ → ℕ → ℕ

@@ -3,7 +3,7 @@
 use Rattle.std.proofs.Common.{◌≡◌, ℕ, zero, suc, ◌+◌, ◌-◌, ◌≤◌, List, [], ◌∷◌, ◌++◌, length, take, drop, replicate, slice_index, refl, sym, ◌∙◌, ap, arith, add-one, add-zero, add-suc, suc-add, zero-add, take_all}
 use Rattle.std.proofs.lemmas.List.{drop-append-le, drop_more, ext_get_or, get_or_append_left, get_or-drop, get_or-take, length-take-le}
 use Rattle.vm_field.specs.Machine.{filled_up}
-use Rattle.masm_instr.specs.Effects.{listed}
+use Rattle.instr_effects.specs.Effects.{listed}
 
 pub record Alike (xs ys : List ℕ) : Type 0 where
   pub at : (k : ℕ) → slice_index xs k ≡ slice_index ys k

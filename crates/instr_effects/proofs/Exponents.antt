@@ -6,7 +6,7 @@ use Rattle.vm_field.specs.Machine.{State}
 use Rattle.vm_ops.specs.Step.{left_cells}
 use Rattle.vm_ops.specs.Values.{computed, trap_of}
 use Rattle.masm_instr.specs.declared.name.Name.TheVariants as names
-use Rattle.masm_instr.specs.Effects.{instr_effect, listed, top}
+use Rattle.instr_effects.specs.Effects.{instr_effect, listed, top}
 use Rattle.masm_instr.specs.Expansion.{expansion, front, plain}
 use Rattle.instr_effects.proofs.Moves.{MeetsAt, MeetsAll}
 use Rattle.instr_effects.proofs.Quiets.{acts, given, pushed}

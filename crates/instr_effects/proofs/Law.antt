@@ -8,7 +8,7 @@ use Rattle.masm_instr.specs.Instructions.{first, is_in_form, names_local}
 use Rattle.masm_instr.proofs.Packing.{expansions_are_packable}
 use Rattle.vm_ops.specs.Runs.{run}
 use Rattle.vm_ops.proofs.RunLemmas.{run-kept}
-use Rattle.masm_instr.specs.Effects.{instr_effect}
+use Rattle.instr_effects.specs.Effects.{instr_effect}
 use Rattle.masm_instr.specs.Expansion.{expansion}
 use Rattle.instr_effects.specs.HasEffect.{HasEffect}
 use Rattle.instr_effects.proofs.Meeting.{has-effect}

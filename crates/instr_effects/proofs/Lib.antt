@@ -9,6 +9,7 @@ pub mod Moves
 pub mod Tests
 pub mod Choices
 pub mod Pushes
+pub mod Firsts
 pub mod Law
 pub mod Fields
 pub mod Truths

@@ -7,7 +7,7 @@ use Rattle.vm_ops.specs.declared.cause.Cause.{Cause}
 use Rattle.vm_ops.specs.declared.item.Item.{Item}
 use Rattle.instr_effects.proofs.Sized.{IsSized}
 use Rattle.vm_ops.specs.Step.{memory_with}
-use Rattle.masm_instr.specs.Effects.{Effect, listed}
+use Rattle.instr_effects.specs.Effects.{Effect, listed}
 use Rattle.instr_effects.specs.HasEffect.{affected, Answers, HasEffect}
 use Rattle.vm_ops.specs.Runs.{run}
 use Rattle.instr_effects.proofs.Alikes.{Alike, alike-along, alike-back, alike-equal, alike-filled_up, alike-front, alike-drop, alike-listed, length-listed}

@@ -7,7 +7,7 @@ use Rattle.vm_ops.specs.declared.item.Item.{Item}
 use Rattle.vm_ops.specs.Step.{left_cells}
 use Rattle.vm_ops.specs.Values.{computed, is_u32, trap_of}
 use Rattle.masm_instr.specs.declared.name.Name.TheVariants as names
-use Rattle.masm_instr.specs.Effects.{instr_effect, top}
+use Rattle.instr_effects.specs.Effects.{instr_effect, top}
 use Rattle.masm_instr.specs.Expansion.{expansion, front, plain, lit}
 use Rattle.masm_instr.specs.Table.{fixed}
 use Rattle.instr_effects.proofs.Moves.{MeetsAt, MeetsAll}
@@ -15,7 +15,7 @@ use Rattle.instr_effects.proofs.Quiets.{acts, given}
 use Rattle.instr_effects.proofs.Tables.{IsAllowed, by_maybe, by_one}
 use Rattle.instr_effects.proofs.Windows.{last, trap, fits}
 use Rattle.std.proofs.Common.{add_comm}
-use Rattle.masm_instr.specs.Effects.{Effect, leaving, loading, loading_word, storing, storing_word}
+use Rattle.instr_effects.specs.Effects.{Effect, leaving, loading, loading_word, storing, storing_word}
 use Rattle.instr_effects.proofs.Meeting.{Meets}
 use Rattle.instr_effects.proofs.Tests.{one-trap}
 

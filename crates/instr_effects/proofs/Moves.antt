@@ -6,7 +6,7 @@ use Rattle.vm_ops.specs.Values.{computed, trap_of}
 use Rattle.masm_instr.specs.Instructions.{is_in_form}
 use Rattle.masm_instr.specs.declared.name.Name.{Name}
 use Rattle.masm_instr.specs.declared.name.Name.TheVariants as names
-use Rattle.masm_instr.specs.Effects.{instr_effect}
+use Rattle.instr_effects.specs.Effects.{instr_effect}
 use Rattle.masm_instr.specs.Expansion.{expansion, front, movup, movdn, swap, movupw, movdnw}
 use Rattle.instr_effects.proofs.Meeting.{Meets}
 use Rattle.instr_effects.proofs.Quiets.{moves}

@@ -14,7 +14,7 @@ use Rattle.instr_effects.proofs.Sized.{IsSized, step-sized}
 use Rattle.vm_ops.specs.Step.{seen, left_cells, stack_after, performed, unless_trapped, act, ticked, cycle_taking, step}
 use Rattle.vm_ops.specs.Values.{Seen, advice_of, fmp_after, or_else, trap_of, unless}
 use Rattle.vm_ops.proofs.Sizing.{length-left_cells, length-stack_after}
-use Rattle.masm_instr.specs.Effects.{listed}
+use Rattle.instr_effects.specs.Effects.{listed}
 use Rattle.vm_ops.specs.Runs.{after_ok, run}
 use Rattle.instr_effects.proofs.Alikes.{Alike, alike-stack, alike-top, length-listed, listed-all, listed-front}
 use Rattle.instr_effects.proofs.Windows.{Window, seen_in, next, is_short, trap_in, has_room, last, trap, fits}

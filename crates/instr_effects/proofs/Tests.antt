@@ -5,7 +5,7 @@ use Rattle.vm_field.specs.Field.{felt_sub}
 use Rattle.vm_ops.specs.declared.cause.Cause.{Cause}
 use Rattle.vm_ops.specs.declared.cause.Cause.TheVariants as causes
 use Rattle.vm_ops.specs.Values.{bit_of, is_bit, is_u32, or_else, unless}
-use Rattle.masm_instr.specs.Effects.{are_u32, not_u32}
+use Rattle.instr_effects.specs.Effects.{are_u32, not_u32}
 
 -- one test, and nothing else
 pub one-trap : (test : Bool) (cause : Cause) → is_some (or_else (unless test cause) None) ≡ not test

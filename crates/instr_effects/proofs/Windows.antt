@@ -8,7 +8,7 @@ use Rattle.vm_ops.specs.declared.item.Item.{Item}
 use Rattle.vm_ops.specs.Moves.{takes_of, leaves_of}
 use Rattle.vm_ops.specs.Step.{left_cells, memory_with}
 use Rattle.vm_ops.specs.Values.{Seen, advice_of, fmp_after, or_else, trap_of, unless, written}
-use Rattle.masm_instr.specs.Effects.{listed}
+use Rattle.instr_effects.specs.Effects.{listed}
 
 -- what has changed behind some operations of a list
 pub record Window : Type 0 where

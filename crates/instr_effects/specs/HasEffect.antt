@@ -1,10 +1,10 @@
 -- When a list of operations has an effect.
-use Rattle.std.specs.Prelude.{◌≡◌, ℕ, ◌+◌, Bool, true, false, List, ◌++◌, length, drop, Result, Ok, Err}
+use Rattle.std.specs.Prelude.{◌≡◌, ℕ, ◌+◌, Bool, true, false, List, ◌∷◌, ◌++◌, length, drop, Result, Ok, Err}
 use Rattle.vm_field.specs.Machine.{State, filled_up}
 use Rattle.vm_ops.specs.declared.cause.Cause.{Cause}
 use Rattle.vm_ops.specs.declared.item.Item.{Item}
-use Rattle.vm_ops.specs.Step.{memory_with}
-use Rattle.masm_instr.specs.Effects.{Effect}
+use Rattle.vm_ops.specs.Step.{memory_with, step}
+use Rattle.instr_effects.specs.Effects.{Effect}
 use Rattle.vm_ops.specs.Runs.{run}
 
 -- the state that an effect of so many cycles leaves
@@ -26,3 +26,13 @@ Answers false r t = r ≡ Ok t
 -- the list traps exactly where the effect does, and else leaves what the effect leaves
 unfoldable pub HasEffect : List ℕ → List Item → State → Effect → Type 0
 HasEffect constants items s e = Answers e.traps (run constants items s) (affected e (length items) s)
+
+-- An operation of the list traps for the cause, and those before it do not.
+pub record TrapsFirst (constants : List ℕ) (items : List Item) (s : State) (cause : Cause) : Type 0 where
+  pub before : List Item
+  pub item : Item
+  pub more : List Item
+  pub reached : State
+  pub split : items ≡ before ++ item ∷ more
+  pub free : run constants before s ≡ Ok reached
+  pub traps : step constants item reached ≡ Err cause

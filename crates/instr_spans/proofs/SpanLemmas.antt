@@ -10,7 +10,7 @@ use Rattle.vm_ops.proofs.StepLemmas.{step-clock}
 use Rattle.block_tree.specs.Cycles.{Mark, Do}
 use Rattle.block_tree.specs.Execution.{Event, Outcome, Done, Trap, OutOfCycles, Part, cycle_outcome, event_of, logged, operations, seq, skip, taking, then_do}
 use Rattle.masm_instr.specs.declared.name.Name.{Name}
-use Rattle.masm_instr.specs.Effects.{instr_effect}
+use Rattle.instr_effects.specs.Effects.{instr_effect}
 use Rattle.masm_instr.specs.Expansion.{expansion}
 use Rattle.masm_instr.specs.Instructions.{is_in_form}
 use Rattle.instr_effects.specs.HasEffect.{affected, Answers, HasEffect}

@@ -6,7 +6,7 @@ ghost use Rattle.block_tree.specs.Execution.{operations, OutOfCycles};
 ghost use Rattle.instr_effects.specs.HasEffect.{affected};
 ghost use Rattle.instr_spans.specs.Spans.{Agrees, ComesTo};
 ghost use Rattle.masm_instr.specs.declared.name.Name.{Name};
-ghost use Rattle.masm_instr.specs.Effects.{instr_effect};
+ghost use Rattle.instr_effects.specs.Effects.{instr_effect};
 ghost use Rattle.masm_instr.specs.Expansion.{expansion};
 ghost use Rattle.masm_instr.specs.Instructions.{is_in_form};
 ghost use Rattle.vm_field.specs.Machine.{IsWellFormed, State};

@@ -2,7 +2,8 @@ ghost use Rattle.std.specs.Prelude.{◌≤◌, IsTrue};
 ghost use Rattle.vm_ops.specs.Codes.{is_ordinary_op};
 ghost use Rattle.vm_ops.specs.Items.{IsOrdinaryItem};
 
-use masm_instr::{Consts, expand, read_instr};
+use instr_reading::{Consts, read_instr};
+use masm_instr::expand;
 use op_steps::{StepStop, step};
 use rpo_hash::Params;
 use std::alloc::Global;

@@ -2,7 +2,7 @@
 use Rattle.std.proofs.Common.{◌≡◌, ℕ, zero, suc, ◌<◌, List, length, refl, ap, arith, Vec, Global}
 use Rattle.masm_instr.specs.Instructions.{Instruction}
 use Rattle.masm_instr.specs.Expansion.{expansion}
-use Rattle.masm_parse.specs.declared.tree.At.{At}
+use Rattle.masm_parse.specs.declared.tree.Position.{Position}
 use Rattle.masm_parse.specs.declared.tree.Stmt.{Stmt}
 use Rattle.masm_parse.specs.declared.tree.Stmt.TheOpen.{Stmt-F}
 use Rattle.masm_parse.specs.declared.tree.Stmt.TheVariants.{Instr, If, While, Repeat, Exec, Call, Syscall}
@@ -26,27 +26,27 @@ module _ (known : Known_sizes) (locals : ℕ) where
   onto-first s rest before =
       each (λ g. (rest : Body) (before : Size) → size_onto known locals (g rest) before ≡ size_onto known locals rest (size_onto known locals (g Empty) before)) onto-step s rest before
 
-  pub onto-Instr : (at : At) (i : Instruction) (before : Size) → size_onto known locals (stmt_view (Instr at i) Empty) before ≡ both before (run_of (length (expansion i.name i.numbers locals)))
+  pub onto-Instr : (at : Position) (i : Instruction) (before : Size) → size_onto known locals (stmt_view (Instr at i) Empty) before ≡ both before (run_of (length (expansion i.name i.numbers locals)))
   onto-Instr at i before = ap (λ b. size_onto known locals b before) (view-Instr at i Empty)
 
-  pub onto-Exec : (at : At) (name : List ℕ) (before : Size) → size_onto known locals (stmt_view (Exec at name) Empty) before ≡ both before (known.size name)
+  pub onto-Exec : (at : Position) (name : List ℕ) (before : Size) → size_onto known locals (stmt_view (Exec at name) Empty) before ≡ both before (known.size name)
   onto-Exec at name before = ap (λ b. size_onto known locals b before) (view-Exec at name Empty)
 
-  pub onto-Call : (at : At) (name : List ℕ) (before : Size) → size_onto known locals (stmt_view (Call at name) Empty) before ≡ both before (block_size (as_extent.call (extent_of (known.size name))))
+  pub onto-Call : (at : Position) (name : List ℕ) (before : Size) → size_onto known locals (stmt_view (Call at name) Empty) before ≡ both before (block_size (as_extent.call (extent_of (known.size name))))
   onto-Call at name before = ap (λ b. size_onto known locals b before) (view-Call at name Empty)
 
-  pub onto-Syscall : (at : At) (name : List ℕ) (before : Size) → size_onto known locals (stmt_view (Syscall at name) Empty) before ≡ both before (block_size (as_extent.syscall (known.exported name)))
+  pub onto-Syscall : (at : Position) (name : List ℕ) (before : Size) → size_onto known locals (stmt_view (Syscall at name) Empty) before ≡ both before (block_size (as_extent.syscall (known.exported name)))
   onto-Syscall at name before = ap (λ b. size_onto known locals b before) (view-Syscall at name Empty)
 
-  pub onto-If : (at : At) (xs ys : Vec Stmt Global) (before : Size) → size_onto known locals (stmt_view (If at xs ys) Empty) before
+  pub onto-If : (at : Position) (xs ys : Vec Stmt Global) (before : Size) → size_onto known locals (stmt_view (If at xs ys) Empty) before
       ≡ both before (block_size (as_extent.split (extent_of (size_onto known locals (body_of xs.items) nothing)) (extent_of (size_onto known locals (body_of ys.items) nothing))))
   onto-If at xs ys before = ap (λ b. size_onto known locals b before) (view-If at xs ys Empty)
 
-  pub onto-While : (at : At) (xs : Vec Stmt Global) (before : Size) → size_onto known locals (stmt_view (While at xs) Empty) before
+  pub onto-While : (at : Position) (xs : Vec Stmt Global) (before : Size) → size_onto known locals (stmt_view (While at xs) Empty) before
       ≡ both before (block_size (as_extent.loop (extent_of (size_onto known locals (body_of xs.items) nothing))))
   onto-While at xs before = ap (λ b. size_onto known locals b before) (view-While at xs Empty)
 
-  pub onto-Repeat : (at : At) (n : ℕ) (xs : Vec Stmt Global) (before : Size) → size_onto known locals (stmt_view (Repeat at n xs) Empty) before
+  pub onto-Repeat : (at : Position) (n : ℕ) (xs : Vec Stmt Global) (before : Size) → size_onto known locals (stmt_view (Repeat at n xs) Empty) before
       ≡ both_times n (size_onto known locals (body_of xs.items) nothing) before
   onto-Repeat at n xs before = ap (λ b. size_onto known locals b before) (view-Repeat at n xs Empty)
 

@@ -4,7 +4,7 @@ use Rattle.std.proofs.lemmas.List.{append-nil}
 use Rattle.masm_parse.specs.declared.tree.Stmt.{Stmt}
 use Rattle.masm_parse.specs.declared.tree.Stmt.TheOpen.{Stmt-F}
 use Rattle.masm_parse.specs.declared.tree.Stmt.TheFolds.{fold_out-Stmt}
-use Rattle.masm_parse.specs.declared.tree.At.{At}
+use Rattle.masm_parse.specs.declared.tree.Position.{Position}
 use Rattle.masm_parse.specs.declared.tree.Stmt.TheVariants.{Instr, If, While, Repeat, Exec, Call, Syscall}
 use Rattle.masm_parse.specs.Trees.{Body, Empty, Leaf_then, If_then, While_then, Repeat_then}
 use Rattle.masm_parse.proofs.Mirror.{body_of_nil, view-Instr, view-If, view-While, view-Repeat, view-Exec, view-Call, view-Syscall}
@@ -43,27 +43,27 @@ module _ {A : Type 0} (v : View A) (known : Known A) (locals : ℕ) where
       each (λ g. (rest : Body) → flat_with v known locals (g rest) ≡ flat_with v known locals (g Empty) ++ flat_with v known locals rest) flat-step s rest
 
   -- the list of one statement
-  pub flat-Instr : (at : At) (i : Instruction) → flat_with v known locals (stmt_view (Instr at i) Empty) ≡ map Operation (expansion i.name i.numbers locals)
+  pub flat-Instr : (at : Position) (i : Instruction) → flat_with v known locals (stmt_view (Instr at i) Empty) ≡ map Operation (expansion i.name i.numbers locals)
   flat-Instr at i = ap (flat_with v known locals) (view-Instr at i Empty) ∙ append-nil _
 
-  pub flat-Exec : (at : At) (name : List ℕ) → flat_with v known locals (stmt_view (Exec at name) Empty) ≡ known.list name
+  pub flat-Exec : (at : Position) (name : List ℕ) → flat_with v known locals (stmt_view (Exec at name) Empty) ≡ known.list name
   flat-Exec at name = ap (flat_with v known locals) (view-Exec at name Empty) ∙ append-nil _
 
-  pub flat-Call : (at : At) (name : List ℕ) → flat_with v known locals (stmt_view (Call at name) Empty) ≡ Whole (v.call (whole v (known.list name))) ∷ []
+  pub flat-Call : (at : Position) (name : List ℕ) → flat_with v known locals (stmt_view (Call at name) Empty) ≡ Whole (v.call (whole v (known.list name))) ∷ []
   flat-Call at name = ap (flat_with v known locals) (view-Call at name Empty)
 
-  pub flat-Syscall : (at : At) (name : List ℕ) → flat_with v known locals (stmt_view (Syscall at name) Empty) ≡ Whole (v.syscall (known.exported name)) ∷ []
+  pub flat-Syscall : (at : Position) (name : List ℕ) → flat_with v known locals (stmt_view (Syscall at name) Empty) ≡ Whole (v.syscall (known.exported name)) ∷ []
   flat-Syscall at name = ap (flat_with v known locals) (view-Syscall at name Empty)
 
-  pub flat-If : (at : At) (xs ys : Vec Stmt Global) → flat_with v known locals (stmt_view (If at xs ys) Empty)
+  pub flat-If : (at : Position) (xs ys : Vec Stmt Global) → flat_with v known locals (stmt_view (If at xs ys) Empty)
       ≡ Whole (v.split (whole v (flat_with v known locals (body_of xs.items))) (whole v (flat_with v known locals (body_of ys.items)))) ∷ []
   flat-If at xs ys = ap (flat_with v known locals) (view-If at xs ys Empty)
 
-  pub flat-While : (at : At) (xs : Vec Stmt Global) → flat_with v known locals (stmt_view (While at xs) Empty)
+  pub flat-While : (at : Position) (xs : Vec Stmt Global) → flat_with v known locals (stmt_view (While at xs) Empty)
       ≡ Whole (v.loop (whole v (flat_with v known locals (body_of xs.items)))) ∷ []
   flat-While at xs = ap (flat_with v known locals) (view-While at xs Empty)
 
-  pub flat-Repeat : (at : At) (n : ℕ) (xs : Vec Stmt Global) → flat_with v known locals (stmt_view (Repeat at n xs) Empty)
+  pub flat-Repeat : (at : Position) (n : ℕ) (xs : Vec Stmt Global) → flat_with v known locals (stmt_view (Repeat at n xs) Empty)
       ≡ times n (flat_with v known locals (body_of xs.items))
   flat-Repeat at n xs = ap (flat_with v known locals) (view-Repeat at n xs Empty) ∙ append-nil _
 
@@ -90,21 +90,21 @@ pub no_locals : (locals : ℕ) (ss : List Stmt) → ss ≡ [] → HasLocals loca
 no_locals locals ss e = subst (λ ss. HasLocals locals (body_of ss)) (sym e) (subst (HasLocals locals) (sym body_of_nil) tt)
 
 module _ (locals : ℕ) (s : Stmt) (named : HasLocals locals (stmt_view s Empty)) where
-  pub locals-Instr : (at : At) (i : Instruction) → s ≡ Instr at i → HasLocal i locals
+  pub locals-Instr : (at : Position) (i : Instruction) → s ≡ Instr at i → HasLocal i locals
   locals-Instr at i e =
       let h : HasLocal i locals × Unit {0} = subst (HasLocals locals) (ap (λ s. stmt_view s Empty) e ∙ view-Instr at i Empty) named in h.0
 
-  pub locals-If : (at : At) (xs ys : Vec Stmt Global) → s ≡ If at xs ys → HasLocals locals (body_of xs.items) × HasLocals locals (body_of ys.items)
+  pub locals-If : (at : Position) (xs ys : Vec Stmt Global) → s ≡ If at xs ys → HasLocals locals (body_of xs.items) × HasLocals locals (body_of ys.items)
   locals-If at xs ys e =
       let h : HasLocals locals (body_of xs.items) × HasLocals locals (body_of ys.items) × Unit {0} =
       subst (HasLocals locals) (ap (λ s. stmt_view s Empty) e ∙ view-If at xs ys Empty) named in (h.0, h.1)
 
-  pub locals-While : (at : At) (xs : Vec Stmt Global) → s ≡ While at xs → HasLocals locals (body_of xs.items)
+  pub locals-While : (at : Position) (xs : Vec Stmt Global) → s ≡ While at xs → HasLocals locals (body_of xs.items)
   locals-While at xs e =
       let h : HasLocals locals (body_of xs.items) × Unit {0} =
       subst (HasLocals locals) (ap (λ s. stmt_view s Empty) e ∙ view-While at xs Empty) named in h.0
 
-  pub locals-Repeat : (at : At) (n : ℕ) (xs : Vec Stmt Global) → s ≡ Repeat at n xs → HasLocals locals (body_of xs.items)
+  pub locals-Repeat : (at : Position) (n : ℕ) (xs : Vec Stmt Global) → s ≡ Repeat at n xs → HasLocals locals (body_of xs.items)
   locals-Repeat at n xs e =
       let h : HasLocals locals (body_of xs.items) × Unit {0} =
       subst (HasLocals locals) (ap (λ s. stmt_view s Empty) e ∙ view-Repeat at n xs Empty) named in h.0
@@ -130,11 +130,11 @@ pub weight-first : (s : Stmt) (rest : Body) → weight (stmt_view s rest) ≡ we
 weight-first s rest = each (λ g. (rest : Body) → weight (g rest) ≡ weight (g Empty) + weight rest) weight-step s rest
 
 module _ (s : Stmt) where
-  pub weight-If : (at : At) (xs ys : Vec Stmt Global) → s ≡ If at xs ys → weight (stmt_view s Empty) ≡ 1 + weight (body_of xs.items) + weight (body_of ys.items)
+  pub weight-If : (at : Position) (xs ys : Vec Stmt Global) → s ≡ If at xs ys → weight (stmt_view s Empty) ≡ 1 + weight (body_of xs.items) + weight (body_of ys.items)
   weight-If at xs ys e = omega (arith, ap weight (ap (λ s. stmt_view s Empty) e ∙ view-If at xs ys Empty))
 
-  pub weight-While : (at : At) (xs : Vec Stmt Global) → s ≡ While at xs → weight (stmt_view s Empty) ≡ 1 + weight (body_of xs.items)
+  pub weight-While : (at : Position) (xs : Vec Stmt Global) → s ≡ While at xs → weight (stmt_view s Empty) ≡ 1 + weight (body_of xs.items)
   weight-While at xs e = omega (arith, ap weight (ap (λ s. stmt_view s Empty) e ∙ view-While at xs Empty))
 
-  pub weight-Repeat : (at : At) (n : ℕ) (xs : Vec Stmt Global) → s ≡ Repeat at n xs → weight (stmt_view s Empty) ≡ 1 + weight (body_of xs.items)
+  pub weight-Repeat : (at : Position) (n : ℕ) (xs : Vec Stmt Global) → s ≡ Repeat at n xs → weight (stmt_view s Empty) ≡ 1 + weight (body_of xs.items)
   weight-Repeat at n xs e = omega (arith, ap weight (ap (λ s. stmt_view s Empty) e ∙ view-Repeat at n xs Empty))

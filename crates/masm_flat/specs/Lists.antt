@@ -6,7 +6,7 @@ use Rattle.vm_ops.specs.Items.{plain_item}
 use Rattle.masm_instr.specs.declared.instr.Instr.{Instr}
 use Rattle.masm_instr.specs.Expansion.{lit, expansion}
 use Rattle.masm_parse.specs.declared.terminal.Leaf.TheVariants as leaves
-use Rattle.masm_parse.specs.declared.tree.At.{At}
+use Rattle.masm_parse.specs.declared.tree.Position.{Position}
 use Rattle.masm_parse.specs.Trees.{Body, Empty, Leaf_then, If_then, While_then, Repeat_then, Procedure}
 use Rattle.masm_flat.specs.Blocks.{Block, Split, Loop, Call, Syscall, Piece, Operation, Whole, block_of}
 
@@ -38,23 +38,23 @@ with_locals (suc n) pieces =
 -- uses itself.
 pub data IsList (procs : List Procedure) (kernel : List Exported) : ℕ → Body → List (Piece Block) → Type 0 where
   nothing : {locals : ℕ} → IsList procs kernel locals Empty []
-  instr : (at : At) (i : Instr) {locals : ℕ} {b : Body} {xs : List (Piece Block)} → IsList procs kernel locals b xs
+  instr : (at : Position) (i : Instr) {locals : ℕ} {b : Body} {xs : List (Piece Block)} → IsList procs kernel locals b xs
       → IsList procs kernel locals (Leaf_then at (leaves.Instr i) b) (map Operation (expansion i.name i.numbers locals) ++ xs)
-  exec : (at : At) (name : List ℕ) {locals : ℕ} {p : Procedure} {b : Body} {ys xs : List (Piece Block)} → first_procedure procs name ≡ Some p
+  exec : (at : Position) (name : List ℕ) {locals : ℕ} {p : Procedure} {b : Body} {ys xs : List (Piece Block)} → first_procedure procs name ≡ Some p
       → IsList procs kernel p.locals p.body ys → IsList procs kernel locals b xs
       → IsList procs kernel locals (Leaf_then at (leaves.Exec name) b) (with_locals p.locals ys ++ xs)
-  call : (at : At) (name : List ℕ) {locals : ℕ} {p : Procedure} {b : Body} {ys xs : List (Piece Block)} → first_procedure procs name ≡ Some p
+  call : (at : Position) (name : List ℕ) {locals : ℕ} {p : Procedure} {b : Body} {ys xs : List (Piece Block)} → first_procedure procs name ≡ Some p
       → IsList procs kernel p.locals p.body ys → IsList procs kernel locals b xs
       → IsList procs kernel locals (Leaf_then at (leaves.Call name) b) (Whole (Call (block_of (with_locals p.locals ys))) ∷ xs)
-  syscall : (at : At) (name : List ℕ) {locals : ℕ} {callee : Block} {b : Body} {xs : List (Piece Block)} → first_export kernel name ≡ Some callee
+  syscall : (at : Position) (name : List ℕ) {locals : ℕ} {callee : Block} {b : Body} {xs : List (Piece Block)} → first_export kernel name ≡ Some callee
       → IsList procs kernel locals b xs
       → IsList procs kernel locals (Leaf_then at (leaves.Syscall name) b) (Whole (Syscall callee) ∷ xs)
-  branches : (at : At) {locals : ℕ} {a e b : Body} {ys zs xs : List (Piece Block)} → IsList procs kernel locals a ys → IsList procs kernel locals e zs
+  branches : (at : Position) {locals : ℕ} {a e b : Body} {ys zs xs : List (Piece Block)} → IsList procs kernel locals a ys → IsList procs kernel locals e zs
       → IsList procs kernel locals b xs
       → IsList procs kernel locals (If_then at a e b) (Whole (Split (block_of ys) (block_of zs)) ∷ xs)
-  loops : (at : At) {locals : ℕ} {a b : Body} {ys xs : List (Piece Block)} → IsList procs kernel locals a ys → IsList procs kernel locals b xs
+  loops : (at : Position) {locals : ℕ} {a b : Body} {ys xs : List (Piece Block)} → IsList procs kernel locals a ys → IsList procs kernel locals b xs
       → IsList procs kernel locals (While_then at a b) (Whole (Loop (block_of ys)) ∷ xs)
-  repeated : (at : At) (n : ℕ) {locals : ℕ} {a b : Body} {ys xs : List (Piece Block)} → IsList procs kernel locals a ys
+  repeated : (at : Position) (n : ℕ) {locals : ℕ} {a b : Body} {ys xs : List (Piece Block)} → IsList procs kernel locals a ys
       → IsList procs kernel locals b xs → IsList procs kernel locals (Repeat_then at n a b) (times n ys ++ xs)
 
 -- a procedure is this block

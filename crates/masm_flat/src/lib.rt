@@ -23,6 +23,3 @@ pub use piece::Piece;
 pub use procedure::list_of_procedure;
 pub use shape::{Extent, Part, Shape, Size};
 pub use size::extent_of;
-
-#[cfg(test)]
-mod tests;

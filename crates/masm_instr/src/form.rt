@@ -6,7 +6,7 @@ pub(crate) const GREATEST: u128 = 18446744069414584320;
 
 /// The numbers that an instruction takes.
 #[derive(Clone, Copy)]
-pub(crate) struct Form {
+pub struct Form {
     /// At least so many.
     pub least: usize,
     /// At most so many.

@@ -1,8 +1,9 @@
 ghost use Rattle.std.specs.Prelude.{◌≡◌};
 ghost use Rattle.masm_instr.specs.Instructions.{names_local};
-ghost use Rattle.masm_instr.specs.Table.{text_of};
+ghost use Rattle.masm_instr.specs.Table.{form_of, text_of};
 ghost use Rattle.masm_instr.specs.Names.{first_named, name_of, NamesAreTexts};
 
+use crate::form::Form;
 use crate::table::{EVERY, row_of};
 
 /// The name of an instruction.
@@ -108,6 +109,13 @@ impl Name {
         ensures { result.now ≡ text_of self }
     {
         row_of(self).text
+    }
+
+    /// The numbers that the instruction takes.
+    pub fn form(self) -> Form
+        ensures { result ≡ form_of self }
+    {
+        row_of(self).form
     }
 
     /// Whether the instruction's number is that of a local.

@@ -8,7 +8,7 @@ use Rattle.std.specs.List.{AllZip}
 use Rattle.std.specs.Option.{option_map, option_to_list}
 use Rattle.block_tree.specs.declared.tree.Tree as code
 use Rattle.block_tree.specs.TreeView.{tree_of}
-use Rattle.masm_parse.specs.declared.tree.At.{At}
+use Rattle.masm_parse.specs.declared.tree.Position.{Position}
 use Rattle.masm_parse.specs.declared.tree.Ast.{Ast}
 use Rattle.masm_parse.specs.declared.tree.Proc.{Proc}
 use Rattle.masm_parse.specs.Trees.{Procedure, Source}
@@ -207,7 +207,7 @@ module _ (ast : Ast) (kernel : List KernelProc) (m : Measured) (is : IsMeasured 
       (subst (λ q. IsTooLarge source.procs exports q at cause) found.2 h.1.2) in
       (over.0, (h.0, (found.0, found.1, subst (λ e. IsOver (at_procedure p) e at over.0) (sym (extent_is h.0 p here)) over.1)), over.2))
 
-  abbrev LargeMain : At → LinkCause → Type 0
+  abbrev LargeMain : Position → LinkCause → Type 0
   LargeMain at cause = (p : Procedure) × (source.main ≡ Some p) × IsTooLarge source.procs exports p at cause
 
   large_main : (main : Option Proc) → ast.main ≡ main → (first : Option Refusal)
@@ -243,7 +243,7 @@ module _ (ast : Ast) (kernel : List KernelProc) (m : Measured) (is : IsMeasured 
   Answers-large procs main p q = Answers-oversized source exports procs main (large_procs procs p) (large_main ast.main refl main q)
 
   -- the tables tell each procedure's block, where not_so tree is too large
-  module _ (clean : (at : At) (cause : LinkCause) → ¬ (RefusesAt source exports at cause)) (lists : List (Vec piece.Piece Global))
+  module _ (clean : (at : Position) (cause : LinkCause) → ¬ (RefusesAt source exports at cause)) (lists : List (Vec piece.Piece Global))
       (known : AreLists source.procs exports m.order.items lists) where
     ready : AreReady source exports m.sizes.items lists
     ready place p here =
@@ -261,7 +261,7 @@ module _ (ast : Ast) (kernel : List KernelProc) (m : Measured) (is : IsMeasured 
           some_operation source.procs exports some p list.0 list.1,
         )
       where
-        in_bodies : (place : ℕ) (p : Procedure) → slice_get source.procs place ≡ Some p → (at : At) (cause : LinkCause)
+        in_bodies : (place : ℕ) (p : Procedure) → slice_get source.procs place ≡ Some p → (at : Position) (cause : LinkCause)
             → IsTooLarge source.procs exports p at cause
             → Oversized source exports at cause
         in_bodies place p here at cause large =

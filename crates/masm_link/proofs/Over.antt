@@ -5,7 +5,7 @@ use Rattle.std.proofs.lemmas.Bool.Decides.{nat_tests}
 use Rattle.std.proofs.lemmas.List.Elements.{Contains-append_left, Contains-append_right, Contains-append_cases}
 use Rattle.std.specs.List.{Contains}
 use Rattle.std.specs.Option.{option_to_list}
-use Rattle.masm_parse.specs.declared.tree.At.{At}
+use Rattle.masm_parse.specs.declared.tree.Position.{Position}
 use Rattle.masm_parse.specs.Trees.{Procedure, Source}
 use Rattle.masm_uses.specs.declared.refusal.LinkCause.{LinkCause}
 use Rattle.masm_uses.specs.declared.refusal.LinkCause.TheVariants as causes
@@ -30,8 +30,8 @@ use Rattle.masm_link.specs.Limits.{size_cause, IsOver}
 use Rattle.masm_link.specs.Refusals.{IsTooLarge, too_many_operations, too_deep, Oversized}
 
 -- fewer refusals, where each of the others stands behind one of them at the same place
-pub Answers-fewer : (P Q : At → LinkCause → Type 0) (r : Option Refusal) → ((at : At) (cause : LinkCause) → P at cause → Q at cause)
-    → ((at : At) (cause : LinkCause) → Q at cause → (first : LinkCause) × P at first × (order first ≤ order cause)) → Answers P r → Answers Q r
+pub Answers-fewer : (P Q : Position → LinkCause → Type 0) (r : Option Refusal) → ((at : Position) (cause : LinkCause) → P at cause → Q at cause)
+    → ((at : Position) (cause : LinkCause) → Q at cause → (first : LinkCause) × P at first × (order first ≤ order cause)) → Answers P r → Answers Q r
 Answers-fewer P Q None to from none = λ at cause q. let p = from at cause q in none at p.0 p.1
 Answers-fewer P Q (Some r) to from least = record {
   stands = to r.at r.cause least.stands;
@@ -40,7 +40,7 @@ Answers-fewer P Q (Some r) to from least = record {
       no_later-trans r.at r.cause other p.0 other why (least.first other p.0 p.1) (inr (refl, p.2));
 }
 
-pub over_same : (a b : At) (e f : Extent) (r : Option Refusal) → a ≡ b → e ≡ f → Answers (IsOver a e) r → Answers (IsOver b f) r
+pub over_same : (a b : Position) (e f : Extent) (r : Option Refusal) → a ≡ b → e ≡ f → Answers (IsOver a e) r → Answers (IsOver b f) r
 over_same a b e f r is_at is_extent h = subst (λ x. Answers (IsOver x f) r) is_at (subst (λ x. Answers (IsOver a x) r) is_extent h)
 
 -- what the test of an extent says
@@ -95,7 +95,7 @@ module _ (procs : List Procedure) (exports : List Exported) (some : HasOperation
       let is = height-block the_block in
       (λ h. omega arith, λ h. omega arith)
 
-  pub over_large : (at : At) (cause : LinkCause) → IsOver (at_procedure p) the_extent at cause → IsTooLarge procs exports p at cause
+  pub over_large : (at : Position) (cause : LinkCause) → IsOver (at_procedure p) the_extent at cause → IsTooLarge procs exports p at cause
   over_large at cause over = elim (cases_lt 524288 the_extent.operations) [
     | inl more ↦ moved causes.TooManyOps (same_cause _ _ _ (over_operations the_extent more) over.1) (too_many_operations the_block the_block_is (many.0 more))
     | inr few ↦ elim (cases_lt 1024 the_extent.height) [
@@ -107,7 +107,7 @@ module _ (procs : List Procedure) (exports : List Exported) (some : HasOperation
       moved : (why : LinkCause) → cause ≡ why → IsTooLarge procs exports p (at_procedure p) why → IsTooLarge procs exports p at cause
       moved why is h = subst (λ a. IsTooLarge procs exports p a cause) (sym over.0) (subst (IsTooLarge procs exports p (at_procedure p)) (sym is) h)
 
-  pub large_over : (at : At) (cause : LinkCause) → IsTooLarge procs exports p at cause
+  pub large_over : (at : Position) (cause : LinkCause) → IsTooLarge procs exports p at cause
       → (first : LinkCause) × IsOver (at_procedure p) the_extent at first × (order first ≤ order cause)
   large_over at cause (too_many_operations block is more) =
       (causes.TooManyOps, (refl, over_operations the_extent (many.1 (subst (λ b. 524288 < seen_as as_operations b) (block_once block is) more))), omega arith)
@@ -119,16 +119,16 @@ module _ (procs : List Procedure) (exports : List Exported) (some : HasOperation
 
 -- the trees of a source's procedures, and that of its main body
 module _ (source : Source) (exports : List Exported) where
-  abbrev Large : Procedure → At → LinkCause → Type 0
+  abbrev Large : Procedure → Position → LinkCause → Type 0
   Large p at cause = IsTooLarge source.procs exports p at cause
 
-  abbrev LargeProcs : At → LinkCause → Type 0
+  abbrev LargeProcs : Position → LinkCause → Type 0
   LargeProcs = Among (λ place p. Large p) source.procs
 
-  abbrev LargeMain : At → LinkCause → Type 0
+  abbrev LargeMain : Position → LinkCause → Type 0
   LargeMain at cause = (p : Procedure) × (source.main ≡ Some p) × Large p at cause
 
-  large_either : (at : At) (cause : LinkCause) → Either LargeProcs LargeMain at cause → Oversized source exports at cause
+  large_either : (at : Position) (cause : LinkCause) → Either LargeProcs LargeMain at cause → Oversized source exports at cause
   large_either at cause (inl h) =
       let there = Contains-append_left source.procs (option_to_list source.main) h.1.0 (contains_at source.procs h.0 h.1.0 h.1.1) in
       (there.0, h.1.0, there.1, there.2, h.1.2)
@@ -148,7 +148,7 @@ module _ (source : Source) (exports : List Exported) where
       one_is q p (zero, within, is) = is
       one_is q p (suc k, within, is) = absurd (omega arith)
 
-  either_large : (at : At) (cause : LinkCause) → Oversized source exports at cause → Either LargeProcs LargeMain at cause
+  either_large : (at : Position) (cause : LinkCause) → Oversized source exports at cause → Either LargeProcs LargeMain at cause
   either_large at cause h = elim (Contains-append_cases source.procs (option_to_list source.main) h.1 (h.0, h.2, h.3)) [
     | inl here ↦ let there = at_contains source.procs h.1 here in inl (there.0, (h.1, there.1, h.4))
     | inr main ↦ inr (h.1, in_main source.main h.1 main, h.4)

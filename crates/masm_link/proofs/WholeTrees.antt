@@ -7,7 +7,7 @@ use Rattle.std.specs.List.{Contains}
 use Rattle.std.specs.Option.{option_to_list}
 use Rattle.block_tree.specs.Trees.{Tree, tree_height}
 use Rattle.block_tree.specs.TreeView.{tree_of}
-use Rattle.masm_parse.specs.declared.tree.At.{At}
+use Rattle.masm_parse.specs.declared.tree.Position.{Position}
 use Rattle.masm_parse.specs.Trees.{Procedure, Source}
 use Rattle.masm_uses.specs.declared.refusal.LinkCause.{LinkCause}
 use Rattle.masm_uses.specs.declared.refusal.LinkCause.TheVariants as causes
@@ -46,7 +46,7 @@ module _ (source : Source) (exports own : List Exported) (block : Block) (links 
   found : (p : Procedure) × (source.main ≡ Some p) × IsBlockOf source.procs exports p block
   found = main_of source.main refl links.body
 
-  not_large : (at : At) (cause : LinkCause) → ¬ (IsTooLarge source.procs exports found.0 at cause)
+  not_large : (at : Position) (cause : LinkCause) → ¬ (IsTooLarge source.procs exports found.0 at cause)
   not_large at cause large =
       let p = found.0 in
       let there = Contains-append_right source.procs (option_to_list source.main) p (subst (λ o. Contains (option_to_list o) p) (sym found.1)

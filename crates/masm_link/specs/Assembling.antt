@@ -11,7 +11,7 @@ use Rattle.masm_lex.specs.declared.refusal.LexError.TheVariants as lexing
 use Rattle.masm_lex.specs.Tokens.{lexed}
 use Rattle.masm_parse.specs.declared.refusal.ParseError.{ParseError}
 use Rattle.masm_parse.specs.declared.refusal.ParseError.TheVariants as parsing
-use Rattle.masm_parse.specs.declared.tree.At.{At}
+use Rattle.masm_parse.specs.declared.tree.Position.{Position}
 use Rattle.masm_parse.specs.Machine.{parsed}
 use Rattle.masm_parse.specs.Trees.{Source}
 use Rattle.masm_flat.specs.Blocks.{Block, seen_as, as_tree}
@@ -32,7 +32,7 @@ abbrev pub parse_refusal : Bool → ParseError → AsmError
 parse_refusal is_kernel (parsing.Bad line column cause) = Bad is_kernel line column (parse_cause cause)
 parse_refusal is_kernel parsing.Memory = Memory
 
-abbrev pub link_refusal : Bool → At → LinkCause → AsmError
+abbrev pub link_refusal : Bool → Position → LinkCause → AsmError
 link_refusal is_kernel at cause = Bad is_kernel at.line at.column (link_cause cause)
 
 abbrev pub read_parsed : Bool → Result Source ParseError → Result Source AsmError
@@ -50,7 +50,7 @@ reads is_kernel text = read_tokens is_kernel text (lexed text)
 -- a source is refused: it is not read, or it is read and then refused
 pub data Refuses (is_kernel : Bool) (text : List ℕ) (kernel : List Exported) : AsmError → Type 0 where
   unread : (refusal : AsmError) → reads is_kernel text ≡ Err refusal → Refuses is_kernel text kernel refusal
-  unlinked : (source : Source) (at : At) (cause : LinkCause) → reads is_kernel text ≡ Ok source
+  unlinked : (source : Source) (at : Position) (cause : LinkCause) → reads is_kernel text ≡ Ok source
       → IsLeast (RefusesAt source kernel) at cause → Refuses is_kernel text kernel (link_refusal is_kernel at cause)
 
 -- a source links to the blocks of its exports and to that of the body between begin and end

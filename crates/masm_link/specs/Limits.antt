@@ -1,6 +1,6 @@
 -- The limits of a tree: 524,288 operations, and 1,024 blocks on a path.
 use Rattle.std.specs.Prelude.{◌≡◌, nat_lt, if◌then◌else◌, Option, Some, None}
-use Rattle.masm_parse.specs.declared.tree.At.{At}
+use Rattle.masm_parse.specs.declared.tree.Position.{Position}
 use Rattle.masm_uses.specs.declared.refusal.LinkCause.{LinkCause}
 use Rattle.masm_uses.specs.declared.refusal.LinkCause.TheVariants as causes
 use Rattle.masm_flat.specs.declared.shape.Extent.{Extent}
@@ -12,5 +12,5 @@ size_cause e =
     else (if nat_lt 1024 e.height then Some causes.TooDeep else None)
 
 -- the procedure at this place is refused for the extent of its tree
-abbrev pub IsOver : At → Extent → At → LinkCause → Type 0
+abbrev pub IsOver : Position → Extent → Position → LinkCause → Type 0
 IsOver place e at cause = (at ≡ place) × (size_cause e ≡ Some cause)

@@ -3,7 +3,7 @@ use Rattle.std.specs.Prelude.{◌≡◌, ℕ, ◌≤◌, List, length, Option, S
 use Rattle.std.specs.Global.{Global}
 use Rattle.std.specs.Option.{option_map}
 use Rattle.block_tree.specs.TreeView.{tree_of}
-use Rattle.masm_parse.specs.declared.tree.At.{At}
+use Rattle.masm_parse.specs.declared.tree.Position.{Position}
 use Rattle.masm_parse.specs.Trees.{Procedure, Source}
 use Rattle.masm_flat.specs.declared.known.KernelProc.{KernelProc}
 use Rattle.masm_flat.specs.declared.piece.Piece as piece
@@ -39,7 +39,7 @@ pub record IsMeasured (source : Source) (kernel : List KernelProc) (m : Measured
 -- nothing is refused, whatever the kernel's exports in memory are
 abbrev pub IsClean : Source → List KernelProc → Type 0
 IsClean source kernel =
-    (exports : List Exported) → AreExports exports kernel → (at : At) (cause : LinkCause) → ¬ (RefusesAt source exports at cause)
+    (exports : List Exported) → AreExports exports kernel → (at : Position) (cause : LinkCause) → ¬ (RefusesAt source exports at cause)
 
 abbrev pub IsFirstRefused : Source → List KernelProc → Refusal → Type 0
 IsFirstRefused source kernel refusal =

@@ -3,7 +3,7 @@ pub use Rattle.masm_uses.specs.Least.{IsBefore, IsLeast, Answers}
 pub use Rattle.masm_uses.specs.Naming.{at_constant, at_procedure, exported_of, Dangles, IsClosed, Doubles}
 use Rattle.std.specs.Prelude.{◌≡◌, ℕ, ◌<◌, List, map, Option, Some, None, MatchOption}
 use Rattle.std.specs.List.{AllZip, Any}
-use Rattle.masm_parse.specs.declared.tree.At.{At}
+use Rattle.masm_parse.specs.declared.tree.Position.{Position}
 use Rattle.masm_parse.specs.Trees.{Procedure, Source}
 use Rattle.masm_uses.specs.declared.refusal.LinkCause.{LinkCause}
 use Rattle.masm_uses.specs.declared.refusal.LinkCause.TheVariants as causes
@@ -12,26 +12,26 @@ use Rattle.masm_flat.specs.Lists.{Exported, IsBlockOf}
 use Rattle.masm_uses.specs.Uses.{bodies_of}
 
 -- a procedure whose tree is too large
-pub data IsTooLarge (procs : List Procedure) (kernel : List Exported) (p : Procedure) : At → LinkCause → Type 0 where
+pub data IsTooLarge (procs : List Procedure) (kernel : List Exported) (p : Procedure) : Position → LinkCause → Type 0 where
   too_many_operations : (block : Block) → IsBlockOf procs kernel p block → 524288 < seen_as as_operations block
       → IsTooLarge procs kernel p (at_procedure p) causes.TooManyOps
   too_deep : (block : Block) → IsBlockOf procs kernel p block → 1024 < seen_as as_height block
       → IsTooLarge procs kernel p (at_procedure p) causes.TooDeep
 
-abbrev pub Oversized : Source → List Exported → At → LinkCause → Type 0
+abbrev pub Oversized : Source → List Exported → Position → LinkCause → Type 0
 Oversized source kernel at cause = Any (λ p. IsTooLarge source.procs kernel p at cause) (bodies_of source)
 
 abbrev pub names_of : List Exported → List (List ℕ)
 names_of kernel = map (λ e. e.name) kernel
 
 -- The places and causes of a source that is refused. Sizes are tested only where no use leads nowhere or back.
-pub data RefusesAt (source : Source) (kernel : List Exported) (at : At) (cause : LinkCause) : Type 0 where
+pub data RefusesAt (source : Source) (kernel : List Exported) (at : Position) (cause : LinkCause) : Type 0 where
   double : Doubles source at cause → RefusesAt source kernel at cause
   dangling : Dangles source (names_of kernel) at cause → RefusesAt source kernel at cause
   oversized : IsClosed source (names_of kernel) → Oversized source kernel at cause → RefusesAt source kernel at cause
 
 -- A source that is not refused: the blocks of its exports, in their order, and that of the body between begin and end.
 pub record Links (source : Source) (kernel : List Exported) (exports : List Exported) (main : Option Block) : Type 0 where
-  pub clean : (at : At) (cause : LinkCause) → ¬ (RefusesAt source kernel at cause)
+  pub clean : (at : Position) (cause : LinkCause) → ¬ (RefusesAt source kernel at cause)
   pub exported : AllZip (λ p e. (e.name ≡ p.name) × IsBlockOf source.procs kernel p e.block) (exported_of source.procs) exports
   pub body : MatchOption source.main (main ≡ None) (λ p. (block : Block) × (main ≡ Some block) × IsBlockOf source.procs kernel p block)

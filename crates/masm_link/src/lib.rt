@@ -16,6 +16,3 @@ mod sizing;
 pub use assembling::assemble;
 pub use laws::assembled_trees;
 pub use refusal::{AsmCause, AsmError, cause_text};
-
-#[cfg(test)]
-mod tests;

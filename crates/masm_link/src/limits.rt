@@ -10,7 +10,7 @@ ghost use Rattle.masm_uses.specs.Naming.{at_procedure};
 ghost use Rattle.masm_link.specs.Limits.{size_cause, IsOver};
 
 use masm_flat::{Extent, KernelProc, Size, Sizes, extent_of, size_of_procedure};
-use masm_parse::{At, Proc};
+use masm_parse::{Position, Proc};
 use masm_uses::{Defined, LinkCause, Names, Refusal, earlier};
 use std::alloc::Global;
 use vm_field::Memory;
@@ -34,7 +34,7 @@ fn size_cause(extent: Extent) -> Option<LinkCause>
 }
 
 // The refusal of a procedure at this place whose tree has this extent.
-fn too_large(at: At, extent: Extent) -> Option<Refusal>
+fn too_large(at: Position, extent: Extent) -> Option<Refusal>
     ensures { Answers (IsOver at extent) result }
 {
     match size_cause(extent) {

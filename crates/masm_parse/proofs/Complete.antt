@@ -7,15 +7,15 @@ use Rattle.masm_parse.specs.declared.terminal.Header.{Header}
 use Rattle.masm_parse.specs.declared.terminal.Terminal.{Terminal}
 use Rattle.masm_parse.specs.declared.terminal.Terminal.TheVariants as terminals
 use Rattle.masm_parse.specs.Trees.{Body, Empty, Leaf_then, If_then, While_then, Repeat_then, Procedure, append}
-use Rattle.masm_parse.specs.Machine.{Open, In_if, In_else, In_while, In_repeat, State, Top, Inside, Behind, may_begin, procedure, closed, shift}
+use Rattle.masm_parse.specs.Machine.{Open, In_if, In_else, In_while, In_repeat, Configuration, Top, Inside, Behind, may_begin, procedure, closed, shift}
 use Rattle.masm_parse.specs.Grammar.{Spells, nothing, leaf, if_only, if_else, while, repeated, is_item, SpellsProcs, none, constant, item, SpellsMain, IsWhole}
 
--- the state behind tokens, where each fits
-abbrev pub run : Bool → Option State → List Terminal → Option State
+-- the configuration behind tokens, where each fits
+abbrev pub run : Bool → Option Configuration → List Terminal → Option Configuration
 run k o [] = o
 run k o (t ∷ ts) = run k (option_and_then (λ s. shift k s t) o) ts
 
-pub run-append : (k : Bool) (o : Option State) (xs ys : List Terminal) → run k o (xs ++ ys) ≡ run k (run k o xs) ys
+pub run-append : (k : Bool) (o : Option Configuration) (xs ys : List Terminal) → run k o (xs ++ ys) ≡ run k (run k o xs) ys
 run-append k o [] ys = refl
 run-append k o (x ∷ xs) ys = run-append k (option_and_then (λ s. shift k s x) o) xs ys
 
@@ -105,13 +105,13 @@ main_complete ps main ts m =
     ∙ ap (λ r. Some (closed ps r (procedure m.header m.body))) m.role
     ∙ ap (λ p. Some (Behind ps p)) (sym m.is)
 
--- the last state of a source
-abbrev pub last_state : List Procedure → Option Procedure → State
-last_state procs None = Top procs
-last_state procs (Some main) = Behind procs main
+-- the last configuration of a source
+abbrev pub last_configuration : List Procedure → Option Procedure → Configuration
+last_configuration procs None = Top procs
+last_configuration procs (Some main) = Behind procs main
 
 pub whole_runs : (k : Bool) (procs : List Procedure) (main : Option Procedure) (ts : List Terminal) → IsWhole k procs main ts
-    → run k (Some (Top [])) ts ≡ Some (last_state procs main)
+    → run k (Some (Top [])) ts ≡ Some (last_configuration procs main)
 whole_runs true procs None ts d = procs_complete true d
 whole_runs true procs (Some main) ts d = absurd d
 whole_runs false procs None ts d = absurd d
@@ -121,10 +121,10 @@ some_none : {X : Type 0} (x : X) → Some x ≡ None → ⊥
 some_none x e = cc
 
 -- a token without a shift begins no source behind the ones before it
-pub dies : (k : Bool) (before more : List Terminal) (s : State) (t : Terminal) (procs : List Procedure) (main : Option Procedure)
+pub dies : (k : Bool) (before more : List Terminal) (s : Configuration) (t : Terminal) (procs : List Procedure) (main : Option Procedure)
     → run k (Some (Top [])) before ≡ Some s → shift k s t ≡ None → IsWhole k procs main (before ++ t ∷ more) → ⊥
 dies k before more s t procs main so misfit whole =
-    some_none (last_state procs main)
+    some_none (last_configuration procs main)
     (sym (whole_runs k procs main (before ++ t ∷ more) whole)
     ∙ run-append k (Some (Top [])) before (t ∷ more)
     ∙ ap (λ o. run k o (t ∷ more)) so

@@ -1,4 +1,4 @@
--- How many procedures and statements are open, in each state of the machine.
+-- How many procedures and statements are open, in each configuration of the machine.
 use Rattle.std.proofs.Common.{◌≡◌, Bool, true, false, ◌+◌, ◌&&◌, nat_le, cond, List, [], ◌∷◌, ◌++◌, length, Option, Some, None, ap, ◌∙◌, arith, leb-true, le-leb}
 use Rattle.masm_instr.proofs.Conjunction.{both_true}
 use Rattle.masm_parse.specs.declared.terminal.Role.{Role}
@@ -7,7 +7,7 @@ use Rattle.masm_parse.specs.declared.terminal.Header.{Header}
 use Rattle.masm_parse.specs.declared.terminal.Terminal.{Terminal}
 use Rattle.masm_parse.specs.declared.terminal.Terminal.TheVariants as terminals
 use Rattle.masm_parse.specs.Trees.{Empty, Procedure}
-use Rattle.masm_parse.specs.Machine.{In_if, State, Top, Inside, Behind, may_begin, procedure, closed, shift, is_opening, is_too_deep}
+use Rattle.masm_parse.specs.Machine.{In_if, Configuration, Top, Inside, Behind, may_begin, procedure, closed, shift, is_opening, is_too_deep}
 use Rattle.masm_parse.specs.Refusals.{begins, ends, begun, done, IsTooDeep}
 
 begun_snoc : (ts : List Terminal) (t : Terminal) → begun (ts ++ t ∷ []) ≡ begun ts + begins t
@@ -18,12 +18,12 @@ done_snoc : (ts : List Terminal) (t : Terminal) → done (ts ++ t ∷ []) ≡ do
 done_snoc [] t = omega arith
 done_snoc (x ∷ ts) t = omega (arith, done_snoc ts t)
 
-abbrev pub Counts : State → List Terminal → Type 0
+abbrev pub Counts : Configuration → List Terminal → Type 0
 Counts (Top ps) ts = begun ts ≡ done ts
 Counts (Inside ps h os b) ts = begun ts ≡ done ts + 1 + length os
 Counts (Behind ps main) ts = begun ts ≡ done ts
 
-abbrev pub CountsIf : Option State → List Terminal → Type 0
+abbrev pub CountsIf : Option Configuration → List Terminal → Type 0
 CountsIf None ts = Unit {0}
 CountsIf (Some s) ts = Counts s ts
 
@@ -37,7 +37,7 @@ counts_begun : (ps : List Procedure) (h : Header) (ts : List Terminal) (may : Bo
 counts_begun ps h ts true e = omega (arith, e, begun_snoc ts (terminals.Header h), done_snoc ts (terminals.Header h))
 counts_begun ps h ts false e = tt
 
-pub counts_kept : (k : Bool) (s : State) (t : Terminal) (ts : List Terminal) → Counts s ts → CountsIf (shift k s t) (ts ++ t ∷ [])
+pub counts_kept : (k : Bool) (s : Configuration) (t : Terminal) (ts : List Terminal) → Counts s ts → CountsIf (shift k s t) (ts ++ t ∷ [])
 counts_kept k (Top ps) (terminals.Const c) ts e = omega (arith, e, begun_snoc ts (terminals.Const c), done_snoc ts (terminals.Const c))
 counts_kept k (Top ps) (terminals.Header h) ts e = counts_begun ps h ts (may_begin k h.role) e
 counts_kept k (Inside ps h os b) (terminals.Leaf at l) ts e = omega (arith, e, begun_snoc ts (terminals.Leaf at l), done_snoc ts (terminals.Leaf at l))
@@ -50,7 +50,7 @@ counts_kept k (Inside ps h [] b) terminals.End ts e =
 counts_kept k (Inside ps h (o ∷ os) b) terminals.End ts e = omega (arith, e, begun_snoc ts terminals.End, done_snoc ts terminals.End)
 counts_kept k s t ts e = tt
 
-pub deep_stands : (s : State) (t : Terminal) (ts : List Terminal) → Counts s ts → is_too_deep s t ≡ true → IsTooDeep ts t
+pub deep_stands : (s : Configuration) (t : Terminal) (ts : List Terminal) → Counts s ts → is_too_deep s t ≡ true → IsTooDeep ts t
 deep_stands (Top ps) t ts e x =
     let two : (is_opening t ≡ true) × (nat_le 256 0 ≡ true) = both_true (is_opening t) (nat_le 256 0) x in
     (two.0, omega (arith, leb-true 256 0 two.1))
@@ -61,7 +61,7 @@ deep_stands (Behind ps main) t ts e x =
     let two : (is_opening t ≡ true) × (nat_le 256 0 ≡ true) = both_true (is_opening t) (nat_le 256 0) x in
     (two.0, omega (arith, leb-true 256 0 two.1))
 
-pub deep_found : (s : State) (t : Terminal) (ts : List Terminal) → Counts s ts → IsTooDeep ts t → is_too_deep s t ≡ true
+pub deep_found : (s : Configuration) (t : Terminal) (ts : List Terminal) → Counts s ts → IsTooDeep ts t → is_too_deep s t ≡ true
 deep_found (Top ps) t ts e x = let wrong : ⊥ = omega (arith, e, x.1) in absurd wrong
 deep_found (Inside ps h os b) t ts e x =
     ap (λ y. y && nat_le 256 (length os)) x.0 ∙ le-leb 256 (length os) (omega (arith, e, x.1))

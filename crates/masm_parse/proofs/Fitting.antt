@@ -2,11 +2,11 @@
 use Rattle.std.proofs.Common.{◌≡◌, ℕ, Bool, true, false, ◌&&◌, cond, List, [], ◌∷◌, ◌++◌, Option, Some, None, Result, Ok, Err, refl, sym, ap, subst, nat_le, nat_lt, leb-false, bytes_eq, codes, ◌==◌}
 use Rattle.std.specs.Option.{option_map}
 use Rattle.std.specs.List.{AllByRecursion}
-use Rattle.masm_instr.specs.declared.refusal.InstrError.{InstrError}
+use Rattle.instr_reading.specs.declared.refusal.InstrError.{InstrError}
 use Rattle.masm_instr.specs.Instructions.{Instruction, HasLocal}
-use Rattle.masm_instr.specs.declared.constant.Const.{Const}
-use Rattle.masm_instr.specs.Numbers.{number}
-use Rattle.masm_instr.specs.Reading.{read, parts_of, parameter_of}
+use Rattle.instr_reading.specs.declared.constant.Const.{Const}
+use Rattle.instr_reading.specs.Numbers.{number}
+use Rattle.instr_reading.specs.Reading.{read, parts_of, parameter_of}
 use Rattle.vm_field.specs.Field.{prime}
 use Rattle.std.specs.List.{slice_split}
 use Rattle.masm_parse.specs.declared.parts.Case.TheVariants.{Upper, Lower}
@@ -28,10 +28,10 @@ use Rattle.masm_parse.specs.declared.terminal.Role.TheVariants as roles
 use Rattle.masm_parse.specs.declared.terminal.Terminal.{Terminal}
 use Rattle.masm_parse.specs.declared.terminal.Terminal.TheVariants as terminals
 use Rattle.masm_parse.specs.declared.terminal.Symbol.{Symbol}
-use Rattle.masm_parse.specs.declared.tree.At.{At}
+use Rattle.masm_parse.specs.declared.tree.Position.{Position}
 use Rattle.masm_parse.specs.Keywords.{keyword_of, is_kept_from_kernels}
 use Rattle.masm_parse.specs.Locals.{LeafFits, HasLocals, ProcedureFits, SourceFits}
-use Rattle.masm_parse.specs.Machine.{Open, In_if, In_else, In_while, In_repeat, State, Top, Inside, Behind, Reader, start, reduce, closed, procedure, may_begin, shift, settled, moved, at_of, step, ended, parse_from, parsed}
+use Rattle.masm_parse.specs.Machine.{Open, In_if, In_else, In_while, In_repeat, Configuration, Top, Inside, Behind, Parse, start, reduce, closed, procedure, may_begin, shift, settled, moved, at_of, step, ended, parse_from, parsed}
 use Rattle.masm_parse.specs.Trees.{Body, Empty, Leaf_then, If_then, While_then, Repeat_then, Procedure, Source, append}
 use Rattle.masm_parse.specs.Classify.{Context, known_after, symbol_with, local_tested, is_no_local, instruction, classify_instruction, classify_keyword, classify_known, classify_parts, classify, phrase, usage, used, valued, definition, constant, header_with, header, locals_of, alone, on_true, repeated, repetition, main, is_name}
 
@@ -59,27 +59,27 @@ fits-reduce locals (In_else at before first) b h k = fits-append locals before (
 fits-reduce locals (In_while at before) b h k = fits-append locals before (While_then at b Empty) h (k, tt)
 fits-reduce locals (In_repeat at times before) b h k = fits-append locals before (Repeat_then at times b Empty) h (k, tt)
 
--- what is held of a state, where the procedure that began last has so many locals
-abbrev pub StateFits : ℕ → State → Type 0
-StateFits locals (Top procs) = AllByRecursion ProcedureFits procs
-StateFits locals (Inside procs header opens body) =
+-- what is held of a configuration, where the procedure that began last has so many locals
+abbrev pub ConfigurationFits : ℕ → Configuration → Type 0
+ConfigurationFits locals (Top procs) = AllByRecursion ProcedureFits procs
+ConfigurationFits locals (Inside procs header opens body) =
     AllByRecursion ProcedureFits procs × (header.locals ≡ locals) × AllByRecursion (OpenFits locals) opens × HasLocals locals body
-StateFits locals (Behind procs main) = AllByRecursion ProcedureFits procs × ProcedureFits main
+ConfigurationFits locals (Behind procs main) = AllByRecursion ProcedureFits procs × ProcedureFits main
 
 fits-snoc : (procs : List Procedure) (p : Procedure) → AllByRecursion ProcedureFits procs → ProcedureFits p → AllByRecursion ProcedureFits (procs ++ p ∷ [])
 fits-snoc [] p h k = (k, tt)
 fits-snoc (q ∷ procs) p h k = (h.0, fits-snoc procs p h.1 k)
 
-fits-closed : (locals : ℕ) (procs : List Procedure) (role : Role) (p : Procedure) → AllByRecursion ProcedureFits procs → ProcedureFits p → StateFits locals (closed procs role p)
+fits-closed : (locals : ℕ) (procs : List Procedure) (role : Role) (p : Procedure) → AllByRecursion ProcedureFits procs → ProcedureFits p → ConfigurationFits locals (closed procs role p)
 fits-closed locals procs roles.Proc p h k = fits-snoc procs p h k
 fits-closed locals procs roles.Export p h k = fits-snoc procs p h k
 fits-closed locals procs roles.Main p h k = (h, k)
 
-abbrev pub StateFitsIf : ℕ → Option State → Type 0
-StateFitsIf locals None = Unit {0}
-StateFitsIf locals (Some s) = StateFits locals s
+abbrev pub ConfigurationFitsIf : ℕ → Option Configuration → Type 0
+ConfigurationFitsIf locals None = Unit {0}
+ConfigurationFitsIf locals (Some s) = ConfigurationFits locals s
 
-fits-begun : (procs : List Procedure) (h : Header) (may : Bool) → AllByRecursion ProcedureFits procs → StateFitsIf h.locals (cond may (Some (Inside procs h [] Empty)) None)
+fits-begun : (procs : List Procedure) (h : Header) (may : Bool) → AllByRecursion ProcedureFits procs → ConfigurationFitsIf h.locals (cond may (Some (Inside procs h [] Empty)) None)
 fits-begun procs h true k = (k, refl, tt, tt)
 fits-begun procs h false k = tt
 
@@ -87,7 +87,7 @@ abbrev pub locals_after : ℕ → Terminal → ℕ
 locals_after locals (terminals.Header header) = header.locals
 locals_after locals terminal = locals
 
-fits-shift : (kernel : Bool) (locals : ℕ) (s : State) (terminal : Terminal) → StateFits locals s → TerminalFits locals terminal → StateFitsIf (locals_after locals terminal) (shift kernel s terminal)
+fits-shift : (kernel : Bool) (locals : ℕ) (s : Configuration) (terminal : Terminal) → ConfigurationFits locals s → TerminalFits locals terminal → ConfigurationFitsIf (locals_after locals terminal) (shift kernel s terminal)
 fits-shift kernel locals (Top procs) (terminals.Const c) h k = h
 fits-shift kernel locals (Top procs) (terminals.Header header) h k = fits-begun procs header (may_begin kernel header.role) h
 fits-shift kernel locals (Inside procs header opens body) (terminals.Leaf at leaf) h k = (h.0, h.1, h.2, fits-append locals body (Leaf_then at leaf Empty) h.3 (k, tt))
@@ -107,7 +107,7 @@ SymbolFits locals symbol = symbol.fault ≡ None → TerminalFits locals symbol.
 no-local : (instr : Instruction) (locals : ℕ) → is_no_local instr locals ≡ false → HasLocal instr locals
 no-local instr locals is named = leb-false locals _ (rw named at is)
 
-fits-tested : (locals : ℕ) (at : At) (refused : Terminal) (r : Result Instruction InstrError) → SymbolFits locals (symbol_with refused (local_tested locals at r))
+fits-tested : (locals : ℕ) (at : Position) (refused : Terminal) (r : Result Instruction InstrError) → SymbolFits locals (symbol_with refused (local_tested locals at r))
 fits-tested locals at refused (Ok instr) fine =
     elim (is_no_local instr locals) as (λ b. is_no_local instr locals ≡ b → (symbol_with refused (cond b (Err causes.LocalsRange) (Ok (terminals.Leaf at (leaves.Instr instr))))).fault ≡ None → TerminalFits locals (symbol_with refused (cond b (Err causes.LocalsRange) (Ok (terminals.Leaf at (leaves.Instr instr))))).terminal) [
       | true ↦ λ is no. cc
@@ -124,24 +124,24 @@ none-if : (b : Bool) (x y : Result Terminal Cause) → NamesNone x → NamesNone
 none-if true x y h k = h
 none-if false x y h k = k
 
-none-valued : (at : At) (name : List ℕ) (v : Option ℕ) → NamesNone (valued at name v)
+none-valued : (at : Position) (name : List ℕ) (v : Option ℕ) → NamesNone (valued at name v)
 none-valued at name None = tt
 none-valued at name (Some v) = none-if (nat_lt v prime) _ _ (λ n. tt) tt
 
-none-definition : (at : At) (parts : List (List ℕ)) → NamesNone (definition at parts)
+none-definition : (at : Position) (parts : List (List ℕ)) → NamesNone (definition at parts)
 none-definition at (name ∷ value ∷ []) = none-if (is_name Upper name) _ _ (none-valued at name (number value)) tt
 none-definition at parts = tt
 
-none-constant : (at : At) (parts : List (List ℕ)) → NamesNone (constant at parts)
+none-constant : (at : Position) (parts : List (List ℕ)) → NamesNone (constant at parts)
 unfolding constant
 none-constant at (part ∷ []) = none-definition at (slice_split (λ b. b == 61) part)
 none-constant at parts = tt
 
-none-header_with : (role : Role) (at : At) (name : List ℕ) (n : Result ℕ Cause) → NamesNone (header_with role at name n)
+none-header_with : (role : Role) (at : Position) (name : List ℕ) (n : Result ℕ Cause) → NamesNone (header_with role at name n)
 none-header_with role at name (Ok n) = λ m. tt
 none-header_with role at name (Err cause) = tt
 
-none-header : (role : Role) (at : At) (parts : List (List ℕ)) → NamesNone (header role at parts)
+none-header : (role : Role) (at : Position) (parts : List (List ℕ)) → NamesNone (header role at parts)
 unfolding header
 none-header role at [] = tt
 none-header role at (name ∷ more) = none-if (is_name Lower name) _ _ (none-header_with role at name (locals_of more)) tt
@@ -154,11 +154,11 @@ none-on_true : (terminal : Terminal) (parts : List (List ℕ)) → ((n : ℕ) �
 none-on_true terminal (part ∷ []) h = none-if (bytes_eq part (codes "true")) _ _ h tt
 none-on_true terminal parts h = tt
 
-none-repeated : (at : At) (n : Option ℕ) → NamesNone (repeated at n)
+none-repeated : (at : Position) (n : Option ℕ) → NamesNone (repeated at n)
 none-repeated at None = tt
 none-repeated at (Some n) = none-if (nat_le 1 n && nat_le n 10000) _ _ (λ m. tt) tt
 
-none-repetition : (consts : List Const) (at : At) (parts : List (List ℕ)) → NamesNone (repetition consts at parts)
+none-repetition : (consts : List Const) (at : Position) (parts : List (List ℕ)) → NamesNone (repetition consts at parts)
 unfolding repetition
 none-repetition consts at (part ∷ []) = none-repeated at (parameter_of consts true part)
 none-repetition consts at parts = tt
@@ -168,12 +168,12 @@ none-used uses.Exec name locals = tt
 none-used uses.Call name locals = tt
 none-used uses.Syscall name locals = tt
 
-none-usage : (k : Use) (at : At) (parts : List (List ℕ)) → NamesNone (usage k at parts)
+none-usage : (k : Use) (at : Position) (parts : List (List ℕ)) → NamesNone (usage k at parts)
 unfolding usage
 none-usage k at (name ∷ []) = none-if (is_name Lower name) _ _ (none-used k name) tt
 none-usage k at parts = tt
 
-none-phrase : (context : Context) (at : At) (parts : List (List ℕ)) (k : Keyword) → NamesNone (phrase context at parts k)
+none-phrase : (context : Context) (at : Position) (parts : List (List ℕ)) (k : Keyword) → NamesNone (phrase context at parts k)
 unfolding phrase
 none-phrase context at parts keywords.Const = none-constant at parts
 none-phrase context at parts keywords.Proc = none-header roles.Proc at parts
@@ -193,36 +193,36 @@ none-symbol_with locals refused (Ok terminal) h fine = h locals
 none-symbol_with locals refused (Err cause) h fine = cc
 
 -- a token that is a keyword names no local
-fits-keyword : (kernel : Bool) (context : Context) (at : At) (parts : List (List ℕ)) (k : Keyword) → SymbolFits context.locals (classify_keyword kernel context at parts k)
+fits-keyword : (kernel : Bool) (context : Context) (at : Position) (parts : List (List ℕ)) (k : Keyword) → SymbolFits context.locals (classify_keyword kernel context at parts k)
 unfolding classify_keyword
 fits-keyword kernel context at parts k =
     none-symbol_with context.locals _ _ (none-if (kernel && is_kept_from_kernels k) _ _ tt (none-phrase context at parts k))
 
-fits-known : (kernel : Bool) (context : Context) (at : At) (text : List ℕ) (parts : List (List ℕ)) (k : Option Keyword) → SymbolFits context.locals (classify_known kernel context at text parts k)
+fits-known : (kernel : Bool) (context : Context) (at : Position) (text : List ℕ) (parts : List (List ℕ)) (k : Option Keyword) → SymbolFits context.locals (classify_known kernel context at text parts k)
 unfolding classify_instruction instruction
 fits-known kernel context at text parts None = fits-tested context.locals at _ (read context.consts text)
 fits-known kernel context at text parts (Some k) = fits-keyword kernel context at parts k
 
-fits-parts : (kernel : Bool) (context : Context) (at : At) (text : List ℕ) (parts : List (List ℕ)) → SymbolFits context.locals (classify_parts kernel context at text parts)
+fits-parts : (kernel : Bool) (context : Context) (at : Position) (text : List ℕ) (parts : List (List ℕ)) → SymbolFits context.locals (classify_parts kernel context at text parts)
 unfolding classify_instruction instruction
 fits-parts kernel context at text [] = fits-tested context.locals at _ (read context.consts text)
 fits-parts kernel context at text (first ∷ parts) = fits-known kernel context at text parts (keyword_of first)
 
-fits-symbol : (kernel : Bool) (context : Context) (at : At) (text : List ℕ) → SymbolFits context.locals (classify kernel context at text)
+fits-symbol : (kernel : Bool) (context : Context) (at : Position) (text : List ℕ) → SymbolFits context.locals (classify kernel context at text)
 unfolding classify
 fits-symbol kernel context at text = fits-parts kernel context at text (parts_of text)
 
 -- what is held of a reader
-abbrev pub ReaderFits : Reader → Type 0
-ReaderFits r = StateFits r.context.locals r.state
+abbrev pub ParseFits : Parse → Type 0
+ParseFits r = ConfigurationFits r.context.locals r.configuration
 
-abbrev pub ReaderFitsOption : Option Reader → Type 0
-ReaderFitsOption None = Unit {0}
-ReaderFitsOption (Some r) = ReaderFits r
+abbrev pub ParseFitsOption : Option Parse → Type 0
+ParseFitsOption None = Unit {0}
+ParseFitsOption (Some r) = ParseFits r
 
-abbrev pub ReaderFitsIf : Result Reader Cause → Type 0
-ReaderFitsIf (Ok r) = ReaderFits r
-ReaderFitsIf (Err cause) = Unit {0}
+abbrev pub ParseFitsIf : Result Parse Cause → Type 0
+ParseFitsIf (Ok r) = ParseFits r
+ParseFitsIf (Err cause) = Unit {0}
 
 -- known_after keeps the count of locals, but at a header
 known-locals : (context : Context) (terminal : Terminal) → (known_after context terminal).locals ≡ locals_after context.locals terminal
@@ -230,24 +230,24 @@ known-locals context (terminals.Header header) = refl
 known-locals context (terminals.Const c) = refl
 known-locals context terminal = refl
 
-fits-advanced : (kernel : Bool) (r : Reader) (terminal : Terminal) (s : Option State) → StateFitsIf (locals_after r.context.locals terminal) s
-    → ReaderFitsOption (option_map (λ s. record { context = known_after r.context terminal; state = s }) s)
+fits-advanced : (kernel : Bool) (r : Parse) (terminal : Terminal) (s : Option Configuration) → ConfigurationFitsIf (locals_after r.context.locals terminal) s
+    → ParseFitsOption (option_map (λ s. record { context = known_after r.context terminal; configuration = s }) s)
 fits-advanced kernel r terminal None h = tt
-fits-advanced kernel r terminal (Some s) h = subst (λ n. StateFits n s) (sym (known-locals r.context terminal)) h
+fits-advanced kernel r terminal (Some s) h = subst (λ n. ConfigurationFits n s) (sym (known-locals r.context terminal)) h
 
-fits-settled : (fault : Option Cause) (deep : Bool) (now : Option Reader) → (fault ≡ None → ReaderFitsOption now) → ReaderFitsIf (settled fault deep now)
+fits-settled : (fault : Option Cause) (deep : Bool) (now : Option Parse) → (fault ≡ None → ParseFitsOption now) → ParseFitsIf (settled fault deep now)
 fits-settled None deep None h = tt
 fits-settled None true (Some now) h = tt
 fits-settled None false (Some now) h = h refl
 fits-settled (Some cause) deep None h = tt
 fits-settled (Some cause) deep (Some now) h = tt
 
-fits-moved : (kernel : Bool) (r : Reader) (symbol : Symbol) → ReaderFits r → SymbolFits r.context.locals symbol → ReaderFitsIf (moved kernel r symbol)
+fits-moved : (kernel : Bool) (r : Parse) (symbol : Symbol) → ParseFits r → SymbolFits r.context.locals symbol → ParseFitsIf (moved kernel r symbol)
 unfolding moved
 fits-moved kernel r symbol h k =
-    fits-settled symbol.fault _ _ (λ fine. fits-advanced kernel r symbol.terminal (shift kernel r.state symbol.terminal) (fits-shift kernel r.context.locals r.state symbol.terminal h (k fine)))
+    fits-settled symbol.fault _ _ (λ fine. fits-advanced kernel r symbol.terminal (shift kernel r.configuration symbol.terminal) (fits-shift kernel r.context.locals r.configuration symbol.terminal h (k fine)))
 
-fits-step : (kernel : Bool) (source : List ℕ) (r : Reader) (token : Token) → ReaderFits r → ReaderFitsIf (step kernel source r token)
+fits-step : (kernel : Bool) (source : List ℕ) (r : Parse) (token : Token) → ParseFits r → ParseFitsIf (step kernel source r token)
 unfolding step
 fits-step kernel source r token h = fits-moved kernel r _ h (fits-symbol kernel r.context (at_of token) (text_of source token))
 
@@ -259,7 +259,7 @@ pub same_tree : (a b : Source) → ◌≡◌ {A = Result Source ParseError} (Ok 
 unfolding value_or
 same_tree a b e = ap (value_or a) e
 
-fits-ended : (kernel : Bool) (locals : ℕ) (state : State) (end : Place) (consts : List Const) (source : Source) → StateFits locals state → ended kernel end consts state ≡ Ok source → SourceFits source
+fits-ended : (kernel : Bool) (locals : ℕ) (configuration : Configuration) (end : Place) (consts : List Const) (source : Source) → ConfigurationFits locals configuration → ended kernel end consts configuration ≡ Ok source → SourceFits source
 fits-ended true locals (Top procs) end consts source h e = subst SourceFits (same_tree _ source e) (record { procs = h; main = tt })
 fits-ended false locals (Behind procs main) end consts source h e = subst SourceFits (same_tree _ source e) (record { procs = h.0; main = h.1 })
 fits-ended true locals (Inside procs header opens body) end consts source h e = cc
@@ -268,14 +268,14 @@ fits-ended false locals (Top procs) end consts source h e = cc
 fits-ended false locals (Inside procs header opens body) end consts source h e = cc
 
 -- the reading of the other tokens, behind a step
-fits-later : (s : Result Reader Cause) (token : Token) (rest : Reader → Result Source ParseError) (source : Source) → ReaderFitsIf s
-    → ((now : Reader) → ReaderFits now → rest now ≡ Ok source → SourceFits source)
+fits-later : (s : Result Parse Cause) (token : Token) (rest : Parse → Result Source ParseError) (source : Source) → ParseFitsIf s
+    → ((now : Parse) → ParseFits now → rest now ≡ Ok source → SourceFits source)
     → elim s as (λ _. Result Source ParseError) [ Ok now ↦ rest now | Err cause ↦ Err (Bad token.line token.column cause) ] ≡ Ok source → SourceFits source
 fits-later (Ok now) token rest source k h e = h now k e
 fits-later (Err cause) token rest source k h e = cc
 
-fits-parsed : (kernel : Bool) (text : List ℕ) (r : Reader) (tokens : List Token) (source : Source) → ReaderFits r → parse_from kernel text r tokens ≡ Ok source → SourceFits source
-fits-parsed kernel text r [] source h is = fits-ended kernel r.context.locals r.state (place_after text) r.context.consts source h is
+fits-parsed : (kernel : Bool) (text : List ℕ) (r : Parse) (tokens : List Token) (source : Source) → ParseFits r → parse_from kernel text r tokens ≡ Ok source → SourceFits source
+fits-parsed kernel text r [] source h is = fits-ended kernel r.context.locals r.configuration (place_after text) r.context.consts source h is
 fits-parsed kernel text r (token ∷ tokens) source h is =
     fits-later (step kernel text r token) token (λ now. parse_from kernel text now tokens) source (fits-step kernel text r token h)
     (λ now k e. fits-parsed kernel text now tokens source k e) is

@@ -3,7 +3,7 @@ use Rattle.std.proofs.Common.{◌≡◌, ℕ, zero, suc, Bool, true, false, ◌+
 use Rattle.std.proofs.lemmas.Bool.Decides.{leb_tells}
 use Rattle.std.proofs.lemmas.List.{map-append}
 use Rattle.std.specs.Option.{option_map}
-use Rattle.masm_instr.specs.declared.constant.Const.{Const}
+use Rattle.instr_reading.specs.declared.constant.Const.{Const}
 use Rattle.masm_lex.specs.declared.place.Place.{Place}
 use Rattle.masm_lex.specs.declared.list.Token.{Token}
 use Rattle.masm_lex.specs.Tokens.{place_after, text_of}
@@ -17,10 +17,10 @@ use Rattle.masm_parse.specs.declared.terminal.Symbol.{Symbol}
 use Rattle.masm_parse.specs.Causes.{order}
 use Rattle.masm_parse.specs.Classify.{Context, known_after, classify}
 use Rattle.masm_parse.specs.Trees.{Procedure, Source}
-use Rattle.masm_parse.specs.Machine.{State, Top, Inside, Behind, Reader, shift, is_too_deep, advance, moved, step, at_of, ended, parse_from, start, parsed}
+use Rattle.masm_parse.specs.Machine.{Configuration, Top, Inside, Behind, Parse, shift, is_too_deep, advance, moved, step, at_of, ended, parse_from, start, parsed}
 use Rattle.masm_parse.specs.Grammar.{none, IsWhole, IsSource, constants}
 use Rattle.masm_parse.specs.Refusals.{symbols_of, terminals_of, source_symbols, Fits, IsTooDeep, Stands, RefusesAt, Parses, at_first, Answers, LeastRefusal, ParsesOnce}
-use Rattle.masm_parse.proofs.Complete.{run, run-append, last_state, whole_runs, dies}
+use Rattle.masm_parse.proofs.Complete.{run, run-append, last_configuration, whole_runs, dies}
 use Rattle.masm_parse.proofs.Standing.{Standing, StandingIf, kept, Finishes, finish, finished_source, fits}
 use Rattle.masm_parse.proofs.Depth.{Counts, CountsIf, counts_kept, deep_stands, deep_found}
 use Rattle.masm_parse.proofs.Settling.{Settles, settle_least, none_some}
@@ -84,24 +84,24 @@ stands_here k ws before more w i c split place x =
     same_split x.before before x.symbol w x.more more (sym x.split ∙ split) (x.place ∙ place) in
     subst (λ z. Stands k (terminals_of before) z c) same.1 (subst (λ z. Stands k (terminals_of z) x.symbol c) same.0 x.stands)
 
--- the last state of a source is the one that its tokens lead to
-is_last : (k : Bool) (s : State) (procs : List Procedure) (main : Option Procedure) (ts : List Terminal) → run k (Some (Top [])) ts ≡ Some s
-    → IsWhole k procs main ts → s ≡ last_state procs main
-is_last k s procs main ts so whole = some_same s (last_state procs main) (sym so ∙ whole_runs k procs main ts whole)
+-- the last configuration of a source is the one that its tokens lead to
+is_last : (k : Bool) (s : Configuration) (procs : List Procedure) (main : Option Procedure) (ts : List Terminal) → run k (Some (Top [])) ts ≡ Some s
+    → IsWhole k procs main ts → s ≡ last_configuration procs main
+is_last k s procs main ts so whole = some_same s (last_configuration procs main) (sym so ∙ whole_runs k procs main ts whole)
 
-early_kernel : (s : State) (procs : List Procedure) (main : Option Procedure) (ts : List Terminal) → ((ps : List Procedure) → s ≡ Top ps → ⊥)
+early_kernel : (s : Configuration) (procs : List Procedure) (main : Option Procedure) (ts : List Terminal) → ((ps : List Procedure) → s ≡ Top ps → ⊥)
     → run true (Some (Top [])) ts ≡ Some s → IsWhole true procs main ts → ⊥
 early_kernel s procs None ts never so whole = never procs (is_last true s procs None ts so whole)
 early_kernel s procs (Some main) ts never so whole = whole
 
-early_program : (s : State) (procs : List Procedure) (main : Option Procedure) (ts : List Terminal)
+early_program : (s : Configuration) (procs : List Procedure) (main : Option Procedure) (ts : List Terminal)
     → ((ps : List Procedure) (m : Procedure) → s ≡ Behind ps m → ⊥)
     → run false (Some (Top [])) ts ≡ Some s → IsWhole false procs main ts → ⊥
 early_program s procs None ts never so whole = whole
 early_program s procs (Some main) ts never so whole = never procs main (is_last false s procs (Some main) ts so whole)
 
 -- the source ends early
-early : (k : Bool) (end : Place) (all : List Token) (before : List Symbol) (s : State)
+early : (k : Bool) (end : Place) (all : List Token) (before : List Symbol) (s : Configuration)
     → ((procs : List Procedure) (main : Option Procedure) → IsWhole k procs main (terminals_of before) → ⊥)
     → Standing k s (terminals_of before) → ((i : ℕ) (c : Cause) → RefusesAt k before i c → length before ≤ i) → drop (length before) all ≡ []
     → Answers k end all before (Err (Bad end.line end.column causes.Syntax))
@@ -125,7 +125,7 @@ early k end all before s never standing clear over =
       ap (λ ts. at_first ts end) over,
     )
 
-at_end : (k : Bool) (end : Place) (all : List Token) (before : List Symbol) (s : State) (cs : List Const)
+at_end : (k : Bool) (end : Place) (all : List Token) (before : List Symbol) (s : Configuration) (cs : List Const)
     → run k (Some (Top [])) (terminals_of before) ≡ Some s → Standing k s (terminals_of before) → constants (terminals_of before) ≡ cs
     → ((i : ℕ) (c : Cause) → RefusesAt k before i c → length before ≤ i) → drop (length before) all ≡ []
     → Answers k end all before (ended k end cs s)
@@ -153,18 +153,18 @@ at_end false end all before (Inside ps h os b) cs so standing consts clear over 
     (λ procs main. early_program (Inside ps h os b) procs main (terminals_of before) (λ qs m e. cc) so) standing clear over
 
 -- what settles a token, in the machine's terms
-settles : (k : Bool) (r : Reader) (before : List Terminal) (w : Symbol) → run k (Some (Top [])) before ≡ Some r.state → Standing k r.state before
-    → Counts r.state before
+settles : (k : Bool) (r : Parse) (before : List Terminal) (w : Symbol) → run k (Some (Top [])) before ≡ Some r.configuration → Standing k r.configuration before
+    → Counts r.configuration before
     → Settles w.fault (Fits k before w.terminal → ⊥) (IsTooDeep before w.terminal) (advance k r w.terminal) (moved k r w)
 unfolding moved
 settles k r before w so standing counts =
-    settle_least w.fault (is_too_deep r.state w.terminal) (advance k r w.terminal) (Fits k before w.terminal → ⊥) (IsTooDeep before w.terminal)
-    (λ e f. dies k before f.more r.state w.terminal f.source.procs f.source.main so (mapped_none _ (shift k r.state w.terminal) e) f.spelled.whole)
-    (λ now e no. let some : (s : State) × (shift k r.state w.terminal ≡ Some s) × (record { context = known_after r.context w.terminal; state = s } ≡ now) = mapped_some _ (shift k r.state w.terminal) now e in
+    settle_least w.fault (is_too_deep r.configuration w.terminal) (advance k r w.terminal) (Fits k before w.terminal → ⊥) (IsTooDeep before w.terminal)
+    (λ e f. dies k before f.more r.configuration w.terminal f.source.procs f.source.main so (mapped_none _ (shift k r.configuration w.terminal) e) f.spelled.whole)
+    (λ now e no. let some : (s : Configuration) × (shift k r.configuration w.terminal ≡ Some s) × (record { context = known_after r.context w.terminal; configuration = s } ≡ now) = mapped_some _ (shift k r.configuration w.terminal) now e in
     no (fits k w.terminal before (finish k some.0 (before ++ w.terminal ∷ [])
-    (subst (λ o. StandingIf k o (before ++ w.terminal ∷ [])) some.1 (kept k r.state w.terminal before standing)))))
-    (deep_stands r.state w.terminal before counts)
-    (deep_found r.state w.terminal before counts)
+    (subst (λ o. StandingIf k o (before ++ w.terminal ∷ [])) some.1 (kept k r.configuration w.terminal before standing)))))
+    (deep_stands r.configuration w.terminal before counts)
+    (deep_found r.configuration w.terminal before counts)
 
 -- no refusal stands before the next token
 still_clear : (k : Bool) (ws before more : List Symbol) (w : Symbol) → ws ≡ before ++ w ∷ more
@@ -180,19 +180,19 @@ still_clear k ws before more w split none_here clear i c x =
     ]
 
 -- what stands behind the tokens so far
-pub record Going (k : Bool) (source : List ℕ) (all : List Token) (ws : List Symbol) (ts : List Token) (before : List Symbol) (r : Reader) : Type 0 where
+pub record Going (k : Bool) (source : List ℕ) (all : List Token) (ws : List Symbol) (ts : List Token) (before : List Symbol) (r : Parse) : Type 0 where
   pub split : ws ≡ before ++ symbols_of k source r.context ts
-  pub so : run k (Some (Top [])) (terminals_of before) ≡ Some r.state
-  pub standing : Standing k r.state (terminals_of before)
-  pub counts : Counts r.state (terminals_of before)
+  pub so : run k (Some (Top [])) (terminals_of before) ≡ Some r.configuration
+  pub standing : Standing k r.configuration (terminals_of before)
+  pub counts : Counts r.configuration (terminals_of before)
   pub consts : constants (terminals_of before) ≡ r.context.consts
   pub clear : (i : ℕ) (c : Cause) → RefusesAt k ws i c → length before ≤ i
   pub left : drop (length before) all ≡ ts
 
-further : (k : Bool) (source : List ℕ) (all : List Token) (ws : List Symbol) (t : Token) (ts : List Token) (before : List Symbol) (r : Reader) (w : Symbol) (s : State)
+further : (k : Bool) (source : List ℕ) (all : List Token) (ws : List Symbol) (t : Token) (ts : List Token) (before : List Symbol) (r : Parse) (w : Symbol) (s : Configuration)
     → w ≡ classify k r.context (at_of t) (text_of source t)
-    → Going k source all ws (t ∷ ts) before r → shift k r.state w.terminal ≡ Some s → ((c : Cause) → Stands k (terminals_of before) w c → ⊥)
-    → Going k source all ws ts (before ++ w ∷ []) (record { context = known_after r.context w.terminal; state = s })
+    → Going k source all ws (t ∷ ts) before r → shift k r.configuration w.terminal ≡ Some s → ((c : Cause) → Stands k (terminals_of before) w c → ⊥)
+    → Going k source all ws ts (before ++ w ∷ []) (record { context = known_after r.context w.terminal; configuration = s })
 further k source all ws t ts before r w s is g e none_here =
     let split : ws ≡ before ++ w ∷ symbols_of k source (known_after r.context w.terminal) ts =
     g.split ∙ ap (λ x. before ++ x ∷ symbols_of k source (known_after r.context x.terminal) ts) (sym is) in
@@ -204,10 +204,10 @@ further k source all ws t ts before r w s is g e none_here =
           ∙ ap (λ o. run k o (w.terminal ∷ [])) g.so ∙ e;
       standing =
           subst (λ x. Standing k s x) (sym (terminals_snoc before w))
-          (subst (λ o. StandingIf k o (terminals_of before ++ w.terminal ∷ [])) e (kept k r.state w.terminal (terminals_of before) g.standing));
+          (subst (λ o. StandingIf k o (terminals_of before ++ w.terminal ∷ [])) e (kept k r.configuration w.terminal (terminals_of before) g.standing));
       counts =
           subst (λ x. Counts s x) (sym (terminals_snoc before w))
-          (subst (λ o. CountsIf o (terminals_of before ++ w.terminal ∷ [])) e (counts_kept k r.state w.terminal (terminals_of before) g.counts));
+          (subst (λ o. CountsIf o (terminals_of before ++ w.terminal ∷ [])) e (counts_kept k r.configuration w.terminal (terminals_of before) g.counts));
       consts =
           ap constants (terminals_snoc before w) ∙ constants_append (terminals_of before) w.terminal
           ∙ ap (λ cs. cs ++ constants (w.terminal ∷ [])) g.consts ∙ known_consts r.context w.terminal;
@@ -215,18 +215,18 @@ further k source all ws t ts before r w s is g e none_here =
       left = ap (λ n. drop n all) (length_snoc before w) ∙ drop_next (length before) all t ts g.left;
     }
 
-abbrev pub Leads : Bool → List ℕ → List Token → List Symbol → Token → List Token → Result Reader Cause → Type 0
+abbrev pub Leads : Bool → List ℕ → List Token → List Symbol → Token → List Token → Result Parse Cause → Type 0
 Leads k source all ws t ts (Ok now) = Answers k (place_after source) all ws (parse_from k source now ts)
 Leads k source all ws t ts (Err cause) = Answers k (place_after source) all ws (Err (Bad t.line t.column cause))
 
-led : (k : Bool) (source : List ℕ) (all : List Token) (ws : List Symbol) (t : Token) (ts : List Token) (res : Result Reader Cause)
+led : (k : Bool) (source : List ℕ) (all : List Token) (ws : List Symbol) (t : Token) (ts : List Token) (res : Result Parse Cause)
     → Leads k source all ws t ts res
     → Answers k (place_after source) all ws (elim res [ Ok now ↦ parse_from k source now ts | Err cause ↦ Err (Bad t.line t.column cause) ])
 led k source all ws t ts (Ok now) x = x
 led k source all ws t ts (Err cause) x = x
 
 -- a token that is refused
-refused : (k : Bool) (source : List ℕ) (all : List Token) (ws : List Symbol) (t : Token) (ts : List Token) (before : List Symbol) (r : Reader) (w : Symbol) (cause : Cause)
+refused : (k : Bool) (source : List ℕ) (all : List Token) (ws : List Symbol) (t : Token) (ts : List Token) (before : List Symbol) (r : Parse) (w : Symbol) (cause : Cause)
     → w ≡ classify k r.context (at_of t) (text_of source t)
     → Going k source all ws (t ∷ ts) before r → Stands k (terminals_of before) w cause
     → ((c : Cause) → Stands k (terminals_of before) w c → order cause ≤ order c)
@@ -251,28 +251,28 @@ refused k source all ws t ts before r w cause is g stands least =
     )
 
 -- the token decides: it is refused, or the machine goes on
-chosen : (k : Bool) (source : List ℕ) (all : List Token) (ws : List Symbol) (t : Token) (ts : List Token) (before : List Symbol) (r : Reader) (w : Symbol)
+chosen : (k : Bool) (source : List ℕ) (all : List Token) (ws : List Symbol) (t : Token) (ts : List Token) (before : List Symbol) (r : Parse) (w : Symbol)
     → w ≡ classify k r.context (at_of t) (text_of source t)
     → Going k source all ws (t ∷ ts) before r
-    → ((later : List Symbol) (now : Reader) → Going k source all ws ts later now → Answers k (place_after source) all ws (parse_from k source now ts))
-    → (res : Result Reader Cause)
+    → ((later : List Symbol) (now : Parse) → Going k source all ws ts later now → Answers k (place_after source) all ws (parse_from k source now ts))
+    → (res : Result Parse Cause)
     → Settles w.fault (Fits k (terminals_of before) w.terminal → ⊥) (IsTooDeep (terminals_of before) w.terminal) (advance k r w.terminal) res
     → Leads k source all ws t ts res
 chosen k source all ws t ts before r w is g more (Ok now) (e, none_here) =
-    let some : (s : State) × (shift k r.state w.terminal ≡ Some s) × (record { context = known_after r.context w.terminal; state = s } ≡ now) = mapped_some _ (shift k r.state w.terminal) now e in
+    let some : (s : Configuration) × (shift k r.configuration w.terminal ≡ Some s) × (record { context = known_after r.context w.terminal; configuration = s } ≡ now) = mapped_some _ (shift k r.configuration w.terminal) now e in
     subst (λ x. Answers k (place_after source) all ws (parse_from k source x ts)) some.2
-    (more (before ++ w ∷ []) (record { context = known_after r.context w.terminal; state = some.0 })
+    (more (before ++ w ∷ []) (record { context = known_after r.context w.terminal; configuration = some.0 })
     (further k source all ws t ts before r w some.0 is g some.1 none_here))
 chosen k source all ws t ts before r w is g more (Err cause) (stands, least) =
     refused k source all ws t ts before r w cause is g stands least
 
-goes : (k : Bool) (source : List ℕ) (all : List Token) (ws : List Symbol) (ts : List Token) (before : List Symbol) (r : Reader)
+goes : (k : Bool) (source : List ℕ) (all : List Token) (ws : List Symbol) (ts : List Token) (before : List Symbol) (r : Parse)
     → Going k source all ws ts before r → Answers k (place_after source) all ws (parse_from k source r ts)
 unfolding step
 goes k source all ws [] before r g =
     let same : ws ≡ before = g.split ∙ append-nil before in
-    subst (λ x. Answers k (place_after source) all x (ended k (place_after source) r.context.consts r.state)) (sym same)
-    (at_end k (place_after source) all before r.state r.context.consts g.so g.standing g.consts
+    subst (λ x. Answers k (place_after source) all x (ended k (place_after source) r.context.consts r.configuration)) (sym same)
+    (at_end k (place_after source) all before r.configuration r.context.consts g.so g.standing g.consts
     (subst (λ x. (i : ℕ) (c : Cause) → RefusesAt k x i c → length before ≤ i) same g.clear) g.left)
 goes k source all ws (t ∷ ts) before r g =
     led k source all ws t ts (step k source r t)
@@ -294,8 +294,8 @@ least_refusal k source tokens =
       left = refl;
     })
 
--- the parts of a last state
-parts_same : (ps qs : List Procedure) (m n : Option Procedure) → last_state ps m ≡ last_state qs n → (ps ≡ qs) × (m ≡ n)
+-- the parts of a last configuration
+parts_same : (ps qs : List Procedure) (m n : Option Procedure) → last_configuration ps m ≡ last_configuration qs n → (ps ≡ qs) × (m ≡ n)
 parts_same ps qs None None e = (cc, refl)
 parts_same ps qs None (Some n) e = let wrong : ⊥ = cc in absurd wrong
 parts_same ps qs (Some m) None e = let wrong : ⊥ = cc in absurd wrong
@@ -306,7 +306,7 @@ same_source : (k : Bool) (ts : List Terminal) (a b : Source) → IsSource k a ts
 same_source k ts a b x y =
     let parts : (a.procs ≡ b.procs) × (a.main ≡ b.main) =
     parts_same a.procs b.procs a.main b.main
-    (some_same (last_state a.procs a.main) (last_state b.procs b.main)
+    (some_same (last_configuration a.procs a.main) (last_configuration b.procs b.main)
     (sym (whole_runs k a.procs a.main ts x.whole) ∙ whole_runs k b.procs b.main ts y.whole)) in
     let consts : a.consts ≡ b.consts = x.consts ∙ sym y.consts in
     λ i. record { consts = consts i; procs = parts.0 i; main = parts.1 i }

@@ -5,6 +5,6 @@ pub mod Depth
 pub mod Settling
 pub mod Least
 pub mod Fitting
-pub mod Places
-pub mod TerminalPlaces
+pub mod Positions
+pub mod TerminalPositions
 pub mod Ordering

@@ -1,43 +1,43 @@
--- The lists of the code against the bodies and states of the definitions.
+-- The lists of the code against the bodies and configurations of the definitions.
 use Rattle.std.proofs.Common.{◌≡◌, ℕ, List, [], ◌∷◌, ◌++◌, Vec, Global, map, reverse, length, refl, ap, sym, subst, ◌∙◌}
 use Rattle.std.proofs.lemmas.List.{length-map, length-reverse, reverse-append}
 use Rattle.masm_instr.specs.Instructions.{Instruction}
-use Rattle.masm_parse.specs.declared.tree.At.{At}
+use Rattle.masm_parse.specs.declared.tree.Position.{Position}
 use Rattle.masm_parse.specs.declared.tree.Stmt.{Stmt}
 use Rattle.masm_parse.specs.declared.tree.Stmt.TheOpen.{Stmt-F}
 use Rattle.masm_parse.specs.declared.tree.Stmt.TheFolds.{fold-roll-Stmt, fold_out-Stmt}
 use Rattle.masm_parse.specs.declared.tree.Stmt.TheVariants.{Instr, If, While, Repeat, Exec, Call, Syscall, rolls-Instr, rolls-If, rolls-While, rolls-Repeat, rolls-Exec, rolls-Call, rolls-Syscall}
 use Rattle.masm_parse.specs.declared.terminal.Leaf.TheVariants as leaves
-use Rattle.masm_parse.specs.declared.state.Frame.{Frame}
+use Rattle.masm_parse.specs.declared.configuration.OpenConstruct.{OpenConstruct}
 use Rattle.masm_parse.specs.Trees.{Body, Empty, Leaf_then, If_then, While_then, Repeat_then, append}
-use Rattle.masm_parse.specs.Views.{joined, add_step, stmt_view, body_of, frame_view, frames_view}
+use Rattle.masm_parse.specs.Views.{joined, add_step, stmt_view, body_of, open_view, opens_view}
 
-pub view-Instr : (at : At) (instr : Instruction) (rest : Body) → stmt_view (Instr at instr) rest ≡ Leaf_then at (leaves.Instr instr) rest
+pub view-Instr : (at : Position) (instr : Instruction) (rest : Body) → stmt_view (Instr at instr) rest ≡ Leaf_then at (leaves.Instr instr) rest
 unfolding stmt_view
 view-Instr at instr rest = ap (λ f. f rest) (ap stmt_view (sym (rolls-Instr at instr)) ∙ fold-roll-Stmt (Body → Body) add_step (Stmt-F.Instr at instr))
 
-pub view-Exec : (at : At) (name : List ℕ) (rest : Body) → stmt_view (Exec at name) rest ≡ Leaf_then at (leaves.Exec name) rest
+pub view-Exec : (at : Position) (name : List ℕ) (rest : Body) → stmt_view (Exec at name) rest ≡ Leaf_then at (leaves.Exec name) rest
 unfolding stmt_view
 view-Exec at name rest = ap (λ f. f rest) (ap stmt_view (sym (rolls-Exec at name)) ∙ fold-roll-Stmt (Body → Body) add_step (Stmt-F.Exec at name))
 
-pub view-Call : (at : At) (name : List ℕ) (rest : Body) → stmt_view (Call at name) rest ≡ Leaf_then at (leaves.Call name) rest
+pub view-Call : (at : Position) (name : List ℕ) (rest : Body) → stmt_view (Call at name) rest ≡ Leaf_then at (leaves.Call name) rest
 unfolding stmt_view
 view-Call at name rest = ap (λ f. f rest) (ap stmt_view (sym (rolls-Call at name)) ∙ fold-roll-Stmt (Body → Body) add_step (Stmt-F.Call at name))
 
-pub view-Syscall : (at : At) (name : List ℕ) (rest : Body) → stmt_view (Syscall at name) rest ≡ Leaf_then at (leaves.Syscall name) rest
+pub view-Syscall : (at : Position) (name : List ℕ) (rest : Body) → stmt_view (Syscall at name) rest ≡ Leaf_then at (leaves.Syscall name) rest
 unfolding stmt_view
 view-Syscall at name rest =
     ap (λ f. f rest) (ap stmt_view (sym (rolls-Syscall at name)) ∙ fold-roll-Stmt (Body → Body) add_step (Stmt-F.Syscall at name))
 
-pub view-If : (at : At) (v w : Vec Stmt Global) (rest : Body) → stmt_view (If at v w) rest ≡ If_then at (body_of v.items) (body_of w.items) rest
+pub view-If : (at : Position) (v w : Vec Stmt Global) (rest : Body) → stmt_view (If at v w) rest ≡ If_then at (body_of v.items) (body_of w.items) rest
 unfolding stmt_view body_of
 view-If at v w rest = ap (λ f. f rest) (ap stmt_view (sym (rolls-If at v w)) ∙ fold-roll-Stmt (Body → Body) add_step (Stmt-F.If at v w))
 
-pub view-While : (at : At) (v : Vec Stmt Global) (rest : Body) → stmt_view (While at v) rest ≡ While_then at (body_of v.items) rest
+pub view-While : (at : Position) (v : Vec Stmt Global) (rest : Body) → stmt_view (While at v) rest ≡ While_then at (body_of v.items) rest
 unfolding stmt_view body_of
 view-While at v rest = ap (λ f. f rest) (ap stmt_view (sym (rolls-While at v)) ∙ fold-roll-Stmt (Body → Body) add_step (Stmt-F.While at v))
 
-pub view-Repeat : (at : At) (n : ℕ) (v : Vec Stmt Global) (rest : Body) → stmt_view (Repeat at n v) rest ≡ Repeat_then at n (body_of v.items) rest
+pub view-Repeat : (at : Position) (n : ℕ) (v : Vec Stmt Global) (rest : Body) → stmt_view (Repeat at n v) rest ≡ Repeat_then at n (body_of v.items) rest
 unfolding stmt_view body_of
 view-Repeat at n v rest = ap (λ f. f rest) (ap stmt_view (sym (rolls-Repeat at n v)) ∙ fold-roll-Stmt (Body → Body) add_step (Stmt-F.Repeat at n v))
 
@@ -68,16 +68,16 @@ pub body_of_push : (xs : List Stmt) (s : Stmt) → body_of (xs ++ s ∷ []) ≡ 
 unfolding body_of
 body_of_push xs s = joined_push xs s
 
-pub frames_view_nil : frames_view [] ≡ []
-unfolding frames_view
+pub frames_view_nil : opens_view [] ≡ []
+unfolding opens_view
 frames_view_nil = refl
 
-pub frames_view_push : (fs : List Frame) (f : Frame) → frames_view (fs ++ f ∷ []) ≡ frame_view f ∷ frames_view fs
-unfolding frames_view
-frames_view_push fs f = ap (map frame_view) (reverse-append fs (f ∷ []))
+pub frames_view_push : (fs : List OpenConstruct) (f : OpenConstruct) → opens_view (fs ++ f ∷ []) ≡ open_view f ∷ opens_view fs
+unfolding opens_view
+frames_view_push fs f = ap (map open_view) (reverse-append fs (f ∷ []))
 
-pub length_frames_view : (fs : List Frame) → length (frames_view fs) ≡ length fs
-unfolding frames_view
-length_frames_view fs = length-map (reverse fs) frame_view ∙ length-reverse fs
+pub length_frames_view : (fs : List OpenConstruct) → length (opens_view fs) ≡ length fs
+unfolding opens_view
+length_frames_view fs = length-map (reverse fs) open_view ∙ length-reverse fs
 
 pub ruleset mirror = (body_of_push, body_of_nil, frames_view_push, frames_view_nil, length_frames_view, view-Instr, view-Exec, view-Call, view-Syscall, view-If, view-While, view-Repeat)

@@ -3,10 +3,10 @@ use Rattle.std.proofs.Common.{◌≡◌, Bool, true, false, ◌<◌, ◌≤◌, 
 use Rattle.masm_parse.specs.declared.refusal.Cause.{Cause}
 use Rattle.masm_parse.specs.declared.refusal.Cause.TheVariants as causes
 use Rattle.masm_parse.specs.Causes.{order, is_early}
-use Rattle.masm_parse.specs.Machine.{Reader, settled}
+use Rattle.masm_parse.specs.Machine.{Parse, settled}
 use Rattle.masm_parse.specs.Refusals.{Has, by_itself, misfit, too_deep}
 
-abbrev pub Settles : Option Cause → Type 0 → Type 0 → Option Reader → Result Reader Cause → Type 0
+abbrev pub Settles : Option Cause → Type 0 → Type 0 → Option Parse → Result Parse Cause → Type 0
 Settles own Misfit Deep o (Ok now) = (o ≡ Some now) × ((c : Cause) → Has own Misfit Deep c → ⊥)
 Settles own Misfit Deep o (Err cause) = Has own Misfit Deep cause × ((c : Cause) → Has own Misfit Deep c → order cause ≤ order c)
 
@@ -61,8 +61,8 @@ settle_misfit : (own : Cause) (M D : Type 0) (early : Bool) → is_early own ≡
 settle_misfit own M D true e m = (by_itself own refl, least_early own M D (ltb-true (order own) 3 e))
 settle_misfit own M D false e m = (misfit m, least_late own M D (ltb-false (order own) 3 e))
 
-pub settle_least : (own : Option Cause) (deep : Bool) (o : Option Reader) (M D : Type 0) → (o ≡ None → M)
-    → ((now : Reader) → o ≡ Some now → M → ⊥) → (deep ≡ true → D) → (D → deep ≡ true) → Settles own M D o (settled own deep o)
+pub settle_least : (own : Option Cause) (deep : Bool) (o : Option Parse) (M D : Type 0) → (o ≡ None → M)
+    → ((now : Parse) → o ≡ Some now → M → ⊥) → (deep ≡ true → D) → (D → deep ≡ true) → Settles own M D o (settled own deep o)
 settle_least None deep None M D m nm d nd = (misfit (m refl), least_syntax M D)
 settle_least None true (Some now) M D m nm d nd = (too_deep (d refl), least_deep M D (nm now refl))
 settle_least None false (Some now) M D m nm d nd =

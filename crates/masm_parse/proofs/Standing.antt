@@ -1,24 +1,24 @@
--- What the tokens so far are in each state of the machine, and how they go on to a source.
+-- What the tokens so far are in each configuration of the machine, and how they go on to a source.
 use Rattle.std.proofs.Common.{◌≡◌, ℕ, Bool, true, false, cond, List, [], ◌∷◌, ◌++◌, Option, Some, None, refl, ap, sym, subst, ◌∙◌, append_assoc, append-nil, codes}
-use Rattle.masm_parse.specs.declared.tree.At.{At}
+use Rattle.masm_parse.specs.declared.tree.Position.{Position}
 use Rattle.masm_parse.specs.declared.terminal.Role.{Role}
 use Rattle.masm_parse.specs.declared.terminal.Role.TheVariants as roles
 use Rattle.masm_parse.specs.declared.terminal.Header.{Header}
 use Rattle.masm_parse.specs.declared.terminal.Terminal.{Terminal}
 use Rattle.masm_parse.specs.declared.terminal.Terminal.TheVariants as terminals
 use Rattle.masm_parse.specs.Trees.{Body, Empty, Leaf_then, If_then, While_then, Repeat_then, Procedure, append}
-use Rattle.masm_parse.specs.Machine.{Open, In_if, In_else, In_while, In_repeat, State, Top, Inside, Behind, may_begin, procedure, reduce, closed, shift}
+use Rattle.masm_parse.specs.Machine.{Open, In_if, In_else, In_while, In_repeat, Configuration, Top, Inside, Behind, may_begin, procedure, reduce, closed, shift}
 use Rattle.masm_parse.specs.Grammar.{Spells, nothing, leaf, if_only, if_else, while, repeated, is_item, SpellsProcs, constant, item, SpellsMain, IsWhole, constants, IsSource}
 use Rattle.masm_parse.specs.Refusals.{Fits}
 use Rattle.masm_parse.proofs.Complete.{spells_append}
 
 -- the tokens of an open statement, from its first on
 pub data Part : Open → Body → List Terminal → Type 0 where
-  part_if : (at : At) (before : Body) {b : Body} {us : List Terminal} → Spells b us → Part (In_if at before) b (terminals.If at ∷ us)
-  part_else : (at : At) (before : Body) {first b : Body} {us vs : List Terminal} → Spells first us → Spells b vs
+  part_if : (at : Position) (before : Body) {b : Body} {us : List Terminal} → Spells b us → Part (In_if at before) b (terminals.If at ∷ us)
+  part_else : (at : Position) (before : Body) {first b : Body} {us vs : List Terminal} → Spells first us → Spells b vs
       → Part (In_else at before first) b (terminals.If at ∷ (us ++ terminals.Else ∷ vs))
-  part_while : (at : At) (before : Body) {b : Body} {us : List Terminal} → Spells b us → Part (In_while at before) b (terminals.While at ∷ us)
-  part_repeat : (at : At) (n : ℕ) (before : Body) {b : Body} {us : List Terminal} → Spells b us
+  part_while : (at : Position) (before : Body) {b : Body} {us : List Terminal} → Spells b us → Part (In_while at before) b (terminals.While at ∷ us)
+  part_repeat : (at : Position) (n : ℕ) (before : Body) {b : Body} {us : List Terminal} → Spells b us
       → Part (In_repeat at n before) b (terminals.Repeat at n ∷ us)
 
 -- the statements before an open one
@@ -58,7 +58,7 @@ close_part (part_else at before {first = first} {b = b} {us = us} {vs = vs} f d)
 close_part (part_while at before d) = while at d nothing
 close_part (part_repeat at n before d) = repeated at n d nothing
 
-else_part : {at : At} {before b : Body} {us : List Terminal} → Part (In_if at before) b us
+else_part : {at : Position} {before b : Body} {us : List Terminal} → Part (In_if at before) b us
     → Part (In_else at before b) Empty (us ++ terminals.Else ∷ [])
 else_part (part_if at before d) = part_else at before d nothing
 
@@ -81,19 +81,19 @@ reduce_holds o os b ts (f, us, e, h, p) =
     (sym (ap (λ x. x ++ terminals.End ∷ []) e ∙ append_assoc f us (terminals.End ∷ [])))
     (extend os (before_of o) f h (last_of o b) (us ++ terminals.End ∷ []) (close_part p)))
 
-else_holds : (at : At) (before : Body) (os : List Open) (b : Body) (ts : List Terminal) → Holds (In_if at before ∷ os) b ts
+else_holds : (at : Position) (before : Body) (os : List Open) (b : Body) (ts : List Terminal) → Holds (In_if at before ∷ os) b ts
     → Holds (In_else at before b ∷ os) Empty (ts ++ terminals.Else ∷ [])
 else_holds at before os b ts (f, us, e, h, p) =
     (f, us ++ terminals.Else ∷ [], ap (λ x. x ++ terminals.Else ∷ []) e ∙ append_assoc f us (terminals.Else ∷ []), h, else_part p)
 
 -- the tokens so far
-abbrev pub Standing : Bool → State → List Terminal → Type 0
+abbrev pub Standing : Bool → Configuration → List Terminal → Type 0
 Standing k (Top ps) ts = SpellsProcs k ps ts
 Standing k (Inside ps h os b) ts =
     (f : List Terminal) × (us : List Terminal) × (ts ≡ f ++ terminals.Header h ∷ us) × (may_begin k h.role ≡ true) × SpellsProcs k ps f × Holds os b us
 Standing k (Behind ps main) ts = (k ≡ false) × SpellsMain ps main ts
 
-abbrev pub StandingIf : Bool → Option State → List Terminal → Type 0
+abbrev pub StandingIf : Bool → Option Configuration → List Terminal → Type 0
 StandingIf k None ts = Unit {0}
 StandingIf k (Some s) ts = Standing k s ts
 
@@ -135,7 +135,7 @@ begun_by k ps h ts true e d = (ts, [], refl, e, d, nothing)
 begun_by k ps h ts false e d = tt
 
 -- each shift keeps it
-pub kept : (k : Bool) (s : State) (t : Terminal) (ts : List Terminal) → Standing k s ts → StandingIf k (shift k s t) (ts ++ t ∷ [])
+pub kept : (k : Bool) (s : Configuration) (t : Terminal) (ts : List Terminal) → Standing k s ts → StandingIf k (shift k s t) (ts ++ t ∷ [])
 kept k (Top ps) (terminals.Const c) ts d = constant c d
 kept k (Top ps) (terminals.Header h) ts d = begun_by k ps h ts (may_begin k h.role) refl d
 kept k (Inside ps h os b) (terminals.Leaf at l) ts (f, us, e, may, d, x) = (
@@ -213,7 +213,7 @@ finish_inside k ps h (o ∷ os) b ts d =
     one_more k terminals.End ts
     (finish_inside k ps h os (reduce o b) (ts ++ terminals.End ∷ []) (kept k (Inside ps h (o ∷ os) b) terminals.End ts d))
 
-pub finish : (k : Bool) (s : State) (ts : List Terminal) → Standing k s ts → Finishes k ts
+pub finish : (k : Bool) (s : Configuration) (ts : List Terminal) → Standing k s ts → Finishes k ts
 finish k (Top ps) ts d = finish_top k ps ts d
 finish k (Inside ps h os b) ts d = finish_inside k ps h os b ts d
 finish k (Behind ps main) ts d = finish_behind k ps main ts d.0 d.1

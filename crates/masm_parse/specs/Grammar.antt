@@ -1,7 +1,7 @@
 -- The grammar of sources, over the terminals of their tokens: which lists of terminals spell which trees.
 use Rattle.std.specs.Prelude.{◌≡◌, ℕ, Bool, true, false, List, [], ◌∷◌, ◌++◌, Option, Some, None}
-use Rattle.masm_instr.specs.declared.constant.Const.{Const}
-use Rattle.masm_parse.specs.declared.tree.At.{At}
+use Rattle.instr_reading.specs.declared.constant.Const.{Const}
+use Rattle.masm_parse.specs.declared.tree.Position.{Position}
 use Rattle.masm_parse.specs.declared.terminal.Role.{Role}
 use Rattle.masm_parse.specs.declared.terminal.Role.TheVariants as roles
 use Rattle.masm_parse.specs.declared.terminal.Header.{Header}
@@ -14,14 +14,14 @@ use Rattle.masm_parse.specs.Machine.{procedure}
 -- these tokens spell this body
 pub data Spells : Body → List Terminal → Type 0 where
   nothing : Spells Empty []
-  leaf : (at : At) (l : Leaf) {b : Body} {ts : List Terminal} → Spells b ts → Spells (Leaf_then at l b) (terminals.Leaf at l ∷ ts)
-  if_only : (at : At) {a b : Body} {us ts : List Terminal} → Spells a us → Spells b ts
+  leaf : (at : Position) (l : Leaf) {b : Body} {ts : List Terminal} → Spells b ts → Spells (Leaf_then at l b) (terminals.Leaf at l ∷ ts)
+  if_only : (at : Position) {a b : Body} {us ts : List Terminal} → Spells a us → Spells b ts
       → Spells (If_then at a Empty b) (terminals.If at ∷ (us ++ terminals.End ∷ ts))
-  if_else : (at : At) {a e b : Body} {us vs ts : List Terminal} → Spells a us → Spells e vs → Spells b ts
+  if_else : (at : Position) {a e b : Body} {us vs ts : List Terminal} → Spells a us → Spells e vs → Spells b ts
       → Spells (If_then at a e b) (terminals.If at ∷ (us ++ terminals.Else ∷ (vs ++ terminals.End ∷ ts)))
-  while : (at : At) {a b : Body} {us ts : List Terminal} → Spells a us → Spells b ts
+  while : (at : Position) {a b : Body} {us ts : List Terminal} → Spells a us → Spells b ts
       → Spells (While_then at a b) (terminals.While at ∷ (us ++ terminals.End ∷ ts))
-  repeated : (at : At) (times : ℕ) {a b : Body} {us ts : List Terminal} → Spells a us → Spells b ts
+  repeated : (at : Position) (times : ℕ) {a b : Body} {us ts : List Terminal} → Spells a us → Spells b ts
       → Spells (Repeat_then at times a b) (terminals.Repeat at times ∷ (us ++ terminals.End ∷ ts))
 
 -- whether a header is one of a procedure, which only in a kernel may be exported

@@ -1,7 +1,7 @@
 -- The parser as a machine that reads one token at a time.
 use Rattle.std.specs.Prelude.{ℕ, Bool, true, false, ◌&&◌, nat_le, if◌then◌else◌, List, [], ◌∷◌, ◌++◌, length, Option, Some, None, Result, Ok, Err}
 use Rattle.std.specs.Option.{option_map}
-use Rattle.masm_instr.specs.declared.constant.Const.{Const}
+use Rattle.instr_reading.specs.declared.constant.Const.{Const}
 use Rattle.masm_lex.specs.declared.place.Place.{Place}
 use Rattle.masm_lex.specs.declared.list.Token.{Token}
 use Rattle.masm_lex.specs.Tokens.{place_after, text_of}
@@ -9,7 +9,7 @@ use Rattle.masm_parse.specs.declared.refusal.Cause.{Cause}
 use Rattle.masm_parse.specs.declared.refusal.Cause.TheVariants as causes
 use Rattle.masm_parse.specs.declared.refusal.ParseError.{ParseError}
 use Rattle.masm_parse.specs.declared.refusal.ParseError.TheVariants.{Bad}
-use Rattle.masm_parse.specs.declared.tree.At.{At}
+use Rattle.masm_parse.specs.declared.tree.Position.{Position}
 use Rattle.masm_parse.specs.declared.terminal.Role.{Role}
 use Rattle.masm_parse.specs.declared.terminal.Role.TheVariants as roles
 use Rattle.masm_parse.specs.declared.terminal.Header.{Header}
@@ -22,17 +22,17 @@ use Rattle.masm_parse.specs.Trees.{Body, Empty, Leaf_then, If_then, While_then, 
 
 -- a statement that is open: the statements before it, and for an else its first body
 pub data Open : Type 0 where
-  In_if : (at : At) (before : Body) → Open
-  In_else : (at : At) (before first : Body) → Open
-  In_while : (at : At) (before : Body) → Open
-  In_repeat : (at : At) (times : ℕ) (before : Body) → Open
+  In_if : (at : Position) (before : Body) → Open
+  In_else : (at : Position) (before first : Body) → Open
+  In_while : (at : Position) (before : Body) → Open
+  In_repeat : (at : Position) (times : ℕ) (before : Body) → Open
 
 -- What the machine holds: the procedures so far; the header of an open one, what is open in it, the innermost first, and
 -- the statements of the innermost body; the body of begin where that has ended.
-pub data State : Type 0 where
-  Top : (procs : List Procedure) → State
-  Inside : (procs : List Procedure) (header : Header) (opens : List Open) (body : Body) → State
-  Behind : (procs : List Procedure) (main : Procedure) → State
+pub data Configuration : Type 0 where
+  Top : (procs : List Procedure) → Configuration
+  Inside : (procs : List Procedure) (header : Header) (opens : List Open) (body : Body) → Configuration
+  Behind : (procs : List Procedure) (main : Procedure) → Configuration
 
 -- which headers may stand in a kernel, and which in a program
 abbrev pub may_begin : Bool → Role → Bool
@@ -58,25 +58,25 @@ reduce (In_else at before first) body = append before (If_then at first body Emp
 reduce (In_while at before) body = append before (While_then at body Empty)
 reduce (In_repeat at times before) body = append before (Repeat_then at times body Empty)
 
--- the state behind the end of a procedure, or of begin
-abbrev pub closed : List Procedure → Role → Procedure → State
+-- the configuration behind the end of a procedure, or of begin
+abbrev pub closed : List Procedure → Role → Procedure → Configuration
 closed procs roles.Proc done = Top (procs ++ done ∷ [])
 closed procs roles.Export done = Top (procs ++ done ∷ [])
 closed procs roles.Main done = Behind procs done
 
 -- a token inside a procedure
-abbrev pub shift_else : List Procedure → Header → List Open → Body → Option State
+abbrev pub shift_else : List Procedure → Header → List Open → Body → Option Configuration
 shift_else procs header (In_if at before ∷ opens) body = Some (Inside procs header (In_else at before body ∷ opens) Empty)
 shift_else procs header [] body = None
 shift_else procs header (In_else at before first ∷ opens) body = None
 shift_else procs header (In_while at before ∷ opens) body = None
 shift_else procs header (In_repeat at times before ∷ opens) body = None
 
-abbrev pub shift_end : List Procedure → Header → List Open → Body → Option State
+abbrev pub shift_end : List Procedure → Header → List Open → Body → Option Configuration
 shift_end procs header [] body = Some (closed procs header.role (procedure header body))
 shift_end procs header (o ∷ opens) body = Some (Inside procs header opens (reduce o body))
 
-abbrev pub shift_inside : List Procedure → Header → List Open → Body → Terminal → Option State
+abbrev pub shift_inside : List Procedure → Header → List Open → Body → Terminal → Option Configuration
 shift_inside procs header opens body (terminals.Const c) = None
 shift_inside procs header opens body (terminals.Header other) = None
 shift_inside procs header opens body (terminals.Leaf at leaf) = Some (Inside procs header opens (append body (Leaf_then at leaf Empty)))
@@ -87,7 +87,7 @@ shift_inside procs header opens body (terminals.Repeat at times) = Some (Inside 
 shift_inside procs header opens body terminals.End = shift_end procs header opens body
 
 -- a token where no procedure is open
-abbrev pub shift_top : Bool → List Procedure → Terminal → Option State
+abbrev pub shift_top : Bool → List Procedure → Terminal → Option Configuration
 shift_top kernel procs (terminals.Const c) = Some (Top procs)
 shift_top kernel procs (terminals.Header header) = if may_begin kernel header.role then Some (Inside procs header [] Empty) else None
 shift_top kernel procs (terminals.Leaf at leaf) = None
@@ -97,14 +97,14 @@ shift_top kernel procs (terminals.While at) = None
 shift_top kernel procs (terminals.Repeat at times) = None
 shift_top kernel procs terminals.End = None
 
--- the state behind a token, or none where the token does not fit
-abbrev pub shift : Bool → State → Terminal → Option State
+-- the configuration behind a token, or none where the token does not fit
+abbrev pub shift : Bool → Configuration → Terminal → Option Configuration
 shift kernel (Top procs) terminal = shift_top kernel procs terminal
 shift kernel (Inside procs header opens body) terminal = shift_inside procs header opens body terminal
 shift kernel (Behind procs main) terminal = None
 
 -- a token that is neither a constant nor a header
-abbrev pub shift_statement : State → Terminal → Option State
+abbrev pub shift_statement : Configuration → Terminal → Option Configuration
 shift_statement (Top procs) terminal = None
 shift_statement (Inside procs header opens body) terminal = shift_inside procs header opens body terminal
 shift_statement (Behind procs main) terminal = None
@@ -120,56 +120,56 @@ is_opening (terminals.Repeat at times) = true
 is_opening terminals.End = false
 
 -- how many statements are open
-abbrev pub depth_of : State → ℕ
+abbrev pub depth_of : Configuration → ℕ
 depth_of (Top procs) = 0
 depth_of (Inside procs header opens body) = length opens
 depth_of (Behind procs main) = 0
 
--- the machine's state with what is known of the next token
-pub record Reader : Type 0 where
+-- the machine's configuration with what is known of the next token
+pub record Parse : Type 0 where
   pub context : Context
-  pub state : State
+  pub configuration : Configuration
 
-abbrev pub start : Reader
-start = record { context = no_context; state = Top [] }
+abbrev pub start : Parse
+start = record { context = no_context; configuration = Top [] }
 
-abbrev pub advance : Bool → Reader → Terminal → Option Reader
-advance kernel r terminal = option_map (λ s. record { context = known_after r.context terminal; state = s }) (shift kernel r.state terminal)
+abbrev pub advance : Bool → Parse → Terminal → Option Parse
+advance kernel r terminal = option_map (λ s. record { context = known_after r.context terminal; configuration = s }) (shift kernel r.configuration terminal)
 
 -- The first cause that stands: that of the token by itself, Syntax where it does not fit, TooDeep where it stands too
 -- deep.
-abbrev pub settled : Option Cause → Bool → Option Reader → Result Reader Cause
+abbrev pub settled : Option Cause → Bool → Option Parse → Result Parse Cause
 settled None deep None = Err causes.Syntax
 settled None deep (Some now) = if deep then Err causes.TooDeep else Ok now
 settled (Some cause) deep None = Err (if is_early cause then cause else causes.Syntax)
 settled (Some cause) deep (Some now) = Err cause
 
 -- whether the token would be the 257th that is open
-abbrev pub is_too_deep : State → Terminal → Bool
-is_too_deep state terminal = is_opening terminal && nat_le 256 (depth_of state)
+abbrev pub is_too_deep : Configuration → Terminal → Bool
+is_too_deep configuration terminal = is_opening terminal && nat_le 256 (depth_of configuration)
 
-unfoldable pub moved : Bool → Reader → Symbol → Result Reader Cause
-moved kernel r symbol = settled symbol.fault (is_too_deep r.state symbol.terminal) (advance kernel r symbol.terminal)
+unfoldable pub moved : Bool → Parse → Symbol → Result Parse Cause
+moved kernel r symbol = settled symbol.fault (is_too_deep r.configuration symbol.terminal) (advance kernel r symbol.terminal)
 
-abbrev pub at_of : Token → At
+abbrev pub at_of : Token → Position
 at_of token = record { line = token.line; column = token.column }
 
-unfoldable pub step : Bool → List ℕ → Reader → Token → Result Reader Cause
+unfoldable pub step : Bool → List ℕ → Parse → Token → Result Parse Cause
 step kernel source r token = moved kernel r (classify kernel r.context (at_of token) (text_of source token))
 
 -- the tree where the source may end here; else it ends early
 abbrev pub ends_early : Place → Result Source ParseError
 ends_early end = Err (Bad end.line end.column causes.Syntax)
 
-abbrev pub ended : Bool → Place → List Const → State → Result Source ParseError
+abbrev pub ended : Bool → Place → List Const → Configuration → Result Source ParseError
 ended true end consts (Top procs) = Ok (record { consts = consts; procs = procs; main = None })
 ended false end consts (Behind procs main) = Ok (record { consts = consts; procs = procs; main = Some main })
 ended kernel end consts (Inside procs header opens body) = ends_early end
 ended false end consts (Top procs) = ends_early end
 ended true end consts (Behind procs main) = ends_early end
 
-abbrev pub parse_from : Bool → List ℕ → Reader → List Token → Result Source ParseError
-parse_from kernel source r [] = ended kernel (place_after source) r.context.consts r.state
+abbrev pub parse_from : Bool → List ℕ → Parse → List Token → Result Source ParseError
+parse_from kernel source r [] = ended kernel (place_after source) r.context.consts r.configuration
 parse_from kernel source r (token ∷ tokens) =
     elim (step kernel source r token) [
       | Ok now ↦ parse_from kernel source now tokens

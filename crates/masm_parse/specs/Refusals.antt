@@ -7,7 +7,7 @@ use Rattle.masm_parse.specs.declared.refusal.Cause.{Cause}
 use Rattle.masm_parse.specs.declared.refusal.Cause.TheVariants as causes
 use Rattle.masm_parse.specs.declared.refusal.ParseError.{ParseError}
 use Rattle.masm_parse.specs.declared.refusal.ParseError.TheVariants.{Bad, Memory}
-use Rattle.masm_parse.specs.declared.tree.At.{At}
+use Rattle.masm_parse.specs.declared.tree.Position.{Position}
 use Rattle.masm_parse.specs.declared.terminal.Terminal.{Terminal}
 use Rattle.masm_parse.specs.declared.terminal.Terminal.TheVariants as terminals
 use Rattle.masm_parse.specs.declared.terminal.Symbol.{Symbol}
@@ -104,7 +104,7 @@ pub record Parses (kernel : Bool) (symbols : List Symbol) (tree : Source) : Type
   pub is_clear : (k : ℕ) (cause : Cause) → RefusesAt kernel symbols k cause → ⊥
 
 -- the place of the first of these tokens, or one past the source's last byte
-abbrev pub at_first : List Token → Place → At
+abbrev pub at_first : List Token → Place → Position
 at_first [] end = record { line = end.line; column = end.column }
 at_first (token ∷ tokens) end = at_of token
 

@@ -1,15 +1,15 @@
 -- Syntax trees. A body is told as its first statement and the statements behind it.
 use Rattle.std.specs.Prelude.{ℕ, Bool, List, Option}
-use Rattle.masm_instr.specs.declared.constant.Const.{Const}
-use Rattle.masm_parse.specs.declared.tree.At.{At}
+use Rattle.instr_reading.specs.declared.constant.Const.{Const}
+use Rattle.masm_parse.specs.declared.tree.Position.{Position}
 use Rattle.masm_parse.specs.declared.terminal.Leaf.{Leaf}
 
 pub data Body : Type 0 where
   Empty : Body
-  Leaf_then : (at : At) (leaf : Leaf) (rest : Body) → Body
-  If_then : (at : At) (first second rest : Body) → Body
-  While_then : (at : At) (body rest : Body) → Body
-  Repeat_then : (at : At) (times : ℕ) (body rest : Body) → Body
+  Leaf_then : (at : Position) (leaf : Leaf) (rest : Body) → Body
+  If_then : (at : Position) (first second rest : Body) → Body
+  While_then : (at : Position) (body rest : Body) → Body
+  Repeat_then : (at : Position) (times : ℕ) (body rest : Body) → Body
 
 pub record Procedure : Type 0 where
   pub name : List ℕ

@@ -1,4 +1,4 @@
--- The trees and states of the parser as the definitions see them.
+-- The trees and configurations of the parser as the definitions see them.
 use Rattle.std.specs.Prelude.{◌≡◌, List, [], ◌∷◌, map, reverse, Result, Ok, Err}
 use Rattle.std.specs.Option.{option_map}
 use Rattle.masm_parse.specs.declared.refusal.Cause.{Cause}
@@ -12,13 +12,13 @@ use Rattle.masm_parse.specs.declared.tree.Stmt.TheOpen.{Stmt-F}
 use Rattle.masm_parse.specs.declared.tree.Stmt.TheFolds.{fold-Stmt}
 use Rattle.masm_parse.specs.declared.tree.Proc.{Proc}
 use Rattle.masm_parse.specs.declared.tree.Ast.{Ast}
-use Rattle.masm_parse.specs.declared.state.Frame.{Frame}
-use Rattle.masm_parse.specs.declared.state.Frame.TheVariants as frames
-use Rattle.masm_parse.specs.declared.state.State as code
-use Rattle.masm_parse.specs.declared.state.State.TheVariants as states
+use Rattle.masm_parse.specs.declared.configuration.OpenConstruct.{OpenConstruct}
+use Rattle.masm_parse.specs.declared.configuration.OpenConstruct.TheVariants as opens
+use Rattle.masm_parse.specs.declared.configuration.Configuration as code
+use Rattle.masm_parse.specs.declared.configuration.Configuration.TheVariants as configurations
 use Rattle.masm_parse.specs.declared.parser.Parser.{Parser}
 use Rattle.masm_parse.specs.Trees.{Body, Empty, Leaf_then, If_then, While_then, Repeat_then, Procedure, Source}
-use Rattle.masm_parse.specs.Machine.{Open, In_if, In_else, In_while, In_repeat, State, Top, Inside, Behind, Reader}
+use Rattle.masm_parse.specs.Machine.{Open, In_if, In_else, In_while, In_repeat, Configuration, Top, Inside, Behind, Parse}
 
 abbrev pub joined : List (Body → Body) → Body
 joined [] = Empty
@@ -49,28 +49,28 @@ abbrev pub source_of : Ast → Source
 source_of ast =
     record { consts = ast.consts; procs = map procedure_of ast.procs.items; main = option_map procedure_of ast.main }
 
-abbrev pub frame_view : Frame → Open
-frame_view (frames.If at before) = In_if at (body_of before.items)
-frame_view (frames.Else at before first) = In_else at (body_of before.items) (body_of first.items)
-frame_view (frames.While at before) = In_while at (body_of before.items)
-frame_view (frames.Repeat at times before) = In_repeat at times (body_of before.items)
+abbrev pub open_view : OpenConstruct → Open
+open_view (opens.If at before) = In_if at (body_of before.items)
+open_view (opens.Else at before first) = In_else at (body_of before.items) (body_of first.items)
+open_view (opens.While at before) = In_while at (body_of before.items)
+open_view (opens.Repeat at times before) = In_repeat at times (body_of before.items)
 
-unfoldable pub frames_view : List Frame → List Open
-frames_view fs = map frame_view (reverse fs)
+unfoldable pub opens_view : List OpenConstruct → List Open
+opens_view fs = map open_view (reverse fs)
 
-abbrev pub state_view : code.State → State
-state_view (states.Top procs) = Top (map procedure_of procs.items)
-state_view (states.Inside procs header fs body) = Inside (map procedure_of procs.items) header (frames_view fs.items) (body_of body.items)
-state_view (states.Behind procs main) = Behind (map procedure_of procs.items) (procedure_of main)
+abbrev pub configuration_view : code.Configuration → Configuration
+configuration_view (configurations.Top procs) = Top (map procedure_of procs.items)
+configuration_view (configurations.Inside procs header fs body) = Inside (map procedure_of procs.items) header (opens_view fs.items) (body_of body.items)
+configuration_view (configurations.Behind procs main) = Behind (map procedure_of procs.items) (procedure_of main)
 
-abbrev pub parser_view : Parser → Reader
-parser_view p = record { context = record { consts = p.consts; locals = p.locals }; state = state_view p.state }
+abbrev pub parser_view : Parser → Parse
+parser_view p = record { context = record { consts = p.consts; locals = p.locals }; configuration = configuration_view p.configuration }
 
 -- A step's answer is that of the definition, or the want of memory.
-abbrev pub Takes : Result Parser Stop → Result Reader Cause → Type 0
-Takes (Ok p) defined = defined ≡ Ok (parser_view p)
-Takes (Err stops.Memory) defined = Unit {0}
-Takes (Err (stops.Refused cause)) defined = defined ≡ Err cause
+abbrev pub StepGives : Result Parser Stop → Result Parse Cause → Type 0
+StepGives (Ok p) defined = defined ≡ Ok (parser_view p)
+StepGives (Err stops.Memory) defined = Unit {0}
+StepGives (Err (stops.Refused cause)) defined = defined ≡ Err cause
 
 -- An answer of the parser is that of the definition, or the want of memory.
 abbrev pub Gives : Result Ast ParseError → Result Source ParseError → Type 0

@@ -2,6 +2,7 @@
 //! refusal. The definitions stand in `specs/`.
 #![tactic(auto)]
 
+mod configuration;
 mod keyword;
 mod laws;
 mod parser;
@@ -9,7 +10,6 @@ mod parsing;
 mod parts;
 mod reading;
 mod refusal;
-mod state;
 mod terminal;
 mod tree;
 
@@ -17,7 +17,4 @@ pub use laws::{least_refusal, locals_fit, trees_are_in_order};
 pub use parsing::parse;
 pub use refusal::{Cause, ParseError, cause_text};
 pub use terminal::Leaf;
-pub use tree::{Ast, At, Proc, Stmt};
-
-#[cfg(test)]
-mod tests;
+pub use tree::{Ast, Position, Proc, Stmt};

@@ -2,14 +2,14 @@ ghost use Rattle.std.specs.Prelude.{◌≡◌, IfOk};
 ghost use Rattle.std.specs.Option.{option_map};
 ghost use Rattle.masm_lex.specs.Tokens.{IsPart};
 ghost use Rattle.masm_parse.specs.Machine.{start, advance, settled, is_opening, moved, step, ended};
-ghost use Rattle.masm_parse.specs.Views.{parser_view, Takes, Gives};
+ghost use Rattle.masm_parse.specs.Views.{parser_view, StepGives, Gives};
 
+use crate::configuration::Configuration;
 use crate::reading::classify;
 use crate::refusal::{Cause, ParseError, Stop};
-use crate::state::State;
 use crate::terminal::{Symbol, Terminal};
-use crate::tree::{Ast, At};
-use masm_instr::Consts;
+use crate::tree::{Ast, Position};
+use instr_reading::Consts;
 use masm_lex::{Place, Token};
 use std::alloc::Global;
 use vm_field::Memory;
@@ -23,7 +23,7 @@ const MOST_OPEN: usize = 256;
 pub(crate) struct Parser {
     pub consts: Consts,
     pub locals: u32,
-    pub state: State,
+    pub configuration: Configuration,
 }
 
 impl Terminal {
@@ -40,7 +40,7 @@ impl Terminal {
 
 // The first cause that stands, or the parser behind the token.
 fn settle(fault: Option<Cause>, is_deep: bool, now: Option<Parser>) -> Result<Parser, Stop>
-    ensures { Takes result (settled fault is_deep (option_map parser_view now)) }
+    ensures { StepGives result (settled fault is_deep (option_map parser_view now)) }
 {
     match (fault, now) {
         (Some(cause), None) if cause.is_early() => Err(Stop::Refused(cause)),
@@ -59,7 +59,7 @@ impl Parser {
         Parser {
             consts: Consts::new(alloc),
             locals: 0,
-            state: State::Top(Vec::new(alloc)),
+            configuration: Configuration::Top(Vec::new(alloc)),
         }
     }
 
@@ -76,47 +76,49 @@ impl Parser {
         let Parser {
             mut consts,
             locals,
-            state,
+            configuration,
         } = self;
         match terminal {
             Terminal::Const(constant) => {
                 consts.push(constant)?;
                 Ok(
-                    state.shift_constant().map(|state| Parser {
+                    configuration.shift_constant().map(|configuration| Parser {
                         consts,
                         locals,
-                        state,
+                        configuration,
                     }),
                 )
             }
             Terminal::Header(header) => {
                 let locals = header.locals;
                 Ok(
-                    state
+                    configuration
                         .shift_header(alloc, kernel, header)
-                        .map(|state| Parser {
+                        .map(|configuration| Parser {
                             consts,
                             locals,
-                            state,
+                            configuration,
                         }),
                 )
             }
             terminal => Ok(
-                state.shift_statement(alloc, terminal)?.map(|state| Parser {
-                    consts,
-                    locals,
-                    state,
-                }),
+                configuration
+                    .shift_statement(alloc, terminal)?
+                    .map(|configuration| Parser {
+                        consts,
+                        locals,
+                        configuration,
+                    }),
             ),
         }
     }
 
     #[tactic(auto, unfolding(crate::specs::Machine::moved))]
     fn take(self, alloc: Global, kernel: bool, symbol: Symbol) -> Result<Parser, Stop>
-        ensures { Takes result (moved kernel (parser_view self) symbol) }
+        ensures { StepGives result (moved kernel (parser_view self) symbol) }
     {
         let Symbol { terminal, fault } = symbol;
-        let is_deep = terminal.is_opening() && self.state.depth() >= MOST_OPEN;
+        let is_deep = terminal.is_opening() && self.configuration.depth() >= MOST_OPEN;
         let now = self.shift(alloc, kernel, terminal)?;
         settle(fault, is_deep, now)
     }
@@ -131,9 +133,9 @@ impl Parser {
         token: Token,
     ) -> Result<Parser, Stop>
         requires { IsPart source.now token }
-        ensures { Takes result (step kernel source.now (parser_view self) token) }
+        ensures { StepGives result (step kernel source.now (parser_view self) token) }
     {
-        let at = At {
+        let at = Position {
             line: token.line,
             column: token.column,
         };
@@ -150,16 +152,20 @@ impl Parser {
 
     // The tree, where the source may end here.
     pub(crate) fn finish(self, kernel: bool, end: Place) -> Result<Ast, ParseError>
-        ensures { Gives result (ended kernel end self.consts (parser_view self).state) }
+        ensures { Gives result (ended kernel end self.consts (parser_view self).configuration) }
     {
-        let Parser { consts, state, .. } = self;
-        match state {
-            State::Top(procs) if kernel => Ok(Ast {
+        let Parser {
+            consts,
+            configuration,
+            ..
+        } = self;
+        match configuration {
+            Configuration::Top(procs) if kernel => Ok(Ast {
                 consts,
                 procs,
                 main: None,
             }),
-            State::Behind(procs, main) if !kernel => Ok(Ast {
+            Configuration::Behind(procs, main) if !kernel => Ok(Ast {
                 consts,
                 procs,
                 main: Some(main),

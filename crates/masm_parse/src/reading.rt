@@ -7,15 +7,15 @@ use crate::keyword::{Keyword, keyword_of};
 use crate::parts::{Case, is_name};
 use crate::refusal::{Cause, Stop};
 use crate::terminal::{Header, Leaf, Role, Symbol, Terminal, Use};
-use crate::tree::At;
-use masm_instr::{Const, Consts, read_instr, read_number, read_parameter, split};
+use crate::tree::Position;
+use instr_reading::{Const, Consts, read_instr, read_number, read_parameter, split};
 use std::alloc::{AllocError, Global};
 use vm_field::{Bytes, Felt, Memory};
 
 const SYNTAX: Stop = Stop::Refused(Cause::Syntax);
 
 // A definition of a constant, by the two parts beside its `=`.
-fn read_definition(alloc: Global, at: At, parts: &[&[u8]]) -> Result<Terminal, Stop>
+fn read_definition(alloc: Global, at: Position, parts: &[&[u8]]) -> Result<Terminal, Stop>
     ensures { Gives result (definition at (map (λ part. part.now) parts.now)) }
 {
     let [name, value] = parts else {
@@ -43,7 +43,7 @@ fn read_definition(alloc: Global, at: At, parts: &[&[u8]]) -> Result<Terminal, S
 
 // const.NAME=v
 #[tactic(auto, unfolding(crate::specs::Classify::constant))]
-fn read_constant(alloc: Global, at: At, parts: &[&[u8]]) -> Result<Terminal, Stop>
+fn read_constant(alloc: Global, at: Position, parts: &[&[u8]]) -> Result<Terminal, Stop>
     ensures { Gives result (constant at (map (λ part. part.now) parts.now)) }
 {
     let [part] = parts else {
@@ -70,7 +70,7 @@ fn read_locals(parts: &[&[u8]]) -> Result<u32, Cause>
 
 // proc.name, proc.name.n, and the same with export
 #[tactic(auto, unfolding(crate::specs::Classify::header))]
-fn read_header(alloc: Global, role: Role, at: At, parts: &[&[u8]]) -> Result<Terminal, Stop>
+fn read_header(alloc: Global, role: Role, at: Position, parts: &[&[u8]]) -> Result<Terminal, Stop>
     ensures { Gives result (header role at (map (λ part. part.now) parts.now)) }
 {
     let Some((name, more)) = parts.split_first() else {
@@ -90,7 +90,7 @@ fn read_header(alloc: Global, role: Role, at: At, parts: &[&[u8]]) -> Result<Ter
     }
 }
 
-fn read_begin(alloc: Global, at: At, parts: &[&[u8]]) -> Result<Terminal, Stop>
+fn read_begin(alloc: Global, at: Position, parts: &[&[u8]]) -> Result<Terminal, Stop>
     ensures { Gives result (alone (main at) (map (λ part. part.now) parts.now)) }
 {
     if !parts.is_empty() {
@@ -127,7 +127,7 @@ fn read_on_true(terminal: Terminal, parts: &[&[u8]]) -> Result<Terminal, Stop>
 
 // repeat.n
 #[tactic(auto, unfolding(crate::specs::Classify::repetition))]
-fn read_repetition(consts: &Consts, at: At, parts: &[&[u8]]) -> Result<Terminal, Stop>
+fn read_repetition(consts: &Consts, at: Position, parts: &[&[u8]]) -> Result<Terminal, Stop>
     ensures { Gives result (repetition consts.now at (map (λ part. part.now) parts.now)) }
 {
     let [part] = parts else {
@@ -142,7 +142,7 @@ fn read_repetition(consts: &Consts, at: At, parts: &[&[u8]]) -> Result<Terminal,
 
 // exec.name, call.name, syscall.name
 #[tactic(auto, unfolding(crate::specs::Classify::usage))]
-fn read_usage(alloc: Global, use_of: Use, at: At, parts: &[&[u8]]) -> Result<Terminal, Stop>
+fn read_usage(alloc: Global, use_of: Use, at: Position, parts: &[&[u8]]) -> Result<Terminal, Stop>
     ensures { Gives result (usage use_of at (map (λ part. part.now) parts.now)) }
 {
     let [name] = parts else {
@@ -165,7 +165,7 @@ fn read_usage(alloc: Global, use_of: Use, at: At, parts: &[&[u8]]) -> Result<Ter
 fn read_phrase(
     alloc: Global,
     consts: &Consts,
-    at: At,
+    at: Position,
     parts: &[&[u8]],
     keyword: Keyword,
 ) -> Result<Terminal, Stop>
@@ -193,7 +193,7 @@ fn read_instruction(
     alloc: Global,
     consts: &Consts,
     locals: u32,
-    at: At,
+    at: Position,
     text: &[u8],
 ) -> Result<Terminal, Stop>
     ensures { Gives result (instruction (record { consts = consts.now; locals = locals }) at text.now) }
@@ -210,7 +210,7 @@ fn read_instruction(
     Ok(Terminal::Leaf(at, Leaf::Instr(instr)))
 }
 
-fn nameless(alloc: Global, role: Role, at: At) -> Terminal
+fn nameless(alloc: Global, role: Role, at: Position) -> Terminal
     ensures { result ≡ nameless role at }
 {
     Terminal::Header(Header {
@@ -221,14 +221,14 @@ fn nameless(alloc: Global, role: Role, at: At) -> Terminal
     })
 }
 
-fn blank(alloc: Global, at: At) -> Terminal
+fn blank(alloc: Global, at: Position) -> Terminal
     ensures { result ≡ blank at }
 {
     Terminal::Leaf(at, Leaf::Exec(Bytes::new(alloc)))
 }
 
 // The terminal of a refused token.
-fn blank_of(alloc: Global, at: At, keyword: Keyword) -> Terminal
+fn blank_of(alloc: Global, at: Position, keyword: Keyword) -> Terminal
     ensures { result ≡ blank_of at keyword }
 {
     match keyword {
@@ -271,7 +271,7 @@ fn classify_keyword(
     alloc: Global,
     kernel: bool,
     consts: &Consts,
-    at: At,
+    at: Position,
     parts: &[&[u8]],
     keyword: Keyword,
 ) -> Result<Symbol, AllocError>
@@ -292,7 +292,7 @@ fn classify_instruction(
     alloc: Global,
     consts: &Consts,
     locals: u32,
-    at: At,
+    at: Position,
     text: &[u8],
 ) -> Result<Symbol, AllocError>
     ensures { IfOk result (λ symbol. symbol ≡ classify_instruction (record { consts = consts.now; locals = locals }) at text.now) }
@@ -310,7 +310,7 @@ pub(crate) fn classify(
     kernel: bool,
     consts: &Consts,
     locals: u32,
-    at: At,
+    at: Position,
     text: &[u8],
 ) -> Result<Symbol, AllocError>
     ensures { IfOk result (λ symbol. symbol ≡ classify kernel (record { consts = consts.now; locals = locals }) at text.now) }

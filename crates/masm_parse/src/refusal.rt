@@ -3,7 +3,7 @@ ghost use Rattle.masm_parse.specs.declared.refusal.ParseError.TheVariants.{Memor
 ghost use Rattle.masm_parse.specs.declared.refusal.Stop.TheVariants as stops;
 ghost use Rattle.masm_parse.specs.Causes.{text_of_cause, is_early, stop_of};
 
-use masm_instr::InstrError;
+use instr_reading::InstrError;
 use std::alloc::{AllocError, AllocFailed};
 use std::fmt;
 use thiserror::Error;

@@ -1,6 +1,7 @@
 use crate::refusal::Cause;
-use crate::tree::At;
-use masm_instr::{Const, Instr};
+use crate::tree::Position;
+use instr_reading::Const;
+use masm_instr::Instr;
 use vm_field::Bytes;
 
 // What a header begins.
@@ -17,7 +18,7 @@ pub(crate) struct Header {
     pub role: Role,
     pub name: Bytes,
     pub locals: u32,
-    pub at: At,
+    pub at: Position,
 }
 
 // How a statement names a procedure.
@@ -46,11 +47,11 @@ pub enum Leaf {
 pub(crate) enum Terminal {
     Const(Const),
     Header(Header),
-    Leaf(At, Leaf),
-    If(At),
+    Leaf(Position, Leaf),
+    If(Position),
     Else,
-    While(At),
-    Repeat(At, u32),
+    While(Position),
+    Repeat(Position, u32),
     End,
 }
 

@@ -1,9 +1,10 @@
-use masm_instr::{Consts, Instr};
+use instr_reading::Consts;
+use masm_instr::Instr;
 use vm_field::Bytes;
 
 /// The place of a token.
 #[derive(Clone, Copy, Debug, PartialEq, Eq)]
-pub struct At {
+pub struct Position {
     /// Its line, counted from 1.
     pub line: u32,
     /// Its column, counted in bytes from 1.
@@ -14,19 +15,19 @@ pub struct At {
 #[derive(Drop)]
 pub enum Stmt {
     /// An instruction.
-    Instr(At, Instr),
+    Instr(Position, Instr),
     /// The first body for 1 on top, the second for 0; the second is empty where there is no `else`.
-    If(At, Vec<Stmt>, Vec<Stmt>),
+    If(Position, Vec<Stmt>, Vec<Stmt>),
     /// The body again and again, while 1 is on top.
-    While(At, Vec<Stmt>),
+    While(Position, Vec<Stmt>),
     /// The body so many times.
-    Repeat(At, u32, Vec<Stmt>),
+    Repeat(Position, u32, Vec<Stmt>),
     /// The body of the procedure of this name.
-    Exec(At, Bytes),
+    Exec(Position, Bytes),
     /// A call of the procedure of this name.
-    Call(At, Bytes),
+    Call(Position, Bytes),
     /// A call of the kernel's procedure of this name.
-    Syscall(At, Bytes),
+    Syscall(Position, Bytes),
 }
 
 /// A procedure, or the body between `begin` and `end`.

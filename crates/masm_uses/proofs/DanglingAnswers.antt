@@ -4,8 +4,8 @@ use Rattle.std.proofs.lemmas.Grind.{flat_map-append}
 use Rattle.std.proofs.lemmas.List.Elements.{Contains-append_left, Contains-append_right, Contains-append_cases}
 use Rattle.std.specs.List.{flat_map, Contains}
 use Rattle.std.specs.Option.{option_map, option_to_list}
-use Rattle.masm_instr.specs.declared.constant.Const.{Const}
-use Rattle.masm_parse.specs.declared.tree.At.{At}
+use Rattle.instr_reading.specs.declared.constant.Const.{Const}
+use Rattle.masm_parse.specs.declared.tree.Position.{Position}
 use Rattle.masm_parse.specs.declared.tree.Proc.{Proc}
 use Rattle.masm_parse.specs.Trees.{Procedure, Source}
 use Rattle.masm_parse.specs.Views.{procedure_of}
@@ -27,24 +27,24 @@ abbrev uses_in : Procedure → List Use
 uses_in p = uses_of p.body
 
 module _ (own kernel : List ℕ → Option ℕ) where
-  missing_row : (p : Proc) (at : At) (cause : LinkCause) (u : Use) → Contains (uses_in (procedure_of p)) u → IsMissing (link_of own kernel u) at cause
+  missing_row : (p : Proc) (at : Position) (cause : LinkCause) (u : Use) → Contains (uses_in (procedure_of p)) u → IsMissing (link_of own kernel u) at cause
       → Missing (links_in own kernel p) at cause
   missing_row p at cause u has missing =
       let there = at_contains (uses_in (procedure_of p)) u has in
       (there.0, (link_of own kernel u, mapped (link_of own kernel) (uses_in (procedure_of p)) there.0 u there.1, missing))
 
-  row_missing : (p : Proc) (at : At) (cause : LinkCause) → Missing (links_in own kernel p) at cause
+  row_missing : (p : Proc) (at : Position) (cause : LinkCause) → Missing (links_in own kernel p) at cause
       → (u : Use) × Contains (uses_in (procedure_of p)) u × IsMissing (link_of own kernel u) at cause
   row_missing p at cause h =
       let found = unmapped (link_of own kernel) (uses_in (procedure_of p)) h.0 h.1.0 h.1.1 in
       (found.0, contains_at (uses_in (procedure_of p)) h.0 found.0 found.1, subst (λ l. IsMissing l at cause) found.2 h.1.2)
 
-  missing_main : (main : Option Proc) (at : At) (cause : LinkCause) (u : Use) → Contains (flat_map uses_in (option_to_list (option_map procedure_of main))) u
+  missing_main : (main : Option Proc) (at : Position) (cause : LinkCause) (u : Use) → Contains (flat_map uses_in (option_to_list (option_map procedure_of main))) u
       → IsMissing (link_of own kernel u) at cause → Missing (main_links_in own kernel main) at cause
   missing_main None at cause u has missing = absurd (omega (arith, has.1))
   missing_main (Some p) at cause u has missing = missing_row p at cause u (subst (λ us. Contains us u) (append-nil (uses_in (procedure_of p))) has) missing
 
-  main_missing : (main : Option Proc) (at : At) (cause : LinkCause) → Missing (main_links_in own kernel main) at cause
+  main_missing : (main : Option Proc) (at : Position) (cause : LinkCause) → Missing (main_links_in own kernel main) at cause
       → (u : Use) × Contains (flat_map uses_in (option_to_list (option_map procedure_of main))) u × IsMissing (link_of own kernel u) at cause
   main_missing None at cause h = let none = h.1.1 in cc
   main_missing (Some p) at cause h =
@@ -54,10 +54,10 @@ module _ (own kernel : List ℕ → Option ℕ) where
     abbrev the_source : Source
     the_source = record { consts = consts; procs = map procedure_of procs; main = option_map procedure_of main }
 
-    abbrev Lost : At → LinkCause → Type 0
+    abbrev Lost : Position → LinkCause → Type 0
     Lost = Either (Among (λ place row. Missing row) (map (links_in own kernel) procs)) (Missing (main_links_in own kernel main))
 
-    lost : (at : At) (cause : LinkCause) (u : Use) → Contains (all_uses the_source) u → IsMissing (link_of own kernel u) at cause → Lost at cause
+    lost : (at : Position) (cause : LinkCause) (u : Use) → Contains (all_uses the_source) u → IsMissing (link_of own kernel u) at cause → Lost at cause
     lost at cause u has missing =
         elim (Contains-append_cases (flat_map uses_in (map procedure_of procs)) (flat_map uses_in (option_to_list (option_map procedure_of main))) u
         (subst (λ us. Contains us u) (flat_map-append uses_in (map procedure_of procs) (option_to_list (option_map procedure_of main))) has)) [
@@ -75,7 +75,7 @@ module _ (own kernel : List ℕ → Option ℕ) where
           | inr in_main ↦ inr (missing_main main at cause u in_main missing)
         ]
 
-    from_lost : (at : At) (cause : LinkCause) → Lost at cause → (u : Use) × Contains (all_uses the_source) u × IsMissing (link_of own kernel u) at cause
+    from_lost : (at : Position) (cause : LinkCause) → Lost at cause → (u : Use) × Contains (all_uses the_source) u × IsMissing (link_of own kernel u) at cause
     from_lost at cause (inl (i, (row, e, missing))) =
         let p = unmapped (links_in own kernel) procs i row e in
         let found = row_missing p.0 at cause (subst (λ r. Missing r at cause) p.2 missing) in
@@ -95,10 +95,10 @@ module _ (own kernel : List ℕ → Option ℕ) where
 
     module _ (names : List (List ℕ)) (users : List (List ℕ)) (places : (name : List ℕ) → own name ≡ first_place (map procedure_of procs) name)
         (exports : (name : List ℕ) → kernel name ≡ place_in names name) (are : AreUsers (map (links_in own kernel) procs) users) where
-      abbrev Found : At → LinkCause → Type 0
+      abbrev Found : Position → LinkCause → Type 0
       Found = Either Lost (Recursions users (map (links_in own kernel) procs))
 
-      to_found : (at : At) (cause : LinkCause) → Dangles the_source names at cause → Found at cause
+      to_found : (at : Position) (cause : LinkCause) → Dangles the_source names at cause → Found at cause
       to_found at cause (unknown u has kind none) =
           inl (lost u.at causes.UnknownProcedure u has (refl, missing_own own kernel u.kind u.name kind (places u.name ∙ none)))
       to_found at cause (not_in_kernel u has kind none) =
@@ -122,10 +122,10 @@ module _ (own kernel : List ℕ → Option ℕ) where
             ),
           )
 
-      moved : (at other : At) (cause why : LinkCause) → at ≡ other → cause ≡ why → Dangles the_source names other why → Dangles the_source names at cause
+      moved : (at other : Position) (cause why : LinkCause) → at ≡ other → cause ≡ why → Dangles the_source names other why → Dangles the_source names at cause
       moved at other cause why is_at is_cause h = subst (λ a. Dangles the_source names a cause) (sym is_at) (subst (Dangles the_source names other) (sym is_cause) h)
 
-      from_found : (at : At) (cause : LinkCause) → Found at cause → Dangles the_source names at cause
+      from_found : (at : Position) (cause : LinkCause) → Found at cause → Dangles the_source names at cause
       from_found at cause (inl h) =
           let found = from_lost at cause h in
           let u = found.0 in

@@ -4,7 +4,7 @@ use Rattle.std.proofs.lemmas.Bool.{cases_Bool, false≢true}
 use Rattle.std.proofs.lemmas.List.Folds.{list_any-from_Any}
 use Rattle.std.proofs.lemmas.Option.{slice_get_within, get_or_from_slice_get}
 use Rattle.std.specs.List.{list_any}
-use Rattle.masm_parse.specs.declared.tree.At.{At}
+use Rattle.masm_parse.specs.declared.tree.Position.{Position}
 use Rattle.masm_uses.specs.declared.links.Link.{Link}
 use Rattle.masm_uses.specs.declared.refusal.LinkCause.{LinkCause}
 use Rattle.masm_uses.specs.declared.refusal.LinkCause.TheVariants as causes
@@ -21,7 +21,7 @@ Returns-same Back Other row r same =
     (λ at cause h. let is = h.1.2 in (h.0, (h.1.0, h.1.1, (is.0, is.1, (is.2.0, is.2.1, (same is.2.0).0 is.2.2)))))
     (λ at cause h. let is = h.1.2 in (h.0, (h.1.0, h.1.1, (is.0, is.1, (is.2.0, is.2.1, (same is.2.0).1 is.2.2)))))
 
-comes_later : (first : Option Refusal) (at : At) → comes_first first at ≡ false → (r : Refusal) × (first ≡ Some r) × IsNoLater r.at r.cause at causes.Recursive
+comes_later : (first : Option Refusal) (at : Position) → comes_first first at ≡ false → (r : Refusal) × (first ≡ Some r) × IsNoLater r.at r.cause at causes.Recursive
 comes_later None at e = absurd (false≢true (sym e))
 comes_later (Some r) at e = elim (is_no_later-tells r (record { at = at; cause = causes.Recursive })) [
   | inl ahead ↦ (r, refl, ahead.1)
@@ -30,7 +30,7 @@ comes_later (Some r) at e = elim (is_no_later-tells r (record { at = at; cause =
 
 -- where no use waits, none comes before the first refusal
 pub none_waits : (first : Option Refusal) (row : List Link) (Back : ℕ → Type 0) → list_any (waits first) row ≡ false
-    → (at : At) (cause : LinkCause) → Returns Back row at cause → (r : Refusal) × (first ≡ Some r) × IsNoLater r.at r.cause at cause
+    → (at : Position) (cause : LinkCause) → Returns Back row at cause → (r : Refusal) × (first ≡ Some r) × IsNoLater r.at r.cause at cause
 none_waits first row Back none at cause h =
     let link = h.1.0 in
     let within : h.0 < length row = slice_get_within row h.0 link h.1.1 in
@@ -45,7 +45,7 @@ none_waits first row Back none at cause h =
 
 -- where no use leads back, none comes at all
 pub none_back : (first : Option Refusal) (row : List Link) (Back : ℕ → Type 0) → ((place : ℕ) → HasOwn row place → ¬ (Back place))
-    → (at : At) (cause : LinkCause) → Returns Back row at cause → (r : Refusal) × (first ≡ Some r) × IsNoLater r.at r.cause at cause
+    → (at : Position) (cause : LinkCause) → Returns Back row at cause → (r : Refusal) × (first ≡ Some r) × IsNoLater r.at r.cause at cause
 none_back first row Back none at cause h =
     let link = h.1.0 in
     let is = h.1.2.2 in

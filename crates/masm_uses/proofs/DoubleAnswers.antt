@@ -3,8 +3,8 @@ use Rattle.std.proofs.Common.{◌≡◌, ℕ, suc, Bool, true, false, cond, List
 use Rattle.std.proofs.lemmas.List.{take-map, take_at}
 use Rattle.std.proofs.lemmas.Simd.{map-map}
 use Rattle.std.specs.List.{filter}
-use Rattle.masm_instr.specs.declared.constant.Const.{Const}
-use Rattle.masm_parse.specs.declared.tree.At.{At}
+use Rattle.instr_reading.specs.declared.constant.Const.{Const}
+use Rattle.masm_parse.specs.declared.tree.Position.{Position}
 use Rattle.masm_parse.specs.declared.tree.Proc.{Proc}
 use Rattle.masm_parse.specs.Trees.{Procedure, Source}
 use Rattle.masm_parse.specs.Views.{procedure_of}
@@ -25,19 +25,19 @@ use Rattle.masm_uses.proofs.LeastLemmas.{Either, Answers-same, Answers-earlier}
 abbrev name_of : Proc → List ℕ
 name_of p = p.name
 
-abbrev place_of : Proc → At
+abbrev place_of : Proc → Position
 place_of p = record { line = p.line; column = p.column }
 
-abbrev Repeated : List Procedure → At → LinkCause → Type 0
+abbrev Repeated : List Procedure → Position → LinkCause → Type 0
 Repeated procs = Repeats (λ p. p.name) at_procedure procs
 
 -- the procedures of the tree, and those of the source
-repeated_to : (procs : List Proc) (at : At) (cause : LinkCause) → Repeats name_of place_of procs at cause → Repeated (map procedure_of procs) at cause
+repeated_to : (procs : List Proc) (at : Position) (cause : LinkCause) → Repeats name_of place_of procs at cause → Repeated (map procedure_of procs) at cause
 repeated_to procs at cause h =
     Among-mapped procedure_of (λ place p. IsRepeat (place_in (map (λ q. q.name) (map procedure_of procs))) p.name (at_procedure p) place) procs at cause
     (subst (λ names. Among (λ place x. IsRepeat (place_in names) x.name (place_of x) place) procs at cause) (sym (map-map (λ (q : Procedure). q.name) procedure_of procs)) h)
 
-repeated_from : (procs : List Proc) (at : At) (cause : LinkCause) → Repeated (map procedure_of procs) at cause → Repeats name_of place_of procs at cause
+repeated_from : (procs : List Proc) (at : Position) (cause : LinkCause) → Repeated (map procedure_of procs) at cause → Repeats name_of place_of procs at cause
 repeated_from procs at cause h =
     subst (λ names. Among (λ place x. IsRepeat (place_in names) x.name (place_of x) place) procs at cause) (map-map (λ (q : Procedure). q.name) procedure_of procs)
     (Among-unmapped procedure_of (λ place p. IsRepeat (place_in (map (λ q. q.name) (map procedure_of procs))) p.name (at_procedure p) place) procs at cause h)
@@ -55,28 +55,28 @@ exported-map (p ∷ procs) = by p.exported (exported-map procs)
 exported-take : (procs : List Proc) (i : ℕ) → length (exported_of (take i (map procedure_of procs))) ≡ exports_in (take i procs)
 exported-take procs i = ap (λ ps. length (exported_of ps)) (take-map procedure_of i procs) ∙ exported-map (take i procs)
 
-abbrev ExtraBy : List Procedure → ℕ → Procedure → At → LinkCause → Type 0
+abbrev ExtraBy : List Procedure → ℕ → Procedure → Position → LinkCause → Type 0
 ExtraBy procs place p at cause =
     (p.exported ≡ true) × (length (exported_of (take place procs)) ≡ 255) × (at ≡ at_procedure p) × (cause ≡ causes.TooManyExports)
 
-abbrev Extra : List Procedure → At → LinkCause → Type 0
+abbrev Extra : List Procedure → Position → LinkCause → Type 0
 Extra procs = Among (ExtraBy procs) procs
 
-extra_to : (procs : List Proc) (at : At) (cause : LinkCause) → Extras procs at cause → Extra (map procedure_of procs) at cause
+extra_to : (procs : List Proc) (at : Position) (cause : LinkCause) → Extras procs at cause → Extra (map procedure_of procs) at cause
 extra_to procs at cause h =
     Among-mapped procedure_of (ExtraBy (map procedure_of procs)) procs at cause
     (h.0, (h.1.0, h.1.1, (h.1.2.0, exported-take procs h.0 ∙ h.1.2.1, h.1.2.2, h.1.2.3)))
 
-extra_from : (procs : List Proc) (at : At) (cause : LinkCause) → Extra (map procedure_of procs) at cause → Extras procs at cause
+extra_from : (procs : List Proc) (at : Position) (cause : LinkCause) → Extra (map procedure_of procs) at cause → Extras procs at cause
 extra_from procs at cause h =
     let g = Among-unmapped procedure_of (ExtraBy (map procedure_of procs)) procs at cause h in
     (g.0, (g.1.0, g.1.1, (g.1.2.0, sym (exported-take procs g.0) ∙ g.1.2.1, g.1.2.2, g.1.2.3)))
 
 module _ (source : Source) where
-  abbrev Found : At → LinkCause → Type 0
+  abbrev Found : Position → LinkCause → Type 0
   Found = Either (Either (Repeats (λ c. c.name) at_constant source.consts) (Repeated source.procs)) (Extra source.procs)
 
-  to_found : (at : At) (cause : LinkCause) → Doubles source at cause → Found at cause
+  to_found : (at : Position) (cause : LinkCause) → Doubles source at cause → Found at cause
   to_found at cause (second_constant before c behind e h) =
       let f = split_repeats (λ d. d.name) source.consts before c behind e h in
       inl (inl (length before, (c, f.0, (f.1, refl, refl))))
@@ -93,10 +93,10 @@ module _ (source : Source) where
         ),
       )
 
-  moved : (at other : At) (cause why : LinkCause) → at ≡ other → cause ≡ why → Doubles source other why → Doubles source at cause
+  moved : (at other : Position) (cause why : LinkCause) → at ≡ other → cause ≡ why → Doubles source other why → Doubles source at cause
   moved at other cause why is_at is_cause h = subst (λ a. Doubles source a cause) (sym is_at) (subst (Doubles source other) (sym is_cause) h)
 
-  from_found : (at : At) (cause : LinkCause) → Found at cause → Doubles source at cause
+  from_found : (at : Position) (cause : LinkCause) → Found at cause → Doubles source at cause
   from_found at cause (inl (inl (k, (c, e, (first, is_at, is_cause))))) =
       moved at _ cause _ is_at is_cause
       (second_constant (take k source.consts) c (drop (suc k) source.consts) (split_at source.consts k c e).0 (repeats_split (λ d. d.name) source.consts k c e first))

@@ -7,7 +7,7 @@ use Rattle.std.proofs.lemmas.Option.{slice_get-map}
 use Rattle.std.proofs.lemmas.Slice.Eq.{bytes_eq-Decides}
 use Rattle.std.specs.List.{Any, Contains}
 use Rattle.std.specs.Option.{option_map}
-use Rattle.masm_parse.specs.declared.tree.At.{At}
+use Rattle.masm_parse.specs.declared.tree.Position.{Position}
 use Rattle.masm_uses.specs.declared.refusal.LinkCause.{LinkCause}
 use Rattle.masm_uses.specs.Among.{Among}
 use Rattle.masm_uses.specs.Uses.{place_in}
@@ -24,7 +24,7 @@ split_at (y ∷ xs) zero x e = (ap (λ o. unwrap_or o y ∷ xs) e, refl)
 split_at (y ∷ xs) (suc i) x e = (ap (λ ys. y ∷ ys) (split_at xs i x e).0, ap suc (split_at xs i x e).1)
 
 -- The elements of a list that was mapped.
-module _ {X Y : Type 0} (f : X → Y) (P : ℕ → Y → At → LinkCause → Type 0) (xs : List X) (at : At) (cause : LinkCause) where
+module _ {X Y : Type 0} (f : X → Y) (P : ℕ → Y → Position → LinkCause → Type 0) (xs : List X) (at : Position) (cause : LinkCause) where
   pub Among-unmapped : Among P (map f xs) at cause → Among (λ place x. P place (f x)) xs at cause
   Among-unmapped h = found h.0 h.1.0 (slice_get xs h.0) refl h.1.1 h.1.2
     where

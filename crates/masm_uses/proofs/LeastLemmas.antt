@@ -3,7 +3,7 @@ use Rattle.std.proofs.Common.{◌≡◌, ℕ, List, length, get_or, slice_get, u
 use Rattle.std.proofs.lemmas.Bool.{cases_lt}
 use Rattle.std.proofs.lemmas.Bool.Decides.{eqb_tells, nat_tests}
 use Rattle.std.proofs.lemmas.Option.{slice_get_read, slice_get_within}
-use Rattle.masm_parse.specs.declared.tree.At.{At}
+use Rattle.masm_parse.specs.declared.tree.Position.{Position}
 use Rattle.masm_uses.specs.declared.refusal.LinkCause.{LinkCause}
 use Rattle.masm_uses.specs.declared.refusal.Refusal.{Refusal}
 use Rattle.masm_uses.specs.Among.{AmongFirst, Among}
@@ -12,19 +12,19 @@ use Rattle.masm_uses.specs.Earlier.{is_no_later, earlier}
 use Rattle.masm_uses.specs.Least.{IsBefore, IsLeast, Answers}
 
 -- one refusal is not behind another
-abbrev pub IsNoLater : At → LinkCause → At → LinkCause → Type 0
+abbrev pub IsNoLater : Position → LinkCause → Position → LinkCause → Type 0
 IsNoLater at cause other why = IsBefore at other ⊎ ((at ≡ other) × (order cause ≤ order why))
 
-same_at : (a b : At) → a.line ≡ b.line → a.column ≡ b.column → a ≡ b
+same_at : (a b : Position) → a.line ≡ b.line → a.column ≡ b.column → a ≡ b
 same_at a b l c = ap₂ (λ line column. record { line = line; column = column }) l c
 
-before-trans : (a b c : At) → IsBefore a b → IsBefore b c → IsBefore a c
+before-trans : (a b c : Position) → IsBefore a b → IsBefore b c → IsBefore a c
 before-trans a b c (inl p) (inl q) = inl (omega arith)
 before-trans a b c (inl p) (inr q) = inl (let e = q.0 in omega arith)
 before-trans a b c (inr p) (inl q) = inl (let e = p.0 in omega arith)
 before-trans a b c (inr p) (inr q) = inr (p.0 ∙ q.0, let d = p.1 in let e = q.1 in omega arith)
 
-pub no_later-trans : (a : At) (x : LinkCause) (b : At) (y : LinkCause) (c : At) (z : LinkCause) → IsNoLater a x b y → IsNoLater b y c z → IsNoLater a x c z
+pub no_later-trans : (a : Position) (x : LinkCause) (b : Position) (y : LinkCause) (c : Position) (z : LinkCause) → IsNoLater a x b y → IsNoLater b y c z → IsNoLater a x c z
 no_later-trans a x b y c z (inl p) (inl q) = inl (before-trans a b c p q)
 no_later-trans a x b y c z (inl p) (inr q) = inl (subst (IsBefore a) q.0 p)
 no_later-trans a x b y c z (inr p) (inl q) = inl (subst (λ d. IsBefore d c) (sym p.0) q)
@@ -64,16 +64,16 @@ is_no_later-tells a b = elim (tells a.at.line b.at.line) [
 ]
 
 -- the causes of either
-abbrev pub Either : (P Q : At → LinkCause → Type 0) → At → LinkCause → Type 0
+abbrev pub Either : (P Q : Position → LinkCause → Type 0) → Position → LinkCause → Type 0
 Either P Q at cause = P at cause ⊎ Q at cause
 
-pub Answers-same : (P Q : At → LinkCause → Type 0) (r : Option Refusal) → ((at : At) (cause : LinkCause) → P at cause → Q at cause)
-    → ((at : At) (cause : LinkCause) → Q at cause → P at cause) → Answers P r → Answers Q r
+pub Answers-same : (P Q : Position → LinkCause → Type 0) (r : Option Refusal) → ((at : Position) (cause : LinkCause) → P at cause → Q at cause)
+    → ((at : Position) (cause : LinkCause) → Q at cause → P at cause) → Answers P r → Answers Q r
 Answers-same P Q None to from none = λ at cause q. none at cause (from at cause q)
 Answers-same P Q (Some r) to from least =
     record { stands = to r.at r.cause least.stands; first = λ other why q. least.first other why (from other why q) }
 
-least-either : (P Q : At → LinkCause → Type 0) (a b : Refusal) → IsLeast P a.at a.cause → IsLeast Q b.at b.cause → (c : Option Refusal)
+least-either : (P Q : Position → LinkCause → Type 0) (a b : Refusal) → IsLeast P a.at a.cause → IsLeast Q b.at b.cause → (c : Option Refusal)
     → (c ≡ cond (is_no_later a b) (Some a) (Some b)) → Answers (Either P Q) c
 least-either P Q a b p q c e = elim (is_no_later-tells a b) [
   | inl ahead ↦ subst (Answers (Either P Q)) (sym (e ∙ ap (λ t. cond t (Some a) (Some b)) ahead.0)) (record {
@@ -93,14 +93,14 @@ least-either P Q a b p q c e = elim (is_no_later-tells a b) [
 ]
 
 -- the earlier of two least refusals is the least of both kinds
-pub Answers-earlier : (P Q : At → LinkCause → Type 0) (a b : Option Refusal) → Answers P a → Answers Q b → Answers (Either P Q) (earlier a b)
+pub Answers-earlier : (P Q : Position → LinkCause → Type 0) (a b : Option Refusal) → Answers P a → Answers Q b → Answers (Either P Q) (earlier a b)
 Answers-earlier P Q None b p q = Answers-same Q (Either P Q) b (λ at cause h. inr h) (λ at cause h. elim h [ inl in_p ↦ absurd (p at cause in_p) | inr in_q ↦ in_q ]) q
 Answers-earlier P Q (Some a) None p q =
     Answers-same P (Either P Q) (Some a) (λ at cause h. inl h) (λ at cause h. elim h [ inl in_p ↦ in_p | inr in_q ↦ absurd (q at cause in_q) ]) p
 Answers-earlier P Q (Some a) (Some b) p q = least-either P Q a b p q _ refl
 
 -- the least refusal of one kind, with those of another kind that are found later
-pub Answers-with : (P Q : At → LinkCause → Type 0) (first now : Option Refusal) → Answers P first
+pub Answers-with : (P Q : Position → LinkCause → Type 0) (first now : Option Refusal) → Answers P first
     → Answers (λ at cause. (first ≡ Some (record { at = at; cause = cause })) ⊎ Q at cause) now → Answers (Either P Q) now
 Answers-with P Q None now p q =
     Answers-same (λ at cause. (None ≡ Some (record { at = at; cause = cause })) ⊎ Q at cause) (Either P Q) now
@@ -124,8 +124,8 @@ Answers-itself (Some r) =
     }
 
 -- what is found later stands behind the first refusal
-pub Answers-stays : (Q : At → LinkCause → Type 0) (first : Option Refusal)
-    → ((at : At) (cause : LinkCause) → Q at cause → (r : Refusal) × (first ≡ Some r) × IsNoLater r.at r.cause at cause)
+pub Answers-stays : (Q : Position → LinkCause → Type 0) (first : Option Refusal)
+    → ((at : Position) (cause : LinkCause) → Q at cause → (r : Refusal) × (first ≡ Some r) × IsNoLater r.at r.cause at cause)
     → Answers (λ at cause. (first ≡ Some (record { at = at; cause = cause })) ⊎ Q at cause) first
 Answers-stays Q None behind = λ at cause h. elim h [ inl e ↦ absurd cc | inr has ↦ absurd (let e = (behind at cause has).1 in cc) ]
 Answers-stays Q (Some r) behind =
@@ -139,13 +139,13 @@ Answers-stays Q (Some r) behind =
     }
 
 -- one refusal alone
-pub Answers-one : (P : At → LinkCause → Type 0) (at : At) (cause : LinkCause) → P at cause
-    → ((other : At) (why : LinkCause) → P other why → (other ≡ at) × (why ≡ cause)) → Answers P (Some (record { at = at; cause = cause }))
+pub Answers-one : (P : Position → LinkCause → Type 0) (at : Position) (cause : LinkCause) → P at cause
+    → ((other : Position) (why : LinkCause) → P other why → (other ≡ at) × (why ≡ cause)) → Answers P (Some (record { at = at; cause = cause }))
 Answers-one P at cause stands alone =
     record { stands = stands; first = λ other why has. inr (sym (alone other why has).0, (let same = ap order (alone other why has).1 in omega arith)) }
 
 -- The least refusal of a list's elements, as they are tested in order.
-module _ {X : Type 0} (P : ℕ → X → At → LinkCause → Type 0) (items : List X) where
+module _ {X : Type 0} (P : ℕ → X → Position → LinkCause → Type 0) (items : List X) where
   pub Among-start : Answers (AmongFirst P items 0) None
   Among-start = λ at cause h. absurd (omega (arith, h.1))
 
@@ -161,7 +161,7 @@ module _ {X : Type 0} (P : ℕ → X → At → LinkCause → Type 0) (items : L
       ])
       p
     where
-      moved : (at : At) (cause : LinkCause) (k : ℕ) (y z : X) → k ≡ i → slice_get items k ≡ Some y → slice_get items i ≡ Some z → P k y at cause → P i z at cause
+      moved : (at : Position) (cause : LinkCause) (k : ℕ) (y z : X) → k ≡ i → slice_get items k ≡ Some y → slice_get items i ≡ Some z → P k y at cause → P i z at cause
       moved at cause k y z same there here has =
           let is_z : y ≡ z = ap (λ o. unwrap_or o y) (sym there ∙ (ap (slice_get items) same ∙ here)) in
           subst (λ w. P i w at cause) is_z (subst (λ j. P j y at cause) same has)

@@ -4,7 +4,6 @@ pub mod DoubleAnswers
 pub mod DoubleLemmas
 pub mod LeastLemmas
 pub mod NameLemmas
-pub mod RankLemmas
 pub mod SettlingLemmas
 pub mod SortLemmas
 pub mod Stuck

@@ -11,7 +11,7 @@ none-distinct : IsDistinct eqb []
 unfolding IsDistinct
 none-distinct = tt
 
-leads-behind : {graph : List (List ℕ)} {a b c : ℕ} → Leads graph a b → Edge graph b c → Leads graph a c
+pub leads-behind : {graph : List (List ℕ)} {a b c : ℕ} → Leads graph a b → Edge graph b c → Leads graph a c
 leads-behind itself e = through e itself
 leads-behind (through d l) e = through d (leads-behind l e)
 

@@ -3,7 +3,7 @@ use Rattle.std.proofs.Common.{◌≡◌, ℕ, ◌+◌, ◌<◌, List, [], ◌∷
 use Rattle.std.proofs.lemmas.List.{take_more, map-append}
 use Rattle.masm_instr.specs.Instructions.{Instruction}
 use Rattle.masm_parse.specs.declared.terminal.Leaf.TheVariants as leaves
-use Rattle.masm_parse.specs.declared.tree.At.{At}
+use Rattle.masm_parse.specs.declared.tree.Position.{Position}
 use Rattle.masm_parse.specs.declared.tree.Stmt.{Stmt}
 use Rattle.masm_parse.specs.declared.tree.Stmt.TheVariants.{Instr, If, While, Repeat, Exec, Call, Syscall}
 use Rattle.masm_parse.specs.Trees.{Body, Empty, Leaf_then, If_then, While_then, Repeat_then, append}
@@ -32,26 +32,26 @@ uses-more body i d within =
     ap (λ b. uses_of (body_of b)) (take_more body i d within)
     ∙ (ap uses_of (body_of_push (take i body) (get_or body i d)) ∙ uses_of-append (body_of (take i body)) (stmt_view (get_or body i d) Empty))
 
-pub uses-Instr : (at : At) (instr : Instruction) → uses_of (stmt_view (Instr at instr) Empty) ≡ []
+pub uses-Instr : (at : Position) (instr : Instruction) → uses_of (stmt_view (Instr at instr) Empty) ≡ []
 uses-Instr at instr = ap uses_of (view-Instr at instr Empty)
 
-pub uses-Exec : (at : At) (name : List ℕ) → uses_of (stmt_view (Exec at name) Empty) ≡ use_at at Own name ∷ []
+pub uses-Exec : (at : Position) (name : List ℕ) → uses_of (stmt_view (Exec at name) Empty) ≡ use_at at Own name ∷ []
 uses-Exec at name = ap uses_of (view-Exec at name Empty)
 
-pub uses-Call : (at : At) (name : List ℕ) → uses_of (stmt_view (Call at name) Empty) ≡ use_at at Own name ∷ []
+pub uses-Call : (at : Position) (name : List ℕ) → uses_of (stmt_view (Call at name) Empty) ≡ use_at at Own name ∷ []
 uses-Call at name = ap uses_of (view-Call at name Empty)
 
-pub uses-Syscall : (at : At) (name : List ℕ) → uses_of (stmt_view (Syscall at name) Empty) ≡ use_at at Kernel name ∷ []
+pub uses-Syscall : (at : Position) (name : List ℕ) → uses_of (stmt_view (Syscall at name) Empty) ≡ use_at at Kernel name ∷ []
 uses-Syscall at name = ap uses_of (view-Syscall at name Empty)
 
-pub uses-If : (at : At) (v w : Vec Stmt Global)
+pub uses-If : (at : Position) (v w : Vec Stmt Global)
     → uses_of (stmt_view (If at v w) Empty) ≡ uses_of (body_of v.items) ++ uses_of (body_of w.items)
 uses-If at v w = ap uses_of (view-If at v w Empty) ∙ ap (λ us. uses_of (body_of v.items) ++ us) (append-nil (uses_of (body_of w.items)))
 
-pub uses-While : (at : At) (v : Vec Stmt Global) → uses_of (stmt_view (While at v) Empty) ≡ uses_of (body_of v.items)
+pub uses-While : (at : Position) (v : Vec Stmt Global) → uses_of (stmt_view (While at v) Empty) ≡ uses_of (body_of v.items)
 uses-While at v = ap uses_of (view-While at v Empty) ∙ append-nil (uses_of (body_of v.items))
 
-pub uses-Repeat : (at : At) (n : ℕ) (v : Vec Stmt Global) → uses_of (stmt_view (Repeat at n v) Empty) ≡ uses_of (body_of v.items)
+pub uses-Repeat : (at : Position) (n : ℕ) (v : Vec Stmt Global) → uses_of (stmt_view (Repeat at n v) Empty) ≡ uses_of (body_of v.items)
 uses-Repeat at n v = ap uses_of (view-Repeat at n v Empty) ∙ append-nil (uses_of (body_of v.items))
 
 pub ruleset views = (uses-Instr, uses-Exec, uses-Call, uses-Syscall, uses-If, uses-While, uses-Repeat)
@@ -73,10 +73,10 @@ module _ {X : Type 0} (f : Use → X) where
       joined first second third _ _ d e
       ∙ ap (λ us. first ++ map f us) (sym (uses-more body i stmt within ∙ ap (λ s. uses_of (body_of (take i body)) ++ uses_of (stmt_view s Empty)) (sym is)))
 
-  pub added-Instr : (at : At) (instr : Instruction) (out : List X) → out ≡ out ++ map f (uses_of (stmt_view (Instr at instr) Empty))
+  pub added-Instr : (at : Position) (instr : Instruction) (out : List X) → out ≡ out ++ map f (uses_of (stmt_view (Instr at instr) Empty))
   added-Instr at instr out = rw (uses-Instr at instr) (sym (append-nil out))
 
-  pub added-If : (at : At) (v w : Vec Stmt Global) (xs ys : List Stmt) (first second third : List X) → xs ≡ v.items → ys ≡ w.items
+  pub added-If : (at : Position) (v w : Vec Stmt Global) (xs ys : List Stmt) (first second third : List X) → xs ≡ v.items → ys ≡ w.items
       → second ≡ first ++ map f (uses_of (body_of xs)) → third ≡ second ++ map f (uses_of (body_of ys))
       → third ≡ first ++ map f (uses_of (stmt_view (If at v w) Empty))
   added-If at v w xs ys first second third is_v is_w d e =

@@ -1,6 +1,6 @@
 -- Uses that lead nowhere, and uses that lead back.
 use Rattle.std.specs.Prelude.{◌≡◌, ℕ, Bool, true, false, not, ◌&&◌, List, Option, Some, None}
-use Rattle.masm_parse.specs.declared.tree.At.{At}
+use Rattle.masm_parse.specs.declared.tree.Position.{Position}
 use Rattle.masm_uses.specs.declared.links.Link.{Link}
 use Rattle.masm_uses.specs.declared.links.Target.{Target}
 use Rattle.masm_uses.specs.declared.links.Target.TheVariants as targets
@@ -18,21 +18,21 @@ missing_cause targets.Unknown = Some causes.UnknownProcedure
 missing_cause targets.NotInKernel = Some causes.NotInKernel
 
 -- the use leads nowhere
-abbrev pub IsMissing : Link → At → LinkCause → Type 0
+abbrev pub IsMissing : Link → Position → LinkCause → Type 0
 IsMissing link at cause = (at ≡ link.at) × (missing_cause link.target ≡ Some cause)
 
-abbrev pub Missing : List Link → At → LinkCause → Type 0
+abbrev pub Missing : List Link → Position → LinkCause → Type 0
 Missing row = Among (λ place link. IsMissing link) row
 
 -- the use leads to one of these places
-abbrev pub IsReturn : (ℕ → Type 0) → Link → At → LinkCause → Type 0
+abbrev pub IsReturn : (ℕ → Type 0) → Link → Position → LinkCause → Type 0
 IsReturn Back link at cause = (at ≡ link.at) × (cause ≡ causes.Recursive) × ((place : ℕ) × (link.target ≡ targets.Own place) × Back place)
 
-abbrev pub Returns : (ℕ → Type 0) → List Link → At → LinkCause → Type 0
+abbrev pub Returns : (ℕ → Type 0) → List Link → Position → LinkCause → Type 0
 Returns Back row = Among (λ place link. IsReturn Back link) row
 
 -- the uses that lead to a procedure from which their own is reached, where the graph says who uses whom
-abbrev pub Recursions : List (List ℕ) → List (List Link) → At → LinkCause → Type 0
+abbrev pub Recursions : List (List ℕ) → List (List Link) → Position → LinkCause → Type 0
 Recursions users rows = Among (λ user row. Returns (Leads users user) row) rows
 
 abbrev pub is_own : Target → Bool
@@ -40,7 +40,7 @@ is_own (targets.Own place) = true
 is_own target = false
 
 -- a recursion at this place would come before the first refusal so far
-abbrev pub comes_first : Option Refusal → At → Bool
+abbrev pub comes_first : Option Refusal → Position → Bool
 comes_first None at = true
 comes_first (Some first) at = not (is_no_later first (record { at = at; cause = causes.Recursive }))
 

@@ -1,20 +1,20 @@
 -- The order of refusals, and the least of those that stand.
 use Rattle.std.specs.Prelude.{◌≡◌, ◌<◌, ◌≤◌, Option, Some, None, ◌⊎◌}
-use Rattle.masm_parse.specs.declared.tree.At.{At}
+use Rattle.masm_parse.specs.declared.tree.Position.{Position}
 use Rattle.masm_uses.specs.declared.refusal.LinkCause.{LinkCause}
 use Rattle.masm_uses.specs.declared.refusal.Refusal.{Refusal}
 use Rattle.masm_uses.specs.Causes.{order}
 
 -- one place stands before another
-abbrev pub IsBefore : At → At → Type 0
+abbrev pub IsBefore : Position → Position → Type 0
 IsBefore a b = (a.line < b.line) ⊎ ((a.line ≡ b.line) × (a.column < b.column))
 
 -- Of places that are refused, the first, and there the first cause.
-pub record IsLeast (Refused : At → LinkCause → Type 0) (at : At) (cause : LinkCause) : Type 0 where
+pub record IsLeast (Refused : Position → LinkCause → Type 0) (at : Position) (cause : LinkCause) : Type 0 where
   pub stands : Refused at cause
-  pub first : (other : At) (why : LinkCause) → Refused other why → IsBefore at other ⊎ ((at ≡ other) × (order cause ≤ order why))
+  pub first : (other : Position) (why : LinkCause) → Refused other why → IsBefore at other ⊎ ((at ≡ other) × (order cause ≤ order why))
 
 -- the least refusal, or none where nothing is refused
-abbrev pub Answers : (At → LinkCause → Type 0) → Option Refusal → Type 0
-Answers Refused None = (at : At) (cause : LinkCause) → ¬ (Refused at cause)
+abbrev pub Answers : (Position → LinkCause → Type 0) → Option Refusal → Type 0
+Answers Refused None = (at : Position) (cause : LinkCause) → ¬ (Refused at cause)
 Answers Refused (Some r) = IsLeast Refused r.at r.cause

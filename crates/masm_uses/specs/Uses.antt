@@ -3,7 +3,7 @@ use Rattle.std.specs.Prelude.{◌≡◌, ℕ, ◌+◌, List, [], ◌∷◌, ◌+
 use Rattle.std.specs.List.{flat_map, Contains}
 use Rattle.std.specs.Option.{option_map, option_to_list}
 use Rattle.masm_parse.specs.declared.terminal.Leaf.TheVariants as leaves
-use Rattle.masm_parse.specs.declared.tree.At.{At}
+use Rattle.masm_parse.specs.declared.tree.Position.{Position}
 use Rattle.masm_parse.specs.Trees.{Body, Empty, Leaf_then, If_then, While_then, Repeat_then, Procedure, Source}
 
 -- whether the procedure is one of the source's own or one of the kernel's
@@ -13,11 +13,11 @@ pub data Kind : Type 0 where
 
 -- an exec, call or syscall, with the place of its token
 pub record Use : Type 0 where
-  pub at : At
+  pub at : Position
   pub kind : Kind
   pub name : List ℕ
 
-abbrev pub use_at : At → Kind → List ℕ → Use
+abbrev pub use_at : Position → Kind → List ℕ → Use
 use_at at kind name = record { at = at; kind = kind; name = name }
 
 -- the uses in a body, in order

@@ -21,6 +21,3 @@ pub use doubles::first_double;
 pub use names::{Defined, Named, Names};
 pub use procedures::use_order;
 pub use refusal::{LinkCause, Refusal, cause_text, earlier};
-
-#[cfg(test)]
-mod tests;

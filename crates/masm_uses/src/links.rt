@@ -7,7 +7,7 @@ ghost use Rattle.masm_uses.specs.Names.{place_at};
 ghost use Rattle.masm_uses.specs.Uses.{uses_of};
 
 use crate::names::Names;
-use masm_parse::{At, Proc, Stmt};
+use masm_parse::{Position, Proc, Stmt};
 use std::alloc::Global;
 use vm_field::Memory;
 
@@ -27,7 +27,7 @@ pub(crate) enum Target {
 // A use of a procedure.
 #[derive(Clone, Copy, Debug, PartialEq, Eq)]
 pub(crate) struct Link {
-    pub at: At,
+    pub at: Position,
     pub target: Target,
 }
 
@@ -49,7 +49,7 @@ fn kernel_target(kernel: &Names, name: &[u8]) -> Target
     }
 }
 
-fn add_link(out: &mut Vec<Link>, at: At, target: Target) -> Result<(), Memory>
+fn add_link(out: &mut Vec<Link>, at: Position, target: Target) -> Result<(), Memory>
     ensures { OnOk result (out.new.items ≡ out.old.items ++ (record { at = at; target = target }) ∷ []) }
 {
     out.push(Link { at, target })?;

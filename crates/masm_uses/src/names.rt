@@ -4,8 +4,8 @@ ghost use Rattle.masm_uses.specs.Names.{place_at};
 ghost use Rattle.masm_uses.specs.Uses.{place_in};
 
 use indexmap::IndexMap;
-use masm_instr::Const;
-use masm_parse::{At, Proc};
+use instr_reading::Const;
+use masm_parse::{Position, Proc};
 use std::alloc::Global;
 use vm_field::{Bytes, Memory};
 
@@ -43,19 +43,19 @@ impl Named for Bytes {
 
 /// What has a name and the place of its token.
 pub trait Defined: Named {
-    ghost use Rattle.masm_parse.specs.declared.tree.At.{At};
+    ghost use Rattle.masm_parse.specs.declared.tree.Position.{Position};
 
-    ghost at: { Self → At };
+    ghost at: { Self → Position };
 
-    fn at(&self) -> At
+    fn at(&self) -> Position
         ensures { result ≡ at self.now };
 }
 
 impl Defined for Proc {
     ghost at = { λ p. record { line = p.line; column = p.column } };
 
-    fn at(&self) -> At {
-        At {
+    fn at(&self) -> Position {
+        Position {
             line: self.line,
             column: self.column,
         }
@@ -65,8 +65,8 @@ impl Defined for Proc {
 impl Defined for Const {
     ghost at = { λ c. record { line = c.line; column = c.column } };
 
-    fn at(&self) -> At {
-        At {
+    fn at(&self) -> Position {
+        Position {
             line: self.line,
             column: self.column,
         }

@@ -1,14 +1,16 @@
-ghost use Rattle.std.specs.Prelude.{◌≡◌, ℕ, ◌<◌, ◌≤◌, [], ◌∷◌, ◌++◌, length, slice_index, slice_index_or, slice_set, false, true, IsTrue, IfOk, OnOk};
+ghost use Rattle.std.specs.Prelude.{◌≡◌, ℕ, ◌<◌, ◌≤◌, [], ◌∷◌, ◌++◌, length, slice_index, slice_index_or};
+ghost use Rattle.std.specs.Prelude.{slice_set, false, true, IfOk, OnOk};
 ghost use Rattle.std.specs.List.{All, Contains};
 ghost use Rattle.masm_uses.specs.Graph.{rows_of, IsGraph};
-ghost use Rattle.masm_uses.specs.Orders.{IsAcyclic, IsOrder};
+ghost use Rattle.masm_uses.specs.Orders.{IsAcyclic, IsOrder, StandsBehind};
+ghost use Rattle.masm_uses.specs.Walks.{AreMarks};
 
 use crate::reach::Walk;
 use std::alloc::{AllocError, Global};
 use std::mem;
 
-// The places of a graph that were seen, each behind those to which it has edges. Each other one waits for a place that was not
-// seen, so that its row is read once.
+// The places of a graph that were seen, each behind those to which it has edges. Each other one waits
+// for a place that was not seen, so that its row is read once.
 #[derive(Drop)]
 struct Sorter {
     walk: Walk,
@@ -48,8 +50,10 @@ impl Sorter {
     // The first edge of a row, from this one on, that leads to a place that was not seen.
     fn first_unseen(&self, row: &[usize], from: usize) -> usize
         requires { All (λ place. place < length self.now.walk.marks.items) row.now }
-        ensures seen { (k : ℕ) → from ≤ k → k < result → slice_index_or self.now.walk.marks.items (slice_index row.now k) false ≡ true }
-        ensures unseen { result < length row.now → slice_index_or self.now.walk.marks.items (slice_index row.now result) false ≡ false }
+        ensures seen { (k : ℕ) → from ≤ k → k < result
+            → slice_index_or self.now.walk.marks.items (slice_index row.now k) false ≡ true }
+        ensures unseen { result < length row.now
+            → slice_index_or self.now.walk.marks.items (slice_index row.now result) false ≡ false }
     {
         let mut edge = from;
         while edge < row.len() && self.walk.marks[row[edge]] {
@@ -64,7 +68,8 @@ impl Sorter {
         ensures walk { self.new.walk ≡ self.old.walk }
         ensures passed { self.new.passed ≡ self.old.passed }
         ensures count { length self.new.waiting.items ≡ length self.old.waiting.items }
-        ensures rows { OnOk result (rows_of self.new.waiting.items ≡ slice_set (rows_of self.old.waiting.items) other (waiters self.old other ++ place ∷ [])) }
+        ensures rows { OnOk result (rows_of self.new.waiting.items
+            ≡ slice_set (rows_of self.old.waiting.items) other (waiters self.old other ++ place ∷ [])) }
     {
         self.waiting[other].push(place)?;
         Ok(())
@@ -107,7 +112,8 @@ impl Sorter {
         requires sorting { IsSorting (rows_of graph.now) self.old }
         ensures sorting { OnOk result (IsSorting (rows_of graph.now) self.new) }
         ensures grows { OnOk result (Grows self.old self.new) }
-        ensures settled { OnOk result ((place : ℕ) → Contains places.now place → IsSettled (rows_of graph.now) self.old.walk.seen.items self.new place) }
+        ensures settled { OnOk result ((place : ℕ) → Contains places.now place
+            → IsSettled (rows_of graph.now) self.old.walk.seen.items self.new place) }
     {
         for place in places {
             self.settle(graph, *place)?;
@@ -116,11 +122,12 @@ impl Sorter {
     }
 }
 
-// The places of a graph in an order in which each stands behind those to which it has edges.
-pub(crate) fn order(alloc: Global, graph: &[Vec<usize>]) -> Result<Vec<usize>, AllocError>
-    requires graph { IsGraph (rows_of graph.now) }
-    requires acyclic { IsAcyclic (rows_of graph.now) }
-    ensures { IfOk result (λ order. IsOrder (rows_of graph.now) order.items) }
+// The places of a graph from which no way leads back, each behind those to which it has edges.
+pub(crate) fn sorted(alloc: Global, graph: &[Vec<usize>]) -> Result<Walk, AllocError>
+    requires { IsGraph (rows_of graph.now) }
+    ensures marks { IfOk result (λ walk. AreMarks walk.marks.items walk.seen.items) }
+    ensures behind { IfOk result (λ walk. StandsBehind (rows_of graph.now) walk.seen.items) }
+    ensures all { IfOk result (λ walk. IsAcyclic (rows_of graph.now) → IsOrder (rows_of graph.now) walk.seen.items) }
 {
     let mut sorter = Sorter::new(alloc, graph)?;
     for place in 0..graph.len() {
@@ -133,71 +140,15 @@ pub(crate) fn order(alloc: Global, graph: &[Vec<usize>]) -> Result<Vec<usize>, A
         sorter.settle_all(graph, waiters.as_slice())?;
         next += 1;
     }
-    Ok(sorter.walk.seen)
+    Ok(sorter.walk)
 }
 
-#[cfg(test)]
-mod tests {
-    use super::*;
-    use std::test::Fail;
-
-    // A graph's rows, a rank for each place, and which places stand first and last where these are the same in each order.
-    static CASES: [(&[&[usize]], &[usize], Option<(usize, usize)>); 5] = [
-        (&[], &[], None),
-        (&[&[], &[], &[]], &[0, 0, 0], None),
-        (&[&[], &[0], &[1], &[2, 0]], &[0, 1, 2, 3], Some((0, 3))),
-        (&[&[3, 1], &[2], &[3], &[]], &[3, 2, 1, 0], Some((3, 0))),
-        (&[&[1, 2], &[3], &[3, 3], &[]], &[2, 1, 1, 0], Some((3, 0))),
-    ];
-
-    fn graph_of(alloc: Global, rows: &[&[usize]]) -> Result<Vec<Vec<usize>>, AllocError> {
-        let mut graph = Vec::new(alloc);
-        for row in rows {
-            graph.push(Vec::from_slice(alloc, row)?)?;
-        }
-        Ok(graph)
-    }
-
-    fn is_row_ranked(row: &[usize], ranks: &[usize], rank: usize) -> bool
-        ensures { IsTrue result → All (λ place. (place < length ranks.now) × (slice_index ranks.now place < rank)) row.now }
-    {
-        for place in row {
-            if *place >= ranks.len() || ranks[*place] >= rank {
-                return false;
-            }
-        }
-        true
-    }
-
-    // Whether each edge leads to a place of a lower rank, so that none is part of a way back.
-    fn is_ranked(graph: &[Vec<usize>], ranks: &[usize]) -> bool
-        ensures graph { IsTrue result → IsGraph (rows_of graph.now) }
-        ensures acyclic { IsTrue result → IsAcyclic (rows_of graph.now) }
-    {
-        if ranks.len() != graph.len() {
-            return false;
-        }
-        for place in 0..graph.len() {
-            if !is_row_ranked(graph[place].as_slice(), ranks, ranks[place]) {
-                return false;
-            }
-        }
-        true
-    }
-
-    #[test]
-    fn orders_places(rt: HostRuntime) -> Result<(), Fail> {
-        for (rows, ranks, ends) in CASES {
-            let graph = graph_of(rt.alloc(), rows)?;
-            let graph = graph.as_slice();
-            assert!(rt; is_ranked(graph, ranks));
-            let order = order(rt.alloc(), graph)?;
-            assert_eq!(rt; order.len(), rows.len());
-            if let Some((first, last)) = ends {
-                assert_eq!(rt; order.first(), Some(&first));
-                assert_eq!(rt; order.last(), Some(&last));
-            }
-        }
-        Ok(())
-    }
+// The places of a graph with no way back, each behind those to which it has edges.
+pub(crate) fn order(alloc: Global, graph: &[Vec<usize>]) -> Result<Vec<usize>, AllocError>
+    requires graph { IsGraph (rows_of graph.now) }
+    requires acyclic { IsAcyclic (rows_of graph.now) }
+    ensures { IfOk result (λ order. IsOrder (rows_of graph.now) order.items) }
+{
+    let walk = sorted(alloc, graph)?;
+    Ok(walk.seen)
 }

@@ -31,7 +31,8 @@ fn own_places(alloc: Global, row: &[Link]) -> Result<Vec<usize>, AllocError>
         .collect(alloc)
 }
 
-fn own_graph(alloc: Global, rows: &[Vec<Link>]) -> Result<Vec<Vec<usize>>, AllocError>
+// For each procedure the source's own to which its uses lead.
+pub(crate) fn own_graph(alloc: Global, rows: &[Vec<Link>]) -> Result<Vec<Vec<usize>>, AllocError>
     ensures { IfOk result (λ graph. rows_of graph.items ≡ map own_places (rows_of rows.now)) }
 {
     let mut graph = Vec::new(alloc);

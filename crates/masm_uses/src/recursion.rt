@@ -73,8 +73,10 @@ fn with_row(
 ) -> Result<Option<Refusal>, AllocError>
     requires graph { IsGraph (rows_of users.now) }
     requires user { user < length users.now }
-    requires settled { is_settled ≡ true → (place : ℕ) → HasOwn row.now place → ¬ (Leads (rows_of users.now) user place) }
-    ensures { IfOk result (λ now. Answers (λ at cause. (first ≡ Some (record { at = at; cause = cause })) ⊎ Returns (Leads (rows_of users.now) user) row.now at cause) now) }
+    requires settled { is_settled ≡ true → (place : ℕ) → HasOwn row.now place
+        → ¬ (Leads (rows_of users.now) user place) }
+    ensures { IfOk result (λ now. Answers (λ at cause. (first ≡ Some (record { at = at; cause = cause }))
+        ⊎ Returns (Leads (rows_of users.now) user) row.now at cause) now) }
 {
     if is_settled {
         return Ok(first);
@@ -95,10 +97,10 @@ pub(crate) fn first_recursion(
     requires { AreUsers (rows_of rows.now) (rows_of users.now) }
     ensures { IfOk result (λ first. Answers (Recursions (rows_of users.now) (rows_of rows.now)) first) }
 {
-    let marks = settled(alloc, rows, users)?;
+    let settled = settled(alloc, rows, users)?;
     let mut first = None;
     for (user, row) in rows.iter().enumerate() {
-        first = with_row(alloc, users, is_marked(&marks, user), user, row, first)?;
+        first = with_row(alloc, users, settled.has(user), user, row, first)?;
     }
     Ok(first)
 }

@@ -2,7 +2,7 @@ ghost use Rattle.std.specs.Prelude.{◌≡◌};
 ghost use Rattle.masm_uses.specs.Causes.{text_of_cause, order};
 ghost use Rattle.masm_uses.specs.Earlier.{is_no_later, earlier};
 
-use masm_parse::At;
+use masm_parse::Position;
 use std::fmt;
 
 /// Why a source is refused once it is read (docs/ASSEMBLY.md), in the order in which the causes of
@@ -55,7 +55,7 @@ impl fmt::Display for LinkCause {
 /// Where a source is refused once it is read, and why.
 #[derive(Clone, Copy, Debug, PartialEq, Eq)]
 pub struct Refusal {
-    pub at: At,
+    pub at: Position,
     pub cause: LinkCause,
 }
 

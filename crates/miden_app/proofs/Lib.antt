@@ -1,17 +1,6 @@
-pub mod StripReading
-pub mod StripDecoding
-pub mod StripCells
-pub mod StripFaults
-pub mod StripMoves
-pub mod StripAccepted
-pub mod StripRunLaw
 pub mod OutcomeLemmas
 pub mod SourceLemmas
 pub mod ServingLemmas
 pub mod PrintingLemmas
 pub mod LawLemmas
-pub mod StripLine
-pub mod WordsLemmas
 pub mod StripJudging
-pub mod HashReading
-pub mod HashBlocks

@@ -2,7 +2,7 @@
 use Rattle.std.specs.Prelude.{ℕ, if◌then◌else◌, List, [], ◌∷◌, codes, Option, Some, option_map, unwrap_or}
 use Rattle.std.specs.Str.{bytes_eq}
 use Rattle.vm_field.specs.FileName.{is_file_name}
-use Rattle.miden_app.specs.Words.{is_form, name_at, optional_name, optional_number}
+use Rattle.command_words.specs.Words.{is_form, name_at, optional_name, optional_number}
 
 pub data Asked : Type 0 where
   nothing : Asked  -- the words are of no command

@@ -5,9 +5,9 @@ use Rattle.rpo_hash.specs.ParamText.{parameters_of}
 use Rattle.miden_app.specs.declared.outcome.Answer.{Answer}
 use Rattle.miden_app.specs.Asked.{Asked, nothing, check_strip, hash, assemble, run}
 use Rattle.miden_app.specs.Steps.{SourceFile, End, stop, strip, assembly, running, Right, exactly, Steps, reading, ending, ends_with}
-use Rattle.miden_app.specs.StripGrammar.{strip_of}
+use Rattle.strip_table.specs.Grammar.{strip_of}
 use Rattle.miden_app.specs.StripEnds.{JudgesStrip}
-use Rattle.miden_app.specs.HashGrammar.{numbers_of}
+use Rattle.number_files.specs.Grammar.{numbers_of}
 use Rattle.miden_app.specs.HashEnds.{hash_end}
 use Rattle.miden_app.specs.Malformed.{bad_params, bad_inputs}
 use Rattle.miden_app.specs.AssembleEnds.{AnswersAssembly}

@@ -1,5 +1,4 @@
 pub mod Statuses
-pub mod Words
 pub mod Asked
 pub mod Steps
 pub mod Commands
@@ -7,12 +6,6 @@ pub mod Serving
 pub mod Laws
 pub mod Inside
 pub mod StripEnds
-pub mod StripGrammar
-pub mod StripFlags
-pub mod StripValues
-pub mod StripRun
-pub mod StripLaw
-pub mod HashGrammar
 pub mod HashEnds
 pub mod Malformed
 pub mod SourceEnds

@@ -1,12 +1,12 @@
 -- The ends of `check` of a strip (docs/FORMATS.md).
 use Rattle.std.specs.Prelude.{◌≡◌, ◌⊎◌, ℕ, List, ◌++◌, codes, decimal, Option, Some, None}
 use Rattle.miden_app.specs.declared.status.Status.TheVariants as status
-use Rattle.miden_app.specs.declared.strip.values.Refusal.{Refusal}
+use Rattle.strip_table.specs.declared.values.Refusal.{Refusal}
 use Rattle.miden_app.specs.declared.outcome.Answer.{Answer}
 use Rattle.miden_app.specs.Steps.{ends_with, named_line}
-use Rattle.miden_app.specs.StripValues.{first_refused, IsAccepted}
-use Rattle.miden_app.specs.StripRun.{ops_of, names_of}
-use Rattle.miden_app.specs.StripLaw.{ShowsRun}
+use Rattle.strip_table.specs.Values.{first_refused, IsAccepted}
+use Rattle.strip_table.specs.Run.{ops_of, names_of}
+use Rattle.strip_table.specs.Law.{ShowsRun}
 
 -- the operations of all rows but the last
 abbrev pub accepted_line : List (List ℕ) → List ℕ

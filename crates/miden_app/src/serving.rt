@@ -1,6 +1,6 @@
 ghost use Rattle.std.specs.Prelude.{codes};
 ghost use Rattle.miden_app.specs.Asked.{asked};
-ghost use Rattle.miden_app.specs.Words.{texts};
+ghost use Rattle.command_words.specs.Words.{texts};
 ghost use Rattle.miden_app.specs.Commands.{steps_of};
 ghost use Rattle.miden_app.specs.Inside.Outcomes.{EndsIn, PrintStep, Says};
 ghost use Rattle.miden_app.specs.Serving.{Serves};

@@ -1,16 +1,10 @@
 //! What the words behind the program's name ask for.
 ghost use Rattle.std.specs.Prelude.{◌≡◌, ◌≤◌, IfSome};
-ghost use Rattle.miden_app.specs.Words.{texts};
+ghost use Rattle.command_words.specs.Words.{texts};
 ghost use Rattle.miden_app.specs.Asked.{nothing, check_strip, hash, assemble, check_words, hash_words, hash_of_names, assemble_words, assemble_of_names, run, run_words, run_of_names, limit_in, asked};
 ghost use Rattle.miden_app.specs.Inside.Asking.{asks, IsNamed};
 
-mod names;
-mod parts;
-#[cfg(test)]
-mod tests;
-
-use names::file_name;
-use parts::{is_form, name_at, optional_name, optional_number};
+use command_words::{file_name, is_form, name_at, optional_name, optional_number};
 
 /// What the words after the program's name ask for.
 pub enum Command<'a> {

@@ -1,21 +1,22 @@
 -- The machine's step, from the cells that the operation leaves or its trap.
-use Rattle.std.proofs.Common.{◌≡◌, ℕ, ◌+◌, ◌^◌, ◌<◌, ◌≤◌, Bool, true, false, cond, List, [], ◌∷◌, ◌++◌, length, take, drop, refl, ap, sym, ◌∙◌, nat_lt, slice_index, arith}
+use Rattle.std.proofs.Common.{◌≡◌, ℕ, ◌+◌, ◌^◌, ◌<◌, ◌≤◌, Bool, true, false, cond, List, [], ◌∷◌, ◌++◌, length, take, drop, refl, ap, sym, ◌∙◌, nat_lt, slice_index, map, arith}
 use Rattle.std.proofs.lemmas.Bool.Decides.{nat_tests}
 use Rattle.std.specs.FinMap.{insert}
-use Rattle.std.specs.Prelude.{Option, Some, None, Ok, Err}
+use Rattle.std.specs.Prelude.{Option, Some, None, Result, Ok, Err}
 use Rattle.vm_field.specs.Machine.{Core, State, filled_up, word_at}
 use Rattle.vm_ops.specs.declared.cause.Cause.{Cause}
 use Rattle.vm_ops.specs.declared.cause.Cause.TheVariants.{AdviceEmpty, AddressRange}
 use Rattle.vm_ops.specs.declared.item.Item.{Item}
 use Rattle.vm_ops.specs.declared.op.Op.{Op}
+use Rattle.vm_ops.specs.declared.op.Op.TheVariants as ops
 use Rattle.vm_ops.specs.declared.op.Op.TheVariants.{Noop, MStore, MStoreW, FmpUpdate}
 use Rattle.vm_ops.specs.declared.op.Shift.TheVariants.{Right}
 use Rattle.vm_ops.specs.Codes.{writes_memory}
-use Rattle.vm_ops.specs.Moves.{takes_of, leaves_of, shift_of}
+use Rattle.vm_ops.specs.Moves.{takes_of, leaves_of, shift_of, sources_of}
 use Rattle.vm_ops.specs.Step.{performed, unless_trapped, act, ticked, cycle_taking, step, left_cells, stack_after, seen}
 use Rattle.vm_ops.specs.Values.{Seen, advice_of, trap_of, written, fmp_after, computed, is_u32, unless}
 use Rattle.op_steps.proofs.Places.{placed, grown}
-use Rattle.op_steps.specs.Outcomes.{cells_unless, outcome, outcome_at, seen_of}
+use Rattle.op_steps.specs.Outcomes.{cells_unless, outcome, outcome_at, seen_of, is_single, is_move}
 use Rattle.op_steps.specs.Places.{shifted}
 use Rattle.op_steps.specs.Steps.{IsQuiet}
 
@@ -109,6 +110,107 @@ small a h = grind (arith, nat_tests)
 
 not_small : (a : ℕ) → 2 ^ 32 ≤ a → is_u32 a ≡ false
 not_small a h = grind (arith, nat_tests)
+
+-- what an operation leaves alone that leaves one cell
+single_keeps : (op : Op) (s : Seen) → is_single op ≡ true → (advice_of op ≡ 0) × (leaves_of op ≡ 1) × (fmp_after op s ≡ s.fmp)
+single_keeps Noop s e = cc
+single_keeps ops.Eqz s e = (refl, refl, refl)
+single_keeps ops.Neg s e = (refl, refl, refl)
+single_keeps ops.Incr s e = (refl, refl, refl)
+single_keeps ops.Eq s e = (refl, refl, refl)
+single_keeps ops.Add s e = (refl, refl, refl)
+single_keeps ops.Mul s e = (refl, refl, refl)
+single_keeps ops.Pad s e = (refl, refl, refl)
+single_keeps ops.Push s e = (refl, refl, refl)
+single_keeps ops.Dup0 s e = (refl, refl, refl)
+single_keeps ops.Dup1 s e = (refl, refl, refl)
+single_keeps ops.Dup2 s e = (refl, refl, refl)
+single_keeps ops.Dup3 s e = (refl, refl, refl)
+single_keeps ops.Dup4 s e = (refl, refl, refl)
+single_keeps ops.Dup5 s e = (refl, refl, refl)
+single_keeps ops.Dup6 s e = (refl, refl, refl)
+single_keeps ops.Dup7 s e = (refl, refl, refl)
+single_keeps ops.Dup9 s e = (refl, refl, refl)
+single_keeps ops.Dup11 s e = (refl, refl, refl)
+single_keeps ops.Dup13 s e = (refl, refl, refl)
+single_keeps ops.Dup15 s e = (refl, refl, refl)
+single_keeps _ s e = cc
+
+-- a move leaves the cells that it moves
+move_keeps : (op : Op) (s : Seen) → is_move op ≡ true
+    → (advice_of op ≡ 0) × (outcome op s ≡ Ok (map (slice_index s.cells) (sources_of op))) × (fmp_after op s ≡ s.fmp) × (leaves_of op ≡ length (sources_of op))
+unfolding outcome left_cells computed trap_of
+move_keeps ops.Noop s e = (refl, refl, refl, refl)
+move_keeps ops.Swap s e = (refl, refl, refl, refl)
+move_keeps ops.MovUp2 s e = (refl, refl, refl, refl)
+move_keeps ops.MovDn2 s e = (refl, refl, refl, refl)
+move_keeps ops.MovUp3 s e = (refl, refl, refl, refl)
+move_keeps ops.MovDn3 s e = (refl, refl, refl, refl)
+move_keeps ops.MovUp4 s e = (refl, refl, refl, refl)
+move_keeps ops.MovDn4 s e = (refl, refl, refl, refl)
+move_keeps ops.MovUp5 s e = (refl, refl, refl, refl)
+move_keeps ops.MovDn5 s e = (refl, refl, refl, refl)
+move_keeps ops.MovUp6 s e = (refl, refl, refl, refl)
+move_keeps ops.MovDn6 s e = (refl, refl, refl, refl)
+move_keeps ops.MovUp7 s e = (refl, refl, refl, refl)
+move_keeps ops.MovDn7 s e = (refl, refl, refl, refl)
+move_keeps ops.MovUp8 s e = (refl, refl, refl, refl)
+move_keeps ops.MovDn8 s e = (refl, refl, refl, refl)
+move_keeps ops.SwapW s e = (refl, refl, refl, refl)
+move_keeps ops.SwapW2 s e = (refl, refl, refl, refl)
+move_keeps ops.SwapW3 s e = (refl, refl, refl, refl)
+move_keeps ops.SwapDW s e = (refl, refl, refl, refl)
+move_keeps ops.Drop s e = (refl, refl, refl, refl)
+move_keeps _ s e = cc
+
+long_enough : (short : Bool) (r : Result (List ℕ) Cause) → short ≡ false → cond short (Err AdviceEmpty) r ≡ r
+long_enough false r e = refl
+long_enough true r e = cc
+
+-- an operation that takes no advice leaves what it leaves with a tape that is long enough
+without_advice : (constants : List ℕ) (item : Item) (s : State) → advice_of item.op ≡ 0 → outcome_at constants item s ≡ outcome item.op (seen_of constants item s)
+unfolding outcome_at
+without_advice constants item s none =
+    long_enough (nat_lt (length s.tape) (advice_of item.op)) (outcome item.op (seen_of constants item s))
+    (ap (nat_lt (length s.tape)) none ∙ not_short (length s.tape))
+
+-- the step of a quiet operation that leaves one cell
+pub single_quietly : (constants : List ℕ) (item : Item) (s : State) (cell : ℕ) → is_single item.op ≡ true → IsQuiet item.op
+    → outcome item.op (seen_of constants item s) ≡ Ok (cell ∷ []) → 16 ≤ length s.core.stack
+    → step constants item s ≡ Ok (record {
+      core = record s.core {
+        clock = s.core.clock + 1;
+        stack = (cell ∷ []) ++ drop 1 (shifted (shift_of item.op) s.core.stack);
+      };
+      tape = drop (advice_of item.op) s.tape;
+    })
+single_quietly constants item s cell single quiet e enough =
+    let keeps = single_keeps item.op (seen_of constants item s) single in
+    stepped_quietly constants item s (cell ∷ []) s.core.fmp quiet (without_advice constants item s keeps.0 ∙ e) (sym keeps.1) enough (sym keeps.2)
+
+-- the step of one that pushes a cell
+pub single_growing : (constants : List ℕ) (item : Item) (s : State) (cell : ℕ) → is_single item.op ≡ true → shift_of item.op ≡ Right
+    → outcome item.op (seen_of constants item s) ≡ Ok (cell ∷ []) → 16 ≤ length s.core.stack
+    → step constants item s ≡ Ok (record { core = record s.core { clock = s.core.clock + 1; stack = cell ∷ s.core.stack }; tape = s.tape })
+single_growing constants item s cell single grows e enough =
+    let keeps = single_keeps item.op (seen_of constants item s) single in
+    stepped_growing constants item s (cell ∷ []) cell grows (without_advice constants item s keeps.0 ∙ e) (sym keeps.1) enough
+    ∙ ap (λ n. Ok (record { core = record s.core { clock = s.core.clock + 1; stack = cell ∷ s.core.stack }; tape = drop n s.tape })) keeps.0
+
+-- the step of a move
+pub moved_quietly : (constants : List ℕ) (item : Item) (s : State) → is_move item.op ≡ true → IsQuiet item.op → 16 ≤ length s.core.stack
+    → (left : List ℕ) → left ≡ map (slice_index (take 16 s.core.stack)) (sources_of item.op) → length left ≡ length (sources_of item.op)
+    → step constants item s ≡ Ok (record {
+      core = record s.core {
+        clock = s.core.clock + 1;
+        stack = left ++ drop (length left) (shifted (shift_of item.op) s.core.stack);
+      };
+      tape = drop (advice_of item.op) s.tape;
+    })
+moved_quietly constants item s move quiet enough left is count =
+    let keeps = move_keeps item.op (seen_of constants item s) move in
+    stepped_quietly constants item s left s.core.fmp quiet (without_advice constants item s keeps.0 ∙ keeps.1 ∙ ap (λ cells. Ok cells) (sym is))
+    (count ∙ sym keeps.3) enough (sym keeps.2)
 
 outside_by : (short test : Bool) (n : ℕ) (tape : List ℕ) (c : Core) → short ≡ false → test ≡ false
     → cond short (Err AdviceEmpty) (ticked n tape (unless_trapped (unless test AddressRange) c)) ≡ Err AddressRange

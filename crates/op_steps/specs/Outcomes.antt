@@ -5,6 +5,7 @@ use Rattle.vm_ops.specs.declared.cause.Cause.{Cause}
 use Rattle.vm_ops.specs.declared.cause.Cause.TheVariants.{AdviceEmpty}
 use Rattle.vm_ops.specs.declared.item.Item.{Item}
 use Rattle.vm_ops.specs.declared.op.Op.{Op}
+use Rattle.vm_ops.specs.declared.op.Op.TheVariants as ops
 use Rattle.vm_ops.specs.declared.op.Op.TheVariants.{FmpAdd, MLoad, Caller, AdvPopW, HPerm, MLoadW, MStore, MStoreW, AdvPop, SDepth, Clk, Push}
 use Rattle.vm_ops.specs.Step.{seen, left_cells}
 use Rattle.vm_ops.specs.Values.{Seen, advice_of, trap_of}
@@ -57,3 +58,52 @@ showing cells = record {
   depth = 0;
   cells = cells;
 }
+
+-- the operations that leave one cell, and never trap, of what the stack or the item holds
+abbrev pub is_single : Op → Bool
+is_single ops.Eqz = true
+is_single ops.Neg = true
+is_single ops.Incr = true
+is_single ops.Eq = true
+is_single ops.Add = true
+is_single ops.Mul = true
+is_single ops.Pad = true
+is_single ops.Push = true
+is_single ops.Dup0 = true
+is_single ops.Dup1 = true
+is_single ops.Dup2 = true
+is_single ops.Dup3 = true
+is_single ops.Dup4 = true
+is_single ops.Dup5 = true
+is_single ops.Dup6 = true
+is_single ops.Dup7 = true
+is_single ops.Dup9 = true
+is_single ops.Dup11 = true
+is_single ops.Dup13 = true
+is_single ops.Dup15 = true
+is_single op = false
+
+-- the operations that only move cells of the stack, or take one off
+abbrev pub is_move : Op → Bool
+is_move ops.Noop = true
+is_move ops.Swap = true
+is_move ops.MovUp2 = true
+is_move ops.MovDn2 = true
+is_move ops.MovUp3 = true
+is_move ops.MovDn3 = true
+is_move ops.MovUp4 = true
+is_move ops.MovDn4 = true
+is_move ops.MovUp5 = true
+is_move ops.MovDn5 = true
+is_move ops.MovUp6 = true
+is_move ops.MovDn6 = true
+is_move ops.MovUp7 = true
+is_move ops.MovDn7 = true
+is_move ops.MovUp8 = true
+is_move ops.MovDn8 = true
+is_move ops.SwapW = true
+is_move ops.SwapW2 = true
+is_move ops.SwapW3 = true
+is_move ops.SwapDW = true
+is_move ops.Drop = true
+is_move op = false

@@ -1,4 +1,4 @@
-ghost use Rattle.std.specs.Prelude.{◌≡◌, ◌≤◌, [], ◌∷◌, length, reverse};
+ghost use Rattle.std.specs.Prelude.{◌≡◌, ◌≤◌, [], ◌∷◌, length, reverse, take};
 ghost use Rattle.vm_ops.specs.Values.{bit_of, two_words};
 
 use std::marker::Model;
@@ -57,6 +57,14 @@ impl Cells {
             elements,
             count: cells.len(),
         }
+    }
+
+    // The first so many of these.
+    pub fn first_of(elements: [Felt; 16], count: usize) -> Cells
+        requires { count ≤ 16 }
+        ensures { result ≡ take count elements }
+    {
+        Cells { elements, count }
     }
 
     // The elements of a word, whose last one comes on top.

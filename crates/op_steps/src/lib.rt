@@ -8,12 +8,10 @@ mod moves;
 mod on_stack;
 mod place;
 mod refusal;
+mod single;
 mod stepping;
 mod storing;
 mod words;
 
 pub use refusal::StepStop;
 pub use stepping::{is_quiet, step, step_quiet};
-
-#[cfg(test)]
-mod tests;

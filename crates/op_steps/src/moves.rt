@@ -1,5 +1,6 @@
 ghost use Rattle.std.specs.Prelude.{◌≡◌, length, map, slice_index};
 ghost use Rattle.vm_ops.specs.Moves.{sources_of};
+ghost use Rattle.op_steps.specs.Outcomes.{is_move};
 
 use crate::cells::Cells;
 use vm_field::{Felt, felt_at};
@@ -15,5 +16,20 @@ pub(crate) fn moved(op: Op, cells: &[Felt; 16]) -> Cells
     for i in 0..sources.len() {
         copies[i] = felt_at(cells, sources[i]);
     }
-    Cells::of(&copies[..sources.len()])
+    Cells::first_of(copies, sources.len())
+}
+
+// Whether the operation only moves cells of the stack, or takes one off.
+pub(crate) fn is_move(op: Op) -> bool
+    ensures { result ≡ is_move op }
+{
+    match op {
+        Op::Noop | Op::Swap | Op::Drop => true,
+        Op::MovUp2 | Op::MovUp3 | Op::MovUp4 | Op::MovUp5 => true,
+        Op::MovUp6 | Op::MovUp7 | Op::MovUp8 => true,
+        Op::MovDn2 | Op::MovDn3 | Op::MovDn4 | Op::MovDn5 => true,
+        Op::MovDn6 | Op::MovDn7 | Op::MovDn8 => true,
+        Op::SwapW | Op::SwapW2 | Op::SwapW3 | Op::SwapDW => true,
+        _ => false,
+    }
 }

@@ -3,7 +3,6 @@ ghost use Rattle.vm_ops.specs.Moves.{shift_of};
 ghost use Rattle.vm_ops.specs.Values.{advice_of};
 ghost use Rattle.op_steps.specs.Places.{shifted};
 
-use crate::cells::Cells;
 use vm_field::Felt;
 use vm_ops::{Op, Shift, advice, shift};
 use vm_state::State;
@@ -30,7 +29,8 @@ fn skip_advice(state: &mut State, count: usize)
 
 // Gives the state the cells that an operation leaves on top, the stack's shift to the left, the
 // rest of the tape and the next clock.
-pub(crate) fn settle(op: Op, left: &Cells, state: &mut State)
+pub(crate) fn settle(op: Op, left: &[Felt], state: &mut State)
+    requires few { length left.now ≤ 16 }
     requires sixteen { 16 ≤ length state.old.stack }
     requires clock { state.old.clock ≤ 524287 }
     ensures { state.new ≡ record state.old {
@@ -40,7 +40,7 @@ pub(crate) fn settle(op: Op, left: &Cells, state: &mut State)
     } }
 {
     shift_left(op, state);
-    overwrite(state, left.as_slice());
+    overwrite(state, left);
     skip_advice(state, advice(op));
     state.clock += 1;
 }

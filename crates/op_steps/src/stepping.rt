@@ -9,8 +9,10 @@ ghost use Rattle.vm_state.specs.Views.{core_of, state_of};
 ghost use Rattle.op_steps.specs.Steps.{IsQuiet, Stepped, SteppedQuietly};
 
 use crate::left::left_cells;
+use crate::moves::{is_move, moved};
 use crate::place::settle;
 use crate::refusal::StepStop;
+use crate::single::single;
 use crate::storing::step_storing;
 use rpo_hash::Params;
 use std::alloc::Global;
@@ -43,16 +45,35 @@ pub fn is_quiet(op: Op) -> bool
 }
 
 /// One cycle of an operation that is quiet. At a trap the state is as before.
-#[tactic(auto, using(crate::proofs::Steps::stepped_quietly))]
+#[tactic(auto, using(crate::proofs::Steps::single_quietly, crate::proofs::Steps::moved_quietly))]
 pub fn step_quiet(params: &Params, item: &Item, state: &mut State) -> Result<(), Cause>
     requires item { IsOrdinaryItem item.now }
     requires clock { state.old.clock ≤ 524287 }
     requires quiet { IsQuiet item.now.op }
     ensures { SteppedQuietly (step (constants_of params.now) item.now (state_of state.old)) result (state_of state.old) (state_of state.new) }
 {
+    if let Some(cell) = single(item, state) {
+        settle(item.op, &[cell], state);
+        Ok(())
+    } else if is_move(item.op) {
+        let left = moved(item.op, &state.visible());
+        settle(item.op, left.as_slice(), state);
+        Ok(())
+    } else {
+        step_computing(params, item, state)
+    }
+}
+
+// The same of any quiet operation, from all the cells that it leaves.
+#[tactic(auto, using(crate::proofs::Steps::stepped_quietly))]
+fn step_computing(params: &Params, item: &Item, state: &mut State) -> Result<(), Cause>
+    requires clock { state.old.clock ≤ 524287 }
+    requires quiet { IsQuiet item.now.op }
+    ensures { SteppedQuietly (step (constants_of params.now) item.now (state_of state.old)) result (state_of state.old) (state_of state.new) }
+{
     let left = left_cells(params, item, state)?;
     let fmp = pointer_after(item.op, state);
-    settle(item.op, &left, state);
+    settle(item.op, left.as_slice(), state);
     state.fmp = fmp;
     Ok(())
 }
@@ -68,14 +89,29 @@ fn pointer_after(op: Op, state: &State) -> Felt
 }
 
 // One cycle of an operation that shifts the stack to the right.
-#[tactic(auto, using(crate::proofs::Steps::stepped_growing))]
+#[tactic(auto, using(crate::proofs::Steps::single_growing))]
 fn step_growing(params: &Params, item: &Item, state: &mut State) -> Result<(), StepStop>
+    requires clock { state.old.clock ≤ 524287 }
+    requires grows { shift_of item.now.op ≡ Shift.Right }
+    ensures { Stepped (step (constants_of params.now) item.now (state_of state.old)) result (state_of state.old) (state_of state.new) }
+{
+    let Some(cell) = single(item, state) else {
+        return step_wider(params, item, state);
+    };
+    state.push(cell)?;
+    state.clock += 1;
+    Ok(())
+}
+
+// The same from all the cells that the operation leaves.
+#[tactic(auto, using(crate::proofs::Steps::stepped_growing))]
+fn step_wider(params: &Params, item: &Item, state: &mut State) -> Result<(), StepStop>
     requires clock { state.old.clock ≤ 524287 }
     requires grows { shift_of item.now.op ≡ Shift.Right }
     ensures { Stepped (step (constants_of params.now) item.now (state_of state.old)) result (state_of state.old) (state_of state.new) }
 {
     let left = left_cells(params, item, state)?;
     state.push(Felt::ZERO)?;
-    settle(item.op, &left, state);
+    settle(item.op, left.as_slice(), state);
     Ok(())
 }

@@ -13,8 +13,6 @@ mod node;
 mod refusal;
 mod run;
 mod setting;
-#[cfg(test)]
-mod tests;
 
 pub use event::{Event, Events, Visible};
 pub use execution::execute;

@@ -1,4 +1,4 @@
-use Rattle.std.proofs.Common.{◌≡◌, ℕ, suc, ◌-◌, arith, cond, drop, refl, sym, ap, ◌∙◌}
+use Rattle.std.proofs.Common.{◌≡◌, ◌-◌, arith, cond, drop, refl, ap, ◌∙◌}
 use Rattle.vm_ops.specs.Codes.{every_op}
 use Rattle.air_kit.specs.Flags.{flag, flags_of, sum_of}
 use Rattle.air_kit.specs.Sets.{passes_of}

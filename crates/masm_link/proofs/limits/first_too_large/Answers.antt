@@ -3,7 +3,7 @@ use Rattle.std.proofs.lemmas.Option.{slice_get_read}
 use Rattle.std.specs.Option.{option_map}
 use Rattle.masm_flat.specs.KnownSizes.{size_at}
 use Rattle.masm_flat.specs.Sizes.{extent_of, size_view, nothing}
-use Rattle.masm_parse.specs.declared.tree.At.{At}
+use Rattle.masm_parse.specs.declared.tree.Position.{Position}
 use Rattle.masm_parse.specs.declared.tree.Proc.{Proc}
 use Rattle.masm_parse.specs.Views.{procedure_of}
 use Rattle.masm_uses.specs.declared.refusal.LinkCause.{LinkCause}
@@ -18,7 +18,7 @@ loop-place-preserved c =
     let i = c.loop-place.place in
     let sizes = c.args.sizes.now in
     let size = c.index-sizes-place.result in
-    let f : ℕ → Proc → At → LinkCause → Type 0 = λ place p. IsOver (at_procedure (procedure_of p)) (extent_of (size_at sizes (Some place))) in
+    let f : ℕ → Proc → Position → LinkCause → Type 0 = λ place p. IsOver (at_procedure (procedure_of p)) (extent_of (size_at sizes (Some place))) in
     let within : i < length sizes = let t = c.loop-place-test.true in let count = c.requires in omega arith in
     let there : size_at sizes (Some i) ≡ size_view size = ap (λ o. unwrap_or (option_map size_view o) nothing) (slice_get_read sizes
     (length sizes) i size refl within c.index-sizes-place.is) in
@@ -29,6 +29,6 @@ loop-place-preserved c =
 pub returns : goal.returns
 returns c =
     let procs = c.args.procs.now in
-    let f : ℕ → Proc → At → LinkCause → Type 0 = λ place p. IsOver (at_procedure (procedure_of p)) (extent_of (size_at c.args.sizes.now (Some place))) in
+    let f : ℕ → Proc → Position → LinkCause → Type 0 = λ place p. IsOver (at_procedure (procedure_of p)) (extent_of (size_at c.args.sizes.now (Some place))) in
     let ended : length procs ≤ c.loop-place.place = search rules in
     Among-end f procs _ c.loop-place.first ended c.loop-place.invariant

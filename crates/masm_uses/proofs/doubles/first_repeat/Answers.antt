@@ -1,5 +1,5 @@
 use Rattle.std.proofs.Common.{◌≡◌, ℕ, List, Option, length, sym, ◌∙◌, rules, ◌≤◌}
-use Rattle.masm_parse.specs.declared.tree.At.{At}
+use Rattle.masm_parse.specs.declared.tree.Position.{Position}
 use Rattle.masm_uses.specs.declared.refusal.Refusal.{Refusal}
 use Rattle.masm_uses.specs.Among.{Among}
 use Rattle.masm_uses.specs.Least.{Answers}
@@ -13,7 +13,7 @@ loop-place-preserved g c =
     rw c.earlier-first.ensures (Among-more (λ place x. IsRepeat (place_at c.in_ok-names.names) (g.T.Named.name x) (g.T.Defined.at x) place) c.args.items.now
     c.loop-place.place c.index-items-place.result c.loop-place.first _ c.loop-place-test.true c.index-items-place.is c.loop-place.invariant c.repeat_at.ensures)
 
-by_places : {X : Type 0} (name : X → List ℕ) (at : X → At) (items : List X) (f h : List ℕ → Option ℕ) (r : Option Refusal) → ((text : List ℕ) → f text ≡ h text)
+by_places : {X : Type 0} (name : X → List ℕ) (at : X → Position) (items : List X) (f h : List ℕ → Option ℕ) (r : Option Refusal) → ((text : List ℕ) → f text ≡ h text)
     → Answers (Among (λ place x. IsRepeat f (name x) (at x) place) items) r → Answers (Among (λ place x. IsRepeat h (name x) (at x) place) items) r
 by_places name at items f h r same =
     Answers-same (Among (λ place x. IsRepeat f (name x) (at x) place) items) (Among (λ place x. IsRepeat h (name x) (at x) place) items) r

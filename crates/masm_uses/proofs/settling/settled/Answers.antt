@@ -1,18 +1,21 @@
-use Rattle.std.proofs.Common.{sym, ◌∙◌}
-use Rattle.std.proofs.lemmas.List.{length-map}
-use Rattle.masm_uses.specs.Graph.{rows_of}
-use Rattle.masm_uses.proofs.SettlingLemmas.{no_return}
+use Rattle.std.proofs.Common.{map, sym, ap, subst, ◌∙◌}
+use Rattle.masm_uses.specs.Graph.{rows_of, IsGraph}
+use Rattle.masm_uses.specs.Orders.{StandsBehind}
+use Rattle.masm_uses.specs.UseOrders.{own_places}
+use Rattle.masm_uses.proofs.SettlingLemmas.{own-is-graph, settles}
 use Rattle.masm_uses.proofs.UserLemmas.{AreUsers-graph}
-use Rattle.masm_uses.proofs.WalkLemmas.{within_marks}
 use Rattle.masm_uses.proofs.settling.settled.Goals as goal
 
-pub settle_users-requires-clause-within : goal.settle_users-requires-clause-within
-settle_users-requires-clause-within c = λ k d below.
-    within_marks (rows_of c.args.users.now) c.row_at.result.now c.index-place.result.now k d _
-    (AreUsers-graph (rows_of c.args.rows.now) (rows_of c.args.users.now) c.requires) c.row_at.ensures
-    (c.loop-next.invariant.2 ∙ (sym (length-map c.args.rows.now _) ∙ sym c.requires.count)) below
+pub sorted-requires : goal.sorted-requires
+sorted-requires c =
+    subst IsGraph (sym (ap rows_of c.deref.ensures.value ∙ c.in_ok-graph.ensures)) (own-is-graph (rows_of c.args.rows.now) (rows_of c.args.users.now) c.requires)
+
+pub sorted-requires-2 : goal.sorted-requires-2
+sorted-requires-2 c = AreUsers-graph (rows_of c.args.rows.now) (rows_of c.args.users.now) c.requires
 
 pub returns : goal.returns
-returns c = λ user place marked goes leads.
-    no_return (rows_of c.args.rows.now) (rows_of c.args.users.now) c.requires c.loop-next.walk.seen.items c.loop-next.invariant.1 user place
-    ((c.loop-next.invariant.0.marked user).0 marked) goes leads
+returns c =
+    settles (rows_of c.args.rows.now) (rows_of c.args.users.now) c.requires _ _ c.in_ok-below.below.seen.items c.in_ok-above.above.seen.items
+    c.in_ok-below.ensures.marks c.in_ok-above.ensures.marks
+    (subst (λ g. StandsBehind g c.in_ok-below.below.seen.items) (ap rows_of c.deref.ensures.value ∙ c.in_ok-graph.ensures) c.in_ok-below.ensures.behind)
+    c.in_ok-above.ensures.behind

@@ -1,9 +1,11 @@
-use Rattle.std.proofs.Common.{sym, refl}
-use Rattle.std.proofs.lemmas.Result.{err_from_is_err_and}
-use Rattle.op_steps.proofs.Steps.{trapped}
+use Rattle.rpo_hash.specs.Constants.{constants_of}
+use Rattle.vm_state.specs.Views.{state_of}
+use Rattle.op_steps.proofs.Steps.{single_growing}
 use Rattle.op_steps.proofs.stepping.step_growing.Goals as goal
 
-pub returns-in_err-left : goal.returns-in_err-left
-returns-in_err-left c =
-    let p = err_from_is_err_and c.from_residual.result c.from_residual.ensures.1 in
-    rw (p.1, p.2) (trapped _ _ _ _ (sym c.in_err-left.ensures.is), refl)
+pub returns : goal.returns
+returns c =
+    let constants = constants_of c.args.params.now in
+    let is = c.in-Some.ensures.is constants in
+    rw c.in_ok-push.ensures.ok
+    (single_growing constants c.args.item.now (state_of c.args.state.now) c.in-Some.cell is.0 c.requires.grows is.1 c.in-Some.ensures.sixteen)

@@ -1,0 +1,33 @@
+//! The command `run` in plain Rust, for `run.sh` to compare with: a source is read, assembled and executed, and the
+//! cycles and the visible cells are printed.
+#[path = "assemble.rs"]
+#[allow(dead_code)]
+mod assemble;
+#[path = "execute.rs"]
+#[allow(dead_code)]
+mod execute;
+
+use assemble::Tree as Assembled;
+use execute::Tree;
+
+fn tree_of(tree: Assembled) -> Tree {
+    match tree {
+        Assembled::Span(batches) => Tree::Span(batches),
+        Assembled::Join(a, b) => Tree::Join(Box::new(tree_of(*a)), Box::new(tree_of(*b))),
+        Assembled::Loop(body) => Tree::Loop(Box::new(tree_of(*body))),
+        Assembled::Call(callee) => Tree::Call(Box::new(tree_of(*callee))),
+        Assembled::Split(..) => unimplemented!("the case has no split"),
+    }
+}
+
+fn main() {
+    let path = std::env::args().nth(1).expect("a source");
+    let source = std::fs::read(path).expect("the source is read");
+    let tree = assemble::assemble(&source).expect("the source is assembled");
+    let (cycles, cells) = execute::cycles_and_cells(&tree_of(tree));
+    print!("{cycles}");
+    for cell in cells {
+        print!(" {cell}");
+    }
+    println!();
+}

@@ -1,0 +1,121 @@
+#!/bin/bash
+# Runs a source of about 500,000 cycles, a loop with calls that read and write memory, by the crates that the command
+# `run` stands on and by plain Rust (run.rs, rustc -O) in turn: the source is read, assembled and executed, and the
+# cycles and the outputs are printed. Prints the least time of both processes, their peak memory, and the ratio of the
+# times, which is to be at most 1.2. The program over the crates is made in a temporary folder.
+set -e
+top=$(cd "$(dirname "$0")/.." && pwd)
+work=$(mktemp -d)
+trap 'rm -rf "$work"' EXIT
+libraries='vm_field vm_io vm_ops rpo_hash op_pack vm_state op_steps block_tree processor masm_lex masm_instr instr_reading masm_parse
+    masm_uses masm_flat masm_link'
+for crate in $libraries; do
+    mkdir -p "$work/crates/$crate"
+    cp -r "$top/crates/$crate"/{src,specs,proofs} "$work/crates/$crate/"
+    grep -E "^$crate:" "$top/crates.txt" >>"$work/crates.txt"
+done
+mkdir -p "$work/crates/bench_run/src"
+echo 'bench_run: masm_link masm_lex processor block_tree rpo_hash vm_io vm_state vm_field' >>"$work/crates.txt"
+cat >"$work/crates/bench_run/src/main.rt" <<'END'
+//! Assembles and executes a source.
+#![tactic(auto)]
+
+use masm_lex::MAX_SOURCE;
+use masm_link::assemble;
+use processor::execute;
+use rpo_hash::Params;
+use std::alloc::Global;
+use std::{env, io};
+use vm_field::{Bytes, Felt, Felts};
+use vm_io::{FolderShelf, Shelf};
+use vm_state::Inputs;
+
+fn constants(from: u64) -> [[Felt; 12]; 7] {
+    let mut constants = [[Felt::ZERO; 12]; 7];
+    for k in 0..7 {
+        for i in 0..12 {
+            let number = u128::from(from) + 1000 * k as u128 + i as u128;
+            constants[k][i] = Felt::reduced(number);
+        }
+    }
+    constants
+}
+
+fn run(rt: &HostRuntime, source: &Bytes) -> io::Result<()> {
+    let alloc = rt.alloc();
+    let source = source.as_slice();
+    if source.len() > MAX_SOURCE {
+        return println!(rt; "too long");
+    }
+    let params = Params { first: constants(1), second: constants(7) };
+    let Ok(program) = assemble(alloc, &params, source, None) else {
+        return println!(rt; "refused");
+    };
+    let inputs = Inputs::new(Felts::new(alloc), Felts::new(alloc));
+    let Ok(run) = execute(alloc, &params, &program, &inputs, 524287) else {
+        return println!(rt; "stopped");
+    };
+    let cycles = run.events.len();
+    print!(rt; "{cycles}")?;
+    for cell in run.state.visible() {
+        print!(rt; " {cell}")?;
+    }
+    println!(rt; "")
+}
+
+fn main(rt: HostRuntime) -> io::Result<()> {
+    let mut shelf = FolderShelf::new(&rt);
+    for word in env::args(&rt)?.skip(1) {
+        let name = word.as_str();
+        if name.len() > 200 {
+            return println!(rt; "no such source");
+        }
+        match shelf.read(rt.alloc(), name, 1048576) {
+            Ok(source) => run(&rt, &source)?,
+            Err(_) => println!(rt; "no source")?,
+        }
+    }
+    Ok(())
+}
+END
+cat >"$work/loop.masm" <<'END'
+proc.step
+    mem_load.5 add.3 dup mul mem_store.5
+end
+begin
+    push.20833 push.1
+    while.true
+        call.step add.18446744069414584320 dup neq.0
+    end
+end
+END
+rustc --edition 2021 -O -o "$work/plain" "$top/bench/run.rs"
+cd "$work/crates/bench_run"
+rt run >"$work/log" 2>&1 || { cat "$work/log"; exit 1; }
+python3 - "$work" <<'PY'
+import os, subprocess, sys, time
+
+work = sys.argv[1]
+os.chdir(work)
+
+def run(words):
+    start = time.monotonic()
+    child = subprocess.Popen(words, stdout=subprocess.PIPE, text=True)
+    printed = child.stdout.read()
+    _, status, usage = os.wait4(child.pid, 0)
+    if status != 0 or len(printed.split()) != 17:
+        sys.exit(f"{words} did not end: {printed}")
+    return time.monotonic() - start, usage.ru_maxrss / 1000, printed
+
+programs = {"crates": ["crates/bench_run/out/bench_run", "loop.masm"], "plain": ["./plain", "loop.masm"]}
+times, peaks, came = {"crates": [], "plain": []}, {}, {}
+for _ in range(9):
+    for side, words in programs.items():
+        seconds, peaks[side], came[side] = run(words)
+        times[side].append(seconds)
+    if came["crates"] != came["plain"]:
+        sys.exit(f"the results differ: {came}")
+ours, plain = min(times["crates"]), min(times["plain"])
+print(f"run: {came['plain'].split()[0]} cycles, plain Rust {1000 * plain:.1f} ms, {peaks['plain']:.1f} MB, "
+      f"crates {1000 * ours:.1f} ms, {peaks['crates']:.1f} MB, ratio {ours / plain:.2f} of at most 1.2")
+PY

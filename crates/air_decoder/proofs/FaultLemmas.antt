@@ -1,0 +1,116 @@
+-- The first fault of lists that are joined.
+use Rattle.std.proofs.Common.{◌≡◌, ℕ, ◌+◌, List, [], ◌∷◌, ◌++◌, length, Option, refl, sym, ap, ◌∙◌, arith, eqb, inl, inr}
+use Rattle.std.proofs.lemmas.Bool.{cases_Bool}
+use Rattle.air_kit.specs.Places.{Claim, Spot, first_fault_of, or_next, family}
+use Rattle.air_kit.specs.MainValues.{decoder_values}
+use Rattle.air_kit.specs.OpcodeValues.{opcode_values}
+use Rattle.air_kit.specs.BoundaryValues.{boundary_values, start_values, inputs_values, end_values, outputs_values}
+use Rattle.air_kit.specs.BlockValues.{block_values, follow_values, shown_values, kept_values}
+use Rattle.air_kit.specs.SpanValues.{span_values, batch_values, group_values}
+use Rattle.air_decoder.specs.Entries.{spot_of}
+
+-- a list behind another one: its numbers go on where those of the first end
+pub first_append : (xs ys : List ℕ) (n : ℕ) → first_fault_of n (xs ++ ys) ≡ or_next (first_fault_of n xs) (first_fault_of (n + length xs) ys)
+first_append [] ys n = ap (λ k. first_fault_of k ys) (omega arith)
+first_append (x ∷ xs) ys n =
+    elim (cases_Bool (eqb x 0)) [
+      | inl zero_is ↦ rw zero_is (first_append xs ys (n + 1) ∙ ap (λ k. or_next (first_fault_of (n + 1) xs) (first_fault_of k ys)) (omega arith))
+      | inr other ↦ rw other refl
+    ]
+
+-- an answer that joins the answers of two lists
+pub joined : (n m : ℕ) (xs ys : List ℕ) (a b r : Option (ℕ × ℕ)) → r ≡ or_next a b → a ≡ first_fault_of n xs → b ≡ first_fault_of m ys → n + length xs ≡ m → r ≡ first_fault_of n (xs ++ ys)
+joined n m xs ys a b r e ea eb em =
+    e ∙ ap (λ o. or_next o b) ea ∙ ap (or_next (first_fault_of n xs)) (eb ∙ ap (λ k. first_fault_of k ys) (sym em))
+    ∙ sym (first_append xs ys n)
+
+-- how many values the lists have
+opcode_length : (p : Spot) → length (opcode_values p) ≡ 10
+unfolding opcode_values family
+opcode_length p = refl
+
+start_length : (p : Spot) → length (start_values p) ≡ 12
+unfolding start_values family
+start_length p = refl
+
+inputs_length : (c : Claim) (p : Spot) → length (inputs_values c p) ≡ 16
+unfolding inputs_values family
+inputs_length c p = refl
+
+end_length : (c : Claim) (p : Spot) → length (end_values c p) ≡ 5
+unfolding end_values
+end_length c p = refl
+
+outputs_length : (c : Claim) (p : Spot) → length (outputs_values c p) ≡ 16
+unfolding outputs_values family
+outputs_length c p = refl
+
+boundary_length : (c : Claim) (p : Spot) → length (boundary_values c p) ≡ 49
+unfolding boundary_values start_values inputs_values end_values outputs_values family
+boundary_length c p = refl
+
+follow_length : (p : Spot) → length (follow_values p) ≡ 10
+unfolding follow_values
+follow_length p = refl
+
+shown_length : (p : Spot) → length (shown_values p) ≡ 12
+unfolding shown_values family
+shown_length p = refl
+
+block_length : (p : Spot) → length (block_values p) ≡ 32
+unfolding block_values follow_values shown_values kept_values family
+block_length p = refl
+
+batch_length : (p : Spot) → length (batch_values p) ≡ 15
+unfolding batch_values family
+batch_length p = refl
+
+-- the values of blocks and of spans do not ask for the row's number
+block_number : (n : ℕ) (x : List ℕ) (y : Option (List ℕ)) → block_values (spot_of 0 x y) ≡ block_values (spot_of n x y)
+unfolding block_values follow_values shown_values kept_values family
+block_number n x y = refl
+
+span_number : (n : ℕ) (x : List ℕ) (y : Option (List ℕ)) → span_values (spot_of 0 x y) ≡ span_values (spot_of n x y)
+unfolding span_values batch_values group_values family
+span_number n x y = refl
+
+-- the answers of the parts are the answer of their lists
+pub boundary_joined : (c : Claim) (p : Spot) (s i e o r0 r1 r : Option (ℕ × ℕ)) → s ≡ first_fault_of 11 (start_values p) → i ≡ first_fault_of 23 (inputs_values c p)
+    → e ≡ first_fault_of 39 (end_values c p) → o ≡ first_fault_of 44 (outputs_values c p)
+    → r0 ≡ or_next e o → r1 ≡ or_next i r0 → r ≡ or_next s r1 → r ≡ first_fault_of 11 (boundary_values c p)
+unfolding boundary_values
+boundary_joined c p s i e o r0 r1 r es ei ee eo e0 e1 er =
+    joined 11 23 (start_values p) (inputs_values c p ++ (end_values c p ++ outputs_values c p)) s r1 r er es
+    (joined 23 39 (inputs_values c p) (end_values c p ++ outputs_values c p) i r0 r1 e1 ei
+    (joined 39 44 (end_values c p) (outputs_values c p) e o r0 e0 ee eo (ap (λ k. 39 + k) (end_length c p)))
+    (ap (λ k. 23 + k) (inputs_length c p)))
+    (ap (λ k. 11 + k) (start_length p))
+
+pub block_joined : (p : Spot) (f s k r0 r : Option (ℕ × ℕ)) → f ≡ first_fault_of 60 (follow_values p) → s ≡ first_fault_of 70 (shown_values p)
+    → k ≡ first_fault_of 82 (kept_values p) → r0 ≡ or_next s k → r ≡ or_next f r0 → r ≡ first_fault_of 60 (block_values p)
+unfolding block_values
+block_joined p f s k r0 r ef es ek e0 er =
+    joined 60 70 (follow_values p) (shown_values p ++ kept_values p) f r0 r er ef
+    (joined 70 82 (shown_values p) (kept_values p) s k r0 e0 es ek (ap (λ k. 70 + k) (shown_length p)))
+    (ap (λ k. 60 + k) (follow_length p))
+
+pub span_joined : (p : Spot) (b g r : Option (ℕ × ℕ)) → b ≡ first_fault_of 92 (batch_values p) → g ≡ first_fault_of 107 (group_values p)
+    → r ≡ or_next b g → r ≡ first_fault_of 92 (span_values p)
+unfolding span_values
+span_joined p b g r eb eg er = joined 92 107 (batch_values p) (group_values p) b g r er eb eg (ap (λ k. 92 + k) (batch_length p))
+
+pub decoder_joined : (c : Claim) (p : Spot) (x : List ℕ) (y : Option (List ℕ)) (o b k s r0 r1 r : Option (ℕ × ℕ)) → x ≡ p.cur → y ≡ p.next
+    → o ≡ first_fault_of 1 (opcode_values (spot_of p.row x y)) → b ≡ first_fault_of 11 (boundary_values c p)
+    → k ≡ first_fault_of 60 (block_values (spot_of 0 x y)) → s ≡ first_fault_of 92 (span_values (spot_of 0 x y))
+    → r0 ≡ or_next k s → r1 ≡ or_next b r0 → r ≡ or_next o r1 → r ≡ first_fault_of 1 (decoder_values c p)
+unfolding decoder_values
+decoder_joined c p x y o b k s r0 r1 r ex ey eo eb ek es e0 e1 er =
+    let here : spot_of p.row x y ≡ p = ap (λ x. spot_of p.row x y) ex ∙ ap (spot_of p.row p.cur) ey in
+    let ko : o ≡ first_fault_of 1 (opcode_values p) = eo ∙ ap (λ q. first_fault_of 1 (opcode_values q)) here in
+    let kk : k ≡ first_fault_of 60 (block_values p) = ek ∙ ap (first_fault_of 60) (block_number p.row x y ∙ ap block_values here) in
+    let ks : s ≡ first_fault_of 92 (span_values p) = es ∙ ap (first_fault_of 92) (span_number p.row x y ∙ ap span_values here) in
+    joined 1 11 (opcode_values p) (boundary_values c p ++ (block_values p ++ span_values p)) o r1 r er ko
+    (joined 11 60 (boundary_values c p) (block_values p ++ span_values p) b r0 r1 e1 eb
+    (joined 60 92 (block_values p) (span_values p) k s r0 e0 kk ks (ap (λ n. 60 + n) (block_length p)))
+    (ap (λ n. 11 + n) (boundary_length c p)))
+    (ap (λ n. 1 + n) (opcode_length p))

@@ -1,0 +1,99 @@
+ghost use Rattle.std.specs.Prelude.{◌≡◌, ◌==◌, ◌%◌, ◌<◌, nat_lt, option_map};
+ghost use Rattle.vm_field.specs.Signs.{◌⊟◌, ◌⊠◌};
+ghost use Rattle.chip_columns.specs.HasherColumns.{cont, mode, more, x as state_element};
+ghost use Rattle.air_kit.specs.ChipPlaces.{only, paired};
+ghost use Rattle.air_kit.specs.HasherValues.{begins_at_zero, bit_value, chain_values, hasher_flag_values};
+
+use crate::placed::{in_last, only};
+use chip_columns::HasherView;
+use vm_field::Felt;
+
+/// Entries 1 to 13: the flags, where they may change, and the capacity that a hash begins with.
+#[tactic(auto, unfolding(air_kit::specs::HasherValues::hasher_flag_values))]
+pub(crate) fn flag_values<V: HasherView>(row: u32, x: &V, next: &Option<V>) -> [Felt; 13]
+    ensures { result ≡ hasher_flag_values (row == 0) (row % 8 == 0) (nat_lt (row % 8) 7) (row % 8 == 7)
+        (V.cells x.now) (option_map V.cells next.now) }
+{
+    let k = row % 8;
+    [
+        bit_value(x.mode()),
+        bit_value(x.cont()),
+        bit_value(x.more()),
+        x.mode() * (x.cont() + x.more()),
+        only(row == 0, x.cont()),
+        in_last(x.more(), next),
+        only(k < 7, x.more()),
+        only(k < 7, mode_change(x, next)),
+        only(k < 7, cont_change(x, next)),
+        only(k == 7, cont_promise(x, next)),
+        only(k == 0, begins_at_zero(x, 0)),
+        only(k == 0, begins_at_zero(x, 2)),
+        only(k == 0, begins_at_zero(x, 3)),
+    ]
+}
+
+fn bit_value(a: Felt) -> Felt
+    ensures { result ≡ bit_value a }
+{
+    a * (a - Felt::ONE)
+}
+
+fn mode_change<V: HasherView>(x: &V, next: &Option<V>) -> Felt
+    ensures { result ≡ paired (λ y. mode y ⊟ mode (V.cells x.now)) (option_map V.cells next.now) }
+{
+    match next {
+        Some(y) => y.mode() - x.mode(),
+        None => Felt::ZERO,
+    }
+}
+
+fn cont_change<V: HasherView>(x: &V, next: &Option<V>) -> Felt
+    ensures { result ≡ paired (λ y. cont y ⊟ cont (V.cells x.now)) (option_map V.cells next.now) }
+{
+    match next {
+        Some(y) => y.cont() - x.cont(),
+        None => Felt::ZERO,
+    }
+}
+
+// The next permutation goes on with a hash exactly where this one says so.
+fn cont_promise<V: HasherView>(x: &V, next: &Option<V>) -> Felt
+    ensures { result ≡ paired (λ y. cont y ⊟ more (V.cells x.now)) (option_map V.cells next.now) }
+{
+    match next {
+        Some(y) => y.cont() - x.more(),
+        None => Felt::ZERO,
+    }
+}
+
+// Where a hash begins, the state's element j is 0.
+#[tactic(auto, unfolding(air_kit::specs::HasherValues::begins_at_zero))]
+fn begins_at_zero<V: HasherView>(x: &V, j: usize) -> Felt
+    requires { j < 12 }
+    ensures { result ≡ begins_at_zero (V.cells x.now) j }
+{
+    (Felt::ONE - x.mode()) * (Felt::ONE - x.cont()) * x.x(j)
+}
+
+/// Entries 14 to 17: a hash that goes on keeps its capacity.
+#[tactic(auto, unfolding(air_kit::specs::HasherValues::chain_values, air_kit::specs::Places::family))]
+pub(crate) fn chain_values<V: HasherView>(ends: bool, x: &V, next: &Option<V>) -> [Felt; 4]
+    ensures { result ≡ chain_values ends (V.cells x.now) (option_map V.cells next.now) }
+{
+    [
+        only(ends, capacity_change(x, next, 0)),
+        only(ends, capacity_change(x, next, 1)),
+        only(ends, capacity_change(x, next, 2)),
+        only(ends, capacity_change(x, next, 3)),
+    ]
+}
+
+fn capacity_change<V: HasherView>(x: &V, next: &Option<V>, j: usize) -> Felt
+    requires { j < 12 }
+    ensures { result ≡ paired (λ y. more (V.cells x.now) ⊠ (state_element y j ⊟ state_element (V.cells x.now) j)) (option_map V.cells next.now) }
+{
+    match next {
+        Some(y) => x.more() * (y.x(j) - x.x(j)),
+        None => Felt::ZERO,
+    }
+}

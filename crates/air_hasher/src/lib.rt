@@ -1,0 +1,12 @@
+//! The entries of the hasher's table, 1 to 29: eight rows a permutation, of which a hash has one or more
+//! (docs/CONSTRAINTS.md).
+#![tactic(auto)]
+
+mod fault;
+mod flags;
+mod placed;
+mod round;
+#[cfg(test)]
+mod tests;
+
+pub use fault::first_fault;

@@ -1,0 +1,22 @@
+ghost use Rattle.std.specs.Prelude.{◌≡◌};
+ghost use Rattle.air_kit.specs.Places.{first_fault_of};
+ghost use Rattle.air_kit.specs.Rows.{spot_at};
+ghost use Rattle.air_kit.specs.StackValues.{stack_values};
+
+use crate::cells::cell_fault;
+use crate::depth::depth_fault;
+use crate::operands::operand_fault;
+use air_kit::{Place, Seen, or_next};
+use vm_field::Felt;
+use vm_table::MainView;
+
+/// The first of the entries 115 to 139 that is not 0 at a place, with its value.
+pub fn first_fault<V: MainView>(place: &Place<'_, V>) -> Option<(u16, Felt)>
+    ensures { result ≡ first_fault_of 115 (stack_values (spot_at V.cells place.now)) }
+{
+    let x = Seen::of(&place.cur);
+    let depth = depth_fault(&x, &place.next);
+    let cells = cell_fault(&x, &place.next);
+    let operands = operand_fault(&x, &place.next);
+    or_next(depth, or_next(cells, operands))
+}

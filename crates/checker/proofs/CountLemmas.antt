@@ -1,0 +1,39 @@
+-- How many rows the tables have.
+use Rattle.std.proofs.Common.{◌≡◌, ℕ, ◌^◌, ◌%◌, ◌<◌, ◌≤◌, length, ap, arith, lit<}
+use Rattle.air_kit.specs.declared.trace.TableName.{TableName}
+use Rattle.air_kit.specs.declared.trace.TableName.TheVariants as table
+use Rattle.air_kit.specs.declared.trace.Trace.{Trace}
+use Rattle.air_kit.specs.Traces.{HasCounts, most_rows, rows_of}
+
+most_small : (name : TableName) → most_rows name < 2 ^ 32
+most_small table.Main = lit< tt
+most_small table.Range = lit< tt
+most_small table.Hasher = lit< tt
+most_small table.Bitwise = lit< tt
+most_small table.Memory = lit< tt
+most_small table.Kernel = lit< tt
+most_small table.Left = lit< tt
+
+-- a number of 32 bits
+pub rows_few : {t : Trace} → HasCounts t → (name : TableName) → length (rows_of t name) < 2 ^ 32
+rows_few counts name = let h = counts.most name in let k = most_small name in omega (arith, h, k)
+
+-- counts that are right one by one
+pub counts_from : (t : Trace) → 1 ≤ length t.main → length t.main ≤ 524288 → 1 ≤ length t.range → length t.range ≤ 131072 → length t.hasher ≤ 4194304
+    → length t.hasher % 8 ≡ 0 → length t.bitwise ≤ 0 → length t.memory ≤ 0 → length t.kernel ≤ 255 → length t.left ≤ 524288 → HasCounts t
+counts_from t main_some main_most range_some range_most hasher_most hasher_whole bitwise_none memory_none kernel_most left_most = record {
+  most = most;
+  main = main_some;
+  range = range_some;
+  hasher = hasher_whole;
+  bitwise = let e : length t.bitwise ≡ 0 = omega (arith, bitwise_none) in ap (λ n. n % 8) e;
+}
+  where
+    most : (name : TableName) → length (rows_of t name) ≤ most_rows name
+    most table.Main = main_most
+    most table.Range = range_most
+    most table.Hasher = hasher_most
+    most table.Bitwise = bitwise_none
+    most table.Memory = memory_none
+    most table.Kernel = kernel_most
+    most table.Left = left_most

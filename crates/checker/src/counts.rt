@@ -1,0 +1,30 @@
+ghost use Rattle.std.specs.Prelude.{IsTrue};
+ghost use Rattle.air_kit.specs.Traces.{HasCounts};
+
+use air_kit::Trace;
+
+/// Whether each table has as many rows as it may (docs/FORMATS.md). Where the answer is true, the trace can be checked.
+pub fn has_counts(trace: &Trace) -> bool
+    ensures { IsTrue result → HasCounts trace.now }
+{
+    let main = trace.main.rows();
+    let range = trace.range.rows();
+    let hasher = trace.hasher.rows();
+    let bitwise = trace.bitwise.rows();
+    let memory = trace.memory.rows();
+    let kernel = trace.kernel.rows();
+    let left = trace.left.rows();
+    if main < 1 || 524288 < main {
+        return false;
+    }
+    if range < 1 || 131072 < range {
+        return false;
+    }
+    if 4194304 < hasher || hasher % 8 != 0 {
+        return false;
+    }
+    if 0 < bitwise || 0 < memory {
+        return false;
+    }
+    kernel <= 255 && left <= 524288
+}

@@ -1,0 +1,13 @@
+pub mod RowLemmas
+pub mod ZeroLemmas
+pub mod BlockLemmas
+pub mod ZerosAreRows
+pub mod RowsAreZero
+pub mod Totals
+pub mod GivenLemmas
+pub mod TableLaws
+pub mod Given
+pub mod MeaningLemmas
+pub mod RowMeaning
+pub mod TableMeaning
+pub mod InputLemmas

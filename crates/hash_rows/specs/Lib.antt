@@ -1,0 +1,3 @@
+pub mod PermRows
+pub mod HashTables
+pub mod HashMeaning

@@ -1,0 +1,3 @@
+pub mod ConstantLemmas
+pub mod Digits
+pub mod ReadingLemmas

@@ -1,0 +1,56 @@
+-- The trees of assembled programs as they are run.
+use Rattle.std.specs.Prelude.{◌≡◌, ◌≢◌, ℕ, ◌≤◌, true, false, List, [], Option, Ok, MatchOption}
+use Rattle.std.specs.List.{AllByRecursion}
+use Rattle.vm_field.specs.Machine.{State}
+use Rattle.vm_ops.specs.declared.cause.Cause.{Cause}
+use Rattle.vm_ops.specs.declared.cause.Cause.TheVariants.{OpaqueBlock, BadBatch, NestedTooDeep}
+use Rattle.block_tree.specs.declared.program.Program.{Program}
+use Rattle.block_tree.specs.Behind.{HasReading}
+use Rattle.block_tree.specs.Execution.{Outcome, Done, Trap, OutOfCycles, execution}
+use Rattle.block_tree.specs.Trees.{Tree, Opaque, Span, Join, Split, Loop, Call, Syscall, tree_height}
+use Rattle.block_tree.specs.TreeView.{tree_of}
+use Rattle.masm_link.specs.Assembling.{Assembles}
+use Rattle.link_runs.specs.Forms.{ReadsInForm}
+
+-- each block is known whole, and each span has batches, of which each has a reading
+abbrev pub IsReady : Tree → Type 0
+IsReady (Opaque digest) = ⊥
+IsReady (Span batches) = (batches ≢ []) × AllByRecursion HasReading batches
+IsReady (Join first second) = IsReady first × IsReady second
+IsReady (Split on_one on_zero) = IsReady on_one × IsReady on_zero
+IsReady (Loop body) = IsReady body
+IsReady (Call callee) = IsReady callee
+IsReady (Syscall callee) = IsReady callee
+
+-- a cause that comes of the values of the run, and not of the form of the tree
+abbrev pub IsOfValues : Cause → Type 0
+IsOfValues OpaqueBlock = ⊥
+IsOfValues BadBatch = ⊥
+IsOfValues NestedTooDeep = ⊥
+IsOfValues cause = Unit {0}
+
+-- where the run traps, it is for such a cause
+abbrev pub TrapsForValues : Outcome → Type 0
+TrapsForValues (Done state events) = Unit {0}
+TrapsForValues (Trap clock cause) = IsOfValues cause
+TrapsForValues OutOfCycles = Unit {0}
+
+-- from every state in which no block is open, a tree that is ready and has at most 1,024 blocks on a path
+abbrev pub ReadyRuns : Type 0
+ReadyRuns = (constants : List ℕ) (kernel : List (List ℕ)) (limit : ℕ) (tree : Tree) (s : State) → IsReady tree
+    → tree_height tree ≤ 1024 → s.core.nesting ≡ 0 → TrapsForValues (execution constants kernel limit tree s)
+
+-- the source and its kernel are read as trees in form
+abbrev pub AreInForm : List ℕ → Option (List ℕ) → Type 0
+AreInForm text kernel = ReadsInForm false text × MatchOption kernel (Unit {0}) (ReadsInForm true)
+
+abbrev pub AssembledIsReady : Type 0
+AssembledIsReady = (constants text : List ℕ) (kernel : Option (List ℕ)) (program : Program) → AreInForm text kernel
+    → Assembles constants text kernel (Ok program) → IsReady (tree_of program.tree)
+
+-- from every state in which no block is open
+abbrev pub AssembledRuns : Type 0
+AssembledRuns = (constants text : List ℕ) (kernel : Option (List ℕ)) (program : Program) → AreInForm text kernel
+    → Assembles constants text kernel (Ok program)
+    → (parameters : List ℕ) (digests : List (List ℕ)) (limit : ℕ) (s : State) → s.core.nesting ≡ 0
+    → TrapsForValues (execution parameters digests limit (tree_of program.tree) s)

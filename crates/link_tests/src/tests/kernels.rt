@@ -1,0 +1,88 @@
+use super::{assembled, is_refused};
+use masm_link::{AsmCause, AsmError};
+use std::alloc::{AllocError, Global};
+use std::test::Fail;
+
+// A kernel that is refused on its first line, by the column and the cause.
+type Row = (&'static str, u32, AsmCause);
+
+static KERNELS: [Row; 7] = [
+    ("begin end", 1, AsmCause::KernelBody),
+    ("export.f end proc.f end", 14, AsmCause::Duplicate),
+    ("export.f exec.g end", 10, AsmCause::UnknownProcedure),
+    ("export.f exec.f end", 10, AsmCause::Recursive),
+    (
+        "export.f end proc.g repeat.10000 repeat.10000 neg end end end",
+        14,
+        AsmCause::TooManyOps,
+    ),
+    ("\u{80}", 1, AsmCause::Lexical),
+    ("export.f", 9, AsmCause::Syntax),
+];
+
+fn refused_at(line: u32, column: u32, cause: AsmCause) -> AsmError {
+    AsmError::Bad {
+        in_kernel: true,
+        line,
+        column,
+        cause,
+    }
+}
+
+// A kernel's refusal stands before that of the program.
+fn is_kernel_refused(alloc: Global, row: &Row) -> bool {
+    let want = refused_at(1, row.1, row.2);
+    is_refused(alloc, Some(row.0.as_bytes()), b"begin frob end", want)
+}
+
+// How many exports and how many words a kernel has, where a program calls its `k`.
+fn kernel_counts(alloc: Global, kernel: &str) -> (usize, usize) {
+    match assembled(alloc, Some(kernel.as_bytes()), b"begin syscall.k end") {
+        Ok(program) => (program.exports.len(), program.kernel.len()),
+        Err(_) => (0, 0),
+    }
+}
+
+// A kernel of so many exports behind `k`, one a line.
+fn exports(alloc: Global, count: u32) -> Result<String, AllocError> {
+    let mut source = String::from_str(alloc, "export.k end\n")?;
+    for i in 0..count {
+        let line = format!(in alloc; "export.e{i} end\n")?;
+        source.push_str(line.as_str())?;
+    }
+    Ok(source)
+}
+
+// The exports of a kernel of so many behind `k`, and whether it is refused at the 256th.
+fn exports_of(alloc: Global, count: u32) -> Result<(usize, bool), AllocError> {
+    let source = exports(alloc, count)?;
+    let text = source.as_str();
+    let want = refused_at(256, 1, AsmCause::TooManyExports);
+    let refused = is_refused(alloc, Some(text.as_bytes()), b"begin end", want);
+    Ok((kernel_counts(alloc, text).0, refused))
+}
+
+#[test]
+fn refuses_kernels(rt: HostRuntime) -> Result<(), Fail> {
+    for row in &KERNELS {
+        assert!(rt; is_kernel_refused(rt.alloc(), row), "{}", row.0);
+    }
+    Ok(())
+}
+
+#[test]
+fn counts_exports(rt: HostRuntime) -> Result<(), Fail> {
+    assert_eq!(rt; kernel_counts(rt.alloc(), "export.k end"), (1, 1));
+    assert_eq!(rt;
+        kernel_counts(rt.alloc(), "export.a end export.k end"),
+        (2, 1)
+    );
+    Ok(())
+}
+
+#[test]
+fn exports_at_most_255(rt: HostRuntime) -> Result<(), Fail> {
+    assert_eq!(rt; exports_of(rt.alloc(), 254)?, (255, false));
+    assert_eq!(rt; exports_of(rt.alloc(), 255)?, (0, true));
+    Ok(())
+}

@@ -1,0 +1,161 @@
+use super::{assembled, is_refused};
+use masm_link::{AsmCause, AsmError, cause_text};
+use std::alloc::{AllocError, Global};
+use std::test::Fail;
+
+// A source that is refused on its first line, by the column and the cause. Its kernel exports `k`.
+type Row = (&'static str, u32, AsmCause);
+
+static PROGRAMS: [Row; 25] = [
+    ("begin mtree_get end", 7, AsmCause::Unsupported),
+    ("begin frob end", 7, AsmCause::UnknownInstruction),
+    ("begin repeat.0 neg end end", 7, AsmCause::RepeatRange),
+    ("begin add", 10, AsmCause::Syntax),
+    ("\u{80}", 1, AsmCause::Lexical),
+    ("begin swap.0 end", 7, AsmCause::NumberRange),
+    ("begin loc_load.0 end", 7, AsmCause::LocalsRange),
+    ("begin exec.g end", 7, AsmCause::UnknownProcedure),
+    ("begin syscall.j end", 7, AsmCause::NotInKernel),
+    ("begin exec.zz syscall.j end", 7, AsmCause::UnknownProcedure),
+    ("begin syscall.j exec.zz end", 7, AsmCause::NotInKernel),
+    (
+        "proc.f while.true if.true add else repeat.2 exec.g end end end end begin exec.f end",
+        45,
+        AsmCause::UnknownProcedure,
+    ),
+    (
+        "const.N=1 const.N=2 begin push.N end",
+        11,
+        AsmCause::Duplicate,
+    ),
+    (
+        "proc.f end const.N=1 const.N=2 proc.f end begin end",
+        22,
+        AsmCause::Duplicate,
+    ),
+    (
+        "proc.f end proc.f exec.f end begin end",
+        12,
+        AsmCause::Duplicate,
+    ),
+    ("proc.f exec.f end begin end", 8, AsmCause::Recursive),
+    (
+        "proc.f exec.g end proc.g call.f end begin end",
+        8,
+        AsmCause::Recursive,
+    ),
+    (
+        "proc.h exec.f end proc.f exec.f end begin end",
+        26,
+        AsmCause::Recursive,
+    ),
+    (
+        "proc.a exec.b end proc.b exec.c end proc.c exec.d exec.b end proc.d end begin end",
+        26,
+        AsmCause::Recursive,
+    ),
+    (
+        "proc.f exec.f exec.g end proc.g exec.h end proc.h end begin end",
+        8,
+        AsmCause::Recursive,
+    ),
+    (
+        "proc.f exec.g exec.f end begin end",
+        8,
+        AsmCause::UnknownProcedure,
+    ),
+    (
+        "begin repeat.10000 repeat.10000 neg end end end",
+        1,
+        AsmCause::TooManyOps,
+    ),
+    (
+        "proc.f repeat.10000 repeat.10000 neg end end end begin end",
+        1,
+        AsmCause::TooManyOps,
+    ),
+    (
+        "begin repeat.10000 repeat.10000 neg end end exec.g end",
+        45,
+        AsmCause::UnknownProcedure,
+    ),
+    (
+        "proc.f end proc.f repeat.10000 repeat.10000 neg end end end begin end",
+        12,
+        AsmCause::Duplicate,
+    ),
+];
+
+static ACCEPTED: [&str; 5] = [
+    "begin end",
+    "begin syscall.k end",
+    "proc.f.65535 end begin exec.f end",
+    "proc.end end begin exec.end end",
+    "proc.a exec.b end proc.b exec.c exec.d end proc.c exec.d end proc.d end begin exec.a end",
+];
+
+fn is_program_refused(alloc: Global, row: &Row) -> bool {
+    let want = AsmError::Bad {
+        in_kernel: false,
+        line: 1,
+        column: row.1,
+        cause: row.2,
+    };
+    is_refused(alloc, Some(b"export.k end"), row.0.as_bytes(), want)
+}
+
+fn is_accepted(alloc: Global, source: &str) -> bool {
+    assembled(alloc, Some(b"export.k end"), source.as_bytes()).is_ok()
+}
+
+// So many procedures, one a line, of which each has a loop round the one before it.
+fn chain(alloc: Global, count: u32) -> Result<String, AllocError> {
+    let mut source = String::from_str(alloc, "proc.a0 end\n")?;
+    for i in 1..count {
+        let before = i - 1;
+        let line = format!(in alloc; "proc.a{i} while.true exec.a{before} end end\n")?;
+        source.push_str(line.as_str())?;
+    }
+    source.push_str("begin end")?;
+    Ok(source)
+}
+
+fn is_chain_refused(alloc: Global, count: u32, line: u32) -> Result<bool, AllocError> {
+    let source = chain(alloc, count)?;
+    let want = AsmError::Bad {
+        in_kernel: false,
+        line,
+        column: 1,
+        cause: AsmCause::TooDeep,
+    };
+    Ok(is_refused(alloc, None, source.as_bytes(), want))
+}
+
+#[test]
+fn refuses_programs(rt: HostRuntime) -> Result<(), Fail> {
+    for row in &PROGRAMS {
+        assert!(rt; is_program_refused(rt.alloc(), row), "{}", row.0);
+    }
+    Ok(())
+}
+
+#[test]
+fn accepts_programs(rt: HostRuntime) -> Result<(), Fail> {
+    for source in &ACCEPTED {
+        assert!(rt; is_accepted(rt.alloc(), source), "{source}");
+    }
+    Ok(())
+}
+
+#[test]
+fn bounds_heights(rt: HostRuntime) -> Result<(), Fail> {
+    assert!(rt; !is_chain_refused(rt.alloc(), 1024, 1025)?);
+    assert!(rt; is_chain_refused(rt.alloc(), 1025, 1025)?);
+    Ok(())
+}
+
+#[test]
+fn names_causes(rt: HostRuntime) -> Result<(), Fail> {
+    assert_eq!(rt; cause_text(AsmCause::NotInKernel), "NotInKernel");
+    Ok(())
+}

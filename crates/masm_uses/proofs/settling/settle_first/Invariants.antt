@@ -1,9 +1,0 @@
-use Rattle.std.proofs.Common.{◌≡◌, length}
-use Rattle.masm_uses.specs.Graph.{rows_of}
-use Rattle.masm_uses.specs.Settling.{IsOrder}
-use Rattle.masm_uses.specs.Walks.{AreMarks}
-use Rattle.masm_uses.proofs.settling.settle_first.Given as goal
-
-abbrev pub invariant-loop-place : goal.invariant-loop-place
-invariant-loop-place l =
-    AreMarks l.walk.marks.items l.walk.seen.items × IsOrder (rows_of l.rows) l.walk.seen.items × (length l.walk.marks.items ≡ length l.rows)

@@ -1,0 +1,4 @@
+pub mod Grammar
+pub mod Causes
+pub mod Hashing
+pub mod Reads

@@ -1,0 +1,6 @@
+//! What the entries of a row say where they are 0.
+#![tactic(auto)]
+
+mod laws;
+
+pub use laws::operation_laws;

@@ -1,0 +1,19 @@
+-- Fields one behind the other.
+use Rattle.std.proofs.Common.{◌≡◌, Result, Ok, Err, refl, ap}
+use Rattle.table_file.specs.declared.cause.FileError.{FileError}
+use Rattle.table_file.specs.declared.cause.FileError.TheVariants.{Bad, Memory}
+use Rattle.table_file.specs.Fields.{behind, IsRead}
+
+-- a good field leaves what follows it
+pub goes_past : {A B : Type 0} (r : Result A FileError) (x : A) (next : A → Result B FileError) → r ≡ Ok x → behind r next ≡ next x
+goes_past r x next is = ap (λ o. behind o next) is
+
+-- a bad field is an answer
+pub bad-read : {A : Type 0} (r : Result A FileError) (e : FileError) → r ≡ Err e → IsRead (Err e) r
+bad-read r (Bad offset why) is = is
+bad-read r Memory is = tt
+
+-- the good field that another stands behind
+pub chain : {A B : Type 0} (r : Result A FileError) (y : B) (next : A → Result B FileError) → behind r next ≡ Ok y → (x : A) × (r ≡ Ok x) × (next x ≡ Ok y)
+chain (Ok x) y next e = (x, refl, e)
+chain (Err why) y next e = cc

@@ -1,0 +1,9 @@
+mod Chains
+mod FileLaws
+mod Going
+mod HeadLaws
+mod NumberLaws
+mod PartBytes
+mod PartLaws
+mod TraceReading
+mod TableLaws

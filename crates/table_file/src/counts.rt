@@ -1,0 +1,115 @@
+ghost use Rattle.std.specs.Prelude.{◌≡◌, ◌≤◌, ◌%◌, ◌==◌, IfOk};
+ghost use Rattle.air_kit.specs.Traces.{HasCounts, most_rows};
+ghost use Rattle.table_file.specs.Files.{AreFew, count_at, counts_in, counts_of, end_place, least_rows, may_have, rows_at_once};
+
+use crate::cause::{FileCause, FileError, bad};
+use crate::reading::read_u32;
+use air_kit::{TableName, Trace};
+
+/// How many rows each table has.
+#[derive(Clone, Copy)]
+pub(crate) struct Counts {
+    pub main: usize,
+    pub range: usize,
+    pub hasher: usize,
+    pub bitwise: usize,
+    pub memory: usize,
+    pub kernel: usize,
+    pub left: usize,
+}
+
+fn least_rows(table: TableName) -> usize
+    ensures { result ≡ least_rows table }
+{
+    match table {
+        TableName::Main | TableName::Range => 1,
+        _ => 0,
+    }
+}
+
+fn most_rows(table: TableName) -> usize
+    ensures { result ≡ most_rows table }
+{
+    match table {
+        TableName::Main | TableName::Left => 1 << 19,
+        TableName::Range => 1 << 17,
+        TableName::Hasher => 1 << 22,
+        TableName::Kernel => 255,
+        TableName::Bitwise | TableName::Memory => 0,
+    }
+}
+
+// A permutation and a bitwise operation have eight rows each.
+fn is_whole(table: TableName, count: usize) -> bool
+    ensures { result ≡ count % rows_at_once table == 0 }
+{
+    match table {
+        TableName::Hasher | TableName::Bitwise => count % 8 == 0,
+        _ => true,
+    }
+}
+
+#[tactic(auto, unfolding(crate::specs::Files::may_have))]
+fn may_have(table: TableName, count: usize) -> bool
+    ensures { result ≡ may_have table count }
+{
+    least_rows(table) <= count && count <= most_rows(table) && is_whole(table, count)
+}
+
+#[tactic(auto, unfolding(crate::specs::Fields::number_at, crate::specs::Files::may_have))]
+fn read_count(bytes: &[u8], table: TableName, at: usize) -> Result<usize, FileError>
+    requires { at ≤ 100 }
+    ensures is { result ≡ count_at bytes.now table at }
+    ensures few { IfOk result (λ count. count ≤ most_rows table) }
+{
+    if bytes.len() < at + 4 {
+        return Err(bad(at, FileCause::Ended));
+    }
+    let count = read_u32(bytes, at) as usize;
+    if may_have(table, count) {
+        Ok(count)
+    } else {
+        Err(bad(at, FileCause::Count))
+    }
+}
+
+/// The seven row counts, which stand behind the version.
+#[tactic(auto, unfolding(crate::specs::Files::counts_of))]
+pub(crate) fn read_counts(bytes: &[u8]) -> Result<Counts, FileError>
+    ensures is { result ≡ counts_of bytes.now }
+    ensures few { IfOk result AreFew }
+{
+    let main = read_count(bytes, TableName::Main, 8)?;
+    let range = read_count(bytes, TableName::Range, 12)?;
+    let hasher = read_count(bytes, TableName::Hasher, 16)?;
+    let bitwise = read_count(bytes, TableName::Bitwise, 20)?;
+    let memory = read_count(bytes, TableName::Memory, 24)?;
+    let kernel = read_count(bytes, TableName::Kernel, 28)?;
+    let left = read_count(bytes, TableName::Left, 32)?;
+    Ok(Counts {
+        main,
+        range,
+        hasher,
+        bitwise,
+        memory,
+        kernel,
+        left,
+    })
+}
+
+/// The row counts of a trace.
+pub(crate) fn counts_in(trace: &Trace) -> Counts
+    requires { HasCounts trace.now }
+    ensures is { result ≡ counts_in trace.now }
+    ensures few { AreFew result }
+{
+    Counts {
+        main: trace.main.rows(),
+        range: trace.range.rows(),
+        hasher: trace.hasher.rows(),
+        bitwise: trace.bitwise.rows(),
+        memory: trace.memory.rows(),
+        kernel: trace.kernel.rows(),
+        left: trace.left.rows(),
+    }
+}

@@ -1,0 +1,15 @@
+//! Table files: the bytes of a trace (docs/FORMATS.md), read and written.
+#![tactic(auto)]
+
+mod cause;
+mod counts;
+mod laws;
+mod reading;
+#[cfg(test)]
+mod tests;
+mod writing;
+
+pub use cause::{FileCause, FileError, cause_text};
+pub use laws::{file_laws, types_cross};
+pub use reading::decode;
+pub use writing::encode;

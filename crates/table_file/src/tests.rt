@@ -1,0 +1,128 @@
+use crate::{FileCause, FileError, decode, encode, types_cross};
+use std::alloc::Global;
+use std::test::Fail;
+use vm_field::Bytes;
+
+// `MDTB`, the version, and counts of 4, 42 and 8 rows; the other tables have none.
+static HEAD: [u8; 36] =
+    *b"MDTB\x01\0\0\0\x04\0\0\0\x2a\0\0\0\x08\0\0\0\0\0\0\0\0\0\0\0\0\0\0\0\0\0\0\0";
+
+// Where the last element of the smallest file begins.
+const LAST: usize = 3740;
+
+// The smallest file, whose elements are 0, with another version and last element, cut or followed by zeros.
+struct Case {
+    length: usize,
+    version: u8,
+    last: [u8; 8],
+    answer: Result<usize, FileError>,
+}
+
+const ZERO: [u8; 8] = [0; 8];
+
+static CASES: [Case; 6] = [
+    Case {
+        length: 3748,
+        version: 1,
+        last: ZERO,
+        answer: Ok(4),
+    },
+    Case {
+        length: 3747,
+        version: 1,
+        last: ZERO,
+        answer: Err(FileError::Bad {
+            offset: 3740,
+            cause: FileCause::Ended,
+        }),
+    },
+    Case {
+        length: 3748,
+        version: 1,
+        last: [1, 0, 0, 0, 255, 255, 255, 255],
+        answer: Err(FileError::Bad {
+            offset: 3740,
+            cause: FileCause::Element,
+        }),
+    },
+    Case {
+        length: 3749,
+        version: 1,
+        last: ZERO,
+        answer: Err(FileError::Bad {
+            offset: 3748,
+            cause: FileCause::Extra,
+        }),
+    },
+    Case {
+        length: 0,
+        version: 1,
+        last: ZERO,
+        answer: Err(FileError::Bad {
+            offset: 0,
+            cause: FileCause::Ended,
+        }),
+    },
+    Case {
+        length: 3748,
+        version: 0,
+        last: ZERO,
+        answer: Err(FileError::Bad {
+            offset: 4,
+            cause: FileCause::Version,
+        }),
+    },
+];
+
+fn byte_of(case: &Case, i: usize) -> u8 {
+    if i == 4 {
+        case.version
+    } else if i < HEAD.len() {
+        HEAD[i]
+    } else if LAST <= i && i < LAST + 8 {
+        case.last[i - LAST]
+    } else {
+        0
+    }
+}
+
+fn file(alloc: Global, case: &Case) -> Result<Bytes, FileError> {
+    let mut bytes = Bytes::new(alloc);
+    for i in 0..case.length {
+        bytes.push(byte_of(case, i))?;
+    }
+    Ok(bytes)
+}
+
+fn main_rows(alloc: Global, case: &Case) -> Result<usize, FileError> {
+    let trace = decode(alloc, file(alloc, case)?.as_slice())?;
+    Ok(trace.main.rows())
+}
+
+fn all_answer(alloc: Global, cases: &[Case]) -> bool {
+    for case in cases {
+        if main_rows(alloc, case) != case.answer {
+            return false;
+        }
+    }
+    true
+}
+
+fn comes_back(alloc: Global, case: &Case) -> Result<bool, FileError> {
+    let bytes = file(alloc, case)?;
+    let trace = decode(alloc, bytes.as_slice())?;
+    Ok(encode(alloc, &trace)? == bytes)
+}
+
+#[test]
+fn reads_files(rt: HostRuntime) -> Result<(), Fail> {
+    types_cross();
+    assert!(rt; all_answer(rt.alloc(), &CASES));
+    Ok(())
+}
+
+#[test]
+fn writes_what_it_reads(rt: HostRuntime) -> Result<(), Fail> {
+    assert_eq!(rt; comes_back(rt.alloc(), &CASES[0]), Ok(true));
+    Ok(())
+}
