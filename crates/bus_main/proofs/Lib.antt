@@ -1,0 +1,5 @@
+pub mod TwoLemmas
+pub mod BlockLemmas
+pub mod StackLemmas
+pub mod GroupLemmas
+pub mod StepLemmas
