@@ -1,2 +1,5 @@
 pub mod Zeros
+pub mod Says
+pub mod Hot
 pub mod OpcodeFacts
+pub mod BatchFacts
