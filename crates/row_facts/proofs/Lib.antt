@@ -3,3 +3,8 @@ pub mod Says
 pub mod Hot
 pub mod OpcodeFacts
 pub mod BatchFacts
+pub mod FollowFacts
+pub mod BlockFacts
+pub mod GroupFacts
+pub mod BoundFacts
+pub mod SpotSays
