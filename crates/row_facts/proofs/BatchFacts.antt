@@ -1,5 +1,5 @@
 -- What the entries of a batch's row say where they are 0.
-use Rattle.std.proofs.Common.{◌≡◌, ℕ, zero, suc, ◌+◌, ◌-◌, ◌*◌, ◌%◌, ◌<◌, ◌≤◌, Bool, true, false, ◌&&◌, ◌||◌, cond, eqb, nat_lt, nat_le, List, [], ◌∷◌, slice_index, refl, sym, ap, ◌∙◌, arith, lit<}
+use Rattle.std.proofs.Common.{◌≡◌, ℕ, zero, suc, ◌+◌, ◌-◌, ◌*◌, ◌%◌, ◌<◌, ◌≤◌, Bool, true, false, ◌&&◌, ◌||◌, cond, eqb, nat_lt, nat_le, List, [], ◌∷◌, slice_index, refl, sym, ap, ◌∙◌, arith, lit<, lit≤}
 use Rattle.std.proofs.lemmas.Bool.Decides.{nat_tests}
 use Rattle.vm_field.specs.Field.{prime, felt_add, felt_sub, felt_mul}
 use Rattle.vm_ops.specs.declared.op.Op.{Op}
@@ -53,13 +53,13 @@ batch_row_from x bits size =
     let most : c x 0 + c x 1 + c x 2 ≤ 1 = few (c x 0) (c x 1) (c x 2) (bits 0 (lit< tt)) (bits 1 (lit< tt)) (bits 2 (lit< tt)) size in
     record { bits = bits; most = most; room = room_of (c x 0) (c x 1) (c x 2) most }
 
-below_three : (P : ℕ → Type 0) → P 0 → P 1 → P 2 → (j : ℕ) → j < 3 → P j
+pub below_three : (P : ℕ → Type 0) → P 0 → P 1 → P 2 → (j : ℕ) → j < 3 → P j
 below_three P first second third zero h = first
 below_three P first second third (suc zero) h = second
 below_three P first second third (suc (suc zero)) h = third
 below_three P first second third (suc (suc (suc j))) h = absurd (omega (arith, h))
 
-batch_row_at : (p : Spot) (op : Op) → HasOp p.cur op → ((k : ℕ) → slice_index p.cur k < prime) → AllZero (span_values p) → is_batch_op op ≡ true → IsBatchRow p.cur
+pub batch_row_at : (p : Spot) (op : Op) → HasOp p.cur op → ((k : ℕ) → slice_index p.cur k < prime) → AllZero (span_values p) → is_batch_op op ≡ true → IsBatchRow p.cur
 unfolding span_values batch_values family
 batch_row_at p op has low zeros is =
     batch_row_from p.cur
@@ -109,6 +109,10 @@ unused_at (suc (suc (suc (suc (suc (suc (suc q))))))) i j k most h = absurd (ome
 unused_is : (x : List ℕ) (q : ℕ) → IsBatchRow x → q < 7 → unused (q + 1) x ≡ cond (nat_le (positions x) (q + 1)) 1 0
 unfolding unused positions
 unused_is x q batch h = unused_at q (c x 0) (c x 1) (c x 2) batch.most h
+
+pub some_position : (x : List ℕ) → IsBatchRow x → 1 ≤ positions x
+unfolding positions
+some_position x batch = at_bits (λ i j k. 1 ≤ positions_by i j k) (lit≤ tt) (lit≤ tt) (lit≤ tt) (lit≤ tt) (c x 0) (c x 1) (c x 2) batch.most
 
 reaches : (n q : ℕ) → n ≤ q → nat_le n q ≡ true
 reaches n q h = grind (arith, nat_tests)

@@ -44,11 +44,11 @@ either_off false u v apart = inl refl
 either_off true false v apart = inr (none_is v)
 either_off true true v apart = never apart
 
-says_60 : (op next : Op) (x y : List ℕ) → Says (entry_60 (hot op) (hot next) x y) (is_op op ops.Halt ≡ false)
+pub says_60 : (op next : Op) (x y : List ℕ) → Says (entry_60 (hot op) (hot next) x y) (is_op op ops.Halt ≡ false)
 unfolding entry_60
 says_60 op next x y = test_says (is_op op ops.Halt)
 
-says_62 : (op next : Op) (x y : List ℕ) → s x 0 < prime
+pub says_62 : (op next : Op) (x y : List ℕ) → s x 0 < prime
     → Says (entry_62 (hot op) (hot next) x y) (((nests op ≡ false) × (is_op op ops.Loop ≡ true → s x 0 ≡ 0)) ⊎ (is_start_op next ≡ true))
 unfolding entry_62 calls
 says_62 op next x y low =
@@ -57,21 +57,21 @@ says_62 op next x y low =
     (sum_says (either_off (nests op) (is_op op ops.Loop) (s x 0) (one_nests op)) (test_says (nests op)) (gate_says (is_op op ops.Loop) (zero_says (s x 0) low))))
     (says_of (ap (λ n. felt_sub 1 n) (starts_is next)) (passes_says (is_start_op next)))
 
-says_63 : (op next : Op) (x y : List ℕ) → s x 0 < prime
+pub says_63 : (op next : Op) (x y : List ℕ) → s x 0 < prime
     → Says (entry_63 (hot op) (hot next) x y) (is_op op ops.Loop ≡ true → (1 ≡ s x 0) ⊎ (is_op next ops.End ≡ true))
 unfolding entry_63
 says_63 op next x y low =
     gate_product_says (is_op op ops.Loop) (felt_sub 1 (s x 0)) (felt_sub 1 (hot next ops.End)) (rest_low _)
     (mul_says (sub_says 1 (s x 0) (lit< tt) low) (passes_says (is_op next ops.End)))
 
-says_64 : (op next : Op) (x y : List ℕ) → sp y ≡ cond (is_ordinary_op next) 1 0
+pub says_64 : (op next : Op) (x y : List ℕ) → sp y ≡ cond (is_ordinary_op next) 1 0
     → Says (entry_64 (hot op) (hot next) x y) (is_batch_op op ≡ true → is_ordinary_op next ≡ true)
 unfolding entry_64
 says_64 op next x y span =
     says_of (ap (λ n. felt_mul n (felt_sub 1 (sp y))) (batches_is op) ∙ ap (λ n. felt_mul (cond (is_batch_op op) 1 0) (felt_sub 1 n)) span)
     (gate_says (is_batch_op op) (passes_says (is_ordinary_op next)))
 
-says_65 : (op next : Op) (x y : List ℕ) → sp x ≡ cond (is_ordinary_op op) 1 0 → sp y ≡ cond (is_ordinary_op next) 1 0
+pub says_65 : (op next : Op) (x y : List ℕ) → sp x ≡ cond (is_ordinary_op op) 1 0 → sp y ≡ cond (is_ordinary_op next) 1 0
     → Says (entry_65 (hot op) (hot next) x y) (is_ordinary_op op ≡ true → is_ordinary_op next || is_op next ops.End || is_op next ops.Respan ≡ true)
 unfolding entry_65
 says_65 op next x y span span_next =
@@ -81,7 +81,7 @@ says_65 op next x y span span_next =
     ∙ ap (λ n. felt_mul (cond (is_ordinary_op op) 1 0) n) (behind_operation next))
     (gate_says (is_ordinary_op op) (fails_says (is_ordinary_op next || is_op next ops.End || is_op next ops.Respan)))
 
-says_66 : (op next : Op) (x y : List ℕ)
+pub says_66 : (op next : Op) (x y : List ℕ)
     → Says (entry_66 (hot op) (hot next) x y) (is_op op ops.End ≡ true → is_start_op next || is_op next ops.End || is_op next ops.Repeat || is_op next ops.Halt ≡ true)
 unfolding entry_66
 says_66 op next x y =

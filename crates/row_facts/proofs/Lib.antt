@@ -8,3 +8,4 @@ pub mod BlockFacts
 pub mod GroupFacts
 pub mod BoundFacts
 pub mod SpotSays
+pub mod Shown
