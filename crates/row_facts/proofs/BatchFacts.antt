@@ -47,6 +47,13 @@ few i j k hi hj hk h = omega (arith, hi, hj, hk, h)
 room_of : (i j k : ℕ) → i + j + k ≤ 1 → felt_add (felt_add (felt_add 1 (felt_mul 7 i)) (felt_mul 3 j)) k ≤ 8
 room_of i j k h = omega (arith, h)
 
+size_by : (i j k : ℕ) → i + j + k ≤ 1 → felt_add (felt_add i j) k < 2
+size_by i j k most = omega (arith, most)
+
+pub size_of : (x : List ℕ) → IsBatchRow x → size_flags x < 2
+unfolding size_flags
+size_of x batch = size_by (c x 0) (c x 1) (c x 2) batch.most
+
 pub batch_row_from : (x : List ℕ) → ((j : ℕ) → j < 3 → c x j < 2) → size_flags x < 2 → IsBatchRow x
 unfolding size_flags positions
 batch_row_from x bits size =

@@ -9,3 +9,4 @@ pub mod GroupFacts
 pub mod BoundFacts
 pub mod SpotSays
 pub mod Shown
+pub mod Zeroed

@@ -19,7 +19,7 @@ use Rattle.row_facts.specs.Blocks.{IsEndRow, IsBlockRow, EntersCall, EntersSysca
 use Rattle.row_facts.specs.Bounds.{IsLowClaim, StartsRun, IsFirstRow, IsLastRow}
 use Rattle.row_facts.specs.Follows.{may_follow}
 use Rattle.row_facts.specs.Groups.{IsGroupRow, GoesOn}
-use Rattle.row_facts.specs.RowFacts.{ReadsAs, IsRow, IsPair, IsAtSpot}
+use Rattle.row_facts.specs.RowFacts.{ReadsAs, Reads, IsRow, IsPair, IsAtSpot}
 use Rattle.row_facts.proofs.Zeros.{zero_front, zero_back, zero_family}
 use Rattle.row_facts.proofs.Says.{Says, off}
 use Rattle.row_facts.proofs.Hot.{row_says}
@@ -29,7 +29,7 @@ use Rattle.row_facts.proofs.FollowFacts.{says_60, says_62, says_63, says_64, say
 use Rattle.row_facts.proofs.BlockFacts.{Low, few_kinds, says_61, says_67, says_68, says_69, says_70, says_74, says_75, says_79, says_80, says_81, says_82, says_83, says_84, says_85, says_89, says_90, says_91}
 use Rattle.row_facts.proofs.GroupFacts.{is_left_over, says_107, says_108, says_109, says_110, says_111, says_112, says_113, says_114, goes_shown}
 use Rattle.row_facts.proofs.BoundFacts.{says_9, says_10, says_11, says_12, says_13, says_14, says_15, says_16, says_20, says_21, says_22, says_23, says_39, says_40, says_41, says_42, says_43, says_44}
-use Rattle.row_facts.proofs.SpotSays.{Reads, row_at, first_at, last_at, pair_at}
+use Rattle.row_facts.proofs.SpotSays.{row_at, first_at, last_at, pair_at}
 
 -- ---- the row
 
@@ -294,22 +294,35 @@ last_shown k op p few r zeros e =
 
 -- ---- a row in its place
 
-pub spot_shown : (k : Claim) (p : Spot) → IsLowClaim k → Low p.cur → ((y : List ℕ) → p.next ≡ Some y → ReadsAs (op_of y) y) → AllZero (decoder_values k p)
-    → ReadsAs (op_of p.cur) p.cur × IsAtSpot k (op_of p.cur) p
+-- the parts of the entries of the decoder
+record DecoderParts (k : Claim) (p : Spot) : Type 0 where
+  opcode : AllZero (opcode_values p)
+  bounds : AllZero (boundary_values k p)
+  blocks : AllZero (block_values p)
+  spans : AllZero (span_values p)
+
+decoder_parts : (k : Claim) (p : Spot) → AllZero (decoder_values k p) → DecoderParts k p
 unfolding decoder_values
-spot_shown k p few low behind zeros =
+decoder_parts k p zeros =
     let later = zero_back (opcode_values p) (boundary_values k p ++ (block_values p ++ span_values p)) zeros in
-    let opcode = zero_front (opcode_values p) (boundary_values k p ++ (block_values p ++ span_values p)) zeros in
-    let bounds = zero_front (boundary_values k p) (block_values p ++ span_values p) later in
     let last = zero_back (boundary_values k p) (block_values p ++ span_values p) later in
-    let blocks = zero_front (block_values p) (span_values p) last in
-    let spans = zero_back (block_values p) (span_values p) last in
-    let here : ReadsAs (op_of p.cur) p.cur = span_at p low opcode blocks in
-    let r : Reads (op_of p.cur) p = record { here = here; behind = behind } in
-    let row : IsRow (op_of p.cur) p.cur = row_shown (op_of p.cur) p r blocks spans in
-    (here, record {
+    record {
+      opcode = zero_front (opcode_values p) (boundary_values k p ++ (block_values p ++ span_values p)) zeros;
+      bounds = zero_front (boundary_values k p) (block_values p ++ span_values p) later;
+      blocks = zero_front (block_values p) (span_values p) last;
+      spans = zero_back (block_values p) (span_values p) last;
+    }
+
+pub reads_shown : (k : Claim) (p : Spot) → Low p.cur → AllZero (decoder_values k p) → ReadsAs (op_of p.cur) p.cur
+reads_shown k p low zeros = let parts : DecoderParts k p = decoder_parts k p zeros in span_at p low parts.opcode parts.blocks
+
+pub spot_shown : (k : Claim) (op : Op) (p : Spot) → IsLowClaim k → Reads op p → AllZero (decoder_values k p) → IsAtSpot k op p
+spot_shown k op p few r zeros =
+    let parts : DecoderParts k p = decoder_parts k p zeros in
+    let row : IsRow op p.cur = row_shown op p r parts.blocks parts.spans in
+    record {
       row = row;
-      pair = λ y e. pair_shown (op_of p.cur) p y r row opcode blocks spans e;
-      first = first_shown k (op_of p.cur) p few r opcode bounds;
-      last = last_shown k (op_of p.cur) p few r bounds;
-    })
+      pair = λ y e. pair_shown op p y r row parts.opcode parts.blocks parts.spans e;
+      first = first_shown k op p few r parts.opcode parts.bounds;
+      last = last_shown k op p few r parts.bounds;
+    }

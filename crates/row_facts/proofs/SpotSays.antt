@@ -6,14 +6,9 @@ use Rattle.vm_field.specs.Field.{prime}
 use Rattle.vm_ops.specs.declared.op.Op.{Op}
 use Rattle.air_kit.specs.Flags.{flag, op_of}
 use Rattle.air_kit.specs.Places.{RowEntry, PairEntry, Spot, on_row, on_pair, between, at_first, at_last, at_end}
-use Rattle.row_facts.specs.RowFacts.{ReadsAs}
+use Rattle.row_facts.specs.RowFacts.{Reads, ReadsAs}
 use Rattle.row_facts.proofs.Says.{Says, says_of, never}
 use Rattle.row_facts.proofs.Hot.{hot, row_says, pair_says}
-
--- the row and the one behind it, if there is one, read as operations
-pub record Reads (op : Op) (p : Spot) : Type 0 where
-  pub here : ReadsAs op p.cur
-  pub behind : (y : List ℕ) → p.next ≡ Some y → ReadsAs (op_of y) y
 
 pub row_at : {op : Op} {p : Spot} {P : Type 0} (entry : RowEntry) → Reads op p → Says (entry (hot op) p.cur) P → Says (on_row entry p) P
 row_at entry r s = row_says entry r.here.has s

@@ -21,6 +21,11 @@ pub record ReadsAs (op : Op) (x : List ℕ) : Type 0 where
   pub has : HasOp x op
   pub span : sp x ≡ (if is_ordinary_op op then 1 else 0)
 
+-- a row in its place, and the row behind it, if there is one, read as operations
+pub record Reads (op : Op) (p : Spot) : Type 0 where
+  pub here : ReadsAs op p.cur
+  pub behind : (y : List ℕ) → p.next ≡ Some y → ReadsAs (op_of y) y
+
 -- a row
 pub record IsRow (op : Op) (x : List ℕ) : Type 0 where
   pub block : IsBlockRow op x
