@@ -45,7 +45,7 @@ tested_bit true (suc (suc n)) low = let few : suc (suc n) < 2 = low refl in absu
 few_flags : (i j k l : ℕ) → i + j + k + l ≤ 1 → felt_add k l < 2
 few_flags i j k l most = omega (arith, most)
 
-returns_is : (op : Op) (x : List ℕ) → (is_op op ops.End ≡ true → IsEndRow x) → returns (hot op) x ≡ cond (ends_call op x) 1 0
+pub returns_is : (op : Op) (x : List ℕ) → (is_op op ops.End ≡ true → IsEndRow x) → returns (hot op) x ≡ cond (ends_call op x) 1 0
 unfolding returns
 returns_is op x ends = tested_bit (is_op op ops.End) (felt_add (h x 6) (h x 7)) (λ is. few_flags (h x 4) (h x 5) (h x 6) (h x 7) (ends is).most)
 

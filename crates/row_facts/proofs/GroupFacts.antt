@@ -40,7 +40,7 @@ code_low op = let few = code_of-below op in omega (arith, few)
 abbrev pub is_left_over : Op → List ℕ → Bool
 is_left_over op x = not (eqb (h x 0) (code_of op))
 
-flag_by_witness : (i k w : ℕ) → i < prime → (i ≢ k → felt_mul (felt_sub i k) w ≡ 1) → felt_mul (felt_sub i k) w ≡ cond (not (eqb i k)) 1 0
+pub flag_by_witness : (i k w : ℕ) → i < prime → (i ≢ k → felt_mul (felt_sub i k) w ≡ 1) → felt_mul (felt_sub i k) w ≡ cond (not (eqb i k)) 1 0
 flag_by_witness i k w low witness =
     elim (cases_Bool (eqb i k)) [
       | inl is ↦ rw is (let z : felt_sub i k ≡ 0 = let e = eqb-true i k is in omega (arith, low, e) in ap (λ n. felt_mul n w) z ∙ none_is w)
@@ -69,7 +69,7 @@ goes_is op x has low row =
 
 -- ---- the row
 
-either_or : (i k : ℕ) → (i ≡ k) ⊎ (i ≢ k)
+pub either_or : (i k : ℕ) → (i ≡ k) ⊎ (i ≢ k)
 either_or i k =
     elim (cases_Bool (eqb i k)) [
       | inl is ↦ inl (eqb-true i k is)

@@ -10,3 +10,4 @@ pub mod BoundFacts
 pub mod SpotSays
 pub mod Shown
 pub mod Zeroed
+pub mod DepthFacts

@@ -5,3 +5,4 @@ pub mod Blocks
 pub mod Groups
 pub mod Bounds
 pub mod RowFacts
+pub mod Stack
