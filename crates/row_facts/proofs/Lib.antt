@@ -1,2 +1,13 @@
 pub mod Zeros
+pub mod Says
+pub mod Hot
 pub mod OpcodeFacts
+pub mod BatchFacts
+pub mod FollowFacts
+pub mod BlockFacts
+pub mod GroupFacts
+pub mod BoundFacts
+pub mod SpotSays
+pub mod Shown
+pub mod Zeroed
+pub mod DepthFacts

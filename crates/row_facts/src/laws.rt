@@ -1,8 +1,14 @@
-ghost use Rattle.std.specs.Prelude.{ℕ, ◌<◌, slice_index};
+ghost use Rattle.std.specs.Prelude.{◌≡◌, ℕ, ◌<◌, slice_index, true};
 ghost use Rattle.vm_field.specs.Field.{prime};
+ghost use Rattle.vm_ops.specs.declared.op.Op.{Op};
+ghost use Rattle.vm_table.specs.MainColumns.{b};
 ghost use Rattle.air_kit.specs.Flags.{HasOp, op_of};
-ghost use Rattle.air_kit.specs.MainValues.{main_values};
+ghost use Rattle.air_kit.specs.MainTuples.{is_batch_op};
+ghost use Rattle.air_kit.specs.MainValues.{decoder_values, main_values};
 ghost use Rattle.air_kit.specs.Places.{Claim, Spot};
+ghost use Rattle.row_facts.specs.Batches.{IsBatchRow};
+ghost use Rattle.row_facts.specs.Bounds.{IsLowClaim};
+ghost use Rattle.row_facts.specs.RowFacts.{IsAtSpot, Reads, ReadsAs};
 ghost use Rattle.row_facts.specs.Zero.{AllZero};
 
 /// The law of operations: a row of elements whose entries are 0 has the operation that its bits spell, so that its flags are 1 for
@@ -10,4 +16,25 @@ ghost use Rattle.row_facts.specs.Zero.{AllZero};
 pub fn operation_laws()
     ensures operation { (c : Claim) (p : Spot) → ((k : ℕ) → slice_index p.cur k < prime)
         → AllZero (main_values c p) → HasOp p.cur (op_of p.cur) }
+    ensures bits { (c : Claim) (p : Spot) → ((k : ℕ) → slice_index p.cur k < prime)
+        → AllZero (main_values c p) → (j : ℕ) → j < 7 → b p.cur j < 2 }
+{}
+
+/// The law of batches: a row of elements whose entries are 0 and that starts a batch shows how many positions are in use, eight at
+/// most.
+pub fn batch_laws()
+    ensures { (c : Claim) (p : Spot) → ((k : ℕ) → slice_index p.cur k < prime)
+        → AllZero (main_values c p) → is_batch_op (op_of p.cur) ≡ true → IsBatchRow p.cur }
+{}
+
+/// The law of the entries on operations, boundaries, blocks and spans, whose numbers are 1 to 114. Where they are 0, a row of elements
+/// reads as the operation that its bits spell, and the row, the row behind it and its place are as the facts say; and they are 0
+/// wherever these facts hold.
+pub fn decoder_laws()
+    ensures reads { (k : Claim) (p : Spot) → ((j : ℕ) → slice_index p.cur j < prime)
+        → AllZero (decoder_values k p) → ReadsAs (op_of p.cur) p.cur }
+    ensures shows { (k : Claim) (op : Op) (p : Spot) → IsLowClaim k → Reads op p
+        → AllZero (decoder_values k p) → IsAtSpot k op p }
+    ensures zeros { (k : Claim) (op : Op) (p : Spot) → IsLowClaim k → Reads op p → IsAtSpot k op p
+        → AllZero (decoder_values k p) }
 {}

@@ -1,0 +1,45 @@
+-- The first row and the last one.
+use Rattle.std.specs.Prelude.{◌≡◌, ℕ, ◌+◌, ◌^◌, ◌<◌, ◌≤◌, true, length, slice_index, List}
+use Rattle.vm_field.specs.Field.{prime}
+use Rattle.vm_ops.specs.Codes.{is_start_op}
+use Rattle.vm_ops.specs.declared.op.Op.{Op}
+use Rattle.vm_ops.specs.declared.op.Op.TheVariants as ops
+use Rattle.vm_table.specs.MainColumns.{clk, addr, ctx, fmp, sys, f, lv, depth, key, s}
+use Rattle.air_kit.specs.Flags.{is_op}
+use Rattle.air_kit.specs.Places.{Claim}
+
+-- what stands beside the rows is in the range of elements, and the outputs are sixteen or more
+pub record IsLowClaim (k : Claim) : Type 0 where
+  pub inputs : (j : ℕ) → slice_index k.inputs j < prime
+  pub outputs : (j : ℕ) → slice_index k.outputs j < prime
+  pub lengths : (j : ℕ) → slice_index k.lengths j < prime
+  pub kernel : length k.kernel < prime
+  pub deep : 16 ≤ length k.outputs
+  pub few : length k.outputs < prime
+  pub key : k.left_key < prime
+
+-- the run starts at clock 0 with a block, and with nothing around it
+pub record StartsRun (op : Op) (x : List ℕ) : Type 0 where
+  pub starts : is_start_op op ≡ true
+  pub clock : clk x ≡ 0
+  pub block : addr x ≡ 0
+  pub context : ctx x ≡ 0
+  pub frame : fmp x ≡ 2 ^ 30
+  pub syscall : sys x ≡ 0
+  pub digest : (j : ℕ) → j < 4 → f x j ≡ 0
+  pub level : lv x ≡ 0
+  pub depth_is : depth x ≡ 16
+  pub key_is : key x ≡ 0
+
+pub record IsFirstRow (k : Claim) (op : Op) (x : List ℕ) : Type 0 where
+  pub start : StartsRun op x
+  pub inputs : (j : ℕ) → j < 16 → s x j ≡ slice_index k.inputs j
+  pub kernel : slice_index k.lengths 5 ≡ length k.kernel
+  pub left : slice_index k.lengths 6 + 16 ≡ length k.outputs
+
+-- the run ends with HALT and the outputs
+pub record IsLastRow (k : Claim) (op : Op) (x : List ℕ) : Type 0 where
+  pub halts : is_op op ops.Halt ≡ true
+  pub depth_is : depth x ≡ length k.outputs
+  pub key_is : key x ≡ k.left_key
+  pub outputs : (j : ℕ) → j < 16 → s x j ≡ slice_index k.outputs j
