@@ -6,6 +6,7 @@ ghost use Rattle.air_kit.specs.Rows.{claim_at, spot_at};
 use crate::blocks::block_faults;
 use crate::boundary::boundary_faults;
 use crate::opcode::opcode_faults;
+use crate::quick::is_inner;
 use crate::spans::span_faults;
 use air_kit::{Place, Seen, or_next};
 use vm_field::Felt;
@@ -17,6 +18,9 @@ pub fn first_fault<V: MainView>(place: &Place<'_, V>) -> Option<(u16, Felt)>
 {
     let x = Seen::of(&place.cur);
     let next = seen_next(&place.next);
+    if is_inner(place.row, &x, &next) {
+        return None;
+    }
     let opcode = opcode_faults(place.row, &x, &next);
     let boundary = boundary_faults(place, &x);
     let block = block_faults(&x, &next);

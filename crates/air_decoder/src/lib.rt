@@ -5,6 +5,7 @@ mod blocks;
 mod boundary;
 mod decoder;
 mod opcode;
+mod quick;
 mod spans;
 #[cfg(test)]
 mod tests;

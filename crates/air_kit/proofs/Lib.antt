@@ -1,3 +1,4 @@
 pub mod FlagLemmas
 pub mod DecodeLemmas
 pub mod FaultLemmas
+pub mod ZeroLemmas

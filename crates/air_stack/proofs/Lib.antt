@@ -1,3 +1,4 @@
 pub mod PartLemmas
 pub mod TermLemmas
 pub mod OperandLemmas
+pub mod QuickLemmas

@@ -6,6 +6,7 @@ ghost use Rattle.air_kit.specs.StackValues.{stack_values};
 use crate::cells::cell_fault;
 use crate::depth::depth_fault;
 use crate::operands::operand_fault;
+use crate::quick::is_moved;
 use air_kit::{Place, Seen, or_next};
 use vm_field::Felt;
 use vm_table::MainView;
@@ -15,6 +16,9 @@ pub fn first_fault<V: MainView>(place: &Place<'_, V>) -> Option<(u16, Felt)>
     ensures { result ≡ first_fault_of 115 (stack_values (spot_at V.cells place.now)) }
 {
     let x = Seen::of(&place.cur);
+    if is_moved(&x, &place.next) {
+        return operand_fault(&x, &place.next);
+    }
     let depth = depth_fault(&x, &place.next);
     let cells = cell_fault(&x, &place.next);
     let operands = operand_fault(&x, &place.next);

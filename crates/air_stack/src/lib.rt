@@ -6,6 +6,7 @@ mod depth;
 mod fault;
 mod moves;
 mod operands;
+mod quick;
 #[cfg(test)]
 mod tests;
 

@@ -147,7 +147,7 @@ fn word_term<V: MainView>(j: usize, x: &V, y: &V) -> Felt
 
 // The value of a cell that the operation leaves on top.
 #[tactic(auto, unfolding(air_kit::specs::StackValues::top_term, air_kit::specs::StackValues::left_value, air_kit::specs::StackValues::cells, air_kit::specs::StackValues::function_digest, air_kit::specs::StackValues::seen_of, vm_ops::specs::Step::left_cells, vm_ops::specs::Values::computed), using(crate::proofs::TermLemmas::moved_term))]
-fn top_term<V: MainView>(j: usize, x: &V, y: &V, op: Op) -> Felt
+pub(crate) fn top_term<V: MainView>(j: usize, x: &V, y: &V, op: Op) -> Felt
     requires visible { j < 16 }
     requires left { j < leaves_of op }
     ensures { result ≡ top_term j (V.cells x.now) (V.cells y.now) op }

@@ -1,0 +1,62 @@
+-- What is tested of a row inside a span. Its other entries are 0 because of its operation.
+use Rattle.std.specs.Prelude.{◌≡◌, ◌≢◌, ℕ, ◌<◌, List, Option, Some, None}
+use Rattle.vm_field.specs.Signs.{◌⊞◌, ◌⊟◌, ◌⊠◌}
+use Rattle.vm_ops.specs.Codes.{code_of}
+use Rattle.vm_ops.specs.declared.op.Op.{Op}
+use Rattle.vm_ops.specs.declared.op.Op.TheVariants as ops
+use Rattle.vm_table.specs.MainColumns.{clk, fmp, ctx, sys, f, addr, h, sp, gc, ox, ha, lv}
+use Rattle.air_kit.specs.Flags.{flag}
+use Rattle.air_kit.specs.Places.{first_fault_of}
+use Rattle.air_kit.specs.OpcodeValues.{opcode_values}
+use Rattle.air_kit.specs.BlockValues.{block_values}
+use Rattle.air_kit.specs.SpanValues.{span_values}
+use Rattle.air_decoder.specs.Entries.{spot_of}
+
+-- an ordinary operation but CALLER and FMPUPDATE, which have entries of their own
+pub record IsPlain (op : Op) : Type 0 where
+  pub ordinary : code_of op < 70
+  pub not_caller : code_of op ≢ 9
+  pub not_update : code_of op ≢ 49
+
+-- what a span keeps from row to row
+pub record IsKept (x y : List ℕ) : Type 0 where
+  pub context : ctx y ⊟ ctx x ≡ 0
+  pub frame : fmp y ⊟ fmp x ≡ 0
+  pub mode : sys y ⊟ sys x ≡ 0
+  pub digest_0 : f y 0 ⊟ f x 0 ≡ 0
+  pub digest_1 : f y 1 ⊟ f x 1 ≡ 0
+  pub digest_2 : f y 2 ⊟ f x 2 ≡ 0
+  pub digest_3 : f y 3 ⊟ f x 3 ≡ 0
+  pub block : addr y ⊟ addr x ≡ 0
+  pub level : lv y ⊟ lv x ≡ 0
+  pub batch : ha y ⊟ ha x ≡ 0
+
+-- a group of which that much is left goes on in the next row
+pub record IsGoingOn (x y : List ℕ) (left push : ℕ) : Type 0 where
+  pub inside : sp y ≡ 1
+  pub digits : 128 ⊠ h y 0 ⊟ left ≡ 0
+  pub place : ox y ⊟ ox x ⊟ 1 ≡ 0
+  pub count : gc y ⊟ gc x ⊞ push ⊞ 1 ⊟ 1 ≡ 0
+
+-- behind a group's last row another group begins, or the batch ends
+pub data IsOver (x y : List ℕ) (push : ℕ) : Type 0 where
+  opens : sp y ≡ 1 → ox y ≡ 0 → gc y ⊟ gc x ⊞ push ⊞ 1 ⊟ 0 ≡ 0 → IsOver x y push
+  ends : sp y ≡ 0 → gc x ≡ 0 → IsOver x y push
+
+-- what the tests of a row and the one after it find, beside the group
+pub record IsStep (x y : List ℕ) : Type 0 where
+  pub clock : clk y ⊟ clk x ⊟ 1 ≡ 0
+  pub inside : sp x ≡ 1
+  pub follows : 1 ⊟ sp y ⊟ flag y ops.End ⊟ flag y ops.Respan ≡ 0
+  pub kept : IsKept x y
+
+-- all entries of a row behind the first one are 0
+pub record IsClean (x y : List ℕ) : Type 0 where
+  pub opcode : (n : ℕ) → n ≢ 0 → first_fault_of 1 (opcode_values (spot_of n x (Some y))) ≡ None
+  pub block : first_fault_of 60 (block_values (spot_of 0 x (Some y))) ≡ None
+  pub span : first_fault_of 92 (span_values (spot_of 0 x (Some y))) ≡ None
+
+-- the same of a row that has one behind it
+abbrev pub IsInner : ℕ → List ℕ → Option (List ℕ) → Type 0
+IsInner row x None = ⊥
+IsInner row x (Some y) = (row ≢ 0) × IsClean x y

@@ -1,0 +1,143 @@
+//! A quick test of rows inside a span: only a few of their entries can be other than 0.
+ghost use Rattle.std.specs.Prelude.{◌≡◌, ◌<◌, IsTrue, Some, None, option_map};
+ghost use Rattle.vm_field.specs.Signs.{◌⊟◌};
+ghost use Rattle.vm_ops.specs.declared.op.Op.TheVariants as ops;
+ghost use Rattle.vm_table.specs.MainColumns.{ox, sp};
+ghost use Rattle.air_kit.specs.Flags.{HasOp, flag};
+ghost use Rattle.air_kit.specs.Places.{first_fault_of};
+ghost use Rattle.air_kit.specs.SpanValues.{group_values, rest};
+ghost use Rattle.air_decoder.specs.Entries.{spot_of};
+ghost use Rattle.air_decoder.specs.Quick.{IsClean, IsInner, IsGoingOn, IsKept, IsOver, IsPlain, IsStep};
+
+use air_kit::Seen;
+use vm_field::Felt;
+use vm_ops::{Op, opcode};
+use vm_table::MainView;
+
+/// Whether a row is neither the first nor the last one, shows an operation of a span, and its entries 1 to 114 are 0. Where the
+/// answer is false, they may be 0 all the same.
+pub(crate) fn is_inner<V: MainView>(row: u32, x: &Seen<'_, V>, next: &Option<Seen<'_, V>>) -> bool
+    ensures { IsTrue result → IsInner row (V.cells x.now.row.now) (option_map (λ y. V.cells y.row.now) next.now) }
+{
+    match next {
+        Some(y) => row != 0 && is_clean(x, y),
+        None => false,
+    }
+}
+
+fn is_clean<V: MainView>(x: &Seen<'_, V>, y: &Seen<'_, V>) -> bool
+    ensures { IsTrue result → IsClean (V.cells x.now.row.now) (V.cells y.now.row.now) }
+{
+    let Some(op) = x.operation() else {
+        return false;
+    };
+    if is_plain(op) {
+        if is_step(x.row, y) {
+            return is_group_clean(x, y, op);
+        }
+    }
+    false
+}
+
+fn is_plain(op: Op) -> bool
+    ensures { IsTrue result → IsPlain op }
+{
+    let code = opcode(op);
+    code < 70 && code != 9 && code != 49
+}
+
+fn same(a: Felt, b: Felt) -> bool
+    ensures { IsTrue result → a ⊟ b ≡ 0 }
+{
+    a.value() == b.value()
+}
+
+fn is_zero(a: Felt) -> bool
+    ensures { IsTrue result → a ≡ 0 }
+{
+    a.value() == 0
+}
+
+fn is_one(a: Felt) -> bool
+    ensures { IsTrue result → a ≡ 1 }
+{
+    a.value() == 1
+}
+
+fn is_kept<V: MainView>(x: &V, y: &V) -> bool
+    ensures { IsTrue result → IsKept (V.cells x.now) (V.cells y.now) }
+{
+    same(y.ctx(), x.ctx())
+        && same(y.fmp(), x.fmp())
+        && same(y.sys(), x.sys())
+        && same(y.f0(), x.f0())
+        && same(y.f1(), x.f1())
+        && same(y.f2(), x.f2())
+        && same(y.f3(), x.f3())
+        && same(y.addr(), x.addr())
+        && same(y.lv(), x.lv())
+        && same(y.ha(), x.ha())
+}
+
+fn is_step<V: MainView>(x: &V, y: &Seen<'_, V>) -> bool
+    ensures { IsTrue result → IsStep (V.cells x.now) (V.cells y.now.row.now) }
+{
+    is_zero(y.row.clk() - x.clk() - Felt::ONE)
+        && is_one(x.sp())
+        && is_zero(Felt::ONE - y.row.sp() - y.one(Op::End) - y.one(Op::Respan))
+        && is_kept(x, y.row)
+}
+
+// Whether the group goes on by the rules in the next row.
+fn is_going_on<V: MainView>(x: &V, y: &V, left: Felt, push: Felt) -> bool
+    ensures { IsTrue result → IsGoingOn (V.cells x.now) (V.cells y.now) left push }
+{
+    is_one(y.sp())
+        && is_zero(Felt::from_u32(128) * y.h0() - left)
+        && is_zero(y.ox() - x.ox() - Felt::ONE)
+        && is_zero(y.gc() - x.gc() + push + Felt::ONE - Felt::ONE)
+}
+
+// Whether, behind its last row, another group begins or the batch ends by the rules.
+fn is_over<V: MainView>(x: &V, y: &V, push: Felt) -> bool
+    ensures { IsTrue result → IsOver (V.cells x.now) (V.cells y.now) push }
+{
+    if is_one(y.sp()) {
+        is_zero(y.ox()) && is_zero(y.gc() - x.gc() + push + Felt::ONE - Felt::ZERO)
+    } else {
+        is_zero(y.sp()) && is_zero(x.gc())
+    }
+}
+
+// What is left of the group without the row's operation.
+fn rest<V: MainView>(x: &V, op: Op) -> Felt
+    requires { HasOp (V.cells x.now) op }
+    ensures { result ≡ rest (V.cells x.now) }
+{
+    x.h0() - Felt::from_u32(u32::from(opcode(op)))
+}
+
+fn is_group_clean<V: MainView>(x: &Seen<'_, V>, y: &Seen<'_, V>, op: Op) -> bool
+    requires has { HasOp (V.cells x.now.row.now) op }
+    requires inside { sp (V.cells x.now.row.now) ≡ 1 }
+    ensures { IsTrue result → first_fault_of 107 (group_values (spot_of 0 (V.cells x.now.row.now) (Some (V.cells y.now.row.now)))) ≡ None }
+{
+    if x.row.ox().value() > 8 {
+        return false;
+    }
+    let left = rest(x.row, op);
+    let push = x.one(Op::Push);
+    if is_one(left * x.row.w3()) {
+        is_going_on(x.row, y.row, left, push)
+    } else if is_zero(left) {
+        if is_one(push) {
+            is_going_on(x.row, y.row, left, push)
+        } else if is_zero(push) {
+            is_over(x.row, y.row, push)
+        } else {
+            false
+        }
+    } else {
+        false
+    }
+}
