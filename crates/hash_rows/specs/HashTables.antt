@@ -25,19 +25,19 @@ pub record Fit (constants : List ℕ) (perms : List Perm) : Type 0 where
   pub states : All (λ p. IsState p.start) perms
 
 -- on the hasher's bus the rows give what the permutations give
-abbrev pub Gives : List ℕ → List Perm → List (List ℕ) → Type 0
-Gives constants perms rows =
+abbrev pub GivesPerms : List ℕ → List Perm → List (List ℕ) → Type 0
+GivesPerms constants perms rows =
     (u : List ℕ) → over_rows (chip_given bus.Hasher table.Hasher) rows u ≡ counted (perms_given constants 1 perms) u
 
 -- the rows are those of the permutations that they show
 pub record AreRows (constants : List ℕ) (rows : List (List ℕ)) : Type 0 where
   pub fit : Fit constants (perms_in rows)
   pub rows_are : rows ≡ rows_of constants (perms_in rows)
-  pub given : Gives constants (perms_in rows) rows
+  pub given : GivesPerms constants (perms_in rows) rows
 
 -- rows that show these permutations and no more, and whose entries are 0
 pub record ShowsPerms (c : Claim) (perms : List Perm) (rows : List (List ℕ)) : Type 0 where
   pub size : length rows ≡ 8 * length perms
   pub zero : IsZero c rows
   pub perms_are : perms_in rows ≡ perms
-  pub given : Gives c.constants perms rows
+  pub given : GivesPerms c.constants perms rows

@@ -1,3 +1,4 @@
 pub mod ConstantLemmas
 pub mod Digits
 pub mod ReadingLemmas
+pub mod InForm

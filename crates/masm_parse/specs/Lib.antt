@@ -8,3 +8,4 @@ pub mod Grammar
 pub mod Refusals
 pub mod Locals
 pub mod Order
+pub mod Forms

@@ -1,3 +1,4 @@
+ghost use Rattle.masm_parse.specs.Forms.{TreesAreInForm};
 ghost use Rattle.masm_parse.specs.Locals.{LocalsFit};
 ghost use Rattle.masm_parse.specs.Order.{TreesAreInOrder, ProceduresAscend};
 ghost use Rattle.masm_parse.specs.Refusals.{LeastRefusal, ParsesOnce};
@@ -12,6 +13,12 @@ pub fn least_refusal()
 /// Each local that an instruction names is one of its procedure's.
 pub fn locals_fit()
     ensures { LocalsFit }
+{}
+
+/// Each instruction of a tree has as many numbers as its name takes, each in its range, and no
+/// procedure has more than 65,535 locals.
+pub fn trees_are_in_form()
+    ensures { TreesAreInForm }
 {}
 
 /// The constants of a tree stand in it in the order of its source, and so do its procedures, with

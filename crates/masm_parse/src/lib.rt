@@ -13,7 +13,7 @@ mod refusal;
 mod terminal;
 mod tree;
 
-pub use laws::{least_refusal, locals_fit, trees_are_in_order};
+pub use laws::{least_refusal, locals_fit, trees_are_in_form, trees_are_in_order};
 pub use parsing::parse;
 pub use refusal::{Cause, ParseError, cause_text};
 pub use terminal::Leaf;

@@ -6,8 +6,8 @@ use Rattle.number_files.specs.declared.numbers.NumbersError.{NumbersError}
 use Rattle.number_files.specs.declared.numbers.NumbersStop.{NumbersStop}
 use Rattle.number_files.specs.declared.numbers.NumbersStop.TheVariants.{Malformed, Memory}
 
--- the elements, or the line that is wrong; want of memory says nothing
-abbrev pub ReadsNumbers : Result (Vec ℕ Global) NumbersStop → Result (List ℕ) NumbersError → Type 0
-ReadsNumbers (Ok elements) read = read ≡ Ok elements.items
-ReadsNumbers (Err (Malformed e)) read = read ≡ Err e
-ReadsNumbers (Err Memory) read = Unit {0}
+-- An answer is the elements or the wrong line of the definition, or the want of memory.
+abbrev pub Gives : Result (Vec ℕ Global) NumbersStop → Result (List ℕ) NumbersError → Type 0
+Gives (Ok elements) defined = defined ≡ Ok elements.items
+Gives (Err (Malformed e)) defined = defined ≡ Err e
+Gives (Err Memory) defined = Unit {0}

@@ -4,8 +4,8 @@ use Rattle.vm_table.specs.declared.table.Table.{Table}
 use Rattle.strip_table.specs.declared.reading.StripError.{StripError}
 use Rattle.strip_table.specs.declared.reading.StripError.TheVariants.{Malformed, Memory}
 
--- the rows, or `Malformed` where there are none; want of memory says nothing
-abbrev pub ReadsStrip : Result (Table 23) StripError → Option (List (List ℕ)) → Type 0
-ReadsStrip (Ok table) rows = rows ≡ Some table
-ReadsStrip (Err Malformed) rows = rows ≡ None
-ReadsStrip (Err Memory) rows = Unit {0}
+-- An answer is the rows of the definition, or `Malformed` where it has none, or the want of memory.
+abbrev pub Gives : Result (Table 23) StripError → Option (List (List ℕ)) → Type 0
+Gives (Ok table) defined = defined ≡ Some table
+Gives (Err Malformed) defined = defined ≡ None
+Gives (Err Memory) defined = Unit {0}

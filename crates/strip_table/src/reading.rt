@@ -1,6 +1,6 @@
 ghost use Rattle.std.specs.Prelude.{◌≡◌, ◌+◌, ◌*◌, ◌^◌, ◌≤◌, drop, length, IfOk, IfSome};
 ghost use Rattle.strip_table.specs.Grammar.{headed, element_in, row_in, rows_in, strip_of};
-ghost use Rattle.strip_table.specs.Reads.{ReadsStrip};
+ghost use Rattle.strip_table.specs.Reads.{Gives};
 
 use byteorder::{ByteOrder, LittleEndian};
 use std::alloc::Global;
@@ -41,7 +41,7 @@ const MOST_ROWS: usize = 524288;
 /// The table of a strip's rows. `Malformed` comes exactly where the bytes are no strip.
 #[tactic(auto, unfolding(crate::specs::Grammar::strip_of))]
 pub fn read_strip(alloc: Global, bytes: &[u8]) -> Result<Table<23>, StripError>
-    ensures reads { ReadsStrip result (strip_of bytes.now) }
+    ensures reads { Gives result (strip_of bytes.now) }
     ensures some { IfOk result (λ table. 1 ≤ length table) }
     ensures few { IfOk result (λ table. length table ≤ 2 ^ 19) }
 {
@@ -81,7 +81,7 @@ fn part_from(bytes: &[u8], at: usize) -> &[u8]
 fn read_rows(alloc: Global, bytes: &[u8], count: usize) -> Result<Table<23>, StripError>
     requires few { count ≤ 2 ^ 19 }
     requires whole { length bytes.now ≡ 184 * count }
-    ensures reads { ReadsStrip result (rows_in count bytes.now) }
+    ensures reads { Gives result (rows_in count bytes.now) }
     ensures rows { IfOk result (λ table. length table ≡ count) }
 {
     let mut table = Table::new(alloc);
