@@ -84,6 +84,7 @@ fn told<const N: usize>(entry: &Entry<N>) -> Unequal
 #[derive(Drop)]
 pub struct Counts<const N: usize> {
     pub both: HashMap<[Felt; N], Both>,
+    ghost few: { N ≤ 14 },
 }
 
 impl<const N: usize> Counts<N> {

@@ -1,11 +1,16 @@
-//! A trace is checked: the first entry that is not 0, or none (docs/CONSTRAINTS.md).
+//! A trace is checked: it is accepted, or refused at its first fault or at the first bus that is apart (docs/CONSTRAINTS.md).
 #![tactic(auto)]
 
+mod checking;
+mod counting;
 mod counts;
+mod refusal;
 mod rows;
 mod setting;
 #[cfg(test)]
 mod tests;
 
+pub use checking::{Valid, check};
 pub use counts::has_counts;
+pub use refusal::Refused;
 pub use rows::check_rows;

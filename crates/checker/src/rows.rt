@@ -73,7 +73,8 @@ fn table_fault(trace: &Trace, setting: &Setting<'_>, name: TableName) -> Option<
     None
 }
 
-fn rows_in(trace: &Trace, name: TableName) -> usize
+/// How many rows a table has.
+pub(crate) fn rows_in(trace: &Trace, name: TableName) -> usize
     requires counts { HasCounts trace.now }
     ensures is { result ≡ length (rows_of trace.now name) }
     ensures few { result < 2 ^ 32 }

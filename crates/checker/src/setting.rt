@@ -21,7 +21,8 @@ impl<'a> Setting<'a> {
     /// That of a trace.
     pub(crate) fn of(trace: &Trace, public: &'a Public) -> Setting<'a>
         requires { HasCounts trace.now }
-        ensures { claim_in result ≡ claim_of public.entry.now trace.now }
+        ensures claim { claim_in result ≡ claim_of public.entry.now trace.now }
+        ensures public { result.public.now ≡ public.entry.now }
     {
         Setting {
             public,
@@ -39,6 +40,7 @@ impl<'a> Setting<'a> {
         requires within { i < length table.now }
         requires small { i < 2 ^ 32 }
         ensures claim { claim_at result ≡ claim_in self.now }
+        ensures public { result.public.now ≡ self.now.public.now }
         ensures spot { spot_at row_cells result ≡ spot_of table.now i }
     {
         let rows = table.rows();

@@ -1,0 +1,13 @@
+//! Tests of checking: traces made by hand, with what is answered of them.
+#![tactic(auto)]
+
+#[cfg(test)]
+mod cases;
+#[cfg(test)]
+mod making;
+#[cfg(test)]
+mod programs;
+#[cfg(test)]
+mod runs;
+#[cfg(test)]
+mod tests;

@@ -1,0 +1,194 @@
+-- Rows counted one after another, and tables.
+use Rattle.std.proofs.Common.{◌≡◌, ℕ, zero, suc, ◌+◌, ◌*◌, ◌^◌, ◌<◌, ◌≤◌, ◌==◌, true, false, if◌then◌else◌, List, [], ◌∷◌, ◌++◌, length, slice_get, slice_index_or, Option, Some, None, Result, Ok, Err, OnOk, OnSome, refl, sym, ap, subst, ◌∙◌, add-one, arith, lit≤}
+use Rattle.std.proofs.lemmas.Bool.{eqb-true}
+use Rattle.std.specs.Result.{result_ok}
+use Rattle.air_kit.specs.Acceptance.{AreZero, asked_on, given_on, statement_given}
+use Rattle.air_kit.specs.ChipTuples.{chip_asked, chip_given}
+use Rattle.air_kit.specs.MainTuples.{main_given}
+use Rattle.air_kit.specs.MainValues.{main_values}
+use Rattle.air_kit.specs.Places.{Claim, Spot}
+use Rattle.air_kit.specs.Tables.{table_number}
+use Rattle.air_kit.specs.Traces.{HasCounts, most_rows, rows_of, spot_of}
+use Rattle.air_kit.specs.declared.trace.TableName.{TableName}
+use Rattle.air_kit.specs.declared.trace.TableName.TheVariants as table
+use Rattle.air_kit.specs.declared.trace.Trace.{Trace}
+use Rattle.buses.specs.Counts.{Counted, OfRow, at_row, counted, over_first, over_rows, total, with_next}
+use Rattle.buses.specs.declared.bus.Bus.{Bus}
+use Rattle.bus_kit.specs.ByBus.{AreCounted, HaveRoom, asked_by, given_by}
+use Rattle.bus_kit.specs.declared.tallies.Tallies.{Tallies}
+use Rattle.bus_main.specs.RowTuples.{main_given_at}
+use Rattle.row_facts.proofs.BatchFacts.{batch_row}
+use Rattle.row_facts.proofs.OpcodeFacts.{main_parts, opcode_bits}
+use Rattle.row_facts.proofs.Zeros.{numbers_zero}
+use Rattle.vm_table.specs.Layout.{IsTable}
+use Rattle.checker.specs.Counting.{AreReadable, AreRowsCounted, AreWithin, IsRowCounted, IsTableCounted, IsTraceCounted, asked_of, given_of, room_before, room_behind}
+
+-- no row
+pub none_counted : (c : Claim) (digest : List ℕ) (t : Trace) (name : TableName) (a : Tallies) → AreRowsCounted c digest t name 0 a a
+unfolding over_first total
+none_counted c digest t name a = record {
+  asked_is = λ bus u. omega arith;
+  given_is = λ bus u. omega arith;
+  asked_grows = λ bus u. omega arith;
+  given_grows = λ bus u. omega arith;
+}
+
+total_more : (n : ℕ) (f : ℕ → ℕ) → total (n + 1) f ≡ total n f + f n
+unfolding total
+total_more n f = rw add-one refl
+
+over_more : (tuples : OfRow) (rows : List (List ℕ)) (n : ℕ) (u : List ℕ)
+    → over_first tuples rows (n + 1) u ≡ over_first tuples rows n u + counted (at_row tuples rows n) u
+unfolding over_first
+over_more tuples rows n u = total_more n (λ i. counted (at_row tuples rows i) u)
+
+-- one row more
+pub one_more_counted : (c : Claim) (digest : List ℕ) (t : Trace) (name : TableName) (n : ℕ) (a b e : Tallies)
+    → AreRowsCounted c digest t name n a b → IsRowCounted c digest t name n b e → AreRowsCounted c digest t name (n + 1) a e
+one_more_counted c digest t name n a b e p q = record {
+  asked_is = λ bus u.
+    let before = p.asked_is bus u in
+    let row = (q bus).asked_is u in
+    let more = over_more (asked_of c bus name) (rows_of t name) n u in
+    omega (arith, before, row, more);
+  given_is = λ bus u.
+    let before = p.given_is bus u in
+    let row = (q bus).given_is u in
+    let more = over_more (given_of digest bus name) (rows_of t name) n u in
+    omega (arith, before, row, more);
+  asked_grows = λ bus u. let before = p.asked_grows bus u in let row = (q bus).asked_grows u in omega (arith, before, row);
+  given_grows = λ bus u. let before = p.given_grows bus u in let row = (q bus).given_grows u in omega (arith, before, row);
+}
+
+number_small : (name : TableName) → table_number name ≤ 6
+number_small table.Main = lit≤ tt
+number_small table.Range = lit≤ tt
+number_small table.Hasher = lit≤ tt
+number_small table.Bitwise = lit≤ tt
+number_small table.Memory = lit≤ tt
+number_small table.Kernel = lit≤ tt
+number_small table.Left = lit≤ tt
+
+-- there is room for one row more
+pub room_for_row : (c : Claim) (digest : List ℕ) (t : Trace) (name : TableName) (n : ℕ) (a b : Tallies)
+    → AreWithin (room_before name) a → AreRowsCounted c digest t name n a b → n < 2 ^ 32 → HaveRoom b
+room_for_row c digest t name n a b within p few bus u =
+    let start = within bus u in
+    let number = number_small name in
+    let asked = p.asked_grows bus u in
+    let given = p.given_grows bus u in
+    (omega (arith, start.0, number, asked, few), omega (arith, start.1, number, given, few))
+
+most_few : (name : TableName) → most_rows name ≤ 2 ^ 22
+most_few table.Main = lit≤ tt
+most_few table.Range = lit≤ tt
+most_few table.Hasher = lit≤ tt
+most_few table.Bitwise = lit≤ tt
+most_few table.Memory = lit≤ tt
+most_few table.Kernel = lit≤ tt
+most_few table.Left = lit≤ tt
+
+-- and behind the table for the next one
+pub room_for_table : (c : Claim) (digest : List ℕ) (t : Trace) (name : TableName) (a b : Tallies)
+    → HasCounts t → AreWithin (room_before name) a → IsTableCounted c digest t name a b → AreWithin (room_behind name) b
+room_for_table c digest t name a b counts within p bus u =
+    let start = within bus u in
+    let few = counts.most name in
+    let most = most_few name in
+    let asked = p.asked_grows bus u in
+    let given = p.given_grows bus u in
+    (omega (arith, start.0, few, most, asked), omega (arith, start.1, few, most, given))
+
+-- what was counted where there was memory
+pub as_option : {E : Type 0} (P : Type 0) (r : Result (Unit {0}) E) (o : Option (Unit {0})) → o ≡ result_ok r → OnOk r P → OnSome o P
+as_option P (Ok v) o is h = subst (λ x. OnSome x P) (sym is) h
+as_option P (Err e) o is h = subst (λ x. OnSome x P) (sym is) tt
+
+-- what a function of places counted, of another name and place that are the same
+pub row_counted : {E : Type 0} (r : Result (Unit {0}) E) (o : Option (Unit {0})) (c d : Claim) (p q : Spot) (digest word : List ℕ) (old new : Tallies)
+    (asked : Claim → Spot → Bus → List Counted) (given : List ℕ → Spot → Bus → List Counted)
+    → o ≡ result_ok r → c ≡ d → p ≡ q → digest ≡ word → OnOk r (AreCounted (2 ^ 66) old new (asked c p) (given digest p))
+    → OnSome o (AreCounted (2 ^ 66) old new (asked d q) (given word q))
+row_counted r o c d p q digest word old new asked given is same there alike h =
+    subst (λ w. OnSome o (AreCounted (2 ^ 66) old new (asked d q) (given w q))) alike
+    (subst (λ s. OnSome o (AreCounted (2 ^ 66) old new (asked d s) (given digest s))) there
+    (subst (λ k. OnSome o (AreCounted (2 ^ 66) old new (asked k p) (given digest p))) same
+    (as_option (AreCounted (2 ^ 66) old new (asked c p) (given digest p)) r o is h)))
+
+counted_append : (xs ys : List Counted) (u : List ℕ) → counted (xs ++ ys) u ≡ counted xs u + counted ys u
+unfolding counted
+counted_append [] ys u = omega arith
+counted_append (x ∷ xs) ys u = let rest = counted_append xs ys u in omega (arith, rest)
+
+suc_apart : (i : ℕ) → (suc i == 0) ≡ false
+suc_apart i = elim (suc i == 0) as (λ b. (suc i == 0) ≡ b → b ≡ false) [ true ↦ λ e. absurd (let same = eqb-true (suc i) 0 e in omega (arith, same)) | false ↦ λ _. refl ] refl
+
+-- a row of the main table but the first
+behind_first : (digest : List ℕ) (bus : Bus) (rows : List (List ℕ)) (i : ℕ) (u : List ℕ)
+    → counted (at_row (main_given_at digest bus) rows (suc i)) u ≡ counted (at_row (with_next (main_given bus)) rows (suc i)) u
+behind_first digest bus rows i u = rw (suc_apart i) refl
+
+-- the statement's tuples stand before those of the first row
+main_given_first : (digest : List ℕ) (bus : Bus) (rows : List (List ℕ)) (n : ℕ) (u : List ℕ)
+    → over_first (main_given_at digest bus) rows (suc n) u ≡ counted (statement_given bus digest) u + over_first (with_next (main_given bus)) rows (suc n) u
+unfolding over_first total
+main_given_first digest bus rows zero u =
+    let first = counted_append (statement_given bus digest) (at_row (with_next (main_given bus)) rows 0) u in omega (arith, first)
+main_given_first digest bus rows (suc n) u =
+    let before = main_given_first digest bus rows n u in let last = behind_first digest bus rows n u in omega (arith, before, last)
+
+main_given_rows : (digest : List ℕ) (bus : Bus) (rows : List (List ℕ)) (n : ℕ) (u : List ℕ) → 1 ≤ n
+    → over_first (main_given_at digest bus) rows n u ≡ counted (statement_given bus digest) u + over_first (with_next (main_given bus)) rows n u
+main_given_rows digest bus rows zero u some = absurd (omega (arith, some))
+main_given_rows digest bus rows (suc n) u some = main_given_first digest bus rows n u
+
+-- all tables
+pub trace_counted : (c : Claim) (digest : List ℕ) (t : Trace) (none main range hasher bitwise memory kernel left : Tallies) → HasCounts t
+    → ((bus : Bus) (u : List ℕ) → asked_by none bus u ≡ 0) → ((bus : Bus) (u : List ℕ) → given_by none bus u ≡ 0)
+    → IsTableCounted c digest t table.Main none main → IsTableCounted c digest t table.Range main range
+    → IsTableCounted c digest t table.Hasher range hasher → IsTableCounted c digest t table.Bitwise hasher bitwise
+    → IsTableCounted c digest t table.Memory bitwise memory → IsTableCounted c digest t table.Kernel memory kernel
+    → IsTableCounted c digest t table.Left kernel left → IsTraceCounted c digest t left
+unfolding asked_on given_on
+trace_counted c digest t none main range hasher bitwise memory kernel left counts none_asked none_given by_main by_range by_hasher by_bitwise by_memory by_kernel by_left = record {
+  asked = λ bus u.
+    let h0 = none_asked bus u in
+    let h1 = by_main.asked_is bus u in
+    let h2 = by_range.asked_is bus u in
+    let h3 = by_hasher.asked_is bus u in
+    let h4 = by_bitwise.asked_is bus u in
+    let h5 = by_memory.asked_is bus u in
+    let h6 = by_kernel.asked_is bus u in
+    let h7 = by_left.asked_is bus u in
+    omega (arith, h0, h1, h2, h3, h4, h5, h6, h7);
+  given = λ bus u.
+    let h0 = none_given bus u in
+    let h1 = by_main.given_is bus u in
+    let statement = main_given_rows digest bus t.main (length t.main) u counts.main in
+    let h2 = by_range.given_is bus u in
+    let h3 = by_hasher.given_is bus u in
+    let h4 = by_bitwise.given_is bus u in
+    let h5 = by_memory.given_is bus u in
+    let h6 = by_kernel.given_is bus u in
+    let h7 = by_left.given_is bus u in
+    omega (arith, h0, h1, statement, h2, h3, h4, h5, h6, h7);
+}
+
+-- a row that is counted under the table's name
+pub row_named : (o : Option (Unit {0})) (c : Claim) (digest : List ℕ) (t : Trace) (name other : TableName) (i : ℕ) (old new : Tallies)
+    → name ≡ other → OnSome o (IsRowCounted c digest t other i old new) → OnSome o (IsRowCounted c digest t name i old new)
+row_named o c digest t name other i old new same h = subst (λ n. OnSome o (IsRowCounted c digest t n i old new)) (sym same) h
+
+-- a table without rows has none of this number
+pub no_row : (t : Trace) (name other : TableName) (i : ℕ) → name ≡ other → length (rows_of t other) ≤ 0 → i < length (rows_of t name) → ⊥
+no_row t name other i same none within = let h = subst (λ n. i < length (rows_of t n)) same within in omega (arith, h, none)
+
+-- the main table's rows can be read where all entries are 0
+pub all_readable : (c : Claim) (t : Trace) → IsTable 65 t.main → AreZero c t → AreReadable t.main
+all_readable c t shape none i within =
+    let zeros = numbers_zero (main_values c (spot_of t.main i)) (λ number. none table.Main i number within) in
+    let low = shape.below i in
+    record {
+      bits = opcode_bits (spot_of t.main i) low (main_parts c (spot_of t.main i) zeros).opcode;
+      batch = λ is. (batch_row c (spot_of t.main i) low zeros is).room;
+    }

@@ -1,0 +1,83 @@
+ghost use Rattle.std.specs.Prelude.{◌≡◌, OnOk, IfOk, IfErr};
+ghost use Rattle.air_kit.specs.Acceptance.{AreZero, IsAccepted};
+ghost use Rattle.air_kit.specs.Traces.{HasCounts, claim_of};
+ghost use Rattle.checker.specs.Refusals.{IsBusesAnswer, IsRefusal};
+
+use crate::counting::count_all;
+use crate::refusal::{Refused, first_apart};
+use crate::rows::check_rows;
+use crate::setting::Setting;
+use air_kit::{Public, Trace};
+use std::alloc::Global;
+use vm_io::Gate;
+
+/// A trace that is accepted for what it was checked against.
+#[derive(Drop)]
+pub struct Valid {
+    trace: Trace,
+    public: Public,
+    ghost accepted: { IsAccepted public trace },
+}
+
+impl Valid {
+    /// The trace.
+    pub fn trace(&self) -> &Trace
+        ensures is { result.now ≡ self.now.trace }
+        ensures accepted { IsAccepted self.now.public result.now }
+    {
+        &self.trace
+    }
+
+    /// What it was checked against.
+    pub fn public(&self) -> &Public
+        ensures is { result.now ≡ self.now.public }
+        ensures accepted { IsAccepted result.now self.now.trace }
+    {
+        &self.public
+    }
+}
+
+/// Checks a trace: it is accepted exactly where each entry of each row is 0 and each bus has each tuple asked as often as given.
+/// Else the answer is the first fault by table, row and number; where there is none, the first bus that is apart, with the least
+/// tuple and both its counts. Memory is asked for only where no row has a fault. The rows are tested in so many pieces, of which
+/// each goes through the gate; so far there is one.
+pub fn check<G: Gate>(
+    alloc: Global,
+    trace: Trace,
+    public: Public,
+    pieces: usize,
+    gate: &G,
+) -> Result<Valid, Refused>
+    requires counts { HasCounts trace }
+    requires pieces { pieces ≡ 1 }
+    ensures ok { OnOk result (IsAccepted public trace) }
+    ensures trace { IfOk result (λ valid. valid.trace ≡ trace) }
+    ensures public { IfOk result (λ valid. valid.public ≡ public) }
+    ensures err { IfErr result (IsRefusal public trace) }
+{
+    if let Some(fault) = check_rows(&trace, &public, pieces, gate) {
+        return Err(Refused::Fault(fault));
+    }
+    match refused_by_buses(alloc, &trace, &public) {
+        None => Ok(Valid { trace, public }),
+        Some(refused) => Err(refused),
+    }
+}
+
+// Why the buses refuse a trace of which no row has a fault; none where they do not.
+fn refused_by_buses(alloc: Global, trace: &Trace, public: &Public) -> Option<Refused>
+    requires counts { HasCounts trace.now }
+    requires zero { AreZero (claim_of public.now trace.now) trace.now }
+    ensures { IsBusesAnswer public.now trace.now result }
+{
+    // a table says of its rows that they are elements
+    let _ = trace.main.rows();
+    let setting = Setting::of(trace, public);
+    let Some(tallies) = count_all(alloc, trace, &setting) else {
+        return Some(Refused::Memory);
+    };
+    match first_apart(&tallies) {
+        Some(apart) => Some(apart.refused()),
+        None => None,
+    }
+}
