@@ -78,7 +78,7 @@ loops_given x y = if is_op (op_of x) ops.Loop then record { tuple = addr y ∷ f
 unfoldable pub loops_asked : List ℕ → List ℕ → List Counted
 loops_asked x y = if is_op (op_of x) ops.Repeat then once (addr x ∷ front x) ∷ [] else []
 
--- Groups: the batch, how many positions are left behind this one, and the element.
+-- Groups: the batch, how many positions are left with this one, and the element.
 -- the positions in use
 unfoldable pub positions : List ℕ → ℕ
 positions x = 1 ⊞ 7 ⊠ c x 0 ⊞ 3 ⊠ c x 1 ⊞ c x 2
@@ -86,7 +86,7 @@ positions x = 1 ⊞ 7 ⊠ c x 0 ⊞ 3 ⊠ c x 1 ⊞ c x 2
 -- so many positions from position q on
 unfoldable pub groups_from : List ℕ → List ℕ → ℕ → ℕ → List Counted
 groups_from x y q zero = []
-groups_from x y q (suc n) = once (ha y ∷ n ∷ h x q ∷ []) ∷ groups_from x y (suc q) n
+groups_from x y q (suc n) = once (ha y ∷ suc n ∷ h x q ∷ []) ∷ groups_from x y (suc q) n
 
 abbrev pub is_batch_op : Op → Bool
 is_batch_op op = is_op op ops.Span || is_op op ops.Respan

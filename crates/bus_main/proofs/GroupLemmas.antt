@@ -64,20 +64,20 @@ pub given_below_one : (x y : List ℕ) (count : ℕ) (t : Tally) → AreGivenBel
 given_below_one x y count t = record { rest = λ new p. p; grows = λ u. omega arith }
 
 -- one position more
-one_more_group : (x y : List ℕ) (q m : ℕ) (now mid new : Tally) (t : List ℕ) → t ≡ ha y ∷ m ∷ h x q ∷ [] → IsCounted 1 now mid [] (once t ∷ [])
+one_more_group : (x y : List ℕ) (q m : ℕ) (now mid new : Tally) (t : List ℕ) → t ≡ ha y ∷ suc m ∷ h x q ∷ [] → IsCounted 1 now mid [] (once t ∷ [])
     → IsCounted m mid new [] (groups_from x y (suc q) m) → IsCounted (suc m) now new [] (groups_from x y q (suc m))
 unfolding groups_from
 one_more_group x y q m now mid new t tuple p rest =
     rw (← tuple) (given_first 1 m (suc m) now mid new (once t ∷ []) [] (groups_from x y (suc q) m) p rest (omega arith))
 
-pub given_below_more : (x y : List ℕ) (count q left : ℕ) (old now mid : Tally) (t : List ℕ) → q < count → left ≡ count - 1 - q → t ≡ ha y ∷ left ∷ h x q ∷ []
+pub given_below_more : (x y : List ℕ) (count q left : ℕ) (old now mid : Tally) (t : List ℕ) → q < count → left ≡ count - q → t ≡ ha y ∷ left ∷ h x q ∷ []
     → IsCounted 1 now mid [] (once t ∷ []) → AreGivenBelow x y count q old now → AreGivenBelow x y count (q + 1) old mid
 given_below_more x y count q left old now mid t within is tuple p before =
-    let here : count - q ≡ suc left = omega arith in
-    let there : count - (q + 1) ≡ left = omega arith in
+    let here : count - q ≡ suc (count - (q + 1)) = omega arith in
+    let named : t ≡ ha y ∷ suc (count - (q + 1)) ∷ h x q ∷ [] = tuple ∙ ap (λ k. ha y ∷ k ∷ h x q ∷ []) (is ∙ here) in
     record {
-      rest = λ new rest. before.rest new (rw here (one_more_group x y q left now mid new t tuple p
-          (subst (λ k. IsCounted left mid new [] (groups_from x y k left)) (add-one q) (rw there at rest))));
+      rest = λ new rest. before.rest new (rw here (one_more_group x y q (count - (q + 1)) now mid new t named p
+          (subst (λ k. IsCounted (count - (q + 1)) mid new [] (groups_from x y k (count - (q + 1)))) (add-one q) rest)));
       grows = λ u. let grown = p.given_grows u in let had = before.grows u in omega arith;
     }
 

@@ -1,3 +1,4 @@
+pub mod OpcodeLemmas
 pub mod TwoLemmas
 pub mod BlockLemmas
 pub mod StackLemmas

@@ -16,8 +16,8 @@ pub fn op_in<V: MainView>(row: &V) -> Op
     from_opcode(code_in(row)).unwrap_or(Op::Noop)
 }
 
-// The number that the bits spell.
-fn code_in<V: MainView>(row: &V) -> u8
+/// The number that the bits of such a row spell.
+pub fn code_in<V: MainView>(row: &V) -> u8
     requires { HasBits (V.cells row.now) }
     ensures { result ≡ spelled 7 (b (V.cells row.now)) }
 {

@@ -14,5 +14,7 @@ mod overflow;
 mod place;
 mod range;
 mod step;
+#[cfg(test)]
+mod tests;
 
 pub use place::tuples;

@@ -40,6 +40,7 @@ pub fn step<V: MainView>(x: &V, y: &V, tallies: &mut Tallies) -> Result<(), Memo
 // An ordinary operation has no tuple of blocks.
 fn ordinary<V: MainView>(op: Op, x: &V, y: &V, tallies: &mut Tallies) -> Result<(), Memory>
     requires op { op ≡ op_of (V.cells x.now) }
+    requires bits { HasBits (V.cells x.now) }
     requires ordinary { is_ordinary_op op ≡ true }
     requires room { HaveSpace tallies.old }
     ensures { OnOk result (AreCounted (2 ^ 65) tallies.old tallies.new
@@ -56,6 +57,7 @@ fn ordinary<V: MainView>(op: Op, x: &V, y: &V, tallies: &mut Tallies) -> Result<
 // Another one has none of bitwise operations or of memory.
 fn control<V: MainView>(op: Op, x: &V, y: &V, tallies: &mut Tallies) -> Result<(), Memory>
     requires op { op ≡ op_of (V.cells x.now) }
+    requires bits { HasBits (V.cells x.now) }
     requires control { is_ordinary_op op ≡ false }
     requires batch { is_batch_op op ≡ true → positions (V.cells x.now) ≤ 8 }
     requires next { HasBits (V.cells y.now) }
