@@ -15,7 +15,7 @@ hot op other = cond (is_op op other) 1 0
 turned : (op other : Op) → one_hot op other ≡ hot op other
 turned op other = grind (arith, nat_tests)
 
-one_hot_is : (op : Op) → one_hot op ≡ hot op
+pub one_hot_is : (op : Op) → one_hot op ≡ hot op
 one_hot_is op = fun_ext (turned op)
 
 pub hot_is : {x : List ℕ} {op : Op} → HasOp x op → flag x ≡ hot op

@@ -11,3 +11,4 @@ pub mod SpotSays
 pub mod Shown
 pub mod Zeroed
 pub mod DepthFacts
+pub mod CellFacts
