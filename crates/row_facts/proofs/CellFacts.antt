@@ -235,7 +235,7 @@ abbrev pub BelowFact : Op → ℕ → List ℕ → List ℕ → Type 0
 BelowFact op j x y =
     (is_left op && eqb j 15 ≡ true → depth x ≡ 16 → s y 15 ≡ 0) × (is_left op && eqb j 15 ≡ false → s y j ≡ s x (j + takes_of op - leaves_of op))
 
-eqb_of : (i k : ℕ) → i ≡ k → eqb i k ≡ true
+pub eqb_of : (i k : ℕ) → i ≡ k → eqb i k ≡ true
 eqb_of i k e = grind (arith, nat_tests)
 
 below_says : (op : Op) (j : ℕ) (x y : List ℕ) → Low x → Low y → Witness x → Says (below_term j x y op) (BelowFact op j x y)
@@ -278,7 +278,7 @@ CellFact op j x y =
     (is_op op ops.End ≡ true → EndFact j x y)
     × (is_op op ops.End ≡ false → (nat_lt j (leaves_of op) ≡ true → TopFact op j x y) × (nat_lt j (leaves_of op) ≡ false → BelowFact op j x y))
 
-less_of : (i k : ℕ) → nat_lt i k ≡ true → i < k
+pub less_of : (i k : ℕ) → nat_lt i k ≡ true → i < k
 less_of i k e = grind (arith, nat_tests)
 
 term_says : (op : Op) (j : ℕ) (x y : List ℕ) → Low x → Low y → Witness x → (is_op op ops.End ≡ true → IsEndRow x) → (tests_top op ≡ true → s x 0 < 2)

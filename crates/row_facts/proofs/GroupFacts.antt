@@ -250,10 +250,10 @@ goes_shown op next x y false true false eu eg en k = off (holds k.next_row)
 goes_shown op next x y false false true eu eg en k = opens eu en (same_where (h x 0) (code_of op) eg) (opened k.opens_at) (holds k.count)
 goes_shown op next x y false false false eu eg en k = ends eu en (same_where (h x 0) (code_of op) eg) (holds_not k.ends_at)
 
-is_over : (i k : ℕ) → i ≢ k → not (eqb i k) ≡ true
+pub is_over : (i k : ℕ) → i ≢ k → not (eqb i k) ≡ true
 is_over i k apart = grind (arith, nat_tests)
 
-not_over : (i k : ℕ) → i ≡ k → not (eqb i k) ≡ false
+pub not_over : (i k : ℕ) → i ≡ k → not (eqb i k) ≡ false
 not_over i k e = grind (arith, nat_tests)
 
 moved : (op : Op) (x y : List ℕ) (u g n u1 g1 n1 : Bool) → u ≡ u1 → g ≡ g1 → n ≡ n1 → Goes op x y u1 g1 n1 → Goes op x y u g n

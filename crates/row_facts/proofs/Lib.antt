@@ -12,3 +12,4 @@ pub mod Shown
 pub mod Zeroed
 pub mod DepthFacts
 pub mod CellFacts
+pub mod StackFacts

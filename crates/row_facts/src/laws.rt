@@ -6,9 +6,12 @@ ghost use Rattle.air_kit.specs.Flags.{HasOp, op_of};
 ghost use Rattle.air_kit.specs.MainTuples.{is_batch_op};
 ghost use Rattle.air_kit.specs.MainValues.{decoder_values, main_values};
 ghost use Rattle.air_kit.specs.Places.{Claim, Spot};
+ghost use Rattle.air_kit.specs.StackValues.{stack_values};
 ghost use Rattle.row_facts.specs.Batches.{IsBatchRow};
+ghost use Rattle.row_facts.specs.Blocks.{IsBlockRow};
 ghost use Rattle.row_facts.specs.Bounds.{IsLowClaim};
 ghost use Rattle.row_facts.specs.RowFacts.{IsAtSpot, Reads, ReadsAs};
+ghost use Rattle.row_facts.specs.Stack.{ShowsStack};
 ghost use Rattle.row_facts.specs.Zero.{AllZero};
 
 /// The law of operations: a row of elements whose entries are 0 has the operation that its bits spell, so that its flags are 1 for
@@ -37,4 +40,12 @@ pub fn decoder_laws()
         → AllZero (decoder_values k p) → IsAtSpot k op p }
     ensures zeros { (k : Claim) (op : Op) (p : Spot) → IsLowClaim k → Reads op p → IsAtSpot k op p
         → AllZero (decoder_values k p) }
+{}
+
+/// The law of the entries on the stack, whose numbers are 115 to 139. Where they are 0, the row behind a row has the depth, the key and
+/// the cells that the operation leaves, as the facts say; and they are 0 wherever these facts hold. Of the row's block, the law asks
+/// what the entries before these say.
+pub fn stack_laws()
+    ensures shows { (op : Op) (p : Spot) → Reads op p → IsBlockRow op p.cur → AllZero (stack_values p) → ShowsStack op p }
+    ensures zeros { (op : Op) (p : Spot) → Reads op p → IsBlockRow op p.cur → ShowsStack op p → AllZero (stack_values p) }
 {}
