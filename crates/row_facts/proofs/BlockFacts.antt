@@ -1,7 +1,7 @@
 -- What the entries 61 and 67 to 91 say where they are 0, one by one.
-use Rattle.std.proofs.Common.{◌≡◌, ◌⊎◌, ℕ, zero, suc, ◌+◌, ◌-◌, ◌^◌, ◌%◌, ◌<◌, ◌≤◌, Bool, true, false, ◌&&◌, ◌||◌, not, cond, eqb, List, slice_index, refl, sym, ap, ◌∙◌, inl, inr, arith, lit<}
+use Rattle.std.proofs.Common.{◌≡◌, ◌⊎◌, ℕ, zero, suc, ◌+◌, ◌^◌, ◌<◌, ◌≤◌, Bool, true, false, ◌&&◌, ◌||◌, not, cond, eqb, List, slice_index, refl, sym, ap, ◌∙◌, arith, lit<}
 use Rattle.vm_field.specs.Field.{prime, felt_add, felt_sub, felt_mul}
-use Rattle.vm_ops.specs.Codes.{code_of, is_ordinary_op, is_start_op}
+use Rattle.vm_ops.specs.Codes.{is_ordinary_op, is_start_op}
 use Rattle.vm_ops.specs.declared.op.Op.{Op}
 use Rattle.vm_ops.specs.declared.op.Op.TheVariants as ops
 use Rattle.vm_table.specs.MainColumns.{clk, fmp, ctx, sys, f, addr, h, sp, s, ha, lv}
@@ -9,7 +9,7 @@ use Rattle.air_kit.specs.Flags.{is_op}
 use Rattle.air_kit.specs.BlockValues.{starts, calls, returns, stays_inside, kind_flags, entry_61, entry_67, entry_68, entry_69, entry_70, entry_74, entry_75, entry_79, entry_80, entry_81, entry_82, entry_83, entry_84, entry_85, entry_89, entry_90, entry_91}
 use Rattle.air_kit.specs.MainTuples.{is_call_op, is_batch_op}
 use Rattle.row_facts.specs.Blocks.{IsEndRow, ends_call, stays_in_function, keeps_digest, keeps_frame, keeps_block, level_after}
-use Rattle.row_facts.proofs.Says.{Says, says_of, says_as, never, rest_low, none_is, once_is, zero_says, sub_says, sub_twice_says, bit_says, mul_says, gate_says, gate_product_says, two_say, three_say, four_say, not_is}
+use Rattle.row_facts.proofs.Says.{Says, says_of, says_as, never, rest_low, none_is, zero_says, sub_says, sub_twice_says, bit_says, mul_says, gate_says, gate_product_says, two_say, three_say, four_say}
 use Rattle.row_facts.proofs.Hot.{hot, set_is}
 use Rattle.row_facts.proofs.FollowFacts.{starts_is}
 

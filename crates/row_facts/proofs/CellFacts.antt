@@ -1,24 +1,22 @@
 -- What the entries 119 to 134 say where they are 0: each cell of the row behind.
-use Rattle.std.proofs.Common.{◌≡◌, ◌≢◌, ◌⊎◌, ℕ, zero, suc, ◌+◌, ◌-◌, ◌*◌, ◌%◌, ◌<◌, ◌≤◌, Bool, true, false, ◌&&◌, ◌||◌, not, cond, eqb, nat_lt, List, [], ◌∷◌, ◌++◌, map, reverse, take, drop, slice_index, refl, sym, ap, subst, ◌∙◌, inl, inr, ⊎_elim, arith, lit<}
-use Rattle.std.proofs.lemmas.Bool.{cases_Bool, eqb-true}
+use Rattle.std.proofs.Common.{◌≡◌, ℕ, zero, suc, ◌+◌, ◌-◌, ◌%◌, ◌<◌, Bool, true, false, ◌&&◌, not, cond, eqb, nat_lt, List, [], ◌∷◌, ◌++◌, take, drop, slice_index, refl, sym, ap, ◌∙◌, arith, lit<}
+use Rattle.std.proofs.lemmas.Bool.{eqb-true}
 use Rattle.std.proofs.lemmas.Bool.Decides.{nat_tests}
 use Rattle.std.proofs.lemmas.List.Elements.{All-cons, All-nil}
-use Rattle.vm_field.specs.Field.{prime, felt_add, felt_sub, felt_mul, felt_inv, AreElements}
+use Rattle.vm_field.specs.Field.{prime, felt_add, felt_sub, felt_mul, AreElements}
 use Rattle.vm_field.proofs.Elements.{elements-index, elements-append, elements-take, elements-drop, elements-reverse, elements-picked}
-use Rattle.vm_field.proofs.Inverses.{felt_mul-felt_inv, felt_inv-unique, felt_inv-below}
-use Rattle.vm_ops.specs.Codes.{code_of}
 use Rattle.vm_ops.specs.Moves.{takes_of, leaves_of, sources_of}
 use Rattle.vm_ops.specs.Step.{left_cells}
-use Rattle.vm_ops.specs.Values.{Seen, cell, bit_of, computed}
+use Rattle.vm_ops.specs.Values.{bit_of, computed}
 use Rattle.vm_ops.specs.declared.op.Op.{Op}
 use Rattle.vm_ops.specs.declared.op.Op.TheVariants as ops
-use Rattle.vm_table.specs.MainColumns.{clk, fmp, sys, f, h, s, depth, inv, w}
+use Rattle.vm_table.specs.MainColumns.{h, s, depth, w}
 use Rattle.air_kit.specs.Flags.{is_op, is_left, sum_over}
-use Rattle.air_kit.specs.StackValues.{cells, function_digest, seen_of, deeper, is_free, chosen, chosen_not, word_term, left_value, top_term, below_term, end_term, term, entry_119}
+use Rattle.air_kit.specs.StackValues.{cells, function_digest, seen_of, is_free, chosen, chosen_not, word_term, left_value, top_term, below_term, end_term, term, entry_119}
 use Rattle.air_kit.proofs.FlagLemmas.{sum_over-hot}
 use Rattle.row_facts.specs.Blocks.{IsEndRow}
 use Rattle.row_facts.specs.Stack.{tests_top}
-use Rattle.row_facts.proofs.Says.{Says, says_of, says_as, off, never, rest_low, none_is, once_is, zero_says, sub_says, mul_says, gate_says, two_say}
+use Rattle.row_facts.proofs.Says.{Says, says_of, says_as, off, never, rest_low, zero_says, sub_says, gate_says, two_say}
 use Rattle.row_facts.proofs.Hot.{hot, one_hot_is}
 use Rattle.row_facts.proofs.BlockFacts.{Low}
 use Rattle.row_facts.proofs.DepthFacts.{Witness, flat_is}
@@ -134,7 +132,6 @@ TopFact ops.Eqz j x y = felt_add (s y 0) (felt_mul (s x 0) (w x 0)) ≡ 1
 TopFact ops.Eq j x y = felt_add (s y 0) (felt_mul (felt_sub (s x 0) (s x 1)) (w x 0)) ≡ 1
 TopFact ops.Inv j x y = felt_mul (s x 0) (s y 0) ≡ 1
 TopFact op j x y = is_free op ≡ false → s y j ≡ left_value op j x
-
 
 sum_one_says : (i k : ℕ) → i < prime → k < prime → Says (felt_add (felt_sub i 1) k) (felt_add i k ≡ 1)
 sum_one_says i k li lk = record { low = rest_low _; shown = λ z. omega (arith, li, lk, z); zero_where = λ e. omega (arith, li, lk, e) }

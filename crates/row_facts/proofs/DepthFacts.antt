@@ -1,19 +1,16 @@
 -- What the entries 115 to 118 and 135 to 139 say where they are 0, one by one.
-use Rattle.std.proofs.Common.{◌≡◌, ◌≢◌, ◌⊎◌, ℕ, zero, suc, ◌+◌, ◌-◌, ◌%◌, ◌<◌, ◌≤◌, Bool, true, false, ◌&&◌, ◌||◌, not, cond, eqb, List, slice_index, refl, sym, ap, subst, ◌∙◌, inl, inr, ⊎_elim, arith, lit<}
-use Rattle.std.proofs.lemmas.Bool.{cases_Bool, eqb-true}
-use Rattle.std.proofs.lemmas.Bool.Decides.{nat_tests}
+use Rattle.std.proofs.Common.{◌≡◌, ◌≢◌, ◌⊎◌, ℕ, zero, suc, ◌+◌, ◌<◌, ◌≤◌, Bool, true, false, ◌&&◌, ◌||◌, not, cond, eqb, List, refl, sym, ap, ◌∙◌, inl, inr, ⊎_elim, arith, lit<}
 use Rattle.vm_field.specs.Field.{prime, felt_add, felt_sub, felt_mul}
-use Rattle.vm_ops.specs.Codes.{code_of}
 use Rattle.vm_ops.specs.declared.op.Op.{Op}
 use Rattle.vm_ops.specs.declared.op.Op.TheVariants as ops
-use Rattle.vm_table.specs.MainColumns.{clk, h, s, depth, key, inv, w}
+use Rattle.vm_table.specs.MainColumns.{clk, h, s, depth, key, inv}
 use Rattle.air_kit.specs.Flags.{is_op, is_left, is_right}
 use Rattle.air_kit.specs.BlockValues.{calls, returns}
 use Rattle.air_kit.specs.MainTuples.{is_call_op}
 use Rattle.air_kit.specs.StackValues.{deeper, shifts_left, shifts_right, keeps_depth, entry_115, entry_116, entry_117, entry_118, entry_135, entry_136, entry_137, entry_138, entry_139}
 use Rattle.row_facts.specs.Blocks.{IsEndRow, ends_call}
 use Rattle.row_facts.specs.Stack.{tests_two, tests_top, mover, keeps_stack}
-use Rattle.row_facts.proofs.Says.{Says, says_of, says_as, off, never, rest_low, none_is, once_is, zero_says, sub_says, sub_twice_says, bit_says, mul_says, gate_says, gate_product_says, regate, four_say}
+use Rattle.row_facts.proofs.Says.{Says, says_of, says_as, never, rest_low, none_is, zero_says, sub_says, sub_twice_says, bit_says, mul_says, gate_says, gate_product_says, regate, four_say}
 use Rattle.row_facts.proofs.Hot.{hot, set_is}
 use Rattle.row_facts.proofs.BlockFacts.{Low, calls_is, returns_is}
 use Rattle.row_facts.proofs.GroupFacts.{flag_by_witness, either_or}

@@ -1,12 +1,12 @@
 -- Which operation may follow which, from the entries 60 and 62 to 66, and back.
-use Rattle.std.proofs.Common.{◌≡◌, ◌⊎◌, ℕ, zero, suc, ◌<◌, ◌%◌, Bool, true, false, ◌&&◌, ◌||◌, not, cond, eqb, List, refl, sym, ap, ◌∙◌, inl, inr, ⊎_elim, arith, lit<}
+use Rattle.std.proofs.Common.{◌≡◌, ◌⊎◌, ℕ, zero, suc, ◌<◌, Bool, true, false, ◌&&◌, ◌||◌, not, cond, eqb, List, refl, sym, ap, ◌∙◌, inl, inr, arith, lit<}
 use Rattle.vm_field.specs.Field.{prime, felt_add, felt_sub, felt_mul}
-use Rattle.vm_ops.specs.Codes.{code_of, is_ordinary_op, is_start_op}
+use Rattle.vm_ops.specs.Codes.{is_ordinary_op, is_start_op}
 use Rattle.vm_ops.specs.declared.op.Op.{Op}
 use Rattle.vm_ops.specs.declared.op.Op.TheVariants as ops
 use Rattle.vm_table.specs.MainColumns.{s, sp}
 use Rattle.air_kit.specs.Flags.{is_op}
-use Rattle.air_kit.specs.BlockValues.{starts, batches, calls, entry_60, entry_62, entry_63, entry_64, entry_65, entry_66}
+use Rattle.air_kit.specs.BlockValues.{starts, calls, entry_60, entry_62, entry_63, entry_64, entry_65, entry_66}
 use Rattle.air_kit.specs.MainTuples.{is_call_op, is_batch_op}
 use Rattle.row_facts.specs.Follows.{may_follow}
 use Rattle.row_facts.proofs.Says.{Says, says_of, off, never, rest_low, none_is, sub_says, zero_says, mul_says, gate_says, gate_product_says, sum_says, test_says, fails_says, passes_says}

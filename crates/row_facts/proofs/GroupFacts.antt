@@ -1,5 +1,5 @@
 -- What the entries 107 to 114 say where they are 0: how the rows of ordinary operations take the digits of a group.
-use Rattle.std.proofs.Common.{◌≡◌, ◌≢◌, ◌⊎◌, ℕ, zero, suc, ◌+◌, ◌-◌, ◌*◌, ◌%◌, ◌<◌, ◌≤◌, Bool, true, false, ◌&&◌, ◌||◌, not, cond, eqb, List, slice_index, refl, sym, ap, subst, ◌∙◌, inl, inr, ⊎_elim, arith, lit<}
+use Rattle.std.proofs.Common.{◌≡◌, ◌≢◌, ◌⊎◌, ℕ, ◌+◌, ◌*◌, ◌<◌, ◌≤◌, Bool, true, false, ◌||◌, not, cond, eqb, List, refl, sym, ap, subst, ◌∙◌, inl, inr, ⊎_elim, arith, lit<}
 use Rattle.std.proofs.lemmas.Bool.{cases_Bool, eqb-true}
 use Rattle.std.proofs.lemmas.Bool.Decides.{nat_tests}
 use Rattle.vm_field.specs.Field.{prime, felt_add, felt_sub, felt_mul}
@@ -11,7 +11,7 @@ use Rattle.vm_table.specs.MainColumns.{b, h, sp, gc, ox, w}
 use Rattle.air_kit.specs.Flags.{HasOp, is_op, spelled}
 use Rattle.air_kit.specs.SpanValues.{opcode_in, rest, rest_flag, goes_on, entry_107, entry_108, entry_109, entry_110, entry_111, entry_112, entry_113, entry_114}
 use Rattle.row_facts.specs.Groups.{IsGroupRow, GoesOn, stays, pushes, opens, ends}
-use Rattle.row_facts.proofs.Says.{Says, says_of, says_as, off, never, rest_low, none_is, zero_says, sub_says, sub_twice_says, mul_says, gate_says, gate_product_says, gate_product_says_if, regate, test_says, passes_says, not_is}
+use Rattle.row_facts.proofs.Says.{Says, says_of, says_as, off, never, rest_low, none_is, zero_says, sub_says, sub_twice_says, mul_says, gate_says, gate_product_says, gate_product_says_if, regate, test_says, passes_says}
 use Rattle.row_facts.proofs.Hot.{hot}
 use Rattle.row_facts.proofs.BlockFacts.{Low}
 

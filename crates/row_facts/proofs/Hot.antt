@@ -1,12 +1,11 @@
 -- The flags of a row that has an operation, as tests on the operation.
-use Rattle.std.proofs.Common.{◌≡◌, ℕ, ◌<◌, Bool, true, false, cond, List, refl, sym, ap, ◌∙◌, arith}
+use Rattle.std.proofs.Common.{◌≡◌, ℕ, Bool, cond, List, sym, ap, ◌∙◌, arith}
 use Rattle.std.proofs.lemmas.Bool.Decides.{nat_tests}
 use mathlib.Core.Path.{fun_ext}
-use Rattle.vm_ops.specs.Codes.{code_of}
 use Rattle.vm_ops.specs.declared.op.Op.{Op}
-use Rattle.air_kit.specs.Flags.{Flags, flag, flags_of, sum_over, is_op, one_hot, HasOp}
+use Rattle.air_kit.specs.Flags.{Flags, flag, flags_of, is_op, one_hot, HasOp}
 use Rattle.air_kit.specs.Places.{RowEntry, PairEntry}
-use Rattle.air_kit.proofs.FlagLemmas.{flags_of-hot, sum_over-hot}
+use Rattle.air_kit.proofs.FlagLemmas.{flags_of-hot}
 use Rattle.row_facts.proofs.Says.{Says, says_of}
 
 abbrev pub hot : Op → Flags

@@ -13,3 +13,4 @@ pub mod Zeroed
 pub mod DepthFacts
 pub mod CellFacts
 pub mod StackFacts
+pub mod PartFacts

@@ -1,5 +1,5 @@
 -- An element that is 0 exactly where something holds.
-use Rattle.std.proofs.Common.{◌≡◌, ◌⊎◌, ℕ, zero, suc, ◌+◌, ◌-◌, ◌*◌, ◌%◌, ◌<◌, ◌≤◌, Bool, true, false, ◌&&◌, ◌||◌, not, cond, refl, sym, ap, subst, ◌∙◌, inl, inr, ⊎_elim, arith, lit<}
+use Rattle.std.proofs.Common.{◌≡◌, ◌⊎◌, ℕ, zero, suc, ◌+◌, ◌-◌, ◌*◌, ◌%◌, ◌<◌, Bool, true, false, ◌&&◌, ◌||◌, not, cond, refl, sym, ap, subst, ◌∙◌, inl, inr, ⊎_elim, arith, lit<}
 use Rattle.vm_field.specs.Field.{prime, felt_add, felt_sub, felt_mul}
 use Rattle.vm_field.proofs.Algebra.{same_from_sub, felt_sub-same, zero_factor, bit_from_product, felt_mul-zero_first, felt_mul-zero_second}
 

@@ -1,31 +1,30 @@
 -- The facts of the stack, from entries that are 0, and back.
-use Rattle.std.proofs.Common.{◌≡◌, ◌≢◌, ◌⊎◌, ℕ, zero, suc, ◌+◌, ◌-◌, ◌*◌, ◌%◌, ◌<◌, ◌≤◌, Bool, true, false, ◌&&◌, ◌||◌, not, cond, eqb, nat_lt, nat_le, List, [], ◌∷◌, ◌++◌, Option, Some, None, slice_index, refl, sym, ap, subst, ◌∙◌, inl, inr, ⊎_elim, arith, lit<, lit≤}
-use Rattle.std.proofs.lemmas.Bool.{cases_Bool, eqb-true}
+use Rattle.std.proofs.Common.{◌≡◌, ◌≢◌, ◌⊎◌, ℕ, zero, suc, ◌<◌, ◌≤◌, Bool, true, false, ◌&&◌, not, cond, eqb, nat_lt, nat_le, List, ◌++◌, Some, refl, sym, ap, ◌∙◌, inl, inr, ⊎_elim, arith, lit<}
+use Rattle.std.proofs.lemmas.Bool.{eqb-true}
 use Rattle.std.proofs.lemmas.Bool.Decides.{nat_tests}
 use Rattle.vm_field.specs.Field.{prime, felt_add, felt_sub, felt_mul, felt_inv}
 use Rattle.vm_field.proofs.Inverses.{felt_mul-felt_inv, felt_inv-unique}
-use Rattle.vm_ops.specs.Codes.{code_of}
-use Rattle.vm_ops.specs.Moves.{takes_of, leaves_of}
+use Rattle.vm_ops.specs.Moves.{leaves_of}
 use Rattle.vm_ops.specs.Step.{left_cells}
 use Rattle.vm_ops.specs.Values.{computed}
 use Rattle.vm_ops.specs.declared.op.Op.{Op}
 use Rattle.vm_ops.specs.declared.op.Op.TheVariants as ops
 use Rattle.vm_ops.proofs.MoveLemmas.{leaves_of-below}
-use Rattle.vm_table.specs.MainColumns.{clk, h, s, depth, key, inv, w}
+use Rattle.vm_table.specs.MainColumns.{clk, h, s, depth, key, w}
 use Rattle.air_kit.specs.Flags.{is_op, is_left, is_right, op_of}
 use Rattle.air_kit.specs.MainTuples.{is_call_op}
-use Rattle.air_kit.specs.Places.{Spot, on_row, on_pair, family}
-use Rattle.air_kit.specs.StackValues.{cells, seen_of, is_free, left_value, depth_values, cell_values, operand_values, stack_values, entry_115, entry_116, entry_117, entry_118, entry_119, entry_135, entry_136, entry_137, entry_138, entry_139}
+use Rattle.air_kit.specs.Places.{Spot, on_pair, family}
+use Rattle.air_kit.specs.StackValues.{cells, seen_of, left_value, depth_values, cell_values, operand_values, stack_values, entry_115, entry_116, entry_117, entry_118, entry_119, entry_135, entry_136, entry_137, entry_138, entry_139}
 use Rattle.row_facts.specs.Zero.{AllZero}
-use Rattle.row_facts.specs.Blocks.{IsEndRow, IsBlockRow, ends_call}
-use Rattle.row_facts.specs.RowFacts.{Reads, ReadsAs}
-use Rattle.row_facts.specs.Stack.{IsStackRow, MovesDepth, ShiftsCells, LeavesCells, MovesStack, ShowsStack, mover, keeps_stack, tests_top, tests_two}
+use Rattle.row_facts.specs.Blocks.{IsBlockRow}
+use Rattle.row_facts.specs.RowFacts.{Reads}
+use Rattle.row_facts.specs.Stack.{IsStackRow, MovesDepth, ShiftsCells, LeavesCells, ShowsStack, mover, keeps_stack}
 use Rattle.row_facts.proofs.Zeros.{zero_front, zero_back, zero_family, zero_both, zero_of_family, each_zero}
-use Rattle.row_facts.proofs.Says.{Says, off, never, none_is}
+use Rattle.row_facts.proofs.Says.{off, never, none_is}
 use Rattle.row_facts.proofs.BlockFacts.{Low}
-use Rattle.row_facts.proofs.GroupFacts.{either_or, is_over, not_over}
+use Rattle.row_facts.proofs.GroupFacts.{either_or, is_over}
 use Rattle.row_facts.proofs.DepthFacts.{Witness, is_deeper, says_115, says_116, says_117, says_118, says_135, says_136, says_137, says_138, says_139}
-use Rattle.row_facts.proofs.CellFacts.{TopFact, BelowFact, EndFact, CellFact, less_of, says_119}
+use Rattle.row_facts.proofs.CellFacts.{TopFact, BelowFact, CellFact, less_of, says_119}
 use Rattle.row_facts.proofs.SpotSays.{row_at, pair_at}
 
 -- ---- comparisons and inverses
@@ -324,10 +323,18 @@ unfolding depth_values
 depth_zeros op p r row shows =
     let x : List ℕ = p.cur in
     each_zero (depth_values p) (
-      (row_at entry_115 r (says_115 op x r.here.low)).zero_where shows.row.witness, (
-      (pair_at entry_116 r (λ u n. says_116 op (op_of u) x u r.here.low n.low row.ends shows.row.witness)).zero_where (λ y e. moved_depth y e), (
-      (row_at entry_117 r (says_117 op x r.here.low row.ends)).zero_where shows.row.returns, (
-      (pair_at entry_118 r (λ u n. says_118 op (op_of u) x u r.here.low n.low row.ends shows.row.witness)).zero_where (λ y e. moved_key y e), tt))))
+      (row_at entry_115 r (says_115 op x r.here.low)).zero_where shows.row.witness,
+      (
+        (pair_at entry_116 r (λ u n. says_116 op (op_of u) x u r.here.low n.low row.ends shows.row.witness)).zero_where (λ y e. moved_depth y e),
+        (
+          (row_at entry_117 r (says_117 op x r.here.low row.ends)).zero_where shows.row.returns,
+          (
+            (pair_at entry_118 r (λ u n. says_118 op (op_of u) x u r.here.low n.low row.ends shows.row.witness)).zero_where (λ y e. moved_key y e),
+            tt,
+          ),
+        ),
+      ),
+    )
   where
     moved_depth : (y : List ℕ) → p.next ≡ Some y
         → (is_right op ≡ true → depth y ≡ felt_add (depth p.cur) 1) × (is_left (mover op p.cur) ≡ true → depth y ≡ cond (is_deeper p.cur) (felt_sub (depth p.cur) 1) (depth p.cur))
@@ -347,20 +354,30 @@ cell_zeros : (op : Op) (p : Spot) → Reads op p → IsBlockRow op p.cur → Sho
 unfolding cell_values
 cell_zeros op p r row shows =
     zero_of_family 16 (λ j. on_pair (entry_119 j) p) (λ j few.
-      (pair_at (entry_119 j) r (λ u n. says_119 op (op_of u) j p.cur u r.here.low n.low shows.row.witness row.ends shows.row.top)).zero_where
-      (λ y e. cell_back op j p.cur y r.here.low (shows.pair y e).shifts (shows.pair y e).leaves few))
+    (pair_at (entry_119 j) r (λ u n. says_119 op (op_of u) j p.cur u r.here.low n.low shows.row.witness row.ends shows.row.top)).zero_where
+    (λ y e. cell_back op j p.cur y r.here.low (shows.pair y e).shifts (shows.pair y e).leaves few))
 
 operand_zeros : (op : Op) (p : Spot) → Reads op p → ShowsStack op p → AllZero (operand_values p)
 unfolding operand_values
 operand_zeros op p r shows =
     each_zero (operand_values p) (
       (pair_at entry_135 r (λ u n. says_135 op (op_of u) p.cur u r.here.low n.low)).zero_where
-      (λ y e. (compares_from op p.cur y r.here.low (shows.pair y e).leaves).zero_or), (
-      (pair_at entry_136 r (λ u n. says_136 op (op_of u) p.cur u r.here.low n.low)).zero_where
-      (λ y e. (compares_from op p.cur y r.here.low (shows.pair y e).leaves).same_or), (
-      (row_at entry_137 r (says_137 op p.cur r.here.low)).zero_where shows.row.top, (
-      (row_at entry_138 r (says_138 op p.cur r.here.low)).zero_where shows.row.second, (
-      (row_at entry_139 r (says_139 op p.cur r.here.low)).zero_where shows.row.asserted, tt)))))
+          (λ y e. (compares_from op p.cur y r.here.low (shows.pair y e).leaves).zero_or),
+      (
+        (pair_at entry_136 r (λ u n. says_136 op (op_of u) p.cur u r.here.low n.low)).zero_where
+            (λ y e. (compares_from op p.cur y r.here.low (shows.pair y e).leaves).same_or),
+        (
+          (row_at entry_137 r (says_137 op p.cur r.here.low)).zero_where shows.row.top,
+          (
+            (row_at entry_138 r (says_138 op p.cur r.here.low)).zero_where shows.row.second,
+            (
+              (row_at entry_139 r (says_139 op p.cur r.here.low)).zero_where shows.row.asserted,
+              tt,
+            ),
+          ),
+        ),
+      ),
+    )
 
 pub stack_zeros : (op : Op) (p : Spot) → Reads op p → IsBlockRow op p.cur → ShowsStack op p → AllZero (stack_values p)
 unfolding stack_values

@@ -1,13 +1,14 @@
-ghost use Rattle.std.specs.Prelude.{◌≡◌, ℕ, ◌<◌, slice_index, true};
+ghost use Rattle.std.specs.Prelude.{◌≡◌, ℕ, ◌<◌, List, slice_index, true};
 ghost use Rattle.vm_field.specs.Field.{prime};
 ghost use Rattle.vm_ops.specs.declared.op.Op.{Op};
 ghost use Rattle.vm_table.specs.MainColumns.{b};
 ghost use Rattle.air_kit.specs.Flags.{HasOp, op_of};
-ghost use Rattle.air_kit.specs.MainTuples.{is_batch_op};
+ghost use Rattle.air_kit.specs.MainTuples.{is_batch_op, positions};
 ghost use Rattle.air_kit.specs.MainValues.{decoder_values, main_values};
 ghost use Rattle.air_kit.specs.Places.{Claim, Spot};
 ghost use Rattle.air_kit.specs.StackValues.{stack_values};
-ghost use Rattle.row_facts.specs.Batches.{IsBatchRow};
+ghost use Rattle.air_kit.specs.U32Values.{u32_values};
+ghost use Rattle.row_facts.specs.Batches.{IsBatchRow, ShowsBatch, UsesHalf};
 ghost use Rattle.row_facts.specs.Blocks.{IsBlockRow};
 ghost use Rattle.row_facts.specs.Bounds.{IsLowClaim};
 ghost use Rattle.row_facts.specs.RowFacts.{IsAtSpot, Reads, ReadsAs};
@@ -24,10 +25,11 @@ pub fn operation_laws()
 {}
 
 /// The law of batches: a row of elements whose entries are 0 and that starts a batch shows how many positions are in use, eight at
-/// most.
+/// most. Where more than one is, one in the second half of them is not 0.
 pub fn batch_laws()
-    ensures { (c : Claim) (p : Spot) → ((k : ℕ) → slice_index p.cur k < prime)
+    ensures room { (c : Claim) (p : Spot) → ((k : ℕ) → slice_index p.cur k < prime)
         → AllZero (main_values c p) → is_batch_op (op_of p.cur) ≡ true → IsBatchRow p.cur }
+    ensures needed { (x : List ℕ) → ShowsBatch x → 1 < positions x → UsesHalf x }
 {}
 
 /// The law of the entries on operations, boundaries, blocks and spans, whose numbers are 1 to 114. Where they are 0, a row of elements
@@ -48,4 +50,12 @@ pub fn decoder_laws()
 pub fn stack_laws()
     ensures shows { (op : Op) (p : Spot) → Reads op p → IsBlockRow op p.cur → AllZero (stack_values p) → ShowsStack op p }
     ensures zeros { (op : Op) (p : Spot) → Reads op p → IsBlockRow op p.cur → ShowsStack op p → AllZero (stack_values p) }
+{}
+
+/// The law of parts: all entries of the main table are 0 at a place exactly where those of each of its three parts are.
+pub fn part_laws()
+    ensures parts { (k : Claim) (p : Spot) → AllZero (main_values k p)
+        → AllZero (decoder_values k p) × AllZero (stack_values p) × AllZero (u32_values p) }
+    ensures whole { (k : Claim) (p : Spot) → AllZero (decoder_values k p) → AllZero (stack_values p) → AllZero (u32_values p)
+        → AllZero (main_values k p) }
 {}
