@@ -14,3 +14,5 @@ pub mod DepthFacts
 pub mod CellFacts
 pub mod StackFacts
 pub mod PartFacts
+pub mod LimbFacts
+pub mod LimbSpots

@@ -6,3 +6,4 @@ pub mod Groups
 pub mod Bounds
 pub mod RowFacts
 pub mod Stack
+pub mod Limbs

@@ -11,6 +11,7 @@ ghost use Rattle.air_kit.specs.U32Values.{u32_values};
 ghost use Rattle.row_facts.specs.Batches.{IsBatchRow, ShowsBatch, UsesHalf};
 ghost use Rattle.row_facts.specs.Blocks.{IsBlockRow};
 ghost use Rattle.row_facts.specs.Bounds.{IsLowClaim};
+ghost use Rattle.row_facts.specs.Limbs.{ShowsLimbs};
 ghost use Rattle.row_facts.specs.RowFacts.{IsAtSpot, Reads, ReadsAs};
 ghost use Rattle.row_facts.specs.Stack.{ShowsStack};
 ghost use Rattle.row_facts.specs.Zero.{AllZero};
@@ -50,6 +51,13 @@ pub fn decoder_laws()
 pub fn stack_laws()
     ensures shows { (op : Op) (p : Spot) → Reads op p → IsBlockRow op p.cur → AllZero (stack_values p) → ShowsStack op p }
     ensures zeros { (op : Op) (p : Spot) → Reads op p → IsBlockRow op p.cur → ShowsStack op p → AllZero (stack_values p) }
+{}
+
+/// The law of the entries on numbers of 32 bits, whose numbers are 140 to 147: where they are 0, operands and results are the numbers of
+/// their limbs and belong together as the operation says, and they are 0 wherever these facts hold.
+pub fn limb_laws()
+    ensures shows { (op : Op) (p : Spot) → Reads op p → AllZero (u32_values p) → ShowsLimbs op p }
+    ensures zeros { (op : Op) (p : Spot) → Reads op p → ShowsLimbs op p → AllZero (u32_values p) }
 {}
 
 /// The law of parts: all entries of the main table are 0 at a place exactly where those of each of its three parts are.
