@@ -16,3 +16,4 @@ pub mod StackFacts
 pub mod PartFacts
 pub mod LimbFacts
 pub mod LimbSpots
+pub mod TableFacts

@@ -7,3 +7,4 @@ pub mod Bounds
 pub mod RowFacts
 pub mod Stack
 pub mod Limbs
+pub mod MainRows

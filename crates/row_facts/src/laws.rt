@@ -1,6 +1,7 @@
 ghost use Rattle.std.specs.Prelude.{◌≡◌, ℕ, ◌<◌, List, slice_index, true};
 ghost use Rattle.vm_field.specs.Field.{prime};
 ghost use Rattle.vm_ops.specs.declared.op.Op.{Op};
+ghost use Rattle.vm_table.specs.Layout.{IsTable};
 ghost use Rattle.vm_table.specs.MainColumns.{b};
 ghost use Rattle.air_kit.specs.Flags.{HasOp, op_of};
 ghost use Rattle.air_kit.specs.MainTuples.{is_batch_op, positions};
@@ -12,6 +13,7 @@ ghost use Rattle.row_facts.specs.Batches.{IsBatchRow, ShowsBatch, UsesHalf};
 ghost use Rattle.row_facts.specs.Blocks.{IsBlockRow};
 ghost use Rattle.row_facts.specs.Bounds.{IsLowClaim};
 ghost use Rattle.row_facts.specs.Limbs.{ShowsLimbs};
+ghost use Rattle.row_facts.specs.MainRows.{IsZero, ShowsRows};
 ghost use Rattle.row_facts.specs.RowFacts.{IsAtSpot, Reads, ReadsAs};
 ghost use Rattle.row_facts.specs.Stack.{ShowsStack};
 ghost use Rattle.row_facts.specs.Zero.{AllZero};
@@ -66,4 +68,11 @@ pub fn part_laws()
         → AllZero (decoder_values k p) × AllZero (stack_values p) × AllZero (u32_values p) }
     ensures whole { (k : Claim) (p : Spot) → AllZero (decoder_values k p) → AllZero (stack_values p) → AllZero (u32_values p)
         → AllZero (main_values k p) }
+{}
+
+/// The law of tables: the rows of a main table of which all entries are 0 show these facts, each row and each two rows, the first row
+/// and the last one; and a table whose rows show them has entries 0.
+pub fn table_laws()
+    ensures shows { (k : Claim) (rows : List (List ℕ)) → IsLowClaim k → IsZero k rows → ShowsRows k rows }
+    ensures zeros { (k : Claim) (rows : List (List ℕ)) → IsLowClaim k → IsTable 65 rows → ShowsRows k rows → IsZero k rows }
 {}
