@@ -81,7 +81,7 @@ left_apart op u = and_right (is_left op)
     and_right false = refl
 
 -- the operation that moves the stack shifts left
-mover_left : (op : Op) (t : Bool) → is_left op || (is_op op ops.End && t) ≡ is_left (cond (is_op op ops.End && t) ops.Drop op)
+pub mover_left : (op : Op) (t : Bool) → is_left op || (is_op op ops.End && t) ≡ is_left (cond (is_op op ops.End && t) ops.Drop op)
 mover_left ops.End true = refl
 mover_left ops.End false = refl
 mover_left ops.Noop t = refl

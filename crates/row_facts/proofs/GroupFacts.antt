@@ -47,7 +47,7 @@ flag_by_witness i k w low witness =
       | inr other ↦ rw other (witness (λ e. let t : eqb i k ≡ true = grind (arith, nat_tests, e) in never (sym t ∙ other)))
     ]
 
-flag_is : (op : Op) (x : List ℕ) → HasOp x op → Low x → IsGroupRow op x → rest_flag x ≡ cond (is_left_over op x) 1 0
+pub flag_is : (op : Op) (x : List ℕ) → HasOp x op → Low x → IsGroupRow op x → rest_flag x ≡ cond (is_left_over op x) 1 0
 unfolding rest_flag
 flag_is op x has low row =
     ap (λ n. felt_mul n (w x 3)) (rest_is op x has) ∙ flag_by_witness (h x 0) (code_of op) (w x 3) (low 16) row.witness

@@ -17,3 +17,4 @@ pub mod PartFacts
 pub mod LimbFacts
 pub mod LimbSpots
 pub mod TableFacts
+pub mod RunFacts

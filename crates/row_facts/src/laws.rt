@@ -1,21 +1,25 @@
-ghost use Rattle.std.specs.Prelude.{◌≡◌, ℕ, ◌<◌, List, slice_index, true};
+ghost use Rattle.std.specs.Prelude.{◌≡◌, ◌==◌, ◌↔◌, ℕ, suc, ◌<◌, List, length, slice_index, true};
 ghost use Rattle.vm_field.specs.Field.{prime};
+ghost use Rattle.vm_ops.specs.Codes.{code_of};
 ghost use Rattle.vm_ops.specs.declared.op.Op.{Op};
+ghost use Rattle.vm_ops.specs.declared.op.Op.TheVariants as ops;
 ghost use Rattle.vm_table.specs.Layout.{IsTable};
-ghost use Rattle.vm_table.specs.MainColumns.{b};
-ghost use Rattle.air_kit.specs.Flags.{HasOp, op_of};
-ghost use Rattle.air_kit.specs.MainTuples.{is_batch_op, positions};
+ghost use Rattle.vm_table.specs.MainColumns.{b, clk, h};
+ghost use Rattle.air_kit.specs.Flags.{HasOp, is_left, is_op, op_of};
+ghost use Rattle.air_kit.specs.MainTuples.{is_batch_op, positions, row_shifts_left};
 ghost use Rattle.air_kit.specs.MainValues.{decoder_values, main_values};
 ghost use Rattle.air_kit.specs.Places.{Claim, Spot};
+ghost use Rattle.air_kit.specs.SpanValues.{rest_flag};
 ghost use Rattle.air_kit.specs.StackValues.{stack_values};
 ghost use Rattle.air_kit.specs.U32Values.{u32_values};
 ghost use Rattle.row_facts.specs.Batches.{IsBatchRow, ShowsBatch, UsesHalf};
 ghost use Rattle.row_facts.specs.Blocks.{IsBlockRow};
 ghost use Rattle.row_facts.specs.Bounds.{IsLowClaim};
+ghost use Rattle.row_facts.specs.Groups.{IsGroupRow};
 ghost use Rattle.row_facts.specs.Limbs.{ShowsLimbs};
-ghost use Rattle.row_facts.specs.MainRows.{IsZero, ShowsRows};
+ghost use Rattle.row_facts.specs.MainRows.{IsZero, ShowsRows, op_in, row_at};
 ghost use Rattle.row_facts.specs.RowFacts.{IsAtSpot, Reads, ReadsAs};
-ghost use Rattle.row_facts.specs.Stack.{ShowsStack};
+ghost use Rattle.row_facts.specs.Stack.{ShowsStack, mover};
 ghost use Rattle.row_facts.specs.Zero.{AllZero};
 
 /// The law of operations: a row of elements whose entries are 0 has the operation that its bits spell, so that its flags are 1 for
@@ -75,4 +79,20 @@ pub fn part_laws()
 pub fn table_laws()
     ensures shows { (k : Claim) (rows : List (List ℕ)) → IsLowClaim k → IsZero k rows → ShowsRows k rows }
     ensures zeros { (k : Claim) (rows : List (List ℕ)) → IsLowClaim k → IsTable 65 rows → ShowsRows k rows → IsZero k rows }
+{}
+
+/// What follows for a main table by itself: its clocks count the rows from 0, and HALT stands in the last row alone.
+pub fn clock_laws()
+    ensures clock { (k : Claim) (rows : List (List ℕ)) → ShowsRows k rows → length rows < prime
+        → (i : ℕ) → i < length rows → clk (row_at rows i) ≡ i }
+    ensures halt { (k : Claim) (rows : List (List ℕ)) → ShowsRows k rows
+        → (i : ℕ) → i < length rows → (is_op (op_in rows i) ops.Halt ≡ true) ↔ (suc i ≡ length rows) }
+{}
+
+/// How the tests of the buses read a row: its bits spell the operation that it reads as, its flag of what is left of a group is 0
+/// exactly where nothing is left, and it shifts left exactly where the operation that moves its stack does.
+pub fn reading_laws()
+    ensures operation { (op : Op) (x : List ℕ) → ReadsAs op x → op_of x ≡ op }
+    ensures group { (op : Op) (x : List ℕ) → ReadsAs op x → IsGroupRow op x → (rest_flag x == 0) ≡ (h x 0 == code_of op) }
+    ensures left { (x : List ℕ) → row_shifts_left x ≡ is_left (mover (op_of x) x) }
 {}
