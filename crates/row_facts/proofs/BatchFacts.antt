@@ -1,5 +1,5 @@
 -- What the entries of a batch's row say where they are 0.
-use Rattle.std.proofs.Common.{◌≡◌, ℕ, zero, suc, ◌+◌, ◌<◌, ◌≤◌, Bool, true, false, ◌&&◌, ◌||◌, cond, eqb, nat_lt, nat_le, List, slice_index, refl, ap, arith, lit<, lit≤, ◌≢◌, ◌⊎◌, inl, inr, ◌∙◌, ◌*◌, sym}
+use Rattle.std.proofs.Common.{◌≡◌, ℕ, zero, suc, ◌+◌, ◌<◌, ◌≤◌, Bool, true, false, ◌&&◌, ◌||◌, cond, eqb, nat_lt, nat_le, List, slice_index, refl, ap, arith, lit<, lit≤, ◌≢◌, ◌⊎◌, inl, inr, ◌∙◌, ◌*◌}
 use Rattle.std.proofs.lemmas.Bool.Decides.{nat_tests}
 use Rattle.vm_field.specs.Field.{prime, felt_add, felt_sub, felt_mul}
 use Rattle.vm_ops.specs.declared.op.Op.{Op}
@@ -13,7 +13,7 @@ use Rattle.air_kit.specs.MainTuples.{is_batch_op, positions}
 use Rattle.air_kit.specs.MainValues.{main_values}
 use Rattle.row_facts.specs.Zero.{AllZero}
 use Rattle.row_facts.specs.Batches.{IsBatchRow, NeedsPositions, ShowsBatch, UsesHalf}
-use Rattle.row_facts.proofs.Says.{Says, says_of, says_as, off, rest_low, zero_says, sub_says, bit_says, gate_says, gate_says_if, gate_product_says, gate_product_says_if, three_say, none_is}
+use Rattle.row_facts.proofs.Says.{Says, says_of, says_as, off, rest_low, zero_says, sub_says, bit_says, gate_says, gate_says_if, gate_product_says, gate_product_says_if, three_say, none_is, either_or}
 use Rattle.row_facts.proofs.Hot.{hot, row_says}
 use Rattle.row_facts.proofs.OpcodeFacts.{main_parts, row_has_op}
 
@@ -65,7 +65,8 @@ below_three P first second third (suc zero) h = second
 below_three P first second third (suc (suc zero)) h = third
 below_three P first second third (suc (suc (suc j))) h = absurd (omega (arith, h))
 
-pub batch_row_at : (p : Spot) (op : Op) → HasOp p.cur op → ((k : ℕ) → slice_index p.cur k < prime) → AllZero (span_values p) → is_batch_op op ≡ true → IsBatchRow p.cur
+pub batch_row_at : (p : Spot) (op : Op) → HasOp p.cur op → ((k : ℕ) → slice_index p.cur k < prime) → AllZero (span_values p) → is_batch_op op ≡ true
+    → IsBatchRow p.cur
 unfolding span_values batch_values family
 batch_row_at p op has low zeros is =
     batch_row_from p.cur
@@ -75,15 +76,13 @@ batch_row_at p op has low zeros is =
     bit : (j : ℕ) → on_row (entry_92 j) p ≡ 0 → c p.cur j < 2
     bit j z = (row_says (entry_92 j) has (says_92 op p.cur j (low (27 + j)))).shown z is
 
-pub batch_row : (k : Claim) (p : Spot) → ((i : ℕ) → slice_index p.cur i < prime) → AllZero (main_values k p) → is_batch_op (op_of p.cur) ≡ true → IsBatchRow p.cur
+pub batch_row : (k : Claim) (p : Spot) → ((i : ℕ) → slice_index p.cur i < prime) → AllZero (main_values k p) → is_batch_op (op_of p.cur) ≡ true
+    → IsBatchRow p.cur
 batch_row k p low zeros is =
     let parts = main_parts k p zeros in
     batch_row_at p (op_of p.cur) (row_has_op p low parts.opcode) low parts.span is
 
 -- ---- the positions in use
-
-either_or : (i k : ℕ) → (i ≡ k) ⊎ (i ≢ k)
-either_or i k = grind arith
 
 -- what holds at each of the four numbers of positions
 at_bits : (P : ℕ → ℕ → ℕ → Type 0) → P 0 0 0 → P 1 0 0 → P 0 1 0 → P 0 0 1 → (i j k : ℕ) → i + j + k ≤ 1 → P i j k
@@ -110,9 +109,12 @@ unused_at zero i j k most h = at_bits (λ i j k. unused_by 1 i j k ≡ cond (nat
 unused_at (suc zero) i j k most h = at_bits (λ i j k. unused_by 2 i j k ≡ cond (nat_le (positions_by i j k) 2) 1 0) refl refl refl refl i j k most
 unused_at (suc (suc zero)) i j k most h = at_bits (λ i j k. unused_by 3 i j k ≡ cond (nat_le (positions_by i j k) 3) 1 0) refl refl refl refl i j k most
 unused_at (suc (suc (suc zero))) i j k most h = at_bits (λ i j k. unused_by 4 i j k ≡ cond (nat_le (positions_by i j k) 4) 1 0) refl refl refl refl i j k most
-unused_at (suc (suc (suc (suc zero)))) i j k most h = at_bits (λ i j k. unused_by 5 i j k ≡ cond (nat_le (positions_by i j k) 5) 1 0) refl refl refl refl i j k most
-unused_at (suc (suc (suc (suc (suc zero))))) i j k most h = at_bits (λ i j k. unused_by 6 i j k ≡ cond (nat_le (positions_by i j k) 6) 1 0) refl refl refl refl i j k most
-unused_at (suc (suc (suc (suc (suc (suc zero)))))) i j k most h = at_bits (λ i j k. unused_by 7 i j k ≡ cond (nat_le (positions_by i j k) 7) 1 0) refl refl refl refl i j k most
+unused_at (suc (suc (suc (suc zero)))) i j k most h = at_bits (λ i j k. unused_by 5 i j k ≡ cond
+    (nat_le (positions_by i j k) 5) 1 0) refl refl refl refl i j k most
+unused_at (suc (suc (suc (suc (suc zero))))) i j k most h = at_bits (λ i j k. unused_by 6 i j k ≡ cond
+    (nat_le (positions_by i j k) 6) 1 0) refl refl refl refl i j k most
+unused_at (suc (suc (suc (suc (suc (suc zero)))))) i j k most h = at_bits
+    (λ i j k. unused_by 7 i j k ≡ cond (nat_le (positions_by i j k) 7) 1 0) refl refl refl refl i j k most
 unused_at (suc (suc (suc (suc (suc (suc (suc q))))))) i j k most h = absurd (omega (arith, h))
 
 unused_is : (x : List ℕ) (q : ℕ) → IsBatchRow x → q < 7 → unused (q + 1) x ≡ cond (nat_le (positions x) (q + 1)) 1 0
@@ -153,10 +155,12 @@ says_96 op x j batch few low =
 
 -- each count that is claimed is needed
 needed_by : (u v z i j k : ℕ) → u < prime → v < prime → z < prime → i + j + k ≤ 1
-    → Says (felt_add (felt_add (felt_mul i (felt_sub u 1)) (felt_mul j (felt_sub v 1))) (felt_mul k (felt_sub z 1))) ((i ≡ 1 → u ≡ 1) × (j ≡ 1 → v ≡ 1) × (k ≡ 1 → z ≡ 1))
+    → Says (felt_add (felt_add (felt_mul i (felt_sub u 1)) (felt_mul j (felt_sub v 1))) (felt_mul k (felt_sub z 1)))
+        ((i ≡ 1 → u ≡ 1) × (j ≡ 1 → v ≡ 1) × (k ≡ 1 → z ≡ 1))
 needed_by u v z i j k lu lv lz most =
     at_bits
-    (λ i j k. Says (felt_add (felt_add (felt_mul i (felt_sub u 1)) (felt_mul j (felt_sub v 1))) (felt_mul k (felt_sub z 1))) ((i ≡ 1 → u ≡ 1) × (j ≡ 1 → v ≡ 1) × (k ≡ 1 → z ≡ 1)))
+    (λ i j k. Says (felt_add (felt_add (felt_mul i (felt_sub u 1)) (felt_mul j (felt_sub v 1))) (felt_mul k (felt_sub z 1)))
+        ((i ≡ 1 → u ≡ 1) × (j ≡ 1 → v ≡ 1) × (k ≡ 1 → z ≡ 1)))
     (at false false false refl refl) (at true false false refl refl) (at false true false refl refl) (at false false true refl refl) i j k most
   where
     is_set : {A : Type 0} (t : Bool) → (t ≡ true → A) → ◌≡◌ {A = ℕ} (cond t 1 0) 1 → A
@@ -168,7 +172,8 @@ needed_by u v z i j k lu lv lz most =
     set false f e = off e
 
     at : (t r q : Bool) → t && r ≡ false → (t || r) && q ≡ false
-        → Says (felt_add (felt_add (felt_mul (cond t 1 0) (felt_sub u 1)) (felt_mul (cond r 1 0) (felt_sub v 1))) (felt_mul (cond q 1 0) (felt_sub z 1))) ((◌≡◌ {A = ℕ} (cond t 1 0) 1 → u ≡ 1) × (◌≡◌ {A = ℕ} (cond r 1 0) 1 → v ≡ 1) × (◌≡◌ {A = ℕ} (cond q 1 0) 1 → z ≡ 1))
+        → Says (felt_add (felt_add (felt_mul (cond t 1 0) (felt_sub u 1)) (felt_mul (cond r 1 0) (felt_sub v 1))) (felt_mul (cond q 1 0) (felt_sub z 1)))
+            ((◌≡◌ {A = ℕ} (cond t 1 0) 1 → u ≡ 1) × (◌≡◌ {A = ℕ} (cond r 1 0) 1 → v ≡ 1) × (◌≡◌ {A = ℕ} (cond q 1 0) 1 → z ≡ 1))
     at t r q apart last =
         says_as (three_say t r q apart last (sub_says u 1 lu (lit< tt)) (sub_says v 1 lv (lit< tt)) (sub_says z 1 lz (lit< tt)))
         (λ h. (is_set t h.0, is_set r h.1, is_set q h.2)) (λ h. (set t h.0, set r h.1, set q h.2))
@@ -176,7 +181,8 @@ needed_by u v z i j k lu lv lz most =
 pub says_103 : (op : Op) (x : List ℕ) → (is_batch_op op ≡ true → IsBatchRow x) → Says (entry_103 (hot op) x) (is_batch_op op ≡ true → NeedsPositions x)
 unfolding entry_103
 says_103 op x batch =
-    says_of (ap (λ n. felt_mul n (felt_add (felt_add (felt_mul (c x 0) (felt_sub eight 1)) (felt_mul (c x 1) (felt_sub four 1))) (felt_mul (c x 2) (felt_sub two 1)))) (batches_is op))
+    says_of (ap (λ n. felt_mul n (felt_add (felt_add (felt_mul (c x 0) (felt_sub eight 1)) (felt_mul (c x 1) (felt_sub four 1)))
+        (felt_mul (c x 2) (felt_sub two 1)))) (batches_is op))
     (gate_says_if (is_batch_op op) (rest_low _)
     (λ is. says_as (needed_by eight four two (c x 0) (c x 1) (c x 2) (rest_low _) (rest_low _) (rest_low _) (batch is).most)
     (λ h. record { eight = h.0; four = h.1; two = h.2 }) (λ n. (n.eight, n.four, n.two))))
@@ -278,7 +284,8 @@ pub half_used : (x : List ℕ) → ShowsBatch x → 1 < positions x → UsesHalf
 half_used x shows several =
     at_bits (λ i j k. c x 0 ≡ i → c x 1 ≡ j → c x 2 ≡ k → UsesHalf x)
     (λ ei ej ek. let one : positions x ≡ 1 = positions_at x 0 0 0 ei ej ek in absurd (omega (arith, one, several)))
-    (λ ei ej ek. eight_used x (positions_at x 1 0 0 ei ej ek) (some_of_four (h x 4) (h x 5) (h x 6) (h x 7) (w x 0) (w x 1) (w x 2) (w x 3) (shows.needed.eight ei)))
+    (λ ei ej ek. eight_used x (positions_at x 1 0 0 ei ej ek) (some_of_four (h x 4) (h x 5) (h x 6) (h x 7) (w x 0) (w x 1) (w x 2) (w x 3)
+        (shows.needed.eight ei)))
     (λ ei ej ek. four_used x (positions_at x 0 1 0 ei ej ek) (some_of_two (h x 2) (h x 3) (w x 0) (w x 1) (shows.needed.four ej)))
     (λ ei ej ek. used_at x 1 2 (positions_at x 0 0 1 ei ej ek) (lit≤ tt) (lit< tt) (some_of_one (h x 1) (w x 0) (shows.needed.two ek)))
     (c x 0) (c x 1) (c x 2) shows.is_batch.most refl refl refl

@@ -1,5 +1,5 @@
 -- What the entries 140 to 147 say where they are 0, one by one.
-use Rattle.std.proofs.Common.{◌≡◌, ◌≢◌, ◌⊎◌, ℕ, zero, suc, ◌+◌, ◌-◌, ◌*◌, ◌^◌, ◌%◌, ◌<◌, ◌≤◌, Bool, true, false, ◌&&◌, ◌||◌, not, cond, List, slice_index, refl, sym, ap, ◌∙◌, inl, inr, ⊎_elim, arith, lit<}
+use Rattle.std.proofs.Common.{◌≡◌, ◌≢◌, ◌⊎◌, ℕ, ◌-◌, ◌^◌, ◌<◌, Bool, true, false, ◌&&◌, ◌||◌, cond, List, refl, sym, ap, ◌∙◌, inl, inr, ⊎_elim, arith, lit<}
 use Rattle.vm_field.specs.Field.{prime, felt_add, felt_sub, felt_mul}
 use Rattle.vm_ops.specs.declared.op.Op.{Op}
 use Rattle.vm_ops.specs.declared.op.Op.TheVariants as ops
@@ -7,10 +7,9 @@ use Rattle.vm_table.specs.MainColumns.{s, t, w}
 use Rattle.air_kit.specs.Flags.{is_op}
 use Rattle.air_kit.specs.U32Values.{limbs, takes_two, takes_three, two_left, entry_140, entry_141, entry_142, entry_143, entry_144, entry_145, entry_146, entry_147}
 use Rattle.row_facts.specs.Limbs.{has_second, has_third, has_high_word}
-use Rattle.row_facts.proofs.Says.{Says, says_of, says_as, off, never, rest_low, none_is, zero_says, sub_says, sub_twice_says, bit_says, mul_says, gate_says, gate_product_says, regate, sum_says}
+use Rattle.row_facts.proofs.Says.{Says, says_of, says_as, never, rest_low, none_is, zero_says, sub_says, sub_twice_says, bit_says, mul_says, gate_says, gate_product_says, regate, sum_says, either_or}
 use Rattle.row_facts.proofs.Hot.{hot}
 use Rattle.row_facts.proofs.BlockFacts.{Low}
-use Rattle.row_facts.proofs.GroupFacts.{either_or}
 
 -- ---- sums of values of which at most one counts
 
@@ -25,8 +24,10 @@ gate_off false v e = none_is v
 gated : {v : ℕ} {P : Type 0} (t : Bool) → Says v P → Gated t (felt_mul (cond t 1 0) v) (t ≡ true → P)
 gated {v = v} t s = record { says = gate_says t s; none_where = gate_off t v }
 
-gated_more : {v z : ℕ} {P Q : Type 0} (any t : Bool) → any && t ≡ false → Gated any v P → Says z Q → Gated (any || t) (felt_add v (felt_mul (cond t 1 0) z)) (P × (t ≡ true → Q))
-gated_more {v = v} {z = z} any t apart g s = record { says = sum_says (one_off any t apart g.none_where) g.says (gate_says t s); none_where = both_off any t g.none_where }
+gated_more : {v z : ℕ} {P Q : Type 0} (any t : Bool) → any && t ≡ false → Gated any v P → Says z Q
+    → Gated (any || t) (felt_add v (felt_mul (cond t 1 0) z)) (P × (t ≡ true → Q))
+gated_more {v = v} {z = z} any t apart g s = record { says = sum_says (one_off any t apart g.none_where) g.says
+    (gate_says t s); none_where = both_off any t g.none_where }
   where
     one_off : (a u : Bool) → a && u ≡ false → (a ≡ false → v ≡ 0) → (v ≡ 0) ⊎ (felt_mul (cond u 1 0) z ≡ 0)
     one_off a false e k = inr (none_is z)
@@ -54,7 +55,8 @@ thirds_is op = refl
 abbrev pub leaves_second : Op → Bool
 leaves_second op = is_op op ops.U32Add || is_op op ops.U32Sub || is_op op ops.U32Mul || is_op op ops.U32Div
 
-lows_is : (op : Op) → felt_add (felt_add (felt_add (hot op ops.U32Add) (hot op ops.U32Sub)) (hot op ops.U32Mul)) (hot op ops.U32Div) ≡ cond (leaves_second op) 1 0
+lows_is : (op : Op) → felt_add (felt_add (felt_add (hot op ops.U32Add) (hot op ops.U32Sub)) (hot op ops.U32Mul)) (hot op ops.U32Div) ≡ cond
+    (leaves_second op) 1 0
 lows_is ops.U32Add = refl
 lows_is op = refl
 
@@ -83,17 +85,20 @@ left_low y = rest_low _
 pub says_140 : (op : Op) (x : List ℕ) → Low x → Says (entry_140 (hot op) x) (has_second op ≡ true → s x 0 ≡ limbs 0 x)
 unfolding entry_140
 says_140 op x low =
-    says_of (ap (λ n. felt_mul n (felt_sub (s x 0) (limbs 0 x))) (seconds_is op)) (gate_says (has_second op) (sub_says (s x 0) (limbs 0 x) (low 30) (limbs_low 0 x)))
+    says_of (ap (λ n. felt_mul n (felt_sub (s x 0) (limbs 0 x))) (seconds_is op))
+        (gate_says (has_second op) (sub_says (s x 0) (limbs 0 x) (low 30) (limbs_low 0 x)))
 
 pub says_141 : (op : Op) (x : List ℕ) → Low x → Says (entry_141 (hot op) x) (has_second op ≡ true → s x 1 ≡ limbs 2 x)
 unfolding entry_141
 says_141 op x low =
-    says_of (ap (λ n. felt_mul n (felt_sub (s x 1) (limbs 2 x))) (seconds_is op)) (gate_says (has_second op) (sub_says (s x 1) (limbs 2 x) (low 31) (limbs_low 2 x)))
+    says_of (ap (λ n. felt_mul n (felt_sub (s x 1) (limbs 2 x))) (seconds_is op))
+        (gate_says (has_second op) (sub_says (s x 1) (limbs 2 x) (low 31) (limbs_low 2 x)))
 
 pub says_142 : (op : Op) (x : List ℕ) → Low x → Says (entry_142 (hot op) x) (has_third op ≡ true → s x 2 ≡ limbs 4 x)
 unfolding entry_142
 says_142 op x low =
-    says_of (ap (λ n. felt_mul n (felt_sub (s x 2) (limbs 4 x))) (thirds_is op)) (gate_says (has_third op) (sub_says (s x 2) (limbs 4 x) (low 32) (limbs_low 4 x)))
+    says_of (ap (λ n. felt_mul n (felt_sub (s x 2) (limbs 4 x))) (thirds_is op))
+        (gate_says (has_third op) (sub_says (s x 2) (limbs 4 x) (low 32) (limbs_low 4 x)))
 
 three_less : (i j k l : ℕ) → i < prime → j < prime → k < prime → l < prime → Says (felt_sub (felt_sub (felt_sub i j) k) l) (i ≡ felt_add (felt_add j k) l)
 three_less i j k l hi hj hk hl = record { low = rest_low _; shown = λ z. omega (arith, hi, hj, hk, hl, z); zero_where = λ e. omega (arith, hi, hj, hk, hl, e) }
@@ -118,8 +123,10 @@ pub says_143 : (op next : Op) (x y : List ℕ) → Low y
 unfolding entry_143
 says_143 op next x y low =
     says_of
-    (ap (λ n. felt_add (felt_add (felt_mul (hot op ops.U32Split) (felt_sub (s y 1) (limbs 0 x))) (felt_mul n (felt_sub (s y 1) (limbs 4 x)))) (felt_mul (takes_three (hot op)) (felt_sub (s y 1) (limbs 6 x)))) (lows_is op)
-    ∙ ap (λ n. felt_add (felt_add (felt_mul (hot op ops.U32Split) (felt_sub (s y 1) (limbs 0 x))) (felt_mul (cond (leaves_second op) 1 0) (felt_sub (s y 1) (limbs 4 x)))) (felt_mul n (felt_sub (s y 1) (limbs 6 x)))) (thirds_is op))
+    (ap (λ n. felt_add (felt_add (felt_mul (hot op ops.U32Split) (felt_sub (s y 1) (limbs 0 x))) (felt_mul n (felt_sub (s y 1) (limbs 4 x))))
+        (felt_mul (takes_three (hot op)) (felt_sub (s y 1) (limbs 6 x)))) (lows_is op)
+    ∙ ap (λ n. felt_add (felt_add (felt_mul (hot op ops.U32Split) (felt_sub (s y 1) (limbs 0 x)))
+        (felt_mul (cond (leaves_second op) 1 0) (felt_sub (s y 1) (limbs 4 x)))) (felt_mul n (felt_sub (s y 1) (limbs 6 x)))) (thirds_is op))
     (gated_more (is_op op ops.U32Split || leaves_second op) (has_third op) (low_or_third op)
     (gated_more (is_op op ops.U32Split) (leaves_second op) (split_or_low op)
     (gated (is_op op ops.U32Split) (sub_says (s y 1) (limbs 0 x) (low 31) (limbs_low 0 x)))
@@ -166,9 +173,15 @@ pub says_144 : (op next : Op) (x y : List ℕ) → Low x → Low y
 unfolding entry_144
 says_144 op next x y low low_next =
     says_of
-    (ap (λ n. felt_add (felt_add (felt_add (felt_add (felt_add (felt_mul (hot op ops.U32Split) (felt_sub (s y 0) (limbs 2 x))) (felt_mul (hot op ops.U32Add) (felt_sub (s y 0) (t x 6)))) (felt_mul (hot op ops.U32Add3) (felt_sub (s y 0) (t x 8)))) n) (felt_mul (felt_add (hot op ops.U32Mul) (hot op ops.U32Div)) (felt_sub (s y 0) (limbs 6 x)))) (felt_mul (hot op ops.U32MAdd) (felt_sub (s y 0) (limbs 8 x))))
+    (ap (λ n. felt_add (felt_add (felt_add (felt_add (felt_add (felt_mul (hot op ops.U32Split) (felt_sub (s y 0) (limbs 2 x)))
+        (felt_mul (hot op ops.U32Add) (felt_sub (s y 0) (t x 6)))) (felt_mul (hot op ops.U32Add3) (felt_sub (s y 0) (t x 8)))) n)
+            (felt_mul (felt_add (hot op ops.U32Mul) (hot op ops.U32Div)) (felt_sub (s y 0) (limbs 6 x))))
+                (felt_mul (hot op ops.U32MAdd) (felt_sub (s y 0) (limbs 8 x))))
     (regate (is_op op ops.U32Sub) (s y 0) (felt_sub (s y 0) 1) (low_next 30))
-    ∙ ap (λ n. felt_add (felt_add (felt_add (felt_add (felt_add (felt_mul (hot op ops.U32Split) (felt_sub (s y 0) (limbs 2 x))) (felt_mul (hot op ops.U32Add) (felt_sub (s y 0) (t x 6)))) (felt_mul (hot op ops.U32Add3) (felt_sub (s y 0) (t x 8)))) (felt_mul (hot op ops.U32Sub) (felt_mul (s y 0) (felt_sub (s y 0) 1)))) (felt_mul n (felt_sub (s y 0) (limbs 6 x)))) (felt_mul (hot op ops.U32MAdd) (felt_sub (s y 0) (limbs 8 x))))
+    ∙ ap (λ n. felt_add (felt_add (felt_add (felt_add (felt_add (felt_mul (hot op ops.U32Split) (felt_sub (s y 0) (limbs 2 x)))
+        (felt_mul (hot op ops.U32Add) (felt_sub (s y 0) (t x 6)))) (felt_mul (hot op ops.U32Add3) (felt_sub (s y 0) (t x 8))))
+            (felt_mul (hot op ops.U32Sub) (felt_mul (s y 0) (felt_sub (s y 0) 1)))) (felt_mul n (felt_sub (s y 0) (limbs 6 x))))
+                (felt_mul (hot op ops.U32MAdd) (felt_sub (s y 0) (limbs 8 x))))
     (highs_is op))
     (gated_more (high_5 op) (is_op op ops.U32MAdd) (apart_6 op)
     (gated_more (high_4 op) (leaves_fourth op) (apart_5 op)
@@ -214,7 +227,8 @@ borrow_says i j k m hi hj hk hm = record { low = rest_low _; shown = λ z. omega
 pub says_145 : (op next : Op) (x y : List ℕ) → Low x → Low y
     → Says (entry_145 (hot op) (hot next) x y)
     (((((((is_op op ops.U32Split ≡ true → s x 0 ≡ two_left y) × (is_op op ops.U32Add ≡ true → felt_add (s x 0) (s x 1) ≡ two_left y))
-    × (is_op op ops.U32Add3 ≡ true → felt_add (felt_add (s x 0) (s x 1)) (s x 2) ≡ two_left y)) × (is_op op ops.U32Mul ≡ true → felt_mul (s x 0) (s x 1) ≡ two_left y))
+    × (is_op op ops.U32Add3 ≡ true → felt_add (felt_add (s x 0) (s x 1)) (s x 2) ≡ two_left y))
+        × (is_op op ops.U32Mul ≡ true → felt_mul (s x 0) (s x 1) ≡ two_left y))
     × (is_op op ops.U32MAdd ≡ true → felt_add (felt_mul (s x 0) (s x 1)) (s x 2) ≡ two_left y))
     × (is_op op ops.U32Sub ≡ true → felt_add (s x 1) (felt_mul (2 ^ 32) (s y 0)) ≡ felt_add (s x 0) (s y 1)))
     × (is_op op ops.U32Div ≡ true → s x 1 ≡ felt_add (felt_mul (s x 0) (s y 1)) (s y 0)))

@@ -1,17 +1,17 @@
 -- The facts of numbers of 32 bits, from entries that are 0, and back.
-use Rattle.std.proofs.Common.{◌≡◌, ◌≢◌, ℕ, ◌-◌, ◌^◌, ◌<◌, Bool, true, false, ◌||◌, List, Some, slice_index, refl}
-use Rattle.vm_field.specs.Field.{prime, felt_add, felt_sub, felt_mul}
+use Rattle.std.proofs.Common.{◌≡◌, ℕ, ◌^◌, ◌<◌, Bool, true, false, ◌||◌, List, Some, refl}
+use Rattle.vm_field.specs.Field.{felt_add, felt_mul}
 use Rattle.vm_ops.specs.declared.op.Op.{Op}
 use Rattle.vm_ops.specs.declared.op.Op.TheVariants as ops
-use Rattle.vm_table.specs.MainColumns.{s, t, w}
+use Rattle.vm_table.specs.MainColumns.{s, t}
 use Rattle.air_kit.specs.Flags.{is_op, op_of}
 use Rattle.air_kit.specs.Places.{Spot}
 use Rattle.air_kit.specs.U32Values.{limbs, two_left, u32_values, entry_140, entry_141, entry_142, entry_143, entry_144, entry_145, entry_146, entry_147}
 use Rattle.row_facts.specs.Zero.{AllZero}
-use Rattle.row_facts.specs.Limbs.{IsLimbRow, Splits, Adds, AddsThree, Subtracts, Multiplies, MultipliesAndAdds, Divides, MovesLimbs, ShowsLimbs, has_third, has_high_word}
-use Rattle.row_facts.specs.RowFacts.{Reads, ReadsAs}
+use Rattle.row_facts.specs.Limbs.{IsLimbRow, MovesLimbs, ShowsLimbs, has_third}
+use Rattle.row_facts.specs.RowFacts.{Reads}
 use Rattle.row_facts.proofs.Zeros.{each_zero}
-use Rattle.row_facts.proofs.Says.{Says, off}
+use Rattle.row_facts.proofs.Says.{off}
 use Rattle.row_facts.proofs.LimbFacts.{leaves_second, leaves_fourth, says_140, says_141, says_142, says_143, says_144, says_145, says_146, says_147}
 use Rattle.row_facts.proofs.SpotSays.{row_at, pair_at}
 
@@ -99,36 +99,67 @@ pub limbs_zeros : (op : Op) (p : Spot) → Reads op p → ShowsLimbs op p → Al
 unfolding u32_values
 limbs_zeros op p r shows =
     each_zero (u32_values p) (
-      (row_at entry_140 r (says_140 op p.cur r.here.low)).zero_where shows.row.first, (
-      (row_at entry_141 r (says_141 op p.cur r.here.low)).zero_where shows.row.second, (
-      (row_at entry_142 r (says_142 op p.cur r.here.low)).zero_where shows.row.third, (
-      (pair_at entry_143 r (λ u n. says_143 op (op_of u) p.cur u n.low)).zero_where (λ y e. low_words y (shows.pair y e)), (
-      (pair_at entry_144 r (λ u n. says_144 op (op_of u) p.cur u r.here.low n.low)).zero_where (λ y e. high_words y (shows.pair y e)), (
-      (pair_at entry_145 r (λ u n. says_145 op (op_of u) p.cur u r.here.low n.low)).zero_where (λ y e. both_words y (shows.pair y e)), (
-      (pair_at entry_146 r (λ u n. says_146 op (op_of u) p.cur u n.low)).zero_where (λ y e. (shows.pair y e).one_way), (
-      (row_at entry_147 r (says_147 op p.cur r.here.low)).zero_where shows.row.remainder, tt))))))))
+      (row_at entry_140 r (says_140 op p.cur r.here.low)).zero_where shows.row.first,
+      (
+        (row_at entry_141 r (says_141 op p.cur r.here.low)).zero_where shows.row.second,
+        (
+          (row_at entry_142 r (says_142 op p.cur r.here.low)).zero_where shows.row.third,
+          (
+            (pair_at entry_143 r (λ u n. says_143 op (op_of u) p.cur u n.low)).zero_where (λ y e. low_words y (shows.pair y e)),
+            (
+              (pair_at entry_144 r (λ u n. says_144 op (op_of u) p.cur u r.here.low n.low)).zero_where (λ y e. high_words y (shows.pair y e)),
+              (
+                (pair_at entry_145 r (λ u n. says_145 op (op_of u) p.cur u r.here.low n.low)).zero_where (λ y e. both_words y (shows.pair y e)),
+                (
+                  (pair_at entry_146 r (λ u n. says_146 op (op_of u) p.cur u n.low)).zero_where (λ y e. (shows.pair y e).one_way),
+                  (
+                    (row_at entry_147 r (says_147 op p.cur r.here.low)).zero_where shows.row.remainder,
+                    tt,
+                  ),
+                ),
+              ),
+            ),
+          ),
+        ),
+      ),
+    )
   where
     low_words : (y : List ℕ) → MovesLimbs op p.cur y
-        → ((is_op op ops.U32Split ≡ true → s y 1 ≡ limbs 0 p.cur) × (leaves_second op ≡ true → s y 1 ≡ limbs 4 p.cur)) × (has_third op ≡ true → s y 1 ≡ limbs 6 p.cur)
-    low_words y m =
-        ((λ is. (m.splits is).low,
+        → ((is_op op ops.U32Split ≡ true → s y 1 ≡ limbs 0 p.cur) × (leaves_second op ≡ true → s y 1 ≡ limbs 4 p.cur))
+            × (has_third op ≡ true → s y 1 ≡ limbs 6 p.cur)
+    low_words y m = (
+      (
+        λ is. (m.splits is).low,
         from_four (is_op op ops.U32Add) (is_op op ops.U32Sub) (is_op op ops.U32Mul) (is_op op ops.U32Div) (λ is. (m.adds is).low) (λ is. (m.subtracts is).low)
-        (λ is. (m.multiplies is).low) (λ is. (m.divides is).quotient)),
-        from_two (is_op op ops.U32Add3) (is_op op ops.U32MAdd) (λ is. (m.adds_three is).low) (λ is. (m.multiplies_and_adds is).low))
+            (λ is. (m.multiplies is).low) (λ is. (m.divides is).quotient),
+      ),
+      from_two (is_op op ops.U32Add3) (is_op op ops.U32MAdd) (λ is. (m.adds_three is).low) (λ is. (m.multiplies_and_adds is).low),
+    )
 
     high_words : (y : List ℕ) → MovesLimbs op p.cur y
-        → (((((is_op op ops.U32Split ≡ true → s y 0 ≡ limbs 2 p.cur) × (is_op op ops.U32Add ≡ true → s y 0 ≡ t p.cur 6)) × (is_op op ops.U32Add3 ≡ true → s y 0 ≡ t p.cur 8))
+        → (((((is_op op ops.U32Split ≡ true → s y 0 ≡ limbs 2 p.cur) × (is_op op ops.U32Add ≡ true → s y 0 ≡ t p.cur 6))
+            × (is_op op ops.U32Add3 ≡ true → s y 0 ≡ t p.cur 8))
         × (is_op op ops.U32Sub ≡ true → s y 0 < 2)) × (leaves_fourth op ≡ true → s y 0 ≡ limbs 6 p.cur)) × (is_op op ops.U32MAdd ≡ true → s y 0 ≡ limbs 8 p.cur)
-    high_words y m =
-        (((((λ is. (m.splits is).high, λ is. (m.adds is).high), λ is. (m.adds_three is).high), λ is. (m.subtracts is).borrow),
-        from_two (is_op op ops.U32Mul) (is_op op ops.U32Div) (λ is. (m.multiplies is).high) (λ is. (m.divides is).remainder)), λ is. (m.multiplies_and_adds is).high)
+    high_words y m = (
+      (
+        (((λ is. (m.splits is).high, λ is. (m.adds is).high), λ is. (m.adds_three is).high), λ is. (m.subtracts is).borrow),
+        from_two (is_op op ops.U32Mul) (is_op op ops.U32Div) (λ is. (m.multiplies is).high) (λ is. (m.divides is).remainder),
+      ),
+      λ is. (m.multiplies_and_adds is).high,
+    )
 
     both_words : (y : List ℕ) → MovesLimbs op p.cur y
         → ((((((is_op op ops.U32Split ≡ true → s p.cur 0 ≡ two_left y) × (is_op op ops.U32Add ≡ true → felt_add (s p.cur 0) (s p.cur 1) ≡ two_left y))
-        × (is_op op ops.U32Add3 ≡ true → felt_add (felt_add (s p.cur 0) (s p.cur 1)) (s p.cur 2) ≡ two_left y)) × (is_op op ops.U32Mul ≡ true → felt_mul (s p.cur 0) (s p.cur 1) ≡ two_left y))
+        × (is_op op ops.U32Add3 ≡ true → felt_add (felt_add (s p.cur 0) (s p.cur 1)) (s p.cur 2) ≡ two_left y))
+            × (is_op op ops.U32Mul ≡ true → felt_mul (s p.cur 0) (s p.cur 1) ≡ two_left y))
         × (is_op op ops.U32MAdd ≡ true → felt_add (felt_mul (s p.cur 0) (s p.cur 1)) (s p.cur 2) ≡ two_left y))
         × (is_op op ops.U32Sub ≡ true → felt_add (s p.cur 1) (felt_mul (2 ^ 32) (s y 0)) ≡ felt_add (s p.cur 0) (s y 1)))
         × (is_op op ops.U32Div ≡ true → s p.cur 1 ≡ felt_add (felt_mul (s p.cur 0) (s y 1)) (s y 0))
-    both_words y m =
-        ((((((λ is. (m.splits is).whole, λ is. (m.adds is).whole), λ is. (m.adds_three is).whole), λ is. (m.multiplies is).whole), λ is. (m.multiplies_and_adds is).whole),
-        λ is. (m.subtracts is).whole), λ is. (m.divides is).whole)
+    both_words y m = (
+      (
+        ((((λ is. (m.splits is).whole, λ is. (m.adds is).whole), λ is. (m.adds_three is).whole), λ is. (m.multiplies is).whole), λ is.
+            (m.multiplies_and_adds is).whole),
+        λ is. (m.subtracts is).whole,
+      ),
+      λ is. (m.divides is).whole,
+    )

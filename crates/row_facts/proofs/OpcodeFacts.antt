@@ -1,7 +1,7 @@
 -- What the entries on operations and on the positions of a batch say where they are 0.
-use Rattle.std.proofs.Common.{◌≡◌, ℕ, ◌+◌, ◌<◌, [], ◌∷◌, ◌++◌, slice_index, inl, inr, arith}
-use Rattle.vm_field.specs.Field.{prime, felt_sub, felt_mul}
-use Rattle.vm_field.proofs.Prime.{Euclid-prime}
+use Rattle.std.proofs.Common.{ℕ, ◌+◌, ◌<◌, [], ◌∷◌, ◌++◌, slice_index}
+use Rattle.vm_field.specs.Field.{prime}
+use Rattle.vm_field.proofs.Algebra.{bit_from_product}
 use Rattle.vm_table.specs.MainColumns.{b, c}
 use Rattle.air_kit.specs.Flags.{op_of, HasOp}
 use Rattle.air_kit.specs.Places.{Claim, Spot, on_row, on_pair, at_first, family}
@@ -41,18 +41,10 @@ main_parts c p zeros =
       u32 = zero_back (stack_values p) (u32_values p) rest;
     }
 
--- an element whose product with itself less one is 0 is a bit
-pub bit_from_zero : (a : ℕ) → a < prime → felt_mul a (felt_sub a 1) ≡ 0 → a < 2
-bit_from_zero a low z =
-    elim (Euclid-prime a (felt_sub a 1) z) [
-      | inl left ↦ omega (arith, left, low)
-      | inr right ↦ omega (arith, right, low)
-    ]
-
 pub opcode_bits : (p : Spot) → ((k : ℕ) → slice_index p.cur k < prime) → AllZero (opcode_values p) → (j : ℕ) → j < 7 → b p.cur j < 2
 unfolding opcode_values entry_1
 opcode_bits p low zeros j h =
-    bit_from_zero (b p.cur j) (low (9 + j))
+    bit_from_product (b p.cur j) (low (9 + j))
     (zero_family 7 (λ k. on_row (entry_1 k) p) (zero_front (family 7 (λ k. on_row (entry_1 k) p)) _ zeros) j h)
 
 -- a row whose entries are 0 has the operation that its bits spell

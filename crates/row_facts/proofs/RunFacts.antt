@@ -1,7 +1,7 @@
 -- What follows from the facts of rows by themselves: clocks, where HALT stands, and how the buses' tests read a row.
-use Rattle.std.proofs.Common.{◌≡◌, ◌↔◌, ℕ, zero, suc, ◌+◌, ◌%◌, ◌<◌, ◌≤◌, ◌⊎◌, inl, inr, Bool, true, false, ◌&&◌, ◌||◌, not, cond, eqb, List, length, slice_index, refl, sym, ap, ◌∙◌, arith}
+use Rattle.std.proofs.Common.{◌≡◌, ◌↔◌, ℕ, zero, suc, ◌<◌, ◌⊎◌, inl, inr, Bool, true, false, not, cond, eqb, List, length, refl, sym, ap, ◌∙◌, arith}
 use Rattle.vm_field.specs.Field.{prime, felt_add}
-use Rattle.vm_ops.specs.Codes.{code_of, is_ordinary_op}
+use Rattle.vm_ops.specs.Codes.{code_of}
 use Rattle.vm_ops.specs.declared.op.Op.{Op}
 use Rattle.vm_ops.specs.declared.op.Op.TheVariants as ops
 use Rattle.vm_table.specs.MainColumns.{clk, h, s}
@@ -34,7 +34,8 @@ none_follows ops.Halt next top is = refl
 none_follows ops.Noop next top is = off is
 none_follows op next top is = off is
 
-pub halts_last : (k : Claim) (rows : List (List ℕ)) → ShowsRows k rows → (i : ℕ) → i < length rows → (is_op (op_in rows i) ops.Halt ≡ true) ↔ (suc i ≡ length rows)
+pub halts_last : (k : Claim) (rows : List (List ℕ)) → ShowsRows k rows → (i : ℕ) → i < length rows
+    → (is_op (op_in rows i) ops.Halt ≡ true) ↔ (suc i ≡ length rows)
 halts_last k rows shows i h = (there, λ e. (shows.last i e).halts)
   where
     within : (suc i < length rows) ⊎ (suc i ≡ length rows)

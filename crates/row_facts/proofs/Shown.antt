@@ -135,7 +135,8 @@ second_of false u e = e
 pub loop_bit : (op : Op) (x : List ℕ) → IsBlockRow op x → is_op op ops.Loop ≡ true → s x 0 < 2
 loop_bit op x row is = row.condition (second_of (is_op op ops.Split) (is_op op ops.Loop) is)
 
-follows_at : (op : Op) (p : Spot) (y : List ℕ) → Reads op p → IsBlockRow op p.cur → AllZero (block_values p) → p.next ≡ Some y → may_follow op (s p.cur 0) (op_of y) ≡ true
+follows_at : (op : Op) (p : Spot) (y : List ℕ) → Reads op p → IsBlockRow op p.cur → AllZero (block_values p) → p.next ≡ Some y
+    → may_follow op (s p.cur 0) (op_of y) ≡ true
 unfolding block_values follow_values shown_values kept_values family
 follows_at op p y r row zeros e =
     let x : List ℕ = p.cur in
@@ -209,7 +210,8 @@ clock_at : (op : Op) (p : Spot) (y : List ℕ) → Reads op p → AllZero (opcod
 unfolding opcode_values family
 clock_at op p y r zeros e = (pair_at entry_10 r (λ u n. says_10 op (op_of u) p.cur u r.here.low n.low)).shown (zeros 9) y e
 
-pub pair_shown : (op : Op) (p : Spot) (y : List ℕ) → Reads op p → IsRow op p.cur → AllZero (opcode_values p) → AllZero (block_values p) → AllZero (span_values p)
+pub pair_shown : (op : Op) (p : Spot) (y : List ℕ) → Reads op p → IsRow op p.cur → AllZero (opcode_values p) → AllZero (block_values p)
+    → AllZero (span_values p)
     → p.next ≡ Some y → IsPair op (op_of y) p.cur y
 pair_shown op p y r row opcode blocks spans e = record {
   clock = clock_at op p y r opcode e;
@@ -240,12 +242,14 @@ starts_run op p r opcode zeros e = record {
     digest : (j : ℕ) → at_first (entry_16 j) p ≡ 0 → f p.cur j ≡ 0
     digest j z = (first_at (entry_16 j) r (says_16 op p.cur j r.here.low)).shown z e
 
-inputs_shown : (k : Claim) (op : Op) (p : Spot) → IsLowClaim k → Reads op p → AllZero (inputs_values k p) → p.row ≡ 0 → (j : ℕ) → j < 16 → s p.cur j ≡ slice_index k.inputs j
+inputs_shown : (k : Claim) (op : Op) (p : Spot) → IsLowClaim k → Reads op p → AllZero (inputs_values k p) → p.row ≡ 0 → (j : ℕ) → j < 16
+    → s p.cur j ≡ slice_index k.inputs j
 unfolding inputs_values
 inputs_shown k op p few r zeros e j h =
     (first_at (entry_23 k j) r (says_23 k op p.cur j few r.here.low)).shown (zero_family 16 (λ j. at_first (entry_23 k j) p) zeros j h) e
 
-outputs_shown : (k : Claim) (op : Op) (p : Spot) → IsLowClaim k → Reads op p → AllZero (outputs_values k p) → p.next ≡ None → (j : ℕ) → j < 16 → s p.cur j ≡ slice_index k.outputs j
+outputs_shown : (k : Claim) (op : Op) (p : Spot) → IsLowClaim k → Reads op p → AllZero (outputs_values k p) → p.next ≡ None → (j : ℕ) → j < 16
+    → s p.cur j ≡ slice_index k.outputs j
 unfolding outputs_values
 outputs_shown k op p few r zeros e j h =
     (last_at (entry_44 k j) r (says_44 k op p.cur j few r.here.low)).shown (zero_family 16 (λ j. at_last (entry_44 k j) p) zeros j h) e
@@ -269,7 +273,8 @@ bounds_of k p zeros =
       outputs = zero_back (end_values k p) (outputs_values k p) later;
     }
 
-pub first_shown : (k : Claim) (op : Op) (p : Spot) → IsLowClaim k → Reads op p → AllZero (opcode_values p) → AllZero (boundary_values k p) → p.row ≡ 0 → IsFirstRow k op p.cur
+pub first_shown : (k : Claim) (op : Op) (p : Spot) → IsLowClaim k → Reads op p → AllZero (opcode_values p) → AllZero (boundary_values k p) → p.row ≡ 0
+    → IsFirstRow k op p.cur
 unfolding end_values
 first_shown k op p few r opcode zeros e =
     let b : Bounds k p = bounds_of k p zeros in

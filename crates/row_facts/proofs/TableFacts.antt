@@ -1,5 +1,5 @@
 -- The facts of all rows of a table, from entries that are 0, and back.
-use Rattle.std.proofs.Common.{◌≡◌, ℕ, zero, suc, ◌<◌, ◌≤◌, ◌⊎◌, inl, inr, List, [], length, Option, Some, None, slice_index, slice_index_or, refl, sym, ap, subst, ◌∙◌, arith}
+use Rattle.std.proofs.Common.{◌≡◌, ℕ, zero, suc, ◌<◌, ◌⊎◌, inl, inr, List, [], length, Some, None, refl, sym, subst, arith}
 use Rattle.std.proofs.lemmas.Option.{slice_get_within, slice_get-get_or, slice_get_past, get_or_from_slice_get}
 use Rattle.std.specs.List.{slice_get}
 use Rattle.vm_ops.specs.declared.op.Op.{Op}
@@ -10,7 +10,7 @@ use Rattle.air_kit.specs.Places.{Claim, Spot, at_number}
 use Rattle.air_kit.specs.StackValues.{stack_values}
 use Rattle.air_kit.specs.Traces.{spot_of}
 use Rattle.air_kit.specs.U32Values.{u32_values}
-use Rattle.row_facts.specs.Bounds.{IsLowClaim, IsFirstRow, IsLastRow}
+use Rattle.row_facts.specs.Bounds.{IsLowClaim, IsFirstRow}
 use Rattle.row_facts.specs.Limbs.{ShowsLimbs}
 use Rattle.row_facts.specs.MainRows.{IsZero, ShowsPair, ShowsRow, ShowsRows, op_in, row_at}
 use Rattle.row_facts.specs.RowFacts.{IsAtSpot, Reads, ReadsAs}
@@ -43,7 +43,8 @@ last_where rows i h none = go within
     go (inl more) = let some : slice_get rows (suc i) ≡ Some (row_at rows (suc i)) = behind_at rows i more in absurd (let clash : ⊥ = cc in clash)
     go (inr e) = e
 
-reads_behind : (rows : List (List ℕ)) → ((i : ℕ) → i < length rows → ReadsAs (op_in rows i) (row_at rows i)) → (i : ℕ) → i < length rows → Reads (op_in rows i) (spot_of rows i)
+reads_behind : (rows : List (List ℕ)) → ((i : ℕ) → i < length rows → ReadsAs (op_in rows i) (row_at rows i)) → (i : ℕ) → i < length rows
+    → Reads (op_in rows i) (spot_of rows i)
 reads_behind rows reads i h = record { here = reads i h; behind = next }
   where
     next : (y : List ℕ) → slice_get rows (suc i) ≡ Some y → ReadsAs (op_of y) y
@@ -89,7 +90,8 @@ rows_shown k rows few z = record {
 
 -- ---- and back
 
-pair_behind : (k : Claim) (rows : List (List ℕ)) → ShowsRows k rows → (i : ℕ) (y : List ℕ) → slice_get rows (suc i) ≡ Some y → ShowsPair (op_in rows i) (op_of y) (row_at rows i) y
+pair_behind : (k : Claim) (rows : List (List ℕ)) → ShowsRows k rows → (i : ℕ) (y : List ℕ) → slice_get rows (suc i) ≡ Some y
+    → ShowsPair (op_in rows i) (op_of y) (row_at rows i) y
 pair_behind k rows shows i y e =
     let F : List ℕ → Type 0 = λ z. ShowsPair (op_in rows i) (op_of z) (row_at rows i) z in
     subst F (behind_is rows i y e) (shows.pair_is i (slice_get_within rows (suc i) y e))

@@ -32,7 +32,8 @@ use Rattle.row_facts.proofs.SpotSays.{row_at, first_at, last_at, pair_at}
 
 -- ---- operations and boundaries
 
-opcode_zeros : (k : Claim) (op : Op) (p : Spot) → Reads op p → ((y : List ℕ) → p.next ≡ Some y → clk y ≡ felt_add (clk p.cur) 1) → (p.row ≡ 0 → IsFirstRow k op p.cur) → AllZero (opcode_values p)
+opcode_zeros : (k : Claim) (op : Op) (p : Spot) → Reads op p → ((y : List ℕ) → p.next ≡ Some y → clk y ≡ felt_add (clk p.cur) 1)
+    → (p.row ≡ 0 → IsFirstRow k op p.cur) → AllZero (opcode_values p)
 unfolding opcode_values entry_1 entry_8
 opcode_zeros k op p r clock first =
     zero_both (family 7 (λ j. on_row (entry_1 j) p)) (on_row entry_8 p ∷ at_first entry_9 p ∷ on_pair entry_10 p ∷ [])
@@ -95,9 +96,11 @@ start_zeros k op p r first =
 inputs_zeros : (k : Claim) (op : Op) (p : Spot) → IsLowClaim k → Reads op p → (p.row ≡ 0 → IsFirstRow k op p.cur) → AllZero (inputs_values k p)
 unfolding inputs_values
 inputs_zeros k op p few r first =
-    zero_of_family 16 (λ j. at_first (entry_23 k j) p) (λ j h. (first_at (entry_23 k j) r (says_23 k op p.cur j few r.here.low)).zero_where (λ e. (first e).inputs j h))
+    zero_of_family 16 (λ j. at_first (entry_23 k j) p) (λ j h. (first_at (entry_23 k j) r (says_23 k op p.cur j few r.here.low)).zero_where
+        (λ e. (first e).inputs j h))
 
-end_zeros : (k : Claim) (op : Op) (p : Spot) → IsLowClaim k → Reads op p → (p.row ≡ 0 → IsFirstRow k op p.cur) → (p.next ≡ None → IsLastRow k op p.cur) → AllZero (end_values k p)
+end_zeros : (k : Claim) (op : Op) (p : Spot) → IsLowClaim k → Reads op p → (p.row ≡ 0 → IsFirstRow k op p.cur) → (p.next ≡ None → IsLastRow k op p.cur)
+    → AllZero (end_values k p)
 unfolding end_values
 end_zeros k op p few r first last =
     each_zero (end_values k p) (
@@ -120,9 +123,11 @@ end_zeros k op p few r first last =
 outputs_zeros : (k : Claim) (op : Op) (p : Spot) → IsLowClaim k → Reads op p → (p.next ≡ None → IsLastRow k op p.cur) → AllZero (outputs_values k p)
 unfolding outputs_values
 outputs_zeros k op p few r last =
-    zero_of_family 16 (λ j. at_last (entry_44 k j) p) (λ j h. (last_at (entry_44 k j) r (says_44 k op p.cur j few r.here.low)).zero_where (λ e. (last e).outputs j h))
+    zero_of_family 16 (λ j. at_last (entry_44 k j) p) (λ j h. (last_at (entry_44 k j) r (says_44 k op p.cur j few r.here.low)).zero_where
+        (λ e. (last e).outputs j h))
 
-boundary_zeros : (k : Claim) (op : Op) (p : Spot) → IsLowClaim k → Reads op p → (p.row ≡ 0 → IsFirstRow k op p.cur) → (p.next ≡ None → IsLastRow k op p.cur) → AllZero (boundary_values k p)
+boundary_zeros : (k : Claim) (op : Op) (p : Spot) → IsLowClaim k → Reads op p → (p.row ≡ 0 → IsFirstRow k op p.cur) → (p.next ≡ None → IsLastRow k op p.cur)
+    → AllZero (boundary_values k p)
 unfolding boundary_values
 boundary_zeros k op p few r first last =
     zero_both (start_values p) (inputs_values k p ++ (end_values k p ++ outputs_values k p)) (start_zeros k op p r first)
@@ -135,7 +140,8 @@ boundary_zeros k op p few r first last =
 abbrev Behind : Spot → (List ℕ → Type 0) → Type 0
 Behind p P = (y : List ℕ) → p.next ≡ Some y → P y
 
-follow_of : (op : Op) (p : Spot) → IsBlockRow op p.cur → Behind p (λ y. may_follow op (s p.cur 0) (op_of y) ≡ true) → Behind p (λ y. Follow op (op_of y) (s p.cur 0))
+follow_of : (op : Op) (p : Spot) → IsBlockRow op p.cur → Behind p (λ y. may_follow op (s p.cur 0) (op_of y) ≡ true)
+    → Behind p (λ y. Follow op (op_of y) (s p.cur 0))
 follow_of op p row follows y e = follow_from op (op_of y) (s p.cur 0) (loop_bit op p.cur row) (follows y e)
 
 -- what the END of an entered loop shows
@@ -167,7 +173,8 @@ follow_zeros op p r row follows =
                     (
                       (row_at entry_68 r (says_68 op p.cur r.here.low)).zero_where row.again,
                       (
-                        (row_at entry_69 r (says_69 op p.cur r.here.low)).zero_where (λ is. stops_or (h p.cur 4) (s p.cur 0) ((row.ends is).bits 0 (lit< tt)) (row.ends is).stops),
+                        (row_at entry_69 r (says_69 op p.cur r.here.low)).zero_where
+                            (λ is. stops_or (h p.cur 4) (s p.cur 0) ((row.ends is).bits 0 (lit< tt)) (row.ends is).stops),
                         tt,
                       ),
                     ),
@@ -231,7 +238,8 @@ shown_zeros op p r row =
     none : (j : ℕ) → j < 4 → on_row (entry_75 j) p ≡ 0
     none j few = (row_at (entry_75 j) r (says_75 op p.cur j r.here.low)).zero_where (λ is. row.single is j few)
 
-kept_zeros : (op : Op) (p : Spot) → Reads op p → IsBlockRow op p.cur → Behind p (λ y. KeepsBlock op p.cur y) → Behind p (λ y. KeepsBatch op p.cur y) → AllZero (kept_values p)
+kept_zeros : (op : Op) (p : Spot) → Reads op p → IsBlockRow op p.cur → Behind p (λ y. KeepsBlock op p.cur y) → Behind p (λ y. KeepsBatch op p.cur y)
+    → AllZero (kept_values p)
 unfolding kept_values family
 kept_zeros op p r row keeps batch =
     each_zero (kept_values p) (
@@ -311,7 +319,8 @@ batch_zeros op p r row pair =
                           (
                             (row_at entry_103 r (says_103 op p.cur batch)).zero_where (λ is. (row.batch is).needed),
                             (
-                              (pair_at entry_104 r (λ u n. says_104 op (op_of u) p.cur u (n.low 16) (r.here.low 16))).zero_where (λ y e is. ((pair y e).opens is).group),
+                              (pair_at entry_104 r (λ u n. says_104 op (op_of u) p.cur u (n.low 16) (r.here.low 16))).zero_where
+                                  (λ y e is. ((pair y e).opens is).group),
                               (
                                 (pair_at entry_105 r (λ u n. says_105 op (op_of u) p.cur u batch (n.low 25))).zero_where (λ y e is. ((pair y e).opens is).left),
                                 (
@@ -350,17 +359,21 @@ group_zeros op p r row pair =
     each_zero (group_values p) (
       (row_at entry_107 r (says_107 op p.cur r.here.has r.here.low r.here.span)).zero_where (λ is. (row.group is).witness),
       (
-        (pair_at entry_108 r (λ u n. says_108 op (op_of u) p.cur u r.here.has r.here.low row.group r.here.span n.span)).zero_where (λ y e is. (goes y e is).next_row),
+        (pair_at entry_108 r (λ u n. says_108 op (op_of u) p.cur u r.here.has r.here.low row.group r.here.span n.span)).zero_where
+            (λ y e is. (goes y e is).next_row),
         (
           (pair_at entry_109 r (λ u n. says_109 op (op_of u) p.cur u r.here.has r.here.low row.group r.here.span)).zero_where (λ y e is. (goes y e is).rest_of),
           (
-            (pair_at entry_110 r (λ u n. says_110 op (op_of u) p.cur u r.here.has r.here.low n.low row.group r.here.span)).zero_where (λ y e is. (goes y e is).place),
+            (pair_at entry_110 r (λ u n. says_110 op (op_of u) p.cur u r.here.has r.here.low n.low row.group r.here.span)).zero_where
+                (λ y e is. (goes y e is).place),
             (
-              (pair_at entry_111 r (λ u n. says_111 op (op_of u) p.cur u r.here.has r.here.low n.low row.group r.here.span n.span)).zero_where (λ y e is. (goes y e is).opens_at),
+              (pair_at entry_111 r (λ u n. says_111 op (op_of u) p.cur u r.here.has r.here.low n.low row.group r.here.span n.span)).zero_where
+                  (λ y e is. (goes y e is).opens_at),
               (
                 (pair_at entry_112 r (λ u n. says_112 op (op_of u) p.cur u r.here.low r.here.span n.span)).zero_where (λ y e is. (goes y e is).ends_at),
                 (
-                  (pair_at entry_113 r (λ u n. says_113 op (op_of u) p.cur u r.here.has r.here.low n.low row.group r.here.span n.span)).zero_where (λ y e is. (goes y e is).count),
+                  (pair_at entry_113 r (λ u n. says_113 op (op_of u) p.cur u r.here.has r.here.low n.low row.group r.here.span n.span)).zero_where
+                      (λ y e is. (goes y e is).count),
                   (
                     (row_at entry_114 r (says_114 op p.cur r.here.low r.here.span)).zero_where (λ is. (row.group is).place),
                     tt,
