@@ -156,11 +156,11 @@ says_96 op x j batch few low =
 -- each count that is claimed is needed
 needed_by : (u v z i j k : ℕ) → u < prime → v < prime → z < prime → i + j + k ≤ 1
     → Says (felt_add (felt_add (felt_mul i (felt_sub u 1)) (felt_mul j (felt_sub v 1))) (felt_mul k (felt_sub z 1)))
-        ((i ≡ 1 → u ≡ 1) × (j ≡ 1 → v ≡ 1) × (k ≡ 1 → z ≡ 1))
+    ((i ≡ 1 → u ≡ 1) × (j ≡ 1 → v ≡ 1) × (k ≡ 1 → z ≡ 1))
 needed_by u v z i j k lu lv lz most =
     at_bits
     (λ i j k. Says (felt_add (felt_add (felt_mul i (felt_sub u 1)) (felt_mul j (felt_sub v 1))) (felt_mul k (felt_sub z 1)))
-        ((i ≡ 1 → u ≡ 1) × (j ≡ 1 → v ≡ 1) × (k ≡ 1 → z ≡ 1)))
+    ((i ≡ 1 → u ≡ 1) × (j ≡ 1 → v ≡ 1) × (k ≡ 1 → z ≡ 1)))
     (at false false false refl refl) (at true false false refl refl) (at false true false refl refl) (at false false true refl refl) i j k most
   where
     is_set : {A : Type 0} (t : Bool) → (t ≡ true → A) → ◌≡◌ {A = ℕ} (cond t 1 0) 1 → A
@@ -173,7 +173,7 @@ needed_by u v z i j k lu lv lz most =
 
     at : (t r q : Bool) → t && r ≡ false → (t || r) && q ≡ false
         → Says (felt_add (felt_add (felt_mul (cond t 1 0) (felt_sub u 1)) (felt_mul (cond r 1 0) (felt_sub v 1))) (felt_mul (cond q 1 0) (felt_sub z 1)))
-            ((◌≡◌ {A = ℕ} (cond t 1 0) 1 → u ≡ 1) × (◌≡◌ {A = ℕ} (cond r 1 0) 1 → v ≡ 1) × (◌≡◌ {A = ℕ} (cond q 1 0) 1 → z ≡ 1))
+        ((◌≡◌ {A = ℕ} (cond t 1 0) 1 → u ≡ 1) × (◌≡◌ {A = ℕ} (cond r 1 0) 1 → v ≡ 1) × (◌≡◌ {A = ℕ} (cond q 1 0) 1 → z ≡ 1))
     at t r q apart last =
         says_as (three_say t r q apart last (sub_says u 1 lu (lit< tt)) (sub_says v 1 lv (lit< tt)) (sub_says z 1 lz (lit< tt)))
         (λ h. (is_set t h.0, is_set r h.1, is_set q h.2)) (λ h. (set t h.0, set r h.1, set q h.2))
@@ -182,7 +182,7 @@ pub says_103 : (op : Op) (x : List ℕ) → (is_batch_op op ≡ true → IsBatch
 unfolding entry_103
 says_103 op x batch =
     says_of (ap (λ n. felt_mul n (felt_add (felt_add (felt_mul (c x 0) (felt_sub eight 1)) (felt_mul (c x 1) (felt_sub four 1)))
-        (felt_mul (c x 2) (felt_sub two 1)))) (batches_is op))
+    (felt_mul (c x 2) (felt_sub two 1)))) (batches_is op))
     (gate_says_if (is_batch_op op) (rest_low _)
     (λ is. says_as (needed_by eight four two (c x 0) (c x 1) (c x 2) (rest_low _) (rest_low _) (rest_low _) (batch is).most)
     (λ h. record { eight = h.0; four = h.1; two = h.2 }) (λ n. (n.eight, n.four, n.two))))
@@ -285,7 +285,7 @@ half_used x shows several =
     at_bits (λ i j k. c x 0 ≡ i → c x 1 ≡ j → c x 2 ≡ k → UsesHalf x)
     (λ ei ej ek. let one : positions x ≡ 1 = positions_at x 0 0 0 ei ej ek in absurd (omega (arith, one, several)))
     (λ ei ej ek. eight_used x (positions_at x 1 0 0 ei ej ek) (some_of_four (h x 4) (h x 5) (h x 6) (h x 7) (w x 0) (w x 1) (w x 2) (w x 3)
-        (shows.needed.eight ei)))
+    (shows.needed.eight ei)))
     (λ ei ej ek. four_used x (positions_at x 0 1 0 ei ej ek) (some_of_two (h x 2) (h x 3) (w x 0) (w x 1) (shows.needed.four ej)))
     (λ ei ej ek. used_at x 1 2 (positions_at x 0 0 1 ei ej ek) (lit≤ tt) (lit< tt) (some_of_one (h x 1) (w x 0) (shows.needed.two ek)))
     (c x 0) (c x 1) (c x 2) shows.is_batch.most refl refl refl

@@ -177,10 +177,10 @@ unfolding entry_82
 says_82 op next x y low low_next ends =
     says_of
     (ap (λ n. felt_add (felt_add (felt_mul (hot op ops.Call) (felt_sub (felt_sub (ctx y) (clk x)) 1)) (felt_mul (hot op ops.Syscall) (ctx y)))
-        (felt_mul n (felt_sub (ctx y) (ctx x))))
+    (felt_mul n (felt_sub (ctx y) (ctx x))))
     (inside_is op x ends))
     (three_say (is_op op ops.Call) (is_op op ops.Syscall) (stays_in_function op x) (one_call op)
-        (stays_or_calls (is_op op ops.Call) (is_op op ops.Syscall) (ends_call op x))
+    (stays_or_calls (is_op op ops.Call) (is_op op ops.Syscall) (ends_call op x))
     (sub_twice_says (ctx y) (clk x) 1 (low_next 2) (low 0) (lit< tt)) (zero_says (ctx y) (low_next 2)) (sub_says (ctx y) (ctx x) (low_next 2) (low 2)))
 
 update_or_call : (op : Op) → is_call_op op && is_op op ops.FmpUpdate ≡ false
@@ -197,7 +197,7 @@ moves_or_keeps false false false = refl
 pub says_83 : (op next : Op) (x y : List ℕ) → Low x → Low y → (is_op op ops.End ≡ true → IsEndRow x)
     → Says (entry_83 (hot op) (hot next) x y)
     ((is_op op ops.Call ≡ true → fmp y ≡ 2 ^ 30) × (is_op op ops.Syscall ≡ true → fmp y ≡ 2 ^ 31)
-        × (is_op op ops.FmpUpdate ≡ true → fmp y ≡ felt_add (fmp x) (s x 0))
+    × (is_op op ops.FmpUpdate ≡ true → fmp y ≡ felt_add (fmp x) (s x 0))
     × (keeps_frame op x ≡ true → fmp y ≡ fmp x))
 unfolding entry_83
 says_83 op next x y low low_next ends =
@@ -216,10 +216,10 @@ unfolding entry_84
 says_84 op next x y low low_next ends =
     says_of
     (ap (λ n. felt_add (felt_add (felt_mul (hot op ops.Call) (sys y)) (felt_mul (hot op ops.Syscall) (felt_sub (sys y) 1)))
-        (felt_mul n (felt_sub (sys y) (sys x))))
+    (felt_mul n (felt_sub (sys y) (sys x))))
     (inside_is op x ends))
     (three_say (is_op op ops.Call) (is_op op ops.Syscall) (stays_in_function op x) (one_call op)
-        (stays_or_calls (is_op op ops.Call) (is_op op ops.Syscall) (ends_call op x))
+    (stays_or_calls (is_op op ops.Call) (is_op op ops.Syscall) (ends_call op x))
     (zero_says (sys y) (low_next 3)) (sub_says (sys y) 1 (low_next 3) (lit< tt)) (sub_says (sys y) (sys x) (low_next 3) (low 3)))
 
 call_or_kept : (t r : Bool) → t && not (t || r) ≡ false
@@ -267,7 +267,7 @@ unfolding entry_91
 says_91 op next x y low low_next span =
     says_of
     (ap (λ n. felt_add (felt_add (felt_mul (hot op ops.Span) (felt_sub (ha y) (addr y)))
-        (felt_mul (hot op ops.Respan) (felt_sub (felt_sub (ha y) (ha x)) 8))) (felt_mul n (felt_sub (ha y) (ha x)))) span)
+    (felt_mul (hot op ops.Respan) (felt_sub (felt_sub (ha y) (ha x)) 8))) (felt_mul n (felt_sub (ha y) (ha x)))) span)
     (three_say (is_op op ops.Span) (is_op op ops.Respan) (is_ordinary_op op) (one_batch op) (batch_or_ordinary op)
     (sub_says (ha y) (addr y) (low_next 49) (low_next 8)) (sub_twice_says (ha y) (ha x) 8 (low_next 49) (low 49) (lit< tt))
-        (sub_says (ha y) (ha x) (low_next 49) (low 49)))
+    (sub_says (ha y) (ha x) (low_next 49) (low 49)))

@@ -48,8 +48,16 @@ elements_each (v ∷ vs) each = more v vs each.0 (elements_each vs each.1)
 
 elements_cells : (x : List ℕ) → Low x → AreElements (cells x)
 unfolding cells
-elements_cells x low = elements_each (cells x) (low 30, (low 31, (low 32,
-    (low 33, (low 34, (low 35, (low 36, (low 37, (low 38, (low 39, (low 40, (low 41, (low 42, (low 43, (low 44, (low 45, tt))))))))))))))))
+elements_cells x low = elements_each (cells x) (
+  low 30,
+  (
+    low 31,
+    (
+      low 32,
+      (low 33, (low 34, (low 35, (low 36, (low 37, (low 38, (low 39, (low 40, (low 41, (low 42, (low 43, (low 44, (low 45, tt))))))))))))),
+    ),
+  ),
+)
 
 elements_digest : (x : List ℕ) → Low x → AreElements (function_digest x)
 unfolding function_digest
@@ -83,11 +91,11 @@ elements_computed ops.U32And x low free out = never free
 elements_computed ops.U32Xor x low free out = never free
 elements_computed ops.CSwap x low free out =
     elements_if (eqb (slice_index (cells x) 0) 0) (slice_index (cells x) 1 ∷ slice_index (cells x) 2 ∷ [])
-        (slice_index (cells x) 2 ∷ slice_index (cells x) 1 ∷ [])
+    (slice_index (cells x) 2 ∷ slice_index (cells x) 1 ∷ [])
     (more (slice_index (cells x) 1) (slice_index (cells x) 2 ∷ []) (elements-index (cells x) 1 (elements_cells x low))
-        (one (slice_index (cells x) 2) (elements-index (cells x) 2 (elements_cells x low))))
+    (one (slice_index (cells x) 2) (elements-index (cells x) 2 (elements_cells x low))))
     (more (slice_index (cells x) 2) (slice_index (cells x) 1 ∷ []) (elements-index (cells x) 2 (elements_cells x low))
-        (one (slice_index (cells x) 1) (elements-index (cells x) 1 (elements_cells x low))))
+    (one (slice_index (cells x) 1) (elements-index (cells x) 1 (elements_cells x low))))
 elements_computed ops.CSwapW x low free out =
     elements_if (eqb (slice_index (cells x) 0) 0) (take 8 (drop 1 (cells x))) (take 4 (drop 5 (cells x)) ++ take 4 (drop 1 (cells x)))
     (elements-take 8 (drop 1 (cells x)) (elements-drop 1 (cells x) (elements_cells x low)))
@@ -271,7 +279,7 @@ end_says j x y low low_next witness few =
     (ap (λ n. felt_add (felt_mul n (below_term j x y ops.End)) (felt_mul (h x 4) (below_term j x y ops.Drop))) (not_bit_is (h x 4) few)
     ∙ ap (λ n. felt_add (felt_mul (cond (not (eqb (h x 4) 1)) 1 0) (below_term j x y ops.End)) (felt_mul n (below_term j x y ops.Drop))) (bit_is (h x 4) few))
     (two_say (not (eqb (h x 4) 1)) (eqb (h x 4) 1) (not_both (eqb (h x 4) 1)) (below_says ops.End j x y low low_next witness)
-        (below_says ops.Drop j x y low low_next witness))
+    (below_says ops.Drop j x y low low_next witness))
 
 -- ---- the entry
 
@@ -289,7 +297,7 @@ unfolding term
 term_says op j x y low low_next witness ends bit =
     cases_say (is_op op ops.End) (λ is. end_says j x y low low_next witness ((ends is).bits 0 (lit< tt)))
     (λ other. cases_say (nat_lt j (leaves_of op)) (λ few. top_says op j x y (less_of j (leaves_of op) few) low low_next bit)
-        (λ past. below_says op j x y low low_next witness))
+    (λ past. below_says op j x y low low_next witness))
 
 rest_same : (n : ℕ) → n < prime → n % prime ≡ n
 rest_same n low = omega arith

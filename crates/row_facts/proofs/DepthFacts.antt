@@ -128,7 +128,7 @@ keeps_is op x ends =
     ∙ ap (λ n. felt_sub (felt_sub (felt_sub (felt_sub 1 (cond (is_right op) 1 0)) n) (calls (hot op))) (returns (hot op) x)) (lefts_is op x ends)
     ∙ ap (λ n. felt_sub (felt_sub (felt_sub (felt_sub 1 (cond (is_right op) 1 0)) (cond (is_left (mover op x)) 1 0)) n) (returns (hot op) x)) (calls_is op)
     ∙ ap (λ n. felt_sub (felt_sub (felt_sub (felt_sub 1 (cond (is_right op) 1 0)) (cond (is_left (mover op x)) 1 0)) (cond (is_call_op op) 1 0)) n)
-        (returns_is op x ends)
+    (returns_is op x ends)
     ∙ none_of (is_right op) (is_left (mover op x)) (is_call_op op) (ends_call op x) (right_or_left op x) (shift_or_call op x) (move_or_end op x ends)
 
 -- ---- depth and key
@@ -151,20 +151,20 @@ says_116 op next x y low low_next ends witness =
     let dx : ℕ = depth x in
     says_of
     (ap (λ n. felt_add (felt_add (felt_add (felt_mul n (felt_sub (felt_sub (depth y) (depth x)) 1))
-        (felt_mul (shifts_left (hot op) x) (felt_add (felt_sub (depth y) (depth x)) (deeper x)))) (felt_mul (calls (hot op)) (felt_sub (depth y) 16)))
-            (felt_mul (keeps_depth (hot op) x) (felt_sub (depth y) (depth x)))) (rights_is op)
+    (felt_mul (shifts_left (hot op) x) (felt_add (felt_sub (depth y) (depth x)) (deeper x)))) (felt_mul (calls (hot op)) (felt_sub (depth y) 16)))
+    (felt_mul (keeps_depth (hot op) x) (felt_sub (depth y) (depth x)))) (rights_is op)
     ∙ ap (λ n. felt_add (felt_add (felt_add (felt_mul (cond (is_right op) 1 0) (felt_sub (felt_sub (depth y) (depth x)) 1))
-        (felt_mul n (felt_add (felt_sub (depth y) (depth x)) (deeper x)))) (felt_mul (calls (hot op)) (felt_sub (depth y) 16)))
-            (felt_mul (keeps_depth (hot op) x) (felt_sub (depth y) (depth x)))) (lefts_is op x ends)
+    (felt_mul n (felt_add (felt_sub (depth y) (depth x)) (deeper x)))) (felt_mul (calls (hot op)) (felt_sub (depth y) 16)))
+    (felt_mul (keeps_depth (hot op) x) (felt_sub (depth y) (depth x)))) (lefts_is op x ends)
     ∙ ap (λ n. felt_add (felt_add (felt_add (felt_mul (cond (is_right op) 1 0) (felt_sub (felt_sub (depth y) (depth x)) 1))
-        (felt_mul (cond (is_left (mover op x)) 1 0) (felt_add (felt_sub (depth y) (depth x)) n))) (felt_mul (calls (hot op)) (felt_sub (depth y) 16)))
-            (felt_mul (keeps_depth (hot op) x) (felt_sub (depth y) (depth x)))) (deeper_is x low witness)
+    (felt_mul (cond (is_left (mover op x)) 1 0) (felt_add (felt_sub (depth y) (depth x)) n))) (felt_mul (calls (hot op)) (felt_sub (depth y) 16)))
+    (felt_mul (keeps_depth (hot op) x) (felt_sub (depth y) (depth x)))) (deeper_is x low witness)
     ∙ ap (λ n. felt_add (felt_add (felt_add (felt_mul (cond (is_right op) 1 0) (felt_sub (felt_sub (depth y) (depth x)) 1))
-        (felt_mul (cond (is_left (mover op x)) 1 0) (felt_add (felt_sub (depth y) (depth x)) (cond (is_deeper x) 1 0))))
-            (felt_mul n (felt_sub (depth y) 16))) (felt_mul (keeps_depth (hot op) x) (felt_sub (depth y) (depth x)))) (calls_is op)
+    (felt_mul (cond (is_left (mover op x)) 1 0) (felt_add (felt_sub (depth y) (depth x)) (cond (is_deeper x) 1 0))))
+    (felt_mul n (felt_sub (depth y) 16))) (felt_mul (keeps_depth (hot op) x) (felt_sub (depth y) (depth x)))) (calls_is op)
     ∙ ap (λ n. felt_add (felt_add (felt_add (felt_mul (cond (is_right op) 1 0) (felt_sub (felt_sub (depth y) (depth x)) 1))
-        (felt_mul (cond (is_left (mover op x)) 1 0) (felt_add (felt_sub (depth y) (depth x)) (cond (is_deeper x) 1 0))))
-            (felt_mul (cond (is_call_op op) 1 0) (felt_sub (depth y) 16))) (felt_mul n (felt_sub (depth y) (depth x)))) (keeps_is op x ends))
+    (felt_mul (cond (is_left (mover op x)) 1 0) (felt_add (felt_sub (depth y) (depth x)) (cond (is_deeper x) 1 0))))
+    (felt_mul (cond (is_call_op op) 1 0) (felt_sub (depth y) 16))) (felt_mul n (felt_sub (depth y) (depth x)))) (keeps_is op x ends))
     (four_say (is_right op) (is_left (mover op x)) (is_call_op op) (keeps_stack op x) (right_or_left op x) (shift_or_call op x)
     (any_or_none (is_right op || is_left (mover op x) || is_call_op op) (ends_call op x))
     (sub_twice_says (depth y) (depth x) 1 (low_next 46) (low 46) (lit< tt)) (less_says (is_deeper x) (depth y) (depth x) (low_next 46) (low 46))
@@ -183,16 +183,16 @@ unfolding entry_118
 says_118 op next x y low low_next ends witness =
     says_of
     (ap (λ n. felt_add (felt_add (felt_add (felt_mul n (felt_sub (key y) (clk x)))
-        (felt_mul (felt_mul (shifts_left (hot op) x) (felt_sub 1 (deeper x))) (felt_sub (key y) (key x)))) (felt_mul (calls (hot op)) (key y)))
-            (felt_mul (keeps_depth (hot op) x) (felt_sub (key y) (key x)))) (rights_is op)
+    (felt_mul (felt_mul (shifts_left (hot op) x) (felt_sub 1 (deeper x))) (felt_sub (key y) (key x)))) (felt_mul (calls (hot op)) (key y)))
+    (felt_mul (keeps_depth (hot op) x) (felt_sub (key y) (key x)))) (rights_is op)
     ∙ ap (λ n. felt_add (felt_add (felt_add (felt_mul (cond (is_right op) 1 0) (felt_sub (key y) (clk x))) n) (felt_mul (calls (hot op)) (key y)))
-        (felt_mul (keeps_depth (hot op) x) (felt_sub (key y) (key x)))) left_part
+    (felt_mul (keeps_depth (hot op) x) (felt_sub (key y) (key x)))) left_part
     ∙ ap (λ n. felt_add (felt_add (felt_add (felt_mul (cond (is_right op) 1 0) (felt_sub (key y) (clk x)))
-        (felt_mul (cond (is_left (mover op x)) 1 0) (felt_mul (cond (eqb (depth x) 16) 1 0) (felt_sub (key y) (key x))))) (felt_mul n (key y)))
-            (felt_mul (keeps_depth (hot op) x) (felt_sub (key y) (key x)))) (calls_is op)
+    (felt_mul (cond (is_left (mover op x)) 1 0) (felt_mul (cond (eqb (depth x) 16) 1 0) (felt_sub (key y) (key x))))) (felt_mul n (key y)))
+    (felt_mul (keeps_depth (hot op) x) (felt_sub (key y) (key x)))) (calls_is op)
     ∙ ap (λ n. felt_add (felt_add (felt_add (felt_mul (cond (is_right op) 1 0) (felt_sub (key y) (clk x)))
-        (felt_mul (cond (is_left (mover op x)) 1 0) (felt_mul (cond (eqb (depth x) 16) 1 0) (felt_sub (key y) (key x)))))
-            (felt_mul (cond (is_call_op op) 1 0) (key y))) (felt_mul n (felt_sub (key y) (key x)))) (keeps_is op x ends))
+    (felt_mul (cond (is_left (mover op x)) 1 0) (felt_mul (cond (eqb (depth x) 16) 1 0) (felt_sub (key y) (key x)))))
+    (felt_mul (cond (is_call_op op) 1 0) (key y))) (felt_mul n (felt_sub (key y) (key x)))) (keeps_is op x ends))
     (four_say (is_right op) (is_left (mover op x)) (is_call_op op) (keeps_stack op x) (right_or_left op x) (shift_or_call op x)
     (any_or_none (is_right op || is_left (mover op x) || is_call_op op) (ends_call op x))
     (sub_says (key y) (clk x) (low_next 47) (low 0)) (gate_says (eqb (depth x) 16) (sub_says (key y) (key x) (low_next 47) (low 47)))
@@ -216,7 +216,7 @@ pub says_136 : (op next : Op) (x y : List ℕ) → Low x → Low y → Says (ent
 unfolding entry_136
 says_136 op next x y low low_next =
     gate_product_says (is_op op ops.Eq) (felt_sub (s x 0) (s x 1)) (s y 0) (rest_low _)
-        (mul_says (sub_says (s x 0) (s x 1) (low 30) (low 31)) (zero_says (s y 0) (low_next 30)))
+    (mul_says (sub_says (s x 0) (s x 1) (low 30) (low 31)) (zero_says (s y 0) (low_next 30)))
 
 tops_is : (op : Op) → felt_add (felt_add (felt_add (felt_add (hot op ops.Not) (hot op ops.And)) (hot op ops.Or)) (hot op ops.CSwap))
     (hot op ops.CSwapW) ≡ cond (tests_top op) 1 0

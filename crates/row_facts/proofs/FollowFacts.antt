@@ -57,7 +57,7 @@ says_62 op next x y low =
     mul_says
     (says_of (ap (λ n. felt_add n (felt_mul (hot op ops.Loop) (s x 0))) (nests_is op))
     (sum_says (either_off (nests op) (is_op op ops.Loop) (s x 0) (one_nests op)) (test_says (nests op))
-        (gate_says (is_op op ops.Loop) (zero_says (s x 0) low))))
+    (gate_says (is_op op ops.Loop) (zero_says (s x 0) low))))
     (says_of (ap (λ n. felt_sub 1 n) (starts_is next)) (passes_says (is_start_op next)))
 
 pub says_63 : (op next : Op) (x y : List ℕ) → s x 0 < prime
@@ -86,12 +86,12 @@ says_65 op next x y span span_next =
 
 pub says_66 : (op next : Op) (x y : List ℕ)
     → Says (entry_66 (hot op) (hot next) x y) (is_op op ops.End ≡ true
-        → is_start_op next || is_op next ops.End || is_op next ops.Repeat || is_op next ops.Halt ≡ true)
+    → is_start_op next || is_op next ops.End || is_op next ops.Repeat || is_op next ops.Halt ≡ true)
 unfolding entry_66
 says_66 op next x y =
     says_of
     (ap (λ n. felt_mul (hot op ops.End) (felt_sub (felt_sub (felt_sub (felt_sub 1 n) (hot next ops.End)) (hot next ops.Repeat)) (hot next ops.Halt)))
-        (starts_is next)
+    (starts_is next)
     ∙ ap (λ n. felt_mul (hot op ops.End) n) (behind_end next))
     (gate_says (is_op op ops.End) (fails_says (is_start_op next || is_op next ops.End || is_op next ops.Repeat || is_op next ops.Halt)))
 
@@ -163,12 +163,40 @@ follow_from ops.Loop next top low m = record {
   ordinary = λ h. off h;
   ends = λ h. off h;
 }
-follow_from ops.Span next top low m = record { halt = refl; inner = inl
-    (refl, λ h. off h); skips = λ h. off h; batch = λ h. m; ordinary = λ h. off h; ends = λ h. off h }
-follow_from ops.Respan next top low m = record { halt = refl; inner = inl
-    (refl, λ h. off h); skips = λ h. off h; batch = λ h. m; ordinary = λ h. off h; ends = λ h. off h }
-follow_from ops.End next top low m = record { halt = refl; inner = inl
-    (refl, λ h. off h); skips = λ h. off h; batch = λ h. off h; ordinary = λ h. off h; ends = λ h. m }
+follow_from ops.Span next top low m = record {
+  halt = refl;
+  inner = inl
+      (refl, λ h. off h);
+  skips = λ h. off h;
+  batch = λ h. m;
+  ordinary = λ h. off h;
+  ends = λ h. off h;
+}
+follow_from ops.Respan next top low m = record {
+  halt = refl;
+  inner = inl
+      (refl, λ h. off h);
+  skips = λ h. off h;
+  batch = λ h. m;
+  ordinary = λ h. off h;
+  ends = λ h. off h;
+}
+follow_from ops.End next top low m = record {
+  halt = refl;
+  inner = inl
+      (refl, λ h. off h);
+  skips = λ h. off h;
+  batch = λ h. off h;
+  ordinary = λ h. off h;
+  ends = λ h. m;
+}
 follow_from ops.Halt next top low m = off m
-follow_from op next top low m = record { halt = refl; inner = inl
-    (refl, λ h. off h); skips = λ h. off h; batch = λ h. off h; ordinary = λ h. m; ends = λ h. off h }
+follow_from op next top low m = record {
+  halt = refl;
+  inner = inl
+      (refl, λ h. off h);
+  skips = λ h. off h;
+  batch = λ h. off h;
+  ordinary = λ h. m;
+  ends = λ h. off h;
+}

@@ -19,7 +19,7 @@ use Rattle.row_facts.proofs.BlockFacts.{Low}
 
 code_by : (i j k l m n o : ℕ) → i < 2 → j < 2 → k < 2 → l < 2 → m < 2 → n < 2 → o < 2
     → felt_add (felt_add (felt_add (felt_add (felt_add (felt_add i (felt_mul 2 j)) (felt_mul 4 k)) (felt_mul 8 l)) (felt_mul 16 m)) (felt_mul 32 n))
-        (felt_mul 64 o)
+    (felt_mul 64 o)
     ≡ i + 2 * (j + 2 * (k + 2 * (l + 2 * (m + 2 * (n + 2 * (o + 2 * 0))))))
 code_by i j k l m n o hi hj hk hl hm hn ho = omega (arith, hi, hj, hk, hl, hm, hn, ho)
 
@@ -94,7 +94,7 @@ says_107 op x has low span =
 place_more : {u : ℕ} (t : Bool) (v k : ℕ) → v < prime → k < prime → Says u (t ≡ true → v < k) → Says (felt_mul u (felt_sub v k)) (t ≡ true → v < k + 1)
 place_more t v k low few s =
     says_as (mul_says s (sub_says v k low few)) (λ h is. one h is) (λ f. ⊎_elim (λ e. inr e)
-        (λ apart. inl (λ is. let m : v < k + 1 = f is in omega (arith, m, apart))) (either_or v k))
+    (λ apart. inl (λ is. let m : v < k + 1 = f is in omega (arith, m, apart))) (either_or v k))
   where
     one : (t ≡ true → v < k) ⊎ (v ≡ k) → t ≡ true → v < k + 1
     one (inl f) is = let m : v < k = f is in omega (arith, m)
@@ -105,10 +105,10 @@ unfolding entry_114
 says_114 op x low span =
     says_of
     (ap (λ n. felt_mul (felt_mul (felt_mul (felt_mul (felt_mul (felt_mul (felt_mul (felt_mul (felt_mul n (ox x)) (felt_sub (ox x) 1)) (felt_sub (ox x) 2))
-        (felt_sub (ox x) 3)) (felt_sub (ox x) 4)) (felt_sub (ox x) 5)) (felt_sub (ox x) 6)) (felt_sub (ox x) 7)) (felt_sub (ox x) 8)) span)
+    (felt_sub (ox x) 3)) (felt_sub (ox x) 4)) (felt_sub (ox x) 5)) (felt_sub (ox x) 6)) (felt_sub (ox x) 7)) (felt_sub (ox x) 8)) span)
     (says_as
     (more 8 (lit< tt) (more 7 (lit< tt) (more 6 (lit< tt) (more 5 (lit< tt)
-        (more 4 (lit< tt) (more 3 (lit< tt) (more 2 (lit< tt) (more 1 (lit< tt) first))))))))
+    (more 4 (lit< tt) (more 3 (lit< tt) (more 2 (lit< tt) (more 1 (lit< tt) first))))))))
     (λ f is. let m : ox x < 9 = f is in omega (arith, m)) (λ f is. let m : ox x ≤ 8 = f is in omega (arith, m)))
   where
     t : Bool
@@ -151,7 +151,7 @@ says_109 op next x y has low row span =
     ∙ ap (λ n. felt_mul (felt_mul (cond (is_ordinary_op op) 1 0) (goes_on (hot op) x)) (felt_sub (felt_mul 128 (h y 0)) n)) (rest_is op x has))
     (gate_product_says_if (is_ordinary_op op) (goes_on (hot op) x) (felt_sub (felt_mul 128 (h y 0)) (felt_sub (h x 0) (code_of op))) (goes_low op x)
     (λ is. mul_says (says_of (goes_is op x has low (row is)) (test_says (goes op x)))
-        (turn (felt_mul 128 (h y 0)) (h x 0) (code_of op) (low 16) (code_low op) (rest_low _))))
+    (turn (felt_mul 128 (h y 0)) (h x 0) (code_of op) (low 16) (code_low op) (rest_low _))))
 
 pub says_110 : (op next : Op) (x y : List ℕ) → HasOp x op → Low x → Low y → (is_ordinary_op op ≡ true → IsGroupRow op x)
     → sp x ≡ cond (is_ordinary_op op) 1 0
@@ -176,7 +176,7 @@ says_111 op next x y has low low_next row span span_next =
     ∙ ap (λ n. felt_mul (felt_mul (felt_mul (cond (is_ordinary_op op) 1 0) (felt_sub 1 (goes_on (hot op) x))) n) (ox y)) span_next)
     (three_gated (is_ordinary_op op) (felt_sub 1 (goes_on (hot op) x)) (cond (is_ordinary_op next) 1 0) (ox y) (rest_low _)
     (λ is. mul_says (mul_says (says_of (ap (λ n. felt_sub 1 n) (goes_is op x has low (row is))) (passes_says (goes op x))) (test_says (is_ordinary_op next)))
-        (zero_says (ox y) (low_next 26))))
+    (zero_says (ox y) (low_next 26))))
 
 pub says_112 : (op next : Op) (x y : List ℕ) → Low x
     → sp x ≡ cond (is_ordinary_op op) 1 0 → sp y ≡ cond (is_ordinary_op next) 1 0
@@ -206,9 +206,9 @@ says_113 op next x y has low low_next row span span_next =
     says_of
     (ap (λ n. felt_mul (felt_mul n (sp y)) (felt_sub (felt_add (felt_add (felt_sub (gc y) (gc x)) (hot op ops.Push)) 1) (goes_on (hot op) x))) span
     ∙ ap (λ n. felt_mul (felt_mul (cond (is_ordinary_op op) 1 0) n) (felt_sub (felt_add (felt_add (felt_sub (gc y) (gc x)) (hot op ops.Push)) 1)
-        (goes_on (hot op) x))) span_next)
+    (goes_on (hot op) x))) span_next)
     (gate_product_says_if (is_ordinary_op op) (cond (is_ordinary_op next) 1 0)
-        (felt_sub (felt_add (felt_add (felt_sub (gc y) (gc x)) (hot op ops.Push)) 1) (goes_on (hot op) x)) (test_says (is_ordinary_op next)).low
+    (felt_sub (felt_add (felt_add (felt_sub (gc y) (gc x)) (hot op ops.Push)) 1) (goes_on (hot op) x)) (test_says (is_ordinary_op next)).low
     (λ is. mul_says (test_says (is_ordinary_op next))
     (says_of (ap (λ n. felt_sub (felt_add (felt_add (felt_sub (gc y) (gc x)) (hot op ops.Push)) 1) n) (goes_is op x has low (row is)))
     (count_says (is_op op ops.Push) (is_left_over op x) (gc x) (gc y) (low 25) (low_next 25)))))

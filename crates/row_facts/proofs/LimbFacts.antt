@@ -26,8 +26,11 @@ gated {v = v} t s = record { says = gate_says t s; none_where = gate_off t v }
 
 gated_more : {v z : ℕ} {P Q : Type 0} (any t : Bool) → any && t ≡ false → Gated any v P → Says z Q
     → Gated (any || t) (felt_add v (felt_mul (cond t 1 0) z)) (P × (t ≡ true → Q))
-gated_more {v = v} {z = z} any t apart g s = record { says = sum_says (one_off any t apart g.none_where) g.says
-    (gate_says t s); none_where = both_off any t g.none_where }
+gated_more {v = v} {z = z} any t apart g s = record {
+  says = sum_says (one_off any t apart g.none_where) g.says
+      (gate_says t s);
+  none_where = both_off any t g.none_where;
+}
   where
     one_off : (a u : Bool) → a && u ≡ false → (a ≡ false → v ≡ 0) → (v ≡ 0) ⊎ (felt_mul (cond u 1 0) z ≡ 0)
     one_off a false e k = inr (none_is z)
@@ -86,19 +89,19 @@ pub says_140 : (op : Op) (x : List ℕ) → Low x → Says (entry_140 (hot op) x
 unfolding entry_140
 says_140 op x low =
     says_of (ap (λ n. felt_mul n (felt_sub (s x 0) (limbs 0 x))) (seconds_is op))
-        (gate_says (has_second op) (sub_says (s x 0) (limbs 0 x) (low 30) (limbs_low 0 x)))
+    (gate_says (has_second op) (sub_says (s x 0) (limbs 0 x) (low 30) (limbs_low 0 x)))
 
 pub says_141 : (op : Op) (x : List ℕ) → Low x → Says (entry_141 (hot op) x) (has_second op ≡ true → s x 1 ≡ limbs 2 x)
 unfolding entry_141
 says_141 op x low =
     says_of (ap (λ n. felt_mul n (felt_sub (s x 1) (limbs 2 x))) (seconds_is op))
-        (gate_says (has_second op) (sub_says (s x 1) (limbs 2 x) (low 31) (limbs_low 2 x)))
+    (gate_says (has_second op) (sub_says (s x 1) (limbs 2 x) (low 31) (limbs_low 2 x)))
 
 pub says_142 : (op : Op) (x : List ℕ) → Low x → Says (entry_142 (hot op) x) (has_third op ≡ true → s x 2 ≡ limbs 4 x)
 unfolding entry_142
 says_142 op x low =
     says_of (ap (λ n. felt_mul n (felt_sub (s x 2) (limbs 4 x))) (thirds_is op))
-        (gate_says (has_third op) (sub_says (s x 2) (limbs 4 x) (low 32) (limbs_low 4 x)))
+    (gate_says (has_third op) (sub_says (s x 2) (limbs 4 x) (low 32) (limbs_low 4 x)))
 
 three_less : (i j k l : ℕ) → i < prime → j < prime → k < prime → l < prime → Says (felt_sub (felt_sub (felt_sub i j) k) l) (i ≡ felt_add (felt_add j k) l)
 three_less i j k l hi hj hk hl = record { low = rest_low _; shown = λ z. omega (arith, hi, hj, hk, hl, z); zero_where = λ e. omega (arith, hi, hj, hk, hl, e) }
@@ -124,9 +127,9 @@ unfolding entry_143
 says_143 op next x y low =
     says_of
     (ap (λ n. felt_add (felt_add (felt_mul (hot op ops.U32Split) (felt_sub (s y 1) (limbs 0 x))) (felt_mul n (felt_sub (s y 1) (limbs 4 x))))
-        (felt_mul (takes_three (hot op)) (felt_sub (s y 1) (limbs 6 x)))) (lows_is op)
+    (felt_mul (takes_three (hot op)) (felt_sub (s y 1) (limbs 6 x)))) (lows_is op)
     ∙ ap (λ n. felt_add (felt_add (felt_mul (hot op ops.U32Split) (felt_sub (s y 1) (limbs 0 x)))
-        (felt_mul (cond (leaves_second op) 1 0) (felt_sub (s y 1) (limbs 4 x)))) (felt_mul n (felt_sub (s y 1) (limbs 6 x)))) (thirds_is op))
+    (felt_mul (cond (leaves_second op) 1 0) (felt_sub (s y 1) (limbs 4 x)))) (felt_mul n (felt_sub (s y 1) (limbs 6 x)))) (thirds_is op))
     (gated_more (is_op op ops.U32Split || leaves_second op) (has_third op) (low_or_third op)
     (gated_more (is_op op ops.U32Split) (leaves_second op) (split_or_low op)
     (gated (is_op op ops.U32Split) (sub_says (s y 1) (limbs 0 x) (low 31) (limbs_low 0 x)))
@@ -174,14 +177,14 @@ unfolding entry_144
 says_144 op next x y low low_next =
     says_of
     (ap (λ n. felt_add (felt_add (felt_add (felt_add (felt_add (felt_mul (hot op ops.U32Split) (felt_sub (s y 0) (limbs 2 x)))
-        (felt_mul (hot op ops.U32Add) (felt_sub (s y 0) (t x 6)))) (felt_mul (hot op ops.U32Add3) (felt_sub (s y 0) (t x 8)))) n)
-            (felt_mul (felt_add (hot op ops.U32Mul) (hot op ops.U32Div)) (felt_sub (s y 0) (limbs 6 x))))
-                (felt_mul (hot op ops.U32MAdd) (felt_sub (s y 0) (limbs 8 x))))
+    (felt_mul (hot op ops.U32Add) (felt_sub (s y 0) (t x 6)))) (felt_mul (hot op ops.U32Add3) (felt_sub (s y 0) (t x 8)))) n)
+    (felt_mul (felt_add (hot op ops.U32Mul) (hot op ops.U32Div)) (felt_sub (s y 0) (limbs 6 x))))
+    (felt_mul (hot op ops.U32MAdd) (felt_sub (s y 0) (limbs 8 x))))
     (regate (is_op op ops.U32Sub) (s y 0) (felt_sub (s y 0) 1) (low_next 30))
     ∙ ap (λ n. felt_add (felt_add (felt_add (felt_add (felt_add (felt_mul (hot op ops.U32Split) (felt_sub (s y 0) (limbs 2 x)))
-        (felt_mul (hot op ops.U32Add) (felt_sub (s y 0) (t x 6)))) (felt_mul (hot op ops.U32Add3) (felt_sub (s y 0) (t x 8))))
-            (felt_mul (hot op ops.U32Sub) (felt_mul (s y 0) (felt_sub (s y 0) 1)))) (felt_mul n (felt_sub (s y 0) (limbs 6 x))))
-                (felt_mul (hot op ops.U32MAdd) (felt_sub (s y 0) (limbs 8 x))))
+    (felt_mul (hot op ops.U32Add) (felt_sub (s y 0) (t x 6)))) (felt_mul (hot op ops.U32Add3) (felt_sub (s y 0) (t x 8))))
+    (felt_mul (hot op ops.U32Sub) (felt_mul (s y 0) (felt_sub (s y 0) 1)))) (felt_mul n (felt_sub (s y 0) (limbs 6 x))))
+    (felt_mul (hot op ops.U32MAdd) (felt_sub (s y 0) (limbs 8 x))))
     (highs_is op))
     (gated_more (high_5 op) (is_op op ops.U32MAdd) (apart_6 op)
     (gated_more (high_4 op) (leaves_fourth op) (apart_5 op)
@@ -228,7 +231,7 @@ pub says_145 : (op next : Op) (x y : List ℕ) → Low x → Low y
     → Says (entry_145 (hot op) (hot next) x y)
     (((((((is_op op ops.U32Split ≡ true → s x 0 ≡ two_left y) × (is_op op ops.U32Add ≡ true → felt_add (s x 0) (s x 1) ≡ two_left y))
     × (is_op op ops.U32Add3 ≡ true → felt_add (felt_add (s x 0) (s x 1)) (s x 2) ≡ two_left y))
-        × (is_op op ops.U32Mul ≡ true → felt_mul (s x 0) (s x 1) ≡ two_left y))
+    × (is_op op ops.U32Mul ≡ true → felt_mul (s x 0) (s x 1) ≡ two_left y))
     × (is_op op ops.U32MAdd ≡ true → felt_add (felt_mul (s x 0) (s x 1)) (s x 2) ≡ two_left y))
     × (is_op op ops.U32Sub ≡ true → felt_add (s x 1) (felt_mul (2 ^ 32) (s y 0)) ≡ felt_add (s x 0) (s y 1)))
     × (is_op op ops.U32Div ≡ true → s x 1 ≡ felt_add (felt_mul (s x 0) (s y 1)) (s y 0)))

@@ -126,7 +126,7 @@ limbs_zeros op p r shows =
   where
     low_words : (y : List ℕ) → MovesLimbs op p.cur y
         → ((is_op op ops.U32Split ≡ true → s y 1 ≡ limbs 0 p.cur) × (leaves_second op ≡ true → s y 1 ≡ limbs 4 p.cur))
-            × (has_third op ≡ true → s y 1 ≡ limbs 6 p.cur)
+        × (has_third op ≡ true → s y 1 ≡ limbs 6 p.cur)
     low_words y m = (
       (
         λ is. (m.splits is).low,
@@ -138,7 +138,7 @@ limbs_zeros op p r shows =
 
     high_words : (y : List ℕ) → MovesLimbs op p.cur y
         → (((((is_op op ops.U32Split ≡ true → s y 0 ≡ limbs 2 p.cur) × (is_op op ops.U32Add ≡ true → s y 0 ≡ t p.cur 6))
-            × (is_op op ops.U32Add3 ≡ true → s y 0 ≡ t p.cur 8))
+        × (is_op op ops.U32Add3 ≡ true → s y 0 ≡ t p.cur 8))
         × (is_op op ops.U32Sub ≡ true → s y 0 < 2)) × (leaves_fourth op ≡ true → s y 0 ≡ limbs 6 p.cur)) × (is_op op ops.U32MAdd ≡ true → s y 0 ≡ limbs 8 p.cur)
     high_words y m = (
       (
@@ -151,14 +151,17 @@ limbs_zeros op p r shows =
     both_words : (y : List ℕ) → MovesLimbs op p.cur y
         → ((((((is_op op ops.U32Split ≡ true → s p.cur 0 ≡ two_left y) × (is_op op ops.U32Add ≡ true → felt_add (s p.cur 0) (s p.cur 1) ≡ two_left y))
         × (is_op op ops.U32Add3 ≡ true → felt_add (felt_add (s p.cur 0) (s p.cur 1)) (s p.cur 2) ≡ two_left y))
-            × (is_op op ops.U32Mul ≡ true → felt_mul (s p.cur 0) (s p.cur 1) ≡ two_left y))
+        × (is_op op ops.U32Mul ≡ true → felt_mul (s p.cur 0) (s p.cur 1) ≡ two_left y))
         × (is_op op ops.U32MAdd ≡ true → felt_add (felt_mul (s p.cur 0) (s p.cur 1)) (s p.cur 2) ≡ two_left y))
         × (is_op op ops.U32Sub ≡ true → felt_add (s p.cur 1) (felt_mul (2 ^ 32) (s y 0)) ≡ felt_add (s p.cur 0) (s y 1)))
         × (is_op op ops.U32Div ≡ true → s p.cur 1 ≡ felt_add (felt_mul (s p.cur 0) (s y 1)) (s y 0))
     both_words y m = (
       (
-        ((((λ is. (m.splits is).whole, λ is. (m.adds is).whole), λ is. (m.adds_three is).whole), λ is. (m.multiplies is).whole), λ is.
-            (m.multiplies_and_adds is).whole),
+        (
+          (((λ is. (m.splits is).whole, λ is. (m.adds is).whole), λ is. (m.adds_three is).whole), λ is. (m.multiplies is).whole),
+          λ is.
+              (m.multiplies_and_adds is).whole,
+        ),
         λ is. (m.subtracts is).whole,
       ),
       λ is. (m.divides is).whole,

@@ -149,7 +149,7 @@ third_off false true true v w z apart = absurd (cc)
 
 pub three_say : {v w z : ℕ} {P Q R : Type 0} (t u r : Bool) → t && u ≡ false → (t || u) && r ≡ false → Says v P → Says w Q → Says z R
     → Says (felt_add (felt_add (felt_mul (cond t 1 0) v) (felt_mul (cond u 1 0) w)) (felt_mul (cond r 1 0) z))
-        ((t ≡ true → P) × (u ≡ true → Q) × (r ≡ true → R))
+    ((t ≡ true → P) × (u ≡ true → Q) × (r ≡ true → R))
 three_say {v = v} {w = w} {z = z} t u r apart last sv sw sz =
     says_as (sum_says (third_off t u r v w z last) (two_say t u apart sv sw) (gate_says r sz))
     (λ h. (h.0.0, h.0.1, h.1)) (λ h. ((h.0, h.1), h.2))

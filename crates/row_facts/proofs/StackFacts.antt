@@ -110,7 +110,7 @@ leaves_shown ops.Eqz x y low low_next k tops = record {
   cells = λ free.
       first_alone (λ j. s y j ≡ left_value ops.Eqz j x)
       (equal_bit (eqb (s x 0) 0) (s y 0) (s x 0) (w x 0) (low_next 30) (λ e. eqb-true (s x 0) 0 e) (λ e. differs (s x 0) 0 e) (tops 0 (lit< tt))
-          (k.zero_or refl)
+      (k.zero_or refl)
       ∙ sym (eqz_cell x));
   not_zero = λ is apart. inverse_shown (s y 0) (s x 0) (w x 0) (tops 0 (lit< tt)) (k.zero_or refl) apart;
   not_same = λ is. off is;
@@ -164,7 +164,7 @@ above_zero n apart = omega (arith, apart)
 top_back : (op : Op) (j : ℕ) (x y : List ℕ) → Low x → LeavesCells op x y → j < leaves_of op → TopFact op j x y
 top_back ops.Eqz j x y low l few =
     sum_back (eqb (s x 0) 0) (s y 0) (s x 0) (w x 0) (l.cells refl 0 (lit< tt) ∙ eqz_cell x) (λ e. eqb-true (s x 0) 0 e)
-        (λ e. l.not_zero refl (differs (s x 0) 0 e))
+    (λ e. l.not_zero refl (differs (s x 0) 0 e))
 top_back ops.Eq j x y low l few =
     sum_back (eqb (s x 0) (s x 1)) (s y 0) (felt_sub (s x 0) (s x 1)) (w x 0) (l.cells refl 0 (lit< tt) ∙ eq_cell x)
     (λ e. difference_same (s x 0) (s x 1) (low 30) e) (λ e. l.not_same refl (differs (s x 0) (s x 1) e))
@@ -237,9 +237,14 @@ tops_shown op x y facts j few =
 
 cell_back : (op : Op) (j : ℕ) (x y : List ℕ) → Low x → ShiftsCells (mover op x) x y → LeavesCells op x y → j < 16 → CellFact op j x y
 cell_back ops.End j x y low k l few = (λ is. end_back (eqb (h x 4) 1) j x y k few, λ other. never other)
-cell_back ops.Noop j x y low k l few =
-    (λ is. off is, λ other. (λ e. top_back ops.Noop j x y low l (less_of j (leaves_of ops.Noop) e), λ e. below_back ops.Noop j x y k
-        (not_less j (leaves_of ops.Noop) e) few))
+cell_back ops.Noop j x y low k l few = (
+  λ is. off is,
+  λ other. (
+    λ e. top_back ops.Noop j x y low l (less_of j (leaves_of ops.Noop) e),
+    λ e. below_back ops.Noop j x y k
+        (not_less j (leaves_of ops.Noop) e) few,
+  ),
+)
 cell_back op j x y low k l few =
     (λ is. off is, λ other. (λ e. top_back op j x y low l (less_of j (leaves_of op) e), λ e. below_back op j x y k (not_less j (leaves_of op) e) few))
 
@@ -342,12 +347,16 @@ depth_zeros op p r row shows =
   where
     moved_depth : (y : List ℕ) → p.next ≡ Some y
         → (is_right op ≡ true → depth y ≡ felt_add (depth p.cur) 1) ×
-            (is_left (mover op p.cur) ≡ true → depth y ≡ cond (is_deeper p.cur) (felt_sub (depth p.cur) 1) (depth p.cur))
+        (is_left (mover op p.cur) ≡ true → depth y ≡ cond (is_deeper p.cur) (felt_sub (depth p.cur) 1) (depth p.cur))
         × (is_call_op op ≡ true → depth y ≡ 16) × (keeps_stack op p.cur ≡ true → depth y ≡ depth p.cur)
     moved_depth y e =
-        let k : MovesDepth op p.cur y = (shows.pair y e).depth_moves in
-        (λ is. (k.right is).0, λ is. depth_back (depth y) (depth p.cur) (λ flat. (k.left_flat is flat).0) (k.left_deep is), λ is. (k.call is).0, λ is.
-            (k.same is).0)
+        let k : MovesDepth op p.cur y = (shows.pair y e).depth_moves in (
+          λ is. (k.right is).0,
+          λ is. depth_back (depth y) (depth p.cur) (λ flat. (k.left_flat is flat).0) (k.left_deep is),
+          λ is. (k.call is).0,
+          λ is.
+              (k.same is).0,
+        )
 
     moved_key : (y : List ℕ) → p.next ≡ Some y
         → (is_right op ≡ true → key y ≡ clk p.cur) × (is_left (mover op p.cur) ≡ true → eqb (depth p.cur) 16 ≡ true → key y ≡ key p.cur)

@@ -97,7 +97,7 @@ inputs_zeros : (k : Claim) (op : Op) (p : Spot) → IsLowClaim k → Reads op p 
 unfolding inputs_values
 inputs_zeros k op p few r first =
     zero_of_family 16 (λ j. at_first (entry_23 k j) p) (λ j h. (first_at (entry_23 k j) r (says_23 k op p.cur j few r.here.low)).zero_where
-        (λ e. (first e).inputs j h))
+    (λ e. (first e).inputs j h))
 
 end_zeros : (k : Claim) (op : Op) (p : Spot) → IsLowClaim k → Reads op p → (p.row ≡ 0 → IsFirstRow k op p.cur) → (p.next ≡ None → IsLastRow k op p.cur)
     → AllZero (end_values k p)
@@ -124,7 +124,7 @@ outputs_zeros : (k : Claim) (op : Op) (p : Spot) → IsLowClaim k → Reads op p
 unfolding outputs_values
 outputs_zeros k op p few r last =
     zero_of_family 16 (λ j. at_last (entry_44 k j) p) (λ j h. (last_at (entry_44 k j) r (says_44 k op p.cur j few r.here.low)).zero_where
-        (λ e. (last e).outputs j h))
+    (λ e. (last e).outputs j h))
 
 boundary_zeros : (k : Claim) (op : Op) (p : Spot) → IsLowClaim k → Reads op p → (p.row ≡ 0 → IsFirstRow k op p.cur) → (p.next ≡ None → IsLastRow k op p.cur)
     → AllZero (boundary_values k p)
