@@ -10,7 +10,7 @@ use Rattle.air_kit.specs.MainTuples.{is_call_op}
 use Rattle.air_kit.specs.StackValues.{deeper, shifts_left, shifts_right, keeps_depth, entry_115, entry_116, entry_117, entry_118, entry_135, entry_136, entry_137, entry_138, entry_139}
 use Rattle.row_facts.specs.Blocks.{IsEndRow, ends_call}
 use Rattle.row_facts.specs.Stack.{tests_two, tests_top, mover, keeps_stack}
-use Rattle.row_facts.proofs.Says.{Says, says_of, says_as, never, rest_low, zero_says, sub_says, sub_twice_says, bit_says, mul_says, gate_says, gate_product_says, regate, four_say, tested_bit, and_false, either_or}
+use Rattle.row_facts.proofs.Says.{Says, says_of, says_as, never, rest_low, zero_says, sub_says, sub_twice_says, bit_says, mul_says, gate_says, gate_product_says, regate, four_say, tested_bit, and_false, either_or, same_four, same_five}
 use Rattle.row_facts.proofs.Hot.{hot, set_is}
 use Rattle.row_facts.proofs.BlockFacts.{Low, calls_is, returns_is}
 use Rattle.row_facts.proofs.GroupFacts.{flag_by_witness}
@@ -124,11 +124,7 @@ move_or_end op x ends = and_false (is_right op || is_left op || is_call_op op)
 pub keeps_is : (op : Op) (x : List ℕ) → (is_op op ops.End ≡ true → IsEndRow x) → keeps_depth (hot op) x ≡ cond (keeps_stack op x) 1 0
 unfolding keeps_depth
 keeps_is op x ends =
-    ap (λ n. felt_sub (felt_sub (felt_sub (felt_sub 1 n) (shifts_left (hot op) x)) (calls (hot op))) (returns (hot op) x)) (rights_is op)
-    ∙ ap (λ n. felt_sub (felt_sub (felt_sub (felt_sub 1 (cond (is_right op) 1 0)) n) (calls (hot op))) (returns (hot op) x)) (lefts_is op x ends)
-    ∙ ap (λ n. felt_sub (felt_sub (felt_sub (felt_sub 1 (cond (is_right op) 1 0)) (cond (is_left (mover op x)) 1 0)) n) (returns (hot op) x)) (calls_is op)
-    ∙ ap (λ n. felt_sub (felt_sub (felt_sub (felt_sub 1 (cond (is_right op) 1 0)) (cond (is_left (mover op x)) 1 0)) (cond (is_call_op op) 1 0)) n)
-    (returns_is op x ends)
+    same_four (λ r l c e. felt_sub (felt_sub (felt_sub (felt_sub 1 r) l) c) e) (rights_is op) (lefts_is op x ends) (calls_is op) (returns_is op x ends)
     ∙ none_of (is_right op) (is_left (mover op x)) (is_call_op op) (ends_call op x) (right_or_left op x) (shift_or_call op x) (move_or_end op x ends)
 
 -- ---- depth and key
@@ -147,24 +143,10 @@ pub says_116 : (op next : Op) (x y : List ℕ) → Low x → Low y → (is_op op
     × (is_call_op op ≡ true → depth y ≡ 16) × (keeps_stack op x ≡ true → depth y ≡ depth x))
 unfolding entry_116
 says_116 op next x y low low_next ends witness =
-    let dy : ℕ = depth y in
-    let dx : ℕ = depth x in
     says_of
-    (ap (λ n. felt_add (felt_add (felt_add (felt_mul n (felt_sub (felt_sub (depth y) (depth x)) 1))
-    (felt_mul (shifts_left (hot op) x) (felt_add (felt_sub (depth y) (depth x)) (deeper x)))) (felt_mul (calls (hot op)) (felt_sub (depth y) 16)))
-    (felt_mul (keeps_depth (hot op) x) (felt_sub (depth y) (depth x)))) (rights_is op)
-    ∙ ap (λ n. felt_add (felt_add (felt_add (felt_mul (cond (is_right op) 1 0) (felt_sub (felt_sub (depth y) (depth x)) 1))
-    (felt_mul n (felt_add (felt_sub (depth y) (depth x)) (deeper x)))) (felt_mul (calls (hot op)) (felt_sub (depth y) 16)))
-    (felt_mul (keeps_depth (hot op) x) (felt_sub (depth y) (depth x)))) (lefts_is op x ends)
-    ∙ ap (λ n. felt_add (felt_add (felt_add (felt_mul (cond (is_right op) 1 0) (felt_sub (felt_sub (depth y) (depth x)) 1))
-    (felt_mul (cond (is_left (mover op x)) 1 0) (felt_add (felt_sub (depth y) (depth x)) n))) (felt_mul (calls (hot op)) (felt_sub (depth y) 16)))
-    (felt_mul (keeps_depth (hot op) x) (felt_sub (depth y) (depth x)))) (deeper_is x low witness)
-    ∙ ap (λ n. felt_add (felt_add (felt_add (felt_mul (cond (is_right op) 1 0) (felt_sub (felt_sub (depth y) (depth x)) 1))
-    (felt_mul (cond (is_left (mover op x)) 1 0) (felt_add (felt_sub (depth y) (depth x)) (cond (is_deeper x) 1 0))))
-    (felt_mul n (felt_sub (depth y) 16))) (felt_mul (keeps_depth (hot op) x) (felt_sub (depth y) (depth x)))) (calls_is op)
-    ∙ ap (λ n. felt_add (felt_add (felt_add (felt_mul (cond (is_right op) 1 0) (felt_sub (felt_sub (depth y) (depth x)) 1))
-    (felt_mul (cond (is_left (mover op x)) 1 0) (felt_add (felt_sub (depth y) (depth x)) (cond (is_deeper x) 1 0))))
-    (felt_mul (cond (is_call_op op) 1 0) (felt_sub (depth y) 16))) (felt_mul n (felt_sub (depth y) (depth x)))) (keeps_is op x ends))
+    (same_five (λ r l o c n. felt_add (felt_add (felt_add (felt_mul r (felt_sub (felt_sub (depth y) (depth x)) 1)) (felt_mul l (felt_add (felt_sub (depth y) (depth x)) o)))
+    (felt_mul c (felt_sub (depth y) 16))) (felt_mul n (felt_sub (depth y) (depth x))))
+    (rights_is op) (lefts_is op x ends) (deeper_is x low witness) (calls_is op) (keeps_is op x ends))
     (four_say (is_right op) (is_left (mover op x)) (is_call_op op) (keeps_stack op x) (right_or_left op x) (shift_or_call op x)
     (any_or_none (is_right op || is_left (mover op x) || is_call_op op) (ends_call op x))
     (sub_twice_says (depth y) (depth x) 1 (low_next 46) (low 46) (lit< tt)) (less_says (is_deeper x) (depth y) (depth x) (low_next 46) (low 46))
@@ -182,17 +164,8 @@ pub says_118 : (op next : Op) (x y : List ℕ) → Low x → Low y → (is_op op
 unfolding entry_118
 says_118 op next x y low low_next ends witness =
     says_of
-    (ap (λ n. felt_add (felt_add (felt_add (felt_mul n (felt_sub (key y) (clk x)))
-    (felt_mul (felt_mul (shifts_left (hot op) x) (felt_sub 1 (deeper x))) (felt_sub (key y) (key x)))) (felt_mul (calls (hot op)) (key y)))
-    (felt_mul (keeps_depth (hot op) x) (felt_sub (key y) (key x)))) (rights_is op)
-    ∙ ap (λ n. felt_add (felt_add (felt_add (felt_mul (cond (is_right op) 1 0) (felt_sub (key y) (clk x))) n) (felt_mul (calls (hot op)) (key y)))
-    (felt_mul (keeps_depth (hot op) x) (felt_sub (key y) (key x)))) left_part
-    ∙ ap (λ n. felt_add (felt_add (felt_add (felt_mul (cond (is_right op) 1 0) (felt_sub (key y) (clk x)))
-    (felt_mul (cond (is_left (mover op x)) 1 0) (felt_mul (cond (eqb (depth x) 16) 1 0) (felt_sub (key y) (key x))))) (felt_mul n (key y)))
-    (felt_mul (keeps_depth (hot op) x) (felt_sub (key y) (key x)))) (calls_is op)
-    ∙ ap (λ n. felt_add (felt_add (felt_add (felt_mul (cond (is_right op) 1 0) (felt_sub (key y) (clk x)))
-    (felt_mul (cond (is_left (mover op x)) 1 0) (felt_mul (cond (eqb (depth x) 16) 1 0) (felt_sub (key y) (key x)))))
-    (felt_mul (cond (is_call_op op) 1 0) (key y))) (felt_mul n (felt_sub (key y) (key x)))) (keeps_is op x ends))
+    (same_four (λ r l c n. felt_add (felt_add (felt_add (felt_mul r (felt_sub (key y) (clk x))) l) (felt_mul c (key y))) (felt_mul n (felt_sub (key y) (key x))))
+    (rights_is op) left_part (calls_is op) (keeps_is op x ends))
     (four_say (is_right op) (is_left (mover op x)) (is_call_op op) (keeps_stack op x) (right_or_left op x) (shift_or_call op x)
     (any_or_none (is_right op || is_left (mover op x) || is_call_op op) (ends_call op x))
     (sub_says (key y) (clk x) (low_next 47) (low 0)) (gate_says (eqb (depth x) 16) (sub_says (key y) (key x) (low_next 47) (low 47)))

@@ -1,5 +1,5 @@
 -- Which operation may follow which, from the entries 60 and 62 to 66, and back.
-use Rattle.std.proofs.Common.{◌≡◌, ◌⊎◌, ℕ, zero, suc, ◌<◌, Bool, true, false, ◌&&◌, ◌||◌, not, cond, eqb, List, refl, sym, ap, ◌∙◌, inl, inr, arith, lit<}
+use Rattle.std.proofs.Common.{◌≡◌, ◌⊎◌, ℕ, zero, suc, ◌<◌, Bool, true, false, ◌&&◌, ◌||◌, not, cond, eqb, List, refl, sym, ap, ◌∙◌, inl, inr, arith, lit<, ap₂}
 use Rattle.vm_field.specs.Field.{prime, felt_add, felt_sub, felt_mul}
 use Rattle.vm_ops.specs.Codes.{is_ordinary_op, is_start_op}
 use Rattle.vm_ops.specs.declared.op.Op.{Op}
@@ -71,7 +71,7 @@ pub says_64 : (op next : Op) (x y : List ℕ) → sp y ≡ cond (is_ordinary_op 
     → Says (entry_64 (hot op) (hot next) x y) (is_batch_op op ≡ true → is_ordinary_op next ≡ true)
 unfolding entry_64
 says_64 op next x y span =
-    says_of (ap (λ n. felt_mul n (felt_sub 1 (sp y))) (batches_is op) ∙ ap (λ n. felt_mul (cond (is_batch_op op) 1 0) (felt_sub 1 n)) span)
+    says_of (ap₂ (λ n m. felt_mul n (felt_sub 1 m)) (batches_is op) span)
     (gate_says (is_batch_op op) (passes_says (is_ordinary_op next)))
 
 pub says_65 : (op next : Op) (x y : List ℕ) → sp x ≡ cond (is_ordinary_op op) 1 0 → sp y ≡ cond (is_ordinary_op next) 1 0
@@ -79,9 +79,8 @@ pub says_65 : (op next : Op) (x y : List ℕ) → sp x ≡ cond (is_ordinary_op 
 unfolding entry_65
 says_65 op next x y span span_next =
     says_of
-    (ap (λ n. felt_mul n (felt_sub (felt_sub (felt_sub 1 (sp y)) (hot next ops.End)) (hot next ops.Respan))) span
-    ∙ ap (λ n. felt_mul (cond (is_ordinary_op op) 1 0) (felt_sub (felt_sub (felt_sub 1 n) (hot next ops.End)) (hot next ops.Respan))) span_next
-    ∙ ap (λ n. felt_mul (cond (is_ordinary_op op) 1 0) n) (behind_operation next))
+    (ap₂ (λ n m. felt_mul n m) span
+    (ap (λ n. felt_sub (felt_sub (felt_sub 1 n) (hot next ops.End)) (hot next ops.Respan)) span_next ∙ behind_operation next))
     (gate_says (is_ordinary_op op) (fails_says (is_ordinary_op next || is_op next ops.End || is_op next ops.Respan)))
 
 pub says_66 : (op next : Op) (x y : List ℕ)
@@ -90,9 +89,8 @@ pub says_66 : (op next : Op) (x y : List ℕ)
 unfolding entry_66
 says_66 op next x y =
     says_of
-    (ap (λ n. felt_mul (hot op ops.End) (felt_sub (felt_sub (felt_sub (felt_sub 1 n) (hot next ops.End)) (hot next ops.Repeat)) (hot next ops.Halt)))
-    (starts_is next)
-    ∙ ap (λ n. felt_mul (hot op ops.End) n) (behind_end next))
+    (ap (felt_mul (hot op ops.End))
+    (ap (λ n. felt_sub (felt_sub (felt_sub (felt_sub 1 n) (hot next ops.End)) (hot next ops.Repeat)) (hot next ops.Halt)) (starts_is next) ∙ behind_end next))
     (gate_says (is_op op ops.End) (fails_says (is_start_op next || is_op next ops.End || is_op next ops.Repeat || is_op next ops.Halt)))
 
 -- what these entries say together

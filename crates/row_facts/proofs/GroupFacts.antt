@@ -1,5 +1,5 @@
 -- What the entries 107 to 114 say where they are 0: how the rows of ordinary operations take the digits of a group.
-use Rattle.std.proofs.Common.{◌≡◌, ◌≢◌, ◌⊎◌, ℕ, ◌+◌, ◌*◌, ◌<◌, ◌≤◌, Bool, true, false, ◌||◌, not, cond, eqb, List, refl, sym, ap, subst, ◌∙◌, inl, inr, ⊎_elim, arith, lit<}
+use Rattle.std.proofs.Common.{◌≡◌, ◌≢◌, ◌⊎◌, ℕ, ◌+◌, ◌*◌, ◌<◌, ◌≤◌, Bool, true, false, ◌||◌, not, cond, eqb, List, refl, sym, ap, subst, ◌∙◌, inl, inr, ⊎_elim, arith, lit<, ap₂}
 use Rattle.std.proofs.lemmas.Bool.{cases_Bool, eqb-true}
 use Rattle.std.proofs.lemmas.Bool.Decides.{nat_tests}
 use Rattle.vm_field.specs.Field.{prime, felt_add, felt_sub, felt_mul}
@@ -79,8 +79,7 @@ pub says_107 : (op : Op) (x : List ℕ) → HasOp x op → Low x → sp x ≡ co
 unfolding entry_107 rest_flag
 says_107 op x has low span =
     says_of
-    (ap (λ n. felt_mul (felt_mul n (rest x)) (felt_sub 1 (felt_mul (rest x) (w x 3)))) span
-    ∙ ap (λ n. felt_mul (felt_mul (cond (is_ordinary_op op) 1 0) n) (felt_sub 1 (felt_mul n (w x 3)))) (rest_is op x has))
+    (ap₂ (λ n m. felt_mul (felt_mul n m) (felt_sub 1 (felt_mul m (w x 3)))) span (rest_is op x has))
     (says_as
     (gate_product_says (is_ordinary_op op) z (felt_sub 1 (felt_mul z (w x 3))) (rest_low _)
     (mul_says (sub_says (h x 0) (code_of op) (low 16) (code_low op)) (sub_says 1 (felt_mul z (w x 3)) (lit< tt) (rest_low _))))
@@ -132,8 +131,7 @@ pub says_108 : (op next : Op) (x y : List ℕ) → HasOp x op → Low x → (is_
 unfolding entry_108
 says_108 op next x y has low row span span_next =
     says_of
-    (ap (λ n. felt_mul (felt_mul n (goes_on (hot op) x)) (felt_sub 1 (sp y))) span
-    ∙ ap (λ n. felt_mul (felt_mul (cond (is_ordinary_op op) 1 0) (goes_on (hot op) x)) (felt_sub 1 n)) span_next)
+    (ap₂ (λ n m. felt_mul (felt_mul n (goes_on (hot op) x)) (felt_sub 1 m)) span span_next)
     (gate_product_says_if (is_ordinary_op op) (goes_on (hot op) x) (felt_sub 1 (cond (is_ordinary_op next) 1 0)) (goes_low op x)
     (λ is. mul_says (says_of (goes_is op x has low (row is)) (test_says (goes op x))) (passes_says (is_ordinary_op next))))
 
@@ -147,8 +145,7 @@ pub says_109 : (op next : Op) (x y : List ℕ) → HasOp x op → Low x → (is_
 unfolding entry_109
 says_109 op next x y has low row span =
     says_of
-    (ap (λ n. felt_mul (felt_mul n (goes_on (hot op) x)) (felt_sub (felt_mul 128 (h y 0)) (rest x))) span
-    ∙ ap (λ n. felt_mul (felt_mul (cond (is_ordinary_op op) 1 0) (goes_on (hot op) x)) (felt_sub (felt_mul 128 (h y 0)) n)) (rest_is op x has))
+    (ap₂ (λ n m. felt_mul (felt_mul n (goes_on (hot op) x)) (felt_sub (felt_mul 128 (h y 0)) m)) span (rest_is op x has))
     (gate_product_says_if (is_ordinary_op op) (goes_on (hot op) x) (felt_sub (felt_mul 128 (h y 0)) (felt_sub (h x 0) (code_of op))) (goes_low op x)
     (λ is. mul_says (says_of (goes_is op x has low (row is)) (test_says (goes op x)))
     (turn (felt_mul 128 (h y 0)) (h x 0) (code_of op) (low 16) (code_low op) (rest_low _))))
@@ -172,8 +169,7 @@ pub says_111 : (op next : Op) (x y : List ℕ) → HasOp x op → Low x → Low 
 unfolding entry_111
 says_111 op next x y has low low_next row span span_next =
     says_of
-    (ap (λ n. felt_mul (felt_mul (felt_mul n (felt_sub 1 (goes_on (hot op) x))) (sp y)) (ox y)) span
-    ∙ ap (λ n. felt_mul (felt_mul (felt_mul (cond (is_ordinary_op op) 1 0) (felt_sub 1 (goes_on (hot op) x))) n) (ox y)) span_next)
+    (ap₂ (λ n m. felt_mul (felt_mul (felt_mul n (felt_sub 1 (goes_on (hot op) x))) m) (ox y)) span span_next)
     (three_gated (is_ordinary_op op) (felt_sub 1 (goes_on (hot op) x)) (cond (is_ordinary_op next) 1 0) (ox y) (rest_low _)
     (λ is. mul_says (mul_says (says_of (ap (λ n. felt_sub 1 n) (goes_is op x has low (row is))) (passes_says (goes op x))) (test_says (is_ordinary_op next)))
     (zero_says (ox y) (low_next 26))))
@@ -184,8 +180,7 @@ pub says_112 : (op next : Op) (x y : List ℕ) → Low x
 unfolding entry_112
 says_112 op next x y low span span_next =
     says_of
-    (ap (λ n. felt_mul (felt_mul n (felt_sub 1 (sp y))) (gc x)) span
-    ∙ ap (λ n. felt_mul (felt_mul (cond (is_ordinary_op op) 1 0) (felt_sub 1 n)) (gc x)) span_next)
+    (ap₂ (λ n m. felt_mul (felt_mul n (felt_sub 1 m)) (gc x)) span span_next)
     (gate_product_says (is_ordinary_op op) (felt_sub 1 (cond (is_ordinary_op next) 1 0)) (gc x) (rest_low _)
     (mul_says (passes_says (is_ordinary_op next)) (zero_says (gc x) (low 25))))
 
@@ -204,9 +199,7 @@ pub says_113 : (op next : Op) (x y : List ℕ) → HasOp x op → Low x → Low 
 unfolding entry_113
 says_113 op next x y has low low_next row span span_next =
     says_of
-    (ap (λ n. felt_mul (felt_mul n (sp y)) (felt_sub (felt_add (felt_add (felt_sub (gc y) (gc x)) (hot op ops.Push)) 1) (goes_on (hot op) x))) span
-    ∙ ap (λ n. felt_mul (felt_mul (cond (is_ordinary_op op) 1 0) n) (felt_sub (felt_add (felt_add (felt_sub (gc y) (gc x)) (hot op ops.Push)) 1)
-    (goes_on (hot op) x))) span_next)
+    (ap₂ (λ n m. felt_mul (felt_mul n m) (felt_sub (felt_add (felt_add (felt_sub (gc y) (gc x)) (hot op ops.Push)) 1) (goes_on (hot op) x))) span span_next)
     (gate_product_says_if (is_ordinary_op op) (cond (is_ordinary_op next) 1 0)
     (felt_sub (felt_add (felt_add (felt_sub (gc y) (gc x)) (hot op ops.Push)) 1) (goes_on (hot op) x)) (test_says (is_ordinary_op next)).low
     (λ is. mul_says (test_says (is_ordinary_op next))

@@ -1,5 +1,5 @@
 -- What the entries 140 to 147 say where they are 0, one by one.
-use Rattle.std.proofs.Common.{◌≡◌, ◌≢◌, ◌⊎◌, ℕ, ◌-◌, ◌^◌, ◌<◌, Bool, true, false, ◌&&◌, ◌||◌, cond, List, refl, sym, ap, ◌∙◌, inl, inr, ⊎_elim, arith, lit<}
+use Rattle.std.proofs.Common.{◌≡◌, ◌≢◌, ◌⊎◌, ℕ, ◌-◌, ◌^◌, ◌<◌, Bool, true, false, ◌&&◌, ◌||◌, cond, List, refl, sym, ap, ◌∙◌, inl, inr, ⊎_elim, arith, lit<, ap₂}
 use Rattle.vm_field.specs.Field.{prime, felt_add, felt_sub, felt_mul}
 use Rattle.vm_ops.specs.declared.op.Op.{Op}
 use Rattle.vm_ops.specs.declared.op.Op.TheVariants as ops
@@ -126,10 +126,8 @@ pub says_143 : (op next : Op) (x y : List ℕ) → Low y
 unfolding entry_143
 says_143 op next x y low =
     says_of
-    (ap (λ n. felt_add (felt_add (felt_mul (hot op ops.U32Split) (felt_sub (s y 1) (limbs 0 x))) (felt_mul n (felt_sub (s y 1) (limbs 4 x))))
-    (felt_mul (takes_three (hot op)) (felt_sub (s y 1) (limbs 6 x)))) (lows_is op)
-    ∙ ap (λ n. felt_add (felt_add (felt_mul (hot op ops.U32Split) (felt_sub (s y 1) (limbs 0 x)))
-    (felt_mul (cond (leaves_second op) 1 0) (felt_sub (s y 1) (limbs 4 x)))) (felt_mul n (felt_sub (s y 1) (limbs 6 x)))) (thirds_is op))
+    (ap₂ (λ n m. felt_add (felt_add (felt_mul (hot op ops.U32Split) (felt_sub (s y 1) (limbs 0 x))) (felt_mul n (felt_sub (s y 1) (limbs 4 x))))
+    (felt_mul m (felt_sub (s y 1) (limbs 6 x)))) (lows_is op) (thirds_is op))
     (gated_more (is_op op ops.U32Split || leaves_second op) (has_third op) (low_or_third op)
     (gated_more (is_op op ops.U32Split) (leaves_second op) (split_or_low op)
     (gated (is_op op ops.U32Split) (sub_says (s y 1) (limbs 0 x) (low 31) (limbs_low 0 x)))
@@ -176,16 +174,10 @@ pub says_144 : (op next : Op) (x y : List ℕ) → Low x → Low y
 unfolding entry_144
 says_144 op next x y low low_next =
     says_of
-    (ap (λ n. felt_add (felt_add (felt_add (felt_add (felt_add (felt_mul (hot op ops.U32Split) (felt_sub (s y 0) (limbs 2 x)))
+    (ap₂ (λ n m. felt_add (felt_add (felt_add (felt_add (felt_add (felt_mul (hot op ops.U32Split) (felt_sub (s y 0) (limbs 2 x)))
     (felt_mul (hot op ops.U32Add) (felt_sub (s y 0) (t x 6)))) (felt_mul (hot op ops.U32Add3) (felt_sub (s y 0) (t x 8)))) n)
-    (felt_mul (felt_add (hot op ops.U32Mul) (hot op ops.U32Div)) (felt_sub (s y 0) (limbs 6 x))))
-    (felt_mul (hot op ops.U32MAdd) (felt_sub (s y 0) (limbs 8 x))))
-    (regate (is_op op ops.U32Sub) (s y 0) (felt_sub (s y 0) 1) (low_next 30))
-    ∙ ap (λ n. felt_add (felt_add (felt_add (felt_add (felt_add (felt_mul (hot op ops.U32Split) (felt_sub (s y 0) (limbs 2 x)))
-    (felt_mul (hot op ops.U32Add) (felt_sub (s y 0) (t x 6)))) (felt_mul (hot op ops.U32Add3) (felt_sub (s y 0) (t x 8))))
-    (felt_mul (hot op ops.U32Sub) (felt_mul (s y 0) (felt_sub (s y 0) 1)))) (felt_mul n (felt_sub (s y 0) (limbs 6 x))))
-    (felt_mul (hot op ops.U32MAdd) (felt_sub (s y 0) (limbs 8 x))))
-    (highs_is op))
+    (felt_mul m (felt_sub (s y 0) (limbs 6 x)))) (felt_mul (hot op ops.U32MAdd) (felt_sub (s y 0) (limbs 8 x))))
+    (regate (is_op op ops.U32Sub) (s y 0) (felt_sub (s y 0) 1) (low_next 30)) (highs_is op))
     (gated_more (high_5 op) (is_op op ops.U32MAdd) (apart_6 op)
     (gated_more (high_4 op) (leaves_fourth op) (apart_5 op)
     (gated_more (high_3 op) (is_op op ops.U32Sub) (apart_4 op)

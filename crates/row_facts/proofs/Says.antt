@@ -48,6 +48,16 @@ rest_low n = omega arith
 pub once_is : (n : ℕ) → n < prime → felt_mul 1 n ≡ n
 once_is n low = omega arith
 
+-- a value whose parts are spelled otherwise
+pub same_four : {a b c d a1 b1 c1 d1 : ℕ} (f : ℕ → ℕ → ℕ → ℕ → ℕ) → a ≡ a1 → b ≡ b1 → c ≡ c1 → d ≡ d1 → f a b c d ≡ f a1 b1 c1 d1
+same_four {b = b} {c = c} {d = d} {a1 = a1} {b1 = b1} {c1 = c1} f ea eb ec ed =
+    ap (λ n. f n b c d) ea ∙ ap (λ n. f a1 n c d) eb ∙ ap (λ n. f a1 b1 n d) ec ∙ ap (f a1 b1 c1) ed
+
+pub same_five : {a b c d e a1 b1 c1 d1 e1 : ℕ} (f : ℕ → ℕ → ℕ → ℕ → ℕ → ℕ) → a ≡ a1 → b ≡ b1 → c ≡ c1 → d ≡ d1 → e ≡ e1
+    → f a b c d e ≡ f a1 b1 c1 d1 e1
+same_five {e = e} {a1 = a1} {b1 = b1} {c1 = c1} {d1 = d1} f ea eb ec ed ee =
+    same_four (λ i j k l. f i j k l e) ea eb ec ed ∙ ap (f a1 b1 c1 d1) ee
+
 -- an element by itself
 pub zero_says : (a : ℕ) → a < prime → Says a (a ≡ 0)
 zero_says a low = record { low = low; shown = λ z. z; zero_where = λ z. z }
