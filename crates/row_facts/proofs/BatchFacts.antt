@@ -1,20 +1,19 @@
 -- What the entries of a batch's row say where they are 0.
-use Rattle.std.proofs.Common.{◌≡◌, ℕ, zero, suc, ◌+◌, ◌-◌, ◌*◌, ◌%◌, ◌<◌, ◌≤◌, Bool, true, false, ◌&&◌, ◌||◌, cond, eqb, nat_lt, nat_le, List, [], ◌∷◌, slice_index, refl, sym, ap, ◌∙◌, arith, lit<, lit≤}
+use Rattle.std.proofs.Common.{◌≡◌, ℕ, zero, suc, ◌+◌, ◌<◌, ◌≤◌, Bool, true, false, ◌&&◌, ◌||◌, cond, eqb, nat_lt, nat_le, List, slice_index, refl, ap, arith, lit<, lit≤, ◌≢◌, ◌⊎◌, inl, inr, ◌∙◌, ◌*◌}
 use Rattle.std.proofs.lemmas.Bool.Decides.{nat_tests}
 use Rattle.vm_field.specs.Field.{prime, felt_add, felt_sub, felt_mul}
 use Rattle.vm_ops.specs.declared.op.Op.{Op}
 use Rattle.vm_ops.specs.declared.op.Op.TheVariants as ops
 use Rattle.vm_table.specs.MainColumns.{h, gc, ox, c, w}
-use Rattle.air_kit.specs.Flags.{flag, HasOp, op_of}
+use Rattle.air_kit.specs.Flags.{HasOp, op_of}
 use Rattle.air_kit.specs.Places.{Claim, Spot, on_row, family}
 use Rattle.air_kit.specs.BlockValues.{batches}
 use Rattle.air_kit.specs.SpanValues.{span_values, batch_values, size_flags, unused, entry_92, entry_95, entry_96, entry_103, entry_104, entry_105, entry_106}
 use Rattle.air_kit.specs.MainTuples.{is_batch_op, positions}
 use Rattle.air_kit.specs.MainValues.{main_values}
 use Rattle.row_facts.specs.Zero.{AllZero}
-use Rattle.row_facts.specs.Batches.{IsBatchRow, NeedsPositions}
-use Rattle.row_facts.proofs.Zeros.{zero_front, zero_back, zero_family}
-use Rattle.row_facts.proofs.Says.{Says, says_of, says_as, off, rest_low, zero_says, sub_says, bit_says, gate_says, gate_says_if, gate_product_says, gate_product_says_if, three_say}
+use Rattle.row_facts.specs.Batches.{IsBatchRow, NeedsPositions, ShowsBatch, UsesHalf}
+use Rattle.row_facts.proofs.Says.{Says, says_of, says_as, off, rest_low, zero_says, sub_says, bit_says, gate_says, gate_says_if, gate_product_says, gate_product_says_if, three_say, none_is, either_or}
 use Rattle.row_facts.proofs.Hot.{hot, row_says}
 use Rattle.row_facts.proofs.OpcodeFacts.{main_parts, row_has_op}
 
@@ -66,7 +65,8 @@ below_three P first second third (suc zero) h = second
 below_three P first second third (suc (suc zero)) h = third
 below_three P first second third (suc (suc (suc j))) h = absurd (omega (arith, h))
 
-pub batch_row_at : (p : Spot) (op : Op) → HasOp p.cur op → ((k : ℕ) → slice_index p.cur k < prime) → AllZero (span_values p) → is_batch_op op ≡ true → IsBatchRow p.cur
+pub batch_row_at : (p : Spot) (op : Op) → HasOp p.cur op → ((k : ℕ) → slice_index p.cur k < prime) → AllZero (span_values p) → is_batch_op op ≡ true
+    → IsBatchRow p.cur
 unfolding span_values batch_values family
 batch_row_at p op has low zeros is =
     batch_row_from p.cur
@@ -76,7 +76,8 @@ batch_row_at p op has low zeros is =
     bit : (j : ℕ) → on_row (entry_92 j) p ≡ 0 → c p.cur j < 2
     bit j z = (row_says (entry_92 j) has (says_92 op p.cur j (low (27 + j)))).shown z is
 
-pub batch_row : (k : Claim) (p : Spot) → ((i : ℕ) → slice_index p.cur i < prime) → AllZero (main_values k p) → is_batch_op (op_of p.cur) ≡ true → IsBatchRow p.cur
+pub batch_row : (k : Claim) (p : Spot) → ((i : ℕ) → slice_index p.cur i < prime) → AllZero (main_values k p) → is_batch_op (op_of p.cur) ≡ true
+    → IsBatchRow p.cur
 batch_row k p low zeros is =
     let parts = main_parts k p zeros in
     batch_row_at p (op_of p.cur) (row_has_op p low parts.opcode) low parts.span is
@@ -108,9 +109,12 @@ unused_at zero i j k most h = at_bits (λ i j k. unused_by 1 i j k ≡ cond (nat
 unused_at (suc zero) i j k most h = at_bits (λ i j k. unused_by 2 i j k ≡ cond (nat_le (positions_by i j k) 2) 1 0) refl refl refl refl i j k most
 unused_at (suc (suc zero)) i j k most h = at_bits (λ i j k. unused_by 3 i j k ≡ cond (nat_le (positions_by i j k) 3) 1 0) refl refl refl refl i j k most
 unused_at (suc (suc (suc zero))) i j k most h = at_bits (λ i j k. unused_by 4 i j k ≡ cond (nat_le (positions_by i j k) 4) 1 0) refl refl refl refl i j k most
-unused_at (suc (suc (suc (suc zero)))) i j k most h = at_bits (λ i j k. unused_by 5 i j k ≡ cond (nat_le (positions_by i j k) 5) 1 0) refl refl refl refl i j k most
-unused_at (suc (suc (suc (suc (suc zero))))) i j k most h = at_bits (λ i j k. unused_by 6 i j k ≡ cond (nat_le (positions_by i j k) 6) 1 0) refl refl refl refl i j k most
-unused_at (suc (suc (suc (suc (suc (suc zero)))))) i j k most h = at_bits (λ i j k. unused_by 7 i j k ≡ cond (nat_le (positions_by i j k) 7) 1 0) refl refl refl refl i j k most
+unused_at (suc (suc (suc (suc zero)))) i j k most h = at_bits (λ i j k. unused_by 5 i j k ≡ cond
+    (nat_le (positions_by i j k) 5) 1 0) refl refl refl refl i j k most
+unused_at (suc (suc (suc (suc (suc zero))))) i j k most h = at_bits (λ i j k. unused_by 6 i j k ≡ cond
+    (nat_le (positions_by i j k) 6) 1 0) refl refl refl refl i j k most
+unused_at (suc (suc (suc (suc (suc (suc zero)))))) i j k most h = at_bits
+    (λ i j k. unused_by 7 i j k ≡ cond (nat_le (positions_by i j k) 7) 1 0) refl refl refl refl i j k most
 unused_at (suc (suc (suc (suc (suc (suc (suc q))))))) i j k most h = absurd (omega (arith, h))
 
 unused_is : (x : List ℕ) (q : ℕ) → IsBatchRow x → q < 7 → unused (q + 1) x ≡ cond (nat_le (positions x) (q + 1)) 1 0
@@ -151,10 +155,12 @@ says_96 op x j batch few low =
 
 -- each count that is claimed is needed
 needed_by : (u v z i j k : ℕ) → u < prime → v < prime → z < prime → i + j + k ≤ 1
-    → Says (felt_add (felt_add (felt_mul i (felt_sub u 1)) (felt_mul j (felt_sub v 1))) (felt_mul k (felt_sub z 1))) ((i ≡ 1 → u ≡ 1) × (j ≡ 1 → v ≡ 1) × (k ≡ 1 → z ≡ 1))
+    → Says (felt_add (felt_add (felt_mul i (felt_sub u 1)) (felt_mul j (felt_sub v 1))) (felt_mul k (felt_sub z 1)))
+    ((i ≡ 1 → u ≡ 1) × (j ≡ 1 → v ≡ 1) × (k ≡ 1 → z ≡ 1))
 needed_by u v z i j k lu lv lz most =
     at_bits
-    (λ i j k. Says (felt_add (felt_add (felt_mul i (felt_sub u 1)) (felt_mul j (felt_sub v 1))) (felt_mul k (felt_sub z 1))) ((i ≡ 1 → u ≡ 1) × (j ≡ 1 → v ≡ 1) × (k ≡ 1 → z ≡ 1)))
+    (λ i j k. Says (felt_add (felt_add (felt_mul i (felt_sub u 1)) (felt_mul j (felt_sub v 1))) (felt_mul k (felt_sub z 1)))
+    ((i ≡ 1 → u ≡ 1) × (j ≡ 1 → v ≡ 1) × (k ≡ 1 → z ≡ 1)))
     (at false false false refl refl) (at true false false refl refl) (at false true false refl refl) (at false false true refl refl) i j k most
   where
     is_set : {A : Type 0} (t : Bool) → (t ≡ true → A) → ◌≡◌ {A = ℕ} (cond t 1 0) 1 → A
@@ -166,7 +172,8 @@ needed_by u v z i j k lu lv lz most =
     set false f e = off e
 
     at : (t r q : Bool) → t && r ≡ false → (t || r) && q ≡ false
-        → Says (felt_add (felt_add (felt_mul (cond t 1 0) (felt_sub u 1)) (felt_mul (cond r 1 0) (felt_sub v 1))) (felt_mul (cond q 1 0) (felt_sub z 1))) ((◌≡◌ {A = ℕ} (cond t 1 0) 1 → u ≡ 1) × (◌≡◌ {A = ℕ} (cond r 1 0) 1 → v ≡ 1) × (◌≡◌ {A = ℕ} (cond q 1 0) 1 → z ≡ 1))
+        → Says (felt_add (felt_add (felt_mul (cond t 1 0) (felt_sub u 1)) (felt_mul (cond r 1 0) (felt_sub v 1))) (felt_mul (cond q 1 0) (felt_sub z 1)))
+        ((◌≡◌ {A = ℕ} (cond t 1 0) 1 → u ≡ 1) × (◌≡◌ {A = ℕ} (cond r 1 0) 1 → v ≡ 1) × (◌≡◌ {A = ℕ} (cond q 1 0) 1 → z ≡ 1))
     at t r q apart last =
         says_as (three_say t r q apart last (sub_says u 1 lu (lit< tt)) (sub_says v 1 lv (lit< tt)) (sub_says z 1 lz (lit< tt)))
         (λ h. (is_set t h.0, is_set r h.1, is_set q h.2)) (λ h. (set t h.0, set r h.1, set q h.2))
@@ -174,7 +181,8 @@ needed_by u v z i j k lu lv lz most =
 pub says_103 : (op : Op) (x : List ℕ) → (is_batch_op op ≡ true → IsBatchRow x) → Says (entry_103 (hot op) x) (is_batch_op op ≡ true → NeedsPositions x)
 unfolding entry_103
 says_103 op x batch =
-    says_of (ap (λ n. felt_mul n (felt_add (felt_add (felt_mul (c x 0) (felt_sub eight 1)) (felt_mul (c x 1) (felt_sub four 1))) (felt_mul (c x 2) (felt_sub two 1)))) (batches_is op))
+    says_of (ap (λ n. felt_mul n (felt_add (felt_add (felt_mul (c x 0) (felt_sub eight 1)) (felt_mul (c x 1) (felt_sub four 1)))
+    (felt_mul (c x 2) (felt_sub two 1)))) (batches_is op))
     (gate_says_if (is_batch_op op) (rest_low _)
     (λ is. says_as (needed_by eight four two (c x 0) (c x 1) (c x 2) (rest_low _) (rest_low _) (rest_low _) (batch is).most)
     (λ h. record { eight = h.0; four = h.1; two = h.2 }) (λ n. (n.eight, n.four, n.two))))
@@ -215,3 +223,69 @@ says_105 op next x y batch low =
 pub says_106 : (op next : Op) (x y : List ℕ) → ox y < prime → Says (entry_106 (hot op) (hot next) x y) (is_batch_op op ≡ true → ox y ≡ 0)
 unfolding entry_106
 says_106 op next x y low = says_of (ap (λ n. felt_mul n (ox y)) (batches_is op)) (gate_says (is_batch_op op) (zero_says (ox y) low))
+
+-- ---- what the witnesses of a batch show
+
+none_used : (i u : ℕ) → i ≡ 0 → felt_mul i u ≡ 0
+none_used i u e = ap (λ n. felt_mul n u) e ∙ none_is u
+
+one_not_zero : (n : ℕ) → n ≡ 1 → n ≡ 0 → ⊥
+one_not_zero n one none = omega (arith, one, none)
+
+-- a sum of products that is 1 has a factor that is not 0
+some_of_two : (i k u v : ℕ) → felt_add (felt_mul i u) (felt_mul k v) ≡ 1 → (i ≢ 0) ⊎ (k ≢ 0)
+some_of_two i k u v one = go (either_or i 0) (either_or k 0)
+  where
+    go : (i ≡ 0) ⊎ (i ≢ 0) → (k ≡ 0) ⊎ (k ≢ 0) → (i ≢ 0) ⊎ (k ≢ 0)
+    go (inr apart) other = inl apart
+    go (inl e) (inr apart) = inr apart
+    go (inl e) (inl f) =
+        let z : felt_add (felt_mul i u) (felt_mul k v) ≡ 0 = ap (λ n. felt_add n (felt_mul k v)) (none_used i u e) ∙ ap (felt_add 0) (none_used k v f) in
+        absurd (one_not_zero _ one z)
+
+some_of_four : (i j k l u v z y : ℕ) → felt_add (felt_add (felt_add (felt_mul i u) (felt_mul j v)) (felt_mul k z)) (felt_mul l y) ≡ 1
+    → ((i ≢ 0) ⊎ (j ≢ 0)) ⊎ ((k ≢ 0) ⊎ (l ≢ 0))
+some_of_four i j k l u v z y one = go (either_or i 0) (either_or j 0) (either_or k 0) (either_or l 0)
+  where
+    go : (i ≡ 0) ⊎ (i ≢ 0) → (j ≡ 0) ⊎ (j ≢ 0) → (k ≡ 0) ⊎ (k ≢ 0) → (l ≡ 0) ⊎ (l ≢ 0) → ((i ≢ 0) ⊎ (j ≢ 0)) ⊎ ((k ≢ 0) ⊎ (l ≢ 0))
+    go (inr apart) second third fourth = inl (inl apart)
+    go first (inr apart) third fourth = inl (inr apart)
+    go first second (inr apart) fourth = inr (inl apart)
+    go first second third (inr apart) = inr (inr apart)
+    go (inl e) (inl f) (inl g) (inl o) =
+        let zero_is : felt_add (felt_add (felt_add (felt_mul i u) (felt_mul j v)) (felt_mul k z)) (felt_mul l y) ≡ 0 =
+        ap (λ n. felt_add (felt_add (felt_add n (felt_mul j v)) (felt_mul k z)) (felt_mul l y)) (none_used i u e)
+        ∙ ap (λ n. felt_add (felt_add (felt_add 0 n) (felt_mul k z)) (felt_mul l y)) (none_used j v f)
+        ∙ ap (λ n. felt_add n (felt_mul l y)) (ap (felt_add 0) (none_used k z g)) ∙ ap (felt_add 0) (none_used l y o) in
+        absurd (one_not_zero _ one zero_is)
+
+positions_at : (x : List ℕ) (i j k : ℕ) → c x 0 ≡ i → c x 1 ≡ j → c x 2 ≡ k → positions x ≡ positions_by i j k
+unfolding positions
+positions_at x i j k ei ej ek =
+    ap (λ n. positions_by n (c x 1) (c x 2)) ei ∙ ap (λ n. positions_by i n (c x 2)) ej ∙ ap (positions_by i j) ek
+
+used_at : (x : List ℕ) (q n : ℕ) → positions x ≡ n → n ≤ 2 * q → q < n → h x q ≢ 0 → UsesHalf x
+used_at x q n e behind within some = record { place = q; behind = omega (arith, e, behind); within = omega (arith, e, within); some = some }
+
+eight_used : (x : List ℕ) → positions x ≡ 8 → ((h x 4 ≢ 0) ⊎ (h x 5 ≢ 0)) ⊎ ((h x 6 ≢ 0) ⊎ (h x 7 ≢ 0)) → UsesHalf x
+eight_used x e (inl (inl some)) = used_at x 4 8 e (lit≤ tt) (lit< tt) some
+eight_used x e (inl (inr some)) = used_at x 5 8 e (lit≤ tt) (lit< tt) some
+eight_used x e (inr (inl some)) = used_at x 6 8 e (lit≤ tt) (lit< tt) some
+eight_used x e (inr (inr some)) = used_at x 7 8 e (lit≤ tt) (lit< tt) some
+
+four_used : (x : List ℕ) → positions x ≡ 4 → (h x 2 ≢ 0) ⊎ (h x 3 ≢ 0) → UsesHalf x
+four_used x e (inl some) = used_at x 2 4 e (lit≤ tt) (lit< tt) some
+four_used x e (inr some) = used_at x 3 4 e (lit≤ tt) (lit< tt) some
+
+some_of_one : (i u : ℕ) → felt_mul i u ≡ 1 → i ≢ 0
+some_of_one i u one e = absurd (one_not_zero (felt_mul i u) one (none_used i u e))
+
+pub half_used : (x : List ℕ) → ShowsBatch x → 1 < positions x → UsesHalf x
+half_used x shows several =
+    at_bits (λ i j k. c x 0 ≡ i → c x 1 ≡ j → c x 2 ≡ k → UsesHalf x)
+    (λ ei ej ek. let one : positions x ≡ 1 = positions_at x 0 0 0 ei ej ek in absurd (omega (arith, one, several)))
+    (λ ei ej ek. eight_used x (positions_at x 1 0 0 ei ej ek) (some_of_four (h x 4) (h x 5) (h x 6) (h x 7) (w x 0) (w x 1) (w x 2) (w x 3)
+    (shows.needed.eight ei)))
+    (λ ei ej ek. four_used x (positions_at x 0 1 0 ei ej ek) (some_of_two (h x 2) (h x 3) (w x 0) (w x 1) (shows.needed.four ej)))
+    (λ ei ej ek. used_at x 1 2 (positions_at x 0 0 1 ei ej ek) (lit≤ tt) (lit< tt) (some_of_one (h x 1) (w x 0) (shows.needed.two ek)))
+    (c x 0) (c x 1) (c x 2) shows.is_batch.most refl refl refl

@@ -1,7 +1,7 @@
 -- What the entries 61 and 67 to 91 say where they are 0, one by one.
-use Rattle.std.proofs.Common.{◌≡◌, ◌⊎◌, ℕ, zero, suc, ◌+◌, ◌-◌, ◌^◌, ◌%◌, ◌<◌, ◌≤◌, Bool, true, false, ◌&&◌, ◌||◌, not, cond, eqb, List, slice_index, refl, sym, ap, ◌∙◌, inl, inr, arith, lit<}
+use Rattle.std.proofs.Common.{◌≡◌, ◌⊎◌, ℕ, ◌+◌, ◌^◌, ◌<◌, ◌≤◌, Bool, true, false, ◌&&◌, ◌||◌, not, cond, eqb, List, slice_index, refl, sym, ap, ◌∙◌, arith, lit<}
 use Rattle.vm_field.specs.Field.{prime, felt_add, felt_sub, felt_mul}
-use Rattle.vm_ops.specs.Codes.{code_of, is_ordinary_op, is_start_op}
+use Rattle.vm_ops.specs.Codes.{is_ordinary_op, is_start_op}
 use Rattle.vm_ops.specs.declared.op.Op.{Op}
 use Rattle.vm_ops.specs.declared.op.Op.TheVariants as ops
 use Rattle.vm_table.specs.MainColumns.{clk, fmp, ctx, sys, f, addr, h, sp, s, ha, lv}
@@ -9,7 +9,7 @@ use Rattle.air_kit.specs.Flags.{is_op}
 use Rattle.air_kit.specs.BlockValues.{starts, calls, returns, stays_inside, kind_flags, entry_61, entry_67, entry_68, entry_69, entry_70, entry_74, entry_75, entry_79, entry_80, entry_81, entry_82, entry_83, entry_84, entry_85, entry_89, entry_90, entry_91}
 use Rattle.air_kit.specs.MainTuples.{is_call_op, is_batch_op}
 use Rattle.row_facts.specs.Blocks.{IsEndRow, ends_call, stays_in_function, keeps_digest, keeps_frame, keeps_block, level_after}
-use Rattle.row_facts.proofs.Says.{Says, says_of, says_as, never, rest_low, none_is, once_is, zero_says, sub_says, sub_twice_says, bit_says, mul_says, gate_says, gate_product_says, two_say, three_say, four_say, not_is}
+use Rattle.row_facts.proofs.Says.{Says, says_of, says_as, never, rest_low, zero_says, sub_says, sub_twice_says, bit_says, mul_says, gate_says, gate_product_says, two_say, three_say, four_say, tested_bit, and_false}
 use Rattle.row_facts.proofs.Hot.{hot, set_is}
 use Rattle.row_facts.proofs.FollowFacts.{starts_is}
 
@@ -34,13 +34,6 @@ singles op = refl
 
 singles_is : (op : Op) → felt_add (hot op ops.Loop) (calls (hot op)) ≡ cond (is_op op ops.Loop || is_call_op op) 1 0
 singles_is op = ap (felt_add (hot op ops.Loop)) (calls_is op) ∙ singles op
-
--- a test and a bit
-tested_bit : (t : Bool) (n : ℕ) → (t ≡ true → n < 2) → felt_mul (cond t 1 0) n ≡ cond (t && eqb n 1) 1 0
-tested_bit false n low = none_is n
-tested_bit true zero low = refl
-tested_bit true (suc zero) low = refl
-tested_bit true (suc (suc n)) low = let few : suc (suc n) < 2 = low refl in absurd (omega (arith, few))
 
 few_flags : (i j k l : ℕ) → i + j + k + l ≤ 1 → felt_add k l < 2
 few_flags i j k l most = omega (arith, most)
@@ -70,10 +63,6 @@ one_call_or_end : (op : Op) (x : List ℕ) → is_op op ops.Call && ends_call op
 one_call_or_end ops.Call x = refl
 one_call_or_end op x = refl
 
-and_false : (t : Bool) → t && false ≡ false
-and_false true = refl
-and_false false = refl
-
 frame_or_call : (op : Op) (x : List ℕ) → (is_call_op op || ends_call op x) && is_op op ops.FmpUpdate ≡ false
 frame_or_call ops.End x = and_false (eqb (felt_add (h x 6) (h x 7)) 1)
 frame_or_call op x = refl
@@ -85,12 +74,14 @@ inside_is op x ends =
     ∙ ap (λ n. felt_sub (felt_sub 1 (cond (is_call_op op) 1 0)) n) (returns_is op x ends)
     ∙ neither (is_call_op op) (ends_call op x) (call_or_end op x)
 
-digest_is : (op : Op) (x : List ℕ) → (is_op op ops.End ≡ true → IsEndRow x) → felt_sub (felt_sub 1 (hot op ops.Call)) (returns (hot op) x) ≡ cond (keeps_digest op x) 1 0
+digest_is : (op : Op) (x : List ℕ) → (is_op op ops.End ≡ true → IsEndRow x)
+    → felt_sub (felt_sub 1 (hot op ops.Call)) (returns (hot op) x) ≡ cond (keeps_digest op x) 1 0
 digest_is op x ends =
     ap (λ n. felt_sub (felt_sub 1 (hot op ops.Call)) n) (returns_is op x ends)
     ∙ neither (is_op op ops.Call) (ends_call op x) (one_call_or_end op x)
 
-frame_is : (op : Op) (x : List ℕ) → (is_op op ops.End ≡ true → IsEndRow x) → felt_sub (stays_inside (hot op) x) (hot op ops.FmpUpdate) ≡ cond (keeps_frame op x) 1 0
+frame_is : (op : Op) (x : List ℕ) → (is_op op ops.End ≡ true → IsEndRow x)
+    → felt_sub (stays_inside (hot op) x) (hot op ops.FmpUpdate) ≡ cond (keeps_frame op x) 1 0
 frame_is op x ends =
     ap (λ n. felt_sub n (hot op ops.FmpUpdate)) (inside_is op x ends)
     ∙ nor (is_call_op op || ends_call op x) (is_op op ops.FmpUpdate) (frame_or_call op x)
@@ -185,9 +176,11 @@ pub says_82 : (op next : Op) (x y : List ℕ) → Low x → Low y → (is_op op 
 unfolding entry_82
 says_82 op next x y low low_next ends =
     says_of
-    (ap (λ n. felt_add (felt_add (felt_mul (hot op ops.Call) (felt_sub (felt_sub (ctx y) (clk x)) 1)) (felt_mul (hot op ops.Syscall) (ctx y))) (felt_mul n (felt_sub (ctx y) (ctx x))))
+    (ap (λ n. felt_add (felt_add (felt_mul (hot op ops.Call) (felt_sub (felt_sub (ctx y) (clk x)) 1)) (felt_mul (hot op ops.Syscall) (ctx y)))
+    (felt_mul n (felt_sub (ctx y) (ctx x))))
     (inside_is op x ends))
-    (three_say (is_op op ops.Call) (is_op op ops.Syscall) (stays_in_function op x) (one_call op) (stays_or_calls (is_op op ops.Call) (is_op op ops.Syscall) (ends_call op x))
+    (three_say (is_op op ops.Call) (is_op op ops.Syscall) (stays_in_function op x) (one_call op)
+    (stays_or_calls (is_op op ops.Call) (is_op op ops.Syscall) (ends_call op x))
     (sub_twice_says (ctx y) (clk x) 1 (low_next 2) (low 0) (lit< tt)) (zero_says (ctx y) (low_next 2)) (sub_says (ctx y) (ctx x) (low_next 2) (low 2)))
 
 update_or_call : (op : Op) → is_call_op op && is_op op ops.FmpUpdate ≡ false
@@ -203,7 +196,8 @@ moves_or_keeps false false false = refl
 
 pub says_83 : (op next : Op) (x y : List ℕ) → Low x → Low y → (is_op op ops.End ≡ true → IsEndRow x)
     → Says (entry_83 (hot op) (hot next) x y)
-    ((is_op op ops.Call ≡ true → fmp y ≡ 2 ^ 30) × (is_op op ops.Syscall ≡ true → fmp y ≡ 2 ^ 31) × (is_op op ops.FmpUpdate ≡ true → fmp y ≡ felt_add (fmp x) (s x 0))
+    ((is_op op ops.Call ≡ true → fmp y ≡ 2 ^ 30) × (is_op op ops.Syscall ≡ true → fmp y ≡ 2 ^ 31)
+    × (is_op op ops.FmpUpdate ≡ true → fmp y ≡ felt_add (fmp x) (s x 0))
     × (keeps_frame op x ≡ true → fmp y ≡ fmp x))
 unfolding entry_83
 says_83 op next x y low low_next ends =
@@ -221,9 +215,11 @@ pub says_84 : (op next : Op) (x y : List ℕ) → Low x → Low y → (is_op op 
 unfolding entry_84
 says_84 op next x y low low_next ends =
     says_of
-    (ap (λ n. felt_add (felt_add (felt_mul (hot op ops.Call) (sys y)) (felt_mul (hot op ops.Syscall) (felt_sub (sys y) 1))) (felt_mul n (felt_sub (sys y) (sys x))))
+    (ap (λ n. felt_add (felt_add (felt_mul (hot op ops.Call) (sys y)) (felt_mul (hot op ops.Syscall) (felt_sub (sys y) 1)))
+    (felt_mul n (felt_sub (sys y) (sys x))))
     (inside_is op x ends))
-    (three_say (is_op op ops.Call) (is_op op ops.Syscall) (stays_in_function op x) (one_call op) (stays_or_calls (is_op op ops.Call) (is_op op ops.Syscall) (ends_call op x))
+    (three_say (is_op op ops.Call) (is_op op ops.Syscall) (stays_in_function op x) (one_call op)
+    (stays_or_calls (is_op op ops.Call) (is_op op ops.Syscall) (ends_call op x))
     (zero_says (sys y) (low_next 3)) (sub_says (sys y) 1 (low_next 3) (lit< tt)) (sub_says (sys y) (sys x) (low_next 3) (low 3)))
 
 call_or_kept : (t r : Bool) → t && not (t || r) ≡ false
@@ -270,6 +266,8 @@ pub says_91 : (op next : Op) (x y : List ℕ) → Low x → Low y → sp x ≡ c
 unfolding entry_91
 says_91 op next x y low low_next span =
     says_of
-    (ap (λ n. felt_add (felt_add (felt_mul (hot op ops.Span) (felt_sub (ha y) (addr y))) (felt_mul (hot op ops.Respan) (felt_sub (felt_sub (ha y) (ha x)) 8))) (felt_mul n (felt_sub (ha y) (ha x)))) span)
+    (ap (λ n. felt_add (felt_add (felt_mul (hot op ops.Span) (felt_sub (ha y) (addr y)))
+    (felt_mul (hot op ops.Respan) (felt_sub (felt_sub (ha y) (ha x)) 8))) (felt_mul n (felt_sub (ha y) (ha x)))) span)
     (three_say (is_op op ops.Span) (is_op op ops.Respan) (is_ordinary_op op) (one_batch op) (batch_or_ordinary op)
-    (sub_says (ha y) (addr y) (low_next 49) (low_next 8)) (sub_twice_says (ha y) (ha x) 8 (low_next 49) (low 49) (lit< tt)) (sub_says (ha y) (ha x) (low_next 49) (low 49)))
+    (sub_says (ha y) (addr y) (low_next 49) (low_next 8)) (sub_twice_says (ha y) (ha x) 8 (low_next 49) (low 49) (lit< tt))
+    (sub_says (ha y) (ha x) (low_next 49) (low 49)))

@@ -1,22 +1,19 @@
 -- What the entries 115 to 118 and 135 to 139 say where they are 0, one by one.
-use Rattle.std.proofs.Common.{◌≡◌, ◌≢◌, ◌⊎◌, ℕ, zero, suc, ◌+◌, ◌-◌, ◌%◌, ◌<◌, ◌≤◌, Bool, true, false, ◌&&◌, ◌||◌, not, cond, eqb, List, slice_index, refl, sym, ap, subst, ◌∙◌, inl, inr, ⊎_elim, arith, lit<}
-use Rattle.std.proofs.lemmas.Bool.{cases_Bool, eqb-true}
-use Rattle.std.proofs.lemmas.Bool.Decides.{nat_tests}
+use Rattle.std.proofs.Common.{◌≡◌, ◌≢◌, ◌⊎◌, ℕ, zero, suc, ◌+◌, ◌<◌, ◌≤◌, Bool, true, false, ◌&&◌, ◌||◌, not, cond, eqb, List, refl, sym, ap, ◌∙◌, inl, inr, ⊎_elim, arith, lit<}
 use Rattle.vm_field.specs.Field.{prime, felt_add, felt_sub, felt_mul}
-use Rattle.vm_ops.specs.Codes.{code_of}
 use Rattle.vm_ops.specs.declared.op.Op.{Op}
 use Rattle.vm_ops.specs.declared.op.Op.TheVariants as ops
-use Rattle.vm_table.specs.MainColumns.{clk, h, s, depth, key, inv, w}
+use Rattle.vm_table.specs.MainColumns.{clk, h, s, depth, key, inv}
 use Rattle.air_kit.specs.Flags.{is_op, is_left, is_right}
 use Rattle.air_kit.specs.BlockValues.{calls, returns}
 use Rattle.air_kit.specs.MainTuples.{is_call_op}
 use Rattle.air_kit.specs.StackValues.{deeper, shifts_left, shifts_right, keeps_depth, entry_115, entry_116, entry_117, entry_118, entry_135, entry_136, entry_137, entry_138, entry_139}
 use Rattle.row_facts.specs.Blocks.{IsEndRow, ends_call}
 use Rattle.row_facts.specs.Stack.{tests_two, tests_top, mover, keeps_stack}
-use Rattle.row_facts.proofs.Says.{Says, says_of, says_as, off, never, rest_low, none_is, once_is, zero_says, sub_says, sub_twice_says, bit_says, mul_says, gate_says, gate_product_says, regate, four_say}
+use Rattle.row_facts.proofs.Says.{Says, says_of, says_as, never, rest_low, zero_says, sub_says, sub_twice_says, bit_says, mul_says, gate_says, gate_product_says, regate, four_say, tested_bit, and_false, either_or, same_four, same_five}
 use Rattle.row_facts.proofs.Hot.{hot, set_is}
 use Rattle.row_facts.proofs.BlockFacts.{Low, calls_is, returns_is}
-use Rattle.row_facts.proofs.GroupFacts.{flag_by_witness, either_or}
+use Rattle.row_facts.proofs.GroupFacts.{flag_by_witness}
 
 -- ---- whether the stack is deeper than sixteen cells
 
@@ -58,33 +55,19 @@ rights_is op = set_is op is_right
 abbrev pub ends_loop : Op → List ℕ → Bool
 ends_loop op x = is_op op ops.End && eqb (h x 4) 1
 
-tested : (t : Bool) (n : ℕ) → (t ≡ true → n < 2) → felt_mul (cond t 1 0) n ≡ cond (t && eqb n 1) 1 0
-tested false n low = none_is n
-tested true zero low = refl
-tested true (suc zero) low = refl
-tested true (suc (suc n)) low = let few : suc (suc n) < 2 = low refl in absurd (omega (arith, few))
-
 left_or_end : (t u : Bool) → t && u ≡ false → felt_add (cond t 1 0) (cond u 1 0) ≡ cond (t || u) 1 0
 left_or_end true true e = never e
 left_or_end true false e = refl
 left_or_end false true e = refl
 left_or_end false false e = refl
 
-and_later : (t u : Bool) → t ≡ false → t && u ≡ false
-and_later true u e = never e
-and_later false u e = refl
-
 left_apart : (op : Op) (u : Bool) → is_left op && (is_op op ops.End && u) ≡ false
 left_apart ops.End u = refl
 left_apart ops.Noop u = refl
-left_apart op u = and_right (is_left op)
-  where
-    and_right : (t : Bool) → t && false ≡ false
-    and_right true = refl
-    and_right false = refl
+left_apart op u = and_false (is_left op)
 
 -- the operation that moves the stack shifts left
-mover_left : (op : Op) (t : Bool) → is_left op || (is_op op ops.End && t) ≡ is_left (cond (is_op op ops.End && t) ops.Drop op)
+pub mover_left : (op : Op) (t : Bool) → is_left op || (is_op op ops.End && t) ≡ is_left (cond (is_op op ops.End && t) ops.Drop op)
 mover_left ops.End true = refl
 mover_left ops.End false = refl
 mover_left ops.Noop t = refl
@@ -98,7 +81,7 @@ pub lefts_is : (op : Op) (x : List ℕ) → (is_op op ops.End ≡ true → IsEnd
 unfolding shifts_left
 lefts_is op x ends =
     ap (λ n. felt_add n (felt_mul (hot op ops.End) (h x 4))) (set_is op is_left)
-    ∙ ap (felt_add (cond (is_left op) 1 0)) (tested (is_op op ops.End) (h x 4) (λ is. (ends is).bits 0 (lit< tt)))
+    ∙ ap (felt_add (cond (is_left op) 1 0)) (tested_bit (is_op op ops.End) (h x 4) (λ is. (ends is).bits 0 (lit< tt)))
     ∙ left_or_end (is_left op) (ends_loop op x) (left_apart op (eqb (h x 4) 1)) ∙ ap (λ t. cond t 1 0) (mover_left op (eqb (h x 4) 1))
 
 none_of : (r l k e : Bool) → r && l ≡ false → (r || l) && k ≡ false → (r || l || k) && e ≡ false
@@ -118,10 +101,6 @@ none_of false false true true first second third = never third
 right_or_left : (op : Op) (x : List ℕ) → is_right op && is_left (mover op x) ≡ false
 right_or_left ops.End x = refl
 right_or_left op x = refl
-
-and_false : (t : Bool) → t && false ≡ false
-and_false true = refl
-and_false false = refl
 
 shift_or_call : (op : Op) (x : List ℕ) → (is_right op || is_left (mover op x)) && is_call_op op ≡ false
 shift_or_call ops.End x = and_false (is_left (mover ops.End x))
@@ -145,10 +124,7 @@ move_or_end op x ends = and_false (is_right op || is_left op || is_call_op op)
 pub keeps_is : (op : Op) (x : List ℕ) → (is_op op ops.End ≡ true → IsEndRow x) → keeps_depth (hot op) x ≡ cond (keeps_stack op x) 1 0
 unfolding keeps_depth
 keeps_is op x ends =
-    ap (λ n. felt_sub (felt_sub (felt_sub (felt_sub 1 n) (shifts_left (hot op) x)) (calls (hot op))) (returns (hot op) x)) (rights_is op)
-    ∙ ap (λ n. felt_sub (felt_sub (felt_sub (felt_sub 1 (cond (is_right op) 1 0)) n) (calls (hot op))) (returns (hot op) x)) (lefts_is op x ends)
-    ∙ ap (λ n. felt_sub (felt_sub (felt_sub (felt_sub 1 (cond (is_right op) 1 0)) (cond (is_left (mover op x)) 1 0)) n) (returns (hot op) x)) (calls_is op)
-    ∙ ap (λ n. felt_sub (felt_sub (felt_sub (felt_sub 1 (cond (is_right op) 1 0)) (cond (is_left (mover op x)) 1 0)) (cond (is_call_op op) 1 0)) n) (returns_is op x ends)
+    same_four (λ r l c e. felt_sub (felt_sub (felt_sub (felt_sub 1 r) l) c) e) (rights_is op) (lefts_is op x ends) (calls_is op) (returns_is op x ends)
     ∙ none_of (is_right op) (is_left (mover op x)) (is_call_op op) (ends_call op x) (right_or_left op x) (shift_or_call op x) (move_or_end op x ends)
 
 -- ---- depth and key
@@ -167,14 +143,10 @@ pub says_116 : (op next : Op) (x y : List ℕ) → Low x → Low y → (is_op op
     × (is_call_op op ≡ true → depth y ≡ 16) × (keeps_stack op x ≡ true → depth y ≡ depth x))
 unfolding entry_116
 says_116 op next x y low low_next ends witness =
-    let dy : ℕ = depth y in
-    let dx : ℕ = depth x in
     says_of
-    (ap (λ n. felt_add (felt_add (felt_add (felt_mul n (felt_sub (felt_sub (depth y) (depth x)) 1)) (felt_mul (shifts_left (hot op) x) (felt_add (felt_sub (depth y) (depth x)) (deeper x)))) (felt_mul (calls (hot op)) (felt_sub (depth y) 16))) (felt_mul (keeps_depth (hot op) x) (felt_sub (depth y) (depth x)))) (rights_is op)
-    ∙ ap (λ n. felt_add (felt_add (felt_add (felt_mul (cond (is_right op) 1 0) (felt_sub (felt_sub (depth y) (depth x)) 1)) (felt_mul n (felt_add (felt_sub (depth y) (depth x)) (deeper x)))) (felt_mul (calls (hot op)) (felt_sub (depth y) 16))) (felt_mul (keeps_depth (hot op) x) (felt_sub (depth y) (depth x)))) (lefts_is op x ends)
-    ∙ ap (λ n. felt_add (felt_add (felt_add (felt_mul (cond (is_right op) 1 0) (felt_sub (felt_sub (depth y) (depth x)) 1)) (felt_mul (cond (is_left (mover op x)) 1 0) (felt_add (felt_sub (depth y) (depth x)) n))) (felt_mul (calls (hot op)) (felt_sub (depth y) 16))) (felt_mul (keeps_depth (hot op) x) (felt_sub (depth y) (depth x)))) (deeper_is x low witness)
-    ∙ ap (λ n. felt_add (felt_add (felt_add (felt_mul (cond (is_right op) 1 0) (felt_sub (felt_sub (depth y) (depth x)) 1)) (felt_mul (cond (is_left (mover op x)) 1 0) (felt_add (felt_sub (depth y) (depth x)) (cond (is_deeper x) 1 0)))) (felt_mul n (felt_sub (depth y) 16))) (felt_mul (keeps_depth (hot op) x) (felt_sub (depth y) (depth x)))) (calls_is op)
-    ∙ ap (λ n. felt_add (felt_add (felt_add (felt_mul (cond (is_right op) 1 0) (felt_sub (felt_sub (depth y) (depth x)) 1)) (felt_mul (cond (is_left (mover op x)) 1 0) (felt_add (felt_sub (depth y) (depth x)) (cond (is_deeper x) 1 0)))) (felt_mul (cond (is_call_op op) 1 0) (felt_sub (depth y) 16))) (felt_mul n (felt_sub (depth y) (depth x)))) (keeps_is op x ends))
+    (same_five (λ r l o c n. felt_add (felt_add (felt_add (felt_mul r (felt_sub (felt_sub (depth y) (depth x)) 1)) (felt_mul l (felt_add (felt_sub (depth y) (depth x)) o)))
+    (felt_mul c (felt_sub (depth y) 16))) (felt_mul n (felt_sub (depth y) (depth x))))
+    (rights_is op) (lefts_is op x ends) (deeper_is x low witness) (calls_is op) (keeps_is op x ends))
     (four_say (is_right op) (is_left (mover op x)) (is_call_op op) (keeps_stack op x) (right_or_left op x) (shift_or_call op x)
     (any_or_none (is_right op || is_left (mover op x) || is_call_op op) (ends_call op x))
     (sub_twice_says (depth y) (depth x) 1 (low_next 46) (low 46) (lit< tt)) (less_says (is_deeper x) (depth y) (depth x) (low_next 46) (low 46))
@@ -192,10 +164,8 @@ pub says_118 : (op next : Op) (x y : List ℕ) → Low x → Low y → (is_op op
 unfolding entry_118
 says_118 op next x y low low_next ends witness =
     says_of
-    (ap (λ n. felt_add (felt_add (felt_add (felt_mul n (felt_sub (key y) (clk x))) (felt_mul (felt_mul (shifts_left (hot op) x) (felt_sub 1 (deeper x))) (felt_sub (key y) (key x)))) (felt_mul (calls (hot op)) (key y))) (felt_mul (keeps_depth (hot op) x) (felt_sub (key y) (key x)))) (rights_is op)
-    ∙ ap (λ n. felt_add (felt_add (felt_add (felt_mul (cond (is_right op) 1 0) (felt_sub (key y) (clk x))) n) (felt_mul (calls (hot op)) (key y))) (felt_mul (keeps_depth (hot op) x) (felt_sub (key y) (key x)))) left_part
-    ∙ ap (λ n. felt_add (felt_add (felt_add (felt_mul (cond (is_right op) 1 0) (felt_sub (key y) (clk x))) (felt_mul (cond (is_left (mover op x)) 1 0) (felt_mul (cond (eqb (depth x) 16) 1 0) (felt_sub (key y) (key x))))) (felt_mul n (key y))) (felt_mul (keeps_depth (hot op) x) (felt_sub (key y) (key x)))) (calls_is op)
-    ∙ ap (λ n. felt_add (felt_add (felt_add (felt_mul (cond (is_right op) 1 0) (felt_sub (key y) (clk x))) (felt_mul (cond (is_left (mover op x)) 1 0) (felt_mul (cond (eqb (depth x) 16) 1 0) (felt_sub (key y) (key x))))) (felt_mul (cond (is_call_op op) 1 0) (key y))) (felt_mul n (felt_sub (key y) (key x)))) (keeps_is op x ends))
+    (same_four (λ r l c n. felt_add (felt_add (felt_add (felt_mul r (felt_sub (key y) (clk x))) l) (felt_mul c (key y))) (felt_mul n (felt_sub (key y) (key x))))
+    (rights_is op) left_part (calls_is op) (keeps_is op x ends))
     (four_say (is_right op) (is_left (mover op x)) (is_call_op op) (keeps_stack op x) (right_or_left op x) (shift_or_call op x)
     (any_or_none (is_right op || is_left (mover op x) || is_call_op op) (ends_call op x))
     (sub_says (key y) (clk x) (low_next 47) (low 0)) (gate_says (eqb (depth x) 16) (sub_says (key y) (key x) (low_next 47) (low 47)))
@@ -218,9 +188,11 @@ says_135 op next x y low low_next =
 pub says_136 : (op next : Op) (x y : List ℕ) → Low x → Low y → Says (entry_136 (hot op) (hot next) x y) (is_op op ops.Eq ≡ true → (s x 0 ≡ s x 1) ⊎ (s y 0 ≡ 0))
 unfolding entry_136
 says_136 op next x y low low_next =
-    gate_product_says (is_op op ops.Eq) (felt_sub (s x 0) (s x 1)) (s y 0) (rest_low _) (mul_says (sub_says (s x 0) (s x 1) (low 30) (low 31)) (zero_says (s y 0) (low_next 30)))
+    gate_product_says (is_op op ops.Eq) (felt_sub (s x 0) (s x 1)) (s y 0) (rest_low _)
+    (mul_says (sub_says (s x 0) (s x 1) (low 30) (low 31)) (zero_says (s y 0) (low_next 30)))
 
-tops_is : (op : Op) → felt_add (felt_add (felt_add (felt_add (hot op ops.Not) (hot op ops.And)) (hot op ops.Or)) (hot op ops.CSwap)) (hot op ops.CSwapW) ≡ cond (tests_top op) 1 0
+tops_is : (op : Op) → felt_add (felt_add (felt_add (felt_add (hot op ops.Not) (hot op ops.And)) (hot op ops.Or)) (hot op ops.CSwap))
+    (hot op ops.CSwapW) ≡ cond (tests_top op) 1 0
 tops_is ops.Not = refl
 tops_is op = refl
 

@@ -1,12 +1,12 @@
 -- Which operation may follow which, from the entries 60 and 62 to 66, and back.
-use Rattle.std.proofs.Common.{◌≡◌, ◌⊎◌, ℕ, zero, suc, ◌<◌, ◌%◌, Bool, true, false, ◌&&◌, ◌||◌, not, cond, eqb, List, refl, sym, ap, ◌∙◌, inl, inr, ⊎_elim, arith, lit<}
+use Rattle.std.proofs.Common.{◌≡◌, ◌⊎◌, ℕ, zero, suc, ◌<◌, Bool, true, false, ◌&&◌, ◌||◌, not, cond, eqb, List, refl, sym, ap, ◌∙◌, inl, inr, arith, lit<, ap₂}
 use Rattle.vm_field.specs.Field.{prime, felt_add, felt_sub, felt_mul}
-use Rattle.vm_ops.specs.Codes.{code_of, is_ordinary_op, is_start_op}
+use Rattle.vm_ops.specs.Codes.{is_ordinary_op, is_start_op}
 use Rattle.vm_ops.specs.declared.op.Op.{Op}
 use Rattle.vm_ops.specs.declared.op.Op.TheVariants as ops
 use Rattle.vm_table.specs.MainColumns.{s, sp}
 use Rattle.air_kit.specs.Flags.{is_op}
-use Rattle.air_kit.specs.BlockValues.{starts, batches, calls, entry_60, entry_62, entry_63, entry_64, entry_65, entry_66}
+use Rattle.air_kit.specs.BlockValues.{starts, calls, entry_60, entry_62, entry_63, entry_64, entry_65, entry_66}
 use Rattle.air_kit.specs.MainTuples.{is_call_op, is_batch_op}
 use Rattle.row_facts.specs.Follows.{may_follow}
 use Rattle.row_facts.proofs.Says.{Says, says_of, off, never, rest_low, none_is, sub_says, zero_says, mul_says, gate_says, gate_product_says, sum_says, test_says, fails_says, passes_says}
@@ -17,7 +17,8 @@ use Rattle.row_facts.proofs.BatchFacts.{batches_is}
 abbrev pub nests : Op → Bool
 nests op = is_op op ops.Join || is_op op ops.Split || is_call_op op || is_op op ops.Repeat
 
-nests_is : (op : Op) → felt_add (felt_add (felt_add (hot op ops.Join) (hot op ops.Split)) (felt_add (hot op ops.Call) (hot op ops.Syscall))) (hot op ops.Repeat) ≡ cond (nests op) 1 0
+nests_is : (op : Op) → felt_add (felt_add (felt_add (hot op ops.Join) (hot op ops.Split)) (felt_add (hot op ops.Call) (hot op ops.Syscall)))
+    (hot op ops.Repeat) ≡ cond (nests op) 1 0
 nests_is ops.Join = refl
 nests_is op = refl
 
@@ -30,7 +31,8 @@ behind_operation : (next : Op) → felt_sub (felt_sub (felt_sub 1 (cond (is_ordi
 behind_operation ops.Join = refl
 behind_operation next = refl
 
-behind_end : (next : Op) → felt_sub (felt_sub (felt_sub (felt_sub 1 (cond (is_start_op next) 1 0)) (hot next ops.End)) (hot next ops.Repeat)) (hot next ops.Halt)
+behind_end : (next : Op) → felt_sub (felt_sub (felt_sub (felt_sub 1 (cond (is_start_op next) 1 0)) (hot next ops.End)) (hot next ops.Repeat))
+    (hot next ops.Halt)
     ≡ cond (not (is_start_op next || is_op next ops.End || is_op next ops.Repeat || is_op next ops.Halt)) 1 0
 behind_end ops.Join = refl
 behind_end next = refl
@@ -54,7 +56,8 @@ unfolding entry_62 calls
 says_62 op next x y low =
     mul_says
     (says_of (ap (λ n. felt_add n (felt_mul (hot op ops.Loop) (s x 0))) (nests_is op))
-    (sum_says (either_off (nests op) (is_op op ops.Loop) (s x 0) (one_nests op)) (test_says (nests op)) (gate_says (is_op op ops.Loop) (zero_says (s x 0) low))))
+    (sum_says (either_off (nests op) (is_op op ops.Loop) (s x 0) (one_nests op)) (test_says (nests op))
+    (gate_says (is_op op ops.Loop) (zero_says (s x 0) low))))
     (says_of (ap (λ n. felt_sub 1 n) (starts_is next)) (passes_says (is_start_op next)))
 
 pub says_63 : (op next : Op) (x y : List ℕ) → s x 0 < prime
@@ -68,7 +71,7 @@ pub says_64 : (op next : Op) (x y : List ℕ) → sp y ≡ cond (is_ordinary_op 
     → Says (entry_64 (hot op) (hot next) x y) (is_batch_op op ≡ true → is_ordinary_op next ≡ true)
 unfolding entry_64
 says_64 op next x y span =
-    says_of (ap (λ n. felt_mul n (felt_sub 1 (sp y))) (batches_is op) ∙ ap (λ n. felt_mul (cond (is_batch_op op) 1 0) (felt_sub 1 n)) span)
+    says_of (ap₂ (λ n m. felt_mul n (felt_sub 1 m)) (batches_is op) span)
     (gate_says (is_batch_op op) (passes_says (is_ordinary_op next)))
 
 pub says_65 : (op next : Op) (x y : List ℕ) → sp x ≡ cond (is_ordinary_op op) 1 0 → sp y ≡ cond (is_ordinary_op next) 1 0
@@ -76,18 +79,18 @@ pub says_65 : (op next : Op) (x y : List ℕ) → sp x ≡ cond (is_ordinary_op 
 unfolding entry_65
 says_65 op next x y span span_next =
     says_of
-    (ap (λ n. felt_mul n (felt_sub (felt_sub (felt_sub 1 (sp y)) (hot next ops.End)) (hot next ops.Respan))) span
-    ∙ ap (λ n. felt_mul (cond (is_ordinary_op op) 1 0) (felt_sub (felt_sub (felt_sub 1 n) (hot next ops.End)) (hot next ops.Respan))) span_next
-    ∙ ap (λ n. felt_mul (cond (is_ordinary_op op) 1 0) n) (behind_operation next))
+    (ap₂ (λ n m. felt_mul n m) span
+    (ap (λ n. felt_sub (felt_sub (felt_sub 1 n) (hot next ops.End)) (hot next ops.Respan)) span_next ∙ behind_operation next))
     (gate_says (is_ordinary_op op) (fails_says (is_ordinary_op next || is_op next ops.End || is_op next ops.Respan)))
 
 pub says_66 : (op next : Op) (x y : List ℕ)
-    → Says (entry_66 (hot op) (hot next) x y) (is_op op ops.End ≡ true → is_start_op next || is_op next ops.End || is_op next ops.Repeat || is_op next ops.Halt ≡ true)
+    → Says (entry_66 (hot op) (hot next) x y) (is_op op ops.End ≡ true
+    → is_start_op next || is_op next ops.End || is_op next ops.Repeat || is_op next ops.Halt ≡ true)
 unfolding entry_66
 says_66 op next x y =
     says_of
-    (ap (λ n. felt_mul (hot op ops.End) (felt_sub (felt_sub (felt_sub (felt_sub 1 n) (hot next ops.End)) (hot next ops.Repeat)) (hot next ops.Halt))) (starts_is next)
-    ∙ ap (λ n. felt_mul (hot op ops.End) n) (behind_end next))
+    (ap (felt_mul (hot op ops.End))
+    (ap (λ n. felt_sub (felt_sub (felt_sub (felt_sub 1 n) (hot next ops.End)) (hot next ops.Repeat)) (hot next ops.Halt)) (starts_is next) ∙ behind_end next))
     (gate_says (is_op op ops.End) (fails_says (is_start_op next || is_op next ops.End || is_op next ops.Repeat || is_op next ops.Halt)))
 
 -- what these entries say together
@@ -158,8 +161,40 @@ follow_from ops.Loop next top low m = record {
   ordinary = λ h. off h;
   ends = λ h. off h;
 }
-follow_from ops.Span next top low m = record { halt = refl; inner = inl (refl, λ h. off h); skips = λ h. off h; batch = λ h. m; ordinary = λ h. off h; ends = λ h. off h }
-follow_from ops.Respan next top low m = record { halt = refl; inner = inl (refl, λ h. off h); skips = λ h. off h; batch = λ h. m; ordinary = λ h. off h; ends = λ h. off h }
-follow_from ops.End next top low m = record { halt = refl; inner = inl (refl, λ h. off h); skips = λ h. off h; batch = λ h. off h; ordinary = λ h. off h; ends = λ h. m }
+follow_from ops.Span next top low m = record {
+  halt = refl;
+  inner = inl
+      (refl, λ h. off h);
+  skips = λ h. off h;
+  batch = λ h. m;
+  ordinary = λ h. off h;
+  ends = λ h. off h;
+}
+follow_from ops.Respan next top low m = record {
+  halt = refl;
+  inner = inl
+      (refl, λ h. off h);
+  skips = λ h. off h;
+  batch = λ h. m;
+  ordinary = λ h. off h;
+  ends = λ h. off h;
+}
+follow_from ops.End next top low m = record {
+  halt = refl;
+  inner = inl
+      (refl, λ h. off h);
+  skips = λ h. off h;
+  batch = λ h. off h;
+  ordinary = λ h. off h;
+  ends = λ h. m;
+}
 follow_from ops.Halt next top low m = off m
-follow_from op next top low m = record { halt = refl; inner = inl (refl, λ h. off h); skips = λ h. off h; batch = λ h. off h; ordinary = λ h. m; ends = λ h. off h }
+follow_from op next top low m = record {
+  halt = refl;
+  inner = inl
+      (refl, λ h. off h);
+  skips = λ h. off h;
+  batch = λ h. off h;
+  ordinary = λ h. m;
+  ends = λ h. off h;
+}

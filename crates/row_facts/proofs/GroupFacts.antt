@@ -1,5 +1,5 @@
 -- What the entries 107 to 114 say where they are 0: how the rows of ordinary operations take the digits of a group.
-use Rattle.std.proofs.Common.{◌≡◌, ◌≢◌, ◌⊎◌, ℕ, zero, suc, ◌+◌, ◌-◌, ◌*◌, ◌%◌, ◌<◌, ◌≤◌, Bool, true, false, ◌&&◌, ◌||◌, not, cond, eqb, List, slice_index, refl, sym, ap, subst, ◌∙◌, inl, inr, ⊎_elim, arith, lit<}
+use Rattle.std.proofs.Common.{◌≡◌, ◌≢◌, ◌⊎◌, ℕ, ◌+◌, ◌*◌, ◌<◌, ◌≤◌, Bool, true, false, ◌||◌, not, cond, eqb, List, refl, sym, ap, subst, ◌∙◌, inl, inr, ⊎_elim, arith, lit<, ap₂}
 use Rattle.std.proofs.lemmas.Bool.{cases_Bool, eqb-true}
 use Rattle.std.proofs.lemmas.Bool.Decides.{nat_tests}
 use Rattle.vm_field.specs.Field.{prime, felt_add, felt_sub, felt_mul}
@@ -11,14 +11,15 @@ use Rattle.vm_table.specs.MainColumns.{b, h, sp, gc, ox, w}
 use Rattle.air_kit.specs.Flags.{HasOp, is_op, spelled}
 use Rattle.air_kit.specs.SpanValues.{opcode_in, rest, rest_flag, goes_on, entry_107, entry_108, entry_109, entry_110, entry_111, entry_112, entry_113, entry_114}
 use Rattle.row_facts.specs.Groups.{IsGroupRow, GoesOn, stays, pushes, opens, ends}
-use Rattle.row_facts.proofs.Says.{Says, says_of, says_as, off, never, rest_low, none_is, zero_says, sub_says, sub_twice_says, mul_says, gate_says, gate_product_says, gate_product_says_if, regate, test_says, passes_says, not_is}
+use Rattle.row_facts.proofs.Says.{Says, says_of, says_as, off, never, rest_low, none_is, zero_says, sub_says, sub_twice_says, mul_says, gate_says, gate_product_says, gate_product_says_if, regate, test_says, passes_says, either_or}
 use Rattle.row_facts.proofs.Hot.{hot}
 use Rattle.row_facts.proofs.BlockFacts.{Low}
 
 -- ---- the number of the operation, and what is left of the group
 
 code_by : (i j k l m n o : ℕ) → i < 2 → j < 2 → k < 2 → l < 2 → m < 2 → n < 2 → o < 2
-    → felt_add (felt_add (felt_add (felt_add (felt_add (felt_add i (felt_mul 2 j)) (felt_mul 4 k)) (felt_mul 8 l)) (felt_mul 16 m)) (felt_mul 32 n)) (felt_mul 64 o)
+    → felt_add (felt_add (felt_add (felt_add (felt_add (felt_add i (felt_mul 2 j)) (felt_mul 4 k)) (felt_mul 8 l)) (felt_mul 16 m)) (felt_mul 32 n))
+    (felt_mul 64 o)
     ≡ i + 2 * (j + 2 * (k + 2 * (l + 2 * (m + 2 * (n + 2 * (o + 2 * 0))))))
 code_by i j k l m n o hi hj hk hl hm hn ho = omega (arith, hi, hj, hk, hl, hm, hn, ho)
 
@@ -47,7 +48,7 @@ flag_by_witness i k w low witness =
       | inr other ↦ rw other (witness (λ e. let t : eqb i k ≡ true = grind (arith, nat_tests, e) in never (sym t ∙ other)))
     ]
 
-flag_is : (op : Op) (x : List ℕ) → HasOp x op → Low x → IsGroupRow op x → rest_flag x ≡ cond (is_left_over op x) 1 0
+pub flag_is : (op : Op) (x : List ℕ) → HasOp x op → Low x → IsGroupRow op x → rest_flag x ≡ cond (is_left_over op x) 1 0
 unfolding rest_flag
 flag_is op x has low row =
     ap (λ n. felt_mul n (w x 3)) (rest_is op x has) ∙ flag_by_witness (h x 0) (code_of op) (w x 3) (low 16) row.witness
@@ -69,13 +70,6 @@ goes_is op x has low row =
 
 -- ---- the row
 
-pub either_or : (i k : ℕ) → (i ≡ k) ⊎ (i ≢ k)
-either_or i k =
-    elim (cases_Bool (eqb i k)) [
-      | inl is ↦ inl (eqb-true i k is)
-      | inr other ↦ inr (λ e. let t : eqb i k ≡ true = grind (arith, nat_tests, e) in never (sym t ∙ other))
-    ]
-
 unless : (i k v : ℕ) → (i ≡ k) ⊎ (1 ≡ v) → i ≢ k → v ≡ 1
 unless i k v (inl e) apart = absurd (apart e)
 unless i k v (inr e) apart = sym e
@@ -85,8 +79,7 @@ pub says_107 : (op : Op) (x : List ℕ) → HasOp x op → Low x → sp x ≡ co
 unfolding entry_107 rest_flag
 says_107 op x has low span =
     says_of
-    (ap (λ n. felt_mul (felt_mul n (rest x)) (felt_sub 1 (felt_mul (rest x) (w x 3)))) span
-    ∙ ap (λ n. felt_mul (felt_mul (cond (is_ordinary_op op) 1 0) n) (felt_sub 1 (felt_mul n (w x 3)))) (rest_is op x has))
+    (ap₂ (λ n m. felt_mul (felt_mul n m) (felt_sub 1 (felt_mul m (w x 3)))) span (rest_is op x has))
     (says_as
     (gate_product_says (is_ordinary_op op) z (felt_sub 1 (felt_mul z (w x 3))) (rest_low _)
     (mul_says (sub_says (h x 0) (code_of op) (low 16) (code_low op)) (sub_says 1 (felt_mul z (w x 3)) (lit< tt) (rest_low _))))
@@ -99,7 +92,8 @@ says_107 op x has low span =
 -- one more place
 place_more : {u : ℕ} (t : Bool) (v k : ℕ) → v < prime → k < prime → Says u (t ≡ true → v < k) → Says (felt_mul u (felt_sub v k)) (t ≡ true → v < k + 1)
 place_more t v k low few s =
-    says_as (mul_says s (sub_says v k low few)) (λ h is. one h is) (λ f. ⊎_elim (λ e. inr e) (λ apart. inl (λ is. let m : v < k + 1 = f is in omega (arith, m, apart))) (either_or v k))
+    says_as (mul_says s (sub_says v k low few)) (λ h is. one h is) (λ f. ⊎_elim (λ e. inr e)
+    (λ apart. inl (λ is. let m : v < k + 1 = f is in omega (arith, m, apart))) (either_or v k))
   where
     one : (t ≡ true → v < k) ⊎ (v ≡ k) → t ≡ true → v < k + 1
     one (inl f) is = let m : v < k = f is in omega (arith, m)
@@ -109,9 +103,11 @@ pub says_114 : (op : Op) (x : List ℕ) → Low x → sp x ≡ cond (is_ordinary
 unfolding entry_114
 says_114 op x low span =
     says_of
-    (ap (λ n. felt_mul (felt_mul (felt_mul (felt_mul (felt_mul (felt_mul (felt_mul (felt_mul (felt_mul n (ox x)) (felt_sub (ox x) 1)) (felt_sub (ox x) 2)) (felt_sub (ox x) 3)) (felt_sub (ox x) 4)) (felt_sub (ox x) 5)) (felt_sub (ox x) 6)) (felt_sub (ox x) 7)) (felt_sub (ox x) 8)) span)
+    (ap (λ n. felt_mul (felt_mul (felt_mul (felt_mul (felt_mul (felt_mul (felt_mul (felt_mul (felt_mul n (ox x)) (felt_sub (ox x) 1)) (felt_sub (ox x) 2))
+    (felt_sub (ox x) 3)) (felt_sub (ox x) 4)) (felt_sub (ox x) 5)) (felt_sub (ox x) 6)) (felt_sub (ox x) 7)) (felt_sub (ox x) 8)) span)
     (says_as
-    (more 8 (lit< tt) (more 7 (lit< tt) (more 6 (lit< tt) (more 5 (lit< tt) (more 4 (lit< tt) (more 3 (lit< tt) (more 2 (lit< tt) (more 1 (lit< tt) first))))))))
+    (more 8 (lit< tt) (more 7 (lit< tt) (more 6 (lit< tt) (more 5 (lit< tt)
+    (more 4 (lit< tt) (more 3 (lit< tt) (more 2 (lit< tt) (more 1 (lit< tt) first))))))))
     (λ f is. let m : ox x < 9 = f is in omega (arith, m)) (λ f is. let m : ox x ≤ 8 = f is in omega (arith, m)))
   where
     t : Bool
@@ -135,8 +131,7 @@ pub says_108 : (op next : Op) (x y : List ℕ) → HasOp x op → Low x → (is_
 unfolding entry_108
 says_108 op next x y has low row span span_next =
     says_of
-    (ap (λ n. felt_mul (felt_mul n (goes_on (hot op) x)) (felt_sub 1 (sp y))) span
-    ∙ ap (λ n. felt_mul (felt_mul (cond (is_ordinary_op op) 1 0) (goes_on (hot op) x)) (felt_sub 1 n)) span_next)
+    (ap₂ (λ n m. felt_mul (felt_mul n (goes_on (hot op) x)) (felt_sub 1 m)) span span_next)
     (gate_product_says_if (is_ordinary_op op) (goes_on (hot op) x) (felt_sub 1 (cond (is_ordinary_op next) 1 0)) (goes_low op x)
     (λ is. mul_says (says_of (goes_is op x has low (row is)) (test_says (goes op x))) (passes_says (is_ordinary_op next))))
 
@@ -150,10 +145,10 @@ pub says_109 : (op next : Op) (x y : List ℕ) → HasOp x op → Low x → (is_
 unfolding entry_109
 says_109 op next x y has low row span =
     says_of
-    (ap (λ n. felt_mul (felt_mul n (goes_on (hot op) x)) (felt_sub (felt_mul 128 (h y 0)) (rest x))) span
-    ∙ ap (λ n. felt_mul (felt_mul (cond (is_ordinary_op op) 1 0) (goes_on (hot op) x)) (felt_sub (felt_mul 128 (h y 0)) n)) (rest_is op x has))
+    (ap₂ (λ n m. felt_mul (felt_mul n (goes_on (hot op) x)) (felt_sub (felt_mul 128 (h y 0)) m)) span (rest_is op x has))
     (gate_product_says_if (is_ordinary_op op) (goes_on (hot op) x) (felt_sub (felt_mul 128 (h y 0)) (felt_sub (h x 0) (code_of op))) (goes_low op x)
-    (λ is. mul_says (says_of (goes_is op x has low (row is)) (test_says (goes op x))) (turn (felt_mul 128 (h y 0)) (h x 0) (code_of op) (low 16) (code_low op) (rest_low _))))
+    (λ is. mul_says (says_of (goes_is op x has low (row is)) (test_says (goes op x)))
+    (turn (felt_mul 128 (h y 0)) (h x 0) (code_of op) (low 16) (code_low op) (rest_low _))))
 
 pub says_110 : (op next : Op) (x y : List ℕ) → HasOp x op → Low x → Low y → (is_ordinary_op op ≡ true → IsGroupRow op x)
     → sp x ≡ cond (is_ordinary_op op) 1 0
@@ -174,10 +169,10 @@ pub says_111 : (op next : Op) (x y : List ℕ) → HasOp x op → Low x → Low 
 unfolding entry_111
 says_111 op next x y has low low_next row span span_next =
     says_of
-    (ap (λ n. felt_mul (felt_mul (felt_mul n (felt_sub 1 (goes_on (hot op) x))) (sp y)) (ox y)) span
-    ∙ ap (λ n. felt_mul (felt_mul (felt_mul (cond (is_ordinary_op op) 1 0) (felt_sub 1 (goes_on (hot op) x))) n) (ox y)) span_next)
+    (ap₂ (λ n m. felt_mul (felt_mul (felt_mul n (felt_sub 1 (goes_on (hot op) x))) m) (ox y)) span span_next)
     (three_gated (is_ordinary_op op) (felt_sub 1 (goes_on (hot op) x)) (cond (is_ordinary_op next) 1 0) (ox y) (rest_low _)
-    (λ is. mul_says (mul_says (says_of (ap (λ n. felt_sub 1 n) (goes_is op x has low (row is))) (passes_says (goes op x))) (test_says (is_ordinary_op next))) (zero_says (ox y) (low_next 26))))
+    (λ is. mul_says (mul_says (says_of (ap (λ n. felt_sub 1 n) (goes_is op x has low (row is))) (passes_says (goes op x))) (test_says (is_ordinary_op next)))
+    (zero_says (ox y) (low_next 26))))
 
 pub says_112 : (op next : Op) (x y : List ℕ) → Low x
     → sp x ≡ cond (is_ordinary_op op) 1 0 → sp y ≡ cond (is_ordinary_op next) 1 0
@@ -185,8 +180,7 @@ pub says_112 : (op next : Op) (x y : List ℕ) → Low x
 unfolding entry_112
 says_112 op next x y low span span_next =
     says_of
-    (ap (λ n. felt_mul (felt_mul n (felt_sub 1 (sp y))) (gc x)) span
-    ∙ ap (λ n. felt_mul (felt_mul (cond (is_ordinary_op op) 1 0) (felt_sub 1 n)) (gc x)) span_next)
+    (ap₂ (λ n m. felt_mul (felt_mul n (felt_sub 1 m)) (gc x)) span span_next)
     (gate_product_says (is_ordinary_op op) (felt_sub 1 (cond (is_ordinary_op next) 1 0)) (gc x) (rest_low _)
     (mul_says (passes_says (is_ordinary_op next)) (zero_says (gc x) (low 25))))
 
@@ -205,9 +199,9 @@ pub says_113 : (op next : Op) (x y : List ℕ) → HasOp x op → Low x → Low 
 unfolding entry_113
 says_113 op next x y has low low_next row span span_next =
     says_of
-    (ap (λ n. felt_mul (felt_mul n (sp y)) (felt_sub (felt_add (felt_add (felt_sub (gc y) (gc x)) (hot op ops.Push)) 1) (goes_on (hot op) x))) span
-    ∙ ap (λ n. felt_mul (felt_mul (cond (is_ordinary_op op) 1 0) n) (felt_sub (felt_add (felt_add (felt_sub (gc y) (gc x)) (hot op ops.Push)) 1) (goes_on (hot op) x))) span_next)
-    (gate_product_says_if (is_ordinary_op op) (cond (is_ordinary_op next) 1 0) (felt_sub (felt_add (felt_add (felt_sub (gc y) (gc x)) (hot op ops.Push)) 1) (goes_on (hot op) x)) (test_says (is_ordinary_op next)).low
+    (ap₂ (λ n m. felt_mul (felt_mul n m) (felt_sub (felt_add (felt_add (felt_sub (gc y) (gc x)) (hot op ops.Push)) 1) (goes_on (hot op) x))) span span_next)
+    (gate_product_says_if (is_ordinary_op op) (cond (is_ordinary_op next) 1 0)
+    (felt_sub (felt_add (felt_add (felt_sub (gc y) (gc x)) (hot op ops.Push)) 1) (goes_on (hot op) x)) (test_says (is_ordinary_op next)).low
     (λ is. mul_says (test_says (is_ordinary_op next))
     (says_of (ap (λ n. felt_sub (felt_add (felt_add (felt_sub (gc y) (gc x)) (hot op ops.Push)) 1) n) (goes_is op x has low (row is)))
     (count_says (is_op op ops.Push) (is_left_over op x) (gc x) (gc y) (low 25) (low_next 25)))))
@@ -242,7 +236,8 @@ same_where i k e = grind (arith, nat_tests)
 other_where : (i k : ℕ) → not (eqb i k) ≡ true → i ≢ k
 other_where i k e same = let t : eqb i k ≡ true = grind (arith, nat_tests, same) in never (sym e ∙ ap not t)
 
-pub goes_shown : (op next : Op) (x y : List ℕ) (u g n : Bool) → is_op op ops.Push ≡ u → is_left_over op x ≡ g → is_ordinary_op next ≡ n → Goes op x y u g n → GoesOn op next x y
+pub goes_shown : (op next : Op) (x y : List ℕ) (u g n : Bool) → is_op op ops.Push ≡ u → is_left_over op x ≡ g → is_ordinary_op next ≡ n → Goes op x y u g n
+    → GoesOn op next x y
 goes_shown op next x y true g true eu eg en k = pushes eu en (holds k.rest_of) (holds k.place) (holds k.count)
 goes_shown op next x y true g false eu eg en k = off (holds k.next_row)
 goes_shown op next x y false true true eu eg en k = stays eu en (other_where (h x 0) (code_of op) eg) (holds k.rest_of) (holds k.place) (sym (holds k.count))
@@ -250,10 +245,10 @@ goes_shown op next x y false true false eu eg en k = off (holds k.next_row)
 goes_shown op next x y false false true eu eg en k = opens eu en (same_where (h x 0) (code_of op) eg) (opened k.opens_at) (holds k.count)
 goes_shown op next x y false false false eu eg en k = ends eu en (same_where (h x 0) (code_of op) eg) (holds_not k.ends_at)
 
-is_over : (i k : ℕ) → i ≢ k → not (eqb i k) ≡ true
+pub is_over : (i k : ℕ) → i ≢ k → not (eqb i k) ≡ true
 is_over i k apart = grind (arith, nat_tests)
 
-not_over : (i k : ℕ) → i ≡ k → not (eqb i k) ≡ false
+pub not_over : (i k : ℕ) → i ≡ k → not (eqb i k) ≡ false
 not_over i k e = grind (arith, nat_tests)
 
 moved : (op : Op) (x y : List ℕ) (u g n u1 g1 n1 : Bool) → u ≡ u1 → g ≡ g1 → n ≡ n1 → Goes op x y u1 g1 n1 → Goes op x y u g n

@@ -1,12 +1,11 @@
 -- The flags of a row that has an operation, as tests on the operation.
-use Rattle.std.proofs.Common.{◌≡◌, ℕ, ◌<◌, Bool, true, false, cond, List, refl, sym, ap, ◌∙◌, arith}
+use Rattle.std.proofs.Common.{◌≡◌, ℕ, Bool, cond, List, sym, ap, ◌∙◌, arith}
 use Rattle.std.proofs.lemmas.Bool.Decides.{nat_tests}
 use mathlib.Core.Path.{fun_ext}
-use Rattle.vm_ops.specs.Codes.{code_of}
 use Rattle.vm_ops.specs.declared.op.Op.{Op}
-use Rattle.air_kit.specs.Flags.{Flags, flag, flags_of, sum_over, is_op, one_hot, HasOp}
+use Rattle.air_kit.specs.Flags.{Flags, flag, flags_of, is_op, one_hot, HasOp}
 use Rattle.air_kit.specs.Places.{RowEntry, PairEntry}
-use Rattle.air_kit.proofs.FlagLemmas.{flags_of-hot, sum_over-hot}
+use Rattle.air_kit.proofs.FlagLemmas.{flags_of-hot}
 use Rattle.row_facts.proofs.Says.{Says, says_of}
 
 abbrev pub hot : Op → Flags
@@ -15,7 +14,7 @@ hot op other = cond (is_op op other) 1 0
 turned : (op other : Op) → one_hot op other ≡ hot op other
 turned op other = grind (arith, nat_tests)
 
-one_hot_is : (op : Op) → one_hot op ≡ hot op
+pub one_hot_is : (op : Op) → one_hot op ≡ hot op
 one_hot_is op = fun_ext (turned op)
 
 pub hot_is : {x : List ℕ} {op : Op} → HasOp x op → flag x ≡ hot op

@@ -11,3 +11,10 @@ pub mod SpotSays
 pub mod Shown
 pub mod Zeroed
 pub mod DepthFacts
+pub mod CellFacts
+pub mod StackFacts
+pub mod PartFacts
+pub mod LimbFacts
+pub mod LimbSpots
+pub mod TableFacts
+pub mod RunFacts

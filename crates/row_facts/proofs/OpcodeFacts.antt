@@ -1,24 +1,18 @@
 -- What the entries on operations and on the positions of a batch say where they are 0.
-use Rattle.std.proofs.Common.{◌≡◌, ◌⊎◌, ℕ, zero, suc, ◌+◌, ◌*◌, ◌-◌, ◌%◌, ◌<◌, ◌≤◌, Bool, true, false, ◌||◌, cond, List, [], ◌∷◌, ◌++◌, length, slice_index, refl, sym, ap, subst, ◌∙◌, inl, inr, arith, lit<}
-use Rattle.std.proofs.lemmas.Bool.{cases_Bool, eqb-true}
-use Rattle.vm_field.specs.Field.{prime, felt_add, felt_sub, felt_mul}
-use Rattle.vm_field.proofs.Prime.{Euclid-prime}
-use Rattle.vm_ops.specs.Codes.{code_of, every_op}
-use Rattle.vm_ops.specs.declared.op.Op.{Op}
-use Rattle.vm_ops.specs.declared.op.Op.TheVariants as ops
-use Rattle.vm_ops.proofs.CodeLemmas.{code_of-different}
+use Rattle.std.proofs.Common.{ℕ, ◌+◌, ◌<◌, [], ◌∷◌, ◌++◌, slice_index}
+use Rattle.vm_field.specs.Field.{prime}
+use Rattle.vm_field.proofs.Algebra.{bit_from_product}
 use Rattle.vm_table.specs.MainColumns.{b, c}
-use Rattle.air_kit.specs.Flags.{Flags, flag, one_hot, op_of, is_op, sum_of, HasOp}
-use Rattle.air_kit.specs.Places.{Claim, Spot, RowEntry, on_row, on_pair, at_first, family}
+use Rattle.air_kit.specs.Flags.{op_of, HasOp}
+use Rattle.air_kit.specs.Places.{Claim, Spot, on_row, on_pair, at_first, family}
 use Rattle.air_kit.specs.OpcodeValues.{opcode_values, entry_1, entry_8, entry_9, entry_10}
 use Rattle.air_kit.specs.BoundaryValues.{boundary_values}
-use Rattle.air_kit.specs.BlockValues.{block_values, batches}
-use Rattle.air_kit.specs.SpanValues.{span_values, batch_values, group_values, entry_92, entry_95, size_flags}
+use Rattle.air_kit.specs.BlockValues.{block_values}
+use Rattle.air_kit.specs.SpanValues.{span_values}
 use Rattle.air_kit.specs.MainValues.{main_values, decoder_values}
-use Rattle.air_kit.specs.MainTuples.{is_batch_op, positions}
 use Rattle.air_kit.specs.StackValues.{stack_values}
 use Rattle.air_kit.specs.U32Values.{u32_values}
-use Rattle.air_kit.proofs.FlagLemmas.{has_op, at_op}
+use Rattle.air_kit.proofs.FlagLemmas.{has_op}
 use Rattle.row_facts.specs.Zero.{AllZero}
 use Rattle.row_facts.proofs.Zeros.{zero_back, zero_family, zero_front}
 
@@ -47,18 +41,10 @@ main_parts c p zeros =
       u32 = zero_back (stack_values p) (u32_values p) rest;
     }
 
--- an element whose product with itself less one is 0 is a bit
-pub bit_from_zero : (a : ℕ) → a < prime → felt_mul a (felt_sub a 1) ≡ 0 → a < 2
-bit_from_zero a low z =
-    elim (Euclid-prime a (felt_sub a 1) z) [
-      | inl left ↦ omega (arith, left, low)
-      | inr right ↦ omega (arith, right, low)
-    ]
-
 pub opcode_bits : (p : Spot) → ((k : ℕ) → slice_index p.cur k < prime) → AllZero (opcode_values p) → (j : ℕ) → j < 7 → b p.cur j < 2
 unfolding opcode_values entry_1
 opcode_bits p low zeros j h =
-    bit_from_zero (b p.cur j) (low (9 + j))
+    bit_from_product (b p.cur j) (low (9 + j))
     (zero_family 7 (λ k. on_row (entry_1 k) p) (zero_front (family 7 (λ k. on_row (entry_1 k) p)) _ zeros) j h)
 
 -- a row whose entries are 0 has the operation that its bits spell

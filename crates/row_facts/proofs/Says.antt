@@ -1,5 +1,5 @@
 -- An element that is 0 exactly where something holds.
-use Rattle.std.proofs.Common.{◌≡◌, ◌⊎◌, ℕ, zero, suc, ◌+◌, ◌-◌, ◌*◌, ◌%◌, ◌<◌, ◌≤◌, Bool, true, false, ◌&&◌, ◌||◌, not, cond, refl, sym, ap, subst, ◌∙◌, inl, inr, ⊎_elim, arith, lit<}
+use Rattle.std.proofs.Common.{◌≡◌, ◌⊎◌, ℕ, zero, suc, ◌+◌, ◌-◌, ◌*◌, ◌%◌, ◌<◌, Bool, true, false, ◌&&◌, ◌||◌, not, cond, refl, sym, ap, subst, ◌∙◌, inl, inr, ⊎_elim, arith, lit<, ◌≢◌, eqb}
 use Rattle.vm_field.specs.Field.{prime, felt_add, felt_sub, felt_mul}
 use Rattle.vm_field.proofs.Algebra.{same_from_sub, felt_sub-same, zero_factor, bit_from_product, felt_mul-zero_first, felt_mul-zero_second}
 
@@ -24,14 +24,39 @@ off h = absurd (let none : ⊥ = cc in none)
 pub never : {A : Type 0} → true ≡ false → A
 never h = absurd (let none : ⊥ = cc in none)
 
+-- two numbers are the same or not
+pub either_or : (i k : ℕ) → (i ≡ k) ⊎ (i ≢ k)
+either_or i k = grind arith
+
+pub none_is : (n : ℕ) → felt_mul 0 n ≡ 0
+none_is n = omega arith
+
+-- a test and a bit
+pub tested_bit : (t : Bool) (n : ℕ) → (t ≡ true → n < 2) → felt_mul (cond t 1 0) n ≡ cond (t && eqb n 1) 1 0
+tested_bit false n low = none_is n
+tested_bit true zero low = refl
+tested_bit true (suc zero) low = refl
+tested_bit true (suc (suc n)) low = let few : suc (suc n) < 2 = low refl in absurd (omega (arith, few))
+
+pub and_false : (t : Bool) → t && false ≡ false
+and_false true = refl
+and_false false = refl
+
 pub rest_low : (n : ℕ) → n % prime < prime
 rest_low n = omega arith
 
 pub once_is : (n : ℕ) → n < prime → felt_mul 1 n ≡ n
 once_is n low = omega arith
 
-pub none_is : (n : ℕ) → felt_mul 0 n ≡ 0
-none_is n = omega arith
+-- a value whose parts are spelled otherwise
+pub same_four : {a b c d a1 b1 c1 d1 : ℕ} (f : ℕ → ℕ → ℕ → ℕ → ℕ) → a ≡ a1 → b ≡ b1 → c ≡ c1 → d ≡ d1 → f a b c d ≡ f a1 b1 c1 d1
+same_four {b = b} {c = c} {d = d} {a1 = a1} {b1 = b1} {c1 = c1} f ea eb ec ed =
+    ap (λ n. f n b c d) ea ∙ ap (λ n. f a1 n c d) eb ∙ ap (λ n. f a1 b1 n d) ec ∙ ap (f a1 b1 c1) ed
+
+pub same_five : {a b c d e a1 b1 c1 d1 e1 : ℕ} (f : ℕ → ℕ → ℕ → ℕ → ℕ → ℕ) → a ≡ a1 → b ≡ b1 → c ≡ c1 → d ≡ d1 → e ≡ e1
+    → f a b c d e ≡ f a1 b1 c1 d1 e1
+same_five {e = e} {a1 = a1} {b1 = b1} {c1 = c1} {d1 = d1} f ea eb ec ed ee =
+    same_four (λ i j k l. f i j k l e) ea eb ec ed ∙ ap (f a1 b1 c1 d1) ee
 
 -- an element by itself
 pub zero_says : (a : ℕ) → a < prime → Says a (a ≡ 0)
@@ -91,7 +116,8 @@ regate false a k low = ap (λ n. felt_mul n k) (none_is a) ∙ none_is k ∙ sym
 pub gate_product_says : {P : Type 0} (t : Bool) (a k : ℕ) → a < prime → Says (felt_mul a k) P → Says (felt_mul (felt_mul (cond t 1 0) a) k) (t ≡ true → P)
 gate_product_says t a k low s = says_of (regate t a k low) (gate_says t s)
 
-pub gate_product_says_if : {P : Type 0} (t : Bool) (a k : ℕ) → a < prime → (t ≡ true → Says (felt_mul a k) P) → Says (felt_mul (felt_mul (cond t 1 0) a) k) (t ≡ true → P)
+pub gate_product_says_if : {P : Type 0} (t : Bool) (a k : ℕ) → a < prime → (t ≡ true → Says (felt_mul a k) P)
+    → Says (felt_mul (felt_mul (cond t 1 0) a) k) (t ≡ true → P)
 gate_product_says_if t a k low s = says_of (regate t a k low) (gate_says_if t (rest_low (a * k)) s)
 
 -- a sum of which one part is 0
@@ -132,7 +158,8 @@ third_off true u true v w z apart = absurd (cc)
 third_off false true true v w z apart = absurd (cc)
 
 pub three_say : {v w z : ℕ} {P Q R : Type 0} (t u r : Bool) → t && u ≡ false → (t || u) && r ≡ false → Says v P → Says w Q → Says z R
-    → Says (felt_add (felt_add (felt_mul (cond t 1 0) v) (felt_mul (cond u 1 0) w)) (felt_mul (cond r 1 0) z)) ((t ≡ true → P) × (u ≡ true → Q) × (r ≡ true → R))
+    → Says (felt_add (felt_add (felt_mul (cond t 1 0) v) (felt_mul (cond u 1 0) w)) (felt_mul (cond r 1 0) z))
+    ((t ≡ true → P) × (u ≡ true → Q) × (r ≡ true → R))
 three_say {v = v} {w = w} {z = z} t u r apart last sv sw sz =
     says_as (sum_says (third_off t u r v w z last) (two_say t u apart sv sw) (gate_says r sz))
     (λ h. (h.0.0, h.0.1, h.1)) (λ h. ((h.0, h.1), h.2))

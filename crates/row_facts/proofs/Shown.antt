@@ -1,27 +1,26 @@
 -- The facts of a row and of the row behind it, from entries that are 0.
-use Rattle.std.proofs.Common.{◌≡◌, ◌⊎◌, ℕ, zero, suc, ◌+◌, ◌-◌, ◌<◌, ◌≤◌, Bool, true, false, ◌||◌, cond, eqb, List, [], ◌∷◌, ◌++◌, Option, Some, None, slice_index, refl, sym, ap, subst, ◌∙◌, inl, inr, arith, lit<}
-use Rattle.vm_field.specs.Field.{prime, felt_add}
-use Rattle.vm_ops.specs.Codes.{code_of, is_ordinary_op, is_start_op}
+use Rattle.std.proofs.Common.{◌≡◌, ◌⊎◌, ℕ, zero, suc, ◌+◌, ◌<◌, ◌≤◌, Bool, true, false, ◌||◌, List, ◌++◌, Some, None, slice_index, refl, subst, inl, inr, arith, lit<}
+use Rattle.vm_field.specs.Field.{felt_add}
+use Rattle.vm_ops.specs.Codes.{is_ordinary_op}
 use Rattle.vm_ops.specs.declared.op.Op.{Op}
 use Rattle.vm_ops.specs.declared.op.Op.TheVariants as ops
-use Rattle.vm_table.specs.MainColumns.{clk, fmp, ctx, sys, f, addr, h, sp, s, ha, lv, gc, ox, c}
-use Rattle.air_kit.specs.Flags.{flag, op_of, is_op}
+use Rattle.vm_table.specs.MainColumns.{clk, f, h, s}
+use Rattle.air_kit.specs.Flags.{op_of, is_op}
 use Rattle.air_kit.specs.Places.{Claim, Spot, on_row, on_pair, at_first, at_last, family}
-use Rattle.air_kit.specs.OpcodeValues.{opcode_values, entry_1, entry_8, entry_9, entry_10}
+use Rattle.air_kit.specs.OpcodeValues.{opcode_values, entry_9, entry_10}
 use Rattle.air_kit.specs.BoundaryValues.{boundary_values, start_values, inputs_values, end_values, outputs_values, entry_11, entry_12, entry_13, entry_14, entry_15, entry_16, entry_20, entry_21, entry_22, entry_23, entry_39, entry_40, entry_41, entry_42, entry_43, entry_44}
 use Rattle.air_kit.specs.BlockValues.{block_values, follow_values, shown_values, kept_values, kind_flags, entry_60, entry_61, entry_62, entry_63, entry_64, entry_65, entry_66, entry_67, entry_68, entry_69, entry_70, entry_74, entry_75, entry_79, entry_80, entry_81, entry_82, entry_83, entry_84, entry_85, entry_89, entry_90, entry_91}
-use Rattle.air_kit.specs.SpanValues.{span_values, batch_values, group_values, entry_92, entry_95, entry_96, entry_103, entry_104, entry_105, entry_106, entry_107, entry_108, entry_109, entry_110, entry_111, entry_112, entry_113, entry_114}
+use Rattle.air_kit.specs.SpanValues.{span_values, batch_values, group_values, entry_96, entry_103, entry_104, entry_105, entry_106, entry_107, entry_108, entry_109, entry_110, entry_111, entry_112, entry_113, entry_114}
 use Rattle.air_kit.specs.MainTuples.{is_batch_op, is_call_op, positions}
 use Rattle.air_kit.specs.MainValues.{decoder_values}
 use Rattle.row_facts.specs.Zero.{AllZero}
 use Rattle.row_facts.specs.Batches.{IsBatchRow, ShowsBatch, OpensBatch}
-use Rattle.row_facts.specs.Blocks.{IsEndRow, IsBlockRow, EntersCall, EntersSyscall, KeepsBlock, KeepsBatch, stays_in_function, keeps_digest, keeps_frame, keeps_block}
+use Rattle.row_facts.specs.Blocks.{IsEndRow, IsBlockRow, KeepsBlock, KeepsBatch, keeps_digest}
 use Rattle.row_facts.specs.Bounds.{IsLowClaim, StartsRun, IsFirstRow, IsLastRow}
 use Rattle.row_facts.specs.Follows.{may_follow}
 use Rattle.row_facts.specs.Groups.{IsGroupRow, GoesOn}
 use Rattle.row_facts.specs.RowFacts.{ReadsAs, Reads, IsRow, IsPair, IsAtSpot}
 use Rattle.row_facts.proofs.Zeros.{zero_front, zero_back, zero_family}
-use Rattle.row_facts.proofs.Says.{Says, off}
 use Rattle.row_facts.proofs.Hot.{row_says}
 use Rattle.row_facts.proofs.OpcodeFacts.{row_has_op}
 use Rattle.row_facts.proofs.BatchFacts.{batch_row_at, some_position, says_96, says_103, says_104, says_105, says_106}
@@ -136,7 +135,8 @@ second_of false u e = e
 pub loop_bit : (op : Op) (x : List ℕ) → IsBlockRow op x → is_op op ops.Loop ≡ true → s x 0 < 2
 loop_bit op x row is = row.condition (second_of (is_op op ops.Split) (is_op op ops.Loop) is)
 
-follows_at : (op : Op) (p : Spot) (y : List ℕ) → Reads op p → IsBlockRow op p.cur → AllZero (block_values p) → p.next ≡ Some y → may_follow op (s p.cur 0) (op_of y) ≡ true
+follows_at : (op : Op) (p : Spot) (y : List ℕ) → Reads op p → IsBlockRow op p.cur → AllZero (block_values p) → p.next ≡ Some y
+    → may_follow op (s p.cur 0) (op_of y) ≡ true
 unfolding block_values follow_values shown_values kept_values family
 follows_at op p y r row zeros e =
     let x : List ℕ = p.cur in
@@ -210,7 +210,8 @@ clock_at : (op : Op) (p : Spot) (y : List ℕ) → Reads op p → AllZero (opcod
 unfolding opcode_values family
 clock_at op p y r zeros e = (pair_at entry_10 r (λ u n. says_10 op (op_of u) p.cur u r.here.low n.low)).shown (zeros 9) y e
 
-pub pair_shown : (op : Op) (p : Spot) (y : List ℕ) → Reads op p → IsRow op p.cur → AllZero (opcode_values p) → AllZero (block_values p) → AllZero (span_values p)
+pub pair_shown : (op : Op) (p : Spot) (y : List ℕ) → Reads op p → IsRow op p.cur → AllZero (opcode_values p) → AllZero (block_values p)
+    → AllZero (span_values p)
     → p.next ≡ Some y → IsPair op (op_of y) p.cur y
 pair_shown op p y r row opcode blocks spans e = record {
   clock = clock_at op p y r opcode e;
@@ -241,12 +242,14 @@ starts_run op p r opcode zeros e = record {
     digest : (j : ℕ) → at_first (entry_16 j) p ≡ 0 → f p.cur j ≡ 0
     digest j z = (first_at (entry_16 j) r (says_16 op p.cur j r.here.low)).shown z e
 
-inputs_shown : (k : Claim) (op : Op) (p : Spot) → IsLowClaim k → Reads op p → AllZero (inputs_values k p) → p.row ≡ 0 → (j : ℕ) → j < 16 → s p.cur j ≡ slice_index k.inputs j
+inputs_shown : (k : Claim) (op : Op) (p : Spot) → IsLowClaim k → Reads op p → AllZero (inputs_values k p) → p.row ≡ 0 → (j : ℕ) → j < 16
+    → s p.cur j ≡ slice_index k.inputs j
 unfolding inputs_values
 inputs_shown k op p few r zeros e j h =
     (first_at (entry_23 k j) r (says_23 k op p.cur j few r.here.low)).shown (zero_family 16 (λ j. at_first (entry_23 k j) p) zeros j h) e
 
-outputs_shown : (k : Claim) (op : Op) (p : Spot) → IsLowClaim k → Reads op p → AllZero (outputs_values k p) → p.next ≡ None → (j : ℕ) → j < 16 → s p.cur j ≡ slice_index k.outputs j
+outputs_shown : (k : Claim) (op : Op) (p : Spot) → IsLowClaim k → Reads op p → AllZero (outputs_values k p) → p.next ≡ None → (j : ℕ) → j < 16
+    → s p.cur j ≡ slice_index k.outputs j
 unfolding outputs_values
 outputs_shown k op p few r zeros e j h =
     (last_at (entry_44 k j) r (says_44 k op p.cur j few r.here.low)).shown (zero_family 16 (λ j. at_last (entry_44 k j) p) zeros j h) e
@@ -270,7 +273,8 @@ bounds_of k p zeros =
       outputs = zero_back (end_values k p) (outputs_values k p) later;
     }
 
-pub first_shown : (k : Claim) (op : Op) (p : Spot) → IsLowClaim k → Reads op p → AllZero (opcode_values p) → AllZero (boundary_values k p) → p.row ≡ 0 → IsFirstRow k op p.cur
+pub first_shown : (k : Claim) (op : Op) (p : Spot) → IsLowClaim k → Reads op p → AllZero (opcode_values p) → AllZero (boundary_values k p) → p.row ≡ 0
+    → IsFirstRow k op p.cur
 unfolding end_values
 first_shown k op p few r opcode zeros e =
     let b : Bounds k p = bounds_of k p zeros in

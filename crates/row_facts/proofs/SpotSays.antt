@@ -1,13 +1,12 @@
 -- What an entry says in its place: of a row, of a row and the one behind it, of the first row, or of the last one.
-use Rattle.std.proofs.Common.{◌≡◌, ℕ, zero, suc, ◌<◌, Bool, true, false, cond, eqb, List, Option, Some, None, slice_index, refl, sym, ap, ◌∙◌, inl, inr, arith, lit<}
+use Rattle.std.proofs.Common.{◌≡◌, ℕ, ◌<◌, Bool, true, false, cond, eqb, List, Option, Some, None, refl, sym, ap, ◌∙◌, inl, inr, lit<}
 use Rattle.std.proofs.lemmas.Bool.{cases_Bool, eqb-true}
-use Rattle.std.proofs.lemmas.Bool.Decides.{nat_tests}
 use Rattle.vm_field.specs.Field.{prime}
 use Rattle.vm_ops.specs.declared.op.Op.{Op}
 use Rattle.air_kit.specs.Flags.{flag, op_of}
 use Rattle.air_kit.specs.Places.{RowEntry, PairEntry, Spot, on_row, on_pair, between, at_first, at_last, at_end}
 use Rattle.row_facts.specs.RowFacts.{Reads, ReadsAs}
-use Rattle.row_facts.proofs.Says.{Says, says_of, never}
+use Rattle.row_facts.proofs.Says.{Says}
 use Rattle.row_facts.proofs.Hot.{hot, row_says, pair_says}
 
 pub row_at : {op : Op} {p : Spot} {P : Type 0} (entry : RowEntry) → Reads op p → Says (entry (hot op) p.cur) P → Says (on_row entry p) P

@@ -1,5 +1,5 @@
 -- Lists of values that are all 0, taken apart.
-use Rattle.std.proofs.Common.{◌≡◌, ℕ, zero, suc, ◌+◌, ◌<◌, List, [], ◌∷◌, ◌++◌, length, slice_index, refl, sym, ap, ◌∙◌, arith}
+use Rattle.std.proofs.Common.{◌≡◌, ℕ, zero, suc, ◌<◌, List, [], ◌∷◌, ◌++◌, refl, sym, ◌∙◌, arith}
 use Rattle.air_kit.specs.Places.{at_number, family}
 use Rattle.air_kit.proofs.FaultLemmas.{family_at}
 use Rattle.row_facts.specs.Zero.{AllZero}

@@ -1,5 +1,5 @@
 -- What a row shows that starts a batch, and with what the row behind it begins.
-use Rattle.std.specs.Prelude.{◌≡◌, ℕ, ◌+◌, ◌-◌, ◌<◌, ◌≤◌, List}
+use Rattle.std.specs.Prelude.{◌≡◌, ◌≢◌, ℕ, ◌+◌, ◌*◌, ◌<◌, ◌≤◌, List}
 use Rattle.vm_field.specs.Signs.{◌⊞◌, ◌⊠◌}
 use Rattle.vm_table.specs.MainColumns.{h, gc, ox, c, w}
 use Rattle.air_kit.specs.MainTuples.{positions}
@@ -27,3 +27,10 @@ pub record OpensBatch (x y : List ℕ) : Type 0 where
   pub group : h y 0 ≡ h x 0
   pub left : gc y + 1 ≡ positions x
   pub place : ox y ≡ 0
+
+-- of the positions in the second half of those in use, one is not 0
+pub record UsesHalf (x : List ℕ) : Type 0 where
+  pub place : ℕ
+  pub behind : positions x ≤ 2 * place
+  pub within : place < positions x
+  pub some : h x place ≢ 0

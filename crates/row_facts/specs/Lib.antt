@@ -6,3 +6,5 @@ pub mod Groups
 pub mod Bounds
 pub mod RowFacts
 pub mod Stack
+pub mod Limbs
+pub mod MainRows

@@ -3,4 +3,7 @@
 
 mod laws;
 
-pub use laws::{batch_laws, decoder_laws, operation_laws};
+pub use laws::{
+    batch_laws, clock_laws, decoder_laws, limb_laws, operation_laws, part_laws, reading_laws,
+    stack_laws, table_laws,
+};

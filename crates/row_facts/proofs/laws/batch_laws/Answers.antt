@@ -1,5 +1,5 @@
-use Rattle.row_facts.proofs.BatchFacts.{batch_row}
+use Rattle.row_facts.proofs.BatchFacts.{batch_row, half_used}
 use Rattle.row_facts.proofs.laws.batch_laws.Goals as goal
 
 pub returns : goal.returns
-returns c = λ k p low zeros is. batch_row k p low zeros is
+returns c = record { room = batch_row; needed = half_used }

@@ -1,0 +1,44 @@
+-- The rows of a main table, and what they show.
+use Rattle.std.specs.Prelude.{◌≡◌, ℕ, suc, ◌<◌, List, [], length, slice_index_or}
+use Rattle.vm_ops.specs.declared.op.Op.{Op}
+use Rattle.vm_table.specs.Layout.{IsTable}
+use Rattle.air_kit.specs.Flags.{op_of}
+use Rattle.air_kit.specs.MainValues.{main_values}
+use Rattle.air_kit.specs.Places.{Claim, at_number}
+use Rattle.air_kit.specs.Traces.{spot_of}
+use Rattle.row_facts.specs.Bounds.{IsFirstRow, IsLastRow}
+use Rattle.row_facts.specs.Limbs.{IsLimbRow, MovesLimbs}
+use Rattle.row_facts.specs.RowFacts.{ReadsAs, IsRow, IsPair}
+use Rattle.row_facts.specs.Stack.{IsStackRow, MovesStack}
+
+-- row i, and its operation
+abbrev pub row_at : List (List ℕ) → ℕ → List ℕ
+row_at rows i = slice_index_or rows i []
+
+abbrev pub op_in : List (List ℕ) → ℕ → Op
+op_in rows i = op_of (row_at rows i)
+
+-- each entry is 0 in each row
+pub record IsZero (k : Claim) (rows : List (List ℕ)) : Type 0 where
+  pub table : IsTable 65 rows
+  pub zero : (i number : ℕ) → i < length rows → at_number (main_values k (spot_of rows i)) number ≡ 0
+
+-- what a row shows
+pub record ShowsRow (op : Op) (x : List ℕ) : Type 0 where
+  pub reads : ReadsAs op x
+  pub row : IsRow op x
+  pub stack : IsStackRow op x
+  pub limbs : IsLimbRow op x
+
+-- what a row and the row behind it show
+pub record ShowsPair (op next : Op) (x y : List ℕ) : Type 0 where
+  pub pair : IsPair op next x y
+  pub stack : MovesStack op x y
+  pub limbs : MovesLimbs op x y
+
+-- what the rows of a table show
+pub record ShowsRows (k : Claim) (rows : List (List ℕ)) : Type 0 where
+  pub row_is : (i : ℕ) → i < length rows → ShowsRow (op_in rows i) (row_at rows i)
+  pub pair_is : (i : ℕ) → suc i < length rows → ShowsPair (op_in rows i) (op_in rows (suc i)) (row_at rows i) (row_at rows (suc i))
+  pub first : 0 < length rows → IsFirstRow k (op_in rows 0) (row_at rows 0)
+  pub last : (i : ℕ) → suc i ≡ length rows → IsLastRow k (op_in rows i) (row_at rows i)
