@@ -9,7 +9,7 @@ ghost use Rattle.air_kit.specs.SpanValues.{group_values, rest};
 ghost use Rattle.air_decoder.specs.Entries.{spot_of};
 ghost use Rattle.air_decoder.specs.Quick.{IsClean, IsInner, IsGoingOn, IsKept, IsOver, IsPlain, IsStep};
 
-use air_kit::Seen;
+use air_kit::{Seen, are_same, is_one, is_zero};
 use vm_field::Felt;
 use vm_ops::{Op, opcode};
 use vm_table::MainView;
@@ -46,37 +46,19 @@ fn is_plain(op: Op) -> bool
     code < 70 && code != 9 && code != 49
 }
 
-fn same(a: Felt, b: Felt) -> bool
-    ensures { IsTrue result → a ⊟ b ≡ 0 }
-{
-    a.value() == b.value()
-}
-
-fn is_zero(a: Felt) -> bool
-    ensures { IsTrue result → a ≡ 0 }
-{
-    a.value() == 0
-}
-
-fn is_one(a: Felt) -> bool
-    ensures { IsTrue result → a ≡ 1 }
-{
-    a.value() == 1
-}
-
 fn is_kept<V: MainView>(x: &V, y: &V) -> bool
     ensures { IsTrue result → IsKept (V.cells x.now) (V.cells y.now) }
 {
-    same(y.ctx(), x.ctx())
-        && same(y.fmp(), x.fmp())
-        && same(y.sys(), x.sys())
-        && same(y.f0(), x.f0())
-        && same(y.f1(), x.f1())
-        && same(y.f2(), x.f2())
-        && same(y.f3(), x.f3())
-        && same(y.addr(), x.addr())
-        && same(y.lv(), x.lv())
-        && same(y.ha(), x.ha())
+    are_same(y.ctx(), x.ctx())
+        && are_same(y.fmp(), x.fmp())
+        && are_same(y.sys(), x.sys())
+        && are_same(y.f0(), x.f0())
+        && are_same(y.f1(), x.f1())
+        && are_same(y.f2(), x.f2())
+        && are_same(y.f3(), x.f3())
+        && are_same(y.addr(), x.addr())
+        && are_same(y.lv(), x.lv())
+        && are_same(y.ha(), x.ha())
 }
 
 fn is_step<V: MainView>(x: &V, y: &Seen<'_, V>) -> bool
