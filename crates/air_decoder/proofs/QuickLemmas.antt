@@ -1,5 +1,6 @@
 -- A row of a span whose tests pass has no fault: most entries are 0 because of its operation alone.
 use Rattle.std.proofs.Common.{◌≡◌, ◌≢◌, ℕ, zero, suc, ◌+◌, ◌*◌, ◌%◌, ◌<◌, ◌≤◌, Bool, true, false, cond, eqb, List, [], ◌∷◌, ◌++◌, length, Option, Some, None, refl, sym, ap, ◌∙◌, inl, inr, arith, zero-mul}
+use Rattle.std.proofs.Math.Nat.{mul-zero}
 use Rattle.std.proofs.lemmas.Bool.{cases_Bool, eqb-true}
 use Rattle.std.proofs.lemmas.Bool.Decides.{nat_tests}
 use Rattle.vm_field.specs.Field.{prime, felt_add, felt_sub, felt_mul}
@@ -8,7 +9,7 @@ use Rattle.vm_ops.specs.Codes.{code_of, every_op, is_ordinary_op, is_start_op}
 use Rattle.vm_ops.specs.declared.op.Op.{Op}
 use Rattle.vm_ops.specs.declared.op.Op.TheVariants as ops
 use Rattle.vm_table.specs.MainColumns.{b, clk, fmp, ctx, sys, f, addr, h, sp, gc, ox, c, s, w, ha, lv}
-use Rattle.air_kit.specs.Flags.{Flags, flag, flags_of, one_hot, spelled, sum_of, HasOp}
+use Rattle.air_kit.specs.Flags.{Flags, flag, flag_by, flags_of, spelled, sum_of, HasOp}
 use Rattle.air_kit.specs.Places.{Claim, Spot, first_fault_of, family}
 use Rattle.air_kit.specs.BoundaryValues.{boundary_values, start_values, inputs_values, end_values, outputs_values}
 use Rattle.air_kit.specs.MainValues.{decoder_values}
@@ -421,3 +422,26 @@ place_answer c p x (Some y) ex ey inner = parts_clean c p.row x y inner.0 inner.
 
 pub low_place : (value read place : ℕ) → value ≡ read → read ≡ place → value ≤ 8 → place < 9
 low_place value read place is shown low = omega arith
+
+-- Bits 3 and 6 of END and RESPAN are 1.
+end_by_six : (y : List ℕ) → b y 6 ≡ 0 → flag y ops.End ≡ 0
+unfolding flag flag_by
+end_by_six y e = rw e (simp (zero-mul, mul-zero))
+
+respan_by_six : (y : List ℕ) → b y 6 ≡ 0 → flag y ops.Respan ≡ 0
+unfolding flag flag_by
+respan_by_six y e = rw e (simp (zero-mul, mul-zero))
+
+end_by_three : (y : List ℕ) → b y 3 ≡ 0 → flag y ops.End ≡ 0
+unfolding flag flag_by
+end_by_three y e = rw e (simp (zero-mul, mul-zero))
+
+respan_by_three : (y : List ℕ) → b y 3 ≡ 0 → flag y ops.Respan ≡ 0
+unfolding flag flag_by
+respan_by_three y e = rw e (simp (zero-mul, mul-zero))
+
+pub follows_by_six : (y : List ℕ) → sp y ≡ 1 → b y 6 ≡ 0 → felt_sub (felt_sub (felt_sub 1 (sp y)) (flag y ops.End)) (flag y ops.Respan) ≡ 0
+follows_by_six y inside e = rw (inside, end_by_six y e, respan_by_six y e) refl
+
+pub follows_by_three : (y : List ℕ) → sp y ≡ 1 → b y 3 ≡ 0 → felt_sub (felt_sub (felt_sub 1 (sp y)) (flag y ops.End)) (flag y ops.Respan) ≡ 0
+follows_by_three y inside e = rw (inside, end_by_three y e, respan_by_three y e) refl

@@ -16,8 +16,8 @@ use vm_table::MainView;
 
 /// Whether a row is neither the first nor the last one, shows an operation of a span, and its entries 1 to 114 are 0. Where the
 /// answer is false, they may be 0 all the same.
-pub(crate) fn is_inner<V: MainView>(row: u32, x: &Seen<'_, V>, next: &Option<Seen<'_, V>>) -> bool
-    ensures { IsTrue result → IsInner row (V.cells x.now.row.now) (option_map (λ y. V.cells y.row.now) next.now) }
+pub(crate) fn is_inner<V: MainView>(row: u32, x: &Seen<'_, V>, next: &Option<V>) -> bool
+    ensures { IsTrue result → IsInner row (V.cells x.now.row.now) (option_map V.cells next.now) }
 {
     match next {
         Some(y) => row != 0 && is_clean(x, y),
@@ -25,8 +25,8 @@ pub(crate) fn is_inner<V: MainView>(row: u32, x: &Seen<'_, V>, next: &Option<See
     }
 }
 
-fn is_clean<V: MainView>(x: &Seen<'_, V>, y: &Seen<'_, V>) -> bool
-    ensures { IsTrue result → IsClean (V.cells x.now.row.now) (V.cells y.now.row.now) }
+fn is_clean<V: MainView>(x: &Seen<'_, V>, y: &V) -> bool
+    ensures { IsTrue result → IsClean (V.cells x.now.row.now) (V.cells y.now) }
 {
     let Some(op) = x.operation() else {
         return false;
@@ -61,13 +61,26 @@ fn is_kept<V: MainView>(x: &V, y: &V) -> bool
         && are_same(y.ha(), x.ha())
 }
 
-fn is_step<V: MainView>(x: &V, y: &Seen<'_, V>) -> bool
-    ensures { IsTrue result → IsStep (V.cells x.now) (V.cells y.now.row.now) }
+// Whether the row behind one of a span may follow it. An operation of a span has bit 3 or bit 6 at 0, END and RESPAN have not.
+fn may_follow<V: MainView>(y: &V) -> bool
+    ensures { IsTrue result → 1 ⊟ sp (V.cells y.now) ⊟ flag (V.cells y.now) ops.End ⊟ flag (V.cells y.now) ops.Respan ≡ 0 }
 {
-    is_zero(y.row.clk() - x.clk() - Felt::ONE)
-        && is_one(x.sp())
-        && is_zero(Felt::ONE - y.row.sp() - y.one(Op::End) - y.one(Op::Respan))
-        && is_kept(x, y.row)
+    if is_one(y.sp()) {
+        if is_zero(y.b6()) {
+            return true;
+        }
+        if is_zero(y.b3()) {
+            return true;
+        }
+    }
+    let seen = Seen::of(y);
+    is_zero(Felt::ONE - y.sp() - seen.one(Op::End) - seen.one(Op::Respan))
+}
+
+fn is_step<V: MainView>(x: &V, y: &V) -> bool
+    ensures { IsTrue result → IsStep (V.cells x.now) (V.cells y.now) }
+{
+    is_zero(y.clk() - x.clk() - Felt::ONE) && is_one(x.sp()) && may_follow(y) && is_kept(x, y)
 }
 
 // Whether the group goes on by the rules in the next row.
@@ -99,10 +112,10 @@ fn rest<V: MainView>(x: &V, op: Op) -> Felt
     x.h0() - Felt::from_u32(u32::from(opcode(op)))
 }
 
-fn is_group_clean<V: MainView>(x: &Seen<'_, V>, y: &Seen<'_, V>, op: Op) -> bool
+fn is_group_clean<V: MainView>(x: &Seen<'_, V>, y: &V, op: Op) -> bool
     requires has { HasOp (V.cells x.now.row.now) op }
     requires inside { sp (V.cells x.now.row.now) ≡ 1 }
-    ensures { IsTrue result → first_fault_of 107 (group_values (spot_of 0 (V.cells x.now.row.now) (Some (V.cells y.now.row.now)))) ≡ None }
+    ensures { IsTrue result → first_fault_of 107 (group_values (spot_of 0 (V.cells x.now.row.now) (Some (V.cells y.now)))) ≡ None }
 {
     if x.row.ox().value() > 8 {
         return false;
@@ -110,12 +123,12 @@ fn is_group_clean<V: MainView>(x: &Seen<'_, V>, y: &Seen<'_, V>, op: Op) -> bool
     let left = rest(x.row, op);
     let push = x.one(Op::Push);
     if is_one(left * x.row.w3()) {
-        is_going_on(x.row, y.row, left, push)
+        is_going_on(x.row, y, left, push)
     } else if is_zero(left) {
         if is_one(push) {
-            is_going_on(x.row, y.row, left, push)
+            is_going_on(x.row, y, left, push)
         } else if is_zero(push) {
-            is_over(x.row, y.row, push)
+            is_over(x.row, y, push)
         } else {
             false
         }
