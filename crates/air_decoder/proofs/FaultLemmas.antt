@@ -7,22 +7,14 @@ use Rattle.air_kit.specs.OpcodeValues.{opcode_values}
 use Rattle.air_kit.specs.BoundaryValues.{boundary_values, start_values, inputs_values, end_values, outputs_values}
 use Rattle.air_kit.specs.BlockValues.{block_values, follow_values, shown_values, kept_values}
 use Rattle.air_kit.specs.SpanValues.{span_values, batch_values, group_values}
+use Rattle.air_kit.proofs.FaultLemmas.{first_append}
 use Rattle.air_decoder.specs.Entries.{spot_of}
-
--- a list behind another one: its numbers go on where those of the first end
-pub first_append : (xs ys : List ℕ) (n : ℕ) → first_fault_of n (xs ++ ys) ≡ or_next (first_fault_of n xs) (first_fault_of (n + length xs) ys)
-first_append [] ys n = ap (λ k. first_fault_of k ys) (omega arith)
-first_append (x ∷ xs) ys n =
-    elim (cases_Bool (eqb x 0)) [
-      | inl zero_is ↦ rw zero_is (first_append xs ys (n + 1) ∙ ap (λ k. or_next (first_fault_of (n + 1) xs) (first_fault_of k ys)) (omega arith))
-      | inr other ↦ rw other refl
-    ]
 
 -- an answer that joins the answers of two lists
 pub joined : (n m : ℕ) (xs ys : List ℕ) (a b r : Option (ℕ × ℕ)) → r ≡ or_next a b → a ≡ first_fault_of n xs → b ≡ first_fault_of m ys → n + length xs ≡ m → r ≡ first_fault_of n (xs ++ ys)
 joined n m xs ys a b r e ea eb em =
     e ∙ ap (λ o. or_next o b) ea ∙ ap (or_next (first_fault_of n xs)) (eb ∙ ap (λ k. first_fault_of k ys) (sym em))
-    ∙ sym (first_append xs ys n)
+    ∙ sym (first_append n xs ys)
 
 -- how many values the lists have
 opcode_length : (p : Spot) → length (opcode_values p) ≡ 10

@@ -1,5 +1,6 @@
 -- A row of a span whose tests pass has no fault: most entries are 0 because of its operation alone.
 use Rattle.std.proofs.Common.{◌≡◌, ◌≢◌, ℕ, zero, suc, ◌+◌, ◌*◌, ◌%◌, ◌<◌, ◌≤◌, Bool, true, false, cond, eqb, List, [], ◌∷◌, ◌++◌, length, Option, Some, None, refl, sym, ap, ◌∙◌, inl, inr, arith, zero-mul}
+use Rattle.std.proofs.Math.Nat.{mul-zero}
 use Rattle.std.proofs.lemmas.Bool.{cases_Bool, eqb-true}
 use Rattle.std.proofs.lemmas.Bool.Decides.{nat_tests}
 use Rattle.vm_field.specs.Field.{prime, felt_add, felt_sub, felt_mul}
@@ -8,27 +9,20 @@ use Rattle.vm_ops.specs.Codes.{code_of, every_op, is_ordinary_op, is_start_op}
 use Rattle.vm_ops.specs.declared.op.Op.{Op}
 use Rattle.vm_ops.specs.declared.op.Op.TheVariants as ops
 use Rattle.vm_table.specs.MainColumns.{b, clk, fmp, ctx, sys, f, addr, h, sp, gc, ox, c, s, w, ha, lv}
-use Rattle.air_kit.specs.Flags.{Flags, flag, flags_of, one_hot, spelled, sum_of, HasOp}
+use Rattle.air_kit.specs.Flags.{Flags, flag, flag_by, flags_of, spelled, sum_of, HasOp}
 use Rattle.air_kit.specs.Places.{Claim, Spot, first_fault_of, family}
 use Rattle.air_kit.specs.BoundaryValues.{boundary_values, start_values, inputs_values, end_values, outputs_values}
 use Rattle.air_kit.specs.MainValues.{decoder_values}
 use Rattle.air_kit.specs.OpcodeValues.{opcode_values, entry_1, entry_8, entry_9, entry_10}
 use Rattle.air_kit.specs.BlockValues.{starts, batches, calls, returns, stays_inside, kind_flags, entry_60, entry_61, entry_62, entry_63, entry_64, entry_65, entry_66, entry_67, entry_68, entry_69, entry_70, entry_74, entry_75, entry_79, entry_80, entry_81, entry_82, entry_83, entry_84, entry_85, entry_89, entry_90, entry_91, follow_values, shown_values, kept_values, block_values}
 use Rattle.air_kit.specs.SpanValues.{opcode_in, rest, rest_flag, goes_on, entry_92, entry_95, entry_96, entry_103, entry_104, entry_105, entry_106, entry_107, entry_108, entry_109, entry_110, entry_111, entry_112, entry_113, entry_114, batch_values, group_values, span_values}
-use Rattle.air_kit.proofs.FlagLemmas.{at_op, flags_of-hot, sum_of-hot}
+use Rattle.air_kit.proofs.FlagLemmas.{at_op, flag_apart, flags_of-hot, sum_of-hot}
+use Rattle.air_kit.proofs.FaultLemmas.{first_append}
 use Rattle.air_kit.proofs.ZeroLemmas.{Zeros, no_fault, bit_zero}
 use Rattle.air_decoder.specs.Entries.{of_row, of_pair, spot_of}
 use Rattle.air_decoder.specs.Quick.{IsClean, IsGoingOn, IsInner, IsKept, IsOver, IsPlain, IsStep}
 use Rattle.air_decoder.specs.Quick.IsOver.{opens, ends}
-use Rattle.air_decoder.proofs.FaultLemmas.{first_append, decoder_joined}
-
--- a flag that is not the row's
-apart : (op other : Op) → code_of other ≢ code_of op → one_hot op other ≡ 0
-apart op other h =
-    elim (cases_Bool (eqb (code_of other) (code_of op))) [
-      | inl same ↦ absurd (h (eqb-true (code_of other) (code_of op) same))
-      | inr differ ↦ rw differ refl
-    ]
+use Rattle.air_decoder.proofs.FaultLemmas.{decoder_joined}
 
 -- The flags of a row of a plain operation.
 pub record PlainFlags (fl : Flags) : Type 0 where
@@ -47,9 +41,6 @@ pub record PlainFlags (fl : Flags) : Type 0 where
   pub starts : flags_of is_start_op fl ≡ 0
   pub ordinary : flags_of is_ordinary_op fl ≡ 1
 
-off : (x : List ℕ) (op other : Op) → HasOp x op → code_of other ≢ code_of op → flag x other ≡ 0
-off x op other has h = has.flags other ∙ apart op other h
-
 start_off : (op : Op) → code_of op < 70 → is_start_op op ≡ false
 start_off op low = grind (arith, nat_tests)
 
@@ -60,18 +51,18 @@ pub plain_flags : (x : List ℕ) (op : Op) → HasOp x op → IsPlain op → Pla
 plain_flags x op has p =
     let low = p.ordinary in
     record {
-      join = off x op ops.Join has (λ e. omega (arith, e, low));
-      split = off x op ops.Split has (λ e. omega (arith, e, low));
-      loop = off x op ops.Loop has (λ e. omega (arith, e, low));
-      span = off x op ops.Span has (λ e. omega (arith, e, low));
-      call = off x op ops.Call has (λ e. omega (arith, e, low));
-      syscall = off x op ops.Syscall has (λ e. omega (arith, e, low));
-      end = off x op ops.End has (λ e. omega (arith, e, low));
-      repeat = off x op ops.Repeat has (λ e. omega (arith, e, low));
-      respan = off x op ops.Respan has (λ e. omega (arith, e, low));
-      halt = off x op ops.Halt has (λ e. omega (arith, e, low));
-      caller = off x op ops.Caller has (λ e. p.not_caller (sym e));
-      update = off x op ops.FmpUpdate has (λ e. p.not_update (sym e));
+      join = flag_apart x op ops.Join has (λ e. omega (arith, e, low));
+      split = flag_apart x op ops.Split has (λ e. omega (arith, e, low));
+      loop = flag_apart x op ops.Loop has (λ e. omega (arith, e, low));
+      span = flag_apart x op ops.Span has (λ e. omega (arith, e, low));
+      call = flag_apart x op ops.Call has (λ e. omega (arith, e, low));
+      syscall = flag_apart x op ops.Syscall has (λ e. omega (arith, e, low));
+      end = flag_apart x op ops.End has (λ e. omega (arith, e, low));
+      repeat = flag_apart x op ops.Repeat has (λ e. omega (arith, e, low));
+      respan = flag_apart x op ops.Respan has (λ e. omega (arith, e, low));
+      halt = flag_apart x op ops.Halt has (λ e. omega (arith, e, low));
+      caller = flag_apart x op ops.Caller has (λ e. p.not_caller (sym e));
+      update = flag_apart x op ops.FmpUpdate has (λ e. p.not_update (sym e));
       starts = at_op has (flags_of is_start_op) ∙ flags_of-hot op is_start_op ∙ rw (start_off op low) refl;
       ordinary = at_op has (flags_of is_ordinary_op) ∙ flags_of-hot op is_ordinary_op ∙ rw (ordinary_on op low) refl;
     }
@@ -211,9 +202,9 @@ kept_clean x y p t =
 pub block_clean : (x y : List ℕ) → PlainFlags (flag x) → IsStep x y → first_fault_of 60 (block_values (spot_of 0 x (Some y))) ≡ None
 unfolding block_values
 block_clean x y p t =
-    first_append (follow_values (spot_of 0 x (Some y))) (shown_values (spot_of 0 x (Some y)) ++ kept_values (spot_of 0 x (Some y))) 60
+    first_append 60 (follow_values (spot_of 0 x (Some y))) (shown_values (spot_of 0 x (Some y)) ++ kept_values (spot_of 0 x (Some y)))
     ∙ rw (no_fault 60 (follow_values (spot_of 0 x (Some y))) (follow_clean x y p t))
-    (first_append (shown_values (spot_of 0 x (Some y))) (kept_values (spot_of 0 x (Some y))) _
+    (first_append _ (shown_values (spot_of 0 x (Some y))) (kept_values (spot_of 0 x (Some y)))
     ∙ rw (no_fault _ (shown_values (spot_of 0 x (Some y))) (shown_clean x y p)) (no_fault _ (kept_values (spot_of 0 x (Some y))) (kept_clean x y p t)))
 
 -- Entries 92 to 106.
@@ -260,7 +251,7 @@ pub span_clean : (x y : List ℕ) → PlainFlags (flag x) → first_fault_of 107
     → first_fault_of 92 (span_values (spot_of 0 x (Some y))) ≡ None
 unfolding span_values
 span_clean x y p group =
-    first_append (batch_values (spot_of 0 x (Some y))) (group_values (spot_of 0 x (Some y))) 92
+    first_append 92 (batch_values (spot_of 0 x (Some y))) (group_values (spot_of 0 x (Some y)))
     ∙ rw (no_fault 92 (batch_values (spot_of 0 x (Some y))) (batch_clean x y (no_batches (flag x) p)), batch_length x y) group
 
 -- Entries 107 to 114.
@@ -431,3 +422,26 @@ place_answer c p x (Some y) ex ey inner = parts_clean c p.row x y inner.0 inner.
 
 pub low_place : (value read place : ℕ) → value ≡ read → read ≡ place → value ≤ 8 → place < 9
 low_place value read place is shown low = omega arith
+
+-- Bits 3 and 6 of END and RESPAN are 1.
+end_by_six : (y : List ℕ) → b y 6 ≡ 0 → flag y ops.End ≡ 0
+unfolding flag flag_by
+end_by_six y e = rw e (simp (zero-mul, mul-zero))
+
+respan_by_six : (y : List ℕ) → b y 6 ≡ 0 → flag y ops.Respan ≡ 0
+unfolding flag flag_by
+respan_by_six y e = rw e (simp (zero-mul, mul-zero))
+
+end_by_three : (y : List ℕ) → b y 3 ≡ 0 → flag y ops.End ≡ 0
+unfolding flag flag_by
+end_by_three y e = rw e (simp (zero-mul, mul-zero))
+
+respan_by_three : (y : List ℕ) → b y 3 ≡ 0 → flag y ops.Respan ≡ 0
+unfolding flag flag_by
+respan_by_three y e = rw e (simp (zero-mul, mul-zero))
+
+pub follows_by_six : (y : List ℕ) → sp y ≡ 1 → b y 6 ≡ 0 → felt_sub (felt_sub (felt_sub 1 (sp y)) (flag y ops.End)) (flag y ops.Respan) ≡ 0
+follows_by_six y inside e = rw (inside, end_by_six y e, respan_by_six y e) refl
+
+pub follows_by_three : (y : List ℕ) → sp y ≡ 1 → b y 3 ≡ 0 → felt_sub (felt_sub (felt_sub 1 (sp y)) (flag y ops.End)) (flag y ops.Respan) ≡ 0
+follows_by_three y inside e = rw (inside, end_by_three y e, respan_by_three y e) refl

@@ -16,15 +16,22 @@ use vm_table::MainView;
 pub fn first_fault<V: MainView>(place: &Place<'_, V>) -> Option<(u16, Felt)>
     ensures { result ≡ first_fault_of 1 (decoder_values (claim_at place.now) (spot_at V.cells place.now)) }
 {
-    let x = Seen::of(&place.cur);
-    let next = seen_next(&place.next);
-    if is_inner(place.row, &x, &next) {
+    first_fault_seen(place, &Seen::of(&place.cur))
+}
+
+/// The same, where the place's row is decoded already.
+pub fn first_fault_seen<V: MainView>(place: &Place<'_, V>, x: &Seen<'_, V>) -> Option<(u16, Felt)>
+    requires { x.now.row.now ≡ place.now.cur }
+    ensures { result ≡ first_fault_of 1 (decoder_values (claim_at place.now) (spot_at V.cells place.now)) }
+{
+    if is_inner(place.row, x, &place.next) {
         return None;
     }
-    let opcode = opcode_faults(place.row, &x, &next);
-    let boundary = boundary_faults(place, &x);
-    let block = block_faults(&x, &next);
-    let span = span_faults(&x, &next);
+    let next = seen_next(&place.next);
+    let opcode = opcode_faults(place.row, x, &next);
+    let boundary = boundary_faults(place, x);
+    let block = block_faults(x, &next);
+    let span = span_faults(x, &next);
     or_next(opcode, or_next(boundary, or_next(block, span)))
 }
 

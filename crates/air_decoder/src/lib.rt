@@ -10,4 +10,4 @@ mod spans;
 #[cfg(test)]
 mod tests;
 
-pub use decoder::first_fault;
+pub use decoder::{first_fault, first_fault_seen};

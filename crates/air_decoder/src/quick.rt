@@ -9,15 +9,15 @@ ghost use Rattle.air_kit.specs.SpanValues.{group_values, rest};
 ghost use Rattle.air_decoder.specs.Entries.{spot_of};
 ghost use Rattle.air_decoder.specs.Quick.{IsClean, IsInner, IsGoingOn, IsKept, IsOver, IsPlain, IsStep};
 
-use air_kit::Seen;
+use air_kit::{Seen, are_same, is_one, is_zero};
 use vm_field::Felt;
 use vm_ops::{Op, opcode};
 use vm_table::MainView;
 
 /// Whether a row is neither the first nor the last one, shows an operation of a span, and its entries 1 to 114 are 0. Where the
 /// answer is false, they may be 0 all the same.
-pub(crate) fn is_inner<V: MainView>(row: u32, x: &Seen<'_, V>, next: &Option<Seen<'_, V>>) -> bool
-    ensures { IsTrue result → IsInner row (V.cells x.now.row.now) (option_map (λ y. V.cells y.row.now) next.now) }
+pub(crate) fn is_inner<V: MainView>(row: u32, x: &Seen<'_, V>, next: &Option<V>) -> bool
+    ensures { IsTrue result → IsInner row (V.cells x.now.row.now) (option_map V.cells next.now) }
 {
     match next {
         Some(y) => row != 0 && is_clean(x, y),
@@ -25,8 +25,8 @@ pub(crate) fn is_inner<V: MainView>(row: u32, x: &Seen<'_, V>, next: &Option<See
     }
 }
 
-fn is_clean<V: MainView>(x: &Seen<'_, V>, y: &Seen<'_, V>) -> bool
-    ensures { IsTrue result → IsClean (V.cells x.now.row.now) (V.cells y.now.row.now) }
+fn is_clean<V: MainView>(x: &Seen<'_, V>, y: &V) -> bool
+    ensures { IsTrue result → IsClean (V.cells x.now.row.now) (V.cells y.now) }
 {
     let Some(op) = x.operation() else {
         return false;
@@ -46,46 +46,41 @@ fn is_plain(op: Op) -> bool
     code < 70 && code != 9 && code != 49
 }
 
-fn same(a: Felt, b: Felt) -> bool
-    ensures { IsTrue result → a ⊟ b ≡ 0 }
-{
-    a.value() == b.value()
-}
-
-fn is_zero(a: Felt) -> bool
-    ensures { IsTrue result → a ≡ 0 }
-{
-    a.value() == 0
-}
-
-fn is_one(a: Felt) -> bool
-    ensures { IsTrue result → a ≡ 1 }
-{
-    a.value() == 1
-}
-
 fn is_kept<V: MainView>(x: &V, y: &V) -> bool
     ensures { IsTrue result → IsKept (V.cells x.now) (V.cells y.now) }
 {
-    same(y.ctx(), x.ctx())
-        && same(y.fmp(), x.fmp())
-        && same(y.sys(), x.sys())
-        && same(y.f0(), x.f0())
-        && same(y.f1(), x.f1())
-        && same(y.f2(), x.f2())
-        && same(y.f3(), x.f3())
-        && same(y.addr(), x.addr())
-        && same(y.lv(), x.lv())
-        && same(y.ha(), x.ha())
+    are_same(y.ctx(), x.ctx())
+        && are_same(y.fmp(), x.fmp())
+        && are_same(y.sys(), x.sys())
+        && are_same(y.f0(), x.f0())
+        && are_same(y.f1(), x.f1())
+        && are_same(y.f2(), x.f2())
+        && are_same(y.f3(), x.f3())
+        && are_same(y.addr(), x.addr())
+        && are_same(y.lv(), x.lv())
+        && are_same(y.ha(), x.ha())
 }
 
-fn is_step<V: MainView>(x: &V, y: &Seen<'_, V>) -> bool
-    ensures { IsTrue result → IsStep (V.cells x.now) (V.cells y.now.row.now) }
+// Whether the row behind one of a span may follow it. An operation of a span has bit 3 or bit 6 at 0, END and RESPAN have not.
+fn may_follow<V: MainView>(y: &V) -> bool
+    ensures { IsTrue result → 1 ⊟ sp (V.cells y.now) ⊟ flag (V.cells y.now) ops.End ⊟ flag (V.cells y.now) ops.Respan ≡ 0 }
 {
-    is_zero(y.row.clk() - x.clk() - Felt::ONE)
-        && is_one(x.sp())
-        && is_zero(Felt::ONE - y.row.sp() - y.one(Op::End) - y.one(Op::Respan))
-        && is_kept(x, y.row)
+    if is_one(y.sp()) {
+        if is_zero(y.b6()) {
+            return true;
+        }
+        if is_zero(y.b3()) {
+            return true;
+        }
+    }
+    let seen = Seen::of(y);
+    is_zero(Felt::ONE - y.sp() - seen.one(Op::End) - seen.one(Op::Respan))
+}
+
+fn is_step<V: MainView>(x: &V, y: &V) -> bool
+    ensures { IsTrue result → IsStep (V.cells x.now) (V.cells y.now) }
+{
+    is_zero(y.clk() - x.clk() - Felt::ONE) && is_one(x.sp()) && may_follow(y) && is_kept(x, y)
 }
 
 // Whether the group goes on by the rules in the next row.
@@ -117,10 +112,10 @@ fn rest<V: MainView>(x: &V, op: Op) -> Felt
     x.h0() - Felt::from_u32(u32::from(opcode(op)))
 }
 
-fn is_group_clean<V: MainView>(x: &Seen<'_, V>, y: &Seen<'_, V>, op: Op) -> bool
+fn is_group_clean<V: MainView>(x: &Seen<'_, V>, y: &V, op: Op) -> bool
     requires has { HasOp (V.cells x.now.row.now) op }
     requires inside { sp (V.cells x.now.row.now) ≡ 1 }
-    ensures { IsTrue result → first_fault_of 107 (group_values (spot_of 0 (V.cells x.now.row.now) (Some (V.cells y.now.row.now)))) ≡ None }
+    ensures { IsTrue result → first_fault_of 107 (group_values (spot_of 0 (V.cells x.now.row.now) (Some (V.cells y.now)))) ≡ None }
 {
     if x.row.ox().value() > 8 {
         return false;
@@ -128,12 +123,12 @@ fn is_group_clean<V: MainView>(x: &Seen<'_, V>, y: &Seen<'_, V>, op: Op) -> bool
     let left = rest(x.row, op);
     let push = x.one(Op::Push);
     if is_one(left * x.row.w3()) {
-        is_going_on(x.row, y.row, left, push)
+        is_going_on(x.row, y, left, push)
     } else if is_zero(left) {
         if is_one(push) {
-            is_going_on(x.row, y.row, left, push)
+            is_going_on(x.row, y, left, push)
         } else if is_zero(push) {
-            is_over(x.row, y.row, push)
+            is_over(x.row, y, push)
         } else {
             false
         }

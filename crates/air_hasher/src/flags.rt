@@ -26,9 +26,9 @@ pub(crate) fn flag_values<V: HasherView>(row: u32, x: &V, next: &Option<V>) -> [
         only(k < 7, mode_change(x, next)),
         only(k < 7, cont_change(x, next)),
         only(k == 7, cont_promise(x, next)),
-        only(k == 0, begins_at_zero(x, 0)),
-        only(k == 0, begins_at_zero(x, 2)),
-        only(k == 0, begins_at_zero(x, 3)),
+        starts_at_zero(k == 0, x, 0),
+        starts_at_zero(k == 0, x, 2),
+        starts_at_zero(k == 0, x, 3),
     ]
 }
 
@@ -75,16 +75,28 @@ fn begins_at_zero<V: HasherView>(x: &V, j: usize) -> Felt
     (Felt::ONE - x.mode()) * (Felt::ONE - x.cont()) * x.x(j)
 }
 
+// The same where the permutation begins, else 0.
+fn starts_at_zero<V: HasherView>(begins: bool, x: &V, j: usize) -> Felt
+    requires { j < 12 }
+    ensures { result ≡ only begins (begins_at_zero (V.cells x.now) j) }
+{
+    if begins {
+        begins_at_zero(x, j)
+    } else {
+        Felt::ZERO
+    }
+}
+
 /// Entries 14 to 17: a hash that goes on keeps its capacity.
 #[tactic(auto, unfolding(air_kit::specs::HasherValues::chain_values, air_kit::specs::Places::family))]
 pub(crate) fn chain_values<V: HasherView>(ends: bool, x: &V, next: &Option<V>) -> [Felt; 4]
     ensures { result ≡ chain_values ends (V.cells x.now) (option_map V.cells next.now) }
 {
     [
-        only(ends, capacity_change(x, next, 0)),
-        only(ends, capacity_change(x, next, 1)),
-        only(ends, capacity_change(x, next, 2)),
-        only(ends, capacity_change(x, next, 3)),
+        capacity_kept(ends, x, next, 0),
+        capacity_kept(ends, x, next, 1),
+        capacity_kept(ends, x, next, 2),
+        capacity_kept(ends, x, next, 3),
     ]
 }
 
@@ -95,5 +107,17 @@ fn capacity_change<V: HasherView>(x: &V, next: &Option<V>, j: usize) -> Felt
     match next {
         Some(y) => x.more() * (y.x(j) - x.x(j)),
         None => Felt::ZERO,
+    }
+}
+
+// The same where the permutation ends, else 0.
+fn capacity_kept<V: HasherView>(ends: bool, x: &V, next: &Option<V>, j: usize) -> Felt
+    requires { j < 12 }
+    ensures { result ≡ only ends (paired (λ y. more (V.cells x.now) ⊠ (state_element y j ⊟ state_element (V.cells x.now) j)) (option_map V.cells next.now)) }
+{
+    if ends {
+        capacity_change(x, next, j)
+    } else {
+        Felt::ZERO
     }
 }

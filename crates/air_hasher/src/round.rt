@@ -79,5 +79,13 @@ fn power_less(element: Felt, before: &[Felt; 12], j: usize) -> Felt
     requires { j < 12 }
     ensures { result ≡ felt_pow element 7 ⊟ slice_index before.now j }
 {
-    element.pow(7) - felt_at(before, j)
+    seventh_power(element) - felt_at(before, j)
+}
+
+fn seventh_power(x: Felt) -> Felt
+    ensures { result ≡ felt_pow x 7 }
+{
+    let to_2 = x * x;
+    let to_4 = to_2 * to_2;
+    to_4 * to_2 * x
 }

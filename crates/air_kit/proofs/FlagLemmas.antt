@@ -146,6 +146,10 @@ apart_hot op o apart =
       | inr other ↦ other
     ]
 
+-- the flag of another operation than the row's
+pub flag_apart : (row : List ℕ) (op other : Op) → HasOp row op → code_of other ≢ code_of op → flag row other ≡ 0
+flag_apart row op other has apart = has.flags other ∙ rw (apart_hot op other apart) refl
+
 same_hot : (op : Op) → eqb (code_of op) (code_of op) ≡ true
 same_hot op = grind (arith, nat_tests)
 

@@ -2,6 +2,7 @@
 //! accepted trace is (docs/CONSTRAINTS.md).
 #![tactic(auto)]
 
+mod compare;
 mod fault;
 mod flags;
 mod place;
@@ -10,9 +11,10 @@ mod seen;
 mod sets;
 mod trace;
 
+pub use compare::{are_same, is_one, is_zero};
 pub use fault::{Fault, first_nonzero, or_next};
 pub use place::Place;
 pub use requests::{Access, BitOp, Perm, Requests};
 pub use seen::Seen;
-pub use sets::{OpSet, is_built};
+pub use sets::{OpSet, is_built, is_left};
 pub use trace::{Public, TableName, Trace, table_text, types_cross};

@@ -35,7 +35,8 @@ impl OpSet {
     }
 }
 
-fn is_left(op: Op) -> bool
+/// Whether the operation leaves one cell fewer than it takes.
+pub fn is_left(op: Op) -> bool
     ensures { result ≡ is_left op }
 {
     match shift(op) {

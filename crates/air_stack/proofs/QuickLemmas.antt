@@ -15,21 +15,11 @@ use Rattle.air_kit.specs.BlockValues.{calls, returns}
 use Rattle.air_kit.specs.Flags.{Flags, HasOp, flag, flags_of, is_left, is_op, is_right, is_shift, one_hot, sum_over}
 use Rattle.air_kit.specs.Places.{Spot, first_fault_of, on_pair}
 use Rattle.air_kit.specs.StackValues.{below_term, cell_values, deeper, depth_values, entry_115, entry_116, entry_117, entry_118, entry_119, keeps_depth, operand_values, shifts_left, shifts_right, stack_values, term, top_term}
-use Rattle.air_kit.proofs.FlagLemmas.{at_op, flags_of-hot, sum_over-hot}
+use Rattle.air_kit.proofs.FlagLemmas.{at_op, flag_apart, flags_of-hot, sum_over-hot}
 use Rattle.air_kit.proofs.ZeroLemmas.{Zeros, no_fault, zeros_family}
 use Rattle.air_stack.specs.Parts.{spot_of}
 use Rattle.air_stack.proofs.PartLemmas.{answer_joins}
 use Rattle.air_stack.specs.Quick.{ComeUp, Falls, GoDown, IsMoved, IsSteady, Rises, Shifts, StayLevel, Stays}
-
-apart : (op other : Op) → code_of other ≢ code_of op → one_hot op other ≡ 0
-apart op other differs =
-    elim (cases_Bool (eqb (code_of other) (code_of op))) [
-      | inl same ↦ absurd (differs (eqb-true (code_of other) (code_of op) same))
-      | inr differ ↦ rw differ refl
-    ]
-
-off : (x : List ℕ) (op other : Op) → HasOp x op → code_of other ≢ code_of op → flag x other ≡ 0
-off x op other has differs = has.flags other ∙ apart op other differs
 
 -- The flags that the entries of the depth and the key read.
 record DepthFlags (fl : Flags) (left right : ℕ) : Type 0 where
@@ -43,9 +33,9 @@ depth_flags : (x : List ℕ) (op : Op) → HasOp x op → IsSteady op → DepthF
 depth_flags x op has steady = record {
   left_is = at_op has (flags_of is_left) ∙ flags_of-hot op is_left;
   right_is = at_op has (flags_of is_right) ∙ flags_of-hot op is_right;
-  end = off x op ops.End has (λ e. steady.not_end (sym e));
-  call = off x op ops.Call has (λ e. steady.not_call (sym e));
-  syscall = off x op ops.Syscall has (λ e. steady.not_syscall (sym e));
+  end = flag_apart x op ops.End has (λ e. steady.not_end (sym e));
+  call = flag_apart x op ops.Call has (λ e. steady.not_call (sym e));
+  syscall = flag_apart x op ops.Syscall has (λ e. steady.not_syscall (sym e));
 }
 
 one_times : (a : ℕ) → felt_mul 1 (felt_sub 1 a) ≡ felt_sub 1 a

@@ -15,12 +15,19 @@ use vm_table::MainView;
 pub fn first_fault<V: MainView>(place: &Place<'_, V>) -> Option<(u16, Felt)>
     ensures { result ≡ first_fault_of 115 (stack_values (spot_at V.cells place.now)) }
 {
-    let x = Seen::of(&place.cur);
-    if is_moved(&x, &place.next) {
-        return operand_fault(&x, &place.next);
+    first_fault_seen(place, &Seen::of(&place.cur))
+}
+
+/// The same, where the place's row is decoded already.
+pub fn first_fault_seen<V: MainView>(place: &Place<'_, V>, x: &Seen<'_, V>) -> Option<(u16, Felt)>
+    requires { x.now.row.now ≡ place.now.cur }
+    ensures { result ≡ first_fault_of 115 (stack_values (spot_at V.cells place.now)) }
+{
+    if is_moved(x, &place.next) {
+        return operand_fault(x, &place.next);
     }
-    let depth = depth_fault(&x, &place.next);
-    let cells = cell_fault(&x, &place.next);
-    let operands = operand_fault(&x, &place.next);
+    let depth = depth_fault(x, &place.next);
+    let cells = cell_fault(x, &place.next);
+    let operands = operand_fault(x, &place.next);
     or_next(depth, or_next(cells, operands))
 }

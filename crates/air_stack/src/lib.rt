@@ -10,4 +10,4 @@ mod quick;
 #[cfg(test)]
 mod tests;
 
-pub use fault::first_fault;
+pub use fault::{first_fault, first_fault_seen};

@@ -1,12 +1,12 @@
 ghost use Rattle.std.specs.Prelude.{◌≡◌, ◌<◌, ◌+◌, map, slice_index, All};
 ghost use Rattle.vm_field.specs.Field.{prime};
 ghost use Rattle.vm_ops.specs.Moves.{leaves_of};
-ghost use Rattle.air_kit.specs.Flags.{is_left};
 ghost use Rattle.air_kit.specs.StackValues.{cells, chosen, chosen_not, cell_term, word_term, is_free, top_term, below_term, end_term, term};
 
 use crate::depth::deeper;
+use air_kit::is_left;
 use vm_field::Felt;
-use vm_ops::{Op, Shift, leaves, opcode, shift, sources, takes};
+use vm_ops::{Op, leaves, opcode, sources, takes};
 use vm_table::MainView;
 
 /// The value of cell j under an operation.
@@ -48,16 +48,6 @@ fn below_term<V: MainView>(j: usize, x: &V, y: &V, op: Op) -> Felt
         (Felt::ONE - deeper(x)) * y.s15()
     } else {
         y.s(j) - x.s((j + takes(op)).saturating_sub(leaves(op)))
-    }
-}
-
-// Whether the operation leaves one cell fewer than it takes.
-fn is_left(op: Op) -> bool
-    ensures { result ≡ is_left op }
-{
-    match shift(op) {
-        Shift::Left => true,
-        Shift::Stay | Shift::Right => false,
     }
 }
 

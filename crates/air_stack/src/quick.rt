@@ -11,7 +11,7 @@ ghost use Rattle.air_stack.specs.Quick.{ComeUp, Falls, GoDown, IsMoved, IsSteady
 
 use crate::depth::deeper;
 use crate::moves::top_term;
-use air_kit::Seen;
+use air_kit::{Seen, are_same, is_one, is_zero};
 use vm_field::Felt;
 use vm_ops::{Op, Shift, leaves, opcode, shift};
 use vm_table::MainView;
@@ -42,24 +42,6 @@ fn is_steady(op: Op) -> bool
     code != 76 && code != 74 && code != 75
 }
 
-fn same(a: Felt, b: Felt) -> bool
-    ensures { IsTrue result → a ⊟ b ≡ 0 }
-{
-    a.value() == b.value()
-}
-
-fn is_zero(a: Felt) -> bool
-    ensures { IsTrue result → a ≡ 0 }
-{
-    a.value() == 0
-}
-
-fn is_one(a: Felt) -> bool
-    ensures { IsTrue result → a ≡ 1 }
-{
-    a.value() == 1
-}
-
 fn falls<V: MainView>(x: &V, y: &V, deep: Felt) -> bool
     requires { deep ≡ deeper (V.cells x.now) }
     ensures { IsTrue result → Falls (V.cells x.now) (V.cells y.now) }
@@ -70,13 +52,13 @@ fn falls<V: MainView>(x: &V, y: &V, deep: Felt) -> bool
 fn stays<V: MainView>(x: &V, y: &V) -> bool
     ensures { IsTrue result → Stays (V.cells x.now) (V.cells y.now) }
 {
-    same(y.depth(), x.depth()) && same(y.key(), x.key())
+    are_same(y.depth(), x.depth()) && are_same(y.key(), x.key())
 }
 
 fn rises<V: MainView>(x: &V, y: &V) -> bool
     ensures { IsTrue result → Rises (V.cells x.now) (V.cells y.now) }
 {
-    is_zero(y.depth() - x.depth() - Felt::ONE) && same(y.key(), x.clk())
+    is_zero(y.depth() - x.depth() - Felt::ONE) && are_same(y.key(), x.clk())
 }
 
 // Whether the depth and the key move as under an operation.
@@ -119,7 +101,7 @@ fn come_up<V: MainView>(from: usize, x: &V, y: &V) -> bool
     ensures { IsTrue result → ComeUp from (V.cells x.now) (V.cells y.now) }
 {
     for j in from..15 {
-        if !same(y.s(j), x.s(j + 1)) {
+        if !are_same(y.s(j), x.s(j + 1)) {
             return false;
         }
     }
@@ -131,7 +113,7 @@ fn stay_level<V: MainView>(from: usize, x: &V, y: &V) -> bool
     ensures { IsTrue result → StayLevel from (V.cells x.now) (V.cells y.now) }
 {
     for j in from..16 {
-        if !same(y.s(j), x.s(j)) {
+        if !are_same(y.s(j), x.s(j)) {
             return false;
         }
     }
@@ -144,7 +126,7 @@ fn go_down<V: MainView>(from: usize, x: &V, y: &V) -> bool
     ensures { IsTrue result → GoDown from (V.cells x.now) (V.cells y.now) }
 {
     for j in from..16 {
-        if !same(y.s(j), x.s(j - 1)) {
+        if !are_same(y.s(j), x.s(j - 1)) {
             return false;
         }
     }

@@ -11,23 +11,30 @@ use vm_ops::Op;
 use vm_table::MainView;
 
 /// The first of the entries 140 to 147 that is not 0 at a place, with its value.
-#[tactic(auto, unfolding(air_kit::specs::U32Values::u32_values))]
 pub fn first_fault<V: MainView>(place: &Place<'_, V>) -> Option<(u16, Felt)>
     ensures { result ≡ first_fault_of 140 (u32_values (spot_at V.cells place.now)) }
 {
-    let x = Seen::of(&place.cur);
-    if lacks_limbs(&x) {
+    first_fault_seen(place, &Seen::of(&place.cur))
+}
+
+/// The same, where the place's row is decoded already.
+#[tactic(auto, unfolding(air_kit::specs::U32Values::u32_values))]
+pub fn first_fault_seen<V: MainView>(place: &Place<'_, V>, x: &Seen<'_, V>) -> Option<(u16, Felt)>
+    requires { x.now.row.now ≡ place.now.cur }
+    ensures { result ≡ first_fault_of 140 (u32_values (spot_at V.cells place.now)) }
+{
+    if lacks_limbs(x) {
         return None;
     }
     let values = [
-        entry_140(&x),
-        entry_141(&x),
-        entry_142(&x),
-        entry_143(&x, &place.next),
-        entry_144(&x, &place.next),
-        entry_145(&x, &place.next),
-        entry_146(&x, &place.next),
-        entry_147(&x),
+        entry_140(x),
+        entry_141(x),
+        entry_142(x),
+        entry_143(x, &place.next),
+        entry_144(x, &place.next),
+        entry_145(x, &place.next),
+        entry_146(x, &place.next),
+        entry_147(x),
     ];
     first_nonzero(&values, 140)
 }

@@ -5,4 +5,4 @@ mod entries;
 #[cfg(test)]
 mod tests;
 
-pub use entries::first_fault;
+pub use entries::{first_fault, first_fault_seen};

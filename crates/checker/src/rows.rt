@@ -8,7 +8,7 @@ ghost use Rattle.checker.specs.Answers.{IsAnswerBelow, IsRowAnswer, IsTableAnswe
 ghost use Rattle.checker.specs.Settings.{claim_in};
 
 use crate::setting::Setting;
-use air_kit::{Fault, Public, TableName, Trace, or_next};
+use air_kit::{Fault, Public, Seen, TableName, Trace, or_next};
 use vm_field::Felt;
 use vm_io::Gate;
 
@@ -120,8 +120,9 @@ fn main_fault(trace: &Trace, setting: &Setting<'_>, row: usize) -> Option<(u16, 
     ensures { result ≡ first_fault_of 1 (values_at (claim_in setting.now) trace.now table.Main row) }
 {
     let place = setting.place(&trace.main, row);
-    or_next(
-        air_decoder::first_fault(&place),
-        or_next(air_stack::first_fault(&place), air_u32::first_fault(&place)),
-    )
+    let x = Seen::of(&place.cur);
+    let decoder = air_decoder::first_fault_seen(&place, &x);
+    let stack = air_stack::first_fault_seen(&place, &x);
+    let numbers = air_u32::first_fault_seen(&place, &x);
+    or_next(decoder, or_next(stack, numbers))
 }
