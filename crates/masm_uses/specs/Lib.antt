@@ -9,6 +9,7 @@ pub mod Links
 pub mod Names
 pub mod Naming
 pub mod Orders
+pub mod Plans
 pub mod Repeats
 pub mod Settling
 pub mod Sorting
