@@ -109,7 +109,7 @@ fn first_oversized(
     requires measured { IsMeasured (source_of ast.now) kernel.now measured.now }
     ensures { IfOk result (λ first. (exports : List Exported) → AreExports exports kernel.now → Answers (Oversized (source_of ast.now) exports) first) }
 {
-    let procs = first_too_large(alloc, &ast.procs, &measured.sizes)?;
+    let procs = first_too_large(&ast.procs, &measured.sizes);
     let main = main_too_large(alloc, &measured.names, kernel, &ast.main, &measured.sizes)?;
     Ok(earlier(procs, main))
 }
