@@ -11,7 +11,6 @@ pub mod Naming
 pub mod Orders
 pub mod Plans
 pub mod Repeats
-pub mod Settling
 pub mod Sorting
 pub mod Users
 pub mod UseOrders

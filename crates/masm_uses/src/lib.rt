@@ -2,6 +2,7 @@
 //! and uses are refused, and an order in which each procedure stands behind those that it uses.
 #![tactic(auto)]
 
+mod components;
 mod dangling;
 mod doubles;
 mod exports;
