@@ -10,7 +10,7 @@ use Rattle.masm_parse.specs.Trees.{Body, Procedure}
 use Rattle.masm_flat.specs.declared.shape.Extent.{Extent}
 use Rattle.masm_flat.specs.Blocks.{Block, Span, Join, Split, Loop, Call, Syscall, Piece, Operation, Whole, seen_as, seen_pieces, block_of, as_operations, as_height}
 use Rattle.masm_flat.specs.Lists.{Exported, IsList, nothing, instr, exec, call, syscall, branches, loops, repeated, first_procedure, first_export, times, with_locals}
-use Rattle.masm_flat.specs.Sizes.{as_extent, size_of, run_of, both, both_times, extent_of, block_size, Known_sizes, size_onto, procedure_size}
+use Rattle.masm_flat.specs.Sizes.{as_extent, size_of, run_of, both, times_size, extent_of, block_size, Known_sizes, size_onto, procedure_size}
 use Rattle.masm_flat.proofs.Flattened.{seen-block, seen-append, seen-operations, seen-times}
 use Rattle.masm_uses.proofs.UsesOnly.{UsesOnly}
 use Rattle.masm_flat.proofs.SizeLaws.{size-append, size-block, size-run, size-times, IsSolid, IsSome_size, operations-whole, Agree, extent-whole, block-over, block-over_two}
@@ -55,7 +55,7 @@ solid-locals (suc n) xs h = subst IsSolid (sym (seen-append as_extent xs _)) (so
 pub some-whole : (xs : List (Piece Block)) → IsSolid (seen xs) → IsSome_size (seen_as as_extent (block_of xs))
 some-whole xs h =
     let operations = ap (λ (e : Extent). e.operations) (seen-block as_extent xs) ∙ operations-whole (seen xs) h in
-    (omega arith, omega arith)
+    (omega arith, omega arith, omega (arith, height-block (block_of xs)))
 
 -- each block of the kernel has an operation
 abbrev pub HasOperations : List Exported → Type 0
@@ -72,18 +72,18 @@ module _ {procs : List Procedure} {kernel : List Exported} where
       (solid-append (seen (with_locals p.locals ys)) (seen xs) (solid-locals p.locals ys (list-solid some d)) (list-solid some f))
   list-solid some (call at name {p} {ys} found d f) =
       let whole = some-whole (with_locals p.locals ys) (solid-locals p.locals ys (list-solid some d)) in
-      ((omega arith, omega arith), list-solid some f)
+      ((omega arith, omega arith, omega arith), list-solid some f)
   list-solid some (syscall at name {callee} found f) =
       let one = some name callee found in
       let is = operations-block callee in
-      ((omega arith, omega arith), list-solid some f)
+      ((omega arith, omega arith, omega arith), list-solid some f)
   list-solid some (branches at {ys} {zs} a e f) =
       let first = some-whole ys (list-solid some a) in
       let second = some-whole zs (list-solid some e) in
-      ((omega arith, omega arith), list-solid some f)
+      ((omega arith, omega arith, omega arith), list-solid some f)
   list-solid some (loops at {ys} d f) =
       let whole = some-whole ys (list-solid some d) in
-      ((omega arith, omega arith), list-solid some f)
+      ((omega arith, omega arith, omega arith), list-solid some f)
   list-solid some (repeated at n {ys} {xs} d f) =
       subst IsSolid (sym (seen-append as_extent (times n ys) xs))
       (solid-append (seen (times n ys)) (seen xs) (subst IsSolid (sym (seen-times as_extent n ys)) (solid-times n (seen ys) (list-solid some d))) (list-solid some f))
@@ -147,7 +147,7 @@ module _ {procs : List Procedure} {kernel : List Exported} (some : HasOperations
       ∙ sized-is (before ++ Whole (as_extent.loop turn) ∷ []) f of.1
       ∙ ap size_of (append_assoc before (Whole (as_extent.loop turn) ∷ []) (seen xs))
   sized-is before {locals} (repeated at n {a} {b} {ys} {xs} d f) of =
-      ap (size_onto known locals b) (ap (λ s. both_times n s (size_of before)) (sized-is [] d of.0) ∙ size-times n (seen ys) before)
+      ap (size_onto known locals b) (ap (λ s. both (size_of before) (times_size n s)) (sized-is [] d of.0) ∙ size-times n (seen ys) before)
       ∙ sized-is (before ++ times n (seen ys)) f of.1
       ∙ ap size_of (append_assoc before (times n (seen ys)) (seen xs) ∙ ap (λ us. before ++ us) (sym (seen-append as_extent (times n ys) xs ∙ ap (λ us. us ++ seen xs) (seen-times as_extent n ys))))
 

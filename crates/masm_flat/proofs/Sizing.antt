@@ -9,7 +9,7 @@ use Rattle.masm_parse.specs.declared.tree.Stmt.TheVariants.{Instr, If, While, Re
 use Rattle.masm_parse.specs.Trees.{Body, Empty}
 use Rattle.masm_parse.specs.Views.{add_step, stmt_view, body_of}
 use Rattle.masm_parse.proofs.Mirror.{view-Instr, view-If, view-While, view-Repeat, view-Exec, view-Call, view-Syscall}
-use Rattle.masm_flat.specs.Sizes.{Size, Known_sizes, as_extent, run_of, nothing, both, both_times, extent_of, block_size, size_onto, procedure_size}
+use Rattle.masm_flat.specs.Sizes.{Size, Known_sizes, as_extent, run_of, nothing, both, times_size, extent_of, block_size, size_onto, procedure_size}
 use Rattle.masm_flat.proofs.Statements.{each}
 
 module _ (known : Known_sizes) (locals : ℕ) where
@@ -47,7 +47,7 @@ module _ (known : Known_sizes) (locals : ℕ) where
   onto-While at xs before = ap (λ b. size_onto known locals b before) (view-While at xs Empty)
 
   pub onto-Repeat : (at : Position) (n : ℕ) (xs : Vec Stmt Global) (before : Size) → size_onto known locals (stmt_view (Repeat at n xs) Empty) before
-      ≡ both_times n (size_onto known locals (body_of xs.items) nothing) before
+      ≡ both before (times_size n (size_onto known locals (body_of xs.items) nothing))
   onto-Repeat at n xs before = ap (λ b. size_onto known locals b before) (view-Repeat at n xs Empty)
 
 pub ruleset sized = (onto-Instr, onto-Exec, onto-Call, onto-Syscall, onto-If, onto-While, onto-Repeat)

@@ -1,68 +1,61 @@
-ghost use Rattle.std.specs.Prelude.{◌≡◌, ◌≤◌, ◌∷◌, map, IfOk};
-ghost use Rattle.std.specs.Vec.Iter.{into_iter_items, into_iter_len};
-ghost use Rattle.masm_flat.specs.Blocks.{paired, all_joined};
-ghost use Rattle.masm_flat.specs.Sizes.{one_high, join_heights, height_joined, height_of};
+ghost use Rattle.std.specs.Prelude.{◌≡◌};
+ghost use Rattle.masm_flat.specs.Sizes.{is_joined, height_next, height_among, highest, row_height, row_view};
 
-use crate::shape::Shape;
-use std::alloc::Global;
-use std::vec::IntoIter;
-use vm_field::Memory;
+use crate::shape::{Outline, Rise};
 
-// The height of a block with two children.
-fn joined(a: u32, b: u32) -> u32
-    ensures { result ≡ join_heights a b }
+// Whether the block at this place among so many is joined with another one on the next level.
+fn is_joined(count: u32, index: u32) -> bool
+    ensures { result ≡ is_joined count index }
 {
-    a.max(b).saturating_add(1).min(1025)
+    index.saturating_add(1) < count || count % 2 == 0
 }
 
-// A height joined with the one behind it, where there is one.
-fn with_next(first: u32, behind: &mut IntoIter<u32>) -> u32
-    ensures ok { result ∷ paired one_high join_heights (into_iter_items behind.new)
-        ≡ paired one_high join_heights (first ∷ into_iter_items behind.old) }
-    ensures len { into_iter_len behind.new ≤ into_iter_len behind.old }
+// How high a block of this height stands on the next level.
+fn height_next(count: u32, index: u32, height: u32) -> u32
+    ensures { result ≡ height_next count index height }
 {
-    match behind.next() {
-        Some(second) => joined(first, second),
-        None => first,
+    if is_joined(count, index) {
+        height.saturating_add(1).min(1025)
+    } else {
+        height
     }
 }
 
-// The next level: each height is joined with the one behind it.
-fn pairs(alloc: Global, level: Vec<u32>) -> Result<Vec<u32>, Memory>
-    ensures { IfOk result (λ next. next.items ≡ paired one_high join_heights level.items) }
+// How high a block of this height, at this place, comes to stand among so many that are joined.
+#[tactic(auto, using(crate::proofs::Rows::levels))]
+fn height_among(count: u32, index: u32, height: u32) -> u32
+    ensures { result ≡ height_among count index height }
 {
-    let mut next = Vec::new(alloc);
-    let mut behind = level.into_iter();
-    while let Some(first) = behind.next() {
-        next.push(with_next(first, &mut behind))?;
+    let mut count = count;
+    let mut index = index;
+    let mut height = height;
+    while count > 1 {
+        height = height_next(count, index, height);
+        index /= 2;
+        count = count / 2 + count % 2;
     }
-    Ok(next)
+    height
 }
 
-// The height of the one block that is left when no two can be joined.
-#[tactic(auto, using(crate::proofs::Levels::levels))]
-fn join_levels(alloc: Global, mut level: Vec<u32>) -> Result<u32, Memory>
-    ensures { IfOk result (λ height. height ≡ height_joined level.items) }
+// The greatest of these heights among so many blocks.
+fn highest(count: u32, rises: &[Rise]) -> u32
+    ensures { result ≡ highest count rises.now }
 {
-    while level.len() > 1 {
-        level = pairs(alloc, level)?;
+    let mut height = 0;
+    for rise in rises {
+        height = height.max(height_among(count, rise.index, rise.height));
     }
-    Ok(level.pop().unwrap_or(1))
+    height
 }
 
-fn height_of(shape: Shape) -> u32
-    ensures { result ≡ height_of shape }
+/// The height of the block of a list of this outline, up to 1,025.
+#[tactic(auto, using(crate::proofs::Rows::row_heights))]
+pub fn row_height(outline: Outline, rises: &[Rise]) -> u32
+    ensures { result ≡ row_height (row_view outline rises.now) rises.now }
 {
-    match shape {
-        Shape::Run => 1,
-        Shape::Whole(height) => height,
+    if rises.is_empty() {
+        return 1;
     }
-}
-
-/// The height of the block of these parts, up to 1,025.
-pub fn height_joined(alloc: Global, shapes: &[Shape]) -> Result<u32, Memory>
-    ensures { IfOk result (λ height. height ≡ height_joined (map height_of shapes.now)) }
-{
-    let level = shapes.iter().map(|s| height_of(*s)).collect(alloc)?;
-    join_levels(alloc, level)
+    let count = outline.whole.saturating_add(u32::from(outline.ends_in_run));
+    highest(count, rises)
 }

@@ -4,6 +4,7 @@ ghost use Rattle.masm_flat.specs.Sizes.{part_view};
 
 use crate::known::{KernelProc, first};
 use crate::shape::{Extent, Part, Size};
+use crate::size::NO_PARTS;
 use masm_uses::Names;
 use vm_field::Bytes;
 
@@ -29,7 +30,8 @@ fn numbered<'a>(sizes: &'a [Size], number: Option<usize>) -> Part<'a>
     }
     Part {
         operations: 0,
-        shapes: &[],
+        outline: NO_PARTS,
+        rises: &[],
     }
 }
 

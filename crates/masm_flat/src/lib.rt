@@ -21,5 +21,5 @@ pub use known_sizes::Sizes;
 pub use measuring::size_of_procedure;
 pub use piece::Piece;
 pub use procedure::list_of_procedure;
-pub use shape::{Extent, Part, Shape, Size};
+pub use shape::{Extent, Outline, Part, Rise, Size};
 pub use size::extent_of;

@@ -7,7 +7,7 @@ ghost use Rattle.masm_flat.specs.Sizes.{size_view, nothing, extent_of, size_onto
 
 use crate::known_sizes::Sizes;
 use crate::shape::{Extent, Size};
-use crate::size::{both, both_times, extent_of, over, over_two, with_block, with_instr, with_run};
+use crate::size::{both, extent_of, over, over_two, times, with_block, with_instr, with_run};
 use masm_parse::{Proc, Stmt};
 use std::alloc::Global;
 use vm_field::Memory;
@@ -48,7 +48,7 @@ fn with_statement(
     match stmt {
         Stmt::Instr(_, instr) => with_instr(alloc, instr, locals, before),
         Stmt::Exec(_, name) => both(before, sizes.size(name)),
-        Stmt::Call(_, name) => with_block(before, over(extent_of(alloc, sizes.size(name))?)),
+        Stmt::Call(_, name) => with_block(before, over(extent_of(sizes.size(name)))),
         Stmt::Syscall(_, name) => with_block(before, over(sizes.exported(name))),
         Stmt::If(_, first, second) => {
             let on_one = extent(alloc, sizes, locals, first)?;
@@ -58,7 +58,7 @@ fn with_statement(
         Stmt::While(_, turn) => with_block(before, over(extent(alloc, sizes, locals, turn)?)),
         Stmt::Repeat(_, count, turn) => {
             let turn = size_onto(alloc, sizes, locals, turn, Size::nothing(alloc))?;
-            both_times(*count, turn.part(), before)
+            both(before, times(*count, turn).part())
         }
     }
 }
@@ -70,7 +70,7 @@ fn extent(alloc: Global, sizes: &Sizes, locals: u32, body: &[Stmt]) -> Result<Ex
     ensures { IfOk result (λ extent. extent ≡ extent_of (size_onto (known_sizes_of sizes.now) locals (body_of body.now) nothing)) }
 {
     let size = size_onto(alloc, sizes, locals, body, Size::nothing(alloc))?;
-    extent_of(alloc, size.part())
+    Ok(extent_of(size.part()))
 }
 
 /// The size of a procedure's list, where the sizes of the procedures that it uses are given.

@@ -1,16 +1,23 @@
-ghost use Rattle.std.specs.Prelude.{◌≡◌, ◌+◌, [], ◌∷◌, ◌++◌, length, if◌then◌else◌, IfOk};
+ghost use Rattle.std.specs.Prelude.{◌≡◌, ◌<◌, [], ◌∷◌, ◌++◌, length, nat_le, IfOk, OnOk};
 ghost use Rattle.masm_instr.specs.Instructions.{HasLocal};
 ghost use Rattle.masm_instr.specs.Expansion.{expansion};
-ghost use Rattle.masm_flat.specs.Sizes.{as_extent, size_view, part_view, limited, run_of, nothing, ends_in_run, without_run, both, both_times, extent_of, block_size};
+ghost use Rattle.masm_flat.specs.Sizes.{as_extent, size_view, part_view, row_view, limited, run_of, nothing, no_row, top_of, top_after, rises_behind, offset_of, row_both, both, times_size, extent_of, block_size};
 
-use crate::heights::height_joined;
-use crate::shape::{Extent, Part, Shape, Size};
+use crate::heights::row_height;
+use crate::shape::{Extent, Outline, Part, Rise, Size};
 use masm_instr::{Instr, expand};
 use std::alloc::Global;
 use vm_field::Memory;
 
 // More operations than this are refused.
 const MOST: u32 = 524_288;
+
+// The outline of the empty list.
+pub(crate) const NO_PARTS: Outline = Outline {
+    whole: 0,
+    starts_in_run: false,
+    ends_in_run: false,
+};
 
 impl Size {
     /// The size of the empty list.
@@ -19,7 +26,8 @@ impl Size {
     {
         Size {
             operations: 0,
-            shapes: Vec::new(alloc),
+            outline: NO_PARTS,
+            rises: Vec::new(alloc),
         }
     }
 
@@ -29,60 +37,154 @@ impl Size {
     {
         Part {
             operations: self.operations,
-            shapes: self.shapes.as_slice(),
+            outline: self.outline,
+            rises: self.rises.as_slice(),
         }
     }
 }
 
-#[tactic(auto, using(crate::proofs::Measures::ends_last))]
-fn ends_in_run(shapes: &[Shape]) -> bool
-    ensures { result ≡ ends_in_run shapes.now }
+// How many parts stand before those of a list that stands behind another; two runs that meet are one
+// part.
+fn offset_of(before: Outline, starts_in_run: bool) -> u32
+    ensures { result ≡ offset_of (row_view before []) starts_in_run }
 {
-    matches!(shapes.last(), Some(Shape::Run))
+    before
+        .whole
+        .saturating_add(u32::from(before.ends_in_run && !starts_in_run))
 }
 
-fn without_run(shapes: &[Shape]) -> &[Shape]
-    ensures { result.now ≡ without_run shapes.now }
+// Whether a part is higher than the highest before it.
+fn is_above(highest: Option<Rise>, rise: Rise) -> bool
+    ensures { result ≡ nat_le (top_after highest) rise.height }
 {
-    match shapes.split_first() {
-        Some((Shape::Run, behind)) => behind,
-        _ => shapes,
+    match highest {
+        Some(before) => before.height < rise.height,
+        None => true,
     }
 }
 
-// What is added to some parts when others follow: a run that meets a run is there already.
-fn added<'a>(shapes: &[Shape], more: &'a [Shape]) -> &'a [Shape]
-    ensures { result.now ≡ (if ends_in_run shapes.now then without_run more.now else more.now) }
+// Adds a part behind so many others, if it is higher than the highest of them.
+fn add_rise(
+    rises: &mut Vec<Rise>,
+    highest: Option<Rise>,
+    offset: u32,
+    rise: Rise,
+) -> Result<(), Memory>
+    ensures { OnOk result (rises.new.items ≡ rises.old.items ++ rises_behind offset (top_after highest) (rise ∷ [])) }
 {
-    if ends_in_run(shapes) {
-        without_run(more)
+    if !is_above(highest, rise) {
+        return Ok(());
+    }
+    rises.push(Rise {
+        index: offset.saturating_add(rise.index),
+        height: rise.height,
+    })?;
+    Ok(())
+}
+
+// Adds those of some parts that are higher than all before them.
+#[tactic(auto, using(crate::proofs::Measures::top_last))]
+fn add_rises(rises: &mut Vec<Rise>, offset: u32, more: &[Rise]) -> Result<(), Memory>
+    ensures { OnOk result (rises.new.items ≡ rises.old.items ++ rises_behind offset (top_of 0 rises.old.items) more.now) }
+{
+    let highest = rises.last().copied();
+    for rise in more {
+        add_rise(rises, highest, offset, *rise)?;
+    }
+    Ok(())
+}
+
+// A size with another behind it, where both have so many operations.
+#[tactic(auto, unfolding(crate::specs::Sizes::row_both), using(crate::proofs::Measures::rows))]
+fn joined(operations: u32, before: Size, more: Part) -> Result<Size, Memory>
+    ensures { IfOk result (λ size. size_view size ≡ record { operations = operations; row = row_both (size_view before).row (part_view more.entry).row }) }
+{
+    if more.rises.is_empty() {
+        return Ok(Size {
+            operations,
+            outline: before.outline,
+            rises: before.rises,
+        });
+    }
+    let offset = offset_of(before.outline, more.outline.starts_in_run);
+    let starts_in_run = if before.rises.is_empty() {
+        more.outline.starts_in_run
     } else {
-        more
+        before.outline.starts_in_run
+    };
+    let mut rises = before.rises;
+    add_rises(&mut rises, offset, more.rises)?;
+    Ok(Size {
+        operations,
+        outline: Outline {
+            whole: offset.saturating_add(more.outline.whole),
+            starts_in_run,
+            ends_in_run: more.outline.ends_in_run,
+        },
+        rises,
+    })
+}
+
+// So many operations in no parts.
+fn without_parts(operations: u32, size: Size) -> Size
+    ensures { size_view result ≡ record { operations = operations; row = no_row } }
+{
+    let mut rises = size.rises;
+    rises.clear();
+    Size {
+        operations,
+        outline: NO_PARTS,
+        rises,
     }
 }
 
 /// A size with another behind it.
-#[tactic(auto, unfolding(crate::specs::Sizes::both, crate::specs::Sizes::merged))]
+#[tactic(auto, unfolding(crate::specs::Sizes::both))]
 pub fn both(before: Size, more: Part) -> Result<Size, Memory>
     ensures { IfOk result (λ size. size_view size ≡ both (size_view before) (part_view more.entry)) }
 {
     let operations = before.operations.saturating_add(more.operations);
-    let mut shapes = before.shapes;
     if operations > MOST {
-        shapes.clear();
-        return Ok(Size {
-            operations: MOST + 1,
-            shapes,
-        });
+        return Ok(without_parts(MOST + 1, before));
     }
-    let more = added(&shapes, more.shapes);
-    shapes.extend_from_slice(more)?;
-    Ok(Size { operations, shapes })
+    joined(operations, before, more)
 }
 
-// A size with so many operations in these parts behind it.
-fn both_limited(before: Size, operations: u32, shapes: &[Shape]) -> Result<Size, Memory>
-    ensures { IfOk result (λ size. size_view size ≡ both (size_view before) (limited operations shapes.now)) }
+/// The size of a list so many times.
+#[tactic(auto, unfolding(crate::specs::Sizes::row_times), using(crate::proofs::Measures::many_times))]
+pub fn times(count: u32, size: Size) -> Size
+    ensures { size_view result ≡ times_size count (size_view size) }
+{
+    if count == 0 {
+        return without_parts(0, size);
+    }
+    let operations = size.operations.saturating_mul(count);
+    if operations > MOST {
+        return without_parts(MOST + 1, size);
+    }
+    let step = offset_of(size.outline, size.outline.starts_in_run);
+    Size {
+        operations,
+        outline: Outline {
+            whole: size
+                .outline
+                .whole
+                .saturating_add(step.saturating_mul(count - 1)),
+            starts_in_run: size.outline.starts_in_run,
+            ends_in_run: size.outline.ends_in_run,
+        },
+        rises: size.rises,
+    }
+}
+
+// A size with so many operations in one part behind it.
+fn both_limited(
+    before: Size,
+    operations: u32,
+    outline: Outline,
+    height: u32,
+) -> Result<Size, Memory>
+    ensures { IfOk result (λ size. size_view size ≡ both (size_view before) (limited operations (row_view outline (record { index = 0; height = height } ∷ [])))) }
 {
     if operations > MOST {
         let operations = MOST + 1;
@@ -90,28 +192,46 @@ fn both_limited(before: Size, operations: u32, shapes: &[Shape]) -> Result<Size,
             before,
             Part {
                 operations,
-                shapes: &[],
+                outline: NO_PARTS,
+                rises: &[],
             },
         );
     }
-    both(before, Part { operations, shapes })
+    both(
+        before,
+        Part {
+            operations,
+            outline,
+            rises: &[Rise { index: 0, height }],
+        },
+    )
 }
 
 /// A size with a block behind it.
 pub fn with_block(before: Size, block: Extent) -> Result<Size, Memory>
     ensures { IfOk result (λ size. size_view size ≡ both (size_view before) (block_size block)) }
 {
-    both_limited(before, block.operations, &[Shape::Whole(block.height)])
+    let outline = Outline {
+        whole: 1,
+        starts_in_run: false,
+        ends_in_run: false,
+    };
+    both_limited(before, block.operations, outline, block.height)
 }
 
 /// A size with so many operations behind it.
-#[tactic(auto, using(crate::proofs::Measures::run_of_none, crate::proofs::Measures::run_of_some))]
+#[tactic(auto, using(crate::proofs::Measures::run_of_some))]
 pub fn with_run(count: usize, before: Size) -> Result<Size, Memory>
+    requires { 0 < count }
     ensures { IfOk result (λ size. size_view size ≡ both (size_view before) (run_of count)) }
 {
     let operations = u32::try_from(count).unwrap_or(u32::MAX);
-    let shapes: &[Shape] = if count == 0 { &[] } else { &[Shape::Run] };
-    both_limited(before, operations, shapes)
+    let outline = Outline {
+        whole: 0,
+        starts_in_run: true,
+        ends_in_run: true,
+    };
+    both_limited(before, operations, outline, 1)
 }
 
 /// A size with an instruction behind it, in a procedure of so many locals.
@@ -123,26 +243,14 @@ pub fn with_instr(alloc: Global, instr: &Instr, locals: u32, before: Size) -> Re
     with_run(items.len(), before)
 }
 
-/// A size with another behind it so many times.
-#[tactic(auto, using(crate::proofs::Measures::both_times_more))]
-pub fn both_times(count: u32, more: Part, before: Size) -> Result<Size, Memory>
-    ensures { IfOk result (λ size. size_view size ≡ both_times count (part_view more.entry) (size_view before)) }
-{
-    let mut size = before;
-    for _turn in 0..count {
-        size = both(size, more)?;
-    }
-    Ok(size)
-}
-
 /// The extent of the block of a list.
-pub fn extent_of(alloc: Global, list: Part) -> Result<Extent, Memory>
-    ensures { IfOk result (λ extent. extent ≡ extent_of (part_view list.entry)) }
+pub fn extent_of(list: Part) -> Extent
+    ensures { result ≡ extent_of (part_view list.entry) }
 {
-    Ok(Extent {
+    Extent {
         operations: list.operations.max(1),
-        height: height_joined(alloc, list.shapes)?,
-    })
+        height: row_height(list.outline, list.rises),
+    }
 }
 
 /// The extent of a block with this child.

@@ -8,6 +8,7 @@ use Rattle.std.specs.Option.{option_to_list}
 use Rattle.masm_parse.specs.Trees.{Procedure, Source}
 use Rattle.masm_uses.specs.declared.refusal.LinkCause.TheVariants as causes
 use Rattle.masm_uses.specs.Naming.{IsClosed, unknown, not_in_kernel}
+use Rattle.masm_uses.specs.Plans.{NeedsIn, IsWanted, of_main}
 use Rattle.masm_uses.specs.UseOrders.{IsUseOrder}
 use Rattle.masm_uses.specs.Uses.{Use, Own, Kernel, uses_of, all_uses, first_place}
 use Rattle.masm_uses.proofs.UsedLemmas.{in_all, place_within}
@@ -21,8 +22,8 @@ abbrev uses_in : Procedure → List Use
 uses_in p = uses_of p.body
 
 -- the first procedure of that name stands at one of these places
-abbrev pub Behind : List Procedure → List ℕ → List ℕ → Type 0
-Behind procs done name = (j : ℕ) × (first_place procs name ≡ Some j) × Contains done j
+abbrev pub Behind : List Procedure → (ℕ → Type 0) → List ℕ → Type 0
+Behind procs Done name = (j : ℕ) × (first_place procs name ≡ Some j) × Done j
 
 abbrev pub IsExportName : List Exported → List ℕ → Type 0
 IsExportName exports name = (block : Block) × (first_export exports name ≡ Some block)
@@ -58,19 +59,32 @@ module _ (source : Source) where
         by (Some block) is = (block, is)
 
     pub uses_behind : (order : List ℕ) → IsUseOrder source.procs order → (k : ℕ) (p : Procedure) → k < length order
-        → slice_get source.procs (get_or order k 0) ≡ Some p → UsesOnly (Behind source.procs (take k order)) p.body
+        → slice_get source.procs (get_or order k 0) ≡ Some p → UsesOnly (Behind source.procs (Contains (take k order))) p.body
     uses_behind order is k p below here =
-        uses_only (Behind source.procs (take k order)) p.body (λ u has own.
+        uses_only (Behind source.procs (Contains (take k order))) p.body (λ u has own.
         let leads = own_leads u (among_procs (get_or order k 0) p u here has) own in
         (leads.0, leads.1, is.behind k u leads.0 below (record { procedure = p; here = here; among = has; own = own; target = leads.1 })))
 
-    pub uses_main : (order : List ℕ) → IsUseOrder source.procs order → (p : Procedure) → source.main ≡ Some p → UsesOnly (Behind source.procs order) p.body
+    pub uses_main : (order : List ℕ) → IsUseOrder source.procs order → (p : Procedure) → source.main ≡ Some p → UsesOnly (Behind source.procs (Contains order)) p.body
     uses_main order is p main =
-        uses_only (Behind source.procs order) p.body (λ u has own.
+        uses_only (Behind source.procs (Contains order)) p.body (λ u has own.
         let leads = own_leads u (among_main p u main has) own in
         let below = place_within (map (λ (q : Procedure). q.name) source.procs) u.name leads.0 leads.1 in
         let count = length-map source.procs (λ (q : Procedure). q.name) in
         (leads.0, leads.1, is.all leads.0 (omega arith)))
+
+    -- the same where the procedures that are used have these places
+    pub uses_held : (Held : ℕ → Type 0) (place : ℕ) (p : Procedure) → slice_get source.procs place ≡ Some p
+        → ((j : ℕ) → NeedsIn source.procs place j → Held j) → UsesOnly (Behind source.procs Held) p.body
+    uses_held Held place p here held =
+        uses_only (Behind source.procs Held) p.body (λ u has own.
+        let leads = own_leads u (among_procs place p u here has) own in
+        (leads.0, leads.1, held leads.0 (u, record { procedure = p; here = here; among = has; own = own; target = leads.1 })))
+
+    pub uses_wanted : (p : Procedure) → source.main ≡ Some p → UsesOnly (Behind source.procs (IsWanted source)) p.body
+    uses_wanted p main =
+        uses_only (Behind source.procs (IsWanted source)) p.body (λ u has own.
+        let leads = own_leads u (among_main p u main has) own in (leads.0, leads.1, of_main p u main has own leads.1))
 
     pub syscalls_procs : (exports : List Exported) → names ≡ names_of exports → (place : ℕ) (p : Procedure) → slice_get source.procs place ≡ Some p
         → SyscallsOnly (IsExportName exports) p.body

@@ -29,7 +29,7 @@ module _ (source : Source) (names : List (List ℕ)) (closed : IsClosed source n
   exist : (n k : ℕ) → k < n → n ≤ length order → (p : Procedure) → slice_get source.procs (get_or order k 0) ≡ Some p → HasListOf p
   exist zero k low within p here = absurd (omega arith)
   exist (suc n) k low within p here =
-      has_list (Behind source.procs (take k order)) (IsExportName exports)
+      has_list (Behind source.procs (Contains (take k order))) (IsExportName exports)
       (λ name behind.
       let found = procedure_found source.procs name behind.0 behind.1 in
       let before = in_front k order behind.0 (omega arith) behind.2 in
@@ -46,7 +46,7 @@ module _ (source : Source) (names : List (List ℕ)) (closed : IsClosed source n
 
   pub list_of_main : (p : Procedure) → source.main ≡ Some p → HasListOf p
   list_of_main p main =
-      has_list (Behind source.procs order) (IsExportName exports)
+      has_list (Behind source.procs (Contains order)) (IsExportName exports)
       (λ name behind.
       let found = procedure_found source.procs name behind.0 behind.1 in
       let list = list_of_procedure behind.0 found.0 found.1 in

@@ -1,5 +1,5 @@
 -- Tables of sizes and lists, as they are filled.
-use Rattle.std.proofs.Common.{◌≡◌, ◌≢◌, ℕ, zero, suc, ◌+◌, ◌<◌, List, [], ◌∷◌, length, get_or, set, take, slice_get, Some, inl, inr, refl, sym, ap, subst, ◌∙◌, unwrap_or, Vec, Global, arith}
+use Rattle.std.proofs.Common.{◌≡◌, ◌≢◌, ℕ, zero, suc, ◌+◌, ◌<◌, List, [], ◌∷◌, length, get_or, set, take, slice_get, Some, ◌⊎◌, inl, inr, refl, sym, ap, subst, ◌∙◌, unwrap_or, Vec, Global, arith}
 use Rattle.std.proofs.lemmas.Bool.Decides.{eqb_tells}
 use Rattle.std.proofs.lemmas.List.{take_more, length-map}
 use Rattle.std.proofs.lemmas.List.Elements.{Contains-push_cases}
@@ -20,6 +20,7 @@ use Rattle.masm_uses.proofs.UsedLemmas.{mapped}
 use Rattle.masm_uses.specs.declared.names.Names.{Names}
 use Rattle.masm_uses.specs.Names.{place_at}
 use Rattle.masm_uses.specs.Naming.{IsClosed}
+use Rattle.masm_uses.specs.Plans.{NeedsIn}
 use Rattle.masm_uses.specs.UseOrders.{IsUseOrder}
 use Rattle.masm_uses.specs.Uses.{first_place}
 use Rattle.masm_flat.specs.declared.known.KernelProc.{KernelProc}
@@ -36,8 +37,8 @@ use Rattle.masm_flat.proofs.Flattened.{Fits, flat-is, seen-append}
 use Rattle.masm_flat.proofs.Sized.{SizesFit, HasOperations, procedure-sized}
 use Rattle.masm_uses.proofs.UsesOnly.{UsesOnly}
 use Rattle.masm_link.specs.Kernels.{AreExports}
-use Rattle.masm_link.specs.Tables.{AreKnown, AreSizes, AreLists}
-use Rattle.masm_link.proofs.Closed.{Behind, uses_behind}
+use Rattle.masm_link.specs.Tables.{AreKnown, AreSizes, IsListAt}
+use Rattle.masm_link.proofs.Closed.{Behind, uses_behind, uses_held}
 use Rattle.masm_link.proofs.Finding.{procedure_found, export_found}
 
 -- one more place of a table
@@ -79,7 +80,7 @@ got_same [] i x below = absurd (omega arith)
 got_same (y ∷ xs) zero x below = refl
 got_same (y ∷ xs) (suc i) x below = got_same xs i x (omega arith)
 
-got_other : {X : Type 0} (xs : List X) (i q : ℕ) (x : X) → q ≢ i → slice_get (set xs i x) q ≡ slice_get xs q
+pub got_other : {X : Type 0} (xs : List X) (i q : ℕ) (x : X) → q ≢ i → slice_get (set xs i x) q ≡ slice_get xs q
 got_other [] i q x apart = refl
 got_other (y ∷ xs) zero zero x apart = absurd (apart refl)
 got_other (y ∷ xs) zero (suc q) x apart = refl
@@ -93,7 +94,7 @@ module _ (source : Source) (exports : List Exported) (kernel : List KernelProc) 
 
   -- a table of sizes tells the sizes by the names
   pub sizes_fit : (done : List ℕ) (sizes : List shape.Size) → AreSizes source.procs exports done sizes
-      → SizesFit source.procs exports (Behind source.procs done) (sizes_known names sizes kernel)
+      → SizesFit source.procs exports (Behind source.procs (Contains done)) (sizes_known names sizes kernel)
   sizes_fit done sizes known = record {
     size = λ name p ys behind found d.
         let q = procedure_found source.procs name behind.0 behind.1 in
@@ -104,24 +105,24 @@ module _ (source : Source) (exports : List Exported) (kernel : List KernelProc) 
         ap (λ o. unwrap_or (option_map (λ (p : KernelProc). p.extent) o) (extent 1 1)) e.found ∙ e.extent;
   }
 
-  pub lists_fit : (done : List ℕ) (lists : List (Vec piece.Piece Global)) → AreLists source.procs exports done lists
-      → Fits as_tree source.procs exports (Behind source.procs done) (lists_known names lists kernel)
-  lists_fit done lists known = record {
+  pub lists_fit : (Held : ℕ → Type 0) (lists : List (Vec piece.Piece Global)) → ((q : ℕ) → Held q → IsListAt source.procs exports lists q)
+      → Fits as_tree source.procs exports (Behind source.procs Held) (lists_known names lists kernel)
+  lists_fit Held lists known = record {
     list = λ name p ys behind found d.
         let q = procedure_found source.procs name behind.0 behind.1 in
         let same : q.0 ≡ p = same_Some q.0 p (sym q.2 ∙ found) in
-        ap (list_at lists) (places name ∙ behind.1) ∙ known behind.0 p ys behind.2 (q.1 ∙ ap Some same) d;
+        ap (list_at lists) (places name ∙ behind.1) ∙ known behind.0 behind.2 p ys (q.1 ∙ ap Some same) d;
     exported = λ name block found.
         let e = export_found exports kernel are name block found in
         ap (λ o. unwrap_or (option_map (λ (p : KernelProc). tree_of p.tree) o) (trees.Opaque zero_word)) e.found ∙ e.tree;
   }
 
   -- the list of a procedure with its locals, where that of its body is known
-  pub listed : (done : List ℕ) (lists : List (Vec piece.Piece Global)) → AreLists source.procs exports done lists → (p : Procedure) (xs : List (Piece Block))
-      → IsList source.procs exports p.locals p.body xs → UsesOnly (Behind source.procs done) p.body
+  pub listed : (Held : ℕ → Type 0) (lists : List (Vec piece.Piece Global)) → ((q : ℕ) → Held q → IsListAt source.procs exports lists q)
+      → (p : Procedure) (xs : List (Piece Block)) → IsList source.procs exports p.locals p.body xs → UsesOnly (Behind source.procs Held) p.body
       → with_locals p.locals (flat_with as_tree (lists_known names lists kernel) p.locals p.body) ≡ seen_pieces (seen_as as_tree) (with_locals p.locals xs)
-  listed done lists known p xs d of =
-      ap (with_locals p.locals) (flat-is as_tree (Behind source.procs done) (lists_known names lists kernel) (lists_fit done lists known) d of)
+  listed Held lists known p xs d of =
+      ap (with_locals p.locals) (flat-is as_tree (Behind source.procs Held) (lists_known names lists kernel) (lists_fit Held lists known) d of)
       ∙ seen_locals p.locals xs
 
   module _ (closed_names : List (List ℕ)) (closed : IsClosed source closed_names) (order : List ℕ) (is : IsUseOrder source.procs order) where
@@ -138,24 +139,39 @@ module _ (source : Source) (exports : List Exported) (kernel : List KernelProc) 
         let d' = subst (λ r. IsList source.procs exports r.locals r.body pieces) (sym same) d in
         ap (λ o. unwrap_or (option_map size_view o) nothing) (ap (λ xs. slice_get xs (get_or order k 0)) sets ∙ got_same old (get_or order k 0) size within)
         ∙ (is_size
-        ∙ (procedure-sized has_operations (Behind source.procs (take k order)) (sizes_known names old kernel) (sizes_fit (take k order) old known) p pieces d'
+        ∙ (procedure-sized has_operations (Behind source.procs (Contains (take k order))) (sizes_known names old kernel) (sizes_fit (take k order) old known) p pieces d'
         (uses_behind source closed_names closed order is k p below here)
         ∙ ap (λ r. size_of (seen_pieces (seen_as as_extent) (with_locals r.locals pieces))) same)))
 
-    pub lists_more : (k : ℕ) (p : Procedure) (old new : List (Vec piece.Piece Global)) (list : Vec piece.Piece Global) → k < length order
-        → slice_get source.procs (get_or order k 0) ≡ Some p → AreLists source.procs exports (take k order) old
-        → new ≡ set old (get_or order k 0) list → get_or order k 0 < length old
+  -- a step of a plan: a list is built where those that it needs are held, and some are freed
+  module _ (closed_names : List (List ℕ)) (closed : IsClosed source closed_names) (place : ℕ) (p : Procedure) (here : slice_get source.procs place ≡ Some p)
+      (old mid new : List (Vec piece.Piece Global)) (list : Vec piece.Piece Global) (within : place < length old) where
+    pub list_here : ((q : ℕ) → NeedsIn source.procs place q → IsListAt source.procs exports old q) → mid ≡ set old place list
         → pieces_of list.items ≡ with_locals p.locals (flat_with as_tree (lists_known names old kernel) p.locals p.body)
-        → AreLists source.procs exports (take (k + 1) order) new
-    lists_more k p old new list below here known sets within is_list =
-        known_more source.procs exports (seen_pieces (seen_as as_tree)) order k (λ q. list_at old (Some q)) (λ q. list_at new (Some q)) below known
-        (λ q apart. ap (λ o. unwrap_or (option_map (λ (v : Vec piece.Piece Global). pieces_of v.items) o) []) (ap (λ xs. slice_get xs q) sets
-        ∙ got_other old (get_or order k 0) q list apart))
-        (λ q pieces there d.
+        → IsListAt source.procs exports mid place
+    list_here needs sets is_list q pieces there d =
         let same : p ≡ q = same_Some p q (sym here ∙ there) in
         let d' = subst (λ r. IsList source.procs exports r.locals r.body pieces) (sym same) d in
-        ap (λ o. unwrap_or (option_map (λ (v : Vec piece.Piece Global). pieces_of v.items) o) []) (ap (λ xs. slice_get xs (get_or order k 0)) sets
-        ∙ got_same old (get_or order k 0) list within)
+        ap (λ o. unwrap_or (option_map (λ (v : Vec piece.Piece Global). pieces_of v.items) o) []) (ap (λ xs. slice_get xs place) sets
+        ∙ got_same old place list within)
         ∙ (is_list
-        ∙ (listed (take k order) old known p pieces d' (uses_behind source closed_names closed order is k p below here)
-        ∙ ap (λ r. seen_pieces (seen_as as_tree) (with_locals r.locals pieces)) same)))
+        ∙ (listed (IsListAt source.procs exports old) old (λ r held. held) p pieces d' (uses_held source closed_names closed (IsListAt source.procs exports old) place p here needs)
+        ∙ ap (λ r. seen_pieces (seen_as as_tree) (with_locals r.locals pieces)) same))
+
+    list_there : (q : ℕ) → q ≢ place → mid ≡ set old place list → IsListAt source.procs exports old q → IsListAt source.procs exports mid q
+    list_there q apart sets known r pieces there d =
+        ap (λ o. unwrap_or (option_map (λ (v : Vec piece.Piece Global). pieces_of v.items) o) []) (ap (λ xs. slice_get xs q) sets ∙ got_other old place q list apart)
+        ∙ known r pieces there d
+
+    pub list_step : ((q : ℕ) → NeedsIn source.procs place q → IsListAt source.procs exports old q) → mid ≡ set old place list
+        → pieces_of list.items ≡ with_locals p.locals (flat_with as_tree (lists_known names old kernel) p.locals p.body)
+        → (q : ℕ) → IsListAt source.procs exports old q ⊎ (q ≡ place) → slice_get new q ≡ slice_get mid q → IsListAt source.procs exports new q
+    list_step needs sets is_list q held kept r pieces there d =
+        ap (λ o. unwrap_or (option_map (λ (v : Vec piece.Piece Global). pieces_of v.items) o) []) kept
+        ∙ elim (eqb_tells q place) [
+          | inl same ↦ subst (IsListAt source.procs exports mid) (sym same.1) (list_here needs sets is_list) r pieces there d
+          | inr apart ↦ elim held [
+            | inl known ↦ list_there q apart.1 sets known r pieces there d
+            | inr at ↦ absurd (apart.1 at)
+          ]
+        ]

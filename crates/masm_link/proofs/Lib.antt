@@ -5,5 +5,6 @@ pub mod Finding
 pub mod Known
 pub mod Linked
 pub mod Over
+pub mod Steps
 pub mod WholeTrees
 pub mod Words

@@ -4,7 +4,7 @@ use Rattle.std.proofs.lemmas.Bool.{cases_lt}
 use Rattle.std.proofs.lemmas.List.{map-append, take_more, length-take-le}
 use Rattle.std.proofs.lemmas.List.Elements.{filter-append, Contains-append_left}
 use Rattle.std.proofs.lemmas.Option.{slice_get_within}
-use Rattle.std.specs.List.{AllZip}
+use Rattle.std.specs.List.{AllZip, Contains}
 use Rattle.std.specs.Option.{option_map, option_to_list}
 use Rattle.block_tree.specs.declared.tree.Tree as code
 use Rattle.block_tree.specs.TreeView.{tree_of}
@@ -19,6 +19,8 @@ use Rattle.masm_uses.specs.declared.refusal.Refusal.{Refusal}
 use Rattle.masm_uses.specs.Among.{Among}
 use Rattle.masm_uses.specs.Earlier.{earlier}
 use Rattle.masm_uses.specs.Least.{IsLeast, Answers}
+use Rattle.masm_uses.specs.Plans.{IsWanted}
+use Rattle.masm_uses.specs.Plans as plans
 use Rattle.masm_uses.specs.Naming.{Dangles, Doubles, IsClosed, at_procedure, exported_of}
 use Rattle.masm_uses.proofs.LeastLemmas.{Either, Answers-same, Answers-earlier}
 use Rattle.masm_uses.proofs.UsedLemmas.{unmapped, mapped, contains_at}
@@ -42,7 +44,7 @@ use Rattle.masm_link.specs.Limits.{IsOver}
 use Rattle.masm_link.specs.Measures.{IsMeasured, AreReady, IsLinked}
 use Rattle.masm_link.specs.Refusals.{IsTooLarge, too_many_operations, Oversized, names_of, RefusesAt, double, dangling, oversized}
 use Rattle.masm_link.specs.Tables.{AreLists}
-use Rattle.masm_link.proofs.Closed.{Behind, uses_main}
+use Rattle.masm_link.proofs.Closed.{Behind, uses_main, uses_wanted}
 use Rattle.masm_link.proofs.Exist.{list_of_procedure, list_of_main}
 use Rattle.masm_link.proofs.Finding.{names_same}
 use Rattle.masm_link.proofs.Known.{has_operations, sizes_fit, listed}
@@ -107,12 +109,12 @@ module _ (procs : List Procedure) (exports : List Exported) (sizes : List shape.
       ∙ ap (λ t. exported_of (map procedure_of front) ++ cond t (procedure_of p ∷ []) []) is
 
   pub own_of : {front : List Proc} {out : List KernelProc} → AreBuilt sizes lists front out
-      → ((place : ℕ) (p : Proc) → slice_get front place ≡ Some p → IsReady place (procedure_of p))
+      → ((place : ℕ) (p : Proc) → slice_get front place ≡ Some p → p.exported ≡ true → IsReady place (procedure_of p))
       → (own : List Exported) × AllZip IsOwn (exported_of (map procedure_of front)) own × AreExports own out
   own_of none ready = ([], tt, tt)
   own_of (exported {procs = front} {exports = out} p export before is built) ready =
       let rest = own_of before (λ place q here. ready place q (got_before front (p ∷ []) place q here)) in
-      let r = ready (length front) p (got_last front p) in
+      let r = ready (length front) p (got_last front p) is in
       let e : Exported = record { name = p.name; block = r.0 } in (
         rest.0 ++ e ∷ [],
         subst (λ ps. AllZip IsOwn ps (rest.0 ++ e ∷ [])) (sym (one_more front p true is)) (zip_push IsOwn (exported_of
@@ -175,7 +177,7 @@ module _ (ast : Ast) (kernel : List KernelProc) (m : Measured) (is : IsMeasured 
       the_extent p (list_of_body p main).0
   main_extent p main =
       let list = list_of_body p main in
-      ap extent_of (procedure-sized (has_operations source exports kernel are m.names is.names) (Behind source.procs m.order.items)
+      ap extent_of (procedure-sized (has_operations source exports kernel are m.names is.names) (Behind source.procs (Contains m.order.items))
       (sizes_known m.names m.sizes.items kernel)
       (sizes_fit source exports kernel are m.names is.names m.order.items m.sizes.items (is.sizes exports are)) p list.0 list.1
       (uses_main source (names_in kernel) is.closed m.order.items is.order p main))
@@ -244,14 +246,14 @@ module _ (ast : Ast) (kernel : List KernelProc) (m : Measured) (is : IsMeasured 
 
   -- the tables tell each procedure's block, where not_so tree is too large
   module _ (clean : (at : Position) (cause : LinkCause) → ¬ (RefusesAt source exports at cause)) (lists : List (Vec piece.Piece Global))
-      (known : AreLists source.procs exports m.order.items lists) where
+      (known : AreLists source exports lists) where
     ready : AreReady source exports m.sizes.items lists
-    ready place p here =
+    ready place p here is_exported =
         let list = list_at_place place p here in
         let some = has_operations source exports kernel are m.names is.names in
         let zs = with_locals p.locals list.0 in
         let block = block_of zs in
-        let tree = ap (whole as_tree) (known place p list.0 (is.order.all place (slice_get_within source.procs place p here)) here list.1) ∙ sym
+        let tree = ap (whole as_tree) (known place (plans.exported p here is_exported) p list.0 here list.1) ∙ sym
         (seen-block as_tree zs) in (
           block,
           the_block_is source.procs exports some p list.0 list.1,
@@ -288,8 +290,8 @@ module _ (ast : Ast) (kernel : List KernelProc) (m : Measured) (is : IsMeasured 
     pub built_exports : (out : List KernelProc) → AreBuilt m.sizes.items lists ast.procs.items out
         → (own : List Exported) × AllZip (λ p e. (e.name ≡ p.name) × IsBlockOf source.procs exports p e.block)
         (exported_of source.procs) own × AreExports own out
-    built_exports out built = own_of source.procs exports m.sizes.items lists built (λ place p here. ready place (procedure_of p)
-        (mapped procedure_of ast.procs.items place p here))
+    built_exports out built = own_of source.procs exports m.sizes.items lists built (λ place p here is_exported. ready place (procedure_of p)
+        (mapped procedure_of ast.procs.items place p here) is_exported)
 
     -- the tree of the main body
     pub main_block : (main : Option code.Tree)
@@ -321,8 +323,8 @@ module _ (ast : Ast) (kernel : List KernelProc) (m : Measured) (is : IsMeasured 
               subst (λ o. MatchOption (option_map procedure_of o) (Some block ≡ None) (λ r. (b : Block) ×
                   (Some block ≡ Some b) × IsBlockOf source.procs exports r b)) (sym there)
                   (block, refl, the_block_is source.procs exports (has_operations source exports kernel are m.names is.names) p list.0 list.1),
-              e' ∙ ap Some (ap (whole as_tree) (listed source exports kernel are m.names is.names m.order.items lists known p list.0 list.1
-                  (uses_main source (names_in kernel) is.closed m.order.items is.order p main_is)) ∙ sym (seen-block as_tree zs)),
+              e' ∙ ap Some (ap (whole as_tree) (listed source exports kernel are m.names is.names (IsWanted source) lists known p list.0 list.1
+                  (uses_wanted source (names_in kernel) is.closed p main_is)) ∙ sym (seen-block as_tree zs)),
             )
 
     pub linked_is : (linked : Linked) → AreBuilt m.sizes.items lists ast.procs.items linked.exports.items

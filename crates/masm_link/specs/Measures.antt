@@ -1,5 +1,5 @@
 -- What is known of a source before anything is built, and what it links to in memory.
-use Rattle.std.specs.Prelude.{◌≡◌, ℕ, ◌≤◌, List, length, Option, Some, Result, Ok, Err, Vec, slice_get}
+use Rattle.std.specs.Prelude.{◌≡◌, ℕ, ◌≤◌, true, List, length, Option, Some, Result, Ok, Err, Vec, slice_get}
 use Rattle.std.specs.Global.{Global}
 use Rattle.std.specs.Option.{option_map}
 use Rattle.block_tree.specs.TreeView.{tree_of}
@@ -18,6 +18,7 @@ use Rattle.masm_uses.specs.declared.refusal.Refusal.{Refusal}
 use Rattle.masm_uses.specs.Least.{IsLeast}
 use Rattle.masm_uses.specs.Names.{place_at}
 use Rattle.masm_uses.specs.Naming.{IsClosed}
+use Rattle.masm_uses.specs.Plans.{IsPlan}
 use Rattle.masm_uses.specs.UseOrders.{IsUseOrder}
 use Rattle.masm_uses.specs.Uses.{first_place}
 use Rattle.masm_link.specs.declared.linking.Linked.{Linked}
@@ -28,11 +29,12 @@ use Rattle.masm_link.specs.Kernels.{AreExports, names_in}
 use Rattle.masm_link.specs.Refusals.{RefusesAt, Links}
 use Rattle.masm_link.specs.Tables.{AreSizes}
 
--- no use leads nowhere or back, and these are the procedures in order and the sizes of their lists
+-- no use leads nowhere or back, and these are the procedures in order, the steps that build lists, and the sizes of all lists
 pub record IsMeasured (source : Source) (kernel : List KernelProc) (m : Measured) : Type 0 where
   pub names : (name : List ℕ) → place_at m.names name ≡ first_place source.procs name
   pub closed : IsClosed source (names_in kernel)
   pub order : IsUseOrder source.procs m.order.items
+  pub steps : IsPlan source m.steps.items
   pub count : length m.sizes.items ≡ length source.procs
   pub sizes : (exports : List Exported) → AreExports exports kernel → AreSizes source.procs exports m.order.items m.sizes.items
 
@@ -51,10 +53,10 @@ Measures source kernel (Ok m) = IsMeasured source kernel m × IsClean source ker
 Measures source kernel (Err (Refused refusal)) = IsFirstRefused source kernel refusal
 Measures source kernel (Err Memory) = Unit {0}
 
--- the table of lists and that of sizes tell each procedure's block
+-- the table of lists and that of sizes tell the block of each procedure that is exported
 abbrev pub AreReady : Source → List Exported → List shape.Size → List (Vec piece.Piece Global) → Type 0
 AreReady source exports sizes lists =
-    (place : ℕ) (p : Procedure) → slice_get source.procs place ≡ Some p
+    (place : ℕ) (p : Procedure) → slice_get source.procs place ≡ Some p → p.exported ≡ true
     → (block : Block) × IsBlockOf source.procs exports p block × (whole as_tree (list_at lists (Some place)) ≡ seen_as as_tree block)
     × (extent_of (size_at sizes (Some place)) ≡ seen_as as_extent block) × (1 ≤ seen_as as_operations block)
 

@@ -2,7 +2,8 @@
 use Rattle.std.specs.Prelude.{◌≡◌, ℕ, List, Some, Vec, slice_get}
 use Rattle.std.specs.Global.{Global}
 use Rattle.std.specs.List.{Contains}
-use Rattle.masm_parse.specs.Trees.{Procedure}
+use Rattle.masm_parse.specs.Trees.{Procedure, Source}
+use Rattle.masm_uses.specs.Plans.{IsWanted}
 use Rattle.masm_flat.specs.declared.piece.Piece as piece
 use Rattle.masm_flat.specs.declared.shape.Size as shape
 use Rattle.masm_flat.specs.Blocks.{Block, Piece, seen_as, seen_pieces, as_tree}
@@ -22,6 +23,12 @@ abbrev pub AreSizes : List Procedure → List Exported → List ℕ → List sha
 AreSizes procs kernel done sizes =
     AreKnown procs kernel (λ pieces. size_of (seen_pieces (seen_as as_extent) pieces)) done (λ place. size_at sizes (Some place))
 
--- the lists, with the trees of their blocks
-abbrev pub AreLists : List Procedure → List Exported → List ℕ → List (Vec piece.Piece Global) → Type 0
-AreLists procs kernel done lists = AreKnown procs kernel (seen_pieces (seen_as as_tree)) done (λ place. list_at lists (Some place))
+-- at a place stands the list of the procedure, with the trees of its blocks
+abbrev pub IsListAt : List Procedure → List Exported → List (Vec piece.Piece Global) → ℕ → Type 0
+IsListAt procs kernel lists place =
+    (p : Procedure) (pieces : List (Piece Block)) → slice_get procs place ≡ Some p → IsList procs kernel p.locals p.body pieces
+    → list_at lists (Some place) ≡ seen_pieces (seen_as as_tree) (with_locals p.locals pieces)
+
+-- the lists that are wanted in the end
+abbrev pub AreLists : Source → List Exported → List (Vec piece.Piece Global) → Type 0
+AreLists source kernel lists = (place : ℕ) → IsWanted source place → IsListAt source.procs kernel lists place

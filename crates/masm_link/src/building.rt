@@ -36,7 +36,7 @@ fn export_of(
     Ok(KernelProc {
         name: Bytes::copied(alloc, procedure.name.as_slice())?,
         tree: tree_of_list(alloc, pieces)?,
-        extent: extent_of(alloc, size.part())?,
+        extent: extent_of(size.part()),
     })
 }
 

@@ -44,21 +44,17 @@ fn too_large(at: Position, extent: Extent) -> Option<Refusal>
 }
 
 // The first procedure whose tree is too large.
-pub(crate) fn first_too_large(
-    alloc: Global,
-    procs: &[Proc],
-    sizes: &[Size],
-) -> Result<Option<Refusal>, Memory>
+pub(crate) fn first_too_large(procs: &[Proc], sizes: &[Size]) -> Option<Refusal>
     requires { length sizes.now ≡ length procs.now }
-    ensures { IfOk result (λ first. Answers (Among (λ place p.
-        IsOver (at_procedure (procedure_of p)) (extent_of (size_at sizes.now (Some place)))) procs.now) first) }
+    ensures { Answers (Among (λ place p.
+        IsOver (at_procedure (procedure_of p)) (extent_of (size_at sizes.now (Some place)))) procs.now) result }
 {
     let mut first = None;
     for (place, procedure) in procs.iter().enumerate() {
-        let extent = extent_of(alloc, sizes[place].part())?;
+        let extent = extent_of(sizes[place].part());
         first = earlier(first, too_large(procedure.at(), extent));
     }
-    Ok(first)
+    first
 }
 
 // The refusal of the body between `begin` and `end`, if its tree is too large.
@@ -83,5 +79,5 @@ pub(crate) fn main_too_large(
         kernel,
     };
     let size = size_of_procedure(alloc, &known, procedure)?;
-    Ok(too_large(procedure.at(), extent_of(alloc, size.part())?))
+    Ok(too_large(procedure.at(), extent_of(size.part())))
 }

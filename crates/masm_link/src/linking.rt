@@ -21,7 +21,7 @@ use block_tree::Tree;
 use masm_flat::{KernelProc, Size};
 use masm_parse::Ast;
 use masm_uses::{
-    Names, Refusal, earlier, first_dangling, first_double, procedure_names, use_order,
+    Names, Plan, Refusal, Step, earlier, first_dangling, first_double, procedure_names, use_plan,
 };
 use std::alloc::{AllocError, Global};
 use thiserror::Error;
@@ -59,6 +59,8 @@ pub(crate) struct Measured {
     pub names: Names,
     // Their places, each behind those of the procedures that it uses.
     pub order: Vec<usize>,
+    // The steps that build the lists that are needed.
+    pub steps: Vec<Step>,
     // The sizes of their lists, by their places.
     pub sizes: Vec<Size>,
 }
@@ -86,11 +88,12 @@ fn sized(
     requires closed { IsClosed (source_of ast.now) (names_in kernel.now) }
     ensures { IfOk result (IsMeasured (source_of ast.now) kernel.now) }
 {
-    let order = use_order(alloc, ast, &names, exported)?;
+    let Plan { order, steps } = use_plan(alloc, ast, &names, exported)?;
     let sizes = sizes_of(alloc, ast, &names, kernel, &order)?;
     Ok(Measured {
         names,
         order,
+        steps,
         sizes,
     })
 }
@@ -106,7 +109,7 @@ fn first_oversized(
     requires measured { IsMeasured (source_of ast.now) kernel.now measured.now }
     ensures { IfOk result (λ first. (exports : List Exported) → AreExports exports kernel.now → Answers (Oversized (source_of ast.now) exports) first) }
 {
-    let procs = first_too_large(alloc, &ast.procs, &measured.sizes)?;
+    let procs = first_too_large(&ast.procs, &measured.sizes);
     let main = main_too_large(alloc, &measured.names, kernel, &ast.main, &measured.sizes)?;
     Ok(earlier(procs, main))
 }
@@ -153,7 +156,7 @@ fn built(
     ensures linked { IfOk result (λ linked. (exports : List Exported) → AreExports exports kernel.now → IsLinked (source_of ast.now) exports linked) }
     ensures main { IfOk result (λ linked. is_some linked.main ≡ is_some ast.now.main) }
 {
-    let lists = lists_of(alloc, ast, &measured.names, kernel, &measured.order)?;
+    let lists = lists_of(alloc, ast, &measured.names, kernel, &measured.steps)?;
     let exports = exports_of(alloc, &ast.procs, &measured.sizes, &lists)?;
     let main = main_tree(alloc, &measured.names, kernel, &ast.main, &lists)?;
     Ok(Linked { exports, main })

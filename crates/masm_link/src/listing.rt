@@ -1,4 +1,5 @@
-ghost use Rattle.std.specs.Prelude.{◌≡◌, ℕ, ◌<◌, List, Vec, length, slice_set, IfOk, OnOk};
+ghost use Rattle.std.specs.Prelude.{◌≡◌, ℕ, ◌<◌, List, Vec, length, slice_get, slice_set, IfOk, OnOk};
+ghost use Rattle.std.specs.List.{Contains};
 ghost use Rattle.std.specs.Global.{Global};
 ghost use Rattle.masm_flat.specs.declared.piece.Piece.{Piece};
 ghost use Rattle.masm_flat.specs.Blocks.{as_tree};
@@ -10,14 +11,14 @@ ghost use Rattle.masm_parse.specs.Locals.{HasLocals, SourceFits};
 ghost use Rattle.masm_parse.specs.Views.{body_of, source_of};
 ghost use Rattle.masm_uses.specs.Names.{place_at};
 ghost use Rattle.masm_uses.specs.Naming.{IsClosed};
-ghost use Rattle.masm_uses.specs.UseOrders.{IsUseOrder};
+ghost use Rattle.masm_uses.specs.Plans.{IsPlan};
 ghost use Rattle.masm_uses.specs.Uses.{first_place};
 ghost use Rattle.masm_link.specs.Kernels.{AreExports, names_in};
 ghost use Rattle.masm_link.specs.Tables.{AreLists};
 
 use masm_flat::{KernelProc, Lists, Piece, list_of_procedure};
 use masm_parse::{Ast, Proc};
-use masm_uses::Names;
+use masm_uses::{Names, Step};
 use std::alloc::{AllocError, Global};
 use vm_field::Memory;
 
@@ -56,26 +57,41 @@ fn add_list(
     Ok(())
 }
 
-// The procedures' lists, by their places. In the order each procedure stands behind those that it
-// uses.
+// Frees the lists at these places.
+fn free_lists(alloc: Global, places: &[usize], lists: &mut Vec<Vec<Piece>>)
+    ensures others { (place : ℕ) → ¬ (Contains places.now place) → slice_get lists.new.items place ≡ slice_get lists.old.items place }
+    ensures count { length lists.new.items ≡ length lists.old.items }
+{
+    for place in places {
+        if *place < lists.len() {
+            lists[*place] = Vec::new(alloc);
+        }
+    }
+}
+
+// The lists of the procedures that are exported or used between `begin` and `end`, by their places. Of
+// the others only those that these reach are built, and each is freed behind its last use.
 pub(crate) fn lists_of(
     alloc: Global,
     ast: &Ast,
     names: &Names,
     kernel: &[KernelProc],
-    order: &[usize],
+    steps: &[Step],
 ) -> Result<Vec<Vec<Piece>>, Memory>
     requires names { (name : List ℕ) → place_at names.now name ≡ first_place (source_of ast.now).procs name }
     requires fits { SourceFits (source_of ast.now) }
     requires closed { IsClosed (source_of ast.now) (names_in kernel.now) }
-    requires order { IsUseOrder (source_of ast.now).procs order.now }
+    requires steps { IsPlan (source_of ast.now) steps.now }
     ensures count { IfOk result (λ lists. length lists.items ≡ length (source_of ast.now).procs) }
     ensures lists { IfOk result (λ lists. (exports : List Exported) → AreExports exports kernel.now
-        → AreLists (source_of ast.now).procs exports order.now lists.items) }
+        → AreLists (source_of ast.now) exports lists.items) }
 {
     let mut lists = empty_lists(alloc, ast.procs.len())?;
-    for place in order {
-        add_list(alloc, names, kernel, &ast.procs[*place], *place, &mut lists)?;
+    for k in (0..steps.len()).rev() {
+        let step = &steps[k];
+        let place = step.place;
+        add_list(alloc, names, kernel, &ast.procs[place], place, &mut lists)?;
+        free_lists(alloc, &step.ended, &mut lists);
     }
     Ok(lists)
 }

@@ -4,6 +4,8 @@ pub mod DoubleAnswers
 pub mod DoubleLemmas
 pub mod LeastLemmas
 pub mod NameLemmas
+pub mod PlanLemmas
+pub mod PlanSources
 pub mod SettlingLemmas
 pub mod SortLemmas
 pub mod Stuck

@@ -1,92 +1,97 @@
--- Places of a graph, each behind those to which it has edges: no edge of theirs is part of a way back.
-use Rattle.std.proofs.Common.{◌≡◌, ℕ, suc, zero, ◌+◌, ◌-◌, ◌<◌, ◌≤◌, ◌↔◌, Bool, true, false, ◌||◌, List, [], ◌++◌, length, map, take, drop, get_or, inl, inr, sym, subst, ◌∙◌, add-one, ap, arith}
-use Rattle.std.proofs.lemmas.Bool.{cases_Bool, cases_lt}
-use Rattle.std.proofs.lemmas.List.{get_or_default, get_or_past, take_all, length-take, get_or-take, length-map}
-use Rattle.std.proofs.lemmas.List.Elements.{Contains-append_left}
-use Rattle.std.proofs.Math.Seq.{take-add}
-use Rattle.std.specs.List.{Contains}
+-- Numbers of a graph's places: where no edge leads to a lesser number, none leads back from a greater one.
+use Rattle.std.proofs.Common.{◌≡◌, ℕ, suc, zero, ◌+◌, ◌<◌, ◌≤◌, Bool, true, false, ◌&&◌, List, [], ◌∷◌, ◌++◌, length, map, get_or, inl, inr, refl, sym, ap, subst, ◌∙◌, arith}
+use Rattle.std.specs.Prelude.{nat_lt, nat_le}
+use Rattle.std.proofs.lemmas.Bool.{false≢true, cases_lt}
+use Rattle.std.proofs.lemmas.Bool.Decides.{nat_tests, eqb_tells}
+use Rattle.std.proofs.lemmas.List.{get_or_past, get_or_append_left, length_push}
+use Rattle.std.proofs.Math.Seq.{get_or-append_seam}
+use Rattle.std.specs.List.{Contains, list_all}
 use Rattle.masm_uses.specs.declared.links.Link.{Link}
-use Rattle.masm_uses.specs.Graph.{Edge, IsGraph, Leads, itself, through}
-use Rattle.masm_uses.specs.Orders.{StandsBehind}
+use Rattle.masm_uses.specs.Graph.{Edge, Leads, itself, through}
 use Rattle.masm_uses.specs.UseOrders.{own_places}
 use Rattle.masm_uses.specs.Users.{Goes, AreUsers}
-use Rattle.masm_uses.specs.Walks.{AreMarks}
-use Rattle.masm_uses.proofs.Stuck.{leads-behind}
-use Rattle.masm_uses.proofs.UseOrderLemmas.{edge_goes, goes_edge}
+use Rattle.masm_uses.proofs.SortLemmas.{contains_none}
+use Rattle.masm_uses.proofs.UseOrderLemmas.{cons_cases, goes_edge}
 
--- one graph has the edges of another, turned round
-abbrev AreBack : List (List ℕ) → List (List ℕ) → Type 0
-AreBack graph back = (a b : ℕ) → Edge back b a ↔ Edge graph a b
+both_true : (a b : Bool) → (a && b) ≡ true → (a ≡ true) × (b ≡ true)
+both_true true true h = (refl, refl)
+both_true true false h = cc
+both_true false b h = cc
 
-module _ (graph back : List (List ℕ)) (are : AreBack graph back) (order : List ℕ) (is : StandsBehind graph order) where
-  shorter : (n k q : ℕ) → k ≤ n → Contains (take k order) q → Contains (take n order) q
-  shorter n k q less h =
-      subst (λ xs. Contains xs q) (sym (split n k less)) (Contains-append_left (take k order) _ q h)
-    where
-      split : (n k : ℕ) → k ≤ n → take n order ≡ take k order ++ take (n - k) (drop k order)
-      split n k less = ap (λ m. take m order) (let e : n ≡ k + (n - k) = omega arith in e) ∙ take-add k (n - k) order
+all_at : (p : ℕ → Bool) (xs : List ℕ) (x : ℕ) → list_all p xs ≡ true → Contains xs x → p x ≡ true
+all_at p [] x h has = absurd (contains_none x has)
+all_at p (y ∷ ys) x h has =
+    let parts = both_true (p y) (list_all p ys) h in
+    elim (cons_cases y ys x has) [ inl same ↦ ap p (sym same) ∙ parts.0 | inr later ↦ all_at p ys x parts.1 later ]
 
-  -- what stands among the first has edges only to what stands before it
-  edge_before : (n p q : ℕ) → Contains (take (n + 1) order) p → Edge graph p q → Contains (take n order) q
-  edge_before n p q h edge =
-      let count = length-take (n + 1) order in
-      let few = h.1 in
-      let within : h.0 < length order = omega arith in
-      let place : get_or order h.0 0 ≡ p = get_or_default order h.0 0 p within ∙ (sym (get_or-take (n + 1) order h.0 p (omega arith)) ∙ h.2) in
-      shorter n h.0 q (omega arith) (is h.0 q within (subst (λ x. Edge graph x q) (sym place) edge))
+-- the numbers of a row
+pub no_less : (numbers row : List ℕ) (number b : ℕ) → list_all (λ place. nat_le number (get_or numbers place 0)) row ≡ true → Contains row b
+    → number ≤ get_or numbers b 0
+no_less numbers row number b h has =
+    let at : nat_le number (get_or numbers b 0) ≡ true = all_at (λ place. nat_le number (get_or numbers place 0)) row b h has in
+    grind (arith, nat_tests)
 
-  leads_before : (n a b : ℕ) → Leads back a b → Contains (take n order) b → Contains (take n order) a
-  leads_before n a b itself h = h
-  leads_before n a b (through {b = c} edge more) h =
-      edge_before n c a (shorter (n + 1) n c (omega arith) (leads_before n c b more h)) ((are c a).0 edge)
+greater : (numbers row : List ℕ) (number b : ℕ) → list_all (λ place. nat_lt number (get_or numbers place 0)) row ≡ true → Contains row b
+    → number < get_or numbers b 0
+greater numbers row number b h has =
+    let at : nat_lt number (get_or numbers b 0) ≡ true = all_at (λ place. nat_lt number (get_or numbers place 0)) row b h has in
+    grind (arith, nat_tests)
 
-  none_back : (n p q : ℕ) → Contains (take n order) p → Edge graph p q → Leads back p q → ⊥
-  none_back zero p q h edge leads = omega (arith, h.1)
-  none_back (suc n) p q h edge leads =
-      let before = edge_before n p q (subst (λ m. Contains (take m order) p) (sym (add-one n)) h) edge in
-      none_back n p q (leads_before n p q leads before) edge leads
+pub edge_from : (graph : List (List ℕ)) (a b : ℕ) → Edge graph a b → a < length graph
+edge_from graph a b h = elim (cases_lt a (length graph)) [
+  | inl below ↦ below
+  | inr past ↦ absurd (let none = ap length (get_or_past graph a [] past) in let within = h.1 in omega arith)
+]
 
-  no_return : (p q : ℕ) → Contains order p → Edge graph p q → Leads back p q → ⊥
-  no_return p q h edge leads =
-      none_back (length order) p q (subst (λ xs. Contains xs p) (sym (take_all (length order) order (omega arith))) h) edge leads
+-- one row more whose edges lead to no lesser numbers
+pub ascends-more : (graph : List (List ℕ)) (numbers row : List ℕ) (i : ℕ) → row ≡ get_or graph i []
+    → ((a b : ℕ) → a < i → Edge graph a b → get_or numbers a 0 ≤ get_or numbers b 0)
+    → list_all (λ place. nat_le (get_or numbers i 0) (get_or numbers place 0)) row ≡ true
+    → (a b : ℕ) → a < i + 1 → Edge graph a b → get_or numbers a 0 ≤ get_or numbers b 0
+ascends-more graph numbers row i is before here a b below edge = elim (eqb_tells a i) [
+  | inl same ↦
+      subst (λ p. get_or numbers p 0 ≤ get_or numbers b 0) (sym same.1)
+      (no_less numbers row (get_or numbers i 0) b here (subst (λ xs. Contains xs b) (sym is) (subst (λ p. Edge graph p b) same.1 edge)))
+  | inr apart ↦ before a b (let other = apart.1 in omega arith) edge
+]
 
-flipped : (graph back : List (List ℕ)) → AreBack graph back → (a b : ℕ) → Leads back a b → Leads graph b a
-flipped graph back are a b itself = itself
-flipped graph back are a b (through {b = c} edge more) = leads-behind (flipped graph back are c b more) ((are c a).0 edge)
+-- marks of rows whose edges lead to greater numbers
+abbrev pub Ascend : List (List ℕ) → List ℕ → List Bool → Type 0
+Ascend graph numbers marks = (a b : ℕ) → get_or marks a false ≡ true → Edge graph a b → get_or numbers a 0 < get_or numbers b 0
 
-module _ (rows : List (List Link)) (users : List (List ℕ)) (are : AreUsers rows users) where
+pub ascend-none : (graph : List (List ℕ)) (numbers : List ℕ) → Ascend graph numbers []
+ascend-none graph numbers a b marked edge = absurd (false≢true marked)
+
+pub ascend-more : (graph : List (List ℕ)) (numbers row : List ℕ) (marks : List Bool) (i : ℕ) (mark : Bool) → length marks ≡ i → row ≡ get_or graph i []
+    → Ascend graph numbers marks → mark ≡ list_all (λ place. nat_lt (get_or numbers i 0) (get_or numbers place 0)) row → Ascend graph numbers (marks ++ mark ∷ [])
+ascend-more graph numbers row marks i mark count is before here a b marked edge = elim (cases_lt a i) [
+  | inl low ↦ before a b (sym (get_or_append_left marks (mark ∷ []) false a (omega arith)) ∙ marked) edge
+  | inr high ↦ elim (eqb_tells a i) [
+    | inl same ↦
+        let is_marked = sym here ∙ (sym (get_or-append_seam marks mark [] false) ∙ (ap (λ k. get_or (marks ++ mark ∷ []) k false) (count ∙ sym same.1) ∙ marked)) in
+        subst (λ p. get_or numbers p 0 < get_or numbers b 0) (sym same.1)
+        (greater numbers row (get_or numbers i 0) b is_marked (subst (λ xs. Contains xs b) (sym is) (subst (λ p. Edge graph p b) same.1 edge)))
+    | inr apart ↦
+        let long = length_push marks mark in
+        let other = apart.1 in
+        absurd (false≢true (sym (get_or_past (marks ++ mark ∷ []) a false (omega arith)) ∙ marked))
+  ]
+]
+
+module _ (rows : List (List Link)) (users : List (List ℕ)) (are : AreUsers rows users) (numbers : List ℕ) where
   abbrev graph : List (List ℕ)
   graph = map own_places rows
 
-  users_back : AreBack graph users
-  users_back a b = (λ edge. goes_edge rows a b ((are.edges b a).0 edge), λ edge. (are.edges b a).1 (edge_goes rows a b edge))
-
-  graph_back : AreBack users graph
-  graph_back a b = ((users_back b a).1, (users_back b a).0)
-
-  edge_from : (g : List (List ℕ)) (a b : ℕ) → Edge g a b → a < length g
-  edge_from g a b h = elim (cases_lt a (length g)) [
-    | inl below ↦ below
-    | inr past ↦ absurd (let none = ap length (get_or_past g a [] past) in let within = h.1 in omega arith)
-  ]
-
-  pub own-is-graph : IsGraph graph
-  own-is-graph a b edge =
-      let below = edge_from users b a ((are.edges b a).1 (edge_goes rows a b edge)) in
-      let count = are.count in
-      let same = length-map rows own_places in
+  leads_down : ((a b : ℕ) → Edge graph a b → get_or numbers a 0 ≤ get_or numbers b 0) → (a b : ℕ) → Leads users a b → get_or numbers b 0 ≤ get_or numbers a 0
+  leads_down ascends a b itself = omega arith
+  leads_down ascends a b (through {b = c} edge more) =
+      let first = ascends c a (goes_edge rows c a ((are.edges a c).0 edge)) in
+      let rest = leads_down ascends c b more in
       omega arith
 
-  -- what stands in order among the users: a way back would be one from the start
-  no_way_up : (order : List ℕ) → StandsBehind users order → (p q : ℕ) → Contains order p → Goes rows p q → Leads users p q → ⊥
-  no_way_up order is p q h goes itself = no_return users graph graph_back order is p p h ((are.edges p p).1 goes) itself
-  no_way_up order is p q h goes (through {b = c} edge more) =
-      no_return users graph graph_back order is p c h edge (through (goes_edge rows p q goes) (flipped graph users users_back c q more))
-
-  pub settles : (below above : List Bool) (low high : List ℕ) → AreMarks below low → AreMarks above high → StandsBehind graph low
-      → StandsBehind users high → (user place : ℕ) → (get_or below user false || get_or above user false) ≡ true → Goes rows user place
-      → Leads users user place → ⊥
-  settles below above low high are_low are_high low_is high_is user place marked goes leads = elim (cases_Bool (get_or below user false)) [
-    | inl is ↦ no_return graph users users_back low low_is user place ((are_low.marked user).0 is) (goes_edge rows user place goes) leads
-    | inr not ↦ no_way_up high high_is user place ((are_high.marked user).0 (ap (λ b. b || get_or above user false) (sym not) ∙ marked)) goes leads
-  ]
+  pub settles : ((a b : ℕ) → Edge graph a b → get_or numbers a 0 ≤ get_or numbers b 0) → (marks : List Bool) → Ascend graph numbers marks
+      → (user place : ℕ) → get_or marks user false ≡ true → Goes rows user place → Leads users user place → ⊥
+  settles ascends marks ascend user place marked goes leads =
+      let up = ascend user place marked (goes_edge rows user place goes) in
+      let down = leads_down ascends user place leads in
+      omega arith

@@ -45,7 +45,7 @@ own_cases link row b (k, l, within, is, leads) = elim (cons_cases link row l (k,
 ]
 
 -- the places of a row are those to which its uses lead
-places_own : (row : List Link) (b : ℕ) → Contains (own_places row) b → HasOwn row b
+pub places_own : (row : List Link) (b : ℕ) → Contains (own_places row) b → HasOwn row b
 places_own [] b h = absurd (omega (arith, h.1))
 places_own (link ∷ row) b h = by (λ later. own_later link row b (places_own row b later)) link.target refl h
   where
@@ -58,7 +58,7 @@ places_own (link ∷ row) b h = by (λ later. own_later link row b (places_own r
     by tail targets.Unknown is k = tail k
     by tail targets.NotInKernel is k = tail k
 
-own_in_places : (row : List Link) (b : ℕ) → HasOwn row b → Contains (own_places row) b
+pub own_in_places : (row : List Link) (b : ℕ) → HasOwn row b → Contains (own_places row) b
 own_in_places [] b h = absurd (omega (arith, h.2))
 own_in_places (link ∷ row) b h = elim (own_cases link row b h) [
   | inl leads ↦ subst (λ t. Contains (cons_option (own_place t) (own_places row)) b) (sym leads) (cons_here b (own_places row))
@@ -86,7 +86,7 @@ module _ (own kernel : List ℕ → Option ℕ) (procs : List Proc) (places : (n
   abbrev graph : List (List ℕ)
   graph = map own_places (map (links_in own kernel) procs)
 
-  counts : length graph ≡ length procs
+  pub counts : length graph ≡ length procs
   counts = length-map (map (links_in own kernel) procs) own_places ∙ length-map procs (links_in own kernel)
 
   pub is-graph : IsGraph graph

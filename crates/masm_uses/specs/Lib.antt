@@ -9,8 +9,8 @@ pub mod Links
 pub mod Names
 pub mod Naming
 pub mod Orders
+pub mod Plans
 pub mod Repeats
-pub mod Settling
 pub mod Sorting
 pub mod Users
 pub mod UseOrders

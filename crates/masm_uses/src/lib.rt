@@ -2,6 +2,7 @@
 //! and uses are refused, and an order in which each procedure stands behind those that it uses.
 #![tactic(auto)]
 
+mod components;
 mod dangling;
 mod doubles;
 mod exports;
@@ -9,6 +10,7 @@ mod links;
 mod missing;
 mod names;
 mod ordering;
+mod planning;
 mod procedures;
 mod reach;
 mod recursion;
@@ -19,5 +21,6 @@ mod users;
 pub use dangling::{first_dangling, procedure_names};
 pub use doubles::first_double;
 pub use names::{Defined, Named, Names};
-pub use procedures::use_order;
+pub use planning::Step;
+pub use procedures::{Plan, use_plan};
 pub use refusal::{LinkCause, Refusal, cause_text, earlier};

@@ -3,12 +3,14 @@ ghost use Rattle.masm_parse.specs.Views.{source_of};
 ghost use Rattle.masm_uses.specs.Graph.{rows_of};
 ghost use Rattle.masm_uses.specs.Names.{place_at};
 ghost use Rattle.masm_uses.specs.Naming.{IsClosed};
+ghost use Rattle.masm_uses.specs.Plans.{IsPlan};
 ghost use Rattle.masm_uses.specs.UseOrders.{own_place, own_places, IsUseOrder};
 ghost use Rattle.masm_uses.specs.Uses.{first_place};
 
-use crate::links::{Link, Target, all_links};
+use crate::links::{Link, Target, all_links, main_links};
 use crate::names::Names;
 use crate::ordering::order;
+use crate::planning::{Step, steps_of, wanted_marks};
 use masm_parse::Ast;
 use std::alloc::{AllocError, Global};
 use vm_field::{Bytes, Memory};
@@ -42,20 +44,33 @@ pub(crate) fn own_graph(alloc: Global, rows: &[Vec<Link>]) -> Result<Vec<Vec<usi
     Ok(graph)
 }
 
-/// The places of a source's procedures, each behind those that the procedure uses, where the kernel
-/// exports these names and no use is refused.
-pub fn use_order(
-    alloc: Global,
-    ast: &Ast,
-    names: &Names,
-    kernel: &[Bytes],
-) -> Result<Vec<usize>, Memory>
+/// Which lists of a source's procedures are built, and in which order.
+#[derive(Drop)]
+pub struct Plan {
+    /// The places of the procedures, each behind those that the procedure uses.
+    pub order: Vec<usize>,
+    /// The steps that build the lists of the procedures that are exported or used between `begin`
+    /// and `end`, and of those that these reach. The last step stands first.
+    pub steps: Vec<Step>,
+}
+
+/// An order of a source's procedures and the steps that build their lists, where the kernel exports
+/// these names and no use is refused.
+pub fn use_plan(alloc: Global, ast: &Ast, names: &Names, kernel: &[Bytes]) -> Result<Plan, Memory>
     requires names { (name : List ℕ) → place_at names.now name ≡ first_place (source_of ast.now).procs name }
     requires closed { IsClosed (source_of ast.now) kernel.now }
-    ensures { IfOk result (λ order. IsUseOrder (source_of ast.now).procs order.items) }
+    ensures order { IfOk result (λ plan. IsUseOrder (source_of ast.now).procs plan.order.items) }
+    ensures steps { IfOk result (λ plan. IsPlan (source_of ast.now) plan.steps.items) }
 {
     let exports = Names::of(alloc, kernel)?;
-    let rows = all_links(alloc, names, &exports, &ast.procs)?;
-    let graph = own_graph(alloc, &rows)?;
-    Ok(order(alloc, &graph)?)
+    let procs = ast.procs.as_slice();
+    let rows = all_links(alloc, names, &exports, procs)?;
+    let main = main_links(alloc, names, &exports, &ast.main)?;
+    let row = own_places(alloc, main.as_slice())?;
+    let wanted = wanted_marks(alloc, procs, row.as_slice())?;
+    let graph = own_graph(alloc, rows.as_slice())?;
+    let graph = graph.as_slice();
+    let order = order(alloc, graph)?;
+    let steps = steps_of(alloc, graph, order.as_slice(), wanted)?;
+    Ok(Plan { order, steps })
 }

@@ -100,7 +100,7 @@ pub(crate) fn first_recursion(
     let settled = settled(alloc, rows, users)?;
     let mut first = None;
     for (user, row) in rows.iter().enumerate() {
-        first = with_row(alloc, users, settled.has(user), user, row, first)?;
+        first = with_row(alloc, users, is_marked(&settled, user), user, row, first)?;
     }
     Ok(first)
 }

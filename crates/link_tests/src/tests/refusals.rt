@@ -6,7 +6,7 @@ use std::test::Fail;
 // A source that is refused on its first line, by the column and the cause. Its kernel exports `k`.
 type Row = (&'static str, u32, AsmCause);
 
-static PROGRAMS: [Row; 25] = [
+static PROGRAMS: [Row; 27] = [
     ("begin mtree_get end", 7, AsmCause::Unsupported),
     ("begin frob end", 7, AsmCause::UnknownInstruction),
     ("begin repeat.0 neg end end", 7, AsmCause::RepeatRange),
@@ -60,6 +60,11 @@ static PROGRAMS: [Row; 25] = [
         AsmCause::Recursive,
     ),
     (
+        "proc.b exec.c end proc.c exec.d end proc.d exec.d end proc.a exec.a exec.b end begin end",
+        44,
+        AsmCause::Recursive,
+    ),
+    (
         "proc.f exec.g exec.f end begin end",
         8,
         AsmCause::UnknownProcedure,
@@ -71,6 +76,11 @@ static PROGRAMS: [Row; 25] = [
     ),
     (
         "proc.f repeat.10000 repeat.10000 neg end end end begin end",
+        1,
+        AsmCause::TooManyOps,
+    ),
+    (
+        "begin repeat.9 repeat.9999 repeat.9999 repeat.9999 repeat.9999 neg end end end end end end",
         1,
         AsmCause::TooManyOps,
     ),
@@ -116,12 +126,15 @@ fn chain(alloc: Global, count: u32) -> Result<String, AllocError> {
         let line = format!(in alloc; "proc.a{i} while.true exec.a{before} end end\n")?;
         source.push_str(line.as_str())?;
     }
-    source.push_str("begin end")?;
     Ok(source)
 }
 
-fn is_chain_refused(alloc: Global, count: u32, line: u32) -> Result<bool, AllocError> {
-    let source = chain(alloc, count)?;
+// Whether such a chain and this body between `begin` and `end` are refused on the line as too deep.
+fn is_chain_refused(alloc: Global, count: u32, main: &str, line: u32) -> Result<bool, AllocError> {
+    let mut source = chain(alloc, count)?;
+    source.push_str("begin ")?;
+    source.push_str(main)?;
+    source.push_str(" end")?;
     let want = AsmError::Bad {
         in_kernel: false,
         line,
@@ -149,8 +162,34 @@ fn accepts_programs(rt: HostRuntime) -> Result<(), Fail> {
 
 #[test]
 fn bounds_heights(rt: HostRuntime) -> Result<(), Fail> {
-    assert!(rt; !is_chain_refused(rt.alloc(), 1024, 1025)?);
-    assert!(rt; is_chain_refused(rt.alloc(), 1025, 1025)?);
+    assert!(rt; !is_chain_refused(rt.alloc(), 1024, "", 1025)?);
+    assert!(rt; is_chain_refused(rt.alloc(), 1025, "", 1025)?);
+    Ok(())
+}
+
+// Four blocks are joined on two levels, and five on three.
+#[test]
+fn bounds_joined_heights(rt: HostRuntime) -> Result<(), Fail> {
+    let four = "add repeat.2 call.a1020 end call.a1019";
+    let five = "add repeat.2 call.a1020 end call.a1019 add";
+    assert!(rt; !is_chain_refused(rt.alloc(), 1021, four, 1022)?);
+    assert!(rt; is_chain_refused(rt.alloc(), 1021, five, 1022)?);
+    Ok(())
+}
+
+// Procedures that nothing uses, each of more than 500,000 blocks.
+#[test]
+fn leaves_unused_procedures(rt: HostRuntime) -> Result<(), Fail> {
+    let alloc = rt.alloc();
+    let mut source = String::new(alloc);
+    for i in 0..2000 {
+        let line = format!(in alloc;
+            "proc.f{i} repeat.10000 repeat.52 while.true end end end end\n"
+        )?;
+        source.push_str(line.as_str())?;
+    }
+    source.push_str("begin neg end")?;
+    assert!(rt; is_accepted(alloc, source.as_str()));
     Ok(())
 }
 

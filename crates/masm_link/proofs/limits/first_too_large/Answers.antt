@@ -22,7 +22,7 @@ loop-place-preserved c =
     let within : i < length sizes = let t = c.loop-place-test.true in let count = c.requires in omega arith in
     let there : size_at sizes (Some i) ≡ size_view size = ap (λ o. unwrap_or (option_map size_view o) nothing) (slice_get_read sizes
     (length sizes) i size refl within c.index-sizes-place.is) in
-    let extent = c.in_ok-extent.ensures ∙ ap extent_of (c.part.ensures ∙ sym there) in
+    let extent = c.extent_of-extent.ensures ∙ ap extent_of (c.part.ensures ∙ sym there) in
     rw c.earlier-first.ensures (Among-more f c.args.procs.now i c.index-procs-place.result c.loop-place.first c.too_large.result c.loop-place-test.true
     c.index-procs-place.is c.loop-place.invariant (over_same _ _ _ _ c.too_large.result c.at.ensures extent c.too_large.ensures))
 

@@ -10,7 +10,7 @@ use Rattle.masm_link.proofs.limits.main_too_large.Goals as goal
 
 pub returns : goal.returns
 returns c =
-    let extent = c.in_ok-extent_of.ensures ∙ ap extent_of (c.part.ensures ∙ c.in_ok-size.ensures) in
+    let extent = c.extent_of.ensures ∙ ap extent_of (c.part.ensures ∙ c.in_ok-size.ensures) in
     subst (λ o. MatchOption o (c.too_large.result ≡ None)
     (λ p. Answers (IsOver (at_procedure (procedure_of p)) (extent_of (procedure_size (sizes_known c.args.names.now c.args.sizes.now c.args.kernel.now)
     p.locals (body_of p.body.items)))) c.too_large.result))

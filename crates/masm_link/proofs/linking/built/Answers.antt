@@ -18,7 +18,7 @@ returns-clause-linked c = λ exports are.
     let kernel = c.args.kernel.now in
     let lists = c.in_ok-lists.lists.items in
     let out = c.in_ok-exports.exports.items in
-    let known = subst (λ order. AreLists (source_of ast).procs exports order lists) c.deref.ensures.value (c.in_ok-lists.ensures.lists exports are) in
+    let known : AreLists (source_of ast) exports lists = c.in_ok-lists.ensures.lists exports are in
     let built =
     subst (λ ls. AreBuilt m.sizes.items ls ast.procs.items out) c.deref-4.ensures.value
     (subst (λ ss. AreBuilt ss c.deref-4.result.now ast.procs.items out) c.deref-3.ensures.value

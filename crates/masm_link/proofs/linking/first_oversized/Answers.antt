@@ -17,14 +17,14 @@ returns c = λ exports are.
     let kernel = c.args.kernel.now in
     let procs =
     subst (λ ss. Answers (Among (λ place p. IsOver (at_procedure (procedure_of p)) (extent_of (size_at ss
-    (Some place)))) ast.procs.items) c.in_ok-procs.procs) c.deref-2.ensures.value
+    (Some place)))) ast.procs.items) c.first_too_large-procs.result) c.deref-2.ensures.value
     (subst (λ ps. Answers (Among (λ place p. IsOver (at_procedure (procedure_of p)) (extent_of (size_at c.deref-2.result.now
-    (Some place)))) ps) c.in_ok-procs.procs) c.deref.ensures.value
-    c.in_ok-procs.ensures) in
+    (Some place)))) ps) c.first_too_large-procs.result) c.deref.ensures.value
+    c.first_too_large-procs.ensures) in
     let main =
     subst (λ ss. MatchOption ast.main (c.in_ok-main.main ≡ None)
     (λ p. Answers (IsOver (at_procedure (procedure_of p)) (extent_of (procedure_size (sizes_known m.names ss kernel) p.locals
     (body_of p.body.items)))) c.in_ok-main.main))
     c.deref-3.ensures.value c.in_ok-main.ensures in
     subst (Answers (Oversized (source_of ast) exports)) (sym c.earlier.ensures) (Answers-large ast kernel m c.requires.measured exports are
-    c.in_ok-procs.procs c.in_ok-main.main procs main)
+    c.first_too_large-procs.result c.in_ok-main.main procs main)

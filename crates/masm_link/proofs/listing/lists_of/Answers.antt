@@ -1,42 +1,68 @@
-use Rattle.std.proofs.Common.{◌<◌, ◌≤◌, length, get_or, ap, subst, ◌∙◌, arith, rules}
-use Rattle.std.proofs.lemmas.List.{length-set, take_all}
+use Rattle.std.proofs.Common.{◌≡◌, ◌+◌, ◌-◌, ◌<◌, ◌≤◌, length, refl, sym, ap, subst, ◌∙◌, arith}
+use Rattle.std.proofs.lemmas.List.{length-map, length-set}
+use Rattle.std.specs.List.{Contains}
 use Rattle.masm_parse.specs.Locals.{ProcedureFits}
 use Rattle.masm_parse.specs.Views.{procedure_of, source_of}
 use Rattle.masm_link.specs.Kernels.{names_in}
-use Rattle.masm_link.specs.Tables.{AreLists}
-use Rattle.masm_link.proofs.Known.{all_at, read_here, lists_more}
+use Rattle.masm_link.proofs.Known.{all_at, read_here, list_step}
+use Rattle.masm_link.proofs.Steps.{places-all, builds-all, place-next, places-next, needs-next, builds-next, lists-end}
 use Rattle.masm_link.proofs.listing.lists_of.Goals as goal
+
+pub loop-k-init : goal.loop-k-init
+loop-k-init c = record {
+  count = let same = length-map c.args.ast.now.procs.items procedure_of in omega (arith, c.in_ok-lists.ensures, c.len.ensures);
+  places = places-all (source_of c.args.ast.now) c.args.steps.now (length c.args.steps.now) (omega arith) c.requires.steps;
+  builds = λ exports are. builds-all (source_of c.args.ast.now) exports _ c.args.steps.now (length c.args.steps.now) (omega arith) c.requires.steps;
+}
+
+pub index-requires : goal.index-requires
+index-requires c =
+    let ast = c.args.ast.now in
+    let k = c.loop-k.k - 1 in
+    let low = place-next (source_of ast) c.args.steps.now k c.loop-k.k c.index-steps-k.result (omega arith) c.index-steps-k.is (omega arith)
+    c.loop-k.invariant.places in
+    let count = length-map ast.procs.items procedure_of in
+    omega arith
 
 pub add_list-requires-clause-locals : goal.add_list-requires-clause-locals
 add_list-requires-clause-locals c =
     let ast = c.args.ast.now in
-    let k = c.loop-place.place-index in
-    let place = get_or c.args.order.now k 0 in
-    let below : k < length c.args.order.now = search rules in
-    let here = read_here ast place c.index.result.now (c.requires.order.within k below) c.index.ensures in
-    all_at ProcedureFits (source_of ast).procs place (procedure_of c.index.result.now) c.requires.fits.procs here
+    let k = c.loop-k.k - 1 in
+    let step = c.index-steps-k.result in
+    let low = place-next (source_of ast) c.args.steps.now k c.loop-k.k step (omega arith) c.index-steps-k.is (omega arith) c.loop-k.invariant.places in
+    let here = read_here ast step.place c.index.result.now low c.index.ensures in
+    all_at ProcedureFits (source_of ast).procs step.place (procedure_of c.index.result.now) c.requires.fits.procs here
 
-pub loop-place-preserved : goal.loop-place-preserved
-loop-place-preserved c =
+pub loop-k-preserved : goal.loop-k-preserved
+loop-k-preserved c =
     let ast = c.args.ast.now in
-    let order = c.args.order.now in
-    let k = c.loop-place.place-index in
-    let place = get_or order k 0 in
-    let below : k < length order = search rules in
-    let low = c.requires.order.within k below in
-    let here = read_here ast place c.index.result.now low c.index.ensures in
+    let source = source_of ast in
+    let steps = c.args.steps.now in
+    let n = c.loop-k.k in
+    let k = n - 1 in
+    let step = c.index-steps-k.result in
+    let below : k < length steps = omega arith in
+    let next : n ≡ k + 1 = omega arith in
+    let before = c.loop-k.invariant in
+    let old = c.loop-k.lists.items in
+    let mid = c.add_list.new.lists.items in
+    let new = c.free_lists.new.lists.items in
     let added = c.in_ok-add_list.ensures in
-    let old = c.loop-place.lists.items in
-    let count = c.loop-place.invariant.0 in (
-      ap length added.1 ∙ length-set old place added.0 ∙ count,
-      λ exports are. lists_more (source_of ast) exports c.args.kernel.now are c.args.names.now c.requires.names (names_in c.args.kernel.now) c.requires.closed
-          order c.requires.order k (procedure_of c.index.result.now) old _ added.0 below here (c.loop-place.invariant.1 exports are) added.1
-          (omega arith) added.2,
-    )
+    let low = place-next source steps k n step below c.index-steps-k.is next before.places in
+    let here = read_here ast step.place c.index.result.now low c.index.ensures in
+    let within : step.place < length old = subst (λ m. step.place < m) (sym before.count) low in
+    record {
+      count = c.free_lists.ensures.count ∙ (ap length added.1 ∙ (length-set old step.place added.0 ∙ before.count));
+      places = places-next source steps k n step below c.index-steps-k.is next before.places;
+      builds = λ exports are.
+          let builds = before.builds exports are in
+          builds-next source steps k n step below c.index-steps-k.is next exports old new builds (λ q held.
+          list_step source exports c.args.kernel.now are c.args.names.now c.requires.names (names_in c.args.kernel.now) c.requires.closed step.place
+          (procedure_of c.index.result.now) here old mid new added.0 within
+          (needs-next source steps k n step below c.index-steps-k.is next exports old builds) added.1 added.2 q held.0
+          (c.free_lists.ensures.others q (λ has. held.1 (subst (λ xs. Contains xs q) c.deref.ensures.value has))));
+    }
 
 pub returns-clause-lists : goal.returns-clause-lists
 returns-clause-lists c = λ exports are.
-    let order = c.args.order.now in
-    let ended : length order ≤ c.loop-place.place-index = search rules in
-    subst (λ xs. AreLists (source_of c.args.ast.now).procs exports xs c.loop-place.lists.items) (take_all c.loop-place.place-index order ended)
-    (c.loop-place.invariant.1 exports are)
+    lists-end (source_of c.args.ast.now) exports c.loop-k.lists.items c.args.steps.now c.loop-k.k (omega arith) (c.loop-k.invariant.builds exports are)

@@ -1,4 +1,4 @@
-use Rattle.std.proofs.Common.{◌≤◌, ◌<◌, Vec, Global, length, sym, subst, ◌∙◌, arith}
+use Rattle.std.proofs.Common.{ap, get_or, false, ◌≤◌, ◌<◌, Vec, Global, length, sym, subst, ◌∙◌, arith}
 use Rattle.std.proofs.lemmas.List.{length-map}
 use Rattle.masm_uses.specs.declared.links.Link.{Link}
 use Rattle.masm_uses.specs.Among.{AmongFirst}
@@ -14,8 +14,8 @@ with_row-requires-clause-graph c = AreUsers-graph (rows_of c.args.rows.now) (row
 
 pub with_row-requires-clause-settled : goal.with_row-requires-clause-settled
 with_row-requires-clause-settled c = λ marked place has.
-    let is = c.deref.ensures.value ∙ row_read c.args.rows.now c.loop-user.user c.index-rows-user.result c.loop-user-test.true c.index-rows-user.is in
-    c.in_ok-settled.ensures c.loop-user.user place (sym c.has.ensures ∙ marked)
+    let is = c.deref-in-loop-user.ensures.value ∙ row_read c.args.rows.now c.loop-user.user c.index-rows-user.result c.loop-user-test.true c.index-rows-user.is in
+    c.in_ok-settled.ensures c.loop-user.user place (ap (λ marks. get_or marks c.loop-user.user false) (sym c.deref.ensures.value) ∙ (sym c.is_marked.ensures ∙ marked))
     (subst (λ r. HasOwn r place) is has)
 
 pub loop-user-preserved : goal.loop-user-preserved
@@ -23,9 +23,9 @@ loop-user-preserved c =
     let rows = rows_of c.args.rows.now in
     let users = rows_of c.args.users.now in
     let i = c.loop-user.user in
-    let row = c.deref.result.now in
+    let row = c.deref-in-loop-user.result.now in
     let within : i < length rows = let l = length-map c.args.rows.now (λ (v : Vec Link Global). v.items) in let t = c.loop-user-test.true in omega arith in
-    let is = c.deref.ensures.value ∙ row_read c.args.rows.now i c.index-rows-user.result c.loop-user-test.true c.index-rows-user.is in
+    let is = c.deref-in-loop-user.ensures.value ∙ row_read c.args.rows.now i c.index-rows-user.result c.loop-user-test.true c.index-rows-user.is in
     Among-either (λ user row. Returns (Leads users user) row) rows i row c.in_ok-first.first within (row_itself rows i row within is)
     (Answers-with (AmongFirst (λ user row. Returns (Leads users user) row) rows i) (Returns (Leads users i) row) c.loop-user.first c.in_ok-first.first
     c.loop-user.invariant c.in_ok-first.ensures)

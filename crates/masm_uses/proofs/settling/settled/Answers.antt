@@ -1,21 +1,13 @@
-use Rattle.std.proofs.Common.{map, sym, ap, subst, ◌∙◌}
-use Rattle.masm_uses.specs.Graph.{rows_of, IsGraph}
-use Rattle.masm_uses.specs.Orders.{StandsBehind}
-use Rattle.masm_uses.specs.UseOrders.{own_places}
-use Rattle.masm_uses.proofs.SettlingLemmas.{own-is-graph, settles}
-use Rattle.masm_uses.proofs.UserLemmas.{AreUsers-graph}
+use Rattle.std.proofs.Common.{ℕ, ◌≤◌, get_or, map, ap, subst, ◌∙◌}
+use Rattle.masm_uses.specs.Graph.{rows_of, Edge}
+use Rattle.masm_uses.proofs.SettlingLemmas.{Ascend, settles}
 use Rattle.masm_uses.proofs.settling.settled.Goals as goal
-
-pub sorted-requires : goal.sorted-requires
-sorted-requires c =
-    subst IsGraph (sym (ap rows_of c.deref.ensures.value ∙ c.in_ok-graph.ensures)) (own-is-graph (rows_of c.args.rows.now) (rows_of c.args.users.now) c.requires)
-
-pub sorted-requires-2 : goal.sorted-requires-2
-sorted-requires-2 c = AreUsers-graph (rows_of c.args.rows.now) (rows_of c.args.users.now) c.requires
 
 pub returns : goal.returns
 returns c =
-    settles (rows_of c.args.rows.now) (rows_of c.args.users.now) c.requires _ _ c.in_ok-below.below.seen.items c.in_ok-above.above.seen.items
-    c.in_ok-below.ensures.marks c.in_ok-above.ensures.marks
-    (subst (λ g. StandsBehind g c.in_ok-below.below.seen.items) (ap rows_of c.deref.ensures.value ∙ c.in_ok-graph.ensures) c.in_ok-below.ensures.behind)
-    c.in_ok-above.ensures.behind
+    let graph = ap rows_of c.as_slice-graph.ensures.value ∙ c.in_ok-graph.ensures in
+    let numbers = c.as_slice-numbers.result.now in
+    let marks = c.in_ok-settled.settled.items in
+    settles (rows_of c.args.rows.now) (rows_of c.args.users.now) c.requires numbers
+    (subst (λ g. (a b : ℕ) → Edge g a b → get_or numbers a 0 ≤ get_or numbers b 0) graph (c.ascends.ensures c.if-not-ascends.false)) marks
+    (subst (λ g. Ascend g numbers marks) graph c.in_ok-settled.ensures)

@@ -1,0 +1,133 @@
+-- Plans: rows that are marked, and steps one before the other.
+use Rattle.std.proofs.Common.{◌≡◌, ℕ, suc, ◌+◌, ◌<◌, ◌≤◌, Bool, true, false, List, [], ◌∷◌, ◌++◌, length, take, get_or, set, ◌⊎◌, inl, inr, refl, sym, ap, subst, ◌∙◌, arith}
+use Rattle.std.specs.Prelude.{reverse}
+use Rattle.std.proofs.lemmas.Bool.{false≢true, cases_lt}
+use Rattle.std.proofs.lemmas.Bool.Decides.{eqb_tells}
+use Rattle.std.proofs.lemmas.List.{take_more, take_all, get_or-set_same, get_or-set_other, get_or_past, length-set, reverse-append}
+use Rattle.std.proofs.lemmas.List.Elements.{Contains-append_left, Contains-push, Contains-push_cases, Contains-get_or}
+use Rattle.std.specs.List.{Contains}
+use Rattle.masm_uses.specs.Graph.{Edge}
+use Rattle.masm_uses.specs.Orders.{IsOrder}
+use Rattle.masm_uses.specs.Plans.{HeldBehind, Builds, MarksRow, StepsTo, passed, built}
+use Rattle.masm_uses.specs.declared.planning.Step.{Step}
+use Rattle.masm_uses.proofs.SortLemmas.{contains_none}
+
+-- rows
+
+pub row_none : (marks : List Bool) → MarksRow marks [] marks []
+row_none marks = record {
+  marked = λ q h. absurd (contains_none q h);
+  keeps = λ q h. h;
+  fresh_were = λ q h. absurd (contains_none q h);
+  count = refl;
+}
+
+module _ (old mid : List Bool) (row fresh : List ℕ) (i place : ℕ) (below : i < length row) (is : place ≡ get_or row i 0)
+    (before : MarksRow old (take i row) mid fresh) where
+  longer : (q : ℕ) → Contains (take (i + 1) row) q → Contains (take i row) q ⊎ (place ≡ q)
+  longer q h =
+      elim (Contains-push_cases (take i row) (get_or row i 0) q (subst (λ xs. Contains xs q) (take_more row i 0 below) h)) [
+        | inl early ↦ inl early
+        | inr here ↦ inr (is ∙ here)
+      ]
+
+  pub row_passed : get_or mid place false ≡ true → MarksRow old (take (i + 1) row) mid fresh
+  row_passed seen = record {
+    marked = λ q h. elim (longer q h) [
+      | inl early ↦ before.marked q early
+      | inr here ↦ subst (λ p. get_or mid p false ≡ true) here seen
+    ];
+    keeps = before.keeps;
+    fresh_were = before.fresh_were;
+    count = before.count;
+  }
+
+  was_unmarked : (b : Bool) → get_or old place false ≡ b → get_or mid place false ≡ false → b ≡ false
+  was_unmarked false e unseen = refl
+  was_unmarked true e unseen = sym (before.keeps place e) ∙ unseen
+
+  pub row_marked : place < length mid → get_or mid place false ≡ false → MarksRow old (take (i + 1) row) (set mid place true) (fresh ++ place ∷ [])
+  row_marked within unseen = record {
+    marked = λ q h. elim (longer q h) [
+      | inl early ↦ stays q (before.marked q early)
+      | inr here ↦ subst (λ p. get_or (set mid place true) p false ≡ true) here (get_or-set_same mid place true false within)
+    ];
+    keeps = λ q h. stays q (before.keeps q h);
+    fresh_were = λ q h. elim (Contains-push_cases fresh place q h) [
+      | inl early ↦ before.fresh_were q early
+      | inr here ↦ subst (λ p. get_or old p false ≡ false) here (was_unmarked (get_or old place false) refl unseen)
+    ];
+    count = length-set mid place true ∙ before.count;
+  }
+    where
+      stays : (q : ℕ) → get_or mid q false ≡ true → get_or (set mid place true) q false ≡ true
+      stays q h = elim (eqb_tells q place) [
+        | inl same ↦ subst (λ p. get_or (set mid place true) p false ≡ true) (sym same.1) (get_or-set_same mid place true false within)
+        | inr apart ↦ get_or-set_other mid place q true false apart.1 ∙ h
+      ]
+
+-- More may be held and less needed and wanted.
+pub builds-more : (Needs Needs' : ℕ → ℕ → Type 0) (count count' : ℕ) (Wanted Wanted' Held Held' : ℕ → Type 0) (steps : List Step) → count ≡ count'
+    → ((i j : ℕ) → Needs' i j → Needs i j) → ((q : ℕ) → Wanted' q → Wanted q) → ((q : ℕ) → Held q → Held' q)
+    → Builds Needs count Wanted Held steps → Builds Needs' count' Wanted' Held' steps
+builds-more Needs Needs' count count' Wanted Wanted' Held Held' [] same fewer less more b = λ q h. more q (b q (less q h))
+builds-more Needs Needs' count count' Wanted Wanted' Held Held' (step ∷ steps) same fewer less more b = (
+  omega arith,
+  λ q h. more q (b.1 q (fewer step.place q h)),
+  builds-more Needs Needs' count count' Wanted Wanted' (HeldBehind Held step) (HeldBehind Held' step) steps same fewer less
+      (λ q h. (elim h.0 [ inl held ↦ inl (more q held) | inr here ↦ inr here ], h.1)) b.2,
+)
+
+-- The places that have a mark and stand among the first of an order.
+abbrev pub Seen : List Bool → List ℕ → ℕ → ℕ → Type 0
+Seen marks order k place = (get_or marks place false ≡ true) × Contains (take k order) place
+
+module _ (graph : List (List ℕ)) (order : List ℕ) (is : IsOrder graph order) (Wanted : ℕ → Type 0) where
+  abbrev pub Served : List Bool → ℕ → List Step → Type 0
+  Served marks k steps = Builds (Edge graph) (length graph) Wanted (Seen marks order k) (reverse steps)
+
+  pub served-step : (k place : ℕ) (row : List ℕ) (marks new : List Bool) (steps more : List Step) → k < length order → place ≡ get_or order k 0
+      → row ≡ get_or graph place [] → Served marks (k + 1) steps → StepsTo place row marks steps new more → Served new k more
+  served-step k place row marks new steps more below here row_is before (passed unmarked) =
+      builds-more (Edge graph) (Edge graph) (length graph) (length graph) Wanted Wanted (Seen marks order (k + 1)) (Seen marks order k) (reverse steps) refl
+      (λ i j h. h) (λ q h. h)
+      (λ q h. (
+        h.0,
+        elim (Contains-push_cases (take k order) (get_or order k 0) q (subst (λ xs. Contains xs q) (take_more order k 0 below) h.1)) [
+          | inl early ↦ early
+          | inr at ↦ absurd (false≢true (sym unmarked ∙ (ap (λ p. get_or marks p false) (here ∙ at) ∙ h.0)))
+        ],
+      ))
+      before
+  served-step k place row marks new steps more below here row_is before (built step after marked at_place rows) =
+      subst (Builds (Edge graph) (length graph) Wanted (Seen after order k)) (sym (reverse-append steps (step ∷ []))) (
+        subst (λ p. p < length graph) (sym (at_place ∙ here)) (is.within k below),
+        λ q edge.
+            let edge' = subst (λ p. Edge graph p q) at_place edge in
+            (rows.marked q (subst (λ xs. Contains xs q) (sym row_is) edge'), is.behind k q below (subst (λ p. Edge graph p q) here edge')),
+        builds-more (Edge graph) (Edge graph) (length graph) (length graph) Wanted Wanted (Seen marks order (k + 1)) (HeldBehind (Seen after order k) step) (reverse steps) refl
+            (λ i j h. h) (λ q h. h) (λ q h. (held q h, λ fresh. false≢true (sym (rows.fresh_were q fresh) ∙ h.0))) before,
+      )
+    where
+      held : (q : ℕ) → Seen marks order (k + 1) q → Seen after order k q ⊎ (q ≡ step.place)
+      held q h = elim (Contains-push_cases (take k order) (get_or order k 0) q (subst (λ xs. Contains xs q) (take_more order k 0 below) h.1)) [
+        | inl early ↦ inl (rows.keeps q h.0, early)
+        | inr at ↦ inr (sym (at_place ∙ (here ∙ at)))
+      ]
+
+marked_low : (marks : List Bool) (q : ℕ) → get_or marks q false ≡ true → q < length marks
+marked_low marks q h = elim (cases_lt q (length marks)) [
+  | inl low ↦ low
+  | inr past ↦ absurd (false≢true (sym (get_or_past marks q false past) ∙ h))
+]
+
+pub served-none : (graph : List (List ℕ)) (order : List ℕ) (is : IsOrder graph order) (marks : List Bool) (n : ℕ) → length marks ≡ length graph
+    → length order ≤ n → Served graph order is (λ q. get_or marks q false ≡ true) marks n []
+served-none graph order is marks n count all = λ q h.
+    (h, subst (λ xs. Contains xs q) (sym (take_all n order all)) (is.all q (omega (arith, marked_low marks q h))))
+
+pub served-all : (graph : List (List ℕ)) (order : List ℕ) (is : IsOrder graph order) (Wanted : ℕ → Type 0) (marks : List Bool) (k : ℕ) (steps : List Step)
+    → k ≡ 0 → Served graph order is Wanted marks k steps → Builds (Edge graph) (length graph) Wanted (λ q. ⊥) (reverse steps)
+served-all graph order is Wanted marks k steps none served =
+    builds-more (Edge graph) (Edge graph) (length graph) (length graph) Wanted Wanted (Seen marks order k) (λ q. ⊥) (reverse steps) refl
+    (λ i j h. h) (λ q h. h) (λ q h. contains_none q (subst (λ n. Contains (take n order) q) none h.1)) served

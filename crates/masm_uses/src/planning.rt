@@ -1,0 +1,92 @@
+ghost use Rattle.std.specs.Prelude.{◌≡◌, ℕ, ◌<◌, true, false, length, map, reverse, slice_index_or, IfOk, OnOk};
+ghost use Rattle.std.specs.List.{All, Contains};
+ghost use Rattle.masm_uses.specs.Graph.{rows_of, Edge, IsGraph};
+ghost use Rattle.masm_uses.specs.Orders.{IsOrder};
+ghost use Rattle.masm_uses.specs.Plans.{Builds, MarksRow, StepsTo};
+
+use crate::reach::{is_marked, row_at};
+use masm_parse::Proc;
+use std::alloc::{AllocError, Global};
+
+/// A procedure whose list is built, by its place, and those whose lists no later step needs.
+#[derive(Drop)]
+pub struct Step {
+    pub place: usize,
+    pub ended: Vec<usize>,
+}
+
+// Marks the places of a row, and gives those that had no mark.
+fn mark_row(alloc: Global, marks: &mut Vec<bool>, row: &[usize]) -> Result<Vec<usize>, AllocError>
+    requires { All (λ place. place < length marks.old.items) row.now }
+    ensures marks { IfOk result (λ fresh. MarksRow marks.old.items row.now marks.new.items fresh.items) }
+    ensures count { length marks.new.items ≡ length marks.old.items }
+{
+    let mut fresh = Vec::new(alloc);
+    for place in row {
+        if !marks[*place] {
+            fresh.push(*place)?;
+            marks[*place] = true;
+        }
+    }
+    Ok(fresh)
+}
+
+// Marks of the procedures that are exported and of those in a row.
+pub(crate) fn wanted_marks(
+    alloc: Global,
+    procs: &[Proc],
+    row: &[usize],
+) -> Result<Vec<bool>, AllocError>
+    requires { All (λ place. place < length procs.now) row.now }
+    ensures count { IfOk result (λ marks. length marks.items ≡ length procs.now) }
+    ensures exported { IfOk result (λ marks. (place : ℕ)
+        → slice_index_or (map (λ p. p.exported) procs.now) place false ≡ true → slice_index_or marks.items place false ≡ true) }
+    ensures used { IfOk result (λ marks. (place : ℕ) → Contains row.now place → slice_index_or marks.items place false ≡ true) }
+{
+    let mut marks = procs.iter().map(|p| p.exported).collect(alloc)?;
+    let _fresh = mark_row(alloc, &mut marks, row)?;
+    Ok(marks)
+}
+
+// Adds the step of a place that has a mark.
+fn add_step(
+    alloc: Global,
+    marks: &mut Vec<bool>,
+    steps: &mut Vec<Step>,
+    place: usize,
+    row: &[usize],
+) -> Result<(), AllocError>
+    requires { All (λ other. other < length marks.old.items) row.now }
+    ensures steps { OnOk result (StepsTo place row.now marks.old.items steps.old.items marks.new.items steps.new.items) }
+    ensures count { length marks.new.items ≡ length marks.old.items }
+{
+    if !is_marked(marks, place) {
+        return Ok(());
+    }
+    let ended = mark_row(alloc, marks, row)?;
+    steps.push(Step { place, ended })?;
+    Ok(())
+}
+
+// The steps that build the places with marks, and those to which they lead, in an order in which each
+// stands behind those to which it has edges. The last step stands first.
+pub(crate) fn steps_of(
+    alloc: Global,
+    graph: &[Vec<usize>],
+    order: &[usize],
+    wanted: Vec<bool>,
+) -> Result<Vec<Step>, AllocError>
+    requires graph { IsGraph (rows_of graph.now) }
+    requires order { IsOrder (rows_of graph.now) order.now }
+    requires count { length wanted.items ≡ length graph.now }
+    ensures { IfOk result (λ steps. Builds (Edge (rows_of graph.now)) (length (rows_of graph.now))
+        (λ place. slice_index_or wanted.items place false ≡ true) (λ place. ⊥) (reverse steps.items)) }
+{
+    let mut marks = wanted;
+    let mut steps = Vec::new(alloc);
+    for k in (0..order.len()).rev() {
+        let place = order[k];
+        add_step(alloc, &mut marks, &mut steps, place, row_at(graph, place))?;
+    }
+    Ok(steps)
+}
