@@ -1,8 +1,8 @@
 -- The trees of assembled programs are ready: their operations can be packed, and what is packed has a reading.
-use Rattle.std.proofs.Common.{◌≡◌, ◌≢◌, ℕ, zero, suc, ◌-◌, ◌+◌, ◌<◌, ◌≤◌, ◌==◌, Bool, true, false, cond, List, [], ◌∷◌, ◌++◌, length, map, Option, Some, None, MatchOption, option_map, option_and_then, Result, Ok, Err, refl, sym, ap, subst, ◌∙◌, not, bytes_eq, arith}
+use Rattle.std.proofs.Common.{◌≡◌, ◌≢◌, ℕ, zero, suc, ◌-◌, ◌<◌, ◌≤◌, ◌==◌, Bool, true, false, cond, List, [], ◌∷◌, ◌++◌, length, map, Option, Some, None, MatchOption, option_map, option_and_then, Result, Ok, Err, refl, sym, ap, subst, bytes_eq, arith}
 use Rattle.std.proofs.lemmas.List.Elements.{All-from_recursion}
 use Rattle.std.proofs.lemmas.Option.{same_Some}
-use Rattle.std.specs.List.{All, AllByRecursion, AllZip, filter}
+use Rattle.std.specs.List.{All, AllByRecursion, AllZip}
 use Rattle.vm_field.specs.Field.{prime}
 use Rattle.vm_ops.specs.declared.item.Item.{Item}
 use Rattle.vm_ops.specs.declared.op.Op.{Op}
@@ -13,17 +13,15 @@ use Rattle.op_pack.specs.Reading.{reading}
 use Rattle.op_pack.specs.RoundTrip.{read_batches}
 use Rattle.op_pack.proofs.BatchLemmas.{read_back}
 use Rattle.op_pack.proofs.PackedLemmas.{packed-some}
-use Rattle.block_tree.specs.declared.program.Program.{Program}
 use Rattle.block_tree.specs.Behind.{HasReading}
-use Rattle.block_tree.specs.TreeView.{tree_of}
 use Rattle.masm_instr.specs.Expansion.{lit, expansion}
 use Rattle.masm_instr.proofs.Packing.{expansions_are_packable}
 use Rattle.masm_lex.specs.declared.list.Token.{Token}
 use Rattle.masm_lex.specs.declared.refusal.LexError.{LexError}
 use Rattle.masm_lex.specs.Tokens.{lexed}
 use Rattle.masm_parse.specs.declared.refusal.ParseError.{ParseError}
-use Rattle.masm_parse.specs.Forms.{BodyIsInForm, ProcedureIsInForm, MainIsInForm, SourceIsInForm}
-use Rattle.masm_parse.specs.Locals.{HasLocals, ProcedureFits, MainFits, SourceFits}
+use Rattle.masm_parse.specs.Forms.{BodyIsInForm, ProcedureIsInForm, MainIsInForm}
+use Rattle.masm_parse.specs.Locals.{HasLocals, ProcedureFits, MainFits}
 use Rattle.masm_parse.specs.Machine.{parsed}
 use Rattle.masm_parse.specs.Trees.{Body, Procedure, Source}
 use Rattle.masm_parse.proofs.Fitting.{locals-fit}
@@ -31,9 +29,7 @@ use Rattle.masm_parse.proofs.Forming.{trees_are_in_form}
 use Rattle.masm_flat.specs.Blocks.{Block, Span, Join, Split, Loop, Call, Syscall, Piece, Operation, Whole, span_before, blocks_behind, paired, joined, all_joined, whole_of, block_of, seen_as, as_tree}
 use Rattle.masm_flat.specs.Lists.{Exported, IsList, nothing, instr, exec, call, syscall, branches, loops, repeated, first_procedure, first_export, times, with_locals, IsBlockOf}
 use Rattle.masm_uses.specs.Naming.{exported_of}
-use Rattle.masm_link.specs.declared.refusal.AsmError.{AsmError}
-use Rattle.masm_link.specs.Assembling.{reads, read_tokens, read_parsed, LinksText, KernelExports, no_kernel, of_kernel, Assembles, assembled}
-use Rattle.masm_link.specs.Refusals.{Links}
+use Rattle.masm_link.specs.Assembling.{reads, read_tokens, read_parsed, KernelExports, no_kernel, of_kernel, assembled}
 use Rattle.link_runs.specs.Runs.{IsReady, AssembledIsReady}
 
 -- batches that are read together are read each
