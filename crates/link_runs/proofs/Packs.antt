@@ -1,8 +1,8 @@
 -- The trees of assembled programs are ready: their operations can be packed, and what is packed has a reading.
-use Rattle.std.proofs.Common.{◌≡◌, ◌≢◌, ℕ, zero, suc, ◌-◌, ◌+◌, ◌<◌, ◌≤◌, ◌==◌, Bool, true, false, cond, List, [], ◌∷◌, ◌++◌, length, map, Option, Some, None, MatchOption, option_map, option_and_then, Result, Ok, Err, refl, sym, ap, subst, ◌∙◌, not, bytes_eq, arith}
+use Rattle.std.proofs.Common.{◌≡◌, ◌≢◌, ℕ, zero, suc, ◌-◌, ◌<◌, ◌≤◌, ◌==◌, Bool, true, false, cond, List, [], ◌∷◌, ◌++◌, length, map, Option, Some, None, MatchOption, option_map, option_and_then, Result, Ok, Err, refl, sym, ap, subst, bytes_eq, arith}
 use Rattle.std.proofs.lemmas.List.Elements.{All-from_recursion}
 use Rattle.std.proofs.lemmas.Option.{same_Some}
-use Rattle.std.specs.List.{All, AllByRecursion, AllZip, filter}
+use Rattle.std.specs.List.{All, AllByRecursion, AllZip}
 use Rattle.vm_field.specs.Field.{prime}
 use Rattle.vm_ops.specs.declared.item.Item.{Item}
 use Rattle.vm_ops.specs.declared.op.Op.{Op}
@@ -13,26 +13,23 @@ use Rattle.op_pack.specs.Reading.{reading}
 use Rattle.op_pack.specs.RoundTrip.{read_batches}
 use Rattle.op_pack.proofs.BatchLemmas.{read_back}
 use Rattle.op_pack.proofs.PackedLemmas.{packed-some}
-use Rattle.block_tree.specs.declared.program.Program.{Program}
 use Rattle.block_tree.specs.Behind.{HasReading}
-use Rattle.block_tree.specs.TreeView.{tree_of}
 use Rattle.masm_instr.specs.Expansion.{lit, expansion}
 use Rattle.masm_instr.proofs.Packing.{expansions_are_packable}
 use Rattle.masm_lex.specs.declared.list.Token.{Token}
 use Rattle.masm_lex.specs.declared.refusal.LexError.{LexError}
 use Rattle.masm_lex.specs.Tokens.{lexed}
 use Rattle.masm_parse.specs.declared.refusal.ParseError.{ParseError}
-use Rattle.masm_parse.specs.Locals.{HasLocals, ProcedureFits, MainFits, SourceFits}
+use Rattle.masm_parse.specs.Forms.{BodyIsInForm, ProcedureIsInForm, MainIsInForm}
+use Rattle.masm_parse.specs.Locals.{HasLocals, ProcedureFits, MainFits}
 use Rattle.masm_parse.specs.Machine.{parsed}
 use Rattle.masm_parse.specs.Trees.{Body, Procedure, Source}
 use Rattle.masm_parse.proofs.Fitting.{locals-fit}
+use Rattle.masm_parse.proofs.Forming.{trees_are_in_form}
 use Rattle.masm_flat.specs.Blocks.{Block, Span, Join, Split, Loop, Call, Syscall, Piece, Operation, Whole, span_before, blocks_behind, paired, joined, all_joined, whole_of, block_of, seen_as, as_tree}
 use Rattle.masm_flat.specs.Lists.{Exported, IsList, nothing, instr, exec, call, syscall, branches, loops, repeated, first_procedure, first_export, times, with_locals, IsBlockOf}
 use Rattle.masm_uses.specs.Naming.{exported_of}
-use Rattle.masm_link.specs.declared.refusal.AsmError.{AsmError}
-use Rattle.masm_link.specs.Assembling.{reads, read_tokens, read_parsed, LinksText, KernelExports, no_kernel, of_kernel, Assembles, assembled}
-use Rattle.masm_link.specs.Refusals.{Links}
-use Rattle.link_runs.specs.Forms.{ProcedureForm, MainForm, BodyForm, SourceForm, ReadsInForm}
+use Rattle.masm_link.specs.Assembling.{reads, read_tokens, read_parsed, KernelExports, no_kernel, of_kernel, assembled}
 use Rattle.link_runs.specs.Runs.{IsReady, AssembledIsReady}
 
 -- batches that are read together are read each
@@ -150,9 +147,9 @@ packs-operations (item ∷ items) h = (h.0, packs-operations items h.1)
 
 -- a procedure's instructions are in form, and name its own locals
 abbrev IsGood : Procedure → Type 0
-IsGood p = ProcedureFits p × ProcedureForm p
+IsGood p = ProcedureFits p × ProcedureIsInForm p
 
-both-of : (procs : List Procedure) → AllByRecursion ProcedureFits procs → AllByRecursion ProcedureForm procs → AllByRecursion IsGood procs
+both-of : (procs : List Procedure) → AllByRecursion ProcedureFits procs → AllByRecursion ProcedureIsInForm procs → AllByRecursion IsGood procs
 both-of [] h k = tt
 both-of (p ∷ procs) h k = ((h.0, k.0), both-of procs h.1 k.1)
 
@@ -166,7 +163,7 @@ found-good (q ∷ procs) name p h e = by (λ is. found-good procs name p h.1 is)
 
 module _ (procs : List Procedure) (kernel : List Exported) (good : AllByRecursion IsGood procs)
     (packs : (name : List ℕ) (block : Block) → first_export kernel name ≡ Some block → Packs block) where
-  packs-list : {locals : ℕ} {b : Body} {xs : List (Piece Block)} → IsList procs kernel locals b xs → HasLocals locals b → BodyForm b → AllByRecursion PiecePacks xs
+  packs-list : {locals : ℕ} {b : Body} {xs : List (Piece Block)} → IsList procs kernel locals b xs → HasLocals locals b → BodyIsInForm b → AllByRecursion PiecePacks xs
   packs-list nothing h k = tt
   packs-list {locals} (instr at i {xs} d) h k =
       all-append PiecePacks (map Operation (expansion i.name i.numbers locals)) xs
@@ -206,17 +203,18 @@ read-tokens : (is_kernel : Bool) (text : List ℕ) (source : Source) → reads i
 unfolding reads
 read-tokens is_kernel text source e = tokens-of is_kernel text source (lexed text) e
 
-good-procs : (is_kernel : Bool) (text : List ℕ) (source : Source) → ReadsInForm is_kernel text → reads is_kernel text ≡ Ok source
-    → AllByRecursion IsGood source.procs
-good-procs is_kernel text source forms e =
+good-procs : (is_kernel : Bool) (text : List ℕ) (source : Source) → reads is_kernel text ≡ Ok source → AllByRecursion IsGood source.procs
+good-procs is_kernel text source e =
     let r = read-tokens is_kernel text source e in
-    both-of source.procs (locals-fit is_kernel text r.0 source r.1).procs (forms source e).procs
+    both-of source.procs (locals-fit is_kernel text r.0 source r.1).procs (trees_are_in_form is_kernel text r.0 source r.1).procs
 
-good-main : (is_kernel : Bool) (text : List ℕ) (source : Source) (p : Procedure) → ReadsInForm is_kernel text
-    → reads is_kernel text ≡ Ok source → source.main ≡ Some p → IsGood p
-good-main is_kernel text source p forms e is =
-    let r = read-tokens is_kernel text source e in
-    (subst MainFits is (locals-fit is_kernel text r.0 source r.1).main, subst MainForm is (forms source e).main)
+good-main : (is_kernel : Bool) (text : List ℕ) (source : Source) (p : Procedure) → reads is_kernel text ≡ Ok source
+    → source.main ≡ Some p → IsGood p
+good-main is_kernel text source p e is =
+    let r = read-tokens is_kernel text source e in (
+      subst MainFits is (locals-fit is_kernel text r.0 source r.1).main,
+      subst MainIsInForm is (trees_are_in_form is_kernel text r.0 source r.1).main,
+    )
 
 -- what a kernel exports
 
@@ -246,12 +244,11 @@ module _ (procs : List Procedure) (good : AllByRecursion IsGood procs) where
       by later true is = subst Packs (same_Some e.block block is) (packs-procedure procs [] good none-found p e.block h.0 z.0.1)
       by later false is = later is
 
-kernel-packs : (kernel : Option (List ℕ)) (exports : List Exported) → MatchOption kernel (Unit {0}) (ReadsInForm true)
-    → KernelExports kernel exports
+kernel-packs : (kernel : Option (List ℕ)) (exports : List Exported) → KernelExports kernel exports
     → (name : List ℕ) (block : Block) → first_export exports name ≡ Some block → Packs block
-kernel-packs kernel exports forms no_kernel name block found = cc
-kernel-packs kernel exports forms (of_kernel text own links) name block found =
-    let good = good-procs true text links.source forms links.read in
+kernel-packs kernel exports no_kernel name block found = cc
+kernel-packs kernel exports (of_kernel text own links) name block found =
+    let good = good-procs true text links.source links.read in
     exports-pack links.source.procs good (exported_of links.source.procs) own (good-exported links.source.procs good) links.links.exported name block found
 
 -- the body between begin and end
@@ -265,9 +262,9 @@ main-packs source kernel own block good packs (Some p) fits h =
     subst Packs (sym (same_Some block h.0 h.1)) (packs-procedure source.procs kernel good packs p h.0 (fits p refl) h.2)
 
 pub assembled-ready : AssembledIsReady
-assembled-ready constants text kernel program forms (assembled exports own block _ k links is) =
+assembled-ready constants text kernel program (assembled exports own block _ k links is) =
     let source = links.source in
     subst IsReady (sym is.tree)
     (ready-block block
-    (main-packs source exports own block (good-procs false text source forms.0 links.read) (kernel-packs kernel exports forms.1 k) source.main
-    (λ p there. good-main false text source p forms.0 links.read there) links.links.body))
+    (main-packs source exports own block (good-procs false text source links.read) (kernel-packs kernel exports k) source.main
+    (λ p there. good-main false text source p links.read there) links.links.body))

@@ -1,5 +1,5 @@
 -- A tree that is ready traps for values alone, where so many blocks may still be opened.
-use Rattle.std.proofs.Common.{◌≡◌, ℕ, zero, suc, ◌+◌, ◌-◌, ◌<◌, ◌≤◌, max, Bool, true, false, cond, ltb, nat_lt, not, ◌&&◌, ◌==◌, List, [], ◌∷◌, length, is_some, Option, Some, None, Result, Ok, Err, refl, sym, ap, subst, ◌∙◌, arith, lt-ltb, ◌^◌}
+use Rattle.std.proofs.Common.{◌≡◌, ℕ, zero, suc, ◌+◌, ◌-◌, ◌<◌, ◌≤◌, Bool, true, false, cond, ltb, nat_lt, not, ◌&&◌, ◌==◌, List, [], ◌∷◌, length, is_some, Option, Some, None, Result, Ok, Err, refl, sym, subst, arith, lt-ltb}
 use Rattle.std.specs.List.{AllByRecursion}
 use Rattle.vm_field.specs.Machine.{Core, State}
 use Rattle.vm_ops.specs.declared.cause.Cause.{Cause}
@@ -12,7 +12,7 @@ use Rattle.vm_ops.specs.Values.{Seen, cell, is_bit, is_u32, two_u32, trap_of, un
 use Rattle.op_pack.specs.Reading.{reading}
 use Rattle.block_tree.specs.Behind.{HasReading}
 use Rattle.block_tree.specs.Cycles.{Cycle, Frame, Mark, StartOpaque, StartSpan, StartJoin, StartSplit, StartLoop, StartCall, StartSyscall, Respan, Repeat, Do, End, EndSpan, EndLoop, EndCall, EndSyscall, frame_of, pops_bit, opens, closes, and_then, reads, enters_call, is_in_kernel, enters_syscall, returns_to, effect_of, advice_taken, top}
-use Rattle.block_tree.specs.Execution.{Event, Outcome, Done, Trap, OutOfCycles, Part, logged, then_do, skip, seq, event_of, cycle_outcome, taking, at_bit, cycle, operations, read_operations, batches_from, turns, execution}
+use Rattle.block_tree.specs.Execution.{Event, Outcome, Done, Trap, OutOfCycles, Part, logged, then_do, skip, seq, cycle_outcome, taking, at_bit, cycle, operations, read_operations, batches_from, turns, execution}
 use Rattle.block_tree.specs.Trees.{Tree, Opaque, Span, Join, Split, Loop, Call, Syscall, tree_digest, tree_height}
 use Rattle.link_runs.specs.Runs.{IsReady, IsOfValues, TrapsForValues, ReadyRuns}
 

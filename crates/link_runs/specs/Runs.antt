@@ -1,5 +1,5 @@
 -- The trees of assembled programs as they are run.
-use Rattle.std.specs.Prelude.{◌≡◌, ◌≢◌, ℕ, ◌≤◌, true, false, List, [], Option, Ok, MatchOption}
+use Rattle.std.specs.Prelude.{◌≡◌, ◌≢◌, ℕ, ◌≤◌, List, [], Option, Ok}
 use Rattle.std.specs.List.{AllByRecursion}
 use Rattle.vm_field.specs.Machine.{State}
 use Rattle.vm_ops.specs.declared.cause.Cause.{Cause}
@@ -10,7 +10,6 @@ use Rattle.block_tree.specs.Execution.{Outcome, Done, Trap, OutOfCycles, executi
 use Rattle.block_tree.specs.Trees.{Tree, Opaque, Span, Join, Split, Loop, Call, Syscall, tree_height}
 use Rattle.block_tree.specs.TreeView.{tree_of}
 use Rattle.masm_link.specs.Assembling.{Assembles}
-use Rattle.link_runs.specs.Forms.{ReadsInForm}
 
 -- each block is known whole, and each span has batches, of which each has a reading
 abbrev pub IsReady : Tree → Type 0
@@ -40,17 +39,13 @@ abbrev pub ReadyRuns : Type 0
 ReadyRuns = (constants : List ℕ) (kernel : List (List ℕ)) (limit : ℕ) (tree : Tree) (s : State) → IsReady tree
     → tree_height tree ≤ 1024 → s.core.nesting ≡ 0 → TrapsForValues (execution constants kernel limit tree s)
 
--- the source and its kernel are read as trees in form
-abbrev pub AreInForm : List ℕ → Option (List ℕ) → Type 0
-AreInForm text kernel = ReadsInForm false text × MatchOption kernel (Unit {0}) (ReadsInForm true)
-
 abbrev pub AssembledIsReady : Type 0
-AssembledIsReady = (constants text : List ℕ) (kernel : Option (List ℕ)) (program : Program) → AreInForm text kernel
+AssembledIsReady = (constants text : List ℕ) (kernel : Option (List ℕ)) (program : Program)
     → Assembles constants text kernel (Ok program) → IsReady (tree_of program.tree)
 
 -- from every state in which no block is open
 abbrev pub AssembledRuns : Type 0
-AssembledRuns = (constants text : List ℕ) (kernel : Option (List ℕ)) (program : Program) → AreInForm text kernel
+AssembledRuns = (constants text : List ℕ) (kernel : Option (List ℕ)) (program : Program)
     → Assembles constants text kernel (Ok program)
     → (parameters : List ℕ) (digests : List (List ℕ)) (limit : ℕ) (s : State) → s.core.nesting ≡ 0
     → TrapsForValues (execution parameters digests limit (tree_of program.tree) s)

@@ -6,8 +6,7 @@ ghost use Rattle.link_runs.specs.Runs.{AssembledIsReady, AssembledRuns, ReadyRun
 /// The laws of runs. A tree of which no block is opaque, of which each span has batches that have
 /// readings, and which has at most 1,024 blocks on a path, never traps with OpaqueBlock, BadBatch or
 /// NestedTooDeep, from any state in which no block is open, whatever the limit of cycles, the
-/// permutation's constants and the kernel's list are. An assembled tree is such a tree, where the
-/// instructions of the sources are in form and no procedure has more than 65,535 locals.
+/// permutation's constants and the kernel's list are. An assembled tree is such a tree.
 pub fn assembled_runs()
     ensures trees { ReadyRuns }
     ensures ready { AssembledIsReady }

@@ -33,9 +33,9 @@ pub record WasExecuted (params : Params) (program : Program) (answer : Run) : Ty
   pub below : limit ≤ 524287
   pub ran : IsRunOf params program inputs limit answer
 
--- the run, or the trap with its clock, or that the cycles were used up
-abbrev pub Executed : Params → Program → Inputs → ℕ → Result Run Stop → Type 0
-Executed params program inputs limit (Ok r) = IsRunOf params program inputs limit r
-Executed params program inputs limit (Err (Trap clock cause)) = outcome_of params program inputs limit ≡ run.Trap clock cause
-Executed params program inputs limit (Err OutOfCycles) = outcome_of params program inputs limit ≡ run.OutOfCycles
-Executed params program inputs limit (Err Memory) = Unit {0}
+-- An answer is the run, or the trap with its clock, or that the cycles were used up, as the definition has it, or the want of memory.
+abbrev pub Gives : Result Run Stop → Params → Program → Inputs → ℕ → Type 0
+Gives (Ok r) params program inputs limit = IsRunOf params program inputs limit r
+Gives (Err (Trap clock cause)) params program inputs limit = outcome_of params program inputs limit ≡ run.Trap clock cause
+Gives (Err OutOfCycles) params program inputs limit = outcome_of params program inputs limit ≡ run.OutOfCycles
+Gives (Err Memory) params program inputs limit = Unit {0}

@@ -1,5 +1,5 @@
 ghost use Rattle.std.specs.Prelude.{◌≤◌, IfOk};
-ghost use Rattle.processor.specs.Executed.{Executed, WasExecuted};
+ghost use Rattle.processor.specs.Executed.{Gives, WasExecuted};
 
 use crate::blocks::block;
 use crate::cycle::Runner;
@@ -29,7 +29,7 @@ pub fn execute(
     limit: u32,
 ) -> Result<Run, Stop>
     requires limit { limit ≤ 524287 }
-    ensures is { Executed params.now program.now inputs.now limit result }
+    ensures is { Gives result params.now program.now inputs.now limit }
     ensures was { IfOk result (WasExecuted params.now program.now) }
 {
     let node = hashed(alloc, params, &program.tree)?;

@@ -8,7 +8,7 @@ pub returns : goal.returns
 returns c = record {
   trees = ready-runs;
   ready = assembled-ready;
-  runs = λ constants text kernel program forms is parameters digests limit s none.
-      ready-runs parameters digests limit (tree_of program.tree) s (assembled-ready constants text kernel program forms is)
+  runs = λ constants text kernel program is parameters digests limit s none.
+      ready-runs parameters digests limit (tree_of program.tree) s (assembled-ready constants text kernel program is)
       (assembled-trees constants text kernel program is).1.height none;
 }
