@@ -38,11 +38,11 @@ bit_low true = lit< tt
 bit_low false = lit< tt
 
 -- one by one
-abbrev EachLow : List ℕ → Type 0
+abbrev pub EachLow : List ℕ → Type 0
 EachLow [] = Unit {0}
 EachLow (v ∷ vs) = (v < prime) × EachLow vs
 
-elements_each : (xs : List ℕ) → EachLow xs → AreElements xs
+pub elements_each : (xs : List ℕ) → EachLow xs → AreElements xs
 elements_each [] each = All-nil (λ e. e < prime)
 elements_each (v ∷ vs) each = more v vs each.0 (elements_each vs each.1)
 

@@ -5,7 +5,6 @@ use Rattle.vm_ops.specs.declared.op.Op.{Op}
 use Rattle.vm_ops.specs.declared.op.Op.TheVariants as ops
 use Rattle.vm_table.specs.MainColumns.{clk, h, s, depth, key, inv}
 use Rattle.air_kit.specs.Flags.{is_op, is_left, is_right}
-use Rattle.air_kit.specs.BlockValues.{calls, returns}
 use Rattle.air_kit.specs.MainTuples.{is_call_op}
 use Rattle.air_kit.specs.StackValues.{deeper, shifts_left, shifts_right, keeps_depth, entry_115, entry_116, entry_117, entry_118, entry_135, entry_136, entry_137, entry_138, entry_139}
 use Rattle.row_facts.specs.Blocks.{IsEndRow, ends_call}
@@ -144,7 +143,8 @@ pub says_116 : (op next : Op) (x y : List ℕ) → Low x → Low y → (is_op op
 unfolding entry_116
 says_116 op next x y low low_next ends witness =
     says_of
-    (same_five (λ r l o c n. felt_add (felt_add (felt_add (felt_mul r (felt_sub (felt_sub (depth y) (depth x)) 1)) (felt_mul l (felt_add (felt_sub (depth y) (depth x)) o)))
+    (same_five (λ r l o c n. felt_add (felt_add (felt_add (felt_mul r (felt_sub (felt_sub (depth y) (depth x)) 1))
+    (felt_mul l (felt_add (felt_sub (depth y) (depth x)) o)))
     (felt_mul c (felt_sub (depth y) 16))) (felt_mul n (felt_sub (depth y) (depth x))))
     (rights_is op) (lefts_is op x ends) (deeper_is x low witness) (calls_is op) (keeps_is op x ends))
     (four_say (is_right op) (is_left (mover op x)) (is_call_op op) (keeps_stack op x) (right_or_left op x) (shift_or_call op x)
@@ -164,7 +164,8 @@ pub says_118 : (op next : Op) (x y : List ℕ) → Low x → Low y → (is_op op
 unfolding entry_118
 says_118 op next x y low low_next ends witness =
     says_of
-    (same_four (λ r l c n. felt_add (felt_add (felt_add (felt_mul r (felt_sub (key y) (clk x))) l) (felt_mul c (key y))) (felt_mul n (felt_sub (key y) (key x))))
+    (same_four (λ r l c n. felt_add (felt_add (felt_add (felt_mul r (felt_sub (key y) (clk x))) l) (felt_mul c (key y)))
+    (felt_mul n (felt_sub (key y) (key x))))
     (rights_is op) left_part (calls_is op) (keeps_is op x ends))
     (four_say (is_right op) (is_left (mover op x)) (is_call_op op) (keeps_stack op x) (right_or_left op x) (shift_or_call op x)
     (any_or_none (is_right op || is_left (mover op x) || is_call_op op) (ends_call op x))

@@ -18,3 +18,4 @@ pub mod LimbFacts
 pub mod LimbSpots
 pub mod TableFacts
 pub mod RunFacts
+pub mod ClaimFacts

@@ -5,12 +5,16 @@ ghost use Rattle.vm_ops.specs.declared.op.Op.{Op};
 ghost use Rattle.vm_ops.specs.declared.op.Op.TheVariants as ops;
 ghost use Rattle.vm_table.specs.Layout.{IsTable};
 ghost use Rattle.vm_table.specs.MainColumns.{b, clk, h};
+ghost use Rattle.air_kit.specs.Acceptance.{AreZero};
 ghost use Rattle.air_kit.specs.Flags.{HasOp, is_left, is_op, op_of};
 ghost use Rattle.air_kit.specs.MainTuples.{is_batch_op, positions, row_shifts_left};
 ghost use Rattle.air_kit.specs.MainValues.{decoder_values, main_values};
 ghost use Rattle.air_kit.specs.Places.{Claim, Spot};
 ghost use Rattle.air_kit.specs.SpanValues.{rest_flag};
 ghost use Rattle.air_kit.specs.StackValues.{stack_values};
+ghost use Rattle.air_kit.specs.declared.trace.Public.{Public};
+ghost use Rattle.air_kit.specs.declared.trace.Trace.{Trace};
+ghost use Rattle.air_kit.specs.Traces.{HasCounts, claim_of};
 ghost use Rattle.air_kit.specs.U32Values.{u32_values};
 ghost use Rattle.row_facts.specs.Batches.{IsBatchRow, ShowsBatch, UsesHalf};
 ghost use Rattle.row_facts.specs.Blocks.{IsBlockRow};
@@ -95,4 +99,12 @@ pub fn reading_laws()
     ensures operation { (op : Op) (x : List ℕ) → ReadsAs op x → op_of x ≡ op }
     ensures group { (op : Op) (x : List ℕ) → ReadsAs op x → IsGroupRow op x → (rest_flag x == 0) ≡ (h x 0 == code_of op) }
     ensures left { (x : List ℕ) → row_shifts_left x ≡ is_left (mover (op_of x) x) }
+{}
+
+/// The laws of traces: what stands beside the rows of a trace is in the range of elements, and a trace of which all entries are 0 has a
+/// main table whose rows show the facts.
+pub fn trace_laws()
+    ensures claim { (public : Public) (trace : Trace) → HasCounts trace → IsTable 1 trace.left → IsLowClaim (claim_of public trace) }
+    ensures rows { (public : Public) (trace : Trace) → HasCounts trace → IsTable 65 trace.main → IsTable 1 trace.left
+        → AreZero (claim_of public trace) trace → ShowsRows (claim_of public trace) trace.main }
 {}
