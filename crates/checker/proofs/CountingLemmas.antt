@@ -47,15 +47,15 @@ pub one_more_counted : (c : Claim) (digest : List ℕ) (t : Trace) (name : Table
     → AreRowsCounted c digest t name n a b → IsRowCounted c digest t name n b e → AreRowsCounted c digest t name (n + 1) a e
 one_more_counted c digest t name n a b e p q = record {
   asked_is = λ bus u.
-    let before = p.asked_is bus u in
-    let row = (q bus).asked_is u in
-    let more = over_more (asked_of c bus name) (rows_of t name) n u in
-    omega (arith, before, row, more);
+      let before = p.asked_is bus u in
+      let row = (q bus).asked_is u in
+      let more = over_more (asked_of c bus name) (rows_of t name) n u in
+      omega (arith, before, row, more);
   given_is = λ bus u.
-    let before = p.given_is bus u in
-    let row = (q bus).given_is u in
-    let more = over_more (given_of digest bus name) (rows_of t name) n u in
-    omega (arith, before, row, more);
+      let before = p.given_is bus u in
+      let row = (q bus).given_is u in
+      let more = over_more (given_of digest bus name) (rows_of t name) n u in
+      omega (arith, before, row, more);
   asked_grows = λ bus u. let before = p.asked_grows bus u in let row = (q bus).asked_grows u in omega (arith, before, row);
   given_grows = λ bus u. let before = p.given_grows bus u in let row = (q bus).given_grows u in omega (arith, before, row);
 }
@@ -152,26 +152,26 @@ pub trace_counted : (c : Claim) (digest : List ℕ) (t : Trace) (none main range
 unfolding asked_on given_on
 trace_counted c digest t none main range hasher bitwise memory kernel left counts none_asked none_given by_main by_range by_hasher by_bitwise by_memory by_kernel by_left = record {
   asked = λ bus u.
-    let h0 = none_asked bus u in
-    let h1 = by_main.asked_is bus u in
-    let h2 = by_range.asked_is bus u in
-    let h3 = by_hasher.asked_is bus u in
-    let h4 = by_bitwise.asked_is bus u in
-    let h5 = by_memory.asked_is bus u in
-    let h6 = by_kernel.asked_is bus u in
-    let h7 = by_left.asked_is bus u in
-    omega (arith, h0, h1, h2, h3, h4, h5, h6, h7);
+      let h0 = none_asked bus u in
+      let h1 = by_main.asked_is bus u in
+      let h2 = by_range.asked_is bus u in
+      let h3 = by_hasher.asked_is bus u in
+      let h4 = by_bitwise.asked_is bus u in
+      let h5 = by_memory.asked_is bus u in
+      let h6 = by_kernel.asked_is bus u in
+      let h7 = by_left.asked_is bus u in
+      omega (arith, h0, h1, h2, h3, h4, h5, h6, h7);
   given = λ bus u.
-    let h0 = none_given bus u in
-    let h1 = by_main.given_is bus u in
-    let statement = main_given_rows digest bus t.main (length t.main) u counts.main in
-    let h2 = by_range.given_is bus u in
-    let h3 = by_hasher.given_is bus u in
-    let h4 = by_bitwise.given_is bus u in
-    let h5 = by_memory.given_is bus u in
-    let h6 = by_kernel.given_is bus u in
-    let h7 = by_left.given_is bus u in
-    omega (arith, h0, h1, statement, h2, h3, h4, h5, h6, h7);
+      let h0 = none_given bus u in
+      let h1 = by_main.given_is bus u in
+      let statement = main_given_rows digest bus t.main (length t.main) u counts.main in
+      let h2 = by_range.given_is bus u in
+      let h3 = by_hasher.given_is bus u in
+      let h4 = by_bitwise.given_is bus u in
+      let h5 = by_memory.given_is bus u in
+      let h6 = by_kernel.given_is bus u in
+      let h7 = by_left.given_is bus u in
+      omega (arith, h0, h1, statement, h2, h3, h4, h5, h6, h7);
 }
 
 -- a row that is counted under the table's name
