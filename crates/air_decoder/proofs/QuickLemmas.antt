@@ -1,5 +1,5 @@
 -- A row of a span whose tests pass has no fault: most entries are 0 because of its operation alone.
-use Rattle.std.proofs.Common.{◌≡◌, ◌≢◌, ℕ, zero, suc, ◌+◌, ◌*◌, ◌%◌, ◌<◌, ◌≤◌, Bool, true, false, cond, eqb, List, [], ◌∷◌, ◌++◌, length, Option, Some, None, refl, sym, ap, ◌∙◌, inl, inr, arith, zero-mul}
+use Rattle.std.proofs.Common.{◌≡◌, ◌≢◌, ℕ, zero, suc, ◌+◌, ◌*◌, ◌%◌, ◌<◌, ◌≤◌, Bool, true, false, cond, eqb, List, [], ◌∷◌, ◌++◌, length, Option, Some, None, refl, sym, ap, subst, ◌∙◌, inl, inr, arith, zero-mul}
 use Rattle.std.proofs.Math.Nat.{mul-zero}
 use Rattle.std.proofs.lemmas.Bool.{cases_Bool, eqb-true}
 use Rattle.std.proofs.lemmas.Bool.Decides.{nat_tests}
@@ -8,6 +8,7 @@ use Rattle.vm_field.proofs.Algebra.{felt_mul-zero_first, felt_mul-zero_second}
 use Rattle.vm_ops.specs.Codes.{code_of, every_op, is_ordinary_op, is_start_op}
 use Rattle.vm_ops.specs.declared.op.Op.{Op}
 use Rattle.vm_ops.specs.declared.op.Op.TheVariants as ops
+use Rattle.vm_ops.proofs.CodeLemmas.{code_of-different}
 use Rattle.vm_table.specs.MainColumns.{b, clk, fmp, ctx, sys, f, addr, h, sp, gc, ox, c, s, w, ha, lv}
 use Rattle.air_kit.specs.Flags.{Flags, flag, flag_by, flags_of, spelled, sum_of, HasOp}
 use Rattle.air_kit.specs.Places.{Claim, Spot, first_fault_of, family}
@@ -20,26 +21,47 @@ use Rattle.air_kit.proofs.FlagLemmas.{at_op, flag_apart, flags_of-hot, sum_of-ho
 use Rattle.air_kit.proofs.FaultLemmas.{first_append}
 use Rattle.air_kit.proofs.ZeroLemmas.{Zeros, no_fault, bit_zero}
 use Rattle.air_decoder.specs.Entries.{of_row, of_pair, spot_of}
-use Rattle.air_decoder.specs.Quick.{IsClean, IsGoingOn, IsInner, IsKept, IsOver, IsPlain, IsStep}
+use Rattle.air_decoder.specs.Quick.{IsClean, IsFirstBatch, IsFrame, IsNextBatch, IsGoingOn, IsInner, IsKept, IsOver, IsPlain, IsStep}
 use Rattle.air_decoder.specs.Quick.IsOver.{opens, ends}
 use Rattle.air_decoder.proofs.FaultLemmas.{decoder_joined}
 
--- The flags of a row of a plain operation.
-pub record PlainFlags (fl : Flags) : Type 0 where
-  pub join : fl ops.Join ≡ 0
-  pub split : fl ops.Split ≡ 0
-  pub loop : fl ops.Loop ≡ 0
-  pub span : fl ops.Span ≡ 0
-  pub call : fl ops.Call ≡ 0
-  pub syscall : fl ops.Syscall ≡ 0
-  pub end : fl ops.End ≡ 0
-  pub repeat : fl ops.Repeat ≡ 0
-  pub respan : fl ops.Respan ≡ 0
-  pub halt : fl ops.Halt ≡ 0
-  pub caller : fl ops.Caller ≡ 0
-  pub update : fl ops.FmpUpdate ≡ 0
-  pub starts : flags_of is_start_op fl ≡ 0
-  pub ordinary : flags_of is_ordinary_op fl ≡ 1
+-- Flags that are 0 in a row of a plain operation and of a batch.
+record QuietFlags (fl : Flags) : Type 0 where
+  join : fl ops.Join ≡ 0
+  split : fl ops.Split ≡ 0
+  loop : fl ops.Loop ≡ 0
+  call : fl ops.Call ≡ 0
+  syscall : fl ops.Syscall ≡ 0
+  end : fl ops.End ≡ 0
+  repeat : fl ops.Repeat ≡ 0
+  halt : fl ops.Halt ≡ 0
+  caller : fl ops.Caller ≡ 0
+  update : fl ops.FmpUpdate ≡ 0
+
+-- These, and the others that entries read.
+record RowFlags (fl : Flags) (first again plain : ℕ) : Type 0 where
+  quiet : QuietFlags fl
+  span : fl ops.Span ≡ first
+  respan : fl ops.Respan ≡ again
+  starts : flags_of is_start_op fl ≡ first
+  ordinary : flags_of is_ordinary_op fl ≡ plain
+
+quiet_flags : (x : List ℕ) (op : Op) → HasOp x op → ((n : ℕ) → code_of op ≡ n → (n ≢ 70) × (n ≢ 71) × (n ≢ 72) × (n ≢ 74) × (n ≢ 75) × (n ≢ 76) × (n ≢ 77) × (n ≢ 79) × (n ≢ 9) × (n ≢ 49))
+    → QuietFlags (flag x)
+quiet_flags x op has other =
+    let o = other (code_of op) refl in
+    record {
+      join = flag_apart x op ops.Join has (λ e. o.0 (sym e));
+      split = flag_apart x op ops.Split has (λ e. o.1 (sym e));
+      loop = flag_apart x op ops.Loop has (λ e. o.2 (sym e));
+      call = flag_apart x op ops.Call has (λ e. o.3 (sym e));
+      syscall = flag_apart x op ops.Syscall has (λ e. o.4 (sym e));
+      end = flag_apart x op ops.End has (λ e. o.5 (sym e));
+      repeat = flag_apart x op ops.Repeat has (λ e. o.6 (sym e));
+      halt = flag_apart x op ops.Halt has (λ e. o.7 (sym e));
+      caller = flag_apart x op ops.Caller has (λ e. o.8 (sym e));
+      update = flag_apart x op ops.FmpUpdate has (λ e. o.9 (sym e));
+    }
 
 start_off : (op : Op) → code_of op < 70 → is_start_op op ≡ false
 start_off op low = grind (arith, nat_tests)
@@ -47,25 +69,67 @@ start_off op low = grind (arith, nat_tests)
 ordinary_on : (op : Op) → code_of op < 70 → is_ordinary_op op ≡ true
 ordinary_on op low = grind (arith, nat_tests)
 
-pub plain_flags : (x : List ℕ) (op : Op) → HasOp x op → IsPlain op → PlainFlags (flag x)
+plain_flags : (x : List ℕ) (op : Op) → HasOp x op → IsPlain op → RowFlags (flag x) 0 0 1
 plain_flags x op has p =
     let low = p.ordinary in
     record {
-      join = flag_apart x op ops.Join has (λ e. omega (arith, e, low));
-      split = flag_apart x op ops.Split has (λ e. omega (arith, e, low));
-      loop = flag_apart x op ops.Loop has (λ e. omega (arith, e, low));
+      quiet = quiet_flags x op has (λ n is. (
+        λ e. omega (arith, e, is, low),
+        λ e. omega (arith, e, is, low),
+        λ e. omega (arith, e, is, low),
+        λ e. omega (arith, e, is, low),
+        λ e. omega (arith, e, is, low),
+        λ e. omega (arith, e, is, low),
+        λ e. omega (arith, e, is, low),
+        λ e. omega (arith, e, is, low),
+        λ e. p.not_caller (is ∙ e),
+        λ e. p.not_update (is ∙ e),
+      ));
       span = flag_apart x op ops.Span has (λ e. omega (arith, e, low));
-      call = flag_apart x op ops.Call has (λ e. omega (arith, e, low));
-      syscall = flag_apart x op ops.Syscall has (λ e. omega (arith, e, low));
-      end = flag_apart x op ops.End has (λ e. omega (arith, e, low));
-      repeat = flag_apart x op ops.Repeat has (λ e. omega (arith, e, low));
       respan = flag_apart x op ops.Respan has (λ e. omega (arith, e, low));
-      halt = flag_apart x op ops.Halt has (λ e. omega (arith, e, low));
-      caller = flag_apart x op ops.Caller has (λ e. p.not_caller (sym e));
-      update = flag_apart x op ops.FmpUpdate has (λ e. p.not_update (sym e));
       starts = at_op has (flags_of is_start_op) ∙ flags_of-hot op is_start_op ∙ rw (start_off op low) refl;
       ordinary = at_op has (flags_of is_ordinary_op) ∙ flags_of-hot op is_ordinary_op ∙ rw (ordinary_on op low) refl;
     }
+
+span_flags : (x : List ℕ) → HasOp x ops.Span → RowFlags (flag x) 1 0 0
+span_flags x has = record {
+  quiet = quiet_flags x ops.Span has (λ n is. (
+    λ e. omega (arith, e, is),
+    λ e. omega (arith, e, is),
+    λ e. omega (arith, e, is),
+    λ e. omega (arith, e, is),
+    λ e. omega (arith, e, is),
+    λ e. omega (arith, e, is),
+    λ e. omega (arith, e, is),
+    λ e. omega (arith, e, is),
+    λ e. omega (arith, e, is),
+    λ e. omega (arith, e, is),
+  ));
+  span = has.flags ops.Span;
+  respan = has.flags ops.Respan;
+  starts = at_op has (flags_of is_start_op) ∙ flags_of-hot ops.Span is_start_op;
+  ordinary = at_op has (flags_of is_ordinary_op) ∙ flags_of-hot ops.Span is_ordinary_op;
+}
+
+respan_flags : (x : List ℕ) → HasOp x ops.Respan → RowFlags (flag x) 0 1 0
+respan_flags x has = record {
+  quiet = quiet_flags x ops.Respan has (λ n is. (
+    λ e. omega (arith, e, is),
+    λ e. omega (arith, e, is),
+    λ e. omega (arith, e, is),
+    λ e. omega (arith, e, is),
+    λ e. omega (arith, e, is),
+    λ e. omega (arith, e, is),
+    λ e. omega (arith, e, is),
+    λ e. omega (arith, e, is),
+    λ e. omega (arith, e, is),
+    λ e. omega (arith, e, is),
+  ));
+  span = has.flags ops.Span;
+  respan = has.flags ops.Respan;
+  starts = at_op has (flags_of is_start_op) ∙ flags_of-hot ops.Respan is_start_op;
+  ordinary = at_op has (flags_of is_ordinary_op) ∙ flags_of-hot ops.Respan is_ordinary_op;
+}
 
 -- Entries 1 to 10.
 every_flag : (x : List ℕ) (op : Op) → HasOp x op → felt_sub 1 (sum_of every_op (flag x)) ≡ 0
@@ -112,85 +176,24 @@ opcode_clean n x y op has behind clock =
     bit j h = bit_zero (b x j) (has.bits j h)
 
 -- Entries 60 to 91.
-pub follow_clean : (x y : List ℕ) → PlainFlags (flag x) → IsStep x y → Zeros (follow_values (spot_of 0 x (Some y)))
+follow_clean : (x y : List ℕ) → RowFlags (flag x) 0 0 1 → IsStep x y → Zeros (follow_values (spot_of 0 x (Some y)))
 unfolding follow_values batches calls starts entry_60 entry_61 entry_62 entry_63 entry_64 entry_65 entry_66 entry_67 entry_68 entry_69
-follow_clean x y p t = (
-  p.halt,
-  (
-    rw (t.inside, p.ordinary) refl,
-    (
-      rw (p.join, p.split, p.call, p.syscall, p.repeat, p.loop) (simp zero-mul),
+follow_clean x y r t =
+    let q = r.quiet in (
+      q.halt,
       (
-        rw (p.loop) (simp zero-mul),
+        rw (t.inside, r.ordinary) refl,
         (
-          rw (p.span, p.respan) (simp zero-mul),
+          rw (q.join, q.split, q.call, q.syscall, q.repeat, q.loop) (simp zero-mul),
           (
-            rw (t.inside, t.follows) refl,
+            rw (q.loop) (simp zero-mul),
             (
-              rw (p.end) (simp zero-mul),
-              (rw (p.split, p.loop) (simp zero-mul), (rw (p.repeat) (simp zero-mul), (rw (p.end) (simp zero-mul), tt))),
-            ),
-          ),
-        ),
-      ),
-    ),
-  ),
-)
-
-pub shown_clean : (x y : List ℕ) → PlainFlags (flag x) → Zeros (shown_values (spot_of 0 x (Some y)))
-unfolding shown_values family kind_flags calls entry_70 entry_74 entry_75 entry_79 entry_80 entry_81
-shown_clean x y p = (
-  rw (p.end) (simp zero-mul),
-  (
-    rw (p.end) (simp zero-mul),
-    (
-      rw (p.end) (simp zero-mul),
-      (
-        rw (p.end) (simp zero-mul),
-        (
-          rw (p.end) (simp zero-mul),
-          (
-            rw (p.loop, p.call, p.syscall) (simp zero-mul),
-            (
-              rw (p.loop, p.call, p.syscall) (simp zero-mul),
+              rw (r.span, r.respan) (simp zero-mul),
               (
-                rw (p.loop, p.call, p.syscall) (simp zero-mul),
-                (rw (p.loop, p.call, p.syscall) (simp zero-mul), (rw (p.call, p.syscall) (simp zero-mul), (rw (p.caller) (simp zero-mul), (rw (p.halt) (simp zero-mul), tt)))),
-              ),
-            ),
-          ),
-        ),
-      ),
-    ),
-  ),
-)
-
-inside_is : (x : List ℕ) → PlainFlags (flag x) → stays_inside (flag x) x ≡ 1
-unfolding stays_inside calls returns
-inside_is x p = rw (p.call, p.syscall, p.end) (simp zero-mul)
-
-returns_is : (x : List ℕ) → PlainFlags (flag x) → returns (flag x) x ≡ 0
-unfolding returns
-returns_is x p = rw (p.end) (simp zero-mul)
-
-pub kept_clean : (x y : List ℕ) → PlainFlags (flag x) → IsStep x y → Zeros (kept_values (spot_of 0 x (Some y)))
-unfolding kept_values family starts entry_82 entry_83 entry_84 entry_85 entry_89 entry_90 entry_91
-kept_clean x y p t =
-    let k = t.kept in (
-      rw (p.call, p.syscall, inside_is x p, k.context) (simp zero-mul),
-      (
-        rw (p.call, p.syscall, p.update, inside_is x p, k.frame) (simp zero-mul),
-        (
-          rw (p.call, p.syscall, inside_is x p, k.mode) (simp zero-mul),
-          (
-            rw (p.call, returns_is x p, k.digest_0) (simp zero-mul),
-            (
-              rw (p.call, returns_is x p, k.digest_1) (simp zero-mul),
-              (
-                rw (p.call, returns_is x p, k.digest_2) (simp zero-mul),
+                rw (t.inside, t.follows) refl,
                 (
-                  rw (p.call, returns_is x p, k.digest_3) (simp zero-mul),
-                  (rw (p.starts, p.end, k.block) refl, (rw (k.level, p.starts, p.end) refl, (rw (p.span, p.respan, t.inside, k.batch) (simp zero-mul), tt))),
+                  rw (q.end) (simp zero-mul),
+                  (rw (q.split, q.loop) (simp zero-mul), (rw (q.repeat) (simp zero-mul), (rw (q.end) (simp zero-mul), tt))),
                 ),
               ),
             ),
@@ -199,13 +202,122 @@ kept_clean x y p t =
       ),
     )
 
-pub block_clean : (x y : List ℕ) → PlainFlags (flag x) → IsStep x y → first_fault_of 60 (block_values (spot_of 0 x (Some y))) ≡ None
+batch_follow_clean : (x y : List ℕ) (first again : ℕ) → RowFlags (flag x) first again 0 → sp x ≡ 0 → sp y ≡ 1 → Zeros (follow_values (spot_of 0 x (Some y)))
+unfolding follow_values calls starts entry_60 entry_61 entry_62 entry_63 entry_64 entry_65 entry_66 entry_67 entry_68 entry_69
+batch_follow_clean x y first again r outside inside =
+    let q = r.quiet in (
+      q.halt,
+      (
+        rw (outside, r.ordinary) refl,
+        (
+          rw (q.join, q.split, q.call, q.syscall, q.repeat, q.loop) (simp zero-mul),
+          (
+            rw (q.loop) (simp zero-mul),
+            (
+              rw inside (felt_mul-zero_second (batches (flag x)) 0 refl),
+              (
+                rw outside (simp zero-mul),
+                (
+                  rw (q.end) (simp zero-mul),
+                  (rw (q.split, q.loop) (simp zero-mul), (rw (q.repeat) (simp zero-mul), (rw (q.end) (simp zero-mul), tt))),
+                ),
+              ),
+            ),
+          ),
+        ),
+      ),
+    )
+
+shown_clean : (x y : List ℕ) → QuietFlags (flag x) → Zeros (shown_values (spot_of 0 x (Some y)))
+unfolding shown_values family kind_flags calls entry_70 entry_74 entry_75 entry_79 entry_80 entry_81
+shown_clean x y q = (
+  rw (q.end) (simp zero-mul),
+  (
+    rw (q.end) (simp zero-mul),
+    (
+      rw (q.end) (simp zero-mul),
+      (
+        rw (q.end) (simp zero-mul),
+        (
+          rw (q.end) (simp zero-mul),
+          (
+            rw (q.loop, q.call, q.syscall) (simp zero-mul),
+            (
+              rw (q.loop, q.call, q.syscall) (simp zero-mul),
+              (
+                rw (q.loop, q.call, q.syscall) (simp zero-mul),
+                (rw (q.loop, q.call, q.syscall) (simp zero-mul), (rw (q.call, q.syscall) (simp zero-mul), (rw (q.caller) (simp zero-mul), (rw (q.halt) (simp zero-mul), tt)))),
+              ),
+            ),
+          ),
+        ),
+      ),
+    ),
+  ),
+)
+
+inside_is : (x : List ℕ) → QuietFlags (flag x) → stays_inside (flag x) x ≡ 1
+unfolding stays_inside calls returns
+inside_is x q = rw (q.call, q.syscall, q.end) (simp zero-mul)
+
+returns_is : (x : List ℕ) → QuietFlags (flag x) → returns (flag x) x ≡ 0
+unfolding returns
+returns_is x q = rw (q.end) (simp zero-mul)
+
+-- entries 82 to 88
+record FrameZero (x y : List ℕ) : Type 0 where
+  context : of_pair entry_82 x y ≡ 0
+  locals : of_pair entry_83 x y ≡ 0
+  mode : of_pair entry_84 x y ≡ 0
+  digest_0 : of_pair (entry_85 0) x y ≡ 0
+  digest_1 : of_pair (entry_85 1) x y ≡ 0
+  digest_2 : of_pair (entry_85 2) x y ≡ 0
+  digest_3 : of_pair (entry_85 3) x y ≡ 0
+
+frame_clean : (x y : List ℕ) → QuietFlags (flag x) → IsFrame x y → FrameZero x y
+unfolding entry_82 entry_83 entry_84 entry_85
+frame_clean x y q k = record {
+  context = rw (q.call, q.syscall, inside_is x q, k.context) (simp zero-mul);
+  locals = rw (q.call, q.syscall, q.update, inside_is x q, k.locals) (simp zero-mul);
+  mode = rw (q.call, q.syscall, inside_is x q, k.mode) (simp zero-mul);
+  digest_0 = rw (q.call, returns_is x q, k.digest_0) (simp zero-mul);
+  digest_1 = rw (q.call, returns_is x q, k.digest_1) (simp zero-mul);
+  digest_2 = rw (q.call, returns_is x q, k.digest_2) (simp zero-mul);
+  digest_3 = rw (q.call, returns_is x q, k.digest_3) (simp zero-mul);
+}
+
+kept_list : (x y : List ℕ) → FrameZero x y → of_pair entry_89 x y ≡ 0 → of_pair entry_90 x y ≡ 0 → of_pair entry_91 x y ≡ 0 → Zeros (kept_values (spot_of 0 x (Some y)))
+unfolding kept_values family
+kept_list x y z block level batch =
+    (z.context, (z.locals, (z.mode, (z.digest_0, (z.digest_1, (z.digest_2, (z.digest_3, (block, (level, (batch, tt))))))))))
+
+kept_clean : (x y : List ℕ) → RowFlags (flag x) 0 0 1 → IsStep x y → Zeros (kept_values (spot_of 0 x (Some y)))
+unfolding starts entry_89 entry_90 entry_91
+kept_clean x y r t =
+    let k = t.kept in
+    kept_list x y (frame_clean x y r.quiet k.frame) (rw (r.starts, r.quiet.end, k.block) refl) (rw (k.level, r.starts, r.quiet.end) refl)
+    (rw (r.span, r.respan, t.inside, k.batch) (simp zero-mul))
+
+first_kept_clean : (x y : List ℕ) → RowFlags (flag x) 1 0 0 → IsFirstBatch x y → Zeros (kept_values (spot_of 0 x (Some y)))
+unfolding starts entry_89 entry_90 entry_91
+first_kept_clean x y r k =
+    kept_list x y (frame_clean x y r.quiet k.frame) (rw (r.starts, r.quiet.end) (simp zero-mul)) (rw (r.starts, k.level, r.quiet.end) refl)
+    (rw (r.span, r.respan, k.outside, k.batch) (simp zero-mul))
+
+next_kept_clean : (x y : List ℕ) → RowFlags (flag x) 0 1 0 → IsNextBatch x y → Zeros (kept_values (spot_of 0 x (Some y)))
+unfolding starts entry_89 entry_90 entry_91
+next_kept_clean x y r k =
+    kept_list x y (frame_clean x y r.quiet k.frame) (rw (r.starts, r.quiet.end, k.block) refl) (rw (k.level, r.starts, r.quiet.end) refl)
+    (rw (r.span, r.respan, k.outside, k.batch) (simp zero-mul))
+
+block_clean : (x y : List ℕ) → Zeros (follow_values (spot_of 0 x (Some y))) → Zeros (shown_values (spot_of 0 x (Some y)))
+    → Zeros (kept_values (spot_of 0 x (Some y))) → first_fault_of 60 (block_values (spot_of 0 x (Some y))) ≡ None
 unfolding block_values
-block_clean x y p t =
+block_clean x y follow shown kept =
     first_append 60 (follow_values (spot_of 0 x (Some y))) (shown_values (spot_of 0 x (Some y)) ++ kept_values (spot_of 0 x (Some y)))
-    ∙ rw (no_fault 60 (follow_values (spot_of 0 x (Some y))) (follow_clean x y p t))
+    ∙ rw (no_fault 60 (follow_values (spot_of 0 x (Some y))) follow)
     (first_append _ (shown_values (spot_of 0 x (Some y))) (kept_values (spot_of 0 x (Some y)))
-    ∙ rw (no_fault _ (shown_values (spot_of 0 x (Some y))) (shown_clean x y p)) (no_fault _ (kept_values (spot_of 0 x (Some y))) (kept_clean x y p t)))
+    ∙ rw (no_fault _ (shown_values (spot_of 0 x (Some y))) shown) (no_fault _ (kept_values (spot_of 0 x (Some y))) kept))
 
 -- Entries 92 to 106.
 no_two : (a u v : ℕ) → a ≡ 0 → felt_mul (felt_mul a u) v ≡ 0
@@ -239,20 +351,49 @@ batch_clean x y e = (
   ),
 )
 
-no_batches : (fl : Flags) → PlainFlags fl → batches fl ≡ 0
+no_batches : (fl : Flags) → RowFlags fl 0 0 1 → batches fl ≡ 0
 unfolding batches
-no_batches fl p = rw (p.span, p.respan) refl
+no_batches fl r = rw (r.span, r.respan) refl
 
 batch_length : (x y : List ℕ) → length (batch_values (spot_of 0 x (Some y))) ≡ 15
 unfolding batch_values family
 batch_length x y = refl
 
-pub span_clean : (x y : List ℕ) → PlainFlags (flag x) → first_fault_of 107 (group_values (spot_of 0 x (Some y))) ≡ None
+span_clean : (x y : List ℕ) → first_fault_of 92 (batch_values (spot_of 0 x (Some y))) ≡ None → first_fault_of 107 (group_values (spot_of 0 x (Some y))) ≡ None
     → first_fault_of 92 (span_values (spot_of 0 x (Some y))) ≡ None
 unfolding span_values
-span_clean x y p group =
-    first_append 92 (batch_values (spot_of 0 x (Some y))) (group_values (spot_of 0 x (Some y)))
-    ∙ rw (no_fault 92 (batch_values (spot_of 0 x (Some y))) (batch_clean x y (no_batches (flag x) p)), batch_length x y) group
+span_clean x y batch group =
+    first_append 92 (batch_values (spot_of 0 x (Some y))) (group_values (spot_of 0 x (Some y))) ∙ rw (batch, batch_length x y) group
+
+-- outside a span no group goes on
+no_ninth : (s a b c d e f g h i : ℕ) → s ≡ 0
+    → felt_mul (felt_mul (felt_mul (felt_mul (felt_mul (felt_mul (felt_mul (felt_mul (felt_mul s a) b) c) d) e) f) g) h) i ≡ 0
+no_ninth s a b c d e f g h i z = felt_mul-zero_first _ i (no_two _ g h (no_two _ e f (no_two _ c d (no_two s a b z))))
+
+no_group : (x y : List ℕ) → sp x ≡ 0 → Zeros (group_values (spot_of 0 x (Some y)))
+unfolding group_values entry_107 entry_108 entry_109 entry_110 entry_111 entry_112 entry_113 entry_114
+no_group x y e = (
+  no_two _ _ _ e,
+  (
+    no_two _ _ _ e,
+    (
+      no_two _ _ _ e,
+      (
+        no_two _ _ _ e,
+        (
+          felt_mul-zero_first _ _ (no_two _ _ _ e),
+          (
+            no_two _ _ _ e,
+            (
+              no_two _ _ _ e,
+              (no_ninth _ _ _ _ _ _ _ _ _ _ e, tt),
+            ),
+          ),
+        ),
+      ),
+    ),
+  ),
+)
 
 -- Entries 107 to 114.
 
@@ -396,11 +537,31 @@ over_clean x y left push is pushes inside low none zero_is o =
 -- all of a row
 pub row_clean : (x y : List ℕ) (op : Op) → HasOp x op → IsPlain op → IsStep x y → first_fault_of 107 (group_values (spot_of 0 x (Some y))) ≡ None → IsClean x y
 row_clean x y op has plain step group =
-    let p = plain_flags x op has plain in
+    let r = plain_flags x op has plain in
     record {
       opcode = λ n behind. opcode_clean n x y op has behind step.clock;
-      block = block_clean x y p step;
-      span = span_clean x y p group;
+      block = block_clean x y (follow_clean x y r step) (shown_clean x y r.quiet) (kept_clean x y r step);
+      span = span_clean x y (no_fault 92 (batch_values (spot_of 0 x (Some y))) (batch_clean x y (no_batches (flag x) r))) group;
+    }
+
+pub first_batch_clean : (x y : List ℕ) (op : Op) → HasOp x op → code_of op ≡ 73 → IsFirstBatch x y → first_fault_of 92 (batch_values (spot_of 0 x (Some y))) ≡ None
+    → IsClean x y
+first_batch_clean x y op has is step batch =
+    let r = span_flags x (subst (HasOp x) (code_of-different op ops.Span is) has) in
+    record {
+      opcode = λ n behind. opcode_clean n x y op has behind step.clock;
+      block = block_clean x y (batch_follow_clean x y 1 0 r step.outside step.inside) (shown_clean x y r.quiet) (first_kept_clean x y r step);
+      span = span_clean x y batch (no_fault 107 (group_values (spot_of 0 x (Some y))) (no_group x y step.outside));
+    }
+
+pub next_batch_clean : (x y : List ℕ) (op : Op) → HasOp x op → code_of op ≡ 78 → IsNextBatch x y → first_fault_of 92 (batch_values (spot_of 0 x (Some y))) ≡ None
+    → IsClean x y
+next_batch_clean x y op has is step batch =
+    let r = respan_flags x (subst (HasOp x) (code_of-different op ops.Respan is) has) in
+    record {
+      opcode = λ n behind. opcode_clean n x y op has behind step.clock;
+      block = block_clean x y (batch_follow_clean x y 0 1 r step.outside step.inside) (shown_clean x y r.quiet) (next_kept_clean x y r step);
+      span = span_clean x y batch (no_fault 107 (group_values (spot_of 0 x (Some y))) (no_group x y step.outside));
     }
 
 -- The whole list of a row behind the first one.

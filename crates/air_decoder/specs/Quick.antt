@@ -1,4 +1,4 @@
--- What is tested of a row inside a span. Its other entries are 0 because of its operation.
+-- What is tested of a row inside a span, or at the start of a batch. Its other entries are 0 because of its operation.
 use Rattle.std.specs.Prelude.{◌≡◌, ◌≢◌, ℕ, ◌<◌, List, Option, Some, None}
 use Rattle.vm_field.specs.Signs.{◌⊞◌, ◌⊟◌, ◌⊠◌}
 use Rattle.vm_ops.specs.Codes.{code_of}
@@ -18,15 +18,19 @@ pub record IsPlain (op : Op) : Type 0 where
   pub not_caller : code_of op ≢ 9
   pub not_update : code_of op ≢ 49
 
--- what a span keeps from row to row
-pub record IsKept (x y : List ℕ) : Type 0 where
+-- the function that runs stays the same, with its context and its locals
+pub record IsFrame (x y : List ℕ) : Type 0 where
   pub context : ctx y ⊟ ctx x ≡ 0
-  pub frame : fmp y ⊟ fmp x ≡ 0
+  pub locals : fmp y ⊟ fmp x ≡ 0
   pub mode : sys y ⊟ sys x ≡ 0
   pub digest_0 : f y 0 ⊟ f x 0 ≡ 0
   pub digest_1 : f y 1 ⊟ f x 1 ≡ 0
   pub digest_2 : f y 2 ⊟ f x 2 ≡ 0
   pub digest_3 : f y 3 ⊟ f x 3 ≡ 0
+
+-- what a span keeps from row to row
+pub record IsKept (x y : List ℕ) : Type 0 where
+  pub frame : IsFrame x y
   pub block : addr y ⊟ addr x ≡ 0
   pub level : lv y ⊟ lv x ≡ 0
   pub batch : ha y ⊟ ha x ≡ 0
@@ -49,6 +53,25 @@ pub record IsStep (x y : List ℕ) : Type 0 where
   pub inside : sp x ≡ 1
   pub follows : 1 ⊟ sp y ⊟ flag y ops.End ⊟ flag y ops.Respan ≡ 0
   pub kept : IsKept x y
+
+-- a row of SPAN and the one after it
+pub record IsFirstBatch (x y : List ℕ) : Type 0 where
+  pub clock : clk y ⊟ clk x ⊟ 1 ≡ 0
+  pub outside : sp x ≡ 0
+  pub inside : sp y ≡ 1
+  pub frame : IsFrame x y
+  pub level : lv y ⊟ lv x ⊟ 1 ≡ 0
+  pub batch : ha y ⊟ addr y ≡ 0
+
+-- a row of RESPAN and the one after it
+pub record IsNextBatch (x y : List ℕ) : Type 0 where
+  pub clock : clk y ⊟ clk x ⊟ 1 ≡ 0
+  pub outside : sp x ≡ 0
+  pub inside : sp y ≡ 1
+  pub frame : IsFrame x y
+  pub block : addr y ⊟ addr x ≡ 0
+  pub level : lv y ⊟ lv x ≡ 0
+  pub batch : ha y ⊟ ha x ⊟ 8 ≡ 0
 
 -- all entries of a row behind the first one are 0
 pub record IsClean (x y : List ℕ) : Type 0 where

@@ -1,20 +1,21 @@
-//! A quick test of rows inside a span: only a few of their entries can be other than 0.
+//! A quick test of rows inside a span and at the start of a batch: only a few of their entries can be other than 0.
 ghost use Rattle.std.specs.Prelude.{◌≡◌, ◌<◌, IsTrue, Some, None, option_map};
 ghost use Rattle.vm_field.specs.Signs.{◌⊟◌};
 ghost use Rattle.vm_ops.specs.declared.op.Op.TheVariants as ops;
 ghost use Rattle.vm_table.specs.MainColumns.{ox, sp};
 ghost use Rattle.air_kit.specs.Flags.{HasOp, flag};
 ghost use Rattle.air_kit.specs.Places.{first_fault_of};
-ghost use Rattle.air_kit.specs.SpanValues.{group_values, rest};
+ghost use Rattle.air_kit.specs.SpanValues.{batch_values, group_values, rest};
 ghost use Rattle.air_decoder.specs.Entries.{spot_of};
-ghost use Rattle.air_decoder.specs.Quick.{IsClean, IsInner, IsGoingOn, IsKept, IsOver, IsPlain, IsStep};
+ghost use Rattle.air_decoder.specs.Quick.{IsClean, IsFirstBatch, IsFrame, IsGoingOn, IsInner, IsKept, IsNextBatch, IsOver, IsPlain, IsStep};
 
+use crate::spans::batch_faults;
 use air_kit::{Seen, are_same, is_one, is_zero};
 use vm_field::Felt;
 use vm_ops::{Op, opcode};
 use vm_table::MainView;
 
-/// Whether a row is neither the first nor the last one, shows an operation of a span, and its entries 1 to 114 are 0. Where the
+/// Whether a row is neither the first nor the last one, shows an operation of a span or starts a batch, and its entries 1 to 114 are 0. Where the
 /// answer is false, they may be 0 all the same.
 pub(crate) fn is_inner<V: MainView>(row: u32, x: &Seen<'_, V>, next: &Option<V>) -> bool
     ensures { IsTrue result → IsInner row (V.cells x.now.row.now) (option_map V.cells next.now) }
@@ -35,8 +36,9 @@ fn is_clean<V: MainView>(x: &Seen<'_, V>, y: &V) -> bool
         if is_step(x.row, y) {
             return is_group_clean(x, y, op);
         }
+        return false;
     }
-    false
+    is_batch_clean(x, y, op)
 }
 
 fn is_plain(op: Op) -> bool
@@ -46,8 +48,8 @@ fn is_plain(op: Op) -> bool
     code < 70 && code != 9 && code != 49
 }
 
-fn is_kept<V: MainView>(x: &V, y: &V) -> bool
-    ensures { IsTrue result → IsKept (V.cells x.now) (V.cells y.now) }
+fn is_frame<V: MainView>(x: &V, y: &V) -> bool
+    ensures { IsTrue result → IsFrame (V.cells x.now) (V.cells y.now) }
 {
     are_same(y.ctx(), x.ctx())
         && are_same(y.fmp(), x.fmp())
@@ -56,9 +58,67 @@ fn is_kept<V: MainView>(x: &V, y: &V) -> bool
         && are_same(y.f1(), x.f1())
         && are_same(y.f2(), x.f2())
         && are_same(y.f3(), x.f3())
+}
+
+fn is_kept<V: MainView>(x: &V, y: &V) -> bool
+    ensures { IsTrue result → IsKept (V.cells x.now) (V.cells y.now) }
+{
+    is_frame(x, y)
         && are_same(y.addr(), x.addr())
         && are_same(y.lv(), x.lv())
         && are_same(y.ha(), x.ha())
+}
+
+fn is_first_batch<V: MainView>(x: &V, y: &V) -> bool
+    ensures { IsTrue result → IsFirstBatch (V.cells x.now) (V.cells y.now) }
+{
+    is_zero(y.clk() - x.clk() - Felt::ONE)
+        && is_zero(x.sp())
+        && is_one(y.sp())
+        && is_frame(x, y)
+        && is_zero(y.lv() - x.lv() - Felt::ONE)
+        && are_same(y.ha(), y.addr())
+}
+
+fn is_next_batch<V: MainView>(x: &V, y: &V) -> bool
+    ensures { IsTrue result → IsNextBatch (V.cells x.now) (V.cells y.now) }
+{
+    is_zero(y.clk() - x.clk() - Felt::ONE)
+        && is_zero(x.sp())
+        && is_one(y.sp())
+        && is_frame(x, y)
+        && are_same(y.addr(), x.addr())
+        && are_same(y.lv(), x.lv())
+        && is_zero(y.ha() - x.ha() - Felt::from_u32(8))
+}
+
+// Whether the positions of a batch are as the row says, and the next row takes them.
+fn has_batch<V: MainView>(x: &Seen<'_, V>, y: &V) -> bool
+    ensures { IsTrue result → first_fault_of 92 (batch_values (spot_of 0 (V.cells x.now.row.now) (Some (V.cells y.now)))) ≡ None }
+{
+    let next = Some(Seen::of(y));
+    match batch_faults(x, &next) {
+        Some(_) => false,
+        None => true,
+    }
+}
+
+fn is_batch_clean<V: MainView>(x: &Seen<'_, V>, y: &V, op: Op) -> bool
+    requires { HasOp (V.cells x.now.row.now) op }
+    ensures { IsTrue result → IsClean (V.cells x.now.row.now) (V.cells y.now) }
+{
+    let code = opcode(op);
+    if code == 73 {
+        if is_first_batch(x.row, y) {
+            return has_batch(x, y);
+        }
+    }
+    if code == 78 {
+        if is_next_batch(x.row, y) {
+            return has_batch(x, y);
+        }
+    }
+    false
 }
 
 // Whether the row behind one of a span may follow it. An operation of a span has bit 3 or bit 6 at 0, END and RESPAN have not.

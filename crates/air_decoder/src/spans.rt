@@ -212,7 +212,10 @@ fn entry_114<V: MainView>(x: &Seen<'_, V>) -> Felt
 
 /// The first of entries 92 to 106 that is not 0.
 #[tactic(auto, unfolding(air_kit::specs::SpanValues::batch_values, air_kit::specs::Places::family))]
-fn batch_faults<V: MainView>(x: &Seen<'_, V>, next: &Option<Seen<'_, V>>) -> Option<(u16, Felt)>
+pub(crate) fn batch_faults<V: MainView>(
+    x: &Seen<'_, V>,
+    next: &Option<Seen<'_, V>>,
+) -> Option<(u16, Felt)>
     ensures { result ≡ first_fault_of 92 (batch_values (spot_of 0 (V.cells x.now.row.now) (option_map (λ y. V.cells y.row.now) next.now))) }
 {
     match next {

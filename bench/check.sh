@@ -1,0 +1,125 @@
+#!/bin/bash
+# Times reading a table file of nearly 2^19 main rows and testing the rows of all its tables, by the crates and by plain Rust
+# (check.rs, rustc -O) in turn. Prints the least time of each in microseconds and their ratio, which is to be at most 1.5, and
+# the peak memory of the crates' program, which is to be at most 2.2 times the file. The file and the program over the crates
+# are made in a temporary folder; what earlier checks left in the crates' folders out/ is used.
+set -e
+top=$(cd "$(dirname "$0")/.." && pwd)
+work=$(mktemp -d)
+trap 'rm -rf "$work"' EXIT
+libraries='vm_field vm_io vm_table buses vm_ops rpo_hash vm_state chip_columns air_kit air_decoder air_stack air_u32 air_hasher
+    air_lookup checker table_file'
+for crate in $libraries; do
+    mkdir -p "$work/crates/$crate"
+    cp -r "$top/crates/$crate"/{src,specs,proofs} "$work/crates/$crate/" 2>/dev/null || true
+    [ ! -d "$top/crates/$crate/out" ] || cp -r "$top/crates/$crate/out" "$work/crates/$crate/"
+    grep -E "^$crate:" "$top/crates.txt" >>"$work/crates.txt"
+done
+mkdir -p "$work/crates/bench_check/src" "$work/crates/bench_check/proofs/public_of"
+echo 'bench_check: checker table_file air_kit vm_state rpo_hash vm_io vm_table vm_field anyhow' >>"$work/crates.txt"
+cat >"$work/crates/bench_check/src/main.rt" <<'END_MAIN'
+//! Times reading a table file and testing its rows.
+#![tactic(auto)]
+
+use air_kit::{Public, Trace};
+use checker::{check_rows, has_counts};
+use rpo_hash::Params;
+use std::alloc::Global;
+use std::time::Instant;
+use std::{env, fs};
+use table_file::decode;
+use vm_field::{Felt, Felts, Memory, Word, Words};
+use vm_io::OpenGate;
+use vm_state::Statement;
+use vm_table::MainView;
+
+// Constants of zeros, and the statement whose outputs the last row shows.
+fn public_of(alloc: Global, trace: &Trace) -> Result<Public, Memory> {
+    let mut outputs = [Felt::ZERO; 16];
+    let rows = trace.main.rows();
+    if 0 < rows {
+        let last = trace.main.row(rows - 1);
+        for j in 0..16 {
+            outputs[j] = last.s(j);
+        }
+    }
+    let params = Params { first: [[Felt::ZERO; 12]; 7], second: [[Felt::ZERO; 12]; 7] };
+    let outputs = Felts::copied(alloc, &outputs)?;
+    let statement = Statement::new(Word::ZERO, Words::new(alloc), Felts::new(alloc), outputs);
+    Ok(Public { params, statement })
+}
+
+// The microseconds of reading and of testing, or what went wrong.
+fn time(rt: &HostRuntime, file: &str) -> anyhow::Result<()> {
+    let bytes = fs::read(rt, file)?;
+    let start = Instant::now(rt)?;
+    let Ok(trace) = decode(rt.alloc(), bytes.as_slice()) else {
+        println!(rt; "no table file")?;
+        return Ok(());
+    };
+    let reading = start.elapsed(rt)?.as_micros();
+    let Ok(public) = public_of(rt.alloc(), &trace) else {
+        println!(rt; "out of memory")?;
+        return Ok(());
+    };
+    if !has_counts(&trace) {
+        println!(rt; "the counts are not right")?;
+        return Ok(());
+    }
+    let start = Instant::now(rt)?;
+    let fault = check_rows(&trace, &public, 1, &OpenGate);
+    let testing = start.elapsed(rt)?.as_micros();
+    if let Some(fault) = fault {
+        let (table, row, number) = (fault.table.number(), fault.row, fault.number);
+        println!(rt; "a fault in table {table}, row {row}, entry {number}")?;
+    }
+    let rows = trace.main.rows();
+    println!(rt; "{rows} {reading} {testing}")?;
+    Ok(())
+}
+
+fn main(rt: HostRuntime) -> anyhow::Result<()> {
+    for word in env::args(&rt)?.skip(1) {
+        time(&rt, word.as_str())?;
+    }
+    Ok(())
+}
+END_MAIN
+cat >"$work/crates/bench_check/proofs/public_of/Answers.antt" <<'END_ANSWERS'
+use Rattle.std.specs.List.{IsDistinct}
+use Rattle.bench_check.proofs.public_of.Goals as goal
+
+-- no word stands twice in no words
+pub new-statement-requires-clause-distinct : goal.new-statement-requires-clause-distinct
+unfolding IsDistinct
+new-statement-requires-clause-distinct c = rw c.new.ensures.empty tt
+END_ANSWERS
+rustc --edition 2021 -O -o "$work/plain" "$top/bench/check.rs"
+"$work/plain" make "$work/file" 524288
+cd "$work/crates/bench_check"
+rt run >"$work/log" 2>&1 || { cat "$work/log"; exit 1; }
+for _ in 1 2 3 4 5 6 7; do
+    "$work/plain" time "$work/file" >>"$work/plain.times"
+    /usr/bin/time -a -o "$work/peaks" -f '%M' out/bench_check "$work/file" >>"$work/proved.times"
+done
+if [ "$(cut -d' ' -f1 "$work"/*.times | sort -u | wc -l)" != 1 ] || grep -q '[a-z]' "$work"/*.times; then
+    echo "the results differ, or there is a fault"
+    cat "$work"/*.times
+    exit 1
+fi
+least() {
+    cut -d' ' -f"$2" "$work/$1.times" | sort -n | head -1
+}
+ratio() {
+    echo "scale=2; $1 / $2" | bc
+}
+echo "$(least plain 1) main rows"
+for field in 2 3; do
+    name=$([ $field = 2 ] && echo "reading" || echo "testing rows")
+    plain=$(least plain $field)
+    proved=$(least proved $field)
+    echo "$name: plain Rust $plain us, the crates $proved us, ratio $(ratio "$proved" "$plain") of at most 1.5"
+done
+peak=$(sort -n "$work/peaks" | tail -1)
+bytes=$(stat -c %s "$work/file")
+echo "peak memory: $peak kB for a file of $((bytes / 1024)) kB, $(ratio "$peak" $((bytes / 1024))) times of at most 2.2"
