@@ -1,9 +1,11 @@
 //! Table files in plain Rust, for `check.sh` to compare with. `make FILE ROWS` writes an accepted one of about so many main rows;
-//! `time FILE` reads it and tests its rows, and prints the microseconds of both.
+//! `time FILE` reads it, tests its rows, and counts and compares its buses, and prints the microseconds of each.
 //!
 //! The run is one span of batches of seven groups and an immediate, under constants of zeros. A row's operation is decoded once,
-//! and only the constraints that it can break are tested.
+//! and only the constraints that it can break are tested. The tuples of each bus are counted in one hashed map, with both counts
+//! beside each other.
 use std::collections::HashMap;
+use std::hash::{BuildHasherDefault, Hasher};
 use std::io::Write;
 use std::time::Instant;
 
@@ -444,6 +446,176 @@ fn end_is_clean(x: &[u64], y: &[u64]) -> bool {
         && stack_stays(x, y, kinds[0] as usize, 0)
 }
 
+/// A multiplying hash of elements.
+#[derive(Default, Clone, Copy)]
+struct Mixer(u64);
+
+impl Hasher for Mixer {
+    fn finish(&self) -> u64 {
+        self.0
+    }
+
+    fn write(&mut self, bytes: &[u8]) {
+        for part in bytes.chunks(8) {
+            let mut word = [0; 8];
+            word[..part.len()].copy_from_slice(part);
+            self.write_u64(u64::from_le_bytes(word));
+        }
+    }
+
+    fn write_u64(&mut self, word: u64) {
+        self.0 = (self.0.rotate_left(5) ^ word).wrapping_mul(0x517c_c1b7_2722_0a95);
+    }
+}
+
+/// How often tuples of one width are asked and given.
+struct Counts<const N: usize>(HashMap<[u64; N], (u64, u64), BuildHasherDefault<Mixer>>);
+
+impl<const N: usize> Counts<N> {
+    fn new() -> Counts<N> {
+        Counts(HashMap::default())
+    }
+
+    fn ask(&mut self, tuple: [u64; N], count: u64) {
+        self.0.entry(tuple).or_default().0 += count;
+    }
+
+    fn give(&mut self, tuple: [u64; N], count: u64) {
+        self.0.entry(tuple).or_default().1 += count;
+    }
+
+    fn are_alike(&self) -> bool {
+        self.0.values().all(|(asked, given)| asked == given)
+    }
+}
+
+/// The buses that a run of one span uses, with tuples of their own widths.
+struct Buses {
+    blocks: Counts<12>,
+    children: Counts<6>,
+    groups: Counts<3>,
+    overflow: Counts<3>,
+    starts: Counts<11>,
+    blocks_of_hashes: Counts<10>,
+    digests: Counts<6>,
+    range: Vec<(u64, u64)>,
+}
+
+impl Buses {
+    fn of(tables: &Tables, outputs: &[u64], moves: &[Option<Move>]) -> Buses {
+        let mut buses = Buses {
+            blocks: Counts::new(),
+            children: Counts::new(),
+            groups: Counts::new(),
+            overflow: Counts::new(),
+            starts: Counts::new(),
+            blocks_of_hashes: Counts::new(),
+            digests: Counts::new(),
+            range: vec![(0, 0); 65536],
+        };
+        let end = tables.row(0, tables.rows(0) - 2);
+        buses.children.give([0, end[H], end[H + 1], end[H + 2], end[H + 3], 0], 1);
+        for i in 0..tables.rows(0) - 1 {
+            buses.main(tables.row(0, i), tables.row(0, i + 1), moves);
+        }
+        for i in 0..tables.rows(1) {
+            let row = tables.row(1, i);
+            buses.range[row[1] as usize].1 += row[0];
+        }
+        for i in 0..tables.rows(2) {
+            buses.hasher(i, tables.row(2, i));
+        }
+        for i in 0..tables.rows(6) {
+            let below = tables.next(6, i).map_or(0, |row| row[0]);
+            buses.overflow.ask([tables.row(6, i)[0], outputs[16 + i], below], 1);
+        }
+        buses
+    }
+
+    fn main(&mut self, x: &[u64], y: &[u64], moves: &[Option<Move>]) {
+        let code = code_in(x).expect("an operation");
+        match code {
+            SPAN | RESPAN => {
+                let count = 1 + 7 * x[C] + 3 * x[C + 1] + x[C + 2];
+                for q in 1..count {
+                    self.groups.give([y[HA], count - q, x[H + q as usize]], 1);
+                }
+                let mut hashed = [0; 10];
+                hashed[2..].copy_from_slice(&x[H..H + 8]);
+                if code == RESPAN {
+                    (hashed[0], hashed[1]) = (2, add(x[HA], 8));
+                    self.blocks_of_hashes.ask(hashed, 1);
+                    return;
+                }
+                self.blocks.give([y[ADDR], x[ADDR], 2, 0, 0, 0, 0, 0, 0, 0, 0, 0], 1);
+                let mut start = [0; 11];
+                (start[0], start[1]) = (1, y[ADDR]);
+                start[3..].copy_from_slice(&x[H..H + 8]);
+                self.starts.ask(start, 1);
+                self.range[sub(1024, y[LV]) as usize].0 += 1;
+            }
+            END => {
+                let kind = x[H + 4] + 2 * x[H + 5];
+                self.blocks.ask([x[ADDR], y[ADDR], kind, 0, 0, 0, 0, 0, 0, 0, 0, 0], 1);
+                self.children.ask([y[ADDR], x[H], x[H + 1], x[H + 2], x[H + 3], 0], 1);
+                let end = if x[H + 5] == 1 { x[HA] } else { x[ADDR] };
+                self.digests.ask([3, add(end, 7), x[H], x[H + 1], x[H + 2], x[H + 3]], 1);
+            }
+            HALT => {}
+            _ => self.ordinary(code, x, y, moves),
+        }
+    }
+
+    fn ordinary(&mut self, code: u8, x: &[u64], y: &[u64], moves: &[Option<Move>]) {
+        if code == PUSH {
+            self.groups.ask([x[HA], x[GC], y[S]], 1);
+        } else if mul(sub(x[H], code as u64), x[W + 3]) == 0 && y[SP] == 1 {
+            self.groups.ask([x[HA], x[GC], y[H]], 1);
+        }
+        let (takes, leaves) = match code {
+            EQZ | NEG | INVERT | INCR | NOT => (1, 1),
+            EQ | ADD | MUL | AND | OR => (2, 1),
+            CSWAP => (3, 2),
+            CSWAPW => (9, 8),
+            PAD | SDEPTH | CLK | PUSH => (0, 1),
+            _ => moves[code as usize].as_ref().map_or((0, 0), |it| (it.takes, it.leaves)),
+        };
+        if takes < leaves {
+            self.overflow.give([x[0], x[S + 15], x[KEY]], 1);
+        } else if leaves < takes && x[DEPTH] != 16 {
+            self.overflow.ask([x[KEY], y[S + 15], y[KEY]], 1);
+        }
+    }
+
+    fn hasher(&mut self, i: usize, row: &[u64]) {
+        let address = i as u64 + 1;
+        if i % 8 == 0 && row[1] == 1 {
+            let mut hashed = [0; 10];
+            (hashed[0], hashed[1]) = (2, address);
+            hashed[2..].copy_from_slice(&row[7..15]);
+            self.blocks_of_hashes.give(hashed, 1);
+        } else if i % 8 == 0 {
+            let mut start = [0; 11];
+            (start[0], start[1], start[2]) = (1, address, row[4]);
+            start[3..].copy_from_slice(&row[7..15]);
+            self.starts.give(start, 1);
+        } else if i % 8 == 7 && row[2] == 0 {
+            self.digests.give([3, address, row[7], row[8], row[9], row[10]], 1);
+        }
+    }
+
+    fn are_alike(&self) -> bool {
+        self.blocks.are_alike()
+            && self.children.are_alike()
+            && self.groups.are_alike()
+            && self.overflow.are_alike()
+            && self.starts.are_alike()
+            && self.blocks_of_hashes.are_alike()
+            && self.digests.are_alike()
+            && self.range.iter().all(|(asked, given)| asked == given)
+    }
+}
+
 // One batch of the run: groups and an immediate behind the first one.
 const PUSHING: [u8; 9] = [PUSH, ADD, 53, MUL, 8, 54, ADD, 8, 12];
 const MIXED: [u8; 9] = [PAD, INCR, ADD, 53, MUL, 54, 8, 43, INCR];
@@ -629,7 +801,13 @@ fn time(params: &Params, bytes: &[u8]) {
     if let Some((table, row)) = fault {
         println!("a fault in table {table}, row {row}");
     }
-    println!("{} {reading} {testing}", tables.rows(0));
+    let start = Instant::now();
+    let alike = Buses::of(&tables, &outputs, &rows.moves).are_alike();
+    let counting = start.elapsed().as_micros();
+    if !alike {
+        println!("a bus is apart");
+    }
+    println!("{} {reading} {testing} {counting}", tables.rows(0));
 }
 
 fn main() {

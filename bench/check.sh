@@ -1,6 +1,7 @@
 #!/bin/bash
-# Times reading a table file of nearly 2^19 main rows and testing the rows of all its tables, by the crates and by plain Rust
-# (check.rs, rustc -O) in turn. Prints the least time of each in microseconds and their ratio, which is to be at most 1.5, and
+# Times reading a table file of nearly 2^19 main rows, testing the rows of all its tables, and counting and comparing its buses, by
+# the crates and by plain Rust (check.rs, rustc -O) in turn. What the buses take is what `check` takes behind the rows. Prints the
+# least time of each in microseconds and their ratio, which is to be at most 1.5, and
 # the peak memory of the crates' program, which is to be at most 2.2 times the file. The file and the program over the crates
 # are made in a temporary folder; what earlier checks left in the crates' folders out/ is used.
 set -e
@@ -8,7 +9,7 @@ top=$(cd "$(dirname "$0")/.." && pwd)
 work=$(mktemp -d)
 trap 'rm -rf "$work"' EXIT
 libraries='vm_field vm_io vm_table buses vm_ops rpo_hash vm_state chip_columns air_kit air_decoder air_stack air_u32 air_hasher
-    air_lookup checker table_file'
+    air_lookup row_facts bus_kit bus_chips bus_main checker table_file'
 for crate in $libraries; do
     mkdir -p "$work/crates/$crate"
     cp -r "$top/crates/$crate"/{src,specs,proofs} "$work/crates/$crate/" 2>/dev/null || true
@@ -22,7 +23,7 @@ cat >"$work/crates/bench_check/src/main.rt" <<'END_MAIN'
 #![tactic(auto)]
 
 use air_kit::{Public, Trace};
-use checker::{check_rows, has_counts};
+use checker::{check, check_rows, has_counts};
 use rpo_hash::Params;
 use std::alloc::Global;
 use std::time::Instant;
@@ -33,19 +34,22 @@ use vm_io::OpenGate;
 use vm_state::Statement;
 use vm_table::MainView;
 
-// Constants of zeros, and the statement whose outputs the last row shows.
+// Constants of zeros, and the statement whose digest and outputs the last two rows show.
 fn public_of(alloc: Global, trace: &Trace) -> Result<Public, Memory> {
     let mut outputs = [Felt::ZERO; 16];
+    let mut digest = Word::ZERO;
     let rows = trace.main.rows();
-    if 0 < rows {
+    if 1 < rows {
         let last = trace.main.row(rows - 1);
         for j in 0..16 {
             outputs[j] = last.s(j);
         }
+        let end = trace.main.row(rows - 2);
+        digest = Word([end.h0(), end.h1(), end.h2(), end.h3()]);
     }
     let params = Params { first: [[Felt::ZERO; 12]; 7], second: [[Felt::ZERO; 12]; 7] };
     let outputs = Felts::copied(alloc, &outputs)?;
-    let statement = Statement::new(Word::ZERO, Words::new(alloc), Felts::new(alloc), outputs);
+    let statement = Statement::new(digest, Words::new(alloc), Felts::new(alloc), outputs);
     Ok(Public { params, statement })
 }
 
@@ -74,7 +78,13 @@ fn time(rt: &HostRuntime, file: &str) -> anyhow::Result<()> {
         println!(rt; "a fault in table {table}, row {row}, entry {number}")?;
     }
     let rows = trace.main.rows();
-    println!(rt; "{rows} {reading} {testing}")?;
+    let start = Instant::now(rt)?;
+    let answer = check(rt.alloc(), trace, public, 1, &OpenGate);
+    let counting = start.elapsed(rt)?.as_micros().saturating_sub(testing);
+    if answer.is_err() {
+        println!(rt; "not accepted")?;
+    }
+    println!(rt; "{rows} {reading} {testing} {counting}")?;
     Ok(())
 }
 
@@ -114,8 +124,8 @@ ratio() {
     echo "scale=2; $1 / $2" | bc
 }
 echo "$(least plain 1) main rows"
-for field in 2 3; do
-    name=$([ $field = 2 ] && echo "reading" || echo "testing rows")
+for field in 2 3 4; do
+    name=$(echo "reading,testing rows,comparing buses" | cut -d, -f$((field - 1)))
     plain=$(least plain $field)
     proved=$(least proved $field)
     echo "$name: plain Rust $plain us, the crates $proved us, ratio $(ratio "$proved" "$plain") of at most 1.5"

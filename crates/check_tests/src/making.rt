@@ -1,3 +1,7 @@
+ghost use Rattle.std.specs.List.{IsDistinct};
+ghost use Rattle.std.specs.Prelude.{◌≤◌, length, nat_eq, IfOk};
+ghost use lib.Pointwise.{pointwise};
+
 use air_kit::{Public, TableName, Trace};
 use rpo_hash::Params;
 use std::alloc::Global;
@@ -54,7 +58,9 @@ fn table<const W: usize>(
     rows: usize,
     cells: &[Cell],
     changes: &[Change],
-) -> Result<Table<W>, Memory> {
+) -> Result<Table<W>, Memory>
+    requires { W ≤ 65 }
+{
     let mut table = Table::new(alloc);
     for row in 0..rows {
         let mut written = [Felt::ZERO; W];
@@ -134,13 +140,21 @@ pub fn trace(
     })
 }
 
+// A word of zeros as the kernel, or none.
+fn kernel_of(alloc: Global, has_kernel: bool) -> Result<Words, Memory>
+    ensures few { IfOk result (λ kernel. length kernel ≤ 255) }
+    ensures distinct { IfOk result (IsDistinct (pointwise nat_eq)) }
+{
+    if has_kernel {
+        Words::copied(alloc, &[Word::ZERO])
+    } else {
+        Ok(Words::new(alloc))
+    }
+}
+
 /// The constants and the statement of a run, with a word of zeros as its kernel or with none.
 pub fn public(alloc: Global, run: &Run, has_kernel: bool) -> Result<Public, Memory> {
-    let kernel = if has_kernel {
-        Words::copied(alloc, &[Word::ZERO])?
-    } else {
-        Words::new(alloc)
-    };
+    let kernel = kernel_of(alloc, has_kernel)?;
     let [d0, d1, d2, d3] = run.digest;
     let digest = Word([element(d0), element(d1), element(d2), element(d3)]);
     let inputs = elements(alloc, run.inputs)?;
