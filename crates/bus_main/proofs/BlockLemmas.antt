@@ -1,16 +1,16 @@
 -- What a row gives and asks of blocks, by its operation.
-use Rattle.std.proofs.Common.{◌≡◌, ℕ, ◌==◌, Bool, true, false, cond, List, [], ◌∷◌, ◌++◌, Result, Ok, OnOk, refl, ap, sym, ◌∙◌, subst}
+use Rattle.std.proofs.Common.{◌≡◌, ℕ, ◌==◌, true, false, cond, List, [], ◌∷◌, ◌++◌, Result, Ok, OnOk, refl, sym, ◌∙◌, subst}
 use Rattle.vm_field.specs.Signs.{◌⊞◌}
 use Rattle.buses.specs.Counts.{Counted, once}
 use Rattle.bus_kit.specs.Adding.{IsCounted}
 use Rattle.bus_kit.specs.declared.tally.Tally.{Tally}
 use Rattle.bus_kit.proofs.AddingLemmas.{none_counted}
 use Rattle.air_kit.specs.Flags.{is_op, op_of}
-use Rattle.air_kit.specs.MainTuples.{back, blocks_asked, blocks_given, child, children_asked, children_given, children_of, frame_of, front, is_call_op, kernel_asked, kind_of_end, kind_of_start, loops_asked, loops_given, no_frame}
+use Rattle.air_kit.specs.MainTuples.{blocks_asked, blocks_given, child, children_asked, children_given, children_of, frame_of, front, is_call_op, kernel_asked, kind_of_end, kind_of_start, loops_asked, loops_given, no_frame}
 use Rattle.vm_ops.specs.Codes.{is_start_op}
 use Rattle.vm_ops.specs.declared.op.Op.{Op}
 use Rattle.vm_ops.specs.declared.op.Op.TheVariants as ops
-use Rattle.vm_table.specs.MainColumns.{addr, h, s, w}
+use Rattle.vm_table.specs.MainColumns.{addr, h, w}
 
 -- END starts no block
 end_starts_none : (op : Op) → true ≡ is_op op ops.End → false ≡ is_start_op op

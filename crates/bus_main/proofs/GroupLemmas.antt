@@ -1,8 +1,8 @@
 -- What a row gives and asks of groups, by its operation.
-use Rattle.std.proofs.Common.{◌≡◌, ℕ, suc, ◌+◌, ◌-◌, ◌<◌, ◌≤◌, ◌==◌, ◌&&◌, Bool, true, false, cond, List, [], ◌∷◌, ◌++◌, Result, Ok, OnOk, refl, ap, sym, ◌∙◌, subst, arith, add-one}
-use Rattle.buses.specs.Counts.{Counted, counted, once}
+use Rattle.std.proofs.Common.{◌≡◌, ℕ, suc, ◌+◌, ◌-◌, ◌<◌, ◌≤◌, ◌==◌, ◌&&◌, true, false, cond, List, [], ◌∷◌, Result, Ok, OnOk, refl, sym, ◌∙◌, subst, arith, add-one}
+use Rattle.buses.specs.Counts.{once}
 use Rattle.bus_kit.specs.Adding.{IsCounted}
-use Rattle.bus_kit.specs.Tallies.{asked_in, given_in}
+use Rattle.bus_kit.specs.Tallies.{given_in}
 use Rattle.bus_kit.specs.declared.tally.Tally.{Tally}
 use Rattle.bus_kit.proofs.AddingLemmas.{counted_within, none_counted}
 use Rattle.air_kit.specs.Flags.{is_op, op_of}

@@ -1,5 +1,5 @@
 -- The number of a row's operation is the one that its bits spell.
-use Rattle.std.proofs.Common.{◌≡◌, ℕ, ◌+◌, ◌*◌, ◌<◌, List, ◌∙◌, arith, lit<}
+use Rattle.std.proofs.Common.{◌≡◌, ℕ, ◌+◌, ◌*◌, ◌<◌, List, arith, lit<}
 use Rattle.vm_field.specs.Signs.{◌⊞◌, ◌⊠◌}
 use Rattle.vm_table.specs.MainColumns.{b}
 use Rattle.air_kit.specs.Flags.{spelled}

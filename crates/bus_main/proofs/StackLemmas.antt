@@ -1,5 +1,5 @@
 -- What a row gives and asks of the stack, of memory and of numbers, by its operation.
-use Rattle.std.proofs.Common.{◌≡◌, ℕ, zero, suc, ◌≤◌, ◌==◌, ◌&&◌, ◌||◌, Bool, true, false, cond, List, [], ◌∷◌, Result, Ok, OnOk, refl, ap, sym, ◌∙◌, subst, take, arith}
+use Rattle.std.proofs.Common.{◌≡◌, ℕ, zero, suc, ◌≤◌, ◌==◌, ◌&&◌, ◌||◌, true, false, cond, List, [], ◌∷◌, Result, Ok, OnOk, refl, ap, sym, ◌∙◌, subst, take, arith}
 use Rattle.vm_field.specs.Signs.{◌⊞◌, ◌⊟◌}
 use Rattle.buses.specs.Counts.{Counted, once}
 use Rattle.bus_kit.specs.Adding.{IsCounted, singles}
@@ -13,7 +13,7 @@ use Rattle.vm_ops.specs.declared.op.Op.{Op}
 use Rattle.vm_ops.specs.declared.op.Op.TheVariants as ops
 use Rattle.vm_ops.specs.declared.op.Shift.{Shift}
 use Rattle.vm_ops.specs.declared.op.Shift.TheVariants.{Left, Stay, Right}
-use Rattle.vm_table.specs.MainColumns.{addr, clk, ctx, depth, h, ha, key, lv, s, t, w}
+use Rattle.vm_table.specs.MainColumns.{addr, clk, depth, h, ha, key, lv, s, t, w}
 
 -- END moves no cell
 end_stays : (op : Op) → Right ≡ shift_of op → false ≡ is_op op ops.End

@@ -1,5 +1,5 @@
 -- Behind each position those so far were given.
-use Rattle.std.proofs.Common.{refl, sym, ◌∙◌, arith}
+use Rattle.std.proofs.Common.{refl, ◌∙◌, arith}
 use Rattle.bus_main.proofs.GroupLemmas.{given_all, given_below_more}
 use Rattle.bus_main.proofs.groups.give_positions.Goals as goal
 
