@@ -1,5 +1,5 @@
 -- What a row gives and asks of blocks, by its operation.
-use Rattle.std.proofs.Common.{◌≡◌, ℕ, ◌==◌, true, false, cond, List, [], ◌∷◌, ◌++◌, Result, Ok, OnOk, refl, sym, ◌∙◌, subst}
+use Rattle.std.proofs.Common.{◌≡◌, ℕ, ◌==◌, true, false, cond, List, [], ◌∷◌, ◌++◌, Result, Ok, OnOk, refl, ap, sym, ◌∙◌, subst}
 use Rattle.vm_field.specs.Signs.{◌⊞◌}
 use Rattle.buses.specs.Counts.{Counted, once}
 use Rattle.bus_kit.specs.Adding.{IsCounted}
@@ -58,10 +58,15 @@ module _ {E : Type 0} (n : ℕ) (a b : Tally) (r : Result (Unit {0}) E) (x y : L
       → OnOk r (IsCounted n a b [] cs) → OnOk r (IsCounted n a b (children_asked x y) (children_given x y))
   children_given_by op own cs is same fails given p = children_by own (sym same ∙ is) (rw (← fails, ← given) p)
 
-  pub child_ends : (op : Op) (t : List ℕ) → op ≡ op_of x → op ≡ ops.End → t ≡ addr y ∷ front x ++ more_of y ∷ []
+  -- a child of one
+  pub child_given_by : (op own : Op) (t u : List ℕ) → op ≡ op_of x → op ≡ own → false ≡ is_op own ops.End → t ≡ u → once u ∷ [] ≡ children_of own x y
+      → OnOk r (IsCounted n a b [] (once t ∷ [])) → OnOk r (IsCounted n a b (children_asked x y) (children_given x y))
+  child_given_by op own t u is same fails tuple given p = children_given_by op own (once t ∷ []) is same fails (ap (λ k. once k ∷ []) tuple ∙ given) p
+
+  pub child_ends : (op : Op) (t : List ℕ) (more : ℕ) → op ≡ op_of x → op ≡ ops.End → t ≡ addr y ∷ front x ++ more ∷ [] → more ≡ more_of y
       → OnOk r (IsCounted n a b (once t ∷ []) []) → OnOk r (IsCounted n a b (children_asked x y) (children_given x y))
   unfolding children_of
-  child_ends op t is same tuple p = children_by ops.End (sym same ∙ is) (rw (← tuple) p)
+  child_ends op t more is same tuple behind p = children_by ops.End (sym same ∙ is) (rw (← behind, ← tuple) p)
 
   -- the bus of loops
   abbrev LoopsBy : Op → Type 0

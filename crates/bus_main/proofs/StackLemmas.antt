@@ -111,9 +111,13 @@ module _ {E : Type 0} (n : ℕ) (a b : Tally) (r : Result (Unit {0}) E) (x y : L
   memory_by op is p = subst MemoryBy is p
 
   -- those of an operation that is given
-  pub accesses_by : (op own : Op) (cs : List Counted) → op ≡ op_of x → op ≡ own → cs ≡ accesses_of own x y
+  accesses_by : (op own : Op) (cs : List Counted) → op ≡ op_of x → op ≡ own → cs ≡ accesses_of own x y
       → OnOk r (IsCounted n a b cs []) → OnOk r (IsCounted n a b (memory_asked x y) [])
   accesses_by op own cs is same asked p = memory_by own (sym same ∙ is) (rw (← asked) p)
+
+  pub access_by : (op own : Op) (u v : List ℕ) → op ≡ op_of x → op ≡ own → u ≡ v → once v ∷ [] ≡ accesses_of own x y
+      → OnOk r (IsCounted n a b (once u ∷ []) []) → OnOk r (IsCounted n a b (memory_asked x y) [])
+  access_by op own u v is same tuple asked p = accesses_by op own (once u ∷ []) is same (ap (λ k. once k ∷ []) tuple ∙ asked) p
 
   -- the range bus
   abbrev RangeBy : Op → Type 0

@@ -1,10 +1,8 @@
 -- By the row's operation.
-use Rattle.std.proofs.Common.{[], ◌∷◌, ◌++◌, ap, ◌∙◌, refl, inl, inr, lit≤}
-use Rattle.vm_table.specs.MainColumns.{addr}
-use Rattle.buses.specs.Counts.{once}
-use Rattle.air_kit.specs.MainTuples.{children_of, front}
+use Rattle.std.proofs.Common.{refl, inl, inr, lit≤}
+use Rattle.air_kit.specs.MainTuples.{children_of}
 use Rattle.vm_ops.specs.declared.op.Op.TheVariants as ops
-use Rattle.bus_main.proofs.BlockLemmas.{child_ends, children_given_by, no_child, not_end, not_parent}
+use Rattle.bus_main.proofs.BlockLemmas.{child_ends, child_given_by, children_given_by, no_child, not_end, not_parent}
 use Rattle.bus_main.proofs.TwoLemmas.{wider}
 use Rattle.bus_main.proofs.children.children.Goals as goal
 
@@ -21,7 +19,7 @@ returns-in-Split g c =
     let x = g.V.View.cells c.args.x.now in
     let y = g.V.View.cells c.args.y.now in
     wider 1 2 _ _ _ _ _ (lit≤ tt)
-    (children_given_by _ _ _ _ x y c.args.op ops.Split _ c.requires.op c.in-Split.is refl (ap (λ k. once k ∷ []) c.chosen.ensures) c.give.ensures)
+    (child_given_by _ _ _ _ x y c.args.op ops.Split _ _ c.requires.op c.in-Split.is refl c.chosen.ensures refl c.give.ensures)
 
 pub returns-in-Loop : goal.returns-in-Loop
 unfolding children_of
@@ -38,8 +36,8 @@ returns-in-Call g c =
     let y = g.V.View.cells c.args.y.now in
     wider 1 2 _ _ _ _ _ (lit≤ tt)
     (elim c.in-Call.is [
-      | inl is ↦ children_given_by _ _ _ _ x y c.args.op ops.Call _ c.requires.op is refl (ap (λ k. once k ∷ []) c.first.ensures) c.give-in-Call.ensures
-      | inr is ↦ children_given_by _ _ _ _ x y c.args.op ops.Syscall _ c.requires.op is refl (ap (λ k. once k ∷ []) c.first.ensures) c.give-in-Call.ensures
+      | inl is ↦ child_given_by _ _ _ _ x y c.args.op ops.Call _ _ c.requires.op is refl c.first.ensures refl c.give-in-Call.ensures
+      | inr is ↦ child_given_by _ _ _ _ x y c.args.op ops.Syscall _ _ c.requires.op is refl c.first.ensures refl c.give-in-Call.ensures
     ])
 
 pub returns-in-Repeat : goal.returns-in-Repeat
@@ -48,14 +46,14 @@ returns-in-Repeat g c =
     let x = g.V.View.cells c.args.x.now in
     let y = g.V.View.cells c.args.y.now in
     wider 1 2 _ _ _ _ _ (lit≤ tt)
-    (children_given_by _ _ _ _ x y c.args.op ops.Repeat _ c.requires.op c.in-Repeat.is refl (ap (λ k. once k ∷ []) c.first-in-Repeat.ensures) c.give-in-Repeat.ensures)
+    (child_given_by _ _ _ _ x y c.args.op ops.Repeat _ _ c.requires.op c.in-Repeat.is refl c.first-in-Repeat.ensures refl c.give-in-Repeat.ensures)
 
 pub returns-in-End : goal.returns-in-End
 returns-in-End g c =
     let x = g.V.View.cells c.args.x.now in
     let y = g.V.View.cells c.args.y.now in
     wider 1 2 _ _ _ _ _ (lit≤ tt)
-    (child_ends _ _ _ _ x y c.args.op _ c.requires.op c.in-End.is (c.first-in-End.ensures ∙ ap (λ k. addr y ∷ front x ++ k ∷ []) c.more_behind.ensures) c.ask.ensures)
+    (child_ends _ _ _ _ x y c.args.op _ _ c.requires.op c.in-End.is c.first-in-End.ensures c.more_behind.ensures c.ask.ensures)
 
 pub returns-in_default : goal.returns-in_default
 returns-in_default g c =

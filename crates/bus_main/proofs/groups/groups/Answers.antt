@@ -1,6 +1,5 @@
 -- By the row's operation.
-use Rattle.std.proofs.Common.{[], ◌∷◌, ap, ◌∙◌, refl, inl, inr, lit≤}
-use Rattle.vm_table.specs.MainColumns.{gc, ha}
+use Rattle.std.proofs.Common.{refl, inl, inr, lit≤}
 use Rattle.vm_ops.specs.declared.op.Op.TheVariants as ops
 use Rattle.bus_main.proofs.GroupLemmas.{batch_given, group_taken, immediate_taken, no_group, not_batch, not_push}
 use Rattle.bus_main.proofs.TwoLemmas.{wider}
@@ -20,15 +19,15 @@ returns-in-Push g c =
     let x = g.V.View.cells c.args.x.now in
     let y = g.V.View.cells c.args.y.now in
     wider 1 8 _ _ _ _ _ (lit≤ tt)
-    (immediate_taken _ _ _ _ x y c.args.op _ c.requires.op c.in-Push.is (c.taken.ensures ∙ ap (λ e. ha x ∷ gc x ∷ e ∷ []) c.s0.ensures.is) c.ask.ensures)
+    (immediate_taken _ _ _ _ x y c.args.op _ _ c.requires.op c.in-Push.is c.taken.ensures c.s0.ensures.is c.ask.ensures)
 
 pub returns-then-opens_group : goal.returns-then-opens_group
 returns-then-opens_group g c =
     let x = g.V.View.cells c.args.x.now in
     let y = g.V.View.cells c.args.y.now in
     wider 1 8 _ _ _ _ _ (lit≤ tt)
-    (group_taken _ _ _ _ x y c.args.op _ c.requires.op (not_push c.args.op c.in_default.not-Push) (not_batch c.args.op c.in_default.not-Span c.in_default.not-Respan)
-    c.if-opens_group.ensures (c.taken-then-opens_group.ensures ∙ ap (λ e. ha x ∷ gc x ∷ e ∷ []) c.h0.ensures.is) c.ask-then-opens_group.ensures)
+    (group_taken _ _ _ _ x y c.args.op _ _ c.requires.op (not_push c.args.op c.in_default.not-Push) (not_batch c.args.op c.in_default.not-Span c.in_default.not-Respan)
+    c.if-opens_group.ensures c.taken-then-opens_group.ensures c.h0.ensures.is c.ask-then-opens_group.ensures)
 
 pub returns-else-opens_group : goal.returns-else-opens_group
 returns-else-opens_group g c =
