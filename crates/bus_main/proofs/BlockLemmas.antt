@@ -1,16 +1,16 @@
 -- What a row gives and asks of blocks, by its operation.
-use Rattle.std.proofs.Common.{◌≡◌, ℕ, ◌==◌, Bool, true, false, cond, List, [], ◌∷◌, ◌++◌, Result, Ok, OnOk, refl, ap, sym, ◌∙◌, subst}
+use Rattle.std.proofs.Common.{◌≡◌, ℕ, ◌==◌, true, false, cond, List, [], ◌∷◌, ◌++◌, Result, Ok, OnOk, refl, ap, sym, ◌∙◌, subst}
 use Rattle.vm_field.specs.Signs.{◌⊞◌}
 use Rattle.buses.specs.Counts.{Counted, once}
 use Rattle.bus_kit.specs.Adding.{IsCounted}
 use Rattle.bus_kit.specs.declared.tally.Tally.{Tally}
 use Rattle.bus_kit.proofs.AddingLemmas.{none_counted}
 use Rattle.air_kit.specs.Flags.{is_op, op_of}
-use Rattle.air_kit.specs.MainTuples.{back, blocks_asked, blocks_given, child, children_asked, children_given, children_of, frame_of, front, is_call_op, kernel_asked, kind_of_end, kind_of_start, loops_asked, loops_given, no_frame}
+use Rattle.air_kit.specs.MainTuples.{blocks_asked, blocks_given, child, children_asked, children_given, children_of, frame_of, front, is_call_op, kernel_asked, kind_of_end, kind_of_start, loops_asked, loops_given, no_frame}
 use Rattle.vm_ops.specs.Codes.{is_start_op}
 use Rattle.vm_ops.specs.declared.op.Op.{Op}
 use Rattle.vm_ops.specs.declared.op.Op.TheVariants as ops
-use Rattle.vm_table.specs.MainColumns.{addr, h, s, w}
+use Rattle.vm_table.specs.MainColumns.{addr, h, w}
 
 -- END starts no block
 end_starts_none : (op : Op) → true ≡ is_op op ops.End → false ≡ is_start_op op
@@ -58,10 +58,15 @@ module _ {E : Type 0} (n : ℕ) (a b : Tally) (r : Result (Unit {0}) E) (x y : L
       → OnOk r (IsCounted n a b [] cs) → OnOk r (IsCounted n a b (children_asked x y) (children_given x y))
   children_given_by op own cs is same fails given p = children_by own (sym same ∙ is) (rw (← fails, ← given) p)
 
-  pub child_ends : (op : Op) (t : List ℕ) → op ≡ op_of x → op ≡ ops.End → t ≡ addr y ∷ front x ++ more_of y ∷ []
+  -- a child of one
+  pub child_given_by : (op own : Op) (t u : List ℕ) → op ≡ op_of x → op ≡ own → false ≡ is_op own ops.End → t ≡ u → once u ∷ [] ≡ children_of own x y
+      → OnOk r (IsCounted n a b [] (once t ∷ [])) → OnOk r (IsCounted n a b (children_asked x y) (children_given x y))
+  child_given_by op own t u is same fails tuple given p = children_given_by op own (once t ∷ []) is same fails (ap (λ k. once k ∷ []) tuple ∙ given) p
+
+  pub child_ends : (op : Op) (t : List ℕ) (more : ℕ) → op ≡ op_of x → op ≡ ops.End → t ≡ addr y ∷ front x ++ more ∷ [] → more ≡ more_of y
       → OnOk r (IsCounted n a b (once t ∷ []) []) → OnOk r (IsCounted n a b (children_asked x y) (children_given x y))
   unfolding children_of
-  child_ends op t is same tuple p = children_by ops.End (sym same ∙ is) (rw (← tuple) p)
+  child_ends op t more is same tuple behind p = children_by ops.End (sym same ∙ is) (rw (← behind, ← tuple) p)
 
   -- the bus of loops
   abbrev LoopsBy : Op → Type 0

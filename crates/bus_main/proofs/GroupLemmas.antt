@@ -1,8 +1,8 @@
 -- What a row gives and asks of groups, by its operation.
-use Rattle.std.proofs.Common.{◌≡◌, ℕ, suc, ◌+◌, ◌-◌, ◌<◌, ◌≤◌, ◌==◌, ◌&&◌, Bool, true, false, cond, List, [], ◌∷◌, ◌++◌, Result, Ok, OnOk, refl, ap, sym, ◌∙◌, subst, arith, add-one}
-use Rattle.buses.specs.Counts.{Counted, counted, once}
+use Rattle.std.proofs.Common.{◌≡◌, ℕ, suc, ◌+◌, ◌-◌, ◌<◌, ◌≤◌, ◌==◌, ◌&&◌, true, false, cond, List, [], ◌∷◌, Result, Ok, OnOk, refl, sym, ◌∙◌, subst, arith, add-one}
+use Rattle.buses.specs.Counts.{once}
 use Rattle.bus_kit.specs.Adding.{IsCounted}
-use Rattle.bus_kit.specs.Tallies.{asked_in, given_in}
+use Rattle.bus_kit.specs.Tallies.{given_in}
 use Rattle.bus_kit.specs.declared.tally.Tally.{Tally}
 use Rattle.bus_kit.proofs.AddingLemmas.{counted_within, none_counted}
 use Rattle.air_kit.specs.Flags.{is_op, op_of}
@@ -31,14 +31,14 @@ module _ {E : Type 0} (n : ℕ) (a b : Tally) (r : Result (Unit {0}) E) (x y : L
       → OnOk r (IsCounted n a b [] (groups_from x y 1 (positions x - 1))) → OnOk r (IsCounted n a b (groups_asked x y) (groups_given x y))
   batch_given op own is same e0 e1 e2 p = groups_by own (sym same ∙ is) (rw (← e0, ← e1, ← e2) p)
 
-  pub immediate_taken : (op : Op) (t : List ℕ) → op ≡ op_of x → op ≡ ops.Push → t ≡ ha x ∷ gc x ∷ s y 0 ∷ []
+  pub immediate_taken : (op : Op) (t : List ℕ) (e : ℕ) → op ≡ op_of x → op ≡ ops.Push → t ≡ ha x ∷ gc x ∷ e ∷ [] → e ≡ s y 0
       → OnOk r (IsCounted n a b (once t ∷ []) []) → OnOk r (IsCounted n a b (groups_asked x y) (groups_given x y))
-  immediate_taken op t is same tuple p = groups_by ops.Push (sym same ∙ is) (rw (← tuple) p)
+  immediate_taken op t e is same tuple element p = groups_by ops.Push (sym same ∙ is) (rw (← element, ← tuple) p)
 
-  pub group_taken : (op : Op) (t : List ℕ) → op ≡ op_of x → false ≡ is_op op ops.Push → false ≡ is_batch_op op
-      → true ≡ (is_ordinary_op op && (rest_flag x == 0) && (sp y == 1)) → t ≡ ha x ∷ gc x ∷ h y 0 ∷ []
+  pub group_taken : (op : Op) (t : List ℕ) (e : ℕ) → op ≡ op_of x → false ≡ is_op op ops.Push → false ≡ is_batch_op op
+      → true ≡ (is_ordinary_op op && (rest_flag x == 0) && (sp y == 1)) → t ≡ ha x ∷ gc x ∷ e ∷ [] → e ≡ h y 0
       → OnOk r (IsCounted n a b (once t ∷ []) []) → OnOk r (IsCounted n a b (groups_asked x y) (groups_given x y))
-  group_taken op t is e0 e1 holds tuple p = groups_by op is (rw (← e0, ← e1, ← holds, ← tuple) p)
+  group_taken op t e is e0 e1 holds tuple element p = groups_by op is (rw (← e0, ← e1, ← holds, ← element, ← tuple) p)
 
 -- the same where an operation has no tuple
 pub no_group : (n : ℕ) (a : Tally) (x y : List ℕ) (op : Op) → op ≡ op_of x → false ≡ is_op op ops.Push → false ≡ is_batch_op op

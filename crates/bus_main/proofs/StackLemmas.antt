@@ -1,5 +1,5 @@
 -- What a row gives and asks of the stack, of memory and of numbers, by its operation.
-use Rattle.std.proofs.Common.{◌≡◌, ℕ, zero, suc, ◌≤◌, ◌==◌, ◌&&◌, ◌||◌, Bool, true, false, cond, List, [], ◌∷◌, Result, Ok, OnOk, refl, ap, sym, ◌∙◌, subst, take, arith}
+use Rattle.std.proofs.Common.{◌≡◌, ℕ, zero, suc, ◌≤◌, ◌==◌, ◌&&◌, ◌||◌, true, false, cond, List, [], ◌∷◌, Result, Ok, OnOk, refl, ap, sym, ◌∙◌, subst, take, arith}
 use Rattle.vm_field.specs.Signs.{◌⊞◌, ◌⊟◌}
 use Rattle.buses.specs.Counts.{Counted, once}
 use Rattle.bus_kit.specs.Adding.{IsCounted, singles}
@@ -13,7 +13,7 @@ use Rattle.vm_ops.specs.declared.op.Op.{Op}
 use Rattle.vm_ops.specs.declared.op.Op.TheVariants as ops
 use Rattle.vm_ops.specs.declared.op.Shift.{Shift}
 use Rattle.vm_ops.specs.declared.op.Shift.TheVariants.{Left, Stay, Right}
-use Rattle.vm_table.specs.MainColumns.{addr, clk, ctx, depth, h, ha, key, lv, s, t, w}
+use Rattle.vm_table.specs.MainColumns.{addr, clk, depth, h, ha, key, lv, s, t, w}
 
 -- END moves no cell
 end_stays : (op : Op) → Right ≡ shift_of op → false ≡ is_op op ops.End
@@ -111,9 +111,13 @@ module _ {E : Type 0} (n : ℕ) (a b : Tally) (r : Result (Unit {0}) E) (x y : L
   memory_by op is p = subst MemoryBy is p
 
   -- those of an operation that is given
-  pub accesses_by : (op own : Op) (cs : List Counted) → op ≡ op_of x → op ≡ own → cs ≡ accesses_of own x y
+  accesses_by : (op own : Op) (cs : List Counted) → op ≡ op_of x → op ≡ own → cs ≡ accesses_of own x y
       → OnOk r (IsCounted n a b cs []) → OnOk r (IsCounted n a b (memory_asked x y) [])
   accesses_by op own cs is same asked p = memory_by own (sym same ∙ is) (rw (← asked) p)
+
+  pub access_by : (op own : Op) (u v : List ℕ) → op ≡ op_of x → op ≡ own → u ≡ v → once v ∷ [] ≡ accesses_of own x y
+      → OnOk r (IsCounted n a b (once u ∷ []) []) → OnOk r (IsCounted n a b (memory_asked x y) [])
+  access_by op own u v is same tuple asked p = accesses_by op own (once u ∷ []) is same (ap (λ k. once k ∷ []) tuple ∙ asked) p
 
   -- the range bus
   abbrev RangeBy : Op → Type 0

@@ -1,5 +1,5 @@
 -- What a row gives and asks on all buses, from what it gives and asks on each.
-use Rattle.std.proofs.Common.{◌≡◌, ℕ, ◌+◌, ◌^◌, ◌≤◌, ◌==◌, Bool, true, false, cond, List, [], ◌∷◌, ◌++◌, Option, Some, None, Result, Ok, Err, OnOk, refl, ap, sym, ◌∙◌, subst, arith, lit≤}
+use Rattle.std.proofs.Common.{◌≡◌, ℕ, ◌^◌, ◌≤◌, ◌==◌, Bool, true, false, cond, List, [], ◌∷◌, ◌++◌, Option, Some, None, Result, Ok, Err, OnOk, refl, arith, lit≤}
 use Rattle.buses.specs.Counts.{Counted, once, with_next}
 use Rattle.buses.specs.declared.bus.Bus.{Bus}
 use Rattle.buses.specs.declared.bus.Bus.TheVariants as bus
@@ -66,7 +66,7 @@ no_xor : (op : Op) → is_ordinary_op op ≡ false → false ≡ is_op op ops.U3
 no_xor ops.U32Xor h = absurd (cc)
 no_xor op h = refl
 
--- fewer than 2^65
+-- no count grew by more than 2^65
 within : (n : ℕ) (a b : Tally) (xs ys : List Counted) → IsCounted n a b xs ys → n ≤ 2 ^ 65 → IsCounted (2 ^ 65) a b xs ys
 within n a b xs ys p few = counted_within n (2 ^ 65) a b xs ys p few
 
@@ -106,7 +106,8 @@ module _ (x y : List ℕ) (op : Op) (is : op ≡ op_of x) (t : Tallies) where
     abbrev Control : Tallies
     Control = record t { blocks = blocks; children = children; loops = loops; groups = groups; overflow = overflow; hasher = hasher; range = range; kernel = kernel }
 
-    control_bus : IsCounted 1 t.kernel kernel (kernel_asked x y) [] → (b : Bus) → IsCounted (2 ^ 65) (tally_of t b) (tally_of Control b) (main_asked b x y) (main_given b x y)
+    control_bus : IsCounted 1 t.kernel kernel (kernel_asked x y) [] → (b : Bus)
+        → IsCounted (2 ^ 65) (tally_of t b) (tally_of Control b) (main_asked b x y) (main_given b x y)
     control_bus to_kernel bus.Blocks = within 1 _ _ _ _ to_blocks (lit≤ tt)
     control_bus to_kernel bus.Children = within 2 _ _ _ _ to_children (lit≤ tt)
     control_bus to_kernel bus.Loops = within (2 ^ 64) _ _ _ _ to_loops (lit≤ tt)
@@ -159,7 +160,8 @@ module _ (digest x : List ℕ) (next : Option (List ℕ)) (i : ℕ) (t : Tallies
       → IsCounted (2 ^ 65) before after (with_next (main_asked b) i x next) given
       → IsCounted (2 ^ 66) before after (with_next (main_asked b) i x next) (cond (i == 0) ([] ++ given) given)
   elsewhere b before after given p =
-      let more : IsCounted (2 ^ 66) before after (with_next (main_asked b) i x next) given = counted_within (2 ^ 65) (2 ^ 66) before after (with_next (main_asked b) i x next) given p (lit≤ tt) in
+      let more : IsCounted (2 ^ 66) before after (with_next (main_asked b) i x next) given =
+      counted_within (2 ^ 65) (2 ^ 66) before after (with_next (main_asked b) i x next) given p (lit≤ tt) in
       elim (i == 0) as (λ test. IsCounted (2 ^ 66) before after (with_next (main_asked b) i x next) (cond test ([] ++ given) given)) [ true ↦ more | false ↦ more ]
 
   here : (test : Bool) → IsCounted 1 t.children first [] (cond test (once (0 ∷ digest ++ 0 ∷ []) ∷ []) [])

@@ -29,6 +29,8 @@ kernel-requires-clause-room g c = c.requires.room bus.Kernel
 
 pub returns : goal.returns
 returns g c =
-    control_done (g.V.View.cells c.args.x.now) (g.V.View.cells c.args.y.now) c.args.op c.requires.op c.args.tallies.now c.requires.control c.blocks-2.new.tally c.children.new.tally c.loops.new.tally c.groups.new.tally
+    let x = g.V.View.cells c.args.x.now in
+    let y = g.V.View.cells c.args.y.now in
+    control_done x y c.args.op c.requires.op c.args.tallies.now c.requires.control c.blocks-2.new.tally c.children.new.tally c.loops.new.tally c.groups.new.tally
     c.overflow.new.tally c.hasher.new.tally c.range.new.tally c.kernel.new.tally c.kernel.result c.in_ok-blocks.ensures c.in_ok-children.ensures c.in_ok-loops.ensures
     c.in_ok-groups.ensures c.in_ok-overflow.ensures c.in_ok-hasher.ensures c.in_ok-range.ensures c.kernel.ensures

@@ -23,5 +23,8 @@ range-requires-clause-room g c = c.requires.room bus.Range
 
 pub returns : goal.returns
 returns g c =
-    ordinary_done (g.V.View.cells c.args.x.now) (g.V.View.cells c.args.y.now) c.args.op c.requires.op c.args.tallies.now c.requires.ordinary c.groups.new.tally c.overflow.new.tally c.hasher.new.tally c.bitwise.new.tally
-    c.memory.new.tally c.range.new.tally c.range.result c.in_ok-groups.ensures c.in_ok-overflow.ensures c.in_ok-hasher.ensures c.in_ok-bitwise.ensures c.in_ok-memory.ensures c.range.ensures
+    let x = g.V.View.cells c.args.x.now in
+    let y = g.V.View.cells c.args.y.now in
+    ordinary_done x y c.args.op c.requires.op c.args.tallies.now c.requires.ordinary c.groups.new.tally c.overflow.new.tally c.hasher.new.tally c.bitwise.new.tally
+    c.memory.new.tally c.range.new.tally c.range.result c.in_ok-groups.ensures c.in_ok-overflow.ensures c.in_ok-hasher.ensures
+    c.in_ok-bitwise.ensures c.in_ok-memory.ensures c.range.ensures
