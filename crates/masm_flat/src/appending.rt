@@ -74,6 +74,9 @@ pub fn add_times(
 ) -> Result<(), Memory>
     ensures { OnOk result (pieces_of out.new.items ≡ pieces_of out.old.items ++ times count (pieces_of list.now)) }
 {
+    if list.is_empty() {
+        return Ok(());
+    }
     for _turn in 0..count {
         add_copies(alloc, list, out)?;
     }

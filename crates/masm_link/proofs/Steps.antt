@@ -1,8 +1,7 @@
 -- The steps of a plan, one behind the other.
-use Rattle.std.proofs.Common.{◌≡◌, ℕ, ◌+◌, ◌<◌, ◌≤◌, List, [], ◌∷◌, ◌++◌, length, take, get_or, slice_get, Vec, Global, ◌⊎◌, refl, sym, ap, subst, ◌∙◌, arith}
+use Rattle.std.proofs.Common.{◌≡◌, ℕ, ◌+◌, ◌<◌, ◌≤◌, List, [], ◌∷◌, ◌++◌, length, take, get_or, Vec, Global, refl, sym, ap, subst, ◌∙◌}
 use Rattle.std.specs.Prelude.{reverse}
 use Rattle.std.proofs.lemmas.List.{take_more, take_all, reverse-append}
-use Rattle.std.specs.List.{Contains}
 use Rattle.masm_parse.specs.Trees.{Source}
 use Rattle.masm_uses.specs.declared.planning.Step.{Step}
 use Rattle.masm_uses.specs.Plans.{HeldBehind, Builds, IsPlan, IsWanted, NeedsIn}

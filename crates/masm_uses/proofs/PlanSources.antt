@@ -1,5 +1,5 @@
 -- A plan of a graph of uses is one of the source.
-use Rattle.std.proofs.Common.{◌≡◌, ℕ, ◌<◌, Bool, true, false, List, map, length, get_or, slice_get, Option, Some, None, refl, sym, ap, subst, ◌∙◌, arith}
+use Rattle.std.proofs.Common.{◌≡◌, ℕ, ◌<◌, Bool, true, false, List, map, length, get_or, slice_get, Option, Some, None, sym, ap, subst, ◌∙◌, arith}
 use Rattle.std.specs.Prelude.{reverse}
 use Rattle.std.proofs.lemmas.List.{length-map}
 use Rattle.std.proofs.lemmas.List.Elements.{Contains-get_or}
@@ -15,8 +15,7 @@ use Rattle.masm_uses.specs.Graph.{Edge}
 use Rattle.masm_uses.specs.Links.{link_of, links_in, main_links_in}
 use Rattle.masm_uses.specs.Plans.{Builds, IsWanted, exported, of_main, NeedsIn, IsPlan}
 use Rattle.masm_uses.specs.UseOrders.{own_places}
-use Rattle.masm_uses.specs.Users.{HasOwn}
-use Rattle.masm_uses.specs.Uses.{Use, Own, uses_of, place_in, first_place}
+use Rattle.masm_uses.specs.Uses.{Use, Own, uses_of, first_place}
 use Rattle.masm_uses.proofs.PlanLemmas.{builds-more}
 use Rattle.masm_uses.proofs.SortLemmas.{contains_none}
 use Rattle.masm_uses.proofs.UsedLemmas.{contains_at, at_contains, mapped, unmapped, place_within, leads_by, leads_own, used_goes}

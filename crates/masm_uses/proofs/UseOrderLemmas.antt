@@ -1,5 +1,5 @@
 -- The graph of a source's procedures, and its orders.
-use Rattle.std.proofs.Common.{◌≡◌, ℕ, zero, suc, ◌<◌, List, [], ◌∷◌, map, length, get_or, take, Option, Some, None, ◌⊎◌, inl, inr, ◌↔◌, refl, sym, ap, subst, ◌∙◌, arith}
+use Rattle.std.proofs.Common.{◌≡◌, ℕ, zero, suc, List, [], ◌∷◌, map, length, get_or, Option, ◌⊎◌, inl, inr, refl, sym, ap, subst, ◌∙◌, arith}
 use Rattle.std.proofs.lemmas.List.{length-map}
 use Rattle.std.proofs.lemmas.List.Elements.{Contains-append_right}
 use Rattle.std.specs.List.{Contains, cons_option}
@@ -12,7 +12,7 @@ use Rattle.masm_uses.specs.declared.links.Target.TheVariants as targets
 use Rattle.masm_uses.specs.declared.refusal.LinkCause.TheVariants as causes
 use Rattle.masm_uses.specs.Graph.{Edge, IsGraph, Leads, itself, through}
 use Rattle.masm_uses.specs.Links.{links_in}
-use Rattle.masm_uses.specs.Naming.{Dangles, recursive, IsClosed}
+use Rattle.masm_uses.specs.Naming.{recursive, IsClosed}
 use Rattle.masm_uses.specs.Orders.{IsAcyclic, IsOrder}
 use Rattle.masm_uses.specs.UseOrders.{own_place, own_places, IsUseOrder}
 use Rattle.masm_uses.specs.Users.{HasOwn, Goes}

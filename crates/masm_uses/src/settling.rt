@@ -21,8 +21,7 @@ fn number_at(numbers: &[usize], place: usize) -> usize
 fn all_no_less(numbers: &[usize], number: usize, row: &[usize]) -> bool
     ensures { result ≡ list_all (λ place. nat_le number (slice_index numbers.now place)) row.now }
 {
-    row.iter()
-        .all(|place| number <= number_at(numbers, *place))
+    row.iter().all(|place| number <= number_at(numbers, *place))
 }
 
 fn all_greater(numbers: &[usize], number: usize, row: &[usize]) -> bool

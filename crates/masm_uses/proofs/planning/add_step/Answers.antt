@@ -1,4 +1,4 @@
-use Rattle.std.proofs.Common.{false, true, get_or, refl, sym, ap, subst, ◌∙◌}
+use Rattle.std.proofs.Common.{false, get_or, refl, sym, ap, subst, ◌∙◌}
 use Rattle.masm_uses.specs.Plans.{StepsTo, passed, built}
 use Rattle.masm_uses.proofs.planning.add_step.Goals as goal
 

@@ -1,4 +1,4 @@
-use Rattle.std.proofs.Common.{ℕ, Bool, List, ◌+◌, ◌++◌, ◌∷◌, [], false, true, length, get_or, set, take, refl, sym, ap, ap₂, subst, ◌∙◌, ◌<◌, ◌≡◌}
+use Rattle.std.proofs.Common.{ℕ, Bool, List, ◌+◌, false, length, get_or, take, refl, sym, ap, subst, ◌∙◌, ◌<◌, ◌≡◌}
 use Rattle.std.proofs.lemmas.List.{get_or_read}
 use Rattle.masm_uses.specs.Plans.{MarksRow}
 use Rattle.masm_uses.proofs.PlanLemmas.{row_passed, row_marked}

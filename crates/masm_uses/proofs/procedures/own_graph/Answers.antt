@@ -1,4 +1,4 @@
-use Rattle.std.proofs.Common.{◌<◌, ◌++◌, ℕ, List, [], ◌∷◌, length, Vec, Global, sym, ap, ap₂, ◌∙◌, arith}
+use Rattle.std.proofs.Common.{◌<◌, ◌++◌, ℕ, [], ◌∷◌, length, Vec, Global, sym, ap, ap₂, ◌∙◌, arith}
 use Rattle.std.proofs.lemmas.List.{length-map, map_more, map-append}
 use Rattle.masm_uses.specs.declared.links.Link.{Link}
 use Rattle.masm_uses.specs.Graph.{rows_of}

@@ -1,9 +1,9 @@
-use Rattle.std.proofs.Common.{◌≡◌, ◌<◌, ℕ, Bool, true, false, List, Option, Vec, Global, map, length, get_or, sym, ap, refl, subst, ◌∙◌, arith}
+use Rattle.std.proofs.Common.{◌≡◌, ◌<◌, ℕ, true, false, List, Option, Vec, Global, map, length, get_or, sym, ap, refl, subst, ◌∙◌, arith}
 use Rattle.std.specs.Prelude.{reverse}
 use Rattle.std.proofs.lemmas.List.{length-map}
 use Rattle.masm_uses.specs.declared.links.Link.{Link}
 use Rattle.masm_uses.specs.Graph.{rows_of, IsGraph, Edge}
-use Rattle.masm_uses.specs.Links.{links_in, main_links_in}
+use Rattle.masm_uses.specs.Links.{links_in}
 use Rattle.masm_uses.specs.Names.{place_at}
 use Rattle.masm_uses.specs.Orders.{IsAcyclic, IsOrder}
 use Rattle.masm_uses.specs.Plans.{Builds}

@@ -1,4 +1,4 @@
-use Rattle.std.proofs.Common.{ℕ, ◌≤◌, get_or, map, ap, subst, ◌∙◌}
+use Rattle.std.proofs.Common.{ℕ, ◌≤◌, get_or, ap, subst, ◌∙◌}
 use Rattle.masm_uses.specs.Graph.{rows_of, Edge}
 use Rattle.masm_uses.proofs.SettlingLemmas.{Ascend, settles}
 use Rattle.masm_uses.proofs.settling.settled.Goals as goal
