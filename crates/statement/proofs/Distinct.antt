@@ -32,7 +32,7 @@ distinct (x ∷ xs) h =
     = none_met (list_any (pointwise nat_eq x) xs) (are_distinct xs) h in
     (apart x xs parts.0, distinct xs parts.1)
 
-passes : (words : List (List ℕ)) → AreDistinct words → are_distinct words ≡ true
+pub passes : (words : List (List ℕ)) → AreDistinct words → are_distinct words ≡ true
 unfolding IsDistinct
 passes [] d = refl
 passes (x ∷ xs) d = rw (met x xs d.0) (passes xs d.1)

@@ -65,5 +65,17 @@ claim_by value = and_then (ok_or (parts_of value) Shape) claim_from
 unfoldable pub statement_of : List ℕ → Result Claim TextCause
 statement_of bytes = and_then (ok_or (value_of bytes) NotJson) claim_by
 
+-- words' texts in quotation marks, with commas between
+abbrev pub words_listed : List (List ℕ) → List ℕ
+words_listed [] = []
+words_listed (w ∷ []) = 34 ∷ word_hex w ++ 34 ∷ []
+words_listed (w ∷ v ∷ ws) = 34 ∷ word_hex w ++ 34 ∷ 44 ∷ words_listed (v ∷ ws)
+
+-- the one text that is written
+unfoldable pub statement_text : Claim → List ℕ
+statement_text claim =
+    codes "{\"digest\":\"" ++ word_hex claim.digest ++ codes "\",\"inputs\":[" ++ listed claim.inputs ++ codes "],\"kernel\":["
+    ++ words_listed claim.kernel ++ codes "],\"outputs\":[" ++ listed claim.outputs ++ codes "]}"
+
 abbrev pub claim_of : Statement → Claim
 claim_of s = record { digest = s.digest; inputs = s.inputs; kernel = s.kernel; outputs = s.outputs }

@@ -10,4 +10,4 @@ mod values;
 
 pub use inputs::{read_inputs, write_inputs};
 pub use refusal::{TextCause, TextError, cause_text};
-pub use statements::read_statement;
+pub use statements::{read_statement, write_statement};

@@ -1,16 +1,20 @@
-ghost use Rattle.std.specs.Prelude.{◌≡◌, IsTrue};
+ghost use Rattle.std.specs.Prelude.{◌≡◌, IfOk, IsTrue, Ok};
 ghost use Rattle.block_tree.specs.Kernels.{AreDistinct};
 ghost use Rattle.serde_json.specs.View.{view, items_view};
 ghost use Rattle.statement.specs.Causes.{Gives};
 ghost use Rattle.statement.specs.Statements as statements;
-ghost use Rattle.statement.specs.Statements.{claim_by, claim_from, claim_of, statement_of};
+ghost use Rattle.statement.specs.Statements.{claim_by, claim_from, claim_of, statement_of, statement_text};
+ghost use Rattle.statement.specs.ToJson.{statement_data};
 
 use crate::refusal::{TextCause, TextError};
-use crate::values::{elements_of, has_keys, numbers_at, text_at, texts_at, value_of, words_of};
+use crate::values::{
+    array_of, elements_of, has_keys, numbers_at, text_at, text_of, texts_at, texts_from, value_of,
+    words_of,
+};
 use block_tree::are_distinct;
-use serde_json::Value;
+use serde_json::{Map, Value, put};
 use std::alloc::Global;
-use vm_field::{Word, Words};
+use vm_field::{Bytes, Memory, Word, Words};
 use vm_state::{Inputs, Statement};
 
 /// The statement that a text writes: a JSON object of exactly the keys `digest`, `inputs`, `kernel`
@@ -92,4 +96,30 @@ fn differ(words: &Words) -> bool
     ensures distinct { IsTrue result → AreDistinct words.now }
 {
     are_distinct(words.as_slice())
+}
+
+/// The one text that is written of a statement: `{"digest":"..","inputs":[],"kernel":[],
+/// "outputs":[0,..]}`, with no space and no line feed, and digests in lower case. `read_statement`
+/// reads it back.
+pub fn write_statement(alloc: Global, statement: &Statement) -> Result<Bytes, Memory>
+    ensures text { IfOk result (λ bytes. bytes ≡ statement_text (claim_of statement.now)) }
+    ensures back { IfOk result (λ bytes. statement_of bytes ≡ Ok (claim_of statement.now)) }
+{
+    let value = value_from(alloc, statement)?;
+    Ok(Bytes::from_vec(value.to_vec(alloc)?))
+}
+
+fn value_from(alloc: Global, statement: &Statement) -> Result<Value, Memory>
+    ensures { IfOk result (λ v. view v ≡ statement_data (claim_of statement.now)) }
+{
+    let digest = text_of(alloc, &statement.digest)?;
+    let inputs = array_of(alloc, statement.inputs.as_slice())?;
+    let kernel = texts_from(alloc, statement.kernel.as_slice())?;
+    let outputs = array_of(alloc, statement.outputs.as_slice())?;
+    let mut members = Map::new(alloc);
+    put(&mut members, alloc, "digest", digest)?;
+    put(&mut members, alloc, "inputs", inputs)?;
+    put(&mut members, alloc, "kernel", kernel)?;
+    put(&mut members, alloc, "outputs", outputs)?;
+    Ok(Value::Object(members))
 }

@@ -1,13 +1,14 @@
 // The JSON value of a text, texts and arrays within a value, and the array of a list.
 ghost use Rattle.std.specs.Prelude.{◌≡◌, ◌<◌, All, IfOk, OnOk, option_map};
 ghost use Rattle.std.specs.Option.{ok_or};
-ghost use Rattle.serde_json.specs.Data.{array};
+ghost use Rattle.serde_json.specs.Data.{array, string};
 ghost use Rattle.serde_json.specs.View.{view, items_view};
 ghost use Rattle.vm_field.specs.Field.{prime};
+ghost use Rattle.vm_field.specs.WordText.{word_hex};
 ghost use Rattle.statement.specs.Values as values;
 ghost use Rattle.statement.specs.Values.{value_of, has_keys, numbers_at, element_of, elements_of, text_at, texts_at, word_in, words_of};
 ghost use Rattle.statement.specs.Causes.{Gives};
-ghost use Rattle.statement.specs.ToJson.{numbers_of};
+ghost use Rattle.statement.specs.ToJson.{numbers_of, texts_of};
 ghost use Rattle.statement.specs.declared.refusal.TextCause.TheVariants.{NotJson};
 
 use crate::refusal::{TextCause, TextError};
@@ -139,4 +140,22 @@ fn word_in(item: &Value) -> Option<Word>
     ensures { result ≡ word_in (view item.now) }
 {
     Word::from_hex(item.as_str()?.as_bytes())
+}
+
+// The text of a word.
+pub(crate) fn text_of(alloc: Global, word: &Word) -> Result<Value, Memory>
+    ensures { IfOk result (λ v. view v ≡ string (word_hex word.now)) }
+{
+    Ok(Value::String(word.hex(alloc)?))
+}
+
+// The array of the texts of these words.
+pub(crate) fn texts_from(alloc: Global, words: &[Word]) -> Result<Value, Memory>
+    ensures { IfOk result (λ v. view v ≡ array (texts_of words.now)) }
+{
+    let mut items = Vec::new(alloc);
+    for word in words {
+        items.push(text_of(alloc, word)?)?;
+    }
+    Ok(Value::Array(items))
 }
