@@ -12,14 +12,14 @@ use Rattle.statement.specs.Values.{are_numbers, elements_of}
 use Rattle.statement.specs.Inputs.{Given, given_by, inputs_of, inputs_text, listed}
 use Rattle.statement.specs.ToJson.{numbers_of, inputs_data}
 
-items_have_float-numbers_of : (xs : List ℕ) → items_have_float (numbers_of xs) ≡ false
+pub items_have_float-numbers_of : (xs : List ℕ) → items_have_float (numbers_of xs) ≡ false
 items_have_float-numbers_of [] = refl
 items_have_float-numbers_of (x ∷ xs) = items_have_float-numbers_of xs
 
 pub has_float-inputs_data : (stack advice : List ℕ) → has_float (inputs_data stack advice) ≡ false
 has_float-inputs_data stack advice = rw (items_have_float-numbers_of advice, items_have_float-numbers_of stack) refl
 
-items_depth-numbers_of : (xs : List ℕ) → items_depth (numbers_of xs) ≡ 0
+pub items_depth-numbers_of : (xs : List ℕ) → items_depth (numbers_of xs) ≡ 0
 items_depth-numbers_of [] = refl
 items_depth-numbers_of (x ∷ xs) = rw (items_depth-numbers_of xs) refl
 
@@ -33,7 +33,7 @@ listed_on x [] = refl
 listed_on x (y ∷ ys) =
     ap (λ s. decimal x ++ 44 ∷ s) (listed_on y ys) ∙ sym (append_assoc (decimal x) (44 ∷ listed (y ∷ ys)) (93 ∷ []))
 
-items_text-numbers_of : (xs : List ℕ) → items_text false (numbers_of xs) ≡ listed xs ++ 93 ∷ []
+pub items_text-numbers_of : (xs : List ℕ) → items_text false (numbers_of xs) ≡ listed xs ++ 93 ∷ []
 items_text-numbers_of [] = refl
 items_text-numbers_of (x ∷ xs) = listed_on x xs
 
@@ -47,14 +47,14 @@ compact_text-inputs_data stack advice =
 
 -- ---- what is read of it
 
-are_numbers-numbers_of : (xs : List ℕ) → are_numbers (numbers_of xs) ≡ true
+pub are_numbers-numbers_of : (xs : List ℕ) → are_numbers (numbers_of xs) ≡ true
 are_numbers-numbers_of [] = refl
 are_numbers-numbers_of (x ∷ xs) = are_numbers-numbers_of xs
 
 element_from-below : (x : ℕ) → x < prime → element_from x ≡ Some x
 element_from-below x h = grind (arith, nat_tests)
 
-elements_of-numbers_of : (xs : List ℕ) → All (λ x. x < prime) xs → elements_of (numbers_of xs) ≡ Some xs
+pub elements_of-numbers_of : (xs : List ℕ) → All (λ x. x < prime) xs → elements_of (numbers_of xs) ≡ Some xs
 elements_of-numbers_of [] h = refl
 elements_of-numbers_of (x ∷ xs) h =
     rw (element_from-below x (h 0 0 (omega arith)), elements_of-numbers_of xs (λ k d within. h (suc k) d (omega arith))) refl
