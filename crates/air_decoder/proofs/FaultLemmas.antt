@@ -1,6 +1,5 @@
 -- The first fault of lists that are joined.
-use Rattle.std.proofs.Common.{◌≡◌, ℕ, ◌+◌, List, [], ◌∷◌, ◌++◌, length, Option, refl, sym, ap, ◌∙◌, arith, eqb, inl, inr}
-use Rattle.std.proofs.lemmas.Bool.{cases_Bool}
+use Rattle.std.proofs.Common.{◌≡◌, ℕ, ◌+◌, List, ◌++◌, length, Option, refl, sym, ap, ◌∙◌}
 use Rattle.air_kit.specs.Places.{Claim, Spot, first_fault_of, or_next, family}
 use Rattle.air_kit.specs.MainValues.{decoder_values}
 use Rattle.air_kit.specs.OpcodeValues.{opcode_values}

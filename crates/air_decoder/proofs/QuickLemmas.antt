@@ -1,15 +1,15 @@
 -- A row of a span whose tests pass has no fault: most entries are 0 because of its operation alone.
-use Rattle.std.proofs.Common.{◌≡◌, ◌≢◌, ℕ, zero, suc, ◌+◌, ◌*◌, ◌%◌, ◌<◌, ◌≤◌, Bool, true, false, cond, eqb, List, [], ◌∷◌, ◌++◌, length, Option, Some, None, refl, sym, ap, subst, ◌∙◌, inl, inr, arith, zero-mul}
+use Rattle.std.proofs.Common.{◌≡◌, ◌≢◌, ℕ, zero, suc, ◌+◌, ◌*◌, ◌<◌, ◌≤◌, true, false, cond, eqb, List, ◌++◌, length, Option, Some, None, refl, sym, ap, subst, ◌∙◌, inl, inr, arith, zero-mul}
 use Rattle.std.proofs.Math.Nat.{mul-zero}
 use Rattle.std.proofs.lemmas.Bool.{cases_Bool, eqb-true}
 use Rattle.std.proofs.lemmas.Bool.Decides.{nat_tests}
-use Rattle.vm_field.specs.Field.{prime, felt_add, felt_sub, felt_mul}
+use Rattle.vm_field.specs.Field.{felt_add, felt_sub, felt_mul}
 use Rattle.vm_field.proofs.Algebra.{felt_mul-zero_first, felt_mul-zero_second}
 use Rattle.vm_ops.specs.Codes.{code_of, every_op, is_ordinary_op, is_start_op}
 use Rattle.vm_ops.specs.declared.op.Op.{Op}
 use Rattle.vm_ops.specs.declared.op.Op.TheVariants as ops
 use Rattle.vm_ops.proofs.CodeLemmas.{code_of-different}
-use Rattle.vm_table.specs.MainColumns.{b, clk, fmp, ctx, sys, f, addr, h, sp, gc, ox, c, s, w, ha, lv}
+use Rattle.vm_table.specs.MainColumns.{b, clk, f, h, sp, ox, c, s, w}
 use Rattle.air_kit.specs.Flags.{Flags, flag, flag_by, flags_of, spelled, sum_of, HasOp}
 use Rattle.air_kit.specs.Places.{Claim, Spot, first_fault_of, family}
 use Rattle.air_kit.specs.BoundaryValues.{boundary_values, start_values, inputs_values, end_values, outputs_values}
@@ -20,8 +20,8 @@ use Rattle.air_kit.specs.SpanValues.{opcode_in, rest, rest_flag, goes_on, entry_
 use Rattle.air_kit.proofs.FlagLemmas.{at_op, flag_apart, flags_of-hot, sum_of-hot}
 use Rattle.air_kit.proofs.FaultLemmas.{first_append}
 use Rattle.air_kit.proofs.ZeroLemmas.{Zeros, no_fault, bit_zero}
-use Rattle.air_decoder.specs.Entries.{of_row, of_pair, spot_of}
-use Rattle.air_decoder.specs.Quick.{IsClean, IsFirstBatch, IsFrame, IsNextBatch, IsGoingOn, IsInner, IsKept, IsOver, IsPlain, IsStep}
+use Rattle.air_decoder.specs.Entries.{of_pair, spot_of}
+use Rattle.air_decoder.specs.Quick.{IsClean, IsFirstBatch, IsFrame, IsNextBatch, IsGoingOn, IsInner, IsOver, IsPlain, IsStep}
 use Rattle.air_decoder.specs.Quick.IsOver.{opens, ends}
 use Rattle.air_decoder.proofs.FaultLemmas.{decoder_joined}
 

@@ -1,5 +1,5 @@
 -- The entries of the stack in their three parts: depth and key, cells, operands.
-use Rattle.std.proofs.Common.{◌≡◌, ℕ, ◌+◌, cond, eqb, List, [], ◌∷◌, ◌++◌, length, Option, Some, refl, sym, ap, ◌∙◌, arith, Bool, true, false}
+use Rattle.std.proofs.Common.{◌≡◌, ℕ, List, ◌++◌, Option, sym, ap, ◌∙◌}
 use Rattle.air_kit.specs.Places.{Spot, first_fault_of, or_next, family}
 use Rattle.air_kit.specs.StackValues.{depth_values, cell_values, operand_values, stack_values}
 use Rattle.air_kit.proofs.FaultLemmas.{first_append}

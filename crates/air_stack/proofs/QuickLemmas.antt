@@ -1,8 +1,8 @@
 -- A row whose depth, key and cells move as its operation moves them has no fault among them.
-use Rattle.std.proofs.Common.{◌≡◌, ◌≢◌, ℕ, zero, suc, ◌+◌, ◌-◌, ◌*◌, ◌%◌, ◌<◌, ◌≤◌, Bool, true, false, ◌&&◌, cond, eqb, nat_lt, List, Option, Some, None, refl, sym, ap, subst, ◌∙◌, inl, inr, arith, zero-mul}
+use Rattle.std.proofs.Common.{◌≡◌, ◌≢◌, ℕ, ◌+◌, ◌-◌, ◌%◌, ◌<◌, ◌≤◌, Bool, true, false, ◌&&◌, cond, eqb, nat_lt, List, Option, Some, None, refl, sym, ap, subst, ◌∙◌, inl, inr, arith, zero-mul}
 use Rattle.std.proofs.lemmas.Bool.{cases_Bool, eqb-true}
 use Rattle.std.proofs.lemmas.Bool.Decides.{nat_tests}
-use Rattle.vm_field.specs.Field.{prime, felt_add, felt_sub, felt_mul}
+use Rattle.vm_field.specs.Field.{prime, felt_sub, felt_mul}
 use Rattle.vm_ops.specs.Codes.{code_of}
 use Rattle.vm_ops.specs.Moves.{leaves_of, shift_of, takes_of}
 use Rattle.vm_ops.specs.declared.op.Op.{Op}
@@ -10,9 +10,9 @@ use Rattle.vm_ops.specs.declared.op.Op.TheVariants as ops
 use Rattle.vm_ops.specs.declared.op.Shift.{Shift}
 use Rattle.vm_ops.specs.declared.op.Shift.TheVariants.{Left, Stay, Right}
 use Rattle.vm_ops.proofs.MoveLemmas.{ByOne, shift_of-by_one}
-use Rattle.vm_table.specs.MainColumns.{clk, depth, key, s}
+use Rattle.vm_table.specs.MainColumns.{depth, s}
 use Rattle.air_kit.specs.BlockValues.{calls, returns}
-use Rattle.air_kit.specs.Flags.{Flags, HasOp, flag, flags_of, is_left, is_op, is_right, is_shift, one_hot, sum_over}
+use Rattle.air_kit.specs.Flags.{Flags, HasOp, flag, flags_of, is_left, is_op, is_right, is_shift, sum_over}
 use Rattle.air_kit.specs.Places.{Spot, first_fault_of, on_pair}
 use Rattle.air_kit.specs.StackValues.{below_term, cell_values, deeper, depth_values, entry_115, entry_116, entry_117, entry_118, entry_119, keeps_depth, operand_values, shifts_left, shifts_right, stack_values, term, top_term}
 use Rattle.air_kit.proofs.FlagLemmas.{at_op, flag_apart, flags_of-hot, sum_over-hot}

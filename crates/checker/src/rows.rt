@@ -8,7 +8,7 @@ ghost use Rattle.checker.specs.Answers.{IsAnswerBelow, IsRowAnswer, IsTableAnswe
 ghost use Rattle.checker.specs.Settings.{claim_in};
 
 use crate::setting::Setting;
-use air_kit::{Fault, Public, Seen, TableName, Trace, or_next};
+use air_kit::{Fault, Public, Seen, TableName, Trace};
 use vm_field::Felt;
 use vm_io::Gate;
 
@@ -121,8 +121,11 @@ fn main_fault(trace: &Trace, setting: &Setting<'_>, row: usize) -> Option<(u16, 
 {
     let place = setting.place(&trace.main, row);
     let x = Seen::of(&place.cur);
-    let decoder = air_decoder::first_fault_seen(&place, &x);
-    let stack = air_stack::first_fault_seen(&place, &x);
-    let numbers = air_u32::first_fault_seen(&place, &x);
-    or_next(decoder, or_next(stack, numbers))
+    if let Some(fault) = air_decoder::first_fault_seen(&place, &x) {
+        return Some(fault);
+    }
+    if let Some(fault) = air_stack::first_fault_seen(&place, &x) {
+        return Some(fault);
+    }
+    air_u32::first_fault_seen(&place, &x)
 }

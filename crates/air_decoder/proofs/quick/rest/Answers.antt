@@ -1,6 +1,5 @@
 use Rattle.std.proofs.Common.{◌∙◌, ap}
 use Rattle.vm_field.specs.Field.{felt_sub}
-use Rattle.vm_table.specs.MainColumns.{h}
 use Rattle.air_decoder.proofs.QuickLemmas.{rest_is}
 use Rattle.air_decoder.proofs.quick.rest.Goals as goal
 
