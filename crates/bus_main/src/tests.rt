@@ -87,7 +87,7 @@ static CASES: [Case; 13] = [
         cells: &[(28, 1), (17, 21), (18, 22), (19, 23)],
         next: &[(49, 9)],
         bus: Bus::Groups,
-        tuple: &[9, 0, 23],
+        tuple: &[9, 1, 23],
         asked: 0,
         given: 1,
     },
