@@ -92,12 +92,9 @@ impl Numbering {
     }
 }
 
-// Numbers of a graph's places, where the edges of another graph are those of this one turned round: the
-// same number for places that lead to one another, and else a greater one for a place to which an edge
-// leads. A walk in depth leaves no place before those that it leads to, but for ways back; so of the
-// places without a number the last one that was left is reached by edges turned round from those alone
-// to which it leads. Callers test what they need of the numbers: only the time that they take stands on
-// it.
+// Numbers of a graph's places, by Kosaraju's algorithm: the same one for places that lead to one
+// another, and else a greater one where an edge leads. The edges of the other graph are those of this
+// one turned round. Callers test what they need of the numbers, so that only time rests on them.
 pub(crate) fn numbers_of(
     alloc: Global,
     graph: &[Vec<usize>],
