@@ -1,0 +1,48 @@
+-- The text that is written of evidence (docs/FORMATS.md, "Evidence"): lines, each ended by a line feed.
+use Rattle.std.specs.Prelude.{ℕ, List, [], ◌∷◌, ◌++◌, length, codes, decimal}
+use Rattle.std.specs.List.{flat_map}
+use Rattle.vm_field.specs.WordText.{word_hex}
+use Rattle.block_tree.specs.Trees.{Tree, Opaque, Span, Join, Split, Loop, Call, Syscall}
+use Rattle.block_tree.specs.TreeView.{tree_of}
+use Rattle.block_tree.specs.declared.evidence.Evidence.{Evidence}
+use Rattle.block_tree.specs.declared.evidence.Evidence.TheVariants.{Run, Pair}
+
+-- a text and the line feed behind it
+abbrev pub line : List ℕ → List ℕ
+line text = text ++ 10 ∷ []
+
+-- a space, and the element in decimal
+abbrev pub element_text : ℕ → List ℕ
+element_text x = 32 ∷ decimal x
+
+abbrev pub batch_text : List ℕ → List ℕ
+batch_text batch = line (codes "batch" ++ flat_map element_text batch)
+
+abbrev pub span_text : List (List ℕ) → List ℕ
+span_text batches = line (codes "span " ++ decimal (length batches)) ++ flat_map batch_text batches
+
+abbrev pub opaque_text : List ℕ → List ℕ
+opaque_text digest = line (codes "opaque " ++ word_hex digest)
+
+-- a tree in preorder
+abbrev pub tree_text : Tree → List ℕ
+tree_text (Opaque digest) = opaque_text digest
+tree_text (Span batches) = span_text batches
+tree_text (Join first second) = line (codes "join") ++ tree_text first ++ tree_text second
+tree_text (Split on_one on_zero) = line (codes "split") ++ tree_text on_one ++ tree_text on_zero
+tree_text (Loop body) = line (codes "loop") ++ tree_text body
+tree_text (Call callee) = line (codes "call") ++ tree_text callee
+tree_text (Syscall callee) = line (codes "syscall") ++ tree_text callee
+
+abbrev pub cycles_text : ℕ → List ℕ
+cycles_text cycles = line (codes "cycles " ++ decimal cycles)
+
+abbrev pub tape_text : List ℕ → List ℕ
+tape_text tape = line (codes "tape" ++ flat_map element_text tape)
+
+abbrev pub pair_text : ℕ → ℕ → List ℕ
+pair_text first second = line (codes "pair " ++ decimal first ++ 32 ∷ decimal second)
+
+abbrev pub evidence_text : Evidence → List ℕ
+evidence_text (Run cycles tree tape) = line (codes "run") ++ cycles_text cycles ++ tape_text tape ++ tree_text (tree_of tree)
+evidence_text (Pair first second) = pair_text first second
