@@ -1,12 +1,12 @@
 -- From the first fault of a row's list of values to what is answered of the row, its table and the trace.
-use Rattle.std.proofs.Common.{◌≡◌, ◌≢◌, ℕ, zero, suc, ◌+◌, ◌<◌, ◌≤◌, List, [], ◌∷◌, ◌++◌, length, slice_index, Option, Some, None, refl, sym, ap, ap₂, subst, ◌∙◌, arith, lit<}
+use Rattle.std.proofs.Common.{◌≡◌, ℕ, zero, suc, ◌<◌, ◌≤◌, List, ◌++◌, length, slice_index, Option, Some, None, refl, sym, ap, subst, ◌∙◌, arith, lit<}
 use Rattle.std.proofs.Common.{inl, inr, ltb}
 use Rattle.std.proofs.lemmas.Bool.{cases_Bool, ltb-true, ltb-false}
 use Rattle.air_kit.specs.declared.fault.Fault.{Fault}
 use Rattle.air_kit.specs.declared.trace.TableName.{TableName}
 use Rattle.air_kit.specs.declared.trace.TableName.TheVariants as table
 use Rattle.air_kit.specs.declared.trace.Trace.{Trace}
-use Rattle.air_kit.specs.Acceptance.{AreZero, IsBefore, by_table, by_row, by_number, IsFirstFault, IsRowsAnswer}
+use Rattle.air_kit.specs.Acceptance.{IsBefore, by_table, by_row, by_number, IsFirstFault, IsRowsAnswer}
 use Rattle.air_kit.specs.Places.{Claim, Spot, family, first_fault_of, at_number, or_next}
 use Rattle.air_kit.specs.Tables.{table_number}
 use Rattle.air_kit.specs.Traces.{rows_of, value_at, values_at}
@@ -18,7 +18,7 @@ use Rattle.air_kit.specs.StackValues.{stack_values, depth_values, cell_values, o
 use Rattle.air_kit.specs.U32Values.{u32_values}
 use Rattle.air_kit.specs.MainValues.{decoder_values, main_values}
 use Rattle.air_kit.proofs.FaultLemmas.{first_append, first_none, first_some}
-use Rattle.checker.specs.Answers.{IsZeroRow, IsRowFault, IsRowAnswer, IsZeroTable, IsTableFault, IsTableAnswer, AreZeroBelow, IsAnswerBelow}
+use Rattle.checker.specs.Answers.{IsRowAnswer, IsZeroTable, IsTableFault, IsTableAnswer, AreZeroBelow, IsAnswerBelow}
 
 numbers_zero : (values : List ℕ) → ((k : ℕ) → slice_index values k ≡ 0) → (number : ℕ) → at_number values number ≡ 0
 unfolding at_number
