@@ -1,5 +1,5 @@
 -- The test of a list for repeated words.
-use Rattle.std.proofs.Common.{◌≡◌, ◌↔◌, ℕ, Bool, true, false, not, ◌&&◌, ◌||◌, nat_eq, IsTrue, List, [], ◌∷◌, refl, sym, ◌∙◌, true≢false}
+use Rattle.std.proofs.Common.{◌≡◌, ◌↔◌, ℕ, Bool, true, false, not, ◌&&◌, ◌||◌, nat_eq, IsTrue, List, [], ◌∷◌, refl, sym, true≢false}
 use Rattle.std.specs.List.{IsDistinct, AllByRecursion, list_any}
 use Rattle.block_tree.specs.Kernels.{AreDistinct}
 use Rattle.statement.specs.Statements.{are_distinct}

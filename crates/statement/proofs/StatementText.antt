@@ -11,15 +11,15 @@ use Rattle.serde_json.specs.Data.{Data, string, depth, items_depth}
 use Rattle.serde_json.specs.Read.{read}
 use Rattle.serde_json.specs.Written.{compact_text, items_text, has_float, items_have_float}
 use Rattle.serde_json.proofs.OnLiterals.{serde_json_on_literals}
-use Rattle.vm_field.specs.Field.{AreElements, prime}
+use Rattle.vm_field.specs.Field.{AreElements}
 use Rattle.vm_field.specs.Machine.{IsWord}
 use Rattle.vm_field.specs.WordText.{hex_digits, word_hex, word_of_hex}
 use Rattle.vm_field.proofs.HexLaws.{word_of_hex-word_hex}
 use Rattle.block_tree.specs.Kernels.{AreDistinct}
 use Rattle.statement.specs.Values.{are_texts, words_of}
 use Rattle.statement.specs.Inputs.{listed}
-use Rattle.statement.specs.Statements.{Claim, are_distinct, claim_by, statement_of, statement_text, words_listed}
-use Rattle.statement.specs.ToJson.{numbers_of, texts_of, statement_data}
+use Rattle.statement.specs.Statements.{Claim, claim_by, statement_of, statement_text, words_listed}
+use Rattle.statement.specs.ToJson.{texts_of, statement_data}
 use Rattle.statement.proofs.Distinct.{passes}
 use Rattle.statement.proofs.Written.{items_have_float-numbers_of, items_depth-numbers_of, items_text-numbers_of, are_numbers-numbers_of, elements_of-numbers_of}
 

@@ -6,8 +6,8 @@ use std::alloc::{AllocError, AllocFailed};
 use std::fmt;
 use thiserror::Error;
 
-/// Why a text is refused (docs/FORMATS.md, "Inputs"), in the order in which the causes are tested,
-/// each over the whole text.
+/// Why a text is refused (docs/FORMATS.md, "Inputs" and "Statements"), in the order in which the
+/// causes are tested, each over the whole text.
 #[derive(Clone, Copy, Debug, PartialEq, Eq)]
 pub enum TextCause {
     /// The bytes are no UTF-8, or no JSON value.

@@ -1,7 +1,9 @@
 use super::*;
+use block_tree::{Evidence, Tree};
+use op_pack::Batches;
 use std::alloc::{AllocError, Global};
 use std::test::Fail;
-use vm_field::{Felt, Felts};
+use vm_field::{Bytes, Felt, Felts, Memory, Word};
 use vm_state::Inputs;
 
 // The text that is written of what was read, or the cause of a refusal.
@@ -11,13 +13,25 @@ fn answer(alloc: Global, text: &[u8]) -> Result<String, AllocError> {
             let Ok(written) = write_inputs(alloc, &inputs) else {
                 return Err(AllocError);
             };
-            let Ok(text) = std::str::from_utf8(written.as_slice()) else {
-                return Err(AllocError);
-            };
-            String::from_str(alloc, text)
+            shown(alloc, &written)
         }
-        Err(TextError::Bad(cause)) => format!(in alloc; "{cause}"),
-        Err(TextError::Memory) => Err(AllocError),
+        Err(error) => named(alloc, error),
+    }
+}
+
+// The text of these bytes.
+fn shown(alloc: Global, bytes: &Bytes) -> Result<String, AllocError> {
+    let Ok(text) = std::str::from_utf8(bytes.as_slice()) else {
+        return Err(AllocError);
+    };
+    String::from_str(alloc, text)
+}
+
+// The name of a refusal's cause.
+fn named(alloc: Global, error: TextError) -> Result<String, AllocError> {
+    match error {
+        TextError::Bad(cause) => format!(in alloc; "{cause}"),
+        TextError::Memory => Err(AllocError),
     }
 }
 
@@ -121,5 +135,81 @@ fn writes_and_names_causes(rt: HostRuntime) -> Result<(), Fail> {
     );
     assert_eq!(rt; cause_text(TextCause::Digest), "Digest");
     assert_eq!(rt; cause_text(TextCause::Repeated), "Repeated");
+    Ok(())
+}
+
+// The text that is written of the statement that was read, or the cause of a refusal.
+fn statement_answer(alloc: Global, text: &str) -> Result<String, AllocError> {
+    match read_statement(alloc, text.as_bytes()) {
+        Ok(statement) => {
+            let Ok(written) = write_statement(alloc, &statement) else {
+                return Err(AllocError);
+            };
+            shown(alloc, &written)
+        }
+        Err(error) => named(alloc, error),
+    }
+}
+
+// A statement's text, an arrow, and its answer.
+const STATEMENTS: &str =
+    r#"{"digest":"0000000000000000000000000000000000000000000000000000000000000000","inputs":[],"kernel":[],"outputs":[0,0,0,0,0,0,0,0,0,0,0,0,0,0,0,0]} => {"digest":"0000000000000000000000000000000000000000000000000000000000000000","inputs":[],"kernel":[],"outputs":[0,0,0,0,0,0,0,0,0,0,0,0,0,0,0,0]}
+{"outputs":[0,0,0,0,0,0,0,0,0,0,0,0,0,0,0,0],"kernel":["0000000000000000000000000000000000000000000000000000000000000000","000000000000000000000000000000000000000000000000000000000000000A"],"digest":"000000000000000000000000000000000000000000000000000000000000000A","inputs":[7,8]} => {"digest":"000000000000000000000000000000000000000000000000000000000000000a","inputs":[7,8],"kernel":["0000000000000000000000000000000000000000000000000000000000000000","000000000000000000000000000000000000000000000000000000000000000a"],"outputs":[0,0,0,0,0,0,0,0,0,0,0,0,0,0,0,0]}
+{} => Shape
+{"digest":7,"inputs":[-1} => NotJson
+{"digest":7,"inputs":[-1],"kernel":[],"outputs":[0,0,0,0,0,0,0,0,0,0,0,0,0,0,0,0]} => Shape
+{"digest":"0000000000000000000000000000000000000000000000000000000000000000","inputs":[],"kernel":[7],"outputs":[-1]} => Shape
+{"digest":"x","inputs":[],"kernel":[],"outputs":[-1]} => Element
+{"digest":"x","inputs":[1,1,1,1,1,1,1,1,1,1,1,1,1,1,1,1,1],"kernel":[],"outputs":[0,0,0,0,0,0,0,0,0,0,0,0,0,0,0,0]} => Digest
+{"digest":"0000000000000000000000000000000000000000000000000000000000000000","inputs":[1,1,1,1,1,1,1,1,1,1,1,1,1,1,1,1,1],"kernel":["x"],"outputs":[0,0,0,0,0,0,0,0,0,0,0,0,0,0,0,0]} => Digest
+{"digest":"0000000000000000000000000000000000000000000000000000000000000000","inputs":[1,1,1,1,1,1,1,1,1,1,1,1,1,1,1,1,1],"kernel":["0000000000000000000000000000000000000000000000000000000000000000","0000000000000000000000000000000000000000000000000000000000000000"],"outputs":[0,0,0,0,0,0,0,0,0,0,0,0,0,0,0,0]} => Count
+{"digest":"0000000000000000000000000000000000000000000000000000000000000000","inputs":[],"kernel":[],"outputs":[0]} => Count
+{"digest":"0000000000000000000000000000000000000000000000000000000000000000","inputs":[],"kernel":["000000000000000000000000000000000000000000000000000000000000000a","000000000000000000000000000000000000000000000000000000000000000A"],"outputs":[0,0,0,0,0,0,0,0,0,0,0,0,0,0,0,0]} => Repeated
+"#;
+
+#[test]
+fn answers_statements(rt: HostRuntime) -> Result<(), Fail> {
+    for line in STATEMENTS.lines() {
+        let (text, want) = line.split_once(" => ").ok_or("no arrow")?;
+        let found = statement_answer(rt.alloc(), text)?;
+        assert_eq!(rt; found.as_str(), want, "at {text}");
+    }
+    Ok(())
+}
+
+// The text that is written of a run of three cycles.
+fn run_answer(alloc: Global, tree: Tree, tape: &[Felt]) -> Result<String, Memory> {
+    let tape = Felts::copied(alloc, tape)?;
+    let run = Evidence::Run {
+        cycles: 3,
+        tree,
+        tape,
+    };
+    Ok(shown(alloc, &write_evidence(alloc, &run)?)?)
+}
+
+#[test]
+fn writes_evidence(rt: HostRuntime) -> Result<(), Fail> {
+    let alloc = rt.alloc();
+    let span = Tree::Span(Batches::of(alloc, [Felt::ZERO; 8])?);
+    let found = run_answer(alloc, span, &[])?;
+    assert_eq!(rt;
+        found.as_str(),
+        "run\ncycles 3\ntape\nspan 1\nbatch 0 0 0 0 0 0 0 0\n"
+    );
+    let body = Box::new(alloc, Tree::Opaque(Word::ZERO))?;
+    let found = run_answer(alloc, Tree::Loop(body), &[Felt::ONE, Felt::ZERO])?;
+    assert_eq!(rt;
+        found.as_str(),
+        "run\ncycles 3\ntape 1 0\nloop\nopaque 0000000000000000000000000000000000000000000000000000000000000000\n"
+    );
+    let pair = write_evidence(
+        alloc,
+        &Evidence::Pair {
+            first: 9,
+            second: 17,
+        },
+    )?;
+    assert_eq!(rt; pair.as_slice(), b"pair 9 17\n".as_slice());
     Ok(())
 }

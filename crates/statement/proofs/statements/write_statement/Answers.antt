@@ -1,7 +1,7 @@
 use Rattle.std.proofs.Common.{◌≤◌, ap, sym, ◌∙◌, subst, Some}
 use Rattle.serde_json.specs.Data.{depth}
 use Rattle.serde_json.specs.Written.{compact_text, has_float}
-use Rattle.statement.specs.Statements.{Claim, claim_of, statement_of}
+use Rattle.statement.specs.Statements.{claim_of, statement_of}
 use Rattle.statement.proofs.StatementText.{IsGood, has_float-statement_data, depth-statement_data, compact_text-statement_data, claim_by-statement_data, statement_of-read}
 use Rattle.statement.proofs.statements.write_statement.Goals as goal
 
