@@ -1,5 +1,5 @@
 -- What a row gives and asks of groups, by its operation.
-use Rattle.std.proofs.Common.{◌≡◌, ℕ, suc, ◌+◌, ◌-◌, ◌<◌, ◌≤◌, ◌==◌, ◌&&◌, true, false, cond, List, [], ◌∷◌, Result, Ok, OnOk, refl, sym, ◌∙◌, subst, arith, add-one}
+use Rattle.std.proofs.Common.{ap, ◌≡◌, ℕ, suc, ◌+◌, ◌-◌, ◌<◌, ◌≤◌, ◌==◌, ◌&&◌, true, false, cond, List, [], ◌∷◌, Result, Ok, OnOk, refl, sym, ◌∙◌, subst, arith, add-one}
 use Rattle.buses.specs.Counts.{once}
 use Rattle.bus_kit.specs.Adding.{IsCounted}
 use Rattle.bus_kit.specs.Tallies.{given_in}
