@@ -1,5 +1,5 @@
 -- How many rows the tables have.
-use Rattle.std.proofs.Common.{◌≡◌, ◌^◌, ◌%◌, ◌<◌, ◌≤◌, length, ap, arith, lit<}
+use Rattle.std.proofs.Common.{◌≡◌, ◌^◌, ◌%◌, ◌<◌, ◌≤◌, ◌↔◌, IsTrue, false, true≢false, sym, length, ap, arith, lit<}
 use Rattle.air_kit.specs.declared.trace.TableName.{TableName}
 use Rattle.air_kit.specs.declared.trace.TableName.TheVariants as table
 use Rattle.air_kit.specs.declared.trace.Trace.{Trace}
@@ -37,3 +37,7 @@ counts_from t main_some main_most range_some range_most hasher_most hasher_whole
     most table.Memory = memory_none
     most table.Kernel = kernel_most
     most table.Left = left_most
+
+-- where a test fails that right counts pass
+pub refuses : {t : Trace} → ¬ (HasCounts t) → IsTrue false ↔ HasCounts t
+refuses none = (λ no. absurd (true≢false (sym no)), λ counts. absurd (none counts))

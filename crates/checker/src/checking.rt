@@ -11,12 +11,13 @@ use air_kit::{Public, Trace};
 use std::alloc::Global;
 use vm_io::Gate;
 
-/// A trace that is accepted for what it was checked against.
+/// A trace that is accepted for what it was checked against, with tables of as many rows as they may have.
 #[derive(Drop)]
 pub struct Valid {
     trace: Trace,
     public: Public,
     ghost accepted: { IsAccepted public trace },
+    ghost counts: { HasCounts trace },
 }
 
 impl Valid {
@@ -24,6 +25,7 @@ impl Valid {
     pub fn trace(&self) -> &Trace
         ensures is { result.now ≡ self.now.trace }
         ensures accepted { IsAccepted self.now.public result.now }
+        ensures counts { HasCounts result.now }
     {
         &self.trace
     }

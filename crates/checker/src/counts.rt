@@ -1,11 +1,11 @@
-ghost use Rattle.std.specs.Prelude.{IsTrue};
+ghost use Rattle.std.specs.Prelude.{◌↔◌, IsTrue};
 ghost use Rattle.air_kit.specs.Traces.{HasCounts};
 
 use air_kit::Trace;
 
-/// Whether each table has as many rows as it may (docs/FORMATS.md). Where the answer is true, the trace can be checked.
+/// Whether each table has as many rows as it may (docs/FORMATS.md), that is, whether the trace can be checked.
 pub fn has_counts(trace: &Trace) -> bool
-    ensures { IsTrue result → HasCounts trace.now }
+    ensures { IsTrue result ↔ HasCounts trace.now }
 {
     let main = trace.main.rows();
     let range = trace.range.rows();
@@ -20,11 +20,17 @@ pub fn has_counts(trace: &Trace) -> bool
     if range < 1 || 131072 < range {
         return false;
     }
-    if 4194304 < hasher || hasher % 8 != 0 {
+    if 4194304 < hasher {
+        return false;
+    }
+    if hasher % 8 != 0 {
         return false;
     }
     if 0 < bitwise || 0 < memory {
         return false;
     }
-    kernel <= 255 && left <= 524288
+    if 255 < kernel || 524288 < left {
+        return false;
+    }
+    true
 }
