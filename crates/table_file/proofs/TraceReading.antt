@@ -7,7 +7,7 @@ use Rattle.table_file.specs.declared.cause.FileCause.TheVariants as cause
 use Rattle.table_file.specs.declared.cause.FileError.{FileError}
 use Rattle.table_file.specs.declared.cause.FileError.TheVariants.{Bad}
 use Rattle.table_file.specs.declared.counts.Counts.{Counts}
-use Rattle.table_file.specs.Fields.{IsRead, rows_at}
+use Rattle.table_file.specs.Fields.{Gives, rows_at}
 use Rattle.table_file.specs.Files.{AreTables, bitwise_place, end_place, ended_at, hasher_place, head_of, kernel_place, left_place, memory_place, range_place, tables_of, trace_of}
 use Rattle.table_file.proofs.Chains.{goes_past}
 use Rattle.table_file.proofs.FileLaws.{counts-may, tables-shaped}
@@ -22,14 +22,14 @@ module _ (bytes : List ℕ) (c : Counts) (t : Trace) (main : rows_at bytes 65 c.
   tables-followed more = rw (main, range, hasher, bitwise, memory, kernel, left, lt-ltb (end_place c) (length bytes) more) refl
 
 -- the tables behind a good head
-pub behind-head : (bytes : List ℕ) (c : Counts) (r : Result Trace FileError) → Ok c ≡ head_of bytes → IsRead r (tables_of bytes c) → IsRead r (trace_of bytes)
+pub behind-head : (bytes : List ℕ) (c : Counts) (r : Result Trace FileError) → Ok c ≡ head_of bytes → Gives r (tables_of bytes c) → Gives r (trace_of bytes)
 unfolding trace_of
-behind-head bytes c r head is = subst (IsRead r) (sym (goes_past (head_of bytes) c (tables_of bytes) (sym head))) is
+behind-head bytes c r head is = subst (Gives r) (sym (goes_past (head_of bytes) c (tables_of bytes) (sym head))) is
 
-pub read-counts : (bytes : List ℕ) (r : Result Trace FileError) → IsRead r (trace_of bytes) → IfOk r HasCounts
+pub read-counts : (bytes : List ℕ) (r : Result Trace FileError) → Gives r (trace_of bytes) → IfOk r HasCounts
 read-counts bytes (Ok t) is = counts-may bytes t is
 read-counts bytes (Err e) is = tt
 
-pub read-shaped : (bytes : List ℕ) (r : Result Trace FileError) → IsRead r (trace_of bytes) → IfOk r AreTables
+pub read-shaped : (bytes : List ℕ) (r : Result Trace FileError) → Gives r (trace_of bytes) → IfOk r AreTables
 read-shaped bytes (Ok t) is = tables-shaped bytes t is
 read-shaped bytes (Err e) is = tt

@@ -13,10 +13,10 @@ behind (Ok x) next = next x
 behind (Err e) next = Err e
 
 -- a function's answer is what the bytes read as; want of memory says nothing
-abbrev pub IsRead : {A : Type 0} → Result A FileError → Result A FileError → Type 0
-IsRead (Ok x) r = r ≡ Ok x
-IsRead (Err (Bad offset why)) r = r ≡ Err (Bad offset why)
-IsRead (Err Memory) r = Unit {0}
+abbrev pub Gives : {A : Type 0} → Result A FileError → Result A FileError → Type 0
+Gives (Ok x) r = r ≡ Ok x
+Gives (Err (Bad offset why)) r = r ≡ Err (Bad offset why)
+Gives (Err Memory) r = Unit {0}
 
 -- the number in so many bytes from a place on, lowest first, which has to pass a test
 unfoldable pub number_at : List ℕ → ℕ → FileCause → (ℕ → Bool) → ℕ → Result ℕ FileError

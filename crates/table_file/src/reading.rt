@@ -2,7 +2,7 @@ ghost use Rattle.std.specs.Prelude.{◌≡◌, ◌==◌, ◌+◌, ◌*◌, ◌^�
 ghost use Rattle.byteorder.specs.Endian.{little_number};
 ghost use Rattle.air_kit.specs.Traces.{HasCounts};
 ghost use Rattle.table_file.specs.declared.cause.FileCause.TheVariants as cause;
-ghost use Rattle.table_file.specs.Fields.{IsRead, element_at, number_at, row_at, rows_at};
+ghost use Rattle.table_file.specs.Fields.{Gives, element_at, number_at, row_at, rows_at};
 ghost use Rattle.table_file.specs.Files.{AreFew, AreTables, ended_at, head_of, magic, tables_of, trace_of};
 
 use crate::cause::{FileCause, FileError, bad};
@@ -28,7 +28,7 @@ pub(crate) const ELEMENT_BYTES: usize = 8;
 /// The trace that bytes read as. The first bad field decides; `Memory` comes only where memory is refused.
 #[tactic(auto, unfolding(crate::specs::Files::trace_of))]
 pub fn decode(alloc: Global, bytes: &[u8]) -> Result<Trace, FileError>
-    ensures reads { IsRead result (trace_of bytes.now) }
+    ensures reads { Gives result (trace_of bytes.now) }
     ensures counts { IfOk result HasCounts }
     ensures tables { IfOk result AreTables }
 {
@@ -82,7 +82,7 @@ fn part_from(bytes: &[u8], at: usize) -> &[u8]
 #[tactic(auto, unfolding(crate::specs::Files::tables_of))]
 fn read_tables(alloc: Global, bytes: &[u8], counts: &Counts) -> Result<Trace, FileError>
     requires { AreFew counts.now }
-    ensures { IsRead result (tables_of bytes.now counts.now) }
+    ensures { Gives result (tables_of bytes.now counts.now) }
 {
     let range_place = HEAD_BYTES + 8 * 65 * counts.main;
     let hasher_place = range_place + 8 * 2 * counts.range;
@@ -122,7 +122,7 @@ fn read_table<const W: usize>(
     requires narrow { W ≤ 65 }
     requires few { rows ≤ 2 ^ 22 }
     requires place { at ≤ 2 ^ 34 }
-    ensures { IsRead result (rows_at bytes.now W rows at) }
+    ensures { Gives result (rows_at bytes.now W rows at) }
 {
     let mut table = Table::new(alloc);
     table.reserve(rows)?;
