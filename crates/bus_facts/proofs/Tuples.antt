@@ -1,0 +1,67 @@
+-- How often a tuple counts in the lists of a row: in a list of one tuple, and where a test passes.
+use Rattle.std.proofs.Common.{◌≡◌, ℕ, ◌+◌, ◌<◌, ◌≤◌, Bool, true, false, cond, nat_eq, List, [], ◌∷◌, refl, sym, ap, ◌∙◌, arith, Equal, Less, Greater}
+use Rattle.std.proofs.lemmas.Bool.{eq-eqb}
+use Rattle.std.specs.Cmp.Lexicographic.{slice_cmp, texts_ties}
+use Rattle.std.specs.Ordering.{is_eq, nat_cmp}
+use Rattle.std.proofs.lemmas.Map.Lookups.{exact_bytes}
+use Rattle.std.specs.declared.cmp.Ordering.{Ordering}
+use lib.Pointwise.{pointwise}
+use Rattle.buses.specs.Counts.{Counted, counted, hits, once}
+
+equal_from : (r : Ordering) → is_eq r ≡ true → r ≡ Equal
+equal_from Less e = cc
+equal_from Equal e = refl
+equal_from Greater e = cc
+
+-- equal element by element is the same tuple
+pub same_from_pointwise : (t u : List ℕ) → pointwise nat_eq t u ≡ true → t ≡ u
+same_from_pointwise t u h =
+    exact_bytes t u (equal_from (slice_cmp nat_cmp t u) (sym (texts_ties t u) ∙ h))
+
+pub pointwise_same : (t : List ℕ) → pointwise nat_eq t t ≡ true
+pointwise_same [] = refl
+pointwise_same (x ∷ t) = rw (eq-eqb x x refl) (pointwise_same t)
+
+-- a tuple that hits is the one counted
+pub hit_is : (t : List ℕ) (count : ℕ) (u : List ℕ) → 0 < hits t count u → t ≡ u
+hit_is t count u =
+    elim (pointwise nat_eq t u) as (λ b. pointwise nat_eq t u ≡ b → 0 < cond b count 0 → t ≡ u) [
+      | true ↦ λ e h. same_from_pointwise t u e
+      | false ↦ λ e h. absurd (omega (arith, h))
+    ] refl
+
+pub hit_self : (t : List ℕ) (count : ℕ) → hits t count t ≡ count
+hit_self t count = ap (λ b. cond b count 0) (pointwise_same t)
+
+pub hit_few : (t : List ℕ) (count : ℕ) (u : List ℕ) → hits t count u ≤ count
+hit_few t count u = elim (pointwise nat_eq t u) as (λ b. cond b count 0 ≤ count) [ true ↦ omega arith | false ↦ omega arith ]
+
+pub none_counts : (u : List ℕ) → counted [] u ≡ 0
+unfolding counted
+none_counts u = refl
+
+pub more_counts : (c : Counted) (cs : List Counted) (u : List ℕ) → counted (c ∷ cs) u ≡ hits c.tuple c.count u + counted cs u
+unfolding counted
+more_counts c cs u = refl
+
+pub nothing_counts : {P : Type 0} (u : List ℕ) → 0 < counted [] u → P
+nothing_counts u h = let e = none_counts u in absurd (omega (arith, e, h))
+
+-- a list of one tuple
+pub single_is : (c : Counted) (u : List ℕ) → 0 < counted (c ∷ []) u → c.tuple ≡ u
+single_is c u h = hit_is c.tuple c.count u (let e = more_counts c [] u in let n = none_counts u in omega (arith, e, n, h))
+
+pub single_self : (t : List ℕ) → counted (once t ∷ []) t ≡ 1
+single_self t = let e = more_counts (once t) [] t in let n = none_counts t in let s = hit_self t 1 in omega (arith, e, n, s)
+
+pub single_few : (t u : List ℕ) → counted (once t ∷ []) u ≤ 1
+single_few t u = let e = more_counts (once t) [] u in let n = none_counts u in let s = hit_few t 1 u in omega (arith, e, n, s)
+
+-- a tuple where a test passes
+pub tested_is : (b : Bool) (c : Counted) (u : List ℕ) → 0 < counted (cond b (c ∷ []) []) u → (b ≡ true) × (c.tuple ≡ u)
+tested_is true c u h = (refl, single_is c u h)
+tested_is false c u h = nothing_counts u h
+
+pub tested_few : (b : Bool) (t u : List ℕ) → counted (cond b (once t ∷ []) []) u ≤ 1
+tested_few true t u = single_few t u
+tested_few false t u = let n = none_counts u in omega (arith, n)

@@ -1,0 +1,36 @@
+-- What rows look up in the tables of the hasher, of ranges and of the kernel.
+use Rattle.std.specs.Prelude.{◌≡◌, ℕ, suc, ◌^◌, ◌<◌, true, List, ◌∷◌, length}
+use Rattle.buses.specs.Counts.{over_rows}
+use Rattle.buses.specs.declared.bus.Bus.TheVariants as bus
+use Rattle.vm_field.specs.Signs.{◌⊞◌, ◌⊟◌}
+use Rattle.vm_field.specs.Permutation.{permuted}
+use Rattle.vm_ops.specs.declared.op.Op.TheVariants as ops
+use Rattle.vm_table.specs.MainColumns.{ha, lv, t}
+use Rattle.air_kit.specs.ChipTuples.{chip_given}
+use Rattle.air_kit.specs.MainTuples.{domain_of, eight, front, hash_end, limbs_of, twelve}
+use Rattle.air_kit.specs.declared.trace.TableName.TheVariants as table
+use Rattle.block_tree.specs.Cycles.{is_in_kernel}
+use Rattle.hash_rows.specs.HashMeaning.{TableGives}
+use Rattle.row_facts.specs.MainRows.{row_at, op_in}
+use Rattle.bus_facts.specs.Blocks.{IsAt, Starts, own}
+
+-- how often the hasher's table gives a tuple
+abbrev pub hasher_gives : List (List ℕ) → List ℕ → ℕ
+hasher_gives hasher u = over_rows (chip_given bus.Hasher table.Hasher) hasher u
+
+-- What rows ask is given: the first block of a start, the next one of a RESPAN, and an END's digest. HPERM leaves the permutation of what it takes.
+pub record HashFacts (constants : List ℕ) (rows hasher : List (List ℕ)) : Type 0 where
+  pub table : TableGives constants hasher (hasher_gives hasher)
+  pub starts : (j : ℕ) → Starts rows j → 0 < hasher_gives hasher (1 ∷ own rows j ∷ domain_of (op_in rows j) ∷ eight (row_at rows j))
+  pub goes_on : (i : ℕ) → IsAt rows i ops.Respan → 0 < hasher_gives hasher (2 ∷ (ha (row_at rows i) ⊞ 8) ∷ eight (row_at rows i))
+  pub ends : (e : ℕ) → IsAt rows e ops.End → 0 < hasher_gives hasher (3 ∷ hash_end (row_at rows e) ∷ front (row_at rows e))
+  pub permutes : (i : ℕ) → IsAt rows i ops.HPerm → twelve (row_at rows (suc i)) ≡ permuted constants (twelve (row_at rows i))
+
+-- limbs have 16 bits, and so has the number of blocks that may still be nested in one that starts
+pub record RangeFacts (rows : List (List ℕ)) : Type 0 where
+  pub limb : (i j : ℕ) → suc i < length rows → j < limbs_of (op_in rows i) → t (row_at rows i) j < 2 ^ 16
+  pub nesting : (j : ℕ) → Starts rows j → 1024 ⊟ lv (row_at rows (suc j)) < 2 ^ 16
+
+-- a syscall calls a function of the kernel
+abbrev pub KernelFacts : List (List ℕ) → List (List ℕ) → Type 0
+KernelFacts kernel rows = (j : ℕ) → IsAt rows j ops.Syscall → is_in_kernel kernel (front (row_at rows j)) ≡ true
