@@ -1,0 +1,10 @@
+pub mod Operations
+pub mod Rows
+pub mod OpenBlocks
+pub mod Levels
+pub mod Contexts
+pub mod FrameLaw
+pub mod Names
+pub mod FirstChildren
+pub mod OtherChildren
+pub mod NestingLaw
