@@ -1,0 +1,12 @@
+pub mod Tests
+pub mod ReadSteps
+pub mod DigitSteps
+pub mod InUse
+pub mod FoundSteps
+pub mod BatchRows
+pub mod BatchSteps
+pub mod Addresses
+pub mod BatchReads
+pub mod SpanHashes
+pub mod SpanRows
+pub mod SpanLaw
