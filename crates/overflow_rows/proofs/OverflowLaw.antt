@@ -1,0 +1,101 @@
+-- The law of the cells below the sixteenth.
+use Rattle.std.proofs.Common.{◌≡◌, ◌≢◌, ℕ, suc, ◌+◌, ◌<◌, ◌≤◌, true, List, [], ◌∷◌, ◌++◌, length, drop, refl, sym, ap, subst, ◌∙◌, arith}
+use Rattle.vm_table.specs.MainColumns.{s, depth}
+use Rattle.air_kit.specs.MainTuples.{is_call_op, row_shifts_left}
+use Rattle.air_kit.specs.RowStates.{Overflow, overflow_at}
+use Rattle.air_kit.specs.StackValues.{cells}
+use Rattle.air_kit.specs.Traces.{claim_of}
+use Rattle.air_kit.specs.declared.trace.Public.{Public}
+use Rattle.air_kit.specs.declared.trace.Trace.{Trace}
+use Rattle.row_facts.specs.Bounds.{IsLastRow}
+use Rattle.row_facts.specs.MainRows.{row_at, op_in}
+use Rattle.bus_facts.specs.Blocks.{Closes}
+use Rattle.bus_facts.specs.BusFacts.{Granted}
+use Rattle.overflow_rows.specs.Lists.{below_at, GrantedOverflow}
+use Rattle.overflow_rows.proofs.Chains.{Chain, elements_of}
+use Rattle.overflow_rows.proofs.RowKinds.{behind_deeper, left_right_apart}
+use Rattle.overflow_rows.proofs.Asides.{returns_is}
+use Rattle.overflow_rows.proofs.Returns.{next_is, return_back, aside_is}
+use Rattle.overflow_rows.proofs.Holds.{Known, Holds, holds, front_at, first_goes}
+use Rattle.overflow_rows.proofs.Outputs.{stack_is}
+
+before : (i l : ℕ) → suc i < l → i < l
+before i l h = omega (arith, h)
+
+no_cell : (xs : List ℕ) → length xs ≡ 0 → xs ≡ []
+no_cell [] e = refl
+no_cell (x ∷ xs) e = absurd (omega (arith, e))
+
+none_counted : (d n : ℕ) → d ≡ 16 + n → d ≡ 16 → n ≡ 0
+none_counted d n e f = omega (arith, e, f)
+
+deep_at : {rows left_rows : List (List ℕ)} {outputs : List ℕ} → Known rows left_rows outputs → (i : ℕ) → suc i < length rows
+    → row_shifts_left (row_at rows i) ≡ true → depth (row_at rows i) ≢ 16 → below_at rows i ≡ s (row_at rows (suc i)) 15 ∷ below_at rows (suc i)
+deep_at {rows = rows} known i within l a =
+    let f = front_at known i within (holds known i (before i (length rows) within)) l a in
+    let behind = behind_deeper (row_at rows i) (overflow_at rows i) (left_right_apart (row_at rows i) l) l a in
+    f.is
+    ∙ ap (λ (xs : List ℕ). s (row_at rows (suc i)) 15 ∷ xs)
+    (sym (ap (λ (o : Overflow). o.below) (next_is rows i ∙ behind) ∙ ap (λ (xs : List ℕ). drop 1 xs) f.is))
+
+returns_at : {rows left_rows : List (List ℕ)} {outputs : List ℕ} → Known rows left_rows outputs → (j e : ℕ) → Closes rows j e
+    → is_call_op (op_in rows j) ≡ true → (below_at rows e ≡ []) × (below_at rows (suc e) ≡ below_at rows j)
+returns_at {rows = rows} known j e closes call = (
+  no_cell (below_at rows e) (none_counted (depth (row_at rows e)) (length (below_at rows e)) (holds known e within).depth_is flat),
+  ap (λ (o : Overflow). o.below)
+      (return_back rows j e (known.frames.closed j e closes) call (aside_is known.claim rows known.shows known.frames e within)),
+)
+  where
+    within : e < length rows
+    within = before e (length rows) closes.ends.within
+
+    flat : depth (row_at rows e) ≡ 16
+    flat = (known.shows.row_is e within).stack.returns (returns_is rows j e closes ∙ call)
+
+last_below : (i l : ℕ) → suc i ≡ l → i < l
+last_below i l e = omega (arith, e)
+
+counted : (d n m o : ℕ) → d ≡ 16 + n → d ≡ o → m + 16 ≡ o → n ≡ m
+counted d n m o e f g = omega (arith, e, f, g)
+
+stack_at : (p : Public) (t : Trace) → Granted p t → Known t.main t.left p.statement.outputs → (i : ℕ) → suc i ≡ length t.main
+    → cells (row_at t.main i) ++ below_at t.main i ≡ p.statement.outputs
+stack_at p t granted known i e =
+    stack_is (record {
+      goes = first_goes known some;
+      overflow = granted.overflow;
+      chain = λ more. subst (λ (n : ℕ). Chain t.main n (below_at t.main i)) last.key_is here.chain;
+      size = counted (depth (row_at t.main i)) (length (below_at t.main i)) (length t.left) (length p.statement.outputs) here.depth_is last.depth_is count;
+    }) (row_at t.main i)
+    last.outputs count
+  where
+    within : i < length t.main
+    within = last_below i (length t.main) e
+
+    some : 0 < length t.main
+    some = omega (arith, within)
+
+    here : Holds t.main i
+    here = holds known i within
+
+    last : IsLastRow (claim_of p t) (op_in t.main i) (row_at t.main i)
+    last = granted.rows.last i e
+
+    count : length t.left + 16 ≡ length p.statement.outputs
+    count = (granted.rows.first some).left
+
+few_deep : (d n i : ℕ) → d ≡ 16 + n → n ≤ i → d ≤ 16 + i
+few_deep d n i e few = omega (arith, e, few)
+
+pub overflow_law : GrantedOverflow
+overflow_law p t granted frames = record {
+  depth_is = λ i h. (holds known i h).depth_is;
+  bounded = λ i h. few_deep (depth (row_at t.main i)) (length (below_at t.main i)) i (holds known i h).depth_is (holds known i h).few;
+  elements = λ i h. elements_of t.main (λ r few. (granted.rows.row_is r few).reads.low 45) _ (below_at t.main i) (holds known i h).chain;
+  deep = deep_at known;
+  returns = returns_at known;
+  stack_left = stack_at p t granted known;
+}
+  where
+    known : Known t.main t.left p.statement.outputs
+    known = record { claim = claim_of p t; shows = granted.rows; few = granted.few; overflow = granted.overflow; frames = frames }
