@@ -1,0 +1,93 @@
+-- What an operation sees of the state of a row.
+use Rattle.std.proofs.Common.{◌≡◌, ℕ, zero, suc, ◌+◌, ◌<◌, ◌≤◌, List, [], ◌∷◌, ◌++◌, take, drop, length, slice_index, refl, ap, sym, ◌∙◌, arith}
+use Rattle.std.proofs.lemmas.List.{length-append, length-take-le, get_or_append_left}
+use Rattle.vm_field.specs.Machine.{word_at, IsWord}
+use Rattle.vm_ops.specs.Sizes.{IsSeenBy}
+use Rattle.vm_ops.specs.Stepping.{ShowTheSame, seen_at}
+use Rattle.vm_ops.specs.Values.{Seen, advice_of}
+use Rattle.vm_ops.specs.declared.item.Item.{Item}
+use Rattle.vm_table.specs.MainColumns.{s, depth}
+use Rattle.air_kit.specs.RowStates.{Elsewhere, state_of}
+use Rattle.air_kit.specs.StackValues.{cells, seen_of, function_digest}
+
+abbrev pub seen_by : List ℕ → Item → List ℕ → Elsewhere → Seen
+seen_by constants item x e = seen_at constants item (state_of x e)
+
+-- ---- the cells of a row
+
+pub cells_index : (x : List ℕ) (j : ℕ) → j < 16 → slice_index (cells x) j ≡ s x j
+unfolding cells
+cells_index x zero few = refl
+cells_index x (suc zero) few = refl
+cells_index x (suc (suc zero)) few = refl
+cells_index x (suc (suc (suc zero))) few = refl
+cells_index x (suc (suc (suc (suc zero)))) few = refl
+cells_index x (suc (suc (suc (suc (suc zero))))) few = refl
+cells_index x (suc (suc (suc (suc (suc (suc zero)))))) few = refl
+cells_index x (suc (suc (suc (suc (suc (suc (suc zero))))))) few = refl
+cells_index x (suc (suc (suc (suc (suc (suc (suc (suc zero)))))))) few = refl
+cells_index x (suc (suc (suc (suc (suc (suc (suc (suc (suc zero))))))))) few = refl
+cells_index x (suc (suc (suc (suc (suc (suc (suc (suc (suc (suc zero)))))))))) few = refl
+cells_index x (suc (suc (suc (suc (suc (suc (suc (suc (suc (suc (suc zero))))))))))) few = refl
+cells_index x (suc (suc (suc (suc (suc (suc (suc (suc (suc (suc (suc (suc zero)))))))))))) few = refl
+cells_index x (suc (suc (suc (suc (suc (suc (suc (suc (suc (suc (suc (suc (suc zero))))))))))))) few = refl
+cells_index x (suc (suc (suc (suc (suc (suc (suc (suc (suc (suc (suc (suc (suc (suc zero)))))))))))))) few = refl
+cells_index x (suc (suc (suc (suc (suc (suc (suc (suc (suc (suc (suc (suc (suc (suc (suc zero))))))))))))))) few = refl
+cells_index x (suc (suc (suc (suc (suc (suc (suc (suc (suc (suc (suc (suc (suc (suc (suc (suc j)))))))))))))))) few = absurd (omega (arith, few))
+
+pub length_cells : (x : List ℕ) → length (cells x) ≡ 16
+unfolding cells
+length_cells x = refl
+
+pub take_cells : (x below : List ℕ) → take 16 (cells x ++ below) ≡ cells x
+unfolding cells
+take_cells x below = refl
+
+pub drop_cells : (x below : List ℕ) → drop 16 (cells x ++ below) ≡ below
+unfolding cells
+drop_cells x below = refl
+
+pub drop_most : (x below : List ℕ) → drop 15 (cells x ++ below) ≡ s x 15 ∷ below
+unfolding cells
+drop_most x below = refl
+
+pub drop_more_cells : (x below : List ℕ) → drop 17 (cells x ++ below) ≡ drop 1 below
+unfolding cells
+drop_more_cells x [] = refl
+drop_more_cells x (c ∷ below) = refl
+
+pub top_index : (x below : List ℕ) (j : ℕ) → j < 16 → slice_index (cells x ++ below) j ≡ s x j
+top_index x below j few = let count = length_cells x in get_or_append_left (cells x) below 0 j (omega (arith, few, count)) ∙ cells_index x j few
+
+pub below_index : (x below : List ℕ) → slice_index (cells x ++ below) 16 ≡ slice_index below 0
+unfolding cells
+below_index x below = refl
+
+-- ---- what is seen
+
+pub shows_same : (constants : List ℕ) (item : Item) (x : List ℕ) (e : Elsewhere) → depth x ≡ 16 + length e.below
+    → ShowTheSame (seen_by constants item x e) (seen_of x)
+unfolding seen_of
+shows_same constants item x e deep = record {
+  clock = refl;
+  fmp = refl;
+  in_syscall = refl;
+  digest = refl;
+  depth = length-append (cells x) e.below ∙ ap (λ n. n + length e.below) (length_cells x) ∙ sym deep;
+  cells = take_cells x e.below;
+}
+
+length_digest : (x : List ℕ) → length (function_digest x) ≡ 4
+unfolding function_digest
+length_digest x = refl
+
+pub sized : (constants : List ℕ) (item : Item) (x : List ℕ) (e : Elsewhere) → length constants ≡ 168
+    → ((context place : ℕ) → IsWord (word_at e.memory context place)) → advice_of item.op ≤ length e.tape
+    → IsSeenBy item.op (seen_by constants item x e)
+sized constants item x e count words enough = record {
+  constants = count;
+  cells = ap length (take_cells x e.below) ∙ length_cells x;
+  word = (words (state_of x e).core.context (slice_index (state_of x e).core.stack 0)).size;
+  digest = length_digest x;
+  advice = length-take-le (advice_of item.op) e.tape enough;
+}

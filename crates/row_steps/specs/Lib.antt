@@ -1,0 +1,4 @@
+pub mod Joined
+pub mod Lookups
+pub mod Showing
+pub mod Filling
