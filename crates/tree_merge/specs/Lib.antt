@@ -1,0 +1,9 @@
+pub mod Pairs
+pub mod Evidences
+pub mod EvidenceLaws
+pub mod Placed
+pub mod AddrView
+pub mod Merging
+pub mod Merges
+pub mod Children
+pub mod FirstBlocks

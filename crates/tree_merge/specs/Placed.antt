@@ -1,0 +1,49 @@
+-- Trees of blocks, each of which names the address of its hash.
+use Rattle.std.specs.Prelude.{ℕ, ◌+◌, List}
+use Rattle.vm_ops.specs.declared.op.Op.TheVariants as op
+use Rattle.vm_ops.specs.Codes.{code_of}
+use Rattle.block_tree.specs.Trees as blocks
+use Rattle.block_tree.specs.Trees.{Tree, tree_digest}
+
+pub data Placed : Type 0 where
+  Opaque : (digest : List ℕ) → Placed  -- a block of which only the digest is known
+  Span : (at : ℕ) (batches : List (List ℕ)) → Placed
+  Join : (at : ℕ) (first second : Placed) → Placed
+  Split : (at : ℕ) (on_one on_zero : Placed) → Placed
+  Loop : (at : ℕ) (body : Placed) → Placed
+  Call : (at : ℕ) (callee : Placed) → Placed
+  Syscall : (at : ℕ) (callee : Placed) → Placed
+
+-- the tree without the addresses
+abbrev pub plain : Placed → Tree
+plain (Opaque digest) = blocks.Opaque digest
+plain (Span at batches) = blocks.Span batches
+plain (Join at first second) = blocks.Join (plain first) (plain second)
+plain (Split at on_one on_zero) = blocks.Split (plain on_one) (plain on_zero)
+plain (Loop at body) = blocks.Loop (plain body)
+plain (Call at callee) = blocks.Call (plain callee)
+plain (Syscall at callee) = blocks.Syscall (plain callee)
+
+-- the digest of a tree, under the permutation's constants
+abbrev pub placed_digest : List ℕ → Placed → List ℕ
+placed_digest constants x = tree_digest constants (plain x)
+
+-- the address of the root's hash, and 0 where only the root's digest is known
+abbrev pub at_of : Placed → ℕ
+at_of (Opaque digest) = 0
+at_of (Span at batches) = at
+at_of (Join at first second) = at
+at_of (Split at on_one on_zero) = at
+at_of (Loop at body) = at
+at_of (Call at callee) = at
+at_of (Syscall at callee) = at
+
+-- the kind of the root: 0 where only its digest is known, and else one more than the domain that it is hashed with
+abbrev pub kind_of : Placed → ℕ
+kind_of (Opaque digest) = 0
+kind_of (Span at batches) = 1
+kind_of (Join at first second) = 1 + code_of op.Join
+kind_of (Split at on_one on_zero) = 1 + code_of op.Split
+kind_of (Loop at body) = 1 + code_of op.Loop
+kind_of (Call at callee) = 1 + code_of op.Call
+kind_of (Syscall at callee) = 1 + code_of op.Syscall

@@ -1,0 +1,14 @@
+//! What the evidence of a trace says, and trees whose blocks name their hashes in the trace: two of
+//! one digest are merged.
+#![tactic(auto)]
+
+mod addr_tree;
+mod blocks;
+mod laws;
+mod merging;
+mod plain;
+
+pub use addr_tree::{AddrTree, MergeStop};
+pub use laws::{pair_laws, run_laws};
+pub use merging::merge;
+pub use plain::into_tree;

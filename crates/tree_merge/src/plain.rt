@@ -1,0 +1,39 @@
+ghost use Rattle.std.specs.Prelude.{◌≡◌, IfOk};
+ghost use Rattle.block_tree.specs.TreeView.{tree_of};
+ghost use Rattle.tree_merge.specs.AddrView.{placed_of};
+ghost use Rattle.tree_merge.specs.Placed.{plain};
+
+use crate::addr_tree::AddrTree;
+use block_tree::Tree;
+use std::alloc::Global;
+use vm_field::Memory;
+
+/// The tree without its addresses. Digests and batches are moved, and each box is made anew. It goes
+/// as deep as the tree is high, by two calls a level.
+#[cycle(bare)]
+pub fn into_tree(alloc: Global, tree: AddrTree) -> Result<Tree, Memory>
+    ensures same { IfOk result (λ bare. tree_of bare ≡ plain (placed_of tree)) }
+{
+    match tree {
+        AddrTree::Opaque(digest) => Ok(Tree::Opaque(digest)),
+        AddrTree::Span(_, batches) => Ok(Tree::Span(batches)),
+        AddrTree::Join(_, first, second) => {
+            Ok(Tree::Join(child(alloc, first)?, child(alloc, second)?))
+        }
+        AddrTree::Split(_, on_one, on_zero) => {
+            Ok(Tree::Split(child(alloc, on_one)?, child(alloc, on_zero)?))
+        }
+        AddrTree::Loop(_, body) => Ok(Tree::Loop(child(alloc, body)?)),
+        AddrTree::Call(_, callee) => Ok(Tree::Call(child(alloc, callee)?)),
+        AddrTree::Syscall(_, callee) => Ok(Tree::Syscall(child(alloc, callee)?)),
+    }
+}
+
+// A child without its addresses.
+#[cycle(bare)]
+fn child(alloc: Global, tree: Box<AddrTree>) -> Result<Box<Tree>, Memory>
+    ensures same { IfOk result (λ bare. tree_of bare.value ≡ plain (placed_of tree.value)) }
+{
+    let bare = into_tree(alloc, Box::into_inner(tree))?;
+    Ok(Box::new(alloc, bare)?)
+}
