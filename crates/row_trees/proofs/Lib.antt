@@ -1,0 +1,5 @@
+pub mod Batches
+pub mod TreeLemmas
+pub mod SpanRuns
+pub mod TreeRuns
+pub mod GrantedTrees
