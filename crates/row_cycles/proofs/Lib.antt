@@ -1,0 +1,15 @@
+pub mod Premises
+pub mod Going
+pub mod Stacks
+pub mod Quiet
+pub mod StackRows
+pub mod Levels
+pub mod StateRows
+pub mod StartRows
+pub mod TurnRows
+pub mod EndRows
+pub mod CallRows
+pub mod Unbuilt
+pub mod OperationRows
+pub mod FirstAndLast
+pub mod CyclesLaw
