@@ -1,0 +1,6 @@
+pub mod ReadRows
+pub mod Spanning
+pub mod SpanFound
+pub mod Turning
+pub mod BlockFound
+pub mod TurnsFound

@@ -1,0 +1,74 @@
+ghost use Rattle.std.specs.Prelude.{◌≡◌, suc, ◌^◌, ◌<◌, length};
+ghost use Rattle.air_kit.specs.MainTuples.{back, eight, front};
+ghost use Rattle.bus_facts.specs.Blocks.{own};
+ghost use Rattle.row_facts.specs.MainRows.{op_in, row_at};
+ghost use Rattle.vm_table.specs.MainColumns.{s};
+ghost use Rattle.row_walk.specs.Walking.{HasBits};
+
+use crate::decode::operation_of;
+use air_kit::Trace;
+use vm_field::{Felt, Word};
+use vm_ops::Op;
+use vm_table::MainView;
+
+/// The operation of a row of the main table, whose bits are bits.
+pub fn operation(trace: &Trace, i: usize) -> Op
+    requires within { i < length trace.now.main }
+    requires bits { HasBits (row_at trace.now.main i) }
+    ensures { result ≡ op_in trace.now.main i }
+{
+    operation_of(&trace.main.row(i))
+}
+
+// The cell on top of the stack.
+pub(crate) fn top(trace: &Trace, i: usize) -> Felt
+    requires { i < length trace.now.main }
+    ensures { result ≡ s (row_at trace.now.main i) 0 }
+{
+    trace.main.row(i).s0()
+}
+
+// The address of the hash of the block that starts in row i.
+pub(crate) fn address(trace: &Trace, i: usize) -> u32
+    requires within { suc i < length trace.now.main }
+    requires few { own trace.now.main i < 2 ^ 32 }
+    ensures { result ≡ own trace.now.main i }
+{
+    trace.main.pair(i).next.addr().value() as u32
+}
+
+// The first digest that the row shows.
+pub(crate) fn first_digest(trace: &Trace, i: usize) -> Word
+    requires { i < length trace.now.main }
+    ensures { result ≡ front (row_at trace.now.main i) }
+{
+    let row = trace.main.row(i);
+    Word([row.h0(), row.h1(), row.h2(), row.h3()])
+}
+
+// The second one.
+pub(crate) fn second_digest(trace: &Trace, i: usize) -> Word
+    requires { i < length trace.now.main }
+    ensures { result ≡ back (row_at trace.now.main i) }
+{
+    let row = trace.main.row(i);
+    Word([row.h4(), row.h5(), row.h6(), row.h7()])
+}
+
+// The batch that the row shows.
+pub(crate) fn batch(trace: &Trace, i: usize) -> [Felt; 8]
+    requires { i < length trace.now.main }
+    ensures { result ≡ eight (row_at trace.now.main i) }
+{
+    let row = trace.main.row(i);
+    [
+        row.h0(),
+        row.h1(),
+        row.h2(),
+        row.h3(),
+        row.h4(),
+        row.h5(),
+        row.h6(),
+        row.h7(),
+    ]
+}

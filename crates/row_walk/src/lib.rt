@@ -1,0 +1,15 @@
+//! A tree is read from the rows of an accepted trace, one block behind the other.
+#![tactic(auto)]
+
+mod cells;
+mod decode;
+mod found;
+mod laws;
+mod spans;
+mod turns;
+mod walk;
+
+pub use cells::operation;
+pub use found::Found;
+pub use laws::readable_laws;
+pub use walk::whole;

@@ -1,0 +1,143 @@
+ghost use Rattle.std.specs.Prelude.{◌≡◌, suc, ◌<◌, length, IfOk, IfErr};
+ghost use Rattle.vm_ops.specs.declared.op.Op.TheVariants as ops;
+ghost use Rattle.bus_facts.specs.Blocks.{IsAt, Starts};
+ghost use Rattle.row_walk.specs.Walking.{IsFound, IsReadable, IsWhole};
+ghost use Rattle.tree_merge.specs.Merges.{IsStop};
+
+use crate::cells::{address, first_digest, operation, second_digest, top};
+use crate::found::{Found, boxed};
+use crate::spans::span;
+use crate::turns::turns;
+use air_kit::{Public, Trace};
+use std::alloc::Global;
+use tree_merge::{AddrTree, MergeStop};
+use vm_field::Felt;
+use vm_ops::Op;
+
+/// The tree of the whole trace: it has the statement's digest. Or two hashes of different inputs and one digest.
+pub fn whole(alloc: Global, public: &Public, trace: &Trace) -> Result<Found, MergeStop>
+    requires { IsReadable public.now trace.now }
+    ensures ok { IfOk result (λ found. IsWhole public.now trace.now found) }
+    ensures err { IfErr result (λ stop. IsStop public.now.params trace.now stop) }
+{
+    block(alloc, public, trace, 0)
+}
+
+// The tree of the block that starts in row i, and the row of its END. Where the turns of a loop show two blocks of one digest that
+// differ, two hashes of different inputs and one digest. It calls itself at each block that is nested in another one.
+#[cycle(blocks)]
+pub(crate) fn block(
+    alloc: Global,
+    public: &Public,
+    trace: &Trace,
+    i: usize,
+) -> Result<Found, MergeStop>
+    requires readable { IsReadable public.now trace.now }
+    requires starts { Starts trace.now.main i }
+    ensures ok { IfOk result (λ found. IsFound public.now trace.now i found) }
+    ensures err { IfErr result (λ stop. IsStop public.now.params trace.now stop) }
+{
+    match operation(trace, i) {
+        Op::Span => span(alloc, public, trace, i),
+        Op::Join => join(alloc, public, trace, i),
+        Op::Split => split(alloc, public, trace, i),
+        Op::Loop => looped(alloc, public, trace, i),
+        Op::Call => call(alloc, public, trace, i),
+        Op::Syscall => syscall(alloc, public, trace, i),
+        _ => unreachable!(),
+    }
+}
+
+// A join's two blocks, one behind the other.
+#[cycle(blocks)]
+fn join(alloc: Global, public: &Public, trace: &Trace, i: usize) -> Result<Found, MergeStop>
+    requires readable { IsReadable public.now trace.now }
+    requires is { IsAt trace.now.main i ops.Join }
+    ensures ok { IfOk result (λ found. IsFound public.now trace.now i found) }
+    ensures err { IfErr result (λ stop. IsStop public.now.params trace.now stop) }
+{
+    let first = block(alloc, public, trace, i + 1)?;
+    let second = block(alloc, public, trace, first.end + 1)?;
+    let one = boxed(alloc, first.tree)?;
+    let other = boxed(alloc, second.tree)?;
+    Ok(Found {
+        end: second.end + 1,
+        tree: AddrTree::Join(address(trace, i), one, other),
+    })
+}
+
+// The branch of a split that ran, and the other one's digest.
+#[cycle(blocks)]
+fn split(alloc: Global, public: &Public, trace: &Trace, i: usize) -> Result<Found, MergeStop>
+    requires readable { IsReadable public.now trace.now }
+    requires is { IsAt trace.now.main i ops.Split }
+    ensures ok { IfOk result (λ found. IsFound public.now trace.now i found) }
+    ensures err { IfErr result (λ stop. IsStop public.now.params trace.now stop) }
+{
+    let branch = block(alloc, public, trace, i + 1)?;
+    let ran = boxed(alloc, branch.tree)?;
+    let end = branch.end + 1;
+    let at = address(trace, i);
+    if top(trace, i) == Felt::ONE {
+        let zero = boxed(alloc, AddrTree::Opaque(second_digest(trace, i)))?;
+        return Ok(Found {
+            end,
+            tree: AddrTree::Split(at, ran, zero),
+        });
+    }
+    let one = boxed(alloc, AddrTree::Opaque(first_digest(trace, i)))?;
+    Ok(Found {
+        end,
+        tree: AddrTree::Split(at, one, ran),
+    })
+}
+
+// A loop that was entered or skipped.
+#[cycle(blocks)]
+fn looped(alloc: Global, public: &Public, trace: &Trace, i: usize) -> Result<Found, MergeStop>
+    requires readable { IsReadable public.now trace.now }
+    requires is { IsAt trace.now.main i ops.Loop }
+    ensures ok { IfOk result (λ found. IsFound public.now trace.now i found) }
+    ensures err { IfErr result (λ stop. IsStop public.now.params trace.now stop) }
+{
+    if top(trace, i) == Felt::ONE {
+        return turns(alloc, public, trace, i);
+    }
+    let body = boxed(alloc, AddrTree::Opaque(first_digest(trace, i)))?;
+    Ok(Found {
+        end: i + 1,
+        tree: AddrTree::Loop(address(trace, i), body),
+    })
+}
+
+// The block that is called.
+#[cycle(blocks)]
+fn call(alloc: Global, public: &Public, trace: &Trace, i: usize) -> Result<Found, MergeStop>
+    requires readable { IsReadable public.now trace.now }
+    requires is { IsAt trace.now.main i ops.Call }
+    ensures ok { IfOk result (λ found. IsFound public.now trace.now i found) }
+    ensures err { IfErr result (λ stop. IsStop public.now.params trace.now stop) }
+{
+    let callee = block(alloc, public, trace, i + 1)?;
+    let child = boxed(alloc, callee.tree)?;
+    Ok(Found {
+        end: callee.end + 1,
+        tree: AddrTree::Call(address(trace, i), child),
+    })
+}
+
+// The block of the kernel that is called.
+#[cycle(blocks)]
+fn syscall(alloc: Global, public: &Public, trace: &Trace, i: usize) -> Result<Found, MergeStop>
+    requires readable { IsReadable public.now trace.now }
+    requires is { IsAt trace.now.main i ops.Syscall }
+    ensures ok { IfOk result (λ found. IsFound public.now trace.now i found) }
+    ensures err { IfErr result (λ stop. IsStop public.now.params trace.now stop) }
+{
+    let callee = block(alloc, public, trace, i + 1)?;
+    let child = boxed(alloc, callee.tree)?;
+    Ok(Found {
+        end: callee.end + 1,
+        tree: AddrTree::Syscall(address(trace, i), child),
+    })
+}
