@@ -1,0 +1,48 @@
+-- What an accepted trace shows, put together from the laws of buses, frames, nesting and spans.
+use Rattle.std.proofs.Common.{◌≡◌, ℕ, ◌<◌, length}
+use Rattle.rpo_hash.specs.Constants.{constants_of}
+use Rattle.vm_table.specs.Layout.{IsTable}
+use Rattle.air_kit.specs.Acceptance.{IsAccepted}
+use Rattle.air_kit.specs.Traces.{HasCounts, claim_of}
+use Rattle.air_kit.specs.declared.trace.Public.{Public}
+use Rattle.air_kit.specs.declared.trace.Trace.{Trace}
+use Rattle.air_kit.specs.declared.trace.TableName.TheVariants as table
+use Rattle.row_facts.specs.MainRows.{row_at}
+use Rattle.bus_facts.specs.BusFacts.{Granted}
+use Rattle.bus_facts.proofs.Grants.{accepted_grants}
+use Rattle.block_rows.proofs.FrameLaw.{frames_granted}
+use Rattle.block_rows.proofs.NestingLaw.{nesting_granted}
+use Rattle.span_rows.proofs.SpanLaw.{span_law}
+use Rattle.row_trees.specs.TreeFacts.{TreeFacts}
+use Rattle.row_walk.specs.Walking.{HasBits, IsReadable}
+use Rattle.run_extractor.specs.Known.{IsKnown}
+
+pub known_of : (p : Public) (t : Trace) → length (constants_of p.params) ≡ 168 → HasCounts t → IsTable 65 t.main → IsTable 2 t.range
+    → IsTable 15 t.hasher → IsTable 5 t.kernel → IsTable 1 t.left → IsAccepted p t → IsKnown p t
+known_of p t constants counts main range hasher kernel left accepted = record {
+  constants = constants;
+  whole = record { counts = counts; main = main; range = range; hasher = hasher; kernel = kernel; left = left };
+  accepted = accepted;
+}
+
+pub granted : (p : Public) (t : Trace) → IsKnown p t → Granted p t
+granted p t k = accepted_grants p t k.constants k.whole k.accepted
+
+pub tree_facts : (p : Public) (t : Trace) → IsKnown p t → TreeFacts (constants_of p.params) t.hasher t.main p.statement.digest
+tree_facts p t k = record {
+  claim = claim_of p t;
+  shows = (granted p t k).rows;
+  frames = frames_granted p t (granted p t k);
+  nesting = nesting_granted p t k.whole.counts.main (granted p t k);
+  spans = span_law p t k.constants (granted p t k);
+}
+
+pub readable : (p : Public) (t : Trace) → IsKnown p t → IsReadable p t
+readable p t k = record {
+  facts = tree_facts p t k;
+  rows = k.whole.counts.most table.Main;
+  hashes = k.whole.counts.most table.Hasher;
+}
+
+pub bits_at : (p : Public) (t : Trace) → IsKnown p t → (i : ℕ) → i < length t.main → HasBits (row_at t.main i)
+bits_at p t k i within = ((granted p t k).rows.row_is i within).reads.has.bits

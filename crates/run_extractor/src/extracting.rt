@@ -1,0 +1,72 @@
+ghost use Rattle.std.specs.Prelude.{ℕ, ◌<◌, length, IfOk};
+ghost use Rattle.air_kit.specs.Acceptance.{IsAccepted};
+ghost use Rattle.air_kit.specs.Traces.{HasCounts};
+ghost use Rattle.row_facts.specs.MainRows.{row_at};
+ghost use Rattle.row_walk.specs.Walking.{HasBits, IsReadable, IsWhole};
+ghost use Rattle.tree_merge.specs.Evidences.{IsEvidence};
+ghost use Rattle.run_extractor.specs.Known.{IsKnown};
+
+use crate::tape::tape_of;
+use air_kit::{Public, Trace};
+use block_tree::Evidence;
+use checker::Valid;
+use row_walk::{Found, whole};
+use rpo_hash::known_constants;
+use std::alloc::Global;
+use tree_merge::{MergeStop, into_tree};
+use vm_field::Memory;
+
+/// The evidence of an accepted trace: the cycles, a tree and the tape of the run that its rows show, or the places of two hashes in its
+/// hasher's table that have different inputs and one digest. There is no other answer. What did not run is opaque in the tree. It
+/// calls itself at each block that is nested in another one, and at most 1,024 are.
+///
+/// # Errors
+///
+/// `Memory` where the system gave none for the tree and the tape.
+pub fn extract(alloc: Global, valid: &Valid) -> Result<Evidence, Memory>
+    ensures { IfOk result (IsEvidence valid.now.public valid.now.trace) }
+{
+    let trace = valid.trace();
+    let public = valid.public();
+    known_trace(public, trace);
+    readable_trace(public, trace);
+    match whole(alloc, public, trace) {
+        Ok(found) => run_of(alloc, public, trace, found),
+        Err(MergeStop::Pair { first, second }) => Ok(Evidence::Pair { first, second }),
+        Err(MergeStop::Memory) => Err(Memory::Memory),
+    }
+}
+
+// Looks at the tables and the constants, so that a proof learns their sizes. A run does nothing.
+#[tactic(auto, using(crate::proofs::Readable::known_of))]
+fn known_trace(public: &Public, trace: &Trace)
+    requires counts { HasCounts trace.now }
+    requires accepted { IsAccepted public.now trace.now }
+    ensures { IsKnown public.now trace.now }
+{
+    known_constants(&public.params);
+    let _ = (trace.main.rows(), trace.range.rows(), trace.hasher.rows());
+    let _ = (trace.kernel.rows(), trace.left.rows());
+}
+
+// The laws of accepted traces. A run does nothing.
+#[tactic(auto, using(crate::proofs::Readable::readable, crate::proofs::Readable::bits_at))]
+fn readable_trace(_public: &Public, _trace: &Trace)
+    requires { IsKnown _public.now _trace.now }
+    ensures readable { IsReadable _public.now _trace.now }
+    ensures bits { (i : ℕ) → i < length _trace.now.main → HasBits (row_at _trace.now.main i) }
+{}
+
+// The run whose tree was found.
+#[tactic(auto, using(crate::proofs::Runs::is_run))]
+fn run_of(alloc: Global, public: &Public, trace: &Trace, found: Found) -> Result<Evidence, Memory>
+    requires known { IsKnown public.now trace.now }
+    requires bits { (i : ℕ) → i < length trace.now.main → HasBits (row_at trace.now.main i) }
+    requires whole { IsWhole public.now trace.now found }
+    ensures { IfOk result (IsEvidence public.now trace.now) }
+{
+    let tape = tape_of(alloc, trace)?;
+    let tree = into_tree(alloc, found.tree)?;
+    let cycles = (trace.main.rows() - 1) as u32;
+    Ok(Evidence::Run { cycles, tree, tape })
+}

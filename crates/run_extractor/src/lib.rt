@@ -1,0 +1,8 @@
+//! From an accepted trace to its evidence: the run that it shows, or two hashes of different inputs that have one digest
+//! (docs/PROOF.md).
+#![tactic(auto)]
+
+mod extracting;
+mod tape;
+
+pub use extracting::extract;
