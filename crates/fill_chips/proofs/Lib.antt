@@ -1,0 +1,11 @@
+pub mod StepLemmas
+pub mod NextLemmas
+pub mod RowsFrom
+pub mod PermLemmas
+pub mod KernelLemmas
+pub mod TimesLemmas
+pub mod GivenLemmas
+pub mod RangeGiven
+pub mod RangeZero
+pub mod KernelGiven
+pub mod ChipAnswers

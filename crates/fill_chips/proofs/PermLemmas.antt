@@ -1,0 +1,49 @@
+-- The rows of permutations, one by one.
+use Rattle.std.proofs.Common.{◌≡◌, ℕ, zero, suc, Bool, false, List, [], ◌∷◌, ◌++◌, Result, Ok, Err, OnOk, refl, ap, ◌∙◌}
+use Rattle.vm_field.specs.Permutation.{rounds}
+use Rattle.air_kit.specs.declared.requests.Perm.{Perm}
+use Rattle.hash_rows.specs.PermRows.{bit_number, perm_row, rows_before, rows_of}
+
+before-append : (constants : List ℕ) (p : Perm) (rows more : List (List ℕ)) → rows_before constants p (rows ++ more) ≡ rows_before constants p rows ++ more
+unfolding rows_before
+before-append constants p rows more = refl
+
+-- one more permutation
+pub rows-push : (constants : List ℕ) (perms : List Perm) (p : Perm)
+    → rows_of constants (perms ++ p ∷ []) ≡ rows_of constants perms ++ rows_before constants p []
+unfolding rows_of
+rows-push constants [] p = refl
+rows-push constants (q ∷ perms) p =
+    ap (rows_before constants q) (rows-push constants perms p) ∙ before-append constants q (rows_of constants perms) (rows_before constants p [])
+
+pub rows-none : (constants : List ℕ) → rows_of constants [] ≡ []
+unfolding rows_of
+rows-none constants = refl
+
+-- the first rows of a permutation
+unfoldable pub first_rows : List ℕ → Perm → ℕ → List (List ℕ)
+first_rows constants p zero = []
+first_rows constants p (suc k) = first_rows constants p k ++ perm_row constants p k false ∷ []
+
+pub first-none : (constants : List ℕ) (p : Perm) → first_rows constants p 0 ≡ []
+unfolding first_rows
+first-none constants p = refl
+
+pub first-more : (constants : List ℕ) (p : Perm) (k : ℕ) → first_rows constants p (suc k) ≡ first_rows constants p k ++ perm_row constants p k false ∷ []
+unfolding first_rows
+first-more constants p k = refl
+
+pub first-all : (constants : List ℕ) (p : Perm) → first_rows constants p 7 ++ perm_row constants p 7 p.more ∷ [] ≡ rows_before constants p []
+unfolding first_rows rows_before
+first-all constants p = refl
+
+-- a row by its state
+pub row-is : (constants : List ℕ) (p : Perm) (k : ℕ) (goes_on : Bool) (state : List ℕ) → state ≡ rounds k constants p.start
+    → bit_number p.mode ∷ bit_number p.cont ∷ bit_number goes_on ∷ state ≡ perm_row constants p k goes_on
+unfolding perm_row
+row-is constants p k goes_on state e = ap (λ s. bit_number p.mode ∷ bit_number p.cont ∷ bit_number goes_on ∷ s) e
+
+-- what follows where all went well
+pub ok_then : {E : Type 0} {P Q : Type 0} (r : Result (Unit {0}) E) → (P → Q) → OnOk r P → OnOk r Q
+ok_then (Ok x) f h = f h
+ok_then (Err e) f h = tt

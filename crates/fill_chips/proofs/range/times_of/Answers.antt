@@ -1,0 +1,26 @@
+use Rattle.std.proofs.Common.{ℕ, ◌<◌, arith, length-set}
+use Rattle.std.proofs.lemmas.List.{get_or_read}
+use Rattle.fill_chips.proofs.TimesLemmas.{times-few, times-more}
+use Rattle.fill_chips.proofs.range.times_of.Goals as goal
+
+pub overflow_add-index_mut : goal.overflow_add-index_mut
+overflow_add-index_mut c =
+    let value = c.from.result in
+    let within : value < 65536 = omega (arith, c.from.ensures, c.type_inv.asked c.loop-value.value-index) in
+    let is = get_or_read c.loop-value.times.items value c.index_mut.result.now (omega (arith, c.loop-value.invariant.values)) c.index_mut.ensures.value 0 in
+    let count = c.loop-value.invariant.counts value within in
+    let few = times-few c.args.asked.now c.loop-value.value-index value in
+    omega (arith, is, count, few)
+
+pub loop-value-preserved : goal.loop-value-preserved
+loop-value-preserved c =
+    let value = c.from.result in
+    let times = c.loop-value.times.items in
+    let within : value < 65536 = omega (arith, c.from.ensures, c.type_inv.asked c.loop-value.value-index) in
+    let is = get_or_read times value c.index_mut.result.now (omega (arith, c.loop-value.invariant.values)) c.index_mut.ensures.value 0 in
+    record {
+      values = omega (arith, length-set {A = ℕ}, c.loop-value.invariant.values);
+      counts = λ v h.
+          times-more c.args.asked.now times c.loop-value.value-index value c.index_mut.result.now v c.loop-value-test.true c.from.ensures
+          (omega (arith, c.loop-value.invariant.values)) is (c.loop-value.invariant.counts value within) (c.loop-value.invariant.counts v h);
+    }

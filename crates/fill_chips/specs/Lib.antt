@@ -1,0 +1,3 @@
+pub mod RangeRows
+pub mod KernelRows
+pub mod Beside

@@ -1,0 +1,48 @@
+ghost use Rattle.std.specs.Prelude.{◌≡◌, IfOk};
+ghost use Rattle.rpo_hash.specs.Constants.{constants_of};
+ghost use Rattle.air_kit.specs.Requests.{Fits};
+ghost use Rattle.fill_chips.specs.Beside.{AnswersBeside};
+ghost use Rattle.fill_chips.specs.RangeRows.{range_rows};
+
+use crate::hasher::hasher_table;
+use crate::kernel::kernel_table;
+use crate::left::left_table;
+use crate::range::range_table;
+use air_kit::Requests;
+use rpo_hash::Params;
+use std::alloc::Global;
+use vm_field::{Memory, Words};
+use vm_table::Table;
+
+/// The tables of a trace beside its main table.
+#[derive(Drop)]
+pub struct Chips {
+    pub range: Table<2>,
+    pub hasher: Table<15>,
+    pub bitwise: Table<12>,
+    pub memory: Table<14>,
+    pub kernel: Table<5>,
+    pub left: Table<1>,
+}
+
+/// The small tables that answer the requests of a main table. Requests that fit ask no bitwise
+/// operation and no memory so far, so that these tables have no rows.
+pub fn fill_chips(
+    alloc: Global,
+    params: &Params,
+    kernel: &Words,
+    requests: &Requests,
+) -> Result<Chips, Memory>
+    requires fit { Fits (constants_of params.now) kernel.now requests.now }
+    ensures answers { IfOk result (AnswersBeside (constants_of params.now) kernel.now requests.now) }
+    ensures range { IfOk result (λ chips. chips.range ≡ range_rows requests.now.ranges) }
+{
+    Ok(Chips {
+        range: range_table(alloc, requests.ranges.as_slice())?,
+        hasher: hasher_table(alloc, params, requests.perms.as_slice())?,
+        bitwise: Table::new(alloc),
+        memory: Table::new(alloc),
+        kernel: kernel_table(alloc, kernel.as_slice(), requests.calls.as_slice())?,
+        left: left_table(alloc, requests.keys.as_slice())?,
+    })
+}

@@ -1,0 +1,174 @@
+ghost use Rattle.std.specs.Prelude.{List, ℕ, [], IfOk};
+ghost use Rattle.air_kit.specs.Requests.{Fits};
+
+use crate::hasher::hasher_table;
+use crate::kernel::kernel_table;
+use crate::left::left_table;
+use crate::range::range_table;
+use crate::{Chips, fill_chips, range_laws};
+use air_kit::{Perm, Requests};
+use rpo_hash::{Params, permute};
+use std::alloc::Global;
+use std::test::Fail;
+use vm_field::{Felt, Felts, Memory, Sequence, Word, Words};
+use vm_table::{Table, View};
+
+// Constants of zeros, under which zeros are permuted to zeros.
+fn zeros() -> Params {
+    Params {
+        first: [[Felt::ZERO; 12]; 7],
+        second: [[Felt::ZERO; 12]; 7],
+    }
+}
+
+// The cell of a row and a column, if there is one.
+fn cell<const W: usize>(table: &Table<W>, row: usize, column: usize) -> Option<u64> {
+    if row < table.rows() && column < W {
+        Some(table.row(row).cell(column).value())
+    } else {
+        None
+    }
+}
+
+// What the program of one span of one NOOP asks: the hash of zeros, and how many blocks its start leaves.
+fn empty_program(alloc: Global) -> Result<Requests, Memory>
+    ensures fit { IfOk result (λ requests. (constants : List ℕ) → Fits constants [] requests) }
+{
+    let mut perms = Sequence::new(alloc);
+    perms.push(Perm {
+        mode: false,
+        cont: false,
+        more: false,
+        start: [Felt::ZERO; 12],
+    })?;
+    let mut ranges = Sequence::new(alloc);
+    ranges.push(1023)?;
+    Ok(Requests {
+        perms,
+        bits: Sequence::new(alloc),
+        accesses: Sequence::new(alloc),
+        ranges,
+        calls: Words::new(alloc),
+        keys: Felts::new(alloc),
+    })
+}
+
+fn counts(chips: &Chips) -> [usize; 6] {
+    [
+        chips.range.rows(),
+        chips.hasher.rows(),
+        chips.bitwise.rows(),
+        chips.memory.rows(),
+        chips.kernel.rows(),
+        chips.left.rows(),
+    ]
+}
+
+fn fills_empty_program(alloc: Global) -> Result<bool, Memory> {
+    let chips = fill_chips(alloc, &zeros(), &Words::new(alloc), &empty_program(alloc)?)?;
+    let asked = cell(&chips.range, 7, 0) == Some(1) && cell(&chips.range, 7, 1) == Some(1023);
+    let digest = cell(&chips.hasher, 7, 7) == Some(0) && cell(&chips.hasher, 7, 2) == Some(0);
+    Ok(counts(&chips) == [42, 8, 0, 0, 0, 0] && asked && digest)
+}
+
+// Asked values, and rows of their table with count and value.
+static RANGES: [(&[u16], &[(usize, u64, u64)]); 2] = [
+    (
+        &[1023],
+        &[(0, 0, 0), (1, 0, 729), (8, 0, 3210), (41, 0, 65535)],
+    ),
+    (
+        &[5, 0, 65535, 5],
+        &[(0, 1, 0), (1, 0, 3), (2, 0, 4), (3, 2, 5), (4, 0, 2192)],
+    ),
+];
+
+fn fills_ranges(alloc: Global) -> Result<bool, Memory> {
+    for (asked, rows) in &RANGES {
+        if asked.len() > 4 {
+            return Ok(false);
+        }
+        let table = range_table(alloc, asked)?;
+        for (row, count, value) in *rows {
+            if cell(&table, *row, 0) != Some(*count) || cell(&table, *row, 1) != Some(*value) {
+                return Ok(false);
+            }
+        }
+    }
+    Ok(true)
+}
+
+// A permutation whose state is zeros but for its last element.
+fn perm(mode: bool, cont: bool, more: bool, last: Felt) -> Perm {
+    let mut start = [Felt::ZERO; 12];
+    start[11] = last;
+    Perm {
+        mode,
+        cont,
+        more,
+        start,
+    }
+}
+
+// A row and a column of a hash of two blocks and a permutation of HPERM, and the flag there.
+static FLAGS: [(usize, usize, u64); 8] = [
+    (0, 1, 0),
+    (6, 2, 0),
+    (7, 2, 1),
+    (8, 1, 1),
+    (15, 0, 0),
+    (15, 2, 0),
+    (16, 0, 1),
+    (23, 1, 0),
+];
+
+fn fills_hashes(alloc: Global) -> Result<bool, Memory> {
+    let first = perm(false, false, true, Felt::ONE);
+    let second = perm(false, true, false, Felt::ZERO);
+    let third = perm(true, false, false, Felt::ZERO);
+    let table = hasher_table(alloc, &zeros(), &[first, second, third])?;
+    for (row, column, flag) in &FLAGS {
+        if cell(&table, *row, *column) != Some(*flag) {
+            return Ok(false);
+        }
+    }
+    let behind = permute(&zeros(), first.start);
+    Ok(
+        table.rows() == 24
+            && cell(&table, 0, 14) == Some(1)
+            && cell(&table, 7, 3) == Some(behind[0].value())
+            && cell(&table, 7, 14) == Some(behind[11].value()),
+    )
+}
+
+fn word(number: u32) -> Word {
+    Word([Felt::from_u32(number), Felt::ZERO, Felt::ONE, Felt::ZERO])
+}
+
+fn fills_calls(alloc: Global) -> Result<bool, Memory> {
+    let words = [word(7), word(8), word(7)];
+    let table = kernel_table(alloc, &words, &[word(8), word(7), word(8)])?;
+    Ok(
+        table.rows() == 3
+            && cell(&table, 1, 0) == Some(8)
+            && cell(&table, 0, 4) == Some(1)
+            && cell(&table, 1, 4) == Some(2)
+            && cell(&table, 2, 4) == Some(0),
+    )
+}
+
+fn fills_keys(alloc: Global) -> Result<bool, Memory> {
+    let table = left_table(alloc, &[Felt::from_u32(4), Felt::ONE])?;
+    Ok(table.rows() == 2 && cell(&table, 0, 0) == Some(4) && cell(&table, 1, 0) == Some(1))
+}
+
+#[test]
+fn fills_tables(rt: HostRuntime) -> Result<(), Fail> {
+    range_laws();
+    assert!(rt; fills_empty_program(rt.alloc())?);
+    assert!(rt; fills_ranges(rt.alloc())?);
+    assert!(rt; fills_hashes(rt.alloc())?);
+    assert!(rt; fills_calls(rt.alloc())?);
+    assert!(rt; fills_keys(rt.alloc())?);
+    Ok(())
+}
