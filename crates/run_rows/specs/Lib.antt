@@ -1,0 +1,16 @@
+pub mod Kinds
+pub mod Groups
+pub mod Turns
+pub mod Decoder
+pub mod Lines
+pub mod Witnesses
+pub mod Limbs
+pub mod Filling
+pub mod RunRequests
+pub mod Agreement
+pub mod Bounds
+pub mod Moments
+pub mod Shows
+pub mod BlockRows
+pub mod AgreementLaws
+pub mod Chains

@@ -1,0 +1,7 @@
+//! How the events of a run are written as rows of the main table and as requests to the small tables, and that these rows show the
+//! facts of rows.
+#![tactic(auto)]
+
+mod laws;
+
+pub use laws::{agreement_laws, filled_laws};
