@@ -1,0 +1,134 @@
+-- Rows of operations that are not built yet: a run has none of them, so that nothing is asked there.
+use Rattle.std.proofs.Common.{◌≡◌, ℕ, ◌+◌, ◌*◌, Bool, true, false, not, ◌||◌, List, [], ◌∷◌, length, map, take, slice_index_or, All, ◌<◌, refl, sym, ap, ◌∙◌, subst, arith}
+use Rattle.std.proofs.lemmas.List.Elements.{All-head, All-nil, All-tail}
+use Rattle.vm_ops.specs.Codes.{is_ordinary_op}
+use Rattle.vm_ops.specs.declared.op.Op.{Op}
+use Rattle.vm_ops.specs.declared.op.Op.TheVariants as ops
+use Rattle.vm_ops.specs.Values.{advice_of}
+use Rattle.block_tree.specs.Cycles.{Mark, Do, advice_taken}
+use Rattle.block_tree.specs.Rows.{op_of}
+use Rattle.buses.specs.Counts.{Counted, counted}
+use Rattle.hash_rows.proofs.Totals.{counted-none}
+use Rattle.air_kit.specs.Built.{is_built}
+use Rattle.air_kit.specs.Flags as flags
+use Rattle.air_kit.specs.Flags.{is_op}
+use Rattle.air_kit.specs.MainTuples as tuples
+use Rattle.air_kit.specs.MainTuples.{bitwise_asked, hasher_asked, memory_asked}
+use Rattle.air_kit.specs.Requests.{FitsMemory, perms_given}
+use Rattle.air_kit.specs.declared.requests.Access.{Access}
+use Rattle.air_kit.specs.RowStates.{taken_by}
+use Rattle.processor.specs.declared.event.Event.{Event}
+use Rattle.processor.specs.declared.event.Visible.{Visible}
+use Rattle.row_facts.proofs.Says.{never, off}
+use Rattle.run_rows.specs.Decoder.{next_after}
+use Rattle.run_rows.specs.Bounds.{AreBuilt}
+use Rattle.run_rows.specs.RunRequests.{accesses_by, accesses_of, bits_by, bits_of, perms_by_op}
+use Rattle.run_rows.proofs.BlockLemmas.{no_block}
+use Rattle.run_requests.proofs.HasherSteps.{asks, asked_by}
+
+no_perms : (op : Op) (seen : Visible) → is_op op ops.HPerm ≡ false → perms_by_op op seen ≡ []
+no_perms ops.HPerm seen other = never other
+no_perms op seen other = refl
+
+-- an operation other than HPERM asks the hasher for nothing
+pub no_hashes : (constants : List ℕ) (op : Op) (next : ℕ) (seen : Visible) (x y v : List ℕ) → flags.op_of x ≡ op → is_op op ops.HPerm ≡ false
+    → is_ordinary_op op ≡ true → counted (perms_given constants next (perms_by_op op seen)) v ≡ counted (hasher_asked x y) v
+unfolding perms_given
+no_hashes constants op next seen x y v is other ordinary =
+    let apart = no_block op ordinary in
+    let none : counted (hasher_asked x y) v ≡ counted [] v
+    = asks op x y v is ∙ rw (apart.start, apart.respan, apart.end, other) refl in
+    ap (λ perms. counted (perms_given constants next perms) v) (no_perms op seen other) ∙ sym none
+
+pub no_moves : (op : Op) (next : ℕ) (seen : Visible) → is_op op ops.HPerm ≡ false → next_after op next ≡ next + 8 * length (perms_by_op op seen)
+no_moves op next seen other =
+    let size : length (perms_by_op op seen) ≡ 0 = ap length (no_perms op seen other) in
+    let stays : next_after op next ≡ next = rw other refl in
+    omega (arith, size, stays)
+
+pub no_hperm : (op : Op) → is_built op ≡ true → is_op op ops.HPerm ≡ false
+no_hperm ops.HPerm built = never (sym built)
+no_hperm op built = refl
+
+-- ---- no bitwise operation
+
+no_and : (op : Op) → is_built op ≡ true → is_op op ops.U32And ≡ false
+no_and ops.U32And built = never (sym built)
+no_and op built = refl
+
+no_xor : (op : Op) → is_built op ≡ true → is_op op ops.U32Xor ≡ false
+no_xor ops.U32Xor built = never (sym built)
+no_xor op built = refl
+
+pub no_bits : (op : Op) (seen : Visible) → is_built op ≡ true → bits_by op seen ≡ []
+no_bits ops.U32And seen built = never (sym built)
+no_bits ops.U32Xor seen built = never (sym built)
+no_bits op seen built = refl
+
+pub no_bits_asked : (op : Op) (x y : List ℕ) → flags.op_of x ≡ op → is_built op ≡ true → bitwise_asked x y ≡ []
+unfolding bitwise_asked
+no_bits_asked op x y is built = rw (is, no_and op built, no_xor op built) refl
+
+-- ---- no access of memory
+
+pub no_accesses : (op : Op) (e : Event) → is_built op ≡ true → accesses_by op e ≡ []
+no_accesses ops.MLoad e built = never (sym built)
+no_accesses ops.MLoadW e built = never (sym built)
+no_accesses ops.MStore e built = never (sym built)
+no_accesses ops.MStoreW e built = never (sym built)
+no_accesses op e built = refl
+
+no_access_by : (op : Op) (x y : List ℕ) → is_built op ≡ true → tuples.accesses_of op x y ≡ []
+unfolding tuples.accesses_of
+no_access_by ops.MLoad x y built = never (sym built)
+no_access_by ops.MLoadW x y built = never (sym built)
+no_access_by ops.MStore x y built = never (sym built)
+no_access_by ops.MStoreW x y built = never (sym built)
+no_access_by op x y built = refl
+
+pub no_accesses_asked : (op : Op) (x y : List ℕ) → flags.op_of x ≡ op → is_built op ≡ true → memory_asked x y ≡ []
+unfolding memory_asked
+no_accesses_asked op x y is built = ap (λ o. tuples.accesses_of o x y) is ∙ no_access_by op x y built
+
+-- ---- nothing is taken of the tape
+
+no_advice : (op : Op) → is_built op ≡ true → advice_of op ≡ 0
+no_advice ops.AdvPop built = never (sym built)
+no_advice ops.AdvPopW built = never (sym built)
+no_advice op built = refl
+
+none_taken : (op : Op) (y : List ℕ) → is_built op ≡ true → taken_by op y ≡ []
+none_taken ops.AdvPop y built = never (sym built)
+none_taken ops.AdvPopW y built = never (sym built)
+none_taken op y built = refl
+
+mark_advice : (mark : Mark) → is_built (op_of mark) ≡ true → advice_taken mark ≡ 0
+mark_advice (Do item) built = no_advice item.op built
+mark_advice mark built = refl
+
+pub nothing_taken : (mark : Mark) (y tape : List ℕ) → is_built (op_of mark) ≡ true → taken_by (op_of mark) y ≡ take (advice_taken mark) tape
+nothing_taken mark y tape built = none_taken (op_of mark) y built ∙ sym (ap (λ n. take n tape) (mark_advice mark built))
+
+-- ---- no requests of such operations
+
+pub no_bits_of : (events : List Event) → AreBuilt events → bits_of events ≡ []
+unfolding bits_of
+no_bits_of [] built = refl
+no_bits_of (e ∷ later) built =
+    let none : bits_by e.op e.before ≡ [] = no_bits e.op e.before (All-head (λ x. is_built x.op ≡ true) e later built) in
+    rw none (no_bits_of later (All-tail (λ x. is_built x.op ≡ true) e later built))
+
+pub no_accesses_of : (events : List Event) → AreBuilt events → accesses_of events ≡ []
+unfolding accesses_of
+no_accesses_of [] built = refl
+no_accesses_of (e ∷ later) built =
+    let none : accesses_by e.op e ≡ [] = no_accesses e.op e (All-head (λ x. is_built x.op ≡ true) e later built) in
+    rw none (no_accesses_of later (All-tail (λ x. is_built x.op ≡ true) e later built))
+
+pub fit_memory : (accesses : List Access) → accesses ≡ [] → All (FitsMemory accesses) accesses
+fit_memory accesses none = subst (λ l. All (FitsMemory l) l) (sym none) (All-nil (FitsMemory []))
+
+pub apart_memory : (accesses : List Access) → accesses ≡ [] → (i j : ℕ) (a b : Access) → slice_index_or accesses i a ≡ a
+    → slice_index_or accesses j b ≡ b → a.clk ≡ b.clk → i < length accesses → j < length accesses → i ≡ j
+apart_memory accesses none i j a b first second same low other =
+    let size : length accesses ≡ 0 = ap length none in absurd (omega (arith, size, low))

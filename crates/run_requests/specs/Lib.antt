@@ -1,0 +1,4 @@
+pub mod Asked
+pub mod Taken
+pub mod Fitting
+pub mod Overflow
