@@ -1,0 +1,16 @@
+pub mod Hits
+pub mod PairShown
+pub mod ChildTuples
+pub mod ChildBus
+pub mod ChildLaw
+pub mod BlockTuples
+pub mod BlockBus
+pub mod BlockLaw
+pub mod LinkedSums
+pub mod LoopTuples
+pub mod LoopBus
+pub mod LoopLaw
+pub mod GroupTuples
+pub mod GroupAsks
+pub mod GroupBus
+pub mod GroupLaw
