@@ -2,7 +2,7 @@ use Rattle.std.proofs.Common.{refl, ap, arith}
 use Rattle.tree_merge.specs.AddrView.{placed_of}
 use Rattle.tree_merge.specs.Placed as placed
 use Rattle.row_walk.proofs.ReadRows.{bits_at}
-use Rattle.row_walk.proofs.BlockFound.{call_found, call_small, child_later, end_within, join_small, second_starts, split_one_found, split_small, split_zero_found, starts_by, syscall_found, syscall_small, top_one, top_other}
+use Rattle.row_walk.proofs.BlockFound.{call_found, call_small, child_later, end_within, join_found, join_small, second_starts, skipped_found, split_one_found, split_small, split_zero_found, starts_by, syscall_found, syscall_small, top_one, top_other}
 use Rattle.row_walk.proofs.TurnsFound.{behind_within, bits_behind, first_turn, loop_found, loop_small, mergeable, next_turn, read_behind, turn_later}
 use Rattle.row_walk.proofs.+blocks.Goals as goal
 
@@ -134,6 +134,17 @@ walk::join-block-requires-2 t c =
 pub walk::join-address-requires-clause-few : goal.walk::join-address-requires-clause-few
 walk::join-address-requires-clause-few t c =
     join_small _ _ c.requires.readable _ c.requires.is _ _ c.in_ok-first.ensures.ok c.in_ok-second.ensures.ok
+
+pub walk::join-returns-clause-ok : goal.walk::join-returns-clause-ok
+walk::join-returns-clause-ok t c =
+    join_found _ _ c.requires.readable _ c.requires.is _ _ c.in_ok-first.ensures.ok c.in_ok-second.ensures.ok _ c.address.result
+    c.in_ok-one.one.value c.in_ok-other.other.value refl refl c.address.ensures c.in_ok-one.ensures.ok c.in_ok-other.ensures.ok
+
+pub walk::looped-returns-clause-ok : goal.walk::looped-returns-clause-ok
+walk::looped-returns-clause-ok t c =
+    skipped_found _ _ c.requires.readable _ c.requires.is (top_other _ _ _ c.top.ensures c.eq.ensures c.if-eq.false) _ c.address.result
+    c.first_digest.result refl (ap (λ z. placed.Loop c.address.result (placed_of z)) c.in_ok-body.ensures.ok) c.address.ensures
+    c.first_digest.ensures
 
 pub walk::split-block-requires : goal.walk::split-block-requires
 walk::split-block-requires t c =
