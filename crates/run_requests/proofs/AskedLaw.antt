@@ -1,11 +1,10 @@
 -- The rows of a run ask what its requests are.
 use Rattle.std.proofs.Common.{ℕ, List}
-use Rattle.vm_field.specs.Machine.{State, start}
+use Rattle.vm_field.specs.Machine.{State}
 use Rattle.block_tree.specs.Execution as run
 use Rattle.block_tree.specs.Trees.{Tree}
 use Rattle.run_rows.specs.BlockRows.{IsRun, events_of, filled}
 use Rattle.run_rows.specs.Bounds.{AreBuilt}
-use Rattle.run_rows.specs.Chains.{AreLinked}
 use Rattle.run_rows.proofs.TableLemmas.{is_linked}
 use Rattle.run_requests.specs.Asked.{RowsAsk, requests}
 use Rattle.run_requests.proofs.HasherLaw.{hashes_asked}

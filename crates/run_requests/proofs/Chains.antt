@@ -1,7 +1,6 @@
 -- What the permutations of a hash give: its first block, its other blocks, and its digest.
-use Rattle.std.proofs.Common.{◌≡◌, ℕ, Bool, All, cond, suc, ◌+◌, ◌*◌, false, true, List, [], ◌∷◌, ◌++◌, length, take, drop, refl, sym, ap, ◌∙◌, arith, length-append, length-take}
+use Rattle.std.proofs.Common.{◌≡◌, ℕ, Bool, All, cond, suc, ◌+◌, ◌*◌, false, true, List, [], ◌∷◌, ◌++◌, length, take, drop, refl, ap, arith, length-append, length-take}
 use Rattle.std.proofs.lemmas.List.Elements.{All-head, All-nil, All-tail}
-use Rattle.vm_field.specs.Permutation.{permuted}
 use Rattle.vm_field.specs.Sponge.{absorbed, begun, hashed, sponge_after, squeezed}
 use Rattle.vm_field.proofs.PermutationLemmas.{length-permuted}
 use Rattle.op_pack.specs.Reading.{IsBatch}

@@ -1,11 +1,11 @@
 -- The requests of a run fit.
-use Rattle.std.proofs.Common.{◌≡◌, ℕ, ◌+◌, ◌*◌, ◌<◌, ◌≤◌, List, [], length, refl, sym, ap, ◌∙◌, arith}
+use Rattle.std.proofs.Common.{◌≡◌, ℕ, ◌≤◌, List, [], length, ap, arith}
 use Rattle.vm_field.specs.Machine.{State}
 use Rattle.block_tree.specs.Execution as run
 use Rattle.block_tree.specs.Trees.{Tree}
 use Rattle.run_rows.specs.BlockRows.{IsRun, events_of, filled}
 use Rattle.run_rows.specs.Bounds.{AreBuilt}
-use Rattle.run_rows.specs.RunRequests.{accesses_of, bits_of, perms_of}
+use Rattle.run_rows.specs.RunRequests.{accesses_of, bits_of}
 use Rattle.run_rows.proofs.TableLemmas.{is_linked}
 use Rattle.run_requests.specs.Asked.{requests}
 use Rattle.run_requests.specs.Fitting.{FitsRows}

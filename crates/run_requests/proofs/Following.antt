@@ -1,9 +1,7 @@
 -- What follows along the chain of a run's rows, and sums over its pairs.
-use Rattle.std.proofs.Common.{◌≡◌, ℕ, suc, ◌+◌, List, [], ◌∷◌, ◌++◌, map, All, refl, sym, ap, ◌∙◌, subst, arith}
+use Rattle.std.proofs.Common.{◌≡◌, ℕ, ◌+◌, List, [], ◌∷◌, ◌++◌, map, All, refl, ap, ◌∙◌, arith}
 use Rattle.std.proofs.lemmas.List.Elements.{All-cons, All-nil}
 use Rattle.vm_field.specs.Machine.{Core, State}
-use Rattle.vm_ops.specs.Codes.{is_ordinary_op}
-use Rattle.vm_ops.specs.declared.item.Item.{Item}
 use Rattle.op_pack.specs.Reading.{IsBatch}
 use Rattle.block_tree.specs.Cycles.{Mark, Do}
 use Rattle.block_tree.specs.Marks.{IsWholeMark}

@@ -1,5 +1,5 @@
 -- The permutations of a run follow one another.
-use Rattle.std.proofs.Common.{◌≡◌, ℕ, suc, ◌+◌, ◌<◌, All, Bool, true, false, cond, List, [], ◌∷◌, ◌++◌, length, take, slice_index, refl, sym, ap, ◌∙◌, arith}
+use Rattle.std.proofs.Common.{◌≡◌, ℕ, All, true, false, List, [], ◌∷◌, ◌++◌, length, take, refl, arith}
 use Rattle.std.proofs.lemmas.List.Elements.{All-head, All-nil, All-tail}
 use Rattle.vm_field.specs.Machine.{State}
 use Rattle.vm_field.specs.Permutation.{permuted}
@@ -8,7 +8,7 @@ use Rattle.vm_ops.specs.Codes.{code_of}
 use Rattle.vm_ops.specs.declared.op.Op.{Op}
 use Rattle.vm_ops.specs.declared.op.Op.TheVariants as ops
 use Rattle.op_pack.specs.Reading.{IsBatch}
-use Rattle.block_tree.specs.Rows.{hash_of, op_of}
+use Rattle.block_tree.specs.Rows.{op_of}
 use Rattle.block_tree.specs.Steps.{Task}
 use Rattle.block_tree.proofs.RowLemmas.{hash-batch}
 use Rattle.air_kit.specs.Requests.{FollowsOn}
@@ -22,7 +22,7 @@ use Rattle.run_rows.specs.Decoder.{Decoder}
 use Rattle.run_rows.specs.Kinds as kinds
 use Rattle.run_rows.specs.Kinds.{Kind, kind_of}
 use Rattle.run_rows.specs.Moments.{event_at}
-use Rattle.run_rows.specs.RunRequests.{chain, hash_perms, is_empty, perms_by, perms_by_op, perms_of}
+use Rattle.run_rows.specs.RunRequests.{chain, hash_perms, perms_by, perms_by_op, perms_of}
 use Rattle.run_rows.specs.Turns.{respans}
 use Rattle.run_requests.proofs.Chains.{absorbed_twelve}
 use Rattle.run_requests.proofs.Following.{coming_whole}

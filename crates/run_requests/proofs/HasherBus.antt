@@ -7,10 +7,10 @@ use Rattle.vm_field.specs.Sponge.{begun, hashed}
 use Rattle.vm_ops.specs.declared.op.Op.TheVariants as ops
 use Rattle.vm_table.specs.MainColumns.{addr, ha}
 use Rattle.op_pack.specs.Reading.{IsBatch}
-use Rattle.block_tree.specs.Cycles.{Mark, StartSpan, StartJoin, StartSplit, StartLoop, StartCall, StartSyscall, Respan, Repeat, Do, End, EndSpan, EndLoop, EndCall, EndSyscall}
+use Rattle.block_tree.specs.Cycles.{Mark, StartJoin, StartSplit, StartLoop, StartCall, StartSyscall, Do}
 use Rattle.block_tree.specs.Marks.{IsWholeMark}
 use Rattle.block_tree.specs.Rows.{hash_of}
-use Rattle.block_tree.specs.Steps.{Task, Within, Next, span, join, split_1, split_0, loop_1, loop_0, call, syscall, operation, respan, span_ends, repeats, loop_ends, closes, returns, leaves}
+use Rattle.block_tree.specs.Steps.{Task, Next, span, join, split_1, split_0, loop_1, loop_0, call, syscall, operation, respan, span_ends, repeats, loop_ends, closes, returns, leaves}
 use Rattle.block_tree.specs.Trees.{Loop, tree_digest}
 use Rattle.block_tree.proofs.RowLemmas.{hash-batch}
 use Rattle.buses.specs.Counts.{counted}

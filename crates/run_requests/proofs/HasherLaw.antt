@@ -1,10 +1,9 @@
 -- The rows of a run ask on the hasher's bus what its permutations give.
-use Rattle.std.proofs.Common.{◌≡◌, ℕ, ◌+◌, true, List, [], ◌∷◌, ◌++◌, length, take, refl, sym, ap, ◌∙◌, arith}
+use Rattle.std.proofs.Common.{◌≡◌, ℕ, ◌+◌, List, [], ◌∷◌, ◌++◌, length, take, refl, arith, lit<}
 use Rattle.vm_field.specs.Machine.{State}
-use Rattle.vm_ops.specs.Codes.{is_ordinary_op}
 use Rattle.block_tree.specs.Cycles.{advice_taken, effect_of}
 use Rattle.block_tree.specs.Rows.{behind, op_of}
-use Rattle.block_tree.specs.Steps.{Task, Block}
+use Rattle.block_tree.specs.Steps.{Block}
 use Rattle.block_tree.specs.Trees.{Tree}
 use Rattle.buses.specs.Counts.{counted, over_rows, with_next}
 use Rattle.hash_rows.proofs.Totals.{counted-none}
@@ -16,18 +15,22 @@ use Rattle.run_rows.specs.Chains.{AreLinked}
 use Rattle.run_rows.specs.Decoder.{Decoder, advance, at_start}
 use Rattle.run_rows.specs.Moments.{IsMoment, event_at}
 use Rattle.run_rows.specs.RunRequests.{perms_of}
+use Rattle.run_rows.proofs.MomentFacts.{moment_witness}
 use Rattle.run_requests.proofs.Following.{coming_are, coming_whole, rows_ask}
 use Rattle.run_requests.proofs.HasherBus.{hasher_step}
 use Rattle.run_requests.proofs.HasherSteps.{OperationAsks, owed_hashes}
+use Rattle.run_requests.proofs.HpermRows.{operation_given, operation_moves}
 use Rattle.run_requests.proofs.MomentCells.{moment_cells, moment_low}
-use Rattle.run_requests.proofs.Unbuilt.{no_hashes, no_hperm, no_moves}
+use Rattle.run_requests.proofs.Tops.{moment_cell, moment_tops}
 
 module _ (constants : List ℕ) (len : length constants ≡ 168) (kernel : List (List ℕ)) (limit : ℕ) (u : State) (v : List ℕ) where
   operation_asks : {x y : List ℕ} (m : IsMoment constants kernel limit x y)
       → OperationAsks constants m.mark m.d.next (event_at constants kernel m.mark m.s) x y v
   operation_asks {x = x} {y = y} m = record {
-    given = λ is. no_hashes constants (op_of m.mark) m.d.next (visible_of m.s.core) x y v (moment_cells constants kernel limit m).op (no_hperm (op_of m.mark) m.built) is;
-    moves = λ is. no_moves (op_of m.mark) m.d.next (visible_of m.s.core) (no_hperm (op_of m.mark) m.built);
+    given = λ is. operation_given constants len x y v m.mark m.d m.s (event_at constants kernel m.mark m.s) (visible_of m.t.core) m.later refl
+        (moment_cells constants kernel limit m).op (let low = (moment_low constants kernel limit m).next in omega (arith, low)) m.before.core.deep
+        (moment_cell constants len kernel limit m) (moment_tops constants len kernel limit m) (moment_witness constants kernel limit m 0 (lit< tt)) is;
+    moves = λ is. operation_moves (op_of m.mark) m.d.next (visible_of m.s.core);
   }
 
   moment_asks : (x y : List ℕ) (rows : List (List ℕ)) (m : IsMoment constants kernel limit x y)

@@ -1,37 +1,28 @@
 -- On the hasher's bus a cycle asks what its requests give, and what the hashes of open blocks still owe.
-use Rattle.std.proofs.Common.{◌≡◌, ℕ, zero, suc, ◌+◌, ◌*◌, ◌<◌, All, if◌then◌else◌, true, false, List, [], ◌∷◌, ◌++◌, length, take, drop, slice_index, refl, sym, ap, ◌∙◌, subst, arith}
+use Rattle.std.proofs.Common.{◌≡◌, ℕ, ◌+◌, ◌*◌, ◌<◌, if◌then◌else◌, true, false, List, [], ◌∷◌, ◌++◌, length, take, drop, slice_index, refl, ap, ◌∙◌, arith}
 use Rattle.vm_field.specs.Field.{prime}
-use Rattle.vm_field.specs.Machine.{Core, zero_word}
 use Rattle.vm_field.specs.Signs.{◌⊞◌}
-use Rattle.vm_field.specs.Sponge.{hashed, begun}
-use Rattle.vm_ops.specs.Codes.{code_of, is_ordinary_op, is_start_op}
+use Rattle.vm_field.specs.Sponge.{hashed}
+use Rattle.vm_ops.specs.Codes.{is_ordinary_op, is_start_op}
 use Rattle.vm_ops.specs.declared.op.Op.{Op}
 use Rattle.vm_ops.specs.declared.op.Op.TheVariants as ops
 use Rattle.vm_table.specs.MainColumns.{addr, h, ha, w}
 use Rattle.op_pack.specs.Reading.{IsBatch}
-use Rattle.block_tree.specs.Cycles.{Mark, StartSpan, StartJoin, StartSplit, StartLoop, StartCall, StartSyscall, Respan, Repeat, Do, End, EndSpan, EndLoop, EndCall, EndSyscall}
-use Rattle.block_tree.specs.Marks.{IsWholeMark}
+use Rattle.block_tree.specs.Cycles.{Mark}
 use Rattle.block_tree.specs.Rows.{hash_of, op_of}
-use Rattle.block_tree.specs.Steps.{Task, Block, Within, Turned, Closing, Returning, Leaving, Next, span, join, split_1, split_0, loop_1, loop_0, call, syscall, operation, respan, span_ends, repeats, loop_ends, closes, returns, leaves}
-use Rattle.block_tree.specs.Trees.{Tree, Loop, tree_digest}
-use Rattle.block_tree.proofs.RowLemmas.{hash-batch}
+use Rattle.block_tree.specs.Steps.{Task, Block, Within, Turned, Closing, Returning, Leaving}
+use Rattle.block_tree.specs.Trees.{Loop, tree_digest}
 use Rattle.buses.specs.Counts.{Counted, counted, once}
-use Rattle.hash_rows.proofs.Totals.{counted-append, counted-none}
 use Rattle.air_kit.specs.Flags as flags
 use Rattle.air_kit.specs.Flags.{is_op}
 use Rattle.air_kit.specs.MainTuples.{domain_of, eight, front, hash_end, hasher_asked, twelve}
 use Rattle.air_kit.specs.Requests.{perms_given}
 use Rattle.air_kit.specs.declared.requests.Perm.{Perm}
-use Rattle.processor.specs.Events.{shown_between}
 use Rattle.processor.specs.declared.event.Event.{Event}
 use Rattle.run_rows.specs.Agreement.{AreOutside}
-use Rattle.run_rows.specs.Decoder.{Decoder, Open, address_of, advance, next_after}
-use Rattle.run_rows.specs.Kinds as kinds
-use Rattle.run_rows.specs.RunRequests.{hash_perms, perms_by, perms_by_op, perms_of}
-use Rattle.run_rows.specs.Turns.{respans}
-use Rattle.run_rows.proofs.AgreeLemmas.{kind_is, ordinary_advance}
-use Rattle.run_requests.proofs.Chains.{batches_owed, hash_given, hit, length_chain, one_given, perms_append}
-use Rattle.run_requests.proofs.Following.{coming}
+use Rattle.run_rows.specs.Decoder.{Decoder, Open, address_of, next_after}
+use Rattle.run_rows.specs.RunRequests.{hash_perms, perms_by_op, perms_of}
+use Rattle.run_requests.proofs.Chains.{batches_owed, hit, one_given}
 
 -- what the hashes of open blocks still ask: their digests
 abbrev pub deep : List ℕ → List Task → List Open → List ℕ → ℕ

@@ -1,8 +1,8 @@
 -- What the left table asks is the entries of its keys and of the outputs below the sixteenth.
-use Rattle.std.proofs.Common.{◌≡◌, ℕ, zero, suc, ◌+◌, ◌<◌, List, [], ◌∷◌, length, map, drop, slice_index, slice_index_or, refl, sym, ap, ◌∙◌, arith}
+use Rattle.std.proofs.Common.{◌≡◌, ℕ, suc, ◌+◌, List, [], ◌∷◌, length, map, drop, slice_index, slice_index_or, refl, sym, ap, ◌∙◌, arith}
 use Rattle.std.proofs.lemmas.List.{drop-drop, get_or-drop}
 use Rattle.std.specs.List.{slice_get}
-use Rattle.buses.specs.Counts.{Counted, counted, once, over_first, over_rows, total}
+use Rattle.buses.specs.Counts.{counted, over_first, over_rows, total}
 use Rattle.buses.specs.declared.bus.Bus.TheVariants as bus
 use Rattle.hash_rows.proofs.Totals.{total-front, total-same}
 use Rattle.air_kit.specs.ChipTuples.{chip_asked, left_asked, next_key}

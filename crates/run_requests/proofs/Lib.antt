@@ -4,6 +4,8 @@ pub mod HasherSteps
 pub mod HasherBus
 pub mod MomentCells
 pub mod Unbuilt
+pub mod Tops
+pub mod HpermRows
 pub mod HasherLaw
 pub mod KernelLaw
 pub mod RangeLaw

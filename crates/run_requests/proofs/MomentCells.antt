@@ -1,15 +1,13 @@
 -- What a moment's row and the row behind it show of hashes.
-use Rattle.std.proofs.Common.{◌≡◌, ℕ, ◌+◌, ◌<◌, ◌≤◌, true, false, List, [], ◌∷◌, ◌++◌, length, take, slice_index, refl, sym, ap, ◌∙◌, arith, lit<}
+use Rattle.std.proofs.Common.{◌≡◌, ℕ, ◌<◌, false, List, ◌∷◌, length, take, slice_index, sym, ◌∙◌, arith, lit<}
 use Rattle.std.proofs.lemmas.List.{ext_get_or}
 use Rattle.vm_field.specs.Machine.{Core}
 use Rattle.vm_ops.specs.Codes.{is_ordinary_op}
 use Rattle.vm_table.specs.MainColumns.{h}
-use Rattle.op_pack.specs.Reading.{IsBatch}
 use Rattle.block_tree.specs.Cycles.{Mark, StartOpaque, StartSpan, StartJoin, StartSplit, StartLoop, StartCall, StartSyscall, Respan, Repeat, Do, End, EndSpan, EndLoop, EndCall, EndSyscall, advice_taken, effect_of}
 use Rattle.block_tree.specs.Marks.{IsWholeMark}
 use Rattle.block_tree.specs.Rows.{behind, hash_of, op_of}
 use Rattle.block_tree.proofs.RowLemmas.{hash-batch}
-use Rattle.air_kit.specs.Flags as flags
 use Rattle.air_kit.specs.MainTuples.{eight}
 use Rattle.processor.specs.Events.{shown_between}
 use Rattle.row_facts.proofs.Says.{never}

@@ -1,5 +1,5 @@
 -- The rows of a run ask on the buses of bitwise operations and of memory what its requests are.
-use Rattle.std.proofs.Common.{◌≡◌, ℕ, ◌+◌, List, [], ◌∷◌, ◌++◌, map, refl, sym, ap, ◌∙◌, arith}
+use Rattle.std.proofs.Common.{◌≡◌, ℕ, ◌+◌, List, [], ◌∷◌, ◌++◌, map, sym, ap, ◌∙◌, arith}
 use Rattle.vm_field.specs.Machine.{State}
 use Rattle.block_tree.specs.Rows.{op_of}
 use Rattle.block_tree.specs.Steps.{Task}
@@ -7,8 +7,6 @@ use Rattle.buses.specs.Counts.{counted, over_rows, with_next}
 use Rattle.hash_rows.proofs.Totals.{counted-none}
 use Rattle.air_kit.specs.MainTuples.{bitwise_asked, memory_asked}
 use Rattle.air_kit.specs.Requests.{access_given, bit_given}
-use Rattle.air_kit.specs.declared.requests.Access.{Access}
-use Rattle.air_kit.specs.declared.requests.BitOp.{BitOp}
 use Rattle.processor.specs.Events.{visible_of}
 use Rattle.processor.specs.declared.event.Event.{Event}
 use Rattle.run_rows.specs.Chains.{AreLinked}

@@ -1,12 +1,12 @@
 -- Each cycle keeps the balance of overflow.
-use Rattle.std.proofs.Common.{◌≡◌, ℕ, ◌+◌, ◌≤◌, List, [], ◌∷◌, ◌++◌, length, take, drop, refl, sym, ap, ◌∙◌, arith}
+use Rattle.std.proofs.Common.{◌≡◌, ℕ, ◌+◌, List, [], ◌∷◌, ◌++◌, length, drop, refl, ap, arith}
 use Rattle.vm_field.specs.Machine.{Core}
 use Rattle.vm_ops.specs.Moves.{shift_of}
 use Rattle.vm_ops.specs.Stepping.{ShiftedBelow}
 use Rattle.vm_ops.specs.declared.item.Item.{Item}
 use Rattle.vm_ops.specs.declared.op.Op.TheVariants as ops
 use Rattle.block_tree.specs.Behind.{core_behind, IsAllowed}
-use Rattle.block_tree.specs.Cycles.{Mark, Do, EndSpan, EndLoop, EndCall, EndSyscall, End}
+use Rattle.block_tree.specs.Cycles.{Mark, Do}
 use Rattle.block_tree.specs.Marks.{IsWholeMark}
 use Rattle.block_tree.specs.Steps.{Task, Next, span, join, split_1, split_0, loop_1, loop_0, call, syscall, operation, respan, span_ends, repeats, loop_ends, closes, returns, leaves}
 use Rattle.block_tree.specs.Trees.{Loop, tree_digest}
@@ -17,7 +17,6 @@ use Rattle.processor.specs.declared.event.Event.{Event}
 use Rattle.run_rows.specs.Decoder.{Decoder, advance, hidden_of, keys_behind}
 use Rattle.run_rows.proofs.AgreeLemmas.{has_flags, keys_by_flags, ordinary_advance}
 use Rattle.run_rows.proofs.BlockLemmas.{no_block}
-use Rattle.run_requests.specs.Overflow.{entries}
 use Rattle.run_requests.proofs.OverflowCells.{entries_none}
 use Rattle.run_requests.proofs.OverflowSteps.{StackCells, come_back, condition, end_keeps, flag_of_loop, hidden, left_asked, loop_asked, none_asked, none_given, owed_cells, quiet, shifted}
 

@@ -1,16 +1,15 @@
 -- What the rows of a run give of overflow is what they and the cells that are left ask.
 use Rattle.std.proofs.Common.{◌≡◌, ℕ, ◌+◌, ◌≤◌, List, [], ◌∷◌, ◌++◌, length, map, take, drop, refl, sym, ap, ◌∙◌, subst, arith, lit<}
-use Rattle.vm_field.specs.Machine.{State, start}
+use Rattle.vm_field.specs.Machine.{State}
 use Rattle.block_tree.specs.Cycles.{advice_taken, effect_of}
 use Rattle.block_tree.specs.Execution as run
 use Rattle.block_tree.specs.Rows.{behind}
-use Rattle.block_tree.specs.Steps.{Task, Block, IsCycle}
+use Rattle.block_tree.specs.Steps.{Block, IsCycle}
 use Rattle.block_tree.specs.Trees.{Tree}
 use Rattle.block_tree.proofs.KeptLemmas.{cycle-step}
 use Rattle.buses.specs.Counts.{counted, over_rows, with_next}
 use Rattle.vm_ops.proofs.FrameLemmas.{step-below}
 use Rattle.air_kit.specs.MainTuples.{overflow_asked, overflow_given}
-use Rattle.air_kit.specs.Places.{Claim}
 use Rattle.chip_columns.specs.LeftColumns as left
 use Rattle.processor.specs.declared.event.Event.{Event}
 use Rattle.run_rows.specs.BlockRows.{IsRun, events_of, filled, keys_of}

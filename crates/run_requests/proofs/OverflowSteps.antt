@@ -1,32 +1,25 @@
 -- What a cycle gives and was owed of overflow is what it asks and what is owed behind it.
-use Rattle.std.proofs.Common.{◌≡◌, ℕ, suc, ◌+◌, ◌-◌, ◌<◌, ◌≤◌, Bool, true, false, cond, eqb, ◌||◌, ◌&&◌, List, [], ◌∷◌, ◌++◌, length, take, drop, slice_index, refl, sym, ap, ◌∙◌, subst, arith}
+use Rattle.std.proofs.Common.{◌≡◌, ℕ, ◌+◌, ◌≤◌, true, false, List, [], ◌∷◌, ◌++◌, length, drop, slice_index, refl, sym, ap, ◌∙◌, arith}
 use Rattle.std.proofs.lemmas.List.{drop-drop, drop_at}
 use Rattle.vm_field.specs.Machine.{Core, filled_up}
 use Rattle.vm_ops.specs.Codes.{is_ordinary_op}
 use Rattle.vm_ops.specs.Moves.{shift_of}
 use Rattle.vm_ops.specs.Stepping.{ShiftedBelow}
-use Rattle.vm_ops.specs.declared.item.Item.{Item}
 use Rattle.vm_ops.specs.declared.op.Op.{Op}
 use Rattle.vm_ops.specs.declared.op.Op.TheVariants as ops
 use Rattle.vm_ops.specs.declared.op.Shift.{Shift}
 use Rattle.vm_ops.specs.declared.op.Shift.TheVariants.{Left, Stay, Right}
 use Rattle.vm_table.specs.MainColumns.{clk, depth, h, key, s}
-use Rattle.block_tree.specs.Behind.{core_behind, IsAllowed}
-use Rattle.block_tree.specs.Cycles.{Mark, Do, EndSpan, EndLoop, EndCall, EndSyscall, End}
-use Rattle.block_tree.specs.Marks.{IsWholeMark}
+use Rattle.block_tree.specs.Cycles.{Mark}
 use Rattle.block_tree.specs.Rows.{hash_of, op_of}
-use Rattle.block_tree.specs.Steps.{Task, Block, Within, Turned, Closing, Returning, Leaving, Next, span, join, split_1, split_0, loop_1, loop_0, call, syscall, operation, respan, span_ends, repeats, loop_ends, closes, returns, leaves}
-use Rattle.block_tree.specs.Trees.{Loop, tree_digest}
-use Rattle.buses.specs.Counts.{Counted, counted, once}
+use Rattle.block_tree.specs.Steps.{Task, Block, Within, Turned, Closing, Returning, Leaving}
+use Rattle.buses.specs.Counts.{counted}
 use Rattle.hash_rows.proofs.Totals.{counted-none}
 use Rattle.air_kit.specs.Flags as flags
 use Rattle.air_kit.specs.Flags.{is_left, is_op, is_right, is_shift}
 use Rattle.air_kit.specs.MainTuples.{eight, overflow_asked, overflow_given}
-use Rattle.processor.specs.Events.{shown_between}
-use Rattle.processor.specs.declared.event.Event.{Event}
-use Rattle.run_rows.specs.Decoder.{Decoder, Open, advance, hidden_of, key_of, keys_after, keys_behind}
-use Rattle.run_rows.proofs.AgreeLemmas.{has_flags, keys_by_flags, ordinary_advance}
-use Rattle.run_rows.proofs.BlockLemmas.{no_block}
+use Rattle.run_rows.specs.Decoder.{Decoder, Open, hidden_of, key_of, keys_after}
+use Rattle.run_rows.proofs.AgreeLemmas.{has_flags}
 use Rattle.run_requests.specs.Overflow.{entries}
 use Rattle.run_requests.proofs.Chains.{hit}
 use Rattle.run_requests.proofs.OverflowCells.{asked_by, entries_none, given_by, no_keys, popped_cells, pops, pushes, taken_cell}

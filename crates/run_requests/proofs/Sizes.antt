@@ -1,6 +1,6 @@
 -- How many requests a run has: each cycle asks for one permutation, bitwise operation or access at most, where a span's further batches
 -- are asked for by their RESPANs.
-use Rattle.std.proofs.Common.{◌≡◌, ℕ, suc, ◌+◌, ◌<◌, ◌≤◌, false, List, [], ◌∷◌, ◌++◌, length, refl, sym, ap, ◌∙◌, arith, length-append}
+use Rattle.std.proofs.Common.{◌≡◌, ℕ, ◌+◌, ◌≤◌, false, List, [], ◌∷◌, length, arith, length-append}
 use Rattle.vm_field.specs.Machine.{State}
 use Rattle.vm_field.specs.Sponge.{begun}
 use Rattle.vm_ops.specs.Codes.{code_of}

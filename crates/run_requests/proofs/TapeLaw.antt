@@ -1,10 +1,9 @@
 -- The rows of a run take of the tape what the run takes.
-use Rattle.std.proofs.Common.{◌≡◌, ℕ, zero, ◌+◌, true, List, [], ◌∷◌, ◌++◌, length, take, drop, refl, sym, ap, ◌∙◌, arith}
+use Rattle.std.proofs.Common.{◌≡◌, ℕ, List, ◌∷◌, ◌++◌, take, drop, refl, sym, ap, ◌∙◌}
 use Rattle.std.proofs.lemmas.List.{append_assoc, take-append-drop}
 use Rattle.vm_field.specs.Machine.{State, start}
 use Rattle.block_tree.specs.Cycles.{advice_taken}
 use Rattle.block_tree.specs.Execution as run
-use Rattle.block_tree.specs.Rows.{op_of}
 use Rattle.block_tree.specs.Steps.{Task}
 use Rattle.block_tree.specs.Trees.{Tree}
 use Rattle.air_kit.specs.Flags as flags

@@ -1,54 +1,24 @@
 -- Rows of operations that are not built yet: a run has none of them, so that nothing is asked there.
-use Rattle.std.proofs.Common.{◌≡◌, ℕ, ◌+◌, ◌*◌, Bool, true, false, not, ◌||◌, List, [], ◌∷◌, length, map, take, slice_index_or, All, ◌<◌, refl, sym, ap, ◌∙◌, subst, arith}
+use Rattle.std.proofs.Common.{◌≡◌, ℕ, true, false, List, [], ◌∷◌, length, take, slice_index_or, All, ◌<◌, refl, sym, ap, ◌∙◌, subst, arith}
 use Rattle.std.proofs.lemmas.List.Elements.{All-head, All-nil, All-tail}
-use Rattle.vm_ops.specs.Codes.{is_ordinary_op}
 use Rattle.vm_ops.specs.declared.op.Op.{Op}
 use Rattle.vm_ops.specs.declared.op.Op.TheVariants as ops
 use Rattle.vm_ops.specs.Values.{advice_of}
 use Rattle.block_tree.specs.Cycles.{Mark, Do, advice_taken}
 use Rattle.block_tree.specs.Rows.{op_of}
-use Rattle.buses.specs.Counts.{Counted, counted}
-use Rattle.hash_rows.proofs.Totals.{counted-none}
 use Rattle.air_kit.specs.Built.{is_built}
 use Rattle.air_kit.specs.Flags as flags
 use Rattle.air_kit.specs.Flags.{is_op}
 use Rattle.air_kit.specs.MainTuples as tuples
 use Rattle.air_kit.specs.MainTuples.{bitwise_asked, hasher_asked, memory_asked}
-use Rattle.air_kit.specs.Requests.{FitsMemory, perms_given}
+use Rattle.air_kit.specs.Requests.{FitsMemory}
 use Rattle.air_kit.specs.declared.requests.Access.{Access}
 use Rattle.air_kit.specs.RowStates.{taken_by}
 use Rattle.processor.specs.declared.event.Event.{Event}
 use Rattle.processor.specs.declared.event.Visible.{Visible}
-use Rattle.row_facts.proofs.Says.{never, off}
-use Rattle.run_rows.specs.Decoder.{next_after}
+use Rattle.row_facts.proofs.Says.{never}
 use Rattle.run_rows.specs.Bounds.{AreBuilt}
-use Rattle.run_rows.specs.RunRequests.{accesses_by, accesses_of, bits_by, bits_of, perms_by_op}
-use Rattle.run_rows.proofs.BlockLemmas.{no_block}
-use Rattle.run_requests.proofs.HasherSteps.{asks, asked_by}
-
-no_perms : (op : Op) (seen : Visible) → is_op op ops.HPerm ≡ false → perms_by_op op seen ≡ []
-no_perms ops.HPerm seen other = never other
-no_perms op seen other = refl
-
--- an operation other than HPERM asks the hasher for nothing
-pub no_hashes : (constants : List ℕ) (op : Op) (next : ℕ) (seen : Visible) (x y v : List ℕ) → flags.op_of x ≡ op → is_op op ops.HPerm ≡ false
-    → is_ordinary_op op ≡ true → counted (perms_given constants next (perms_by_op op seen)) v ≡ counted (hasher_asked x y) v
-unfolding perms_given
-no_hashes constants op next seen x y v is other ordinary =
-    let apart = no_block op ordinary in
-    let none : counted (hasher_asked x y) v ≡ counted [] v
-    = asks op x y v is ∙ rw (apart.start, apart.respan, apart.end, other) refl in
-    ap (λ perms. counted (perms_given constants next perms) v) (no_perms op seen other) ∙ sym none
-
-pub no_moves : (op : Op) (next : ℕ) (seen : Visible) → is_op op ops.HPerm ≡ false → next_after op next ≡ next + 8 * length (perms_by_op op seen)
-no_moves op next seen other =
-    let size : length (perms_by_op op seen) ≡ 0 = ap length (no_perms op seen other) in
-    let stays : next_after op next ≡ next = rw other refl in
-    omega (arith, size, stays)
-
-pub no_hperm : (op : Op) → is_built op ≡ true → is_op op ops.HPerm ≡ false
-no_hperm ops.HPerm built = never (sym built)
-no_hperm op built = refl
+use Rattle.run_rows.specs.RunRequests.{accesses_by, accesses_of, bits_by, bits_of}
 
 -- ---- no bitwise operation
 
