@@ -1,0 +1,101 @@
+-- The rows of events, one by one.
+use Rattle.std.proofs.Common.{◌≡◌, ℕ, ◌+◌, ◌<◌, ◌≤◌, List, [], ◌∷◌, ◌++◌, length, get_or, drop, slice_get, slice_index, unwrap_or, sym, refl, ap, ◌∙◌, append_assoc}
+use Rattle.std.proofs.lemmas.List.{drop_all}
+use Rattle.processor.specs.declared.event.Event.{Event}
+use Rattle.processor.specs.declared.event.Visible.{Visible}
+use Rattle.run_rows.specs.Decoder.{Decoder, advance, at_start, decoder_after}
+use Rattle.run_rows.specs.Filling.{fill, halted, row_of, rows_of, seen_behind}
+use Rattle.run_rows.specs.Kinds.{kind_of}
+use Rattle.run_rows.specs.Turns.{repeats, repeats_by, respans, respans_by}
+use Rattle.fill_main.specs.Turns.{turns_of}
+use Rattle.fill_main.proofs.LoopLemmas.{suffix}
+
+fill-more : (last : Visible) (d : Decoder) (e : Event) (later : List Event)
+    → fill last d (e ∷ later) ≡ row_of d e (seen_behind last later) later ∷ fill last (advance d e later) later
+unfolding fill
+fill-more last d e later = refl
+
+fill-last : (last : Visible) (d : Decoder) → fill last d [] ≡ row_of d (halted last) last [] ∷ []
+unfolding fill
+fill-last last d = refl
+
+pub whole : (last : Visible) (events : List Event) → rows_of last events ≡ fill last at_start events
+unfolding rows_of
+whole last events = refl
+
+pub rows-step : (last : Visible) (d after : Decoder) (events : List Event) (i : ℕ) (e : Event) (row : List ℕ) (done more : List (List ℕ))
+    → i < length events → e ≡ get_or events i e → row ≡ row_of d e (seen_behind last (drop (i + 1) events)) (drop (i + 1) events)
+    → more ≡ done ++ row ∷ [] → after ≡ advance d e (drop (i + 1) events)
+    → more ++ fill last after (drop (i + 1) events) ≡ done ++ fill last d (drop i events)
+rows-step last d after events i e row done more within is shown added moved =
+    let later = drop (i + 1) events in
+    ap (λ (rows : List (List ℕ)). rows ++ fill last after later) (added ∙ ap (λ (x : List ℕ). done ++ x ∷ []) shown)
+    ∙ append_assoc done (row_of d e (seen_behind last later) later ∷ []) (fill last after later)
+    ∙ ap (λ (b : Decoder). done ++ row_of d e (seen_behind last later) later ∷ fill last b later) moved
+    ∙ ap (λ (rows : List (List ℕ)). done ++ rows) (sym (fill-more last d e later) ∙ ap (fill last d) (sym (suffix events i e within is)))
+
+pub rows-end : (last : Visible) (d : Decoder) (events : List Event) (i : ℕ) (row : List ℕ) (done more : List (List ℕ))
+    → length events ≤ i → row ≡ row_of d (halted last) last [] → more ≡ done ++ row ∷ [] → more ≡ done ++ fill last d (drop i events)
+rows-end last d events i row done more past shown added =
+    added ∙ ap (λ (x : List ℕ). done ++ x ∷ []) shown ∙ ap (λ (rows : List (List ℕ)). done ++ rows) (sym (fill-last last d))
+    ∙ ap (λ (xs : List Event). done ++ fill last d xs) (sym (drop_all i events past))
+
+decoder-more : (d : Decoder) (e : Event) (later : List Event) → decoder_after d (e ∷ later) ≡ decoder_after (advance d e later) later
+unfolding decoder_after
+decoder-more d e later = refl
+
+decoder-none : (d : Decoder) → decoder_after d [] ≡ d
+unfolding decoder_after
+decoder-none d = refl
+
+pub decoder-step : (d after : Decoder) (events : List Event) (i : ℕ) (e : Event) → i < length events → e ≡ get_or events i e
+    → after ≡ advance d e (drop (i + 1) events) → decoder_after after (drop (i + 1) events) ≡ decoder_after d (drop i events)
+decoder-step d after events i e within is moved =
+    ap (λ (b : Decoder). decoder_after b (drop (i + 1) events)) moved ∙ sym (decoder-more d e (drop (i + 1) events))
+    ∙ ap (decoder_after d) (sym (suffix events i e within is))
+
+pub decoder-end : (d : Decoder) (events : List Event) (i : ℕ) → length events ≤ i → d ≡ decoder_after d (drop i events)
+decoder-end d events i past = sym (ap (decoder_after d) (drop_all i events past) ∙ decoder-none d)
+
+turns-more : (e : Event) (later : List Event) → turns_of (e ∷ later) ≡ slice_index (repeats later) 0 ∷ turns_of later
+unfolding turns_of
+turns-more e later = refl
+
+-- the turns from a place on
+pub turns-here : (events : List Event) (i : ℕ) (e : Event) → i < length events → e ≡ get_or events i e
+    → turns_of (drop i events) ≡ slice_index (repeats (drop (i + 1) events)) 0 ∷ turns_of (drop (i + 1) events)
+turns-here events i e within is = ap turns_of (suffix events i e within is) ∙ turns-more e (drop (i + 1) events)
+
+pub turn-first : (turns : List ℕ) (n : ℕ) (later : List ℕ) (turn : ℕ) → turns ≡ n ∷ later → turn ≡ unwrap_or (slice_get turns 0) 0 → turn ≡ n
+turn-first turns n later turn are is = is ∙ ap (λ (xs : List ℕ). unwrap_or (slice_get xs 0) 0) are
+
+pub turns-left : (turns left : List ℕ) (n : ℕ) (later : List ℕ) → turns ≡ n ∷ later → left ≡ drop 1 turns → left ≡ later
+turns-left turns left n later are is = is ∙ ap (λ (xs : List ℕ). drop 1 xs) are
+
+repeats-more : (e : Event) (later : List Event) → repeats (e ∷ later) ≡ repeats_by (kind_of e.op) (repeats later)
+unfolding repeats
+repeats-more e later = refl
+
+pub repeats-here : (events : List Event) (i : ℕ) (e : Event) → i < length events → e ≡ get_or events i e
+    → repeats (drop i events) ≡ repeats_by (kind_of e.op) (repeats (drop (i + 1) events))
+repeats-here events i e within is = ap repeats (suffix events i e within is) ∙ repeats-more e (drop (i + 1) events)
+
+pub none-behind : (events : List Event) (i : ℕ) → length events ≤ i → (repeats (drop i events) ≡ []) × (turns_of (drop i events) ≡ [])
+unfolding repeats turns_of
+none-behind events i past = (ap repeats (drop_all i events past), ap turns_of (drop_all i events past))
+
+respans-more : (e : Event) (later : List Event) → respans (e ∷ later) ≡ respans_by (kind_of e.op) e.hash (respans later)
+unfolding respans
+respans-more e later = refl
+
+pub respans-here : (events : List Event) (i : ℕ) (e : Event) → i < length events → e ≡ get_or events i e
+    → respans (drop i events) ≡ respans_by (kind_of e.op) e.hash (respans (drop (i + 1) events))
+respans-here events i e within is = ap respans (suffix events i e within is) ∙ respans-more e (drop (i + 1) events)
+
+pub respans-end : (events : List Event) (i : ℕ) → length events ≤ i → respans (drop i events) ≡ []
+unfolding respans
+respans-end events i past = ap respans (drop_all i events past)
+
+pub no-repeats : 0 ≡ slice_index (repeats []) 0
+unfolding repeats
+no-repeats = refl

@@ -1,0 +1,9 @@
+pub mod Elements
+pub mod GroupLemmas
+pub mod DecoderLemmas
+pub mod LoopLemmas
+pub mod RequestLemmas
+pub mod FillLemmas
+pub mod SpanLemmas
+pub mod KnownLemmas
+pub mod RowLemmas

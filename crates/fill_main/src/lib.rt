@@ -1,0 +1,31 @@
+//! Fills the main table of a run from its events, with what its rows ask of the small tables.
+#![tactic(auto)]
+
+mod accesses;
+mod behind;
+mod bits;
+mod calls;
+mod cells;
+mod decoder;
+mod fill;
+mod inverses;
+mod kind;
+mod laws;
+mod limbs;
+mod main_table;
+mod numbers;
+mod perms;
+mod positions;
+mod programs;
+mod ranges;
+mod row;
+mod spans;
+mod stack;
+#[cfg(test)]
+mod tests;
+mod turns;
+mod witnesses;
+
+pub use laws::known_laws;
+pub use main_table::fill_main;
+pub use programs::known;

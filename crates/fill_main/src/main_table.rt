@@ -1,0 +1,64 @@
+ghost use Rattle.std.specs.Prelude.{◌≡◌, IfOk};
+ghost use Rattle.rpo_hash.specs.Constants.{constants_of};
+ghost use Rattle.vm_state.specs.Views.{core_of};
+ghost use Rattle.processor.specs.Events.{visible_of};
+ghost use Rattle.run_rows.specs.Filling.{rows_of};
+ghost use Rattle.run_rows.specs.RunRequests.{requests_of};
+
+use crate::accesses::accesses_of;
+use crate::bits::bits_of;
+use crate::calls::calls_of;
+use crate::fill::fill;
+use crate::perms::perms_of;
+use crate::ranges::ranges_of;
+use crate::stack::into_elements;
+use air_kit::Requests;
+use processor::{Run, Visible};
+use rpo_hash::Params;
+use std::alloc::Global;
+use vm_field::Memory;
+use vm_state::State;
+use vm_table::Table;
+
+/// The main table of a run, one row for each cycle and HALT's behind them, and what its rows ask of
+/// the small tables.
+///
+/// # Errors
+///
+/// `Memory` where the system gave no memory, or where a number is too great for its column or its
+/// request.
+pub fn fill_main(alloc: Global, params: &Params, run: &Run) -> Result<(Table<65>, Requests), Memory>
+    ensures rows { IfOk result (λ r. r.0 ≡ rows_of (visible_of (core_of run.now.state)) run.now.events) }
+    ensures requests { IfOk result (λ r. r.1 ≡ requests_of (constants_of params.now) (visible_of (core_of run.now.state)) run.now.events) }
+{
+    let last = last_seen(&run.state);
+    let events = run.events.as_slice();
+    let (table, keys) = fill(alloc, &last, events)?;
+    Ok((
+        table,
+        Requests {
+            perms: perms_of(alloc, params, events)?,
+            bits: bits_of(alloc, events)?,
+            accesses: accesses_of(alloc, events)?,
+            ranges: ranges_of(alloc, &last, events)?,
+            calls: calls_of(alloc, events)?,
+            keys: into_elements(keys),
+        },
+    ))
+}
+
+// What the row of HALT shows of the state at the end.
+fn last_seen(state: &State) -> Visible
+    ensures { result ≡ visible_of (core_of state.now) }
+{
+    Visible {
+        clock: state.clock,
+        context: state.context,
+        fmp: state.fmp,
+        in_syscall: state.in_syscall,
+        digest: state.digest,
+        nesting: state.nesting,
+        depth: state.depth(),
+        cells: state.visible(),
+    }
+}

@@ -1,0 +1,57 @@
+ghost use Rattle.std.specs.Prelude.{◌≡◌, ◌+◌, ◌*◌, IfOk};
+
+use vm_field::{Felt, Memory};
+
+// The element of a number. The numbers of a run are far below the prime.
+pub(crate) fn felt_of(number: u64) -> Result<Felt, Memory>
+    ensures { IfOk result (λ x. x ≡ number) }
+{
+    match Felt::try_from_u64(number) {
+        Ok(element) => Ok(element),
+        Err(_) => Err(Memory::Memory),
+    }
+}
+
+// The sum of two numbers.
+pub(crate) fn sum_of(a: u64, b: u64) -> Result<u64, Memory>
+    ensures { IfOk result (λ sum. sum ≡ a + b) }
+{
+    match a.checked_add(b) {
+        Some(sum) => Ok(sum),
+        None => Err(Memory::Memory),
+    }
+}
+
+// Eight times a number.
+pub(crate) fn times_eight(number: usize) -> Result<u64, Memory>
+    ensures { IfOk result (λ product. product ≡ 8 * number) }
+{
+    match (number as u64).checked_mul(8) {
+        Some(product) => Ok(product),
+        None => Err(Memory::Memory),
+    }
+}
+
+// An element as a number of 32 bits.
+pub(crate) fn u32_of(element: Felt) -> Result<u32, Memory>
+    ensures { IfOk result (λ number. number ≡ element) }
+{
+    let number = element.value();
+    if number < 1 << 32 {
+        Ok(number as u32)
+    } else {
+        Err(Memory::Memory)
+    }
+}
+
+// An element as a number of 16 bits.
+pub(crate) fn u16_of(element: Felt) -> Result<u16, Memory>
+    ensures { IfOk result (λ number. number ≡ element) }
+{
+    let number = element.value();
+    if number < 65536 {
+        Ok(number as u16)
+    } else {
+        Err(Memory::Memory)
+    }
+}

@@ -1,0 +1,55 @@
+ghost use Rattle.std.specs.Prelude.{◌≡◌, slice_index, OnOk, IfOk};
+ghost use Rattle.run_rows.specs.Turns.{repeats_by};
+ghost use Rattle.fill_main.specs.Kinds.{kind_in};
+ghost use Rattle.fill_main.specs.Turns.{turns_of};
+
+use crate::kind::{Kind, kind_of};
+use crate::numbers::sum_of;
+use crate::stack::Stack;
+use processor::Event;
+use std::alloc::Global;
+use vm_field::Memory;
+
+// Of each event, how often the body of its loop is repeated behind it.
+pub(crate) fn turns_of(alloc: Global, events: &[Event]) -> Result<Stack<u64>, Memory>
+    ensures { IfOk result (λ turns. turns ≡ turns_of events.now) }
+{
+    let mut counts = Stack::new(alloc);
+    let mut turns = Stack::new(alloc);
+    for i in (0..events.len()).rev() {
+        let event = &events[i];
+        turns.push(front(&counts))?;
+        count(&mut counts, kind_of(event.op))?;
+    }
+    Ok(turns)
+}
+
+// The number at the front, and 0 where there is none.
+#[tactic(auto, using(crate::proofs::GroupLemmas::first_number))]
+fn front(counts: &Stack<u64>) -> u64
+    ensures { result ≡ slice_index counts.now 0 }
+{
+    match counts.first() {
+        Some(count) => *count,
+        None => 0,
+    }
+}
+
+// Counts one event more, from the end on.
+#[tactic(auto, using(crate::proofs::GroupLemmas::first_number))]
+fn count(counts: &mut Stack<u64>, kind: Kind) -> Result<(), Memory>
+    ensures { OnOk result (counts.new ≡ repeats_by (kind_in kind) counts.old) }
+{
+    match kind {
+        Kind::Ordinary | Kind::Respan | Kind::Halt => Ok(()),
+        Kind::Join | Kind::Split | Kind::Loop | Kind::Span | Kind::Call | Kind::Syscall => {
+            let _ = counts.pop();
+            Ok(())
+        }
+        Kind::End => counts.push(0),
+        Kind::Repeat => {
+            let more = sum_of(counts.pop().unwrap_or(0), 1)?;
+            counts.push(more)
+        }
+    }
+}
