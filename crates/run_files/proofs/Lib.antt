@@ -1,0 +1,4 @@
+pub mod AcceptedLemmas
+pub mod FileLemmas
+pub mod RunLemmas
+pub mod TextLemmas

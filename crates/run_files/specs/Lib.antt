@@ -1,0 +1,2 @@
+pub mod RunFiles
+pub mod Inside

@@ -1,0 +1,14 @@
+//! The two files of a run, its tables and its statement, and that the one is accepted for the other (docs/PROOF.md, "What was run is
+//! accepted").
+#![tactic(auto)]
+
+mod claim;
+mod laws;
+mod tables;
+#[cfg(test)]
+mod tests;
+mod tracing;
+
+pub use claim::statement_file_of_run;
+pub use laws::file_laws;
+pub use tables::table_file_of_run;

@@ -1,0 +1,58 @@
+use crate::{statement_file_of_run, table_file_of_run};
+use block_tree::{Exports, Program, Tree};
+use fill_main::known;
+use op_pack::Batches;
+use processor::execute;
+use rpo_hash::Params;
+use std::alloc::Global;
+use std::test::Fail;
+use vm_field::{Felt, Felts, Memory, Words};
+use vm_state::Inputs;
+
+const NO_CONSTANTS: Params = Params {
+    first: [[Felt::ZERO; 12]; 7],
+    second: [[Felt::ZERO; 12]; 7],
+};
+
+// A batch, and the lengths of the two files of its run.
+type Row = ([u32; 8], usize, usize);
+
+// The empty span; and push.2 push.3 add push.7, behind whose last PUSH stands a NOOP.
+static ROWS: [Row; 2] = [
+    ([0; 8], 3748, 145),
+    ([145318597, 2, 3, 7, 0, 0, 0, 0], 5844, 149),
+];
+
+// Whether the two files of the run of a batch have these lengths.
+fn has_lengths(alloc: Global, row: &Row) -> Result<bool, Memory> {
+    let mut batch = [Felt::ZERO; 8];
+    for i in 0..8 {
+        batch[i] = Felt::from_u32(row.0[i]);
+    }
+    let tree = Tree::Span(Batches::of(alloc, batch)?);
+    let program = Program::new(tree, Words::new(alloc), Exports::new(alloc));
+    let inputs = Inputs::new(Felts::new(alloc), Felts::new(alloc));
+    if !known(alloc, &program)? {
+        return Ok(false);
+    }
+    let Ok(run) = execute(alloc, &NO_CONSTANTS, &program, &inputs, 100) else {
+        return Ok(false);
+    };
+    let (table, state) = table_file_of_run(alloc, &NO_CONSTANTS, &program, run)?;
+    let statement = statement_file_of_run(alloc, &NO_CONSTANTS, program, inputs, &state)?;
+    Ok(table.len() == row.1 && statement.len() == row.2)
+}
+
+fn have_lengths(alloc: Global, rows: &[Row]) -> Result<bool, Memory> {
+    let mut all = true;
+    for row in rows {
+        all = all && has_lengths(alloc, row)?;
+    }
+    Ok(all)
+}
+
+#[test]
+fn files_have_their_lengths(rt: HostRuntime) -> Result<(), Fail> {
+    assert!(rt; have_lengths(rt.alloc(), &ROWS)?);
+    Ok(())
+}
