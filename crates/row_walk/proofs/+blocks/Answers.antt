@@ -2,7 +2,7 @@ use Rattle.std.proofs.Common.{refl, ap, arith}
 use Rattle.tree_merge.specs.AddrView.{placed_of}
 use Rattle.tree_merge.specs.Placed as placed
 use Rattle.row_walk.proofs.ReadRows.{bits_at}
-use Rattle.row_walk.proofs.BlockFound.{call_found, call_small, child_later, end_within, join_found, join_small, second_starts, skipped_found, split_one_found, split_small, split_zero_found, starts_by, syscall_found, syscall_small, top_one, top_other}
+use Rattle.row_walk.proofs.BlockFound.{call_found, call_small, child_later, end_within, join_found, join_small, second_starts, skipped_found, skipped_small, split_one_found, split_small, split_zero_found, starts_by, syscall_found, syscall_small, top_one, top_other}
 use Rattle.row_walk.proofs.TurnsFound.{behind_within, bits_behind, first_turn, loop_found, loop_small, mergeable, next_turn, read_behind, turn_later}
 use Rattle.row_walk.proofs.+blocks.Goals as goal
 
@@ -131,6 +131,18 @@ walk::join-block-requires-2 t c =
       (c.requires.readable, second_starts _ _ c.requires.readable _ c.requires.is _ c.in_ok-first.ensures.ok),
     )
 
+pub walk::join-overflow_add-first : goal.walk::join-overflow_add-first
+walk::join-overflow_add-first t c =
+    let within = end_within _ _ c.requires.readable _ _ c.in_ok-first.ensures.ok in
+    let few = c.requires.readable.rows in
+    omega (arith, within, few)
+
+pub walk::join-overflow_add-result : goal.walk::join-overflow_add-result
+walk::join-overflow_add-result t c =
+    let within = end_within _ _ c.requires.readable _ _ c.in_ok-second.ensures.ok in
+    let few = c.requires.readable.rows in
+    omega (arith, within, few)
+
 pub walk::join-address-requires-clause-few : goal.walk::join-address-requires-clause-few
 walk::join-address-requires-clause-few t c =
     join_small _ _ c.requires.readable _ c.requires.is _ _ c.in_ok-first.ensures.ok c.in_ok-second.ensures.ok
@@ -139,6 +151,10 @@ pub walk::join-returns-clause-ok : goal.walk::join-returns-clause-ok
 walk::join-returns-clause-ok t c =
     join_found _ _ c.requires.readable _ c.requires.is _ _ c.in_ok-first.ensures.ok c.in_ok-second.ensures.ok _ c.address.result
     c.in_ok-one.one.value c.in_ok-other.other.value refl refl c.address.ensures c.in_ok-one.ensures.ok c.in_ok-other.ensures.ok
+
+pub walk::looped-address-requires-clause-few : goal.walk::looped-address-requires-clause-few
+walk::looped-address-requires-clause-few t c =
+    skipped_small _ _ c.requires.readable _ c.requires.is (top_other _ _ _ c.top.ensures c.eq.ensures c.if-eq.false)
 
 pub walk::looped-returns-clause-ok : goal.walk::looped-returns-clause-ok
 walk::looped-returns-clause-ok t c =
