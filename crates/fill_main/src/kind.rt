@@ -6,7 +6,7 @@ ghost use Rattle.run_rows.specs.Kinds.{kind_of};
 use vm_ops::{Op, is_ordinary, opcode};
 
 // The kinds of cycles, by which rows are filled.
-#[derive(Clone, Copy, Debug, PartialEq, Eq)]
+#[derive(Clone, Copy)]
 pub(crate) enum Kind {
     // an operation of a span
     Ordinary,
