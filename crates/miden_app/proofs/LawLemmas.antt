@@ -1,9 +1,15 @@
 -- The laws of `specs/Laws`.
-use Rattle.std.proofs.Common.{◌≡◌, ◌⊎◌, ℕ, List, [], Option, Some, None, refl, sym, ap, subst, inl, inr, ◌∙◌, Contains, take, Result, Ok, Err}
+use Rattle.std.proofs.Common.{◌≡◌, ◌⊎◌, ℕ, List, [], ◌∷◌, rules, Option, Some, None, refl, sym, ap, subst, inl, inr, ◌∙◌, Contains, take, Result, Ok, Err}
 use Rattle.std.specs.FinMap.{insert}
 use Rattle.rpo_hash.specs.declared.params.ParamError.{ParamError}
 use Rattle.rpo_hash.specs.ParamText.{parameters_of}
 use Rattle.statement.specs.Inputs.{Given, inputs_of}
+use Rattle.statement.specs.Statements.{Claim, statement_of}
+use Rattle.air_kit.specs.declared.trace.Trace.{Trace}
+use Rattle.table_file.specs.Files.{trace_of}
+use Rattle.table_file.specs.declared.cause.FileError.{FileError}
+use Rattle.table_file.specs.declared.cause.FileError.TheVariants as file_error
+use Rattle.table_file.specs.declared.cause.FileError.TheVariants.{Bad}
 use Rattle.statement.specs.declared.refusal.TextCause.{TextCause}
 use Rattle.vm_io.specs.Shelf.{Files, ShelfState, with_file}
 use Rattle.vm_io.specs.Sink.{SinkState}
@@ -12,11 +18,11 @@ use Rattle.miden_app.specs.declared.status.Status.{Status}
 use Rattle.miden_app.specs.declared.status.Status.TheVariants as status
 use Rattle.miden_app.specs.declared.outcome.Answer.{Answer}
 use Rattle.miden_app.specs.Statuses.{Kind, planned, no_command, failed_read, failed_write, failed_print, no_memory, kind_of}
-use Rattle.miden_app.specs.Asked.{Asked, nothing, check_strip, hash, assemble, run, asked}
-use Rattle.miden_app.specs.Steps.{SourceFile, Steps, reading, writing, ending}
-use Rattle.miden_app.specs.Commands.{steps_of, with_params, with_kernel, with_inputs, numbers_steps, assembly_steps, run_source_steps, running_steps}
-use Rattle.miden_app.specs.Serving.{Passes, none_yet, past_read, past_write, Leads, IsWriting, FrontWritten, Works, GivesUp, Prints, Answers}
-use Rattle.miden_app.specs.Laws.{WritesOnly, StayBeside, OtherFilesStay, NoneWrites, UsageMeansNothing, NothingGivesUsage}
+use Rattle.miden_app.specs.Asked.{Asked, nothing, hash, assemble, run, check, asked}
+use Rattle.miden_app.specs.Steps.{Finding, SourceFile, Steps, reading, writing, asking, ending, accepted, refused}
+use Rattle.miden_app.specs.Commands.{steps_of, with_params, with_kernel, with_inputs, with_statement, with_trace, numbers_steps, assembly_steps, run_source_steps, running_steps, table_steps, statement_steps, judging_steps, found_steps}
+use Rattle.miden_app.specs.Serving.{Passes, none_yet, past_read, past_write, past_finding, Leads, IsWriting, FrontWritten, Works, GivesUp, Prints, Answers}
+use Rattle.miden_app.specs.Laws.{WritesOnly, StayBeside, OtherFilesStay, CommandsWrite, UsageMeansNothing, NothingGivesUsage}
 
 -- the files of m stay in what is told now
 abbrev Stayed : List (List ℕ) → Files → Option Files → Type 0
@@ -33,6 +39,8 @@ passes_stay : (outputs : List (List ℕ)) (first m : Files) (steps left : Steps)
 passes_stay outputs first m steps left told now none_yet only is stay = ((m, is, stay), only)
 passes_stay outputs first m steps left told now (past_read name most next bytes held short rest) only is stay =
     passes_stay outputs first m (next bytes) left told now rest (only bytes) is stay
+passes_stay outputs first m steps left told now (past_finding question next finding found rest) only is stay =
+    passes_stay outputs first m (next finding) left told now rest (only finding) is stay
 passes_stay outputs first m steps left told now (past_write name right next bytes fit rest) only is stay =
     passes_stay outputs first (insert m name bytes) (next bytes) left (with_file told name bytes) now rest (only.1 bytes) (ap (λ files. with_file files name bytes) is)
     (put_beside outputs first m name bytes only.0 stay)
@@ -48,6 +56,7 @@ front_stays outputs m name left before now front only (n, is, stay) =
     its : (left : Steps) → IsWriting name front.bytes left → WritesOnly outputs left → Contains outputs name
     its (reading n most next) writes only = absurd writes
     its (writing n right next) writes only = subst (Contains outputs) (sym writes.0) only.0
+    its (asking question next) writes only = absurd writes
     its (ending end) writes only = absurd writes
 
 module _ (outputs : List (List ℕ)) (steps : Steps) (only : WritesOnly outputs steps) (m : Files) (old new : ShelfState) (is : old.files ≡ Some m) where
@@ -85,41 +94,66 @@ other_files_stay words s old new before now steps outputs m serves command only 
 some_steps : (a b : Steps) → Some a ≡ Some b → a ≡ b
 some_steps a b same = cc
 
-only_behind_params : (name : List ℕ) (next : List ℕ → Steps) → ((constants : List ℕ) → WritesOnly [] (next constants)) → (read : Result (List ℕ) ParamError)
-    → WritesOnly [] (with_params name next read)
-only_behind_params name next only (Ok constants) = only constants
-only_behind_params name next only (Err e) = tt
+only_behind_params : (outputs : List (List ℕ)) (name : List ℕ) (next : List ℕ → Steps) → ((constants : List ℕ) → WritesOnly outputs (next constants))
+    → (read : Result (List ℕ) ParamError) → WritesOnly outputs (with_params name next read)
+only_behind_params outputs name next only (Ok constants) = only constants
+only_behind_params outputs name next only (Err e) = tt
 
-only_behind_kernel : (kernel : Option (List ℕ)) (next : Option SourceFile → Steps) → ((k : Option SourceFile) → WritesOnly [] (next k))
-    → WritesOnly [] (with_kernel kernel next)
-only_behind_kernel None next only = only None
-only_behind_kernel (Some name) next only = λ text. only (Some (record { name = name; text = text }))
+only_behind_kernel : (outputs : List (List ℕ)) (kernel : Option (List ℕ)) (next : Option SourceFile → Steps)
+    → ((k : Option SourceFile) → WritesOnly outputs (next k)) → WritesOnly outputs (with_kernel kernel next)
+only_behind_kernel outputs None next only = only None
+only_behind_kernel outputs (Some name) next only = λ text. only (Some (record { name = name; text = text }))
 
-only_behind_inputs : (name : List ℕ) (next : Given → Steps) → ((given : Given) → WritesOnly [] (next given)) → (read : Result Given TextCause)
-    → WritesOnly [] (with_inputs name next read)
-only_behind_inputs name next only (Ok given) = only given
-only_behind_inputs name next only (Err cause) = tt
+only_behind_inputs : (outputs : List (List ℕ)) (name : List ℕ) (next : Given → Steps) → ((given : Given) → WritesOnly outputs (next given))
+    → (read : Result Given TextCause) → WritesOnly outputs (with_inputs name next read)
+only_behind_inputs outputs name next only (Ok given) = only given
+only_behind_inputs outputs name next only (Err cause) = tt
 
-pub none_writes : NoneWrites
-none_writes nothing steps is = absurd (cc)
-none_writes (check_strip name) steps is = subst (WritesOnly []) (some_steps _ _ is) (λ bytes. tt)
-none_writes (hash params numbers) steps is =
-    subst (WritesOnly []) (some_steps _ _ is) (λ bytes. only_behind_params params (numbers_steps numbers) (λ constants text. tt) (parameters_of bytes))
-none_writes (assemble params source kernel) steps is =
+only_behind_trace : (outputs : List (List ℕ)) (name : List ℕ) (next : Trace → Steps) → ((t : Trace) → WritesOnly outputs (next t))
+    → (read : Result Trace FileError) → WritesOnly outputs (with_trace name next read)
+only_behind_trace outputs name next only (Ok t) = only t
+only_behind_trace outputs name next only (Err (Bad offset cause)) = tt
+only_behind_trace outputs name next only (Err file_error.Memory) = tt
+
+only_behind_statement : (outputs : List (List ℕ)) (name : List ℕ) (next : Claim → Steps) → ((claim : Claim) → WritesOnly outputs (next claim))
+    → (read : Result Claim TextCause) → WritesOnly outputs (with_statement name next read)
+only_behind_statement outputs name next only (Ok claim) = only claim
+only_behind_statement outputs name next only (Err cause) = tt
+
+-- what is found of a trace decides whether evidence is written
+only_evidence : (name constants : List ℕ) (claim : Claim) (t : Trace) (finding : Finding)
+    → WritesOnly (name ∷ []) (found_steps name constants claim t finding)
+only_evidence name constants claim t accepted = (search rules, λ bytes. tt)
+only_evidence name constants claim t (refused why) = tt
+
+pub commands_write : CommandsWrite
+commands_write nothing steps is = absurd (cc)
+commands_write (hash params numbers) steps is =
+    subst (WritesOnly []) (some_steps _ _ is) (λ bytes. only_behind_params [] params (numbers_steps numbers) (λ constants text. tt) (parameters_of bytes))
+commands_write (assemble params source kernel) steps is =
     subst (WritesOnly []) (some_steps _ _ is)
-    (λ bytes. only_behind_params params (assembly_steps source kernel) (λ constants text. only_behind_kernel kernel _ (λ k. tt)) (parameters_of bytes))
-none_writes (run params source inputs kernel limit) steps is =
+    (λ bytes. only_behind_params [] params (assembly_steps source kernel) (λ constants text. only_behind_kernel [] kernel _ (λ k. tt)) (parameters_of bytes))
+commands_write (run params source inputs kernel limit) steps is =
     subst (WritesOnly []) (some_steps _ _ is)
-    (λ bytes. only_behind_params params (run_source_steps source inputs kernel limit) (λ constants text more.
-    only_behind_inputs inputs (running_steps constants (record { name = source; text = text }) kernel limit)
-    (λ given. only_behind_kernel kernel _ (λ k. tt)) (inputs_of more)) (parameters_of bytes))
+    (λ bytes. only_behind_params [] params (run_source_steps source inputs kernel limit) (λ constants text more.
+    only_behind_inputs [] inputs (running_steps constants (record { name = source; text = text }) kernel limit)
+    (λ given. only_behind_kernel [] kernel _ (λ k. tt)) (inputs_of more)) (parameters_of bytes))
+commands_write (check params table statement evidence) steps is =
+    subst (WritesOnly (evidence ∷ [])) (some_steps _ _ is)
+    (λ bytes. only_behind_params (evidence ∷ []) params (table_steps table statement evidence) (λ constants text.
+    only_behind_trace (evidence ∷ []) table (statement_steps statement evidence constants) (λ t said.
+    only_behind_statement (evidence ∷ []) statement (judging_steps evidence constants t) (λ claim. only_evidence evidence constants claim t)
+    (statement_of said)) (trace_of text)) (parameters_of bytes))
+
+are_steps : (steps : Steps) → Some steps ≡ None → ⊥
+are_steps steps none = cc
 
 no_steps : (command : Asked) → steps_of command ≡ None → command ≡ nothing
 no_steps nothing none = refl
-no_steps (check_strip name) none = absurd (cc)
-no_steps (hash params numbers) none = absurd (cc)
-no_steps (assemble params source kernel) none = absurd (cc)
-no_steps (run params source inputs kernel limit) none = absurd (cc)
+no_steps (hash params numbers) none = absurd (are_steps _ none)
+no_steps (assemble params source kernel) none = absurd (are_steps _ none)
+no_steps (run params source inputs kernel limit) none = absurd (are_steps _ none)
+no_steps (check params table statement evidence) none = absurd (are_steps _ none)
 
 pub usage_means_nothing : UsageMeansNothing
 usage_means_nothing words old new before now serves = no_steps (asked words) (go (steps_of (asked words)) serves)

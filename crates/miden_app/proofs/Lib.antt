@@ -3,4 +3,5 @@ pub mod SourceLemmas
 pub mod ServingLemmas
 pub mod PrintingLemmas
 pub mod LawLemmas
-pub mod StripJudging
+pub mod CheckLemmas
+pub mod EvidenceLaw

@@ -12,9 +12,9 @@ use Rattle.miden_app.specs.declared.outcome.Answer.{Answer}
 use Rattle.miden_app.specs.declared.outcome.Outcome.{Outcome}
 use Rattle.miden_app.specs.declared.outcome.Outcome.TheVariants as outcome
 use Rattle.miden_app.specs.Statuses.{Kind, planned, failed_read, failed_write, kind_of}
-use Rattle.miden_app.specs.Steps.{End, stop, Right, Steps, reading, writing, ending, ends_with, named_line}
-use Rattle.miden_app.specs.Commands.{IsRight, EndsAs}
-use Rattle.miden_app.specs.Serving.{none_yet, past_read, past_write, Leads, Concludes, NoFault, Ends, Stops, FailsAtRead, FailsAtWrite, Works, GivesUp}
+use Rattle.miden_app.specs.Steps.{End, stop, Finding, Question, Right, Steps, reading, writing, asking, ending, ends_with, named_line}
+use Rattle.miden_app.specs.Commands.{Finds, IsRight, EndsAs}
+use Rattle.miden_app.specs.Serving.{none_yet, past_read, past_write, past_finding, Leads, Concludes, NoFault, Ends, Stops, FailsAtRead, FailsAtWrite, Works, GivesUp}
 use Rattle.miden_app.specs.Inside.Outcomes.{Fits, ComesTo, EndsIn, GoesOn, Says}
 
 no_fault : (s : ShelfState) → NoFault s s
@@ -176,3 +176,11 @@ goes_past_write name right next bytes old mid fit is =
   where
     past : (P : Steps → Option Files → Type 0) → Leads (next bytes) P (with_file old.files name bytes) → Leads (writing name right next) P old.files
     past P h = record { left = h.left; now = h.now; passes = past_write name right next bytes fit h.passes; there = h.there }
+
+-- something that was found
+pub goes_past_finding : (question : Question) (next : Finding → Steps) (finding : Finding) (s : ShelfState) → Finds question finding
+    → GoesOn (asking question next) (next finding) s s
+goes_past_finding question next finding s found = goes_further (asking question next) (next finding) s s (no_fault s) past
+  where
+    past : (P : Steps → Option Files → Type 0) → Leads (next finding) P s.files → Leads (asking question next) P s.files
+    past P h = record { left = h.left; now = h.now; passes = past_finding question next finding found h.passes; there = h.there }

@@ -1,21 +1,15 @@
 -- What the words behind the program's name ask for (docs/FORMATS.md).
-use Rattle.std.specs.Prelude.{ℕ, if◌then◌else◌, List, [], ◌∷◌, codes, Option, Some, option_map, unwrap_or}
+use Rattle.std.specs.Prelude.{ℕ, Bool, not, if◌then◌else◌, List, [], ◌∷◌, codes, Option, Some, option_map, unwrap_or}
+use Rattle.std.specs.List.{list_any}
 use Rattle.std.specs.Str.{bytes_eq}
-use Rattle.vm_field.specs.FileName.{is_file_name}
 use Rattle.command_words.specs.Words.{is_form, name_at, optional_name, optional_number}
 
 pub data Asked : Type 0 where
   nothing : Asked  -- the words are of no command
-  check_strip : (strip : List ℕ) → Asked
   hash : (params numbers : List ℕ) → Asked
   assemble : (params source : List ℕ) (kernel : Option (List ℕ)) → Asked
   run : (params source inputs : List ℕ) (kernel : Option (List ℕ)) (limit : ℕ) → Asked
-
--- `check` and the name of a strip, and no other word
-abbrev pub check_words : List (List ℕ) → Asked
-check_words [] = nothing
-check_words (name ∷ []) = if is_file_name name then check_strip name else nothing
-check_words (name ∷ more ∷ words) = nothing
+  check : (params table statement evidence : List ℕ) → Asked
 
 abbrev pub hash_of_names : Option (List ℕ) → Option (List ℕ) → Asked
 hash_of_names (Some params) (Some numbers) = hash params numbers
@@ -53,6 +47,21 @@ run_words words =
     if is_form 3 (codes "--kernel" ∷ codes "--limit" ∷ []) words
     then run_of_names (name_at 0 words) (name_at 1 words) (name_at 2 words) (optional_name (codes "--kernel") words) (limit_in words)
     else nothing
+
+-- no other name is that of an output
+abbrev pub is_apart : List ℕ → List (List ℕ) → Bool
+is_apart output names = not (list_any (bytes_eq output) names)
+
+abbrev pub check_of_names : Option (List ℕ) → Option (List ℕ) → Option (List ℕ) → Option (Option (List ℕ)) → Asked
+check_of_names (Some params) (Some table) (Some statement) (Some (Some evidence)) =
+    if is_apart evidence (params ∷ table ∷ statement ∷ []) then check params table statement evidence else nothing
+check_of_names params table statement evidence = nothing
+
+-- `check`, the names of the parameters, the table file and the statement, and that of the evidence, which no other name is
+abbrev pub check_words : List (List ℕ) → Asked
+check_words words =
+    if is_form 3 (codes "--evidence" ∷ []) words
+    then check_of_names (name_at 0 words) (name_at 1 words) (name_at 2 words) (optional_name (codes "--evidence") words) else nothing
 
 unfoldable pub asked : List (List ℕ) → Asked
 asked [] = nothing

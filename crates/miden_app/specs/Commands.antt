@@ -3,16 +3,19 @@ use Rattle.std.specs.Prelude.{◌≡◌, ℕ, List, Option, Some, None, Result, 
 use Rattle.rpo_hash.specs.declared.params.ParamError.{ParamError}
 use Rattle.rpo_hash.specs.ParamText.{parameters_of}
 use Rattle.miden_app.specs.declared.outcome.Answer.{Answer}
-use Rattle.miden_app.specs.Asked.{Asked, nothing, check_strip, hash, assemble, run}
-use Rattle.miden_app.specs.Steps.{SourceFile, End, stop, strip, assembly, running, Right, exactly, Steps, reading, ending, ends_with}
-use Rattle.strip_table.specs.Grammar.{strip_of}
-use Rattle.miden_app.specs.StripEnds.{JudgesStrip}
+use Rattle.miden_app.specs.Asked.{Asked, nothing, hash, assemble, run, check}
+use Rattle.miden_app.specs.Steps.{SourceFile, End, stop, assembly, running, telling, Right, exactly, evidence_for, Question, checked, Finding, accepted, refused, Steps, reading, writing, asking, ending, ends_with}
 use Rattle.number_files.specs.Grammar.{numbers_of}
 use Rattle.miden_app.specs.HashEnds.{hash_end}
-use Rattle.miden_app.specs.Malformed.{bad_params, bad_inputs}
+use Rattle.miden_app.specs.Malformed.{bad_params, bad_inputs, bad_statement, bad_table}
+use Rattle.miden_app.specs.CheckEnds.{IsEvidenceText, IsFound, TellsEvidence, refusal}
 use Rattle.miden_app.specs.AssembleEnds.{AnswersAssembly}
 use Rattle.miden_app.specs.RunEnds.{AnswersRun}
 use Rattle.statement.specs.Inputs.{Given, inputs_of}
+use Rattle.statement.specs.Statements.{Claim, statement_of}
+use Rattle.air_kit.specs.declared.trace.Trace.{Trace}
+use Rattle.table_file.specs.Files.{trace_of}
+use Rattle.table_file.specs.declared.cause.FileError.{FileError}
 use Rattle.statement.specs.declared.refusal.TextCause.{TextCause}
 
 -- the longest file of a table
@@ -33,8 +36,8 @@ most_source_bytes = 1048576
 abbrev pub most_inputs_bytes : ℕ
 most_inputs_bytes = 33554432
 
-abbrev pub check_steps : List ℕ → Steps
-check_steps name = reading name most_table_bytes (λ bytes. ending (strip name (strip_of bytes)))
+abbrev pub most_statement_bytes : ℕ
+most_statement_bytes = 16777216
 
 -- a command that reads a file of parameters of this name goes on with the constants that it writes
 abbrev pub with_params : List ℕ → (List ℕ → Steps) → Result (List ℕ) ParamError → Steps
@@ -80,21 +83,56 @@ abbrev pub run_steps : List ℕ → List ℕ → List ℕ → Option (List ℕ) 
 run_steps params source inputs kernel limit =
     reading params most_params_bytes (λ bytes. with_params params (run_source_steps source inputs kernel limit) (parameters_of bytes))
 
+-- A trace that is accepted has evidence, which is written and told; one that is refused is refused by name.
+abbrev pub found_steps : List ℕ → List ℕ → Claim → Trace → Finding → Steps
+found_steps name constants claim trace accepted = writing name (evidence_for constants claim trace) (λ bytes. ending (telling constants claim trace bytes))
+found_steps name constants claim trace (refused why) = ending (refusal why)
+
+abbrev pub judging_steps : List ℕ → List ℕ → Trace → Claim → Steps
+judging_steps evidence constants trace claim = asking (checked constants claim trace) (found_steps evidence constants claim trace)
+
+-- a command that reads a statement of this name goes on with what it claims
+abbrev pub with_statement : List ℕ → (Claim → Steps) → Result Claim TextCause → Steps
+with_statement name next (Ok claim) = next claim
+with_statement name next (Err cause) = ending (bad_statement name cause)
+
+abbrev pub statement_steps : List ℕ → List ℕ → List ℕ → Trace → Steps
+statement_steps statement evidence constants trace =
+    reading statement most_statement_bytes (λ bytes. with_statement statement (judging_steps evidence constants trace) (statement_of bytes))
+
+-- a command that reads a table file of this name goes on with its trace
+abbrev pub with_trace : List ℕ → (Trace → Steps) → Result Trace FileError → Steps
+with_trace name next (Ok trace) = next trace
+with_trace name next (Err e) = ending (bad_table name e)
+
+abbrev pub table_steps : List ℕ → List ℕ → List ℕ → List ℕ → Steps
+table_steps table statement evidence constants =
+    reading table most_table_bytes (λ bytes. with_trace table (statement_steps statement evidence constants) (trace_of bytes))
+
+abbrev pub check_steps : List ℕ → List ℕ → List ℕ → List ℕ → Steps
+check_steps params table statement evidence =
+    reading params most_params_bytes (λ bytes. with_params params (table_steps table statement evidence) (parameters_of bytes))
+
 -- The steps of each command; words of no command have none.
 abbrev pub steps_of : Asked → Option Steps
 steps_of nothing = None
-steps_of (check_strip name) = Some (check_steps name)
 steps_of (hash params numbers) = Some (hash_steps params numbers)
 steps_of (assemble params source kernel) = Some (assemble_steps params source kernel)
 steps_of (run params source inputs kernel limit) = Some (run_steps params source inputs kernel limit)
+steps_of (check params table statement evidence) = Some (check_steps params table statement evidence)
 
 -- what a command may end with
 abbrev pub EndsAs : End → Answer → Type 0
 EndsAs (stop s line) a = a ≡ ends_with s line
-EndsAs (strip name rows) a = JudgesStrip name rows a
 EndsAs (assembly constants source kernel) a = AnswersAssembly constants source kernel a
 EndsAs (running constants source kernel given limit) a = AnswersRun constants source kernel given limit a
+EndsAs (telling constants claim trace written) a = TellsEvidence constants claim trace written a
 
 -- what may be written
 abbrev pub IsRight : Right → List ℕ → Type 0
 IsRight (exactly bytes) written = written ≡ bytes
+IsRight (evidence_for constants claim trace) written = IsEvidenceText constants claim trace written
+
+-- what may be found
+abbrev pub Finds : Question → Finding → Type 0
+Finds (checked constants claim trace) finding = IsFound constants claim trace finding

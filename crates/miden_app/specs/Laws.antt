@@ -1,12 +1,19 @@
 -- What follows from the contract of `serve`, whatever the command.
-use Rattle.std.specs.Prelude.{◌≡◌, ◌⊎◌, ℕ, List, [], Contains, Some}
-use Rattle.std.specs.FinMap.{get}
+use Rattle.std.specs.Prelude.{◌≡◌, ◌⊎◌, ℕ, List, [], ◌∷◌, Contains, Some, IsSomeAnd, Ok}
+use Rattle.std.specs.FinMap.{get, insert}
+use Rattle.rpo_hash.specs.ParamText.{parameters_of}
+use Rattle.block_tree.specs.declared.evidence.Evidence.{Evidence}
+use Rattle.statement.specs.Statements.{Claim, statement_of}
+use Rattle.statement.specs.EvidenceText.{evidence_text}
+use Rattle.air_kit.specs.declared.trace.Trace.{Trace}
+use Rattle.table_file.specs.Files.{trace_of}
 use Rattle.vm_io.specs.Shelf.{Files, ShelfState}
-use Rattle.vm_io.specs.Sink.{SinkState}
+use Rattle.vm_io.specs.Sink.{SinkState, with_piece}
 use Rattle.miden_app.specs.declared.status.Status.{Status}
 use Rattle.miden_app.specs.declared.status.Status.TheVariants as status
-use Rattle.miden_app.specs.Asked.{Asked, nothing, asked}
-use Rattle.miden_app.specs.Steps.{Steps, reading, writing, ending}
+use Rattle.miden_app.specs.Asked.{Asked, nothing, hash, assemble, run, check, asked}
+use Rattle.miden_app.specs.Steps.{Finding, accepted, Steps, reading, writing, asking, ending}
+use Rattle.miden_app.specs.CheckEnds.{IsEvidenceFor, IsFound, accepted_line}
 use Rattle.miden_app.specs.Commands.{steps_of}
 use Rattle.miden_app.specs.Serving.{Serves}
 
@@ -14,6 +21,7 @@ use Rattle.miden_app.specs.Serving.{Serves}
 abbrev pub WritesOnly : List (List ℕ) → Steps → Type 0
 WritesOnly outputs (reading name most next) = (bytes : List ℕ) → WritesOnly outputs (next bytes)
 WritesOnly outputs (writing name right next) = Contains outputs name × ((bytes : List ℕ) → WritesOnly outputs (next bytes))
+WritesOnly outputs (asking question next) = (finding : Finding) → WritesOnly outputs (next finding)
 WritesOnly outputs (ending end) = Unit {0}
 
 -- the files of m stay in n, but under these names
@@ -27,9 +35,17 @@ OtherFilesStay =
     → Serves words s old new before now → steps_of (asked words) ≡ Some steps → WritesOnly outputs steps → old.files ≡ Some m
     → (n : Files) × (new.files ≡ Some n) × StayBeside outputs m n
 
--- None of the commands writes.
-abbrev pub NoneWrites : Type 0
-NoneWrites = (command : Asked) (steps : Steps) → steps_of command ≡ Some steps → WritesOnly [] steps
+-- the files that a command writes: `check` its evidence
+abbrev pub outputs_of : Asked → List (List ℕ)
+outputs_of nothing = []
+outputs_of (hash params numbers) = []
+outputs_of (assemble params source kernel) = []
+outputs_of (run params source inputs kernel limit) = []
+outputs_of (check params table statement evidence) = evidence ∷ []
+
+-- no command writes other files
+abbrev pub CommandsWrite : Type 0
+CommandsWrite = (command : Asked) (steps : Steps) → steps_of command ≡ Some steps → WritesOnly (outputs_of command) steps
 
 -- `Usage` comes of no words but those of no command,
 abbrev pub UsageMeansNothing : Type 0
@@ -41,3 +57,28 @@ abbrev pub NothingGivesUsage : Type 0
 NothingGivesUsage =
     (words : List (List ℕ)) (s : Status) (old new : ShelfState) (before now : SinkState) → Serves words s old new before now → asked words ≡ nothing
     → (new ≡ old) × ((s ≡ status.Usage) ⊎ ((s ≡ status.SinkFault) ⊎ (s ≡ status.Memory)))
+
+-- what the three files of `check` say, and that it is accepted
+pub record AreAccepted (params table statement : List ℕ) (m : Files) : Type 0 where
+  pub constants : List ℕ
+  pub trace : Trace
+  pub claim : Claim
+  pub params_say : IsSomeAnd (get m params) (λ bytes. parameters_of bytes ≡ Ok constants)
+  pub table_says : IsSomeAnd (get m table) (λ bytes. trace_of bytes ≡ Ok trace)
+  pub statement_says : IsSomeAnd (get m statement) (λ bytes. statement_of bytes ≡ Ok claim)
+  pub found : IsFound constants claim trace accepted
+
+-- evidence of it stands under the output's name, beside the files of m, and the line that tells of it was printed
+pub record EvidenceStands (params table statement output : List ℕ) (m : Files) (new : ShelfState) (before now : SinkState) : Type 0 where
+  pub files_say : AreAccepted params table statement m
+  pub evidence : Evidence
+  pub is_evidence : IsEvidenceFor files_say.constants files_say.claim files_say.trace evidence
+  pub files : new.files ≡ Some (insert m output (evidence_text evidence))
+  pub taken : now ≡ record before { taken = with_piece before.taken (accepted_line evidence) }
+
+-- Where `check` answers `Ok`, its files are accepted, and what it wrote is evidence.
+abbrev pub AcceptedHasEvidence : Type 0
+AcceptedHasEvidence =
+    (words : List (List ℕ)) (old new : ShelfState) (before now : SinkState) (params table statement output : List ℕ) (m : Files)
+    → Serves words status.Ok old new before now → asked words ≡ check params table statement output → old.files ≡ Some m
+    → EvidenceStands params table statement output m new before now

@@ -5,7 +5,7 @@ pub mod Commands
 pub mod Serving
 pub mod Laws
 pub mod Inside
-pub mod StripEnds
+pub mod CheckEnds
 pub mod HashEnds
 pub mod Malformed
 pub mod SourceEnds

@@ -9,8 +9,8 @@ use Rattle.miden_app.specs.declared.status.Status.TheVariants as status
 use Rattle.miden_app.specs.declared.outcome.Answer.{Answer}
 use Rattle.miden_app.specs.Statuses.{Kind, planned, no_command, failed_read, failed_write, failed_print, no_memory, kind_of}
 use Rattle.miden_app.specs.Asked.{asked}
-use Rattle.miden_app.specs.Steps.{Right, Steps, reading, writing, ending, ends_with, named_line}
-use Rattle.miden_app.specs.Commands.{steps_of, EndsAs, IsRight}
+use Rattle.miden_app.specs.Steps.{Finding, Question, Right, Steps, reading, writing, asking, ending, ends_with, named_line}
+use Rattle.miden_app.specs.Commands.{steps_of, EndsAs, Finds, IsRight}
 
 -- as far as the files are told, this stands under the name
 abbrev pub Holds : Option Files → List ℕ → Option (List ℕ) → Type 0
@@ -24,6 +24,8 @@ pub data Passes : Steps → Option Files → Steps → Option Files → Type 0 w
       → Holds m name (Some bytes) → length bytes ≤ most → Passes (next bytes) m left n → Passes (reading name most next) m left n
   past_write : (name : List ℕ) (right : Right) (next : List ℕ → Steps) (bytes : List ℕ) {m n : Option Files} {left : Steps}
       → IsRight right bytes → Passes (next bytes) (with_file m name bytes) left n → Passes (writing name right next) m left n
+  past_finding : (question : Question) (next : Finding → Steps) (finding : Finding) {m n : Option Files} {left : Steps}
+      → Finds question finding → Passes (next finding) m left n → Passes (asking question next) m left n
 
 -- The steps come to a place where P holds of those that are left and of the files.
 pub record Leads (steps : Steps) (P : Steps → Option Files → Type 0) (m : Option Files) : Type 0 where
@@ -41,18 +43,21 @@ RefusesFile name most (Some bytes) a = (most < length bytes) × (a ≡ ends_with
 abbrev pub Concludes : Steps → Option Files → Answer → Type 0
 Concludes (reading name most next) m a = (file : Option (List ℕ)) × Holds m name file × RefusesFile name most file a
 Concludes (writing name right next) m a = ⊥
+Concludes (asking question next) m a = ⊥
 Concludes (ending end) m a = EndsAs end a
 
 -- the next step reads this file
 abbrev pub IsReading : List ℕ → Steps → Type 0
 IsReading wanted (reading name most next) = wanted ≡ name
 IsReading wanted (writing name right next) = ⊥
+IsReading wanted (asking question next) = ⊥
 IsReading wanted (ending end) = ⊥
 
 -- the next step writes this file, and these bytes are right
 abbrev pub IsWriting : List ℕ → List ℕ → Steps → Type 0
 IsWriting wanted bytes (reading name most next) = ⊥
 IsWriting wanted bytes (writing name right next) = (wanted ≡ name) × IsRight right bytes
+IsWriting wanted bytes (asking question next) = ⊥
 IsWriting wanted bytes (ending end) = ⊥
 
 pub record NoFault (old new : ShelfState) : Type 0 where

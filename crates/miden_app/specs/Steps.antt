@@ -3,6 +3,9 @@ use Rattle.std.specs.Prelude.{ℕ, List, ◌++◌, codes, Option}
 use Rattle.miden_app.specs.declared.status.Status.{Status}
 use Rattle.miden_app.specs.declared.outcome.Answer.{Answer}
 use Rattle.statement.specs.Inputs.{Given}
+use Rattle.statement.specs.Statements.{Claim}
+use Rattle.air_kit.specs.declared.trace.Trace.{Trace}
+use Rattle.checker.specs.declared.refusal.Refused.{Refused}
 
 -- a file of source: its name and its bytes
 pub record SourceFile : Type 0 where
@@ -13,23 +16,36 @@ pub record SourceFile : Type 0 where
 pub data End : Type 0 where
   -- a status and a line that are determined
   stop : (s : Status) (line : List ℕ) → End
-  -- a strip of this name is judged by its rows; there are none where the file is no strip
-  strip : (name : List ℕ) (rows : Option (List (List ℕ))) → End
   -- a source is assembled under these constants, with a kernel where there is one
   assembly : (constants : List ℕ) (source : SourceFile) (kernel : Option SourceFile) → End
   -- it is assembled so and run on these inputs, within so many cycles
   running : (constants : List ℕ) (source : SourceFile) (kernel : Option SourceFile) (given : Given) (limit : ℕ) → End
+  -- it is told what evidence was written for a trace, under these constants, of what is claimed
+  telling : (constants : List ℕ) (claim : Claim) (trace : Trace) (written : List ℕ) → End
 
 -- Which bytes are right for a file that is written. There may be several.
 pub data Right : Type 0 where
   exactly : (bytes : List ℕ) → Right
+  -- the text of evidence for a trace, under these constants, of what is claimed
+  evidence_for : (constants : List ℕ) (claim : Claim) (trace : Trace) → Right
 
--- What was read and written decides how the steps go on.
+-- What is looked into between two steps, with no call of the shelf, and what is found.
+pub data Question : Type 0 where
+  -- whether a trace is accepted, under these constants, for what is claimed
+  checked : (constants : List ℕ) (claim : Claim) (trace : Trace) → Question
+
+pub data Finding : Type 0 where
+  accepted : Finding
+  refused : (why : Refused) → Finding
+
+-- What was read, written and found decides how the steps go on.
 pub data Steps : Type 0 where
   -- a file of at most so many bytes is read
   reading : (name : List ℕ) (most : ℕ) (next : List ℕ → Steps) → Steps
   -- right bytes are written
   writing : (name : List ℕ) (right : Right) (next : List ℕ → Steps) → Steps
+  -- something is looked into
+  asking : (question : Question) (next : Finding → Steps) → Steps
   ending : (end : End) → Steps
 
 abbrev pub ends_with : Status → List ℕ → Answer

@@ -1,10 +1,10 @@
-ghost use Rattle.miden_app.specs.Laws.{OtherFilesStay, NoneWrites, UsageMeansNothing, NothingGivesUsage};
+ghost use Rattle.miden_app.specs.Laws.{OtherFilesStay, CommandsWrite, UsageMeansNothing, NothingGivesUsage, AcceptedHasEvidence};
 
 /// Which files `serve` may change, over a shelf that tells its files: whatever the answer, those
-/// that the command writes and no others. None of the commands writes.
+/// that the command writes and no others: `check` writes its evidence, and no other command a file.
 pub fn other_files_stay()
     ensures stay { OtherFilesStay }
-    ensures none { NoneWrites }
+    ensures write { CommandsWrite }
 {}
 
 /// `Usage` comes exactly at words of no command, unless printing fails or memory is refused. They
@@ -13,4 +13,12 @@ pub fn other_files_stay()
 pub fn usage_is_for_no_command()
     ensures only { UsageMeansNothing }
     ensures always { NothingGivesUsage }
+{}
+
+/// What `check` vouches for, over a shelf that tells its files: where it answers `Ok`, the table file is
+/// accepted for the statement under the parameters, and what stands under the evidence's name is the text of
+/// evidence: a run of a tree of the statement's digest, from its inputs to its outputs, or two hashes of the
+/// file that have different inputs and one digest.
+pub fn accepted_has_evidence()
+    ensures { AcceptedHasEvidence }
 {}

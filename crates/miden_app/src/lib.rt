@@ -2,6 +2,7 @@
 #![tactic(auto)]
 
 mod assembly;
+mod checking;
 mod hash;
 mod laws;
 mod lines;
@@ -13,9 +14,8 @@ mod saving;
 mod serving;
 mod source;
 mod status;
-mod strip;
 mod words;
 
-pub use laws::{other_files_stay, usage_is_for_no_command};
+pub use laws::{accepted_has_evidence, other_files_stay, usage_is_for_no_command};
 pub use serving::serve;
 pub use status::Status;

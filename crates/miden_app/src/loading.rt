@@ -17,6 +17,12 @@ pub const MOST_SOURCE_BYTES: u64 = 1_048_576;
 /// The longest file of inputs, in bytes.
 pub const MOST_INPUTS_BYTES: u64 = 33_554_432;
 
+/// The longest statement, in bytes.
+pub const MOST_STATEMENT_BYTES: u64 = 16_777_216;
+
+/// The longest table file, in bytes.
+pub const MOST_TABLE_BYTES: u64 = 1_073_741_824;
+
 /// Reads a file of at most `most` bytes. An `Err` is how the command ends, whatever was to come
 /// next.
 #[tactic(auto, using(crate::proofs::ServingLemmas::goes_past_read, crate::proofs::ServingLemmas::same_again))]

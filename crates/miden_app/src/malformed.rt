@@ -2,13 +2,15 @@
 ghost use Rattle.std.specs.Prelude.{◌≡◌, IfOk};
 ghost use Rattle.rpo_hash.specs.CauseText.{cause_text as param_cause_text};
 ghost use Rattle.miden_app.specs.Inside.Outcomes.{Says};
-ghost use Rattle.miden_app.specs.Malformed.{malformed_line, malformed_text_line};
+ghost use Rattle.miden_app.specs.Malformed.{malformed_line, malformed_table_line, malformed_text_line};
 
+use crate::lines::append_number;
 use crate::outcome::{Outcome, answered};
 use crate::status::Status;
 use rpo_hash::{ParamCause, ParamError};
 use statement::{TextCause, cause_text};
 use std::alloc::Global;
+use table_file::{FileCause, cause_text as file_cause_text};
 use vm_field::{Bytes, Memory};
 
 /// `malformed NAME line N CAUSE`
@@ -55,6 +57,35 @@ fn malformed_text_line(alloc: Global, name: &str, cause: TextCause) -> Result<By
     text.append(name.as_bytes())?;
     text.append(b" ")?;
     text.append(cause_text(cause).as_bytes())?;
+    text.append(b"\n")?;
+    Ok(text)
+}
+
+/// `malformed NAME offset N CAUSE`
+#[tactic(auto, using(crate::proofs::OutcomeLemmas::says_line))]
+pub fn malformed_table(alloc: Global, name: &str, offset: u64, cause: FileCause) -> Outcome
+    ensures { Says result Status.Malformed (malformed_table_line name.now offset cause) }
+{
+    answered(
+        Status::Malformed,
+        malformed_table_line(alloc, name, offset, cause),
+    )
+}
+
+fn malformed_table_line(
+    alloc: Global,
+    name: &str,
+    offset: u64,
+    cause: FileCause,
+) -> Result<Bytes, Memory>
+    ensures { IfOk result (λ text. text ≡ malformed_table_line name.now offset cause) }
+{
+    let mut text = Bytes::copied(alloc, b"malformed ")?;
+    text.append(name.as_bytes())?;
+    text.append(b" offset ")?;
+    append_number(&mut text, offset)?;
+    text.append(b" ")?;
+    text.append(file_cause_text(cause).as_bytes())?;
     text.append(b"\n")?;
     Ok(text)
 }

@@ -6,11 +6,11 @@ ghost use Rattle.miden_app.specs.Inside.Outcomes.{EndsIn, PrintStep, Says};
 ghost use Rattle.miden_app.specs.Serving.{Serves};
 
 use crate::assembly::assemble_files;
+use crate::checking::{CheckNames, check_files};
 use crate::hash::hash_files;
 use crate::outcome::{Outcome, answered};
 use crate::running::run_files;
 use crate::status::Status;
-use crate::strip::check_strip_file;
 use crate::words::{Command, command_of};
 use std::alloc::Global;
 use vm_field::Bytes;
@@ -34,22 +34,21 @@ pub fn serve<F: Shelf, K: Sink, G: Gate>(
     words: &[Vec<u8>],
     shelf: &mut F,
     out: &mut K,
-    _gate: &G,
+    gate: &G,
 ) -> Status
     ensures { Serves (texts words.now) result (F.state shelf.old) (F.state shelf.new)
         (K.state out.old) (K.state out.new) }
 {
-    let outcome = obey(alloc, words, shelf);
+    let outcome = obey(alloc, words, shelf, gate);
     print(alloc, out, outcome)
 }
 
 // Does the work of the command, and leaves its line to be printed.
 #[tactic(auto, using(crate::proofs::ServingLemmas::usage_ends))]
-fn obey<F: Shelf>(alloc: Global, words: &[Vec<u8>], shelf: &mut F) -> Outcome
+fn obey<F: Shelf, G: Gate>(alloc: Global, words: &[Vec<u8>], shelf: &mut F, gate: &G) -> Outcome
     ensures { EndsIn (steps_of (asked (texts words.now))) result (F.state shelf.old) (F.state shelf.new) }
 {
     match command_of(words) {
-        Command::CheckStrip { strip } => check_strip_file(alloc, shelf, strip),
         Command::Hash { params, numbers } => hash_files(alloc, shelf, params, numbers),
         Command::Assemble {
             params,
@@ -63,6 +62,22 @@ fn obey<F: Shelf>(alloc: Global, words: &[Vec<u8>], shelf: &mut F) -> Outcome
             kernel,
             limit,
         } => run_files(alloc, shelf, params, source, inputs, kernel, limit),
+        Command::Check {
+            params,
+            table,
+            statement,
+            evidence,
+        } => check_files(
+            alloc,
+            shelf,
+            gate,
+            params,
+            CheckNames {
+                table,
+                statement,
+                evidence,
+            },
+        ),
         Command::Nothing => usage(alloc),
     }
 }

@@ -1,19 +1,15 @@
 //! What the words behind the program's name ask for.
-ghost use Rattle.std.specs.Prelude.{◌≡◌, ◌≤◌, IfSome};
+ghost use Rattle.std.specs.Prelude.{◌≡◌, ◌≤◌, length, Some, IfSome};
 ghost use Rattle.command_words.specs.Words.{texts};
-ghost use Rattle.miden_app.specs.Asked.{nothing, check_strip, hash, assemble, check_words, hash_words, hash_of_names, assemble_words, assemble_of_names, run, run_words, run_of_names, limit_in, asked};
+ghost use Rattle.miden_app.specs.Asked.{nothing, hash, assemble, check, check_words, check_of_names, is_apart, hash_words, hash_of_names, assemble_words, assemble_of_names, run, run_words, run_of_names, limit_in, asked};
 ghost use Rattle.miden_app.specs.Inside.Asking.{asks, IsNamed};
 
-use command_words::{file_name, is_form, name_at, optional_name, optional_number};
+use command_words::{is_form, name_at, optional_name, optional_number};
 
 /// What the words after the program's name ask for.
 pub enum Command<'a> {
     /// The words are of no command.
     Nothing,
-    /// `check` of a strip.
-    CheckStrip {
-        strip: &'a str,
-    },
     /// `hash` of numbers under parameters.
     Hash {
         params: &'a str,
@@ -32,6 +28,13 @@ pub enum Command<'a> {
         inputs: &'a str,
         kernel: Option<&'a str>,
         limit: u32,
+    },
+    /// `check` of a table file against a statement, with the name of the evidence.
+    Check {
+        params: &'a str,
+        table: &'a str,
+        statement: &'a str,
+        evidence: &'a str,
     },
 }
 
@@ -57,12 +60,46 @@ fn check_of(words: &[Vec<u8>]) -> Command<'_>
     ensures asks { asks result ≡ check_words (texts words.entry.now) }
     ensures named { IsNamed result }
 {
-    let [strip] = words else {
+    if !is_form(3, &["--evidence"], words) {
+        return Command::Nothing;
+    }
+    let Some(params) = name_at(0, words) else {
         return Command::Nothing;
     };
-    match file_name(strip.as_slice()) {
-        Some(strip) => Command::CheckStrip { strip },
-        None => Command::Nothing,
+    let Some(table) = name_at(1, words) else {
+        return Command::Nothing;
+    };
+    let Some(statement) = name_at(2, words) else {
+        return Command::Nothing;
+    };
+    match optional_name("--evidence", words) {
+        Some(Some(evidence)) => check_with(params, table, statement, evidence),
+        _ => Command::Nothing,
+    }
+}
+
+// The evidence is written, so that no other file may have its name.
+fn check_with<'a>(
+    params: &'a str,
+    table: &'a str,
+    statement: &'a str,
+    evidence: &'a str,
+) -> Command<'a>
+    requires params { length params.now ≤ 200 }
+    requires table { length table.now ≤ 200 }
+    requires statement { length statement.now ≤ 200 }
+    requires evidence { length evidence.now ≤ 200 }
+    ensures asks { asks result ≡ check_of_names (Some params.entry.now) (Some table.entry.now) (Some statement.entry.now) (Some (Some evidence.entry.now)) }
+    ensures named { IsNamed result }
+{
+    if evidence == params || evidence == table || evidence == statement {
+        return Command::Nothing;
+    }
+    Command::Check {
+        params,
+        table,
+        statement,
+        evidence,
     }
 }
 

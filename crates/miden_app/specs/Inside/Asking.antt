@@ -2,22 +2,23 @@
 use Rattle.std.specs.Prelude.{◌≤◌, length, option_map, IfSome}
 use Rattle.miden_app.specs.declared.words.Command.{Command}
 use Rattle.miden_app.specs.declared.words.Command.TheVariants as command
-use Rattle.miden_app.specs.Asked.{Asked, nothing, check_strip, hash, assemble, run}
+use Rattle.miden_app.specs.Asked.{Asked, nothing, hash, assemble, run, check}
 
 abbrev pub asks : Command → Asked
 asks command.Nothing = nothing
-asks (command.CheckStrip strip) = check_strip strip.now
 asks (command.Hash params numbers) = hash params.now numbers.now
 asks (command.Assemble params source kernel) = assemble params.now source.now (option_map (λ k. k.now) kernel)
 asks (command.Run params source inputs kernel limit) = run params.now source.now inputs.now (option_map (λ k. k.now) kernel) limit
+asks (command.Check params table statement evidence) = check params.now table.now statement.now evidence.now
 
 -- its names are those of files
 abbrev pub IsNamed : Command → Type 0
 IsNamed command.Nothing = Unit {0}
-IsNamed (command.CheckStrip strip) = length strip.now ≤ 200
 IsNamed (command.Hash params numbers) = (length params.now ≤ 200) × (length numbers.now ≤ 200)
 IsNamed (command.Assemble params source kernel) =
     (length params.now ≤ 200) × (length source.now ≤ 200) × IfSome kernel (λ k. length k.now ≤ 200)
 IsNamed (command.Run params source inputs kernel limit) =
     (length params.now ≤ 200) × (length source.now ≤ 200) × (length inputs.now ≤ 200) × IfSome kernel (λ k. length k.now ≤ 200)
     × (limit ≤ 524287)
+IsNamed (command.Check params table statement evidence) =
+    (length params.now ≤ 200) × (length table.now ≤ 200) × (length statement.now ≤ 200) × (length evidence.now ≤ 200)

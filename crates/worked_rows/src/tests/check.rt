@@ -1,161 +1,254 @@
 use crate::tests::content::Content;
-use crate::tests::row::{Row, all_hold};
+use crate::tests::row::{Row, all_hold, all_write, all_wrong};
 use std::test::Fail;
 
-static ROWS: [Row; 15] = [
+// The statement of `begin end`.
+const STATEMENT: &str =
+    "{\"digest\":\"0000000000000000000000000000000000000000000000000000000000000000\",\"inputs\":[],\"kernel\":[],\"outputs\":[0,0,0,0,0,0,0,0,0,0,0,0,0,0,0,0]}";
+
+// That of a program of another digest.
+const OTHER_DIGEST: &str =
+    "{\"digest\":\"0000000000000001000000000000000000000000000000000000000000000000\",\"inputs\":[],\"kernel\":[],\"outputs\":[0,0,0,0,0,0,0,0,0,0,0,0,0,0,0,0]}";
+
+// One whose kernel has a word twice.
+const REPEATED: &str =
+    "{\"digest\":\"0000000000000000000000000000000000000000000000000000000000000000\",\"inputs\":[],\"kernel\":[\"0000000000000000000000000000000000000000000000000000000000000000\",\"0000000000000000000000000000000000000000000000000000000000000000\"],\"outputs\":[0,0,0,0,0,0,0,0,0,0,0,0,0,0,0,0]}";
+
+const EVIDENCE: &str = "run\ncycles 3\ntape\nspan 1\nbatch 0 0 0 0 0 0 0 0\n";
+
+static ACCEPTED: [Row; 3] = [
     Row {
-        words: &["check", "t"],
-        files: &[("t", Content::Strip(&[(79, [0, 0, 0])], 196))],
+        words: &["check", "z", "t", "s", "--evidence", "e"],
+        files: &[
+            ("z", Content::Lines(168, 0, "")),
+            ("t", Content::Table(&[], 3748)),
+            ("s", Content::Text(STATEMENT)),
+        ],
         failing_call: 0,
         failing_write: 0,
         number: 0,
-        printed: "accepted\n",
+        printed: "accepted run\n",
     },
     Row {
-        words: &["check", "t"],
-        files: &[(
-            "t",
-            Content::Strip(&[(4, [1, 2, 0]), (37, [2, 2, 0]), (79, [4, 0, 0])], 564),
-        )],
+        words: &["check", "--evidence=e", "z", "--", "t", "s"],
+        files: &[
+            ("z", Content::Lines(168, 0, "")),
+            ("t", Content::Table(&[], 3748)),
+            ("s", Content::Text(STATEMENT)),
+        ],
         failing_call: 0,
         failing_write: 0,
         number: 0,
-        printed: "accepted INCR ADD\n",
+        printed: "accepted run\n",
     },
     Row {
-        words: &["check", "t"],
-        files: &[(
-            "t",
-            Content::Strip(&[(4, [1, 2, 0]), (37, [2, 2, 0]), (79, [5, 0, 0])], 564),
-        )],
+        words: &["check", "z", "t", "s", "--evidence", "e"],
+        files: &[
+            ("z", Content::Lines(168, 0, "")),
+            ("t", Content::Table(&[], 3748)),
+            ("s", Content::Text(STATEMENT)),
+        ],
         failing_call: 0,
-        failing_write: 0,
-        number: 1,
-        printed: "refused strip row 1 constraint 11 value 1\n",
+        failing_write: 1,
+        number: 9,
+        printed: "accept",
     },
+];
+
+static REFUSED: [Row; 14] = [
     Row {
-        words: &["check", "t"],
-        files: &[("t", Content::Strip(&[(0, [0, 0, 0])], 196))],
-        failing_call: 0,
-        failing_write: 0,
-        number: 1,
-        printed: "refused strip row 0 constraint 9 value 1\n",
-    },
-    Row {
-        words: &["check", "t"],
-        files: &[("t", Content::Strip(&[(79, [0, 0, 0])], 195))],
+        words: &["check", "z", "t", "s", "--evidence", "e"],
+        files: &[
+            ("z", Content::Lines(168, 0, "")),
+            ("t", Content::Table(&[], 3747)),
+            ("s", Content::Text(STATEMENT)),
+        ],
         failing_call: 0,
         failing_write: 0,
         number: 10,
-        printed: "malformed t\n",
+        printed: "malformed t offset 3740 Ended\n",
     },
     Row {
-        words: &["check", "t"],
-        files: &[],
+        words: &["check", "z", "t", "s", "--evidence", "e"],
+        files: &[
+            ("z", Content::Lines(168, 0, "")),
+            ("t", Content::Table(&[(463, 18446744069414584321)], 3748)),
+            ("s", Content::Text(STATEMENT)),
+        ],
+        failing_call: 0,
+        failing_write: 0,
+        number: 10,
+        printed: "malformed t offset 3740 Element\n",
+    },
+    Row {
+        words: &["check", "z", "t", "s", "--evidence", "e"],
+        files: &[
+            ("z", Content::Lines(168, 0, "")),
+            ("t", Content::Table(&[], 3749)),
+            ("s", Content::Text(STATEMENT)),
+        ],
+        failing_call: 0,
+        failing_write: 0,
+        number: 10,
+        printed: "malformed t offset 3748 Extra\n",
+    },
+    Row {
+        words: &["check", "z", "t", "s", "--evidence", "e"],
+        files: &[
+            ("z", Content::Lines(168, 0, "")),
+            ("t", Content::Text("")),
+            ("s", Content::Text(STATEMENT)),
+        ],
+        failing_call: 0,
+        failing_write: 0,
+        number: 10,
+        printed: "malformed t offset 0 Ended\n",
+    },
+    Row {
+        words: &["check", "z", "t", "s", "--evidence", "e"],
+        files: &[
+            ("z", Content::Lines(168, 0, "")),
+            ("t", Content::Text("MDTB\0\0\0\0")),
+            ("s", Content::Text(STATEMENT)),
+        ],
+        failing_call: 0,
+        failing_write: 0,
+        number: 10,
+        printed: "malformed t offset 4 Version\n",
+    },
+    Row {
+        words: &["check", "z", "t", "s", "--evidence", "e"],
+        files: &[
+            ("z", Content::Lines(168, 0, "")),
+            ("t", Content::Table(&[], 3748)),
+            ("s", Content::Text("{}")),
+        ],
+        failing_call: 0,
+        failing_write: 0,
+        number: 10,
+        printed: "malformed s Shape\n",
+    },
+    Row {
+        words: &["check", "z", "t", "s", "--evidence", "e"],
+        files: &[
+            ("z", Content::Lines(168, 0, "")),
+            ("t", Content::Table(&[], 3748)),
+            ("s", Content::Text(REPEATED)),
+        ],
+        failing_call: 0,
+        failing_write: 0,
+        number: 10,
+        printed: "malformed s Repeated\n",
+    },
+    Row {
+        words: &["check", "z", "t", "s", "--evidence", "e"],
+        files: &[
+            ("z", Content::Lines(167, 0, "")),
+            ("t", Content::Table(&[], 3748)),
+            ("s", Content::Text(STATEMENT)),
+        ],
+        failing_call: 0,
+        failing_write: 0,
+        number: 10,
+        printed: "malformed z line 168 Ended\n",
+    },
+    Row {
+        words: &["check", "z", "t", "s", "--evidence", "e"],
+        files: &[
+            ("z", Content::Lines(168, 0, "")),
+            ("s", Content::Text(STATEMENT)),
+        ],
         failing_call: 0,
         failing_write: 0,
         number: 6,
         printed: "missing t\n",
     },
     Row {
-        words: &["check", "a/b"],
-        files: &[("a/b", Content::Strip(&[(79, [0, 0, 0])], 196))],
-        failing_call: 0,
-        failing_write: 0,
-        number: 0,
-        printed: "accepted\n",
-    },
-    Row {
-        words: &["check", "t"],
-        files: &[(
-            "t",
-            Content::Strip(&[(4, [1, 2, 0]), (37, [2, 2, 0]), (79, [4, 0, 0])], 564),
-        )],
-        failing_call: 1,
+        words: &["check", "z", "t", "s", "--evidence", "e"],
+        files: &[
+            ("z", Content::Lines(168, 0, "")),
+            ("t", Content::Table(&[], 3748)),
+            ("s", Content::Text(STATEMENT)),
+        ],
+        failing_call: 2,
         failing_write: 0,
         number: 7,
         printed: "read fault t\n",
     },
     Row {
-        words: &["check", "t"],
-        files: &[(
-            "t",
-            Content::Strip(&[(4, [1, 2, 0]), (37, [2, 2, 0]), (79, [4, 0, 0])], 564),
-        )],
-        failing_call: 2,
+        words: &["check", "z", "t", "s", "--evidence", "e"],
+        files: &[
+            ("z", Content::Lines(168, 0, "")),
+            ("t", Content::Table(&[], 3748)),
+            ("s", Content::Text(STATEMENT)),
+        ],
+        failing_call: 4,
         failing_write: 0,
-        number: 0,
-        printed: "accepted INCR ADD\n",
+        number: 8,
+        printed: "write fault e\n",
     },
     Row {
-        words: &["check", "t"],
-        files: &[(
-            "t",
-            Content::Strip(&[(4, [1, 2, 0]), (37, [2, 2, 0]), (79, [4, 0, 0])], 564),
-        )],
-        failing_call: 0,
-        failing_write: 1,
-        number: 9,
-        printed: "accepted ",
-    },
-    Row {
-        words: &["check"],
-        files: &[(
-            "t",
-            Content::Strip(&[(4, [1, 2, 0]), (37, [2, 2, 0]), (79, [4, 0, 0])], 564),
-        )],
+        words: &["check", "z", "t", "s", "--evidence", "e"],
+        files: &[
+            ("z", Content::Lines(168, 0, "")),
+            ("t", Content::Table(&[(195, 4)], 3748)),
+            ("s", Content::Text(STATEMENT)),
+        ],
         failing_call: 0,
         failing_write: 0,
-        number: 2,
-        printed: "usage\n",
+        number: 1,
+        printed: "refused main row 2 constraint 10 value 1\n",
     },
     Row {
-        words: &["check", "--", "t"],
-        files: &[(
-            "t",
-            Content::Strip(&[(4, [1, 2, 0]), (37, [2, 2, 0]), (79, [4, 0, 0])], 564),
-        )],
+        words: &["check", "z", "t", "s", "--evidence", "e"],
+        files: &[
+            ("z", Content::Lines(168, 0, "")),
+            ("t", Content::Table(&[(90, 1)], 3748)),
+            ("s", Content::Text(STATEMENT)),
+        ],
         failing_call: 0,
         failing_write: 0,
-        number: 2,
-        printed: "usage\n",
+        number: 1,
+        printed: "refused main row 0 constraint 105 value 1\n",
     },
     Row {
-        words: &["--help"],
-        files: &[(
-            "t",
-            Content::Strip(&[(4, [1, 2, 0]), (37, [2, 2, 0]), (79, [4, 0, 0])], 564),
-        )],
+        words: &["check", "z", "t", "s", "--evidence", "e"],
+        files: &[
+            ("z", Content::Lines(168, 0, "")),
+            ("t", Content::Table(&[], 3748)),
+            ("s", Content::Text(OTHER_DIGEST)),
+        ],
         failing_call: 0,
         failing_write: 0,
-        number: 2,
-        printed: "usage\n",
-    },
-    Row {
-        words: &["check"],
-        files: &[(
-            "t",
-            Content::Strip(&[(4, [1, 2, 0]), (37, [2, 2, 0]), (79, [4, 0, 0])], 564),
-        )],
-        failing_call: 0,
-        failing_write: 1,
-        number: 9,
-        printed: "usa",
-    },
-    Row {
-        words: &[],
-        files: &[(
-            "t",
-            Content::Strip(&[(4, [1, 2, 0]), (37, [2, 2, 0]), (79, [4, 0, 0])], 564),
-        )],
-        failing_call: 0,
-        failing_write: 0,
-        number: 2,
-        printed: "usage\n",
+        number: 1,
+        printed: "refused bus children tuple 0 0 0 0 0 0 asked 1 given 0\n",
     },
 ];
 
+static WRONG: [&'static [&'static str]; 10] = [
+    &[],
+    &["--help"],
+    &["check"],
+    &["check", "t"],
+    &["check", "z", "t", "s"],
+    &["check", "z", "t", "s", "--evidence"],
+    &["check", "z", "t", "s", "--evidence", "t"],
+    &["check", "z", "t", "s", "--evidence", "s"],
+    &["check", "z", "t", "s", "--evidence", "z"],
+    &["check", "z", "t", "s", "--evidence", "e", "--pieces", "1"],
+];
+
 #[test]
-fn strips_are_checked(rt: HostRuntime) -> Result<(), Fail> {
-    all_hold(&rt, &ROWS)
+fn traces_are_accepted(rt: HostRuntime) -> Result<(), Fail> {
+    all_write(&rt, &ACCEPTED, "e", EVIDENCE)
+}
+
+#[test]
+fn traces_are_refused(rt: HostRuntime) -> Result<(), Fail> {
+    all_hold(&rt, &REFUSED)
+}
+
+#[test]
+fn other_words_of_check_are_wrong(rt: HostRuntime) -> Result<(), Fail> {
+    all_wrong(&rt, &WRONG)
 }

@@ -1,13 +1,47 @@
 use std::alloc::Global;
 use vm_field::Memory;
 
-/// A row of a strip: the code of its operation and its first three cells.
-pub type StripRow = (u64, [u64; 3]);
+/// An element in the place of another one: its number in the file, from 0, and its value.
+pub type Other = (usize, u64);
+
+// The elements that are not 0 of the four rows of the main table of `begin end`: SPAN, NOOP, END and HALT.
+static MAIN: [Other; 30] = [
+    (1, 1073741824),
+    (9, 1),
+    (12, 1),
+    (15, 1),
+    (46, 16),
+    (65, 1),
+    (66, 1073741824),
+    (73, 1),
+    (89, 1),
+    (111, 16),
+    (114, 1),
+    (115, 1),
+    (130, 2),
+    (131, 1073741824),
+    (138, 1),
+    (141, 1),
+    (142, 1),
+    (145, 1),
+    (151, 1),
+    (176, 16),
+    (179, 1),
+    (180, 1),
+    (195, 3),
+    (196, 1073741824),
+    (204, 1),
+    (205, 1),
+    (206, 1),
+    (207, 1),
+    (210, 1),
+    (241, 16),
+];
 
 /// What a file holds.
 pub enum Content {
-    /// A strip of these rows, cut to so many bytes.
-    Strip(&'static [StripRow], usize),
+    /// The table file of `begin end` under constants that are all 0, with other elements in these places, as long as so many bytes.
+    Table(&'static [Other], usize),
     /// So many lines, each `0`, but the line of this number is this one.
     Lines(usize, usize, &'static str),
     /// This text.
@@ -17,36 +51,58 @@ pub enum Content {
 /// The bytes of a file.
 pub fn bytes_of(alloc: Global, content: &Content) -> Result<Vec<u8>, Memory> {
     match content {
-        Content::Strip(rows, kept) => strip(alloc, rows, *kept),
+        Content::Table(others, size) => table(alloc, others, *size),
         Content::Lines(count, place, other) => lines(alloc, *count, *place, other),
         Content::Text(text) => Ok(Vec::from_slice(alloc, text.as_bytes())?),
     }
 }
 
-fn strip(alloc: Global, rows: &[StripRow], kept: usize) -> Result<Vec<u8>, Memory> {
+// Four rows of the main table, 42 of the range table and a permutation of zeros.
+fn table(alloc: Global, others: &[Other], size: usize) -> Result<Vec<u8>, Memory> {
     let mut bytes = Vec::from_slice(alloc, b"MDTB")?;
-    push_number(&mut bytes, 0, 4)?;
-    push_number(&mut bytes, rows.len() as u64, 4)?;
-    for row in rows {
-        push_row(&mut bytes, row)?;
+    for count in [1, 4, 42, 8, 0, 0, 0, 0] {
+        push_number(&mut bytes, count, 4)?;
     }
-    bytes.truncate(kept);
+    let mut range = 0u64;
+    for place in 0..464usize {
+        let value = if place < 260 {
+            found(&MAIN, place).unwrap_or(0)
+        } else {
+            range_element(place, &mut range)
+        };
+        push_number(&mut bytes, found(others, place).unwrap_or(value), 8)?;
+    }
+    bytes.truncate(size);
+    while bytes.len() < size {
+        bytes.push(0)?;
+    }
     Ok(bytes)
 }
 
-// Seven bits, and sixteen cells.
-fn push_row(bytes: &mut Vec<u8>, row: &StripRow) -> Result<(), Memory> {
-    let (code, cells) = *row;
-    for j in 0..7u32 {
-        push_number(bytes, (code >> j) & 1, 8)?;
+fn found(others: &[Other], place: usize) -> Option<u64> {
+    others
+        .iter()
+        .find(|other| other.0 == place)
+        .map(|other| other.1)
+}
+
+// The counts and the values of the range table: the start of the span asks for 1023, once.
+fn range_element(place: usize, value: &mut u64) -> u64 {
+    if place >= 344 {
+        return 0;
     }
-    for cell in cells {
-        push_number(bytes, cell, 8)?;
+    if place % 2 == 0 {
+        return if *value == 1023 { 1 } else { 0 };
     }
-    for _ in 0..13 {
-        push_number(bytes, 0, 8)?;
-    }
-    Ok(())
+    let now = *value;
+    let end = if now < 1023 { 1023u64 } else { 65535 };
+    let rest = end.saturating_sub(now);
+    let step = [2187, 729, 243, 81, 27, 9, 3, 1]
+        .iter()
+        .copied()
+        .find(|step| *step <= rest);
+    *value = now.saturating_add(step.unwrap_or(0));
+    now
 }
 
 fn push_number(bytes: &mut Vec<u8>, number: u64, size: usize) -> Result<(), Memory> {

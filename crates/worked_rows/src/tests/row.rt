@@ -53,19 +53,42 @@ pub fn all_wrong(
     Ok(())
 }
 
-// Whether `serve` answers as the row says.
+/// Fails at the first row that is not so, or behind which the file does not stand that is written.
+pub fn all_write(
+    rt: &(impl Abort + AllocGlobal),
+    rows: &[Row],
+    name: &str,
+    text: &str,
+) -> Result<(), Fail> {
+    for row in rows {
+        let holds = writes(rt.alloc(), row, name, text)?;
+        assert!(rt; holds, "{}", row.printed);
+    }
+    Ok(())
+}
+
+fn writes(alloc: Global, row: &Row, name: &str, text: &str) -> Result<bool, Memory> {
+    let mut shelf = shelf_of(alloc, row)?;
+    Ok(answers(alloc, row, &mut shelf)? && stands(&shelf, name, text.as_bytes()))
+}
+
 fn holds(alloc: Global, row: &Row) -> Result<bool, Memory> {
     let mut shelf = shelf_of(alloc, row)?;
+    answers(alloc, row, &mut shelf)
+}
+
+// Whether `serve` answers as the row says.
+fn answers(alloc: Global, row: &Row, shelf: &mut MemShelf) -> Result<bool, Memory> {
     let mut sink = MemSink::new(alloc);
     if row.failing_write != 0 {
         sink.fail(row.failing_write)?;
     }
     let words = words_of(alloc, row.words)?;
-    let status = serve(alloc, words.as_slice(), &mut shelf, &mut sink, &OpenGate);
+    let status = serve(alloc, words.as_slice(), shelf, &mut sink, &OpenGate);
     Ok(
         status.number() == row.number
             && sink.taken() == row.printed.as_bytes()
-            && files_stand(alloc, &shelf, row.files)?,
+            && files_stand(alloc, shelf, row.files)?,
     )
 }
 

@@ -1,6 +1,0 @@
-pub mod Grammar
-pub mod Reads
-pub mod Flags
-pub mod Values
-pub mod Run
-pub mod Law

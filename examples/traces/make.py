@@ -1,0 +1,113 @@
+#!/usr/bin/env python3
+"""Writes the examples of table files and their statements, beside this script:
+
+    sum.table, sum.json        the run of `begin push.2 push.3 add push.7 end`
+    forged.table               the same with 8 in place of the 7 that the run ends with, in the table
+    forged.json                and in the statement
+
+It fills the tables by itself, under the constants in ../params/derived, and uses nothing of the program. docs/CONSTRAINTS.md
+has the columns, docs/FORMATS.md the files.
+"""
+import json
+import os
+import struct
+
+P = 2**64 - 2**32 + 1
+HERE = os.path.dirname(os.path.abspath(__file__))
+FIRST_ROW = [7, 23, 8, 26, 13, 10, 9, 7, 6, 22, 21, 8]
+SEVENTH_ROOT = 10540996611094048183
+CONSTANTS = [int(line) for line in open(os.path.join(HERE, "../params/derived"))]
+CODES = {"noop": 0, "add": 37, "push": 69, "span": 73, "end": 76, "halt": 79}
+
+
+def mixed(x):
+    return [sum(FIRST_ROW[(j - i) % 12] * x[j] for j in range(12)) % P for i in range(12)]
+
+
+def round_of(k, x):
+    first, second = CONSTANTS[24 * k:24 * k + 12], CONSTANTS[24 * k + 12:24 * k + 24]
+    x = [pow(a + c, 7, P) for a, c in zip(mixed(x), first)]
+    return [pow((a + c) % P, SEVENTH_ROOT, P) for a, c in zip(mixed(x), second)]
+
+
+def permutation_rows(state):
+    """The eight rows of a permutation of a hash of one block: three flags and twelve elements."""
+    rows = [state]
+    for k in range(7):
+        rows.append(round_of(k, rows[-1]))
+    return [[0, 0, 0] + row for row in rows]
+
+
+def range_rows(asked):
+    """Each asked value with its count; between neighbours the greatest steps that do not pass the next one."""
+    rows, value = [], 0
+    for wanted in sorted(set(asked) | {0, 65535}):
+        while value < wanted:
+            rows.append([0, value])
+            value += max(s for s in (1, 3, 9, 27, 81, 243, 729, 2187) if s <= wanted - value)
+        value = wanted
+    rows = [row for row in rows if row[1] not in asked] + [[asked.count(v), v] for v in set(asked)] + [[0, 65535]]
+    return sorted(rows, key=lambda row: row[1])
+
+
+def inverse(x):
+    return pow(x % P, P - 2, P)
+
+
+def main_row(clock, code, level, cells, depth, key, **named):
+    row = [0] * 65
+    row[0], row[1], row[46], row[47], row[48], row[50] = clock, 2**30, depth, key, inverse(depth - 16), level
+    row[9:16] = [code >> j & 1 for j in range(7)]
+    row[30:46] = cells[:16]
+    row[8] = row[49] = 1 if level else 0
+    for column, value in named.items():
+        row[COLUMNS[column]] = value % P
+    return row
+
+
+COLUMNS = {"sp": 24, "gc": 25, "ox": 26, "c0": 27, "c1": 28, "c2": 29}
+COLUMNS.update({f"h{j}": 16 + j for j in range(8)})
+COLUMNS.update({f"w{j}": 51 + j for j in range(4)})
+
+
+def fill():
+    items = [("push", 2), ("push", 3), ("add", None), ("push", 7), ("noop", None)]
+    group = sum(CODES[name] * 128**i for i, (name, _) in enumerate(items))
+    batch = [group, 2, 3, 7, 0, 0, 0, 0]
+    hasher = permutation_rows([0, 0, 0, 0] + batch)
+    digest = hasher[7][7:11]
+    stack, keys, taken, rows = [0] * 16, [], 1, []
+    start = {f"h{j}": element for j, element in enumerate(batch)}
+    rows.append(main_row(0, CODES["span"], 0, stack, 16, 0, c1=1, w0=inverse(3), **start))
+    left = group
+    for place, (name, value) in enumerate(items):
+        clock, rest = place + 1, left - CODES[name]
+        rows.append(main_row(clock, CODES[name], 1, stack, len(stack), keys[0] if keys else 0, sp=1, h0=left, gc=4 - taken, ox=place,
+                             w3=inverse(rest)))
+        if name == "push":
+            stack, keys, taken = [value] + stack, [clock] + keys, taken + 1
+        if name == "add":
+            stack, keys = [(stack[0] + stack[1]) % P] + stack[2:], keys[1:]
+        left = rest // 128
+    end = {f"h{j}": element for j, element in enumerate(digest)}
+    rows.append(main_row(6, CODES["end"], 1, stack, len(stack), keys[0], h5=1, **end))
+    rows.append(main_row(7, CODES["halt"], 0, stack, len(stack), keys[0]))
+    text = "".join(f"{element:016x}" for element in digest)
+    return [rows, range_rows([1023]), hasher, [], [], [], [[key] for key in keys]], text, stack
+
+
+def write(name, tables, digest, outputs):
+    with open(os.path.join(HERE, name + ".table"), "wb") as file:
+        file.write(b"MDTB" + struct.pack("<8I", 1, *(len(table) for table in tables)))
+        for table in tables:
+            for row in table:
+                file.write(struct.pack(f"<{len(row)}Q", *row))
+    with open(os.path.join(HERE, name + ".json"), "w") as file:
+        statement = {"digest": digest, "inputs": [], "kernel": [], "outputs": outputs}
+        file.write(json.dumps(statement, separators=(",", ":")))
+
+
+tables, digest, outputs = fill()
+write("sum", tables, digest, outputs)
+tables[0][-1][30] = outputs[0] = 8
+write("forged", tables, digest, outputs)
