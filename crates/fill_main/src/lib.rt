@@ -21,8 +21,6 @@ mod ranges;
 mod row;
 mod spans;
 mod stack;
-#[cfg(test)]
-mod tests;
 mod turns;
 mod witnesses;
 

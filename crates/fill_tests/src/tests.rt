@@ -1,6 +1,6 @@
-use crate::{fill_main, known};
 use air_kit::{Requests, is_built};
 use block_tree::{Exports, Program, Tree, are_distinct};
+use fill_main::{fill_main, known};
 use op_pack::Batches;
 use processor::{Run, Stop, execute};
 use rpo_hash::Params;

@@ -1,0 +1,5 @@
+//! Tests of the filling of the main table.
+#![tactic(auto)]
+
+#[cfg(test)]
+mod tests;
