@@ -4,6 +4,7 @@ pub mod HasList
 pub mod Levels
 pub mod Measures
 pub mod Once
+pub mod Placed
 pub mod Rows
 pub mod Seen
 pub mod SizeLaws

@@ -28,4 +28,4 @@ abbrev pub lists_known : Names → List (Vec code.Piece Global) → List KernelP
 lists_known names lists kernel = record { list = λ name. list_at lists (place_at names name); exported = tree_at kernel }
 
 abbrev pub known_of : Lists → Known Tree
-known_of l = lists_known l.names.now l.lists.now l.kernel.now
+known_of l = lists_known l.names.now l.lists.now l.kernel.now.procs.now

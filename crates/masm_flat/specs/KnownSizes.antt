@@ -23,4 +23,4 @@ abbrev pub sizes_known : Names → List code.Size → List KernelProc → Known_
 sizes_known names sizes kernel = record { size = λ name. size_at sizes (place_at names name); exported = extent_at kernel }
 
 abbrev pub known_sizes_of : known.Sizes → Known_sizes
-known_sizes_of s = sizes_known s.names.now s.sizes.now s.kernel.now
+known_sizes_of s = sizes_known s.names.now s.sizes.now s.kernel.now.procs.now

@@ -1,11 +1,9 @@
 ghost use Rattle.std.specs.Prelude.{◌≡◌, IfOk};
-ghost use Rattle.std.specs.List.{find};
-ghost use Rattle.std.specs.Option.{option_copied};
-ghost use Rattle.std.specs.Str.{bytes_eq};
 ghost use Rattle.block_tree.specs.TreeView.{tree_of};
 ghost use Rattle.masm_flat.specs.KnownLists.{list_at, known_of};
 ghost use Rattle.masm_flat.specs.Views.{pieces_of};
 
+use crate::kernel::Kernel;
 use crate::piece::Piece;
 use crate::shape::Extent;
 use block_tree::{Tree, copy};
@@ -30,7 +28,7 @@ pub struct Lists<'a> {
     /// The lists of the source's procedures, in order; of one that is missing the list is empty.
     pub lists: &'a [Vec<Piece>],
     /// The procedures that the kernel exports.
-    pub kernel: &'a [KernelProc],
+    pub kernel: &'a Kernel<'a>,
 }
 
 // The list of this number; it is empty where there is none.
@@ -47,13 +45,6 @@ fn numbered<'a>(lists: &'a [Vec<Piece>], number: Option<usize>) -> &'a [Piece]
     }
 }
 
-// The kernel's first procedure of that name.
-pub(crate) fn first<'a>(kernel: &'a [KernelProc], name: &Bytes) -> Option<&'a KernelProc>
-    ensures { option_copied result ≡ find (λ p. bytes_eq p.name name.now) kernel.now }
-{
-    kernel.iter().find(|p| p.name == *name)
-}
-
 impl<'a> Lists<'a> {
     /// The list of the first procedure of that name. It is empty where there is none.
     pub fn list(&self, name: &Bytes) -> &'a [Piece]
@@ -67,7 +58,7 @@ impl<'a> Lists<'a> {
     pub fn exported(&self, alloc: Global, name: &Bytes) -> Result<Tree, Memory>
         ensures { IfOk result (λ tree. tree_of tree ≡ (known_of self.now).exported name.now) }
     {
-        match first(self.kernel, name) {
+        match self.kernel.first(name) {
             Some(proc) => copy(alloc, &proc.tree),
             None => Ok(Tree::Opaque(Word::ZERO)),
         }

@@ -2,7 +2,7 @@ ghost use Rattle.std.specs.Prelude.{◌≡◌};
 ghost use Rattle.masm_flat.specs.KnownSizes.{size_at, known_sizes_of};
 ghost use Rattle.masm_flat.specs.Sizes.{part_view};
 
-use crate::known::{KernelProc, first};
+use crate::kernel::Kernel;
 use crate::shape::{Extent, Part, Size};
 use crate::size::NO_PARTS;
 use masm_uses::Names;
@@ -16,7 +16,7 @@ pub struct Sizes<'a> {
     /// The sizes of their lists, in order; of one that is missing it is that of the empty list.
     pub sizes: &'a [Size],
     /// The procedures that the kernel exports.
-    pub kernel: &'a [KernelProc],
+    pub kernel: &'a Kernel<'a>,
 }
 
 // The size of this number; it is that of the empty list where there is none.
@@ -49,7 +49,7 @@ impl<'a> Sizes<'a> {
     pub fn exported(&self, name: &Bytes) -> Extent
         ensures { result ≡ (known_sizes_of self.now).exported name.now }
     {
-        match first(self.kernel, name) {
+        match self.kernel.first(name) {
             Some(proc) => proc.extent,
             None => Extent {
                 operations: 1,

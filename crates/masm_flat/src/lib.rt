@@ -6,6 +6,7 @@ mod appending;
 mod flattening;
 mod heights;
 mod joining;
+mod kernel;
 mod known;
 mod known_sizes;
 mod measuring;
@@ -16,6 +17,7 @@ mod size;
 
 pub use appending::add_copies;
 pub use joining::tree_of_list;
+pub use kernel::Kernel;
 pub use known::{KernelProc, Lists};
 pub use known_sizes::Sizes;
 pub use measuring::size_of_procedure;

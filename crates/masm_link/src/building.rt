@@ -13,7 +13,7 @@ ghost use Rattle.masm_link.specs.Building.{AreBuilt};
 
 use block_tree::Tree;
 use masm_flat::{
-    KernelProc, Lists, Piece, Size, add_copies, extent_of, list_of_procedure, tree_of_list,
+    Kernel, KernelProc, Lists, Piece, Size, add_copies, extent_of, list_of_procedure, tree_of_list,
 };
 use masm_parse::Proc;
 use masm_uses::Names;
@@ -64,14 +64,14 @@ pub(crate) fn exports_of(
 pub(crate) fn main_tree(
     alloc: Global,
     names: &Names,
-    kernel: &[KernelProc],
+    kernel: &Kernel<'_>,
     main: &Option<Proc>,
     lists: &[Vec<Piece>],
 ) -> Result<Option<Tree>, Memory>
     requires { MainFits (option_map procedure_of main.now) }
     ensures { IfOk result (λ tree. option_map tree_of tree
         ≡ option_map (λ p. whole as_tree (with_locals p.locals
-        (flat_with as_tree (lists_known names.now lists.now kernel.now) p.locals (body_of p.body.items)))) main.now) }
+        (flat_with as_tree (lists_known names.now lists.now kernel.now.procs.now) p.locals (body_of p.body.items)))) main.now) }
 {
     let Some(procedure) = main else {
         return Ok(None);

@@ -9,7 +9,7 @@ ghost use Rattle.masm_uses.specs.Least.{Answers};
 ghost use Rattle.masm_uses.specs.Naming.{at_procedure};
 ghost use Rattle.masm_link.specs.Limits.{size_cause, IsOver};
 
-use masm_flat::{Extent, KernelProc, Size, Sizes, extent_of, size_of_procedure};
+use masm_flat::{Extent, Kernel, Size, Sizes, extent_of, size_of_procedure};
 use masm_parse::{Position, Proc};
 use masm_uses::{Defined, LinkCause, Names, Refusal, earlier};
 use std::alloc::Global;
@@ -61,14 +61,14 @@ pub(crate) fn first_too_large(procs: &[Proc], sizes: &[Size]) -> Option<Refusal>
 pub(crate) fn main_too_large(
     alloc: Global,
     names: &Names,
-    kernel: &[KernelProc],
+    kernel: &Kernel<'_>,
     main: &Option<Proc>,
     sizes: &[Size],
 ) -> Result<Option<Refusal>, Memory>
     requires { MainFits (option_map procedure_of main.now) }
     ensures { IfOk result (λ first. MatchOption main.now (first ≡ None)
         (λ p. Answers (IsOver (at_procedure (procedure_of p))
-        (extent_of (procedure_size (sizes_known names.now sizes.now kernel.now) p.locals (body_of p.body.items)))) first)) }
+        (extent_of (procedure_size (sizes_known names.now sizes.now kernel.now.procs.now) p.locals (body_of p.body.items)))) first)) }
 {
     let Some(procedure) = main else {
         return Ok(None);

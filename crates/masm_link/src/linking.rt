@@ -18,7 +18,7 @@ use crate::limits::{first_too_large, main_too_large};
 use crate::listing::lists_of;
 use crate::sizing::sizes_of;
 use block_tree::Tree;
-use masm_flat::{KernelProc, Size};
+use masm_flat::{Kernel, KernelProc, Size};
 use masm_parse::Ast;
 use masm_uses::{
     Names, Plan, Refusal, Step, earlier, first_dangling, first_double, procedure_names, use_plan,
@@ -78,15 +78,15 @@ pub(crate) struct Linked {
 fn sized(
     alloc: Global,
     ast: &Ast,
-    kernel: &[KernelProc],
+    kernel: &Kernel<'_>,
     names: Names,
     exported: &[Bytes],
 ) -> Result<Measured, Memory>
     requires names { (name : List ℕ) → place_at names name ≡ first_place (source_of ast.now).procs name }
     requires fits { SourceFits (source_of ast.now) }
-    requires exported { exported.now ≡ names_in kernel.now }
-    requires closed { IsClosed (source_of ast.now) (names_in kernel.now) }
-    ensures { IfOk result (IsMeasured (source_of ast.now) kernel.now) }
+    requires exported { exported.now ≡ names_in kernel.now.procs.now }
+    requires closed { IsClosed (source_of ast.now) (names_in kernel.now.procs.now) }
+    ensures { IfOk result (IsMeasured (source_of ast.now) kernel.now.procs.now) }
 {
     let Plan { order, steps } = use_plan(alloc, ast, &names, exported)?;
     let sizes = sizes_of(alloc, ast, &names, kernel, &order)?;
@@ -102,12 +102,13 @@ fn sized(
 fn first_oversized(
     alloc: Global,
     ast: &Ast,
-    kernel: &[KernelProc],
+    kernel: &Kernel<'_>,
     measured: &Measured,
 ) -> Result<Option<Refusal>, Memory>
     requires fits { SourceFits (source_of ast.now) }
-    requires measured { IsMeasured (source_of ast.now) kernel.now measured.now }
-    ensures { IfOk result (λ first. (exports : List Exported) → AreExports exports kernel.now → Answers (Oversized (source_of ast.now) exports) first) }
+    requires measured { IsMeasured (source_of ast.now) kernel.now.procs.now measured.now }
+    ensures { IfOk result (λ first. (exports : List Exported) → AreExports exports kernel.now.procs.now
+        → Answers (Oversized (source_of ast.now) exports) first) }
 {
     let procs = first_too_large(&ast.procs, &measured.sizes);
     let main = main_too_large(alloc, &measured.names, kernel, &ast.main, &measured.sizes)?;
@@ -125,12 +126,12 @@ fn first_of(a: Option<Refusal>, b: Refusal) -> Refusal
 
 // The sizes of a source's lists, or its first refusal. Sizes are tested only where no use leads
 // nowhere or back.
-fn measure(alloc: Global, ast: &Ast, kernel: &[KernelProc]) -> Result<Measured, Stop>
+fn measure(alloc: Global, ast: &Ast, kernel: &Kernel<'_>) -> Result<Measured, Stop>
     requires { SourceFits (source_of ast.now) }
-    ensures { Measures (source_of ast.now) kernel.now result }
+    ensures { Measures (source_of ast.now) kernel.now.procs.now result }
 {
     let names = procedure_names(alloc, ast)?;
-    let exported = export_names(alloc, kernel)?;
+    let exported = export_names(alloc, kernel.procs)?;
     let double = first_double(alloc, ast)?;
     if let Some(refusal) = first_dangling(alloc, ast, &names, &exported)? {
         return Err(Stop::Refused(first_of(double, refusal)));
@@ -147,13 +148,13 @@ fn measure(alloc: Global, ast: &Ast, kernel: &[KernelProc]) -> Result<Measured, 
 fn built(
     alloc: Global,
     ast: &Ast,
-    kernel: &[KernelProc],
+    kernel: &Kernel<'_>,
     measured: &Measured,
 ) -> Result<Linked, Memory>
     requires fits { SourceFits (source_of ast.now) }
-    requires measured { IsMeasured (source_of ast.now) kernel.now measured.now }
-    requires clean { IsClean (source_of ast.now) kernel.now }
-    ensures linked { IfOk result (λ linked. (exports : List Exported) → AreExports exports kernel.now → IsLinked (source_of ast.now) exports linked) }
+    requires measured { IsMeasured (source_of ast.now) kernel.now.procs.now measured.now }
+    requires clean { IsClean (source_of ast.now) kernel.now.procs.now }
+    ensures linked { IfOk result (λ linked. (exports : List Exported) → AreExports exports kernel.now.procs.now → IsLinked (source_of ast.now) exports linked) }
     ensures main { IfOk result (λ linked. is_some linked.main ≡ is_some ast.now.main) }
 {
     let lists = lists_of(alloc, ast, &measured.names, kernel, &measured.steps)?;
@@ -168,7 +169,8 @@ pub(crate) fn link(alloc: Global, ast: &Ast, kernel: &[KernelProc]) -> Result<Li
     ensures linked { LinksTo (source_of ast.now) kernel.now result }
     ensures main { IfOk result (λ linked. is_some linked.main ≡ is_some ast.now.main) }
 {
-    let measured = measure(alloc, ast, kernel)?;
-    let linked = built(alloc, ast, kernel, &measured)?;
+    let kernel = Kernel::of(alloc, kernel)?;
+    let measured = measure(alloc, ast, &kernel)?;
+    let linked = built(alloc, ast, &kernel, &measured)?;
     Ok(linked)
 }

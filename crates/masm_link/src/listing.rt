@@ -16,7 +16,7 @@ ghost use Rattle.masm_uses.specs.Uses.{first_place};
 ghost use Rattle.masm_link.specs.Kernels.{AreExports, names_in};
 ghost use Rattle.masm_link.specs.Tables.{AreLists};
 
-use masm_flat::{KernelProc, Lists, Piece, list_of_procedure};
+use masm_flat::{Kernel, Lists, Piece, list_of_procedure};
 use masm_parse::{Ast, Proc};
 use masm_uses::{Names, Step};
 use std::alloc::{AllocError, Global};
@@ -36,7 +36,7 @@ fn empty_lists(alloc: Global, count: usize) -> Result<Vec<Vec<Piece>>, AllocErro
 fn add_list(
     alloc: Global,
     names: &Names,
-    kernel: &[KernelProc],
+    kernel: &Kernel<'_>,
     procedure: &Proc,
     place: usize,
     lists: &mut Vec<Vec<Piece>>,
@@ -45,7 +45,7 @@ fn add_list(
     requires locals { HasLocals procedure.now.locals (body_of procedure.now.body.items) }
     ensures { OnOk result ((list : Vec Piece Global) × (lists.new.items ≡ slice_set lists.old.items place list)
         × (pieces_of list.items ≡ with_locals procedure.now.locals
-        (flat_with as_tree (lists_known names.now lists.old.items kernel.now) procedure.now.locals (body_of procedure.now.body.items)))) }
+        (flat_with as_tree (lists_known names.now lists.old.items kernel.now.procs.now) procedure.now.locals (body_of procedure.now.body.items)))) }
 {
     let known = Lists {
         names,
@@ -75,15 +75,15 @@ pub(crate) fn lists_of(
     alloc: Global,
     ast: &Ast,
     names: &Names,
-    kernel: &[KernelProc],
+    kernel: &Kernel<'_>,
     steps: &[Step],
 ) -> Result<Vec<Vec<Piece>>, Memory>
     requires names { (name : List ℕ) → place_at names.now name ≡ first_place (source_of ast.now).procs name }
     requires fits { SourceFits (source_of ast.now) }
-    requires closed { IsClosed (source_of ast.now) (names_in kernel.now) }
+    requires closed { IsClosed (source_of ast.now) (names_in kernel.now.procs.now) }
     requires steps { IsPlan (source_of ast.now) steps.now }
     ensures count { IfOk result (λ lists. length lists.items ≡ length (source_of ast.now).procs) }
-    ensures lists { IfOk result (λ lists. (exports : List Exported) → AreExports exports kernel.now
+    ensures lists { IfOk result (λ lists. (exports : List Exported) → AreExports exports kernel.now.procs.now
         → AreLists (source_of ast.now) exports lists.items) }
 {
     let mut lists = empty_lists(alloc, ast.procs.len())?;

@@ -12,7 +12,7 @@ ghost use Rattle.masm_uses.specs.Uses.{first_place};
 ghost use Rattle.masm_link.specs.Kernels.{AreExports, names_in};
 ghost use Rattle.masm_link.specs.Tables.{AreSizes};
 
-use masm_flat::{KernelProc, Size, Sizes, size_of_procedure};
+use masm_flat::{Kernel, Size, Sizes, size_of_procedure};
 use masm_parse::{Ast, Proc};
 use masm_uses::Names;
 use std::alloc::{AllocError, Global};
@@ -33,7 +33,7 @@ fn empty_sizes(alloc: Global, count: usize) -> Result<Vec<Size>, AllocError>
 fn add_size(
     alloc: Global,
     names: &Names,
-    kernel: &[KernelProc],
+    kernel: &Kernel<'_>,
     procedure: &Proc,
     place: usize,
     sizes: &mut Vec<Size>,
@@ -41,7 +41,8 @@ fn add_size(
     requires place { place < length sizes.old.items }
     requires locals { HasLocals procedure.now.locals (body_of procedure.now.body.items) }
     ensures { OnOk result ((size : Size) × (sizes.new.items ≡ slice_set sizes.old.items place size)
-        × (size_view size ≡ procedure_size (sizes_known names.now sizes.old.items kernel.now) procedure.now.locals (body_of procedure.now.body.items))) }
+        × (size_view size ≡ procedure_size (sizes_known names.now sizes.old.items kernel.now.procs.now) procedure.now.locals
+        (body_of procedure.now.body.items))) }
 {
     let known = Sizes {
         names,
@@ -59,15 +60,15 @@ pub(crate) fn sizes_of(
     alloc: Global,
     ast: &Ast,
     names: &Names,
-    kernel: &[KernelProc],
+    kernel: &Kernel<'_>,
     order: &[usize],
 ) -> Result<Vec<Size>, Memory>
     requires names { (name : List ℕ) → place_at names.now name ≡ first_place (source_of ast.now).procs name }
     requires fits { SourceFits (source_of ast.now) }
-    requires closed { IsClosed (source_of ast.now) (names_in kernel.now) }
+    requires closed { IsClosed (source_of ast.now) (names_in kernel.now.procs.now) }
     requires order { IsUseOrder (source_of ast.now).procs order.now }
     ensures count { IfOk result (λ sizes. length sizes.items ≡ length (source_of ast.now).procs) }
-    ensures sizes { IfOk result (λ sizes. (exports : List Exported) → AreExports exports kernel.now
+    ensures sizes { IfOk result (λ sizes. (exports : List Exported) → AreExports exports kernel.now.procs.now
         → AreSizes (source_of ast.now).procs exports order.now sizes.items) }
 {
     let mut sizes = empty_sizes(alloc, ast.procs.len())?;

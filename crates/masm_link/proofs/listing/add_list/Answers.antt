@@ -12,6 +12,6 @@ returns c =
       c.in_ok-list.list,
       refl,
       c.in_ok-list.ensures
-          ∙ ap (λ lists. with_locals p.locals (flat_with as_tree (lists_known c.args.names.now lists c.args.kernel.now) p.locals
+          ∙ ap (λ lists. with_locals p.locals (flat_with as_tree (lists_known c.args.names.now lists c.args.kernel.now.procs.now) p.locals
           (body_of p.body.items))) c.as_slice.ensures.value,
     )

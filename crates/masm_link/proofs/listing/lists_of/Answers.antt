@@ -57,8 +57,8 @@ loop-k-preserved c =
       builds = λ exports are.
           let builds = before.builds exports are in
           builds-next source steps k n step below c.index-steps-k.is next exports old new builds (λ q held.
-          list_step source exports c.args.kernel.now are c.args.names.now c.requires.names (names_in c.args.kernel.now) c.requires.closed step.place
-          (procedure_of c.index.result.now) here old mid new added.0 within
+          list_step source exports c.args.kernel.now.procs.now are c.args.names.now c.requires.names (names_in c.args.kernel.now.procs.now)
+          c.requires.closed step.place (procedure_of c.index.result.now) here old mid new added.0 within
           (needs-next source steps k n step below c.index-steps-k.is next exports old builds) added.1 added.2 q held.0
           (c.free_lists.ensures.others q (λ has. held.1 (subst (λ xs. Contains xs q) c.deref.ensures.value has))));
     }

@@ -12,7 +12,7 @@ invariant-loop-k l = record {
   count : length l.lists.items ≡ length (source_of l.ast).procs;
   places : Builds (λ i j. ⊥) (length (source_of l.ast).procs) (λ q. ⊥) (λ q. Unit {0}) (reverse (take l.k l.steps));
   builds :
-      (exports : List Exported) → AreExports exports l.kernel
+      (exports : List Exported) → AreExports exports l.kernel.procs.now
       → Builds (NeedsIn (source_of l.ast).procs) (length (source_of l.ast).procs) (IsWanted (source_of l.ast))
       (IsListAt (source_of l.ast).procs exports l.lists.items) (reverse (take l.k l.steps));
 }
