@@ -1,9 +1,9 @@
 -- What is found by a name, and the place of the name.
 use Rattle.std.proofs.Common.{◌≡◌, ℕ, Bor, length, ◌+◌, cond, List, [], ◌∷◌, map, Option, Some, None, inl, inr, refl, ap, ◌∙◌, sym, bytes_eq, slice_get, add-one}
-use Rattle.std.specs.Prelude.{option_and_then}
 use Rattle.std.proofs.lemmas.Bool.{cases_Bool}
-use Rattle.std.specs.List.{find}
 use Rattle.std.proofs.lemmas.Option.{slice_get_past, slice_get_read}
+use Rattle.std.specs.Prelude.{option_and_then}
+use Rattle.std.specs.List.{find}
 use Rattle.std.specs.Option.{option_map, option_copied}
 use Rattle.std.specs.Slice.{IsItemAt}
 use Rattle.masm_uses.specs.Uses.{place_in}
