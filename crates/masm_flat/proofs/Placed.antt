@@ -1,8 +1,8 @@
 -- What is found by a name, and the place of the name.
-use Rattle.std.proofs.Common.{◌≡◌, ℕ, Bor, length, ◌+◌, cond, List, [], ◌∷◌, map, Option, Some, None, inl, inr, refl, ap, ◌∙◌, sym, bytes_eq, slice_get, add-one}
+use Rattle.std.proofs.Common.{◌≡◌, ℕ, Bor, length, ◌+◌, cond, List, [], ◌∷◌, map, Option, Some, None, inl, inr, refl, ap, ◌∙◌, sym, bytes_eq, add-one}
 use Rattle.std.proofs.lemmas.Bool.{cases_Bool}
 use Rattle.std.proofs.lemmas.Option.{slice_get_past, slice_get_read}
-use Rattle.std.specs.Prelude.{option_and_then}
+use Rattle.std.specs.Prelude.{option_and_then, slice_get}
 use Rattle.std.specs.List.{find}
 use Rattle.std.specs.Option.{option_map, option_copied}
 use Rattle.std.specs.Slice.{IsItemAt}
