@@ -12,30 +12,16 @@ import json
 import os
 import struct
 
-P = 2**64 - 2**32 + 1
+from rpo import P, constants_in, permutation, word_text
+
 HERE = os.path.dirname(os.path.abspath(__file__))
-FIRST_ROW = [7, 23, 8, 26, 13, 10, 9, 7, 6, 22, 21, 8]
-SEVENTH_ROOT = 10540996611094048183
-CONSTANTS = [int(line) for line in open(os.path.join(HERE, "../params/derived"))]
+CONSTANTS = constants_in(os.path.join(HERE, "../params/derived"))
 CODES = {"noop": 0, "add": 37, "push": 69, "span": 73, "end": 76, "halt": 79}
-
-
-def mixed(x):
-    return [sum(FIRST_ROW[(j - i) % 12] * x[j] for j in range(12)) % P for i in range(12)]
-
-
-def round_of(k, x):
-    first, second = CONSTANTS[24 * k:24 * k + 12], CONSTANTS[24 * k + 12:24 * k + 24]
-    x = [pow(a + c, 7, P) for a, c in zip(mixed(x), first)]
-    return [pow((a + c) % P, SEVENTH_ROOT, P) for a, c in zip(mixed(x), second)]
 
 
 def permutation_rows(state):
     """The eight rows of a permutation of a hash of one block: three flags and twelve elements."""
-    rows = [state]
-    for k in range(7):
-        rows.append(round_of(k, rows[-1]))
-    return [[0, 0, 0] + row for row in rows]
+    return [[0, 0, 0] + row for row in permutation(CONSTANTS, state)]
 
 
 def range_rows(asked):
@@ -92,8 +78,7 @@ def fill():
     end = {f"h{j}": element for j, element in enumerate(digest)}
     rows.append(main_row(6, CODES["end"], 1, stack, len(stack), keys[0], h5=1, **end))
     rows.append(main_row(7, CODES["halt"], 0, stack, len(stack), keys[0]))
-    text = "".join(f"{element:016x}" for element in digest)
-    return [rows, range_rows([1023]), hasher, [], [], [], [[key] for key in keys]], text, stack
+    return [rows, range_rows([1023]), hasher, [], [], [], [[key] for key in keys]], word_text(digest), stack
 
 
 def write(name, tables, digest, outputs):

@@ -1,5 +1,5 @@
 -- The laws of `specs/Laws`.
-use Rattle.std.proofs.Common.{◌≡◌, ◌⊎◌, ℕ, List, [], ◌∷◌, rules, Option, Some, None, refl, sym, ap, subst, inl, inr, ◌∙◌, Contains, take, Result, Ok, Err}
+use Rattle.std.proofs.Common.{◌≡◌, ◌⊎◌, ℕ, List, [], ◌∷◌, rules, Option, Some, None, refl, sym, ap, subst, inl, inr, ◌∙◌, Contains, take, Result, Ok, Err, arith}
 use Rattle.std.specs.FinMap.{insert}
 use Rattle.rpo_hash.specs.declared.params.ParamError.{ParamError}
 use Rattle.rpo_hash.specs.ParamText.{parameters_of}
@@ -18,9 +18,9 @@ use Rattle.miden_app.specs.declared.status.Status.{Status}
 use Rattle.miden_app.specs.declared.status.Status.TheVariants as status
 use Rattle.miden_app.specs.declared.outcome.Answer.{Answer}
 use Rattle.miden_app.specs.Statuses.{Kind, planned, no_command, failed_read, failed_write, failed_print, no_memory, kind_of}
-use Rattle.miden_app.specs.Asked.{Asked, nothing, hash, assemble, run, check, asked}
-use Rattle.miden_app.specs.Steps.{Finding, SourceFile, Steps, reading, writing, asking, ending, accepted, refused}
-use Rattle.miden_app.specs.Commands.{steps_of, with_params, with_kernel, with_inputs, with_statement, with_trace, numbers_steps, assembly_steps, run_source_steps, running_steps, table_steps, statement_steps, judging_steps, found_steps}
+use Rattle.miden_app.specs.Asked.{Asked, Outputs, nothing, hash, assemble, run, check, asked}
+use Rattle.miden_app.specs.Steps.{Course, Verdict, SourceFile, Steps, reading, writing, asking, ending, accepted, refused, ran, stopped}
+use Rattle.miden_app.specs.Commands.{steps_of, with_params, with_kernel, with_inputs, with_statement, with_trace, numbers_steps, assembly_steps, run_source_steps, kernel_steps, running_steps, course_steps, table_steps, statement_steps, judging_steps, found_steps}
 use Rattle.miden_app.specs.Serving.{Passes, none_yet, past_read, past_write, past_finding, Leads, IsWriting, FrontWritten, Works, GivesUp, Prints, Answers}
 use Rattle.miden_app.specs.Laws.{WritesOnly, StayBeside, OtherFilesStay, CommandsWrite, UsageMeansNothing, NothingGivesUsage}
 
@@ -121,10 +121,17 @@ only_behind_statement outputs name next only (Ok claim) = only claim
 only_behind_statement outputs name next only (Err cause) = tt
 
 -- what is found of a trace decides whether evidence is written
-only_evidence : (name constants : List ℕ) (claim : Claim) (t : Trace) (finding : Finding)
+only_evidence : (name constants : List ℕ) (claim : Claim) (t : Trace) (finding : Verdict)
     → WritesOnly (name ∷ []) (found_steps name constants claim t finding)
 only_evidence name constants claim t accepted = (search rules, λ bytes. tt)
 only_evidence name constants claim t (refused why) = tt
+
+-- a run that came to its end has its tables and its statement written
+only_of_run : (outputs : Outputs) (constants : List ℕ) (given : Given) (course : Course)
+    → WritesOnly (outputs.table ∷ outputs.statement ∷ []) (course_steps outputs constants given course)
+only_of_run outputs constants given (ran program last log) =
+    ((0, omega arith, refl), λ _. ((1, omega arith, refl), λ _. tt))
+only_of_run outputs constants given (stopped a) = tt
 
 pub commands_write : CommandsWrite
 commands_write nothing steps is = absurd (cc)
@@ -133,11 +140,13 @@ commands_write (hash params numbers) steps is =
 commands_write (assemble params source kernel) steps is =
     subst (WritesOnly []) (some_steps _ _ is)
     (λ bytes. only_behind_params [] params (assembly_steps source kernel) (λ constants text. only_behind_kernel [] kernel _ (λ k. tt)) (parameters_of bytes))
-commands_write (run params source inputs kernel limit) steps is =
-    subst (WritesOnly []) (some_steps _ _ is)
-    (λ bytes. only_behind_params [] params (run_source_steps source inputs kernel limit) (λ constants text more.
-    only_behind_inputs [] inputs (running_steps constants (record { name = source; text = text }) kernel limit)
-    (λ given. only_behind_kernel [] kernel _ (λ k. tt)) (inputs_of more)) (parameters_of bytes))
+commands_write (run params source inputs outputs kernel limit) steps is =
+    let names = outputs.table ∷ outputs.statement ∷ [] in
+    subst (WritesOnly names) (some_steps _ _ is)
+    (λ bytes. only_behind_params names params (run_source_steps outputs source inputs kernel limit) (λ constants text more.
+    only_behind_inputs names inputs (kernel_steps outputs constants (record { name = source; text = text }) kernel limit) (λ given.
+    only_behind_kernel names kernel (running_steps outputs constants (record { name = source; text = text }) given limit)
+    (λ k course. only_of_run outputs constants given course)) (inputs_of more)) (parameters_of bytes))
 commands_write (check params table statement evidence) steps is =
     subst (WritesOnly (evidence ∷ [])) (some_steps _ _ is)
     (λ bytes. only_behind_params (evidence ∷ []) params (table_steps table statement evidence) (λ constants text.
@@ -152,7 +161,7 @@ no_steps : (command : Asked) → steps_of command ≡ None → command ≡ nothi
 no_steps nothing none = refl
 no_steps (hash params numbers) none = absurd (are_steps _ none)
 no_steps (assemble params source kernel) none = absurd (are_steps _ none)
-no_steps (run params source inputs kernel limit) none = absurd (are_steps _ none)
+no_steps (run params source inputs outputs kernel limit) none = absurd (are_steps _ none)
 no_steps (check params table statement evidence) none = absurd (are_steps _ none)
 
 pub usage_means_nothing : UsageMeansNothing

@@ -1,7 +1,12 @@
 pub mod OutcomeLemmas
+pub mod RunLemmas
+pub mod RunWords
 pub mod SourceLemmas
 pub mod ServingLemmas
 pub mod PrintingLemmas
 pub mod LawLemmas
 pub mod CheckLemmas
 pub mod EvidenceLaw
+pub mod ApartNames
+pub mod Walks
+pub mod CompleteLaw

@@ -178,7 +178,7 @@ goes_past_write name right next bytes old mid fit is =
     past P h = record { left = h.left; now = h.now; passes = past_write name right next bytes fit h.passes; there = h.there }
 
 -- something that was found
-pub goes_past_finding : (question : Question) (next : Finding → Steps) (finding : Finding) (s : ShelfState) → Finds question finding
+pub goes_past_finding : (question : Question) (next : Finding question → Steps) (finding : Finding question) (s : ShelfState) → Finds question finding
     → GoesOn (asking question next) (next finding) s s
 goes_past_finding question next finding s found = goes_further (asking question next) (next finding) s s (no_fault s) past
   where

@@ -15,7 +15,7 @@ use Rattle.tree_merge.specs.Evidences.{IsEvidence}
 use Rattle.refusal_lines.specs.Lines.{refused_line}
 use Rattle.miden_app.specs.declared.status.Status.TheVariants as status
 use Rattle.miden_app.specs.declared.outcome.Answer.{Answer}
-use Rattle.miden_app.specs.Steps.{End, stop, Finding, accepted, refused, ends_with}
+use Rattle.miden_app.specs.Steps.{End, stop, Verdict, accepted, refused, ends_with}
 
 -- what a trace is checked against: these constants, and a statement that claims this
 pub record IsPublic (constants : List ℕ) (claim : Claim) (p : Public) : Type 0 where
@@ -28,15 +28,15 @@ IsWhy p trace (why.Fault fault) = IsFirstFault (traces.claim_of p trace) trace f
 IsWhy p trace (why.Bus bus tuple asked given) = IsBusRefusal p trace bus tuple asked given
 IsWhy p trace why.Memory = ⊥
 
-abbrev pub IsFindingOf : Public → Trace → Finding → Type 0
-IsFindingOf p trace accepted = IsAccepted p trace
-IsFindingOf p trace (refused r) = IsWhy p trace r
+abbrev pub IsVerdictOf : Public → Trace → Verdict → Type 0
+IsVerdictOf p trace accepted = IsAccepted p trace
+IsVerdictOf p trace (refused r) = IsWhy p trace r
 
 -- what is found of a trace, under these constants, for what is claimed
-pub record IsFound (constants : List ℕ) (claim : Claim) (trace : Trace) (finding : Finding) : Type 0 where
+pub record IsFound (constants : List ℕ) (claim : Claim) (trace : Trace) (verdict : Verdict) : Type 0 where
   pub against : Public
   pub is_public : IsPublic constants claim against
-  pub found : IsFindingOf against trace finding
+  pub found : IsVerdictOf against trace verdict
 
 -- the evidence is that of the trace, under these constants, of what is claimed
 pub record IsEvidenceFor (constants : List ℕ) (claim : Claim) (trace : Trace) (evidence : Evidence) : Type 0 where

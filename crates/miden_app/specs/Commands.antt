@@ -2,18 +2,26 @@
 use Rattle.std.specs.Prelude.{◌≡◌, ℕ, List, Option, Some, None, Result, Ok, Err}
 use Rattle.rpo_hash.specs.declared.params.ParamError.{ParamError}
 use Rattle.rpo_hash.specs.ParamText.{parameters_of}
+use Rattle.miden_app.specs.declared.status.Status.TheVariants as status
 use Rattle.miden_app.specs.declared.outcome.Answer.{Answer}
-use Rattle.miden_app.specs.Asked.{Asked, nothing, hash, assemble, run, check}
-use Rattle.miden_app.specs.Steps.{SourceFile, End, stop, assembly, running, telling, Right, exactly, evidence_for, Question, checked, Finding, accepted, refused, Steps, reading, writing, asking, ending, ends_with}
+use Rattle.miden_app.specs.Asked as asked
+use Rattle.miden_app.specs.Asked.{Asked, Outputs, nothing, hash, assemble, check}
+use Rattle.miden_app.specs.Steps.{SourceFile, End, stop, assembly, telling, Right, tables_of, statement_of, evidence_for, Question, checked, course, Finding, Verdict, accepted, refused, Course, ran, stopped, Steps, reading, writing, asking, ending, ends_with}
 use Rattle.number_files.specs.Grammar.{numbers_of}
 use Rattle.miden_app.specs.HashEnds.{hash_end}
 use Rattle.miden_app.specs.Malformed.{bad_params, bad_inputs, bad_statement, bad_table}
 use Rattle.miden_app.specs.CheckEnds.{IsEvidenceText, IsFound, TellsEvidence, refusal}
 use Rattle.miden_app.specs.AssembleEnds.{AnswersAssembly}
-use Rattle.miden_app.specs.RunEnds.{AnswersRun}
+use Rattle.miden_app.specs.RunEnds.{IsCourse, run_lines}
 use Rattle.statement.specs.Inputs.{Given, inputs_of}
-use Rattle.statement.specs.Statements.{Claim, statement_of}
+use Rattle.statement.specs.Statements as statements
+use Rattle.statement.specs.Statements.{Claim}
 use Rattle.air_kit.specs.declared.trace.Trace.{Trace}
+use Rattle.vm_field.specs.Machine.{State}
+use Rattle.block_tree.specs.Execution as run
+use Rattle.block_tree.specs.TreeView.{tree_of}
+use Rattle.block_tree.specs.declared.program.Program.{Program}
+use Rattle.run_files.specs.RunFiles.{IsTableFileOf, IsStatementFileOf, claim_of_run}
 use Rattle.table_file.specs.Files.{trace_of}
 use Rattle.table_file.specs.declared.cause.FileError.{FileError}
 use Rattle.statement.specs.declared.refusal.TextCause.{TextCause}
@@ -68,23 +76,38 @@ abbrev pub with_inputs : List ℕ → (Given → Steps) → Result Given TextCau
 with_inputs name next (Ok given) = next given
 with_inputs name next (Err cause) = ending (bad_inputs name cause)
 
-abbrev pub running_steps : List ℕ → SourceFile → Option (List ℕ) → ℕ → Given → Steps
-running_steps constants source kernel limit given = with_kernel kernel (λ k. ending (running constants source k given limit))
+-- The tables of a run are written, then its statement, and its cycles and outputs are told.
+abbrev pub ran_steps : Outputs → List ℕ → Given → Program → State → List run.Event → Steps
+ran_steps outputs constants given program last log =
+    writing outputs.table (tables_of constants program.kernel last log) (λ _.
+    writing outputs.statement (statement_of (claim_of_run constants (tree_of program.tree) program.kernel given.stack last.core.stack)) (λ _.
+    ending (stop status.Ok (run_lines last))))
 
-abbrev pub inputs_steps : List ℕ → SourceFile → List ℕ → Option (List ℕ) → ℕ → Steps
-inputs_steps constants source inputs kernel limit =
-    reading inputs most_inputs_bytes (λ bytes. with_inputs inputs (running_steps constants source kernel limit) (inputs_of bytes))
+abbrev pub course_steps : Outputs → List ℕ → Given → Course → Steps
+course_steps outputs constants given (ran program last log) = ran_steps outputs constants given program last log
+course_steps outputs constants given (stopped a) = ending (stop a.status a.line)
 
-abbrev pub run_source_steps : List ℕ → List ℕ → Option (List ℕ) → ℕ → List ℕ → Steps
-run_source_steps source inputs kernel limit constants =
-    reading source most_source_bytes (λ text. inputs_steps constants (record { name = source; text = text }) inputs kernel limit)
+abbrev pub running_steps : Outputs → List ℕ → SourceFile → Given → ℕ → Option SourceFile → Steps
+running_steps outputs constants source given limit kernel =
+    asking (course constants source kernel given limit) (course_steps outputs constants given)
 
-abbrev pub run_steps : List ℕ → List ℕ → List ℕ → Option (List ℕ) → ℕ → Steps
-run_steps params source inputs kernel limit =
-    reading params most_params_bytes (λ bytes. with_params params (run_source_steps source inputs kernel limit) (parameters_of bytes))
+abbrev pub kernel_steps : Outputs → List ℕ → SourceFile → Option (List ℕ) → ℕ → Given → Steps
+kernel_steps outputs constants source kernel limit given = with_kernel kernel (running_steps outputs constants source given limit)
+
+abbrev pub inputs_steps : Outputs → List ℕ → SourceFile → List ℕ → Option (List ℕ) → ℕ → Steps
+inputs_steps outputs constants source inputs kernel limit =
+    reading inputs most_inputs_bytes (λ bytes. with_inputs inputs (kernel_steps outputs constants source kernel limit) (inputs_of bytes))
+
+abbrev pub run_source_steps : Outputs → List ℕ → List ℕ → Option (List ℕ) → ℕ → List ℕ → Steps
+run_source_steps outputs source inputs kernel limit constants =
+    reading source most_source_bytes (λ text. inputs_steps outputs constants (record { name = source; text = text }) inputs kernel limit)
+
+abbrev pub run_steps : List ℕ → List ℕ → List ℕ → Outputs → Option (List ℕ) → ℕ → Steps
+run_steps params source inputs outputs kernel limit =
+    reading params most_params_bytes (λ bytes. with_params params (run_source_steps outputs source inputs kernel limit) (parameters_of bytes))
 
 -- A trace that is accepted has evidence, which is written and told; one that is refused is refused by name.
-abbrev pub found_steps : List ℕ → List ℕ → Claim → Trace → Finding → Steps
+abbrev pub found_steps : List ℕ → List ℕ → Claim → Trace → Verdict → Steps
 found_steps name constants claim trace accepted = writing name (evidence_for constants claim trace) (λ bytes. ending (telling constants claim trace bytes))
 found_steps name constants claim trace (refused why) = ending (refusal why)
 
@@ -98,7 +121,7 @@ with_statement name next (Err cause) = ending (bad_statement name cause)
 
 abbrev pub statement_steps : List ℕ → List ℕ → List ℕ → Trace → Steps
 statement_steps statement evidence constants trace =
-    reading statement most_statement_bytes (λ bytes. with_statement statement (judging_steps evidence constants trace) (statement_of bytes))
+    reading statement most_statement_bytes (λ bytes. with_statement statement (judging_steps evidence constants trace) (statements.statement_of bytes))
 
 -- a command that reads a table file of this name goes on with its trace
 abbrev pub with_trace : List ℕ → (Trace → Steps) → Result Trace FileError → Steps
@@ -118,21 +141,22 @@ abbrev pub steps_of : Asked → Option Steps
 steps_of nothing = None
 steps_of (hash params numbers) = Some (hash_steps params numbers)
 steps_of (assemble params source kernel) = Some (assemble_steps params source kernel)
-steps_of (run params source inputs kernel limit) = Some (run_steps params source inputs kernel limit)
+steps_of (asked.run params source inputs outputs kernel limit) = Some (run_steps params source inputs outputs kernel limit)
 steps_of (check params table statement evidence) = Some (check_steps params table statement evidence)
 
 -- what a command may end with
 abbrev pub EndsAs : End → Answer → Type 0
 EndsAs (stop s line) a = a ≡ ends_with s line
 EndsAs (assembly constants source kernel) a = AnswersAssembly constants source kernel a
-EndsAs (running constants source kernel given limit) a = AnswersRun constants source kernel given limit a
 EndsAs (telling constants claim trace written) a = TellsEvidence constants claim trace written a
 
 -- what may be written
 abbrev pub IsRight : Right → List ℕ → Type 0
-IsRight (exactly bytes) written = written ≡ bytes
+IsRight (tables_of constants kernel last log) written = IsTableFileOf constants kernel last log written
+IsRight (statement_of claim) written = IsStatementFileOf claim written
 IsRight (evidence_for constants claim trace) written = IsEvidenceText constants claim trace written
 
 -- what may be found
-abbrev pub Finds : Question → Finding → Type 0
-Finds (checked constants claim trace) finding = IsFound constants claim trace finding
+abbrev pub Finds : (question : Question) → Finding question → Type 0
+Finds (checked constants claim trace) verdict = IsFound constants claim trace verdict
+Finds (course constants source kernel given limit) found = IsCourse constants source kernel given limit found

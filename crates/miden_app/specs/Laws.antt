@@ -1,5 +1,5 @@
 -- What follows from the contract of `serve`, whatever the command.
-use Rattle.std.specs.Prelude.{◌≡◌, ◌⊎◌, ℕ, List, [], ◌∷◌, Contains, Some, IsSomeAnd, Ok}
+use Rattle.std.specs.Prelude.{◌≡◌, ◌⊎◌, ℕ, List, [], ◌∷◌, Contains, Option, Some, IsSomeAnd, Ok}
 use Rattle.std.specs.FinMap.{get, insert}
 use Rattle.rpo_hash.specs.ParamText.{parameters_of}
 use Rattle.block_tree.specs.declared.evidence.Evidence.{Evidence}
@@ -11,7 +11,8 @@ use Rattle.vm_io.specs.Shelf.{Files, ShelfState}
 use Rattle.vm_io.specs.Sink.{SinkState, with_piece}
 use Rattle.miden_app.specs.declared.status.Status.{Status}
 use Rattle.miden_app.specs.declared.status.Status.TheVariants as status
-use Rattle.miden_app.specs.Asked.{Asked, nothing, hash, assemble, run, check, asked}
+use Rattle.miden_app.specs.Statuses.{kind_of, planned}
+use Rattle.miden_app.specs.Asked.{Asked, Outputs, nothing, hash, assemble, run, check, asked}
 use Rattle.miden_app.specs.Steps.{Finding, accepted, Steps, reading, writing, asking, ending}
 use Rattle.miden_app.specs.CheckEnds.{IsEvidenceFor, IsFound, accepted_line}
 use Rattle.miden_app.specs.Commands.{steps_of}
@@ -21,7 +22,7 @@ use Rattle.miden_app.specs.Serving.{Serves}
 abbrev pub WritesOnly : List (List ℕ) → Steps → Type 0
 WritesOnly outputs (reading name most next) = (bytes : List ℕ) → WritesOnly outputs (next bytes)
 WritesOnly outputs (writing name right next) = Contains outputs name × ((bytes : List ℕ) → WritesOnly outputs (next bytes))
-WritesOnly outputs (asking question next) = (finding : Finding) → WritesOnly outputs (next finding)
+WritesOnly outputs (asking question next) = (finding : Finding question) → WritesOnly outputs (next finding)
 WritesOnly outputs (ending end) = Unit {0}
 
 -- the files of m stay in n, but under these names
@@ -35,12 +36,12 @@ OtherFilesStay =
     → Serves words s old new before now → steps_of (asked words) ≡ Some steps → WritesOnly outputs steps → old.files ≡ Some m
     → (n : Files) × (new.files ≡ Some n) × StayBeside outputs m n
 
--- the files that a command writes: `check` its evidence
+-- the files that a command writes: `run` its tables and its statement, `check` its evidence
 abbrev pub outputs_of : Asked → List (List ℕ)
 outputs_of nothing = []
 outputs_of (hash params numbers) = []
 outputs_of (assemble params source kernel) = []
-outputs_of (run params source inputs kernel limit) = []
+outputs_of (run params source inputs outputs kernel limit) = outputs.table ∷ outputs.statement ∷ []
 outputs_of (check params table statement evidence) = evidence ∷ []
 
 -- no command writes other files
@@ -82,3 +83,13 @@ AcceptedHasEvidence =
     (words : List (List ℕ)) (old new : ShelfState) (before now : SinkState) (params table statement output : List ℕ) (m : Files)
     → Serves words status.Ok old new before now → asked words ≡ check params table statement output → old.files ≡ Some m
     → EvidenceStands params table statement output m new before now
+
+-- `check` of the files that `run` wrote for the same parameters is answered `Ok`, where no read, no write and no memory fails and its
+-- line is taken.
+abbrev pub WrittenRunIsAccepted : Type 0
+WrittenRunIsAccepted =
+    (ran_by checked_by : List (List ℕ)) (s : Status) (old mid new : ShelfState) (a b c d : SinkState) (m : Files)
+    (params source inputs evidence : List ℕ) (outputs : Outputs) (kernel : Option (List ℕ)) (limit : ℕ)
+    → old.files ≡ Some m → asked ran_by ≡ run params source inputs outputs kernel limit → Serves ran_by status.Ok old mid a b
+    → asked checked_by ≡ check params outputs.table outputs.statement evidence → Serves checked_by s mid new c d
+    → kind_of s ≡ planned → s ≡ status.Ok

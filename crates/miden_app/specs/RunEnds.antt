@@ -1,18 +1,21 @@
 -- The ends of `run` (docs/FORMATS.md).
-use Rattle.std.specs.Prelude.{ℕ, Bool, List, ◌∷◌, ◌++◌, codes, decimal, Option, Ok, Err}
+use Rattle.std.specs.Prelude.{◌≡◌, ℕ, Bool, true, false, List, ◌∷◌, ◌++◌, codes, decimal, Option, Ok, Err}
 use Rattle.std.specs.List.{flat_map}
 use Rattle.vm_field.specs.Machine.{State, start}
 use Rattle.vm_ops.specs.declared.cause.Cause.{Cause}
 use Rattle.vm_ops.specs.Causes.{text_of_cause}
 use Rattle.block_tree.specs.declared.program.Program.{Program}
-use Rattle.block_tree.specs.Execution.{Outcome, Done, Trap, OutOfCycles, execution}
+use Rattle.block_tree.specs.Execution as run
+use Rattle.block_tree.specs.Execution.{Outcome, Trap, OutOfCycles, execution}
 use Rattle.block_tree.specs.TreeView.{tree_of}
 use Rattle.masm_link.specs.declared.refusal.AsmCause.{AsmCause}
 use Rattle.masm_link.specs.declared.refusal.AsmError.TheVariants.{Bad}
 use Rattle.statement.specs.Inputs.{Given}
 use Rattle.miden_app.specs.declared.status.Status.TheVariants as status
+use Rattle.run_rows.specs.BlockRows.{IsRun}
+use Rattle.fill_main.specs.Known.{is_known}
 use Rattle.miden_app.specs.declared.outcome.Answer.{Answer}
-use Rattle.miden_app.specs.Steps.{SourceFile, ends_with}
+use Rattle.miden_app.specs.Steps.{SourceFile, Course, ran, stopped, ends_with}
 use Rattle.miden_app.specs.SourceEnds.{AssemblesFiles, name_of_place, source_line}
 
 -- how a program comes out from these inputs
@@ -33,15 +36,22 @@ trap_line clock cause = codes "trap " ++ decimal clock ++ codes " " ++ text_of_c
 abbrev pub limit_line : ℕ → List ℕ
 limit_line limit = codes "out of cycles " ++ decimal limit ++ codes "\n"
 
-abbrev pub answer_to : ℕ → Outcome → Answer
-answer_to limit (Done s events) = ends_with status.Ok (run_lines s)
-answer_to limit (Trap clock cause) = ends_with status.Trap (trap_line clock cause)
-answer_to limit OutOfCycles = ends_with status.OutOfCycles (limit_line limit)
+-- Why a program does not run to an end, and the answer to that. It has to have operations alone of which rows are written.
+pub data IsHalt (constants : List ℕ) (program : Program) (given : Given) (limit : ℕ) : Answer → Type 0 where
+  unbuilt : is_known (tree_of program.tree) ≡ false → IsHalt constants program given limit (ends_with status.Unbuilt (codes "unbuilt\n"))
+  trapped : is_known (tree_of program.tree) ≡ true → (clock : ℕ) (cause : Cause) → outcome_of constants program given limit ≡ Trap clock cause
+      → IsHalt constants program given limit (ends_with status.Trap (trap_line clock cause))
+  unended : is_known (tree_of program.tree) ≡ true → outcome_of constants program given limit ≡ OutOfCycles
+      → IsHalt constants program given limit (ends_with status.OutOfCycles (limit_line limit))
 
--- The program's run is told, or the place of the first refusal.
-pub data AnswersRun (constants : List ℕ) (source : SourceFile) (kernel : Option SourceFile) (given : Given) (limit : ℕ) : Answer → Type 0 where
-  ran : (program : Program) → AssemblesFiles constants source kernel (Ok program)
-      → AnswersRun constants source kernel given limit (answer_to limit (outcome_of constants program given limit))
+-- What a source comes to that is to be run: it is refused, at the place of the first refusal, or its program halts, or it runs to its end.
+pub data IsCourse (constants : List ℕ) (source : SourceFile) (kernel : Option SourceFile) (given : Given) (limit : ℕ) : Course → Type 0 where
   refused : (in_kernel : Bool) (line column : ℕ) (cause : AsmCause) → AssemblesFiles constants source kernel (Err (Bad in_kernel line column cause))
-      → AnswersRun constants source kernel given limit
-      (ends_with status.Source (source_line (name_of_place in_kernel source kernel) line column cause))
+      → IsCourse constants source kernel given limit
+      (stopped (ends_with status.Source (source_line (name_of_place in_kernel source kernel) line column cause)))
+  halted : (program : Program) → AssemblesFiles constants source kernel (Ok program) → (a : Answer) → IsHalt constants program given limit a
+      → IsCourse constants source kernel given limit (stopped a)
+  ended : (program : Program) → AssemblesFiles constants source kernel (Ok program) → is_known (tree_of program.tree) ≡ true
+      → (last : State) (log : List run.Event)
+      → IsRun constants program.kernel limit (tree_of program.tree) given.stack given.advice last log
+      → IsCourse constants source kernel given limit (ran program last log)

@@ -24,7 +24,7 @@ pub data Passes : Steps → Option Files → Steps → Option Files → Type 0 w
       → Holds m name (Some bytes) → length bytes ≤ most → Passes (next bytes) m left n → Passes (reading name most next) m left n
   past_write : (name : List ℕ) (right : Right) (next : List ℕ → Steps) (bytes : List ℕ) {m n : Option Files} {left : Steps}
       → IsRight right bytes → Passes (next bytes) (with_file m name bytes) left n → Passes (writing name right next) m left n
-  past_finding : (question : Question) (next : Finding → Steps) (finding : Finding) {m n : Option Files} {left : Steps}
+  past_finding : (question : Question) (next : Finding question → Steps) (finding : Finding question) {m n : Option Files} {left : Steps}
       → Finds question finding → Passes (next finding) m left n → Passes (asking question next) m left n
 
 -- The steps come to a place where P holds of those that are left and of the files.

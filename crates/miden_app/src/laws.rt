@@ -1,7 +1,8 @@
-ghost use Rattle.miden_app.specs.Laws.{OtherFilesStay, CommandsWrite, UsageMeansNothing, NothingGivesUsage, AcceptedHasEvidence};
+ghost use Rattle.miden_app.specs.Laws.{OtherFilesStay, CommandsWrite, UsageMeansNothing, NothingGivesUsage, AcceptedHasEvidence, WrittenRunIsAccepted};
 
 /// Which files `serve` may change, over a shelf that tells its files: whatever the answer, those
-/// that the command writes and no others: `check` writes its evidence, and no other command a file.
+/// that the command writes and no others: `run` its tables and its statement, `check` its evidence,
+/// and no other command a file.
 pub fn other_files_stay()
     ensures stay { OtherFilesStay }
     ensures write { CommandsWrite }
@@ -21,4 +22,12 @@ pub fn usage_is_for_no_command()
 /// file that have different inputs and one digest.
 pub fn accepted_has_evidence()
     ensures { AcceptedHasEvidence }
+{}
+
+/// What `run` vouches for, over a shelf that tells its files: where it answers `Ok`, `check` of the two files
+/// that it wrote, under the same parameters, is answered `Ok` and not refused, unless a read, a write, the
+/// sink or memory fails.
+#[tactic(auto, using(crate::proofs::CompleteLaw::written_run_is_accepted))]
+pub fn written_run_is_accepted()
+    ensures { WrittenRunIsAccepted }
 {}

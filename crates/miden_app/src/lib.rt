@@ -3,12 +3,15 @@
 
 mod assembly;
 mod checking;
+mod course;
 mod hash;
 mod laws;
 mod lines;
 mod loading;
 mod malformed;
 mod outcome;
+mod ran;
+mod run_lines;
 mod running;
 mod saving;
 mod serving;
@@ -16,6 +19,8 @@ mod source;
 mod status;
 mod words;
 
-pub use laws::{accepted_has_evidence, other_files_stay, usage_is_for_no_command};
+pub use laws::{
+    accepted_has_evidence, other_files_stay, usage_is_for_no_command, written_run_is_accepted,
+};
 pub use serving::serve;
 pub use status::Status;

@@ -9,7 +9,7 @@ use crate::assembly::assemble_files;
 use crate::checking::{CheckNames, check_files};
 use crate::hash::hash_files;
 use crate::outcome::{Outcome, answered};
-use crate::running::run_files;
+use crate::running::{RunOptions, run_files};
 use crate::status::Status;
 use crate::words::{Command, command_of};
 use std::alloc::Global;
@@ -59,9 +59,21 @@ fn obey<F: Shelf, G: Gate>(alloc: Global, words: &[Vec<u8>], shelf: &mut F, gate
             params,
             source,
             inputs,
+            outputs,
             kernel,
             limit,
-        } => run_files(alloc, shelf, params, source, inputs, kernel, limit),
+        } => run_files(
+            alloc,
+            shelf,
+            params,
+            source,
+            RunOptions {
+                inputs,
+                outputs,
+                kernel,
+                limit,
+            },
+        ),
         Command::Check {
             params,
             table,

@@ -30,6 +30,8 @@ pub enum Status {
     TooLong,
     /// Memory was refused.
     Memory,
+    /// The program has operations that no rows are written of yet.
+    Unbuilt,
 }
 
 impl Status {
@@ -51,6 +53,7 @@ impl Status {
             Status::Malformed => 10,
             Status::TooLong => 11,
             Status::Memory => 12,
+            Status::Unbuilt => 13,
         }
     }
 }

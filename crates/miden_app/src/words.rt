@@ -1,10 +1,19 @@
 //! What the words behind the program's name ask for.
-ghost use Rattle.std.specs.Prelude.{◌≡◌, ◌≤◌, length, Some, IfSome};
+ghost use Rattle.std.specs.Prelude.{◌≡◌, ◌≤◌, ◌∷◌, length, option_map, Some, IfSome};
+ghost use Rattle.std.specs.List.{list_any};
+ghost use Rattle.std.specs.Str.{bytes_eq};
 ghost use Rattle.command_words.specs.Words.{texts};
-ghost use Rattle.miden_app.specs.Asked.{nothing, hash, assemble, check, check_words, check_of_names, is_apart, hash_words, hash_of_names, assemble_words, assemble_of_names, run, run_words, run_of_names, limit_in, asked};
-ghost use Rattle.miden_app.specs.Inside.Asking.{asks, IsNamed};
+ghost use Rattle.miden_app.specs.Asked.{nothing, hash, assemble, check, check_words, check_of_names, is_apart, hash_words, hash_of_names, assemble_words, assemble_of_names, run, run_words, run_of_names, run_apart, given_name, outputs_in, limit_in, asked};
+ghost use Rattle.miden_app.specs.Inside.Asking.{asks, AreNamed, IsNamed, outputs_from};
 
 use command_words::{is_form, name_at, optional_name, optional_number};
+
+/// The names of the files that `run` writes.
+#[derive(Clone, Copy)]
+pub struct Outputs<'a> {
+    pub table: &'a str,
+    pub statement: &'a str,
+}
 
 /// What the words after the program's name ask for.
 pub enum Command<'a> {
@@ -21,11 +30,12 @@ pub enum Command<'a> {
         source: &'a str,
         kernel: Option<&'a str>,
     },
-    /// `run` of a source on inputs, with a kernel where one is named.
+    /// `run` of a source on inputs, with a kernel where one is named, into a table file and a statement.
     Run {
         params: &'a str,
         source: &'a str,
         inputs: &'a str,
+        outputs: Outputs<'a>,
         kernel: Option<&'a str>,
         limit: u32,
     },
@@ -143,7 +153,7 @@ fn run_of(words: &[Vec<u8>]) -> Command<'_>
     ensures asks { asks result ≡ run_words (texts words.entry.now) }
     ensures named { IsNamed result }
 {
-    if !is_form(3, &["--kernel", "--limit"], words) {
+    if !is_form(3, &["--out", "--statement", "--kernel", "--limit"], words) {
         return Command::Nothing;
     }
     let Some(params) = name_at(0, words) else {
@@ -155,19 +165,74 @@ fn run_of(words: &[Vec<u8>]) -> Command<'_>
     let Some(inputs) = name_at(2, words) else {
         return Command::Nothing;
     };
-    let Some(kernel) = optional_name("--kernel", words) else {
+    let Some(outputs) = outputs_of(words) else {
         return Command::Nothing;
     };
-    match limit_of(words) {
-        Some(limit) => Command::Run {
-            params,
-            source,
-            inputs,
-            kernel,
-            limit,
-        },
-        None => Command::Nothing,
+    match (optional_name("--kernel", words), limit_of(words)) {
+        (Some(kernel), Some(limit)) => run_with(params, source, inputs, outputs, kernel, limit),
+        _ => Command::Nothing,
     }
+}
+
+// The names of the files that `run` writes.
+fn outputs_of(words: &[Vec<u8>]) -> Option<Outputs<'_>>
+    ensures is { option_map outputs_from result ≡ outputs_in (texts words.entry.now) }
+    ensures named { IfSome result AreNamed }
+{
+    match (
+        optional_name("--out", words),
+        optional_name("--statement", words),
+    ) {
+        (Some(Some(table)), Some(Some(statement))) => Some(Outputs { table, statement }),
+        _ => None,
+    }
+}
+
+// Two files are written, so that no other file may have the name of one of them.
+fn run_with<'a>(
+    params: &'a str,
+    source: &'a str,
+    inputs: &'a str,
+    outputs: Outputs<'a>,
+    kernel: Option<&'a str>,
+    limit: u32,
+) -> Command<'a>
+    requires params { length params.now ≤ 200 }
+    requires source { length source.now ≤ 200 }
+    requires inputs { length inputs.now ≤ 200 }
+    requires outputs { AreNamed outputs }
+    requires kernel { IfSome kernel (λ k. length k.now ≤ 200) }
+    requires limit { limit ≤ 524287 }
+    ensures asks { asks result ≡ run_apart params.entry.now source.entry.now inputs.entry.now (outputs_from outputs.entry)
+        (option_map (λ k. k.now) kernel.entry) limit }
+    ensures named { IsNamed result }
+{
+    let Outputs { table, statement } = outputs;
+    if table == statement || is_read(table, params, source, inputs, kernel) {
+        return Command::Nothing;
+    }
+    if is_read(statement, params, source, inputs, kernel) {
+        return Command::Nothing;
+    }
+    Command::Run {
+        params,
+        source,
+        inputs,
+        outputs,
+        kernel,
+        limit,
+    }
+}
+
+// Whether a name is that of a file which `run` reads.
+fn is_read(name: &str, params: &str, source: &str, inputs: &str, kernel: Option<&str>) -> bool
+    ensures { result ≡ list_any (bytes_eq name.now) (params.now ∷ source.now ∷ inputs.now ∷ given_name (option_map (λ k. k.now) kernel.entry)) }
+{
+    let is_kernel = match kernel {
+        Some(kernel) => name == kernel,
+        None => false,
+    };
+    name == params || name == source || name == inputs || is_kernel
 }
 
 // The limit of cycles that the words give, the most where they give none.

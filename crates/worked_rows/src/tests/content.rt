@@ -73,7 +73,7 @@ fn table(alloc: Global, others: &[Other], size: usize) -> Result<Vec<u8>, Memory
         push_number(&mut bytes, found(others, place).unwrap_or(value), 8)?;
     }
     bytes.truncate(size);
-    while bytes.len() < size {
+    for _ in bytes.len()..size {
         bytes.push(0)?;
     }
     Ok(bytes)

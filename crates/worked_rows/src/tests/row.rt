@@ -58,18 +58,45 @@ pub fn all_write(
     rt: &(impl Abort + AllocGlobal),
     rows: &[Row],
     name: &str,
-    text: &str,
+    content: &Content,
 ) -> Result<(), Fail> {
     for row in rows {
-        let holds = writes(rt.alloc(), row, name, text)?;
+        let holds = writes(rt.alloc(), row, name, content)?;
         assert!(rt; holds, "{}", row.printed);
     }
     Ok(())
 }
 
-fn writes(alloc: Global, row: &Row, name: &str, text: &str) -> Result<bool, Memory> {
+fn writes(alloc: Global, row: &Row, name: &str, content: &Content) -> Result<bool, Memory> {
     let mut shelf = shelf_of(alloc, row)?;
-    Ok(answers(alloc, row, &mut shelf)? && stands(&shelf, name, text.as_bytes()))
+    let is_answered = answers(alloc, row, &mut shelf)?;
+    Ok(is_answered && stands(&shelf, name, bytes_of(alloc, content)?.as_slice()))
+}
+
+/// Fails at the first row that is not so, or behind which these words do not print that a run is accepted.
+pub fn all_accepted(
+    rt: &(impl Abort + AllocGlobal),
+    rows: &[Row],
+    words: &'static [&'static str],
+) -> Result<(), Fail> {
+    let check = Row {
+        words,
+        files: &[],
+        failing_call: 0,
+        failing_write: 0,
+        number: 0,
+        printed: "accepted run\n",
+    };
+    for row in rows {
+        let holds = holds_then(rt.alloc(), row, &check)?;
+        assert!(rt; holds, "{}", row.printed);
+    }
+    Ok(())
+}
+
+fn holds_then(alloc: Global, row: &Row, next: &Row) -> Result<bool, Memory> {
+    let mut shelf = shelf_of(alloc, row)?;
+    Ok(answers(alloc, row, &mut shelf)? && answers(alloc, next, &mut shelf)?)
 }
 
 fn holds(alloc: Global, row: &Row) -> Result<bool, Memory> {

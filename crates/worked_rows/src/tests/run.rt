@@ -1,10 +1,14 @@
 use crate::tests::content::Content;
-use crate::tests::row::{Row, all_hold, all_wrong};
+use crate::tests::row::{Row, all_accepted, all_hold, all_write, all_wrong};
 use std::test::Fail;
 
-static ROWS: [Row; 25] = [
+// What is claimed of `begin end`.
+const STATEMENT: &str =
+    "{\"digest\":\"0000000000000000000000000000000000000000000000000000000000000000\",\"inputs\":[],\"kernel\":[],\"outputs\":[0,0,0,0,0,0,0,0,0,0,0,0,0,0,0,0]}";
+
+static RAN: [Row; 7] = [
     Row {
-        words: &["run", "z", "s", "i"],
+        words: &["run", "z", "s", "i", "--out", "t", "--statement", "u"],
         files: &[
             ("z", Content::Lines(168, 0, "")),
             ("s", Content::Text("begin end")),
@@ -16,7 +20,7 @@ static ROWS: [Row; 25] = [
         printed: "cycles 3\noutputs 0 0 0 0 0 0 0 0 0 0 0 0 0 0 0 0\n",
     },
     Row {
-        words: &["run", "z", "s", "i"],
+        words: &["run", "z", "s", "i", "--out", "t", "--statement", "u"],
         files: &[
             ("z", Content::Lines(168, 0, "")),
             ("s", Content::Text("begin push.2 push.3 add push.7 end")),
@@ -28,7 +32,7 @@ static ROWS: [Row; 25] = [
         printed: "cycles 7\noutputs 7 5 0 0 0 0 0 0 0 0 0 0 0 0 0 0 0 0\n",
     },
     Row {
-        words: &["run", "z", "s", "i"],
+        words: &["run", "z", "s", "i", "--out", "t", "--statement", "u"],
         files: &[
             ("z", Content::Lines(168, 0, "")),
             ("s", Content::Text("begin push.0 end")),
@@ -40,7 +44,7 @@ static ROWS: [Row; 25] = [
         printed: "cycles 3\noutputs 0 0 0 0 0 0 0 0 0 0 0 0 0 0 0 0 0\n",
     },
     Row {
-        words: &["run", "z", "s", "i"],
+        words: &["run", "z", "s", "i", "--out", "t", "--statement", "u"],
         files: &[
             ("z", Content::Lines(168, 0, "")),
             ("s", Content::Text("begin repeat.8 neg end push.5 end")),
@@ -52,7 +56,7 @@ static ROWS: [Row; 25] = [
         printed: "cycles 13\noutputs 5 0 0 0 0 0 0 0 0 0 0 0 0 0 0 0 0\n",
     },
     Row {
-        words: &["run", "z", "s", "i"],
+        words: &["run", "z", "s", "i", "--out", "t", "--statement", "u"],
         files: &[
             ("z", Content::Lines(168, 0, "")),
             ("s", Content::Text("begin repeat.73 neg end end")),
@@ -64,147 +68,7 @@ static ROWS: [Row; 25] = [
         printed: "cycles 76\noutputs 0 0 0 0 0 0 0 0 0 0 0 0 0 0 0 0\n",
     },
     Row {
-        words: &["run", "z", "s", "i"],
-        files: &[
-            ("z", Content::Lines(168, 0, "")),
-            ("s", Content::Text("begin while.true push.1 end end")),
-            ("i", Content::Text(r#"{"advice":[],"stack":[]}"#)),
-        ],
-        failing_call: 0,
-        failing_write: 0,
-        number: 0,
-        printed: "cycles 2\noutputs 0 0 0 0 0 0 0 0 0 0 0 0 0 0 0 0\n",
-    },
-    Row {
-        words: &["run", "z", "s", "i"],
-        files: &[
-            ("z", Content::Lines(168, 0, "")),
-            (
-                "s",
-                Content::Text("begin while.true if.true swap swap else neg neg end end end"),
-            ),
-            ("i", Content::Text(r#"{"advice":[],"stack":[1,1,1,0,0]}"#)),
-        ],
-        failing_call: 0,
-        failing_write: 0,
-        number: 0,
-        printed: "cycles 15\noutputs 0 0 0 0 0 0 0 0 0 0 0 0 0 0 0 0\n",
-    },
-    Row {
-        words: &["run", "z", "s", "i"],
-        files: &[
-            ("z", Content::Lines(168, 0, "")),
-            (
-                "s",
-                Content::Text("begin push.4294967296 push.1 u32wrapping_add end"),
-            ),
-            ("i", Content::Text(r#"{"advice":[],"stack":[]}"#)),
-        ],
-        failing_call: 0,
-        failing_write: 0,
-        number: 4,
-        printed: "trap 3 NotU32\n",
-    },
-    Row {
-        words: &["run", "z", "s", "i"],
-        files: &[
-            ("z", Content::Lines(168, 0, "")),
-            ("s", Content::Text("proc.f push.1 end begin call.f end")),
-            ("i", Content::Text(r#"{"advice":[],"stack":[]}"#)),
-        ],
-        failing_call: 0,
-        failing_write: 0,
-        number: 4,
-        printed: "trap 5 DepthAtReturn\n",
-    },
-    Row {
-        words: &["run", "z", "s", "i"],
-        files: &[
-            ("z", Content::Lines(168, 0, "")),
-            (
-                "s",
-                Content::Text("proc.f push.1 add end begin push.9 call.f end"),
-            ),
-            ("i", Content::Text(r#"{"advice":[],"stack":[]}"#)),
-        ],
-        failing_call: 0,
-        failing_write: 0,
-        number: 0,
-        printed: "cycles 12\noutputs 10 0 0 0 0 0 0 0 0 0 0 0 0 0 0 0 0\n",
-    },
-    Row {
-        words: &["run", "z", "s", "i"],
-        files: &[
-            ("z", Content::Lines(168, 0, "")),
-            ("s", Content::Text("begin adv_push.2 end")),
-            ("i", Content::Text(r#"{"advice":[6],"stack":[]}"#)),
-        ],
-        failing_call: 0,
-        failing_write: 0,
-        number: 4,
-        printed: "trap 2 AdviceEmpty\n",
-    },
-    Row {
-        words: &["run", "z", "s", "i", "--limit", "3"],
-        files: &[
-            ("z", Content::Lines(168, 0, "")),
-            ("s", Content::Text("begin end")),
-            ("i", Content::Text(r#"{"advice":[],"stack":[]}"#)),
-        ],
-        failing_call: 0,
-        failing_write: 0,
-        number: 0,
-        printed: "cycles 3\noutputs 0 0 0 0 0 0 0 0 0 0 0 0 0 0 0 0\n",
-    },
-    Row {
-        words: &["run", "z", "s", "i", "--limit=2"],
-        files: &[
-            ("z", Content::Lines(168, 0, "")),
-            ("s", Content::Text("begin end")),
-            ("i", Content::Text(r#"{"advice":[],"stack":[]}"#)),
-        ],
-        failing_call: 0,
-        failing_write: 0,
-        number: 5,
-        printed: "out of cycles 2\n",
-    },
-    // The limit comes before the trap of the same cycle.
-    Row {
-        words: &["run", "--limit", "2", "z", "s", "i"],
-        files: &[
-            ("z", Content::Lines(168, 0, "")),
-            ("s", Content::Text("begin adv_push.2 end")),
-            ("i", Content::Text(r#"{"advice":[6],"stack":[]}"#)),
-        ],
-        failing_call: 0,
-        failing_write: 0,
-        number: 5,
-        printed: "out of cycles 2\n",
-    },
-    Row {
-        words: &[
-            "run",
-            "z",
-            "--kernel",
-            "k",
-            "s",
-            "--limit=524287",
-            "--",
-            "i",
-        ],
-        files: &[
-            ("z", Content::Lines(168, 0, "")),
-            ("s", Content::Text("begin syscall.k end")),
-            ("i", Content::Text(r#"{"advice":[],"stack":[]}"#)),
-            ("k", Content::Text("export.k end")),
-        ],
-        failing_call: 0,
-        failing_write: 0,
-        number: 0,
-        printed: "cycles 5\noutputs 0 0 0 0 0 0 0 0 0 0 0 0 0 0 0 0\n",
-    },
-    Row {
-        words: &["run", "z", "s", "i"],
+        words: &["run", "z", "s", "i", "--out", "t", "--statement", "u"],
         files: &[
             ("z", Content::Lines(168, 0, "")),
             ("s", Content::Text("begin add end")),
@@ -216,7 +80,108 @@ static ROWS: [Row; 25] = [
         printed: "cycles 3\noutputs 5 0 0 0 0 0 0 0 0 0 0 0 0 0 0 0\n",
     },
     Row {
-        words: &["run", "z", "s", "i", "--kernel", "k"],
+        words: &["run", "--limit", "3", "z", "--out=t", "s", "--statement=u", "--", "i"],
+        files: &[
+            ("z", Content::Lines(168, 0, "")),
+            ("s", Content::Text("begin end")),
+            ("i", Content::Text(r#"{"advice":[],"stack":[]}"#)),
+        ],
+        failing_call: 0,
+        failing_write: 0,
+        number: 0,
+        printed: "cycles 3\noutputs 0 0 0 0 0 0 0 0 0 0 0 0 0 0 0 0\n",
+    },
+];
+
+// Each ends without a file.
+static STOPPED: [Row; 17] = [
+    Row {
+        words: &["run", "z", "s", "i", "--out", "t", "--statement", "u"],
+        files: &[
+            ("z", Content::Lines(168, 0, "")),
+            ("s", Content::Text("begin while.true push.1 end end")),
+            ("i", Content::Text(r#"{"advice":[],"stack":[]}"#)),
+        ],
+        failing_call: 0,
+        failing_write: 0,
+        number: 13,
+        printed: "unbuilt\n",
+    },
+    Row {
+        words: &["run", "z", "s", "i", "--out", "t", "--statement", "u"],
+        files: &[
+            ("z", Content::Lines(168, 0, "")),
+            ("s", Content::Text("begin push.4294967296 push.1 u32wrapping_add end")),
+            ("i", Content::Text(r#"{"advice":[],"stack":[]}"#)),
+        ],
+        failing_call: 0,
+        failing_write: 0,
+        number: 13,
+        printed: "unbuilt\n",
+    },
+    Row {
+        words: &["run", "z", "s", "i", "--out", "t", "--statement", "u"],
+        files: &[
+            ("z", Content::Lines(168, 0, "")),
+            ("s", Content::Text("proc.f push.1 end begin call.f end")),
+            ("i", Content::Text(r#"{"advice":[],"stack":[]}"#)),
+        ],
+        failing_call: 0,
+        failing_write: 0,
+        number: 13,
+        printed: "unbuilt\n",
+    },
+    Row {
+        words: &["run", "--limit", "2", "z", "s", "i", "--out", "t", "--statement", "u"],
+        files: &[
+            ("z", Content::Lines(168, 0, "")),
+            ("s", Content::Text("begin adv_push.2 end")),
+            ("i", Content::Text(r#"{"advice":[6],"stack":[]}"#)),
+        ],
+        failing_call: 0,
+        failing_write: 0,
+        number: 13,
+        printed: "unbuilt\n",
+    },
+    Row {
+        words: &["run", "z", "--kernel", "k", "s", "--limit=524287", "--out", "t", "--statement", "u", "--", "i"],
+        files: &[
+            ("z", Content::Lines(168, 0, "")),
+            ("s", Content::Text("begin syscall.k end")),
+            ("i", Content::Text(r#"{"advice":[],"stack":[]}"#)),
+            ("k", Content::Text("export.k end")),
+        ],
+        failing_call: 0,
+        failing_write: 0,
+        number: 13,
+        printed: "unbuilt\n",
+    },
+    Row {
+        words: &["run", "z", "s", "i", "--out", "t", "--statement", "u"],
+        files: &[
+            ("z", Content::Lines(168, 0, "")),
+            ("s", Content::Text("begin push.2 assert end")),
+            ("i", Content::Text(r#"{"advice":[],"stack":[]}"#)),
+        ],
+        failing_call: 0,
+        failing_write: 0,
+        number: 4,
+        printed: "trap 2 AssertFailed\n",
+    },
+    Row {
+        words: &["run", "z", "s", "i", "--out", "t", "--statement", "u", "--limit=2"],
+        files: &[
+            ("z", Content::Lines(168, 0, "")),
+            ("s", Content::Text("begin end")),
+            ("i", Content::Text(r#"{"advice":[],"stack":[]}"#)),
+        ],
+        failing_call: 0,
+        failing_write: 0,
+        number: 5,
+        printed: "out of cycles 2\n",
+    },
+    Row {
+        words: &["run", "z", "s", "i", "--out", "t", "--statement", "u", "--kernel", "k"],
         files: &[
             ("z", Content::Lines(168, 0, "")),
             ("s", Content::Text("begin frob end")),
@@ -229,7 +194,7 @@ static ROWS: [Row; 25] = [
         printed: "source k 1 1 KernelBody\n",
     },
     Row {
-        words: &["run", "z", "s", "i"],
+        words: &["run", "z", "s", "i", "--out", "t", "--statement", "u"],
         files: &[
             ("z", Content::Lines(168, 0, "")),
             ("s", Content::Text("begin frob end")),
@@ -241,7 +206,7 @@ static ROWS: [Row; 25] = [
         printed: "source s 1 7 UnknownInstruction\n",
     },
     Row {
-        words: &["run", "z", "s", "i"],
+        words: &["run", "z", "s", "i", "--out", "t", "--statement", "u"],
         files: &[
             ("z", Content::Lines(168, 0, "")),
             ("s", Content::Text("begin frob end")),
@@ -252,9 +217,8 @@ static ROWS: [Row; 25] = [
         number: 10,
         printed: "malformed i NotJson\n",
     },
-    // The inputs come before the kernel, and the kernel before any source.
     Row {
-        words: &["run", "z", "s", "i", "--kernel", "k"],
+        words: &["run", "z", "s", "i", "--out", "t", "--statement", "u", "--kernel", "k"],
         files: &[
             ("z", Content::Lines(168, 0, "")),
             ("s", Content::Text("begin frob end")),
@@ -266,7 +230,7 @@ static ROWS: [Row; 25] = [
         printed: "malformed i Shape\n",
     },
     Row {
-        words: &["run", "z", "s", "i", "--kernel", "k"],
+        words: &["run", "z", "s", "i", "--out", "t", "--statement", "u", "--kernel", "k"],
         files: &[
             ("z", Content::Lines(168, 0, "")),
             ("s", Content::Text("begin frob end")),
@@ -278,14 +242,11 @@ static ROWS: [Row; 25] = [
         printed: "missing k\n",
     },
     Row {
-        words: &["run", "z", "s", "i"],
+        words: &["run", "z", "s", "i", "--out", "t", "--statement", "u"],
         files: &[
             ("z", Content::Lines(168, 0, "")),
             ("s", Content::Text("begin end")),
-            (
-                "i",
-                Content::Text(r#"{"advice":[],"stack":[0,0,0,0,0,0,0,0,0,0,0,0,0,0,0,0,0]}"#),
-            ),
+            ("i", Content::Text(r#"{"advice":[],"stack":[0,0,0,0,0,0,0,0,0,0,0,0,0,0,0,0,0]}"#)),
         ],
         failing_call: 0,
         failing_write: 0,
@@ -293,7 +254,7 @@ static ROWS: [Row; 25] = [
         printed: "malformed i Count\n",
     },
     Row {
-        words: &["run", "z", "s", "i"],
+        words: &["run", "z", "s", "i", "--out", "t", "--statement", "u"],
         files: &[
             ("z", Content::Lines(168, 0, "")),
             ("s", Content::Text("begin frob end")),
@@ -304,7 +265,7 @@ static ROWS: [Row; 25] = [
         printed: "missing i\n",
     },
     Row {
-        words: &["run", "z", "s", "i"],
+        words: &["run", "z", "s", "i", "--out", "t", "--statement", "u"],
         files: &[
             ("z", Content::Lines(168, 0, "")),
             ("i", Content::Text(r#"{"advice":[],"stack":[]}"#)),
@@ -315,7 +276,7 @@ static ROWS: [Row; 25] = [
         printed: "missing s\n",
     },
     Row {
-        words: &["run", "z", "s", "i"],
+        words: &["run", "z", "s", "i", "--out", "t", "--statement", "u"],
         files: &[
             ("z", Content::Lines(168, 0, "")),
             ("s", Content::Text("begin end")),
@@ -326,24 +287,95 @@ static ROWS: [Row; 25] = [
         number: 7,
         printed: "read fault i\n",
     },
+    Row {
+        words: &["run", "z", "s", "i", "--out", "t", "--statement", "u"],
+        files: &[
+            ("z", Content::Lines(168, 0, "")),
+            ("s", Content::Text("begin end")),
+            ("i", Content::Text(r#"{"advice":[],"stack":[]}"#)),
+        ],
+        failing_call: 4,
+        failing_write: 0,
+        number: 8,
+        printed: "write fault t\n",
+    },
+];
+
+// Each writes the whole table file of `begin end`, the first and the last its statement too.
+static WHOLE: [Row; 3] = [
+    Row {
+        words: &["run", "z", "s", "i", "--out", "t", "--statement", "u"],
+        files: &[
+            ("z", Content::Lines(168, 0, "")),
+            ("s", Content::Text("begin end")),
+            ("i", Content::Text(r#"{"advice":[],"stack":[]}"#)),
+        ],
+        failing_call: 0,
+        failing_write: 0,
+        number: 0,
+        printed: "cycles 3\noutputs 0 0 0 0 0 0 0 0 0 0 0 0 0 0 0 0\n",
+    },
+    Row {
+        words: &["run", "z", "s", "i", "--out", "t", "--statement", "u"],
+        files: &[
+            ("z", Content::Lines(168, 0, "")),
+            ("s", Content::Text("begin end")),
+            ("i", Content::Text(r#"{"advice":[],"stack":[]}"#)),
+        ],
+        failing_call: 5,
+        failing_write: 0,
+        number: 8,
+        printed: "write fault u\n",
+    },
+    Row {
+        words: &["run", "z", "s", "i", "--out", "t", "--statement", "u"],
+        files: &[
+            ("z", Content::Lines(168, 0, "")),
+            ("s", Content::Text("begin end")),
+            ("i", Content::Text(r#"{"advice":[],"stack":[]}"#)),
+        ],
+        failing_call: 0,
+        failing_write: 1,
+        number: 9,
+        printed: "cycles 3\noutputs 0 0 0 0",
+    },
 ];
 
 #[test]
-fn programs_are_run(rt: HostRuntime) -> Result<(), Fail> {
-    all_hold(&rt, &ROWS)
+fn runs_are_accepted(rt: HostRuntime) -> Result<(), Fail> {
+    all_accepted(&rt, &RAN, &["check", "z", "t", "u", "--evidence", "e"])
 }
 
-// Words of no command.
-static WRONG: [&[&str]; 9] = [
-    &["run", "z", "s"],
-    &["run", "z", "s", "i", "j"],
-    &["run", "z", "s", "i", "--limit", "0"],
-    &["run", "z", "s", "i", "--limit", "524288"],
-    &["run", "z", "s", "i", "--limit", "05"],
-    &["run", "z", "s", "i", "--limit="],
-    &["run", "z", "s", "i", "--limit", "3", "--limit=3"],
-    &["run", "z", "s", "i", "--kernel="],
-    &["run", "z", "s", "i", "--out", "t", "--statement", "c"],
+#[test]
+fn others_are_answered(rt: HostRuntime) -> Result<(), Fail> {
+    all_hold(&rt, &STOPPED)
+}
+
+#[test]
+fn tables_are_written(rt: HostRuntime) -> Result<(), Fail> {
+    all_write(&rt, &WHOLE, "t", &Content::Table(&[], 3748))?;
+    all_write(&rt, &WHOLE[..1], "u", &Content::Text(STATEMENT))
+}
+
+static WRONG: [&[&str]; 18] = [
+    &["run", "z", "s", "i"],
+    &["run", "z", "s", "i", "--out", "t"],
+    &["run", "z", "s", "i", "--statement", "u"],
+    &["run", "z", "s", "--out", "t", "--statement", "u"],
+    &["run", "z", "s", "i", "j", "--out", "t", "--statement", "u"],
+    &["run", "z", "s", "i", "--out", "t", "--statement", "t"],
+    &["run", "z", "s", "i", "--out", "z", "--statement", "u"],
+    &["run", "z", "s", "i", "--out", "t", "--statement", "s"],
+    &["run", "z", "s", "i", "--out", "t", "--statement", "i"],
+    &["run", "z", "s", "i", "--out", "k", "--statement", "u", "--kernel", "k"],
+    &["run", "z", "s", "i", "--out", "t", "--statement", "u", "--limit", "0"],
+    &["run", "z", "s", "i", "--out", "t", "--statement", "u", "--limit", "524288"],
+    &["run", "z", "s", "i", "--out", "t", "--statement", "u", "--limit", "05"],
+    &["run", "z", "s", "i", "--out", "t", "--statement", "u", "--limit="],
+    &["run", "z", "s", "i", "--out", "t", "--statement", "u", "--limit", "3", "--limit=3"],
+    &["run", "z", "s", "i", "--out", "t", "--statement", "u", "--kernel="],
+    &["run", "z", "s", "i", "--out", "t", "--statement", "u", "--out", "v"],
+    &["run", "z", "s", "i", "--out", "t", "--statement", "u", "--evidence", "e"],
 ];
 
 #[test]

@@ -1,7 +1,7 @@
 use Rattle.std.proofs.Common.{◌≡◌, ◌++◌, take}
 use Rattle.std.specs.List.{flat_map}
 use Rattle.miden_app.specs.RunEnds.{output_text}
-use Rattle.miden_app.proofs.running.append_outputs.Given as goal
+use Rattle.miden_app.proofs.run_lines.append_outputs.Given as goal
 
 -- the outputs so far stand behind the text
 abbrev pub invariant-loop-cell : goal.invariant-loop-cell

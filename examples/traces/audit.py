@@ -1,0 +1,120 @@
+#!/usr/bin/env python3
+"""Reads evidence for itself, against the table file and the statement that it was written for:
+
+    audit.py PARAMS TABLE STATEMENT EVIDENCE
+
+prints `consistent`, or says what is not. Of a run it computes the digest of the tree, and compares it with the statement's, and the
+cycles with the rows of the main table; where the tree is one span, with the cycles of its batches, too. Of a pair it reads the two
+hashes in the table: their inputs differ, and their digests do not. It runs nothing of the program; docs/FORMATS.md has the files.
+"""
+import json
+import struct
+import sys
+
+from rpo import constants_in, digest_of, word_text
+
+DOMAINS = {"join": 70, "split": 71, "loop": 72, "call": 74, "syscall": 75}
+PUSH = 69
+
+
+def tables_in(path):
+    with open(path, "rb") as file:
+        content = file.read()
+    counts = struct.unpack_from("<7I", content, 8)
+    tables, place = [], 36
+    for count, width in zip(counts, (65, 2, 15, 12, 14, 5, 1)):
+        tables.append([struct.unpack_from(f"<{width}Q", content, place + 8 * width * i) for i in range(count)])
+        place += 8 * width * count
+    return tables
+
+
+def word_in(text):
+    return [int(text[16 * i:16 * i + 16], 16) for i in range(4)]
+
+
+def tree_in(lines):
+    """A block: its kind, and its word, its batches or its children."""
+    kind, *rest = next(lines).split()
+    if kind == "opaque":
+        return kind, word_in(rest[0])
+    if kind == "span":
+        return kind, [[int(element) for element in next(lines).split()[1:]] for _ in range(int(rest[0]))]
+    return kind, [tree_in(lines) for _ in range(2 if kind in ("join", "split") else 1)]
+
+
+def digest_in(constants, tree):
+    kind, parts = tree
+    if kind == "opaque":
+        return parts
+    if kind == "span":
+        return digest_of(constants, 0, parts)
+    words = [digest_in(constants, part) for part in parts]
+    block = words[0] + (words[1] if len(words) == 2 else [0] * 4)
+    return digest_of(constants, DOMAINS[kind], [block])
+
+
+def operations_in(batch):
+    """How many operations a batch has: the digits of its groups, and a NOOP behind a PUSH that ends one."""
+    last = max([i for i, element in enumerate(batch) if element] or [0])
+    in_use, place, count = min(n for n in (1, 2, 4, 8) if last < n), 0, 0
+    while place < in_use:
+        number, place, first = batch[place], place + 1, True
+        while number or first:
+            digit, number, first = number % 128, number // 128, False
+            count += 1
+            if digit == PUSH:
+                place += 1
+                count += number == 0
+    return count
+
+
+def run_faults(constants, tables, statement, lines):
+    cycles, tape = int(next(lines).split()[1]), next(lines).split()
+    tree = tree_in(lines)
+    if next(lines, None) is not None:
+        yield "lines behind the tree"
+    if tape[0] != "tape":
+        yield "no tape"
+    if word_text(digest_in(constants, tree)) != statement["digest"]:
+        yield "the tree has another digest"
+    if cycles + 1 != len(tables[0]):
+        yield "the table has other rows"
+    if tree[0] == "span" and cycles != sum(map(operations_in, tree[1])) + len(tree[1]) + 1:
+        yield "the span has other cycles"
+
+
+def hash_at(table, place):
+    """The first capacity and the blocks of the hash that begins at a place, counted from 1, and its digest."""
+    row, blocks = place - 1, []
+    start = table[row][3:7]
+    while True:
+        blocks.append(table[row][7:15])
+        end = table[row + 7]
+        if not end[2]:
+            return (start, blocks), end[7:11]
+        row += 8
+
+
+def pair_faults(tables, first, second):
+    (one, of_one), (other, of_other) = hash_at(tables[2], first), hash_at(tables[2], second)
+    if first >= second or one == other:
+        yield "the hashes have one input"
+    if of_one != of_other:
+        yield "the hashes have two digests"
+
+
+def faults(params, table, statement, evidence):
+    with open(statement) as file:
+        said = json.load(file)
+    with open(evidence) as file:
+        lines = iter(file.read().splitlines())
+    first = next(lines).split()
+    if first[0] == "pair":
+        return pair_faults(tables_in(table), int(first[1]), int(first[2]))
+    return run_faults(constants_in(params), tables_in(table), said, lines)
+
+
+if __name__ == "__main__":
+    found = list(faults(*sys.argv[1:5]))
+    print("\n".join(found) or "consistent")
+    sys.exit(1 if found else 0)
