@@ -119,6 +119,55 @@ fn answers(alloc: Global, row: &Row, shelf: &mut MemShelf) -> Result<bool, Memor
     )
 }
 
+/// A run whose table file is forged, and how it is checked then.
+#[derive(Drop)]
+pub struct Forgery {
+    pub run: Row,
+
+    /// Cells of the main table with their values: the row, the column, the value.
+    pub cells: &'static [(usize, usize, u64)],
+
+    pub check: Row,
+}
+
+/// Fails at the first row that is not so.
+pub fn all_forged(rt: &(impl Abort + AllocGlobal), rows: &[Forgery]) -> Result<(), Fail> {
+    for row in rows {
+        let holds = forged(rt.alloc(), row)?;
+        assert!(rt; holds, "{}", row.check.printed);
+    }
+    Ok(())
+}
+
+fn forged(alloc: Global, row: &Forgery) -> Result<bool, Memory> {
+    let mut shelf = shelf_of(alloc, &row.run)?;
+    let is_answered = answers(alloc, &row.run, &mut shelf)?;
+    forge(alloc, &mut shelf, row.cells)?;
+    Ok(is_answered && answers(alloc, &row.check, &mut shelf)?)
+}
+
+fn forge(alloc: Global, shelf: &mut MemShelf, cells: &[(usize, usize, u64)]) -> Result<(), Memory> {
+    let mut bytes = match shelf.get("t") {
+        Some(file) => Vec::from_slice(alloc, file)?,
+        None => Vec::new(alloc),
+    };
+    for (row, column, value) in cells {
+        let cell = row.wrapping_mul(65).wrapping_add(*column);
+        put_element(&mut bytes, cell.wrapping_mul(8).wrapping_add(36), *value);
+    }
+    shelf.put("t", bytes.as_slice())
+}
+
+fn put_element(bytes: &mut Vec<u8>, place: usize, value: u64) {
+    let element = value.to_le_bytes();
+    for i in 0..8usize {
+        let at = place.wrapping_add(i);
+        if at < bytes.len() {
+            bytes[at] = element[i];
+        }
+    }
+}
+
 fn shelf_of(alloc: Global, row: &Row) -> Result<MemShelf, Memory> {
     let mut shelf = MemShelf::new(alloc);
     for (name, content) in row.files {

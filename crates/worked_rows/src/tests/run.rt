@@ -1,5 +1,5 @@
 use crate::tests::content::Content;
-use crate::tests::row::{Row, all_accepted, all_hold, all_write, all_wrong};
+use crate::tests::row::{Forgery, Row, all_accepted, all_forged, all_hold, all_write, all_wrong};
 use std::test::Fail;
 
 // What is claimed of `begin end`.
@@ -80,7 +80,17 @@ static RAN: [Row; 7] = [
         printed: "cycles 3\noutputs 5 0 0 0 0 0 0 0 0 0 0 0 0 0 0 0\n",
     },
     Row {
-        words: &["run", "--limit", "3", "z", "--out=t", "s", "--statement=u", "--", "i"],
+        words: &[
+            "run",
+            "--limit",
+            "3",
+            "z",
+            "--out=t",
+            "s",
+            "--statement=u",
+            "--",
+            "i",
+        ],
         files: &[
             ("z", Content::Lines(168, 0, "")),
             ("s", Content::Text("begin end")),
@@ -111,7 +121,10 @@ static STOPPED: [Row; 17] = [
         words: &["run", "z", "s", "i", "--out", "t", "--statement", "u"],
         files: &[
             ("z", Content::Lines(168, 0, "")),
-            ("s", Content::Text("begin push.4294967296 push.1 u32wrapping_add end")),
+            (
+                "s",
+                Content::Text("begin push.4294967296 push.1 u32wrapping_add end"),
+            ),
             ("i", Content::Text(r#"{"advice":[],"stack":[]}"#)),
         ],
         failing_call: 0,
@@ -132,7 +145,18 @@ static STOPPED: [Row; 17] = [
         printed: "unbuilt\n",
     },
     Row {
-        words: &["run", "--limit", "2", "z", "s", "i", "--out", "t", "--statement", "u"],
+        words: &[
+            "run",
+            "--limit",
+            "2",
+            "z",
+            "s",
+            "i",
+            "--out",
+            "t",
+            "--statement",
+            "u",
+        ],
         files: &[
             ("z", Content::Lines(168, 0, "")),
             ("s", Content::Text("begin adv_push.2 end")),
@@ -144,7 +168,20 @@ static STOPPED: [Row; 17] = [
         printed: "unbuilt\n",
     },
     Row {
-        words: &["run", "z", "--kernel", "k", "s", "--limit=524287", "--out", "t", "--statement", "u", "--", "i"],
+        words: &[
+            "run",
+            "z",
+            "--kernel",
+            "k",
+            "s",
+            "--limit=524287",
+            "--out",
+            "t",
+            "--statement",
+            "u",
+            "--",
+            "i",
+        ],
         files: &[
             ("z", Content::Lines(168, 0, "")),
             ("s", Content::Text("begin syscall.k end")),
@@ -169,7 +206,17 @@ static STOPPED: [Row; 17] = [
         printed: "trap 2 AssertFailed\n",
     },
     Row {
-        words: &["run", "z", "s", "i", "--out", "t", "--statement", "u", "--limit=2"],
+        words: &[
+            "run",
+            "z",
+            "s",
+            "i",
+            "--out",
+            "t",
+            "--statement",
+            "u",
+            "--limit=2",
+        ],
         files: &[
             ("z", Content::Lines(168, 0, "")),
             ("s", Content::Text("begin end")),
@@ -181,7 +228,18 @@ static STOPPED: [Row; 17] = [
         printed: "out of cycles 2\n",
     },
     Row {
-        words: &["run", "z", "s", "i", "--out", "t", "--statement", "u", "--kernel", "k"],
+        words: &[
+            "run",
+            "z",
+            "s",
+            "i",
+            "--out",
+            "t",
+            "--statement",
+            "u",
+            "--kernel",
+            "k",
+        ],
         files: &[
             ("z", Content::Lines(168, 0, "")),
             ("s", Content::Text("begin frob end")),
@@ -218,7 +276,18 @@ static STOPPED: [Row; 17] = [
         printed: "malformed i NotJson\n",
     },
     Row {
-        words: &["run", "z", "s", "i", "--out", "t", "--statement", "u", "--kernel", "k"],
+        words: &[
+            "run",
+            "z",
+            "s",
+            "i",
+            "--out",
+            "t",
+            "--statement",
+            "u",
+            "--kernel",
+            "k",
+        ],
         files: &[
             ("z", Content::Lines(168, 0, "")),
             ("s", Content::Text("begin frob end")),
@@ -230,7 +299,18 @@ static STOPPED: [Row; 17] = [
         printed: "malformed i Shape\n",
     },
     Row {
-        words: &["run", "z", "s", "i", "--out", "t", "--statement", "u", "--kernel", "k"],
+        words: &[
+            "run",
+            "z",
+            "s",
+            "i",
+            "--out",
+            "t",
+            "--statement",
+            "u",
+            "--kernel",
+            "k",
+        ],
         files: &[
             ("z", Content::Lines(168, 0, "")),
             ("s", Content::Text("begin frob end")),
@@ -246,7 +326,10 @@ static STOPPED: [Row; 17] = [
         files: &[
             ("z", Content::Lines(168, 0, "")),
             ("s", Content::Text("begin end")),
-            ("i", Content::Text(r#"{"advice":[],"stack":[0,0,0,0,0,0,0,0,0,0,0,0,0,0,0,0,0]}"#)),
+            (
+                "i",
+                Content::Text(r#"{"advice":[],"stack":[0,0,0,0,0,0,0,0,0,0,0,0,0,0,0,0,0]}"#),
+            ),
         ],
         failing_call: 0,
         failing_write: 0,
@@ -346,6 +429,62 @@ fn runs_are_accepted(rt: HostRuntime) -> Result<(), Fail> {
     all_accepted(&rt, &RAN, &["check", "z", "t", "u", "--evidence", "e"])
 }
 
+// In the first the bits of how many positions the batch uses say 4 and not 2; in the second a clock goes on by 2, and below it the
+// last cell that is seen changes.
+static FORGED: [Forgery; 2] = [
+    Forgery {
+        run: Row {
+            words: &["run", "z", "s", "i", "--out", "t", "--statement", "u"],
+            files: &[
+                ("z", Content::Lines(168, 0, "")),
+                ("s", Content::Text("begin push.5 end")),
+                ("i", Content::Text(r#"{"advice":[],"stack":[]}"#)),
+            ],
+            failing_call: 0,
+            failing_write: 0,
+            number: 0,
+            printed: "cycles 4\noutputs 5 0 0 0 0 0 0 0 0 0 0 0 0 0 0 0 0\n",
+        },
+        cells: &[(0, 28, 1), (0, 29, 0)],
+        check: Row {
+            words: &["check", "z", "t", "u", "--evidence", "e"],
+            files: &[],
+            failing_call: 0,
+            failing_write: 0,
+            number: 1,
+            printed: "refused main row 0 constraint 103 value 18446744069414584320\n",
+        },
+    },
+    Forgery {
+        run: Row {
+            words: &["run", "z", "s", "i", "--out", "t", "--statement", "u"],
+            files: &[
+                ("z", Content::Lines(168, 0, "")),
+                ("s", Content::Text("begin repeat.73 neg end end")),
+                ("i", Content::Text(r#"{"advice":[],"stack":[]}"#)),
+            ],
+            failing_call: 0,
+            failing_write: 0,
+            number: 0,
+            printed: "cycles 76\noutputs 0 0 0 0 0 0 0 0 0 0 0 0 0 0 0 0\n",
+        },
+        cells: &[(67, 0, 68), (70, 45, 1)],
+        check: Row {
+            words: &["check", "z", "t", "u", "--evidence", "e"],
+            files: &[],
+            failing_call: 0,
+            failing_write: 0,
+            number: 1,
+            printed: "refused main row 66 constraint 10 value 1\n",
+        },
+    },
+];
+
+#[test]
+fn forged_tables_are_refused(rt: HostRuntime) -> Result<(), Fail> {
+    all_forged(&rt, &FORGED)
+}
+
 #[test]
 fn others_are_answered(rt: HostRuntime) -> Result<(), Fail> {
     all_hold(&rt, &STOPPED)
@@ -367,15 +506,113 @@ static WRONG: [&[&str]; 18] = [
     &["run", "z", "s", "i", "--out", "z", "--statement", "u"],
     &["run", "z", "s", "i", "--out", "t", "--statement", "s"],
     &["run", "z", "s", "i", "--out", "t", "--statement", "i"],
-    &["run", "z", "s", "i", "--out", "k", "--statement", "u", "--kernel", "k"],
-    &["run", "z", "s", "i", "--out", "t", "--statement", "u", "--limit", "0"],
-    &["run", "z", "s", "i", "--out", "t", "--statement", "u", "--limit", "524288"],
-    &["run", "z", "s", "i", "--out", "t", "--statement", "u", "--limit", "05"],
-    &["run", "z", "s", "i", "--out", "t", "--statement", "u", "--limit="],
-    &["run", "z", "s", "i", "--out", "t", "--statement", "u", "--limit", "3", "--limit=3"],
-    &["run", "z", "s", "i", "--out", "t", "--statement", "u", "--kernel="],
-    &["run", "z", "s", "i", "--out", "t", "--statement", "u", "--out", "v"],
-    &["run", "z", "s", "i", "--out", "t", "--statement", "u", "--evidence", "e"],
+    &[
+        "run",
+        "z",
+        "s",
+        "i",
+        "--out",
+        "k",
+        "--statement",
+        "u",
+        "--kernel",
+        "k",
+    ],
+    &[
+        "run",
+        "z",
+        "s",
+        "i",
+        "--out",
+        "t",
+        "--statement",
+        "u",
+        "--limit",
+        "0",
+    ],
+    &[
+        "run",
+        "z",
+        "s",
+        "i",
+        "--out",
+        "t",
+        "--statement",
+        "u",
+        "--limit",
+        "524288",
+    ],
+    &[
+        "run",
+        "z",
+        "s",
+        "i",
+        "--out",
+        "t",
+        "--statement",
+        "u",
+        "--limit",
+        "05",
+    ],
+    &[
+        "run",
+        "z",
+        "s",
+        "i",
+        "--out",
+        "t",
+        "--statement",
+        "u",
+        "--limit=",
+    ],
+    &[
+        "run",
+        "z",
+        "s",
+        "i",
+        "--out",
+        "t",
+        "--statement",
+        "u",
+        "--limit",
+        "3",
+        "--limit=3",
+    ],
+    &[
+        "run",
+        "z",
+        "s",
+        "i",
+        "--out",
+        "t",
+        "--statement",
+        "u",
+        "--kernel=",
+    ],
+    &[
+        "run",
+        "z",
+        "s",
+        "i",
+        "--out",
+        "t",
+        "--statement",
+        "u",
+        "--out",
+        "v",
+    ],
+    &[
+        "run",
+        "z",
+        "s",
+        "i",
+        "--out",
+        "t",
+        "--statement",
+        "u",
+        "--evidence",
+        "e",
+    ],
 ];
 
 #[test]
