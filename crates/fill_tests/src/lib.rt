@@ -1,5 +1,7 @@
-//! Tests of the filling of the main table.
+//! Tests of the filling of the main table, and of the files of a run.
 #![tactic(auto)]
 
+#[cfg(test)]
+mod files;
 #[cfg(test)]
 mod tests;

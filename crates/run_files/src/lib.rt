@@ -5,8 +5,6 @@
 mod claim;
 mod laws;
 mod tables;
-#[cfg(test)]
-mod tests;
 mod tracing;
 
 pub use claim::statement_file_of_run;

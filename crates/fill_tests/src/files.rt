@@ -1,9 +1,9 @@
-use crate::{statement_file_of_run, table_file_of_run};
-use block_tree::{Exports, Program, Tree};
+use block_tree::{Exports, Program, Tree, are_distinct};
 use fill_main::known;
 use op_pack::Batches;
 use processor::execute;
 use rpo_hash::Params;
+use run_files::{statement_file_of_run, table_file_of_run};
 use std::alloc::Global;
 use std::test::Fail;
 use vm_field::{Felt, Felts, Memory, Words};
@@ -30,7 +30,11 @@ fn has_lengths(alloc: Global, row: &Row) -> Result<bool, Memory> {
         batch[i] = Felt::from_u32(row.0[i]);
     }
     let tree = Tree::Span(Batches::of(alloc, batch)?);
-    let program = Program::new(tree, Words::new(alloc), Exports::new(alloc));
+    let kernel = Words::new(alloc);
+    if kernel.len() > 255 || !are_distinct(kernel.as_slice()) {
+        return Ok(false);
+    }
+    let program = Program::new(tree, kernel, Exports::new(alloc));
     let inputs = Inputs::new(Felts::new(alloc), Felts::new(alloc));
     if !known(alloc, &program)? {
         return Ok(false);
