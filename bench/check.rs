@@ -1,36 +1,24 @@
-//! Table files in plain Rust, for `check.sh` to compare with. `make FILE ROWS` writes an accepted one of about so many main rows;
-//! `time FILE` reads it, tests its rows, and counts and compares its buses, and prints the microseconds of each.
+//! Table files in plain Rust, for `check.sh` to compare with. `make PARAMS FILE STATEMENT ROWS` writes an accepted one of about so
+//! many main rows. `time PARAMS FILE` reads it, tests its rows, and counts and compares its buses, and prints the microseconds of
+//! each. `check PARAMS T S E` does so for a statement, writes the evidence of a run of one span, and prints that it is accepted, and
+//! to standard error the microseconds of each part.
 //!
-//! The run is one span of batches of seven groups and an immediate, under constants of zeros. A row's operation is decoded once,
-//! and only the constraints that it can break are tested. The tuples of each bus are counted in one hashed map, with both counts
-//! beside each other.
+//! The run that is made is one span of batches of seven groups and an immediate. A row's operation is decoded once, and only the
+//! constraints that it can break are tested. The tuples of each bus are counted in one hashed map, with both counts beside each
+//! other.
+#[path = "files.rs"]
+#[allow(dead_code)]
+mod files;
+#[path = "permute.rs"]
+#[allow(dead_code)]
+mod permute;
+
+use files::*;
+use permute::{PRIME, Params, State, add, before_roots, mul, round};
 use std::collections::HashMap;
+use std::fmt::Write;
 use std::hash::{BuildHasherDefault, Hasher};
-use std::io::Write;
 use std::time::Instant;
-
-const PRIME: u64 = 18446744069414584321;
-const WIDTHS: [usize; 7] = [65, 2, 15, 12, 14, 5, 1];
-
-// Columns of the main table.
-const FMP: usize = 1;
-const CTX: usize = 2;
-const SYS: usize = 3;
-const F: usize = 4;
-const ADDR: usize = 8;
-const B: usize = 9;
-const H: usize = 16;
-const SP: usize = 24;
-const GC: usize = 25;
-const OX: usize = 26;
-const C: usize = 27;
-const S: usize = 30;
-const DEPTH: usize = 46;
-const KEY: usize = 47;
-const INV: usize = 48;
-const HA: usize = 49;
-const LV: usize = 50;
-const W: usize = 51;
 
 // Codes of operations.
 const EQZ: u8 = 1;
@@ -55,28 +43,8 @@ const END: u8 = 76;
 const RESPAN: u8 = 78;
 const HALT: u8 = 79;
 
-fn add(a: u64, b: u64) -> u64 {
-    let room = PRIME - b;
-    if a < room { a + b } else { a - room }
-}
-
 fn sub(a: u64, b: u64) -> u64 {
     if b <= a { a - b } else { PRIME - (b - a) }
-}
-
-fn mul(a: u64, b: u64) -> u64 {
-    let product = a as u128 * b as u128;
-    let low = product as u64;
-    let high = (product >> 64) as u64;
-    let high_high = high >> 32;
-    let first = if high_high <= low { low - high_high } else { PRIME - (high_high - low) };
-    reduce_short(first, high & 0xffff_ffff)
-}
-
-fn reduce_short(low: u64, high: u64) -> u64 {
-    let second = high * 0xffff_ffff;
-    let room = PRIME - second;
-    if low < room { low + second } else { low - room }
 }
 
 fn power(base: u64, mut exponent: u64) -> u64 {
@@ -95,36 +63,9 @@ fn inverse(a: u64) -> u64 {
     power(a, PRIME - 2)
 }
 
-type State = [u64; 12];
-
-const MATRIX: [u64; 12] = [7, 23, 8, 26, 13, 10, 9, 7, 6, 22, 21, 8];
-
-fn mixed(state: &State) -> State {
-    let mut turned = *state;
-    let mut mixed = [0; 12];
-    for cell in &mut mixed {
-        let sum: u128 = MATRIX.iter().zip(&turned).map(|(c, x)| *c as u128 * *x as u128).sum();
-        *cell = reduce_short(sum as u64, (sum >> 64) as u64);
-        turned.rotate_left(1);
-    }
-    mixed
-}
-
 fn seventh(a: u64) -> u64 {
     let to_2 = mul(a, a);
     mul(mul(mul(to_2, to_2), to_2), a)
-}
-
-// The state before the roots of a round, under these constants.
-fn before_roots(first: &State, second: &State, state: &State) -> State {
-    let state = mixed(state);
-    let state = mixed(&std::array::from_fn(|i| seventh(add(state[i], first[i]))));
-    std::array::from_fn(|i| add(state[i], second[i]))
-}
-
-struct Params {
-    first: [State; 7],
-    second: [State; 7],
 }
 
 /// How an operation that only moves cells moves them: what it takes, what it leaves, and from where.
@@ -160,62 +101,6 @@ fn moves() -> Vec<Option<Move>> {
     table
 }
 
-struct Tables {
-    cells: [Vec<u64>; 7],
-}
-
-impl Tables {
-    fn rows(&self, table: usize) -> usize {
-        self.cells[table].len() / WIDTHS[table]
-    }
-
-    fn row(&self, table: usize, i: usize) -> &[u64] {
-        &self.cells[table][WIDTHS[table] * i..WIDTHS[table] * (i + 1)]
-    }
-
-    fn next(&self, table: usize, i: usize) -> Option<&[u64]> {
-        (i + 1 < self.rows(table)).then(|| self.row(table, i + 1))
-    }
-}
-
-fn number(bytes: &[u8], at: usize) -> Option<u32> {
-    Some(u32::from_le_bytes(bytes.get(at..at + 4)?.try_into().ok()?))
-}
-
-fn decode(bytes: &[u8]) -> Option<Tables> {
-    if number(bytes, 0)? != 0x4254_444d || number(bytes, 4)? != 1 {
-        return None;
-    }
-    let mut at = 36;
-    let mut tables: [Vec<u64>; 7] = Default::default();
-    for (i, width) in WIDTHS.iter().enumerate() {
-        let cells = width * number(bytes, 8 + 4 * i)? as usize;
-        tables[i].reserve_exact(cells);
-        for part in bytes.get(at..at + 8 * cells)?.chunks_exact(8) {
-            let element = u64::from_le_bytes(part.try_into().ok()?);
-            if element >= PRIME {
-                return None;
-            }
-            tables[i].push(element);
-        }
-        at += 8 * cells;
-    }
-    (at == bytes.len()).then_some(Tables { cells: tables })
-}
-
-fn encode(tables: &Tables) -> Vec<u8> {
-    let cells: usize = tables.cells.iter().map(Vec::len).sum();
-    let mut bytes = Vec::with_capacity(36 + 8 * cells);
-    bytes.extend_from_slice(b"MDTB\x01\0\0\0");
-    for table in 0..7 {
-        bytes.extend_from_slice(&(tables.rows(table) as u32).to_le_bytes());
-    }
-    for element in tables.cells.iter().flatten() {
-        bytes.extend_from_slice(&element.to_le_bytes());
-    }
-    bytes
-}
-
 // The code that a row's bits spell; none where one of them is no bit.
 fn code_in(x: &[u64]) -> Option<u8> {
     let mut code = 0;
@@ -231,7 +116,7 @@ fn code_in(x: &[u64]) -> Option<u8> {
 struct Rows<'a> {
     tables: &'a Tables,
     params: &'a Params,
-    outputs: &'a [u64],
+    statement: &'a Statement,
     moves: Vec<Option<Move>>,
 }
 
@@ -275,14 +160,15 @@ impl Rows<'_> {
             && x[LV] == 0
             && x[DEPTH] == 16
             && x[KEY] == 0
-            && x[S..S + 16].iter().all(|s| *s == 0)
+            && (0..16).all(|j| x[S + j] == self.statement.inputs.get(j).copied().unwrap_or(0))
             && self.tables.rows(5) == 0
-            && self.tables.rows(6) + 16 == self.outputs.len()
+            && self.tables.rows(6) + 16 == self.statement.outputs.len()
     }
 
     fn stops(&self, x: &[u64]) -> bool {
         let left_key = self.tables.cells[6].first().copied().unwrap_or(0);
-        x[DEPTH] == self.outputs.len() as u64 && x[KEY] == left_key && x[S..S + 16] == self.outputs[..16]
+        let outputs = &self.statement.outputs;
+        x[DEPTH] == outputs.len() as u64 && x[KEY] == left_key && x[S..S + 16] == outputs[..16]
     }
 
     // The stack behind an ordinary operation.
@@ -351,7 +237,7 @@ impl Rows<'_> {
             return y[1] == more && (more == 0 || y[3..7] == x[3..7]);
         }
         let state: &State = x[3..].try_into().unwrap();
-        let before = before_roots(&self.params.first[k], &self.params.second[k], state);
+        let before = before_roots(self.params, k, state);
         more == 0 && y[0] == mode && y[1] == cont && (0..12).all(|j| seventh(y[3 + j]) == before[j])
     }
 }
@@ -502,7 +388,7 @@ struct Buses {
 }
 
 impl Buses {
-    fn of(tables: &Tables, outputs: &[u64], moves: &[Option<Move>]) -> Buses {
+    fn of(tables: &Tables, statement: &Statement, moves: &[Option<Move>]) -> Buses {
         let mut buses = Buses {
             blocks: Counts::new(),
             children: Counts::new(),
@@ -513,8 +399,8 @@ impl Buses {
             digests: Counts::new(),
             range: vec![(0, 0); 65536],
         };
-        let end = tables.row(0, tables.rows(0) - 2);
-        buses.children.give([0, end[H], end[H + 1], end[H + 2], end[H + 3], 0], 1);
+        let [a, b, c, d] = statement.digest;
+        buses.children.give([0, a, b, c, d, 0], 1);
         for i in 0..tables.rows(0) - 1 {
             buses.main(tables.row(0, i), tables.row(0, i + 1), moves);
         }
@@ -527,7 +413,7 @@ impl Buses {
         }
         for i in 0..tables.rows(6) {
             let below = tables.next(6, i).map_or(0, |row| row[0]);
-            buses.overflow.ask([tables.row(6, i)[0], outputs[16 + i], below], 1);
+            buses.overflow.ask([tables.row(6, i)[0], statement.outputs[16 + i], below], 1);
         }
         buses
     }
@@ -726,11 +612,6 @@ impl Run {
     }
 }
 
-// Takes the seventh root, the power that undoes the seventh power.
-fn seventh_root(a: u64) -> u64 {
-    power(a, 10540996611094048183)
-}
-
 fn make(params: &Params, count: usize) -> Tables {
     let first = [group(&PUSHING), 7, group(&MIXED), group(&TURNING), group(&MIXED), group(&TURNING), group(&MIXED), group(&MIXED)];
     let mut run = Run { rows: Vec::new(), stack: vec![0; 16], keys: Vec::new(), inverses: HashMap::new(), tables: moves() };
@@ -755,7 +636,7 @@ fn make(params: &Params, count: usize) -> Tables {
             hasher.extend([0, (n > 0) as u64, (k == 7 && n + 1 < count) as u64]);
             hasher.extend(state);
             if k < 7 {
-                state = before_roots(&params.first[k], &params.second[k], &state).map(seventh_root);
+                state = round(params, k, &state);
             }
         }
     }
@@ -768,7 +649,7 @@ fn make(params: &Params, count: usize) -> Tables {
     run.rows.extend(x);
     let x = run.row(HALT);
     run.rows.extend(x);
-    let mut tables = Tables { cells: Default::default() };
+    let mut tables = Tables::default();
     tables.cells[0] = run.rows;
     tables.cells[1] = range();
     tables.cells[2] = hasher;
@@ -789,39 +670,90 @@ fn range() -> Vec<u64> {
     }
 }
 
-fn time(params: &Params, bytes: &[u8]) {
-    let start = Instant::now();
-    let tables = decode(bytes).expect("a table file");
-    let reading = start.elapsed().as_micros();
-    let outputs = tables.row(0, tables.rows(0) - 1)[S..S + 16].to_vec();
-    let start = Instant::now();
-    let rows = Rows { tables: &tables, params, outputs: &outputs, moves: moves() };
-    let fault = rows.fault();
-    let testing = start.elapsed().as_micros();
-    if let Some((table, row)) = fault {
-        println!("a fault in table {table}, row {row}");
+// What the last two rows show.
+fn shown(tables: &Tables) -> Statement {
+    let (end, halt) = (tables.row(0, tables.rows(0) - 2), tables.row(0, tables.rows(0) - 1));
+    let digest = std::array::from_fn(|j| end[H + j]);
+    Statement { digest, inputs: Vec::new(), outputs: halt[S..S + 16].to_vec() }
+}
+
+fn micros(start: &mut Instant) -> u128 {
+    let micros = start.elapsed().as_micros();
+    *start = Instant::now();
+    micros
+}
+
+// The microseconds of testing rows and of comparing buses, or why a trace is refused.
+fn check(params: &Params, tables: &Tables, statement: &Statement) -> Result<(u128, u128), String> {
+    let mut start = Instant::now();
+    let rows = Rows { tables, params, statement, moves: moves() };
+    if let Some((table, row)) = rows.fault() {
+        return Err(format!("a fault in table {table}, row {row}"));
     }
-    let start = Instant::now();
-    let alike = Buses::of(&tables, &outputs, &rows.moves).are_alike();
-    let counting = start.elapsed().as_micros();
-    if !alike {
-        println!("a bus is apart");
+    let testing = micros(&mut start);
+    if !Buses::of(tables, statement, &rows.moves).are_alike() {
+        return Err(String::from("a bus is apart"));
     }
+    Ok((testing, micros(&mut start)))
+}
+
+// What the rows of a span show to have run.
+fn evidence(tables: &Tables) -> String {
+    let starts = |i: &usize| matches!(code_in(tables.row(0, *i)), Some(SPAN | RESPAN));
+    let batches: Vec<&[u64]> = (0..tables.rows(0)).filter(starts).map(|i| &tables.row(0, i)[H..H + 8]).collect();
+    let mut text = format!("run\ncycles {}\ntape\nspan {}\n", tables.rows(0) - 1, batches.len());
+    for batch in batches {
+        text.push_str("batch");
+        for element in batch {
+            write!(text, " {element}").expect("room for the text");
+        }
+        text.push('\n');
+    }
+    text
+}
+
+fn time(params: &Params, file: &str) -> Result<(), String> {
+    let bytes = std::fs::read(file).expect("a file");
+    let mut start = Instant::now();
+    let tables = decode(&bytes).expect("a table file");
+    let reading = micros(&mut start);
+    let (testing, counting) = check(params, &tables, &shown(&tables))?;
     println!("{} {reading} {testing} {counting}", tables.rows(0));
+    Ok(())
+}
+
+fn check_files(params: &Params, table: &str, statement: &str, saved: &str) -> Result<(), String> {
+    let mut start = Instant::now();
+    let bytes = std::fs::read(table).expect("a file");
+    let reading = micros(&mut start);
+    let tables = decode(&bytes).expect("a table file");
+    drop(bytes);
+    let decoding = micros(&mut start);
+    let (testing, counting) = check(params, &tables, &read_statement(&read_text(statement)))?;
+    start = Instant::now();
+    std::fs::write(saved, evidence(&tables)).expect("the evidence is written");
+    println!("accepted run");
+    eprintln!("{reading} {decoding} {testing} {counting} {}", micros(&mut start));
+    Ok(())
 }
 
 fn main() {
     let words: Vec<String> = std::env::args().collect();
     let words: Vec<&str> = words.iter().map(String::as_str).collect();
-    let params = Params { first: [[0; 12]; 7], second: [[0; 12]; 7] };
-    match words[1..] {
-        ["make", file, rows] => {
+    let answer = match words[1..] {
+        ["make", params, file, statement, rows] => {
             let rows: usize = rows.parse().expect("a number of rows");
-            let tables = make(&params, (rows - 2) / 64);
-            let mut out = std::fs::File::create(file).expect("a file");
-            out.write_all(&encode(&tables)).expect("room for the file");
+            let tables = make(&read_params(&read_text(params)), (rows - 2) / 64);
+            std::fs::write(file, encode(&tables)).expect("room for the file");
+            std::fs::write(statement, write_statement(&shown(&tables))).expect("room for the statement");
+            Ok(())
         }
-        ["time", file] => time(&params, &std::fs::read(file).expect("a file")),
-        _ => println!("give make FILE ROWS, or time FILE"),
+        ["time", params, file] => time(&read_params(&read_text(params)), file),
+        ["check", params, table, statement, saved] => check_files(&read_params(&read_text(params)), table, statement, saved),
+        _ => Err(String::from("give make PARAMS FILE STATEMENT ROWS, time PARAMS FILE, or check PARAMS T S E")),
+    };
+    if let Err(message) = answer {
+        println!("{message}");
+        std::process::exit(1);
     }
 }

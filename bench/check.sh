@@ -1,6 +1,13 @@
 #!/bin/bash
-# Times reading a table file of nearly 2^19 main rows, testing the rows of all its tables, and counting and comparing its buses, by
-# the crates and by plain Rust (check.rs, rustc -O) in turn. What the buses take is what `check` takes behind the rows. Prints the
+# Two benches of `check` over a table file of ROWS main rows, nearly 2^19, each against plain Rust (check.rs, rustc -O) in turn.
+#
+# `check.sh` times the whole command: the table file and its statement are read, its rows tested, its buses counted and compared, and the
+# evidence is extracted and written, which must be the same text. The ratio of the times is to be at most 1.5, and the peak memory at
+# most 2.5 times the table file. MIDEN is the program in place of the one that `miden` builds, RUNS how often both run, and
+# where INSTRUCTIONS is set instructions are counted in place of times (command.py).
+#
+# `check.sh crates` times the parts: reading the file, testing the rows of all its tables, and counting and comparing its buses, by
+# the crates that the command stands on. What the buses take is what `check` takes behind the rows. Prints the
 # least time of each in microseconds and their ratio, which is to be at most 1.5, and
 # the peak memory of the crates' program, which is to be at most 2.2 times the file. The file and the program over the crates
 # are made in a temporary folder; what earlier checks left in the crates' folders out/ is used.
@@ -8,6 +15,23 @@ set -e
 top=$(cd "$(dirname "$0")/.." && pwd)
 work=$(mktemp -d)
 trap 'rm -rf "$work"' EXIT
+rustc --edition 2021 -O -o "$work/plain" "$top/bench/check.rs"
+rows=${ROWS:-524288}
+
+whole_command() {
+    local program=${MIDEN:-$top/crates/miden_cli/out/miden_cli} params=$top/examples/params/derived
+    [ -x "$program" ] || "$top/miden" >/dev/null || true
+    cd "$work"
+    ./plain make "$params" table statement "$rows"
+    echo "parts of plain Rust: read, decode, rows, buses, evidence"
+    python3 "$top/bench/command.py" check 1.5 2.5 table "${RUNS:-7}" "$program" check "$params" table statement --evidence evidence \
+        -- ./plain check "$params" table statement plain.evidence -- "evidence plain.evidence"
+}
+
+if [ "$1" != crates ]; then
+    whole_command
+    exit
+fi
 libraries='vm_field vm_io vm_table buses vm_ops rpo_hash vm_state chip_columns air_kit air_decoder air_stack air_u32 air_hasher
     air_lookup row_facts bus_kit bus_chips bus_main checker table_file'
 for crate in $libraries; do
@@ -104,12 +128,12 @@ pub new-statement-requires-clause-distinct : goal.new-statement-requires-clause-
 unfolding IsDistinct
 new-statement-requires-clause-distinct c = rw c.new.ensures.empty tt
 END_ANSWERS
-rustc --edition 2021 -O -o "$work/plain" "$top/bench/check.rs"
-"$work/plain" make "$work/file" 524288
+zeros=$top/examples/params/zeros
+"$work/plain" make "$zeros" "$work/file" "$work/statement" "$rows"
 cd "$work/crates/bench_check"
 rt run >"$work/log" 2>&1 || { cat "$work/log"; exit 1; }
 for _ in 1 2 3 4 5 6 7; do
-    "$work/plain" time "$work/file" >>"$work/plain.times"
+    "$work/plain" time "$zeros" "$work/file" >>"$work/plain.times"
     /usr/bin/time -a -o "$work/peaks" -f '%M' out/bench_check "$work/file" >>"$work/proved.times"
 done
 if [ "$(cut -d' ' -f1 "$work"/*.times | sort -u | wc -l)" != 1 ] || grep -q '[a-z]' "$work"/*.times; then

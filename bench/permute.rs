@@ -61,7 +61,7 @@ fn squared_times(a: &State, n: u32, b: &State) -> State {
     products(&power, b)
 }
 
-fn seventh_powers(x: &State) -> State {
+pub fn seventh_powers(x: &State) -> State {
     let to_2 = products(x, x);
     let to_4 = products(&to_2, &to_2);
     products(&products(&to_4, &to_2), x)
@@ -80,12 +80,20 @@ fn seventh_roots(x: &State) -> State {
     squared_times(&high, 2, &low)
 }
 
+/// The state before the seventh roots of round k.
+pub fn before_roots(params: &Params, k: usize, state: &State) -> State {
+    let state = mixed(state);
+    let state = mixed(&seventh_powers(&std::array::from_fn(|i| add(state[i], params.first[k][i]))));
+    std::array::from_fn(|i| add(state[i], params.second[k][i]))
+}
+
+pub fn round(params: &Params, k: usize, state: &State) -> State {
+    seventh_roots(&before_roots(params, k, state))
+}
+
 pub fn permute(params: &Params, mut state: State) -> State {
-    for (first, second) in params.first.iter().zip(&params.second) {
-        state = mixed(&state);
-        state = seventh_powers(&std::array::from_fn(|i| add(state[i], first[i])));
-        state = mixed(&state);
-        state = seventh_roots(&std::array::from_fn(|i| add(state[i], second[i])));
+    for k in 0..7 {
+        state = round(params, k, &state);
     }
     state
 }
