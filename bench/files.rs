@@ -76,8 +76,8 @@ pub fn encode(tables: &Tables) -> Vec<u8> {
     for table in 0..7 {
         bytes.extend_from_slice(&(tables.rows(table) as u32).to_le_bytes());
     }
-    for element in tables.cells.iter().flatten() {
-        bytes.extend_from_slice(&element.to_le_bytes());
+    for cells in &tables.cells {
+        bytes.extend(cells.iter().flat_map(|element| element.to_le_bytes()));
     }
     bytes
 }
