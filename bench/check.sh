@@ -1,16 +1,18 @@
 #!/bin/bash
-# Two benches of `check` over a table file of ROWS main rows, nearly 2^19, each against plain Rust (check.rs, rustc -O) in turn.
+# Two benches of `check` over a table file of ROWS main rows, nearly 2^19, each against plain Rust (check.rs, rustc -O) in
+# turn.
 #
-# `check.sh` times the whole command: the table file and its statement are read, its rows tested, its buses counted and compared, and the
-# evidence is extracted and written, which must be the same text. The ratio of the times is to be at most 1.5, and the peak memory at
-# most 2.5 times the table file. MIDEN is the program in place of the one that `miden` builds, RUNS how often both run, and
-# where INSTRUCTIONS is set instructions are counted in place of times (command.py).
+# `check.sh` times the whole command: the table file and its statement are read, its rows tested, its buses counted and
+# compared, and the evidence is extracted and written, which must be the same text. The ratio of the times is to be at most
+# 1.5, and the peak memory at most 2.5 times the table file. MIDEN is the program in place of the one that the script
+# `miden` builds, RUNS how often both run, and where INSTRUCTIONS is set instructions are counted in place of times
+# (command.py).
 #
-# `check.sh crates` times the parts: reading the file, testing the rows of all its tables, and counting and comparing its buses, by
-# the crates that the command stands on. What the buses take is what `check` takes behind the rows. Prints the
-# least time of each in microseconds and their ratio, which is to be at most 1.5, and
-# the peak memory of the crates' program, which is to be at most 2.2 times the file. The file and the program over the crates
-# are made in a temporary folder; what earlier checks left in the crates' folders out/ is used.
+# `check.sh crates` times the parts by the crates that the command stands on: reading the file, testing the rows of all its
+# tables, and counting and comparing its buses, which is what `check` takes behind the rows. Prints the least time of each in
+# microseconds and their ratio, which is to be at most 1.5, and the peak memory of the crates' program, which is to be at
+# most 2.2 times the file. The file and the program over the crates are made in a temporary folder; what earlier checks left
+# in the crates' folders out/ is used. Proving that program takes ten minutes and more.
 set -e
 top=$(cd "$(dirname "$0")/.." && pwd)
 work=$(mktemp -d)

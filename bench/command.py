@@ -1,12 +1,12 @@
 """Times a command of the program and plain Rust that does the same, in turn, for `run.sh` and `check.sh`:
 
-    command.py NAME TIMES MEMORY FILE RUNS OURS -- PLAIN -- COMPARED ..
+    command.py NAME TIMES MEMORY FILE RUNS OURS -- PLAIN -- PAIR ..
 
-NAME is the command's. OURS and PLAIN are lines of words; what COMPARED names must be the same behind each, one line `A B` a pair,
-and what both print. The ratio of the times is to be at most TIMES, and the program's peak memory at most MEMORY times FILE. Prints the
-least of RUNS times, by the clock and of the processor, the parts that plain Rust tells on standard error in microseconds, and the
-load of the machine, without which no time means much. Where INSTRUCTIONS is set, what is compared is how many instructions valgrind
-counts, once.
+NAME is the command's name. OURS and PLAIN are the words of the two sides. Each PAIR is one word `A B` of two files, which must be
+the same, and so must be what both sides print. The ratio of the times is to be at most TIMES, and the program's peak memory at most
+MEMORY times FILE. Prints the least of RUNS times, by the clock and of the processor, the parts that plain Rust tells on standard
+error in microseconds, and the load of the machine, without which no time means much. Where INSTRUCTIONS is set, what is compared is
+how many instructions valgrind counts, once.
 """
 import filecmp
 import os

@@ -1,16 +1,17 @@
 #!/bin/bash
 # Two benches of `run`, each against plain Rust (rustc -O) in turn.
 #
-# `run.sh` times the whole command over a program of one span, of nearly 2^19 rows of the main table: the source is read, assembled
-# and executed, all tables are filled, and the table file and the statement are written. Plain Rust is span.rs; its files must be the same
-# byte for byte. The ratio of the times is to be at most 1.5, and the peak memory at most 2.2 times the table file. TURNS is how often
-# the source's outer body is repeated, MIDEN the program in place of the one that `miden` builds, RUNS how often both run, and
-# where INSTRUCTIONS is set instructions are counted in place of times (command.py).
+# `run.sh` times the whole command over a program of one span, of nearly 2^19 rows of the main table: the source is read,
+# assembled and executed, all tables are filled, and the table file and the statement are written. Plain Rust is span.rs;
+# its files must be the same byte for byte. The ratio of the times is to be at most 1.5, and the peak memory at most 2.2
+# times the table file. TURNS is how often the source's outer body is repeated, MIDEN the program in place of the one that
+# the script `miden` builds, RUNS how often both run, and where INSTRUCTIONS is set instructions are counted in place of
+# times (command.py).
 #
-# `run.sh crates` times a source of about 500,000 cycles, a loop with calls that read and write memory, by the crates that the
-# command stands on and by run.rs: the source is read, assembled and executed, and the
-# cycles and the outputs are printed. Prints the least time of both processes, their peak memory, and the ratio of the
-# times, which is to be at most 1.2. The program over the crates is made in a temporary folder.
+# `run.sh crates` times a source of about 500,000 cycles, a loop with calls that read and write memory, by the crates that
+# the command stands on and by run.rs: the source is read, assembled and executed, and the cycles and the outputs are
+# printed. Prints the least time of both processes, their peak memory, and the ratio of the times, which is to be at most
+# 1.2. The program over the crates is made in a temporary folder.
 set -e
 top=$(cd "$(dirname "$0")/.." && pwd)
 work=$(mktemp -d)
