@@ -69,10 +69,12 @@ unfolding flag
 flag-hot row op built low is other =
     elim (cases_Bool (is_built other)) [
       | inl is_in ↦
-          rw is_in
-          (flag_by-bits 7 (code_of other) (b row) low (let h = code_of-below other in omega (arith, h))
-          ∙ ap (λ c. cond (eqb (code_of other) c) 1 0) (sym is))
-      | inr is_out ↦ rw (is_out, not_built op other built is_out) refl
+          ap (λ t. cond t (flag_by 7 (code_of other) (b row)) 0) is_in
+          ∙ flag_by-bits 7 (code_of other) (b row) low (let h = code_of-below other in omega (arith, h))
+          ∙ ap (λ c. cond (eqb (code_of other) c) 1 0) (sym is)
+      | inr is_out ↦
+          ap (λ t. cond t (flag_by 7 (code_of other) (b row)) 0) is_out
+          ∙ sym (ap (λ t. cond t 1 0) (not_built op other built is_out))
     ]
 
 -- a row has an operation
@@ -189,12 +191,13 @@ unfolding flag
 no_flag row o low none =
     elim (cases_Bool (is_built o)) [
       | inl is_in ↦
-          rw is_in (flag_by-bits 7 (code_of o) (b row) low (let h = code_of-below o in omega (arith, h))
+          ap (λ t. cond t (flag_by 7 (code_of o) (b row)) 0) is_in
+          ∙ flag_by-bits 7 (code_of o) (b row) low (let h = code_of-below o in omega (arith, h))
           ∙ elim (cases_Bool (eqb (code_of o) (spelled 7 (b row)))) [
             | inl same ↦ absurd (none is_in (eqb-true (code_of o) (spelled 7 (b row)) same))
             | inr apart ↦ rw apart refl
-          ])
-      | inr is_out ↦ rw is_out refl
+          ]
+      | inr is_out ↦ ap (λ t. cond t (flag_by 7 (code_of o) (b row)) 0) is_out
     ]
 
 all_none : (ops : List Op) (value : Op → ℕ) → ((o : Op) → value o ≡ 0) → sum_of ops value ≡ 0

@@ -1,9 +1,9 @@
 ghost use Rattle.std.specs.Prelude.{◌≡◌};
-ghost use Rattle.air_kit.specs.Built.{is_calling, is_built, is_outward, is_nesting, is_limbed};
+ghost use Rattle.air_kit.specs.Built.{is_built, is_tabled};
 ghost use Rattle.air_kit.specs.Flags.{is_left, is_right};
 ghost use Rattle.air_kit.specs.Sets.{passes_of};
 
-use vm_ops::{Op, Shift, accesses_memory, is_ordinary, is_start, opcode, shift, takes_advice};
+use vm_ops::{Op, Shift, accesses_memory, is_ordinary, is_start, opcode, shift};
 
 /// A set of operations whose flags an entry sums up.
 #[derive(Clone, Copy, Debug, PartialEq, Eq)]
@@ -58,40 +58,13 @@ fn is_right(op: Op) -> bool
 pub fn is_built(op: Op) -> bool
     ensures { result ≡ is_built op }
 {
-    !(is_nesting(op) || is_calling(op) || is_limbed(op) || is_outward(op))
+    !is_tabled(op)
 }
 
-// The blocks of blocks.
-fn is_nesting(op: Op) -> bool
-    ensures { result ≡ is_nesting op }
-{
-    matches!(op, Op::Join | Op::Split | Op::Loop | Op::Repeat)
-}
-
-// Calls, and what depends on the function that runs.
-fn is_calling(op: Op) -> bool
-    ensures { result ≡ is_calling op }
-{
-    matches!(
-        op,
-        Op::Call | Op::Syscall | Op::Caller | Op::FmpAdd | Op::FmpUpdate
-    )
-}
-
-// Numbers of 32 bits.
-fn is_limbed(op: Op) -> bool
-    ensures { result ≡ is_limbed op }
+// Bit by bit, U32AND and U32XOR, and the accesses of memory: their tables have no rows so far.
+fn is_tabled(op: Op) -> bool
+    ensures { result ≡ is_tabled op }
 {
     let code = opcode(op);
-    (30 <= code && code < 35)
-        || (41 <= code && code < 43)
-        || (50 <= code && code < 52)
-        || code == 68
-}
-
-// Memory, the tape and the permutation.
-fn is_outward(op: Op) -> bool
-    ensures { result ≡ is_outward op }
-{
-    accesses_memory(op) || takes_advice(op) || opcode(op) == 29
+    (41 <= code && code < 43) || accesses_memory(op)
 }
