@@ -40,6 +40,8 @@ static MAIN: [Other; 30] = [
 
 /// What a file holds.
 pub enum Content {
+    /// A table file: how many rows each table has, and runs of elements, each with the number of its first one. The others are 0.
+    Built([u64; 7], &'static [(usize, &'static [u64])]),
     /// The table file of `begin end` under constants that are all 0, with other elements in these places, as long as so many bytes.
     Table(&'static [Other], usize),
     /// So many lines, each `0`, but the line of this number is this one.
@@ -51,10 +53,40 @@ pub enum Content {
 /// The bytes of a file.
 pub fn bytes_of(alloc: Global, content: &Content) -> Result<Vec<u8>, Memory> {
     match content {
+        Content::Built(rows, runs) => built(alloc, rows, runs),
         Content::Table(others, size) => table(alloc, others, *size),
         Content::Lines(count, place, other) => lines(alloc, *count, *place, other),
         Content::Text(text) => Ok(Vec::from_slice(alloc, text.as_bytes())?),
     }
+}
+
+// How many elements a row of each table has.
+static WIDTHS: [u64; 7] = [65, 2, 15, 12, 14, 5, 1];
+
+fn built(alloc: Global, rows: &[u64; 7], runs: &[(usize, &[u64])]) -> Result<Vec<u8>, Memory> {
+    let mut bytes = Vec::from_slice(alloc, b"MDTB")?;
+    push_number(&mut bytes, 1, 4)?;
+    let mut size = 0u64;
+    for table in 0..7usize {
+        push_number(&mut bytes, rows[table], 4)?;
+        size = size.wrapping_add(rows[table].wrapping_mul(WIDTHS[table]));
+    }
+    for (start, elements) in runs {
+        fill_up(&mut bytes, *start)?;
+        for element in *elements {
+            push_number(&mut bytes, *element, 8)?;
+        }
+    }
+    fill_up(&mut bytes, size as usize)?;
+    Ok(bytes)
+}
+
+// Zeros up to the element of this number.
+fn fill_up(bytes: &mut Vec<u8>, place: usize) -> Result<(), Memory> {
+    for _ in bytes.len()..place.wrapping_mul(8).wrapping_add(36) {
+        bytes.push(0)?;
+    }
+    Ok(())
 }
 
 // Four rows of the main table, 42 of the range table and a permutation of zeros.

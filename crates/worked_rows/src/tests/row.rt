@@ -119,13 +119,26 @@ fn answers(alloc: Global, row: &Row, shelf: &mut MemShelf) -> Result<bool, Memor
     )
 }
 
-/// A run whose table file is forged, and how it is checked then.
+/// A change of the files that a run wrote.
+pub enum Change {
+    /// A cell of the main table: its row, its column, the value.
+    Cell(usize, usize, u64),
+    /// An element of the table file by its number, and the value.
+    Element(usize, u64),
+    /// How many rows the file says that a table has, by the table's number; less than 256.
+    Rows(usize, u8),
+    /// So many bytes of the table file are left.
+    Size(usize),
+    /// The statement is this text.
+    Statement(&'static str),
+}
+
+/// A run whose files are forged, and how they are checked then.
 #[derive(Drop)]
 pub struct Forgery {
     pub run: Row,
 
-    /// Cells of the main table with their values: the row, the column, the value.
-    pub cells: &'static [(usize, usize, u64)],
+    pub changes: &'static [Change],
 
     pub check: Row,
 }
@@ -142,26 +155,45 @@ pub fn all_forged(rt: &(impl Abort + AllocGlobal), rows: &[Forgery]) -> Result<(
 fn forged(alloc: Global, row: &Forgery) -> Result<bool, Memory> {
     let mut shelf = shelf_of(alloc, &row.run)?;
     let is_answered = answers(alloc, &row.run, &mut shelf)?;
-    forge(alloc, &mut shelf, row.cells)?;
+    forge(alloc, &mut shelf, row.changes)?;
     Ok(is_answered && answers(alloc, &row.check, &mut shelf)?)
 }
 
-fn forge(alloc: Global, shelf: &mut MemShelf, cells: &[(usize, usize, u64)]) -> Result<(), Memory> {
+fn forge(alloc: Global, shelf: &mut MemShelf, changes: &[Change]) -> Result<(), Memory> {
     let mut bytes = match shelf.get("t") {
         Some(file) => Vec::from_slice(alloc, file)?,
         None => Vec::new(alloc),
     };
-    for (row, column, value) in cells {
-        let cell = row.wrapping_mul(65).wrapping_add(*column);
-        put_element(&mut bytes, cell.wrapping_mul(8).wrapping_add(36), *value);
+    for change in changes {
+        match change {
+            Change::Statement(text) => shelf.put("u", text.as_bytes())?,
+            _ => change_bytes(&mut bytes, change),
+        }
     }
     shelf.put("t", bytes.as_slice())
+}
+
+fn change_bytes(bytes: &mut Vec<u8>, change: &Change) {
+    match change {
+        Change::Cell(row, column, value) => {
+            put_element(bytes, row.wrapping_mul(65).wrapping_add(*column), *value);
+        }
+        Change::Element(place, value) => put_element(bytes, *place, *value),
+        Change::Rows(table, count) => {
+            let at = table.wrapping_mul(4).wrapping_add(8);
+            if at < bytes.len() {
+                bytes[at] = *count;
+            }
+        }
+        Change::Size(size) => bytes.truncate(*size),
+        Change::Statement(_) => {}
+    }
 }
 
 fn put_element(bytes: &mut Vec<u8>, place: usize, value: u64) {
     let element = value.to_le_bytes();
     for i in 0..8usize {
-        let at = place.wrapping_add(i);
+        let at = place.wrapping_mul(8).wrapping_add(i).wrapping_add(36);
         if at < bytes.len() {
             bytes[at] = element[i];
         }

@@ -1,5 +1,7 @@
 use crate::tests::content::Content;
-use crate::tests::row::{Forgery, Row, all_accepted, all_forged, all_hold, all_write, all_wrong};
+use crate::tests::row::{
+    Change, Forgery, Row, all_accepted, all_forged, all_hold, all_write, all_wrong,
+};
 use std::test::Fail;
 
 // What is claimed of `begin end`.
@@ -109,7 +111,7 @@ static STOPPED: [Row; 17] = [
         words: &["run", "z", "s", "i", "--out", "t", "--statement", "u"],
         files: &[
             ("z", Content::Lines(168, 0, "")),
-            ("s", Content::Text("begin while.true push.1 end end")),
+            ("s", Content::Text("begin push.7 mem_store.3 end")),
             ("i", Content::Text(r#"{"advice":[],"stack":[]}"#)),
         ],
         failing_call: 0,
@@ -129,8 +131,8 @@ static STOPPED: [Row; 17] = [
         ],
         failing_call: 0,
         failing_write: 0,
-        number: 13,
-        printed: "unbuilt\n",
+        number: 4,
+        printed: "trap 3 NotU32\n",
     },
     Row {
         words: &["run", "z", "s", "i", "--out", "t", "--statement", "u"],
@@ -141,22 +143,11 @@ static STOPPED: [Row; 17] = [
         ],
         failing_call: 0,
         failing_write: 0,
-        number: 13,
-        printed: "unbuilt\n",
+        number: 4,
+        printed: "trap 5 DepthAtReturn\n",
     },
     Row {
-        words: &[
-            "run",
-            "--limit",
-            "2",
-            "z",
-            "s",
-            "i",
-            "--out",
-            "t",
-            "--statement",
-            "u",
-        ],
+        words: &["run", "z", "s", "i", "--out", "t", "--statement", "u"],
         files: &[
             ("z", Content::Lines(168, 0, "")),
             ("s", Content::Text("begin adv_push.2 end")),
@@ -164,8 +155,8 @@ static STOPPED: [Row; 17] = [
         ],
         failing_call: 0,
         failing_write: 0,
-        number: 13,
-        printed: "unbuilt\n",
+        number: 4,
+        printed: "trap 2 AdviceEmpty\n",
     },
     Row {
         words: &[
@@ -186,7 +177,7 @@ static STOPPED: [Row; 17] = [
             ("z", Content::Lines(168, 0, "")),
             ("s", Content::Text("begin syscall.k end")),
             ("i", Content::Text(r#"{"advice":[],"stack":[]}"#)),
-            ("k", Content::Text("export.k end")),
+            ("k", Content::Text("export.k u32checked_xor end")),
         ],
         failing_call: 0,
         failing_write: 0,
@@ -445,7 +436,7 @@ static FORGED: [Forgery; 2] = [
             number: 0,
             printed: "cycles 4\noutputs 5 0 0 0 0 0 0 0 0 0 0 0 0 0 0 0 0\n",
         },
-        cells: &[(0, 28, 1), (0, 29, 0)],
+        changes: &[Change::Cell(0, 28, 1), Change::Cell(0, 29, 0)],
         check: Row {
             words: &["check", "z", "t", "u", "--evidence", "e"],
             files: &[],
@@ -468,7 +459,7 @@ static FORGED: [Forgery; 2] = [
             number: 0,
             printed: "cycles 76\noutputs 0 0 0 0 0 0 0 0 0 0 0 0 0 0 0 0\n",
         },
-        cells: &[(67, 0, 68), (70, 45, 1)],
+        changes: &[Change::Cell(67, 0, 68), Change::Cell(70, 45, 1)],
         check: Row {
             words: &["check", "z", "t", "u", "--evidence", "e"],
             files: &[],

@@ -1,0 +1,265 @@
+use crate::tests::content::Content;
+use crate::tests::row::{Change, Forgery, Row, all_forged};
+use std::test::Fail;
+
+// Programs of blocks of blocks: a loop that is not entered, whose body stays out of the evidence; branches in a loop; a call; a
+// kernel's procedure. Each is run and checked, and the evidence has the tree.
+static FLOWS: [Forgery; 5] = [
+    Forgery {
+        run: Row {
+            words: &["run", "z", "s", "i", "--out", "t", "--statement", "u"],
+            files: &[
+                ("z", Content::Lines(168, 0, "")),
+                ("s", Content::Text("begin while.true push.1 end end")),
+                ("i", Content::Text(r#"{"advice":[],"stack":[]}"#)),
+            ],
+            failing_call: 0,
+            failing_write: 0,
+            number: 0,
+            printed: "cycles 2\noutputs 0 0 0 0 0 0 0 0 0 0 0 0 0 0 0 0\n",
+        },
+        changes: &[],
+        check: Row {
+            words: &["check", "z", "t", "u", "--evidence", "e"],
+            files: &[(
+                "e",
+                Content::Text(
+                    "run\ncycles 2\ntape\nloop\nopaque d9bfec6c23e8ace836324e6a8b700fea5b9656d23e6a13d1d3c9193523580458\n",
+                ),
+            )],
+            failing_call: 0,
+            failing_write: 0,
+            number: 0,
+            printed: "accepted run\n",
+        },
+    },
+    Forgery {
+        run: Row {
+            words: &["run", "z", "s", "i", "--out", "t", "--statement", "u"],
+            files: &[
+                ("z", Content::Lines(168, 0, "")),
+                (
+                    "s",
+                    Content::Text("begin while.true if.true swap swap else neg neg end end end"),
+                ),
+                ("i", Content::Text(r#"{"advice":[],"stack":[1,1,1,0,0]}"#)),
+            ],
+            failing_call: 0,
+            failing_write: 0,
+            number: 0,
+            printed: "cycles 15\noutputs 0 0 0 0 0 0 0 0 0 0 0 0 0 0 0 0\n",
+        },
+        changes: &[],
+        check: Row {
+            words: &["check", "z", "t", "u", "--evidence", "e"],
+            files: &[(
+                "e",
+                Content::Text(
+                    "run\ncycles 15\ntape\nloop\nsplit\nspan 1\nbatch 1032 0 0 0 0 0 0 0\nspan 1\nbatch 258 0 0 0 0 0 0 0\n",
+                ),
+            )],
+            failing_call: 0,
+            failing_write: 0,
+            number: 0,
+            printed: "accepted run\n",
+        },
+    },
+    Forgery {
+        run: Row {
+            words: &["run", "z", "s", "i", "--out", "t", "--statement", "u"],
+            files: &[
+                ("z", Content::Lines(168, 0, "")),
+                (
+                    "s",
+                    Content::Text("proc.f push.1 add end begin push.9 call.f end"),
+                ),
+                ("i", Content::Text(r#"{"advice":[],"stack":[]}"#)),
+            ],
+            failing_call: 0,
+            failing_write: 0,
+            number: 0,
+            printed: "cycles 12\noutputs 10 0 0 0 0 0 0 0 0 0 0 0 0 0 0 0 0\n",
+        },
+        changes: &[],
+        check: Row {
+            words: &["check", "z", "t", "u", "--evidence", "e"],
+            files: &[(
+                "e",
+                Content::Text(
+                    "run\ncycles 12\ntape\njoin\nspan 1\nbatch 69 9 0 0 0 0 0 0\ncall\nspan 1\nbatch 4805 1 0 0 0 0 0 0\n",
+                ),
+            )],
+            failing_call: 0,
+            failing_write: 0,
+            number: 0,
+            printed: "accepted run\n",
+        },
+    },
+    Forgery {
+        run: Row {
+            words: &[
+                "run",
+                "z",
+                "s",
+                "i",
+                "--out",
+                "t",
+                "--statement",
+                "u",
+                "--kernel",
+                "k",
+            ],
+            files: &[
+                ("z", Content::Lines(168, 0, "")),
+                ("s", Content::Text("begin syscall.k end")),
+                ("i", Content::Text(r#"{"advice":[],"stack":[]}"#)),
+                ("k", Content::Text("export.k end")),
+            ],
+            failing_call: 0,
+            failing_write: 0,
+            number: 0,
+            printed: "cycles 5\noutputs 0 0 0 0 0 0 0 0 0 0 0 0 0 0 0 0\n",
+        },
+        changes: &[],
+        check: Row {
+            words: &["check", "z", "t", "u", "--evidence", "e"],
+            files: &[(
+                "e",
+                Content::Text("run\ncycles 5\ntape\nsyscall\nspan 1\nbatch 0 0 0 0 0 0 0 0\n"),
+            )],
+            failing_call: 0,
+            failing_write: 0,
+            number: 0,
+            printed: "accepted run\n",
+        },
+    },
+    Forgery {
+        run: Row {
+            words: &["run", "z", "s", "i", "--out", "t", "--statement", "u"],
+            files: &[
+                ("z", Content::Lines(168, 0, "")),
+                (
+                    "s",
+                    Content::Text("begin push.5 push.3 u32checked_divmod adv_push.1 end"),
+                ),
+                ("i", Content::Text(r#"{"advice":[40],"stack":[]}"#)),
+            ],
+            failing_call: 0,
+            failing_write: 0,
+            number: 0,
+            printed: "cycles 7\noutputs 40 2 1 0 0 0 0 0 0 0 0 0 0 0 0 0 0 0 0\n",
+        },
+        changes: &[],
+        check: Row {
+            words: &["check", "z", "t", "u", "--evidence", "e"],
+            files: &[(
+                "e",
+                Content::Text("run\ncycles 7\ntape 40\nspan 1\nbatch 136864453 5 3 0 0 0 0 0\n"),
+            )],
+            failing_call: 0,
+            failing_write: 0,
+            number: 0,
+            printed: "accepted run\n",
+        },
+    },
+];
+
+// The kernel and its table are taken away, so that nobody answers the call; 5 divided by 3 is claimed to be 2, with a remainder of
+// the modulus less one, which the range table cannot give.
+static FORGED: [Forgery; 2] = [
+    Forgery {
+        run: Row {
+            words: &[
+                "run",
+                "z",
+                "s",
+                "i",
+                "--out",
+                "t",
+                "--statement",
+                "u",
+                "--kernel",
+                "k",
+            ],
+            files: &[
+                ("z", Content::Lines(168, 0, "")),
+                ("s", Content::Text("begin syscall.k end")),
+                ("i", Content::Text(r#"{"advice":[],"stack":[]}"#)),
+                ("k", Content::Text("export.k end")),
+            ],
+            failing_call: 0,
+            failing_write: 0,
+            number: 0,
+            printed: "cycles 5\noutputs 0 0 0 0 0 0 0 0 0 0 0 0 0 0 0 0\n",
+        },
+        changes: &[
+            Change::Rows(5, 0),
+            Change::Size(5780),
+            Change::Statement(
+                "{\"digest\":\"c911729d207be088dee0827b410430dc99baabca2df4787e72a183b24c73071d\",\"inputs\":[],\"kernel\":[],\"outputs\":[0,0,0,0,0,0,0,0,0,0,0,0,0,0,0,0]}",
+            ),
+        ],
+        check: Row {
+            words: &["check", "z", "t", "u", "--evidence", "e"],
+            files: &[],
+            failing_call: 0,
+            failing_write: 0,
+            number: 1,
+            printed: "refused bus kernel tuple 0 0 0 0 asked 1 given 0\n",
+        },
+    },
+    Forgery {
+        run: Row {
+            words: &["run", "z", "s", "i", "--out", "t", "--statement", "u"],
+            files: &[
+                ("z", Content::Lines(168, 0, "")),
+                (
+                    "s",
+                    Content::Text("begin push.5 push.3 u32checked_divmod end"),
+                ),
+                ("i", Content::Text(r#"{"advice":[],"stack":[]}"#)),
+            ],
+            failing_call: 0,
+            failing_write: 0,
+            number: 0,
+            printed: "cycles 6\noutputs 2 1 0 0 0 0 0 0 0 0 0 0 0 0 0 0 0 0\n",
+        },
+        changes: &[
+            Change::Cell(3, 59, 2),
+            Change::Cell(3, 61, 18446744069414584320),
+            Change::Cell(3, 62, 0),
+            Change::Cell(3, 63, 3),
+            Change::Cell(3, 64, 0),
+            Change::Cell(4, 30, 18446744069414584320),
+            Change::Cell(5, 30, 18446744069414584320),
+            Change::Cell(6, 30, 18446744069414584320),
+            Change::Cell(4, 31, 2),
+            Change::Cell(5, 31, 2),
+            Change::Cell(6, 31, 2),
+            Change::Element(455, 5),
+            Change::Element(457, 0),
+            Change::Element(461, 2),
+            Change::Statement(
+                "{\"digest\":\"8890f8520bc2595e308dad8543fb6f9751aaa42cd96976a72cd210f47a4bc17c\",\"inputs\":[],\"kernel\":[],\"outputs\":[18446744069414584320,2,0,0,0,0,0,0,0,0,0,0,0,0,0,0,0,0]}",
+            ),
+        ],
+        check: Row {
+            words: &["check", "z", "t", "u", "--evidence", "e"],
+            files: &[],
+            failing_call: 0,
+            failing_write: 0,
+            number: 1,
+            printed: "refused bus range tuple 18446744069414584320 asked 1 given 0\n",
+        },
+    },
+];
+
+#[test]
+fn flows_are_accepted(rt: HostRuntime) -> Result<(), Fail> {
+    all_forged(&rt, &FLOWS)
+}
+
+#[test]
+fn forged_flows_are_refused(rt: HostRuntime) -> Result<(), Fail> {
+    all_forged(&rt, &FORGED)
+}
