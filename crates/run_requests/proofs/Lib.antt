@@ -11,6 +11,7 @@ pub mod KernelLaw
 pub mod RangeLaw
 pub mod OtherLaws
 pub mod AskedLaw
+pub mod TapeRows
 pub mod TapeLaw
 pub mod Follows
 pub mod KernelCalls

@@ -1,5 +1,5 @@
 -- The rows of a run take of the tape what the run takes.
-use Rattle.std.proofs.Common.{◌≡◌, ℕ, List, ◌∷◌, ◌++◌, take, drop, refl, sym, ap, ◌∙◌}
+use Rattle.std.proofs.Common.{◌≡◌, ℕ, List, ◌∷◌, ◌++◌, length, take, drop, refl, sym, ap, ◌∙◌}
 use Rattle.std.proofs.lemmas.List.{append_assoc, take-append-drop}
 use Rattle.vm_field.specs.Machine.{State, start}
 use Rattle.block_tree.specs.Cycles.{advice_taken}
@@ -17,14 +17,14 @@ use Rattle.run_rows.specs.Decoder.{Decoder}
 use Rattle.run_rows.specs.Moments.{IsMoment}
 use Rattle.run_rows.proofs.MomentFacts.{moment_op}
 use Rattle.run_rows.proofs.TableLemmas.{is_linked}
-use Rattle.run_requests.proofs.Unbuilt.{nothing_taken}
+use Rattle.run_requests.proofs.TapeRows.{row_takes}
 
-module _ (constants : List ℕ) (kernel : List (List ℕ)) (limit : ℕ) (u : State) where
+module _ (constants : List ℕ) (len : length constants ≡ 168) (kernel : List (List ℕ)) (limit : ℕ) (u : State) where
   -- what is taken, and what is left
   moment_takes : {x y : List ℕ} (m : IsMoment constants kernel limit x y) → m.s.tape ≡ taken_by (flags.op_of x) y ++ m.t.tape
   moment_takes {x = x} {y = y} m =
       let row : taken_by (flags.op_of x) y ≡ take (advice_taken m.mark) m.s.tape
-      = ap (λ o. taken_by o y) (moment_op constants kernel limit m) ∙ nothing_taken m.mark y m.s.tape m.built in
+      = ap (λ o. taken_by o y) (moment_op constants kernel limit m) ∙ row_takes constants len kernel limit m in
       let left : m.t.tape ≡ drop (advice_taken m.mark) m.s.tape = ap (λ t. t.tape) m.cycle.now in
       rw (row, left) (sym (take-append-drop (advice_taken m.mark) m.s.tape))
 
@@ -41,4 +41,4 @@ pub run_takes : (constants : List ℕ) (kernel : List (List ℕ)) (limit : ℕ) 
     → tape ≡ tape_of (filled constants kernel u log) ++ u.tape
 unfolding start
 run_takes constants kernel limit tree inputs tape u log r built =
-    tape_along constants kernel limit u (is_linked constants kernel limit tree inputs tape u log r built)
+    tape_along constants r.constants_are kernel limit u (is_linked constants kernel limit tree inputs tape u log r built)

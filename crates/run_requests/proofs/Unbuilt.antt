@@ -1,11 +1,8 @@
 -- Rows of operations that are not built yet: a run has none of them, so that nothing is asked there.
-use Rattle.std.proofs.Common.{◌≡◌, ℕ, true, false, List, [], ◌∷◌, length, take, slice_index_or, All, ◌<◌, refl, sym, ap, ◌∙◌, subst, arith}
+use Rattle.std.proofs.Common.{◌≡◌, ℕ, true, false, List, [], ◌∷◌, length, slice_index_or, All, ◌<◌, refl, sym, ap, ◌∙◌, subst, arith}
 use Rattle.std.proofs.lemmas.List.Elements.{All-head, All-nil, All-tail}
 use Rattle.vm_ops.specs.declared.op.Op.{Op}
 use Rattle.vm_ops.specs.declared.op.Op.TheVariants as ops
-use Rattle.vm_ops.specs.Values.{advice_of}
-use Rattle.block_tree.specs.Cycles.{Mark, Do, advice_taken}
-use Rattle.block_tree.specs.Rows.{op_of}
 use Rattle.air_kit.specs.Built.{is_built}
 use Rattle.air_kit.specs.Flags as flags
 use Rattle.air_kit.specs.Flags.{is_op}
@@ -13,7 +10,6 @@ use Rattle.air_kit.specs.MainTuples as tuples
 use Rattle.air_kit.specs.MainTuples.{bitwise_asked, hasher_asked, memory_asked}
 use Rattle.air_kit.specs.Requests.{FitsMemory}
 use Rattle.air_kit.specs.declared.requests.Access.{Access}
-use Rattle.air_kit.specs.RowStates.{taken_by}
 use Rattle.processor.specs.declared.event.Event.{Event}
 use Rattle.processor.specs.declared.event.Visible.{Visible}
 use Rattle.row_facts.proofs.Says.{never}
@@ -59,25 +55,6 @@ no_access_by op x y built = refl
 pub no_accesses_asked : (op : Op) (x y : List ℕ) → flags.op_of x ≡ op → is_built op ≡ true → memory_asked x y ≡ []
 unfolding memory_asked
 no_accesses_asked op x y is built = ap (λ o. tuples.accesses_of o x y) is ∙ no_access_by op x y built
-
--- ---- nothing is taken of the tape
-
-no_advice : (op : Op) → is_built op ≡ true → advice_of op ≡ 0
-no_advice ops.AdvPop built = never (sym built)
-no_advice ops.AdvPopW built = never (sym built)
-no_advice op built = refl
-
-none_taken : (op : Op) (y : List ℕ) → is_built op ≡ true → taken_by op y ≡ []
-none_taken ops.AdvPop y built = never (sym built)
-none_taken ops.AdvPopW y built = never (sym built)
-none_taken op y built = refl
-
-mark_advice : (mark : Mark) → is_built (op_of mark) ≡ true → advice_taken mark ≡ 0
-mark_advice (Do item) built = no_advice item.op built
-mark_advice mark built = refl
-
-pub nothing_taken : (mark : Mark) (y tape : List ℕ) → is_built (op_of mark) ≡ true → taken_by (op_of mark) y ≡ take (advice_taken mark) tape
-nothing_taken mark y tape built = none_taken (op_of mark) y built ∙ sym (ap (λ n. take n tape) (mark_advice mark built))
 
 -- ---- no requests of such operations
 
