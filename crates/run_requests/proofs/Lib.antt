@@ -9,6 +9,7 @@ pub mod HpermRows
 pub mod HasherLaw
 pub mod KernelLaw
 pub mod RangeLaw
+pub mod BitRows
 pub mod OtherLaws
 pub mod AskedLaw
 pub mod TapeRows

@@ -1,5 +1,5 @@
 -- Rows of operations that are not built yet: a run has none of them, so that nothing is asked there.
-use Rattle.std.proofs.Common.{◌≡◌, ℕ, true, false, List, [], ◌∷◌, length, slice_index_or, All, ◌<◌, refl, sym, ap, ◌∙◌, subst, arith}
+use Rattle.std.proofs.Common.{◌≡◌, ℕ, true, List, [], ◌∷◌, length, slice_index_or, All, ◌<◌, refl, sym, ap, ◌∙◌, subst, arith}
 use Rattle.std.proofs.lemmas.List.Elements.{All-head, All-nil, All-tail}
 use Rattle.vm_ops.specs.declared.op.Op.{Op}
 use Rattle.vm_ops.specs.declared.op.Op.TheVariants as ops
@@ -18,22 +18,10 @@ use Rattle.run_rows.specs.RunRequests.{accesses_by, accesses_of, bits_by, bits_o
 
 -- ---- no bitwise operation
 
-no_and : (op : Op) → is_built op ≡ true → is_op op ops.U32And ≡ false
-no_and ops.U32And built = never (sym built)
-no_and op built = refl
-
-no_xor : (op : Op) → is_built op ≡ true → is_op op ops.U32Xor ≡ false
-no_xor ops.U32Xor built = never (sym built)
-no_xor op built = refl
-
-pub no_bits : (op : Op) (seen : Visible) → is_built op ≡ true → bits_by op seen ≡ []
+no_bits : (op : Op) (seen : Visible) → is_built op ≡ true → bits_by op seen ≡ []
 no_bits ops.U32And seen built = never (sym built)
 no_bits ops.U32Xor seen built = never (sym built)
 no_bits op seen built = refl
-
-pub no_bits_asked : (op : Op) (x y : List ℕ) → flags.op_of x ≡ op → is_built op ≡ true → bitwise_asked x y ≡ []
-unfolding bitwise_asked
-no_bits_asked op x y is built = rw (is, no_and op built, no_xor op built) refl
 
 -- ---- no access of memory
 
