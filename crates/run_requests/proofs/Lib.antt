@@ -10,6 +10,8 @@ pub mod HasherLaw
 pub mod KernelLaw
 pub mod RangeLaw
 pub mod BitRows
+pub mod AccessWords
+pub mod AccessRows
 pub mod OtherLaws
 pub mod AskedLaw
 pub mod TapeRows

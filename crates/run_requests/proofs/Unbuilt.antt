@@ -1,13 +1,9 @@
 -- Rows of operations that are not built yet: a run has none of them, so that nothing is asked there.
-use Rattle.std.proofs.Common.{◌≡◌, ℕ, true, List, [], ◌∷◌, length, slice_index_or, All, ◌<◌, refl, sym, ap, ◌∙◌, subst, arith}
+use Rattle.std.proofs.Common.{◌≡◌, ℕ, true, List, [], ◌∷◌, length, slice_index_or, All, ◌<◌, refl, sym, ap, subst, arith}
 use Rattle.std.proofs.lemmas.List.Elements.{All-head, All-nil, All-tail}
 use Rattle.vm_ops.specs.declared.op.Op.{Op}
 use Rattle.vm_ops.specs.declared.op.Op.TheVariants as ops
 use Rattle.air_kit.specs.Built.{is_built}
-use Rattle.air_kit.specs.Flags as flags
-use Rattle.air_kit.specs.Flags.{is_op}
-use Rattle.air_kit.specs.MainTuples as tuples
-use Rattle.air_kit.specs.MainTuples.{bitwise_asked, hasher_asked, memory_asked}
 use Rattle.air_kit.specs.Requests.{FitsMemory}
 use Rattle.air_kit.specs.declared.requests.Access.{Access}
 use Rattle.processor.specs.declared.event.Event.{Event}
@@ -25,24 +21,12 @@ no_bits op seen built = refl
 
 -- ---- no access of memory
 
-pub no_accesses : (op : Op) (e : Event) → is_built op ≡ true → accesses_by op e ≡ []
+no_accesses : (op : Op) (e : Event) → is_built op ≡ true → accesses_by op e ≡ []
 no_accesses ops.MLoad e built = never (sym built)
 no_accesses ops.MLoadW e built = never (sym built)
 no_accesses ops.MStore e built = never (sym built)
 no_accesses ops.MStoreW e built = never (sym built)
 no_accesses op e built = refl
-
-no_access_by : (op : Op) (x y : List ℕ) → is_built op ≡ true → tuples.accesses_of op x y ≡ []
-unfolding tuples.accesses_of
-no_access_by ops.MLoad x y built = never (sym built)
-no_access_by ops.MLoadW x y built = never (sym built)
-no_access_by ops.MStore x y built = never (sym built)
-no_access_by ops.MStoreW x y built = never (sym built)
-no_access_by op x y built = refl
-
-pub no_accesses_asked : (op : Op) (x y : List ℕ) → flags.op_of x ≡ op → is_built op ≡ true → memory_asked x y ≡ []
-unfolding memory_asked
-no_accesses_asked op x y is built = ap (λ o. tuples.accesses_of o x y) is ∙ no_access_by op x y built
 
 -- ---- no requests of such operations
 
