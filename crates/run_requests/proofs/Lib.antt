@@ -19,6 +19,10 @@ pub mod TapeLaw
 pub mod Follows
 pub mod KernelCalls
 pub mod Sizes
+pub mod MemoryWords
+pub mod MemorySteps
+pub mod MemoryClocks
+pub mod MemoryFit
 pub mod FitLaw
 pub mod OverflowCells
 pub mod OverflowSteps
