@@ -21,6 +21,6 @@ run_asks constants kernel limit tree inputs tape u log r built =
       hasher = λ v. hashes_asked constants r.constants_are kernel limit u v linked;
       kernel = λ v. calls_asked constants kernel limit u v linked;
       range = λ v. ranges_asked constants kernel limit u v linked;
-      bitwise = λ v. bits_asked constants kernel limit u v linked;
-      memory = λ v. accesses_asked constants kernel limit u v linked;
+      bitwise = λ v. bits_asked constants r.constants_are kernel limit u v linked;
+      memory = λ v. accesses_asked constants r.constants_are kernel limit u v linked;
     }

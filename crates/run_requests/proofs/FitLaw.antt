@@ -11,15 +11,16 @@ use Rattle.run_requests.specs.Asked.{requests}
 use Rattle.run_requests.specs.Fitting.{FitsRows}
 use Rattle.run_requests.proofs.Follows.{perms_follow}
 use Rattle.run_requests.proofs.KernelCalls.{calls_in}
+use Rattle.run_requests.proofs.MemoryClocks.{accesses_apart}
+use Rattle.run_requests.proofs.MemoryFit.{accesses_fit}
 use Rattle.run_requests.proofs.Sizes.{events_few, keys_few, requests_few, rows_are}
-use Rattle.run_requests.proofs.Unbuilt.{apart_memory, fit_memory, no_accesses_of, no_bits_of}
+use Rattle.run_requests.proofs.Unbuilt.{no_accesses_of, no_bits_of}
 
 pub run_fits : (constants : List ℕ) (kernel : List (List ℕ)) (limit : ℕ) (tree : Tree) (inputs tape : List ℕ) (u : State) (log : List run.Event)
     → IsRun constants kernel limit tree inputs tape u log → AreBuilt (events_of constants kernel log) → length kernel ≤ 255
     → FitsRows constants kernel (requests constants kernel u log) (filled constants kernel u log)
 run_fits constants kernel limit tree inputs tape u log r built words =
     let linked = is_linked constants kernel limit tree inputs tape u log r built in
-    let no_accesses = no_accesses_of (events_of constants kernel log) built in
     let bits : length (bits_of (events_of constants kernel log)) ≡ 0 = ap length (no_bits_of (events_of constants kernel log) built) in
     let accesses : length (accesses_of (events_of constants kernel log)) ≡ 0 = ap length (no_accesses_of (events_of constants kernel log) built) in
     let few = requests_few constants (events_of constants kernel log) in
@@ -29,8 +30,8 @@ run_fits constants kernel limit tree inputs tape u log r built words =
     record {
       fits = record {
         perms = perms_follow constants r.constants_are kernel limit u linked [];
-        accesses = fit_memory (accesses_of (events_of constants kernel log)) no_accesses;
-        apart = apart_memory (accesses_of (events_of constants kernel log)) no_accesses;
+        accesses = accesses_fit constants kernel limit u inputs tape linked;
+        apart = accesses_apart constants kernel limit u linked;
         calls = calls_in constants kernel limit u r.within linked;
         room = record {
           perms = omega (arith, few, most);

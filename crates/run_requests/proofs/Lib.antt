@@ -9,6 +9,9 @@ pub mod HpermRows
 pub mod HasherLaw
 pub mod KernelLaw
 pub mod RangeLaw
+pub mod BitRows
+pub mod AccessWords
+pub mod AccessRows
 pub mod OtherLaws
 pub mod AskedLaw
 pub mod TapeRows
@@ -16,6 +19,10 @@ pub mod TapeLaw
 pub mod Follows
 pub mod KernelCalls
 pub mod Sizes
+pub mod MemoryWords
+pub mod MemorySteps
+pub mod MemoryClocks
+pub mod MemoryFit
 pub mod FitLaw
 pub mod OverflowCells
 pub mod OverflowSteps

@@ -1,5 +1,5 @@
 -- The rows of a run ask on the buses of bitwise operations and of memory what its requests are.
-use Rattle.std.proofs.Common.{◌≡◌, ℕ, ◌+◌, List, [], ◌∷◌, ◌++◌, map, sym, ap, ◌∙◌, arith}
+use Rattle.std.proofs.Common.{◌≡◌, ℕ, ◌+◌, List, [], ◌∷◌, ◌++◌, length, map, ap, arith}
 use Rattle.vm_field.specs.Machine.{State}
 use Rattle.block_tree.specs.Rows.{op_of}
 use Rattle.block_tree.specs.Steps.{Task}
@@ -13,26 +13,11 @@ use Rattle.run_rows.specs.Chains.{AreLinked}
 use Rattle.run_rows.specs.Decoder.{Decoder, advance}
 use Rattle.run_rows.specs.Moments.{IsMoment, event_at}
 use Rattle.run_rows.specs.RunRequests.{accesses_by, accesses_of, bits_by, bits_of}
-use Rattle.run_rows.proofs.MomentFacts.{moment_op}
+use Rattle.run_requests.proofs.AccessRows.{row_accesses}
+use Rattle.run_requests.proofs.BitRows.{row_bits}
 use Rattle.run_requests.proofs.Following.{map_counts, rows_ask}
-use Rattle.run_requests.proofs.Unbuilt.{no_accesses, no_accesses_asked, no_bits, no_bits_asked}
 
-module _ (constants : List ℕ) (kernel : List (List ℕ)) (limit : ℕ) (u : State) (v : List ℕ) where
-  -- what a row asks is what its operation requests
-  row_bits : {x y : List ℕ} (m : IsMoment constants kernel limit x y)
-      → counted (bitwise_asked x y) v ≡ counted (map bit_given (bits_by (op_of m.mark) (visible_of m.s.core))) v
-  row_bits {x = x} {y = y} m =
-      let asked : counted (bitwise_asked x y) v ≡ counted [] v
-      = ap (λ l. counted l v) (no_bits_asked (op_of m.mark) x y (moment_op constants kernel limit m) m.built) in
-      asked ∙ sym (ap (λ l. counted (map bit_given l) v) (no_bits (op_of m.mark) (visible_of m.s.core) m.built))
-
-  row_accesses : {x y : List ℕ} (m : IsMoment constants kernel limit x y)
-      → counted (memory_asked x y) v ≡ counted (map access_given (accesses_by (op_of m.mark) (event_at constants kernel m.mark m.s))) v
-  row_accesses {x = x} {y = y} m =
-      let asked : counted (memory_asked x y) v ≡ counted [] v
-      = ap (λ l. counted l v) (no_accesses_asked (op_of m.mark) x y (moment_op constants kernel limit m) m.built) in
-      asked ∙ sym (ap (λ l. counted (map access_given l) v) (no_accesses (op_of m.mark) (event_at constants kernel m.mark m.s) m.built))
-
+module _ (constants : List ℕ) (len : length constants ≡ 168) (kernel : List (List ℕ)) (limit : ℕ) (u : State) (v : List ℕ) where
   abbrev owed_bits : List Task → Decoder → List Event → ℕ
   owed_bits todo d events = counted (map bit_given (bits_of events)) v
 
@@ -45,7 +30,8 @@ module _ (constants : List ℕ) (kernel : List (List ℕ)) (limit : ℕ) (u : St
       ≡ counted (bitwise_asked x y) v + owed_bits (m.rest ++ m.todo) (advance m.d (event_at constants kernel m.mark m.s) m.later) m.later
   unfolding bits_of
   moment_bits x y rows m later =
-      let here = row_bits m in
+      let here : counted (bitwise_asked x y) v ≡ counted (map bit_given (bits_by (op_of m.mark) (visible_of m.s.core))) v
+      = ap (λ l. counted l v) (row_bits constants len kernel limit m) in
       let both = map_counts bit_given (bits_by (op_of m.mark) (visible_of m.s.core)) (bits_of m.later) v in
       omega (arith, here, both)
 
@@ -55,7 +41,8 @@ module _ (constants : List ℕ) (kernel : List (List ℕ)) (limit : ℕ) (u : St
       ≡ counted (memory_asked x y) v + owed_accesses (m.rest ++ m.todo) (advance m.d (event_at constants kernel m.mark m.s) m.later) m.later
   unfolding accesses_of
   moment_accesses x y rows m later =
-      let here = row_accesses m in
+      let here : counted (memory_asked x y) v ≡ counted (map access_given (accesses_by (op_of m.mark) (event_at constants kernel m.mark m.s))) v
+      = ap (λ l. counted l v) (row_accesses constants len kernel limit m) in
       let both = map_counts access_given (accesses_by (op_of m.mark) (event_at constants kernel m.mark m.s)) (accesses_of m.later) v in
       omega (arith, here, both)
 

@@ -1,5 +1,5 @@
 -- The row behind an operation shows the elements that the operation takes of the tape.
-use Rattle.std.proofs.Common.{◌≡◌, ℕ, ◌≤◌, List, [], ◌∷◌, length, take, slice_index, refl, ap, ◌∙◌, arith, lit<}
+use Rattle.std.proofs.Common.{◌≡◌, ℕ, ◌≤◌, List, [], ◌∷◌, length, take, refl, ◌∙◌, arith, lit<}
 use Rattle.vm_field.specs.Machine.{State}
 use Rattle.vm_ops.specs.Step.{left_cells}
 use Rattle.vm_ops.specs.Stepping.{seen_at}
