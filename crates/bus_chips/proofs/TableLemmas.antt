@@ -1,7 +1,7 @@
 -- What one table gives or asks on its bus is all that it gives and asks.
 use Rattle.std.proofs.Common.{ℕ, ◌^◌, List, [], Option, Result, Ok, Err, OnOk, ◌≡◌, subst, lit≤}
 use Rattle.buses.specs.Counts.{Counted}
-use Rattle.air_kit.specs.ChipTuples.{chip_asked, chip_given, hasher_given, kernel_given, left_asked, range_given}
+use Rattle.air_kit.specs.ChipTuples.{bitwise_given, chip_asked, chip_given, hasher_given, kernel_given, left_asked, range_given}
 use Rattle.air_kit.specs.Places.{Claim}
 use Rattle.air_kit.specs.declared.trace.TableName.TheVariants as table
 use Rattle.buses.specs.declared.bus.Bus.{Bus}
@@ -68,6 +68,25 @@ pub hasher_counted : {E : Type 0} (c : Claim) (i : ℕ) (x : List ℕ) (next : O
     → OnOk r (AreCounted (2 ^ 66) t (record t { hasher = now }) (λ b. chip_asked c b table.Hasher i x next) (λ b. chip_given b table.Hasher i x next))
 hasher_counted c i x next t now (Ok v) p = hasher_bus c i x next t now p
 hasher_counted c i x next t now (Err e) p = tt
+
+bitwise_bus : (c : Claim) (i : ℕ) (x : List ℕ) (next : Option (List ℕ)) (t : Tallies) (now : Tally) → IsCounted 1 t.bitwise now [] (bitwise_given i x) → (b : Bus)
+    → IsCounted (2 ^ 66) (tally_of t b) (tally_of (record t { bitwise = now }) b) (chip_asked c b table.Bitwise i x next) (chip_given b table.Bitwise i x next)
+bitwise_bus c i x next t now p bus.Blocks = none_counted (2 ^ 66) t.blocks
+bitwise_bus c i x next t now p bus.Children = none_counted (2 ^ 66) t.children
+bitwise_bus c i x next t now p bus.Loops = none_counted (2 ^ 66) t.loops
+bitwise_bus c i x next t now p bus.Groups = none_counted (2 ^ 66) t.groups
+bitwise_bus c i x next t now p bus.Overflow = none_counted (2 ^ 66) t.overflow
+bitwise_bus c i x next t now p bus.Hasher = none_counted (2 ^ 66) t.hasher
+bitwise_bus c i x next t now p bus.Bitwise = counted_within 1 (2 ^ 66) t.bitwise now [] (bitwise_given i x) p (lit≤ tt)
+bitwise_bus c i x next t now p bus.Memory = none_counted (2 ^ 66) t.memory
+bitwise_bus c i x next t now p bus.Range = none_counted (2 ^ 66) t.range
+bitwise_bus c i x next t now p bus.Kernel = none_counted (2 ^ 66) t.kernel
+
+pub bitwise_counted : {E : Type 0} (c : Claim) (i : ℕ) (x : List ℕ) (next : Option (List ℕ)) (t : Tallies) (now : Tally) (r : Result (Unit {0}) E)
+    → OnOk r (IsCounted 1 t.bitwise now [] (bitwise_given i x))
+    → OnOk r (AreCounted (2 ^ 66) t (record t { bitwise = now }) (λ b. chip_asked c b table.Bitwise i x next) (λ b. chip_given b table.Bitwise i x next))
+bitwise_counted c i x next t now (Ok v) p = bitwise_bus c i x next t now p
+bitwise_counted c i x next t now (Err e) p = tt
 
 left_bus : (c : Claim) (i : ℕ) (x : List ℕ) (next : Option (List ℕ)) (t : Tallies) (now : Tally) → IsCounted 1 t.overflow now (left_asked c i x next) [] → (b : Bus)
     → IsCounted (2 ^ 66) (tally_of t b) (tally_of (record t { overflow = now }) b) (chip_asked c b table.Left i x next) (chip_given b table.Left i x next)

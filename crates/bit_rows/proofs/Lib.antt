@@ -1,0 +1,9 @@
+pub mod Nibbles
+pub mod RowLemmas
+pub mod ZeroLemmas
+pub mod EightRows
+pub mod ZerosAreRows
+pub mod ValueLemmas
+pub mod RowsAreZero
+pub mod Given
+pub mod TableLaws
