@@ -30,13 +30,13 @@ lengths_of t =
     length t.main ∷ length t.range ∷ length t.hasher ∷ length t.bitwise ∷ length t.memory ∷ length t.kernel ∷ length t.left
     ∷ []
 
--- How many rows a table may have. Bitwise operations and accesses of memory are not built so far, and their tables are empty.
+-- how many rows a table may have
 abbrev pub most_rows : TableName → ℕ
 most_rows table.Main = 2 ^ 19
 most_rows table.Range = 2 ^ 17
 most_rows table.Hasher = 2 ^ 22
-most_rows table.Bitwise = 0
-most_rows table.Memory = 0
+most_rows table.Bitwise = 2 ^ 22
+most_rows table.Memory = 2 ^ 19
 most_rows table.Kernel = 255
 most_rows table.Left = 2 ^ 19
 

@@ -1,9 +1,9 @@
 ghost use Rattle.std.specs.Prelude.{◌≡◌};
-ghost use Rattle.air_kit.specs.Built.{is_built, is_tabled};
+ghost use Rattle.air_kit.specs.Built.{is_built};
 ghost use Rattle.air_kit.specs.Flags.{is_left, is_right};
 ghost use Rattle.air_kit.specs.Sets.{passes_of};
 
-use vm_ops::{Op, Shift, accesses_memory, is_ordinary, is_start, opcode, shift};
+use vm_ops::{Op, Shift, is_ordinary, is_start, shift};
 
 /// A set of operations whose flags an entry sums up.
 #[derive(Clone, Copy, Debug, PartialEq, Eq)]
@@ -54,17 +54,9 @@ fn is_right(op: Op) -> bool
     }
 }
 
-/// Whether rows may have the operation so far.
-pub fn is_built(op: Op) -> bool
-    ensures { result ≡ is_built op }
+/// Whether rows may have the operation: each operation is built.
+pub fn is_built(_op: Op) -> bool
+    ensures { result ≡ is_built _op }
 {
-    !is_tabled(op)
-}
-
-// Bit by bit, U32AND and U32XOR, and the accesses of memory: their tables have no rows so far.
-fn is_tabled(op: Op) -> bool
-    ensures { result ≡ is_tabled op }
-{
-    let code = opcode(op);
-    (41 <= code && code < 43) || accesses_memory(op)
+    true
 }
