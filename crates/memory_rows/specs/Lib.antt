@@ -1,0 +1,4 @@
+pub mod Accesses
+pub mod AccessRows
+pub mod MemoryTables
+pub mod Serving
