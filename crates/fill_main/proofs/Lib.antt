@@ -5,5 +5,4 @@ pub mod LoopLemmas
 pub mod RequestLemmas
 pub mod FillLemmas
 pub mod SpanLemmas
-pub mod KnownLemmas
 pub mod RowLemmas

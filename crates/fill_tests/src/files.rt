@@ -1,5 +1,4 @@
 use block_tree::{Exports, Program, Tree, are_distinct};
-use fill_main::known;
 use op_pack::Batches;
 use processor::execute;
 use rpo_hash::Params;
@@ -36,9 +35,6 @@ fn has_lengths(alloc: Global, row: &Row) -> Result<bool, Memory> {
     }
     let program = Program::new(tree, kernel, Exports::new(alloc));
     let inputs = Inputs::new(Felts::new(alloc), Felts::new(alloc));
-    if !known(alloc, &program)? {
-        return Ok(false);
-    }
     let Ok(run) = execute(alloc, &NO_CONSTANTS, &program, &inputs, 100) else {
         return Ok(false);
     };

@@ -1,6 +1,6 @@
-use air_kit::{Requests, is_built};
+use air_kit::Requests;
 use block_tree::{Exports, Program, Tree, are_distinct};
-use fill_main::{fill_main, known};
+use fill_main::fill_main;
 use op_pack::Batches;
 use processor::{Run, Stop, execute};
 use rpo_hash::Params;
@@ -207,17 +207,5 @@ fn asks_accesses(alloc: Global) -> Result<bool, Memory> {
 fn asks_small_tables(rt: HostRuntime) -> Result<(), Fail> {
     assert!(rt; asks_bits(rt.alloc())?);
     assert!(rt; asks_accesses(rt.alloc())?);
-    Ok(())
-}
-
-fn knows(alloc: Global, op: Op) -> Result<bool, Memory> {
-    let tree = span(alloc, &[op, Op::Noop], &[])?;
-    known(alloc, &program(alloc, tree)?)
-}
-
-#[test]
-fn knows_programs(rt: HostRuntime) -> Result<(), Fail> {
-    assert_eq!(rt; knows(rt.alloc(), Op::Add)?, true);
-    assert_eq!(rt; knows(rt.alloc(), Op::MLoad)?, is_built(Op::MLoad));
     Ok(())
 }

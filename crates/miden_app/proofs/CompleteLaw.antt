@@ -14,7 +14,6 @@ use Rattle.air_kit.specs.Acceptance.{IsAccepted}
 use Rattle.air_kit.specs.declared.trace.Public.{Public}
 use Rattle.air_kit.specs.declared.trace.Trace.{Trace}
 use Rattle.run_rows.specs.BlockRows.{IsRun}
-use Rattle.fill_main.specs.Known.{is_known}
 use Rattle.run_files.specs.RunFiles.{IsTableFileOf, IsStatementFileOf, claim_of_run}
 use Rattle.run_files.proofs.AcceptedLemmas.{files_accepted}
 use Rattle.vm_io.specs.Shelf.{Files, ShelfState}
@@ -30,7 +29,7 @@ use Rattle.miden_app.specs.Asked.{Outputs, run, asked}
 use Rattle.miden_app.specs.Steps.{SourceFile, Steps, Verdict, accepted, refused, Course, course, checked, telling, ending, stop, ends_with}
 use Rattle.miden_app.specs.CheckEnds.{IsFound, IsWhy}
 use Rattle.miden_app.specs.RunEnds as ends
-use Rattle.miden_app.specs.RunEnds.{IsCourse, halted, unbuilt, trapped, unended}
+use Rattle.miden_app.specs.RunEnds.{IsCourse, halted, trapped, unended}
 use Rattle.miden_app.specs.Commands.{steps_of, with_params, with_inputs, with_kernel, with_trace, with_statement, most_params_bytes, check_steps, table_steps, statement_steps, judging_steps, found_steps, run_steps, run_source_steps, kernel_steps, running_steps, course_steps}
 use Rattle.miden_app.specs.Serving.{Leads, Answers, Ends, Works}
 use Rattle.miden_app.specs.Laws.{WrittenRunIsAccepted}
@@ -49,7 +48,6 @@ record Left (params : List ℕ) (outputs : Outputs) (m : Files) (new : Option Fi
   program : Program
   last : State
   log : List run.Event
-  known : is_known (tree_of program.tree) ≡ true
   is_run : IsRun constants program.kernel limit (tree_of program.tree) given.stack given.advice last log
   table : List ℕ
   shows : IsTableFileOf constants program.kernel last log table
@@ -62,7 +60,6 @@ record LeftBehind (constants : List ℕ) (given : Given) (limit : ℕ) (outputs 
   program : Program
   last : State
   log : List run.Event
-  known : is_known (tree_of program.tree) ≡ true
   is_run : IsRun constants program.kernel limit (tree_of program.tree) given.stack given.advice last log
   table : List ℕ
   shows : IsTableFileOf constants program.kernel last log table
@@ -93,17 +90,15 @@ module _ (line : List ℕ) (new : Option Files) where
       (c : Course) → IsCourse constants source kernel given limit c → Went (course_steps outputs constants given c) m
       → LeftBehind constants given limit outputs m new
   came outputs constants source kernel given limit m c (ends.refused in_kernel row column cause is) h = absurd (halts status.Source _ m (λ same. cc) h)
-  came outputs constants source kernel given limit m c (halted program is a (unbuilt known)) h = absurd (halts status.Unbuilt _ m (λ same. cc) h)
-  came outputs constants source kernel given limit m c (halted program is a (trapped known clock cause traps)) h = absurd (halts status.Trap _ m (λ same. cc) h)
-  came outputs constants source kernel given limit m c (halted program is a (unended known out)) h = absurd (halts status.OutOfCycles _ m (λ same. cc) h)
-  came outputs constants source kernel given limit m c (ends.ended program is known last log r) h =
+  came outputs constants source kernel given limit m c (halted program is a (trapped clock cause traps)) h = absurd (halts status.Trap _ m (λ same. cc) h)
+  came outputs constants source kernel given limit m c (halted program is a (unended out)) h = absurd (halts status.OutOfCycles _ m (λ same. cc) h)
+  came outputs constants source kernel given limit m c (ends.ended program is last log r) h =
       let tables = was_written (ends_with status.Ok line) new outputs.table _ _ m h in
       let claims = was_written (ends_with status.Ok line) new outputs.statement _ _ (insert m outputs.table tables.0) tables.2 in
       record {
         program = program;
         last = last;
         log = log;
-        known = known;
         is_run = r;
         table = tables.0;
         shows = tables.1;
@@ -135,7 +130,6 @@ module _ (line : List ℕ) (new : Option Files) where
         program = left.program;
         last = left.last;
         log = left.log;
-        known = left.known;
         is_run = left.is_run;
         table = left.table;
         shows = left.shows;
@@ -182,7 +176,7 @@ module _ (a : Answer) (new : Option Files) where
           → IsAccepted p left.shows.trace
       accepts p params_are claims =
           files_accepted left.constants left.program.kernel left.limit (tree_of left.program.tree) left.given.stack left.given.advice left.last left.log
-          left.is_run left.known p params_are claims left.table left.shows
+          left.is_run p params_are claims left.table left.shows
 
       claimed_stands : get n outputs.statement ≡ Some left.claimed
       claimed_stands = ap (λ f. get f outputs.statement) is ∙ get_put (insert m outputs.table left.table) outputs.statement left.claimed

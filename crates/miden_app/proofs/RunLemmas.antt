@@ -9,7 +9,6 @@ use Rattle.vm_state.specs.declared.inputs.Inputs.{Inputs}
 use Rattle.processor.specs.Executed.{IsRunOf, WasExecuted}
 use Rattle.processor.specs.declared.run.Run.{Run}
 use Rattle.statement.specs.Inputs.{Given, given_of}
-use Rattle.fill_main.specs.Known.{is_known}
 use Rattle.run_files.specs.RunFiles.{IsFileOfRun, IsStatementFileOf, claim_of_run}
 use Rattle.vm_io.specs.Shelf.{ShelfState}
 use Rattle.miden_app.specs.declared.course.Course as held
@@ -27,7 +26,7 @@ use Rattle.miden_app.specs.declared.outcome.Answer.{Answer}
 use Rattle.miden_app.specs.SourceEnds.{AssemblesFiles, name_of_place, source_line}
 use Rattle.miden_app.specs.Statuses.{kind_of, planned}
 use Rattle.miden_app.specs.RunEnds as ends
-use Rattle.miden_app.specs.RunEnds.{IsCourse, IsHalt, ended, halted, run_lines, trapped, unbuilt, unended}
+use Rattle.miden_app.specs.RunEnds.{IsCourse, IsHalt, ended, halted, run_lines, trapped, unended}
 use Rattle.miden_app.specs.Steps.{Right, SourceFile, Steps, course, ending, ran, statement_of, stop, stopped, tables_of, writing, ends_with}
 use Rattle.miden_app.proofs.ServingLemmas.{goes_past_finding, same_again, says_comes, work_ends}
 
@@ -38,7 +37,7 @@ pub came_ends : (outputs : Outputs) (params : Params) (source : SourceFile) (ker
 came_ends outputs params source kernel given limit made o old new came ends =
     goes_past_finding (course (constants_of params) source kernel given limit) (course_steps outputs (constants_of params) given)
     (ran made.program (state_of made.run.state) came.run.log) old
-    (ended made.program came.assembled came.run.known (state_of made.run.state) came.run.log came.run.is_run) o new (ends came.run.log came.run.events)
+    (ended made.program came.assembled (state_of made.run.state) came.run.log came.run.is_run) o new (ends came.run.log came.run.events)
 
 -- none
 pub stopped_ends : (outputs : Outputs) (constants : List ℕ) (source : SourceFile) (kernel : Option SourceFile) (given : Given) (limit : ℕ)
@@ -97,10 +96,9 @@ last_not_saved name statement line o old new stops right fit = stops right _ fit
 
 -- a run that was executed on these inputs
 pub has_run : (params : Params) (program : Program) (inputs : Inputs) (limit : ℕ) (answer : Run) → length (constants_of params) ≡ 168 → limit ≤ 524287
-    → is_known (tree_of program.tree) ≡ true → WasExecuted params program answer → IsRunOf params program inputs limit answer
+    → WasExecuted params program answer → IsRunOf params program inputs limit answer
     → HasRun params program (given_of inputs) limit answer
-has_run params program inputs limit answer size low known was is = record {
-  known = known;
+has_run params program inputs limit answer size low was is = record {
   executed = was;
   log = is.log;
   events = is.events;
@@ -117,9 +115,8 @@ has_run params program inputs limit answer size low known was is = record {
 
 planned_halt : (constants : List ℕ) (program : Program) (given : Given) (limit : ℕ) (a : Answer) → IsHalt constants program given limit a
     → kind_of a.status ≡ planned
-planned_halt constants program given limit a (unbuilt known) = refl
-planned_halt constants program given limit a (trapped known clock cause is) = refl
-planned_halt constants program given limit a (unended known is) = refl
+planned_halt constants program given limit a (trapped clock cause is) = refl
+planned_halt constants program given limit a (unended is) = refl
 
 -- the answer to a program that halts is one to its source
 pub halts_stop : (constants : List ℕ) (source : SourceFile) (kernel : Option SourceFile) (given : Given) (limit : ℕ) (program : Program) (o : Outcome)

@@ -13,7 +13,6 @@ use Rattle.masm_link.specs.declared.refusal.AsmError.TheVariants.{Bad}
 use Rattle.statement.specs.Inputs.{Given}
 use Rattle.miden_app.specs.declared.status.Status.TheVariants as status
 use Rattle.run_rows.specs.BlockRows.{IsRun}
-use Rattle.fill_main.specs.Known.{is_known}
 use Rattle.miden_app.specs.declared.outcome.Answer.{Answer}
 use Rattle.miden_app.specs.Steps.{SourceFile, Course, ran, stopped, ends_with}
 use Rattle.miden_app.specs.SourceEnds.{AssemblesFiles, name_of_place, source_line}
@@ -36,12 +35,11 @@ trap_line clock cause = codes "trap " ++ decimal clock ++ codes " " ++ text_of_c
 abbrev pub limit_line : ℕ → List ℕ
 limit_line limit = codes "out of cycles " ++ decimal limit ++ codes "\n"
 
--- Why a program does not run to an end, and the answer to that. It has to have operations alone of which rows are written.
+-- why a program does not run to an end, and the answer to that
 pub data IsHalt (constants : List ℕ) (program : Program) (given : Given) (limit : ℕ) : Answer → Type 0 where
-  unbuilt : is_known (tree_of program.tree) ≡ false → IsHalt constants program given limit (ends_with status.Unbuilt (codes "unbuilt\n"))
-  trapped : is_known (tree_of program.tree) ≡ true → (clock : ℕ) (cause : Cause) → outcome_of constants program given limit ≡ Trap clock cause
+  trapped : (clock : ℕ) (cause : Cause) → outcome_of constants program given limit ≡ Trap clock cause
       → IsHalt constants program given limit (ends_with status.Trap (trap_line clock cause))
-  unended : is_known (tree_of program.tree) ≡ true → outcome_of constants program given limit ≡ OutOfCycles
+  unended : outcome_of constants program given limit ≡ OutOfCycles
       → IsHalt constants program given limit (ends_with status.OutOfCycles (limit_line limit))
 
 -- What a source comes to that is to be run: it is refused, at the place of the first refusal, or its program halts, or it runs to its end.
@@ -51,7 +49,7 @@ pub data IsCourse (constants : List ℕ) (source : SourceFile) (kernel : Option 
       (stopped (ends_with status.Source (source_line (name_of_place in_kernel source kernel) line column cause)))
   halted : (program : Program) → AssemblesFiles constants source kernel (Ok program) → (a : Answer) → IsHalt constants program given limit a
       → IsCourse constants source kernel given limit (stopped a)
-  ended : (program : Program) → AssemblesFiles constants source kernel (Ok program) → is_known (tree_of program.tree) ≡ true
+  ended : (program : Program) → AssemblesFiles constants source kernel (Ok program)
       → (last : State) (log : List run.Event)
       → IsRun constants program.kernel limit (tree_of program.tree) given.stack given.advice last log
       → IsCourse constants source kernel given limit (ran program last log)

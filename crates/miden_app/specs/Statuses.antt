@@ -17,7 +17,6 @@ number_of status.SinkFault = 9
 number_of status.Malformed = 10
 number_of status.TooLong = 11
 number_of status.Memory = 12
-number_of status.Unbuilt = 13
 
 -- what a status speaks of
 pub data Kind : Type 0 where
@@ -42,4 +41,3 @@ kind_of status.SinkFault = failed_print
 kind_of status.Malformed = planned
 kind_of status.TooLong = planned
 kind_of status.Memory = no_memory
-kind_of status.Unbuilt = planned

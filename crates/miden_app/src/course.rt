@@ -1,7 +1,5 @@
 // How a source runs: its program and the run to its end, or the answer why there is none.
-ghost use Rattle.std.specs.Prelude.{◌≡◌, ◌≤◌, true, length, codes, option_map, IfErr, IfOk, IfSome};
-ghost use Rattle.block_tree.specs.TreeView.{tree_of};
-ghost use Rattle.fill_main.specs.Known.{is_known};
+ghost use Rattle.std.specs.Prelude.{◌≡◌, ◌≤◌, length, option_map, IfErr, IfOk, IfSome};
 ghost use Rattle.rpo_hash.specs.Constants.{constants_of};
 ghost use Rattle.statement.specs.Inputs.{given_of};
 ghost use Rattle.miden_app.specs.Inside.Courses.{Came, Halts, HasRun, Stopped};
@@ -14,7 +12,6 @@ use crate::run_lines::{limit_text, trap_text};
 use crate::source::{SourceFile, assemble_sources, name_of_place, refused_source};
 use crate::status::Status;
 use block_tree::Program;
-use fill_main::known;
 use masm_link::AsmError;
 use processor::{Run, Stop, execute};
 use rpo_hash::{Params, known_constants};
@@ -30,8 +27,8 @@ pub struct Course {
     pub run: Run,
 }
 
-/// Assembles a source and runs its program. An `Err` is how the command ends: the source is refused,
-/// the program has operations of which no rows are written yet, or the run traps or does not end.
+/// Assembles a source and runs its program. An `Err` is how the command ends: the source is refused, or
+/// the run traps or does not end.
 pub fn course_of(
     alloc: Global,
     constants: &Params,
@@ -63,7 +60,7 @@ pub fn course_of(
     }
 }
 
-// Runs a program of which rows can be written.
+// Runs a program.
 fn run_of(
     alloc: Global,
     constants: &Params,
@@ -75,26 +72,6 @@ fn run_of(
     ensures came { IfOk result (λ course. (course.program ≡ program) × HasRun constants.now program (given_of inputs.now) limit course.run) }
     ensures stopped { IfErr result (Halts (constants_of constants.now) program (given_of inputs.now) limit) }
 {
-    match known(alloc, &program) {
-        Ok(true) => executed(alloc, constants, program, inputs, limit),
-        Ok(false) => Err(unbuilt(alloc)),
-        Err(_) => Err(Outcome::Memory),
-    }
-}
-
-// Runs a program.
-fn executed(
-    alloc: Global,
-    constants: &Params,
-    program: Program,
-    inputs: &Inputs,
-    limit: u32,
-) -> Result<Course, Outcome>
-    requires limit { limit ≤ 524287 }
-    requires known { is_known (tree_of program.tree) ≡ true }
-    ensures came { IfOk result (λ course. (course.program ≡ program) × HasRun constants.now program (given_of inputs.now) limit course.run) }
-    ensures stopped { IfErr result (Halts (constants_of constants.now) program (given_of inputs.now) limit) }
-{
     known_constants(constants);
     match execute(alloc, constants, &program, inputs, limit) {
         Ok(run) => Ok(Course { program, run }),
@@ -102,13 +79,6 @@ fn executed(
         Err(Stop::OutOfCycles) => Err(out_of_cycles(alloc, limit)),
         Err(Stop::Memory) => Err(Outcome::Memory),
     }
-}
-
-#[tactic(auto, using(crate::proofs::OutcomeLemmas::says_line))]
-fn unbuilt(alloc: Global) -> Outcome
-    ensures { Says result Status.Unbuilt (codes "unbuilt\n") }
-{
-    answered(Status::Unbuilt, Bytes::copied(alloc, b"unbuilt\n"))
 }
 
 #[tactic(auto, using(crate::proofs::OutcomeLemmas::says_line))]

@@ -2,7 +2,6 @@
 ghost use Rattle.std.specs.Prelude.{◌≡◌, ◌≤◌, true, length, IfOk};
 ghost use Rattle.rpo_hash.specs.Constants.{constants_of};
 ghost use Rattle.block_tree.specs.TreeView.{tree_of};
-ghost use Rattle.fill_main.specs.Known.{is_known};
 ghost use Rattle.processor.specs.Executed.{WasExecuted};
 ghost use Rattle.statement.specs.Inputs.{given_of};
 ghost use Rattle.vm_state.specs.Views.{state_of};
@@ -42,7 +41,6 @@ pub fn save_run<F: Shelf>(
     outputs: Outputs<'_>,
 ) -> Outcome
     requires executed { WasExecuted constants.now course.program course.run }
-    requires known { is_known (tree_of course.program.tree) ≡ true }
     requires named { AreNamed outputs }
     ensures { EndsRun constants.now course.program course.run (outputs_from outputs.entry) (given_of inputs) result (F.state shelf.old) (F.state shelf.new) }
 {
@@ -60,7 +58,6 @@ fn files_of(
     course: Course,
 ) -> Result<Made, Memory>
     requires executed { WasExecuted constants.now course.program course.run }
-    requires known { is_known (tree_of course.program.tree) ≡ true }
     ensures table { IfOk result (λ made. IsFileOfRun constants.now course.program course.run made.table) }
     ensures statement { IfOk result (λ made. IsStatementFileOf (claim_of_run (constants_of constants.now) (tree_of course.program.tree)
         course.program.kernel inputs.stack course.run.state.stack) made.statement) }

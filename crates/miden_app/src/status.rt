@@ -30,8 +30,6 @@ pub enum Status {
     TooLong,
     /// Memory was refused.
     Memory,
-    /// The program has operations that no rows are written of yet.
-    Unbuilt,
 }
 
 impl Status {
@@ -53,7 +51,6 @@ impl Status {
             Status::Malformed => 10,
             Status::TooLong => 11,
             Status::Memory => 12,
-            Status::Unbuilt => 13,
         }
     }
 }

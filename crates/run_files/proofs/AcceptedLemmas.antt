@@ -1,4 +1,4 @@
--- The run of a known program has built operations alone, so that its trace is accepted.
+-- The trace in the table file of a run is accepted for what is claimed of the run.
 use Rattle.std.proofs.Common.{◌≡◌, ◌∙◌, ap, ℕ, true, List}
 use Rattle.vm_field.specs.Machine.{State}
 use Rattle.rpo_hash.specs.Constants.{constants_of}
@@ -7,12 +7,11 @@ use Rattle.block_tree.specs.Trees.{Tree}
 use Rattle.statement.specs.Statements.{Claim, claim_of}
 use Rattle.air_kit.specs.Acceptance.{IsAccepted}
 use Rattle.air_kit.specs.declared.trace.Public.{Public}
-use Rattle.run_rows.specs.BlockRows.{IsRun}
+use Rattle.run_rows.specs.BlockRows.{IsRun, events_of}
 use Rattle.run_acceptance.specs.Acceptance.{IsStatementOf}
 use Rattle.run_acceptance.proofs.AcceptedLaw.{run_accepted}
-use Rattle.fill_main.specs.Known.{is_known}
-use Rattle.fill_main.proofs.KnownLemmas.{known_built}
 use Rattle.run_files.specs.RunFiles.{IsTableFileOf, claim_of_run}
+use Rattle.run_files.proofs.RunLemmas.{all_built}
 
 -- what is claimed of a run is its statement
 states : (constants : List ℕ) (kernel : List (List ℕ)) (tree : Tree) (inputs : List ℕ) (u : State) (p : Public) → constants_of p.params ≡ constants
@@ -26,9 +25,9 @@ states constants kernel tree inputs u p params is = record {
 }
 
 pub files_accepted : (constants : List ℕ) (kernel : List (List ℕ)) (limit : ℕ) (tree : Tree) (inputs tape : List ℕ) (u : State) (log : List run.Event)
-    → IsRun constants kernel limit tree inputs tape u log → is_known tree ≡ true
+    → IsRun constants kernel limit tree inputs tape u log
     → (p : Public) → constants_of p.params ≡ constants → claim_of p.statement ≡ claim_of_run constants tree kernel inputs u.core.stack
     → (bytes : List ℕ) → (file : IsTableFileOf constants kernel u log bytes) → IsAccepted p file.trace
-files_accepted constants kernel limit tree inputs tape u log r known p params is bytes file =
-    run_accepted constants kernel limit tree inputs tape u log r (known_built constants kernel limit tree inputs tape u log r known) p file.trace
+files_accepted constants kernel limit tree inputs tape u log r p params is bytes file =
+    run_accepted constants kernel limit tree inputs tape u log r (all_built (events_of constants kernel log)) p file.trace
     (states constants kernel tree inputs u p params is) file.traces

@@ -1,6 +1,7 @@
 -- What a run that was executed shows: it is one from the start to the end, so that its requests fit, and its rows and its stack are
 -- within bounds.
-use Rattle.std.proofs.Common.{◌≡◌, ℕ, ◌+◌, ◌^◌, ◌≤◌, true, List, [], ◌∷◌, length, ap, ◌∙◌, sym, subst, arith}
+use Rattle.std.proofs.Common.{◌≡◌, ℕ, ◌+◌, ◌^◌, ◌≤◌, true, List, [], ◌∷◌, length, refl, ap, ◌∙◌, sym, subst, arith}
+use Rattle.std.proofs.lemmas.List.Elements.{All-cons, All-nil}
 use Rattle.rpo_hash.specs.Constants.{constants_of}
 use Rattle.rpo_hash.specs.declared.params.Params.{Params}
 use Rattle.vm_table.specs.Layout.{IsTable}
@@ -18,7 +19,9 @@ use Rattle.block_tree.proofs.RunSteps.{run-steps}
 use Rattle.block_tree.proofs.TaskLemmas.{steps-log}
 use Rattle.processor.specs.Events.{visible_of}
 use Rattle.processor.specs.Executed.{WasExecuted}
+use Rattle.processor.specs.declared.event.Event.{Event}
 use Rattle.processor.specs.declared.run.Run.{Run}
+use Rattle.air_kit.specs.Built.{is_built}
 use Rattle.air_kit.specs.Requests.{Answers, Fits}
 use Rattle.run_rows.specs.BlockRows.{IsRun, events_of}
 use Rattle.run_rows.specs.Bounds.{AreBuilt}
@@ -29,9 +32,12 @@ use Rattle.run_rows.proofs.TableLemmas.{rows_counted}
 use Rattle.run_requests.proofs.FitLaw.{run_fits}
 use Rattle.fill_chips.specs.Beside.{beside}
 use Rattle.fill_chips.specs.declared.chips.Chips.{Chips}
-use Rattle.fill_main.specs.Known.{is_known}
-use Rattle.fill_main.proofs.KnownLemmas.{known_built}
 use Rattle.run_files.specs.Inside.{TracesRun}
+
+-- each operation is built
+pub all_built : (events : List Event) → AreBuilt events
+all_built [] = All-nil (λ (e : Event). is_built e.op ≡ true)
+all_built (e ∷ events) = All-cons (λ (e : Event). is_built e.op ≡ true) e events refl (all_built events)
 
 module _ (constants : List ℕ) (kernel : List (List ℕ)) (limit : ℕ) (tree : Tree) (inputs tape : List ℕ) (u : State) (log : List run.Event)
     (r : IsRun constants kernel limit tree inputs tape u log) where
@@ -75,15 +81,11 @@ module _ (params : Params) (program : Program) (answer : Run) (size : length (co
     done = was.ran.done;
   }
 
-  built : is_known (tree_of program.tree) ≡ true → AreBuilt (events_of constants program.kernel was.ran.log)
-  built known = known_built constants program.kernel was.limit (tree_of program.tree) was.inputs.stack was.inputs.advice u was.ran.log is_run known
-
-  pub fits : is_known (tree_of program.tree) ≡ true
-      → Fits constants program.kernel (requests_of constants (visible_of (core_of answer.state)) answer.events)
-  fits known =
+  pub fits : Fits constants program.kernel (requests_of constants (visible_of (core_of answer.state)) answer.events)
+  fits =
       subst (λ events. Fits constants program.kernel (requests_of constants (visible_of (core_of answer.state)) events)) (sym was.ran.events)
-      (run_fits constants program.kernel was.limit (tree_of program.tree) was.inputs.stack was.inputs.advice u was.ran.log is_run (built known)
-      program.few).fits
+      (run_fits constants program.kernel was.limit (tree_of program.tree) was.inputs.stack was.inputs.advice u was.ran.log is_run
+      (all_built (events_of constants program.kernel was.ran.log)) program.few).fits
 
   pub has_rows : 1 ≤ length (rows_of (visible_of (core_of answer.state)) answer.events)
   has_rows =

@@ -15,7 +15,6 @@ use Rattle.air_kit.specs.declared.trace.Public.{Public}
 use Rattle.air_kit.specs.declared.trace.Trace.{Trace}
 use Rattle.run_rows.specs.BlockRows.{IsRun, events_of}
 use Rattle.run_acceptance.specs.Acceptance.{IsTraceOf}
-use Rattle.fill_main.specs.Known.{is_known}
 
 -- the longest table file, and the longest statement
 abbrev pub most_table_bytes : ℕ
@@ -48,9 +47,9 @@ IsFileOfRun params program answer bytes =
     (log : List run.Event) → answer.events ≡ events_of (constants_of params) program.kernel log
     → IsTableFileOf (constants_of params) program.kernel (state_of answer.state) log bytes
 
--- The trace in the table file of a known program's run is accepted for what is claimed of the run.
+-- The trace in the table file of a run is accepted for what is claimed of the run.
 abbrev pub FilesAreAccepted : Type 0
 FilesAreAccepted = (constants : List ℕ) (kernel : List (List ℕ)) (limit : ℕ) (tree : Tree) (inputs tape : List ℕ) (u : State) (log : List run.Event)
-    → IsRun constants kernel limit tree inputs tape u log → is_known tree ≡ true
+    → IsRun constants kernel limit tree inputs tape u log
     → (p : Public) → constants_of p.params ≡ constants → claim_of p.statement ≡ claim_of_run constants tree kernel inputs u.core.stack
     → (bytes : List ℕ) → (file : IsTableFileOf constants kernel u log bytes) → IsAccepted p file.trace

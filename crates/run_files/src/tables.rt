@@ -1,9 +1,7 @@
 ghost use Rattle.std.specs.Prelude.{◌≡◌, ◌≤◌, true, length, IfOk, Ok};
-ghost use Rattle.block_tree.specs.TreeView.{tree_of};
 ghost use Rattle.processor.specs.Executed.{WasExecuted};
 ghost use Rattle.air_kit.specs.Traces.{HasCounts};
 ghost use Rattle.table_file.specs.Files.{AreTables, bytes_of, trace_of};
-ghost use Rattle.fill_main.specs.Known.{is_known};
 ghost use Rattle.run_files.specs.RunFiles.{IsFileOfRun, most_table_bytes};
 
 use crate::tracing::trace_of_run;
@@ -16,9 +14,8 @@ use table_file::{encode, file_laws};
 use vm_field::{Bytes, Memory};
 use vm_state::State;
 
-/// The table file of a run that was executed, and the state at its end. The program is known, so that
-/// all its operations have rows. The events of the run are given up before the small tables are made,
-/// and the tables when their bytes are there.
+/// The table file of a run that was executed, and the state at its end. The events of the run are given
+/// up before the small tables are made, and the tables when their bytes are there.
 ///
 /// # Errors
 ///
@@ -30,7 +27,6 @@ pub fn table_file_of_run(
     run: Run,
 ) -> Result<(Bytes, State), Memory>
     requires executed { WasExecuted params.now program.now run }
-    requires known { is_known (tree_of program.now.tree) ≡ true }
     ensures file { IfOk result (λ r. IsFileOfRun params.now program.now run r.0) }
     ensures state { IfOk result (λ r. r.1 ≡ run.state) }
     ensures depth { IfOk result (λ r. length r.1.stack ≤ 524303) }

@@ -3,14 +3,12 @@ ghost use Rattle.rpo_hash.specs.Constants.{constants_of};
 ghost use Rattle.vm_table.specs.Layout.{IsTable};
 ghost use Rattle.air_kit.specs.Requests.{Fits};
 ghost use Rattle.air_kit.specs.Traces.{HasCounts};
-ghost use Rattle.block_tree.specs.TreeView.{tree_of};
 ghost use Rattle.vm_state.specs.Views.{core_of};
 ghost use Rattle.processor.specs.Events.{visible_of};
 ghost use Rattle.processor.specs.Executed.{WasExecuted};
 ghost use Rattle.run_rows.specs.Filling.{rows_of};
 ghost use Rattle.run_rows.specs.RunRequests.{requests_of};
 ghost use Rattle.fill_chips.specs.Beside.{beside};
-ghost use Rattle.fill_main.specs.Known.{is_known};
 ghost use Rattle.run_files.specs.Inside.{TracesRun};
 
 use air_kit::Trace;
@@ -32,7 +30,6 @@ pub(crate) fn trace_of_run(
     run: Run,
 ) -> Result<(Trace, State), Memory>
     requires executed { WasExecuted params.now program.now run }
-    requires known { is_known (tree_of program.now.tree) ≡ true }
     ensures trace { IfOk result (λ r. TracesRun params.now program.now run r.0) }
     ensures counts { IfOk result (λ r. HasCounts r.0) }
     ensures state { IfOk result (λ r. r.1 ≡ run.state) }
@@ -48,7 +45,6 @@ pub(crate) fn trace_of_run(
 // What is known of a run that was executed. A run does nothing.
 fn known_run(params: &Params, _program: &Program, _run: &Run)
     requires executed { WasExecuted params.now _program.now _run.now }
-    requires known { is_known (tree_of _program.now.tree) ≡ true }
     ensures fits { Fits (constants_of params.now) _program.now.kernel
         (requests_of (constants_of params.now) (visible_of (core_of _run.now.state)) _run.now.events) }
     ensures has { 1 ≤ length (rows_of (visible_of (core_of _run.now.state)) _run.now.events) }

@@ -10,7 +10,6 @@ use Rattle.statement.specs.Inputs.{Given}
 use Rattle.processor.specs.Executed.{WasExecuted}
 use Rattle.processor.specs.declared.run.Run.{Run}
 use Rattle.run_rows.specs.BlockRows.{IsRun, events_of}
-use Rattle.fill_main.specs.Known.{is_known}
 use Rattle.vm_io.specs.Shelf.{ShelfState}
 use Rattle.miden_app.specs.declared.course.Course as held
 use Rattle.miden_app.specs.declared.running.RunOptions.{RunOptions}
@@ -35,7 +34,6 @@ pub record AreOptions (options : RunOptions) : Type 0 where
 
 -- the run of a program on these inputs that was executed to its end
 pub record HasRun (params : Params) (program : Program) (given : Given) (limit : ℕ) (answer : Run) : Type 0 where
-  pub known : is_known (tree_of program.tree) ≡ true
   pub executed : WasExecuted params program answer
   pub log : List run.Event
   pub events : answer.events ≡ events_of (constants_of params) program.kernel log

@@ -106,19 +106,7 @@ static RAN: [Row; 7] = [
 ];
 
 // Each ends without a file.
-static STOPPED: [Row; 17] = [
-    Row {
-        words: &["run", "z", "s", "i", "--out", "t", "--statement", "u"],
-        files: &[
-            ("z", Content::Lines(168, 0, "")),
-            ("s", Content::Text("begin push.7 mem_store.3 end")),
-            ("i", Content::Text(r#"{"advice":[],"stack":[]}"#)),
-        ],
-        failing_call: 0,
-        failing_write: 0,
-        number: 13,
-        printed: "unbuilt\n",
-    },
+static STOPPED: [Row; 15] = [
     Row {
         words: &["run", "z", "s", "i", "--out", "t", "--statement", "u"],
         files: &[
@@ -157,32 +145,6 @@ static STOPPED: [Row; 17] = [
         failing_write: 0,
         number: 4,
         printed: "trap 2 AdviceEmpty\n",
-    },
-    Row {
-        words: &[
-            "run",
-            "z",
-            "--kernel",
-            "k",
-            "s",
-            "--limit=524287",
-            "--out",
-            "t",
-            "--statement",
-            "u",
-            "--",
-            "i",
-        ],
-        files: &[
-            ("z", Content::Lines(168, 0, "")),
-            ("s", Content::Text("begin syscall.k end")),
-            ("i", Content::Text(r#"{"advice":[],"stack":[]}"#)),
-            ("k", Content::Text("export.k u32checked_xor end")),
-        ],
-        failing_call: 0,
-        failing_write: 0,
-        number: 13,
-        printed: "unbuilt\n",
     },
     Row {
         words: &["run", "z", "s", "i", "--out", "t", "--statement", "u"],
