@@ -9,6 +9,7 @@ use Rattle.air_kit.specs.declared.trace.TableName.TheVariants as table
 use Rattle.air_kit.specs.declared.trace.Trace.{Trace}
 use Rattle.table_file.specs.Fields.{parts_bytes, row_bytes, table_bytes}
 use Rattle.table_file.specs.Files.{AreTables, bytes_of, counts_in, head_bytes}
+use Rattle.run_files.specs.Inside.{IsShort}
 use Rattle.run_files.specs.RunFiles.{most_table_bytes}
 
 pub are_tables : (t : Trace) → IsTable 65 t.main → IsTable 2 t.range → IsTable 15 t.hasher → IsTable 12 t.bitwise → IsTable 14 t.memory
@@ -54,25 +55,22 @@ head_size : (main range hasher bitwise memory kernel left : ℕ)
 unfolding head_bytes
 head_size main range hasher bitwise memory kernel left = refl
 
--- the tables before the one of memory, and so many bytes behind them
-small_sum : (t : Trace) → HasCounts t → AreTables t → length t.main ≤ 2 ^ 19 → length t.range ≤ 2 ^ 17 → length t.hasher ≤ 2 ^ 22
-    → length t.bitwise ≤ 0 → length (table_bytes t.memory ++ (table_bytes t.kernel ++ table_bytes t.left)) ≤ 40 * 255 + 8 * 2 ^ 19
+-- the range table, and what stands behind it
+small_sum : (t : Trace) → AreTables t → length t.main ≤ 2 ^ 19 → length t.range ≤ 2 ^ 17
+    → length (table_bytes t.hasher ++ (table_bytes t.bitwise ++ (table_bytes t.memory ++ (table_bytes t.kernel ++ table_bytes t.left))))
+    ≤ 120 * 2 ^ 22 + 40 * 255 + 8 * 2 ^ 19
     → length (bytes_of t) ≤ most_table_bytes
 unfolding bytes_of
-small_sum t counts shapes main range hasher bitwise behind =
+small_sum t shapes main range behind =
     let head = head_size (length t.main) (length t.range) (length t.hasher) (length t.bitwise) (length t.memory) (length t.kernel) (length t.left) in
     omega (
       arith,
       head,
       main,
       range,
-      hasher,
-      bitwise,
       behind,
       table_size 65 t.main (shapes table.Main),
       table_size 2 t.range (shapes table.Range),
-      table_size 15 t.hasher (shapes table.Hasher),
-      table_size 12 t.bitwise (shapes table.Bitwise),
       length-append (head_bytes (counts_in t)) (table_bytes t.main
           ++ (table_bytes t.range
           ++ (table_bytes t.hasher ++ (table_bytes t.bitwise ++ (table_bytes t.memory ++ (table_bytes t.kernel ++ table_bytes t.left)))))),
@@ -80,35 +78,30 @@ small_sum t counts shapes main range hasher bitwise behind =
           ++ (table_bytes t.hasher ++ (table_bytes t.bitwise ++ (table_bytes t.memory ++ (table_bytes t.kernel ++ table_bytes t.left))))),
       length-append (table_bytes t.range) (table_bytes t.hasher
           ++ (table_bytes t.bitwise ++ (table_bytes t.memory ++ (table_bytes t.kernel ++ table_bytes t.left)))),
-      length-append (table_bytes t.hasher) (table_bytes t.bitwise ++ (table_bytes t.memory ++ (table_bytes t.kernel ++ table_bytes t.left))),
-      length-append (table_bytes t.bitwise) (table_bytes t.memory ++ (table_bytes t.kernel ++ table_bytes t.left)),
     )
 
-pub short_file : (t : Trace) → HasCounts t → AreTables t → length (bytes_of t) ≤ most_table_bytes
-unfolding bytes_of
-short_file t counts shapes =
-    let main : length t.main ≤ 2 ^ 19 = counts.most table.Main in
-    let range : length t.range ≤ 2 ^ 17 = counts.most table.Range in
-    let hasher : length t.hasher ≤ 2 ^ 22 = counts.most table.Hasher in
-    let bitwise : length t.bitwise ≤ 0 = counts.most table.Bitwise in
-    let memory : length t.memory ≤ 0 = counts.most table.Memory in
-    let kernel : length t.kernel ≤ 255 = counts.most table.Kernel in
-    let left : length t.left ≤ 2 ^ 19 = counts.most table.Left in
-    let behind_kernel : length (table_bytes t.kernel ++ table_bytes t.left) ≤ 40 * 255 + 8 * 2 ^ 19 =
+-- the tables of the hasher, of bitwise operations and of memory, which are short together, and those behind them
+short_sum : (t : Trace) → AreTables t → IsShort t → length t.kernel ≤ 255 → length t.left ≤ 2 ^ 19
+    → length (table_bytes t.hasher ++ (table_bytes t.bitwise ++ (table_bytes t.memory ++ (table_bytes t.kernel ++ table_bytes t.left))))
+    ≤ 120 * 2 ^ 22 + 40 * 255 + 8 * 2 ^ 19
+short_sum t shapes short kernel left =
     omega (
       arith,
+      short,
       kernel,
       left,
+      table_size 15 t.hasher (shapes table.Hasher),
+      table_size 12 t.bitwise (shapes table.Bitwise),
+      table_size 14 t.memory (shapes table.Memory),
       table_size 5 t.kernel (shapes table.Kernel),
       table_size 1 t.left (shapes table.Left),
-      length-append (table_bytes t.kernel) (table_bytes t.left),
-    ) in
-    let behind_memory : length (table_bytes t.memory ++ (table_bytes t.kernel ++ table_bytes t.left)) ≤ 40 * 255 + 8 * 2 ^ 19 =
-    omega (
-      arith,
-      memory,
-      behind_kernel,
-      table_size 14 t.memory (shapes table.Memory),
+      length-append (table_bytes t.hasher) (table_bytes t.bitwise ++ (table_bytes t.memory ++ (table_bytes t.kernel ++ table_bytes t.left))),
+      length-append (table_bytes t.bitwise) (table_bytes t.memory ++ (table_bytes t.kernel ++ table_bytes t.left)),
       length-append (table_bytes t.memory) (table_bytes t.kernel ++ table_bytes t.left),
-    ) in
-    small_sum t counts shapes main range hasher bitwise behind_memory
+      length-append (table_bytes t.kernel) (table_bytes t.left),
+    )
+
+pub short_file : (t : Trace) → HasCounts t → AreTables t → IsShort t → length (bytes_of t) ≤ most_table_bytes
+short_file t counts shapes short =
+    small_sum t shapes (counts.most table.Main) (counts.most table.Range)
+    (short_sum t shapes short (counts.most table.Kernel) (counts.most table.Left))

@@ -23,16 +23,19 @@ use Rattle.processor.specs.declared.event.Event.{Event}
 use Rattle.processor.specs.declared.run.Run.{Run}
 use Rattle.air_kit.specs.Built.{is_built}
 use Rattle.air_kit.specs.Requests.{Answers, Fits}
-use Rattle.run_rows.specs.BlockRows.{IsRun, events_of}
+use Rattle.air_kit.specs.declared.requests.Requests.{Requests}
+use Rattle.run_rows.specs.BlockRows.{IsRun, events_of, filled}
 use Rattle.run_rows.specs.Bounds.{AreBuilt}
 use Rattle.run_rows.specs.Filling.{rows_of}
 use Rattle.run_rows.specs.RunRequests.{requests_of}
 use Rattle.run_rows.proofs.MomentLemmas.{steps_within}
 use Rattle.run_rows.proofs.TableLemmas.{rows_counted}
+use Rattle.run_requests.specs.Asked.{requests}
+use Rattle.run_requests.specs.Fitting.{FitsRows}
 use Rattle.run_requests.proofs.FitLaw.{run_fits}
-use Rattle.fill_chips.specs.Beside.{beside}
+use Rattle.fill_chips.specs.Beside.{HasSizes, beside}
 use Rattle.fill_chips.specs.declared.chips.Chips.{Chips}
-use Rattle.run_files.specs.Inside.{TracesRun}
+use Rattle.run_files.specs.Inside.{HasFew, IsShort, TracesRun}
 
 -- each operation is built
 pub all_built : (events : List Event) → AreBuilt events
@@ -81,11 +84,21 @@ module _ (params : Params) (program : Program) (answer : Run) (size : length (co
     done = was.ran.done;
   }
 
+  fit : FitsRows constants program.kernel (requests constants program.kernel u was.ran.log) (filled constants program.kernel u was.ran.log)
+  fit =
+      run_fits constants program.kernel was.limit (tree_of program.tree) was.inputs.stack was.inputs.advice u was.ran.log is_run
+      (all_built (events_of constants program.kernel was.ran.log)) program.few
+
   pub fits : Fits constants program.kernel (requests_of constants (visible_of (core_of answer.state)) answer.events)
   fits =
-      subst (λ events. Fits constants program.kernel (requests_of constants (visible_of (core_of answer.state)) events)) (sym was.ran.events)
-      (run_fits constants program.kernel was.limit (tree_of program.tree) was.inputs.stack was.inputs.advice u was.ran.log is_run
-      (all_built (events_of constants program.kernel was.ran.log)) program.few).fits
+      subst (λ events. Fits constants program.kernel (requests_of constants (visible_of (core_of answer.state)) events)) (sym was.ran.events) fit.fits
+
+  pub few_asked : HasFew (requests_of constants (visible_of (core_of answer.state)) answer.events)
+  few_asked =
+      subst (λ events. HasFew (requests_of constants (visible_of (core_of answer.state)) events)) (sym was.ran.events)
+      (let few = fit.few in
+      let rows = rows_within constants program.kernel was.limit (tree_of program.tree) was.inputs.stack was.inputs.advice u was.ran.log is_run in
+      omega (arith, few, rows))
 
   pub has_rows : 1 ≤ length (rows_of (visible_of (core_of answer.state)) answer.events)
   has_rows =
@@ -99,6 +112,11 @@ module _ (params : Params) (program : Program) (answer : Run) (size : length (co
 
   pub deep : length answer.state.stack ≤ 524303
   deep = depth_at_end constants program.kernel was.limit (tree_of program.tree) was.inputs.stack was.inputs.advice u was.ran.log is_run
+
+-- the tables that answer few requests are short
+pub short_tables : (main : List (List ℕ)) (chips : Chips) (r : Requests) → HasFew r → HasSizes r chips → IsShort (beside main chips)
+short_tables main chips r few sizes =
+    let hasher = sizes.hasher in let bitwise = sizes.bitwise in let memory = sizes.memory in omega (arith, few, hasher, bitwise, memory)
 
 -- the tables that were filled are the trace of the run
 pub traced : (params : Params) (program : Program) (answer : Run) (main : List (List ℕ)) (chips : Chips)

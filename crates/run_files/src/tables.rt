@@ -1,7 +1,8 @@
-ghost use Rattle.std.specs.Prelude.{◌≡◌, ◌≤◌, true, length, IfOk, Ok};
+ghost use Rattle.std.specs.Prelude.{◌≡◌, ◌≤◌, length, IfOk, Ok};
 ghost use Rattle.processor.specs.Executed.{WasExecuted};
 ghost use Rattle.air_kit.specs.Traces.{HasCounts};
 ghost use Rattle.table_file.specs.Files.{AreTables, bytes_of, trace_of};
+ghost use Rattle.run_files.specs.Inside.{IsShort};
 ghost use Rattle.run_files.specs.RunFiles.{IsFileOfRun, most_table_bytes};
 
 use crate::tracing::trace_of_run;
@@ -26,7 +27,7 @@ pub fn table_file_of_run(
     program: &Program,
     run: Run,
 ) -> Result<(Bytes, State), Memory>
-    requires executed { WasExecuted params.now program.now run }
+    requires { WasExecuted params.now program.now run }
     ensures file { IfOk result (λ r. IsFileOfRun params.now program.now run r.0) }
     ensures state { IfOk result (λ r. r.1 ≡ run.state) }
     ensures depth { IfOk result (λ r. length r.1.stack ≤ 524303) }
@@ -38,7 +39,8 @@ pub fn table_file_of_run(
 // The file of a trace, which is given up.
 #[tactic(auto, using(crate::proofs::FileLemmas::short_file))]
 fn encoded(alloc: Global, trace: Trace) -> Result<Bytes, Memory>
-    requires { HasCounts trace }
+    requires counts { HasCounts trace }
+    requires short { IsShort trace }
     ensures reads { IfOk result (λ bytes. trace_of bytes ≡ Ok trace) }
     ensures short { IfOk result (λ bytes. length bytes ≤ most_table_bytes) }
 {

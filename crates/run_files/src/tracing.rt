@@ -1,4 +1,4 @@
-ghost use Rattle.std.specs.Prelude.{◌≡◌, ◌^◌, ◌≤◌, true, length, IfOk};
+ghost use Rattle.std.specs.Prelude.{◌≡◌, ◌^◌, ◌≤◌, length, IfOk};
 ghost use Rattle.rpo_hash.specs.Constants.{constants_of};
 ghost use Rattle.vm_table.specs.Layout.{IsTable};
 ghost use Rattle.air_kit.specs.Requests.{Fits};
@@ -9,7 +9,7 @@ ghost use Rattle.processor.specs.Executed.{WasExecuted};
 ghost use Rattle.run_rows.specs.Filling.{rows_of};
 ghost use Rattle.run_rows.specs.RunRequests.{requests_of};
 ghost use Rattle.fill_chips.specs.Beside.{beside};
-ghost use Rattle.run_files.specs.Inside.{TracesRun};
+ghost use Rattle.run_files.specs.Inside.{HasFew, IsShort, TracesRun};
 
 use air_kit::Trace;
 use block_tree::Program;
@@ -23,15 +23,17 @@ use vm_state::State;
 use vm_table::Table;
 
 // The trace of a run, and the state at its end.
+#[tactic(auto, using(crate::proofs::RunLemmas::short_tables))]
 pub(crate) fn trace_of_run(
     alloc: Global,
     params: &Params,
     program: &Program,
     run: Run,
 ) -> Result<(Trace, State), Memory>
-    requires executed { WasExecuted params.now program.now run }
+    requires { WasExecuted params.now program.now run }
     ensures trace { IfOk result (λ r. TracesRun params.now program.now run r.0) }
     ensures counts { IfOk result (λ r. HasCounts r.0) }
+    ensures short { IfOk result (λ r. IsShort r.0) }
     ensures state { IfOk result (λ r. r.1 ≡ run.state) }
     ensures depth { IfOk result (λ r. length r.1.stack ≤ 524303) }
 {
@@ -44,9 +46,10 @@ pub(crate) fn trace_of_run(
 
 // What is known of a run that was executed. A run does nothing.
 fn known_run(params: &Params, _program: &Program, _run: &Run)
-    requires executed { WasExecuted params.now _program.now _run.now }
+    requires { WasExecuted params.now _program.now _run.now }
     ensures fits { Fits (constants_of params.now) _program.now.kernel
         (requests_of (constants_of params.now) (visible_of (core_of _run.now.state)) _run.now.events) }
+    ensures asked { HasFew (requests_of (constants_of params.now) (visible_of (core_of _run.now.state)) _run.now.events) }
     ensures has { 1 ≤ length (rows_of (visible_of (core_of _run.now.state)) _run.now.events) }
     ensures few { length (rows_of (visible_of (core_of _run.now.state)) _run.now.events) ≤ 2 ^ 19 }
     ensures depth { length _run.now.state.stack ≤ 524303 }
