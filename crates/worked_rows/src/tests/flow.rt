@@ -1,5 +1,5 @@
 use crate::tests::content::Content;
-use crate::tests::row::{Change, Forgery, Row, all_forged};
+use crate::tests::row::{Change, Forgery, Outline, Row, all_forged, all_run};
 use std::test::Fail;
 
 // Programs of blocks of blocks: a loop that is not entered, whose body stays out of the evidence; branches in a loop; a call; a
@@ -165,8 +165,8 @@ static FLOWS: [Forgery; 5] = [
 ];
 
 // The kernel and its table are taken away, so that nobody answers the call; 5 divided by 3 is claimed to be 2, with a remainder of
-// the modulus less one, which the range table cannot give.
-static FORGED: [Forgery; 2] = [
+// the modulus less one, which the range table cannot give; and of three accesses of one word the first two change places.
+static FORGED: [Forgery; 3] = [
     Forgery {
         run: Row {
             words: &[
@@ -252,6 +252,37 @@ static FORGED: [Forgery; 2] = [
             printed: "refused bus range tuple 18446744069414584320 asked 1 given 0\n",
         },
     },
+    Forgery {
+        run: Row {
+            words: &["run", "z", "s", "i", "--out", "t", "--statement", "u"],
+            files: &[
+                ("z", Content::Lines(168, 0, "")),
+                (
+                    "s",
+                    Content::Text("begin push.7 mem_store.3 push.8 mem_store.3 mem_load.3 end"),
+                ),
+                ("i", Content::Text(r#"{"advice":[],"stack":[]}"#)),
+            ],
+            failing_call: 0,
+            failing_write: 0,
+            number: 0,
+            printed: "cycles 13\noutputs 8 0 0 0 0 0 0 0 0 0 0 0 0 0 0 0 0\n",
+        },
+        changes: &[
+            Change::Element(1121, 7),
+            Change::Element(1122, 8),
+            Change::Element(1135, 3),
+            Change::Element(1136, 7),
+        ],
+        check: Row {
+            words: &["check", "z", "t", "u", "--evidence", "e"],
+            files: &[],
+            failing_call: 0,
+            failing_write: 0,
+            number: 1,
+            printed: "refused memory row 0 constraint 9 value 18446744069414584313\n",
+        },
+    },
 ];
 
 #[test]
@@ -262,4 +293,77 @@ fn flows_are_accepted(rt: HostRuntime) -> Result<(), Fail> {
 #[test]
 fn forged_flows_are_refused(rt: HostRuntime) -> Result<(), Fail> {
     all_forged(&rt, &FORGED)
+}
+
+// Everything at once: a loop, a procedure with a local, numbers of 32 bits, a kernel's procedure, memory, bitwise operations, hashes
+// and advice.
+const WHOLE: &str = "# sum of squares in a local, a kernel call, memory, a hash
+const.N=10
+proc.square
+  dup.0 u32checked_mul
+end
+proc.sum_squares.1
+  push.0 loc_store.0
+  push.N
+  dup.0 neq.0
+  while.true
+    dup.0 exec.square
+    loc_load.0 u32checked_add loc_store.0
+    sub.1
+    dup.0 neq.0
+  end
+  drop
+  loc_load.0
+end
+begin
+  exec.sum_squares
+  dup.0 mem_store.100
+  syscall.bump
+  mem_load.100
+  u32checked_xor
+  push.1.2.3.4.5.6.7.8 hmerge
+  push.1.2.3.4.5.6.7.8 hmerge
+  eqw movdn.8 dropw dropw
+  adv_push.1 add.2
+end";
+
+static RUNS: [Outline; 1] = [Outline {
+    run: Row {
+        words: &[
+            "run",
+            "z",
+            "s",
+            "i",
+            "--out",
+            "t",
+            "--statement",
+            "u",
+            "--kernel",
+            "k",
+        ],
+        files: &[
+            ("z", Content::Lines(168, 0, "")),
+            ("s", Content::Text(WHOLE)),
+            ("i", Content::Text(r#"{"advice":[40],"stack":[]}"#)),
+            ("k", Content::Text("export.bump push.1 add end")),
+        ],
+        failing_call: 0,
+        failing_write: 0,
+        number: 0,
+        printed: "\noutputs 42 1 3 0 0 0 0 0 0 0 0 0 0 0 0 0 0 0 0\n",
+    },
+    line: "\ntape 40\n",
+    check: Row {
+        words: &["check", "z", "t", "u", "--evidence", "e"],
+        files: &[],
+        failing_call: 0,
+        failing_write: 0,
+        number: 0,
+        printed: "accepted run\n",
+    },
+}];
+
+#[test]
+fn a_whole_program_is_accepted(rt: HostRuntime) -> Result<(), Fail> {
+    all_run(&rt, &RUNS)
 }

@@ -200,6 +200,46 @@ fn put_element(bytes: &mut Vec<u8>, place: usize, value: u64) {
     }
 }
 
+/// A run and the check of its files: the run's lines end with what its row says, and the evidence has this line.
+#[derive(Drop)]
+pub struct Outline {
+    pub run: Row,
+    pub line: &'static str,
+    pub check: Row,
+}
+
+/// Fails at the first row that is not so.
+pub fn all_run(rt: &(impl Abort + AllocGlobal), rows: &[Outline]) -> Result<(), Fail> {
+    for row in rows {
+        let holds = runs(rt.alloc(), row)?;
+        assert!(rt; holds, "{}", row.line);
+    }
+    Ok(())
+}
+
+fn runs(alloc: Global, row: &Outline) -> Result<bool, Memory> {
+    let mut shelf = shelf_of(alloc, &row.run)?;
+    let mut sink = MemSink::new(alloc);
+    let words = words_of(alloc, row.run.words)?;
+    let status = serve(alloc, words.as_slice(), &mut shelf, &mut sink, &OpenGate);
+    let is_run = status.number() == row.run.number
+        && sink.taken().ends_with(row.run.printed.as_bytes());
+    Ok(is_run && answers(alloc, &row.check, &mut shelf)? && has_line(&shelf, row.line))
+}
+
+// Whether the evidence has the line.
+fn has_line(shelf: &MemShelf, line: &str) -> bool {
+    let Some(evidence) = shelf.get("e") else {
+        return false;
+    };
+    for i in 0..evidence.len() {
+        if evidence[i..].starts_with(line.as_bytes()) {
+            return true;
+        }
+    }
+    false
+}
+
 fn shelf_of(alloc: Global, row: &Row) -> Result<MemShelf, Memory> {
     let mut shelf = MemShelf::new(alloc);
     for (name, content) in row.files {
