@@ -3,4 +3,5 @@ pub mod Children
 pub mod Batches
 pub mod Overflow
 pub mod Lookups
+pub mod Accesses
 pub mod BusFacts
