@@ -1,6 +1,6 @@
 -- Memory's table serves the accesses of the rows.
 use Rattle.std.proofs.Common.{◌≡◌, ℕ, suc, ◌-◌, ◌^◌, ◌<◌, ◌≤◌, List, length, Some, refl, sym, ap, ◌∙◌, arith}
-use Rattle.buses.specs.Counts.{at_row, counted, over_first, over_rows, total, with_next}
+use Rattle.buses.specs.Counts.{at_row, counted, over_first, over_rows, with_next}
 use Rattle.buses.specs.declared.bus.Bus.TheVariants as bus
 use Rattle.vm_ops.specs.declared.op.Op.{Op}
 use Rattle.vm_ops.specs.declared.op.Op.TheVariants as ops
