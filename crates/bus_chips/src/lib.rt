@@ -4,9 +4,11 @@
 mod hasher;
 mod kernel;
 mod left;
+mod memory;
 mod range;
 
 pub use hasher::tuples_hasher;
 pub use kernel::tuples_kernel;
 pub use left::tuples_left;
+pub use memory::tuples_memory;
 pub use range::tuples_range;
