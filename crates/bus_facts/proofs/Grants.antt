@@ -12,6 +12,7 @@ use Rattle.air_kit.specs.declared.trace.TableName.TheVariants as table
 use Rattle.air_kit.specs.declared.trace.Trace.{Trace}
 use Rattle.hash_rows.specs.HashMeaning.{TableGives}
 use Rattle.hash_rows.proofs.TableMeaning.{table_gives}
+use Rattle.memory_rows.proofs.MainServes.{main_serves}
 use Rattle.row_facts.specs.MainRows.{ShowsRows, row_at}
 use Rattle.row_facts.proofs.ClaimFacts.{trace_shown}
 use Rattle.row_facts.proofs.RunFacts.{clock_is}
@@ -27,7 +28,6 @@ use Rattle.bus_facts.proofs.HasherBus.{hash_facts, one_asker, own_one, own_posit
 use Rattle.bus_facts.proofs.JoinBus.{first_child}
 use Rattle.bus_facts.proofs.KernelBus.{kernel_facts}
 use Rattle.bus_facts.proofs.LoopBus.{turn_of}
-use Rattle.bus_facts.proofs.MemoryBus.{memory_facts}
 use Rattle.bus_facts.proofs.MemoryLimbs.{memory_limbs}
 use Rattle.bus_facts.proofs.OverflowBus.{overflow_facts}
 use Rattle.bus_facts.proofs.RangeBus.{range_facts}
@@ -35,6 +35,9 @@ use Rattle.bus_facts.proofs.RangeRows.{values_short}
 
 few_rows : (n : ℕ) → n ≤ 2 ^ 19 → n < prime
 few_rows n few = omega (arith, few)
+
+few_clocks : (n : ℕ) → n ≤ 2 ^ 19 → n ≤ 2 ^ 32
+few_clocks n few = omega (arith, few)
 
 pub accepted_grants : (p : Public) (t : Trace) → length (constants_of p.params) ≡ 168 → IsWhole t → IsAccepted p t → Granted p t
 accepted_grants p t len whole accepted = record {
@@ -52,9 +55,10 @@ accepted_grants p t len whole accepted = record {
   bits =
       bit_facts t.main t.bitwise (record { table = whole.bitwise; whole = whole.counts.bitwise; zero = accepted.zero table.Bitwise })
       (bits_alike p t accepted);
-  memory =
-      memory_facts t.main t.memory few clock (record { table = whole.memory; zero = accepted.zero table.Memory })
-      (memory_limbs t.memory t.range short (limbs_alike p t accepted)) (memory_alike p t accepted);
+  memory = λ contexts.
+      main_serves t.main t.memory (record { few = few_clocks (length t.main) few; clocks = clock; contexts = contexts })
+      (record { table = whole.memory; zero = accepted.zero table.Memory }) (memory_limbs t.memory t.range short (limbs_alike p t accepted))
+      (memory_alike p t accepted);
   ranges = range_facts t.main t.range short (range_alike p t accepted);
   kernel =
       kernel_facts k p.statement.kernel_words t.kernel whole.kernel (accepted.zero table.Kernel) size t.main (kernel_alike p t accepted);

@@ -20,5 +20,4 @@ pub mod RangeRows
 pub mod RangeBus
 pub mod BitBus
 pub mod MemoryLimbs
-pub mod MemoryBus
 pub mod Grants

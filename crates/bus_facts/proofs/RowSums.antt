@@ -30,7 +30,7 @@ pub row_counts : (tuples : PairTuples) (rows : List (List ℕ)) (u : List ℕ) (
     → counted (at_row (with_next tuples) rows i) u ≡ count_in tuples rows u i
 row_counts tuples rows u i h = ap (λ next. counted (with_next tuples i (row_at rows i) next) u) (behind_at rows i h)
 
-pub last_counts : (tuples : PairTuples) (rows : List (List ℕ)) (u : List ℕ) (i : ℕ) → length rows ≤ suc i
+last_counts : (tuples : PairTuples) (rows : List (List ℕ)) (u : List ℕ) (i : ℕ) → length rows ≤ suc i
     → counted (at_row (with_next tuples) rows i) u ≡ 0
 last_counts tuples rows u i h = ap (λ next. counted (with_next tuples i (row_at rows i) next) u) (none_behind rows i h) ∙ none_counts u
 

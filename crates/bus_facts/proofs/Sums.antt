@@ -1,5 +1,5 @@
 -- Sums of a function over the numbers below a bound.
-use Rattle.std.proofs.Common.{◌≡◌, ◌≢◌, ℕ, zero, suc, ◌+◌, ◌-◌, ◌<◌, ◌≤◌, ◌⊎◌, inl, inr, ⊎_elim, refl, ap, arith}
+use Rattle.std.proofs.Common.{◌≡◌, ◌≢◌, ℕ, zero, suc, ◌+◌, ◌<◌, ◌≤◌, ◌⊎◌, inl, inr, ⊎_elim, refl, ap, arith}
 use Rattle.buses.specs.Counts.{total}
 use Rattle.bus_facts.proofs.Splits.{less_or, positive_part, zero_or}
 
@@ -77,22 +77,3 @@ unfolding total
 total_one zero f few one = omega arith
 total_one (suc n) f few one =
     one_more n f few one (total_one n f (λ i h. few i (omega (arith, h))) (λ i j hi hj. one i j (omega (arith, hi)) (omega (arith, hj))))
-
--- terms that are the same
-total_same : (n : ℕ) (f g : ℕ → ℕ) → ((i : ℕ) → i < n → f i ≡ g i) → total n f ≡ total n g
-unfolding total
-total_same zero f g same = refl
-total_same (suc n) f g same =
-    let before = total_same n f g (λ i h. same i (omega (arith, h))) in let here = same n (omega arith) in omega (arith, before, here)
-
-less_one : (n : ℕ) → suc n - 1 ≡ n
-less_one n = omega arith
-
--- a sum without its last term, which is 0
-pub total_but_last : (n : ℕ) (f g : ℕ → ℕ) → ((i : ℕ) → suc i < n → f i ≡ g i) → ((i : ℕ) → n ≤ suc i → g i ≡ 0) → total (n - 1) f ≡ total n g
-unfolding total
-total_but_last zero f g same none = refl
-total_but_last (suc n) f g same none =
-    let one : total (suc n - 1) f ≡ total n f = ap (λ m. total m f) (less_one n) in
-    let before = total_same n f g (λ i h. same i (omega (arith, h))) in
-    let last = none n (omega arith) in omega (arith, one, before, last)

@@ -11,8 +11,7 @@ use Rattle.bus_facts.specs.Blocks.{BlockFacts}
 use Rattle.bus_facts.specs.Children.{ChildFacts}
 use Rattle.bus_facts.specs.Batches.{GroupFacts}
 use Rattle.bus_facts.specs.Overflow.{OverflowFacts}
-use Rattle.bus_facts.specs.Lookups.{HashFacts, BitFacts, RangeFacts, KernelFacts}
-use Rattle.bus_facts.specs.Accesses.{MemoryFacts}
+use Rattle.bus_facts.specs.Lookups.{HashFacts, BitFacts, MemoryFacts, RangeFacts, KernelFacts}
 
 -- the tables of a trace are tables of elements, of so many rows as they may have
 pub record IsWhole (t : Trace) : Type 0 where

@@ -3,5 +3,4 @@ pub mod Children
 pub mod Batches
 pub mod Overflow
 pub mod Lookups
-pub mod Accesses
 pub mod BusFacts
