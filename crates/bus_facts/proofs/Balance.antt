@@ -3,8 +3,8 @@ use Rattle.std.proofs.Common.{◌≡◌, ℕ, ◌+◌, ◌≤◌, List, [], ◌�
 use Rattle.buses.specs.Counts.{counted, once, over_rows, with_next}
 use Rattle.buses.specs.declared.bus.Bus.TheVariants as bus
 use Rattle.air_kit.specs.Acceptance.{IsAccepted, asked_on, given_on}
-use Rattle.air_kit.specs.ChipTuples.{chip_given, kernel_given, left_asked, range_given}
-use Rattle.air_kit.specs.MainTuples.{blocks_asked, blocks_given, children_asked, children_given, groups_asked, groups_given, hasher_asked, kernel_asked, loops_asked, loops_given, overflow_asked, overflow_given, range_asked}
+use Rattle.air_kit.specs.ChipTuples.{chip_given, kernel_given, left_asked, memory_ranges, range_given}
+use Rattle.air_kit.specs.MainTuples.{bitwise_asked, blocks_asked, blocks_given, children_asked, children_given, groups_asked, groups_given, hasher_asked, kernel_asked, loops_asked, loops_given, memory_asked, overflow_asked, overflow_given, range_asked}
 use Rattle.air_kit.specs.Traces.{claim_of}
 use Rattle.air_kit.specs.declared.trace.Public.{Public}
 use Rattle.air_kit.specs.declared.trace.TableName.TheVariants as table
@@ -70,6 +70,21 @@ pub range_alike : (p : Public) (t : Trace) → IsAccepted p t → (u : List ℕ)
     → in_main range_asked t u ≤ over_rows (λ i x next. range_given x) t.range u
 unfolding asked_on given_on
 range_alike p t a u = let e = a.buses bus.Range u in let n = none t u in omega (arith, e, n)
+
+pub limbs_alike : (p : Public) (t : Trace) → IsAccepted p t → (u : List ℕ)
+    → over_rows (λ i x next. memory_ranges x) t.memory u ≤ over_rows (λ i x next. range_given x) t.range u
+unfolding asked_on given_on
+limbs_alike p t a u = let e = a.buses bus.Range u in let n = none t u in omega (arith, e, n)
+
+pub bits_alike : (p : Public) (t : Trace) → IsAccepted p t → (u : List ℕ)
+    → in_main bitwise_asked t u ≡ over_rows (chip_given bus.Bitwise table.Bitwise) t.bitwise u
+unfolding asked_on given_on
+bits_alike p t a u = let e = a.buses bus.Bitwise u in let n = none t u in omega (arith, e, n)
+
+pub memory_alike : (p : Public) (t : Trace) → IsAccepted p t → (u : List ℕ)
+    → in_main memory_asked t u ≡ over_rows (chip_given bus.Memory table.Memory) t.memory u
+unfolding asked_on given_on
+memory_alike p t a u = let e = a.buses bus.Memory u in let n = none t u in omega (arith, e, n)
 
 pub kernel_alike : (p : Public) (t : Trace) → IsAccepted p t → (u : List ℕ)
     → in_main kernel_asked t u ≡ over_rows (λ i x next. kernel_given x) t.kernel u

@@ -2,6 +2,7 @@
 use Rattle.std.proofs.Common.{◌≡◌, ℕ, ◌^◌, ◌<◌, ◌≤◌, List, length, arith}
 use Rattle.vm_field.specs.Field.{prime}
 use Rattle.vm_table.specs.MainColumns.{clk}
+use Rattle.chip_columns.specs.RangeColumns.{v}
 use Rattle.rpo_hash.specs.Constants.{constants_of}
 use Rattle.air_kit.specs.Acceptance.{IsAccepted}
 use Rattle.air_kit.specs.Places.{Claim}
@@ -11,13 +12,15 @@ use Rattle.air_kit.specs.declared.trace.TableName.TheVariants as table
 use Rattle.air_kit.specs.declared.trace.Trace.{Trace}
 use Rattle.hash_rows.specs.HashMeaning.{TableGives}
 use Rattle.hash_rows.proofs.TableMeaning.{table_gives}
+use Rattle.memory_rows.proofs.MainServes.{main_serves}
 use Rattle.row_facts.specs.MainRows.{ShowsRows, row_at}
 use Rattle.row_facts.proofs.ClaimFacts.{trace_shown}
 use Rattle.row_facts.proofs.RunFacts.{clock_is}
 use Rattle.bus_facts.specs.Blocks.{Starts, own}
 use Rattle.bus_facts.specs.BusFacts.{Granted, IsWhole}
 use Rattle.bus_facts.specs.Lookups.{hasher_gives}
-use Rattle.bus_facts.proofs.Balance.{blocks_alike, children_alike, groups_alike, hasher_alike, kernel_alike, loops_alike, overflow_alike, range_alike}
+use Rattle.bus_facts.proofs.Balance.{bits_alike, blocks_alike, children_alike, groups_alike, hasher_alike, kernel_alike, limbs_alike, loops_alike, memory_alike, overflow_alike, range_alike}
+use Rattle.bus_facts.proofs.BitBus.{bit_facts}
 use Rattle.bus_facts.proofs.BlockBus.{block_facts}
 use Rattle.bus_facts.proofs.ChildBus.{child_named}
 use Rattle.bus_facts.proofs.GroupBus.{group_facts}
@@ -25,12 +28,16 @@ use Rattle.bus_facts.proofs.HasherBus.{hash_facts, one_asker, own_one, own_posit
 use Rattle.bus_facts.proofs.JoinBus.{first_child}
 use Rattle.bus_facts.proofs.KernelBus.{kernel_facts}
 use Rattle.bus_facts.proofs.LoopBus.{turn_of}
+use Rattle.bus_facts.proofs.MemoryLimbs.{memory_limbs}
 use Rattle.bus_facts.proofs.OverflowBus.{overflow_facts}
 use Rattle.bus_facts.proofs.RangeBus.{range_facts}
 use Rattle.bus_facts.proofs.RangeRows.{values_short}
 
 few_rows : (n : ℕ) → n ≤ 2 ^ 19 → n < prime
 few_rows n few = omega (arith, few)
+
+few_clocks : (n : ℕ) → n ≤ 2 ^ 19 → n ≤ 2 ^ 32
+few_clocks n few = omega (arith, few)
 
 pub accepted_grants : (p : Public) (t : Trace) → length (constants_of p.params) ≡ 168 → IsWhole t → IsAccepted p t → Granted p t
 accepted_grants p t len whole accepted = record {
@@ -45,9 +52,14 @@ accepted_grants p t len whole accepted = record {
   groups = group_facts t.main (groups_alike p t accepted) k shows (one_asker constants t.main t.hasher gives (hasher_alike p t accepted));
   overflow = overflow_facts k t.main t.left (overflow_alike p t accepted) clock;
   hashes = hash_facts constants t.main t.hasher gives (hasher_alike p t accepted) (whole.counts.most table.Hasher);
-  ranges =
-      range_facts t.main t.range (values_short t.range whole.range (whole.counts.most table.Range) (accepted.zero table.Range))
-      (range_alike p t accepted);
+  bits =
+      bit_facts t.main t.bitwise (record { table = whole.bitwise; whole = whole.counts.bitwise; zero = accepted.zero table.Bitwise })
+      (bits_alike p t accepted);
+  memory = λ contexts.
+      main_serves t.main t.memory (record { few = few_clocks (length t.main) few; clocks = clock; contexts = contexts })
+      (record { table = whole.memory; zero = accepted.zero table.Memory }) (memory_limbs t.memory t.range short (limbs_alike p t accepted))
+      (memory_alike p t accepted);
+  ranges = range_facts t.main t.range short (range_alike p t accepted);
   kernel =
       kernel_facts k p.statement.kernel_words t.kernel whole.kernel (accepted.zero table.Kernel) size t.main (kernel_alike p t accepted);
 }
@@ -66,6 +78,9 @@ accepted_grants p t len whole accepted = record {
 
     clock : (i : ℕ) → i < length t.main → clk (row_at t.main i) ≡ i
     clock = clock_is (claim_of p t) t.main shows (few_rows (length t.main) few)
+
+    short : (i : ℕ) → i < length t.range → v (row_at t.range i) < 2 ^ 16
+    short = values_short t.range whole.range (whole.counts.most table.Range) (accepted.zero table.Range)
 
     gives : TableGives (constants_of p.params) t.hasher (hasher_gives t.hasher)
     gives = table_gives (claim_of p t) t.hasher len (record { table = whole.hasher; whole = whole.counts.hasher; zero = accepted.zero table.Hasher })

@@ -1,5 +1,5 @@
 -- What the rows ask on the hasher's bus is given, and one row alone asks at an address.
-use Rattle.std.proofs.Common.{◌≡◌, ℕ, suc, ◌+◌, ◌^◌, ◌<◌, ◌≤◌, true, List, [], ◌∷◌, length, refl, sym, ap, subst, ◌∙◌, arith}
+use Rattle.std.proofs.Common.{◌≡◌, ℕ, suc, ◌+◌, ◌^◌, ◌<◌, ◌≤◌, true, List, [], ◌∷◌, length, refl, sym, subst, arith}
 use Rattle.buses.specs.Counts.{counted, once, over_rows, with_next}
 use Rattle.vm_field.specs.Field.{felt_add}
 use Rattle.vm_field.specs.Permutation.{permuted}
@@ -12,7 +12,7 @@ use Rattle.hash_rows.specs.HashMeaning.{TableGives}
 use Rattle.row_facts.specs.MainRows.{op_in, row_at}
 use Rattle.bus_facts.specs.Blocks.{IsAt, Starts, own}
 use Rattle.bus_facts.specs.Lookups.{HashFacts, hasher_gives}
-use Rattle.bus_facts.proofs.RowSums.{IsInRow, count_in, rows_have, rows_same}
+use Rattle.bus_facts.proofs.RowSums.{IsInRow, row_has, rows_have, rows_same}
 use Rattle.bus_facts.proofs.Tuples.{hit_self, more_counts, single_self}
 
 -- ---- what a row asks, by its operation
@@ -39,25 +39,20 @@ perm_asks x y is = rw is refl
 abbrev pub Asks : List (List ℕ) → ℕ → List ℕ → Type 0
 Asks rows i u = IsInRow hasher_asked rows u i
 
-asks_single : (rows : List (List ℕ)) (i : ℕ) (u : List ℕ) → suc i < length rows
-    → hasher_asked (row_at rows i) (row_at rows (suc i)) ≡ once u ∷ [] → Asks rows i u
-asks_single rows i u within e = record {
-  within = within;
-  positive = (let k : count_in hasher_asked rows u i ≡ 1 = ap (λ cs. counted cs u) e ∙ single_self u in omega (arith, k));
-}
-
 pub start_in : (rows : List (List ℕ)) (j : ℕ) → Starts rows j → Asks rows j (1 ∷ own rows j ∷ domain_of (op_in rows j) ∷ eight (row_at rows j))
 start_in rows j at =
-    asks_single rows j (1 ∷ own rows j ∷ domain_of (op_in rows j) ∷ eight (row_at rows j)) at.within
+    row_has hasher_asked rows (1 ∷ own rows j ∷ domain_of (op_in rows j) ∷ eight (row_at rows j)) j at.within
     (start_asks (row_at rows j) (row_at rows (suc j)) at.is)
 
 pub respan_in : (rows : List (List ℕ)) (i : ℕ) → IsAt rows i ops.Respan → Asks rows i (2 ∷ felt_add (ha (row_at rows i)) 8 ∷ eight (row_at rows i))
 respan_in rows i at =
-    asks_single rows i (2 ∷ felt_add (ha (row_at rows i)) 8 ∷ eight (row_at rows i)) at.within
+    row_has hasher_asked rows (2 ∷ felt_add (ha (row_at rows i)) 8 ∷ eight (row_at rows i)) i at.within
     (respan_asks (row_at rows i) (row_at rows (suc i)) at.is)
 
 end_in : (rows : List (List ℕ)) (e : ℕ) → IsAt rows e ops.End → Asks rows e (3 ∷ hash_end (row_at rows e) ∷ front (row_at rows e))
-end_in rows e at = asks_single rows e (3 ∷ hash_end (row_at rows e) ∷ front (row_at rows e)) at.within (end_asks (row_at rows e) (row_at rows (suc e)) at.is)
+end_in rows e at =
+    row_has hasher_asked rows (3 ∷ hash_end (row_at rows e) ∷ front (row_at rows e)) e at.within
+    (end_asks (row_at rows e) (row_at rows (suc e)) at.is)
 
 -- both tuples of HPERM
 first_of_two : (t v : List ℕ) → 0 < counted (once t ∷ once v ∷ []) t

@@ -18,4 +18,6 @@ pub mod OverflowBus
 pub mod KernelBus
 pub mod RangeRows
 pub mod RangeBus
+pub mod BitBus
+pub mod MemoryLimbs
 pub mod Grants

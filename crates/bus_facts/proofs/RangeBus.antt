@@ -58,19 +58,22 @@ row_gives : (row u : List ℕ) → 0 < counted (range_given row) u → range.v r
 unfolding range_given
 row_gives row u some = single_is (record { tuple = range.v row ∷ []; count = range.count row }) u some
 
-module _ (rows table : List (List ℕ)) (short : (i : ℕ) → i < length table → range.v (row_at table i) < 2 ^ 16)
-    (alike : (u : List ℕ) → over_rows (with_next range_asked) rows u ≤ over_rows (λ i x next. range_given x) table u) where
-  -- what is asked is a value of the table
-  asked_short : (i n : ℕ) → IsInRow range_asked rows (n ∷ []) i → n < 2 ^ 16
-  asked_short i n at = subst (λ m. m < 2 ^ 16) value (short found.0 found.1.within)
+-- what the table gives has 16 bits
+module _ (table : List (List ℕ)) (short : (i : ℕ) → i < length table → range.v (row_at table i) < 2 ^ 16) where
+  pub given_short : (n : ℕ) → 0 < over_rows (λ i x next. range_given x) table (n ∷ []) → n < 2 ^ 16
+  given_short n some = subst (λ m. m < 2 ^ 16) value (short found.0 found.1.within)
     where
       found : (k : ℕ) × IsInTable (λ i x next. range_given x) table (n ∷ []) k
-      found =
-          table_some (λ i x next. range_given x) table (n ∷ [])
-          (let h = rows_have range_asked rows (n ∷ []) i at in let a = alike (n ∷ []) in omega (arith, h, a))
+      found = table_some (λ i x next. range_given x) table (n ∷ []) some
 
       value : range.v (row_at table found.0) ≡ n
       value = let e : range.v (row_at table found.0) ∷ [] ≡ n ∷ [] = row_gives (row_at table found.0) (n ∷ []) found.1.positive in cc
+
+module _ (rows table : List (List ℕ)) (short : (i : ℕ) → i < length table → range.v (row_at table i) < 2 ^ 16)
+    (alike : (u : List ℕ) → over_rows (with_next range_asked) rows u ≤ over_rows (λ i x next. range_given x) table u) where
+  asked_short : (i n : ℕ) → IsInRow range_asked rows (n ∷ []) i → n < 2 ^ 16
+  asked_short i n at =
+      given_short table short n (let h = rows_have range_asked rows (n ∷ []) i at in let a = alike (n ∷ []) in omega (arith, h, a))
 
   limb : (i j : ℕ) → suc i < length rows → j < limbs_of (op_in rows i) → t (row_at rows i) j < 2 ^ 16
   limb i j within few = asked_short i (t (row_at rows i) j) (record {

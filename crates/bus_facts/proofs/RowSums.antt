@@ -1,12 +1,12 @@
 -- How often a tuple counts over the rows of a table, where a row's tuples need the row behind it.
-use Rattle.std.proofs.Common.{◌≡◌, ◌≢◌, ℕ, suc, ◌<◌, ◌≤◌, ◌⊎◌, inl, inr, List, [], length, Some, None, ap, ◌∙◌, arith}
+use Rattle.std.proofs.Common.{◌≡◌, ◌≢◌, ℕ, suc, ◌<◌, ◌≤◌, ◌⊎◌, inl, inr, List, [], ◌∷◌, length, Some, None, ap, ◌∙◌, arith}
 use Rattle.std.proofs.lemmas.Option.{slice_get-get_or, slice_get_past}
 use Rattle.std.specs.List.{slice_get}
-use Rattle.buses.specs.Counts.{Counted, at_row, counted, over_first, over_rows, with_next}
+use Rattle.buses.specs.Counts.{Counted, at_row, counted, once, over_first, over_rows, with_next}
 use Rattle.row_facts.specs.MainRows.{row_at}
 use Rattle.bus_facts.proofs.Splits.{same_or}
 use Rattle.bus_facts.proofs.Sums.{SomeBelow, total_apart, total_none, total_one, total_some, total_term}
-use Rattle.bus_facts.proofs.Tuples.{none_counts}
+use Rattle.bus_facts.proofs.Tuples.{none_counts, single_self}
 
 -- the tuples of row i and the row behind it
 abbrev pub PairTuples : Type 0
@@ -59,6 +59,14 @@ rows_have tuples rows u i here =
     let positive = here.positive in
     let le = total_term (length rows) (λ i. counted (at_row (with_next tuples) rows i) u) i (omega (arith, within)) in
     let e = row_counts tuples rows u i within in omega (arith, le, e, positive)
+
+-- a row whose one tuple it is
+pub row_has : (tuples : PairTuples) (rows : List (List ℕ)) (u : List ℕ) (i : ℕ) → suc i < length rows
+    → tuples (row_at rows i) (row_at rows (suc i)) ≡ once u ∷ [] → IsInRow tuples rows u i
+row_has tuples rows u i within e = record {
+  within = within;
+  positive = (let k : count_in tuples rows u i ≡ 1 = ap (λ cs. counted cs u) e ∙ single_self u in omega (arith, k));
+}
 
 -- two rows
 pub rows_two : (tuples : PairTuples) (rows : List (List ℕ)) (u : List ℕ) (i j : ℕ) → IsInRow tuples rows u i → IsInRow tuples rows u j → i ≢ j

@@ -11,7 +11,7 @@ use Rattle.bus_facts.specs.Blocks.{BlockFacts}
 use Rattle.bus_facts.specs.Children.{ChildFacts}
 use Rattle.bus_facts.specs.Batches.{GroupFacts}
 use Rattle.bus_facts.specs.Overflow.{OverflowFacts}
-use Rattle.bus_facts.specs.Lookups.{HashFacts, RangeFacts, KernelFacts}
+use Rattle.bus_facts.specs.Lookups.{HashFacts, BitFacts, MemoryFacts, RangeFacts, KernelFacts}
 
 -- the tables of a trace are tables of elements, of so many rows as they may have
 pub record IsWhole (t : Trace) : Type 0 where
@@ -19,6 +19,8 @@ pub record IsWhole (t : Trace) : Type 0 where
   pub main : IsTable 65 t.main
   pub range : IsTable 2 t.range
   pub hasher : IsTable 15 t.hasher
+  pub bitwise : IsTable 12 t.bitwise
+  pub memory : IsTable 14 t.memory
   pub kernel : IsTable 5 t.kernel
   pub left : IsTable 1 t.left
 
@@ -31,6 +33,8 @@ pub record Granted (p : Public) (t : Trace) : Type 0 where
   pub groups : GroupFacts t.main
   pub overflow : OverflowFacts t.main t.left p.statement.outputs
   pub hashes : HashFacts (constants_of p.params) t.main t.hasher
+  pub bits : BitFacts t.main
+  pub memory : MemoryFacts t.main
   pub ranges : RangeFacts t.main
   pub kernel : KernelFacts p.statement.kernel t.main
 

@@ -1,16 +1,18 @@
--- What rows look up in the tables of the hasher, of ranges and of the kernel.
+-- What rows look up in the tables of the hasher, of bitwise operations, of memory, of ranges and of the kernel.
 use Rattle.std.specs.Prelude.{◌≡◌, ℕ, suc, ◌^◌, ◌<◌, true, List, ◌∷◌, length}
 use Rattle.buses.specs.Counts.{over_rows}
 use Rattle.buses.specs.declared.bus.Bus.TheVariants as bus
 use Rattle.vm_field.specs.Signs.{◌⊞◌, ◌⊟◌}
 use Rattle.vm_field.specs.Permutation.{permuted}
 use Rattle.vm_ops.specs.declared.op.Op.TheVariants as ops
-use Rattle.vm_table.specs.MainColumns.{ha, lv, t}
+use Rattle.vm_table.specs.MainColumns.{ctx, ha, lv, s, t}
 use Rattle.air_kit.specs.ChipTuples.{chip_given}
 use Rattle.air_kit.specs.MainTuples.{domain_of, eight, front, hash_end, limbs_of, twelve}
 use Rattle.air_kit.specs.declared.trace.TableName.TheVariants as table
 use Rattle.block_tree.specs.Cycles.{is_in_kernel}
 use Rattle.hash_rows.specs.HashMeaning.{TableGives}
+use Rattle.bit_rows.specs.BitTables.{IsBitwise}
+use Rattle.memory_rows.specs.MainAccesses.{ServesMain}
 use Rattle.row_facts.specs.MainRows.{row_at, op_in}
 use Rattle.bus_facts.specs.Blocks.{IsAt, Starts, own}
 
@@ -25,6 +27,15 @@ pub record HashFacts (constants : List ℕ) (rows hasher : List (List ℕ)) : Ty
   pub goes_on : (i : ℕ) → IsAt rows i ops.Respan → 0 < hasher_gives hasher (2 ∷ (ha (row_at rows i) ⊞ 8) ∷ eight (row_at rows i))
   pub ends : (e : ℕ) → IsAt rows e ops.End → 0 < hasher_gives hasher (3 ∷ hash_end (row_at rows e) ∷ front (row_at rows e))
   pub permutes : (i : ℕ) → IsAt rows i ops.HPerm → twelve (row_at rows (suc i)) ≡ permuted constants (twelve (row_at rows i))
+
+-- U32AND and U32XOR take numbers of 32 bits and leave their and, or their exclusive or
+pub record BitFacts (rows : List (List ℕ)) : Type 0 where
+  pub conjunction : (i : ℕ) → IsAt rows i ops.U32And → IsBitwise 0 (s (row_at rows i) 0) (s (row_at rows i) 1) (s (row_at rows (suc i)) 0)
+  pub difference : (i : ℕ) → IsAt rows i ops.U32Xor → IsBitwise 1 (s (row_at rows i) 0) (s (row_at rows i) 1) (s (row_at rows (suc i)) 0)
+
+-- where contexts have 32 bits, rows access memory as the rows before them leave it
+abbrev pub MemoryFacts : List (List ℕ) → Type 0
+MemoryFacts rows = ((i : ℕ) → i < length rows → ctx (row_at rows i) < 2 ^ 32) → ServesMain rows
 
 -- limbs have 16 bits, and so has the number of blocks that may still be nested in one that starts
 pub record RangeFacts (rows : List (List ℕ)) : Type 0 where

@@ -17,3 +17,4 @@ pub mod SortedKeys
 pub mod SortedWords
 pub mod SortedFit
 pub mod RowsShow
+pub mod MainServes

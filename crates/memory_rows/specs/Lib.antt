@@ -2,3 +2,4 @@ pub mod Accesses
 pub mod AccessRows
 pub mod MemoryTables
 pub mod Serving
+pub mod MainAccesses
