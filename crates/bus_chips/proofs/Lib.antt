@@ -1,3 +1,4 @@
 pub mod TableLemmas
 pub mod HasherLemmas
 pub mod BitwiseLemmas
+pub mod MemoryLemmas
