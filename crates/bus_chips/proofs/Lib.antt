@@ -1,4 +1,4 @@
-pub mod MemoryLemmas
 pub mod TableLemmas
 pub mod HasherLemmas
 pub mod BitwiseLemmas
+pub mod MemoryLemmas

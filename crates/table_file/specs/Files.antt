@@ -154,7 +154,7 @@ pub record AreFew (c : Counts) : Type 0 where
   pub main : c.main ≤ 2 ^ 19
   pub range : c.range ≤ 2 ^ 17
   pub hasher : c.hasher ≤ 2 ^ 22
-  pub bitwise : c.bitwise ≤ 0
-  pub memory : c.memory ≤ 0
+  pub bitwise : c.bitwise ≤ 2 ^ 22
+  pub memory : c.memory ≤ 2 ^ 19
   pub kernel : c.kernel ≤ 255
   pub left : c.left ≤ 2 ^ 19

@@ -31,11 +31,10 @@ fn most_rows(table: TableName) -> usize
     ensures { result ≡ most_rows table }
 {
     match table {
-        TableName::Main | TableName::Left => 1 << 19,
+        TableName::Main | TableName::Memory | TableName::Left => 1 << 19,
         TableName::Range => 1 << 17,
-        TableName::Hasher => 1 << 22,
+        TableName::Hasher | TableName::Bitwise => 1 << 22,
         TableName::Kernel => 255,
-        TableName::Bitwise | TableName::Memory => 0,
     }
 }
 

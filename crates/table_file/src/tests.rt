@@ -4,32 +4,48 @@ use std::test::Fail;
 use vm_field::Bytes;
 
 // `MDTB`, the version, and counts of 4, 42 and 8 rows; the other tables have none.
-static HEAD: [u8; 36] =
+const HEAD: [u8; 36] =
     *b"MDTB\x01\0\0\0\x04\0\0\0\x2a\0\0\0\x08\0\0\0\0\0\0\0\0\0\0\0\0\0\0\0\0\0\0\0";
 
-// Where the last element of the smallest file begins.
+// The same with the version 0.
+const OLD_HEAD: [u8; 36] =
+    *b"MDTB\0\0\0\0\x04\0\0\0\x2a\0\0\0\x08\0\0\0\0\0\0\0\0\0\0\0\0\0\0\0\0\0\0\0";
+
+// With two bitwise operations and three accesses of memory.
+const LONG_HEAD: [u8; 36] =
+    *b"MDTB\x01\0\0\0\x04\0\0\0\x2a\0\0\0\x08\0\0\0\x10\0\0\0\x03\0\0\0\0\0\0\0\0\0\0\0";
+
+// With nine rows of bitwise operations.
+const PART_HEAD: [u8; 36] =
+    *b"MDTB\x01\0\0\0\x04\0\0\0\x2a\0\0\0\x08\0\0\0\x09\0\0\0\0\0\0\0\0\0\0\0\0\0\0\0";
+
+// With one access more than memory may have.
+const FULL_HEAD: [u8; 36] =
+    *b"MDTB\x01\0\0\0\x04\0\0\0\x2a\0\0\0\x08\0\0\0\0\0\0\0\x01\0\x08\0\0\0\0\0\0\0\0\0";
+
+// Where the last element of the file with the first of these heads begins.
 const LAST: usize = 3740;
 
-// The smallest file, whose elements are 0, with another version and last element, cut or followed by zeros.
+// A head, this element at its place, and else zeros, so that the file has this length.
 struct Case {
     length: usize,
-    version: u8,
+    head: [u8; 36],
     last: [u8; 8],
     answer: Result<usize, FileError>,
 }
 
 const ZERO: [u8; 8] = [0; 8];
 
-static CASES: [Case; 6] = [
+static CASES: [Case; 9] = [
     Case {
         length: 3748,
-        version: 1,
+        head: HEAD,
         last: ZERO,
         answer: Ok(4),
     },
     Case {
         length: 3747,
-        version: 1,
+        head: HEAD,
         last: ZERO,
         answer: Err(FileError::Bad {
             offset: 3740,
@@ -38,7 +54,7 @@ static CASES: [Case; 6] = [
     },
     Case {
         length: 3748,
-        version: 1,
+        head: HEAD,
         last: [1, 0, 0, 0, 255, 255, 255, 255],
         answer: Err(FileError::Bad {
             offset: 3740,
@@ -47,7 +63,7 @@ static CASES: [Case; 6] = [
     },
     Case {
         length: 3749,
-        version: 1,
+        head: HEAD,
         last: ZERO,
         answer: Err(FileError::Bad {
             offset: 3748,
@@ -56,7 +72,7 @@ static CASES: [Case; 6] = [
     },
     Case {
         length: 0,
-        version: 1,
+        head: HEAD,
         last: ZERO,
         answer: Err(FileError::Bad {
             offset: 0,
@@ -65,20 +81,42 @@ static CASES: [Case; 6] = [
     },
     Case {
         length: 3748,
-        version: 0,
+        head: OLD_HEAD,
         last: ZERO,
         answer: Err(FileError::Bad {
             offset: 4,
             cause: FileCause::Version,
         }),
     },
+    Case {
+        length: 5620,
+        head: LONG_HEAD,
+        last: ZERO,
+        answer: Ok(4),
+    },
+    Case {
+        length: 3748,
+        head: PART_HEAD,
+        last: ZERO,
+        answer: Err(FileError::Bad {
+            offset: 20,
+            cause: FileCause::Count,
+        }),
+    },
+    Case {
+        length: 3748,
+        head: FULL_HEAD,
+        last: ZERO,
+        answer: Err(FileError::Bad {
+            offset: 24,
+            cause: FileCause::Count,
+        }),
+    },
 ];
 
 fn byte_of(case: &Case, i: usize) -> u8 {
-    if i == 4 {
-        case.version
-    } else if i < HEAD.len() {
-        HEAD[i]
+    if i < case.head.len() {
+        case.head[i]
     } else if LAST <= i && i < LAST + 8 {
         case.last[i - LAST]
     } else {
@@ -124,5 +162,6 @@ fn reads_files(rt: HostRuntime) -> Result<(), Fail> {
 #[test]
 fn writes_what_it_reads(rt: HostRuntime) -> Result<(), Fail> {
     assert_eq!(rt; comes_back(rt.alloc(), &CASES[0]), Ok(true));
+    assert_eq!(rt; comes_back(rt.alloc(), &CASES[6]), Ok(true));
     Ok(())
 }
