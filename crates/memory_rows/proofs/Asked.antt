@@ -67,7 +67,7 @@ none_counts u h = absurd (omega (arith, h))
 abbrev pub tuple_of : Access → List ℕ
 tuple_of a = a.kind ∷ a.ctx ∷ a.addr ∷ a.clk ∷ a.word
 
-same_fields : (a b : Access) → a.kind ≡ b.kind → a.ctx ≡ b.ctx → a.addr ≡ b.addr → a.clk ≡ b.clk → a.word ≡ b.word → a ≡ b
+pub same_fields : (a b : Access) → a.kind ≡ b.kind → a.ctx ≡ b.ctx → a.addr ≡ b.addr → a.clk ≡ b.clk → a.word ≡ b.word → a ≡ b
 same_fields a b k c d l w = λ i. record { kind = k i; ctx = c i; addr = d i; clk = l i; word = w i }
 
 -- a tuple is that of one access
@@ -78,10 +78,10 @@ same_access a b e =
 
 -- ---- both ways
 
-abbrev rows_give : List (List ℕ) → List ℕ → ℕ
+abbrev pub rows_give : List (List ℕ) → List ℕ → ℕ
 rows_give rows u = total (length rows) (λ q. counted (access_given (access_at rows q) ∷ []) u)
 
-given_is : (rows : List (List ℕ)) (u : List ℕ) → over_rows (chip_given bus.Memory table.Memory) rows u ≡ rows_give rows u
+pub given_is : (rows : List (List ℕ)) (u : List ℕ) → over_rows (chip_given bus.Memory table.Memory) rows u ≡ rows_give rows u
 unfolding over_first memory_given
 given_is rows u = refl
 

@@ -1,11 +1,11 @@
 -- Of accesses in order, the one before shows the latest word of its place.
-use Rattle.std.proofs.Common.{◌≡◌, ℕ, zero, suc, ◌+◌, ◌*◌, ◌<◌, ◌≤◌, ◌⊎◌, inl, inr, ⊎_elim, true, false, cond, List, length, Option, Some, sym, ap, subst, ◌∙◌, arith}
-use Rattle.std.proofs.lemmas.Bool.{cases_Bool, cases_order}
+use Rattle.std.proofs.Common.{◌≡◌, ℕ, zero, suc, ◌<◌, ◌≤◌, ◌⊎◌, inl, inr, true, false, cond, List, length, Option, Some, sym, ap, subst, ◌∙◌, arith}
+use Rattle.std.proofs.lemmas.Bool.{cases_Bool}
 use Rattle.vm_field.specs.Machine.{zero_word}
 use Rattle.air_kit.specs.declared.requests.Access.{Access}
 use Rattle.memory_rows.specs.Accesses.{Keeps, is_at, key_of, word_behind}
 use Rattle.memory_rows.specs.MemoryTables.{AreOrdered, AreSmall, access_at, access_before}
-use Rattle.memory_rows.proofs.Numbers.{limit}
+use Rattle.memory_rows.proofs.Keys.{between, clock_of_place, key_of_place, rise, rise_back, rise_to}
 use Rattle.memory_rows.proofs.Latest.{KeepLatest, NoneOf, latest, latest-at, latest-none, place_is}
 use Rattle.memory_rows.proofs.RowOrder.{at_same}
 
@@ -23,55 +23,13 @@ pub record AreAsked (asks : ℕ → Option Access) (m : ℕ) (rows : List (List 
 
 -- ---- keys
 
-last_or : (j i : ℕ) → j < suc i → (j < i) ⊎ (j ≡ i)
-last_or j i below = grind arith
-
 keys_rise : (rows : List (List ℕ)) → AreOrdered rows → (q r : ℕ) → q < r → r < length rows → key_of (access_at rows q) < key_of (access_at rows r)
-keys_rise rows o q zero less h = absurd (omega (arith, less))
-keys_rise rows o q (suc r) less h =
-    let step : key_of (access_at rows r) < key_of (access_at rows (suc r)) = o.grows r h in
-    ⊎_elim
-    (λ before. let rise : key_of (access_at rows q) < key_of (access_at rows r) = keys_rise rows o q r before (omega (arith, h)) in omega (arith, rise, step))
-    (λ same. let e : key_of (access_at rows q) ≡ key_of (access_at rows r) = ap (λ k. key_of (access_at rows k)) same in omega (arith, e, step))
-    (last_or q r less)
+keys_rise rows o q r less h = rise (λ k. key_of (access_at rows k)) (length rows) o.grows q r less h
 
 -- of two rows the one with the lesser key stands before
 rows_from_keys : (rows : List (List ℕ)) → AreOrdered rows → (q r : ℕ) → q < length rows → r < length rows
     → key_of (access_at rows q) < key_of (access_at rows r) → q < r
-rows_from_keys rows o q r hq hr less = go (cases_order q r)
-  where
-    go : (q ≡ r) ⊎ ((q < r) ⊎ (r < q)) → q < r
-    go (inl same) =
-        let e : key_of (access_at rows q) ≡ key_of (access_at rows r) = ap (λ k. key_of (access_at rows k)) same in
-        absurd (omega (arith, e, less))
-    go (inr (inl before)) = before
-    go (inr (inr behind)) = let rise = keys_rise rows o r q behind hq in absurd (omega (arith, rise, less))
-
-key_of_place : (a b : Access) → is_at b a.ctx a.addr ≡ true → b.clk < a.clk → key_of b < key_of a
-key_of_place a b at less = let p = place_is b a.ctx a.addr at in let c = p.0 in let d = p.1 in omega (arith, c, d, less)
-
-clock_of_place : (a b : Access) → is_at b a.ctx a.addr ≡ true → key_of b < key_of a → b.clk < a.clk
-clock_of_place a b at less = let p = place_is b a.ctx a.addr at in let c = p.0 in let d = p.1 in omega (arith, c, d, less)
-
--- ---- a place between two accesses of one word
-
-outer_same : (x p k l z : ℕ) → l < limit → z < limit → x * 4294967296 + k ≤ p * 4294967296 + l → p * 4294967296 + l < x * 4294967296 + z → p ≡ x
-outer_same x p k l z hl hz low high = omega arith
-
-inner_same : (c d c' d' : ℕ) → d < limit → d' < limit → c * 4294967296 + d ≡ c' * 4294967296 + d' → (c ≡ c') × (d ≡ d')
-inner_same c d c' d' h h' e = (omega arith, omega arith)
-
--- what stands between two accesses of one place is one of it
-between : (b p a : Access) → is_at b a.ctx a.addr ≡ true → key_of b ≤ key_of p → key_of p < key_of a → p.addr < limit → p.clk < limit
-    → a.addr < limit → a.clk < limit → is_at p a.ctx a.addr ≡ true
-between b p a at low high hp hpk ha hak =
-    let place = place_is b a.ctx a.addr at in
-    let c : b.ctx ≡ a.ctx = place.0 in
-    let d : b.addr ≡ a.addr = place.1 in
-    let low_at_a : (a.ctx * 4294967296 + a.addr) * 4294967296 + b.clk ≤ (p.ctx * 4294967296 + p.addr) * 4294967296 + p.clk = omega (arith, c, d, low) in
-    let outer : p.ctx * 4294967296 + p.addr ≡ a.ctx * 4294967296 + a.addr =
-    outer_same (a.ctx * 4294967296 + a.addr) (p.ctx * 4294967296 + p.addr) b.clk p.clk a.clk hpk hak low_at_a high in
-    let inner = inner_same p.ctx p.addr a.ctx a.addr hp ha outer in at_same p a.ctx a.addr inner.0 inner.1
+rows_from_keys rows o q r hq hr less = rise_back (λ k. key_of (access_at rows k)) (length rows) o.grows q r hq hr less
 
 -- ---- the latest word
 
@@ -134,18 +92,13 @@ latest_behind asks m rows t q h = go (cases_Bool (is_at p a.ctx a.addr))
     no_other apart k b low high is at =
         let r = row_before asks m rows t (suc q) k b h high is at in
         let less = r.1 in
-        let low_key : key_of b ≤ key_of p = subst (λ x. key_of x ≤ key_of p) r.2 (at_most r.0 (omega (arith, less))) in
+        let low_key : key_of b ≤ key_of p =
+        subst (λ x. key_of x ≤ key_of p) r.2
+        (rise_to (λ n. key_of (access_at rows n)) (length rows) t.ordered.grows r.0 q (omega (arith, less)) inside) in
         let same : is_at p a.ctx a.addr ≡ true =
         between b p a at low_key grows (t.ordered.addresses q inside) (t.small.clocks q inside) (t.ordered.addresses (suc q) h)
         (t.small.clocks (suc q) h) in
         let clash : ⊥ = cc in clash
-      where
-        at_most : (i : ℕ) → i ≤ q → key_of (access_at rows i) ≤ key_of p
-        at_most i le = elim (cases_order i q) [
-          | inl same ↦ let e : key_of (access_at rows i) ≡ key_of p = ap (λ j. key_of (access_at rows j)) same in omega (arith, e)
-          | inr (inl before) ↦ let rise = keys_rise rows t.ordered i q before inside in omega (arith, rise)
-          | inr (inr behind) ↦ absurd (omega (arith, behind, le))
-        ]
 
     go : (is_at p a.ctx a.addr ≡ true) ⊎ (is_at p a.ctx a.addr ≡ false) → latest asks a.clk a.ctx a.addr ≡ word_behind (Some p) a
     go (inl same) =

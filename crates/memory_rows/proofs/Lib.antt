@@ -3,6 +3,17 @@ pub mod RowZeros
 pub mod RowOrder
 pub mod ZerosOrder
 pub mod Latest
+pub mod Keys
 pub mod InOrder
 pub mod Asked
 pub mod TableServes
+pub mod Entries
+pub mod Fitting
+pub mod BehindZero
+pub mod RowsZero
+pub mod RowsGive
+pub mod Clocks
+pub mod SortedKeys
+pub mod SortedWords
+pub mod SortedFit
+pub mod RowsShow
