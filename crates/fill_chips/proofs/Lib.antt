@@ -5,6 +5,10 @@ pub mod PermLemmas
 pub mod KernelLemmas
 pub mod TimesLemmas
 pub mod GivenLemmas
+pub mod BitLemmas
+pub mod AccessLemmas
+pub mod LimbLemmas
+pub mod LimbTimes
 pub mod RangeGiven
 pub mod RangeZero
 pub mod KernelGiven

@@ -15,16 +15,18 @@ times-next : (asked : List ℕ) (i v : ℕ) → i < length asked
     → times_asked (take (i + 1) asked) v ≡ times_asked (take i asked) v + cond (eqb (get_or asked i 0) v) 1 0
 times-next asked i v within = sum_by_more (λ value. cond (eqb value v) 1 0) asked i 0 within
 
-pub times-more : (asked times : List ℕ) (i value n v : ℕ) → i < length asked → value ≡ get_or asked i 0 → value < length times → n ≡ get_or times value 0
-    → get_or times value 0 ≡ times_asked (take i asked) value → get_or times v 0 ≡ times_asked (take i asked) v
-    → get_or (set times value (n + 1)) v 0 ≡ times_asked (take (i + 1) asked) v
-times-more asked times i value n v within is low n_is own other =
+-- one more value that is counted above what was
+pub times-more : (had : ℕ → ℕ) (asked times : List ℕ) (i value n v : ℕ) → i < length asked → value ≡ get_or asked i 0 → value < length times
+    → n ≡ get_or times value 0 → get_or times value 0 ≡ had value + times_asked (take i asked) value
+    → get_or times v 0 ≡ had v + times_asked (take i asked) v → get_or (set times value (n + 1)) v 0 ≡ had v + times_asked (take (i + 1) asked) v
+times-more had asked times i value n v within is low n_is own other =
     let next = times-next asked i v within in
     elim (cases_eq value v) [
       | inl same ↦
           let here : get_or (set times value (n + 1)) value 0 ≡ n + 1 = get_or-set_same times value (n + 1) 0 low in
           let moved : get_or (set times value (n + 1)) v 0 ≡ n + 1 = subst (λ w. get_or (set times value (n + 1)) w 0 ≡ n + 1) same here in
           let alike : times_asked (take i asked) value ≡ times_asked (take i asked) v = ap (times_asked (take i asked)) same in
+          let alike_had : had value ≡ had v = ap had same in
           grind (arith, nat_tests)
       | inr apart ↦
           let there : get_or (set times value (n + 1)) v 0 ≡ get_or times v 0 = get_or-set_other times value v (n + 1) 0 (λ e. apart (sym e)) in

@@ -1,3 +1,4 @@
 pub mod RangeRows
+pub mod MemoryLimbs
 pub mod KernelRows
 pub mod Beside

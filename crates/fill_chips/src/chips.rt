@@ -1,12 +1,15 @@
-ghost use Rattle.std.specs.Prelude.{◌≡◌, IfOk};
+ghost use Rattle.std.specs.Prelude.{◌≡◌, ◌++◌, IfOk};
 ghost use Rattle.rpo_hash.specs.Constants.{constants_of};
 ghost use Rattle.air_kit.specs.Requests.{Fits};
 ghost use Rattle.fill_chips.specs.Beside.{AnswersBeside};
+ghost use Rattle.fill_chips.specs.MemoryLimbs.{limbs_in};
 ghost use Rattle.fill_chips.specs.RangeRows.{range_rows};
 
+use crate::bitwise::bitwise_table;
 use crate::hasher::hasher_table;
 use crate::kernel::kernel_table;
 use crate::left::left_table;
+use crate::memory::memory_table;
 use crate::range::range_table;
 use air_kit::Requests;
 use rpo_hash::Params;
@@ -25,8 +28,8 @@ pub struct Chips {
     pub left: Table<1>,
 }
 
-/// The small tables that answer the requests of a main table. Requests that fit ask no bitwise
-/// operation and no memory so far, so that these tables have no rows.
+/// The small tables that answer the requests of a main table. The range table has the limbs of
+/// memory's rows besides what is asked.
 pub fn fill_chips(
     alloc: Global,
     params: &Params,
@@ -35,13 +38,14 @@ pub fn fill_chips(
 ) -> Result<Chips, Memory>
     requires fit { Fits (constants_of params.now) kernel.now requests.now }
     ensures answers { IfOk result (AnswersBeside (constants_of params.now) kernel.now requests.now) }
-    ensures range { IfOk result (λ chips. chips.range ≡ range_rows requests.now.ranges) }
+    ensures range { IfOk result (λ chips. chips.range ≡ range_rows (requests.now.ranges ++ limbs_in chips.memory)) }
 {
+    let memory = memory_table(alloc, requests.accesses.as_slice())?;
     Ok(Chips {
-        range: range_table(alloc, requests.ranges.as_slice())?,
+        range: range_table(alloc, requests.ranges.as_slice(), &memory)?,
         hasher: hasher_table(alloc, params, requests.perms.as_slice())?,
-        bitwise: Table::new(alloc),
-        memory: Table::new(alloc),
+        bitwise: bitwise_table(alloc, requests.bits.as_slice())?,
+        memory,
         kernel: kernel_table(alloc, kernel.as_slice(), requests.calls.as_slice())?,
         left: left_table(alloc, requests.keys.as_slice())?,
     })

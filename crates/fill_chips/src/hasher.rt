@@ -67,7 +67,8 @@ fn row_of(perm: &Perm, goes_on: bool, state: &[Felt; 12]) -> [Felt; 15]
     ]
 }
 
-fn bit_of(bit: bool) -> Felt
+/// One where the bit is set, else zero.
+pub(crate) fn bit_of(bit: bool) -> Felt
     ensures { result ≡ bit_number bit }
 {
     if bit { Felt::ONE } else { Felt::ZERO }

@@ -1,7 +1,10 @@
-ghost use Rattle.std.specs.Prelude.{◌≡◌, ℕ, ◌-◌, ◌<◌, ◌≤◌, [], ◌∷◌, length, slice_index, All, IfOk};
+ghost use Rattle.std.specs.Prelude.{◌≡◌, ℕ, ◌+◌, ◌*◌, ◌-◌, ◌<◌, ◌≤◌, [], ◌∷◌, ◌++◌, length, slice_index, All, IfOk};
 ghost use Rattle.vm_field.specs.Field.{prime};
-ghost use Rattle.fill_chips.specs.RangeRows.{AreTimes, allowed_steps, range_rows, step_within};
+ghost use Rattle.memory_rows.specs.MemoryTables.{HaveLimbs};
+ghost use Rattle.fill_chips.specs.MemoryLimbs.{limbs_in};
+ghost use Rattle.fill_chips.specs.RangeRows.{AreTimes, allowed_steps, range_rows, step_within, times_asked};
 
+use crate::memory::limbs_of;
 use std::alloc::Global;
 use vm_field::{Felt, Memory};
 use vm_table::Table;
@@ -12,13 +15,18 @@ const LAST: usize = 65535;
 // The steps between its values, the greatest first.
 const STEPS: [usize; 8] = [2187, 729, 243, 81, 27, 9, 3, 1];
 
-/// The range table of the asked values.
-pub(crate) fn range_table(alloc: Global, asked: &[u16]) -> Result<Table<2>, Memory>
-    requires few { length asked.now < prime }
-    ensures rows { IfOk result (λ table. table ≡ range_rows asked.now) }
+/// The range table of the asked values and of the limbs of memory's rows.
+pub(crate) fn range_table(
+    alloc: Global,
+    asked: &[u16],
+    memory: &Table<14>,
+) -> Result<Table<2>, Memory>
+    requires limbs { HaveLimbs memory.now }
+    requires few { length asked.now + 4 * length memory.now < prime }
+    ensures rows { IfOk result (λ table. table ≡ range_rows (asked.now ++ limbs_in memory.now)) }
     ensures small { All (λ v. v < 65536) asked.now }
 {
-    let times = times_of(alloc, asked)?;
+    let times = times_of(alloc, asked, memory)?;
     let mut table = Table::new(alloc);
     let mut v = 0;
     while v < LAST {
@@ -29,15 +37,32 @@ pub(crate) fn range_table(alloc: Global, asked: &[u16]) -> Result<Table<2>, Memo
     Ok(table)
 }
 
-// How often each value is asked, by value.
-fn times_of(alloc: Global, asked: &[u16]) -> Result<Vec<u64>, Memory>
-    ensures times { IfOk result (λ times. AreTimes asked.now times.items) }
+// How often each value is asked or is a limb, by value.
+fn times_of(alloc: Global, asked: &[u16], memory: &Table<14>) -> Result<Vec<u64>, Memory>
+    requires limbs { HaveLimbs memory.now }
+    requires few { length asked.now + 4 * length memory.now < prime }
+    ensures times { IfOk result (λ times. AreTimes (asked.now ++ limbs_in memory.now) times.items) }
+    ensures small { All (λ v. v < 65536) asked.now }
 {
     let mut times = zeros(alloc, LAST + 1)?;
-    for value in asked {
-        times[usize::from(*value)] += 1;
+    count(&mut times, asked);
+    for i in 0..memory.rows() {
+        count(&mut times, &limbs_of(memory, i));
     }
     Ok(times)
+}
+
+// Counts each of these values once more.
+fn count(times: &mut Vec<u64>, values: &[u16])
+    requires size { length times.old.items ≡ 65536 }
+    requires few { (v : ℕ) → slice_index times.old.items v + length values.now < prime }
+    ensures size { length times.new.items ≡ 65536 }
+    ensures counts { (v : ℕ) → slice_index times.new.items v ≡ slice_index times.old.items v + times_asked values.now v }
+    ensures small { All (λ v. v < 65536) values.now }
+{
+    for value in values {
+        times[usize::from(*value)] += 1;
+    }
 }
 
 // So many zeros.

@@ -1,12 +1,14 @@
 ghost use Rattle.std.specs.Prelude.{List, ℕ, [], IfOk};
 ghost use Rattle.air_kit.specs.Requests.{Fits};
 
+use crate::bitwise::bitwise_table;
 use crate::hasher::hasher_table;
 use crate::kernel::kernel_table;
 use crate::left::left_table;
+use crate::memory::memory_table;
 use crate::range::range_table;
 use crate::{Chips, fill_chips, range_laws};
-use air_kit::{Perm, Requests};
+use air_kit::{Access, BitOp, Perm, Requests};
 use rpo_hash::{Params, permute};
 use std::alloc::Global;
 use std::test::Fail;
@@ -88,7 +90,7 @@ fn fills_ranges(alloc: Global) -> Result<bool, Memory> {
         if asked.len() > 4 {
             return Ok(false);
         }
-        let table = range_table(alloc, asked)?;
+        let table = range_table(alloc, asked, &Table::new(alloc))?;
         for (row, count, value) in *rows {
             if cell(&table, *row, 0) != Some(*count) || cell(&table, *row, 1) != Some(*value) {
                 return Ok(false);
@@ -157,6 +159,79 @@ fn fills_calls(alloc: Global) -> Result<bool, Memory> {
     )
 }
 
+// A row and a column of the rows of two operations, and the cell there.
+static BITS: [(usize, usize, u64); 14] = [
+    (0, 0, 1),
+    (0, 1, 8),
+    (0, 2, 0),
+    (0, 11, 8),
+    (6, 1, 134217743),
+    (7, 1, 2147483893),
+    (7, 2, 19),
+    (7, 4, 0),
+    (7, 5, 1),
+    (7, 8, 1),
+    (7, 9, 0),
+    (7, 11, 2147483878),
+    (15, 0, 0),
+    (15, 11, 8),
+];
+
+fn fills_bits(alloc: Global) -> Result<bool, Memory> {
+    let first = BitOp {
+        xor: true,
+        a: 0x8000_00f5,
+        b: 0x13,
+    };
+    let second = BitOp {
+        xor: false,
+        a: 12,
+        b: 10,
+    };
+    let table = bitwise_table(alloc, &[first, second])?;
+    for (row, column, value) in &BITS {
+        if cell(&table, *row, *column) != Some(*value) {
+            return Ok(false);
+        }
+    }
+    Ok(table.rows() == 16)
+}
+
+// An access of context 0.
+fn access(kind: u8, addr: u32, clk: u32, word: Word) -> Access {
+    Access {
+        kind,
+        ctx: 0,
+        addr,
+        clk,
+        word: word.elements(),
+    }
+}
+
+// The rows of three accesses.
+static ACCESSES: [[u64; 14]; 3] = [
+    [2, 0, 2, 9, 8, 0, 1, 0, 1, 0, 0, 0, 2, 0],
+    [1, 0, 65537, 3, 7, 0, 1, 0, 0, 1, 65534, 0, 1, 1],
+    [0, 0, 65537, 70000, 7, 0, 1, 0, 0, 0, 4460, 1, 1, 1],
+];
+
+fn fills_accesses(alloc: Global) -> Result<bool, Memory> {
+    let accesses = [
+        access(1, 65537, 3, word(7)),
+        access(2, 2, 9, word(8)),
+        access(0, 65537, 70000, word(7)),
+    ];
+    let table = memory_table(alloc, &accesses)?;
+    for row in 0..3 {
+        for column in 0..14 {
+            if cell(&table, row, column) != Some(ACCESSES[row][column]) {
+                return Ok(false);
+            }
+        }
+    }
+    Ok(table.rows() == 3)
+}
+
 fn fills_keys(alloc: Global) -> Result<bool, Memory> {
     let table = left_table(alloc, &[Felt::from_u32(4), Felt::ONE])?;
     Ok(table.rows() == 2 && cell(&table, 0, 0) == Some(4) && cell(&table, 1, 0) == Some(1))
@@ -168,6 +243,8 @@ fn fills_tables(rt: HostRuntime) -> Result<(), Fail> {
     assert!(rt; fills_empty_program(rt.alloc())?);
     assert!(rt; fills_ranges(rt.alloc())?);
     assert!(rt; fills_hashes(rt.alloc())?);
+    assert!(rt; fills_bits(rt.alloc())?);
+    assert!(rt; fills_accesses(rt.alloc())?);
     assert!(rt; fills_calls(rt.alloc())?);
     assert!(rt; fills_keys(rt.alloc())?);
     Ok(())

@@ -1,7 +1,8 @@
-use Rattle.std.proofs.Common.{◌≡◌, ◌+◌, ◌-◌, ◌<◌, eqb, length, sym, ap, subst, ◌∙◌, arith}
+use Rattle.std.proofs.Common.{◌≡◌, ◌+◌, ◌-◌, ◌<◌, ◌++◌, length, sym, ap, subst, ◌∙◌, arith}
 use Rattle.std.proofs.lemmas.List.{length_push}
-use Rattle.std.proofs.lemmas.List.Sums.{count_by-le-length}
 use Rattle.fill_chips.specs.RangeRows.{AreTimes, allowed_steps, next_asked, step_within, value_behind}
+use Rattle.fill_chips.specs.MemoryLimbs.{limbs_in}
+use Rattle.fill_chips.proofs.LimbTimes.{times-below}
 use Rattle.fill_chips.proofs.NextLemmas.{next-is}
 use Rattle.fill_chips.proofs.RowsFrom.{behind-is, behind-last, behind-on, row-of_times, rows-done, rows-start, rows-step}
 use Rattle.fill_chips.proofs.StepLemmas.{step-far, step-on}
@@ -11,7 +12,7 @@ pub loop-v-init : goal.loop-v-init
 loop-v-init c = record {
   low = omega arith;
   turns = omega (arith, ap length c.new-table.ensures.empty);
-  rows = rows-start c.args.asked.now c.new-table.result c.new-table.ensures.empty;
+  rows = rows-start (c.args.asked.now ++ limbs_in c.args.memory.now) c.new-table.result c.new-table.ensures.empty;
 }
 
 pub overflow_add-v : goal.overflow_add-v
@@ -28,7 +29,7 @@ loop-v-smaller c =
 
 pub loop-v-preserved : goal.loop-v-preserved
 loop-v-preserved c =
-    let asked = c.args.asked.now in
+    let asked = c.args.asked.now ++ limbs_in c.args.memory.now in
     let v = c.loop-v.v in
     let below : v < 65535 = omega arith in
     let times = c.as_slice-in-loop-v.result.now in
@@ -52,16 +53,23 @@ loop-v-preserved c =
           ∙ c.loop-v.invariant.rows;
     }
 
+pub row_of-requires-clause-few : goal.row_of-requires-clause-few
+row_of-requires-clause-few c =
+    let asked = c.args.asked.now ++ limbs_in c.args.memory.now in
+    let are = subst (AreTimes asked) (sym c.as_slice.ensures.value) c.in_ok-times.ensures.times in
+    let few = times-below c.args.asked.now c.as_slice.result.now c.args.memory.now c.loop-v.v are in
+    omega (arith, few, c.requires.few)
+
 pub row_of-requires-2-clause-few : goal.row_of-requires-2-clause-few
 row_of-requires-2-clause-few c =
-    let are = subst (AreTimes c.args.asked.now) (sym c.as_slice-2.ensures.value) c.in_ok-times.ensures.times in
-    let count = are.counts 65535 (omega arith) in
-    let few = count_by-le-length (λ value. eqb value 65535) c.args.asked.now in
-    omega (arith, count, few)
+    let asked = c.args.asked.now ++ limbs_in c.args.memory.now in
+    let are = subst (AreTimes asked) (sym c.as_slice-2.ensures.value) c.in_ok-times.ensures.times in
+    let few = times-below c.args.asked.now c.as_slice-2.result.now c.args.memory.now 65535 are in
+    omega (arith, few, c.requires.few)
 
 pub returns-clause-rows : goal.returns-clause-rows
 returns-clause-rows c =
-    let asked = c.args.asked.now in
+    let asked = c.args.asked.now ++ limbs_in c.args.memory.now in
     let are = subst (AreTimes asked) (sym c.as_slice-2.ensures.value) c.in_ok-times.ensures.times in
     rows-done asked c.loop-v.table c.push_row-2.new.self c.row_of-2.result c.loop-v.v c.loop-v-test.false c.in_ok-push_row-2.ensures.ok
     (row-of_times asked c.as_slice-2.result.now c.row_of-2.result 65535 are (omega arith) c.row_of-2.ensures) c.loop-v.invariant.rows

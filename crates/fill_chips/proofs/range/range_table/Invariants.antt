@@ -1,4 +1,5 @@
 use Rattle.std.proofs.Common.{◌≡◌, ◌-◌, ◌≤◌, ◌++◌, length}
+use Rattle.fill_chips.specs.MemoryLimbs.{limbs_in}
 use Rattle.fill_chips.specs.RangeRows.{range_rows, rows_from}
 use Rattle.fill_chips.proofs.range.range_table.Given as goal
 
@@ -6,7 +7,7 @@ abbrev pub invariant-loop-v : goal.invariant-loop-v
 invariant-loop-v l = record {
   low : l.v ≤ 65535;
   turns : length l.table ≤ l.v;
-  rows : l.table ++ rows_from (65535 - length l.table) l.asked l.v ≡ range_rows l.asked;
+  rows : l.table ++ rows_from (65535 - length l.table) (l.asked ++ limbs_in l.memory) l.v ≡ range_rows (l.asked ++ limbs_in l.memory);
 }
 
 abbrev pub decreases-loop-v : goal.decreases-loop-v

@@ -1,26 +1,19 @@
-use Rattle.std.proofs.Common.{ℕ, ◌<◌, arith, length-set}
-use Rattle.std.proofs.lemmas.List.{get_or_read}
-use Rattle.fill_chips.proofs.TimesLemmas.{times-few, times-more}
+use Rattle.std.proofs.Common.{◌<◌, length, arith}
+use Rattle.fill_chips.proofs.LimbTimes.{times-begun, times-room, times-row}
 use Rattle.fill_chips.proofs.range.times_of.Goals as goal
 
-pub overflow_add-index_mut : goal.overflow_add-index_mut
-overflow_add-index_mut c =
-    let value = c.from.result in
-    let within : value < 65536 = omega (arith, c.from.ensures, c.type_inv.asked c.loop-value.value-index) in
-    let is = get_or_read c.loop-value.times.items value c.index_mut.result.now (omega (arith, c.loop-value.invariant.values)) c.index_mut.ensures.value 0 in
-    let count = c.loop-value.invariant.counts value within in
-    let few = times-few c.args.asked.now c.loop-value.value-index value in
-    omega (arith, is, count, few)
+pub loop-i-init : goal.loop-i-init
+loop-i-init c =
+    times-begun c.args.asked.now c.in_ok-times.times.items c.count.new.times.items c.count.ensures.size c.in_ok-times.ensures.zero c.count.ensures.counts
 
-pub loop-value-preserved : goal.loop-value-preserved
-loop-value-preserved c =
-    let value = c.from.result in
-    let times = c.loop-value.times.items in
-    let within : value < 65536 = omega (arith, c.from.ensures, c.type_inv.asked c.loop-value.value-index) in
-    let is = get_or_read times value c.index_mut.result.now (omega (arith, c.loop-value.invariant.values)) c.index_mut.ensures.value 0 in
-    record {
-      values = omega (arith, length-set {A = ℕ}, c.loop-value.invariant.values);
-      counts = λ v h.
-          times-more c.args.asked.now times c.loop-value.value-index value c.index_mut.result.now v c.loop-value-test.true c.from.ensures
-          (omega (arith, c.loop-value.invariant.values)) is (c.loop-value.invariant.counts value within) (c.loop-value.invariant.counts v h);
-    }
+pub count-requires-in-loop-i-clause-few : goal.count-requires-in-loop-i-clause-few
+count-requires-in-loop-i-clause-few c = λ v.
+    let within : c.loop-i.i < length c.args.memory.now = omega (arith, c.loop-i-test.true, c.rows-i-end.ensures.is) in
+    let room = times-room c.args.asked.now c.loop-i.times.items c.limbs_of.result c.args.memory.now c.loop-i.i v within c.limbs_of.ensures c.loop-i.invariant in
+    omega (arith, room, c.requires.few)
+
+pub loop-i-preserved : goal.loop-i-preserved
+loop-i-preserved c =
+    times-row c.args.asked.now c.loop-i.times.items c.count-in-loop-i.new.times.items c.limbs_of.result c.args.memory.now c.loop-i.i
+    (omega (arith, c.loop-i-test.true, c.rows-i-end.ensures.is))
+    c.limbs_of.ensures c.loop-i.invariant c.count-in-loop-i.ensures.size c.count-in-loop-i.ensures.counts

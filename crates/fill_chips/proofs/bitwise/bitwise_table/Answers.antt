@@ -1,0 +1,25 @@
+use Rattle.std.proofs.Common.{[], ◌∷◌, ◌++◌, false, get_or, take, sym, subst, ap, ◌∙◌}
+use Rattle.std.proofs.lemmas.List.{take_more}
+use Rattle.std.proofs.lemmas.List.Elements.{All-append, All-cons, All-nil}
+use Rattle.bit_rows.specs.BitRows.{rows_before, rows_of}
+use Rattle.bit_rows.specs.BitTables.{AreWords, HasWords}
+use Rattle.fill_chips.proofs.BitLemmas.{rows-none, rows-push}
+use Rattle.fill_chips.proofs.bitwise.bitwise_table.Goals as goal
+
+pub loop-op-init : goal.loop-op-init
+loop-op-init c = record { rows = c.reserve.ensures ∙ c.new-table.ensures.empty ∙ sym rows-none; words = All-nil HasWords }
+
+pub loop-op-preserved : goal.loop-op-preserved
+loop-op-preserved c =
+    let ops = c.args.ops.now in
+    let i = c.loop-op.op-index in
+    let op = get_or ops i (record { xor = false; a = 0; b = 0 }) in
+    let more = take_more ops i (record { xor = false; a = 0; b = 0 }) c.loop-op-test.true in
+    record {
+      rows =
+          c.in_ok-push_operation.ensures.rows ∙ ap (λ table. table ++ rows_before op []) c.loop-op.invariant.rows
+          ∙ sym (rows-push (take i ops) op) ∙ ap rows_of (sym more);
+      words =
+          subst AreWords (sym more)
+          (All-append HasWords (take i ops) (op ∷ []) c.loop-op.invariant.words (All-cons HasWords op [] c.push_operation.ensures.words (All-nil HasWords)));
+    }

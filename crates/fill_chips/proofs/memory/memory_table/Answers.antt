@@ -1,0 +1,13 @@
+use Rattle.std.proofs.Common.{All, subst}
+use Rattle.std.proofs.lemmas.List.Sorted.{All-permutation, IsPermutation-sym}
+use Rattle.memory_rows.specs.MemoryTables.{IsSmall}
+use Rattle.fill_chips.proofs.AccessLemmas.{if_ok_then}
+use Rattle.fill_chips.proofs.memory.memory_table.Goals as goal
+
+pub returns-clause-small : goal.returns-clause-small
+returns-clause-small c =
+    let accesses = c.args.accesses.now in
+    let sorted = c.in_ok-sorted.sorted.items in
+    if_ok_then c.table_of.result (λ table small.
+    All-permutation IsSmall sorted accesses (IsPermutation-sym accesses sorted c.in_ok-sorted.ensures.same)
+    (subst (All IsSmall) c.as_slice.ensures.value small)) c.table_of.ensures.small

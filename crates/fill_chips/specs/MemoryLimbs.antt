@@ -1,0 +1,23 @@
+-- The rows of accesses, and the limbs of rows of memory, which the range table is asked for.
+use Rattle.std.specs.Prelude.{◌≡◌, ℕ, List, [], ◌∷◌, ◌++◌}
+use Rattle.std.specs.List.Sorted.{IsNonDecreasingBy, IsPermutation}
+use Rattle.chip_columns.specs.MemoryColumns.{d0, d1, a0, a1}
+use Rattle.air_kit.specs.declared.requests.Access.{Access}
+use Rattle.memory_rows.specs.Accesses.{key_of}
+use Rattle.memory_rows.specs.AccessRows.{rows_of}
+
+-- the rows are those of these accesses, put in order
+pub record AreRowsOf (accesses : List Access) (rows : List (List ℕ)) : Type 0 where
+  pub sorted : List Access
+  pub same : IsPermutation accesses sorted
+  pub in_order : IsNonDecreasingBy key_of sorted
+  pub are : rows ≡ rows_of sorted
+
+-- the limbs of a row
+abbrev pub limbs_of : List ℕ → List ℕ
+limbs_of row = d0 row ∷ d1 row ∷ a0 row ∷ a1 row ∷ []
+
+-- those of rows, one behind the other
+unfoldable pub limbs_in : List (List ℕ) → List ℕ
+limbs_in [] = []
+limbs_in (row ∷ rows) = limbs_of row ++ limbs_in rows
