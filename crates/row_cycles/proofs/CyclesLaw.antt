@@ -19,7 +19,7 @@ use Rattle.row_cycles.proofs.CallRows.{call_end_goes, call_goes, syscall_end_goe
 use Rattle.row_cycles.proofs.EndRows.{end_goes, flag_of, loop_end_goes, span_end_goes}
 use Rattle.row_cycles.proofs.FirstAndLast.{end_facts}
 use Rattle.row_cycles.proofs.OperationRows.{operation_goes}
-use Rattle.row_cycles.proofs.Premises.{Known, below_limit, clock_at}
+use Rattle.row_cycles.proofs.Premises.{Known, below_limit, clock_at, low_contexts}
 use Rattle.row_cycles.proofs.StartRows.{join_goes, loop_goes, span_goes, split_goes}
 use Rattle.row_cycles.proofs.StateRows.{top_at}
 use Rattle.row_cycles.proofs.TurnRows.{repeat_goes, respan_goes}
@@ -34,6 +34,8 @@ known_of p t count granted = record {
   groups = granted.groups;
   ranges = granted.ranges;
   permutes = granted.hashes.permutes;
+  bits = granted.bits;
+  memory = granted.memory (low_contexts (claim_of p t) t.main granted.rows granted.few (frames_granted p t granted));
   kernel_is = granted.kernel;
   frames = frames_granted p t granted;
   lists = overflow_law p t granted (frames_granted p t granted);

@@ -9,7 +9,8 @@ pub mod StartRows
 pub mod TurnRows
 pub mod EndRows
 pub mod CallRows
-pub mod Unbuilt
+pub mod BitRows
+pub mod MemoryRows
 pub mod OperationRows
 pub mod FirstAndLast
 pub mod CyclesLaw

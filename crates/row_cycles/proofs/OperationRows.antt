@@ -21,9 +21,10 @@ use Rattle.row_steps.proofs.Ordinary.{mover_is, ordinary}
 use Rattle.row_steps.proofs.Places.{place_shows}
 use Rattle.row_trees.specs.Running.{Goes}
 use Rattle.span_rows.specs.Items.{item_at}
+use Rattle.row_cycles.proofs.BitRows.{bits_at}
+use Rattle.row_cycles.proofs.MemoryRows.{word_looked_up, words_at}
 use Rattle.row_cycles.proofs.Premises.{Known, before, clock_at}
 use Rattle.row_cycles.proofs.StartRows.{early_at}
-use Rattle.row_cycles.proofs.Unbuilt.{bits_at, word_looked_up, words_at}
 
 early_clock : (c i l : ℕ) → c ≡ i → i < l → l ≤ 2 ^ 19 → c < 2 ^ 19
 early_clock c i l e h few = omega (arith, e, h, few)
@@ -44,8 +45,8 @@ module _ {constants outputs : List ℕ} {kernel rows : List (List ℕ)} (known :
       → Lookups constants (op_in rows i) (row_at rows i) (row_at rows (suc i)) (elsewhere_at rows i)
   looks_at i within = record {
     ranges = λ j few. known.ranges.limb i j within few;
-    bits = bits_at known i (before i (length rows) within);
-    memory = word_looked_up known i (elsewhere_at rows i) (before i (length rows) within);
+    bits = bits_at known i within;
+    memory = word_looked_up known i within;
     permutes = λ is. known.permutes i (record { within = within; is = op_named (op_in rows i) ops.HPerm is });
   }
 

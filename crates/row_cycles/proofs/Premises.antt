@@ -3,14 +3,15 @@ use Rattle.std.proofs.Common.{◌≡◌, ℕ, suc, ◌-◌, ◌<◌, ◌≤◌, 
 use Rattle.vm_field.specs.Field.{prime}
 use Rattle.vm_field.specs.Permutation.{permuted}
 use Rattle.vm_ops.specs.declared.op.Op.TheVariants as ops
-use Rattle.vm_table.specs.MainColumns.{clk}
+use Rattle.vm_table.specs.MainColumns.{clk, ctx}
 use Rattle.air_kit.specs.MainTuples.{twelve}
 use Rattle.air_kit.specs.Places.{Claim}
+use Rattle.memory_rows.specs.MainAccesses.{ServesMain}
 use Rattle.row_facts.specs.MainRows.{ShowsRows, row_at}
 use Rattle.row_facts.proofs.RunFacts.{clock_is}
 use Rattle.bus_facts.specs.Batches.{GroupFacts}
 use Rattle.bus_facts.specs.Blocks.{IsAt}
-use Rattle.bus_facts.specs.Lookups.{KernelFacts, RangeFacts}
+use Rattle.bus_facts.specs.Lookups.{BitFacts, KernelFacts, RangeFacts}
 use Rattle.block_rows.specs.Frames.{FrameFacts}
 use Rattle.overflow_rows.specs.Lists.{OverflowLists}
 
@@ -22,6 +23,8 @@ pub record Known (constants : List ℕ) (kernel : List (List ℕ)) (outputs : Li
   pub groups : GroupFacts rows
   pub ranges : RangeFacts rows
   pub permutes : (i : ℕ) → IsAt rows i ops.HPerm → twelve (row_at rows (suc i)) ≡ permuted constants (twelve (row_at rows i))
+  pub bits : BitFacts rows
+  pub memory : ServesMain rows
   pub kernel_is : KernelFacts kernel rows
   pub frames : FrameFacts rows
   pub lists : OverflowLists rows outputs
@@ -36,6 +39,13 @@ low_rows l h = omega (arith, h)
 pub clock_at : {constants outputs : List ℕ} {kernel rows : List (List ℕ)} → Known constants kernel outputs rows → (i : ℕ) → i < length rows
     → clk (row_at rows i) ≡ i
 clock_at {rows = rows} known i h = clock_is known.claim rows known.shows (low_rows (length rows) known.few) i h
+
+-- contexts have 32 bits
+pub low_contexts : (claim : Claim) (rows : List (List ℕ)) → ShowsRows claim rows → length rows ≤ 2 ^ 19 → FrameFacts rows → (i : ℕ)
+    → i < length rows → ctx (row_at rows i) < 2 ^ 32
+low_contexts claim rows shows few frames i h =
+    let most = frames.context i h in
+    let clock = clock_is claim rows shows (low_rows (length rows) few) i h in omega (arith, most, clock, h, few)
 
 -- so the clock of a row with a row behind it is below the limit
 pub below_limit : (c i l : ℕ) → c ≡ i → suc i < l → c < l - 1
