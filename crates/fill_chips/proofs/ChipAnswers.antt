@@ -30,7 +30,7 @@ use Rattle.bit_rows.proofs.Given.{rows_give as bits_give}
 use Rattle.bit_rows.proofs.TableLaws.{rows_show as bits_show}
 use Rattle.memory_rows.specs.MemoryTables.{ShowsAccesses}
 use Rattle.fill_chips.specs.declared.chips.Chips.{Chips}
-use Rattle.fill_chips.specs.Beside.{AnswersBeside, beside}
+use Rattle.fill_chips.specs.Beside.{AnswersBeside, HasSizes, beside}
 use Rattle.fill_chips.specs.KernelRows.{kernel_rows, times_called}
 use Rattle.fill_chips.specs.MemoryLimbs.{limbs_in}
 use Rattle.fill_chips.specs.RangeRows.{range_rows}
@@ -156,3 +156,11 @@ filled-answers constants kernel r memory len fits states operands shown words sm
           (All-append (λ v. v < 65536) r.ranges (limbs_in memory) small (limbs-small memory shown.limbs))
           ∙ asked-both r.ranges (limbs_in memory) u ∙ ap (λ n. counted (map (λ v. once (v ∷ [])) r.ranges) u + n) (limbs-asked memory u);
     }
+
+pub filled-sizes : (constants : List ℕ) (kernel : List (List ℕ)) (r : Requests) (memory : List (List ℕ)) → AreWords r.bits
+    → ShowsAccesses r.accesses memory → HasSizes r (filled constants kernel r memory)
+filled-sizes constants kernel r memory operands shown = record {
+  hasher = rows_of-size constants r.perms;
+  bitwise = (bits_show r.bits operands).size;
+  memory = shown.size;
+}

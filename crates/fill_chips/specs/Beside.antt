@@ -1,5 +1,5 @@
 -- The small tables beside a main table.
-use Rattle.std.specs.Prelude.{ℕ, ◌^◌, ◌≤◌, List, length}
+use Rattle.std.specs.Prelude.{◌≡◌, ℕ, ◌*◌, ◌^◌, ◌≤◌, List, length}
 use Rattle.air_kit.specs.declared.requests.Requests.{Requests}
 use Rattle.air_kit.specs.declared.trace.Trace.{Trace}
 use Rattle.air_kit.specs.Requests.{Answers}
@@ -21,3 +21,9 @@ beside main chips = record {
 abbrev pub AnswersBeside : List ℕ → List (List ℕ) → Requests → Chips → Type 0
 AnswersBeside constants kernel requests chips =
     (main : List (List ℕ)) → 1 ≤ length main → length main ≤ 2 ^ 19 → Answers constants kernel requests (beside main chips)
+
+-- eight rows for a permutation and for a bitwise operation, and one for an access
+pub record HasSizes (r : Requests) (chips : Chips) : Type 0 where
+  pub hasher : length chips.hasher ≡ 8 * length r.perms
+  pub bitwise : length chips.bitwise ≡ 8 * length r.bits
+  pub memory : length chips.memory ≡ length r.accesses

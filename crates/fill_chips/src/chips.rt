@@ -1,7 +1,7 @@
 ghost use Rattle.std.specs.Prelude.{◌≡◌, ◌++◌, IfOk};
 ghost use Rattle.rpo_hash.specs.Constants.{constants_of};
 ghost use Rattle.air_kit.specs.Requests.{Fits};
-ghost use Rattle.fill_chips.specs.Beside.{AnswersBeside};
+ghost use Rattle.fill_chips.specs.Beside.{AnswersBeside, HasSizes};
 ghost use Rattle.fill_chips.specs.MemoryLimbs.{limbs_in};
 ghost use Rattle.fill_chips.specs.RangeRows.{range_rows};
 
@@ -38,6 +38,7 @@ pub fn fill_chips(
 ) -> Result<Chips, Memory>
     requires fit { Fits (constants_of params.now) kernel.now requests.now }
     ensures answers { IfOk result (AnswersBeside (constants_of params.now) kernel.now requests.now) }
+    ensures sizes { IfOk result (HasSizes requests.now) }
     ensures range { IfOk result (λ chips. chips.range ≡ range_rows (requests.now.ranges ++ limbs_in chips.memory)) }
 {
     let memory = memory_table(alloc, requests.accesses.as_slice())?;

@@ -10,7 +10,7 @@ use Rattle.fill_chips.specs.KernelRows.{kernel_rows, times_called}
 use Rattle.fill_chips.specs.MemoryLimbs.{limbs_in}
 use Rattle.fill_chips.specs.RangeRows.{range_rows}
 use Rattle.fill_chips.proofs.AccessLemmas.{rows-shown}
-use Rattle.fill_chips.proofs.ChipAnswers.{filled-answers}
+use Rattle.fill_chips.proofs.ChipAnswers.{filled-answers, filled-sizes}
 use Rattle.fill_chips.proofs.chips.fill_chips.Goals as goal
 
 pub range_table-requires : goal.range_table-requires
@@ -47,3 +47,25 @@ returns-clause-answers c =
     (subst AreWords c.as_slice-4.ensures.items c.in_ok-bitwise_table.ensures.words) shown
     (subst (All IsWord) c.as_slice-5.ensures.items c.as_slice-5.ensures.words)
     (subst (All (λ v. v < 65536)) c.as_slice-2.ensures.items c.range_table.ensures.small))
+
+pub returns-clause-sizes : goal.returns-clause-sizes
+returns-clause-sizes c =
+    let constants = constants_of c.args.params.now in
+    let kernel = c.args.kernel.now in
+    let r = c.args.requests.now in
+    let memory = c.in_ok-memory.memory in
+    let shown : ShowsAccesses r.accesses memory =
+    rows-shown constants kernel r c.as_slice.result.now memory c.as_slice.ensures.items c.requires.fit c.in_ok-memory.ensures.small
+    c.in_ok-memory.ensures.rows in
+    let range_is : c.in_ok-range_table.field-0 ≡ range_rows (r.ranges ++ limbs_in memory) =
+    c.in_ok-range_table.ensures.rows ∙ ap (λ ranges. range_rows (ranges ++ limbs_in memory)) c.as_slice-2.ensures.items in
+    let hasher_is : c.in_ok-hasher_table.field-0 ≡ rows_of constants r.perms =
+    c.in_ok-hasher_table.ensures.rows ∙ ap (rows_of constants) c.as_slice-3.ensures.items in
+    let bitwise_is : c.in_ok-bitwise_table.field-0 ≡ bit_rows r.bits = c.in_ok-bitwise_table.ensures.rows ∙ ap bit_rows c.as_slice-4.ensures.items in
+    let kernel_is : c.in_ok-kernel_table.field-0 ≡ kernel_rows (times_called r.calls) kernel =
+    c.in_ok-kernel_table.ensures.rows ∙ ap₂ (λ (calls words : List (List ℕ)). kernel_rows (times_called calls) words) c.as_slice-6.ensures.items
+    c.as_slice-5.ensures.items in
+    let left_is : c.in_ok-left_table.field-0 ≡ map (λ key. key ∷ []) r.keys =
+    c.in_ok-left_table.ensures.rows ∙ ap (map (λ (key : ℕ). key ∷ [])) c.as_slice-7.ensures.items in
+    rw (range_is, hasher_is, bitwise_is, c.memory.view_is, kernel_is, left_is)
+    (filled-sizes constants kernel r memory (subst AreWords c.as_slice-4.ensures.items c.in_ok-bitwise_table.ensures.words) shown)
