@@ -1,11 +1,10 @@
 -- The requests of a run fit.
-use Rattle.std.proofs.Common.{◌≡◌, ℕ, ◌≤◌, List, [], length, ap, arith}
+use Rattle.std.proofs.Common.{ℕ, ◌≤◌, List, [], length, arith}
 use Rattle.vm_field.specs.Machine.{State}
 use Rattle.block_tree.specs.Execution as run
 use Rattle.block_tree.specs.Trees.{Tree}
 use Rattle.run_rows.specs.BlockRows.{IsRun, events_of, filled}
 use Rattle.run_rows.specs.Bounds.{AreBuilt}
-use Rattle.run_rows.specs.RunRequests.{accesses_of, bits_of}
 use Rattle.run_rows.proofs.TableLemmas.{is_linked}
 use Rattle.run_requests.specs.Asked.{requests}
 use Rattle.run_requests.specs.Fitting.{FitsRows}
@@ -14,15 +13,12 @@ use Rattle.run_requests.proofs.KernelCalls.{calls_in}
 use Rattle.run_requests.proofs.MemoryClocks.{accesses_apart}
 use Rattle.run_requests.proofs.MemoryFit.{accesses_fit}
 use Rattle.run_requests.proofs.Sizes.{events_few, keys_few, requests_few, rows_are}
-use Rattle.run_requests.proofs.Unbuilt.{no_accesses_of, no_bits_of}
 
 pub run_fits : (constants : List ℕ) (kernel : List (List ℕ)) (limit : ℕ) (tree : Tree) (inputs tape : List ℕ) (u : State) (log : List run.Event)
     → IsRun constants kernel limit tree inputs tape u log → AreBuilt (events_of constants kernel log) → length kernel ≤ 255
     → FitsRows constants kernel (requests constants kernel u log) (filled constants kernel u log)
 run_fits constants kernel limit tree inputs tape u log r built words =
     let linked = is_linked constants kernel limit tree inputs tape u log r built in
-    let bits : length (bits_of (events_of constants kernel log)) ≡ 0 = ap length (no_bits_of (events_of constants kernel log) built) in
-    let accesses : length (accesses_of (events_of constants kernel log)) ≡ 0 = ap length (no_accesses_of (events_of constants kernel log) built) in
     let few = requests_few constants (events_of constants kernel log) in
     let most = events_few constants kernel limit u linked in
     let keys = keys_few constants kernel limit u linked in
@@ -35,8 +31,8 @@ run_fits constants kernel limit tree inputs tape u log r built words =
         calls = calls_in constants kernel limit u r.within linked;
         room = record {
           perms = omega (arith, few, most);
-          bits = omega (arith, bits);
-          accesses = omega (arith, accesses);
+          bits = omega (arith, few, most);
+          accesses = omega (arith, few, most);
           words = words;
           keys = omega (arith, keys);
         };

@@ -3,7 +3,6 @@ pub mod Chains
 pub mod HasherSteps
 pub mod HasherBus
 pub mod MomentCells
-pub mod Unbuilt
 pub mod Tops
 pub mod HpermRows
 pub mod HasherLaw
