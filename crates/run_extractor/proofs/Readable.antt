@@ -18,10 +18,20 @@ use Rattle.row_walk.specs.Walking.{HasBits, IsReadable}
 use Rattle.run_extractor.specs.Known.{IsKnown}
 
 pub known_of : (p : Public) (t : Trace) → length (constants_of p.params) ≡ 168 → HasCounts t → IsTable 65 t.main → IsTable 2 t.range
-    → IsTable 15 t.hasher → IsTable 5 t.kernel → IsTable 1 t.left → IsAccepted p t → IsKnown p t
-known_of p t constants counts main range hasher kernel left accepted = record {
+    → IsTable 15 t.hasher → IsTable 12 t.bitwise → IsTable 14 t.memory → IsTable 5 t.kernel → IsTable 1 t.left → IsAccepted p t
+    → IsKnown p t
+known_of p t constants counts main range hasher bitwise memory kernel left accepted = record {
   constants = constants;
-  whole = record { counts = counts; main = main; range = range; hasher = hasher; kernel = kernel; left = left };
+  whole = record {
+    counts = counts;
+    main = main;
+    range = range;
+    hasher = hasher;
+    bitwise = bitwise;
+    memory = memory;
+    kernel = kernel;
+    left = left;
+  };
   accepted = accepted;
 }
 

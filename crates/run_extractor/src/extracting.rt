@@ -46,6 +46,7 @@ fn known_trace(public: &Public, trace: &Trace)
 {
     known_constants(&public.params);
     let _ = (trace.main.rows(), trace.range.rows(), trace.hasher.rows());
+    let _ = (trace.bitwise.rows(), trace.memory.rows());
     let _ = (trace.kernel.rows(), trace.left.rows());
 }
 
