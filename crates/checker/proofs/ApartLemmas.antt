@@ -1,19 +1,17 @@
 -- From the comparison of one bus to that of all, and to the refusal of a trace.
-use Rattle.std.proofs.Common.{◌≡◌, ◌≢◌, ℕ, zero, suc, ◌+◌, ◌<◌, ◌≤◌, List, Option, Some, None, refl, sym, ap, subst, ◌∙◌, inl, inr, ltb, arith, lit<}
+use Rattle.std.proofs.Common.{◌≡◌, ℕ, zero, suc, ◌<◌, ◌≤◌, List, Option, Some, None, refl, sym, ap, subst, ◌∙◌, inl, inr, ltb, arith, lit<}
 use Rattle.std.proofs.lemmas.Bool.{cases_Bool, ltb-true, ltb-false}
 use Rattle.air_kit.specs.Acceptance.{AreZero, IsAccepted, IsBusRefusal}
 use Rattle.air_kit.specs.Places.{Claim}
 use Rattle.air_kit.specs.Traces.{claim_of}
 use Rattle.air_kit.specs.declared.trace.Public.{Public}
 use Rattle.air_kit.specs.declared.trace.Trace.{Trace}
-use Rattle.buses.specs.Counts.{AreAlike, IsLeastApart}
+use Rattle.buses.specs.Counts.{AreAlike}
 use Rattle.buses.specs.Names.{bus_number}
 use Rattle.buses.specs.declared.bus.Bus.{Bus}
 use Rattle.buses.specs.declared.bus.Bus.TheVariants as bus
-use Rattle.bus_kit.specs.Answers.{IsAnswer}
 use Rattle.bus_kit.specs.ByBus.{asked_by, given_by}
 use Rattle.bus_kit.specs.declared.tallies.Tallies.{Tallies}
-use Rattle.bus_kit.specs.declared.tuple.Unequal.{Unequal}
 use Rattle.checker.specs.Counting.{IsTraceCounted}
 use Rattle.checker.specs.Refusals.{AreAlikeBelow, IsApartAnswer, IsApartBelow, IsFirstApart, IsRefusal, OnBuses}
 use Rattle.checker.specs.declared.refusal.Apart.{Apart}

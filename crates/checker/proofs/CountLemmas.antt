@@ -1,5 +1,5 @@
 -- How many rows the tables have.
-use Rattle.std.proofs.Common.{◌≡◌, ◌^◌, ◌%◌, ◌<◌, ◌≤◌, ◌↔◌, IsTrue, false, true≢false, sym, length, ap, arith, lit<}
+use Rattle.std.proofs.Common.{◌≡◌, ◌^◌, ◌%◌, ◌<◌, ◌≤◌, ◌↔◌, IsTrue, false, true≢false, sym, length, arith, lit<}
 use Rattle.air_kit.specs.declared.trace.TableName.{TableName}
 use Rattle.air_kit.specs.declared.trace.TableName.TheVariants as table
 use Rattle.air_kit.specs.declared.trace.Trace.{Trace}
@@ -19,22 +19,23 @@ pub rows_few : {t : Trace} → HasCounts t → (name : TableName) → length (ro
 rows_few counts name = let h = counts.most name in let k = most_small name in omega (arith, h, k)
 
 -- counts that are right one by one
-pub counts_from : (t : Trace) → 1 ≤ length t.main → length t.main ≤ 524288 → 1 ≤ length t.range → length t.range ≤ 131072 → length t.hasher ≤ 4194304
-    → length t.hasher % 8 ≡ 0 → length t.bitwise ≤ 0 → length t.memory ≤ 0 → length t.kernel ≤ 255 → length t.left ≤ 524288 → HasCounts t
-counts_from t main_some main_most range_some range_most hasher_most hasher_whole bitwise_none memory_none kernel_most left_most = record {
+pub counts_from : (t : Trace) → 1 ≤ length t.main → length t.main ≤ 524288 → 1 ≤ length t.range → length t.range ≤ 131072
+    → length t.hasher ≤ 4194304 → length t.hasher % 8 ≡ 0 → length t.bitwise ≤ 4194304 → length t.bitwise % 8 ≡ 0
+    → length t.memory ≤ 524288 → length t.kernel ≤ 255 → length t.left ≤ 524288 → HasCounts t
+counts_from t main_some main_most range_some range_most hasher_most hasher_whole bitwise_most bitwise_whole memory_most kernel_most left_most = record {
   most = most;
   main = main_some;
   range = range_some;
   hasher = hasher_whole;
-  bitwise = let e : length t.bitwise ≡ 0 = omega (arith, bitwise_none) in ap (λ n. n % 8) e;
+  bitwise = bitwise_whole;
 }
   where
     most : (name : TableName) → length (rows_of t name) ≤ most_rows name
     most table.Main = main_most
     most table.Range = range_most
     most table.Hasher = hasher_most
-    most table.Bitwise = bitwise_none
-    most table.Memory = memory_none
+    most table.Bitwise = bitwise_most
+    most table.Memory = memory_most
     most table.Kernel = kernel_most
     most table.Left = left_most
 

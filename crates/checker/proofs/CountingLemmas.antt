@@ -1,9 +1,8 @@
 -- Rows counted one after another, and tables.
-use Rattle.std.proofs.Common.{◌≡◌, ℕ, zero, suc, ◌+◌, ◌*◌, ◌^◌, ◌<◌, ◌≤◌, ◌==◌, true, false, if◌then◌else◌, List, [], ◌∷◌, ◌++◌, length, slice_get, slice_index_or, Option, Some, None, Result, Ok, Err, OnOk, OnSome, refl, sym, ap, subst, ◌∙◌, add-one, arith, lit≤}
+use Rattle.std.proofs.Common.{◌≡◌, ℕ, zero, suc, ◌+◌, ◌^◌, ◌<◌, ◌≤◌, ◌==◌, true, false, List, [], ◌∷◌, ◌++◌, length, Option, Result, Ok, Err, OnOk, OnSome, refl, sym, subst, add-one, arith, lit≤}
 use Rattle.std.proofs.lemmas.Bool.{eqb-true}
 use Rattle.std.specs.Result.{result_ok}
 use Rattle.air_kit.specs.Acceptance.{AreZero, asked_on, given_on, statement_given}
-use Rattle.air_kit.specs.ChipTuples.{chip_asked, chip_given}
 use Rattle.air_kit.specs.MainTuples.{main_given}
 use Rattle.air_kit.specs.MainValues.{main_values}
 use Rattle.air_kit.specs.Places.{Claim, Spot}
@@ -12,7 +11,7 @@ use Rattle.air_kit.specs.Traces.{HasCounts, most_rows, rows_of, spot_of}
 use Rattle.air_kit.specs.declared.trace.TableName.{TableName}
 use Rattle.air_kit.specs.declared.trace.TableName.TheVariants as table
 use Rattle.air_kit.specs.declared.trace.Trace.{Trace}
-use Rattle.buses.specs.Counts.{Counted, OfRow, at_row, counted, over_first, over_rows, total, with_next}
+use Rattle.buses.specs.Counts.{Counted, OfRow, at_row, counted, over_first, total, with_next}
 use Rattle.buses.specs.declared.bus.Bus.{Bus}
 use Rattle.bus_kit.specs.ByBus.{AreCounted, HaveRoom, asked_by, given_by}
 use Rattle.bus_kit.specs.declared.tallies.Tallies.{Tallies}
@@ -178,10 +177,6 @@ trace_counted c digest t none main range hasher bitwise memory kernel left count
 pub row_named : (o : Option (Unit {0})) (c : Claim) (digest : List ℕ) (t : Trace) (name other : TableName) (i : ℕ) (old new : Tallies)
     → name ≡ other → OnSome o (IsRowCounted c digest t other i old new) → OnSome o (IsRowCounted c digest t name i old new)
 row_named o c digest t name other i old new same h = subst (λ n. OnSome o (IsRowCounted c digest t n i old new)) (sym same) h
-
--- a table without rows has none of this number
-pub no_row : (t : Trace) (name other : TableName) (i : ℕ) → name ≡ other → length (rows_of t other) ≤ 0 → i < length (rows_of t name) → ⊥
-no_row t name other i same none within = let h = subst (λ n. i < length (rows_of t n)) same within in omega (arith, h, none)
 
 -- the main table's rows can be read where all entries are 0
 pub all_readable : (c : Claim) (t : Trace) → IsTable 65 t.main → AreZero c t → AreReadable t.main

@@ -149,7 +149,3 @@ left_zero c t row (suc number) = refl
 -- what is answered of a row of a table that has another name, too
 pub row_renamed : (c : Claim) (t : Trace) (name other : TableName) (row : ℕ) (r : Option (ℕ × ℕ)) → name ≡ other → IsRowAnswer c t other row r → IsRowAnswer c t name row r
 row_renamed c t name other row r same answer = subst (λ n. IsRowAnswer c t n row r) (sym same) answer
-
--- a table without rows
-pub no_rows : (c : Claim) (t : Trace) (name other : TableName) (row : ℕ) → name ≡ other → length (rows_of t other) ≤ 0 → row < length (rows_of t name) → IsRowAnswer c t name row None
-no_rows c t name other row same none within = absurd (let h = subst (λ n. row < length (rows_of t n)) same within in omega (arith, h, none))

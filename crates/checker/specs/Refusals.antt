@@ -1,5 +1,5 @@
 -- What is answered of the buses, and of a trace as a whole.
-use Rattle.std.specs.Prelude.{ℕ, suc, ◌<◌, List, Option, Some, None}
+use Rattle.std.specs.Prelude.{ℕ, ◌<◌, List, Option, Some, None}
 use Rattle.air_kit.specs.Acceptance.{AreZero, IsAccepted, IsBusRefusal, IsFirstFault}
 use Rattle.air_kit.specs.Traces.{claim_of}
 use Rattle.air_kit.specs.declared.trace.Public.{Public}

@@ -7,7 +7,9 @@ ghost use Rattle.checker.specs.Settings.{claim_in};
 use crate::rows::rows_in;
 use crate::setting::Setting;
 use air_kit::{TableName, Trace};
-use bus_chips::{tuples_hasher, tuples_kernel, tuples_left, tuples_range};
+use bus_chips::{
+    tuples_bitwise, tuples_hasher, tuples_kernel, tuples_left, tuples_memory, tuples_range,
+};
 use bus_kit::Tallies;
 use std::alloc::Global;
 
@@ -66,10 +68,9 @@ fn count_row(
         TableName::Main => bus_main::tuples(&setting.place(&trace.main, row), tallies).ok(),
         TableName::Range => tuples_range(&setting.place(&trace.range, row), tallies).ok(),
         TableName::Hasher => tuples_hasher(&setting.place(&trace.hasher, row), tallies).ok(),
+        TableName::Bitwise => tuples_bitwise(&setting.place(&trace.bitwise, row), tallies).ok(),
+        TableName::Memory => tuples_memory(&setting.place(&trace.memory, row), tallies).ok(),
         TableName::Kernel => tuples_kernel(&setting.place(&trace.kernel, row), tallies).ok(),
         TableName::Left => tuples_left(&setting.place(&trace.left, row), tallies).ok(),
-        // these two have no rows so far
-        TableName::Bitwise => None,
-        TableName::Memory => None,
     }
 }

@@ -20,16 +20,19 @@ pub fn has_counts(trace: &Trace) -> bool
     if range < 1 || 131072 < range {
         return false;
     }
-    if 4194304 < hasher {
+    if 4194304 < hasher || 4194304 < bitwise {
         return false;
     }
     if hasher % 8 != 0 {
         return false;
     }
-    if 0 < bitwise || 0 < memory {
+    if bitwise % 8 != 0 {
         return false;
     }
-    if 255 < kernel || 524288 < left {
+    if 524288 < memory || 524288 < left {
+        return false;
+    }
+    if 255 < kernel {
         return false;
     }
     true

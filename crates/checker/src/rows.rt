@@ -106,9 +106,9 @@ fn row_fault(
         TableName::Main => main_fault(trace, setting, row),
         TableName::Range => { air_lookup::first_fault_range(&setting.place(&trace.range, row)) }
         TableName::Hasher => air_hasher::first_fault(&setting.place(&trace.hasher, row)),
+        TableName::Bitwise => air_bitwise::first_fault(&setting.place(&trace.bitwise, row)),
+        TableName::Memory => air_memory::first_fault(&setting.place(&trace.memory, row)),
         TableName::Kernel => { air_lookup::first_fault_kernel(&setting.place(&trace.kernel, row)) }
-        TableName::Bitwise => None,
-        TableName::Memory => None,
         TableName::Left => None,
     }
 }

@@ -17,8 +17,9 @@ struct Change {
 }
 
 // The positions that are left behind SPAN, a cell that changes behind END, the first and the last value of the range table,
-// and an element of the third state of a permutation.
-static CHANGES: [Change; 5] = [
+// an element of the third state of a permutation, the result of a bitwise operation's sixth row, and an element of a word that
+// is read a second time.
+static CHANGES: [Change; 7] = [
     Change {
         table: TableName::Main,
         row: 1,
@@ -48,6 +49,18 @@ static CHANGES: [Change; 5] = [
         row: 3,
         column: 8,
         fault: (TableName::Hasher, 2, 23),
+    },
+    Change {
+        table: TableName::Bitwise,
+        row: 5,
+        column: 11,
+        fault: (TableName::Bitwise, 4, 16),
+    },
+    Change {
+        table: TableName::Memory,
+        row: 1,
+        column: 7,
+        fault: (TableName::Memory, 0, 17),
     },
 ];
 
@@ -124,13 +137,37 @@ fn hasher_table(alloc: Global, change: Option<&Change>) -> Result<Table<15>, Mem
     Ok(table)
 }
 
+// The bits of two zeros.
+fn bitwise_table(alloc: Global, change: Option<&Change>) -> Result<Table<12>, Memory> {
+    let mut table = Table::new(alloc);
+    for i in 0..8usize {
+        let mut cells = [Felt::ZERO; 12];
+        one_more(&mut cells, TableName::Bitwise, i, change);
+        table.push_row(&cells)?;
+    }
+    Ok(table)
+}
+
+// A word of zeros, read in cycles 0 and 1.
+fn memory_table(alloc: Global, change: Option<&Change>) -> Result<Table<14>, Memory> {
+    let mut table = Table::new(alloc);
+    for i in 0..2usize {
+        let mut cells = [Felt::ZERO; 14];
+        cells[3] = Felt::from_u32(i as u32);
+        cells[8] = Felt::ONE - cells[3];
+        one_more(&mut cells, TableName::Memory, i, change);
+        table.push_row(&cells)?;
+    }
+    Ok(table)
+}
+
 fn trace(alloc: Global, change: Option<&Change>) -> Result<Trace, Memory> {
     Ok(Trace {
         main: main_table(alloc, change)?,
         range: range_table(alloc, change)?,
         hasher: hasher_table(alloc, change)?,
-        bitwise: Table::new(alloc),
-        memory: Table::new(alloc),
+        bitwise: bitwise_table(alloc, change)?,
+        memory: memory_table(alloc, change)?,
         kernel: Table::new(alloc),
         left: Table::new(alloc),
     })

@@ -31,6 +31,20 @@ returns-in-Hasher c =
     c.place-in-Hasher.result.public.now.statement.digest c.args.setting.now.public.now.statement.digest c.args.tallies.now c.tuples_hasher.new.tallies (λ k s bus. chip_asked k bus table.Hasher s.row s.cur s.next) (λ d s bus. chip_given bus table.Hasher s.row s.cur s.next)
     c.ok-in-Hasher.ensures.value c.place-in-Hasher.ensures.claim c.place-in-Hasher.ensures.spot (ap (λ p. p.statement.digest) c.place-in-Hasher.ensures.public) c.tuples_hasher.ensures)
 
+pub returns-in-Bitwise : goal.returns-in-Bitwise
+returns-in-Bitwise c =
+    row_named c.ok-in-Bitwise.result (claim_in c.args.setting.now) c.args.setting.now.public.now.statement.digest c.args.trace.now c.args.name table.Bitwise c.args.row c.args.tallies.now c.tuples_bitwise.new.tallies c.in-Bitwise.is
+    (row_counted c.tuples_bitwise.result c.ok-in-Bitwise.result (claim_at c.place-in-Bitwise.result) (claim_in c.args.setting.now) (spot_at row_cells c.place-in-Bitwise.result) (spot_of c.args.trace.now.bitwise c.args.row)
+    c.place-in-Bitwise.result.public.now.statement.digest c.args.setting.now.public.now.statement.digest c.args.tallies.now c.tuples_bitwise.new.tallies (λ k s bus. chip_asked k bus table.Bitwise s.row s.cur s.next) (λ d s bus. chip_given bus table.Bitwise s.row s.cur s.next)
+    c.ok-in-Bitwise.ensures.value c.place-in-Bitwise.ensures.claim c.place-in-Bitwise.ensures.spot (ap (λ p. p.statement.digest) c.place-in-Bitwise.ensures.public) c.tuples_bitwise.ensures)
+
+pub returns-in-Memory : goal.returns-in-Memory
+returns-in-Memory c =
+    row_named c.ok-in-Memory.result (claim_in c.args.setting.now) c.args.setting.now.public.now.statement.digest c.args.trace.now c.args.name table.Memory c.args.row c.args.tallies.now c.tuples_memory.new.tallies c.in-Memory.is
+    (row_counted c.tuples_memory.result c.ok-in-Memory.result (claim_at c.place-in-Memory.result) (claim_in c.args.setting.now) (spot_at row_cells c.place-in-Memory.result) (spot_of c.args.trace.now.memory c.args.row)
+    c.place-in-Memory.result.public.now.statement.digest c.args.setting.now.public.now.statement.digest c.args.tallies.now c.tuples_memory.new.tallies (λ k s bus. chip_asked k bus table.Memory s.row s.cur s.next) (λ d s bus. chip_given bus table.Memory s.row s.cur s.next)
+    c.ok-in-Memory.ensures.value c.place-in-Memory.ensures.claim c.place-in-Memory.ensures.spot (ap (λ p. p.statement.digest) c.place-in-Memory.ensures.public) c.tuples_memory.ensures)
+
 pub returns-in-Kernel : goal.returns-in-Kernel
 returns-in-Kernel c =
     row_named c.ok-in-Kernel.result (claim_in c.args.setting.now) c.args.setting.now.public.now.statement.digest c.args.trace.now c.args.name table.Kernel c.args.row c.args.tallies.now c.tuples_kernel.new.tallies c.in-Kernel.is

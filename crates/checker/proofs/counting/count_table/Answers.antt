@@ -1,7 +1,7 @@
 -- One row after another.
 use Rattle.std.proofs.Common.{arith}
 use Rattle.checker.specs.Settings.{claim_in}
-use Rattle.checker.proofs.CountingLemmas.{none_counted, one_more_counted, room_for_row, room_for_table}
+use Rattle.checker.proofs.CountingLemmas.{none_counted, one_more_counted, room_for_row}
 use Rattle.checker.proofs.counting.count_table.Goals as goal
 
 pub loop-row-init : goal.loop-row-init

@@ -17,26 +17,29 @@ returns-then-range-lt1 c = refuses (λ counts.
 
 pub returns-then-hasher-gt4194304 : goal.returns-then-hasher-gt4194304
 returns-then-hasher-gt4194304 c = refuses (λ counts.
-    let most : length c.args.trace.now.hasher ≤ 4194304 = counts.most table.Hasher in
-    omega (arith, c.rows-hasher.ensures.is, c.if-hasher-gt4194304.true, most))
+    let hasher : length c.args.trace.now.hasher ≤ 4194304 = counts.most table.Hasher in
+    let bitwise : length c.args.trace.now.bitwise ≤ 4194304 = counts.most table.Bitwise in
+    elim c.then-hasher-gt4194304.either [
+      | inl more ↦ omega (arith, c.rows-hasher.ensures.is, more, hasher)
+      | inr more ↦ omega (arith, c.rows-bitwise.ensures.is, more.1, bitwise)
+    ])
 
 pub returns-then-hasher-ne0 : goal.returns-then-hasher-ne0
 returns-then-hasher-ne0 c = refuses (λ counts. c.if-hasher-ne0.true (ap (λ n. n % 8) c.rows-hasher.ensures.is ∙ counts.hasher))
 
-pub returns-then-bitwise-gt0 : goal.returns-then-bitwise-gt0
-returns-then-bitwise-gt0 c = refuses (λ counts.
-    let bitwise : length c.args.trace.now.bitwise ≤ 0 = counts.most table.Bitwise in
-    let memory : length c.args.trace.now.memory ≤ 0 = counts.most table.Memory in
-    elim c.then-bitwise-gt0.either [
-      | inl some ↦ omega (arith, c.rows-bitwise.ensures.is, some, bitwise)
-      | inr some ↦ omega (arith, c.rows-memory.ensures.is, some.1, memory)
+pub returns-then-bitwise-ne0 : goal.returns-then-bitwise-ne0
+returns-then-bitwise-ne0 c = refuses (λ counts. c.if-bitwise-ne0.true (ap (λ n. n % 8) c.rows-bitwise.ensures.is ∙ counts.bitwise))
+
+pub returns-then-memory-gt524288 : goal.returns-then-memory-gt524288
+returns-then-memory-gt524288 c = refuses (λ counts.
+    let memory : length c.args.trace.now.memory ≤ 524288 = counts.most table.Memory in
+    let left : length c.args.trace.now.left ≤ 524288 = counts.most table.Left in
+    elim c.then-memory-gt524288.either [
+      | inl more ↦ omega (arith, c.rows-memory.ensures.is, more, memory)
+      | inr more ↦ omega (arith, c.rows-left.ensures.is, more.1, left)
     ])
 
 pub returns-then-kernel-gt255 : goal.returns-then-kernel-gt255
 returns-then-kernel-gt255 c = refuses (λ counts.
     let kernel : length c.args.trace.now.kernel ≤ 255 = counts.most table.Kernel in
-    let left : length c.args.trace.now.left ≤ 524288 = counts.most table.Left in
-    elim c.then-kernel-gt255.either [
-      | inl more ↦ omega (arith, c.rows-kernel.ensures.is, more, kernel)
-      | inr more ↦ omega (arith, c.rows-left.ensures.is, more.1, left)
-    ])
+    omega (arith, c.rows-kernel.ensures.is, c.if-kernel-gt255.true, kernel))
