@@ -44,7 +44,7 @@ pub static ACCEPTED: [Case; 3] = [
 ];
 
 /// A fault in each group of constraints.
-pub static FAULTS: [Case; 12] = [
+pub static FAULTS: [Case; 14] = [
     // a bit that is none
     Case {
         run: Named::Empty,
@@ -187,6 +187,24 @@ pub static FAULTS: [Case; 12] = [
         }],
         answer: Answer::Fault(TableName::Hasher, 6, 22, 1),
     },
+    // a bitwise operation of no kind
+    Case {
+        run: Named::BitwiseMore,
+        changes: &[Change {
+            table: TableName::Bitwise,
+            cell: (0, 0, 2),
+        }],
+        answer: Answer::Fault(TableName::Bitwise, 0, 1, 2),
+    },
+    // a word that is read, and was never written
+    Case {
+        run: Named::AccessMore,
+        changes: &[Change {
+            table: TableName::Memory,
+            cell: (0, 5, 1),
+        }],
+        answer: Answer::Fault(TableName::Memory, 0, 11, MINUS_ONE),
+    },
     // a digest that is not in the kernel
     Case {
         run: Named::EmptyWithKernel,
@@ -198,8 +216,8 @@ pub static FAULTS: [Case; 12] = [
     },
 ];
 
-/// A bus apart; of the loops, of bitwise operations and of memory there are no rows so far.
-pub static APART: [Case; 7] = [
+/// A bus apart; each but that of the loops.
+pub static APART: [Case; 9] = [
     // an END of a block of another kind
     Case {
         run: Named::Empty,
@@ -235,6 +253,18 @@ pub static APART: [Case; 7] = [
         run: Named::TwoHashes,
         changes: &[],
         answer: Answer::Bus(Bus::Hasher, &[1, 9, 0, 0, 0, 0, 0, 0, 0, 0, 0], 0, 1),
+    },
+    // a bitwise operation that nobody asks
+    Case {
+        run: Named::BitwiseMore,
+        changes: &[],
+        answer: Answer::Bus(Bus::Bitwise, &[0, 0, 0, 0], 0, 1),
+    },
+    // an access of memory that nobody asks
+    Case {
+        run: Named::AccessMore,
+        changes: &[],
+        answer: Answer::Bus(Bus::Memory, &[0, 0, 0, 0, 0, 0, 0, 0], 0, 1),
     },
     // a value that nobody asks
     Case {

@@ -21,11 +21,17 @@ pub struct Run {
     /// The hasher's.
     pub hasher: &'static [Cell],
     pub hasher_rows: usize,
+    /// How many rows the table of bitwise operations has, all of zeros, and how many memory has.
+    pub bitwise_rows: usize,
+    pub memory_rows: usize,
     pub left: &'static [u64],
     pub digest: [u64; 4],
     pub inputs: &'static [u64],
     pub outputs: &'static [u64],
 }
+
+// A read of a word that nothing was written to.
+static READ: [Cell; 1] = [(0, 8, 1)];
 
 /// What a case changes: a cell of a table.
 pub struct Change {
@@ -133,8 +139,8 @@ pub fn trace(
             run.hasher,
             changes,
         )?,
-        bitwise: Table::new(alloc),
-        memory: Table::new(alloc),
+        bitwise: table(alloc, TableName::Bitwise, run.bitwise_rows, &[], changes)?,
+        memory: table(alloc, TableName::Memory, run.memory_rows, &READ, changes)?,
         kernel: table(alloc, TableName::Kernel, kernel_rows, &[], changes)?,
         left: left_table(alloc, run.left, changes)?,
     })

@@ -16,6 +16,10 @@ pub enum Named {
     OtherDigest,
     /// The same with a permutation more.
     TwoHashes,
+    /// The same with a bitwise operation more.
+    BitwiseMore,
+    /// The same with an access of memory more.
+    AccessMore,
     /// push.2 push.3 add push.7.
     Pushes,
     /// The same with another key of the second cell that is left.
@@ -42,6 +46,8 @@ impl Named {
             Named::KeepsOne => empty(0, &[1], &ONE, 8),
             Named::OtherDigest => empty(1, &[], &ZEROS, 8),
             Named::TwoHashes => empty(0, &[], &ZEROS, 16),
+            Named::BitwiseMore => empty_beside(8, 0),
+            Named::AccessMore => empty_beside(0, 1),
             Named::Pushes => pushes(&[4, 1]),
             Named::OtherKey => pushes(&[4, 2]),
             Named::Push => push(),
@@ -60,11 +66,20 @@ fn empty(digest: u64, inputs: &'static [u64], outputs: &'static [u64], hasher_ro
         rows: 4,
         hasher: &[],
         hasher_rows,
+        bitwise_rows: 0,
+        memory_rows: 0,
         left: &[],
         digest: [digest, 0, 0, 0],
         inputs,
         outputs,
     }
+}
+
+fn empty_beside(bitwise_rows: usize, memory_rows: usize) -> Run {
+    let mut run = empty(0, &[], &ZEROS, 8);
+    run.bitwise_rows = bitwise_rows;
+    run.memory_rows = memory_rows;
+    run
 }
 
 fn pushes(left: &'static [u64]) -> Run {
@@ -73,6 +88,8 @@ fn pushes(left: &'static [u64]) -> Run {
         rows: 8,
         hasher: &PUSHES_HASH,
         hasher_rows: 8,
+        bitwise_rows: 0,
+        memory_rows: 0,
         left,
         digest: [
             17247360382068781047,
@@ -91,6 +108,8 @@ fn push() -> Run {
         rows: 5,
         hasher: &[],
         hasher_rows: 8,
+        bitwise_rows: 0,
+        memory_rows: 0,
         left: &[1],
         digest: [0, 0, 0, 0],
         inputs: &[],
