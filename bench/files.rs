@@ -76,30 +76,31 @@ pub fn decode(bytes: &[u8]) -> Option<Tables> {
     later.is_empty().then_some(Tables { main, range, hasher, bitwise, memory, kernel, left })
 }
 
-fn push_rows<const N: usize>(bytes: &mut Vec<u8>, rows: &[[u64; N]]) {
-    for row in rows {
-        for cell in row {
-            bytes.extend_from_slice(&cell.to_le_bytes());
-        }
+// Writes rows to the front of the bytes, and gives the bytes behind them.
+fn write_rows<'a, const N: usize>(bytes: &'a mut [u8], rows: &[[u64; N]]) -> &'a mut [u8] {
+    let (front, later) = bytes.split_at_mut(8 * N * rows.len());
+    for (part, cell) in front.chunks_exact_mut(8).zip(rows.as_flattened()) {
+        part.copy_from_slice(&cell.to_le_bytes());
     }
+    later
 }
 
 pub fn encode(tables: &Tables) -> Vec<u8> {
     let Tables { main, range, hasher, bitwise, memory, kernel, left } = tables;
     let counts = [main.len(), range.len(), hasher.len(), bitwise.len(), memory.len(), kernel.len(), left.len()];
     let cells: usize = counts.iter().zip([65, 2, 15, 12, 14, 5, 1]).map(|(count, width)| count * width).sum();
-    let mut bytes = Vec::with_capacity(36 + 8 * cells);
-    bytes.extend_from_slice(b"MDTB\x01\0\0\0");
-    for count in counts {
-        bytes.extend_from_slice(&(count as u32).to_le_bytes());
+    let mut bytes = vec![0; 36 + 8 * cells];
+    bytes[..8].copy_from_slice(b"MDTB\x01\0\0\0");
+    for (part, count) in bytes[8..36].chunks_exact_mut(4).zip(counts) {
+        part.copy_from_slice(&(count as u32).to_le_bytes());
     }
-    push_rows(&mut bytes, main);
-    push_rows(&mut bytes, range);
-    push_rows(&mut bytes, hasher);
-    push_rows(&mut bytes, bitwise);
-    push_rows(&mut bytes, memory);
-    push_rows(&mut bytes, kernel);
-    push_rows(&mut bytes, left);
+    let later = write_rows(&mut bytes[36..], main);
+    let later = write_rows(later, range);
+    let later = write_rows(later, hasher);
+    let later = write_rows(later, bitwise);
+    let later = write_rows(later, memory);
+    let later = write_rows(later, kernel);
+    write_rows(later, left);
     bytes
 }
 

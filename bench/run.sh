@@ -18,6 +18,7 @@ top=$(cd "$(dirname "$0")/.." && pwd)
 work=$(mktemp -d)
 trap 'rm -rf "$work"' EXIT
 
+kernel=
 # shellcheck source=bench/sources.sh
 . "$top/bench/sources.sh"
 

@@ -1,11 +1,11 @@
 # shellcheck shell=bash
 # The programs that run.sh and check.sh time, for them to read. `make_source CASE` writes program.masm, inputs and, where the
 # program has a kernel, kernel.masm into the folder where it is called, and sets `kernel` to that file's name or to nothing.
-# TURNS is how often the source's outer body is repeated.
+# TURNS is how often the source's outer body is repeated, and STACK what the stack begins with.
 
-# One span. A turn of 126 cycles or so leaves one cell more than it found, and the end drops half of them. It has groups and
-# immediates in all places, shifts to both sides above the sixteenth cell and below it, and comparisons of what is the same and
-# what differs.
+# One span. A turn of 126 cycles or so leaves one cell more than it found, and the end drops half of them, or DROPPED. It has
+# groups and immediates in all places, shifts to both sides above the sixteenth cell and below it, and comparisons of what is
+# the same and what differs.
 span_source() {
     local turns=${TURNS:-4140}
     cat <<END
@@ -28,7 +28,7 @@ begin
             dup mul add.11 neg swap neq.4 swap mul
         end
     end
-    repeat.$((turns / 2))
+    repeat.${DROPPED:-$((turns / 2))}
         drop
     end
 end
@@ -116,7 +116,7 @@ END
 # shellcheck disable=SC2034 # the one who reads this file uses `kernel`
 make_source() {
     "$1_source" >program.masm
-    echo '{"advice":[11,12,13,14],"stack":[5,8]}' >inputs
+    echo "{\"advice\":[11,12,13,14],\"stack\":[${STACK-5,8}]}" >inputs
     kernel=
     if [ "$1" = all ]; then
         all_kernel >kernel.masm
