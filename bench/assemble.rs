@@ -1,5 +1,5 @@
-//! Assembling in plain Rust, for `assemble.sh` to compare with: tokens, syntax trees, names and uses, sizes, and the
-//! tree, for the part of the language that the cases use.
+//! Assembling in plain Rust, for `assemble.sh` and `run.sh` to compare with: tokens, syntax trees, names and uses, sizes, and
+//! the tree, for the part of the language that the cases use.
 use std::collections::HashMap;
 use std::time::Instant;
 
@@ -26,7 +26,9 @@ pub enum Cause {
     UnknownInstruction,
     NumberRange,
     Duplicate,
+    LocalsRange,
     UnknownProcedure,
+    NotInKernel,
     Recursive,
     TooManyOps,
     TooDeep,
@@ -38,14 +40,37 @@ pub type Refused = (At, Cause);
 enum Name {
     Neg,
     Add,
+    Sub,
     Mul,
+    Not,
     Swap,
     Drop,
+    DropW,
+    PadW,
     Dup,
+    MovUp,
+    MovDn,
     Eq,
     Neq,
+    IsOdd,
+    U32Split,
+    U32WrappingAdd,
+    U32WrappingSub,
+    U32WrappingMul,
+    U32WrappingMadd,
+    U32CheckedDiv,
+    U32CheckedAnd,
+    U32CheckedXor,
+    AdvPush,
     MemLoad,
+    MemLoadW,
     MemStore,
+    MemStoreW,
+    LocLoad,
+    LocLoadW,
+    LocStore,
+    LocStoreW,
+    HPerm,
     Push,
 }
 
@@ -56,12 +81,22 @@ enum Stmt {
     Repeat(u32, Vec<Stmt>),
     Exec(At, String),
     Call(At, String),
+    Syscall(At, String),
 }
 
 struct Proc {
     name: String,
     at: At,
+    kind: Kind,
+    locals: u64,
     body: Vec<Stmt>,
+}
+
+#[derive(Clone, Copy, PartialEq)]
+enum Kind {
+    Own,
+    Export,
+    Main,
 }
 
 #[derive(Clone, Copy)]
@@ -71,6 +106,7 @@ struct Item {
 }
 
 const NOOP: u64 = 0;
+const FMPUPDATE: u64 = 49;
 const PAD: u64 = 52;
 const PUSH: u64 = 69;
 
@@ -83,6 +119,7 @@ pub enum Tree {
     Split(Box<Tree>, Box<Tree>),
     Loop(Box<Tree>),
     Call(Box<Tree>),
+    Syscall(Box<Tree>),
 }
 
 enum Piece {
@@ -124,31 +161,76 @@ fn lex(source: &[u8]) -> Result<Vec<Token>, Refused> {
     Ok(tokens)
 }
 
-fn instruction(at: At, parts: &[&str]) -> Result<Stmt, Refused> {
-    let (name, least, most) = match parts[0] {
+// An instruction's name, and how many numbers it may have.
+fn named(text: &str) -> Option<(Name, usize, usize)> {
+    Some(match text {
         "neg" => (Name::Neg, 0, 0),
         "add" => (Name::Add, 0, 1),
+        "sub" => (Name::Sub, 0, 1),
         "mul" => (Name::Mul, 0, 1),
+        "not" => (Name::Not, 0, 0),
         "swap" => (Name::Swap, 0, 0),
         "drop" => (Name::Drop, 0, 0),
-        "dup" => (Name::Dup, 0, 0),
+        "dropw" => (Name::DropW, 0, 0),
+        "padw" => (Name::PadW, 0, 0),
+        "dup" => (Name::Dup, 0, 1),
+        "movup" => (Name::MovUp, 1, 1),
+        "movdn" => (Name::MovDn, 1, 1),
         "eq" => (Name::Eq, 0, 1),
         "neq" => (Name::Neq, 0, 1),
+        "is_odd" => (Name::IsOdd, 0, 0),
+        "u32split" => (Name::U32Split, 0, 0),
+        "u32wrapping_add" => (Name::U32WrappingAdd, 0, 1),
+        "u32wrapping_sub" => (Name::U32WrappingSub, 0, 1),
+        "u32wrapping_mul" => (Name::U32WrappingMul, 0, 1),
+        "u32wrapping_madd" => (Name::U32WrappingMadd, 0, 0),
+        "u32checked_div" => (Name::U32CheckedDiv, 0, 1),
+        "u32checked_and" => (Name::U32CheckedAnd, 0, 0),
+        "u32checked_xor" => (Name::U32CheckedXor, 0, 0),
+        "adv_push" => (Name::AdvPush, 1, 1),
         "mem_load" => (Name::MemLoad, 0, 1),
+        "mem_loadw" => (Name::MemLoadW, 0, 1),
         "mem_store" => (Name::MemStore, 0, 1),
+        "mem_storew" => (Name::MemStoreW, 0, 1),
+        "loc_load" => (Name::LocLoad, 1, 1),
+        "loc_loadw" => (Name::LocLoadW, 1, 1),
+        "loc_store" => (Name::LocStore, 1, 1),
+        "loc_storew" => (Name::LocStoreW, 1, 1),
+        "hperm" => (Name::HPerm, 0, 0),
         "push" => (Name::Push, 1, 16),
-        _ => return Err((at, Cause::UnknownInstruction)),
+        _ => return None,
+    })
+}
+
+// The least number, and the first one that is too great.
+fn range(name: Name, locals: u64) -> (u64, u64) {
+    match name {
+        Name::Dup => (0, 16),
+        Name::MovUp | Name::MovDn => (2, 9),
+        Name::AdvPush => (1, 17),
+        Name::LocLoad | Name::LocLoadW | Name::LocStore | Name::LocStoreW => (0, locals),
+        Name::U32WrappingAdd | Name::U32WrappingSub | Name::U32WrappingMul | Name::U32CheckedDiv => (0, 1 << 32),
+        Name::MemLoad | Name::MemLoadW | Name::MemStore | Name::MemStoreW => (0, 1 << 32),
+        _ => (0, PRIME),
+    }
+}
+
+fn instruction(at: At, parts: &[&str], locals: u64) -> Result<Stmt, Refused> {
+    let Some((name, least, most)) = named(parts[0]) else {
+        return Err((at, Cause::UnknownInstruction));
     };
     if parts.len() - 1 < least || parts.len() - 1 > most {
         return Err((at, Cause::Syntax));
     }
+    let (lowest, end) = range(name, locals);
+    let is_local = matches!(name, Name::LocLoad | Name::LocLoadW | Name::LocStore | Name::LocStoreW);
     let mut numbers = Vec::with_capacity(parts.len() - 1);
     for part in &parts[1..] {
         let number: u128 = part.parse().map_err(|_| (at, Cause::Syntax))?;
-        if number >= PRIME as u128 {
-            return Err((at, Cause::NumberRange));
+        if number < lowest as u128 || number >= end as u128 {
+            return Err((at, if is_local { Cause::LocalsRange } else { Cause::NumberRange }));
         }
-        numbers.push(number as u64);
+        numbers.push(if is_local { PRIME - (locals - number as u64) } else { number as u64 });
     }
     Ok(Stmt::Instr(name, numbers))
 }
@@ -160,11 +242,35 @@ enum Open {
     Repeat(u32, Vec<Stmt>),
 }
 
-// The procedures, and the body between `begin` and `end`.
-fn parse(source: &[u8], tokens: &[Token]) -> Result<(Vec<Proc>, Proc), Refused> {
-    let mut procs = Vec::new();
-    let mut main = None;
-    let mut home: Option<(String, At, bool)> = None;
+// What begins a procedure, or the program.
+fn header(at: At, parts: &[&str], is_kernel: bool) -> Result<Proc, Refused> {
+    let kind = match (parts[0], parts.len()) {
+        ("proc", 2 | 3) => Kind::Own,
+        ("export", 2 | 3) if is_kernel => Kind::Export,
+        ("begin", 1) if !is_kernel => Kind::Main,
+        _ => return Err((at, Cause::Syntax)),
+    };
+    let locals: u64 = parts.get(2).map_or(Ok(0), |count| count.parse()).map_err(|_| (at, Cause::Syntax))?;
+    if locals > 65535 {
+        return Err((at, Cause::LocalsRange));
+    }
+    Ok(Proc { name: parts.get(1).unwrap_or(&"begin").to_string(), at, kind, locals, body: Vec::new() })
+}
+
+// What ends here, with what stands before it.
+fn closed(open: Open, inner: Vec<Stmt>) -> (Vec<Stmt>, Stmt) {
+    match open {
+        Open::If(before) => (before, Stmt::If(inner, Vec::new())),
+        Open::Else(before, first) => (before, Stmt::If(first, inner)),
+        Open::While(before) => (before, Stmt::While(inner)),
+        Open::Repeat(count, before) => (before, Stmt::Repeat(count, inner)),
+    }
+}
+
+// The procedures, that of a program's body last.
+fn parse(source: &[u8], tokens: &[Token], is_kernel: bool) -> Result<Vec<Proc>, Refused> {
+    let mut procs: Vec<Proc> = Vec::new();
+    let mut home: Option<Proc> = None;
     let mut opens: Vec<Open> = Vec::new();
     let mut body = Vec::new();
     for token in tokens {
@@ -172,15 +278,11 @@ fn parse(source: &[u8], tokens: &[Token]) -> Result<(Vec<Proc>, Proc), Refused> 
         let text = std::str::from_utf8(&source[token.start..token.end]).map_err(|_| (at, Cause::Syntax))?;
         let parts: Vec<&str> = text.split('.').collect();
         let syntax = Err((at, Cause::Syntax));
-        if main.is_some() {
+        if procs.last().is_some_and(|proc| proc.kind == Kind::Main) {
             return syntax;
         }
-        let Some((name, start, is_main)) = &home else {
-            home = match (parts[0], parts.len()) {
-                ("proc", 2) => Some((parts[1].to_string(), at, false)),
-                ("begin", 1) => Some((String::from("begin"), at, true)),
-                _ => return syntax,
-            };
+        let Some(proc) = &home else {
+            home = Some(header(at, &parts, is_kernel)?);
             continue;
         };
         match parts[0] {
@@ -196,35 +298,33 @@ fn parse(source: &[u8], tokens: &[Token]) -> Result<(Vec<Proc>, Proc), Refused> 
             },
             "exec" => body.push(Stmt::Exec(at, parts[1].to_string())),
             "call" => body.push(Stmt::Call(at, parts[1].to_string())),
+            "syscall" => body.push(Stmt::Syscall(at, parts[1].to_string())),
             "end" => {
                 let inner = std::mem::take(&mut body);
-                let (mut before, stmt) = match opens.pop() {
-                    Some(Open::If(before)) => (before, Stmt::If(inner, Vec::new())),
-                    Some(Open::Else(before, first)) => (before, Stmt::If(first, inner)),
-                    Some(Open::While(before)) => (before, Stmt::While(inner)),
-                    Some(Open::Repeat(count, before)) => (before, Stmt::Repeat(count, inner)),
-                    None => {
-                        let done = Proc { name: name.clone(), at: *start, body: inner };
-                        if *is_main {
-                            main = Some(done);
-                        } else {
-                            procs.push(done);
-                        }
-                        home = None;
-                        continue;
-                    }
+                let Some(open) = opens.pop() else {
+                    procs.extend(home.take().map(|proc| Proc { body: inner, ..proc }));
+                    continue;
                 };
-                before.push(stmt);
+                let (before, stmt) = closed(open, inner);
                 body = before;
+                body.push(stmt);
             }
-            _ => body.push(instruction(at, &parts)?),
+            _ => body.push(instruction(at, &parts, proc.locals)?),
         }
     }
+    let is_whole = home.is_none() && (is_kernel || procs.last().is_some_and(|proc| proc.kind == Kind::Main));
     let end = At { line: 0, column: 0 };
-    main.map(|main| (procs, main)).ok_or((end, Cause::Syntax))
+    if is_whole { Ok(procs) } else { Err((end, Cause::Syntax)) }
 }
 
-fn uses<'a>(body: &'a [Stmt], out: &mut Vec<(At, &'a str)>) {
+/// A statement that names a procedure of the source, or of the kernel.
+struct Use<'a> {
+    at: At,
+    name: &'a str,
+    of_kernel: bool,
+}
+
+fn uses<'a>(body: &'a [Stmt], out: &mut Vec<Use<'a>>) {
     for stmt in body {
         match stmt {
             Stmt::Instr(..) => {}
@@ -233,7 +333,8 @@ fn uses<'a>(body: &'a [Stmt], out: &mut Vec<(At, &'a str)>) {
                 uses(second, out);
             }
             Stmt::While(turn) | Stmt::Repeat(_, turn) => uses(turn, out),
-            Stmt::Exec(at, name) | Stmt::Call(at, name) => out.push((*at, name)),
+            Stmt::Exec(at, name) | Stmt::Call(at, name) => out.push(Use { at: *at, name, of_kernel: false }),
+            Stmt::Syscall(at, name) => out.push(Use { at: *at, name, of_kernel: true }),
         }
     }
 }
@@ -281,28 +382,88 @@ impl Size {
 }
 
 fn expand(name: Name, numbers: &[u64], out: &mut Vec<Item>) {
-    for number in numbers {
-        out.push(if *number == 0 { Item { code: PAD, imm: 0 } } else { Item { code: PUSH, imm: *number } });
+    let first = numbers.first().copied().unwrap_or(0);
+    let plain = |code: u64| Item { code, imm: 0 };
+    match name {
+        Name::Dup if first < 8 => return out.push(plain(53 + first)),
+        Name::Dup if first % 2 == 1 => return out.push(plain(61 + (first - 9) / 2)),
+        Name::Dup => return out.extend([PAD, 61 + (first - 8) / 2, 37].map(plain)),
+        Name::MovUp => return out.push(plain(6 + 2 * first)),
+        Name::MovDn => return out.push(plain(7 + 2 * first)),
+        Name::AdvPush => return out.extend((0..first).map(|_| plain(65))),
+        Name::IsOdd => out.extend([plain(68), plain(43), Item { code: PUSH, imm: 2 }]),
+        _ => out.extend(numbers.iter().map(|number| literal(*number))),
     }
     let codes: &[u64] = match name {
         Name::Neg => &[2],
         Name::Add => &[37],
+        Name::Sub => &[2, 37],
         Name::Mul => &[38],
+        Name::Not => &[5],
         Name::Swap => &[8],
         Name::Drop => &[43],
-        Name::Dup => &[53],
+        Name::DropW => &[43; 4],
+        Name::PadW => &[52; 4],
         Name::Eq => &[36],
         Name::Neq => &[36, 5],
+        Name::IsOdd => &[33, 8, 43],
+        Name::U32Split => &[68],
+        Name::U32WrappingAdd => &[30, 43],
+        Name::U32WrappingSub => &[31, 43],
+        Name::U32WrappingMul => &[32, 43],
+        Name::U32WrappingMadd => &[51, 43],
+        Name::U32CheckedDiv => &[33, 43],
+        Name::U32CheckedAnd => &[41],
+        Name::U32CheckedXor => &[42],
         Name::MemLoad => &[7],
+        Name::MemLoadW => &[46],
         Name::MemStore => &[47, 43],
-        Name::Push => &[],
+        Name::MemStoreW => &[48],
+        Name::LocLoad => &[6, 7],
+        Name::LocLoadW => &[6, 46],
+        Name::LocStore => &[6, 47, 43],
+        Name::LocStoreW => &[6, 48],
+        Name::HPerm => &[29],
+        Name::Push | Name::Dup | Name::MovUp | Name::MovDn | Name::AdvPush => &[],
     };
-    out.extend(codes.iter().map(|code| Item { code: *code, imm: 0 }));
+    out.extend(codes.iter().map(|code| plain(*code)));
+}
+
+fn literal(number: u64) -> Item {
+    if number == 0 { Item { code: PAD, imm: 0 } } else { Item { code: PUSH, imm: number } }
+}
+
+// What stands in front of a procedure with locals, and the same number less behind it.
+fn moves_frame(number: u64) -> [Item; 2] {
+    [literal(number), Item { code: FMPUPDATE, imm: 0 }]
+}
+
+/// What a kernel exports: names, trees, how many operations each has and how high it is.
+#[derive(Default)]
+pub struct Kernel {
+    exports: Vec<Export>,
+}
+
+struct Export {
+    name: String,
+    tree: Tree,
+    block: (u64, u32),
+}
+
+impl Kernel {
+    fn export(&self, name: &str) -> Option<&Export> {
+        self.exports.iter().find(|export| export.name == name)
+    }
+
+    pub fn into_trees(self) -> Vec<Tree> {
+        self.exports.into_iter().map(|export| export.tree).collect()
+    }
 }
 
 struct Linker<'a> {
     procs: &'a [Proc],
     places: HashMap<&'a str, usize>,
+    kernel: &'a Kernel,
 }
 
 impl<'a> Linker<'a> {
@@ -336,8 +497,24 @@ impl<'a> Linker<'a> {
                     let (operations, height) = sizes[self.places[name.as_str()]].block();
                     size.add(operations, &[1 + height]);
                 }
+                Stmt::Syscall(_, name) => {
+                    let (operations, height) = self.kernel.export(name).expect("a known export").block;
+                    size.add(operations, &[1 + height]);
+                }
             }
         }
+    }
+
+    fn size_of_proc(&self, sizes: &[Size], proc: &Proc) -> Size {
+        let mut size = Size { operations: 0, parts: Vec::new() };
+        if proc.locals > 0 {
+            size.add(2, &[0]);
+        }
+        self.size(sizes, &proc.body, &mut size);
+        if proc.locals > 0 {
+            size.add(2, &[0]);
+        }
+        size
     }
 
     fn size_of(&self, sizes: &[Size], body: &[Stmt]) -> Size {
@@ -369,18 +546,41 @@ impl<'a> Linker<'a> {
                         }));
                     }
                 }
-                Stmt::Exec(_, name) => self.flatten(&self.procs[self.places[name.as_str()]].body, out),
+                Stmt::Exec(_, name) => self.flatten_proc(&self.procs[self.places[name.as_str()]], out),
                 Stmt::Call(_, name) => {
-                    let callee = self.tree(&self.procs[self.places[name.as_str()]].body);
+                    let callee = self.tree_of_proc(&self.procs[self.places[name.as_str()]]);
                     out.push(Piece::Whole(Tree::Call(Box::new(callee))));
+                }
+                Stmt::Syscall(_, name) => {
+                    let callee = self.kernel.export(name).expect("a known export").tree.clone();
+                    out.push(Piece::Whole(Tree::Syscall(Box::new(callee))));
                 }
             }
         }
     }
 
+    fn flatten_proc(&self, proc: &Proc, out: &mut Vec<Piece>) {
+        if proc.locals == 0 {
+            return self.flatten(&proc.body, out);
+        }
+        out.extend(moves_frame(proc.locals).map(Piece::Operation));
+        self.flatten(&proc.body, out);
+        out.extend(moves_frame(PRIME - proc.locals).map(Piece::Operation));
+    }
+
+    fn tree_of_proc(&self, proc: &Proc) -> Tree {
+        let mut pieces = Vec::new();
+        self.flatten_proc(proc, &mut pieces);
+        self.tree_of(pieces)
+    }
+
     fn tree(&self, body: &[Stmt]) -> Tree {
         let mut pieces = Vec::new();
         self.flatten(body, &mut pieces);
+        self.tree_of(pieces)
+    }
+
+    fn tree_of(&self, pieces: Vec<Piece>) -> Tree {
         let (mut level, mut run) = (Vec::new(), Vec::new());
         for piece in pieces {
             match piece {
@@ -497,69 +697,105 @@ fn marked(count: usize, order: &[usize]) -> Vec<bool> {
     marks
 }
 
-pub fn assemble(source: &[u8]) -> Result<Tree, Refused> {
-    let tokens = lex(source)?;
-    let (procs, main) = parse(source, &tokens)?;
+// The first name that is defined twice or leads nowhere, if there is one, and which procedures each one uses.
+fn named_by<'a>(linker: &Linker<'a>, rows: &[Vec<Use<'a>>]) -> (Option<Refused>, Vec<Vec<usize>>) {
     let mut first: Option<Refused> = None;
-    let mut places = HashMap::new();
-    for (place, proc) in procs.iter().enumerate() {
-        if *places.entry(proc.name.as_str()).or_insert(place) != place {
+    for (place, proc) in linker.procs.iter().enumerate() {
+        if proc.kind != Kind::Main && linker.places[proc.name.as_str()] != place {
             first = earlier(first, proc.at, Cause::Duplicate);
         }
     }
-    let linker = Linker { procs: &procs, places };
-    let mut rows = Vec::new();
     let mut graph = Vec::new();
-    for proc in procs.iter().chain([&main]) {
-        let mut row = Vec::new();
-        uses(&proc.body, &mut row);
+    for row in rows {
         let mut own = Vec::new();
-        for (at, name) in &row {
+        for Use { at, name, of_kernel } in row {
             match linker.places.get(name) {
+                _ if *of_kernel => {
+                    if linker.kernel.export(name).is_none() {
+                        first = earlier(first, *at, Cause::NotInKernel);
+                    }
+                }
                 Some(place) => own.push(*place),
                 None => first = earlier(first, *at, Cause::UnknownProcedure),
             }
         }
-        rows.push(row);
         graph.push(own);
     }
-    let in_order = order(&graph);
-    let users = turned(&graph);
-    if in_order.len() < graph.len() {
-        let (below, above) = (marked(graph.len(), &in_order), marked(graph.len(), &order(&users)));
-        for (user, row) in rows.iter().enumerate() {
-            let waits = |at: At| first.as_ref().is_none_or(|(before, _)| is_before(at, *before));
-            if below[user] || above[user] || !row.iter().any(|(at, _)| waits(*at)) {
-                continue;
-            }
-            let marks = reached(&users, user);
-            for (at, name) in row {
-                if linker.places.get(name).is_some_and(|place| marks[*place]) {
-                    first = earlier(first, *at, Cause::Recursive);
-                }
+    (first, graph)
+}
+
+// The first use that leads back to its own procedure, where it comes before what is refused already.
+fn leads_back(linker: &Linker, rows: &[Vec<Use>], graph: &[Vec<usize>], mut first: Option<Refused>) -> Option<Refused> {
+    let users = turned(graph);
+    let (below, above) = (marked(graph.len(), &order(graph)), marked(graph.len(), &order(&users)));
+    for (user, row) in rows.iter().enumerate() {
+        let waits = |at: At| first.as_ref().is_none_or(|(before, _)| is_before(at, *before));
+        if below[user] || above[user] || !row.iter().any(|it| waits(it.at)) {
+            continue;
+        }
+        let marks = reached(&users, user);
+        for Use { at, name, of_kernel } in row {
+            if !of_kernel && linker.places.get(name).is_some_and(|place| marks[*place]) {
+                first = earlier(first, *at, Cause::Recursive);
             }
         }
+    }
+    first
+}
+
+// The names of procedures and how great each is, or the first refusal.
+fn linked<'a>(procs: &'a [Proc], kernel: &'a Kernel) -> Result<(Linker<'a>, Vec<Size>), Refused> {
+    let mut places = HashMap::new();
+    for (place, proc) in procs.iter().enumerate().filter(|(_, proc)| proc.kind != Kind::Main) {
+        places.entry(proc.name.as_str()).or_insert(place);
+    }
+    let linker = Linker { procs, places, kernel };
+    let mut rows = Vec::new();
+    for proc in procs {
+        let mut row = Vec::new();
+        uses(&proc.body, &mut row);
+        rows.push(row);
+    }
+    let (mut first, graph) = named_by(&linker, &rows);
+    let in_order = order(&graph);
+    if in_order.len() < graph.len() {
+        first = leads_back(&linker, &rows, &graph, first);
     }
     if let Some(refused) = first {
         return Err(refused);
     }
     let mut sizes: Vec<Size> = procs.iter().map(|_| Size { operations: 0, parts: Vec::new() }).collect();
     for place in in_order {
-        let proc = if place < procs.len() { &procs[place] } else { &main };
-        let size = linker.size_of(&sizes, &proc.body);
+        let size = linker.size_of_proc(&sizes, &procs[place]);
         if size.operations > MOST {
-            first = earlier(first, proc.at, Cause::TooManyOps);
+            first = earlier(first, procs[place].at, Cause::TooManyOps);
         } else if size.height() > 1024 {
-            first = earlier(first, proc.at, Cause::TooDeep);
+            first = earlier(first, procs[place].at, Cause::TooDeep);
         }
-        if place < procs.len() {
-            sizes[place] = size;
-        }
+        sizes[place] = size;
     }
-    match first {
-        Some(refused) => Err(refused),
-        None => Ok(linker.tree(&main.body)),
+    first.map_or(Ok((linker, sizes)), Err)
+}
+
+pub fn assemble_kernel(source: &[u8]) -> Result<Kernel, Refused> {
+    let procs = parse(source, &lex(source)?, true)?;
+    let none = Kernel::default();
+    let (linker, sizes) = linked(&procs, &none)?;
+    let mut exports = Vec::new();
+    for (proc, size) in procs.iter().zip(&sizes).filter(|(proc, _)| proc.kind == Kind::Export) {
+        exports.push(Export { name: proc.name.clone(), tree: linker.tree_of_proc(proc), block: size.block() });
     }
+    Ok(Kernel { exports })
+}
+
+pub fn assemble_with(source: &[u8], kernel: &Kernel) -> Result<Tree, Refused> {
+    let procs = parse(source, &lex(source)?, false)?;
+    let (linker, _) = linked(&procs, kernel)?;
+    Ok(linker.tree(&procs[procs.len() - 1].body))
+}
+
+pub fn assemble(source: &[u8]) -> Result<Tree, Refused> {
+    assemble_with(source, &Kernel::default())
 }
 
 // How many batches a tree has, and the sum of their elements.
@@ -573,7 +809,7 @@ fn tally(tree: &Tree) -> (u64, u64) {
             let ((m, x), (n, y)) = (tally(a), tally(b));
             (m + n, x.wrapping_add(y))
         }
-        Tree::Loop(a) | Tree::Call(a) => tally(a),
+        Tree::Loop(a) | Tree::Call(a) | Tree::Syscall(a) => tally(a),
     }
 }
 

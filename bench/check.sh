@@ -1,37 +1,45 @@
 #!/bin/bash
-# Two benches of `check` over a table file of ROWS main rows, nearly 2^19, each against plain Rust (check.rs, rustc -O) in
-# turn.
+# Two benches of `check` over the table file of a run, each against plain Rust (check.rs, rustc -O) in turn.
 #
-# `check.sh` times the whole command: the table file and its statement are read, its rows tested, its buses counted and
-# compared, and the evidence is extracted and written, which must be the same text. The ratio of the times is to be at most
-# 1.5, and the peak memory at most 2.5 times the table file. MIDEN is the program in place of the one that the script
-# `miden` builds, RUNS how often both run, and where INSTRUCTIONS is set instructions are counted in place of times
-# (command.py).
+# `check.sh CASE` times the whole command over the run of one of the programs of sources.sh: the table file and its statement
+# are read, its rows tested, its buses counted and compared, and the evidence is extracted and written, which must be the
+# same text. Plain Rust makes the table file as well (fill.rs). The ratio of the times is to be at most 1.5, and the peak
+# memory at most 2.5 times the table file. CASE is `span`, which is meant where there is none: nearly 2^19 rows of the main
+# table; or `loop` or `flow`, of some 430,000; or `all`, of some 79,000. TURNS is how often the source's outer body is
+# repeated, MIDEN the program in place of the one that the script `miden` builds, RUNS how often both run, and where
+# INSTRUCTIONS is set instructions are counted in place of times (command.py).
 #
-# `check.sh crates` times the parts by the crates that the command stands on: reading the file, testing the rows of all its
-# tables, and counting and comparing its buses, which is what `check` takes behind the rows. Prints the least time of each in
-# microseconds and their ratio, which is to be at most 1.5, and the peak memory of the crates' program, which is to be at
-# most 2.2 times the file. The file and the program over the crates are made in a temporary folder; what earlier checks left
-# in the crates' folders out/ is used. Proving that program takes ten minutes and more.
+# `check.sh crates` times the parts by the crates that the command stands on, over a run of one span: reading the file,
+# testing the rows of all its tables, and counting and comparing its buses, which is what `check` takes behind the rows.
+# Prints the least time of each in microseconds and their ratio, which is to be at most 1.5, and the peak memory of the
+# crates' program, which is to be at most 2.2 times the file. The file and the program over the crates are made in a
+# temporary folder; what earlier checks left in the crates' folders out/ is used. Proving that program takes ten minutes and
+# more.
 set -e
 top=$(cd "$(dirname "$0")/.." && pwd)
 work=$(mktemp -d)
 trap 'rm -rf "$work"' EXIT
+kernel=
+# shellcheck source=bench/sources.sh
+. "$top/bench/sources.sh"
 rustc --edition 2021 -O -o "$work/plain" "$top/bench/check.rs"
-rows=${ROWS:-524288}
+rustc --edition 2021 -O -o "$work/fill" "$top/bench/fill.rs"
 
 whole_command() {
     local program=${MIDEN:-$top/crates/miden_cli/out/miden_cli} params=$top/examples/params/derived
     [ -x "$program" ] || "$top/miden" >/dev/null || true
     cd "$work"
-    ./plain make "$params" table statement "$rows"
-    echo "parts of plain Rust: read, decode, rows, buses, evidence"
-    python3 "$top/bench/command.py" check 1.5 2.5 table "${RUNS:-7}" "$program" check "$params" table statement --evidence evidence \
+    make_source "$1"
+    # shellcheck disable=SC2086
+    ./fill "$params" program.masm inputs table statement $kernel >/dev/null 2>&1
+    echo "parts of plain Rust: read, decode, rows and counts, comparing, evidence"
+    python3 "$top/bench/command.py" "check of $1" 1.5 2.5 table "${RUNS:-7}" \
+        "$program" check "$params" table statement --evidence evidence \
         -- ./plain check "$params" table statement plain.evidence -- "evidence plain.evidence"
 }
 
 if [ "$1" != crates ]; then
-    whole_command
+    whole_command "${1:-span}"
     exit
 fi
 libraries='vm_field vm_io vm_table buses vm_ops rpo_hash vm_state chip_columns air_kit air_decoder air_stack air_u32 air_hasher
@@ -131,7 +139,10 @@ unfolding IsDistinct
 new-statement-requires-clause-distinct c = rw c.new.ensures.empty tt
 END_ANSWERS
 zeros=$top/examples/params/zeros
-"$work/plain" make "$zeros" "$work/file" "$work/statement" "$rows"
+cd "$work"
+turns=${TURNS:-4120}
+TURNS=$turns DROPPED=$turns STACK='' make_source span
+./fill "$zeros" program.masm inputs file statement >/dev/null 2>&1
 cd "$work/crates/bench_check"
 rt run >"$work/log" 2>&1 || { cat "$work/log"; exit 1; }
 for _ in 1 2 3 4 5 6 7; do

@@ -1,10 +1,9 @@
 //! The files of `run` and `check` in plain Rust, for run.sh and check.sh to compare with: parameters, tables, statements and
-//! inputs, for programs of ordinary operations without a kernel.
+//! inputs.
 use crate::permute::{PRIME, Params, State};
 
-pub const WIDTHS: [usize; 7] = [65, 2, 15, 12, 14, 5, 1];
-
 // Columns of the main table.
+pub const CLOCK: usize = 0;
 pub const FMP: usize = 1;
 pub const CTX: usize = 2;
 pub const SYS: usize = 3;
@@ -23,62 +22,85 @@ pub const INV: usize = 48;
 pub const HA: usize = 49;
 pub const LV: usize = 50;
 pub const W: usize = 51;
+pub const T: usize = 55;
 
-/// The seven tables: main, range, hasher, bitwise, memory, kernel and left.
+pub type Word = [u64; 4];
+
+/// A row of the main table.
+pub type Row = [u64; 65];
+
 #[derive(Default)]
 pub struct Tables {
-    pub cells: [Vec<u64>; 7],
-}
-
-impl Tables {
-    pub fn rows(&self, table: usize) -> usize {
-        self.cells[table].len() / WIDTHS[table]
-    }
-
-    pub fn row(&self, table: usize, i: usize) -> &[u64] {
-        &self.cells[table][WIDTHS[table] * i..WIDTHS[table] * (i + 1)]
-    }
-
-    pub fn next(&self, table: usize, i: usize) -> Option<&[u64]> {
-        (i + 1 < self.rows(table)).then(|| self.row(table, i + 1))
-    }
+    pub main: Vec<Row>,
+    pub range: Vec<[u64; 2]>,
+    pub hasher: Vec<[u64; 15]>,
+    pub bitwise: Vec<[u64; 12]>,
+    pub memory: Vec<[u64; 14]>,
+    pub kernel: Vec<[u64; 5]>,
+    pub left: Vec<[u64; 1]>,
 }
 
 fn number(bytes: &[u8], at: usize) -> Option<u32> {
     Some(u32::from_le_bytes(bytes.get(at..at + 4)?.try_into().ok()?))
 }
 
+// The rows of a table, and the bytes behind them.
+fn rows<const N: usize>(bytes: &[u8], count: u32) -> Option<(Vec<[u64; N]>, &[u8])> {
+    let (cells, later) = bytes.split_at_checked(8 * N * count as usize)?;
+    let mut rows = Vec::with_capacity(count as usize);
+    for bytes in cells.chunks_exact(8 * N) {
+        let mut row = [0; N];
+        for (cell, bytes) in row.iter_mut().zip(bytes.chunks_exact(8)) {
+            *cell = u64::from_le_bytes(bytes.try_into().ok()?);
+        }
+        if row.iter().any(|cell| *cell >= PRIME) {
+            return None;
+        }
+        rows.push(row);
+    }
+    Some((rows, later))
+}
+
 pub fn decode(bytes: &[u8]) -> Option<Tables> {
     if number(bytes, 0)? != 0x4254_444d || number(bytes, 4)? != 1 {
         return None;
     }
-    let mut at = 36;
-    let mut tables = Tables::default();
-    for (i, width) in WIDTHS.iter().enumerate() {
-        let cells = width * number(bytes, 8 + 4 * i)? as usize;
-        tables.cells[i].reserve_exact(cells);
-        for part in bytes.get(at..at + 8 * cells)?.chunks_exact(8) {
-            let element = u64::from_le_bytes(part.try_into().ok()?);
-            if element >= PRIME {
-                return None;
-            }
-            tables.cells[i].push(element);
-        }
-        at += 8 * cells;
+    let count = |table: usize| number(bytes, 8 + 4 * table);
+    let (main, later) = rows(bytes.get(36..)?, count(0)?)?;
+    let (range, later) = rows(later, count(1)?)?;
+    let (hasher, later) = rows(later, count(2)?)?;
+    let (bitwise, later) = rows(later, count(3)?)?;
+    let (memory, later) = rows(later, count(4)?)?;
+    let (kernel, later) = rows(later, count(5)?)?;
+    let (left, later) = rows(later, count(6)?)?;
+    later.is_empty().then_some(Tables { main, range, hasher, bitwise, memory, kernel, left })
+}
+
+// Writes rows to the front of the bytes, and gives the bytes behind them.
+fn write_rows<'a, const N: usize>(bytes: &'a mut [u8], rows: &[[u64; N]]) -> &'a mut [u8] {
+    let (front, later) = bytes.split_at_mut(8 * N * rows.len());
+    for (part, cell) in front.chunks_exact_mut(8).zip(rows.as_flattened()) {
+        part.copy_from_slice(&cell.to_le_bytes());
     }
-    (at == bytes.len()).then_some(tables)
+    later
 }
 
 pub fn encode(tables: &Tables) -> Vec<u8> {
-    let cells: usize = tables.cells.iter().map(Vec::len).sum();
-    let mut bytes = Vec::with_capacity(36 + 8 * cells);
-    bytes.extend_from_slice(b"MDTB\x01\0\0\0");
-    for table in 0..7 {
-        bytes.extend_from_slice(&(tables.rows(table) as u32).to_le_bytes());
+    let Tables { main, range, hasher, bitwise, memory, kernel, left } = tables;
+    let counts = [main.len(), range.len(), hasher.len(), bitwise.len(), memory.len(), kernel.len(), left.len()];
+    let cells: usize = counts.iter().zip([65, 2, 15, 12, 14, 5, 1]).map(|(count, width)| count * width).sum();
+    let mut bytes = vec![0; 36 + 8 * cells];
+    bytes[..8].copy_from_slice(b"MDTB\x01\0\0\0");
+    for (part, count) in bytes[8..36].chunks_exact_mut(4).zip(counts) {
+        part.copy_from_slice(&(count as u32).to_le_bytes());
     }
-    for cells in &tables.cells {
-        bytes.extend(cells.iter().flat_map(|element| element.to_le_bytes()));
-    }
+    let later = write_rows(&mut bytes[36..], main);
+    let later = write_rows(later, range);
+    let later = write_rows(later, hasher);
+    let later = write_rows(later, bitwise);
+    let later = write_rows(later, memory);
+    let later = write_rows(later, kernel);
+    write_rows(later, left);
     bytes
 }
 
@@ -91,7 +113,8 @@ pub fn read_params(text: &str) -> Params {
 
 /// What is claimed of a run.
 pub struct Statement {
-    pub digest: [u64; 4],
+    pub digest: Word,
+    pub kernel: Vec<Word>,
     pub inputs: Vec<u64>,
     pub outputs: Vec<u64>,
 }
@@ -109,11 +132,19 @@ pub fn numbers_of(text: &str, key: &str) -> Vec<u64> {
     parts.filter(|part| !part.is_empty()).map(|part| part.parse().expect("a number")).collect()
 }
 
+fn word_of(digits: &str) -> Word {
+    std::array::from_fn(|i| u64::from_str_radix(&digits[16 * i..16 * i + 16], 16).expect("digits"))
+}
+
+pub fn hex(word: &Word) -> String {
+    word.iter().map(|element| format!("{element:016x}")).collect()
+}
+
 pub fn read_statement(text: &str) -> Statement {
-    let digits = behind(text, "\"digest\":", ['"', '"']);
-    let element = |i: usize| u64::from_str_radix(&digits[16 * i..16 * i + 16], 16).expect("digits");
+    let kernel = behind(text, "\"kernel\"", ['[', ']']).split('"').filter(|part| part.len() == 64);
     Statement {
-        digest: std::array::from_fn(element),
+        digest: word_of(behind(text, "\"digest\":", ['"', '"'])),
+        kernel: kernel.map(word_of).collect(),
         inputs: numbers_of(text, "\"inputs\""),
         outputs: numbers_of(text, "\"outputs\""),
     }
@@ -124,9 +155,14 @@ fn joined(numbers: &[u64]) -> String {
 }
 
 pub fn write_statement(statement: &Statement) -> String {
-    let digest: String = statement.digest.iter().map(|element| format!("{element:016x}")).collect();
-    let (inputs, outputs) = (joined(&statement.inputs), joined(&statement.outputs));
-    format!("{{\"digest\":\"{digest}\",\"inputs\":[{inputs}],\"kernel\":[],\"outputs\":[{outputs}]}}")
+    let kernel: Vec<String> = statement.kernel.iter().map(|word| format!("\"{}\"", hex(word))).collect();
+    format!(
+        "{{\"digest\":\"{}\",\"inputs\":[{}],\"kernel\":[{}],\"outputs\":[{}]}}",
+        hex(&statement.digest),
+        joined(&statement.inputs),
+        kernel.join(","),
+        joined(&statement.outputs)
+    )
 }
 
 pub fn read_text(path: &str) -> String {

@@ -16,7 +16,7 @@ fn tree_of(tree: Assembled) -> Tree {
         Assembled::Join(a, b) => Tree::Join(Box::new(tree_of(*a)), Box::new(tree_of(*b))),
         Assembled::Loop(body) => Tree::Loop(Box::new(tree_of(*body))),
         Assembled::Call(callee) => Tree::Call(Box::new(tree_of(*callee))),
-        Assembled::Split(..) => unimplemented!("the case has no split"),
+        Assembled::Split(..) | Assembled::Syscall(_) => unimplemented!("the case has none"),
     }
 }
 

@@ -1,12 +1,13 @@
 #!/bin/bash
 # Two benches of `run`, each against plain Rust (rustc -O) in turn.
 #
-# `run.sh` times the whole command over a program of one span, of nearly 2^19 rows of the main table: the source is read,
-# assembled and executed, all tables are filled, and the table file and the statement are written. Plain Rust is span.rs;
-# its files must be the same byte for byte. The ratio of the times is to be at most 1.5, and the peak memory at most 2.2
-# times the table file. TURNS is how often the source's outer body is repeated, MIDEN the program in place of the one that
-# the script `miden` builds, RUNS how often both run, and where INSTRUCTIONS is set instructions are counted in place of
-# times (command.py).
+# `run.sh CASE` times the whole command over one of the programs of sources.sh: the source is read, assembled and executed,
+# all tables are filled, and the table file and the statement are written. Plain Rust is fill.rs; its files must be the same
+# byte for byte. The ratio of the times is to be at most 1.5, and the peak memory at most 2.2 times the table file. CASE is
+# `span`, which is meant where there is none: nearly 2^19 rows of the main table; or `loop` or `flow`, of some 430,000; or
+# `all`, of some 79,000. TURNS is how often the source's outer body is repeated, MIDEN the program in place of the one that
+# the script `miden` builds, RUNS how often both run, and where INSTRUCTIONS is set instructions are counted in place of times
+# (command.py).
 #
 # `run.sh crates` times a source of about 500,000 cycles, a loop with calls that read and write memory, by the crates that
 # the command stands on and by run.rs: the source is read, assembled and executed, and the cycles and the outputs are
@@ -17,48 +18,26 @@ top=$(cd "$(dirname "$0")/.." && pwd)
 work=$(mktemp -d)
 trap 'rm -rf "$work"' EXIT
 
-# A turn of 126 cycles or so leaves one cell more than it found, and the end drops half of them. It has groups and immediates in all
-# places, shifts to both sides above the sixteenth cell and below it, and comparisons of what is the same and what differs.
+kernel=
+# shellcheck source=bench/sources.sh
+. "$top/bench/sources.sh"
+
 whole_command() {
-    local turns=${TURNS:-4140} program=${MIDEN:-$top/crates/miden_cli/out/miden_cli}
+    local program=${MIDEN:-$top/crates/miden_cli/out/miden_cli}
     [ -x "$program" ] || "$top/miden" >/dev/null || true
-    cat >"$work/span.masm" <<END
-begin
-    repeat.$turns
-        push.3.5.0
-        repeat.3
-            push.1000003 add dup mul swap neg add.18446744069414584320 push.9 mul
-        end
-        repeat.6
-            dup dup push.7 swap eq drop
-        end
-        repeat.6
-            repeat.2
-                neg swap
-            end
-            drop
-        end
-        repeat.2
-            dup mul add.11 neg swap neq.4 swap mul
-        end
-    end
-    repeat.$((turns / 2))
-        drop
-    end
-end
-END
-    echo '{"advice":[],"stack":[5,8]}' >"$work/inputs"
-    rustc --edition 2021 -O -o "$work/span" "$top/bench/span.rs"
+    rustc --edition 2021 -O -o "$work/fill" "$top/bench/fill.rs"
     cd "$work"
-    local files="$top/examples/params/derived span.masm inputs"
+    make_source "$1"
+    local files="$top/examples/params/derived program.masm inputs"
     echo "parts of plain Rust: assemble, execute, fill, encode, write"
     # shellcheck disable=SC2086
-    python3 "$top/bench/command.py" run 1.5 2.2 plain.table "${RUNS:-7}" "$program" run $files --out table --statement statement \
-        -- ./span $files plain.table plain.statement -- "table plain.table" "statement plain.statement"
+    python3 "$top/bench/command.py" "run of $1" 1.5 2.2 plain.table "${RUNS:-7}" \
+        "$program" run $files --out table --statement statement ${kernel:+--kernel "$kernel"} \
+        -- ./fill $files plain.table plain.statement $kernel -- "table plain.table" "statement plain.statement"
 }
 
 if [ "$1" != crates ]; then
-    whole_command
+    whole_command "${1:-span}"
     exit
 fi
 libraries='vm_field vm_io vm_ops rpo_hash op_pack vm_state op_steps block_tree processor masm_lex masm_instr instr_reading masm_parse

@@ -1,0 +1,125 @@
+# shellcheck shell=bash
+# The programs that run.sh and check.sh time, for them to read. `make_source CASE` writes program.masm, inputs and, where the
+# program has a kernel, kernel.masm into the folder where it is called, and sets `kernel` to that file's name or to nothing.
+# TURNS is how often the source's outer body is repeated, and STACK what the stack begins with.
+
+# One span. A turn of 126 cycles or so leaves one cell more than it found, and the end drops half of them, or DROPPED. It has
+# groups and immediates in all places, shifts to both sides above the sixteenth cell and below it, and comparisons of what is
+# the same and what differs.
+span_source() {
+    local turns=${TURNS:-4140}
+    cat <<END
+begin
+    repeat.$turns
+        push.3.5.0
+        repeat.3
+            push.1000003 add dup mul swap neg add.18446744069414584320 push.9 mul
+        end
+        repeat.6
+            dup dup push.7 swap eq drop
+        end
+        repeat.6
+            repeat.2
+                neg swap
+            end
+            drop
+        end
+        repeat.2
+            dup mul add.11 neg swap neq.4 swap mul
+        end
+    end
+    repeat.${DROPPED:-$((turns / 2))}
+        drop
+    end
+end
+END
+}
+
+# A loop with a body of one span, of 18 cycles a turn.
+loop_source() {
+    cat <<END
+begin
+    push.7.${TURNS:-24000}.1
+    while.true
+        swap add.3 dup mul neg neg swap sub.1 dup neq.0
+    end
+end
+END
+}
+
+# A loop whose turns branch and call, of some 45 cycles a turn, with nine blocks each.
+flow_source() {
+    cat <<END
+proc.step
+    dup mul add.3
+end
+begin
+    push.7.${TURNS:-9700}.1
+    while.true
+        dup is_odd
+        if.true
+            swap call.step neg swap
+        else
+            swap add.5 call.step swap
+        end
+        sub.1 dup neq.0
+    end
+end
+END
+}
+
+# A loop that uses all tables: numbers of 32 bits, locals, memory and calls, and in each eighth turn a permutation and a
+# syscall.
+all_source() {
+    cat <<END
+proc.mix.2
+    dup loc_store.0 dup.1 loc_store.1
+    loc_load.0 loc_load.1 u32checked_and
+    loc_load.0 loc_load.1 u32checked_xor
+    u32wrapping_mul
+    loc_load.0 u32wrapping_add
+    movdn.2 drop
+end
+begin
+    adv_push.4
+    push.7.${TURNS:-690}.1
+    while.true
+        dup movup.2 u32wrapping_add.2654435769
+        dup movup.2 call.mix drop
+        u32wrapping_add swap
+        dup.1 dup.1 mem_store
+        dup add.1 mem_load movup.2 u32checked_xor swap
+        dup push.7 u32checked_and eq.0
+        if.true
+            padw mem_loadw.1 padw mem_loadw.2 padw hperm
+            mem_storew.1 dropw mem_storew.2 dropw dropw
+            syscall.count
+        else
+            dup u32split drop push.3 u32checked_div drop
+        end
+        sub.1 dup neq.0
+    end
+end
+END
+}
+
+all_kernel() {
+    cat <<END
+export.count.1
+    dup loc_store.0
+    mem_load.1000000 add.1 mem_store.1000000
+    loc_load.0 drop
+end
+END
+}
+
+# shellcheck disable=SC2034 # the one who reads this file uses `kernel`
+make_source() {
+    "$1_source" >program.masm
+    echo "{\"advice\":[11,12,13,14],\"stack\":[${STACK-5,8}]}" >inputs
+    kernel=
+    if [ "$1" = all ]; then
+        all_kernel >kernel.masm
+        kernel=kernel.masm
+    fi
+}
