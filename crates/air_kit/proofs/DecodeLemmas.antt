@@ -6,7 +6,6 @@ use Rattle.vm_ops.specs.declared.op.Op.{Op}
 use Rattle.vm_ops.specs.Codes.{every_op, op_at}
 use Rattle.vm_ops.proofs.CodeLemmas.{code_of-op_at, op_at-outside}
 use Rattle.vm_table.specs.MainColumns.{b}
-use Rattle.air_kit.specs.Built.{is_built}
 use Rattle.air_kit.specs.Flags.{flag, sum_of, flags_of, spelled, HasOp}
 use Rattle.air_kit.specs.Decoding.{IsDecoded, IsSpelled}
 use Rattle.air_kit.proofs.FlagLemmas.{has_op-from, flags_of-hot, at_op}
@@ -31,11 +30,9 @@ spelled_by row n0 n1 n2 n3 n4 n5 n6 e0 e1 e2 e3 e4 e5 e6 l0 l1 l2 l3 l4 l5 l6 = 
     low (suc (suc (suc (suc (suc (suc zero)))))) h = subst (λ n. n < 2) e6 l6
     low (suc (suc (suc (suc (suc (suc (suc j))))))) h = absurd (omega (arith, h))
 
--- the operation of a spelled code, where it is built
-pub decoded_at : (row : List ℕ) (code : ℕ) (own : Op) → IsSpelled row code → op_at code ≡ Some own → is_built own ≡ true → IsDecoded row (Some own)
-decoded_at row code own spells found built op e =
-    let same : own ≡ op = cc in
-    subst (HasOp row) same (has_op-from row own built spells.bits (code_of-op_at code own found ∙ spells.is))
+-- the operation of a spelled code
+pub decoded_at : (row : List ℕ) (code : ℕ) → IsSpelled row code → IsDecoded row (op_at code)
+decoded_at row code spells op e = has_op-from row op spells.bits (code_of-op_at code op e ∙ spells.is)
 
 -- a sum of flags of a decoded row
 pub sum_decoded : (row : List ℕ) (found : Option Op) (own : Op) (test : Op → Bool) → IsDecoded row found → found ≡ Some own → flags_of test (flag row) ≡ cond (test own) 1 0

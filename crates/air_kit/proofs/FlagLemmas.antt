@@ -11,7 +11,6 @@ use Rattle.vm_ops.specs.declared.op.Op.TheVariants.{Noop}
 use Rattle.vm_ops.specs.Codes.{code_of, every_op, op_at}
 use Rattle.vm_ops.proofs.CodeLemmas.{code_of-below, code_of-different, code_of-op_at, op_at-code_of}
 use Rattle.vm_table.specs.MainColumns.{b}
-use Rattle.air_kit.specs.Built.{is_built}
 use Rattle.air_kit.specs.Flags.{factor, flag_by, flag, Flags, sum_of, sum_over, flags_of, spelled, op_of, one_hot, HasOp}
 
 -- a digit that is the bit leaves the rest of the product, another one makes it 0
@@ -55,31 +54,16 @@ spelled-below (suc n) bit low =
     let first = low 0 (omega arith) in
     let e : 2 ^ suc n ≡ 2 * 2 ^ n = pow-succ' 2 n in omega (arith, e, later, first)
 
-not_built : (op other : Op) → is_built op ≡ true → is_built other ≡ false → eqb (code_of other) (code_of op) ≡ false
-not_built op other is_in is_out =
-    elim (cases_Bool (eqb (code_of other) (code_of op))) [
-      | inl same ↦ let e : other ≡ op = code_of-different other op (eqb-true (code_of other) (code_of op) same) in
-          let clash : true ≡ false = sym is_in ∙ sym (ap is_built e) ∙ is_out in absurd (cc)
-      | inr apart ↦ apart
-    ]
-
--- each flag of a row whose bits spell a built operation's code
-pub flag-hot : (row : List ℕ) (op : Op) → is_built op ≡ true → ((j : ℕ) → j < 7 → b row j < 2) → code_of op ≡ spelled 7 (b row) → (other : Op) → flag row other ≡ one_hot op other
+-- each flag of a row whose bits spell an operation's code
+pub flag-hot : (row : List ℕ) (op : Op) → ((j : ℕ) → j < 7 → b row j < 2) → code_of op ≡ spelled 7 (b row) → (other : Op) → flag row other ≡ one_hot op other
 unfolding flag
-flag-hot row op built low is other =
-    elim (cases_Bool (is_built other)) [
-      | inl is_in ↦
-          ap (λ t. cond t (flag_by 7 (code_of other) (b row)) 0) is_in
-          ∙ flag_by-bits 7 (code_of other) (b row) low (let h = code_of-below other in omega (arith, h))
-          ∙ ap (λ c. cond (eqb (code_of other) c) 1 0) (sym is)
-      | inr is_out ↦
-          ap (λ t. cond t (flag_by 7 (code_of other) (b row)) 0) is_out
-          ∙ sym (ap (λ t. cond t 1 0) (not_built op other built is_out))
-    ]
+flag-hot row op low is other =
+    flag_by-bits 7 (code_of other) (b row) low (let h = code_of-below other in omega (arith, h))
+    ∙ ap (λ c. cond (eqb (code_of other) c) 1 0) (sym is)
 
 -- a row has an operation
-pub has_op-from : (row : List ℕ) (op : Op) → is_built op ≡ true → ((j : ℕ) → j < 7 → b row j < 2) → code_of op ≡ spelled 7 (b row) → HasOp row op
-has_op-from row op built low is = record { built = built; bits = low; spells = is; flags = flag-hot row op built low is }
+pub has_op-from : (row : List ℕ) (op : Op) → ((j : ℕ) → j < 7 → b row j < 2) → code_of op ≡ spelled 7 (b row) → HasOp row op
+has_op-from row op low is = record { bits = low; spells = is; flags = flag-hot row op low is }
 
 -- which it is
 pub has_op-op_of : (row : List ℕ) (op : Op) → HasOp row op → op_of row ≡ op
@@ -186,18 +170,13 @@ sum_of-hot op =
 pub at_op : {A : Type 0} {row : List ℕ} {op : Op} → HasOp row op → (value : Flags → A) → value (flag row) ≡ value (one_hot op)
 at_op h value = ap value (fun_ext h.flags)
 
-no_flag : (row : List ℕ) (o : Op) → ((j : ℕ) → j < 7 → b row j < 2) → ((is_built o ≡ true) → code_of o ≡ spelled 7 (b row) → ⊥) → flag row o ≡ 0
+no_flag : (row : List ℕ) (o : Op) → ((j : ℕ) → j < 7 → b row j < 2) → (code_of o ≡ spelled 7 (b row) → ⊥) → flag row o ≡ 0
 unfolding flag
 no_flag row o low none =
-    elim (cases_Bool (is_built o)) [
-      | inl is_in ↦
-          ap (λ t. cond t (flag_by 7 (code_of o) (b row)) 0) is_in
-          ∙ flag_by-bits 7 (code_of o) (b row) low (let h = code_of-below o in omega (arith, h))
-          ∙ elim (cases_Bool (eqb (code_of o) (spelled 7 (b row)))) [
-            | inl same ↦ absurd (none is_in (eqb-true (code_of o) (spelled 7 (b row)) same))
-            | inr apart ↦ rw apart refl
-          ]
-      | inr is_out ↦ ap (λ t. cond t (flag_by 7 (code_of o) (b row)) 0) is_out
+    flag_by-bits 7 (code_of o) (b row) low (let h = code_of-below o in omega (arith, h))
+    ∙ elim (cases_Bool (eqb (code_of o) (spelled 7 (b row)))) [
+      | inl same ↦ absurd (none (eqb-true (code_of o) (spelled 7 (b row)) same))
+      | inr apart ↦ rw apart refl
     ]
 
 all_none : (ops : List Op) (value : Op → ℕ) → ((o : Op) → value o ≡ 0) → sum_of ops value ≡ 0
@@ -213,10 +192,7 @@ has_op row low one = go (op_at (spelled 7 (b row))) refl
     nothing none = let z : sum_of every_op (flag row) ≡ 0 = all_none every_op (flag row) none in absurd (omega (arith, z, one))
 
     go : (found : Option Op) → op_at (spelled 7 (b row)) ≡ found → HasOp row (op_of row)
-    go None e = nothing (λ o. no_flag row o low (λ is_in is. (let h : op_at (code_of o) ≡ None = ap op_at is ∙ e in let k = op_at-code_of o in cc)))
+    go None e = nothing (λ o. no_flag row o low (λ is. (let h : op_at (code_of o) ≡ None = ap op_at is ∙ e in let k = op_at-code_of o in cc)))
     go (Some op) e =
         let code : code_of op ≡ spelled 7 (b row) = code_of-op_at (spelled 7 (b row)) op e in
-        elim (cases_Bool (is_built op)) [
-          | inl is_in ↦ let h = has_op-from row op is_in low code in subst (HasOp row) (sym (has_op-op_of row op h)) h
-          | inr is_out ↦ nothing (λ o. no_flag row o low (λ is_in is. (let same : o ≡ op = code_of-different o op (is ∙ sym code) in let k : is_built op ≡ true = subst (λ x. is_built x ≡ true) same is_in in cc)))
-        ]
+        let h = has_op-from row op low code in subst (HasOp row) (sym (has_op-op_of row op h)) h

@@ -9,7 +9,6 @@ use Rattle.vm_ops.specs.declared.op.Op.TheVariants as ops
 use Rattle.vm_ops.specs.declared.op.Shift.{Shift}
 use Rattle.vm_ops.specs.declared.op.Shift.TheVariants.{Left, Stay, Right}
 use Rattle.vm_table.specs.MainColumns.{b}
-use Rattle.air_kit.specs.Built.{is_built}
 
 -- the bit itself where the digit is 1, else 1 less the bit
 abbrev pub factor : ℕ → ℕ → ℕ
@@ -22,7 +21,7 @@ flag_by (suc n) code bit = factor (code % 2) (bit 0) ⊠ flag_by n (code / 2) (�
 
 -- the flag of an operation in a row
 unfoldable pub flag : List ℕ → Op → ℕ
-flag row op = if is_built op then flag_by 7 (code_of op) (b row) else 0
+flag row op = flag_by 7 (code_of op) (b row)
 
 -- the flags of a row, or those of a row that has one operation
 abbrev pub Flags : Type 0
@@ -74,7 +73,6 @@ one_hot op other = if is_op other op then 1 else 0
 
 -- a row has the operation: its bits are bits, and spell its code
 pub record HasOp (row : List ℕ) (op : Op) : Type 0 where
-  pub built : is_built op ≡ true
   pub bits : (j : ℕ) → j < 7 → b row j < 2
   pub spells : code_of op ≡ spelled 7 (b row)
   pub flags : (other : Op) → flag row other ≡ one_hot op other

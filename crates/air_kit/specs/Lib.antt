@@ -1,4 +1,3 @@
-pub mod Built
 pub mod Flags
 pub mod Places
 pub mod OpcodeValues

@@ -2,7 +2,6 @@ ghost use Rattle.std.specs.Prelude.{◌≡◌};
 ghost use Rattle.air_kit.specs.Decoding.{bit_list, bit_product};
 ghost use Rattle.air_kit.specs.Flags.{flag};
 
-use crate::sets::is_built;
 use vm_field::Felt;
 use vm_ops::{Op, opcode};
 use vm_table::MainView;
@@ -30,11 +29,7 @@ fn product(code: u8, bits: &[Felt]) -> Felt
 pub(crate) fn flag_in<V: MainView>(row: &V, op: Op) -> Felt
     ensures { result ≡ flag (V.cells row.now) op }
 {
-    if is_built(op) {
-        product(opcode(op), &bits_of(row))
-    } else {
-        Felt::ZERO
-    }
+    product(opcode(op), &bits_of(row))
 }
 
 /// The bits of a row's operation, lowest first.

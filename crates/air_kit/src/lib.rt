@@ -16,5 +16,5 @@ pub use fault::{Fault, first_nonzero, or_next};
 pub use place::Place;
 pub use requests::{Access, BitOp, Perm, Requests};
 pub use seen::Seen;
-pub use sets::{OpSet, is_built, is_left};
+pub use sets::{OpSet, is_left};
 pub use trace::{Public, TableName, Trace, table_text, types_cross};

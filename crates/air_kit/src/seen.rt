@@ -5,7 +5,7 @@ ghost use Rattle.air_kit.specs.Flags.{flag, flags_of};
 ghost use Rattle.air_kit.specs.Sets.{passes_of};
 
 use crate::flags::flag_in;
-use crate::sets::{OpSet, is_built};
+use crate::sets::OpSet;
 use vm_field::Felt;
 use vm_ops::{Op, from_opcode, opcode};
 use vm_table::MainView;
@@ -90,12 +90,11 @@ fn flag_at<V: MainView>(row: &V, set: OpSet, code: u8) -> Felt
     }
 }
 
-// The operation that the row's bits spell, if rows may have it.
+// The operation that the row's bits spell.
 fn operation_of<V: MainView>(row: &V) -> Option<Op>
     ensures { IsDecoded (V.cells row.now) result }
 {
-    let op = from_opcode(code_of(row)?)?;
-    if is_built(op) { Some(op) } else { None }
+    from_opcode(code_of(row)?)
 }
 
 // The number that the row's bits spell; none where one of them is neither 0 nor 1.

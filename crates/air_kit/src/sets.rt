@@ -1,5 +1,4 @@
 ghost use Rattle.std.specs.Prelude.{◌≡◌};
-ghost use Rattle.air_kit.specs.Built.{is_built};
 ghost use Rattle.air_kit.specs.Flags.{is_left, is_right};
 ghost use Rattle.air_kit.specs.Sets.{passes_of};
 
@@ -52,11 +51,4 @@ fn is_right(op: Op) -> bool
         Shift::Right => true,
         Shift::Left | Shift::Stay => false,
     }
-}
-
-/// Whether rows may have the operation: each operation is built.
-pub fn is_built(_op: Op) -> bool
-    ensures { result ≡ is_built _op }
-{
-    true
 }

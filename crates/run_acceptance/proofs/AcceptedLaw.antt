@@ -14,7 +14,6 @@ use Rattle.air_kit.specs.declared.requests.Requests.{Requests}
 use Rattle.air_kit.specs.declared.trace.Public.{Public}
 use Rattle.air_kit.specs.declared.trace.Trace.{Trace}
 use Rattle.run_rows.specs.BlockRows.{IsRun, events_of, filled}
-use Rattle.run_rows.specs.Bounds.{AreBuilt}
 use Rattle.run_requests.specs.Asked.{requests}
 use Rattle.run_acceptance.specs.Acceptance.{IsStatementOf, IsTraceOf}
 use Rattle.run_acceptance.proofs.BlockBuses.{blocks_alike, children_alike, groups_alike, loops_alike}
@@ -44,17 +43,17 @@ module _ (k : Claim) (constants digest : List ℕ) (kernel : List (List ℕ)) (r
   alike bus.Kernel v = kernel_alike k constants digest r t main.asks v (a.given bus.Kernel v (other bus.Kernel (omega arith)))
 
 pub run_accepted : (constants : List ℕ) (kernel : List (List ℕ)) (limit : ℕ) (tree : Tree) (inputs tape : List ℕ) (u : State) (log : List run.Event)
-    → IsRun constants kernel limit tree inputs tape u log → AreBuilt (events_of constants kernel log) → (p : Public) (t : Trace)
+    → IsRun constants kernel limit tree inputs tape u log → (p : Public) (t : Trace)
     → IsStatementOf constants kernel tree inputs u p → IsTraceOf constants kernel u log t → IsAccepted p t
-run_accepted constants kernel limit tree inputs tape u log r built p t is trace = record {
-  zero = trace_zero constants kernel limit tree inputs tape u log r built p t is trace;
+run_accepted constants kernel limit tree inputs tape u log r p t is trace = record {
+  zero = trace_zero constants kernel limit tree inputs tape u log r p t is trace;
   buses = alike (claim_of p t) constants p.statement.digest kernel (requests constants kernel u log) u t main trace.answers is.outputs_are;
 }
   where
     named : AreSides constants p.statement.digest (requests constants kernel u log) u (filled constants kernel u log)
     named =
         subst (λ digest. AreSides constants digest (requests constants kernel u log) u (filled constants kernel u log)) (sym is.digest_is)
-        (run_sides constants kernel limit tree inputs tape u log r built)
+        (run_sides constants kernel limit tree inputs tape u log r)
 
     main : AreSides constants p.statement.digest (requests constants kernel u log) u t.main
     main = subst (AreSides constants p.statement.digest (requests constants kernel u log) u) (sym trace.main_is) named

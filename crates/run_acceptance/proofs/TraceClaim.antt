@@ -15,7 +15,6 @@ use Rattle.chip_columns.specs.LeftColumns.{key}
 use Rattle.row_facts.specs.MainRows.{IsZero}
 use Rattle.row_facts.proofs.ClaimFacts.{claim_low}
 use Rattle.run_rows.specs.BlockRows.{ClaimsRun, IsRun, events_of, keys_of}
-use Rattle.run_rows.specs.Bounds.{AreBuilt}
 use Rattle.run_rows.specs.Decoder.{key_of}
 use Rattle.run_stacks.proofs.TableStacks.{has_zeros}
 use Rattle.run_acceptance.specs.Acceptance.{IsStatementOf, IsTraceOf}
@@ -25,7 +24,7 @@ first_key [] = refl
 first_key (x ∷ rows) = refl
 
 module _ (constants : List ℕ) (kernel : List (List ℕ)) (limit : ℕ) (tree : Tree) (inputs tape : List ℕ) (u : State) (log : List run.Event)
-    (r : IsRun constants kernel limit tree inputs tape u log) (built : AreBuilt (events_of constants kernel log)) (p : Public) (t : Trace)
+    (r : IsRun constants kernel limit tree inputs tape u log) (p : Public) (t : Trace)
     (is : IsStatementOf constants kernel tree inputs u p) (trace : IsTraceOf constants kernel u log t) where
   claims : ClaimsRun (claim_of p t) inputs (keys_of constants kernel log) u
   claims = record {
@@ -39,7 +38,7 @@ module _ (constants : List ℕ) (kernel : List (List ℕ)) (limit : ℕ) (tree :
   main_zero : IsZero (claim_of p t) t.main
   main_zero =
       subst (IsZero (claim_of p t)) (sym trace.main_is)
-      (has_zeros constants kernel limit tree inputs tape u log r built (claim_of p t) claims (claim_low p t trace.answers.counts trace.left))
+      (has_zeros constants kernel limit tree inputs tape u log r (claim_of p t) claims (claim_low p t trace.answers.counts trace.left))
 
   chips_zero : (name : TableName) → name ≢ table.Main → (row number : ℕ) → row < length (rows_of t name)
       → value_at (claim_of p t) t name row number ≡ 0

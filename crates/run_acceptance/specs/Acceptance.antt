@@ -11,7 +11,6 @@ use Rattle.air_kit.specs.declared.trace.Public.{Public}
 use Rattle.air_kit.specs.declared.trace.Trace.{Trace}
 use Rattle.processor.specs.Events.{visible_of}
 use Rattle.run_rows.specs.BlockRows.{IsRun, events_of, filled}
-use Rattle.run_rows.specs.Bounds.{AreBuilt}
 use Rattle.run_rows.specs.RunRequests.{requests_of}
 
 -- the statement of a run, under these constants: its program with the kernel, what it starts with, and its stack at the end
@@ -28,8 +27,8 @@ pub record IsTraceOf (constants : List ℕ) (kernel : List (List ℕ)) (u : Stat
   pub left : IsTable 1 t.left
   pub answers : Answers constants kernel (requests_of constants (visible_of u.core) (events_of constants kernel log)) t
 
--- the trace of a run is accepted for its statement, where its operations are built
+-- the trace of a run is accepted for its statement
 abbrev pub RunIsAccepted : Type 0
 RunIsAccepted = (constants : List ℕ) (kernel : List (List ℕ)) (limit : ℕ) (tree : Tree) (inputs tape : List ℕ) (u : State) (log : List run.Event)
-    → IsRun constants kernel limit tree inputs tape u log → AreBuilt (events_of constants kernel log) → (p : Public) (t : Trace)
+    → IsRun constants kernel limit tree inputs tape u log → (p : Public) (t : Trace)
     → IsStatementOf constants kernel tree inputs u p → IsTraceOf constants kernel u log t → IsAccepted p t

@@ -10,7 +10,6 @@ use Rattle.block_tree.specs.Trees.{Tree, tree_digest}
 use Rattle.air_kit.specs.Acceptance.{statement_given}
 use Rattle.air_kit.specs.MainTuples.{children_asked, children_given}
 use Rattle.run_rows.specs.BlockRows.{IsRun, events_of, filled}
-use Rattle.run_rows.specs.Bounds.{AreBuilt}
 use Rattle.run_rows.proofs.ChainLemmas.{balanced, over_rows_pairs}
 use Rattle.run_rows.proofs.MomentFacts.{place_comes}
 use Rattle.run_rows.proofs.TableLemmas.{is_linked}
@@ -20,17 +19,17 @@ use Rattle.run_buses.proofs.Hits.{one_count}
 use Rattle.run_buses.proofs.PairShown.{pair_of}
 
 pub children_even : (constants : List ℕ) (kernel : List (List ℕ)) (limit : ℕ) (tree : Tree) (inputs tape : List ℕ) (u : State) (log : List run.Event)
-    → IsRun constants kernel limit tree inputs tape u log → AreBuilt (events_of constants kernel log) → (tuple : List ℕ)
+    → IsRun constants kernel limit tree inputs tape u log → (tuple : List ℕ)
     → counted (statement_given bus.Children (tree_digest constants tree)) tuple + over_rows (with_next children_given) (filled constants kernel u log) tuple
     ≡ over_rows (with_next children_asked) (filled constants kernel u log) tuple
 unfolding owed_children
-children_even constants kernel limit tree inputs tape u log r built tuple =
+children_even constants kernel limit tree inputs tape u log r tuple =
     let even = balanced constants kernel limit (λ x y. counted (children_given x y) tuple) (λ x y. counted (children_asked x y) tuple)
     (λ todo d s events. owed_children constants todo d.blocks tuple)
     (λ x y m. children_pair constants kernel m.first (take (advice_taken m.mark) m.s.tape)
     (behind (effect_of constants kernel m.mark (take (advice_taken m.mark) m.s.tape) m.s.core) m.s.core) m.d m.later m.todo x y m.t.core
     (pair_of constants kernel limit m) m.agrees.reads.1 (place_comes constants m.next) tuple)
-    (is_linked constants kernel limit tree inputs tape u log r built) in
+    (is_linked constants kernel limit tree inputs tape u log r) in
     let given = over_rows_pairs children_given tuple (filled constants kernel u log) in
     let asked = over_rows_pairs children_asked tuple (filled constants kernel u log) in
     let named = one_count (child_tuple 0 (tree_digest constants tree) 0) tuple in

@@ -12,7 +12,6 @@ use Rattle.block_tree.specs.Trees.{Tree}
 use Rattle.air_kit.specs.Flags as flags
 use Rattle.air_kit.specs.MainTuples.{groups_asked, groups_given}
 use Rattle.run_rows.specs.BlockRows.{IsRun, events_of, filled}
-use Rattle.run_rows.specs.Bounds.{AreBuilt}
 use Rattle.run_rows.specs.Decoder.{Decoder, at_start, decoder_after}
 use Rattle.run_rows.specs.Filling.{line_of}
 use Rattle.run_rows.specs.Lines.{bit_number}
@@ -41,17 +40,17 @@ shown_of constants kernel limit x y within m = record {
 }
 
 pub groups_even : (constants : List ℕ) (kernel : List (List ℕ)) (limit : ℕ) (tree : Tree) (inputs tape : List ℕ) (u : State) (log : List run.Event)
-    → IsRun constants kernel limit tree inputs tape u log → AreBuilt (events_of constants kernel log) → (tuple : List ℕ)
+    → IsRun constants kernel limit tree inputs tape u log → (tuple : List ℕ)
     → over_rows (with_next groups_given) (filled constants kernel u log) tuple ≡ over_rows (with_next groups_asked) (filled constants kernel u log) tuple
 unfolding positions_given
-groups_even constants kernel limit tree inputs tape u log r built tuple =
+groups_even constants kernel limit tree inputs tape u log r tuple =
     let even = balanced constants kernel limit (λ x y. counted (groups_given x y) tuple) (λ x y. counted (groups_asked x y) tuple)
     (λ todo d s events. owed_groups d tuple)
     (λ x y m. groups_pair constants kernel m.first (take (advice_taken m.mark) m.s.tape)
     (behind (effect_of constants kernel m.mark (take (advice_taken m.mark) m.s.tape) m.s.core) m.s.core) m.d m.later m.todo x y m.t.core
     (pair_of constants kernel limit m) (shown_of constants kernel limit x y r.within m) m.agrees (place_comes constants m.next) tuple)
-    (is_linked constants kernel limit tree inputs tape u log r built) in
-    let last = agrees_last constants kernel limit (is_linked constants kernel limit tree inputs tape u log r built) in
+    (is_linked constants kernel limit tree inputs tape u log r) in
+    let last = agrees_last constants kernel limit (is_linked constants kernel limit tree inputs tape u log r) in
     let end = nothing_owed (decoder_after at_start (events_of constants kernel log)).ha (decoder_after at_start (events_of constants kernel log)).unread
     tuple last.reads in
     let given = over_rows_pairs groups_given tuple (filled constants kernel u log) in

@@ -10,7 +10,6 @@ use Rattle.block_tree.specs.Trees.{Tree}
 use Rattle.air_kit.specs.MainTuples.{loops_asked, loops_given}
 use Rattle.processor.specs.Events.{visible_of}
 use Rattle.run_rows.specs.BlockRows.{IsRun, events_of, filled}
-use Rattle.run_rows.specs.Bounds.{AreBuilt}
 use Rattle.run_rows.specs.Filling.{witnesses_by}
 use Rattle.run_rows.specs.Kinds as kinds
 use Rattle.run_rows.specs.Kinds.{kind_of}
@@ -31,17 +30,17 @@ shows_turns constants kernel limit x y m is =
     ∙ ap (λ k. slice_index (witnesses_by k m.d (event_at constants kernel m.mark m.s) (visible_of m.t.core) m.later) 0) is
 
 pub loops_even : (constants : List ℕ) (kernel : List (List ℕ)) (limit : ℕ) (tree : Tree) (inputs tape : List ℕ) (u : State) (log : List run.Event)
-    → IsRun constants kernel limit tree inputs tape u log → AreBuilt (events_of constants kernel log) → (tuple : List ℕ)
+    → IsRun constants kernel limit tree inputs tape u log → (tuple : List ℕ)
     → over_rows (with_next loops_given) (filled constants kernel u log) tuple ≡ over_rows (with_next loops_asked) (filled constants kernel u log) tuple
 unfolding owed_loops
-loops_even constants kernel limit tree inputs tape u log r built tuple =
+loops_even constants kernel limit tree inputs tape u log r tuple =
     let even = balanced_behind constants kernel limit (λ x y. counted (loops_given x y) tuple) (λ x y. counted (loops_asked x y) tuple)
     (λ todo d s events. owed_loops constants todo d.blocks (repeats events) tuple) u
     (λ x y rows m later. loops_pair constants kernel m.first (take (advice_taken m.mark) m.s.tape)
     (behind (effect_of constants kernel m.mark (take (advice_taken m.mark) m.s.tape) m.s.core) m.s.core) m.d m.later m.todo x y
     (pair_of constants kernel limit m) (shows_turns constants kernel limit x y m)
     (λ digest e. none_turned constants kernel limit later digest m.todo e) tuple)
-    (is_linked constants kernel limit tree inputs tape u log r built) in
+    (is_linked constants kernel limit tree inputs tape u log r) in
     let given = over_rows_pairs loops_given tuple (filled constants kernel u log) in
     let asked = over_rows_pairs loops_asked tuple (filled constants kernel u log) in
     omega (arith, even, given, asked)

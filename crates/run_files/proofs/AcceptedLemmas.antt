@@ -7,11 +7,10 @@ use Rattle.block_tree.specs.Trees.{Tree}
 use Rattle.statement.specs.Statements.{Claim, claim_of}
 use Rattle.air_kit.specs.Acceptance.{IsAccepted}
 use Rattle.air_kit.specs.declared.trace.Public.{Public}
-use Rattle.run_rows.specs.BlockRows.{IsRun, events_of}
+use Rattle.run_rows.specs.BlockRows.{IsRun}
 use Rattle.run_acceptance.specs.Acceptance.{IsStatementOf}
 use Rattle.run_acceptance.proofs.AcceptedLaw.{run_accepted}
 use Rattle.run_files.specs.RunFiles.{IsTableFileOf, claim_of_run}
-use Rattle.run_files.proofs.RunLemmas.{all_built}
 
 -- what is claimed of a run is its statement
 states : (constants : List ℕ) (kernel : List (List ℕ)) (tree : Tree) (inputs : List ℕ) (u : State) (p : Public) → constants_of p.params ≡ constants
@@ -29,5 +28,5 @@ pub files_accepted : (constants : List ℕ) (kernel : List (List ℕ)) (limit : 
     → (p : Public) → constants_of p.params ≡ constants → claim_of p.statement ≡ claim_of_run constants tree kernel inputs u.core.stack
     → (bytes : List ℕ) → (file : IsTableFileOf constants kernel u log bytes) → IsAccepted p file.trace
 files_accepted constants kernel limit tree inputs tape u log r p params is bytes file =
-    run_accepted constants kernel limit tree inputs tape u log r (all_built (events_of constants kernel log)) p file.trace
+    run_accepted constants kernel limit tree inputs tape u log r p file.trace
     (states constants kernel tree inputs u p params is) file.traces

@@ -1,7 +1,6 @@
 -- What a run that was executed shows: it is one from the start to the end, so that its requests fit, and its rows and its stack are
 -- within bounds.
 use Rattle.std.proofs.Common.{◌≡◌, ℕ, ◌+◌, ◌^◌, ◌≤◌, true, List, [], ◌∷◌, length, refl, ap, ◌∙◌, sym, subst, arith}
-use Rattle.std.proofs.lemmas.List.Elements.{All-cons, All-nil}
 use Rattle.rpo_hash.specs.Constants.{constants_of}
 use Rattle.rpo_hash.specs.declared.params.Params.{Params}
 use Rattle.vm_table.specs.Layout.{IsTable}
@@ -19,13 +18,10 @@ use Rattle.block_tree.proofs.RunSteps.{run-steps}
 use Rattle.block_tree.proofs.TaskLemmas.{steps-log}
 use Rattle.processor.specs.Events.{visible_of}
 use Rattle.processor.specs.Executed.{WasExecuted}
-use Rattle.processor.specs.declared.event.Event.{Event}
 use Rattle.processor.specs.declared.run.Run.{Run}
-use Rattle.air_kit.specs.Built.{is_built}
 use Rattle.air_kit.specs.Requests.{Answers, Fits}
 use Rattle.air_kit.specs.declared.requests.Requests.{Requests}
 use Rattle.run_rows.specs.BlockRows.{IsRun, events_of, filled}
-use Rattle.run_rows.specs.Bounds.{AreBuilt}
 use Rattle.run_rows.specs.Filling.{rows_of}
 use Rattle.run_rows.specs.RunRequests.{requests_of}
 use Rattle.run_rows.proofs.MomentLemmas.{steps_within}
@@ -36,11 +32,6 @@ use Rattle.run_requests.proofs.FitLaw.{run_fits}
 use Rattle.fill_chips.specs.Beside.{HasSizes, beside}
 use Rattle.fill_chips.specs.declared.chips.Chips.{Chips}
 use Rattle.run_files.specs.Inside.{HasFew, IsShort, TracesRun}
-
--- each operation is built
-pub all_built : (events : List Event) → AreBuilt events
-all_built [] = All-nil (λ (e : Event). is_built e.op ≡ true)
-all_built (e ∷ events) = All-cons (λ (e : Event). is_built e.op ≡ true) e events refl (all_built events)
 
 module _ (constants : List ℕ) (kernel : List (List ℕ)) (limit : ℕ) (tree : Tree) (inputs tape : List ℕ) (u : State) (log : List run.Event)
     (r : IsRun constants kernel limit tree inputs tape u log) where
@@ -86,8 +77,7 @@ module _ (params : Params) (program : Program) (answer : Run) (size : length (co
 
   fit : FitsRows constants program.kernel (requests constants program.kernel u was.ran.log) (filled constants program.kernel u was.ran.log)
   fit =
-      run_fits constants program.kernel was.limit (tree_of program.tree) was.inputs.stack was.inputs.advice u was.ran.log is_run
-      (all_built (events_of constants program.kernel was.ran.log)) program.few
+      run_fits constants program.kernel was.limit (tree_of program.tree) was.inputs.stack was.inputs.advice u was.ran.log is_run program.few
 
   pub fits : Fits constants program.kernel (requests_of constants (visible_of (core_of answer.state)) answer.events)
   fits =

@@ -4,7 +4,6 @@ use Rattle.vm_field.specs.Machine.{State}
 use Rattle.block_tree.specs.Execution as run
 use Rattle.block_tree.specs.Trees.{Tree}
 use Rattle.run_rows.specs.BlockRows.{IsRun, events_of, filled}
-use Rattle.run_rows.specs.Bounds.{AreBuilt}
 use Rattle.run_rows.proofs.TableLemmas.{is_linked}
 use Rattle.run_requests.specs.Asked.{RowsAsk, requests}
 use Rattle.run_requests.proofs.HasherLaw.{hashes_asked}
@@ -13,10 +12,10 @@ use Rattle.run_requests.proofs.OtherLaws.{accesses_asked, bits_asked}
 use Rattle.run_requests.proofs.RangeLaw.{ranges_asked}
 
 pub run_asks : (constants : List ℕ) (kernel : List (List ℕ)) (limit : ℕ) (tree : Tree) (inputs tape : List ℕ) (u : State) (log : List run.Event)
-    → IsRun constants kernel limit tree inputs tape u log → AreBuilt (events_of constants kernel log)
+    → IsRun constants kernel limit tree inputs tape u log
     → RowsAsk constants (filled constants kernel u log) (requests constants kernel u log)
-run_asks constants kernel limit tree inputs tape u log r built =
-    let linked = is_linked constants kernel limit tree inputs tape u log r built in
+run_asks constants kernel limit tree inputs tape u log r =
+    let linked = is_linked constants kernel limit tree inputs tape u log r in
     record {
       hasher = λ v. hashes_asked constants r.constants_are kernel limit u v linked;
       kernel = λ v. calls_asked constants kernel limit u v linked;

@@ -4,7 +4,6 @@ use Rattle.vm_field.specs.Machine.{State}
 use Rattle.block_tree.specs.Execution as run
 use Rattle.block_tree.specs.Trees.{Tree}
 use Rattle.run_rows.specs.BlockRows.{IsRun, events_of, filled}
-use Rattle.run_rows.specs.Bounds.{AreBuilt}
 use Rattle.run_rows.proofs.TableLemmas.{is_linked}
 use Rattle.run_requests.specs.Asked.{requests}
 use Rattle.run_requests.specs.Fitting.{FitsRows}
@@ -15,10 +14,10 @@ use Rattle.run_requests.proofs.MemoryFit.{accesses_fit}
 use Rattle.run_requests.proofs.Sizes.{events_few, keys_few, requests_few, rows_are}
 
 pub run_fits : (constants : List ℕ) (kernel : List (List ℕ)) (limit : ℕ) (tree : Tree) (inputs tape : List ℕ) (u : State) (log : List run.Event)
-    → IsRun constants kernel limit tree inputs tape u log → AreBuilt (events_of constants kernel log) → length kernel ≤ 255
+    → IsRun constants kernel limit tree inputs tape u log → length kernel ≤ 255
     → FitsRows constants kernel (requests constants kernel u log) (filled constants kernel u log)
-run_fits constants kernel limit tree inputs tape u log r built words =
-    let linked = is_linked constants kernel limit tree inputs tape u log r built in
+run_fits constants kernel limit tree inputs tape u log r words =
+    let linked = is_linked constants kernel limit tree inputs tape u log r in
     let few = requests_few constants (events_of constants kernel log) in
     let most = events_few constants kernel limit u linked in
     let keys = keys_few constants kernel limit u linked in

@@ -13,7 +13,6 @@ use Rattle.air_kit.specs.MainTuples.{overflow_asked, overflow_given}
 use Rattle.chip_columns.specs.LeftColumns as left
 use Rattle.processor.specs.declared.event.Event.{Event}
 use Rattle.run_rows.specs.BlockRows.{IsRun, events_of, filled, keys_of}
-use Rattle.run_rows.specs.Bounds.{AreBuilt}
 use Rattle.run_rows.specs.Chains.{AreLinked}
 use Rattle.run_rows.specs.Decoder.{advance, at_start, decoder_after}
 use Rattle.run_rows.specs.Moments.{IsMoment, event_at}
@@ -68,10 +67,10 @@ module _ (constants : List ℕ) (len : length constants ≡ 168) (kernel : List 
       omega (arith, whole, given, asked, none)
 
 pub overflow_is_even : (constants : List ℕ) (kernel : List (List ℕ)) (limit : ℕ) (tree : Tree) (inputs tape : List ℕ) (u : State) (log : List run.Event)
-    → IsRun constants kernel limit tree inputs tape u log → AreBuilt (events_of constants kernel log)
+    → IsRun constants kernel limit tree inputs tape u log
     → OverflowIsEven (filled constants kernel u log) (keys_of constants kernel log) u
-overflow_is_even constants kernel limit tree inputs tape u log r built =
-    let even = rows_even constants r.constants_are kernel limit r.within u (is_linked constants kernel limit tree inputs tape u log r built) in
+overflow_is_even constants kernel limit tree inputs tape u log r =
+    let even = rows_even constants r.constants_are kernel limit r.within u (is_linked constants kernel limit tree inputs tape u log r) in
     record {
       cells = even;
       table = λ k others outputs keys v.

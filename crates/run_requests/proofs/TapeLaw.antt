@@ -10,7 +10,6 @@ use Rattle.air_kit.specs.Flags as flags
 use Rattle.air_kit.specs.RowStates.{tape_of, taken_by}
 use Rattle.processor.specs.declared.event.Event.{Event}
 use Rattle.run_rows.specs.BlockRows.{IsRun, events_of, filled}
-use Rattle.run_rows.specs.Bounds.{AreBuilt}
 use Rattle.run_rows.specs.Chains as chains
 use Rattle.run_rows.specs.Chains.{AreLinked}
 use Rattle.run_rows.specs.Decoder.{Decoder}
@@ -37,8 +36,8 @@ module _ (constants : List ℕ) (len : length constants ≡ 168) (kernel : List 
       ∙ sym (append_assoc (taken_by (flags.op_of x) y) (tape_of (y ∷ rows)) u.tape)
 
 pub run_takes : (constants : List ℕ) (kernel : List (List ℕ)) (limit : ℕ) (tree : Tree) (inputs tape : List ℕ) (u : State) (log : List run.Event)
-    → IsRun constants kernel limit tree inputs tape u log → AreBuilt (events_of constants kernel log)
+    → IsRun constants kernel limit tree inputs tape u log
     → tape ≡ tape_of (filled constants kernel u log) ++ u.tape
 unfolding start
-run_takes constants kernel limit tree inputs tape u log r built =
-    tape_along constants r.constants_are kernel limit u (is_linked constants kernel limit tree inputs tape u log r built)
+run_takes constants kernel limit tree inputs tape u log r =
+    tape_along constants r.constants_are kernel limit u (is_linked constants kernel limit tree inputs tape u log r)

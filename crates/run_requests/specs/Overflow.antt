@@ -11,7 +11,6 @@ use Rattle.air_kit.specs.Places.{Claim}
 use Rattle.air_kit.specs.declared.trace.TableName.TheVariants as table
 use Rattle.chip_columns.specs.LeftColumns as left
 use Rattle.run_rows.specs.BlockRows.{IsRun, events_of, filled, keys_of}
-use Rattle.run_rows.specs.Bounds.{AreBuilt}
 use Rattle.run_rows.specs.Decoder.{key_of}
 
 -- cells with their keys, each with the key of the one below it
@@ -30,5 +29,5 @@ pub record OverflowIsEven (rows : List (List ℕ)) (keys : List ℕ) (u : State)
 
 abbrev pub RunKeepsOverflow : Type 0
 RunKeepsOverflow = (constants : List ℕ) (kernel : List (List ℕ)) (limit : ℕ) (tree : Tree) (inputs tape : List ℕ) (u : State) (log : List run.Event)
-    → IsRun constants kernel limit tree inputs tape u log → AreBuilt (events_of constants kernel log)
+    → IsRun constants kernel limit tree inputs tape u log
     → OverflowIsEven (filled constants kernel u log) (keys_of constants kernel log) u

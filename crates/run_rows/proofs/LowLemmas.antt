@@ -9,7 +9,6 @@ use Rattle.vm_ops.specs.Codes.{code_of, is_ordinary_op}
 use Rattle.vm_ops.specs.declared.op.Op.{Op}
 use Rattle.vm_ops.proofs.CodeLemmas.{code_of-below}
 use Rattle.vm_table.specs.MainColumns.{b}
-use Rattle.air_kit.specs.Built.{is_built}
 use Rattle.air_kit.specs.Flags.{HasOp, spelled}
 use Rattle.air_kit.proofs.FlagLemmas.{has_op-from}
 use Rattle.row_facts.specs.RowFacts.{ReadsAs}
@@ -98,14 +97,14 @@ bits_spell bit n low is =
 two_digits : (n : ℕ) → n % 2 < 2
 two_digits n = omega arith
 
-pub line_has_op : (l : Line) → is_built l.op ≡ true → HasOp (laid_out l) l.op
-line_has_op l built =
-    has_op-from (laid_out l) l.op built (λ j h. rw (col_b l j h) (two_digits (code_of l.op / 2 ^ j)))
+pub line_has_op : (l : Line) → HasOp (laid_out l) l.op
+line_has_op l =
+    has_op-from (laid_out l) l.op (λ j h. rw (col_b l j h) (two_digits (code_of l.op / 2 ^ j)))
     (bits_spell (b (laid_out l)) (code_of l.op) (let few = code_of-below l.op in omega (arith, few)) (col_b l))
 
-pub line_reads : (l : Line) → is_built l.op ≡ true → IsLowLine l → ReadsAs l.op (laid_out l)
-line_reads l built h = record {
+pub line_reads : (l : Line) → IsLowLine l → ReadsAs l.op (laid_out l)
+line_reads l h = record {
   low = λ k. elements-index (laid_out l) k (low_row l h);
-  has = line_has_op l built;
+  has = line_has_op l;
   span = col_sp l;
 }

@@ -34,7 +34,7 @@ use Rattle.run_rows.proofs.ShowLemmas.{shows_row}
 eight_zeros : AreElements (0 ∷ 0 ∷ 0 ∷ 0 ∷ 0 ∷ 0 ∷ 0 ∷ 0 ∷ [])
 eight_zeros = elements-replicate 8
 
--- the operation that the bits of a row spell is that of its line, whether it is built or not
+-- the operation that the bits of a row spell is that of its line
 pub line_op : (l : Line) → flags.op_of (laid_out l) ≡ l.op
 unfolding flags.op_of
 line_op l =
@@ -81,7 +81,7 @@ module _ (constants : List ℕ) (kernel : List (List ℕ)) (limit : ℕ) where
       ≡ accessed m.mark m.s.core m.t.core
       = (shown-behind constants kernel limit m.mark m.s m.t m.cycle).0 in
       let reads : ReadsAs (op_of m.mark) (row_of m.d (event_at constants kernel m.mark m.s) (visible_of m.t.core) m.later)
-      = line_reads (line_of m.d (event_at constants kernel m.mark m.s) (visible_of m.t.core) m.later) m.built
+      = line_reads (line_of m.d (event_at constants kernel m.mark m.s) (visible_of m.t.core) m.later)
       (low_line m.d (event_at constants kernel m.mark m.s) (visible_of m.t.core) m.s.core m.later (record {
         before = refl;
         formed = m.before.core;

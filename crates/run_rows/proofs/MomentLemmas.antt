@@ -9,11 +9,10 @@ use Rattle.block_tree.specs.Steps.{Task, Steps, ended, goes}
 use Rattle.block_tree.proofs.AlongLemmas.{cycle-clock}
 use Rattle.block_tree.proofs.KeptLemmas.{cycle-kept}
 use Rattle.block_tree.proofs.TaskLemmas.{AreWholeTasks, next-whole, whole-append}
-use Rattle.air_kit.specs.Built.{is_built}
 use Rattle.processor.specs.Events.{shown, visible_of}
 use Rattle.processor.specs.declared.event.Event.{Event}
 use Rattle.run_rows.specs.Agreement.{Agrees}
-use Rattle.run_rows.specs.Bounds.{IsBounded, IsSmall, AreBuilt}
+use Rattle.run_rows.specs.Bounds.{IsBounded, IsSmall}
 use Rattle.run_rows.specs.Chains as chains
 use Rattle.run_rows.specs.Chains.{AreLinked}
 use Rattle.run_rows.specs.Decoder.{Decoder, advance, decoder_after}
@@ -55,10 +54,10 @@ module _ (constants : List ℕ) (kernel : List (List ℕ)) (limit : ℕ) where
 
   pub along : length constants ≡ 168 → {todo : List Task} {s u : State} {log : List run.Event} → Steps constants kernel limit todo s log u
       → AreWholeTasks todo → IsWellFormed s → (d : Decoder) → Agrees todo d s.core → IsBounded d s.core.clock (seen log)
-      → All (λ e. IsSmall e.core) log → IsSmall u.core → AreBuilt (seen log)
+      → All (λ e. IsSmall e.core) log → IsSmall u.core
       → Filled constants kernel limit todo d s u (seen log) (fill (visible_of u.core) d (seen log))
   unfolding fill
-  along len (ended {s = s}) w h d agrees bounded small last built = record {
+  along len (ended {s = s}) w h d agrees bounded small last = record {
     x = row_of d (halted (visible_of s.core)) (visible_of s.core) [];
     others = [];
     are = refl;
@@ -66,7 +65,7 @@ module _ (constants : List ℕ) (kernel : List (List ℕ)) (limit : ℕ) where
     linked = chains.ends (record { agrees = agrees; bounded = bounded; whole = h; small = last; row = refl });
   }
   along len (goes {task = task} {rest = rest} {todo = todo} {mark = mark} {s = s} {t = t} {u = u} {events = log} first cycle later)
-      w h d agrees bounded small last built =
+      w h d agrees bounded small last =
       let n = next-whole constants len first w.0 h.core in
       let kept = cycle-kept constants kernel limit mark s t len cycle n.0 h in
       let e : Event = event_at constants kernel mark s in
@@ -75,8 +74,7 @@ module _ (constants : List ℕ) (kernel : List (List ℕ)) (limit : ℕ) where
       let next_bounded = bounded_next d (event_at constants kernel mark s) (seen log) s.core.clock bounded refl in
       let r = along len later (whole-append rest todo n.1 w.1) kept (advance d (event_at constants kernel mark s) (seen log)) next_agrees
       (subst (λ k. IsBounded (advance d (event_at constants kernel mark s) (seen log)) k (seen log)) (sym clock) next_bounded)
-      (All-tail (λ x. IsSmall x.core) (event_of mark (advice_taken mark) s) log small) last
-      (All-tail (λ x. is_built x.op ≡ true) (event_at constants kernel mark s) (seen log) built) in
+      (All-tail (λ x. IsSmall x.core) (event_of mark (advice_taken mark) s) log small) last in
       record {
         x = row_of d (event_at constants kernel mark s) (seen_behind (visible_of u.core) (seen log)) (seen log);
         others = r.x ∷ r.others;
@@ -107,7 +105,6 @@ module _ (constants : List ℕ) (kernel : List (List ℕ)) (limit : ℕ) where
           agrees_behind = next_agrees;
           small = All-head (λ x. IsSmall x.core) (event_of mark (advice_taken mark) s) log small;
           bounded = bounded;
-          built = All-head (λ x. is_built x.op ≡ true) (event_at constants kernel mark s) (seen log) built;
           row = ap (λ v. row_of d (event_at constants kernel mark s) v (seen log)) (behind_is later);
           next = r.at;
         }) r.linked;

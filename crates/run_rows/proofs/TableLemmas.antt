@@ -24,7 +24,7 @@ use Rattle.row_facts.specs.MainRows.{op_in, row_at}
 use Rattle.row_facts.specs.RowFacts.{ReadsAs, IsRow}
 use Rattle.run_rows.specs.Agreement.{Agrees}
 use Rattle.run_rows.specs.BlockRows.{ClaimsRun, IsRun, ShowsBlocks, events_of, filled, keys_of}
-use Rattle.run_rows.specs.Bounds.{AreBuilt, IsSmall}
+use Rattle.run_rows.specs.Bounds.{IsSmall}
 use Rattle.run_rows.specs.Chains.{AreLinked}
 use Rattle.run_rows.specs.Decoder.{Decoder, advance, at_start, decoder_after}
 use Rattle.run_rows.specs.Filling.{fill, rows_of}
@@ -80,18 +80,17 @@ module _ (constants : List ℕ) (kernel : List (List ℕ)) (limit : ℕ) where
       )
 
   pub filled_run : (tree : Tree) (inputs tape : List ℕ) (u : State) (log : List run.Event) → IsRun constants kernel limit tree inputs tape u log
-      → AreBuilt (events_of constants kernel log)
       → Filled constants kernel limit (Block tree ∷ []) at_start (start inputs tape) u (events_of constants kernel log)
       (filled constants kernel u log)
   unfolding rows_of start
-  filled_run tree inputs tape u log r built =
+  filled_run tree inputs tape u log r =
       let steps = steps_of tree inputs tape u log r in
       let few : length (events_of constants kernel log) ≤ 524287
       = let within = steps_within constants kernel limit steps (omega arith) in
       let limited = r.within in omega (arith, within, limited, length-map log (shown constants kernel)) in
       let states = small tree inputs tape u log r in
       along constants kernel limit r.constants_are steps (r.whole, tt) (start-IsWellFormed inputs tape r.inputs_are r.tape_is) at_start
-      (agrees_start tree inputs tape r.few) (bounded_start (events_of constants kernel log) few) states.0 states.1 built
+      (agrees_start tree inputs tape r.few) (bounded_start (events_of constants kernel log) few) states.0 states.1
 
 -- ---- each row
 
@@ -197,27 +196,27 @@ last_keyed constants kernel limit d u rows moments some =
     (end_at constants kernel limit d u rows moments (length rows - 1) place).agrees.keyed
 
 pub is_linked : (constants : List ℕ) (kernel : List (List ℕ)) (limit : ℕ) (tree : Tree) (inputs tape : List ℕ) (u : State) (log : List run.Event)
-    → IsRun constants kernel limit tree inputs tape u log → AreBuilt (events_of constants kernel log)
+    → IsRun constants kernel limit tree inputs tape u log
     → AreLinked constants kernel limit u (Block tree ∷ []) at_start (start inputs tape) (events_of constants kernel log) (filled constants kernel u log)
-is_linked constants kernel limit tree inputs tape u log r built =
-    let f = filled_run constants kernel limit tree inputs tape u log r built in
+is_linked constants kernel limit tree inputs tape u log r =
+    let f = filled_run constants kernel limit tree inputs tape u log r in
     subst (AreLinked constants kernel limit u (Block tree ∷ []) at_start (start inputs tape) (events_of constants kernel log)) (sym f.are) f.linked
 
 pub has_moments : (constants : List ℕ) (kernel : List (List ℕ)) (limit : ℕ) (tree : Tree) (inputs tape : List ℕ) (u : State) (log : List run.Event)
-    → IsRun constants kernel limit tree inputs tape u log → AreBuilt (events_of constants kernel log)
+    → IsRun constants kernel limit tree inputs tape u log
     → AreMoments constants kernel limit (decoder_after at_start (events_of constants kernel log)) u (filled constants kernel u log)
     × IsRowAt constants (Block tree ∷ []) at_start (start inputs tape).core (row_at (filled constants kernel u log) 0)
-has_moments constants kernel limit tree inputs tape u log r built =
-    let f = filled_run constants kernel limit tree inputs tape u log r built in (
-      unlinked constants kernel limit (is_linked constants kernel limit tree inputs tape u log r built),
+has_moments constants kernel limit tree inputs tape u log r =
+    let f = filled_run constants kernel limit tree inputs tape u log r in (
+      unlinked constants kernel limit (is_linked constants kernel limit tree inputs tape u log r),
       subst (λ x. IsRowAt constants (Block tree ∷ []) at_start (start inputs tape).core x) (sym (ap (λ rows. row_at rows 0) f.are)) f.at,
     )
 
 pub shows_blocks : (constants : List ℕ) (kernel : List (List ℕ)) (limit : ℕ) (tree : Tree) (inputs tape : List ℕ) (u : State) (log : List run.Event)
-    → IsRun constants kernel limit tree inputs tape u log → AreBuilt (events_of constants kernel log)
+    → IsRun constants kernel limit tree inputs tape u log
     → (k : Claim) → ClaimsRun k inputs (keys_of constants kernel log) u → ShowsBlocks k (filled constants kernel u log)
-shows_blocks constants kernel limit tree inputs tape u log r built k claims =
-    let m = has_moments constants kernel limit tree inputs tape u log r built in
+shows_blocks constants kernel limit tree inputs tape u log r k claims =
+    let m = has_moments constants kernel limit tree inputs tape u log r in
     record {
       table = record {
         wide = all_wide constants kernel limit r.within (decoder_after at_start (events_of constants kernel log)) u (filled constants kernel u log) m.0;

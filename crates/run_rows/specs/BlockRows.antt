@@ -13,7 +13,6 @@ use Rattle.processor.specs.declared.event.Event.{Event}
 use Rattle.row_facts.specs.Bounds.{IsFirstRow, IsLastRow}
 use Rattle.row_facts.specs.MainRows.{op_in, row_at}
 use Rattle.row_facts.specs.RowFacts.{ReadsAs, IsRow, IsPair}
-use Rattle.run_rows.specs.Bounds.{AreBuilt}
 use Rattle.run_rows.specs.Decoder.{at_start, decoder_after, key_of}
 use Rattle.run_rows.specs.Filling.{rows_of}
 use Rattle.run_rows.specs.Moments.{AreMoments, IsRowAt}
@@ -56,16 +55,16 @@ pub record ShowsBlocks (k : Claim) (rows : List (List ℕ)) : Type 0 where
   pub first : 0 < length rows → IsFirstRow k (op_in rows 0) (row_at rows 0)
   pub last : (i : ℕ) → suc i ≡ length rows → IsLastRow k (op_in rows i) (row_at rows i)
 
--- the rows of a run show them, where its operations are built
+-- the rows of a run show them
 abbrev pub RunShowsBlocks : Type 0
 RunShowsBlocks = (constants : List ℕ) (kernel : List (List ℕ)) (limit : ℕ) (tree : Tree) (inputs tape : List ℕ) (u : State) (log : List run.Event)
-    → IsRun constants kernel limit tree inputs tape u log → AreBuilt (events_of constants kernel log)
+    → IsRun constants kernel limit tree inputs tape u log
     → (k : Claim) → ClaimsRun k inputs (keys_of constants kernel log) u → ShowsBlocks k (filled constants kernel u log)
 
 -- each row of a run is that of a cycle, and the last one HALT's
 abbrev pub RunHasMoments : Type 0
 RunHasMoments = (constants : List ℕ) (kernel : List (List ℕ)) (limit : ℕ) (tree : Tree) (inputs tape : List ℕ) (u : State) (log : List run.Event)
-    → IsRun constants kernel limit tree inputs tape u log → AreBuilt (events_of constants kernel log)
+    → IsRun constants kernel limit tree inputs tape u log
     → AreMoments constants kernel limit (decoder_after at_start (events_of constants kernel log)) u (filled constants kernel u log)
     × IsRowAt constants (Block tree ∷ []) at_start (start inputs tape).core (row_at (filled constants kernel u log) 0)
 

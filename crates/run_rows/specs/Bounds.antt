@@ -2,7 +2,6 @@
 use Rattle.std.specs.Prelude.{◌≡◌, ℕ, ◌+◌, ◌*◌, ◌<◌, ◌≤◌, true, List, length, All}
 use Rattle.vm_field.specs.Field.{prime, AreElements}
 use Rattle.vm_field.specs.Machine.{Core}
-use Rattle.air_kit.specs.Built.{is_built}
 use Rattle.processor.specs.declared.event.Event.{Event}
 use Rattle.run_rows.specs.Decoder.{Open, Decoder}
 use Rattle.run_rows.specs.Turns.{respans}
@@ -25,6 +24,3 @@ pub record IsSmall (c : Core) : Type 0 where
   pub depth : length c.stack ≤ 16 + c.clock
   pub context : c.context ≤ c.clock
 
--- Each operation of the run is built.
-abbrev pub AreBuilt : List Event → Type 0
-AreBuilt events = All (λ e. is_built e.op ≡ true) events

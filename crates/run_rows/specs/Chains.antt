@@ -6,7 +6,6 @@ use Rattle.block_tree.specs.Steps.{Task, Block}
 use Rattle.block_tree.specs.Trees.{Tree}
 use Rattle.processor.specs.declared.event.Event.{Event}
 use Rattle.run_rows.specs.BlockRows.{IsRun, events_of, filled}
-use Rattle.run_rows.specs.Bounds.{AreBuilt}
 use Rattle.run_rows.specs.Decoder.{Decoder, advance, at_start}
 use Rattle.run_rows.specs.Moments.{IsEndRow, IsMoment, event_at}
 
@@ -27,5 +26,5 @@ over_pairs count (x ∷ y ∷ rows) = count x y + over_pairs count (y ∷ rows)
 -- the rows of a run are such a chain
 abbrev pub RunIsLinked : Type 0
 RunIsLinked = (constants : List ℕ) (kernel : List (List ℕ)) (limit : ℕ) (tree : Tree) (inputs tape : List ℕ) (u : State) (log : List run.Event)
-    → IsRun constants kernel limit tree inputs tape u log → AreBuilt (events_of constants kernel log)
+    → IsRun constants kernel limit tree inputs tape u log
     → AreLinked constants kernel limit u (Block tree ∷ []) at_start (start inputs tape) (events_of constants kernel log) (filled constants kernel u log)

@@ -8,7 +8,6 @@ use Rattle.block_tree.specs.Execution.{event_of}
 use Rattle.block_tree.specs.Marks.{IsWholeMark}
 use Rattle.block_tree.specs.Rows.{op_of}
 use Rattle.block_tree.specs.Steps.{Task, Next, IsCycle}
-use Rattle.air_kit.specs.Built.{is_built}
 use Rattle.processor.specs.Events.{shown, visible_of}
 use Rattle.processor.specs.declared.event.Event.{Event}
 use Rattle.processor.specs.declared.event.Visible.{Visible}
@@ -55,7 +54,6 @@ pub record IsMoment (constants : List ℕ) (kernel : List (List ℕ)) (limit : �
   pub agrees_behind : Agrees (rest ++ todo) (advance d (event_at constants kernel mark s) later) t.core
   pub small : IsSmall s.core
   pub bounded : IsBounded d s.core.clock (event_at constants kernel mark s ∷ later)
-  pub built : is_built (op_of mark) ≡ true
   pub row : x ≡ row_of d (event_at constants kernel mark s) (visible_of t.core) later
   pub next : IsRowAt constants (rest ++ todo) (advance d (event_at constants kernel mark s) later) t.core y
 

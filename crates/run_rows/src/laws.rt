@@ -9,9 +9,8 @@ pub fn agreement_laws()
 {}
 
 /// The laws of filled rows, for a run of a whole tree from the start: one row shows each cycle, each linked
-/// to the next, and the last one is HALT's, so that there is one row more than there are events. Where the operations of the
-/// run are built, the rows show the facts of blocks, batches, groups and boundaries for each statement
-/// of the run.
+/// to the next, and the last one is HALT's, so that there is one row more than there are events. The rows show the facts of
+/// blocks, batches, groups and boundaries for each statement of the run.
 pub fn filled_laws()
     ensures moments { RunHasMoments }
     ensures linked { RunIsLinked }

@@ -12,7 +12,6 @@ use Rattle.row_facts.specs.MainRows.{IsZero, ShowsRows, op_in, row_at}
 use Rattle.row_facts.specs.Stack.{IsStackRow}
 use Rattle.row_facts.proofs.TableFacts.{rows_zero}
 use Rattle.run_rows.specs.BlockRows.{ClaimsRun, IsRun, ShowsBlocks, events_of, filled, keys_of}
-use Rattle.run_rows.specs.Bounds.{AreBuilt}
 use Rattle.run_rows.specs.Decoder.{Decoder, at_start, decoder_after}
 use Rattle.run_rows.specs.Moments.{AreMoments}
 use Rattle.run_rows.proofs.MomentLemmas.{end_at, moment_at}
@@ -33,11 +32,11 @@ module _ (constants : List ℕ) (kernel : List (List ℕ)) (limit : ℕ) where
           (f.stack_row, f.limb_row)
 
   pub shows_rows : (tree : Tree) (inputs tape : List ℕ) (u : State) (log : List run.Event) → IsRun constants kernel limit tree inputs tape u log
-      → AreBuilt (events_of constants kernel log) → (k : Claim) → ClaimsRun k inputs (keys_of constants kernel log) u
+      → (k : Claim) → ClaimsRun k inputs (keys_of constants kernel log) u
       → ShowsRows k (filled constants kernel u log)
-  shows_rows tree inputs tape u log r built k claims =
-      let b : ShowsBlocks k (filled constants kernel u log) = shows_blocks constants kernel limit tree inputs tape u log r built k claims in
-      let m = has_moments constants kernel limit tree inputs tape u log r built in
+  shows_rows tree inputs tape u log r k claims =
+      let b : ShowsBlocks k (filled constants kernel u log) = shows_blocks constants kernel limit tree inputs tape u log r k claims in
+      let m = has_moments constants kernel limit tree inputs tape u log r in
       let d : Decoder = decoder_after at_start (events_of constants kernel log) in
       let rows : List (List ℕ) = filled constants kernel u log in
       record {
@@ -54,11 +53,11 @@ module _ (constants : List ℕ) (kernel : List (List ℕ)) (limit : ℕ) where
       }
 
   pub has_zeros : (tree : Tree) (inputs tape : List ℕ) (u : State) (log : List run.Event) → IsRun constants kernel limit tree inputs tape u log
-      → AreBuilt (events_of constants kernel log) → (k : Claim) → ClaimsRun k inputs (keys_of constants kernel log) u → IsLowClaim k
+      → (k : Claim) → ClaimsRun k inputs (keys_of constants kernel log) u → IsLowClaim k
       → IsZero k (filled constants kernel u log)
-  has_zeros tree inputs tape u log r built k claims low =
-      rows_zero k (filled constants kernel u log) low (shows_blocks constants kernel limit tree inputs tape u log r built k claims).table
-      (shows_rows tree inputs tape u log r built k claims)
+  has_zeros tree inputs tape u log r k claims low =
+      rows_zero k (filled constants kernel u log) low (shows_blocks constants kernel limit tree inputs tape u log r k claims).table
+      (shows_rows tree inputs tape u log r k claims)
 
   level_low : (d : Decoder) (u : State) (rows : List (List ℕ)) → AreMoments constants kernel limit d u rows → (i : ℕ) → i < length rows
       → lv (row_at rows i) ≤ 1024
@@ -69,9 +68,9 @@ module _ (constants : List ℕ) (kernel : List (List ℕ)) (limit : ℕ) where
       go (inr apart) = moment_level constants kernel limit (moment_at constants kernel limit d u rows moments i (omega (arith, low, apart)))
 
   pub look_up : (tree : Tree) (inputs tape : List ℕ) (u : State) (log : List run.Event) → IsRun constants kernel limit tree inputs tape u log
-      → AreBuilt (events_of constants kernel log) → (i : ℕ) → suc i < length (filled constants kernel u log) → LooksUp (filled constants kernel u log) i
-  look_up tree inputs tape u log r built i low =
-      let m = has_moments constants kernel limit tree inputs tape u log r built in
+      → (i : ℕ) → suc i < length (filled constants kernel u log) → LooksUp (filled constants kernel u log) i
+  look_up tree inputs tape u log r i low =
+      let m = has_moments constants kernel limit tree inputs tape u log r in
       let d : Decoder = decoder_after at_start (events_of constants kernel log) in
       let rows : List (List ℕ) = filled constants kernel u log in
       let f = moment_facts constants kernel limit r.constants_are r.within (moment_at constants kernel limit d u rows m.0 i low) in

@@ -13,20 +13,19 @@ use Rattle.row_facts.specs.MainRows.{IsZero, ShowsRows, op_in, row_at}
 use Rattle.row_steps.specs.Filling.{FillsRows, elsewhere_of}
 use Rattle.row_steps.specs.Lookups.{HasLimbs, LooksUpBits}
 use Rattle.run_rows.specs.BlockRows.{ClaimsRun, IsRun, events_of, filled, keys_of}
-use Rattle.run_rows.specs.Bounds.{AreBuilt}
 use Rattle.run_rows.specs.Moments.{IsMoment}
 use Rattle.run_rows.specs.RunRequests.{ranges_of}
 
--- the rows of a run show the facts, where its operations are built
+-- the rows of a run show the facts
 abbrev pub RunShowsRows : Type 0
 RunShowsRows = (constants : List ℕ) (kernel : List (List ℕ)) (limit : ℕ) (tree : Tree) (inputs tape : List ℕ) (u : State) (log : List run.Event)
-    → IsRun constants kernel limit tree inputs tape u log → AreBuilt (events_of constants kernel log)
+    → IsRun constants kernel limit tree inputs tape u log
     → (k : Claim) → ClaimsRun k inputs (keys_of constants kernel log) u → ShowsRows k (filled constants kernel u log)
 
 -- so their entries are 0
 abbrev pub RunHasZeros : Type 0
 RunHasZeros = (constants : List ℕ) (kernel : List (List ℕ)) (limit : ℕ) (tree : Tree) (inputs tape : List ℕ) (u : State) (log : List run.Event)
-    → IsRun constants kernel limit tree inputs tape u log → AreBuilt (events_of constants kernel log)
+    → IsRun constants kernel limit tree inputs tape u log
     → (k : Claim) → ClaimsRun k inputs (keys_of constants kernel log) u → IsLowClaim k → IsZero k (filled constants kernel u log)
 
 -- A row of an ordinary operation is filled by its step: it looks up what is so.
@@ -45,7 +44,7 @@ pub record LooksUp (rows : List (List ℕ)) (i : ℕ) : Type 0 where
 -- so does each row of a run but the last
 abbrev pub RowsLookUp : Type 0
 RowsLookUp = (constants : List ℕ) (kernel : List (List ℕ)) (limit : ℕ) (tree : Tree) (inputs tape : List ℕ) (u : State) (log : List run.Event)
-    → IsRun constants kernel limit tree inputs tape u log → AreBuilt (events_of constants kernel log)
+    → IsRun constants kernel limit tree inputs tape u log
     → (i : ℕ) → suc i < length (filled constants kernel u log) → LooksUp (filled constants kernel u log) i
 
 -- the requests of a run to the table of numbers of 16 bits are such numbers

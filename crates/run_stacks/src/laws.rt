@@ -1,8 +1,7 @@
 ghost use Rattle.run_stacks.specs.StackRows.{MomentFills, RangesAreLow, RowsLookUp, RunHasZeros, RunShowsRows};
 
-/// The laws of the stack of filled rows: where the operations of a run are built, its rows show all
-/// facts of rows for each statement of the run, and so their entries are 0 where this statement is in
-/// the range of elements.
+/// The laws of the stack of filled rows: the rows of a run show all facts of rows for each statement of
+/// the run, and so their entries are 0 where this statement is in the range of elements.
 pub fn stack_laws()
     ensures shows { RunShowsRows }
     ensures zeros { RunHasZeros }
