@@ -1,0 +1,9 @@
+//! The permutations that were computed under one list of constants, so that none of those that are kept is computed again.
+#![tactic(auto)]
+
+mod permutations;
+mod slots;
+#[cfg(test)]
+mod tests;
+
+pub use permutations::Permutations;
