@@ -5,7 +5,7 @@
 # all tables are filled, and the table file and the statement are written. Plain Rust is fill.rs; its files must be the same
 # byte for byte. The ratio of the times is to be at most 1.5, and the peak memory at most 2.2 times the table file. CASE is
 # `span`, which is meant where there is none: nearly 2^19 rows of the main table; or `loop` or `flow`, of some 430,000; or
-# `all`, of some 79,000. TURNS is how often the source's outer body is repeated, MIDEN the program in place of the one that
+# `calls`, of 20,000 calls on a stack of DEPTH cells; or `all`, of some 79,000. TURNS is how often the source's outer body is repeated, MIDEN the program in place of the one that
 # the script `miden` builds, RUNS how often both run, and where INSTRUCTIONS is set instructions are counted in place of times
 # (command.py).
 #
