@@ -40,7 +40,7 @@ if [ "$1" != crates ]; then
     whole_command "${1:-span}"
     exit
 fi
-libraries='vm_field vm_io vm_ops rpo_hash op_pack vm_state op_steps block_tree processor masm_lex masm_instr instr_reading masm_parse
+libraries='vm_field vm_io vm_ops rpo_hash perm_memo op_pack vm_state op_steps block_tree processor masm_lex masm_instr instr_reading masm_parse
     masm_uses masm_flat masm_link'
 for crate in $libraries; do
     mkdir -p "$work/crates/$crate"
@@ -48,7 +48,7 @@ for crate in $libraries; do
     grep -E "^$crate:" "$top/crates.txt" >>"$work/crates.txt"
 done
 mkdir -p "$work/crates/bench_run/src"
-echo 'bench_run: masm_link masm_lex processor block_tree rpo_hash vm_io vm_state vm_field' >>"$work/crates.txt"
+echo 'bench_run: masm_link masm_lex processor block_tree perm_memo rpo_hash vm_io vm_state vm_field' >>"$work/crates.txt"
 cat >"$work/crates/bench_run/src/main.rt" <<'END'
 //! Assembles and executes a source.
 #![tactic(auto)]
