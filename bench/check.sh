@@ -44,7 +44,7 @@ if [ "$1" != crates ]; then
     exit
 fi
 libraries='vm_field vm_io vm_table buses vm_ops rpo_hash vm_state chip_columns air_kit air_decoder air_stack air_u32 air_hasher
-    air_lookup row_facts bus_kit bus_chips bus_main checker table_file'
+    air_bitwise air_memory air_lookup row_facts bus_kit bus_chips bus_main checker table_file'
 for crate in $libraries; do
     mkdir -p "$work/crates/$crate"
     cp -r "$top/crates/$crate"/{src,specs,proofs} "$work/crates/$crate/" 2>/dev/null || true
