@@ -170,7 +170,7 @@ end_op {d = d} {u = u} e = ap flags.op_of e.row ∙ line_op (line_of d (halted (
 pub end_reads : {d : Decoder} {u : State} {x : List ℕ} → IsEndRow d u x → ReadsAs (flags.op_of x) x
 end_reads {d = d} {u = u} {x = x} e =
     let reads : ReadsAs ops.Halt (row_of d (halted (visible_of u.core)) (visible_of u.core) [])
-    = line_reads (line_of d (halted (visible_of u.core)) (visible_of u.core) []) refl
+    = line_reads (line_of d (halted (visible_of u.core)) (visible_of u.core) [])
     (low_line d (halted (visible_of u.core)) (visible_of u.core) u.core [] (record {
       before = refl;
       formed = e.whole.core;
