@@ -3,9 +3,10 @@ use Rattle.std.proofs.Common.{◌≡◌, ℕ, ◌+◌, ◌-◌, ◌≤◌, List,
 use Rattle.std.proofs.Math.Seq.{take-append_seam}
 use Rattle.vm_field.specs.Machine as machine
 use Rattle.vm_field.specs.Machine.{start}
+use Rattle.rpo_hash.specs.Constants.{constants_of}
 use Rattle.rpo_hash.specs.declared.params.Params.{Params}
 use Rattle.block_tree.specs.Laws.{tape_taken}
-use Rattle.block_tree.specs.Trees.{Tree}
+use Rattle.block_tree.specs.Trees.{Tree, tree_digest}
 use Rattle.block_tree.specs.TreeView.{tree_of}
 use Rattle.block_tree.specs.declared.program.Program.{Program}
 use Rattle.block_tree.proofs.Tapes.{fed-execution}
@@ -47,15 +48,21 @@ module _ (tree : Tree) (s : machine.State) (inputs : Inputs) where
       omega arith
 
   -- a run to its end
-  pub run_of : (params : Params) (program : Program) (limit : ℕ) (tape : List ℕ) {setting : Setting} {log : List Event} {u : Unit {0}} {after : Runner}
+  pub run_of : (params : Params) (program : Program) (limit : ℕ) (tape digest permutations : List ℕ)
+      {setting : Setting} {log : List Event} {u : Unit {0}} {after : Runner}
       → Ran setting (execution_in setting tree s) log (Ok u) after → log ≡ []
       → setting.params.now ≡ params → setting.kernel.now ≡ program.kernel → setting.limit ≡ limit
       → tree ≡ tree_of program.tree → s ≡ start inputs.stack inputs.advice
       → tape ≡ take (length inputs.advice - length after.state.tape) inputs.advice
-      → IsRunOf params program inputs limit (record { state = after.state; tape = tape; events = after.log })
-  run_of params program limit tape {setting} {log} {after = after} h no_log is_params is_kernel is_limit is_tree is_start is_tape = record {
-    log = h.answer.more;
-    done = rw (← is_params, ← is_kernel, ← is_limit, ← is_tree, ← is_start) h.answer.done;
-    events = rw (← is_params, ← is_kernel) (h.answer.events ∙ ap (λ x. x ++ map (shown_in setting) h.answer.more) no_log);
-    tape = rw is_tape (tape_split setting log after is_start h);
-  }
+      → digest ≡ tree_digest (constants_of params) (tree_of program.tree) → permutations ≡ constants_of params
+      → IsRunOf params program inputs limit
+      (record { state = after.state; tape = tape; events = after.log; digest = digest; permutations = permutations })
+  run_of params program limit tape digest permutations {setting} {log} {after = after}
+      h no_log is_params is_kernel is_limit is_tree is_start is_tape is_digest is_permutations = record {
+        log = h.answer.more;
+        done = rw (← is_params, ← is_kernel, ← is_limit, ← is_tree, ← is_start) h.answer.done;
+        events = rw (← is_params, ← is_kernel) (h.answer.events ∙ ap (λ x. x ++ map (shown_in setting) h.answer.more) no_log);
+        tape = rw is_tape (tape_split setting log after is_start h);
+        digest = is_digest;
+        permutations = is_permutations;
+      }

@@ -5,6 +5,7 @@ use Rattle.rpo_hash.specs.Constants.{constants_of}
 use Rattle.rpo_hash.specs.declared.params.Params.{Params}
 use Rattle.block_tree.specs.Execution as run
 use Rattle.block_tree.specs.Execution.{Outcome, Done, execution}
+use Rattle.block_tree.specs.Trees.{tree_digest}
 use Rattle.block_tree.specs.TreeView.{tree_of}
 use Rattle.block_tree.specs.declared.program.Program.{Program}
 use Rattle.vm_state.specs.Views.{state_of}
@@ -19,12 +20,15 @@ abbrev pub outcome_of : Params → Program → Inputs → ℕ → Outcome
 outcome_of params program inputs limit =
     execution (constants_of params) program.kernel limit (tree_of program.tree) (start inputs.stack inputs.advice)
 
--- The run of a program to its end: the state there, an event for each cycle, and the advice that was taken.
+-- The run of a program to its end: the state there, an event for each cycle, the advice that was taken, the digest of its tree
+-- and permutations under its constants.
 pub record IsRunOf (params : Params) (program : Program) (inputs : Inputs) (limit : ℕ) (r : Run) : Type 0 where
   pub log : List run.Event
   pub done : outcome_of params program inputs limit ≡ Done (state_of r.state) log
   pub events : r.events ≡ map (shown (constants_of params) program.kernel) log
   pub tape : inputs.advice ≡ r.tape ++ r.state.tape
+  pub digest : r.digest ≡ tree_digest (constants_of params) (tree_of program.tree)
+  pub permutations : r.permutations ≡ constants_of params
 
 -- the run that `execute` answers for some inputs within some limit
 pub record WasExecuted (params : Params) (program : Program) (answer : Run) : Type 0 where

@@ -1,13 +1,13 @@
-ghost use Rattle.std.specs.Prelude.{◌≡◌, ◌<◌, length, All, IfOk, IfSome};
+ghost use Rattle.std.specs.Prelude.{◌≡◌, All, IfOk, IfSome};
 ghost use Rattle.block_tree.specs.Trees.{input_of_batches, input_of_two};
-ghost use Rattle.rpo_hash.specs.Constants.{constants_of};
 ghost use Rattle.vm_field.specs.Sponge.{digest_of_input, hashed};
 ghost use Rattle.vm_ops.specs.Codes.{code_of};
 ghost use Rattle.processor.specs.Digests.{IsDigest};
 
 use crate::mark::pair;
+use crate::sponge::digest_of;
 use op_pack::Batches;
-use rpo_hash::{Params, digest_of};
+use perm_memo::Permutations;
 use std::alloc::Global;
 use std::collections::BTreeMap;
 use vm_field::{Felt, Memory, Word};
@@ -21,32 +21,40 @@ struct Known {
     digest: Word,
 }
 
-// The digests that were computed, so that none is computed twice.
+// The digests that were computed, so that none is computed twice, and the permutations that were
+// computed for them.
 #[derive(Drop)]
-pub(crate) struct Digests<'a> {
-    params: &'a Params,
+pub(crate) struct Digests {
+    permutations: Permutations,
     known: Vec<Known>,
     // where a digest stands, by its input's fingerprint; another input may have the same one
     places: BTreeMap<u64, usize>,
-    ghost known_right: { All (IsDigest (constants_of params.now)) known.items },
+    ghost known_right: { All (IsDigest permutations) known.items },
 }
 
-impl<'a> Digests<'a> {
+impl Digests {
     // No digests yet.
-    pub fn new(alloc: Global, params: &'a Params) -> Digests<'a>
-        ensures { result.params.now ≡ params.entry.now }
+    pub fn new(alloc: Global, permutations: Permutations) -> Digests
+        ensures { result.permutations ≡ permutations }
     {
         Digests {
-            params,
+            permutations,
             known: Vec::new(alloc),
             places: BTreeMap::new(alloc),
         }
     }
 
+    // The permutations, with those that were computed.
+    pub fn into_permutations(self) -> Permutations
+        ensures { result ≡ self.permutations }
+    {
+        self.permutations
+    }
+
     // The digest of a span.
     pub fn of_span(&mut self, alloc: Global, batches: &Batches) -> Result<Word, Memory>
-        ensures digest { IfOk result (λ digest. digest ≡ digest_of_input (constants_of self.old.params.now) (input_of_batches batches.now)) }
-        ensures params { self.new.params.now ≡ self.old.params.now }
+        ensures digest { IfOk result (λ digest. digest ≡ digest_of_input self.old.permutations (input_of_batches batches.now)) }
+        ensures permutations { self.new.permutations ≡ self.old.permutations }
     {
         self.of(alloc, Felt::ZERO, batches.as_slice())
     }
@@ -59,23 +67,22 @@ impl<'a> Digests<'a> {
         first: Word,
         second: Word,
     ) -> Result<Word, Memory>
-        ensures digest { IfOk result (λ digest. digest ≡ digest_of_input (constants_of self.old.params.now) (input_of_two start first second)) }
-        ensures params { self.new.params.now ≡ self.old.params.now }
+        ensures digest { IfOk result (λ digest. digest ≡ digest_of_input self.old.permutations (input_of_two start first second)) }
+        ensures permutations { self.new.permutations ≡ self.old.permutations }
     {
         self.of(alloc, domain_of(start), &[pair(&first, &second)])
     }
 
     // The digest of blocks of eight elements under a domain.
     fn of(&mut self, alloc: Global, domain: Felt, blocks: &[[Felt; 8]]) -> Result<Word, Memory>
-        requires some { 0 < length blocks.now }
-        ensures digest { IfOk result (λ digest. digest ≡ hashed (constants_of self.old.params.now) domain blocks.now) }
-        ensures params { self.new.params.now ≡ self.old.params.now }
+        ensures digest { IfOk result (λ digest. digest ≡ hashed self.old.permutations domain blocks.now) }
+        ensures permutations { self.new.permutations ≡ self.old.permutations }
     {
         let fingerprint = fingerprint(domain, blocks);
         if let Some(digest) = self.known_digest(fingerprint, domain, blocks) {
             return Ok(digest);
         }
-        let digest = digest_of(self.params, domain, blocks);
+        let digest = digest_of(&mut self.permutations, domain, blocks);
         let blocks = Vec::from_slice(alloc, blocks)?;
         self.places.insert(fingerprint, self.known.len())?;
         self.known.push(Known {
@@ -88,7 +95,7 @@ impl<'a> Digests<'a> {
 
     // The digest, if it was computed.
     fn known_digest(&self, fingerprint: u64, domain: Felt, blocks: &[[Felt; 8]]) -> Option<Word>
-        ensures { IfSome result (λ digest. digest ≡ hashed (constants_of self.now.params.now) domain blocks.now) }
+        ensures { IfSome result (λ digest. digest ≡ hashed self.now.permutations domain blocks.now) }
     {
         let known = self.known.get(*self.places.get(&fingerprint)?)?;
         if known.domain == domain && known.blocks.as_slice() == blocks {

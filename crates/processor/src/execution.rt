@@ -9,6 +9,7 @@ use crate::refusal::Stop;
 use crate::run::Run;
 use crate::setting::Setting;
 use block_tree::Program;
+use perm_memo::Permutations;
 use rpo_hash::Params;
 use std::alloc::Global;
 use vm_field::Felts;
@@ -32,7 +33,8 @@ pub fn execute(
     ensures is { Gives result params.now program.now inputs.now limit }
     ensures was { IfOk result (WasExecuted params.now program.now) }
 {
-    let node = hashed(alloc, params, &program.tree)?;
+    let permutations = Permutations::new(alloc, params);
+    let (node, permutations) = hashed(alloc, permutations, &program.tree)?;
     let setting = Setting {
         alloc,
         params,
@@ -51,5 +53,7 @@ pub fn execute(
         tape: Felts::copied(alloc, &advice[..taken])?,
         state: runner.state,
         events: runner.log,
+        digest: node.digest(),
+        permutations,
     })
 }

@@ -13,6 +13,7 @@ mod node;
 mod refusal;
 mod run;
 mod setting;
+mod sponge;
 
 pub use event::{Event, Events, Visible};
 pub use execution::execute;

@@ -1,5 +1,4 @@
 ghost use Rattle.std.specs.Prelude.{◌≡◌, ℕ, List, IfOk};
-ghost use Rattle.rpo_hash.specs.Constants.{constants_of};
 ghost use Rattle.block_tree.specs.TreeView.{tree_of};
 ghost use Rattle.block_tree.specs.Trees.{tree_digest};
 ghost use Rattle.processor.specs.Nodes.{IsHashed, digest_in, node_tree};
@@ -7,7 +6,7 @@ ghost use Rattle.processor.specs.Nodes.{IsHashed, digest_in, node_tree};
 use crate::digests::Digests;
 use block_tree::Tree;
 use op_pack::Batches;
-use rpo_hash::Params;
+use perm_memo::Permutations;
 use std::alloc::Global;
 use vm_field::{Memory, Word};
 use vm_ops::Op;
@@ -42,22 +41,29 @@ impl Node<'_> {
     }
 }
 
-// The tree with its digests. A block is hashed once, whatever its copies.
-pub(crate) fn hashed<'a>(alloc: Global, params: &Params, tree: &'a Tree) -> Result<Node<'a>, Memory>
-    ensures hashed { IfOk result (λ node. IsHashed (constants_of params.now) node) }
-    ensures tree { IfOk result (λ node. node_tree node ≡ tree_of tree.now) }
-    ensures digest { IfOk result (λ node. digest_in node ≡ tree_digest (constants_of params.now) (tree_of tree.now)) }
+// The tree with its digests, and the permutations with those that were computed for it. A block is
+// hashed once, whatever its copies.
+pub(crate) fn hashed<'a>(
+    alloc: Global,
+    permutations: Permutations,
+    tree: &'a Tree,
+) -> Result<(Node<'a>, Permutations), Memory>
+    ensures hashed { IfOk result (λ r. IsHashed permutations r.0) }
+    ensures tree { IfOk result (λ r. node_tree r.0 ≡ tree_of tree.now) }
+    ensures digest { IfOk result (λ r. digest_in r.0 ≡ tree_digest permutations (tree_of tree.now)) }
+    ensures permutations { IfOk result (λ r. r.1 ≡ permutations) }
 {
-    let mut digests = Digests::new(alloc, params);
-    node_of(alloc, &mut digests, tree)
+    let mut digests = Digests::new(alloc, permutations);
+    let node = node_of(alloc, &mut digests, tree)?;
+    Ok((node, digests.into_permutations()))
 }
 
 // The tree with its digests, of which some may be known.
 fn node_of<'a>(alloc: Global, digests: &mut Digests, tree: &'a Tree) -> Result<Node<'a>, Memory>
-    ensures hashed { IfOk result (λ node. IsHashed (constants_of digests.old.params.now) node) }
+    ensures hashed { IfOk result (λ node. IsHashed digests.old.permutations node) }
     ensures tree { IfOk result (λ node. node_tree node ≡ tree_of tree.now) }
-    ensures digest { IfOk result (λ node. digest_in node ≡ tree_digest (constants_of digests.old.params.now) (tree_of tree.now)) }
-    ensures params { digests.new.params.now ≡ digests.old.params.now }
+    ensures digest { IfOk result (λ node. digest_in node ≡ tree_digest digests.old.permutations (tree_of tree.now)) }
+    ensures permutations { digests.new.permutations ≡ digests.old.permutations }
 {
     Ok(match tree {
         Tree::Opaque(digest) => Node::Opaque(*digest),

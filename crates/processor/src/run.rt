@@ -1,5 +1,6 @@
 use crate::event::Events;
-use vm_field::Felts;
+use perm_memo::Permutations;
+use vm_field::{Felts, Word};
 use vm_state::State;
 
 /// A run that came to its end.
@@ -11,4 +12,9 @@ pub struct Run {
     pub tape: Felts,
     /// What each cycle shows.
     pub events: Events,
+    /// The digest of the program's tree.
+    pub digest: Word,
+    /// The permutations that were computed for it, so that none of them is computed again for its
+    /// tables.
+    pub permutations: Permutations,
 }

@@ -1,7 +1,6 @@
 use Rattle.std.proofs.Common.{◌∙◌, sym, subst, ap₂}
 use Rattle.std.proofs.lemmas.Bool.{eqb-true}
 use Rattle.std.proofs.lemmas.List.Elements.{All-get_or}
-use Rattle.rpo_hash.specs.Constants.{constants_of}
 use Rattle.vm_field.specs.Sponge.{hashed}
 use lib.Pointwise.{pointwise_decides, bytes_decides}
 use Rattle.processor.specs.Digests.{IsDigest}
@@ -9,7 +8,7 @@ use Rattle.processor.proofs.digests.Digests.known_digest.Goals as goal
 
 pub returns-then-eq-2 : goal.returns-then-eq-2
 returns-then-eq-2 c =
-    let constants = constants_of c.args.self.now.params.now in
+    let constants = c.args.self.now.permutations in
     let domain = eqb-true _ _ (sym c.eq.ensures ∙ c.if-eq.true) in
     let blocks = sym c.as_slice.ensures.value ∙ (pointwise_decides bytes_decides _ _).0 (sym c.eq-then-eq.ensures ∙ c.if-eq-2.true) in
     let found = c.in_ok-known.ensures.lookup in
