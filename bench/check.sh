@@ -5,7 +5,8 @@
 # are read, its rows tested, its buses counted and compared, and the evidence is extracted and written, which must be the
 # same text. Plain Rust makes the table file as well (fill.rs). The ratio of the times is to be at most 1.5, and the peak
 # memory at most 2.5 times the table file. CASE is `span`, which is meant where there is none: nearly 2^19 rows of the main
-# table; or `loop` or `flow`, of some 430,000; or `all`, of some 79,000. TURNS is how often the source's outer body is
+# table; or `loop` or `flow`, of some 430,000; or `calls`, of 20,000 calls on a stack of DEPTH cells; or `all`, of some
+# 79,000. TURNS is how often the source's outer body is
 # repeated, MIDEN the program in place of the one that the script `miden` builds, RUNS how often both run, and where
 # INSTRUCTIONS is set instructions are counted in place of times (command.py).
 #
@@ -43,7 +44,7 @@ if [ "$1" != crates ]; then
     exit
 fi
 libraries='vm_field vm_io vm_table buses vm_ops rpo_hash vm_state chip_columns air_kit air_decoder air_stack air_u32 air_hasher
-    air_lookup row_facts bus_kit bus_chips bus_main checker table_file'
+    air_bitwise air_memory air_lookup row_facts bus_kit bus_chips bus_main checker table_file'
 for crate in $libraries; do
     mkdir -p "$work/crates/$crate"
     cp -r "$top/crates/$crate"/{src,specs,proofs} "$work/crates/$crate/" 2>/dev/null || true

@@ -8,7 +8,7 @@ most=$1
 shift
 work=$(mktemp -d)
 trap 'rm -rf "$work"' EXIT
-libraries='vm_field vm_ops rpo_hash op_pack vm_state op_steps block_tree processor'
+libraries='vm_field vm_ops rpo_hash perm_memo op_pack vm_state op_steps block_tree processor'
 for crate in $libraries; do
     mkdir -p "$work/crates/$crate"
     cp -r "$top/crates/$crate"/{src,specs,proofs} "$work/crates/$crate/"

@@ -108,10 +108,9 @@ impl Filler<'_> {
         }
     }
 
-    // The row of a cycle, before the cells behind it.
-    fn row(&mut self, clock: usize, event: &Event, behind: &[u64; 16]) -> Row {
+    // Fills the row of a cycle, of zeros so far, before the cells behind it.
+    fn fill(&mut self, x: &mut Row, clock: usize, event: &Event, behind: &[u64; 16]) {
         let op = event.op;
-        let mut x = [0; 65];
         (x[CLOCK], x[FMP], x[CTX], x[SYS]) = (clock as u64, event.fmp, event.context.into(), event.in_syscall.into());
         if event.function > 0 {
             x[F..F + 4].copy_from_slice(&self.blocks[event.function as usize - 1].digest);
@@ -127,17 +126,16 @@ impl Filler<'_> {
         self.inverses.ask(65 * clock + INV, u64::from(event.depth) - 16);
         let block = &self.blocks[event.block as usize];
         match op {
-            SPAN | RESPAN => self.begin(clock, &mut x, block, event),
-            END => self.end(&mut x, block, event),
+            SPAN | RESPAN => self.begin(clock, x, block, event),
+            END => self.end(x, block, event),
             HALT => {}
             JOIN..=REPEAT => {
                 x[H..H + 8].copy_from_slice(&block.hash);
                 x[W] = event.number.into();
-                self.start(&mut x, block, event);
+                self.start(x, block, event);
             }
-            _ => self.ordinary(clock, &mut x, event, behind),
+            _ => self.ordinary(clock, x, event, behind),
         }
-        x
     }
 
     // A start that is no span's, or a REPEAT.
@@ -333,7 +331,8 @@ fn fill(blocks: &[Block], kernel: &[Word], log: Log) -> Tables {
     let mut main = Vec::with_capacity(events.len());
     for (clock, event) in events.iter().enumerate() {
         let behind = &events[(clock + 1).min(events.len() - 1)].cells;
-        main.push(filler.row(clock, event, behind));
+        main.push([0; 65]);
+        filler.fill(&mut main[clock], clock, event, behind);
     }
     let Filler { inverses, mut ranges, calls, keys, .. } = filler;
     inverses.answer(main.as_flattened_mut());

@@ -5,7 +5,7 @@
 # all tables are filled, and the table file and the statement are written. Plain Rust is fill.rs; its files must be the same
 # byte for byte. The ratio of the times is to be at most 1.5, and the peak memory at most 2.2 times the table file. CASE is
 # `span`, which is meant where there is none: nearly 2^19 rows of the main table; or `loop` or `flow`, of some 430,000; or
-# `all`, of some 79,000. TURNS is how often the source's outer body is repeated, MIDEN the program in place of the one that
+# `calls`, of 20,000 calls on a stack of DEPTH cells; or `all`, of some 79,000. TURNS is how often the source's outer body is repeated, MIDEN the program in place of the one that
 # the script `miden` builds, RUNS how often both run, and where INSTRUCTIONS is set instructions are counted in place of times
 # (command.py).
 #
@@ -40,7 +40,7 @@ if [ "$1" != crates ]; then
     whole_command "${1:-span}"
     exit
 fi
-libraries='vm_field vm_io vm_ops rpo_hash op_pack vm_state op_steps block_tree processor masm_lex masm_instr instr_reading masm_parse
+libraries='vm_field vm_io vm_ops rpo_hash perm_memo op_pack vm_state op_steps block_tree processor masm_lex masm_instr instr_reading masm_parse
     masm_uses masm_flat masm_link'
 for crate in $libraries; do
     mkdir -p "$work/crates/$crate"
@@ -48,7 +48,7 @@ for crate in $libraries; do
     grep -E "^$crate:" "$top/crates.txt" >>"$work/crates.txt"
 done
 mkdir -p "$work/crates/bench_run/src"
-echo 'bench_run: masm_link masm_lex processor block_tree rpo_hash vm_io vm_state vm_field' >>"$work/crates.txt"
+echo 'bench_run: masm_link masm_lex processor block_tree perm_memo rpo_hash vm_io vm_state vm_field' >>"$work/crates.txt"
 cat >"$work/crates/bench_run/src/main.rt" <<'END'
 //! Assembles and executes a source.
 #![tactic(auto)]

@@ -68,6 +68,24 @@ end
 END
 }
 
+# A loop of 20,000 calls, of 19 cycles a turn, on a stack of DEPTH cells, or of some 16.
+calls_source() {
+    cat <<END
+proc.step
+    swap neg swap
+end
+begin
+    repeat.$((${DEPTH:-17} - 16))
+        dup
+    end
+    push.${TURNS:-20000}.1
+    while.true
+        call.step sub.1 dup neq.0
+    end
+end
+END
+}
+
 # A loop that uses all tables: numbers of 32 bits, locals, memory and calls, and in each eighth turn a permutation and a
 # syscall.
 all_source() {

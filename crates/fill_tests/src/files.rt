@@ -38,8 +38,8 @@ fn has_lengths(alloc: Global, row: &Row) -> Result<bool, Memory> {
     let Ok(run) = execute(alloc, &NO_CONSTANTS, &program, &inputs, 100) else {
         return Ok(false);
     };
-    let (table, state) = table_file_of_run(alloc, &NO_CONSTANTS, &program, run)?;
-    let statement = statement_file_of_run(alloc, &NO_CONSTANTS, program, inputs, &state)?;
+    let (table, end) = table_file_of_run(alloc, &NO_CONSTANTS, &program, run)?;
+    let statement = statement_file_of_run(alloc, program, inputs, &end)?;
     Ok(table.len() == row.1 && statement.len() == row.2)
 }
 

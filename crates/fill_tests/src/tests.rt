@@ -64,7 +64,10 @@ fn ran(alloc: Global, tree: Tree, ones: usize) -> Result<Run, Stop> {
 
 fn filled(alloc: Global, tree: Tree, ones: usize) -> Result<(Table<65>, Requests), Memory> {
     match ran(alloc, tree, ones) {
-        Ok(run) => fill_main(alloc, &NO_CONSTANTS, &run),
+        Ok(run) => {
+            let mut permutations = run.permutations;
+            fill_main(alloc, &mut permutations, &run.state, &run.events)
+        }
         Err(_) => Err(Memory::Memory),
     }
 }

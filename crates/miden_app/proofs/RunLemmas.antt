@@ -2,6 +2,7 @@
 use Rattle.std.proofs.Common.{◌≡◌, ◌≤◌, ℕ, Bool, true, List, length, Option, Some, Result, Ok, Err, IfErr, refl, subst, sym}
 use Rattle.rpo_hash.specs.Constants.{constants_of}
 use Rattle.rpo_hash.specs.declared.params.Params.{Params}
+use Rattle.block_tree.specs.Trees.{Tree, tree_digest}
 use Rattle.block_tree.specs.TreeView.{tree_of}
 use Rattle.block_tree.specs.declared.program.Program.{Program}
 use Rattle.vm_state.specs.Views.{state_of}
@@ -9,7 +10,7 @@ use Rattle.vm_state.specs.declared.inputs.Inputs.{Inputs}
 use Rattle.processor.specs.Executed.{IsRunOf, WasExecuted}
 use Rattle.processor.specs.declared.run.Run.{Run}
 use Rattle.statement.specs.Inputs.{Given, given_of}
-use Rattle.run_files.specs.RunFiles.{IsFileOfRun, IsStatementFileOf, claim_of_run}
+use Rattle.run_files.specs.RunFiles.{IsFileOfRun, IsStatementFileOf, claim_of_run, claim_with}
 use Rattle.vm_io.specs.Shelf.{ShelfState}
 use Rattle.miden_app.specs.declared.course.Course as held
 use Rattle.miden_app.specs.declared.outcome.Outcome.{Outcome}
@@ -63,6 +64,13 @@ saved_ends outputs params program answer given table statement line o old new ta
 
     of_statement : Right
     of_statement = statement_of (claim_of_run (constants_of params) (tree_of program.tree) program.kernel given.stack answer.state.stack)
+
+-- the file of what is claimed with the digest of the program's tree
+pub claims_run : (constants : List ℕ) (tree : Tree) (digest : List ℕ) (kernel : List (List ℕ)) (inputs outputs statement : List ℕ)
+    → digest ≡ tree_digest constants tree → IsStatementFileOf (claim_with digest kernel inputs outputs) statement
+    → IsStatementFileOf (claim_of_run constants tree kernel inputs outputs) statement
+claims_run constants tree digest kernel inputs outputs statement e file =
+    subst (λ (d : List ℕ). IsStatementFileOf (claim_with d kernel inputs outputs) statement) e file
 
 -- no memory for them
 pub unsaved_ends : (outputs : Outputs) (params : Params) (program : Program) (answer : Run) (given : Given) (s : ShelfState)

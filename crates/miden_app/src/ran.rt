@@ -51,6 +51,7 @@ pub fn save_run<F: Shelf>(
 }
 
 // Makes all that is written, before anything is.
+#[tactic(auto, using(crate::proofs::RunLemmas::claims_run))]
 fn files_of(
     alloc: Global,
     constants: &Params,
@@ -64,9 +65,9 @@ fn files_of(
     ensures line { IfOk result (λ made. made.line ≡ run_lines (state_of course.run.state)) }
 {
     let Course { program, run } = course;
-    let (table, state) = table_file_of_run(alloc, constants, &program, run)?;
-    let line = run_text(alloc, &state)?;
-    let statement = statement_file_of_run(alloc, constants, program, inputs, &state)?;
+    let (table, end) = table_file_of_run(alloc, constants, &program, run)?;
+    let line = run_text(alloc, &end.state)?;
+    let statement = statement_file_of_run(alloc, program, inputs, &end)?;
     Ok(Made {
         table,
         statement,

@@ -1,5 +1,5 @@
 -- The states that a permutation goes through, one by one.
-use Rattle.std.proofs.Common.{◌≡◌, ℕ, ◌+◌, ◌<◌, ◌≤◌, List, [], ◌∷◌, length, get_or, set, inl, inr, arith, refl, sym, ap, subst, ◌∙◌, add-one}
+use Rattle.std.proofs.Common.{◌≡◌, ℕ, zero, suc, ◌+◌, ◌<◌, ◌≤◌, List, [], ◌∷◌, length, get_or, set, inl, inr, arith, refl, sym, ap, subst, ◌∙◌, add-one}
 use Rattle.std.proofs.lemmas.Bool.Decides.{eqb_tells}
 use Rattle.std.proofs.lemmas.List.{get_or-set_same, get_or-set_other, length-set}
 use Rattle.vm_field.specs.Permutation.{permuted, round, round_constants, rounds}
@@ -66,3 +66,20 @@ round_states-last constants x = sym (permuted-is constants x)
 pub round_states-AreRounds : (constants x : List ℕ) (states : List (List ℕ)) → states ≡ round_states constants x → AreRounds constants states
 round_states-AreRounds constants x states e =
     e ∙ ap (round_states constants) (sym (ap (λ s. get_or s 0 []) e ∙ round_states-first constants x))
+
+-- each of them
+place : (constants x : List ℕ) (k : ℕ) → k < 8 → get_or (round_states constants x) k [] ≡ rounds k constants x
+unfolding round_states
+place constants x zero h = refl
+place constants x (suc zero) h = refl
+place constants x (suc (suc zero)) h = refl
+place constants x (suc (suc (suc zero))) h = refl
+place constants x (suc (suc (suc (suc zero)))) h = refl
+place constants x (suc (suc (suc (suc (suc zero))))) h = refl
+place constants x (suc (suc (suc (suc (suc (suc zero)))))) h = refl
+place constants x (suc (suc (suc (suc (suc (suc (suc zero))))))) h = refl
+place constants x (suc (suc (suc (suc (suc (suc (suc (suc k)))))))) h = absurd (omega (arith, h))
+
+pub round_states-at : (constants x : List ℕ) (states : List (List ℕ)) (k : ℕ) → k < 8 → states ≡ round_states constants x
+    → get_or states k [] ≡ rounds k constants x
+round_states-at constants x states k h e = ap (λ s. get_or s k []) e ∙ place constants x k h

@@ -2,7 +2,6 @@
 #![tactic(auto)]
 
 mod permutations;
-mod slots;
 #[cfg(test)]
 mod tests;
 

@@ -1,23 +1,26 @@
-ghost use Rattle.std.specs.Prelude.{◌≡◌, ◌<◌, EachIndex, length, slice_index};
+ghost use Rattle.std.specs.Prelude.{◌≡◌, ◌<◌, [], EachIndex, IfSome, length, slice_index, slice_index_or};
 ghost use Rattle.rpo_hash.specs.Constants.{constants_of};
 ghost use Rattle.vm_field.specs.Field.{prime};
 ghost use Rattle.vm_field.specs.Permutation.{permuted};
 ghost use Rattle.perm_memo.specs.RoundStates.{round_states};
 
-use crate::slots::{keep, kept};
 use rpo_hash::{Params, known_constants, round};
 use std::alloc::Global;
+use std::collections::BTreeMap;
 use std::marker::Model;
 use vm_field::Felt;
+
+// How many are kept at most: 48 MiB of them.
+const MOST: usize = 65536;
 
 /// Permutations that were computed under one list of constants, by the state before them, so that
 /// none of these is computed again. It is seen as the constants.
 #[derive(Drop)]
 pub struct Permutations {
     params: Params,
-    slots: Vec<[[Felt; 12]; 8]>,
-    // how many were computed
-    computed: usize,
+    kept: Vec<[[Felt; 12]; 8]>,
+    // where one stands, by the fingerprint of its first state; another state may have the same one
+    places: BTreeMap<u64, usize>,
 }
 
 impl Model for Permutations {
@@ -29,7 +32,7 @@ impl Model for Permutations {
 
     ghost view = { λ p. constants_of p.params };
 
-    ghost invariant = { λ p. All (AreRounds (constants_of p.params)) p.slots.items };
+    ghost invariant = { λ p. All (AreRounds (constants_of p.params)) p.kept.items };
 }
 
 impl Permutations {
@@ -39,8 +42,8 @@ impl Permutations {
     {
         Permutations {
             params: *params,
-            slots: Vec::new(alloc),
-            computed: 0,
+            kept: Vec::new(alloc),
+            places: BTreeMap::new(alloc),
         }
     }
 
@@ -52,18 +55,41 @@ impl Permutations {
     }
 
     /// The state, and what it is behind each of the seven rounds. They are kept for the next time
-    /// where memory allows; a table of 65,536 slots, 48 MiB, is the largest.
+    /// where memory allows, the first 65,536.
     pub fn rounds(&mut self, state: &[Felt; 12]) -> [[Felt; 12]; 8]
         ensures rounds { result ≡ round_states self.old state.now }
         ensures same { self.new ≡ self.old }
     {
-        if let Some(states) = kept(self.slots.as_slice(), state) {
+        let fingerprint = fingerprint(state);
+        if let Some(states) = self.found(fingerprint, state) {
             return states;
         }
         let states = computed(&self.params, state);
-        keep(&mut self.slots, self.computed, &states);
-        self.computed = self.computed.saturating_add(1);
+        self.keep(fingerprint, &states);
         states
+    }
+
+    // The states of this state's permutation, if they are kept.
+    fn found(&self, fingerprint: u64, state: &[Felt; 12]) -> Option<[[Felt; 12]; 8]>
+        ensures { IfSome result (λ states. states ≡ round_states self.now state.now) }
+    {
+        let states = self.kept.get(*self.places.get(&fingerprint)?)?;
+        if states[0] == *state {
+            Some(*states)
+        } else {
+            None
+        }
+    }
+
+    // Keeps the states of a permutation. Where memory is refused, they are not found again.
+    fn keep(&mut self, fingerprint: u64, states: &[[Felt; 12]; 8])
+        requires { states.now ≡ round_states self.old (slice_index_or states.now 0 []) }
+        ensures { self.new ≡ self.old }
+    {
+        let place = self.kept.len();
+        if place < MOST && self.kept.push(*states).is_ok() {
+            let _ = self.places.insert(fingerprint, place);
+        }
     }
 
     /// The permutation of the state: what it is behind the last round. It is kept as `rounds` does.
@@ -87,4 +113,15 @@ fn computed(params: &Params, state: &[Felt; 12]) -> [[Felt; 12]; 8]
         states[k + 1] = round(params, k, &states[k]);
     }
     states
+}
+
+// A number that tells states apart, mostly.
+fn fingerprint(state: &[Felt; 12]) -> u64 {
+    let mut fingerprint: u64 = 0;
+    for element in state {
+        fingerprint = (fingerprint.rotate_left(5) ^ element.value()).wrapping_mul(
+            0x517c_c1b7_2722_0a95,
+        );
+    }
+    fingerprint
 }

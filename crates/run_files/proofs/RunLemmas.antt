@@ -10,7 +10,7 @@ use Rattle.vm_field.proofs.WellFormed.{start-IsWellFormed}
 use Rattle.vm_state.specs.Views.{core_of, state_of}
 use Rattle.block_tree.specs.Execution as run
 use Rattle.block_tree.specs.Steps.{Block, Steps}
-use Rattle.block_tree.specs.Trees.{Tree}
+use Rattle.block_tree.specs.Trees.{Tree, tree_digest}
 use Rattle.block_tree.specs.TreeView.{tree_of}
 use Rattle.block_tree.specs.declared.program.Program.{Program}
 use Rattle.block_tree.proofs.AlongLemmas.{log-counts, steps-shallow}
@@ -102,6 +102,12 @@ module _ (params : Params) (program : Program) (answer : Run) (size : length (co
 
   pub deep : length answer.state.stack ≤ 524303
   deep = depth_at_end constants program.kernel was.limit (tree_of program.tree) was.inputs.stack was.inputs.advice u was.ran.log is_run
+
+  pub digest_is : answer.digest ≡ tree_digest constants (tree_of program.tree)
+  digest_is = was.ran.digest
+
+  pub permutations_are : answer.permutations ≡ constants
+  permutations_are = was.ran.permutations
 
 -- the tables that answer few requests are short
 pub short_tables : (main : List (List ℕ)) (chips : Chips) (r : Requests) → HasFew r → HasSizes r chips → IsShort (beside main chips)

@@ -30,10 +30,13 @@ pub record IsTableFileOf (constants : List ℕ) (kernel : List (List ℕ)) (u : 
   pub reads : trace_of bytes ≡ Ok trace
   pub short : length bytes ≤ most_table_bytes
 
+-- what is claimed of a program of this digest and kernel
+abbrev pub claim_with : List ℕ → List (List ℕ) → List ℕ → List ℕ → Claim
+claim_with digest kernel inputs outputs = record { digest = digest; inputs = inputs; kernel = kernel; outputs = outputs }
+
 -- what is claimed of a run, under these constants
 abbrev pub claim_of_run : List ℕ → Tree → List (List ℕ) → List ℕ → List ℕ → Claim
-claim_of_run constants tree kernel inputs outputs =
-    record { digest = tree_digest constants tree; inputs = inputs; kernel = kernel; outputs = outputs }
+claim_of_run constants tree kernel inputs outputs = claim_with (tree_digest constants tree) kernel inputs outputs
 
 -- the file of a claim: it is no longer than a statement may be, and reads as the claim
 pub record IsStatementFileOf (claim : Claim) (bytes : List ℕ) : Type 0 where

@@ -1,4 +1,4 @@
-use Rattle.run_files.proofs.RunLemmas.{deep, few_asked, few_rows, fits, has_rows}
+use Rattle.run_files.proofs.RunLemmas.{deep, digest_is, few_asked, few_rows, fits, has_rows, permutations_are}
 use Rattle.run_files.proofs.tracing.known_run.Goals as goal
 
 pub returns-clause-fits : goal.returns-clause-fits
@@ -15,3 +15,9 @@ returns-clause-depth c = deep c.args.params.now c.args._program.now c.args._run.
 
 pub returns-clause-asked : goal.returns-clause-asked
 returns-clause-asked c = few_asked c.args.params.now c.args._program.now c.args._run.now c.known_constants.ensures.count c.requires
+
+pub returns-clause-digest : goal.returns-clause-digest
+returns-clause-digest c = digest_is c.args.params.now c.args._program.now c.args._run.now c.known_constants.ensures.count c.requires
+
+pub returns-clause-permutations : goal.returns-clause-permutations
+returns-clause-permutations c = permutations_are c.args.params.now c.args._program.now c.args._run.now c.known_constants.ensures.count c.requires

@@ -1,8 +1,10 @@
-use Rattle.rpo_hash.specs.Constants.{constants_of}
+use Rattle.std.proofs.Common.{◌≡◌, [], get_or, subst}
+use Rattle.perm_memo.specs.RoundStates.{round_states}
 use Rattle.perm_memo.proofs.StateLemmas.{round_states-AreRounds}
 use Rattle.perm_memo.proofs.permutations.Permutations.rounds.Goals as goal
 
-pub invariant_of-self : goal.invariant_of-self
-invariant_of-self c =
-    let constants = constants_of c.self.inside.params in
-    c.keep.ensures constants (round_states-AreRounds constants _ _ c.computed-states.ensures) c.self.invariant
+pub keep-requires : goal.keep-requires
+keep-requires c =
+    let states = c.computed-states.result in
+    subst (λ constants. states ≡ round_states constants (get_or states 0 [])) c.self.view_is
+    (round_states-AreRounds _ _ _ c.computed-states.ensures)
