@@ -23,7 +23,8 @@ loop-perm-preserved c =
     = take_more perms i perm c.loop-perm-test.true ∙ ap (λ p. take i perms ++ p ∷ []) (sym c.perm-item.is) in
     record {
       rows =
-          c.in_ok-push_permutation.ensures.rows ∙ ap (λ table. table ++ rows_before constants perm []) c.loop-perm.invariant.rows
+          c.in_ok-push_permutation.ensures.rows ∙ ap (λ constants. c.loop-perm.table ++ rows_before constants perm []) c.loop-perm.invariant.same
+          ∙ ap (λ table. table ++ rows_before constants perm []) c.loop-perm.invariant.rows
           ∙ sym (rows-push constants (take i perms) perm) ∙ ap (rows_of constants) (sym more);
       states =
           subst (All (λ p. IsState p.start)) (sym more)

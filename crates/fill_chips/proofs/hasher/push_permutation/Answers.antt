@@ -1,5 +1,5 @@
 use Rattle.std.proofs.lemmas.List.{append-nil}
-use Rattle.std.proofs.Common.{◌≡◌, [], ◌∷◌, ◌++◌, false, sym, ap, ◌∙◌, append_assoc, add-one, arith}
+use Rattle.std.proofs.Common.{◌≡◌, ◌+◌, [], ◌∷◌, ◌++◌, false, sym, ap, ◌∙◌, append_assoc, add-one, arith}
 use Rattle.hash_rows.specs.PermRows.{perm_row}
 use Rattle.perm_memo.proofs.StateLemmas.{round_states-at}
 use Rattle.fill_chips.proofs.PermLemmas.{ok_then, first_rows, first-all, first-more, first-none, row-is}
@@ -14,11 +14,14 @@ loop-k-preserved c =
     let perm = c.args.perm.now in
     let k = c.loop-k.k in
     let state = round_states-at constants perm.start c.rounds-states.result k (omega arith) c.rounds-states.ensures.rounds in
+    let same = c.rounds-states.ensures.same in
+    let rows = c.loop-k.invariant ∙ ap (λ constants. c.args.table.now ++ first_rows constants perm k) same in
     c.in_ok-push_row.ensures.ok
     ∙ ap (λ row. c.loop-k.table ++ row ∷ []) (c.row_of.ensures ∙ row-is constants perm k false _ state)
-    ∙ ap (λ table. table ++ perm_row constants perm k false ∷ []) c.loop-k.invariant
+    ∙ ap (λ table. table ++ perm_row constants perm k false ∷ []) rows
     ∙ append_assoc c.args.table.now (first_rows constants perm k) (perm_row constants perm k false ∷ [])
     ∙ ap (λ rows. c.args.table.now ++ rows) (sym (first-more constants perm k) ∙ ap (first_rows constants perm) (sym (add-one k)))
+    ∙ ap (λ constants. c.args.table.now ++ first_rows constants perm (k + 1)) (sym same)
 
 pub returns-clause-rows : goal.returns-clause-rows
 returns-clause-rows c =
@@ -26,7 +29,9 @@ returns-clause-rows c =
     let perm = c.args.perm.now in
     let seven : c.loop-k.k ≡ 7 = omega arith in
     let state = round_states-at constants perm.start c.rounds-states.result 7 (omega arith) c.rounds-states.ensures.rounds in
-    let rows = c.loop-k.invariant ∙ ap (λ n. c.args.table.now ++ first_rows constants perm n) seven in
+    let rows =
+    c.loop-k.invariant ∙ ap (λ constants. c.args.table.now ++ first_rows constants perm c.loop-k.k) c.rounds-states.ensures.same
+    ∙ ap (λ n. c.args.table.now ++ first_rows constants perm n) seven in
     ok_then c.push_row-2.result (λ ok.
     ok ∙ ap (λ row. c.loop-k.table ++ row ∷ []) (c.row_of-2.ensures ∙ row-is constants perm 7 perm.more _ state)
     ∙ ap (λ table. table ++ perm_row constants perm 7 perm.more ∷ []) rows
