@@ -1,5 +1,4 @@
 ghost use Rattle.std.specs.Prelude.{◌≡◌, ◌++◌, IfOk};
-ghost use Rattle.rpo_hash.specs.Constants.{constants_of};
 ghost use Rattle.air_kit.specs.Requests.{Fits};
 ghost use Rattle.fill_chips.specs.Beside.{AnswersBeside, HasSizes};
 ghost use Rattle.fill_chips.specs.MemoryLimbs.{limbs_in};
@@ -12,7 +11,7 @@ use crate::left::left_table;
 use crate::memory::memory_table;
 use crate::range::range_table;
 use air_kit::Requests;
-use rpo_hash::Params;
+use perm_memo::Permutations;
 use std::alloc::Global;
 use vm_field::{Memory, Words};
 use vm_table::Table;
@@ -29,22 +28,23 @@ pub struct Chips {
 }
 
 /// The small tables that answer the requests of a main table. The range table has the limbs of
-/// memory's rows besides what is asked.
+/// memory's rows besides what is asked. No permutation is computed that was computed before.
 pub fn fill_chips(
     alloc: Global,
-    params: &Params,
+    permutations: &mut Permutations,
     kernel: &Words,
     requests: &Requests,
 ) -> Result<Chips, Memory>
-    requires fit { Fits (constants_of params.now) kernel.now requests.now }
-    ensures answers { IfOk result (AnswersBeside (constants_of params.now) kernel.now requests.now) }
+    requires fit { Fits permutations.old kernel.now requests.now }
+    ensures answers { IfOk result (AnswersBeside permutations.old kernel.now requests.now) }
     ensures sizes { IfOk result (HasSizes requests.now) }
     ensures range { IfOk result (λ chips. chips.range ≡ range_rows (requests.now.ranges ++ limbs_in chips.memory)) }
+    ensures same { permutations.new ≡ permutations.old }
 {
     let memory = memory_table(alloc, requests.accesses.as_slice())?;
     Ok(Chips {
         range: range_table(alloc, requests.ranges.as_slice(), &memory)?,
-        hasher: hasher_table(alloc, params, requests.perms.as_slice())?,
+        hasher: hasher_table(alloc, permutations, requests.perms.as_slice())?,
         bitwise: bitwise_table(alloc, requests.bits.as_slice())?,
         memory,
         kernel: kernel_table(alloc, kernel.as_slice(), requests.calls.as_slice())?,

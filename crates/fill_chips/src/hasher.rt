@@ -1,10 +1,10 @@
 ghost use Rattle.std.specs.Prelude.{◌≡◌, ◌*◌, ◌^◌, ◌≤◌, [], ◌∷◌, ◌++◌, length, All, IfOk, OnOk};
-ghost use Rattle.rpo_hash.specs.Constants.{constants_of};
 ghost use Rattle.rpo_hash.specs.States.{IsState};
 ghost use Rattle.hash_rows.specs.PermRows.{bit_number, rows_before, rows_of};
 
 use air_kit::Perm;
-use rpo_hash::{Params, known_constants, round};
+use perm_memo::Permutations;
+use rpo_hash::known_constants;
 use std::alloc::Global;
 use vm_field::{Felt, Memory, known_elements};
 use vm_table::Table;
@@ -12,35 +12,40 @@ use vm_table::Table;
 /// Eight rows for each permutation: the state before it and behind each round.
 pub(crate) fn hasher_table(
     alloc: Global,
-    params: &Params,
+    permutations: &mut Permutations,
     perms: &[Perm],
 ) -> Result<Table<15>, Memory>
     requires room { 8 * length perms.now ≤ 2 ^ 22 }
-    ensures rows { IfOk result (λ table. table ≡ rows_of (constants_of params.now) perms.now) }
+    ensures rows { IfOk result (λ table. table ≡ rows_of permutations.old perms.now) }
     ensures states { IfOk result (λ table. All (λ p. IsState p.start) perms.now) }
-    ensures constants { length (constants_of params.now) ≡ 168 }
+    ensures constants { length permutations.old ≡ 168 }
+    ensures same { permutations.new ≡ permutations.old }
 {
-    known_constants(params);
+    known_constants(permutations.params());
     let mut table = Table::new(alloc);
     table.reserve(8 * perms.len())?;
     for perm in perms {
-        push_permutation(params, &mut table, perm)?;
+        push_permutation(permutations, &mut table, perm)?;
     }
     Ok(table)
 }
 
 // Adds the eight rows of a permutation.
-fn push_permutation(params: &Params, table: &mut Table<15>, perm: &Perm) -> Result<(), Memory>
-    ensures rows { OnOk result (table.new ≡ table.old ++ rows_before (constants_of params.now) perm.now []) }
+fn push_permutation(
+    permutations: &mut Permutations,
+    table: &mut Table<15>,
+    perm: &Perm,
+) -> Result<(), Memory>
+    ensures rows { OnOk result (table.new ≡ table.old ++ rows_before permutations.old perm.now []) }
     ensures state { IsState perm.now.start }
+    ensures same { permutations.new ≡ permutations.old }
 {
     known_elements(&perm.start);
-    let mut state = perm.start;
+    let states = permutations.rounds(&perm.start);
     for k in 0..7 {
-        table.push_row(&row_of(perm, false, &state))?;
-        state = round(params, k, &state);
+        table.push_row(&row_of(perm, false, &states[k]))?;
     }
-    table.push_row(&row_of(perm, perm.more, &state))
+    table.push_row(&row_of(perm, perm.more, &states[7]))
 }
 
 // A row of a permutation, by whether the hash goes on behind it and its state.

@@ -9,6 +9,7 @@ use crate::memory::memory_table;
 use crate::range::range_table;
 use crate::{Chips, fill_chips, range_laws};
 use air_kit::{Access, BitOp, Perm, Requests};
+use perm_memo::Permutations;
 use rpo_hash::{Params, permute};
 use std::alloc::Global;
 use std::test::Fail;
@@ -67,7 +68,9 @@ fn counts(chips: &Chips) -> [usize; 6] {
 }
 
 fn fills_empty_program(alloc: Global) -> Result<bool, Memory> {
-    let chips = fill_chips(alloc, &zeros(), &Words::new(alloc), &empty_program(alloc)?)?;
+    let mut permutations = Permutations::new(alloc, &zeros());
+    let requests = empty_program(alloc)?;
+    let chips = fill_chips(alloc, &mut permutations, &Words::new(alloc), &requests)?;
     let asked = cell(&chips.range, 7, 0) == Some(1) && cell(&chips.range, 7, 1) == Some(1023);
     let digest = cell(&chips.hasher, 7, 7) == Some(0) && cell(&chips.hasher, 7, 2) == Some(0);
     Ok(counts(&chips) == [42, 8, 0, 0, 0, 0] && asked && digest)
@@ -128,7 +131,8 @@ fn fills_hashes(alloc: Global) -> Result<bool, Memory> {
     let first = perm(false, false, true, Felt::ONE);
     let second = perm(false, true, false, Felt::ZERO);
     let third = perm(true, false, false, Felt::ZERO);
-    let table = hasher_table(alloc, &zeros(), &[first, second, third])?;
+    let mut permutations = Permutations::new(alloc, &zeros());
+    let table = hasher_table(alloc, &mut permutations, &[first, second, third])?;
     for (row, column, flag) in &FLAGS {
         if cell(&table, *row, *column) != Some(*flag) {
             return Ok(false);

@@ -1,5 +1,4 @@
 use Rattle.std.proofs.Common.{◌≡◌, ◌∷◌, [], ◌++◌, List, ℕ, ◌<◌, map, All, ap, ap₂, subst, ◌∙◌, arith}
-use Rattle.rpo_hash.specs.Constants.{constants_of}
 use Rattle.rpo_hash.specs.States.{IsState}
 use Rattle.vm_field.specs.Machine.{IsWord}
 use Rattle.hash_rows.specs.PermRows.{rows_of}
@@ -18,13 +17,13 @@ range_table-requires c =
     let r = c.args.requests.now in
     let memory = c.in_ok-memory.memory in
     let shown : ShowsAccesses r.accesses memory =
-    rows-shown (constants_of c.args.params.now) c.args.kernel.now r c.as_slice.result.now memory c.as_slice.ensures.items c.requires.fit
+    rows-shown c.args.permutations.now c.args.kernel.now r c.as_slice.result.now memory c.as_slice.ensures.items c.requires.fit
     c.in_ok-memory.ensures.small c.in_ok-memory.ensures.rows in
     record { limbs = shown.limbs; few = omega (arith, shown.size, c.requires.fit.room.accesses) }
 
 pub returns-clause-answers : goal.returns-clause-answers
 returns-clause-answers c =
-    let constants = constants_of c.args.params.now in
+    let constants = c.args.permutations.now in
     let kernel = c.args.kernel.now in
     let r = c.args.requests.now in
     let memory = c.in_ok-memory.memory in
@@ -50,7 +49,7 @@ returns-clause-answers c =
 
 pub returns-clause-sizes : goal.returns-clause-sizes
 returns-clause-sizes c =
-    let constants = constants_of c.args.params.now in
+    let constants = c.args.permutations.now in
     let kernel = c.args.kernel.now in
     let r = c.args.requests.now in
     let memory = c.in_ok-memory.memory in

@@ -1,7 +1,6 @@
-use Rattle.std.proofs.Common.{◌≡◌, ◌+◌, [], ◌∷◌, ◌++◌, take, All, sym, subst, ap, ◌∙◌}
+use Rattle.std.proofs.Common.{◌≡◌, ◌+◌, [], ◌∷◌, ◌++◌, take, All, refl, sym, subst, ap, ◌∙◌}
 use Rattle.std.proofs.lemmas.List.{take_more}
 use Rattle.std.proofs.lemmas.List.Elements.{All-append, All-cons, All-nil}
-use Rattle.rpo_hash.specs.Constants.{constants_of}
 use Rattle.rpo_hash.specs.States.{IsState}
 use Rattle.hash_rows.specs.PermRows.{rows_before, rows_of}
 use Rattle.fill_chips.proofs.PermLemmas.{rows-none, rows-push}
@@ -9,13 +8,14 @@ use Rattle.fill_chips.proofs.hasher.hasher_table.Goals as goal
 
 pub loop-perm-init : goal.loop-perm-init
 loop-perm-init c = record {
-  rows = c.reserve.ensures ∙ c.new-table.ensures.empty ∙ sym (rows-none (constants_of c.args.params.now));
+  rows = c.reserve.ensures ∙ c.new-table.ensures.empty ∙ sym (rows-none c.args.permutations.now);
   states = All-nil (λ p. IsState p.start);
+  same = refl;
 }
 
 pub loop-perm-preserved : goal.loop-perm-preserved
 loop-perm-preserved c =
-    let constants = constants_of c.args.params.now in
+    let constants = c.args.permutations.now in
     let perms = c.args.perms.now in
     let i = c.loop-perm.perm-index in
     let perm = c.perm-item.result in
@@ -23,10 +23,12 @@ loop-perm-preserved c =
     = take_more perms i perm c.loop-perm-test.true ∙ ap (λ p. take i perms ++ p ∷ []) (sym c.perm-item.is) in
     record {
       rows =
-          c.in_ok-push_permutation.ensures.rows ∙ ap (λ table. table ++ rows_before constants perm []) c.loop-perm.invariant.rows
+          c.in_ok-push_permutation.ensures.rows ∙ ap (λ constants. c.loop-perm.table ++ rows_before constants perm []) c.loop-perm.invariant.same
+          ∙ ap (λ table. table ++ rows_before constants perm []) c.loop-perm.invariant.rows
           ∙ sym (rows-push constants (take i perms) perm) ∙ ap (rows_of constants) (sym more);
       states =
           subst (All (λ p. IsState p.start)) (sym more)
           (All-append (λ p. IsState p.start) (take i perms) (perm ∷ []) c.loop-perm.invariant.states
           (All-cons (λ p. IsState p.start) perm [] c.push_permutation.ensures.state (All-nil (λ p. IsState p.start))));
+      same = c.push_permutation.ensures.same ∙ c.loop-perm.invariant.same;
     }
