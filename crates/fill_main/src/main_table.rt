@@ -1,5 +1,4 @@
 ghost use Rattle.std.specs.Prelude.{◌≡◌, IfOk};
-ghost use Rattle.rpo_hash.specs.Constants.{constants_of};
 ghost use Rattle.vm_state.specs.Views.{core_of};
 ghost use Rattle.processor.specs.Events.{visible_of};
 ghost use Rattle.run_rows.specs.Filling.{rows_of};
@@ -13,31 +12,37 @@ use crate::perms::perms_of;
 use crate::ranges::ranges_of;
 use crate::stack::into_elements;
 use air_kit::Requests;
-use processor::{Run, Visible};
-use rpo_hash::Params;
+use perm_memo::Permutations;
+use processor::{Events, Visible};
 use std::alloc::Global;
 use vm_field::Memory;
 use vm_state::State;
 use vm_table::Table;
 
-/// The main table of a run, one row for each cycle and HALT's behind them, and what its rows ask of
-/// the small tables.
+/// The main table of a run that ends in a state, one row for each of its events and HALT's behind
+/// them, and what its rows ask of the small tables.
 ///
 /// # Errors
 ///
 /// `Memory` where the system gave no memory, or where a number is too great for its column or its
 /// request.
-pub fn fill_main(alloc: Global, params: &Params, run: &Run) -> Result<(Table<65>, Requests), Memory>
-    ensures rows { IfOk result (λ r. r.0 ≡ rows_of (visible_of (core_of run.now.state)) run.now.events) }
-    ensures requests { IfOk result (λ r. r.1 ≡ requests_of (constants_of params.now) (visible_of (core_of run.now.state)) run.now.events) }
+pub fn fill_main(
+    alloc: Global,
+    permutations: &mut Permutations,
+    state: &State,
+    events: &Events,
+) -> Result<(Table<65>, Requests), Memory>
+    ensures rows { IfOk result (λ r. r.0 ≡ rows_of (visible_of (core_of state.now)) events.now) }
+    ensures requests { IfOk result (λ r. r.1 ≡ requests_of permutations.old (visible_of (core_of state.now)) events.now) }
+    ensures same { permutations.new ≡ permutations.old }
 {
-    let last = last_seen(&run.state);
-    let events = run.events.as_slice();
+    let last = last_seen(state);
+    let events = events.as_slice();
     let (table, keys) = fill(alloc, &last, events)?;
     Ok((
         table,
         Requests {
-            perms: perms_of(alloc, params, events)?,
+            perms: perms_of(alloc, permutations, events)?,
             bits: bits_of(alloc, events)?,
             accesses: accesses_of(alloc, events)?,
             ranges: ranges_of(alloc, &last, events)?,

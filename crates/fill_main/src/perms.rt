@@ -1,5 +1,4 @@
 ghost use Rattle.std.specs.Prelude.{◌≡◌, ◌++◌, [], ◌∷◌, false, reverse, take, IfOk, OnOk};
-ghost use Rattle.rpo_hash.specs.Constants.{constants_of};
 ghost use Rattle.vm_field.specs.Sponge.{begun};
 ghost use Rattle.vm_ops.specs.Codes.{code_of};
 ghost use Rattle.run_rows.specs.Turns.{respans};
@@ -10,8 +9,8 @@ use crate::behind::events_behind;
 use crate::kind::{Kind, kind_of};
 use crate::spans::respans;
 use air_kit::Perm;
+use perm_memo::Permutations;
 use processor::{Event, Visible};
-use rpo_hash::{Params, permute};
 use std::alloc::Global;
 use vm_field::{Felt, Memory, Sequence};
 use vm_ops::{Op, opcode};
@@ -19,16 +18,24 @@ use vm_ops::{Op, opcode};
 // The permutations of a run.
 pub(crate) fn perms_of(
     alloc: Global,
-    params: &Params,
+    permutations: &mut Permutations,
     events: &[Event],
 ) -> Result<Sequence<Perm>, Memory>
-    ensures { IfOk result (λ perms. perms ≡ perms_of (constants_of params.now) events.now) }
+    ensures perms { IfOk result (λ perms. perms ≡ perms_of permutations.old events.now) }
+    ensures same { permutations.new ≡ permutations.old }
 {
     let mut perms = Sequence::new(alloc);
     for i in 0..events.len() {
         let event = &events[i];
         let later = events_behind(events, i);
-        push_perms(alloc, params, &mut perms, kind_of(event.op), event, later)?;
+        push_perms(
+            alloc,
+            permutations,
+            &mut perms,
+            kind_of(event.op),
+            event,
+            later,
+        )?;
     }
     Ok(perms)
 }
@@ -37,17 +44,18 @@ pub(crate) fn perms_of(
 #[tactic(auto, using(crate::proofs::SpanLemmas::one_block))]
 fn push_perms(
     alloc: Global,
-    params: &Params,
+    permutations: &mut Permutations,
     perms: &mut Sequence<Perm>,
     kind: Kind,
     event: &Event,
     later: &[Event],
 ) -> Result<(), Memory>
-    ensures { OnOk result (perms.new ≡ perms.old ++ perms_by (kind_in kind) (constants_of params.now) event.now later.now) }
+    ensures perms { OnOk result (perms.new ≡ perms.old ++ perms_by (kind_in kind) permutations.old event.now later.now) }
+    ensures same { permutations.new ≡ permutations.old }
 {
     match kind {
         Kind::Ordinary => push_operation(perms, event),
-        Kind::Span => push_span(alloc, params, perms, &event.hash, later),
+        Kind::Span => push_span(alloc, permutations, perms, &event.hash, later),
         Kind::Join => push_block(perms, Op::Join, &event.hash),
         Kind::Split => push_block(perms, Op::Split, &event.hash),
         Kind::Loop => push_block(perms, Op::Loop, &event.hash),
@@ -86,15 +94,16 @@ fn turned(cells: &[Felt; 16]) -> [Felt; 12]
 // Those of the hash of a span.
 fn push_span(
     alloc: Global,
-    params: &Params,
+    permutations: &mut Permutations,
     perms: &mut Sequence<Perm>,
     batch: &[Felt; 8],
     later: &[Event],
 ) -> Result<(), Memory>
-    ensures { OnOk result (perms.new ≡ perms.old ++ hash_perms (constants_of params.now) 0 (batch.now ∷ respans later.now)) }
+    ensures perms { OnOk result (perms.new ≡ perms.old ++ hash_perms permutations.old 0 (batch.now ∷ respans later.now)) }
+    ensures same { permutations.new ≡ permutations.old }
 {
     let batches = respans(alloc, later)?;
-    push_hash(params, perms, Felt::ZERO, batch, batches.as_slice())
+    push_hash(permutations, perms, Felt::ZERO, batch, batches.as_slice())
 }
 
 // That of the hash of another block.
@@ -108,13 +117,14 @@ fn push_block(perms: &mut Sequence<Perm>, start: Op, hash: &[Felt; 8]) -> Result
 
 // Those of the hash of a domain and blocks.
 fn push_hash(
-    params: &Params,
+    permutations: &mut Permutations,
     perms: &mut Sequence<Perm>,
     domain: Felt,
     first: &[Felt; 8],
     later: &[[Felt; 8]],
 ) -> Result<(), Memory>
-    ensures { OnOk result (perms.new ≡ perms.old ++ hash_perms (constants_of params.now) domain (first.now ∷ later.now)) }
+    ensures perms { OnOk result (perms.new ≡ perms.old ++ hash_perms permutations.old domain (first.now ∷ later.now)) }
+    ensures same { permutations.new ≡ permutations.old }
 {
     let mut state = begun(domain);
     let mut block = *first;
@@ -122,7 +132,7 @@ fn push_hash(
     for i in 0..later.len() {
         let start = absorbing(&state, &block);
         perms.push(perm(going, true, start))?;
-        state = permute(params, start);
+        state = permutations.permuted(&start);
         block = later[i];
         going = true;
     }
