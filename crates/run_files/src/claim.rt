@@ -39,12 +39,7 @@ fn statement_of_run(
     ensures { IfOk result (λ s. claim_of s ≡ claim_with end.now.digest program.kernel inputs.stack end.now.state.stack) }
 {
     let outputs = cells_of(alloc, &end.state)?;
-    Ok(Statement::new(
-        end.digest,
-        program.kernel,
-        inputs.stack,
-        outputs,
-    ))
+    Ok(Statement::new(end.digest, program.kernel, inputs.stack, outputs))
 }
 
 // The file of a statement.

@@ -60,19 +60,14 @@ pub(crate) fn trace_of_run(
     ensures depth { IfOk result (λ r. length r.1.state.stack ≤ 524303) }
 {
     known_run(params, program, &run);
-    let filled = filled(alloc, run)?;
+    let filled = fill_run(alloc, run)?;
     let mut permutations = filled.permutations;
-    let chips = fill_chips(
-        alloc,
-        &mut permutations,
-        &program.kernel,
-        &filled.requests,
-    )?;
+    let chips = fill_chips(alloc, &mut permutations, &program.kernel, &filled.requests)?;
     Ok((trace_with(filled.main, chips), filled.end))
 }
 
 // Fills the main table. The events of the run are given up.
-fn filled(alloc: Global, run: Run) -> Result<Filled, Memory>
+fn fill_run(alloc: Global, run: Run) -> Result<Filled, Memory>
     ensures rows { IfOk result (λ f. f.main ≡ rows_of (visible_of (core_of run.state)) run.events) }
     ensures requests { IfOk result (λ f. f.requests ≡ requests_of run.permutations (visible_of (core_of run.state)) run.events) }
     ensures permutations { IfOk result (λ f. f.permutations ≡ run.permutations) }

@@ -23,4 +23,3 @@ pub record IsSmall (c : Core) : Type 0 where
   pub nesting : c.nesting ≤ 1024
   pub depth : length c.stack ≤ 16 + c.clock
   pub context : c.context ≤ c.clock
-
