@@ -347,6 +347,16 @@ fn logs_calls(rt: HostRuntime) {
     assert_eq!(rt; is_shown(rt.alloc(), &STORED), Ok(true));
 }
 
+fn holds_digest(alloc: Global, log: &Log) -> Result<bool, Stop> {
+    let run = run_of(alloc, log)?;
+    Ok(run.digest == digest_at(alloc, log, 0)?)
+}
+
+#[test]
+fn holds_the_digest(rt: HostRuntime) {
+    assert_eq!(rt; holds_digest(rt.alloc(), &SERVED), Ok(true));
+}
+
 // The cells before the cycle are these, with zeros behind them.
 fn cells_are(event: &Event, cells: &[u64]) -> bool {
     for i in 0..16 {
