@@ -1,3 +1,4 @@
+pub mod Inverses
 pub mod Kinds
 pub mod Parts
 pub mod Spans

@@ -7,6 +7,7 @@ ghost use Rattle.fill_main.specs.Kinds.{kind_in};
 
 use crate::behind::events_behind;
 use crate::decoder::Decoder;
+use crate::inverses::Inverses;
 use crate::kind::{Kind, kind_of};
 use crate::row::row_of;
 use crate::spans::respans;
@@ -29,6 +30,7 @@ pub(crate) fn fill(
 {
     let mut turns = turns_of(alloc, events)?;
     let mut decoder = Decoder::new(alloc);
+    let mut inverses = Inverses::new(alloc);
     let mut table = Table::new(alloc);
     table.reserve(events.len().saturating_add(1))?;
     for i in 0..events.len() {
@@ -36,11 +38,11 @@ pub(crate) fn fill(
         let later = events_behind(events, i);
         let next = seen_behind(last, later);
         let turn = turns.pop().unwrap_or(0);
-        table.push_row(&row_of(&decoder, event, next, turn)?)?;
+        table.push_row(&row_of(&mut inverses, &decoder, event, next, turn)?)?;
         let kind = kind_of(event.op);
         decoder.advance(event, kind, batches_of(alloc, kind, later)?)?;
     }
-    table.push_row(&row_of(&decoder, &halted(last), last, 0)?)?;
+    table.push_row(&row_of(&mut inverses, &decoder, &halted(last), last, 0)?)?;
     Ok((table, decoder.keys))
 }
 
