@@ -1,18 +1,16 @@
 ghost use Rattle.std.specs.Prelude.{◌≡◌, ℕ, IfOk, length};
 ghost use Rattle.run_rows.specs.Decoder.{at_start, decoder_after};
-ghost use Rattle.run_rows.specs.Filling.{halted, rows_of, seen_behind};
+ghost use Rattle.run_rows.specs.Filling.{halted, rows_of};
 ghost use Rattle.run_rows.specs.Kinds as kinds;
 ghost use Rattle.run_rows.specs.Turns.{respans};
-ghost use Rattle.fill_main.specs.Kinds.{kind_in};
+ghost use Rattle.event_kinds.specs.Kinds.{kind_in};
 
-use crate::behind::events_behind;
 use crate::decoder::Decoder;
 use crate::inverses::Inverses;
-use crate::kind::{Kind, kind_of};
 use crate::row::row_of;
-use crate::spans::respans;
 use crate::stack::Stack;
 use crate::turns::turns_of;
+use event_kinds::{Kind, events_behind, kind_of, respans, seen_behind};
 use processor::{Event, Visible};
 use std::alloc::Global;
 use vm_field::{Felt, Memory, Word};
@@ -53,16 +51,6 @@ fn batches_of(alloc: Global, kind: Kind, later: &[Event]) -> Result<usize, Memor
     match kind {
         Kind::Span => Ok(respans(alloc, later)?.len()),
         _ => Ok(0),
-    }
-}
-
-// The state behind an event, before later ones.
-pub(crate) fn seen_behind<'a>(last: &'a Visible, later: &'a [Event]) -> &'a Visible
-    ensures { result.now ≡ seen_behind last.now later.now }
-{
-    match later {
-        [] => last,
-        [event, ..] => &event.before,
     }
 }
 

@@ -63,7 +63,7 @@ pub(crate) fn inverse_at(inverses: &mut Inverses, elements: &[Felt], place: usiz
 }
 
 // The inverse of an element, and 0 for 0.
-#[tactic(auto, using(crate::proofs::Elements::inverse_of_zero))]
+#[tactic(auto, using(crate::proofs::InverseLemmas::inverse_of_zero))]
 fn computed(a: Felt) -> Felt
     ensures { result ≡ felt_inv a }
 {
@@ -98,7 +98,7 @@ fn keep(slots: &mut Vec<(Felt, Felt)>, a: Felt, inverse: Felt)
 }
 
 // Makes the table, with 0 in each slot, which is its own inverse here.
-#[tactic(auto, using(crate::proofs::Elements::inverse_of_zero))]
+#[tactic(auto, using(crate::proofs::InverseLemmas::inverse_of_zero))]
 fn make(slots: &mut Vec<(Felt, Felt)>)
     ensures { All IsInverse slots.old.items → All IsInverse slots.new.items }
 {

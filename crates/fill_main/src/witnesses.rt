@@ -1,5 +1,5 @@
 ghost use Rattle.std.specs.Prelude.{◌≡◌};
-ghost use Rattle.fill_main.specs.Parts.{four_of};
+ghost use Rattle.event_kinds.specs.Parts.{four_of};
 ghost use Rattle.run_rows.specs.Witnesses.{batch_witnesses, difference, first_witness, operation_witnesses, upper_half};
 
 use crate::inverses::{Inverses, inverse_at};
