@@ -6,9 +6,9 @@ use Rattle.processor.specs.declared.event.Visible.{Visible}
 use Rattle.run_rows.specs.Decoder.{Decoder, advance, at_start, decoder_after}
 use Rattle.run_rows.specs.Filling.{fill, halted, row_of, rows_of, seen_behind}
 use Rattle.run_rows.specs.Kinds.{kind_of}
-use Rattle.run_rows.specs.Turns.{repeats, repeats_by, respans, respans_by}
+use Rattle.run_rows.specs.Turns.{repeats, repeats_by}
 use Rattle.fill_main.specs.Turns.{turns_of}
-use Rattle.fill_main.proofs.LoopLemmas.{suffix}
+use Rattle.event_kinds.proofs.LoopLemmas.{suffix}
 
 fill-more : (last : Visible) (d : Decoder) (e : Event) (later : List Event)
     → fill last d (e ∷ later) ≡ row_of d e (seen_behind last later) later ∷ fill last (advance d e later) later
@@ -83,18 +83,6 @@ repeats-here events i e within is = ap repeats (suffix events i e within is) ∙
 pub none-behind : (events : List Event) (i : ℕ) → length events ≤ i → (repeats (drop i events) ≡ []) × (turns_of (drop i events) ≡ [])
 unfolding repeats turns_of
 none-behind events i past = (ap repeats (drop_all i events past), ap turns_of (drop_all i events past))
-
-respans-more : (e : Event) (later : List Event) → respans (e ∷ later) ≡ respans_by (kind_of e.op) e.hash (respans later)
-unfolding respans
-respans-more e later = refl
-
-pub respans-here : (events : List Event) (i : ℕ) (e : Event) → i < length events → e ≡ get_or events i e
-    → respans (drop i events) ≡ respans_by (kind_of e.op) e.hash (respans (drop (i + 1) events))
-respans-here events i e within is = ap respans (suffix events i e within is) ∙ respans-more e (drop (i + 1) events)
-
-pub respans-end : (events : List Event) (i : ℕ) → length events ≤ i → respans (drop i events) ≡ []
-unfolding respans
-respans-end events i past = ap respans (drop_all i events past)
 
 pub no-repeats : 0 ≡ slice_index (repeats []) 0
 unfolding repeats

@@ -1,8 +1,5 @@
-pub mod Elements
+pub mod InverseLemmas
 pub mod GroupLemmas
 pub mod DecoderLemmas
-pub mod LoopLemmas
-pub mod RequestLemmas
 pub mod FillLemmas
-pub mod SpanLemmas
 pub mod RowLemmas

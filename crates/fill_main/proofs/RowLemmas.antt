@@ -4,7 +4,7 @@ use Rattle.vm_field.specs.Field.{felt_inv}
 use Rattle.vm_field.specs.Signs.{◌⊟◌}
 use Rattle.vm_ops.specs.Codes.{is_ordinary_op}
 use Rattle.run_rows.specs.Lines.{Line, bit_number, code_bit, laid_out}
-use Rattle.fill_main.specs.Parts.{eight_of, four_of, sixteen_of, ten_of}
+use Rattle.event_kinds.specs.Parts.{eight_of, four_of, sixteen_of, ten_of}
 
 pub ok_then : {A E : Type 0} {P Q : A → Type 0} (r : Result A E) → ((x : A) → P x → Q x) → IfOk r P → IfOk r Q
 ok_then (Ok x) f h = f x h

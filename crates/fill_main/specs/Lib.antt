@@ -1,5 +1,3 @@
-pub mod Kinds
-pub mod Parts
-pub mod Spans
+pub mod Inverses
 pub mod Turns
 pub mod Views

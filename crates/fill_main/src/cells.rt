@@ -4,7 +4,7 @@ ghost use Rattle.vm_field.specs.Signs.{◌⊟◌};
 ghost use Rattle.vm_ops.specs.Codes.{is_ordinary_op};
 ghost use Rattle.run_rows.specs.Lines.{bit_number, code_bit};
 
-use crate::inverses::inverse;
+use crate::inverses::Inverses;
 use crate::numbers::felt_of;
 use processor::Visible;
 use vm_field::{Felt, Memory};
@@ -67,14 +67,19 @@ pub(crate) fn group_cells(op: Op, left: Felt, place: Felt, in_use: usize) -> [Fe
 }
 
 // The columns from the stack's depth to the level of nesting.
-pub(crate) fn depth_cells(seen: &Visible, key: Felt, ha: Felt) -> Result<[Felt; 5], Memory>
+pub(crate) fn depth_cells(
+    inverses: &mut Inverses,
+    seen: &Visible,
+    key: Felt,
+    ha: Felt,
+) -> Result<[Felt; 5], Memory>
     ensures { IfOk result (λ cells. cells ≡ seen.now.depth ∷ key ∷ felt_inv (seen.now.depth ⊟ 16) ∷ ha ∷ seen.now.nesting ∷ []) }
 {
     let depth = felt_of(seen.depth as u64)?;
     Ok([
         depth,
         key,
-        inverse(depth - Felt::from_u32(16)),
+        inverses.inverse(depth - Felt::from_u32(16)),
         ha,
         Felt::from_u32(seen.nesting),
     ])

@@ -3,13 +3,13 @@ ghost use Rattle.run_rows.specs.Decoder.{address_of, at_start, called, closed, k
 ghost use Rattle.run_rows.specs.Groups.{batch_begun, taken_from};
 ghost use Rattle.run_rows.specs.Kinds as kinds;
 ghost use Rattle.vm_ops.specs.Moves.{shift_of};
-ghost use Rattle.fill_main.specs.Kinds.{kind_in};
+ghost use Rattle.event_kinds.specs.Kinds.{kind_in};
 ghost use Rattle.fill_main.specs.Views.{advance_as, decoder_in, unread_in};
 
-use crate::kind::{Kind, is_op};
 use crate::numbers::{sum_of, times_eight};
 use crate::positions::positions_of;
 use crate::stack::Stack;
+use event_kinds::{Kind, is_op};
 use processor::Event;
 use std::alloc::Global;
 use std::marker::Model;

@@ -1,17 +1,16 @@
 ghost use Rattle.std.specs.Prelude.{◌≡◌, ℕ, IfOk, length};
 ghost use Rattle.run_rows.specs.Decoder.{at_start, decoder_after};
-ghost use Rattle.run_rows.specs.Filling.{halted, rows_of, seen_behind};
+ghost use Rattle.run_rows.specs.Filling.{halted, rows_of};
 ghost use Rattle.run_rows.specs.Kinds as kinds;
 ghost use Rattle.run_rows.specs.Turns.{respans};
-ghost use Rattle.fill_main.specs.Kinds.{kind_in};
+ghost use Rattle.event_kinds.specs.Kinds.{kind_in};
 
-use crate::behind::events_behind;
 use crate::decoder::Decoder;
-use crate::kind::{Kind, kind_of};
+use crate::inverses::Inverses;
 use crate::row::row_of;
-use crate::spans::respans;
 use crate::stack::Stack;
 use crate::turns::turns_of;
+use event_kinds::{Kind, events_behind, kind_of, respans, seen_behind};
 use processor::{Event, Visible};
 use std::alloc::Global;
 use vm_field::{Felt, Memory, Word};
@@ -29,6 +28,7 @@ pub(crate) fn fill(
 {
     let mut turns = turns_of(alloc, events)?;
     let mut decoder = Decoder::new(alloc);
+    let mut inverses = Inverses::new(alloc);
     let mut table = Table::new(alloc);
     table.reserve(events.len().saturating_add(1))?;
     for i in 0..events.len() {
@@ -36,11 +36,11 @@ pub(crate) fn fill(
         let later = events_behind(events, i);
         let next = seen_behind(last, later);
         let turn = turns.pop().unwrap_or(0);
-        table.push_row(&row_of(&decoder, event, next, turn)?)?;
+        table.push_row(&row_of(&mut inverses, &decoder, event, next, turn)?)?;
         let kind = kind_of(event.op);
         decoder.advance(event, kind, batches_of(alloc, kind, later)?)?;
     }
-    table.push_row(&row_of(&decoder, &halted(last), last, 0)?)?;
+    table.push_row(&row_of(&mut inverses, &decoder, &halted(last), last, 0)?)?;
     Ok((table, decoder.keys))
 }
 
@@ -51,16 +51,6 @@ fn batches_of(alloc: Global, kind: Kind, later: &[Event]) -> Result<usize, Memor
     match kind {
         Kind::Span => Ok(respans(alloc, later)?.len()),
         _ => Ok(0),
-    }
-}
-
-// The state behind an event, before later ones.
-pub(crate) fn seen_behind<'a>(last: &'a Visible, later: &'a [Event]) -> &'a Visible
-    ensures { result.now ≡ seen_behind last.now later.now }
-{
-    match later {
-        [] => last,
-        [event, ..] => &event.before,
     }
 }
 

@@ -4,14 +4,10 @@ ghost use Rattle.processor.specs.Events.{visible_of};
 ghost use Rattle.run_rows.specs.Filling.{rows_of};
 ghost use Rattle.run_rows.specs.RunRequests.{requests_of};
 
-use crate::accesses::accesses_of;
-use crate::bits::bits_of;
-use crate::calls::calls_of;
 use crate::fill::fill;
-use crate::perms::perms_of;
-use crate::ranges::ranges_of;
 use crate::stack::into_elements;
 use air_kit::Requests;
+use fill_requests::{accesses_of, bits_of, calls_of, perms_of, ranges_of};
 use perm_memo::Permutations;
 use processor::{Events, Visible};
 use std::alloc::Global;

@@ -8,23 +8,24 @@ ghost use Rattle.run_rows.specs.Lines.{bit_number, code_bit};
 ghost use Rattle.run_rows.specs.Turns.{repeats};
 ghost use Rattle.run_rows.specs.Witnesses.{operation_witnesses};
 ghost use Rattle.vm_ops.specs.Codes.{is_ordinary_op};
-ghost use Rattle.fill_main.specs.Kinds.{kind_in};
-ghost use Rattle.fill_main.specs.Parts.{eight_of, four_of, sixteen_of};
+ghost use Rattle.event_kinds.specs.Kinds.{kind_in};
+ghost use Rattle.event_kinds.specs.Parts.{eight_of, four_of, sixteen_of};
 ghost use Rattle.fill_main.specs.Views.{decoder_in};
 
 use crate::cells::{block_cells, depth_cells, group_cells, state_cells};
 use crate::decoder::Decoder;
-use crate::kind::{Kind, kind_of};
-use crate::limbs::limbs_of;
+use crate::inverses::Inverses;
 use crate::numbers::felt_of;
 use crate::witnesses::{batch_witnesses, operation_witnesses};
 use arrayvec::ArrayVec;
+use event_kinds::{Kind, kind_of, limbs_of};
 use op_pack::in_use;
 use processor::{Event, Visible};
 use vm_field::{Felt, Memory};
 
 // The row of an event before the state behind it, where its loop's body is repeated so often.
 pub(crate) fn row_of(
+    inverses: &mut Inverses,
     decoder: &Decoder,
     event: &Event,
     next: &Visible,
@@ -40,8 +41,11 @@ pub(crate) fn row_of(
     extend(&mut row, &hash_cells(kind, decoder, event))?;
     extend(&mut row, &batch_cells(kind, decoder, event)?)?;
     extend(&mut row, &stack_cells(&event.before))?;
-    extend(&mut row, &key_cells(decoder, event)?)?;
-    extend(&mut row, &witness_cells(kind, decoder, event, next, turns)?)?;
+    extend(&mut row, &key_cells(inverses, decoder, event)?)?;
+    extend(
+        &mut row,
+        &witness_cells(inverses, kind, decoder, event, next, turns)?,
+    )?;
     extend(&mut row, &limbs_of(event, next).cells)?;
     whole(row)
 }
@@ -80,12 +84,12 @@ fn stack_cells(seen: &Visible) -> [Felt; 16]
 }
 
 // The columns from the stack's depth to the level of nesting.
-fn key_cells(decoder: &Decoder, event: &Event) -> Result<[Felt; 5], Memory>
+fn key_cells(inverses: &mut Inverses, decoder: &Decoder, event: &Event) -> Result<[Felt; 5], Memory>
     ensures { IfOk result (λ cells. cells ≡ event.now.before.depth ∷ key_of decoder.now.keys ∷ felt_inv (event.now.before.depth ⊟ 16)
         ∷ decoder.now.ha ∷ event.now.before.nesting ∷ []) }
 {
     let ha = felt_of(decoder.ha)?;
-    depth_cells(&event.before, decoder.key(), ha)
+    depth_cells(inverses, &event.before, decoder.key(), ha)
 }
 
 // Adds cells to a row.
@@ -151,6 +155,7 @@ fn positions_in_use(kind: Kind, event: &Event) -> usize
 
 // The columns of the witnesses.
 fn witness_cells(
+    inverses: &mut Inverses,
     kind: Kind,
     decoder: &Decoder,
     event: &Event,
@@ -162,17 +167,29 @@ fn witness_cells(
 {
     let zero = Felt::ZERO;
     match kind {
-        Kind::Ordinary => operation_cells(decoder, event, next),
+        Kind::Ordinary => operation_cells(inverses, decoder, event, next),
         Kind::Loop => Ok([felt_of(turns)?, zero, zero, zero]),
-        Kind::Span | Kind::Respan => Ok(batch_witnesses(&event.hash)),
+        Kind::Span | Kind::Respan => Ok(batch_witnesses(inverses, &event.hash)),
         _ => Ok([zero; 4]),
     }
 }
 
 // Those of an operation.
-fn operation_cells(decoder: &Decoder, event: &Event, next: &Visible) -> Result<[Felt; 4], Memory>
+fn operation_cells(
+    inverses: &mut Inverses,
+    decoder: &Decoder,
+    event: &Event,
+    next: &Visible,
+) -> Result<[Felt; 4], Memory>
     ensures { IfOk result (λ cells. cells ≡ operation_witnesses event.now.op decoder.now.next decoder.now.number event.now.before next.now) }
 {
     let address = felt_of(decoder.next)?;
-    Ok(operation_witnesses(event.op, address, decoder.number, &event.before, next))
+    Ok(operation_witnesses(
+        inverses,
+        event.op,
+        address,
+        decoder.number,
+        &event.before,
+        next,
+    ))
 }

@@ -1,11 +1,11 @@
 ghost use Rattle.std.specs.Prelude.{◌≡◌, slice_index, OnOk, IfOk};
 ghost use Rattle.run_rows.specs.Turns.{repeats_by};
-ghost use Rattle.fill_main.specs.Kinds.{kind_in};
+ghost use Rattle.event_kinds.specs.Kinds.{kind_in};
 ghost use Rattle.fill_main.specs.Turns.{turns_of};
 
-use crate::kind::{Kind, kind_of};
 use crate::numbers::sum_of;
 use crate::stack::Stack;
+use event_kinds::{Kind, kind_of};
 use processor::Event;
 use std::alloc::Global;
 use vm_field::Memory;

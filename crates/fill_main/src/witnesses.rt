@@ -1,8 +1,8 @@
 ghost use Rattle.std.specs.Prelude.{◌≡◌};
-ghost use Rattle.fill_main.specs.Parts.{four_of};
+ghost use Rattle.event_kinds.specs.Parts.{four_of};
 ghost use Rattle.run_rows.specs.Witnesses.{batch_witnesses, difference, first_witness, operation_witnesses, upper_half};
 
-use crate::inverses::{inverse, inverse_at};
+use crate::inverses::{Inverses, inverse_at};
 use op_pack::in_use;
 use processor::Visible;
 use vm_field::Felt;
@@ -19,15 +19,15 @@ fn upper_half(batch: &[Felt; 8]) -> &[Felt]
 }
 
 // The witnesses of a row that begins a batch.
-pub(crate) fn batch_witnesses(batch: &[Felt; 8]) -> [Felt; 4]
+pub(crate) fn batch_witnesses(inverses: &mut Inverses, batch: &[Felt; 8]) -> [Felt; 4]
     ensures { result ≡ four_of (batch_witnesses batch.now) }
 {
     let upper = upper_half(batch);
     [
-        inverse_at(upper, 0),
-        inverse_at(upper, 1),
-        inverse_at(upper, 2),
-        inverse_at(upper, 3),
+        inverse_at(inverses, upper, 0),
+        inverse_at(inverses, upper, 1),
+        inverse_at(inverses, upper, 2),
+        inverse_at(inverses, upper, 3),
     ]
 }
 
@@ -44,18 +44,25 @@ fn difference(op: Op, seen: &Visible, next: &Visible) -> Felt
 }
 
 // The first witness of an operation, before the hasher address of the next permutation.
-fn first_witness(op: Op, address: Felt, seen: &Visible, next: &Visible) -> Felt
+fn first_witness(
+    inverses: &mut Inverses,
+    op: Op,
+    address: Felt,
+    seen: &Visible,
+    next: &Visible,
+) -> Felt
     ensures { result ≡ first_witness op address seen.now next.now }
 {
     match op {
         Op::HPerm => address,
-        _ => inverse(difference(op, seen, next)),
+        _ => inverses.inverse(difference(op, seen, next)),
     }
 }
 
 // The witnesses of an operation with which the group has a number left.
 #[tactic(auto, unfolding(run_rows::specs::Witnesses::operation_witnesses))]
 pub(crate) fn operation_witnesses(
+    inverses: &mut Inverses,
     op: Op,
     address: Felt,
     number: Felt,
@@ -65,9 +72,9 @@ pub(crate) fn operation_witnesses(
     ensures { result ≡ operation_witnesses op address number seen.now next.now }
 {
     [
-        first_witness(op, address, seen, next),
+        first_witness(inverses, op, address, seen, next),
         Felt::ZERO,
         Felt::ZERO,
-        inverse(number - Felt::from_u32(u32::from(opcode(op)))),
+        inverses.inverse(number - Felt::from_u32(u32::from(opcode(op)))),
     ]
 }

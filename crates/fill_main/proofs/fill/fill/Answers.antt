@@ -2,7 +2,7 @@ use Rattle.std.proofs.Common.{◌≡◌, ◌+◌, ◌++◌, [], drop, length, sy
 use Rattle.run_rows.specs.Decoder.{Decoder, decoder_after}
 use Rattle.run_rows.specs.Filling.{fill, row_of, seen_behind}
 use Rattle.run_rows.specs.Turns.{repeats, respans}
-use Rattle.fill_main.specs.Kinds.{kind_in}
+use Rattle.event_kinds.specs.Kinds.{kind_in}
 use Rattle.fill_main.specs.Views.{decoder_in}
 use Rattle.fill_main.proofs.DecoderLemmas.{known}
 use Rattle.fill_main.proofs.FillLemmas.{decoder-end, decoder-step, rows-end, rows-step, turn-first, turns-here, turns-left, no-repeats, whole}

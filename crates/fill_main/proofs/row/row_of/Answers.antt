@@ -3,7 +3,7 @@ use Rattle.vm_ops.specs.Codes.{is_ordinary_op}
 use Rattle.run_rows.specs.Filling.{hash_by, in_use_by, line_of, witnesses_by}
 use Rattle.run_rows.specs.Kinds.{Kind}
 use Rattle.run_rows.specs.Lines.{bit_number}
-use Rattle.fill_main.specs.Parts.{eight_of, four_of}
+use Rattle.event_kinds.specs.Parts.{eight_of, four_of}
 use Rattle.fill_main.specs.Views.{decoder_in}
 use Rattle.fill_main.proofs.RowLemmas.{ok_then, row-laid}
 use Rattle.fill_main.proofs.row.row_of.Goals as goal

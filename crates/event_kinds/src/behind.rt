@@ -1,0 +1,22 @@
+ghost use Rattle.std.specs.Prelude.{◌≡◌, ◌+◌, ◌<◌, drop, length};
+ghost use Rattle.run_rows.specs.Filling.{seen_behind};
+
+use processor::{Event, Visible};
+
+/// The events behind the one at a place.
+pub fn events_behind(events: &[Event], place: usize) -> &[Event]
+    requires { place < length events.now }
+    ensures { result.now ≡ drop (place + 1) events.now }
+{
+    &events[place + 1..]
+}
+
+/// The state behind an event, before later ones.
+pub fn seen_behind<'a>(last: &'a Visible, later: &'a [Event]) -> &'a Visible
+    ensures { result.now ≡ seen_behind last.now later.now }
+{
+    match later {
+        [] => last,
+        [event, ..] => &event.before,
+    }
+}

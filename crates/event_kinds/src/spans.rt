@@ -1,0 +1,49 @@
+ghost use Rattle.std.specs.Prelude.{◌≡◌, ◌++◌, IfOk, OnOk};
+ghost use Rattle.run_rows.specs.Turns.{respans};
+ghost use Rattle.event_kinds.specs.Kinds.{kind_in};
+ghost use Rattle.event_kinds.specs.Spans.{batch_by, stays};
+
+use crate::kind::{Kind, kind_of};
+use processor::Event;
+use std::alloc::Global;
+use vm_field::{Felt, Memory, Sequence};
+
+/// The batches of the span that is open, from the next RESPAN on. The scan ends with the span.
+pub fn respans(alloc: Global, later: &[Event]) -> Result<Sequence<[Felt; 8]>, Memory>
+    ensures { IfOk result (λ batches. batches ≡ respans later.now) }
+{
+    let mut batches = Sequence::new(alloc);
+    for i in 0..later.len() {
+        let event = &later[i];
+        let kind = kind_of(event.op);
+        if !stays(kind) {
+            return Ok(batches);
+        }
+        push_batch(&mut batches, kind, &event.hash)?;
+    }
+    Ok(batches)
+}
+
+// Whether the span is still open behind an event of a kind.
+fn stays(kind: Kind) -> bool
+    ensures { result ≡ stays (kind_in kind) }
+{
+    match kind {
+        Kind::Ordinary | Kind::Respan => true,
+        _ => false,
+    }
+}
+
+// Adds the batch that begins at an event of a kind, if one does.
+fn push_batch(
+    batches: &mut Sequence<[Felt; 8]>,
+    kind: Kind,
+    batch: &[Felt; 8],
+) -> Result<(), Memory>
+    ensures { OnOk result (batches.new ≡ batches.old ++ batch_by (kind_in kind) batch.now) }
+{
+    match kind {
+        Kind::Respan => batches.push(*batch),
+        _ => Ok(()),
+    }
+}

@@ -1,0 +1,65 @@
+-- What each event of a run adds to its requests.
+use Rattle.std.proofs.Common.{◌≡◌, ℕ, ◌+◌, ◌<◌, ◌≤◌, if◌then◌else◌, List, [], ◌∷◌, ◌++◌, length, get_or, drop, take, refl}
+use Rattle.vm_ops.specs.declared.op.Op.TheVariants as ops
+use Rattle.air_kit.specs.Flags.{is_op}
+use Rattle.air_kit.specs.declared.requests.Access.{Access}
+use Rattle.air_kit.specs.declared.requests.BitOp.{BitOp}
+use Rattle.air_kit.specs.declared.requests.Perm.{Perm}
+use Rattle.processor.specs.declared.event.Event.{Event}
+use Rattle.processor.specs.declared.event.Visible.{Visible}
+use Rattle.run_rows.specs.Filling.{seen_behind}
+use Rattle.run_rows.specs.Kinds.{kind_of}
+use Rattle.run_rows.specs.RunRequests.{accesses_by, accesses_of, bits_by, bits_of, calls_of, perms_by, perms_of, ranges_by, ranges_of}
+use Rattle.event_kinds.proofs.LoopLemmas.{ended, step}
+
+pub bits-step : (events : List Event) (i : ℕ) (e : Event) (done more : List BitOp) → i < length events → e ≡ get_or events i e
+    → more ≡ done ++ bits_by e.op e.before → more ++ bits_of (drop (i + 1) events) ≡ done ++ bits_of (drop i events)
+unfolding bits_of
+bits-step events i e done more within is added = step bits_of (λ e later. bits_by e.op e.before) (λ e later. refl) events i e done more within is added
+
+pub bits-ended : (events : List Event) (i : ℕ) (done : List BitOp) → length events ≤ i → done ++ bits_of (drop i events) ≡ done
+unfolding bits_of
+bits-ended events i done past = ended bits_of refl events i done past
+
+pub accesses-step : (events : List Event) (i : ℕ) (e : Event) (done more : List Access) → i < length events → e ≡ get_or events i e
+    → more ≡ done ++ accesses_by e.op e → more ++ accesses_of (drop (i + 1) events) ≡ done ++ accesses_of (drop i events)
+unfolding accesses_of
+accesses-step events i e done more within is added = step accesses_of (λ e later. accesses_by e.op e) (λ e later. refl) events i e done more within is added
+
+pub accesses-ended : (events : List Event) (i : ℕ) (done : List Access) → length events ≤ i → done ++ accesses_of (drop i events) ≡ done
+unfolding accesses_of
+accesses-ended events i done past = ended accesses_of refl events i done past
+
+pub calls-step : (events : List Event) (i : ℕ) (e : Event) (done more : List (List ℕ)) → i < length events → e ≡ get_or events i e
+    → more ≡ done ++ (if is_op e.op ops.Syscall then take 4 e.hash ∷ [] else [])
+    → more ++ calls_of (drop (i + 1) events) ≡ done ++ calls_of (drop i events)
+unfolding calls_of
+calls-step events i e done more within is added =
+    step calls_of (λ e later. if is_op e.op ops.Syscall then take 4 e.hash ∷ [] else []) (λ e later. refl) events i e done more within is added
+
+pub calls-ended : (events : List Event) (i : ℕ) (done : List (List ℕ)) → length events ≤ i → done ++ calls_of (drop i events) ≡ done
+unfolding calls_of
+calls-ended events i done past = ended calls_of refl events i done past
+
+pub ranges-step : (last : Visible) (events : List Event) (i : ℕ) (e : Event) (done more : List ℕ) → i < length events → e ≡ get_or events i e
+    → more ≡ done ++ ranges_by e (seen_behind last (drop (i + 1) events))
+    → more ++ ranges_of last (drop (i + 1) events) ≡ done ++ ranges_of last (drop i events)
+unfolding ranges_of
+ranges-step last events i e done more within is added =
+    step (ranges_of last) (λ e later. ranges_by e (seen_behind last later)) (λ e later. refl) events i e done more within is added
+
+pub ranges-ended : (last : Visible) (events : List Event) (i : ℕ) (done : List ℕ) → length events ≤ i → done ++ ranges_of last (drop i events) ≡ done
+unfolding ranges_of
+ranges-ended last events i done past = ended (ranges_of last) refl events i done past
+
+pub perms-step : (constants : List ℕ) (events : List Event) (i : ℕ) (e : Event) (done more : List Perm) → i < length events → e ≡ get_or events i e
+    → more ≡ done ++ perms_by (kind_of e.op) constants e (drop (i + 1) events)
+    → more ++ perms_of constants (drop (i + 1) events) ≡ done ++ perms_of constants (drop i events)
+unfolding perms_of
+perms-step constants events i e done more within is added =
+    step (perms_of constants) (λ e later. perms_by (kind_of e.op) constants e later) (λ e later. refl) events i e done more within is added
+
+pub perms-ended : (constants : List ℕ) (events : List Event) (i : ℕ) (done : List Perm) → length events ≤ i
+    → done ++ perms_of constants (drop i events) ≡ done
+unfolding perms_of
+perms-ended constants events i done past = ended (perms_of constants) refl events i done past

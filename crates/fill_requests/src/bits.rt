@@ -1,0 +1,43 @@
+ghost use Rattle.std.specs.Prelude.{◌≡◌, ◌++◌, IfOk, OnOk};
+ghost use Rattle.run_rows.specs.Limbs.{cell};
+ghost use Rattle.run_rows.specs.RunRequests.{bits_by, bits_of};
+
+use crate::numbers::u32_of;
+use air_kit::BitOp;
+use processor::{Event, Visible};
+use std::alloc::Global;
+use vm_field::{Memory, Sequence};
+use vm_ops::Op;
+
+/// The bitwise operations of a run.
+pub fn bits_of(alloc: Global, events: &[Event]) -> Result<Sequence<BitOp>, Memory>
+    ensures { IfOk result (λ bits. bits ≡ bits_of events.now) }
+{
+    let mut bits = Sequence::new(alloc);
+    for i in 0..events.len() {
+        push_bits(&mut bits, &events[i])?;
+    }
+    Ok(bits)
+}
+
+// Those of an event.
+fn push_bits(bits: &mut Sequence<BitOp>, event: &Event) -> Result<(), Memory>
+    ensures { OnOk result (bits.new ≡ bits.old ++ bits_by event.now.op event.now.before) }
+{
+    match event.op {
+        Op::U32And => bits.push(bit_op(false, &event.before)?),
+        Op::U32Xor => bits.push(bit_op(true, &event.before)?),
+        _ => Ok(()),
+    }
+}
+
+// The operation on the two cells on top.
+fn bit_op(xor: bool, seen: &Visible) -> Result<BitOp, Memory>
+    ensures { IfOk result (λ op. op ≡ record { xor = xor; a = cell seen.now 0; b = cell seen.now 1 }) }
+{
+    Ok(BitOp {
+        xor,
+        a: u32_of(seen.cells[0])?,
+        b: u32_of(seen.cells[1])?,
+    })
+}

@@ -1,0 +1,170 @@
+ghost use Rattle.std.specs.Prelude.{◌≡◌, ◌++◌, [], ◌∷◌, false, reverse, take, IfOk, OnOk};
+ghost use Rattle.vm_field.specs.Sponge.{begun};
+ghost use Rattle.vm_ops.specs.Codes.{code_of};
+ghost use Rattle.run_rows.specs.Turns.{respans};
+ghost use Rattle.event_kinds.specs.Kinds.{kind_in};
+ghost use Rattle.run_rows.specs.RunRequests.{hash_perms, perms_by, perms_by_op, perms_of};
+
+use air_kit::Perm;
+use event_kinds::{Kind, events_behind, kind_of, respans};
+use perm_memo::Permutations;
+use processor::{Event, Visible};
+use std::alloc::Global;
+use vm_field::{Felt, Memory, Sequence};
+use vm_ops::{Op, opcode};
+
+/// The permutations of a run.
+pub fn perms_of(
+    alloc: Global,
+    permutations: &mut Permutations,
+    events: &[Event],
+) -> Result<Sequence<Perm>, Memory>
+    ensures perms { IfOk result (λ perms. perms ≡ perms_of permutations.old events.now) }
+    ensures same { permutations.new ≡ permutations.old }
+{
+    let mut perms = Sequence::new(alloc);
+    for i in 0..events.len() {
+        let event = &events[i];
+        let later = events_behind(events, i);
+        push_perms(
+            alloc,
+            permutations,
+            &mut perms,
+            kind_of(event.op),
+            event,
+            later,
+        )?;
+    }
+    Ok(perms)
+}
+
+// Those of an event of a kind before later ones.
+#[tactic(auto, using(crate::proofs::ChainLemmas::one_block))]
+fn push_perms(
+    alloc: Global,
+    permutations: &mut Permutations,
+    perms: &mut Sequence<Perm>,
+    kind: Kind,
+    event: &Event,
+    later: &[Event],
+) -> Result<(), Memory>
+    ensures perms { OnOk result (perms.new ≡ perms.old ++ perms_by (kind_in kind) permutations.old event.now later.now) }
+    ensures same { permutations.new ≡ permutations.old }
+{
+    match kind {
+        Kind::Ordinary => push_operation(perms, event),
+        Kind::Span => push_span(alloc, permutations, perms, &event.hash, later),
+        Kind::Join => push_block(perms, Op::Join, &event.hash),
+        Kind::Split => push_block(perms, Op::Split, &event.hash),
+        Kind::Loop => push_block(perms, Op::Loop, &event.hash),
+        Kind::Call => push_block(perms, Op::Call, &event.hash),
+        Kind::Syscall => push_block(perms, Op::Syscall, &event.hash),
+        Kind::End | Kind::Repeat | Kind::Respan | Kind::Halt => Ok(()),
+    }
+}
+
+// HPERM's.
+fn push_operation(perms: &mut Sequence<Perm>, event: &Event) -> Result<(), Memory>
+    ensures { OnOk result (perms.new ≡ perms.old ++ perms_by_op event.now.op event.now.before) }
+{
+    match event.op {
+        Op::HPerm => perms.push(Perm {
+            mode: true,
+            cont: false,
+            more: false,
+            start: turned(&event.before.cells),
+        }),
+        _ => Ok(()),
+    }
+}
+
+// The first twelve cells, the last of them first.
+#[tactic(auto, using(crate::proofs::Elements::twelve_turned))]
+fn turned(cells: &[Felt; 16]) -> [Felt; 12]
+    ensures { result ≡ reverse (take 12 cells.now) }
+{
+    [
+        cells[11], cells[10], cells[9], cells[8], cells[7], cells[6], cells[5], cells[4], cells[3],
+        cells[2], cells[1], cells[0],
+    ]
+}
+
+// Those of the hash of a span.
+fn push_span(
+    alloc: Global,
+    permutations: &mut Permutations,
+    perms: &mut Sequence<Perm>,
+    batch: &[Felt; 8],
+    later: &[Event],
+) -> Result<(), Memory>
+    ensures perms { OnOk result (perms.new ≡ perms.old ++ hash_perms permutations.old 0 (batch.now ∷ respans later.now)) }
+    ensures same { permutations.new ≡ permutations.old }
+{
+    let batches = respans(alloc, later)?;
+    push_hash(permutations, perms, Felt::ZERO, batch, batches.as_slice())
+}
+
+// That of the hash of another block.
+fn push_block(perms: &mut Sequence<Perm>, start: Op, hash: &[Felt; 8]) -> Result<(), Memory>
+    ensures { OnOk result (perms.new ≡ perms.old
+        ++ record { mode = false; cont = false; more = false; start = take 4 (begun (code_of start)) ++ hash.now } ∷ []) }
+{
+    let state = begun(Felt::from_u32(u32::from(opcode(start))));
+    perms.push(perm(false, false, absorbing(&state, hash)))
+}
+
+// Those of the hash of a domain and blocks.
+fn push_hash(
+    permutations: &mut Permutations,
+    perms: &mut Sequence<Perm>,
+    domain: Felt,
+    first: &[Felt; 8],
+    later: &[[Felt; 8]],
+) -> Result<(), Memory>
+    ensures perms { OnOk result (perms.new ≡ perms.old ++ hash_perms permutations.old domain (first.now ∷ later.now)) }
+    ensures same { permutations.new ≡ permutations.old }
+{
+    let mut state = begun(domain);
+    let mut block = *first;
+    let mut going = false;
+    for i in 0..later.len() {
+        let start = absorbing(&state, &block);
+        perms.push(perm(going, true, start))?;
+        state = permutations.permuted(&start);
+        block = later[i];
+        going = true;
+    }
+    perms.push(perm(going, false, absorbing(&state, &block)))?;
+    Ok(())
+}
+
+// A permutation of a hash.
+fn perm(cont: bool, more: bool, start: [Felt; 12]) -> Perm
+    ensures { result ≡ record { mode = false; cont = cont; more = more; start = start } }
+{
+    Perm {
+        mode: false,
+        cont,
+        more,
+        start,
+    }
+}
+
+// The state before the first block.
+fn begun(domain: Felt) -> [Felt; 12]
+    ensures { result ≡ begun domain }
+{
+    let mut state = [Felt::ZERO; 12];
+    state[1] = domain;
+    state
+}
+
+// A block in the rate of a state.
+fn absorbing(state: &[Felt; 12], block: &[Felt; 8]) -> [Felt; 12]
+    ensures { result ≡ take 4 state.now ++ block.now }
+{
+    [
+        state[0], state[1], state[2], state[3], block[0], block[1], block[2], block[3], block[4],
+        block[5], block[6], block[7],
+    ]
+}
