@@ -1,5 +1,5 @@
 -- How parts are written one after the other.
-use Rattle.std.proofs.Common.{◌≡◌, ℕ, zero, suc, ◌+◌, ◌<◌, ◌≤◌, List, [], ◌∷◌, ◌++◌, take, length, get_or, refl, sym, ap, ap₂, ◌∙◌, arith, append_assoc, append-nil}
+use Rattle.std.proofs.Common.{◌≡◌, ℕ, zero, suc, ◌+◌, ◌<◌, ◌≤◌, List, [], ◌∷◌, ◌++◌, take, length, get_or, flat_map, refl, sym, ap, ap₂, ◌∙◌, arith, append_assoc, append-nil}
 use Rattle.std.proofs.lemmas.List.{take_all}
 use Rattle.air_kit.specs.declared.trace.Trace.{Trace}
 use Rattle.table_file.specs.declared.counts.Counts.{Counts}
@@ -34,6 +34,12 @@ module _ {A : Type 0} (write : A → List ℕ) where
 
   pub all_written : (old now : List ℕ) (xs : List A) (i : ℕ) → length xs ≤ i → now ≡ old ++ front_bytes i xs → now ≡ old ++ parts_bytes write xs
   all_written old now xs i past so_far = so_far ∙ ap (λ ys. old ++ parts_bytes write ys) (take_all i xs past)
+
+  -- joined as std joins what a function makes of each
+  pub flat : (xs : List A) → flat_map write xs ≡ parts_bytes write xs
+  unfolding parts_bytes
+  flat [] = refl
+  flat (x ∷ xs) = ap (λ bs. write x ++ bs) (flat xs)
 
 -- a part behind others, and what follows it
 pub further : (old part more now last : List ℕ) → now ≡ old ++ part → last ≡ now ++ more → last ≡ old ++ (part ++ more)

@@ -1,5 +1,4 @@
 ghost use Rattle.std.specs.Prelude.{◌≡◌, ◌+◌, ◌*◌, ◌^◌, ◌<◌, ◌≤◌, ◌++◌, [], length, slice_index_or, OnOk, IfOk};
-ghost use Rattle.byteorder.specs.Endian.{little_bytes};
 ghost use Rattle.air_kit.specs.Traces.{HasCounts};
 ghost use Rattle.table_file.specs.Fields.{row_bytes, table_bytes};
 ghost use Rattle.table_file.specs.Files.{AreFew, bytes_of, count_bytes, head_bytes};
@@ -11,6 +10,9 @@ use byteorder::{ByteOrder, LittleEndian};
 use std::alloc::Global;
 use vm_field::{Bytes, Memory};
 use vm_table::{Table, View};
+
+// How many bytes the longest row has, one of the main table.
+const MOST_ROW_BYTES: usize = 520;
 
 /// The table file of a trace.
 #[tactic(auto, unfolding(crate::specs::Files::bytes_of))]
@@ -72,6 +74,7 @@ fn write_u32(bytes: &mut Vec<u8>, number: u32) -> Result<(), Memory>
 }
 
 fn write_table<const W: usize>(bytes: &mut Vec<u8>, table: &Table<W>) -> Result<(), Memory>
+    requires { W ≤ 65 }
     ensures { OnOk result (bytes.new.items ≡ bytes.old.items ++ table_bytes table.now) }
 {
     for i in 0..table.rows() {
@@ -80,23 +83,30 @@ fn write_table<const W: usize>(bytes: &mut Vec<u8>, table: &Table<W>) -> Result<
     Ok(())
 }
 
+// A row is written to a part of its own first, since asking for memory at each element takes longer.
 fn write_row<const W: usize>(bytes: &mut Vec<u8>, table: &Table<W>, i: usize) -> Result<(), Memory>
-    requires { i < length table.now }
+    requires narrow { W ≤ 65 }
+    requires inside { i < length table.now }
     ensures { OnOk result (bytes.new.items ≡ bytes.old.items ++ row_bytes (slice_index_or table.now i [])) }
 {
-    let _shape = table.rows();
-    let row = table.row(i);
-    for j in 0..W {
-        write_u64(bytes, row.cell(j).value())?;
-    }
+    let numbers = numbers_of(table, i);
+    let mut part = [0; MOST_ROW_BYTES];
+    let row = &mut part[..ELEMENT_BYTES * W];
+    LittleEndian::write_u64_into(&numbers, row);
+    bytes.extend_from_slice(row)?;
     Ok(())
 }
 
-fn write_u64(bytes: &mut Vec<u8>, number: u64) -> Result<(), Memory>
-    ensures { OnOk result (bytes.new.items ≡ bytes.old.items ++ little_bytes 8 number) }
+// The elements of a row.
+fn numbers_of<const W: usize>(table: &Table<W>, i: usize) -> [u64; W]
+    requires { i < length table.now }
+    ensures { result ≡ slice_index_or table.now i [] }
 {
-    let mut part = [0; ELEMENT_BYTES];
-    LittleEndian::write_u64(&mut part, number);
-    bytes.extend_from_slice(&part)?;
-    Ok(())
+    let _shape = table.rows();
+    let row = table.row(i);
+    let mut numbers = [0; W];
+    for j in 0..W {
+        numbers[j] = row.cell(j).value();
+    }
+    numbers
 }
