@@ -1,14 +1,11 @@
 -- A row is laid out part by part.
-use Rattle.std.proofs.Common.{◌≡◌, ℕ, ◌==◌, List, [], ◌∷◌, ◌++◌, slice_index, refl, ap₂, ◌∙◌, Result, IfOk, Ok, Err}
+use Rattle.std.proofs.Common.{◌≡◌, ℕ, ◌+◌, ◌==◌, List, [], ◌∷◌, ◌++◌, length, take, slice_index, refl, sym, ap, ap₂, ◌∙◌}
+use Rattle.std.proofs.Math.Seq.{take-length}
 use Rattle.vm_field.specs.Field.{felt_inv}
 use Rattle.vm_field.specs.Signs.{◌⊟◌}
 use Rattle.vm_ops.specs.Codes.{is_ordinary_op}
 use Rattle.run_rows.specs.Lines.{Line, bit_number, code_bit, laid_out}
 use Rattle.event_kinds.specs.Parts.{eight_of, four_of, sixteen_of, ten_of}
-
-pub ok_then : {A E : Type 0} {P Q : A → Type 0} (r : Result A E) → ((x : A) → P x → Q x) → IfOk r P → IfOk r Q
-ok_then (Ok x) f h = f x h
-ok_then (Err e) f h = h
 
 abbrev state_part : Line → List ℕ
 state_part l =
@@ -50,13 +47,24 @@ laid : (l : Line)
 unfolding laid_out
 laid l = refl
 
--- a part more
-more : (x y z a b : List ℕ) → x ≡ y → z ≡ x ++ a → a ≡ b → z ≡ y ++ b
-more x y z a b same added is = added ∙ ap₂ (λ (xs ys : List ℕ). xs ++ ys) same is
+-- a part more, written behind those that fill the row up to a place
+more : (place : ℕ) (row new before cells part : List ℕ) → take place row ≡ before
+    → take (place + length cells) new ≡ take place row ++ cells
+    → cells ≡ part
+    → take (place + length part) new ≡ before ++ part
+more place row new before cells part same written is =
+    ap (λ (ys : List ℕ). take (place + length ys) new) (sym is) ∙ written ∙ ap₂ (λ (xs ys : List ℕ). xs ++ ys) same is
 
-pub row-laid : (l : Line) (x0 x1 x2 x3 x4 x5 x6 x7 x8 a b c d e f g h : List ℕ) → x0 ≡ []
-    → x1 ≡ x0 ++ a → x2 ≡ x1 ++ b → x3 ≡ x2 ++ c → x4 ≡ x3 ++ d
-    → x5 ≡ x4 ++ e → x6 ≡ x5 ++ f → x7 ≡ x6 ++ g → x8 ≡ x7 ++ h
+pub row-laid : (l : Line) (r1 r2 r3 r4 r5 r6 r7 r8 a b c d e f g h : List ℕ)
+    → take (0 + length a) r1 ≡ a
+    → take (8 + length b) r2 ≡ take 8 r1 ++ b
+    → take (16 + length c) r3 ≡ take 16 r2 ++ c
+    → take (24 + length d) r4 ≡ take 24 r3 ++ d
+    → take (30 + length e) r5 ≡ take 30 r4 ++ e
+    → take (46 + length f) r6 ≡ take 46 r5 ++ f
+    → take (51 + length g) r7 ≡ take 51 r6 ++ g
+    → take (55 + length h) r8 ≡ take 55 r7 ++ h
+    → length r8 ≡ 65
     → a ≡ state_part l
     → b ≡ block_part l
     → c ≡ hash_part l
@@ -65,14 +73,14 @@ pub row-laid : (l : Line) (x0 x1 x2 x3 x4 x5 x6 x7 x8 a b c d e f g h : List ℕ
     → f ≡ depth_part l
     → g ≡ witness_part l
     → h ≡ limb_part l
-    → x8 ≡ laid_out l
-row-laid l x0 x1 x2 x3 x4 x5 x6 x7 x8 a b c d e f g h e0 e1 e2 e3 e4 e5 e6 e7 e8 ea eb ec ed ee ef eg eh =
-    let j1 = more x0 _ x1 a _ e0 e1 ea in
-    let j2 = more x1 _ x2 b _ j1 e2 eb in
-    let j3 = more x2 _ x3 c _ j2 e3 ec in
-    let j4 = more x3 _ x4 d _ j3 e4 ed in
-    let j5 = more x4 _ x5 e _ j4 e5 ee in
-    let j6 = more x5 _ x6 f _ j5 e6 ef in
-    let j7 = more x6 _ x7 g _ j6 e7 eg in
-    let j8 = more x7 _ x8 h _ j7 e8 eh in
-    j8 ∙ laid l
+    → r8 ≡ laid_out l
+row-laid l r1 r2 r3 r4 r5 r6 r7 r8 a b c d e f g h e1 e2 e3 e4 e5 e6 e7 e8 whole ea eb ec ed ee ef eg eh =
+    let j1 = more 0 [] r1 [] a _ refl e1 ea in
+    let j2 = more 8 r1 r2 _ b _ j1 e2 eb in
+    let j3 = more 16 r2 r3 _ c _ j2 e3 ec in
+    let j4 = more 24 r3 r4 _ d _ j3 e4 ed in
+    let j5 = more 30 r4 r5 _ e _ j4 e5 ee in
+    let j6 = more 46 r5 r6 _ f _ j5 e6 ef in
+    let j7 = more 51 r6 r7 _ g _ j6 e7 eg in
+    let j8 = more 55 r7 r8 _ h _ j7 e8 eh in
+    sym (take-length r8) ∙ ap (λ (n : ℕ). take n r8) whole ∙ j8 ∙ laid l

@@ -30,9 +30,18 @@ impl Inverses {
     pub fn inverse(&mut self, a: Felt) -> Felt
         ensures { result ≡ felt_inv a }
     {
-        if let Some(inverse) = kept(self.slots.as_slice(), a) {
-            return inverse;
+        match kept(self.slots.as_slice(), a) {
+            Some(inverse) => inverse,
+            None => self.missed(a),
         }
+    }
+
+    // The inverse of an element that is not kept, which is kept from then on. It stays out of line,
+    // so that an inverse that is kept costs no more than its look-up.
+    #[inline(never)]
+    fn missed(&mut self, a: Felt) -> Felt
+        ensures { result ≡ felt_inv a }
+    {
         let inverse = computed(a);
         keep(&mut self.slots, a, inverse);
         inverse

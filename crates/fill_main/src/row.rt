@@ -1,4 +1,4 @@
-ghost use Rattle.std.specs.Prelude.{◌≡◌, ◌==◌, List, ◌++◌, [], ◌∷◌, length, slice_index, IfOk, OnOk};
+ghost use Rattle.std.specs.Prelude.{◌≡◌, ◌≤◌, ◌+◌, ◌==◌, List, ◌++◌, [], ◌∷◌, length, take, slice_index, IfOk};
 ghost use Rattle.processor.specs.declared.event.Event as shown;
 ghost use Rattle.vm_field.specs.Field.{felt_inv};
 ghost use Rattle.vm_field.specs.Signs.{◌⊟◌};
@@ -17,7 +17,6 @@ use crate::decoder::Decoder;
 use crate::inverses::Inverses;
 use crate::numbers::felt_of;
 use crate::witnesses::{batch_witnesses, operation_witnesses};
-use arrayvec::ArrayVec;
 use event_kinds::{Kind, kind_of, limbs_of};
 use op_pack::in_use;
 use processor::{Event, Visible};
@@ -35,19 +34,27 @@ pub(crate) fn row_of(
         → IfOk result (λ row. row ≡ row_of (decoder_in decoder.now) event.now next.now later) }
 {
     let kind = kind_of(event.op);
-    let mut row = ArrayVec::new();
-    extend(&mut row, &state_cells(&event.before))?;
-    extend(&mut row, &open_cells(decoder, event)?)?;
-    extend(&mut row, &hash_cells(kind, decoder, event))?;
-    extend(&mut row, &batch_cells(kind, decoder, event)?)?;
-    extend(&mut row, &stack_cells(&event.before))?;
-    extend(&mut row, &key_cells(inverses, decoder, event)?)?;
-    extend(
-        &mut row,
-        &witness_cells(inverses, kind, decoder, event, next, turns)?,
-    )?;
-    extend(&mut row, &limbs_of(event, next).cells)?;
-    whole(row)
+    let mut row = [Felt::ZERO; 65];
+    write_cells(&mut row, 0, &state_cells(&event.before));
+    write_cells(&mut row, 8, &open_cells(decoder, event)?);
+    write_cells(&mut row, 16, &hash_cells(kind, decoder, event));
+    write_cells(&mut row, 24, &batch_cells(kind, decoder, event)?);
+    write_cells(&mut row, 30, &stack_cells(&event.before));
+    write_cells(&mut row, 46, &key_cells(inverses, decoder, event)?);
+    let witnesses = witness_cells(inverses, kind, decoder, event, next, turns)?;
+    write_cells(&mut row, 51, &witnesses);
+    write_cells(&mut row, 55, &limbs_of(event, next).cells);
+    Ok(row)
+}
+
+// Writes cells over those of a row from a place on.
+fn write_cells(row: &mut [Felt; 65], place: usize, cells: &[Felt])
+    requires { place + length cells.now ≤ 65 }
+    ensures written { take (place + length cells.now) row.new ≡ take place row.old ++ cells.now }
+    ensures whole { length row.new ≡ 65 }
+{
+    let all = &mut row[..];
+    all[place..place + cells.len()].copy_from_slice(cells);
 }
 
 // The address of the newest block, and the bits of the operation.
@@ -90,26 +97,6 @@ fn key_cells(inverses: &mut Inverses, decoder: &Decoder, event: &Event) -> Resul
 {
     let ha = felt_of(decoder.ha)?;
     depth_cells(inverses, &event.before, decoder.key(), ha)
-}
-
-// Adds cells to a row.
-fn extend(row: &mut ArrayVec<Felt, 65>, cells: &[Felt]) -> Result<(), Memory>
-    ensures { OnOk result (row.new.items ≡ row.old.items ++ cells.now) }
-{
-    match row.try_extend_from_slice(cells) {
-        Ok(()) => Ok(()),
-        Err(_) => Err(Memory::Memory),
-    }
-}
-
-// The row that has all its cells.
-fn whole(row: ArrayVec<Felt, 65>) -> Result<[Felt; 65], Memory>
-    ensures { IfOk result (λ cells. cells ≡ row.items) }
-{
-    match row.into_inner() {
-        Ok(cells) => Ok(cells),
-        Err(_) => Err(Memory::Memory),
-    }
 }
 
 // The columns of the hash. A row of an ordinary operation shows what is left of its group there.
