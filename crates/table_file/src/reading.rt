@@ -151,10 +151,10 @@ fn read_element(bytes: &[u8], at: usize) -> Result<Felt, FileError>
     requires { at ≤ 2 ^ 36 }
     ensures { result ≡ element_at bytes.now at }
 {
-    if bytes.len() < at + ELEMENT_BYTES {
+    let Some(part) = bytes.get(at..at + ELEMENT_BYTES) else {
         return Err(bad(at, FileCause::Ended));
-    }
-    match Felt::try_from_u64(LittleEndian::read_u64(part_from(bytes, at))) {
+    };
+    match Felt::try_from_u64(LittleEndian::read_u64(part)) {
         Ok(element) => Ok(element),
         Err(_) => Err(bad(at, FileCause::Element)),
     }
