@@ -7,3 +7,4 @@ mod PartBytes
 mod PartLaws
 mod TraceReading
 mod TableLaws
+pub mod PartReading

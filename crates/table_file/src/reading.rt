@@ -1,4 +1,4 @@
-ghost use Rattle.std.specs.Prelude.{◌≡◌, ◌==◌, ◌+◌, ◌*◌, ◌^◌, ◌≤◌, Bool, drop, length, Result, Ok, IfOk};
+ghost use Rattle.std.specs.Prelude.{◌≡◌, ◌==◌, ℕ, ◌+◌, ◌*◌, ◌^◌, ◌<◌, ◌≤◌, Bool, drop, length, take, Result, Ok, IfOk};
 ghost use Rattle.byteorder.specs.Endian.{little_number};
 ghost use Rattle.air_kit.specs.Traces.{HasCounts};
 ghost use Rattle.table_file.specs.declared.cause.FileCause.TheVariants as cause;
@@ -133,7 +133,58 @@ fn read_table<const W: usize>(
     Ok(table)
 }
 
+// A row from a place on. Where it stands there whole, its bytes are looked up once, which is faster.
 fn read_row<const W: usize>(bytes: &[u8], at: usize) -> Result<[Felt; W], FileError>
+    requires narrow { W ≤ 65 }
+    requires place { at ≤ 2 ^ 35 }
+    ensures { result ≡ row_at bytes.now W at }
+{
+    match bytes.get(at..at + ELEMENT_BYTES * W) {
+        Some(part) => read_whole_row(bytes, part, at),
+        None => read_cut_row(bytes, at),
+    }
+}
+
+// The row that is this part of the bytes.
+#[inline(never)]
+fn read_whole_row<const W: usize>(
+    bytes: &[u8],
+    part: &[u8],
+    at: usize,
+) -> Result<[Felt; W], FileError>
+    requires narrow { W ≤ 65 }
+    requires place { at ≤ 2 ^ 35 }
+    requires inside { at + 8 * W ≤ length bytes.now }
+    requires part { part.now ≡ take (8 * W) (drop at bytes.now) }
+    ensures { result ≡ row_at bytes.now W at }
+{
+    let part = &part[..ELEMENT_BYTES * W];
+    let mut row = [Felt::ZERO; W];
+    for j in 0..W {
+        let element = element_in(bytes, part, at, j)?;
+        row[j] = element;
+    }
+    Ok(row)
+}
+
+// The element of this number in the part of the bytes that begins at a place. Of the bytes it is the
+// contract that speaks.
+#[tactic(auto, unfolding(crate::specs::Fields::number_at))]
+fn element_in(_bytes: &[u8], part: &[u8], at: usize, j: usize) -> Result<Felt, FileError>
+    requires place { at ≤ 2 ^ 35 }
+    requires number { j < 65 }
+    requires inside { 8 * j + 8 ≤ length part.now }
+    requires part { (count : ℕ) × (at + count ≤ length _bytes.now) × (part.now ≡ take count (drop at _bytes.now)) }
+    ensures { result ≡ element_at _bytes.now (at + 8 * j) }
+{
+    match Felt::try_from_u64(LittleEndian::read_u64(part_from(part, ELEMENT_BYTES * j))) {
+        Ok(element) => Ok(element),
+        Err(_) => Err(bad(at + ELEMENT_BYTES * j, FileCause::Element)),
+    }
+}
+
+// A row of which the bytes may end before it does.
+fn read_cut_row<const W: usize>(bytes: &[u8], at: usize) -> Result<[Felt; W], FileError>
     requires narrow { W ≤ 65 }
     requires place { at ≤ 2 ^ 35 }
     ensures { result ≡ row_at bytes.now W at }

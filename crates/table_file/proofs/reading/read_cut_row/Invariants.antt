@@ -1,7 +1,7 @@
 use Rattle.std.proofs.Common.{◌≡◌, take, length}
 use Rattle.table_file.specs.Fields.{element_at}
 use Rattle.table_file.proofs.Going.{Goes}
-use Rattle.table_file.proofs.reading.read_row.Given as goal
+use Rattle.table_file.proofs.reading.read_cut_row.Given as goal
 
 -- what is read so far, with what the rest reads as, is the whole row
 abbrev pub invariant-loop-j : goal.invariant-loop-j

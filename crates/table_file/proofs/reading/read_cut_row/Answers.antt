@@ -3,7 +3,7 @@ use Rattle.std.proofs.Math.ListN.{length-set}
 use Rattle.std.proofs.lemmas.Result.{err_from_is_err_and}
 use Rattle.table_file.specs.Fields.{element_at}
 use Rattle.table_file.proofs.Going.{goes_on_in, stops, ends_in}
-use Rattle.table_file.proofs.reading.read_row.Goals as goal
+use Rattle.table_file.proofs.reading.read_cut_row.Goals as goal
 
 pub returns-in_err-element : goal.returns-in_err-element
 returns-in_err-element g c =

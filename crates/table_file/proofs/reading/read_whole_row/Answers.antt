@@ -1,0 +1,20 @@
+use Rattle.std.proofs.Common.{sym, ◌∙◌, arith}
+use Rattle.std.proofs.Math.ListN.{length-set}
+use Rattle.std.proofs.lemmas.Result.{err_from_is_err_and}
+use Rattle.table_file.specs.Fields.{element_at}
+use Rattle.table_file.proofs.Going.{goes_on_in, stops, ends_in}
+use Rattle.table_file.proofs.reading.read_whole_row.Goals as goal
+
+pub returns-in_err-element : goal.returns-in_err-element
+returns-in_err-element g c =
+    let p = err_from_is_err_and c.from_residual.result c.from_residual.ensures.1 in
+    rw (p.1, p.2) (sym (stops (element_at _) 8 _ _ _ _ _ c.loop-j-test.true c.in_err-element.ensures c.loop-j.invariant.goes))
+
+pub loop-j-preserved : goal.loop-j-preserved
+loop-j-preserved g c = record {
+  goes = goes_on_in (element_at _) 8 _ _ _ _ _ c.loop-j-test.true (omega arith) c.in_ok-element.ensures c.loop-j.invariant.goes;
+  wide = length-set c.loop-j.row c.loop-j.j c.in_ok-element.element ∙ c.loop-j.invariant.wide;
+}
+
+pub returns : goal.returns
+returns g c = sym (ends_in (element_at _) 8 _ _ _ _ (omega arith) (omega arith) c.loop-j.invariant.goes)
