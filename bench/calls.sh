@@ -4,7 +4,7 @@
 bench=$(dirname "$0")
 case $1 in
 run | check)
-    for depth in 17 10000 100000; do
+    for depth in 26 10000 100000; do
         echo "depth $depth"
         DEPTH=$depth "$bench/$1.sh" calls || exit
     done

@@ -68,15 +68,17 @@ end
 END
 }
 
-# A loop of 20,000 calls, of 19 cycles a turn, on a stack of DEPTH cells, or of some 16.
+# A loop of 20,000 calls, of 19 cycles a turn, on a stack of some DEPTH cells, or of some 26.
 calls_source() {
     cat <<END
 proc.step
     swap neg swap
 end
 begin
-    repeat.$((${DEPTH:-17} - 16))
-        dup
+    repeat.10
+        repeat.$(((${DEPTH:-26} - 16) / 10))
+            dup
+        end
     end
     push.${TURNS:-20000}.1
     while.true
