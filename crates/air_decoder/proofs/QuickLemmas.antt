@@ -21,7 +21,7 @@ use Rattle.air_kit.proofs.FlagLemmas.{at_op, flag_apart, flags_of-hot, sum_of-ho
 use Rattle.air_kit.proofs.FaultLemmas.{first_append}
 use Rattle.air_kit.proofs.ZeroLemmas.{Zeros, no_fault, bit_zero}
 use Rattle.air_decoder.specs.Entries.{of_pair, spot_of}
-use Rattle.air_decoder.specs.Quick.{IsClean, IsFirstBatch, IsFrame, IsNextBatch, IsGoingOn, IsInner, IsOver, IsPlain, IsStep}
+use Rattle.air_decoder.specs.Quick.{HasNoBatch, IsClean, IsFirstBatch, IsFrame, IsNextBatch, IsGoingOn, IsInner, IsOutside, IsOver, IsPlain, IsStep}
 use Rattle.air_decoder.specs.Quick.IsOver.{opens, ends}
 use Rattle.air_decoder.proofs.FaultLemmas.{decoder_joined}
 
@@ -563,6 +563,20 @@ next_batch_clean x y op has is step batch =
       block = block_clean x y (batch_follow_clean x y 0 1 r step.outside step.inside) (shown_clean x y r.quiet) (next_kept_clean x y r step);
       span = span_clean x y batch (no_fault 107 (group_values (spot_of 0 x (Some y))) (no_group x y step.outside));
     }
+
+no_batch : (x : List ℕ) (op : Op) → HasOp x op → HasNoBatch op → batches (flag x) ≡ 0
+unfolding batches
+no_batch x op has apart =
+    rw (flag_apart x op ops.Span has (λ e. apart.not_span (sym e)), flag_apart x op ops.Respan has (λ e. apart.not_respan (sym e))) refl
+
+pub outside_clean : (x y : List ℕ) (op : Op) → HasOp x op → HasNoBatch op → IsOutside x y → first_fault_of 60 (block_values (spot_of 0 x (Some y))) ≡ None
+    → IsClean x y
+outside_clean x y op has apart step block = record {
+  opcode = λ n behind. opcode_clean n x y op has behind step.clock;
+  block = block;
+  span = span_clean x y (no_fault 92 (batch_values (spot_of 0 x (Some y))) (batch_clean x y (no_batch x op has apart)))
+      (no_fault 107 (group_values (spot_of 0 x (Some y))) (no_group x y step.outside));
+}
 
 -- The whole list of a row behind the first one.
 boundary_clean : (claim : Claim) (n : ℕ) (x y : List ℕ) → n ≢ 0 → first_fault_of 11 (boundary_values claim (spot_of n x (Some y))) ≡ None

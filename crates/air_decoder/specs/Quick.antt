@@ -1,4 +1,4 @@
--- What is tested of a row inside a span, or at the start of a batch. Its other entries are 0 because of its operation.
+-- What is tested of a row inside a span, at the start of a batch, or outside spans. Its other entries are 0 because of its operation.
 use Rattle.std.specs.Prelude.{◌≡◌, ◌≢◌, ℕ, ◌<◌, List, Option, Some, None}
 use Rattle.vm_field.specs.Signs.{◌⊞◌, ◌⊟◌, ◌⊠◌}
 use Rattle.vm_ops.specs.Codes.{code_of}
@@ -17,6 +17,11 @@ pub record IsPlain (op : Op) : Type 0 where
   pub ordinary : code_of op < 70
   pub not_caller : code_of op ≢ 9
   pub not_update : code_of op ≢ 49
+
+-- an operation that starts no batch
+pub record HasNoBatch (op : Op) : Type 0 where
+  pub not_span : code_of op ≢ 73
+  pub not_respan : code_of op ≢ 78
 
 -- the function that runs stays the same, with its context and its locals
 pub record IsFrame (x y : List ℕ) : Type 0 where
@@ -53,6 +58,11 @@ pub record IsStep (x y : List ℕ) : Type 0 where
   pub inside : sp x ≡ 1
   pub follows : 1 ⊟ sp y ⊟ flag y ops.End ⊟ flag y ops.Respan ≡ 0
   pub kept : IsKept x y
+
+-- a row outside spans and the one after it
+pub record IsOutside (x y : List ℕ) : Type 0 where
+  pub clock : clk y ⊟ clk x ⊟ 1 ≡ 0
+  pub outside : sp x ≡ 0
 
 -- a row of SPAN and the one after it
 pub record IsFirstBatch (x y : List ℕ) : Type 0 where

@@ -5,7 +5,7 @@ ghost use Rattle.air_kit.specs.Flags.{flag};
 ghost use Rattle.air_kit.specs.Places.{first_fault_of};
 ghost use Rattle.air_decoder.specs.Entries.{of_row, of_pair, spot_of};
 
-use air_kit::{OpSet, Seen, first_nonzero, or_next};
+use air_kit::{OpSet, Seen, first_nonzero, or_next, under};
 use vm_field::Felt;
 use vm_ops::Op;
 use vm_table::MainView;
@@ -39,7 +39,7 @@ fn calls<V: MainView>(x: &Seen<'_, V>) -> Felt
 fn returns<V: MainView>(x: &Seen<'_, V>) -> Felt
     ensures { result ≡ returns (flag (V.cells x.now.row.now)) (V.cells x.now.row.now) }
 {
-    x.one(Op::End) * (x.row.h(6) + x.row.h(7))
+    under(x.one(Op::End), x.row.h(6) + x.row.h(7))
 }
 
 // The row neither calls nor ends a call.
@@ -84,8 +84,8 @@ fn entry_62<V: MainView>(x: &Seen<'_, V>, y: &Seen<'_, V>) -> Felt
         + x.one(Op::Split)
         + calls(x)
         + x.one(Op::Repeat)
-        + x.one(Op::Loop) * x.row.s(0);
-    opens * (Felt::ONE - starts(y))
+        + under(x.one(Op::Loop), x.row.s(0));
+    under(opens, Felt::ONE - starts(y))
 }
 
 // A loop that is not entered ends.
@@ -93,7 +93,8 @@ fn entry_62<V: MainView>(x: &Seen<'_, V>, y: &Seen<'_, V>) -> Felt
 fn entry_63<V: MainView>(x: &Seen<'_, V>, y: &Seen<'_, V>) -> Felt
     ensures { result ≡ of_pair entry_63 (V.cells x.now.row.now) (V.cells y.now.row.now) }
 {
-    x.one(Op::Loop) * (Felt::ONE - x.row.s(0)) * (Felt::ONE - y.one(Op::End))
+    let skips = under(x.one(Op::Loop), Felt::ONE - x.row.s(0));
+    under(skips, Felt::ONE - y.one(Op::End))
 }
 
 // A batch begins with an operation.
@@ -101,7 +102,7 @@ fn entry_63<V: MainView>(x: &Seen<'_, V>, y: &Seen<'_, V>) -> Felt
 fn entry_64<V: MainView>(x: &Seen<'_, V>, y: &Seen<'_, V>) -> Felt
     ensures { result ≡ of_pair entry_64 (V.cells x.now.row.now) (V.cells y.now.row.now) }
 {
-    batches(x) * (Felt::ONE - y.row.sp())
+    under(batches(x), Felt::ONE - y.row.sp())
 }
 
 // Behind an operation comes another one, the span's end, or its next batch.
@@ -109,7 +110,8 @@ fn entry_64<V: MainView>(x: &Seen<'_, V>, y: &Seen<'_, V>) -> Felt
 fn entry_65<V: MainView>(x: &Seen<'_, V>, y: &Seen<'_, V>) -> Felt
     ensures { result ≡ of_pair entry_65 (V.cells x.now.row.now) (V.cells y.now.row.now) }
 {
-    x.row.sp() * (Felt::ONE - y.row.sp() - y.one(Op::End) - y.one(Op::Respan))
+    let follows = Felt::ONE - y.row.sp() - y.one(Op::End) - y.one(Op::Respan);
+    under(x.row.sp(), follows)
 }
 
 // Behind an end comes a start, another end, REPEAT or HALT.
@@ -117,7 +119,8 @@ fn entry_65<V: MainView>(x: &Seen<'_, V>, y: &Seen<'_, V>) -> Felt
 fn entry_66<V: MainView>(x: &Seen<'_, V>, y: &Seen<'_, V>) -> Felt
     ensures { result ≡ of_pair entry_66 (V.cells x.now.row.now) (V.cells y.now.row.now) }
 {
-    x.one(Op::End) * (Felt::ONE - starts(y) - y.one(Op::End) - y.one(Op::Repeat) - y.one(Op::Halt))
+    let follows = Felt::ONE - starts(y) - y.one(Op::End) - y.one(Op::Repeat) - y.one(Op::Halt);
+    under(x.one(Op::End), follows)
 }
 
 // A condition is 0 or 1.
@@ -125,7 +128,8 @@ fn entry_66<V: MainView>(x: &Seen<'_, V>, y: &Seen<'_, V>) -> Felt
 fn entry_67<V: MainView>(x: &Seen<'_, V>) -> Felt
     ensures { result ≡ of_row entry_67 (V.cells x.now.row.now) }
 {
-    (x.one(Op::Split) + x.one(Op::Loop)) * x.row.s(0) * (x.row.s(0) - Felt::ONE)
+    let condition = under(x.one(Op::Split) + x.one(Op::Loop), x.row.s(0));
+    under(condition, x.row.s(0) - Felt::ONE)
 }
 
 // A loop goes on where its condition is 1.
@@ -133,7 +137,7 @@ fn entry_67<V: MainView>(x: &Seen<'_, V>) -> Felt
 fn entry_68<V: MainView>(x: &Seen<'_, V>) -> Felt
     ensures { result ≡ of_row entry_68 (V.cells x.now.row.now) }
 {
-    x.one(Op::Repeat) * (x.row.s(0) - Felt::ONE)
+    under(x.one(Op::Repeat), x.row.s(0) - Felt::ONE)
 }
 
 // And ends where it is 0.
@@ -141,7 +145,7 @@ fn entry_68<V: MainView>(x: &Seen<'_, V>) -> Felt
 fn entry_69<V: MainView>(x: &Seen<'_, V>) -> Felt
     ensures { result ≡ of_row entry_69 (V.cells x.now.row.now) }
 {
-    x.one(Op::End) * x.row.h(4) * x.row.s(0)
+    under(under(x.one(Op::End), x.row.h(4)), x.row.s(0))
 }
 
 // 70 to 73: at an END the hash elements 4 to 7 are flags.
@@ -150,7 +154,8 @@ fn entry_70<V: MainView>(j: usize, x: &Seen<'_, V>) -> Felt
     requires { j < 4 }
     ensures { result ≡ of_row (entry_70 j) (V.cells x.now.row.now) }
 {
-    x.one(Op::End) * x.row.h(4 + j) * (x.row.h(4 + j) - Felt::ONE)
+    let bit = x.row.h(4 + j);
+    under(under(x.one(Op::End), bit), bit - Felt::ONE)
 }
 
 // Of which at most one is 1.
@@ -158,7 +163,8 @@ fn entry_70<V: MainView>(j: usize, x: &Seen<'_, V>) -> Felt
 fn entry_74<V: MainView>(x: &Seen<'_, V>) -> Felt
     ensures { result ≡ of_row entry_74 (V.cells x.now.row.now) }
 {
-    x.one(Op::End) * kind_flags(x) * (kind_flags(x) - Felt::ONE)
+    let kinds = kind_flags(x);
+    under(under(x.one(Op::End), kinds), kinds - Felt::ONE)
 }
 
 // 75 to 78: behind a single child's digest stand zeros.
@@ -167,7 +173,7 @@ fn entry_75<V: MainView>(j: usize, x: &Seen<'_, V>) -> Felt
     requires { j < 4 }
     ensures { result ≡ of_row (entry_75 j) (V.cells x.now.row.now) }
 {
-    (x.one(Op::Loop) + calls(x)) * x.row.h(4 + j)
+    under(x.one(Op::Loop) + calls(x), x.row.h(4 + j))
 }
 
 // No call inside a syscall.
@@ -175,7 +181,7 @@ fn entry_75<V: MainView>(j: usize, x: &Seen<'_, V>) -> Felt
 fn entry_79<V: MainView>(x: &Seen<'_, V>) -> Felt
     ensures { result ≡ of_row entry_79 (V.cells x.now.row.now) }
 {
-    calls(x) * x.row.sys()
+    under(calls(x), x.row.sys())
 }
 
 // CALLER inside a syscall alone.
@@ -183,7 +189,7 @@ fn entry_79<V: MainView>(x: &Seen<'_, V>) -> Felt
 fn entry_80<V: MainView>(x: &Seen<'_, V>) -> Felt
     ensures { result ≡ of_row entry_80 (V.cells x.now.row.now) }
 {
-    x.one(Op::Caller) * (Felt::ONE - x.row.sys())
+    under(x.one(Op::Caller), Felt::ONE - x.row.sys())
 }
 
 // At HALT no block is open.
@@ -191,7 +197,7 @@ fn entry_80<V: MainView>(x: &Seen<'_, V>) -> Felt
 fn entry_81<V: MainView>(x: &Seen<'_, V>) -> Felt
     ensures { result ≡ of_row entry_81 (V.cells x.now.row.now) }
 {
-    x.one(Op::Halt) * x.row.addr()
+    under(x.one(Op::Halt), x.row.addr())
 }
 
 // A call's context is its clock and one, a syscall's is 0.
@@ -199,9 +205,9 @@ fn entry_81<V: MainView>(x: &Seen<'_, V>) -> Felt
 fn entry_82<V: MainView>(x: &Seen<'_, V>, y: &Seen<'_, V>) -> Felt
     ensures { result ≡ of_pair entry_82 (V.cells x.now.row.now) (V.cells y.now.row.now) }
 {
-    x.one(Op::Call) * (y.row.ctx() - x.row.clk() - Felt::ONE)
-        + x.one(Op::Syscall) * y.row.ctx()
-        + stays_inside(x) * (y.row.ctx() - x.row.ctx())
+    under(x.one(Op::Call), y.row.ctx() - x.row.clk() - Felt::ONE)
+        + under(x.one(Op::Syscall), y.row.ctx())
+        + under(stays_inside(x), y.row.ctx() - x.row.ctx())
 }
 
 // The frame pointer starts at 2^30 in a call, at 2^31 in a syscall, and moves at FMPUPDATE alone.
@@ -209,10 +215,11 @@ fn entry_82<V: MainView>(x: &Seen<'_, V>, y: &Seen<'_, V>) -> Felt
 fn entry_83<V: MainView>(x: &Seen<'_, V>, y: &Seen<'_, V>) -> Felt
     ensures { result ≡ of_pair entry_83 (V.cells x.now.row.now) (V.cells y.now.row.now) }
 {
-    x.one(Op::Call) * (y.row.fmp() - Felt::from_u32(1 << 30))
-        + x.one(Op::Syscall) * (y.row.fmp() - Felt::from_u32(1 << 31))
-        + x.one(Op::FmpUpdate) * (y.row.fmp() - x.row.fmp() - x.row.s(0))
-        + (stays_inside(x) - x.one(Op::FmpUpdate)) * (y.row.fmp() - x.row.fmp())
+    let kept = stays_inside(x) - x.one(Op::FmpUpdate);
+    under(x.one(Op::Call), y.row.fmp() - Felt::from_u32(1 << 30))
+        + under(x.one(Op::Syscall), y.row.fmp() - Felt::from_u32(1 << 31))
+        + under(x.one(Op::FmpUpdate), y.row.fmp() - x.row.fmp() - x.row.s(0))
+        + under(kept, y.row.fmp() - x.row.fmp())
 }
 
 // The bit of a syscall.
@@ -220,9 +227,9 @@ fn entry_83<V: MainView>(x: &Seen<'_, V>, y: &Seen<'_, V>) -> Felt
 fn entry_84<V: MainView>(x: &Seen<'_, V>, y: &Seen<'_, V>) -> Felt
     ensures { result ≡ of_pair entry_84 (V.cells x.now.row.now) (V.cells y.now.row.now) }
 {
-    x.one(Op::Call) * y.row.sys()
-        + x.one(Op::Syscall) * (y.row.sys() - Felt::ONE)
-        + stays_inside(x) * (y.row.sys() - x.row.sys())
+    under(x.one(Op::Call), y.row.sys())
+        + under(x.one(Op::Syscall), y.row.sys() - Felt::ONE)
+        + under(stays_inside(x), y.row.sys() - x.row.sys())
 }
 
 // 85 to 88: a call's function is its child; a syscall keeps the caller's.
@@ -231,8 +238,8 @@ fn entry_85<V: MainView>(j: usize, x: &Seen<'_, V>, y: &Seen<'_, V>) -> Felt
     requires { j < 4 }
     ensures { result ≡ of_pair (entry_85 j) (V.cells x.now.row.now) (V.cells y.now.row.now) }
 {
-    x.one(Op::Call) * (y.row.f(j) - x.row.h(j))
-        + (Felt::ONE - x.one(Op::Call) - returns(x)) * (y.row.f(j) - x.row.f(j))
+    let kept = Felt::ONE - x.one(Op::Call) - returns(x);
+    under(x.one(Op::Call), y.row.f(j) - x.row.h(j)) + under(kept, y.row.f(j) - x.row.f(j))
 }
 
 // The block stays the same but at starts and ends.
@@ -240,7 +247,8 @@ fn entry_85<V: MainView>(j: usize, x: &Seen<'_, V>, y: &Seen<'_, V>) -> Felt
 fn entry_89<V: MainView>(x: &Seen<'_, V>, y: &Seen<'_, V>) -> Felt
     ensures { result ≡ of_pair entry_89 (V.cells x.now.row.now) (V.cells y.now.row.now) }
 {
-    (Felt::ONE - starts(x) - x.one(Op::End)) * (y.row.addr() - x.row.addr())
+    let kept = Felt::ONE - starts(x) - x.one(Op::End);
+    under(kept, y.row.addr() - x.row.addr())
 }
 
 // The open blocks are counted.
@@ -256,9 +264,12 @@ fn entry_90<V: MainView>(x: &Seen<'_, V>, y: &Seen<'_, V>) -> Felt
 fn entry_91<V: MainView>(x: &Seen<'_, V>, y: &Seen<'_, V>) -> Felt
     ensures { result ≡ of_pair entry_91 (V.cells x.now.row.now) (V.cells y.now.row.now) }
 {
-    x.one(Op::Span) * (y.row.ha() - y.row.addr())
-        + x.one(Op::Respan) * (y.row.ha() - x.row.ha() - Felt::from_u32(8))
-        + x.row.sp() * (y.row.ha() - x.row.ha())
+    under(x.one(Op::Span), y.row.ha() - y.row.addr())
+        + under(
+            x.one(Op::Respan),
+            y.row.ha() - x.row.ha() - Felt::from_u32(8),
+        )
+        + under(x.row.sp(), y.row.ha() - x.row.ha())
 }
 
 /// The first of entries 60 to 69 that is not 0.

@@ -1,22 +1,25 @@
-//! A quick test of rows inside a span and at the start of a batch: only a few of their entries can be other than 0.
+//! A quick test of rows: only a few of their entries can be other than 0 inside a span and at the start of a batch, and at other
+//! rows of blocks those of batches and groups cannot.
 ghost use Rattle.std.specs.Prelude.{◌≡◌, ◌<◌, IsTrue, Some, None, option_map};
 ghost use Rattle.vm_field.specs.Signs.{◌⊟◌};
 ghost use Rattle.vm_ops.specs.declared.op.Op.TheVariants as ops;
 ghost use Rattle.vm_table.specs.MainColumns.{ox, sp};
 ghost use Rattle.air_kit.specs.Flags.{HasOp, flag};
 ghost use Rattle.air_kit.specs.Places.{first_fault_of};
+ghost use Rattle.air_kit.specs.BlockValues.{block_values};
 ghost use Rattle.air_kit.specs.SpanValues.{batch_values, group_values, rest};
 ghost use Rattle.air_decoder.specs.Entries.{spot_of};
-ghost use Rattle.air_decoder.specs.Quick.{IsClean, IsFirstBatch, IsFrame, IsGoingOn, IsInner, IsKept, IsNextBatch, IsOver, IsPlain, IsStep};
+ghost use Rattle.air_decoder.specs.Quick.{IsClean, IsFirstBatch, HasNoBatch, IsFrame, IsGoingOn, IsInner, IsKept, IsNextBatch, IsOutside, IsOver, IsPlain, IsStep};
 
+use crate::blocks::block_faults;
 use crate::spans::batch_faults;
 use air_kit::{Seen, are_same, is_one, is_zero};
 use vm_field::Felt;
 use vm_ops::{Op, opcode};
 use vm_table::MainView;
 
-/// Whether a row is neither the first nor the last one, shows an operation of a span or starts a batch, and its entries 1 to 114 are 0. Where the
-/// answer is false, they may be 0 all the same.
+/// Whether a row is neither the first nor the last one, shows an operation, and its entries 1 to 114 are 0. Where the answer is
+/// false, they may be 0 all the same.
 pub(crate) fn is_inner<V: MainView>(row: u32, x: &Seen<'_, V>, next: &Option<V>) -> bool
     ensures { IsTrue result → IsInner row (V.cells x.now.row.now) (option_map V.cells next.now) }
 {
@@ -37,6 +40,9 @@ fn is_clean<V: MainView>(x: &Seen<'_, V>, y: &V) -> bool
             return is_group_clean(x, y, op);
         }
         return false;
+    }
+    if has_no_batch(op) {
+        return is_block_clean(x, y, op);
     }
     is_batch_clean(x, y, op)
 }
@@ -117,6 +123,43 @@ fn is_batch_clean<V: MainView>(x: &Seen<'_, V>, y: &V, op: Op) -> bool
         if is_next_batch(x.row, y) {
             return has_batch(x, y);
         }
+    }
+    false
+}
+
+// Whether an operation starts no batch.
+fn has_no_batch(op: Op) -> bool
+    ensures { IsTrue result → HasNoBatch op }
+{
+    let code = opcode(op);
+    code != 73 && code != 78
+}
+
+fn is_outside<V: MainView>(x: &V, y: &V) -> bool
+    ensures { IsTrue result → IsOutside (V.cells x.now) (V.cells y.now) }
+{
+    is_zero(y.clk() - x.clk() - Felt::ONE) && is_zero(x.sp())
+}
+
+// Whether a block's row shows what it has to, and the next row what is kept.
+fn has_block<V: MainView>(x: &Seen<'_, V>, y: &V) -> bool
+    ensures { IsTrue result → first_fault_of 60 (block_values (spot_of 0 (V.cells x.now.row.now) (Some (V.cells y.now)))) ≡ None }
+{
+    let next = Some(Seen::of(y));
+    match block_faults(x, &next) {
+        Some(_) => false,
+        None => true,
+    }
+}
+
+// Outside spans, where the operation starts no batch either.
+fn is_block_clean<V: MainView>(x: &Seen<'_, V>, y: &V, op: Op) -> bool
+    requires has { HasOp (V.cells x.now.row.now) op }
+    requires no_batch { HasNoBatch op }
+    ensures { IsTrue result → IsClean (V.cells x.now.row.now) (V.cells y.now) }
+{
+    if is_outside(x.row, y) {
+        return has_block(x, y);
     }
     false
 }

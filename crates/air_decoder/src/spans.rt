@@ -6,7 +6,7 @@ ghost use Rattle.air_kit.specs.Places.{first_fault_of};
 ghost use Rattle.air_decoder.specs.Entries.{of_row, of_pair, spot_of};
 
 use crate::blocks::batches;
-use air_kit::{Seen, first_nonzero, or_next};
+use air_kit::{Seen, first_nonzero, or_next, under};
 use vm_field::Felt;
 use vm_ops::Op;
 use vm_table::MainView;
@@ -77,7 +77,7 @@ fn entry_92<V: MainView>(j: usize, x: &Seen<'_, V>) -> Felt
     requires { j < 3 }
     ensures { result ≡ of_row (entry_92 j) (V.cells x.now.row.now) }
 {
-    batches(x) * x.row.c(j) * (x.row.c(j) - Felt::ONE)
+    under(under(batches(x), x.row.c(j)), x.row.c(j) - Felt::ONE)
 }
 
 // And at most one is 1.
@@ -85,7 +85,7 @@ fn entry_92<V: MainView>(j: usize, x: &Seen<'_, V>) -> Felt
 fn entry_95<V: MainView>(x: &Seen<'_, V>) -> Felt
     ensures { result ≡ of_row entry_95 (V.cells x.now.row.now) }
 {
-    batches(x) * size_flags(x) * (size_flags(x) - Felt::ONE)
+    under(under(batches(x), size_flags(x)), size_flags(x) - Felt::ONE)
 }
 
 // 96 to 102: a position that is not in use is 0.
@@ -94,7 +94,7 @@ fn entry_96<V: MainView>(j: usize, x: &Seen<'_, V>) -> Felt
     requires { j < 7 }
     ensures { result ≡ of_row (entry_96 j) (V.cells x.now.row.now) }
 {
-    batches(x) * unused(j + 1, x) * x.row.h(j + 1)
+    under(under(batches(x), unused(j + 1, x)), x.row.h(j + 1))
 }
 
 // One of the positions that a smaller count would leave out is not 0: no more are in use than need be.
@@ -115,7 +115,7 @@ fn entry_103<V: MainView>(x: &Seen<'_, V>) -> Felt
 fn entry_104<V: MainView>(x: &Seen<'_, V>, y: &Seen<'_, V>) -> Felt
     ensures { result ≡ of_pair entry_104 (V.cells x.now.row.now) (V.cells y.now.row.now) }
 {
-    batches(x) * (y.row.h(0) - x.row.h(0))
+    under(batches(x), y.row.h(0) - x.row.h(0))
 }
 
 // All other positions are left.
@@ -132,7 +132,7 @@ fn entry_105<V: MainView>(x: &Seen<'_, V>, y: &Seen<'_, V>) -> Felt
 fn entry_106<V: MainView>(x: &Seen<'_, V>, y: &Seen<'_, V>) -> Felt
     ensures { result ≡ of_pair entry_106 (V.cells x.now.row.now) (V.cells y.now.row.now) }
 {
-    batches(x) * y.row.ox()
+    under(batches(x), y.row.ox())
 }
 
 // Where something is left of the group, the flag is 1.

@@ -1,10 +1,10 @@
 -- A row whose depth, key and cells move as its operation moves them has no fault among them.
-use Rattle.std.proofs.Common.{◌≡◌, ◌≢◌, ℕ, ◌+◌, ◌-◌, ◌%◌, ◌<◌, ◌≤◌, Bool, true, false, ◌&&◌, cond, eqb, nat_lt, List, Option, Some, None, refl, sym, ap, subst, ◌∙◌, inl, inr, arith, zero-mul}
+use Rattle.std.proofs.Common.{◌≡◌, ◌≢◌, ℕ, ◌+◌, ◌-◌, ◌%◌, ◌<◌, ◌≤◌, Bool, true, false, ◌&&◌, cond, eqb, nat_lt, List, get_or, length, map, All, Option, Some, None, refl, sym, ap, subst, ◌∙◌, inl, inr, arith, zero-mul}
 use Rattle.std.proofs.lemmas.Bool.{cases_Bool, eqb-true}
 use Rattle.std.proofs.lemmas.Bool.Decides.{nat_tests}
 use Rattle.vm_field.specs.Field.{prime, felt_sub, felt_mul}
 use Rattle.vm_ops.specs.Codes.{code_of}
-use Rattle.vm_ops.specs.Moves.{leaves_of, shift_of, takes_of}
+use Rattle.vm_ops.specs.Moves.{leaves_of, shift_of, sources_of, takes_of}
 use Rattle.vm_ops.specs.declared.op.Op.{Op}
 use Rattle.vm_ops.specs.declared.op.Op.TheVariants as ops
 use Rattle.vm_ops.specs.declared.op.Shift.{Shift}
@@ -14,12 +14,13 @@ use Rattle.vm_table.specs.MainColumns.{depth, s}
 use Rattle.air_kit.specs.BlockValues.{calls, returns}
 use Rattle.air_kit.specs.Flags.{Flags, HasOp, flag, flags_of, is_left, is_op, is_right, is_shift, sum_over}
 use Rattle.air_kit.specs.Places.{Spot, first_fault_of, on_pair}
-use Rattle.air_kit.specs.StackValues.{below_term, cell_values, deeper, depth_values, entry_115, entry_116, entry_117, entry_118, entry_119, keeps_depth, operand_values, shifts_left, shifts_right, stack_values, term, top_term}
+use Rattle.air_kit.specs.StackValues.{below_term, cell_values, cells, deeper, depth_values, entry_115, entry_116, entry_117, entry_118, entry_119, keeps_depth, operand_values, shifts_left, shifts_right, stack_values, term, top_term}
 use Rattle.air_kit.proofs.FlagLemmas.{at_op, flag_apart, flags_of-hot, sum_over-hot}
 use Rattle.air_kit.proofs.ZeroLemmas.{Zeros, no_fault, zeros_family}
 use Rattle.air_stack.specs.Parts.{spot_of}
 use Rattle.air_stack.proofs.PartLemmas.{answer_joins}
-use Rattle.air_stack.specs.Quick.{ComeUp, Falls, GoDown, IsMoved, IsSteady, Rises, Shifts, StayLevel, Stays}
+use Rattle.air_stack.proofs.TermLemmas.{copied_term, moved_at}
+use Rattle.air_stack.specs.Quick.{AreCopies, ComeUp, Falls, GoDown, IsMoved, IsSteady, Rises, Shifts, StayLevel, Stays}
 
 -- The flags that the entries of the depth and the key read.
 record DepthFlags (fl : Flags) (left right : ℕ) : Type 0 where
@@ -183,6 +184,17 @@ right_clean x y op is down j low from =
     (λ other. (let more : leaves_of op ≡ takes_of op + 1 = by_one op Right is in
     let place : j - 1 ≡ j + takes_of op - leaves_of op = omega (arith, more, from) in
     subst (λ k. felt_sub (s y j) (s x k) ≡ 0) place (down j from low)))
+
+-- the cells that a move leaves
+pub copies_clean : (x y : List ℕ) (op : Op) (sources : List ℕ) (left : ℕ) → sources ≡ sources_of op → left ≡ leaves_of op → length sources ≡ left
+    → All (λ i. i < 16) sources → AreCopies sources x y → (j : ℕ) → j < leaves_of op → top_term j x y op ≡ 0
+copies_clean x y op sources left is many same visible copies j low =
+    let all : length (sources_of op) ≡ leaves_of op = ap length (sym is) ∙ same ∙ many in
+    let inside : j < length sources = omega (arith, low, same, many) in
+    copied_term j x y op all
+    ∙ ap (λ list. felt_sub (s y j) (get_or (map (λ k. get_or (cells x) k 0) list) j 0)) (sym is)
+    ∙ ap (felt_sub (s y j)) (sym (moved_at sources x j visible inside))
+    ∙ copies j inside
 
 pub right_leaves : (op : Op) → shift_of op ≡ Right → 1 ≤ leaves_of op
 right_leaves op is = let more : leaves_of op ≡ takes_of op + 1 = by_one op Right is in omega (arith, more)

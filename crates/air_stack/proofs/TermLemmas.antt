@@ -5,7 +5,7 @@ use Rattle.std.proofs.lemmas.Bool.Decides.{nat_tests}
 use Rattle.std.specs.List.{All}
 use Rattle.vm_field.specs.Field.{prime, felt_sub}
 use Rattle.vm_ops.specs.declared.op.Op.{Op}
-use Rattle.vm_ops.specs.declared.op.Op.TheVariants.{Noop, Eqz, Eq, Inv, CSwap, CSwapW, Neg, Incr, Not, FmpAdd, Caller, Add, Mul, And, Or, Pad, SDepth, Clk}
+use Rattle.vm_ops.specs.declared.op.Op.TheVariants.{Noop, Push, AdvPop, AdvPopW, MLoad, MLoadW, HPerm, U32And, U32Xor, U32Split, U32Add, U32Sub, U32Mul, U32Div, U32Add3, U32MAdd, Eqz, Eq, Inv, CSwap, CSwapW, Neg, Incr, Not, FmpAdd, Caller, Add, Mul, And, Or, Pad, SDepth, Clk}
 use Rattle.vm_ops.specs.Moves.{takes_of, leaves_of, sources_of}
 use Rattle.vm_ops.specs.Step.{left_cells}
 use Rattle.vm_ops.specs.Values.{computed}
@@ -57,6 +57,44 @@ moved_term j x y Pad n0 n1 n2 n3 n4 n5 n6 n7 n8 n9 n10 n11 n12 n13 n14 n15 n16 =
 moved_term j x y SDepth n0 n1 n2 n3 n4 n5 n6 n7 n8 n9 n10 n11 n12 n13 n14 n15 n16 = absurd (n15 refl)
 moved_term j x y Clk n0 n1 n2 n3 n4 n5 n6 n7 n8 n9 n10 n11 n12 n13 n14 n15 n16 = absurd (n16 refl)
 moved_term j x y op n0 n1 n2 n3 n4 n5 n6 n7 n8 n9 n10 n11 n12 n13 n14 n15 n16 = refl
+
+-- an operation that leaves as many cells as it has sources leaves copies of them, and computes nothing
+pub copied_term : (j : ℕ) (x y : List ℕ) (op : Op) → length (sources_of op) ≡ leaves_of op
+    → top_term j x y op ≡ felt_sub (s y j) (get_or (map (λ k. get_or (cells x) k 0) (sources_of op)) j 0)
+unfolding top_term left_value left_cells computed seen_of
+copied_term j x y Eqz is = absurd (omega (arith, is))
+copied_term j x y Eq is = absurd (omega (arith, is))
+copied_term j x y Inv is = absurd (omega (arith, is))
+copied_term j x y CSwap is = absurd (omega (arith, is))
+copied_term j x y CSwapW is = absurd (omega (arith, is))
+copied_term j x y Neg is = absurd (omega (arith, is))
+copied_term j x y Incr is = absurd (omega (arith, is))
+copied_term j x y Not is = absurd (omega (arith, is))
+copied_term j x y FmpAdd is = absurd (omega (arith, is))
+copied_term j x y Caller is = absurd (omega (arith, is))
+copied_term j x y Add is = absurd (omega (arith, is))
+copied_term j x y Mul is = absurd (omega (arith, is))
+copied_term j x y And is = absurd (omega (arith, is))
+copied_term j x y Or is = absurd (omega (arith, is))
+copied_term j x y Pad is = absurd (omega (arith, is))
+copied_term j x y SDepth is = absurd (omega (arith, is))
+copied_term j x y Clk is = absurd (omega (arith, is))
+copied_term j x y Push is = absurd (omega (arith, is))
+copied_term j x y AdvPop is = absurd (omega (arith, is))
+copied_term j x y AdvPopW is = absurd (omega (arith, is))
+copied_term j x y MLoad is = absurd (omega (arith, is))
+copied_term j x y MLoadW is = absurd (omega (arith, is))
+copied_term j x y HPerm is = absurd (omega (arith, is))
+copied_term j x y U32And is = absurd (omega (arith, is))
+copied_term j x y U32Xor is = absurd (omega (arith, is))
+copied_term j x y U32Split is = absurd (omega (arith, is))
+copied_term j x y U32Add is = absurd (omega (arith, is))
+copied_term j x y U32Sub is = absurd (omega (arith, is))
+copied_term j x y U32Mul is = absurd (omega (arith, is))
+copied_term j x y U32Div is = absurd (omega (arith, is))
+copied_term j x y U32Add3 is = absurd (omega (arith, is))
+copied_term j x y U32MAdd is = absurd (omega (arith, is))
+copied_term j x y op is = refl
 
 -- no shift is by more than one cell
 nearly : (op : Op) → takes_of op ≤ leaves_of op + 1

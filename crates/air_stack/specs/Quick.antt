@@ -1,6 +1,6 @@
 -- What is tested of the stack in a row and the one after it, where the row's operation neither calls nor ends a block. All other
 -- entries of the stack's depth, key and cells are then 0.
-use Rattle.std.specs.Prelude.{◌≡◌, ◌≢◌, ℕ, ◌+◌, ◌-◌, ◌<◌, ◌≤◌, List, Option, None}
+use Rattle.std.specs.Prelude.{◌≡◌, ◌≢◌, ℕ, ◌+◌, ◌-◌, ◌<◌, ◌≤◌, List, length, slice_index, Option, None}
 use Rattle.vm_field.specs.Signs.{◌⊞◌, ◌⊟◌, ◌⊠◌}
 use Rattle.vm_ops.specs.Codes.{code_of}
 use Rattle.vm_ops.specs.declared.op.Op.{Op}
@@ -40,6 +40,10 @@ Shifts Right = Rises
 -- from a place on, a row's cells are those one place lower, at the same place, or one place higher in the row before
 abbrev pub ComeUp : ℕ → List ℕ → List ℕ → Type 0
 ComeUp from x y = (j : ℕ) → from ≤ j → j < 15 → s y j ⊟ s x (j + 1) ≡ 0
+
+-- the cells on top are copies of these
+abbrev pub AreCopies : List ℕ → List ℕ → List ℕ → Type 0
+AreCopies sources x y = (j : ℕ) → j < length sources → s y j ⊟ s x (slice_index sources j) ≡ 0
 
 abbrev pub StayLevel : ℕ → List ℕ → List ℕ → Type 0
 StayLevel from x y = (j : ℕ) → from ≤ j → j < 16 → s y j ⊟ s x j ≡ 0

@@ -5,7 +5,7 @@ ghost use Rattle.air_kit.specs.Places.{between, first_fault_of};
 ghost use Rattle.air_kit.specs.StackValues.{deeper, shifts_left, shifts_right, keeps_depth, entry_115, entry_116, entry_117, entry_118, depth_values};
 ghost use Rattle.air_stack.specs.Parts.{spot_of};
 
-use air_kit::{OpSet, Seen, first_nonzero};
+use air_kit::{OpSet, Seen, first_nonzero, under};
 use vm_field::Felt;
 use vm_ops::Op;
 use vm_table::MainView;
@@ -29,7 +29,7 @@ pub(crate) fn depth_fault<V: MainView>(x: &Seen<'_, V>, next: &Option<V>) -> Opt
 pub(crate) fn deeper<V: MainView>(x: &V) -> Felt
     ensures { result ≡ deeper (V.cells x.now) }
 {
-    (x.depth() - Felt::from_u32(16)) * x.inv()
+    under(x.depth() - Felt::from_u32(16), x.inv())
 }
 
 // The row calls.
@@ -45,7 +45,7 @@ fn calls<V: MainView>(x: &Seen<'_, V>) -> Felt
 fn returns<V: MainView>(x: &Seen<'_, V>) -> Felt
     ensures { result ≡ returns (flag (V.cells x.now.row.now)) (V.cells x.now.row.now) }
 {
-    x.one(Op::End) * (x.row.h6() + x.row.h7())
+    under(x.one(Op::End), x.row.h6() + x.row.h7())
 }
 
 // The stack has one cell fewer behind the row.
@@ -53,7 +53,7 @@ fn returns<V: MainView>(x: &Seen<'_, V>) -> Felt
 fn shifts_left<V: MainView>(x: &Seen<'_, V>) -> Felt
     ensures { result ≡ shifts_left (flag (V.cells x.now.row.now)) (V.cells x.now.row.now) }
 {
-    x.sum(OpSet::Left) + x.one(Op::End) * x.row.h4()
+    x.sum(OpSet::Left) + under(x.one(Op::End), x.row.h4())
 }
 
 // It has one more.
@@ -77,7 +77,10 @@ fn keeps_depth<V: MainView>(x: &Seen<'_, V>) -> Felt
 fn entry_115<V: MainView>(x: &Seen<'_, V>) -> Felt
     ensures { result ≡ entry_115 (flag (V.cells x.now.row.now)) (V.cells x.now.row.now) }
 {
-    (x.row.depth() - Felt::from_u32(16)) * (Felt::ONE - deeper(x.row))
+    under(
+        x.row.depth() - Felt::from_u32(16),
+        Felt::ONE - deeper(x.row),
+    )
 }
 
 // The depth.
@@ -89,10 +92,10 @@ fn entry_116<V: MainView>(x: &Seen<'_, V>, next: &Option<V>) -> Felt
         return Felt::ZERO;
     };
     let (before, after) = (x.row.depth(), y.depth());
-    shifts_right(x) * (after - before - Felt::ONE)
-        + shifts_left(x) * (after - before + deeper(x.row))
-        + calls(x) * (after - Felt::from_u32(16))
-        + keeps_depth(x) * (after - before)
+    under(shifts_right(x), after - before - Felt::ONE)
+        + under(shifts_left(x), after - before + deeper(x.row))
+        + under(calls(x), after - Felt::from_u32(16))
+        + under(keeps_depth(x), after - before)
 }
 
 // A call ends at depth sixteen.
@@ -100,7 +103,7 @@ fn entry_116<V: MainView>(x: &Seen<'_, V>, next: &Option<V>) -> Felt
 fn entry_117<V: MainView>(x: &Seen<'_, V>) -> Felt
     ensures { result ≡ entry_117 (flag (V.cells x.now.row.now)) (V.cells x.now.row.now) }
 {
-    returns(x) * (x.row.depth() - Felt::from_u32(16))
+    under(returns(x), x.row.depth() - Felt::from_u32(16))
 }
 
 // The key of the first cell below the sixteenth.
@@ -112,8 +115,9 @@ fn entry_118<V: MainView>(x: &Seen<'_, V>, next: &Option<V>) -> Felt
         return Felt::ZERO;
     };
     let (before, after) = (x.row.key(), y.key());
-    shifts_right(x) * (after - x.row.clk())
-        + shifts_left(x) * (Felt::ONE - deeper(x.row)) * (after - before)
-        + calls(x) * after
-        + keeps_depth(x) * (after - before)
+    let lowest = under(shifts_left(x), Felt::ONE - deeper(x.row));
+    under(shifts_right(x), after - x.row.clk())
+        + under(lowest, after - before)
+        + under(calls(x), after)
+        + under(keeps_depth(x), after - before)
 }

@@ -1,5 +1,5 @@
 //! A quick test of the depth, the key and the cells behind a row whose operation neither calls nor ends a block.
-ghost use Rattle.std.specs.Prelude.{◌≡◌, ℕ, ◌<◌, ◌≤◌, ◌^◌, Some, None, IsTrue, option_map};
+ghost use Rattle.std.specs.Prelude.{◌≡◌, ℕ, ◌<◌, ◌≤◌, ◌^◌, Some, None, All, IsTrue, length, option_map};
 ghost use Rattle.vm_field.specs.Signs.{◌⊟◌, ◌⊠◌};
 ghost use Rattle.vm_ops.specs.Moves.{leaves_of, shift_of};
 ghost use Rattle.vm_table.specs.MainColumns.{depth};
@@ -7,13 +7,13 @@ ghost use Rattle.air_kit.specs.Flags.{HasOp};
 ghost use Rattle.air_kit.specs.Places.{first_fault_of};
 ghost use Rattle.air_kit.specs.StackValues.{below_term, cell_values, deeper, depth_values, top_term};
 ghost use Rattle.air_stack.specs.Parts.{spot_of};
-ghost use Rattle.air_stack.specs.Quick.{ComeUp, Falls, GoDown, IsMoved, IsSteady, Rises, Shifts, StayLevel, Stays};
+ghost use Rattle.air_stack.specs.Quick.{AreCopies, ComeUp, Falls, GoDown, IsMoved, IsSteady, Rises, Shifts, StayLevel, Stays};
 
 use crate::depth::deeper;
 use crate::moves::top_term;
-use air_kit::{Seen, are_same, is_one, is_zero};
+use air_kit::{Seen, are_same, is_one, is_zero, under};
 use vm_field::Felt;
-use vm_ops::{Op, Shift, leaves, opcode, shift};
+use vm_ops::{Op, Shift, leaves, opcode, shift, sources};
 use vm_table::MainView;
 
 /// Whether a row is not the last one, its operation neither calls nor ends a block, and its entries 115 to 134 are 0. Where the
@@ -28,8 +28,9 @@ pub(crate) fn is_moved<V: MainView>(x: &Seen<'_, V>, next: &Option<V>) -> bool
         return false;
     };
     if is_steady(op) {
-        if is_depth_clean(x.row, y, op) {
-            return are_cells_clean(x.row, y, op);
+        let deep = deeper(x.row);
+        if is_depth_clean(x.row, y, op, deep) {
+            return are_cells_clean(x.row, y, op, deep);
         }
     }
     false
@@ -46,7 +47,7 @@ fn falls<V: MainView>(x: &V, y: &V, deep: Felt) -> bool
     requires { deep ≡ deeper (V.cells x.now) }
     ensures { IsTrue result → Falls (V.cells x.now) (V.cells y.now) }
 {
-    is_zero(y.depth() - x.depth() + deep) && is_zero((Felt::ONE - deep) * (y.key() - x.key()))
+    is_zero(y.depth() - x.depth() + deep) && is_zero(under(Felt::ONE - deep, y.key() - x.key()))
 }
 
 fn stays<V: MainView>(x: &V, y: &V) -> bool
@@ -84,12 +85,12 @@ fn is_deep_clean<V: MainView>(x: &V, deep: Felt) -> bool
     is_zero(x.depth() - Felt::from_u32(16))
 }
 
-fn is_depth_clean<V: MainView>(x: &V, y: &V, op: Op) -> bool
+fn is_depth_clean<V: MainView>(x: &V, y: &V, op: Op, deep: Felt) -> bool
     requires has { HasOp (V.cells x.now) op }
     requires steady { IsSteady op }
+    requires deep { deep ≡ deeper (V.cells x.now) }
     ensures { IsTrue result → first_fault_of 115 (depth_values (spot_of (V.cells x.now) (Some (V.cells y.now)))) ≡ None }
 {
-    let deep = deeper(x);
     if is_deep_clean(x, deep) {
         return shifts(x, y, op, deep);
     }
@@ -134,13 +135,14 @@ fn go_down<V: MainView>(from: usize, x: &V, y: &V) -> bool
 }
 
 // Whether the cells below those that the operation leaves are as its shift brings them there.
-fn are_below_clean<V: MainView>(x: &V, y: &V, op: Op) -> bool
+fn are_below_clean<V: MainView>(x: &V, y: &V, op: Op, deep: Felt) -> bool
+    requires { deep ≡ deeper (V.cells x.now) }
     ensures { IsTrue result → (j : ℕ) → j < 16 → leaves_of op ≤ j → below_term j (V.cells x.now) (V.cells y.now) op ≡ 0 }
 {
     let left = leaves(op);
     match shift(op) {
         Shift::Left => {
-            if is_zero((Felt::ONE - deeper(x)) * y.s15()) {
+            if is_zero(under(Felt::ONE - deep, y.s15())) {
                 return come_up(left, x, y);
             }
             false
@@ -150,10 +152,28 @@ fn are_below_clean<V: MainView>(x: &V, y: &V, op: Op) -> bool
     }
 }
 
+// Whether the cells on top are copies of these.
+fn are_copies<V: MainView>(sources: &[usize], x: &V, y: &V) -> bool
+    requires few { length sources.now ≤ 16 }
+    requires visible { All (λ i. i < 16) sources.now }
+    ensures { IsTrue result → AreCopies sources.now (V.cells x.now) (V.cells y.now) }
+{
+    for j in 0..sources.len() {
+        if !are_same(y.s(j), x.s(sources[j])) {
+            return false;
+        }
+    }
+    true
+}
+
 // Whether the cells that the operation leaves are as it computes or moves them.
 fn are_tops_clean<V: MainView>(x: &V, y: &V, op: Op) -> bool
     ensures { IsTrue result → (j : ℕ) → j < leaves_of op → top_term j (V.cells x.now) (V.cells y.now) op ≡ 0 }
 {
+    let sources = sources(op);
+    if sources.len() == leaves(op) {
+        return are_copies(sources, x, y);
+    }
     for j in 0..leaves(op) {
         if !is_zero(top_term(j, x, y, op)) {
             return false;
@@ -162,13 +182,14 @@ fn are_tops_clean<V: MainView>(x: &V, y: &V, op: Op) -> bool
     true
 }
 
-fn are_cells_clean<V: MainView>(x: &V, y: &V, op: Op) -> bool
+fn are_cells_clean<V: MainView>(x: &V, y: &V, op: Op, deep: Felt) -> bool
     requires has { HasOp (V.cells x.now) op }
     requires steady { IsSteady op }
+    requires deep { deep ≡ deeper (V.cells x.now) }
     ensures { IsTrue result → first_fault_of 119 (cell_values (spot_of (V.cells x.now) (Some (V.cells y.now)))) ≡ None }
 {
     if are_tops_clean(x, y, op) {
-        return are_below_clean(x, y, op);
+        return are_below_clean(x, y, op, deep);
     }
     false
 }

@@ -28,7 +28,7 @@ pub struct Chips {
 }
 
 /// The small tables that answer the requests of a main table. The range table has the limbs of
-/// memory's rows besides what is asked. No permutation is computed that was computed before.
+/// memory's rows besides what is asked. No permutation is computed that is kept.
 pub fn fill_chips(
     alloc: Global,
     permutations: &mut Permutations,

@@ -7,7 +7,7 @@ ghost use Rattle.event_kinds.specs.Kinds.{kind_in};
 
 use crate::decoder::Decoder;
 use crate::inverses::Inverses;
-use crate::row::row_of;
+use crate::row::write_row;
 use crate::stack::Stack;
 use crate::turns::turns_of;
 use event_kinds::{Kind, events_behind, kind_of, respans, seen_behind};
@@ -31,16 +31,19 @@ pub(crate) fn fill(
     let mut inverses = Inverses::new(alloc);
     let mut table = Table::new(alloc);
     table.reserve(events.len().saturating_add(1))?;
+    let mut row = [Felt::ZERO; 65];
     for i in 0..events.len() {
         let event = &events[i];
         let later = events_behind(events, i);
         let next = seen_behind(last, later);
         let turn = turns.pop().unwrap_or(0);
-        table.push_row(&row_of(&mut inverses, &decoder, event, next, turn)?)?;
+        write_row(&mut row, &mut inverses, &decoder, event, next, turn)?;
+        table.push_row(&row)?;
         let kind = kind_of(event.op);
         decoder.advance(event, kind, batches_of(alloc, kind, later)?)?;
     }
-    table.push_row(&row_of(&mut inverses, &decoder, &halted(last), last, 0)?)?;
+    write_row(&mut row, &mut inverses, &decoder, &halted(last), last, 0)?;
+    table.push_row(&row)?;
     Ok((table, decoder.keys))
 }
 

@@ -1,4 +1,4 @@
-ghost use Rattle.std.specs.Prelude.{◌≡◌, ◌≤◌, ◌+◌, ◌==◌, List, ◌++◌, [], ◌∷◌, length, take, slice_index, IfOk};
+ghost use Rattle.std.specs.Prelude.{◌≡◌, ◌≤◌, ◌+◌, ◌==◌, List, ◌++◌, [], ◌∷◌, length, take, slice_index, IfOk, OnOk};
 ghost use Rattle.processor.specs.declared.event.Event as shown;
 ghost use Rattle.vm_field.specs.Field.{felt_inv};
 ghost use Rattle.vm_field.specs.Signs.{◌⊟◌};
@@ -22,29 +22,30 @@ use op_pack::in_use;
 use processor::{Event, Visible};
 use vm_field::{Felt, Memory};
 
-// The row of an event before the state behind it, where its loop's body is repeated so often.
-pub(crate) fn row_of(
+// Writes the row of an event before the state behind it, where its loop's body is repeated so often,
+// over the row that stands there: each cell is written.
+pub(crate) fn write_row(
+    row: &mut [Felt; 65],
     inverses: &mut Inverses,
     decoder: &Decoder,
     event: &Event,
     next: &Visible,
     turns: u64,
-) -> Result<[Felt; 65], Memory>
+) -> Result<(), Memory>
     ensures { (later : List shown.Event) → turns ≡ slice_index (repeats later) 0
-        → IfOk result (λ row. row ≡ row_of (decoder_in decoder.now) event.now next.now later) }
+        → OnOk result (row.new ≡ row_of (decoder_in decoder.now) event.now next.now later) }
 {
     let kind = kind_of(event.op);
-    let mut row = [Felt::ZERO; 65];
-    write_cells(&mut row, 0, &state_cells(&event.before));
-    write_cells(&mut row, 8, &open_cells(decoder, event)?);
-    write_cells(&mut row, 16, &hash_cells(kind, decoder, event));
-    write_cells(&mut row, 24, &batch_cells(kind, decoder, event)?);
-    write_cells(&mut row, 30, &stack_cells(&event.before));
-    write_cells(&mut row, 46, &key_cells(inverses, decoder, event)?);
+    write_cells(row, 0, &state_cells(&event.before));
+    write_cells(row, 8, &open_cells(decoder, event)?);
+    write_cells(row, 16, &hash_cells(kind, decoder, event));
+    write_cells(row, 24, &batch_cells(kind, decoder, event)?);
+    write_cells(row, 30, &stack_cells(&event.before));
+    write_cells(row, 46, &key_cells(inverses, decoder, event)?);
     let witnesses = witness_cells(inverses, kind, decoder, event, next, turns)?;
-    write_cells(&mut row, 51, &witnesses);
-    write_cells(&mut row, 55, &limbs_of(event, next).cells);
-    Ok(row)
+    write_cells(row, 51, &witnesses);
+    write_cells(row, 55, &limbs_of(event, next).cells);
+    Ok(())
 }
 
 // Writes cells over those of a row from a place on.

@@ -8,5 +8,5 @@ mod refusal;
 
 pub use constant::{Const, Consts};
 pub use number::read_number;
-pub use reading::{read_instr, read_parameter, split};
+pub use reading::{read_instr, read_parameter, read_parts, split, split_into};
 pub use refusal::InstrError;

@@ -1,7 +1,7 @@
 ghost use Rattle.std.specs.Prelude.{◌≡◌, ◌==◌, map, IfOk, OnOk, bytes_eq};
 ghost use Rattle.std.specs.List.{list_all, list_any, slice_split};
 ghost use Rattle.masm_instr.specs.Instructions.{is_in_range, IsInForm};
-ghost use Rattle.instr_reading.specs.Reading.{parameter_of, parameters_of, formed, is_unsupported, parts_of, read, Gives};
+ghost use Rattle.instr_reading.specs.Reading.{parameter_of, parameters_of, formed, is_unsupported, parts_of, read_parts, read, Gives};
 
 use crate::constant::Consts;
 use crate::number::read_number;
@@ -9,11 +9,25 @@ use crate::refusal::InstrError;
 use masm_instr::{Form, Instr, Name, Numbers, name_of};
 use std::alloc::{AllocError, Global};
 
-/// The parts of a text: what stands between the bytes that are this mark. There is always a first.
+/// Puts the parts of a text into a list, in place of what it holds: what stands between the bytes that
+/// are this mark. There is always a first.
+pub fn split_into<'a>(parts: &mut Vec<&'a [u8]>, text: &'a [u8], mark: u8) -> Result<(), AllocError>
+    ensures { OnOk result (map (λ part. part.now) parts.new.items ≡ slice_split (λ b. b == mark) text.entry.now) }
+{
+    parts.clear();
+    for part in text.split(|byte| *byte == mark) {
+        parts.push(part)?;
+    }
+    Ok(())
+}
+
+/// The parts of a text, as `split_into` gives them.
 pub fn split<'a>(alloc: Global, text: &'a [u8], mark: u8) -> Result<Vec<&'a [u8]>, AllocError>
     ensures { IfOk result (λ parts. map (λ part. part.now) parts.items ≡ slice_split (λ b. b == mark) text.entry.now) }
 {
-    text.split(|byte| *byte == mark).collect(alloc)
+    let mut parts = Vec::new(alloc);
+    split_into(&mut parts, text, mark)?;
+    Ok(parts)
 }
 
 fn is_among(words: &[&[u8]], text: &[u8]) -> bool
@@ -83,7 +97,7 @@ fn read_parameters(
 ) -> Result<Option<Numbers>, AllocError>
     ensures { IfOk result (λ numbers. numbers ≡ parameters_of consts.now constants (map (λ part. part.now) parts.now)) }
 {
-    let mut numbers = Numbers::new(alloc);
+    let mut numbers = Numbers::with_capacity(alloc, parts.len())?;
     for part in parts {
         let Some(number) = read_parameter(consts, constants, part) else {
             return Ok(None);
@@ -124,23 +138,35 @@ fn read_named(
     Ok(Instr::new(name, numbers))
 }
 
-/// The instruction that a token gives, with the constants defined before it.
+/// The instruction that a token of these parts gives, with the constants defined before it.
 ///
 /// A word of the grammar that begins no instruction, as `if` or `end`, is an unknown instruction
 /// here.
+#[tactic(auto, unfolding(crate::specs::Reading::is_unsupported), using(crate::proofs::NamesLemmas::name_is_supported))]
+pub fn read_parts(
+    alloc: Global,
+    token: &[u8],
+    parts: &[&[u8]],
+    consts: &Consts,
+) -> Result<Instr, InstrError>
+    ensures { Gives result (read_parts consts.now token.now (map (λ part. part.now) parts.now)) }
+{
+    let Some((first, parts)) = parts.split_first() else {
+        return Err(InstrError::UnknownInstruction);
+    };
+    match name_of(first) {
+        Some(_) if token == b"exp".as_slice() => Err(InstrError::Unsupported),
+        Some(name) => read_named(alloc, consts, name, parts),
+        None if is_unsupported(token, first) => Err(InstrError::Unsupported),
+        None => Err(InstrError::UnknownInstruction),
+    }
+}
+
+/// The instruction that a token gives, with the constants defined before it.
 #[tactic(auto, unfolding(crate::specs::Reading::read))]
 pub fn read_instr(alloc: Global, token: &[u8], consts: &Consts) -> Result<Instr, InstrError>
     ensures { Gives result (read consts.now token.now) }
 {
     let parts = split(alloc, token, b'.')?;
-    let Some((first, parts)) = parts.as_slice().split_first() else {
-        return Err(InstrError::UnknownInstruction);
-    };
-    if is_unsupported(token, first) {
-        return Err(InstrError::Unsupported);
-    }
-    let Some(name) = name_of(first) else {
-        return Err(InstrError::UnknownInstruction);
-    };
-    read_named(alloc, consts, name, parts)
+    read_parts(alloc, token, parts.as_slice(), consts)
 }

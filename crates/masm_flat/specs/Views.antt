@@ -8,7 +8,7 @@ use Rattle.masm_flat.specs.declared.piece.Piece.TheVariants as pieces
 
 abbrev pub piece_of : Piece → blocks.Piece trees.Tree
 piece_of (pieces.Operation item) = blocks.Operation item
-piece_of (pieces.Whole tree) = blocks.Whole (tree_of tree)
+piece_of (pieces.Whole tree) = blocks.Whole (tree_of tree.value)
 
 abbrev pub pieces_of : List Piece → List (blocks.Piece trees.Tree)
 pieces_of pieces = map piece_of pieces

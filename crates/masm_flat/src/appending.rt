@@ -38,10 +38,10 @@ pub fn add_instr(
 }
 
 /// Adds a block.
-pub fn add_tree(tree: Tree, out: &mut Vec<Piece>) -> Result<(), Memory>
+pub fn add_tree(alloc: Global, tree: Tree, out: &mut Vec<Piece>) -> Result<(), Memory>
     ensures { OnOk result (pieces_of out.new.items ≡ pieces_of out.old.items ++ lists.Whole (tree_of tree) ∷ []) }
 {
-    out.push(Piece::Whole(tree))?;
+    out.push(Piece::Whole(Box::new(alloc, tree)?))?;
     Ok(())
 }
 
@@ -50,7 +50,7 @@ fn copied(alloc: Global, piece: &Piece) -> Result<Piece, Memory>
 {
     match piece {
         Piece::Operation(item) => Ok(Piece::Operation(*item)),
-        Piece::Whole(tree) => Ok(Piece::Whole(copy(alloc, tree)?)),
+        Piece::Whole(tree) => Ok(Piece::Whole(Box::new(alloc, copy(alloc, tree)?)?)),
     }
 }
 

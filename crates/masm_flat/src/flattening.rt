@@ -85,16 +85,16 @@ fn add_statement(
     match stmt {
         Stmt::Instr(_, instr) => add_instr(alloc, instr, locals, out),
         Stmt::Exec(_, name) => add_copies(alloc, lists.list(name), out),
-        Stmt::Call(_, name) => add_tree(called(alloc, lists, name)?, out),
-        Stmt::Syscall(_, name) => add_tree(kernel_called(alloc, lists, name)?, out),
+        Stmt::Call(_, name) => add_tree(alloc, called(alloc, lists, name)?, out),
+        Stmt::Syscall(_, name) => add_tree(alloc, kernel_called(alloc, lists, name)?, out),
         Stmt::If(_, first, second) => {
             let on_one = list_of(alloc, lists, locals, first)?;
             let on_zero = list_of(alloc, lists, locals, second)?;
-            add_tree(split(alloc, on_one, on_zero)?, out)
+            add_tree(alloc, split(alloc, on_one, on_zero)?, out)
         }
         Stmt::While(_, turn) => {
             let list = list_of(alloc, lists, locals, turn)?;
-            add_tree(repeating(alloc, list)?, out)
+            add_tree(alloc, repeating(alloc, list)?, out)
         }
         Stmt::Repeat(_, count, turn) => {
             let list = list_of(alloc, lists, locals, turn)?;

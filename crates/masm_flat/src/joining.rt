@@ -43,7 +43,7 @@ fn add_piece(
         Piece::Whole(tree) => {
             let before = mem::replace(run, Items::new(alloc));
             add_span(alloc, blocks, &before)?;
-            blocks.push(tree)?;
+            blocks.push(Box::into_inner(tree))?;
             Ok(())
         }
     }

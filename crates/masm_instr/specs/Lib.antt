@@ -1,5 +1,6 @@
 pub mod Table
 pub mod Names
+pub mod Slots
 pub mod Instructions
 pub mod Expansion
 pub mod Packable

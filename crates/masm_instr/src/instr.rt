@@ -1,4 +1,4 @@
-ghost use Rattle.std.specs.Prelude.{◌≡◌, ℕ, ◌<◌, List, [], ◌∷◌, ◌++◌, OnOk, OnErr, true};
+ghost use Rattle.std.specs.Prelude.{◌≡◌, ℕ, ◌<◌, List, [], ◌∷◌, ◌++◌, OnOk, OnErr, IfOk, true};
 ghost use Rattle.masm_instr.specs.Instructions.{IsInForm, names_local};
 
 use crate::name::Name;
@@ -27,6 +27,15 @@ impl Numbers {
         Numbers {
             items: Vec::new(alloc),
         }
+    }
+
+    /// The empty list, with room for so many numbers.
+    pub fn with_capacity(alloc: Global, count: usize) -> Result<Numbers, AllocError>
+        ensures empty { IfOk result (λ numbers. numbers ≡ []) }
+    {
+        Ok(Numbers {
+            items: Vec::with_capacity(alloc, count)?,
+        })
     }
 
     /// Adds a number at the end. At an error the list is as before.

@@ -9,6 +9,7 @@ mod moves;
 mod name;
 mod pieces;
 mod powers;
+mod slot;
 mod table;
 
 pub use expansion::{expand, expansions_are_packable};

@@ -1,9 +1,10 @@
-ghost use Rattle.std.specs.Prelude.{◌≡◌};
+ghost use Rattle.std.specs.Prelude.{◌≡◌, Some, slice_get};
 ghost use Rattle.masm_instr.specs.Instructions.{names_local};
 ghost use Rattle.masm_instr.specs.Table.{form_of, text_of};
 ghost use Rattle.masm_instr.specs.Names.{first_named, name_of, NamesAreTexts};
 
 use crate::form::Form;
+use crate::slot::{SLOTS, slot};
 use crate::table::{EVERY, row_of};
 
 /// The name of an instruction.
@@ -129,24 +130,27 @@ impl Name {
     }
 }
 
-// The first of these names that has the text.
-fn find_name(names: &[Name], text: &[u8]) -> Option<Name>
-    ensures { result ≡ first_named names.now text.now }
+fn name_at(names: &[Name], place: usize) -> Option<Name>
+    ensures { result ≡ slice_get names.now place }
 {
-    for name in names {
-        if name.text() == text {
-            return Some(*name);
-        }
-    }
-    None
+    names.get(place).copied()
+}
+
+// The name that has this text, if any name has it.
+fn guess(text: &[u8]) -> Option<Name>
+    ensures { (name : Name) → text_of name ≡ text.now → result ≡ Some name }
+{
+    name_at(&EVERY, usize::from(SLOTS[slot(text)]))
 }
 
 /// The name that has this text.
-#[tactic(auto, unfolding(crate::specs::Names::name_of, crate::specs::Names::every_name))]
 pub fn name_of(text: &[u8]) -> Option<Name>
     ensures { result ≡ name_of text.now }
 {
-    find_name(&EVERY, text)
+    match guess(text) {
+        Some(name) if name.text() == text => Some(name),
+        _ => None,
+    }
 }
 
 /// A text is a name's exactly where it is the one that the name is written with.

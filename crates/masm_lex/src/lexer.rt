@@ -38,12 +38,13 @@ fn next_spot(spot: Spot, here: Place, byte: u8) -> Option<Spot>
         Spot::Word(start) => start,
         _ => here,
     };
-    if is_blank_byte(byte) {
+    // most bytes are those of tokens
+    if is_word_byte(byte) && byte != b'#' {
+        Some(Spot::Word(start))
+    } else if is_blank_byte(byte) {
         Some(Spot::Blank)
     } else if byte == b'#' {
         Some(Spot::Comment)
-    } else if is_word_byte(byte) {
-        Some(Spot::Word(start))
     } else {
         None
     }

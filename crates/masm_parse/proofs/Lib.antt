@@ -1,3 +1,4 @@
+pub mod KeywordLemmas
 pub mod Mirror
 pub mod Complete
 pub mod Standing

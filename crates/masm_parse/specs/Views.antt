@@ -1,5 +1,5 @@
 -- The trees and configurations of the parser as the definitions see them.
-use Rattle.std.specs.Prelude.{◌≡◌, List, [], ◌∷◌, map, reverse, Result, Ok, Err}
+use Rattle.std.specs.Prelude.{◌≡◌, Bool, true, false, Option, Some, None, List, [], ◌∷◌, map, reverse, Result, Ok, Err}
 use Rattle.std.specs.Option.{option_map}
 use Rattle.masm_parse.specs.declared.refusal.Cause.{Cause}
 use Rattle.masm_parse.specs.declared.refusal.Stop.{Stop}
@@ -66,11 +66,16 @@ configuration_view (configurations.Behind procs main) = Behind (map procedure_of
 abbrev pub parser_view : Parser → Parse
 parser_view p = record { context = record { consts = p.consts; locals = p.locals }; configuration = configuration_view p.configuration }
 
--- A step's answer is that of the definition, or the want of memory.
-abbrev pub StepGives : Result Parser Stop → Result Parse Cause → Type 0
-StepGives (Ok p) defined = defined ≡ Ok (parser_view p)
-StepGives (Err stops.Memory) defined = Unit {0}
-StepGives (Err (stops.Refused cause)) defined = defined ≡ Err cause
+-- what stands behind a token, if the token fits
+abbrev pub kept : {A : Type 0} → Bool → A → Option A
+kept true now = Some now
+kept false now = None
+
+-- A step's answer, and what stands behind it, is that of the definition; or the answer is the want of memory.
+abbrev pub StepGives : Result (Unit {0}) Stop → Parse → Result Parse Cause → Type 0
+StepGives (Ok done) now defined = defined ≡ Ok now
+StepGives (Err stops.Memory) now defined = Unit {0}
+StepGives (Err (stops.Refused cause)) now defined = defined ≡ Err cause
 
 -- An answer of the parser is that of the definition, or the want of memory.
 abbrev pub Gives : Result Ast ParseError → Result Source ParseError → Type 0

@@ -1,14 +1,15 @@
-ghost use Rattle.std.specs.Prelude.{◌≡◌, ◌∷◌, Bool, map, IfOk};
+ghost use Rattle.std.specs.Prelude.{◌≡◌, ◌∷◌, Bool, map, IfOk, OnOk};
 ghost use Rattle.std.specs.Option.{option_map};
 ghost use Rattle.instr_reading.specs.declared.constant.Const.{Const};
 ghost use Rattle.masm_parse.specs.declared.terminal.Terminal.TheVariants as terminals;
 ghost use Rattle.masm_parse.specs.Trees.{Empty, Leaf_then, append};
 ghost use Rattle.masm_parse.specs.Machine.{procedure, reduce, closed, may_begin, Inside, shift, shift_statement, shift_else, shift_end, shift_inside, depth_of};
-ghost use Rattle.masm_parse.specs.Views.{stmt_view, body_of, procedure_of, open_view, opens_view, configuration_view};
+ghost use Rattle.masm_parse.specs.Views.{stmt_view, body_of, procedure_of, open_view, opens_view, configuration_view, kept};
 
 use crate::terminal::{Header, Leaf, Role, Terminal};
 use crate::tree::{Position, Proc, Stmt};
 use std::alloc::{AllocError, Global};
+use std::mem;
 
 // A statement that is open, with the statements before it; for an `else` with the first body too.
 #[derive(Drop)]
@@ -37,10 +38,10 @@ fn with(mut body: Vec<Stmt>, stmt: Stmt) -> Result<Vec<Stmt>, AllocError>
     Ok(body)
 }
 
-// A body with a statement of one token at its end.
+// Adds a statement of one token to a body.
 #[tactic(auto, using(crate::proofs::Mirror::mirror))]
-fn with_leaf(body: Vec<Stmt>, at: Position, leaf: Leaf) -> Result<Vec<Stmt>, AllocError>
-    ensures { IfOk result (λ now. body_of now.items ≡ append (body_of body.items) (Leaf_then at leaf Empty)) }
+fn add_leaf(body: &mut Vec<Stmt>, at: Position, leaf: Leaf) -> Result<(), AllocError>
+    ensures { OnOk result (body_of body.new.items ≡ append (body_of body.old.items) (Leaf_then at leaf Empty)) }
 {
     let stmt = match leaf {
         Leaf::Instr(instr) => Stmt::Instr(at, instr),
@@ -48,7 +49,8 @@ fn with_leaf(body: Vec<Stmt>, at: Position, leaf: Leaf) -> Result<Vec<Stmt>, All
         Leaf::Call(name) => Stmt::Call(at, name),
         Leaf::Syscall(name) => Stmt::Syscall(at, name),
     };
-    with(body, stmt)
+    body.push(stmt)?;
+    Ok(())
 }
 
 // The statements behind the end of an open one.
@@ -155,7 +157,7 @@ fn shift_inside(
     procs: Vec<Proc>,
     header: Header,
     opens: Vec<OpenConstruct>,
-    body: Vec<Stmt>,
+    mut body: Vec<Stmt>,
     terminal: Terminal,
 ) -> Result<Option<Configuration>, AllocError>
     ensures { IfOk result (λ now. option_map configuration_view now ≡ shift_inside (map procedure_of procs.items) header (opens_view opens.items) (body_of body.items) terminal) }
@@ -163,7 +165,7 @@ fn shift_inside(
     let construct = match terminal {
         Terminal::Const(_) | Terminal::Header(_) => return Ok(None),
         Terminal::Leaf(at, leaf) => {
-            let body = with_leaf(body, at, leaf)?;
+            add_leaf(&mut body, at, leaf)?;
             return Ok(Some(Configuration::Inside(procs, header, opens, body)));
         }
         Terminal::Else => return shift_else(alloc, procs, header, opens, body),
@@ -201,24 +203,16 @@ impl Configuration {
         }
     }
 
-    // The configuration behind a constant; none where that does not fit.
-    pub(crate) fn shift_constant(self) -> Option<Configuration>
-        ensures { (kernel : Bool) (c : Const) → option_map configuration_view result ≡ shift kernel (configuration_view self) (terminals.Const c) }
+    // Whether a constant fits here. The configuration behind it is this one.
+    pub(crate) fn takes_constant(&self) -> bool
+        ensures { (kernel : Bool) (c : Const) → kept result (configuration_view self.now) ≡ shift kernel (configuration_view self.now) (terminals.Const c) }
     {
-        match self {
-            Configuration::Top(procs) => Some(Configuration::Top(procs)),
-            _ => None,
-        }
+        matches!(self, Configuration::Top(_))
     }
 
     // The configuration behind a header.
     #[tactic(auto, using(crate::proofs::Mirror::mirror))]
-    pub(crate) fn shift_header(
-        self,
-        alloc: Global,
-        kernel: bool,
-        header: Header,
-    ) -> Option<Configuration>
+    fn with_header(self, alloc: Global, kernel: bool, header: Header) -> Option<Configuration>
         ensures { option_map configuration_view result ≡ shift kernel (configuration_view self) (terminals.Header header) }
     {
         match self {
@@ -229,8 +223,8 @@ impl Configuration {
         }
     }
 
-    // The configuration behind another token.
-    pub(crate) fn shift_statement(
+    // The configuration behind a token that is neither a constant nor a header.
+    fn with_statement(
         self,
         alloc: Global,
         terminal: Terminal,
@@ -242,6 +236,58 @@ impl Configuration {
                 shift_inside(alloc, procs, header, opens, body, terminal)
             }
             _ => Ok(None),
+        }
+    }
+
+    // Takes the place of this configuration, where there is one.
+    fn put(&mut self, now: Option<Configuration>) -> bool
+        ensures { kept result (configuration_view self.new) ≡ option_map configuration_view now }
+    {
+        match now {
+            Some(now) => {
+                *self = now;
+                true
+            }
+            None => false,
+        }
+    }
+
+    // Goes behind a header; false where it does not fit.
+    pub(crate) fn shift_header(&mut self, alloc: Global, kernel: bool, header: Header) -> bool
+        ensures { kept result (configuration_view self.new) ≡ shift kernel (configuration_view self.old) (terminals.Header header) }
+    {
+        let before = mem::replace(self, Configuration::Top(Vec::new(alloc)));
+        self.put(before.with_header(alloc, kernel, header))
+    }
+
+    // Goes behind a statement of one token, in place; false where it does not fit.
+    fn shift_leaf(&mut self, at: Position, leaf: Leaf) -> Result<bool, AllocError>
+        ensures { IfOk result (λ fits. kept fits (configuration_view self.new) ≡ shift_statement (configuration_view self.old) (terminals.Leaf at leaf)) }
+    {
+        match self {
+            Configuration::Inside(_, _, _, body) => {
+                add_leaf(body, at, leaf)?;
+                Ok(true)
+            }
+            _ => Ok(false),
+        }
+    }
+
+    // Goes behind another token; false where it does not fit.
+    pub(crate) fn shift_statement(
+        &mut self,
+        alloc: Global,
+        terminal: Terminal,
+    ) -> Result<bool, AllocError>
+        ensures { IfOk result (λ fits. kept fits (configuration_view self.new) ≡ shift_statement (configuration_view self.old) terminal) }
+    {
+        match terminal {
+            Terminal::Leaf(at, leaf) => self.shift_leaf(at, leaf),
+            terminal => {
+                let before = mem::replace(self, Configuration::Top(Vec::new(alloc)));
+                let now = before.with_statement(alloc, terminal)?;
+                Ok(self.put(now))
+            }
         }
     }
 }

@@ -1,5 +1,5 @@
-ghost use Rattle.std.specs.Prelude.{◌≡◌};
-ghost use Rattle.masm_parse.specs.Keywords.{text_of_keyword, first_keyword, keyword_of, is_kept_from_kernels};
+ghost use Rattle.std.specs.Prelude.{◌≡◌, ◌<◌, Some, slice_get};
+ghost use Rattle.masm_parse.specs.Keywords.{text_of_keyword, keyword_of, slot, is_kept_from_kernels};
 
 // A first part of a token that the grammar knows.
 #[derive(Clone, Copy, Debug, PartialEq, Eq)]
@@ -61,21 +61,44 @@ impl Keyword {
     }
 }
 
-fn find_keyword(keywords: &[Keyword], text: &[u8]) -> Option<Keyword>
-    ensures { result ≡ first_keyword keywords.now text.now }
+// For each slot the place in `KEYWORDS` of the one keyword that may have it; 0 where there is none.
+const SLOTS: [u8; 32] = [
+    10, 0, 0, 0, 0, 9, 0, 0, 4, 0, 3, 7, 0, 6, 0, 0, 5, 11, 0, 0, 0, 0, 1, 0, 0, 0, 0, 0, 8, 0, 2,
+    0,
+];
+
+// The slot of a text, by its length and its second byte. Those of the keywords are all different.
+#[tactic(auto, unfolding(crate::specs::Keywords::slot))]
+fn slot(text: &[u8]) -> usize
+    ensures slot { result ≡ slot text.now }
+    ensures bound { result < 32 }
 {
-    for keyword in keywords {
-        if keyword.text() == text {
-            return Some(*keyword);
-        }
-    }
-    None
+    let second = match text.get(1) {
+        Some(byte) => usize::from(*byte),
+        None => 0,
+    };
+    (second + text.len() % 32) % 32
+}
+
+fn keyword_at(keywords: &[Keyword], place: usize) -> Option<Keyword>
+    ensures { result ≡ slice_get keywords.now place }
+{
+    keywords.get(place).copied()
+}
+
+// The keyword that has this text, if any keyword has it.
+fn guess(text: &[u8]) -> Option<Keyword>
+    ensures { (keyword : Keyword) → text_of_keyword keyword ≡ text.now → result ≡ Some keyword }
+{
+    keyword_at(&KEYWORDS, usize::from(SLOTS[slot(text)]))
 }
 
 // The keyword that has this text.
-#[tactic(auto, unfolding(crate::specs::Keywords::keyword_of, crate::specs::Keywords::every_keyword))]
 pub(crate) fn keyword_of(text: &[u8]) -> Option<Keyword>
     ensures { result ≡ keyword_of text.now }
 {
-    find_keyword(&KEYWORDS, text)
+    match guess(text) {
+        Some(keyword) if keyword.text() == text => Some(keyword),
+        _ => None,
+    }
 }

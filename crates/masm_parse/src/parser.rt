@@ -1,8 +1,7 @@
-ghost use Rattle.std.specs.Prelude.{◌≡◌, IfOk};
-ghost use Rattle.std.specs.Option.{option_map};
-ghost use Rattle.masm_lex.specs.Tokens.{IsPart};
-ghost use Rattle.masm_parse.specs.Machine.{start, advance, settled, is_opening, moved, step, ended};
-ghost use Rattle.masm_parse.specs.Views.{parser_view, StepGives, Gives};
+ghost use Rattle.std.specs.Prelude.{◌≡◌, ◌≤◌, length, IfOk};
+ghost use Rattle.masm_lex.specs.Tokens.{IsPart, place_after};
+ghost use Rattle.masm_parse.specs.Machine.{Parse, start, advance, settled, is_opening, moved, step, ended};
+ghost use Rattle.masm_parse.specs.Views.{parser_view, kept, StepGives, Gives};
 
 use crate::configuration::Configuration;
 use crate::reading::classify;
@@ -10,7 +9,7 @@ use crate::refusal::{Cause, ParseError, Stop};
 use crate::terminal::{Symbol, Terminal};
 use crate::tree::{Ast, Position};
 use instr_reading::Consts;
-use masm_lex::{Place, Token};
+use masm_lex::{MAX_SOURCE, Token, end_place};
 use std::alloc::Global;
 use vm_field::Memory;
 
@@ -38,16 +37,15 @@ impl Terminal {
     }
 }
 
-// The first cause that stands, or the parser behind the token.
-fn settle(fault: Option<Cause>, is_deep: bool, now: Option<Parser>) -> Result<Parser, Stop>
-    ensures { StepGives result (settled fault is_deep (option_map parser_view now)) }
+// The first cause that stands, where the token fits or does not.
+fn settle(fault: Option<Cause>, is_deep: bool, fits: bool) -> Result<(), Stop>
+    ensures { (now : Parse) → StepGives result now (settled fault is_deep (kept fits now)) }
 {
-    match (fault, now) {
-        (Some(cause), None) if cause.is_early() => Err(Stop::Refused(cause)),
-        (_, None) => Err(Stop::Refused(Cause::Syntax)),
-        (Some(cause), Some(_)) => Err(Stop::Refused(cause)),
-        (None, Some(_)) if is_deep => Err(Stop::Refused(Cause::TooDeep)),
-        (None, Some(parser)) => Ok(parser),
+    match fault {
+        Some(cause) if fits || cause.is_early() => Err(Stop::Refused(cause)),
+        _ if !fits => Err(Stop::Refused(Cause::Syntax)),
+        _ if is_deep => Err(Stop::Refused(Cause::TooDeep)),
+        _ => Ok(()),
     }
 }
 
@@ -63,77 +61,46 @@ impl Parser {
         }
     }
 
-    // The parser behind a token; none where that does not fit.
-    #[tactic(auto, using(crate::proofs::Mirror::mirror))]
-    fn shift(
-        self,
-        alloc: Global,
-        kernel: bool,
-        terminal: Terminal,
-    ) -> Result<Option<Parser>, Memory>
-        ensures { IfOk result (λ now. option_map parser_view now ≡ advance kernel (parser_view self) terminal) }
+    // Goes behind a token; false where that does not fit.
+    fn shift(&mut self, alloc: Global, kernel: bool, terminal: Terminal) -> Result<bool, Memory>
+        ensures { IfOk result (λ fits. kept fits (parser_view self.new) ≡ advance kernel (parser_view self.old) terminal) }
     {
-        let Parser {
-            mut consts,
-            locals,
-            configuration,
-        } = self;
         match terminal {
             Terminal::Const(constant) => {
-                consts.push(constant)?;
-                Ok(
-                    configuration.shift_constant().map(|configuration| Parser {
-                        consts,
-                        locals,
-                        configuration,
-                    }),
-                )
+                self.consts.push(constant)?;
+                Ok(self.configuration.takes_constant())
             }
             Terminal::Header(header) => {
-                let locals = header.locals;
-                Ok(
-                    configuration
-                        .shift_header(alloc, kernel, header)
-                        .map(|configuration| Parser {
-                            consts,
-                            locals,
-                            configuration,
-                        }),
-                )
+                self.locals = header.locals;
+                Ok(self.configuration.shift_header(alloc, kernel, header))
             }
-            terminal => Ok(
-                configuration
-                    .shift_statement(alloc, terminal)?
-                    .map(|configuration| Parser {
-                        consts,
-                        locals,
-                        configuration,
-                    }),
-            ),
+            terminal => Ok(self.configuration.shift_statement(alloc, terminal)?),
         }
     }
 
     #[tactic(auto, unfolding(crate::specs::Machine::moved))]
-    fn take(self, alloc: Global, kernel: bool, symbol: Symbol) -> Result<Parser, Stop>
-        ensures { StepGives result (moved kernel (parser_view self) symbol) }
+    fn take(&mut self, alloc: Global, kernel: bool, symbol: Symbol) -> Result<(), Stop>
+        ensures { StepGives result (parser_view self.new) (moved kernel (parser_view self.old) symbol) }
     {
         let Symbol { terminal, fault } = symbol;
         let is_deep = terminal.is_opening() && self.configuration.depth() >= MOST_OPEN;
-        let now = self.shift(alloc, kernel, terminal)?;
-        settle(fault, is_deep, now)
+        let fits = self.shift(alloc, kernel, terminal)?;
+        settle(fault, is_deep, fits)
     }
 
-    // The parser behind a token of the source.
+    // Goes behind a token of the source. The token's parts are put into the list, in place of what it
+    // holds.
     #[tactic(auto, unfolding(crate::specs::Machine::step))]
-    pub(crate) fn step(
-        self,
+    pub(crate) fn step<'a>(
+        &mut self,
         alloc: Global,
         kernel: bool,
-        source: &[u8],
+        source: &'a [u8],
         token: Token,
-    ) -> Result<Parser, Stop>
+        parts: &mut Vec<&'a [u8]>,
+    ) -> Result<(), Stop>
         requires { IsPart source.now token }
-        ensures { StepGives result (step kernel source.now (parser_view self) token) }
+        ensures { StepGives result (parser_view self.new) (step kernel source.entry.now (parser_view self.old) token) }
     {
         let at = Position {
             line: token.line,
@@ -146,13 +113,15 @@ impl Parser {
             self.locals,
             at,
             token.text(source),
+            parts,
         )?;
         self.take(alloc, kernel, symbol)
     }
 
     // The tree, where the source may end here.
-    pub(crate) fn finish(self, kernel: bool, end: Place) -> Result<Ast, ParseError>
-        ensures { Gives result (ended kernel end self.consts (parser_view self).configuration) }
+    pub(crate) fn finish(self, kernel: bool, source: &[u8]) -> Result<Ast, ParseError>
+        requires { length source.now ≤ MAX_SOURCE }
+        ensures { Gives result (ended kernel (place_after source.now) self.consts (parser_view self).configuration) }
     {
         let Parser {
             consts,
@@ -170,11 +139,14 @@ impl Parser {
                 procs,
                 main: Some(main),
             }),
-            _ => Err(ParseError::Bad {
-                line: end.line,
-                column: end.column,
-                cause: Cause::Syntax,
-            }),
+            _ => {
+                let end = end_place(source);
+                Err(ParseError::Bad {
+                    line: end.line,
+                    column: end.column,
+                    cause: Cause::Syntax,
+                })
+            }
         }
     }
 }

@@ -7,7 +7,7 @@ ghost use Rattle.masm_parse.specs.Views.{source_of, Gives};
 use crate::parser::Parser;
 use crate::refusal::{ParseError, Stop};
 use crate::tree::Ast;
-use masm_lex::{MAX_SOURCE, Tokens, end_place};
+use masm_lex::{MAX_SOURCE, Tokens};
 use std::alloc::Global;
 
 // The parser, a token at a time.
@@ -23,10 +23,11 @@ fn read_tokens(
     ensures { Gives result (parsed kernel source.now tokens.now) }
 {
     let mut parser = Parser::new(alloc);
+    let mut parts = Vec::new(alloc);
     let items = tokens.as_slice();
     for token in items {
-        parser = match parser.step(alloc, kernel, source, *token) {
-            Ok(now) => now,
+        match parser.step(alloc, kernel, source, *token, &mut parts) {
+            Ok(()) => {}
             Err(Stop::Memory) => return Err(ParseError::Memory),
             Err(Stop::Refused(cause)) => {
                 return Err(ParseError::Bad {
@@ -35,9 +36,9 @@ fn read_tokens(
                     cause,
                 });
             }
-        };
+        }
     }
-    parser.finish(kernel, end_place(source))
+    parser.finish(kernel, source)
 }
 
 /// The syntax tree of a source, a kernel's or a program's, with the tokens that the lexer gave for

@@ -1,4 +1,5 @@
 ghost use Rattle.std.specs.Prelude.{◌≡◌, ℕ, IfOk, map, Result};
+ghost use Rattle.instr_reading.specs.Reading.{parts_of};
 ghost use Rattle.masm_parse.specs.declared.terminal.Terminal.{Terminal};
 ghost use Rattle.masm_parse.specs.declared.refusal.Cause.{Cause};
 ghost use Rattle.masm_parse.specs.Classify.{constant, definition, locals_of, header, main, alone, on_true, repetition, usage, phrase, instruction, nameless, blank, blank_of, symbol_with, classify_keyword, classify_instruction, classify, Gives};
@@ -8,7 +9,7 @@ use crate::parts::{Case, is_name};
 use crate::refusal::{Cause, Stop};
 use crate::terminal::{Header, Leaf, Role, Symbol, Terminal, Use};
 use crate::tree::Position;
-use instr_reading::{Const, Consts, read_instr, read_number, read_parameter, split};
+use instr_reading::{Const, Consts, read_number, read_parameter, read_parts, split, split_into};
 use std::alloc::{AllocError, Global};
 use vm_field::{Bytes, Felt, Memory};
 
@@ -188,17 +189,19 @@ fn read_phrase(
 }
 
 // Another token, which is an instruction.
-#[tactic(auto, unfolding(crate::specs::Classify::instruction))]
+#[tactic(auto, unfolding(crate::specs::Classify::instruction, instr_reading::specs::Reading::read))]
 fn read_instruction(
     alloc: Global,
     consts: &Consts,
     locals: u32,
     at: Position,
     text: &[u8],
+    parts: &[&[u8]],
 ) -> Result<Terminal, Stop>
+    requires { map (λ part. part.now) parts.now ≡ parts_of text.now }
     ensures { Gives result (instruction (record { consts = consts.now; locals = locals }) at text.now) }
 {
-    let instr = read_instr(alloc, text, consts)?;
+    let instr = read_parts(alloc, text, parts, consts)?;
     if instr.name().names_local()
         && instr
             .numbers()
@@ -294,33 +297,54 @@ fn classify_instruction(
     locals: u32,
     at: Position,
     text: &[u8],
+    parts: &[&[u8]],
 ) -> Result<Symbol, AllocError>
+    requires { map (λ part. part.now) parts.now ≡ parts_of text.now }
     ensures { IfOk result (λ symbol. symbol ≡ classify_instruction (record { consts = consts.now; locals = locals }) at text.now) }
 {
     symbol_with(
         blank(alloc, at),
-        read_instruction(alloc, consts, locals, at, text),
+        read_instruction(alloc, consts, locals, at, text, parts),
     )
 }
 
-// The token of this text, with the constants defined before it and the count of locals.
+// The token of this text and these parts, with the constants defined before it and the count of
+// locals.
 #[tactic(auto, unfolding(crate::specs::Classify::classify))]
-pub(crate) fn classify(
+fn classify_parts(
     alloc: Global,
     kernel: bool,
     consts: &Consts,
     locals: u32,
     at: Position,
     text: &[u8],
+    parts: &[&[u8]],
 ) -> Result<Symbol, AllocError>
+    requires { map (λ part. part.now) parts.now ≡ parts_of text.now }
     ensures { IfOk result (λ symbol. symbol ≡ classify kernel (record { consts = consts.now; locals = locals }) at text.now) }
 {
-    let parts = split(alloc, text, b'.')?;
-    let Some((first, rest)) = parts.as_slice().split_first() else {
-        return classify_instruction(alloc, consts, locals, at, text);
+    let Some((first, rest)) = parts.split_first() else {
+        return classify_instruction(alloc, consts, locals, at, text, parts);
     };
     match keyword_of(first) {
-        None => classify_instruction(alloc, consts, locals, at, text),
+        None => classify_instruction(alloc, consts, locals, at, text, parts),
         Some(keyword) => classify_keyword(alloc, kernel, consts, at, rest, keyword),
     }
+}
+
+// The token of this text, with the constants defined before it and the count of locals. Its parts are
+// put into the list, in place of what it holds.
+pub(crate) fn classify<'a>(
+    alloc: Global,
+    kernel: bool,
+    consts: &Consts,
+    locals: u32,
+    at: Position,
+    text: &'a [u8],
+    parts: &mut Vec<&'a [u8]>,
+) -> Result<Symbol, AllocError>
+    ensures { IfOk result (λ symbol. symbol ≡ classify kernel (record { consts = consts.now; locals = locals }) at text.entry.now) }
+{
+    split_into(parts, text, b'.')?;
+    classify_parts(alloc, kernel, consts, locals, at, text, parts)
 }

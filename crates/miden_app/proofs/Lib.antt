@@ -1,12 +1,3 @@
-pub mod OutcomeLemmas
-pub mod RunLemmas
-pub mod RunWords
-pub mod SourceLemmas
-pub mod ServingLemmas
+pub mod CheckWords
 pub mod PrintingLemmas
-pub mod LawLemmas
-pub mod CheckLemmas
-pub mod EvidenceLaw
-pub mod ApartNames
-pub mod Walks
-pub mod CompleteLaw
+pub mod RunWords

@@ -2,14 +2,14 @@
 use Rattle.std.proofs.Common.{Option, Some, None, inl, inr}
 use Rattle.vm_io.specs.Shelf.{Files, ShelfState}
 use Rattle.vm_io.specs.Sink.{SinkState}
-use Rattle.miden_app.specs.declared.status.Status.{Status}
-use Rattle.miden_app.specs.declared.outcome.Answer.{Answer}
-use Rattle.miden_app.specs.declared.outcome.Outcome.{Outcome}
-use Rattle.miden_app.specs.declared.outcome.Outcome.TheVariants as outcome
-use Rattle.miden_app.specs.Statuses.{Kind, planned, no_command, failed_read, failed_write, failed_print, no_memory, kind_of}
-use Rattle.miden_app.specs.Steps.{Steps}
-use Rattle.miden_app.specs.Serving.{Leads, Works, GivesUp, Prints, Answers}
-use Rattle.miden_app.specs.Inside.Outcomes.{EndsIn, PrintStep, printed, refused, given_up}
+use Rattle.commands.specs.declared.status.Status.{Status}
+use Rattle.commands.specs.declared.answer.Answer.{Answer}
+use Rattle.command_ends.specs.declared.outcome.Outcome.{Outcome}
+use Rattle.command_ends.specs.declared.outcome.Outcome.TheVariants as outcome
+use Rattle.commands.specs.Statuses.{Kind, planned, no_command, failed_read, failed_write, failed_print, no_memory, kind_of}
+use Rattle.commands.specs.Steps.{Steps}
+use Rattle.commands.specs.Serving.{Leads, Works, GivesUp, Prints, Answers}
+use Rattle.command_ends.specs.Outcomes.{EndsIn, PrintStep, printed, refused, given_up}
 
 weaker : (told : Option Files) (steps : Steps) (P Q : Steps → Option Files → Type 0) → ((left : Steps) (now : Option Files) → P left now → Q left now)
     → Leads steps P told → Leads steps Q told

@@ -2,9 +2,9 @@
 use Rattle.std.proofs.Common.{◌≡◌, [], ◌∷◌, ℕ, Bool, true, false, List, codes, Option, Some, refl, subst, sym}
 use Rattle.std.specs.Bool.{if◌then◌else◌}
 use Rattle.command_words.specs.Words.{is_form, name_at, optional_name}
-use Rattle.miden_app.specs.Asked.{Asked, Outputs, nothing, limit_in, outputs_in, run_apart, run_of_names, run_words}
+use Rattle.commands.specs.Asked.{Asked, Outputs, nothing, limit_in, outputs_in, run_apart, run_of_names, run_words}
 
-chosen : (b : Bool) (x y a : Asked) → b ≡ true → a ≡ x → a ≡ (if b then x else y)
+pub chosen : (b : Bool) (x y a : Asked) → b ≡ true → a ≡ x → a ≡ (if b then x else y)
 chosen b x y a is same = subst (λ c. a ≡ (if c then x else y)) (sym is) same
 
 other : (b : Bool) (x y : Asked) → b ≡ false → y ≡ (if b then x else y)

@@ -1,13 +1,1 @@
-pub mod Statuses
-pub mod Asked
-pub mod Steps
-pub mod Commands
-pub mod Serving
-pub mod Laws
-pub mod Inside
-pub mod CheckEnds
-pub mod HashEnds
-pub mod Malformed
-pub mod SourceEnds
-pub mod AssembleEnds
-pub mod RunEnds
+pub mod Asking

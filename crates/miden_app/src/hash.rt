@@ -1,16 +1,15 @@
 // `hash`: the digest of a file of numbers.
 ghost use Rattle.std.specs.Prelude.{◌≡◌, ◌≤◌, length, IfOk, Some};
 ghost use Rattle.rpo_hash.specs.Constants.{constants_of};
-ghost use Rattle.miden_app.specs.Commands.{hash_steps, numbers_steps};
-ghost use Rattle.miden_app.specs.Inside.Outcomes.{ComesTo, EndsIn, Says};
+ghost use Rattle.commands.specs.Commands.{hash_steps, numbers_steps};
+ghost use Rattle.command_ends.specs.Outcomes.{ComesTo, EndsIn, Says};
 ghost use Rattle.number_files.specs.Grammar.{numbers_of};
-ghost use Rattle.miden_app.specs.HashEnds.{hash_end, digest_line};
+ghost use Rattle.commands.specs.HashEnds.{hash_end, digest_line};
 
-use crate::lines::append_word;
-use crate::loading::{MOST_PARAMS_BYTES, load};
-use crate::malformed::{malformed, malformed_params};
-use crate::outcome::{Outcome, answered};
-use crate::status::Status;
+use command_ends::{
+    MOST_PARAMS_BYTES, Outcome, answered, append_word, load, malformed, malformed_params,
+};
+use commands::Status;
 use number_files::{NumbersStop, cause_text, digest_of_elements, read_numbers};
 use rpo_hash::Params;
 use std::alloc::Global;
@@ -22,7 +21,7 @@ const MOST_NUMBERS_BYTES: u64 = 262144;
 
 /// `hash`: reads the parameters, then the numbers, and hashes these, eight to a block, with
 /// domain 0.
-#[tactic(auto, using(crate::proofs::ServingLemmas::work_ends, crate::proofs::ServingLemmas::says_comes))]
+#[tactic(auto, using(command_ends::proofs::ServingLemmas::work_ends, command_ends::proofs::ServingLemmas::says_comes))]
 pub fn hash_files<F: Shelf>(alloc: Global, shelf: &mut F, params: &str, numbers: &str) -> Outcome
     requires params { length params.now ≤ 200 }
     requires numbers { length numbers.now ≤ 200 }
@@ -38,7 +37,7 @@ pub fn hash_files<F: Shelf>(alloc: Global, shelf: &mut F, params: &str, numbers:
 }
 
 // Reads and hashes the numbers.
-#[tactic(auto, using(crate::proofs::ServingLemmas::work_ends))]
+#[tactic(auto, using(command_ends::proofs::ServingLemmas::work_ends))]
 fn hash_file<F: Shelf>(alloc: Global, shelf: &mut F, constants: &Params, name: &str) -> Outcome
     requires { length name.now ≤ 200 }
     ensures { EndsIn (Some (numbers_steps name.now (constants_of constants.now))) result (F.state shelf.old) (F.state shelf.new) }

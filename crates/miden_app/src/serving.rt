@@ -1,17 +1,16 @@
 ghost use Rattle.std.specs.Prelude.{codes};
-ghost use Rattle.miden_app.specs.Asked.{asked};
+ghost use Rattle.commands.specs.Asked.{asked};
 ghost use Rattle.command_words.specs.Words.{texts};
-ghost use Rattle.miden_app.specs.Commands.{steps_of};
-ghost use Rattle.miden_app.specs.Inside.Outcomes.{EndsIn, PrintStep, Says};
-ghost use Rattle.miden_app.specs.Serving.{Serves};
+ghost use Rattle.commands.specs.Commands.{steps_of};
+ghost use Rattle.command_ends.specs.Outcomes.{EndsIn, PrintStep, Says};
+ghost use Rattle.commands.specs.Serving.{Serves};
 
-use crate::assembly::assemble_files;
-use crate::checking::{CheckNames, check_files};
 use crate::hash::hash_files;
-use crate::outcome::{Outcome, answered};
-use crate::running::{RunOptions, run_files};
-use crate::status::Status;
 use crate::words::{Command, command_of};
+use check_command::{CheckNames, check_files};
+use command_ends::{Outcome, answered};
+use commands::Status;
+use source_commands::{RunOptions, assemble_files, run_source_files};
 use std::alloc::Global;
 use vm_field::Bytes;
 use vm_io::{Gate, Shelf, Sink, SinkStop};
@@ -44,7 +43,7 @@ pub fn serve<F: Shelf, K: Sink, G: Gate>(
 }
 
 // Does the work of the command, and leaves its line to be printed.
-#[tactic(auto, using(crate::proofs::ServingLemmas::usage_ends))]
+#[tactic(auto, using(command_ends::proofs::ServingLemmas::usage_ends))]
 fn obey<F: Shelf, G: Gate>(alloc: Global, words: &[Vec<u8>], shelf: &mut F, gate: &G) -> Outcome
     ensures { EndsIn (steps_of (asked (texts words.now))) result (F.state shelf.old) (F.state shelf.new) }
 {
@@ -62,7 +61,7 @@ fn obey<F: Shelf, G: Gate>(alloc: Global, words: &[Vec<u8>], shelf: &mut F, gate
             outputs,
             kernel,
             limit,
-        } => run_files(
+        } => run_source_files(
             alloc,
             shelf,
             params,

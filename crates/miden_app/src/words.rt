@@ -3,17 +3,12 @@ ghost use Rattle.std.specs.Prelude.{◌≡◌, ◌≤◌, ◌∷◌, length, opt
 ghost use Rattle.std.specs.List.{list_any};
 ghost use Rattle.std.specs.Str.{bytes_eq};
 ghost use Rattle.command_words.specs.Words.{texts};
-ghost use Rattle.miden_app.specs.Asked.{nothing, hash, assemble, check, check_words, check_of_names, is_apart, hash_words, hash_of_names, assemble_words, assemble_of_names, run, run_words, run_of_names, run_apart, given_name, outputs_in, limit_in, asked};
-ghost use Rattle.miden_app.specs.Inside.Asking.{asks, AreNamed, IsNamed, outputs_from};
+ghost use Rattle.commands.specs.Asked.{nothing, hash, assemble, check, check_words, check_of_names, is_apart, hash_words, hash_of_names, assemble_words, assemble_of_names, run, run_words, run_of_names, run_apart, given_name, outputs_in, limit_in, asked};
+ghost use Rattle.source_commands.specs.Naming.{AreNamed, outputs_from};
+ghost use Rattle.miden_app.specs.Asking.{asks, IsNamed};
 
 use command_words::{is_form, name_at, optional_name, optional_number};
-
-/// The names of the files that `run` writes.
-#[derive(Clone, Copy)]
-pub struct Outputs<'a> {
-    pub table: &'a str,
-    pub statement: &'a str,
-}
+use source_commands::Outputs;
 
 /// What the words after the program's name ask for.
 pub enum Command<'a> {
@@ -52,7 +47,7 @@ pub enum Command<'a> {
 const MOST_CYCLES: u32 = 524_287;
 
 /// Reads the words.
-#[tactic(auto, unfolding(crate::specs::Asked::asked))]
+#[tactic(auto, unfolding(commands::specs::Asked::asked))]
 pub fn command_of(words: &[Vec<u8>]) -> Command<'_>
     ensures asks { asks result ≡ asked (texts words.now) }
     ensures named { IsNamed result }

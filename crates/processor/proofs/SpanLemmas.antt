@@ -1,5 +1,5 @@
 -- The batches of a span and the operations of a batch, one after another.
-use Rattle.std.proofs.Common.{◌≡◌, ℕ, ◌+◌, ◌<◌, ◌≤◌, List, ◌∷◌, length, drop, get_or, Ok, refl, sym, ap, ◌∙◌}
+use Rattle.std.proofs.Common.{◌≡◌, ℕ, ◌+◌, ◌<◌, ◌≤◌, List, ◌∷◌, length, drop, get_or, Ok, refl, sym, ap, subst, ◌∙◌}
 use Rattle.std.proofs.lemmas.List.{drop_all, drop_more}
 use Rattle.vm_field.specs.Machine as machine
 use Rattle.vm_ops.specs.declared.item.Item.{Item}
@@ -8,8 +8,10 @@ use Rattle.block_tree.specs.Cycles.{Do, EndSpan, Respan, StartSpan}
 use Rattle.block_tree.specs.Execution.{Part, seq}
 use Rattle.block_tree.specs.Trees.{Span}
 use Rattle.vm_state.specs.Views.{state_of}
+use Rattle.processor.specs.Nodes.{elements_of}
 use Rattle.processor.specs.Running.{Ran}
 use Rattle.processor.specs.Settings.{batches_in, cycle_in, digest_of, execution_in, operations_in, read_operations_in}
+use Rattle.processor.specs.declared.batch.ReadBatch.{ReadBatch}
 use Rattle.processor.specs.declared.cycle.Runner.{Runner}
 use Rattle.processor.specs.declared.setting.Setting.{Setting}
 use Rattle.processor.proofs.RunLemmas.{Left, left-along, ran-along, ran-skip}
@@ -33,19 +35,31 @@ module _ (setting : Setting) where
       ran-along (ap (λ xs. operations_in setting xs (state_of now.state)) (drop_all i items past)) (ran-skip setting now u)
 
   -- the next batch, and then the others
-  pub left-batch : (batches : List (List ℕ)) (i : ℕ) (batch : List ℕ) {whole : Part} {from now : Runner} → i < length batches → batch ≡ get_or batches i batch
-      → Left setting whole (batches_in setting Respan (drop i batches)) from now
-      → Left setting whole (seq (cycle_in setting (Respan batch)) (seq (read_operations_in setting (reading batch)) (batches_in setting Respan (drop (i + 1) batches)))) from now
-  left-batch batches i batch {now = now} within is left =
-      left-along (batches_in setting Respan (drop i batches))
-      (seq (cycle_in setting (Respan batch)) (seq (read_operations_in setting (reading batch)) (batches_in setting Respan (drop (i + 1) batches))))
-      (ap (λ xs. batches_in setting Respan xs (state_of now.state)) (from_place batches i batch within is)) left
+  pub left-batch : (batches : List ReadBatch) (i : ℕ) (batch : ReadBatch) (elements : List ℕ) {whole : Part} {from now : Runner} → i < length batches
+      → batch ≡ get_or batches i batch → elements ≡ batch.elements
+      → Left setting whole (batches_in setting Respan (elements_of (drop i batches))) from now
+      → Left setting whole (seq (cycle_in setting (Respan elements)) (seq (read_operations_in setting (reading batch.elements))
+      (batches_in setting Respan (elements_of (drop (i + 1) batches))))) from now
+  left-batch batches i batch elements {whole} {from} {now} within is same left = subst (λ shown. Left setting whole (seq (cycle_in setting (Respan shown))
+      (seq (read_operations_in setting (reading batch.elements)) (batches_in setting Respan (elements_of (drop (i + 1) batches))))) from now) (sym same) (
+      left-along (batches_in setting Respan (elements_of (drop i batches)))
+      (seq (cycle_in setting (Respan batch.elements)) (seq (read_operations_in setting (reading batch.elements)) (batches_in setting Respan (elements_of (drop (i + 1) batches)))))
+      (ap (λ xs. batches_in setting Respan (elements_of xs) (state_of now.state)) (from_place batches i batch within is)) left)
 
-  pub no_batches : (batches : List (List ℕ)) (i : ℕ) (now : Runner) (u : Unit {0}) → length batches ≤ i
-      → Ran setting (batches_in setting Respan (drop i batches) (state_of now.state)) now.log (Ok u) now
+  -- the first batch, and then the others
+  pub first-batch : (batches : List ReadBatch) (batch : ReadBatch) (later : List ReadBatch) (elements : List ℕ) (s : machine.State)
+      → batches ≡ batch ∷ later → elements ≡ batch.elements
+      → batches_in setting StartSpan (elements_of batches) s
+      ≡ seq (cycle_in setting (StartSpan elements)) (seq (read_operations_in setting (reading batch.elements)) (batches_in setting Respan (elements_of later))) s
+  first-batch batches batch later elements s is same =
+      ap (λ xs. batches_in setting StartSpan (elements_of xs) s) is
+      ∙ ap (λ shown. seq (cycle_in setting (StartSpan shown)) (seq (read_operations_in setting (reading batch.elements)) (batches_in setting Respan (elements_of later))) s) (sym same)
+
+  pub no_batches : (batches : List ReadBatch) (i : ℕ) (now : Runner) (u : Unit {0}) → length batches ≤ i
+      → Ran setting (batches_in setting Respan (elements_of (drop i batches)) (state_of now.state)) now.log (Ok u) now
   no_batches batches i now u past =
-      ran-along (ap (λ xs. batches_in setting Respan xs (state_of now.state)) (drop_all i batches past)) (ran-skip setting now u)
+      ran-along (ap (λ xs. batches_in setting Respan (elements_of xs) (state_of now.state)) (drop_all i batches past)) (ran-skip setting now u)
 
-  pub span-as : (batches same : List (List ℕ)) (digest : List ℕ) (s : machine.State) → same ≡ batches → digest ≡ digest_of setting (Span batches)
-      → execution_in setting (Span batches) s ≡ seq (batches_in setting StartSpan same) (cycle_in setting (EndSpan digest)) s
-  span-as batches same digest s e f = rw (e, f) refl
+  pub span-as : (batches : List (List ℕ)) (digest : List ℕ) (s : machine.State) → digest ≡ digest_of setting (Span batches)
+      → execution_in setting (Span batches) s ≡ seq (batches_in setting StartSpan batches) (cycle_in setting (EndSpan digest)) s
+  span-as batches digest s e = rw e refl

@@ -1,9 +1,14 @@
--- Trees that hold their digests.
-use Rattle.std.specs.Prelude.{◌≡◌, ℕ, List}
+-- Trees that hold their digests, and their batches as they are read.
+use Rattle.std.specs.Prelude.{◌≡◌, ℕ, List, map}
 use Rattle.block_tree.specs.Trees as blocks
 use Rattle.block_tree.specs.Trees.{tree_digest}
+use Rattle.processor.specs.declared.batch.ReadBatch.{ReadBatch}
 use Rattle.processor.specs.declared.node.Node.{Node}
 use Rattle.processor.specs.declared.node.Node.TheVariants.{Opaque, Span, Join', Split', Loop', Call', Syscall'}
+
+-- the batches alone
+abbrev pub elements_of : List ReadBatch → List (List ℕ)
+elements_of batches = map (λ (b : ReadBatch). b.elements) batches
 
 abbrev pub digest_in : Node → List ℕ
 digest_in (Opaque digest) = digest
@@ -14,10 +19,10 @@ digest_in (Loop' digest p body) = digest
 digest_in (Call' digest p callee) = digest
 digest_in (Syscall' digest p callee) = digest
 
--- the tree without its digests
+-- the tree without its digests and readings
 abbrev pub node_tree : Node → blocks.Tree
 node_tree (Opaque digest) = blocks.Opaque digest
-node_tree (Span digest batches) = blocks.Span batches.now
+node_tree (Span digest batches) = blocks.Span (elements_of batches.items)
 node_tree (Join' digest p first q second) = blocks.Join (node_tree first) (node_tree second)
 node_tree (Split' digest p on_one q on_zero) = blocks.Split (node_tree on_one) (node_tree on_zero)
 node_tree (Loop' digest p body) = blocks.Loop (node_tree body)
@@ -27,7 +32,7 @@ node_tree (Syscall' digest p callee) = blocks.Syscall (node_tree callee)
 -- each block stands beside its own digest
 abbrev pub IsHashed : List ℕ → Node → Type 0
 IsHashed constants (Opaque digest) = Unit {0}
-IsHashed constants (Span digest batches) = digest ≡ tree_digest constants (blocks.Span batches.now)
+IsHashed constants (Span digest batches) = digest ≡ tree_digest constants (blocks.Span (elements_of batches.items))
 IsHashed constants (Join' digest p first q second) =
     (digest ≡ tree_digest constants (blocks.Join (node_tree first) (node_tree second))) × IsHashed constants first × IsHashed constants second
 IsHashed constants (Split' digest p on_one q on_zero) =

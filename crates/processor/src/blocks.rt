@@ -1,24 +1,23 @@
-ghost use Rattle.std.specs.Prelude.{◌≡◌, ℕ, ◌+◌, ◌≤◌, All, IfSome};
+ghost use Rattle.std.specs.Prelude.{◌≡◌, ℕ, ◌+◌, ◌≤◌, All};
 ghost use Rattle.block_tree.specs.Cycles as cycles;
 ghost use Rattle.block_tree.specs.Execution.{at_bit};
 ghost use Rattle.block_tree.specs.Trees as trees;
 ghost use Rattle.op_pack.specs.Reading.{reading};
 ghost use Rattle.vm_ops.specs.Items.{IsOrdinaryItem};
 ghost use Rattle.vm_state.specs.Views.{state_of};
-ghost use Rattle.processor.specs.Nodes.{IsHashed, node_tree};
+ghost use Rattle.processor.specs.Nodes.{IsHashed, elements_of, node_tree};
 ghost use Rattle.processor.specs.Running.{Ran};
 ghost use Rattle.processor.specs.Settings.{batches_in, constants_in, digest_of, execution_in, operations_in, read_operations_in, turns_in};
 
-use crate::batch::Batch;
+use crate::batch::ReadBatch;
 use crate::cycle::{Runner, cycle, enter, operation};
 use crate::effect::top_of;
 use crate::mark::Mark;
 use crate::node::Node;
 use crate::refusal::Stop;
 use crate::setting::Setting;
-use op_pack::{Batches, unpack};
 use vm_field::{Felt, Word};
-use vm_ops::{Item, Items};
+use vm_ops::Item;
 
 // The run of a block.
 #[cycle(blocks)]
@@ -28,7 +27,7 @@ pub(crate) fn block(runner: &mut Runner, setting: &Setting, node: &Node) -> Resu
 {
     match node {
         Node::Opaque(_) => cycle(runner, setting, Mark::StartOpaque),
-        Node::Span(digest, batches) => span(runner, setting, digest, batches),
+        Node::Span(digest, batches) => span(runner, setting, digest, batches.as_slice()),
         Node::Join(digest, first, second) => join(runner, setting, digest, first, second),
         Node::Split(digest, on_one, on_zero) => split(runner, setting, digest, on_one, on_zero),
         Node::Loop(digest, body) => repeated(runner, setting, digest, body),
@@ -160,62 +159,45 @@ fn span(
     runner: &mut Runner,
     setting: &Setting,
     digest: &Word,
-    batches: &Batches,
+    batches: &[ReadBatch],
 ) -> Result<(), Stop>
-    requires digest { digest.now ≡ digest_of setting.now (trees.Span batches.now) }
-    ensures { Ran setting.now (execution_in setting.now (trees.Span batches.now) (state_of runner.old.state)) runner.old.log result runner.new }
+    requires digest { digest.now ≡ digest_of setting.now (trees.Span (elements_of batches.now)) }
+    ensures { Ran setting.now (execution_in setting.now (trees.Span (elements_of batches.now)) (state_of runner.old.state)) runner.old.log result runner.new }
 {
-    all_batches(runner, setting, batches.as_slice())?;
+    all_batches(runner, setting, batches)?;
     cycle(runner, setting, Mark::EndSpan(*digest))
 }
 
 // The batches of a span.
-fn all_batches(runner: &mut Runner, setting: &Setting, batches: &[[Felt; 8]]) -> Result<(), Stop>
-    ensures { Ran setting.now (batches_in setting.now cycles.StartSpan batches.now (state_of runner.old.state)) runner.old.log result runner.new }
+fn all_batches(runner: &mut Runner, setting: &Setting, batches: &[ReadBatch]) -> Result<(), Stop>
+    ensures { Ran setting.now (batches_in setting.now cycles.StartSpan (elements_of batches.now) (state_of runner.old.state)) runner.old.log result runner.new }
 {
     match batches.split_first() {
         None => Ok(()),
         Some((first, later)) => {
-            let items = unpack(setting.alloc, first)?;
-            let batch = Batch {
-                elements: *first,
-                is_read: items.is_some(),
-            };
-            cycle(runner, setting, Mark::StartSpan(batch))?;
-            batch_operations(runner, setting, first, &items)?;
+            cycle(runner, setting, Mark::StartSpan(first.shown()))?;
+            batch_operations(runner, setting, first)?;
             later_batches(runner, setting, later)
         }
     }
 }
 
 // The batches behind the first.
-fn later_batches(runner: &mut Runner, setting: &Setting, batches: &[[Felt; 8]]) -> Result<(), Stop>
-    ensures { Ran setting.now (batches_in setting.now cycles.Respan batches.now (state_of runner.old.state)) runner.old.log result runner.new }
+fn later_batches(runner: &mut Runner, setting: &Setting, batches: &[ReadBatch]) -> Result<(), Stop>
+    ensures { Ran setting.now (batches_in setting.now cycles.Respan (elements_of batches.now) (state_of runner.old.state)) runner.old.log result runner.new }
 {
     for batch in batches {
-        let items = unpack(setting.alloc, batch)?;
-        let read = Batch {
-            elements: *batch,
-            is_read: items.is_some(),
-        };
-        cycle(runner, setting, Mark::Respan(read))?;
-        batch_operations(runner, setting, batch, &items)?;
+        cycle(runner, setting, Mark::Respan(batch.shown()))?;
+        batch_operations(runner, setting, batch)?;
     }
     Ok(())
 }
 
 // The operations of a batch, as it is read. One that has no reading has trapped before.
-fn batch_operations(
-    runner: &mut Runner,
-    setting: &Setting,
-    batch: &[Felt; 8],
-    items: &Option<Items>,
-) -> Result<(), Stop>
-    requires read { items.now ≡ reading batch.now }
-    requires ordinary { IfSome items.now (λ items. All IsOrdinaryItem items) }
-    ensures { Ran setting.now (read_operations_in setting.now (reading batch.now) (state_of runner.old.state)) runner.old.log result runner.new }
+fn batch_operations(runner: &mut Runner, setting: &Setting, batch: &ReadBatch) -> Result<(), Stop>
+    ensures { Ran setting.now (read_operations_in setting.now (reading batch.now.elements) (state_of runner.old.state)) runner.old.log result runner.new }
 {
-    match items {
+    match &batch.items {
         None => Ok(()),
         Some(items) => all_operations(runner, setting, items.as_slice()),
     }

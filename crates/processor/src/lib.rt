@@ -10,6 +10,7 @@ mod event;
 mod execution;
 mod mark;
 mod node;
+mod reading;
 mod refusal;
 mod run;
 mod setting;

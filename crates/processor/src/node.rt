@@ -3,27 +3,29 @@ ghost use Rattle.block_tree.specs.TreeView.{tree_of};
 ghost use Rattle.block_tree.specs.Trees.{tree_digest};
 ghost use Rattle.processor.specs.Nodes.{IsHashed, digest_in, node_tree};
 
+use crate::batch::ReadBatch;
 use crate::digests::Digests;
+use crate::reading::read_batches;
 use block_tree::Tree;
-use op_pack::Batches;
 use perm_memo::Permutations;
 use std::alloc::Global;
 use vm_field::{Memory, Word};
 use vm_ops::Op;
 
-// A block with its digest in front, so that each digest is computed once.
+// A block with its digest in front, so that each digest is computed once, and with its batches as
+// they are read, so that each is read once.
 #[derive(Drop)]
-pub(crate) enum Node<'a> {
+pub(crate) enum Node {
     Opaque(Word),
-    Span(Word, &'a Batches),
-    Join(Word, Box<Node<'a>>, Box<Node<'a>>),
-    Split(Word, Box<Node<'a>>, Box<Node<'a>>),
-    Loop(Word, Box<Node<'a>>),
-    Call(Word, Box<Node<'a>>),
-    Syscall(Word, Box<Node<'a>>),
+    Span(Word, Vec<ReadBatch>),
+    Join(Word, Box<Node>, Box<Node>),
+    Split(Word, Box<Node>, Box<Node>),
+    Loop(Word, Box<Node>),
+    Call(Word, Box<Node>),
+    Syscall(Word, Box<Node>),
 }
 
-impl Node<'_> {
+impl Node {
     // The digest of the block.
     pub fn digest(&self) -> Word
         ensures is { result ≡ digest_in self.now }
@@ -43,11 +45,11 @@ impl Node<'_> {
 
 // The tree with its digests, and the permutations with those that were computed for it. A block is
 // hashed once, whatever its copies.
-pub(crate) fn hashed<'a>(
+pub(crate) fn hashed(
     alloc: Global,
     permutations: Permutations,
-    tree: &'a Tree,
-) -> Result<(Node<'a>, Permutations), Memory>
+    tree: &Tree,
+) -> Result<(Node, Permutations), Memory>
     ensures hashed { IfOk result (λ r. IsHashed permutations r.0) }
     ensures tree { IfOk result (λ r. node_tree r.0 ≡ tree_of tree.now) }
     ensures digest { IfOk result (λ r. digest_in r.0 ≡ tree_digest permutations (tree_of tree.now)) }
@@ -59,7 +61,7 @@ pub(crate) fn hashed<'a>(
 }
 
 // The tree with its digests, of which some may be known.
-fn node_of<'a>(alloc: Global, digests: &mut Digests, tree: &'a Tree) -> Result<Node<'a>, Memory>
+fn node_of(alloc: Global, digests: &mut Digests, tree: &Tree) -> Result<Node, Memory>
     ensures hashed { IfOk result (λ node. IsHashed digests.old.permutations node) }
     ensures tree { IfOk result (λ node. node_tree node ≡ tree_of tree.now) }
     ensures digest { IfOk result (λ node. digest_in node ≡ tree_digest digests.old.permutations (tree_of tree.now)) }
@@ -67,7 +69,10 @@ fn node_of<'a>(alloc: Global, digests: &mut Digests, tree: &'a Tree) -> Result<N
 {
     Ok(match tree {
         Tree::Opaque(digest) => Node::Opaque(*digest),
-        Tree::Span(batches) => Node::Span(digests.of_span(alloc, batches)?, batches),
+        Tree::Span(batches) => {
+            let digest = digests.of_span(alloc, batches)?;
+            Node::Span(digest, read_batches(alloc, batches)?)
+        }
         Tree::Join(first, second) => {
             let first = node_of(alloc, digests, first)?;
             let second = node_of(alloc, digests, second)?;

@@ -14,7 +14,7 @@ pub struct Run {
     pub events: Events,
     /// The digest of the program's tree.
     pub digest: Word,
-    /// The permutations that were computed for it, so that none of them is computed again for its
-    /// tables.
+    /// Those of the permutations computed for it that are kept, so that none of these is computed
+    /// again for its tables.
     pub permutations: Permutations,
 }

@@ -3,4 +3,3 @@ pub mod Causes
 pub mod Inputs
 pub mod ToJson
 pub mod Statements
-pub mod EvidenceText

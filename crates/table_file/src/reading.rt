@@ -1,4 +1,4 @@
-ghost use Rattle.std.specs.Prelude.{◌≡◌, ◌==◌, ℕ, ◌+◌, ◌*◌, ◌^◌, ◌<◌, ◌≤◌, Bool, drop, length, take, Result, Ok, IfOk};
+ghost use Rattle.std.specs.Prelude.{◌≡◌, ◌==◌, ℕ, ◌+◌, ◌*◌, ◌^◌, ◌<◌, ◌≤◌, Bool, drop, length, take, Result, Ok, Err, IfOk, OnOk, IfErr};
 ghost use Rattle.byteorder.specs.Endian.{little_number};
 ghost use Rattle.air_kit.specs.Traces.{HasCounts};
 ghost use Rattle.table_file.specs.declared.cause.FileCause.TheVariants as cause;
@@ -126,22 +126,24 @@ fn read_table<const W: usize>(
 {
     let mut table = Table::new(alloc);
     table.reserve(rows)?;
+    let mut row = [Felt::ZERO; W];
     for i in 0..rows {
-        let row = read_row(bytes, at + ELEMENT_BYTES * W * i)?;
+        read_row(bytes, at + ELEMENT_BYTES * W * i, &mut row)?;
         table.push_row(&row)?;
     }
     Ok(table)
 }
 
 // A row from a place on. Where it stands there whole, its bytes are looked up once, which is faster.
-fn read_row<const W: usize>(bytes: &[u8], at: usize) -> Result<[Felt; W], FileError>
+fn read_row<const W: usize>(bytes: &[u8], at: usize, row: &mut [Felt; W]) -> Result<(), FileError>
     requires narrow { W ≤ 65 }
     requires place { at ≤ 2 ^ 35 }
-    ensures { result ≡ row_at bytes.now W at }
+    ensures ok { OnOk result (row_at bytes.now W at ≡ Ok row.new) }
+    ensures err { IfErr result (λ error. row_at bytes.now W at ≡ Err error) }
 {
     match bytes.get(at..at + ELEMENT_BYTES * W) {
-        Some(part) => read_whole_row(bytes, part, at),
-        None => read_cut_row(bytes, at),
+        Some(part) => read_whole_row(bytes, part, at, row),
+        None => read_cut_row(bytes, at, row),
     }
 }
 
@@ -151,20 +153,21 @@ fn read_whole_row<const W: usize>(
     bytes: &[u8],
     part: &[u8],
     at: usize,
-) -> Result<[Felt; W], FileError>
+    row: &mut [Felt; W],
+) -> Result<(), FileError>
     requires narrow { W ≤ 65 }
     requires place { at ≤ 2 ^ 35 }
     requires inside { at + 8 * W ≤ length bytes.now }
     requires part { part.now ≡ take (8 * W) (drop at bytes.now) }
-    ensures { result ≡ row_at bytes.now W at }
+    ensures ok { OnOk result (row_at bytes.now W at ≡ Ok row.new) }
+    ensures err { IfErr result (λ error. row_at bytes.now W at ≡ Err error) }
 {
     let part = &part[..ELEMENT_BYTES * W];
-    let mut row = [Felt::ZERO; W];
     for j in 0..W {
         let element = element_in(bytes, part, at, j)?;
         row[j] = element;
     }
-    Ok(row)
+    Ok(())
 }
 
 // The element of this number in the part of the bytes that begins at a place. Of the bytes it is the
@@ -184,17 +187,21 @@ fn element_in(_bytes: &[u8], part: &[u8], at: usize, j: usize) -> Result<Felt, F
 }
 
 // A row of which the bytes may end before it does.
-fn read_cut_row<const W: usize>(bytes: &[u8], at: usize) -> Result<[Felt; W], FileError>
+fn read_cut_row<const W: usize>(
+    bytes: &[u8],
+    at: usize,
+    row: &mut [Felt; W],
+) -> Result<(), FileError>
     requires narrow { W ≤ 65 }
     requires place { at ≤ 2 ^ 35 }
-    ensures { result ≡ row_at bytes.now W at }
+    ensures ok { OnOk result (row_at bytes.now W at ≡ Ok row.new) }
+    ensures err { IfErr result (λ error. row_at bytes.now W at ≡ Err error) }
 {
-    let mut row = [Felt::ZERO; W];
     for j in 0..W {
         let element = read_element(bytes, at + ELEMENT_BYTES * j)?;
         row[j] = element;
     }
-    Ok(row)
+    Ok(())
 }
 
 #[tactic(auto, unfolding(crate::specs::Fields::number_at))]

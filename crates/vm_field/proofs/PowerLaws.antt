@@ -116,6 +116,10 @@ power-step n x y z r a k b ey ez er =
     er ∙ ap₂ (λ u v. (power n u k * v) % n) ey ez ∙ ap (λ u. (u * power n x b) % n) (power-power n x a k)
     ∙ sym (power-add n x (a * k) b)
 
+pub power-shifted : (n x y r a : ℕ) → y ≡ power n x a → r ≡ (power n y 2 * x) % n → r ≡ power n x (suc (a * 2))
+power-shifted n x y r a first is =
+    is ∙ ap (λ z. (power n z 2 * x) % n) first ∙ ap (λ z. (z * x) % n) (power-power n x a 2) ∙ sym (power-suc n x (a * 2))
+
 pub power-join : (n x y z r a b : ℕ) → y ≡ power n x a → z ≡ power n x b → r ≡ (y * z) % n → r ≡ power n x (a + b)
 power-join n x y z r a b ey ez er = er ∙ ap₂ (λ u v. (u * v) % n) ey ez ∙ sym (power-add n x a b)
 

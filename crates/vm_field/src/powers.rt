@@ -31,7 +31,8 @@ impl Felt {
         ensures below { result < prime }
     {
         let _ = self.value();
-        self.pow(PRIME - 2)
+        let [inverse] = to_inverse_exponent(&[self]);
+        inverse
     }
 
     /// The one element whose seventh power is this one.
@@ -71,6 +72,24 @@ fn to_root_exponent<const N: usize>(x: &[Felt; N]) -> [Felt; N]
     let to_6 = products(&to_4, &to_2);
     let low = products(&to_6, x);
     squared_times(&high, 2, &low)
+}
+
+// The powers to 18446744069414584319, which is the modulus less 2: 31 ones, a zero and 32 ones in binary,
+// so 74 products do.
+fn to_inverse_exponent<const N: usize>(x: &[Felt; N]) -> [Felt; N]
+    ensures { (k : ℕ) → k < N
+        → slice_index result k ≡ felt_pow (slice_index x.now k) 18446744069414584319 }
+{
+    let ones_2 = squared_times(x, 1, x);
+    let ones_4 = squared_times(&ones_2, 2, &ones_2);
+    let ones_8 = squared_times(&ones_4, 4, &ones_4);
+    let ones_16 = squared_times(&ones_8, 8, &ones_8);
+    let ones_24 = squared_times(&ones_16, 8, &ones_8);
+    let ones_28 = squared_times(&ones_24, 4, &ones_4);
+    let ones_30 = squared_times(&ones_28, 2, &ones_2);
+    let ones_31 = squared_times(&ones_30, 1, x);
+    let ones_32 = squared_times(&ones_31, 1, x);
+    squared_times(&ones_31, 33, &ones_32)
 }
 
 // Powers to 2^n, times other elements.

@@ -8,7 +8,7 @@ use std::io::{Read, Write};
 use vm_field::Bytes;
 
 // The most bytes that one read asks for.
-const PIECE: usize = 4096;
+const PIECE: usize = 65_536;
 
 /// All that a reader has left, which may be `max` bytes at most. It reads no further than one byte
 /// behind them, and tries no read again that failed.

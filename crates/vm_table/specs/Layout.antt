@@ -1,5 +1,5 @@
--- Tables as lists of rows, laid side by side.
-use Rattle.std.specs.Prelude.{◌≡◌, ℕ, zero, suc, ◌*◌, ◌<◌, List, [], ◌∷◌, ◌++◌, take, drop, length, slice_index, slice_index_or}
+-- Tables as lists of rows.
+use Rattle.std.specs.Prelude.{◌≡◌, ℕ, ◌*◌, ◌^◌, ◌<◌, List, [], length, slice_index, slice_index_or}
 use Rattle.vm_field.specs.Field.{prime}
 
 -- each row has so many elements
@@ -7,11 +7,7 @@ pub record IsTable (width : ℕ) (rows : List (List ℕ)) : Type 0 where
   pub wide : (i : ℕ) → i < length rows → length (slice_index_or rows i []) ≡ width
   pub below : (i k : ℕ) → slice_index (slice_index_or rows i []) k < prime
 
--- the first rows of the cells
-unfoldable pub rows_of : ℕ → ℕ → List ℕ → List (List ℕ)
-rows_of width zero cells = []
-rows_of width (suc n) cells = rows_of width n cells ++ take width (drop (n * width) cells) ∷ []
-
-pub record IsLaidOut (width count : ℕ) (cells : List ℕ) : Type 0 where
-  pub filled : length cells ≡ count * width
-  pub below : (k : ℕ) → slice_index cells k < prime
+-- rows that lie in memory: a row that is there has a size
+pub record IsHeld (width : ℕ) (rows : List (List ℕ)) : Type 0 where
+  pub shape : IsTable width rows
+  pub few : 0 < length rows → width * 8 < 2 ^ 63

@@ -4,25 +4,25 @@ ghost use Rattle.vm_table.specs.Rows.{row_cells};
 
 use crate::view::{Row, RowPair};
 use std::alloc::Global;
+use std::array;
 use std::marker::Model;
 use vm_field::{Felt, Memory, known_elements};
 
 /// A table of W columns, seen as the list of its rows.
 #[derive(Drop)]
 pub struct Table<const W: usize> {
-    cells: Vec<Felt>,
-    count: usize,
+    rows: Vec<[Felt; W]>,
 }
 
 impl<const W: usize> Model for Table<W> {
     ghost use Rattle.std.specs.Prelude.{ℕ, List};
-    ghost use Rattle.vm_table.specs.Layout.{rows_of, IsLaidOut};
+    ghost use Rattle.vm_table.specs.Layout.{IsHeld};
 
     ghost Value = { List (List ℕ) };
 
-    ghost view = { λ t. rows_of W t.count t.cells.items };
+    ghost view = { λ t. t.rows.items };
 
-    ghost invariant = { λ t. IsLaidOut W t.count t.cells.items };
+    ghost invariant = { λ t. IsHeld W t.rows.items };
 }
 
 impl<const W: usize> Table<W> {
@@ -31,8 +31,7 @@ impl<const W: usize> Table<W> {
         ensures empty { result ≡ [] }
     {
         Table {
-            cells: Vec::new(alloc),
-            count: 0,
+            rows: Vec::new(alloc),
         }
     }
 
@@ -41,7 +40,7 @@ impl<const W: usize> Table<W> {
         ensures is { result ≡ length self.now }
         ensures shape { IsTable W self.now }
     {
-        self.count
+        self.rows.len()
     }
 
     /// Adds a row at the end. At `Memory` the table is as before.
@@ -49,12 +48,8 @@ impl<const W: usize> Table<W> {
         ensures ok { OnOk result (self.new ≡ self.old ++ row.now ∷ []) }
         ensures err { OnErr result (self.new ≡ self.old) }
     {
-        let Some(count) = self.count.checked_add(1) else {
-            return Err(Memory::Memory);
-        };
         known_elements(row);
-        self.cells.extend_from_slice(row)?;
-        self.count = count;
+        self.rows.extend_from_slice(array::from_ref(row))?;
         Ok(())
     }
 
@@ -62,10 +57,7 @@ impl<const W: usize> Table<W> {
     pub fn reserve(&mut self, rows: usize) -> Result<(), Memory>
         ensures { self.new ≡ self.old }
     {
-        let Some(cells) = rows.checked_mul(W) else {
-            return Err(Memory::Memory);
-        };
-        self.cells.reserve(cells)?;
+        self.rows.reserve(rows)?;
         Ok(())
     }
 
@@ -74,10 +66,7 @@ impl<const W: usize> Table<W> {
         requires { i < length self.now }
         ensures cells { row_cells result ≡ slice_index_or self.now i [] }
     {
-        let cells = self.cells.as_slice();
-        let total = cells.len();
-        let start = i * W;
-        Row::of(&cells[start..start + W])
+        Row::of(&self.rows[i])
     }
 
     /// The row of this number and the next one.

@@ -1,4 +1,4 @@
-ghost use Rattle.std.specs.Prelude.{◌≡◌, ℕ, ◌<◌, List, length, slice_index};
+ghost use Rattle.std.specs.Prelude.{◌≡◌, ℕ, ◌*◌, ◌^◌, ◌<◌, List, length, slice_index};
 ghost use Rattle.vm_field.specs.Field.{prime};
 
 use vm_field::Felt;
@@ -19,8 +19,9 @@ pub trait View<const W: usize> {
 /// A row of a table.
 #[derive(Clone, Copy)]
 pub struct Row<'a, const W: usize> {
-    cells: &'a [Felt],
+    cells: &'a [Felt; W],
     ghost wide: { length cells.now ≡ W },
+    ghost few: { W * 8 < 2 ^ 63 },
 }
 
 impl<'a, const W: usize> Row<'a, W> {
@@ -28,8 +29,7 @@ impl<'a, const W: usize> Row<'a, W> {
 
     /// The row of these cells.
     #[tactic(auto, unfolding(crate::specs::Rows::row_cells))]
-    pub(crate) fn of(cells: &'a [Felt]) -> Row<'a, W>
-        requires { length cells.now ≡ W }
+    pub(crate) fn of(cells: &'a [Felt; W]) -> Row<'a, W>
         ensures cells { row_cells result ≡ cells.entry.now }
     {
         Row { cells }

@@ -32,7 +32,7 @@ loop-i-preserved c =
     record {
       rows =
           rows-step c.args.last.now d _ events i e _ c.loop-i.table _ (omega arith) c.index-events-i.is
-          (c.in_ok-row_of.ensures later turn
+          (c.in_ok-write_row.ensures later turn
           ∙ ap (λ next. row_of d e next later) (c.seen_behind-next.ensures ∙ ap (seen_behind c.args.last.now) c.events_behind-later.ensures))
           c.in_ok-push_row.ensures.ok moved
           ∙ c.loop-i.invariant.rows;
@@ -44,7 +44,7 @@ pub returns : goal.returns
 returns c =
     let events = c.args.events.now in
     let d = decoder_in c.loop-i.decoder in
-    let row = c.in_ok-row_of-2.ensures [] no-repeats ∙ ap (λ e. row_of d e c.args.last.now []) c.halted.ensures in
+    let row = c.in_ok-write_row-2.ensures [] no-repeats ∙ ap (λ e. row_of d e c.args.last.now []) c.halted.ensures in
     record {
       rows =
           rows-end c.args.last.now d events c.loop-i.i _ c.loop-i.table _ (omega arith) row c.in_ok-push_row-2.ensures.ok

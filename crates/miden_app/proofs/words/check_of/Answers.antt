@@ -1,6 +1,6 @@
 use Rattle.std.proofs.Common.{rules}
 use Rattle.command_words.specs.Words.{texts}
-use Rattle.miden_app.proofs.CheckLemmas.{asks_check}
+use Rattle.miden_app.proofs.CheckWords.{asks_check}
 use Rattle.miden_app.proofs.words.check_of.Goals as goal
 
 pub returns-in-Some-Some-clause-asks : goal.returns-in-Some-Some-clause-asks

@@ -1,15 +1,16 @@
 use Rattle.std.proofs.Common.{rules}
 use Rattle.vm_state.specs.Views.{state_of}
+use Rattle.processor.specs.Nodes.{elements_of}
 use Rattle.processor.proofs.RunLemmas.{ran-along, ran-fail, ran-then}
 use Rattle.processor.proofs.SpanLemmas.{span-as}
 use Rattle.processor.proofs.blocks.span.Goals as goal
 
 pub returns-in_err-all_batches : goal.returns-in_err-all_batches
 returns-in_err-all_batches c =
-    ran-along (span-as c.args.setting.now c.args.batches.now c.as_slice.result.now c.args.digest.now (state_of c.args.runner.now.state) c.as_slice.ensures.items c.requires.digest)
+    ran-along (span-as c.args.setting.now (elements_of c.args.batches.now) c.args.digest.now (state_of c.args.runner.now.state) c.requires.digest)
     (ran-fail _ _ (search rules) c.in_err-all_batches.ensures)
 
 pub returns : goal.returns
 returns c =
-    ran-along (span-as c.args.setting.now c.args.batches.now c.as_slice.result.now c.args.digest.now (state_of c.args.runner.now.state) c.as_slice.ensures.items c.requires.digest)
+    ran-along (span-as c.args.setting.now (elements_of c.args.batches.now) c.args.digest.now (state_of c.args.runner.now.state) c.requires.digest)
     (ran-then _ _ c.in_ok-all_batches.ensures c.cycle.ensures.ran)

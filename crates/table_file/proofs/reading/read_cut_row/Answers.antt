@@ -1,4 +1,4 @@
-use Rattle.std.proofs.Common.{sym, ◌∙◌, arith}
+use Rattle.std.proofs.Common.{◌∙◌, arith}
 use Rattle.std.proofs.Math.ListN.{length-set}
 use Rattle.std.proofs.lemmas.Result.{err_from_is_err_and}
 use Rattle.table_file.specs.Fields.{element_at}
@@ -8,7 +8,8 @@ use Rattle.table_file.proofs.reading.read_cut_row.Goals as goal
 pub returns-in_err-element : goal.returns-in_err-element
 returns-in_err-element g c =
     let p = err_from_is_err_and c.from_residual.result c.from_residual.ensures.1 in
-    rw (p.1, p.2) (sym (stops (element_at _) 8 _ _ _ _ _ c.loop-j-test.true c.in_err-element.ensures c.loop-j.invariant.goes))
+    rw (p.1, p.2)
+    (record { ok = tt; err = stops (element_at _) 8 _ _ _ _ _ c.loop-j-test.true c.in_err-element.ensures c.loop-j.invariant.goes })
 
 pub loop-j-preserved : goal.loop-j-preserved
 loop-j-preserved g c = record {
@@ -17,4 +18,4 @@ loop-j-preserved g c = record {
 }
 
 pub returns : goal.returns
-returns g c = sym (ends_in (element_at _) 8 _ _ _ _ (omega arith) (omega arith) c.loop-j.invariant.goes)
+returns g c = record { ok = ends_in (element_at _) 8 _ _ _ _ (omega arith) (omega arith) c.loop-j.invariant.goes; err = tt }

@@ -1,0 +1,17 @@
+//! How the work of a command ends, and the steps that commands share: files that are loaded, saved or malformed.
+#![tactic(auto)]
+
+mod bad_forms;
+mod lines;
+mod loading;
+mod outcome;
+mod saving;
+
+pub use bad_forms::{malformed, malformed_params, malformed_table, malformed_text};
+pub use lines::{append_number, append_word};
+pub use loading::{
+    MOST_INPUTS_BYTES, MOST_PARAMS_BYTES, MOST_SOURCE_BYTES, MOST_STATEMENT_BYTES,
+    MOST_TABLE_BYTES, load,
+};
+pub use outcome::{Outcome, answered, named_answer};
+pub use saving::save;

@@ -1,0 +1,5 @@
+pub mod ApartNames
+pub mod CompleteLaw
+pub mod EvidenceLaw
+pub mod LawLemmas
+pub mod Walks

@@ -1,6 +1,0 @@
-use Rattle.miden_app.specs.declared.outcome.Outcome.TheVariants as outcome
-use Rattle.miden_app.proofs.ServingLemmas.{same_again}
-use Rattle.miden_app.proofs.checking.check_statement.Goals as goal
-
-pub returns-in-Ok : goal.returns-in-Ok
-returns-in-Ok g c = c.in-Ok.ensures.found _ outcome.Memory _ (same_again _ _)

@@ -1,5 +1,0 @@
-use Rattle.miden_app.proofs.EvidenceLaw.{accepted_has_evidence}
-use Rattle.miden_app.proofs.laws.accepted_has_evidence.Goals as goal
-
-pub returns : goal.returns
-returns c = accepted_has_evidence

@@ -1,0 +1,26 @@
+-- What a read command asks for.
+use Rattle.std.specs.Prelude.{◌≤◌, length, option_map, IfSome}
+use Rattle.source_commands.specs.Naming.{AreNamed, outputs_from}
+use Rattle.miden_app.specs.declared.words.Command.{Command}
+use Rattle.miden_app.specs.declared.words.Command.TheVariants as command
+use Rattle.commands.specs.Asked.{Asked, nothing, hash, assemble, run, check}
+
+abbrev pub asks : Command → Asked
+asks command.Nothing = nothing
+asks (command.Hash params numbers) = hash params.now numbers.now
+asks (command.Assemble params source kernel) = assemble params.now source.now (option_map (λ k. k.now) kernel)
+asks (command.Run params source inputs outputs kernel limit) =
+    run params.now source.now inputs.now (outputs_from outputs) (option_map (λ k. k.now) kernel) limit
+asks (command.Check params table statement evidence) = check params.now table.now statement.now evidence.now
+
+-- its names are those of files
+abbrev pub IsNamed : Command → Type 0
+IsNamed command.Nothing = Unit {0}
+IsNamed (command.Hash params numbers) = (length params.now ≤ 200) × (length numbers.now ≤ 200)
+IsNamed (command.Assemble params source kernel) =
+    (length params.now ≤ 200) × (length source.now ≤ 200) × IfSome kernel (λ k. length k.now ≤ 200)
+IsNamed (command.Run params source inputs outputs kernel limit) =
+    (length params.now ≤ 200) × (length source.now ≤ 200) × (length inputs.now ≤ 200) × AreNamed outputs
+    × IfSome kernel (λ k. length k.now ≤ 200) × (limit ≤ 524287)
+IsNamed (command.Check params table statement evidence) =
+    (length params.now ≤ 200) × (length table.now ≤ 200) × (length statement.now ≤ 200) × (length evidence.now ≤ 200)
