@@ -6,6 +6,7 @@ mod lines;
 mod loading;
 mod outcome;
 mod saving;
+mod saving_pieces;
 
 pub use bad_forms::{malformed, malformed_params, malformed_table, malformed_text};
 pub use lines::{append_number, append_word};
@@ -15,3 +16,4 @@ pub use loading::{
 };
 pub use outcome::{Outcome, answered, named_answer};
 pub use saving::save;
+pub use saving_pieces::save_pieces;

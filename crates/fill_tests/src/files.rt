@@ -2,9 +2,10 @@ use block_tree::{Exports, Program, Tree, are_distinct};
 use op_pack::Batches;
 use processor::execute;
 use rpo_hash::Params;
-use run_files::{statement_file_of_run, table_file_of_run};
+use run_files::{statement_file_of_run, trace_of_run};
 use std::alloc::Global;
 use std::test::Fail;
+use table_file::encode;
 use vm_field::{Felt, Felts, Memory, Words};
 use vm_state::Inputs;
 
@@ -38,7 +39,8 @@ fn has_lengths(alloc: Global, row: &Row) -> Result<bool, Memory> {
     let Ok(run) = execute(alloc, &NO_CONSTANTS, &program, &inputs, 100) else {
         return Ok(false);
     };
-    let (table, end) = table_file_of_run(alloc, &NO_CONSTANTS, &program, run)?;
+    let (trace, end) = trace_of_run(alloc, &NO_CONSTANTS, &program, run)?;
+    let table = encode(alloc, &trace)?;
     let statement = statement_file_of_run(alloc, program, inputs, &end)?;
     Ok(table.len() == row.1 && statement.len() == row.2)
 }

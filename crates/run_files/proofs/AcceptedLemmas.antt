@@ -1,5 +1,5 @@
 -- The trace in the table file of a run is accepted for what is claimed of the run.
-use Rattle.std.proofs.Common.{◌≡◌, ◌∙◌, ap, ℕ, true, List}
+use Rattle.std.proofs.Common.{◌≡◌, ap, ℕ, List}
 use Rattle.vm_field.specs.Machine.{State}
 use Rattle.rpo_hash.specs.Constants.{constants_of}
 use Rattle.block_tree.specs.Execution as run

@@ -1,5 +1,5 @@
 -- The two files of an executed run, its tables and its statement, and that the one is accepted for the other.
-use Rattle.std.specs.Prelude.{◌≡◌, ℕ, ◌≤◌, true, List, length, Ok}
+use Rattle.std.specs.Prelude.{◌≡◌, ℕ, ◌≤◌, List, length, Ok}
 use Rattle.vm_field.specs.Machine.{State}
 use Rattle.rpo_hash.specs.Constants.{constants_of}
 use Rattle.rpo_hash.specs.declared.params.Params.{Params}

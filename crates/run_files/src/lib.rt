@@ -9,5 +9,5 @@ mod tracing;
 
 pub use claim::statement_file_of_run;
 pub use laws::file_laws;
-pub use tables::table_file_of_run;
+pub use tables::trace_of_run;
 pub use tracing::RunEnd;

@@ -45,7 +45,7 @@ struct Filled {
 
 // The trace of a run, and what it leaves.
 #[tactic(auto, using(crate::proofs::RunLemmas::short_tables))]
-pub(crate) fn trace_of_run(
+pub(crate) fn tables_of_run(
     alloc: Global,
     params: &Params,
     program: &Program,

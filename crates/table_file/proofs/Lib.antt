@@ -8,3 +8,4 @@ mod PartLaws
 mod TraceReading
 mod TableLaws
 pub mod PartReading
+pub mod LeftLemmas

@@ -18,6 +18,17 @@ pub(crate) struct Counts {
     pub left: usize,
 }
 
+/// No rows of any table.
+pub(crate) const NO_ROWS: Counts = Counts {
+    main: 0,
+    range: 0,
+    hasher: 0,
+    bitwise: 0,
+    memory: 0,
+    kernel: 0,
+    left: 0,
+};
+
 fn least_rows(table: TableName) -> usize
     ensures { result ≡ least_rows table }
 {

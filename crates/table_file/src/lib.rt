@@ -12,4 +12,4 @@ mod writing;
 pub use cause::{FileCause, FileError, cause_text};
 pub use laws::{file_laws, types_cross};
 pub use reading::decode;
-pub use writing::encode;
+pub use writing::{TablePieces, encode};

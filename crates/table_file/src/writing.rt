@@ -1,100 +1,167 @@
-ghost use Rattle.std.specs.Prelude.{◌≡◌, ◌+◌, ◌*◌, ◌^◌, ◌<◌, ◌≤◌, ◌++◌, [], length, slice_index_or, OnOk, IfOk};
+ghost use Rattle.std.specs.Prelude.{◌≡◌, ◌+◌, ◌*◌, ◌<◌, ◌≤◌, ◌++◌, [], false, true, drop, length, slice_index_or, IfOk};
 ghost use Rattle.air_kit.specs.Traces.{HasCounts};
 ghost use Rattle.table_file.specs.Fields.{row_bytes, table_bytes};
 ghost use Rattle.table_file.specs.Files.{AreFew, bytes_of, count_bytes, head_bytes};
+ghost use Rattle.table_file.specs.Left.{left_of};
 
-use crate::counts::{Counts, counts_in};
-use crate::reading::{ELEMENT_BYTES, HEAD_BYTES, MAGIC, VERSION};
+use crate::counts::{Counts, NO_ROWS, counts_in};
+use crate::reading::{ELEMENT_BYTES, MAGIC, VERSION};
 use air_kit::Trace;
 use byteorder::{ByteOrder, LittleEndian};
 use std::alloc::Global;
+use std::marker::Model;
 use vm_field::{Bytes, Memory};
+use vm_io::{Piece, Pieces, gather};
 use vm_table::{Table, View};
 
 // How many bytes the longest row has, one of the main table.
 const MOST_ROW_BYTES: usize = 520;
 
-/// The table file of a trace.
-#[tactic(auto, unfolding(crate::specs::Files::bytes_of))]
+/// The table file of a trace, whole in memory.
 pub fn encode(alloc: Global, trace: &Trace) -> Result<Bytes, Memory>
     requires { HasCounts trace.now }
     ensures { IfOk result (λ bytes. bytes ≡ bytes_of trace.now) }
 {
-    let counts = counts_in(trace);
-    let mut bytes = Vec::with_capacity(alloc, file_length(&counts))?;
-    write_head(&mut bytes, &counts)?;
-    write_table(&mut bytes, &trace.main)?;
-    write_table(&mut bytes, &trace.range)?;
-    write_table(&mut bytes, &trace.hasher)?;
-    write_table(&mut bytes, &trace.bitwise)?;
-    write_table(&mut bytes, &trace.memory)?;
-    write_table(&mut bytes, &trace.kernel)?;
-    write_table(&mut bytes, &trace.left)?;
-    Ok(Bytes::from_vec(bytes))
+    let mut pieces = TablePieces::new(trace);
+    gather(alloc, &mut pieces)
 }
 
-// How many bytes the file has.
-fn file_length(counts: &Counts) -> usize
-    requires { AreFew counts.now }
-{
-    let elements = 65 * counts.main
-        + 2 * counts.range
-        + 15 * counts.hasher
-        + 12 * counts.bitwise
-        + 14 * counts.memory
-        + 5 * counts.kernel
-        + counts.left;
-    HEAD_BYTES + ELEMENT_BYTES * elements
+/// The table file of a trace, piece by piece. It is seen as the bytes that are still to come.
+#[derive(Drop)]
+pub struct TablePieces<'a> {
+    trace: &'a Trace,
+    // whether the head was given
+    has_head: bool,
+    // how many rows of each table were given
+    given: Counts,
+}
+
+impl<'a> Model for TablePieces<'a> {
+    ghost use Rattle.std.specs.Prelude.{ℕ, List};
+    ghost use Rattle.table_file.specs.Left.{left_of};
+
+    ghost Value = { List ℕ };
+
+    ghost view = { λ a. left_of a.trace.now a.has_head a.given };
+
+    ghost use Rattle.air_kit.specs.Traces.{HasCounts};
+
+    ghost invariant = { λ a. HasCounts a.trace.now };
+}
+
+impl<'a> TablePieces<'a> {
+    /// The whole file.
+    #[tactic(auto, using(crate::proofs::LeftLemmas::all_left))]
+    pub fn new(trace: &'a Trace) -> TablePieces<'a>
+        requires { HasCounts trace.now }
+        ensures { result ≡ bytes_of trace.entry.now }
+    {
+        TablePieces {
+            trace,
+            has_head: false,
+            given: NO_ROWS,
+        }
+    }
+}
+
+impl<'a> Pieces for TablePieces<'a> {
+    ghost rest = { λ bytes. bytes };
+
+    /// The head, or rows of one table, as many as there is room for.
+    #[tactic(auto, using(crate::proofs::LeftLemmas::head_goes))]
+    fn next_piece(&mut self, room: &mut Piece) {
+        room.clear();
+        if self.has_head {
+            add_rows(room, self.trace, &mut self.given);
+        } else {
+            add_head(room, &counts_in(self.trace));
+            self.has_head = true;
+        }
+    }
 }
 
 #[tactic(auto, unfolding(crate::specs::Files::head_bytes))]
-fn write_head(bytes: &mut Vec<u8>, counts: &Counts) -> Result<(), Memory>
-    requires { AreFew counts.now }
-    ensures { OnOk result (bytes.new.items ≡ bytes.old.items ++ head_bytes counts.now) }
+fn add_head(room: &mut Piece, counts: &Counts)
+    requires few { AreFew counts.now }
+    requires empty { room.old.items ≡ [] }
+    ensures is { room.new.items ≡ head_bytes counts.now }
+    ensures some { length room.new.items ≡ 36 }
 {
-    write_u32(bytes, MAGIC)?;
-    write_u32(bytes, VERSION)?;
-    write_u32(bytes, counts.main as u32)?;
-    write_u32(bytes, counts.range as u32)?;
-    write_u32(bytes, counts.hasher as u32)?;
-    write_u32(bytes, counts.bitwise as u32)?;
-    write_u32(bytes, counts.memory as u32)?;
-    write_u32(bytes, counts.kernel as u32)?;
-    write_u32(bytes, counts.left as u32)?;
-    Ok(())
+    add_u32(room, MAGIC);
+    add_u32(room, VERSION);
+    add_u32(room, counts.main as u32);
+    add_u32(room, counts.range as u32);
+    add_u32(room, counts.hasher as u32);
+    add_u32(room, counts.bitwise as u32);
+    add_u32(room, counts.memory as u32);
+    add_u32(room, counts.kernel as u32);
+    add_u32(room, counts.left as u32);
 }
 
-fn write_u32(bytes: &mut Vec<u8>, number: u32) -> Result<(), Memory>
-    ensures { OnOk result (bytes.new.items ≡ bytes.old.items ++ count_bytes number) }
+fn add_u32(room: &mut Piece, number: u32)
+    requires { length room.old.items + 4 ≤ 65536 }
+    ensures is { room.new.items ≡ room.old.items ++ count_bytes number }
+    ensures long { length room.new.items ≡ length room.old.items + 4 }
 {
     let mut part = [0; 4];
     LittleEndian::write_u32(&mut part, number);
-    bytes.extend_from_slice(&part)?;
-    Ok(())
+    room.try_extend_from_slice(&part).unwrap();
 }
 
-fn write_table<const W: usize>(bytes: &mut Vec<u8>, table: &Table<W>) -> Result<(), Memory>
-    requires { W ≤ 65 }
-    ensures { OnOk result (bytes.new.items ≡ bytes.old.items ++ table_bytes table.now) }
+// Adds the next rows of the first table of which some are left.
+#[tactic(auto, using(crate::proofs::LeftLemmas::main_goes, crate::proofs::LeftLemmas::range_goes, crate::proofs::LeftLemmas::hasher_goes, crate::proofs::LeftLemmas::bitwise_goes, crate::proofs::LeftLemmas::memory_goes, crate::proofs::LeftLemmas::kernel_goes, crate::proofs::LeftLemmas::left_goes, crate::proofs::LeftLemmas::none_left))]
+fn add_rows(room: &mut Piece, trace: &Trace, given: &mut Counts)
+    requires { room.old.items ≡ [] }
+    ensures given { left_of trace.now true given.old ≡ room.new.items ++ left_of trace.now true given.new }
+    ensures end { room.new.items ≡ [] → left_of trace.now true given.old ≡ [] }
 {
-    for i in 0..table.rows() {
-        write_row(bytes, table, i)?;
+    if given.main < trace.main.rows() {
+        given.main = add_table(room, &trace.main, given.main);
+    } else if given.range < trace.range.rows() {
+        given.range = add_table(room, &trace.range, given.range);
+    } else if given.hasher < trace.hasher.rows() {
+        given.hasher = add_table(room, &trace.hasher, given.hasher);
+    } else if given.bitwise < trace.bitwise.rows() {
+        given.bitwise = add_table(room, &trace.bitwise, given.bitwise);
+    } else if given.memory < trace.memory.rows() {
+        given.memory = add_table(room, &trace.memory, given.memory);
+    } else if given.kernel < trace.kernel.rows() {
+        given.kernel = add_table(room, &trace.kernel, given.kernel);
+    } else if given.left < trace.left.rows() {
+        given.left = add_table(room, &trace.left, given.left);
     }
-    Ok(())
 }
 
-// A row is written to a part of its own first, since asking for memory at each element takes longer.
-fn write_row<const W: usize>(bytes: &mut Vec<u8>, table: &Table<W>, i: usize) -> Result<(), Memory>
+// Adds the rows from one on, as many as there is room for, and answers which one comes next.
+
+fn add_table<const W: usize>(room: &mut Piece, table: &Table<W>, first: usize) -> usize
+    requires narrow { W ≤ 65 }
+    requires inside { first < length table.now }
+    requires empty { room.old.items ≡ [] }
+    ensures given { table_bytes (drop first table.now) ≡ room.new.items ++ table_bytes (drop result table.now) }
+    ensures some { 1 ≤ W → 0 < length room.new.items }
+{
+    let mut next = first;
+    while next < table.rows() && room.remaining_capacity() >= MOST_ROW_BYTES {
+        add_row(room, table, next);
+        next += 1;
+    }
+    next
+}
+
+// A row is written to a part of its own first, since asking for room at each element takes longer.
+fn add_row<const W: usize>(room: &mut Piece, table: &Table<W>, i: usize)
     requires narrow { W ≤ 65 }
     requires inside { i < length table.now }
-    ensures { OnOk result (bytes.new.items ≡ bytes.old.items ++ row_bytes (slice_index_or table.now i [])) }
+    requires fits { length room.old.items + 520 ≤ 65536 }
+    ensures is { room.new.items ≡ room.old.items ++ row_bytes (slice_index_or table.now i []) }
+    ensures long { length room.new.items ≡ length room.old.items + 8 * W }
 {
     let numbers = numbers_of(table, i);
     let mut part = [0; MOST_ROW_BYTES];
     let row = &mut part[..ELEMENT_BYTES * W];
     LittleEndian::write_u64_into(&numbers, row);
-    bytes.extend_from_slice(row)?;
-    Ok(())
+    room.try_extend_from_slice(row).unwrap();
 }
 
 // The elements of a row.

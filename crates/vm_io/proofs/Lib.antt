@@ -1,4 +1,5 @@
 pub mod HeldLemmas
 pub mod LawLemmas
 pub mod ShelfLemmas
+pub mod PieceLemmas
 pub mod WholeLemmas

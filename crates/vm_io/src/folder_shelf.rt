@@ -2,8 +2,9 @@ ghost use Rattle.std.specs.Prelude.{◌≡◌, ◌≤◌, length, IfOk, IsErrOf}
 ghost use Rattle.vm_io.specs.Count.{one_more};
 ghost use Rattle.vm_io.specs.Shelf.{ReadStep, WriteStep};
 
+use crate::pieces::Pieces;
 use crate::shelf::{ReadStop, Shelf, WriteStop};
-use crate::whole::{read_whole, write_whole};
+use crate::whole::{read_whole, write_all, write_whole};
 use std::alloc::Global;
 use std::marker::Model;
 use std::rt::Files;
@@ -72,6 +73,25 @@ impl<'a, R: Files> Shelf for FolderShelf<'a, R> {
             }
         }
     }
+
+    /// `Failed` is any fault of the system, and a write that takes nothing. It keeps no more than one piece in memory.
+    fn write_pieces<P: Pieces>(
+        &mut self,
+        _alloc: Global,
+        name: &str,
+        pieces: &mut P,
+    ) -> Result<(), WriteStop>
+        ensures step { WriteStep (untold_shelf self.old) (untold_shelf self.new) name.now (P.rest pieces.old) result }
+        ensures counted { IsErrOf result WriteStop.Failed → self.new.writes ≡ one_more self.old.writes }
+    {
+        match save_pieces(self.rt, name, pieces) {
+            Ok(()) => Ok(()),
+            Err(_) => {
+                self.write_faults = self.write_faults.saturating_add(1);
+                Err(WriteStop::Failed)
+            }
+        }
+    }
 }
 
 // Reads a file.
@@ -89,4 +109,10 @@ fn load<R: Files>(rt: &R, alloc: Global, name: &str, max: u64) -> Result<Bytes, 
 fn save<R: Files>(rt: &R, name: &str, bytes: &[u8]) -> io::Result<()> {
     let mut file = fs::create(rt, name)?;
     write_whole(&mut file, bytes)
+}
+
+// Makes a file, or empties it, and writes all pieces to it.
+fn save_pieces<R: Files, P: Pieces>(rt: &R, name: &str, pieces: &mut P) -> io::Result<()> {
+    let mut file = fs::create(rt, name)?;
+    write_all(&mut file, pieces)
 }

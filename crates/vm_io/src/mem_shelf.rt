@@ -7,7 +7,9 @@ ghost use Rattle.vm_io.specs.Shelf.{ReadStep, WriteStep};
 
 use crate::calls::Calls;
 use crate::kept_name::KeptName;
+use crate::pieces::Pieces;
 use crate::shelf::{ReadStop, Shelf, WriteStop};
+use crate::whole::gather;
 use std::alloc::Global;
 use std::collections::BTreeMap;
 use std::marker::Model;
@@ -178,5 +180,25 @@ impl Shelf for MemShelf {
             return Err(WriteStop::Failed);
         }
         Ok(())
+    }
+    /// As `write`, of all that the pieces have left.
+    fn write_pieces<P: Pieces>(
+        &mut self,
+        alloc: Global,
+        name: &str,
+        pieces: &mut P,
+    ) -> Result<(), WriteStop>
+        ensures step { WriteStep (told self.old) (told self.new) name.now (P.rest pieces.old) result }
+        ensures failing { IsErrOf result WriteStop.Failed → IsDue self.old.calls }
+        ensures not_failing { IsOk result → ¬ IsDue self.old.calls }
+        ensures after { self.new ≡ after_write self.old name.now (P.rest pieces.old) result }
+    {
+        match gather(alloc, pieces) {
+            Ok(bytes) => self.write(alloc, name, bytes.as_slice()),
+            Err(_) => {
+                self.begin();
+                Err(WriteStop::Memory)
+            }
+        }
     }
 }

@@ -1,3 +1,4 @@
+use crate::pieces::Pieces;
 use std::alloc::Global;
 use thiserror::Error;
 use vm_field::Bytes;
@@ -53,4 +54,14 @@ pub trait Shelf {
     /// first 200 bytes of the name are kept. At `Memory` nothing has changed.
     fn write(&mut self, alloc: Global, name: &str, bytes: &[u8]) -> Result<(), WriteStop>
         ensures step { WriteStep (state self.old) (state self.new) name.now bytes.now result };
+
+    /// Puts all that the pieces have left under the name, as `write` does. At `Failed` they may have
+    /// more left.
+    fn write_pieces<P: Pieces>(
+        &mut self,
+        alloc: Global,
+        name: &str,
+        pieces: &mut P,
+    ) -> Result<(), WriteStop>
+        ensures step { WriteStep (state self.old) (state self.new) name.now (P.rest pieces.old) result };
 }

@@ -12,6 +12,26 @@ use vm_field::{Bytes, Memory};
 enum Call {
     Read(&'static str, u64),
     Write(&'static str, &'static str),
+    WritePieces(&'static str, &'static str),
+}
+
+// A text that is given in pieces of at most two bytes.
+#[derive(Drop)]
+struct Pairs {
+    left: &'static [u8],
+}
+
+impl Pieces for Pairs {
+    ghost use Rattle.vm_io.specs.declared.tests.Pairs.{Pairs};
+
+    ghost rest = { λ p. p.left.now };
+
+    fn next_piece(&mut self, room: &mut Piece) {
+        let (first, left) = self.left.split_at(self.left.len().min(2));
+        room.clear();
+        room.try_extend_from_slice(first).unwrap();
+        self.left = left;
+    }
 }
 
 // What a call answers, as a text.
@@ -24,11 +44,21 @@ fn answer<F: Shelf>(alloc: Global, shelf: &mut F, call: &Call) -> Result<Bytes, 
             Err(ReadStop::Failed) => Bytes::copied(alloc, b"failed"),
             Err(ReadStop::Memory) => Err(Memory::Memory),
         },
-        Call::Write(name, text) => match shelf.write(alloc, name, text.as_bytes()) {
-            Ok(()) => Bytes::copied(alloc, b"written"),
-            Err(WriteStop::Failed) => Bytes::copied(alloc, b"failed"),
-            Err(WriteStop::Memory) => Err(Memory::Memory),
-        },
+        Call::Write(name, text) => told(alloc, shelf.write(alloc, name, text.as_bytes())),
+        Call::WritePieces(name, text) => {
+            let mut pieces = Pairs {
+                left: text.as_bytes(),
+            };
+            told(alloc, shelf.write_pieces(alloc, name, &mut pieces))
+        }
+    }
+}
+
+fn told(alloc: Global, written: Result<(), WriteStop>) -> Result<Bytes, Memory> {
+    match written {
+        Ok(()) => Bytes::copied(alloc, b"written"),
+        Err(WriteStop::Failed) => Bytes::copied(alloc, b"failed"),
+        Err(WriteStop::Memory) => Err(Memory::Memory),
     }
 }
 
@@ -65,6 +95,8 @@ fn a_mem_shelf_fails_when_it_is_told_to(rt: HostRuntime) -> Result<(), Fail> {
         (Call::Read("b", 1), "too long"),
         (Call::Read("c", 1), "missing"),
         (Call::Write("a", ""), "written"),
+        (Call::WritePieces("d", "whole"), "written"),
+        (Call::Read("d", 5), "whole"),
     ] {
         let told = answer(rt.alloc(), &mut shelf, &call)?;
         assert_eq!(rt; told.as_slice(), want.as_bytes());
@@ -99,8 +131,14 @@ fn a_folder_is_read_and_written(rt: HostRuntime) -> Result<(), Fail> {
         (Call::Write("vm_io-test-file", "text"), "written"),
         (Call::Read("vm_io-test-file", 4), "text"),
         (Call::Read("vm_io-test-file", 3), "too long"),
+        (
+            Call::WritePieces("vm_io-test-file", "a longer text"),
+            "written",
+        ),
+        (Call::Read("vm_io-test-file", 13), "a longer text"),
         (Call::Read(".", 3), "failed"),
         (Call::Write("vm_io-no-folder/file", "text"), "failed"),
+        (Call::WritePieces("vm_io-no-folder/file", "text"), "failed"),
     ] {
         let told = answer(rt.alloc(), &mut shelf, &call)?;
         assert_eq!(rt; told.as_slice(), want.as_bytes());

@@ -1,11 +1,12 @@
 ghost use Rattle.std.specs.Prelude.{◌≡◌, ◌≢◌, ℕ, ◌+◌, ◌≤◌, List, length, take, IfOk, OnOk, OnErr, IsErrOf};
 ghost use Rattle.std.specs.Io.KnownBytes.{Appends, Consumes, IsAtEnd};
 
+use crate::pieces::{Piece, Pieces};
 use crate::shelf::ReadStop;
 use std::alloc::Global;
 use std::io;
 use std::io::{Read, Write};
-use vm_field::Bytes;
+use vm_field::{Bytes, Memory};
 
 // The most bytes that one read asks for.
 const PIECE: usize = 65_536;
@@ -55,4 +56,37 @@ pub fn write_whole<W: Write>(target: &mut W, bytes: &[u8]) -> io::Result<()>
         }
     }
     Ok(())
+}
+
+/// Writes all that the pieces have left, each piece as `write_whole` does.
+#[tactic(auto, using(crate::proofs::PieceLemmas::begins, crate::proofs::PieceLemmas::goes_on, crate::proofs::PieceLemmas::ends))]
+pub fn write_all<W: Write, P: Pieces>(target: &mut W, pieces: &mut P) -> io::Result<()>
+    ensures whole { OnOk result (Appends (W.contents target.old) (W.contents target.new) (P.rest pieces.old)) }
+    ensures front { OnErr result ((n : ℕ) × Appends (W.contents target.old) (W.contents target.new) (take n (P.rest pieces.old))) }
+{
+    let mut room = Piece::new();
+    loop {
+        pieces.next_piece(&mut room);
+        if room.is_empty() {
+            return Ok(());
+        }
+        if let Err(error) = write_whole(target, room.as_slice()) {
+            return Err(error);
+        }
+    }
+}
+
+/// All that the pieces have left, in memory.
+pub fn gather<P: Pieces>(alloc: Global, pieces: &mut P) -> Result<Bytes, Memory>
+    ensures { IfOk result (λ bytes. bytes ≡ P.rest pieces.old) }
+{
+    let mut bytes = Bytes::new(alloc);
+    let mut room = Piece::new();
+    loop {
+        pieces.next_piece(&mut room);
+        if room.is_empty() {
+            return Ok(bytes);
+        }
+        bytes.append(room.as_slice())?;
+    }
 }
