@@ -1,12 +1,12 @@
 #!/bin/bash
 # Times each part of `run` and of `check` by the crates that the commands stand on, against plain Rust (fill.rs and check.rs, rustc -O)
-# in turn: assembling, executing, filling all tables, encoding them; decoding, testing the rows, counting and comparing the buses,
-# and extracting the evidence with its text.
+# in turn: assembling, executing, filling all tables, writing their file; reading it, decoding, testing the rows with counting and
+# comparing the buses, and extracting the evidence with its text.
 #
 # `parts.sh CASE` takes a program of sources.sh, `all` where there is none. Prints the least time of each part in
 # microseconds and their ratio, which is to be at most 1.5. TURNS is how often the source's outer body is repeated, RUNS how often both
 # run. The program over the crates is made in a temporary folder, or is PARTS, where that is given; KEEP names a copy of it to keep.
-# Proving it takes some minutes where the crates below are proved.
+# What earlier checks left in the crates' folders out/ is used; with that, proving the program takes some minutes.
 set -e
 top=$(cd "$(dirname "$0")/.." && pwd)
 work=$(mktemp -d)
@@ -22,7 +22,7 @@ make_program() {
     while IFS=: read -r crate _; do
         case $crate in '#'* | *_tests | worked_rows | miden_*) continue ;; esac
         mkdir -p "$work/crates/$crate"
-        cp -r "$top/crates/$crate"/{src,specs,proofs} "$work/crates/$crate/" 2>/dev/null || true
+        cp -r "$top/crates/$crate"/{src,specs,proofs,out} "$work/crates/$crate/" 2>/dev/null || true
         grep -E "^$crate:" "$top/crates.txt" >>"$work/crates.txt"
     done <"$top/crates.txt"
     mkdir -p "$work/crates/bench_parts/src"
@@ -42,12 +42,12 @@ use masm_link::assemble;
 use processor::execute;
 use rpo_hash::Params;
 use run_extractor::extract;
-use run_files::{statement_file_of_run, table_file_of_run};
+use run_files::{statement_file_of_run, trace_of_run};
 use statement::{read_inputs, read_statement};
 use std::time::Instant;
 use std::{env, fs};
-use table_file::{decode, encode};
-use vm_io::OpenGate;
+use table_file::{TablePieces, decode};
+use vm_io::{FolderShelf, OpenGate, Shelf};
 
 // The microseconds since the last lap.
 fn lap(rt: &HostRuntime, start: &mut Instant) -> anyhow::Result<u128> {
@@ -82,11 +82,11 @@ fn time(
         return Ok(());
     };
     let executing = lap(rt, &mut start)?;
-    let Ok((bytes, end)) = table_file_of_run(alloc, params, &program, run) else {
+    let Ok((trace, end)) = trace_of_run(alloc, params, &program, run) else {
         println!(rt; "no tables")?;
         return Ok(());
     };
-    let writing = lap(rt, &mut start)?;
+    let filling = lap(rt, &mut start)?;
     let Ok(text) = statement_file_of_run(alloc, program, inputs, &end) else {
         println!(rt; "no statement")?;
         return Ok(());
@@ -96,20 +96,26 @@ fn time(
         println!(rt; "no statement")?;
         return Ok(());
     };
+    let mut shelf = FolderShelf::new(rt);
     start = Instant::now(rt)?;
-    let Ok(trace) = decode(alloc, bytes.as_slice()) else {
+    if shelf.write_pieces(alloc, "crates.table", &mut TablePieces::new(&trace)).is_err() {
         println!(rt; "no table file")?;
+        return Ok(());
+    }
+    let writing = lap(rt, &mut start)?;
+    drop(trace);
+    start = Instant::now(rt)?;
+    let Ok(bytes) = shelf.read(alloc, "crates.table", 1073741824) else {
+        println!(rt; "no table file")?;
+        return Ok(());
+    };
+    let reading = lap(rt, &mut start)?;
+    let Ok(trace) = decode(alloc, bytes.as_slice()) else {
+        println!(rt; "no trace")?;
         return Ok(());
     };
     let decoding = lap(rt, &mut start)?;
     drop(bytes);
-    start = Instant::now(rt)?;
-    let Ok(again) = encode(alloc, &trace) else {
-        println!(rt; "no bytes")?;
-        return Ok(());
-    };
-    let encoding = lap(rt, &mut start)?;
-    drop(again);
     let public = Public { params: *params, statement };
     start = Instant::now(rt)?;
     if check_rows(&trace, &public, 1, &OpenGate).is_some() {
@@ -131,8 +137,7 @@ fn time(
     };
     let extracting = lap(rt, &mut start)?;
     drop(evidence);
-    let filling = writing.saturating_sub(encoding);
-    println!(rt; "{assembling} {executing} {filling} {encoding} {decoding} {testing} {counting} {extracting}")?;
+    println!(rt; "{assembling} {executing} {filling} {writing} {reading} {decoding} {testing} {counting} {extracting}")?;
     Ok(())
 }
 
@@ -198,7 +203,8 @@ show() {
 show assembling "$(least fill 1)" "$(least crates 1)"
 show executing "$(least fill 2)" "$(least crates 2)"
 show filling "$(least fill 3)" "$(least crates 3)"
-show encoding "$(least fill 4)" "$(least crates 4)"
-show decoding "$(least check 2)" "$(least crates 5)"
-show "rows and counts" "$(($(least check 3) + $(least check 4)))" "$(($(least crates 6) + $(least crates 7)))"
-show extracting "$(least check 5)" "$(least crates 8)"
+show "encoding and writing" "$(($(least fill 4) + $(least fill 5)))" "$(least crates 4)"
+show reading "$(least check 1)" "$(least crates 5)"
+show decoding "$(least check 2)" "$(least crates 6)"
+show "rows and buses" "$(($(least check 3) + $(least check 4)))" "$(($(least crates 7) + $(least crates 8)))"
+show extracting "$(least check 5)" "$(least crates 9)"
