@@ -8,15 +8,13 @@ set -e
 top=$(cd "$(dirname "$0")/.." && pwd)
 work=$(mktemp -d)
 trap 'rm -rf "$work"' EXIT
-libraries='vm_field vm_io vm_ops rpo_hash op_pack block_tree masm_lex masm_instr instr_reading masm_parse masm_uses masm_flat
-    masm_link'
-for crate in $libraries; do
-    mkdir -p "$work/crates/$crate"
-    cp -r "$top/crates/$crate"/{src,specs,proofs} "$work/crates/$crate/"
-    grep -E "^$crate:" "$top/crates.txt" >>"$work/crates.txt"
-done
+# shellcheck source=bench/crates.sh
+. "$top/bench/crates.sh"
+libraries='masm_link masm_lex block_tree op_pack rpo_hash vm_io vm_field'
+# shellcheck disable=SC2086
+copy_crates $libraries
 mkdir -p "$work/crates/bench_assemble/src"
-echo 'bench_assemble: masm_link masm_lex block_tree op_pack rpo_hash vm_io vm_field' >>"$work/crates.txt"
+echo "bench_assemble: $libraries" >>"$work/crates.txt"
 cat >"$work/crates/bench_assemble/src/main.rt" <<'END'
 //! Times the assembling of a source.
 #![tactic(auto)]

@@ -43,16 +43,13 @@ if [ "$1" != crates ]; then
     whole_command "${1:-span}"
     exit
 fi
-libraries='vm_field vm_io vm_table buses vm_ops rpo_hash vm_state chip_columns air_kit air_decoder air_stack air_u32 air_hasher
-    air_bitwise air_memory air_lookup row_facts bus_kit bus_chips bus_main checker table_file'
-for crate in $libraries; do
-    mkdir -p "$work/crates/$crate"
-    cp -r "$top/crates/$crate"/{src,specs,proofs} "$work/crates/$crate/" 2>/dev/null || true
-    [ ! -d "$top/crates/$crate/out" ] || cp -r "$top/crates/$crate/out" "$work/crates/$crate/"
-    grep -E "^$crate:" "$top/crates.txt" >>"$work/crates.txt"
-done
+# shellcheck source=bench/crates.sh
+. "$top/bench/crates.sh"
+libraries='checker table_file air_kit vm_state rpo_hash vm_io vm_table vm_field'
+# shellcheck disable=SC2086
+copy_crates $libraries
 mkdir -p "$work/crates/bench_check/src" "$work/crates/bench_check/proofs/public_of"
-echo 'bench_check: checker table_file air_kit vm_state rpo_hash vm_io vm_table vm_field anyhow' >>"$work/crates.txt"
+echo "bench_check: $libraries anyhow" >>"$work/crates.txt"
 cat >"$work/crates/bench_check/src/main.rt" <<'END_MAIN'
 //! Times reading a table file and testing its rows.
 #![tactic(auto)]

@@ -8,12 +8,11 @@ most=$1
 shift
 work=$(mktemp -d)
 trap 'rm -rf "$work"' EXIT
-libraries='vm_field vm_ops rpo_hash perm_memo op_pack vm_state op_steps block_tree processor'
-for crate in $libraries; do
-    mkdir -p "$work/crates/$crate"
-    cp -r "$top/crates/$crate"/{src,specs,proofs} "$work/crates/$crate/"
-    grep -E "^$crate:" "$top/crates.txt" >>"$work/crates.txt"
-done
+# shellcheck source=bench/crates.sh
+. "$top/bench/crates.sh"
+libraries='processor block_tree op_pack perm_memo rpo_hash vm_state vm_ops vm_field'
+# shellcheck disable=SC2086
+copy_crates $libraries
 mkdir -p "$work/crates/bench_execute/src"
 echo "bench_execute: $libraries" >>"$work/crates.txt"
 cat >"$work/crates/bench_execute/src/main.rt" <<'END'

@@ -6,12 +6,10 @@ set -e
 top=$(cd "$(dirname "$0")/.." && pwd)
 work=$(mktemp -d)
 trap 'rm -rf "$work"' EXIT
-for crate in vm_field vm_ops masm_lex masm_instr instr_reading masm_parse; do
-    mkdir -p "$work/crates/$crate"
-    cp -r "$top/crates/$crate"/{src,specs,proofs} "$work/crates/$crate/"
-done
+# shellcheck source=bench/crates.sh
+. "$top/bench/crates.sh"
+copy_crates masm_lex masm_parse vm_field
 mkdir -p "$work/crates/bench_parse/src"
-grep -E '^(vm_field|vm_ops|masm_lex|masm_instr|instr_reading|masm_parse):' "$top/crates.txt" >"$work/crates.txt"
 echo 'bench_parse: masm_lex masm_parse vm_field' >>"$work/crates.txt"
 cat >"$work/crates/bench_parse/src/main.rt" <<'END'
 //! Times the lexer and the parser.

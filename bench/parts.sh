@@ -12,22 +12,21 @@ top=$(cd "$(dirname "$0")/.." && pwd)
 work=$(mktemp -d)
 trap 'rm -rf "$work"' EXIT
 kernel=
+# shellcheck source=bench/crates.sh
+. "$top/bench/crates.sh"
 # shellcheck source=bench/sources.sh
 . "$top/bench/sources.sh"
 rustc --edition 2021 -O -o "$work/plain" "$top/bench/check.rs"
 rustc --edition 2021 -O -o "$work/fill" "$top/bench/fill.rs"
 
 make_program() {
-    local crate
-    while IFS=: read -r crate _; do
-        case $crate in '#'* | *_tests | worked_rows | miden_*) continue ;; esac
-        mkdir -p "$work/crates/$crate"
-        cp -r "$top/crates/$crate"/{src,specs,proofs,out} "$work/crates/$crate/" 2>/dev/null || true
-        grep -E "^$crate:" "$top/crates.txt" >>"$work/crates.txt"
-    done <"$top/crates.txt"
+    local libraries='run_files run_extractor checker table_file air_kit masm_link masm_lex processor evidence_text statement block_tree
+        rpo_hash vm_io vm_state vm_table vm_field'
+    # shellcheck disable=SC2086
+    copy_crates $libraries
     mkdir -p "$work/crates/bench_parts/src"
-    echo 'bench_parts: run_files run_extractor checker table_file air_kit masm_link masm_lex processor evidence_text statement block_tree
-        rpo_hash vm_io vm_state vm_table vm_field anyhow' | tr -s '\n ' '  ' >>"$work/crates.txt"
+    # shellcheck disable=SC2086
+    echo bench_parts: $libraries anyhow >>"$work/crates.txt"
     cat >"$work/crates/bench_parts/src/main.rt" <<'END_MAIN'
 //! Times the parts of `run` and of `check` over one source.
 #![tactic(auto)]

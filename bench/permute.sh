@@ -5,16 +5,11 @@ set -e
 top=$(cd "$(dirname "$0")/.." && pwd)
 work=$(mktemp -d)
 trap 'rm -rf "$work"' EXIT
-for crate in vm_field rpo_hash; do
-    mkdir -p "$work/crates/$crate"
-    cp -r "$top/crates/$crate"/{src,specs,proofs} "$work/crates/$crate/"
-done
+# shellcheck source=bench/crates.sh
+. "$top/bench/crates.sh"
+copy_crates rpo_hash vm_field
 mkdir -p "$work/crates/bench_permute/src"
-cat >"$work/crates.txt" <<'END'
-vm_field: thiserror hex itoa
-rpo_hash: vm_field thiserror
-bench_permute: rpo_hash vm_field
-END
+echo 'bench_permute: rpo_hash vm_field' >>"$work/crates.txt"
 cat >"$work/crates/bench_permute/src/main.rt" <<'END'
 //! Times permutations.
 #![tactic(auto)]

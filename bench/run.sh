@@ -40,15 +40,13 @@ if [ "$1" != crates ]; then
     whole_command "${1:-span}"
     exit
 fi
-libraries='vm_field vm_io vm_ops rpo_hash perm_memo op_pack vm_state op_steps block_tree processor masm_lex masm_instr instr_reading masm_parse
-    masm_uses masm_flat masm_link'
-for crate in $libraries; do
-    mkdir -p "$work/crates/$crate"
-    cp -r "$top/crates/$crate"/{src,specs,proofs} "$work/crates/$crate/"
-    grep -E "^$crate:" "$top/crates.txt" >>"$work/crates.txt"
-done
+# shellcheck source=bench/crates.sh
+. "$top/bench/crates.sh"
+libraries='masm_link masm_lex processor block_tree perm_memo rpo_hash vm_io vm_state vm_field'
+# shellcheck disable=SC2086
+copy_crates $libraries
 mkdir -p "$work/crates/bench_run/src"
-echo 'bench_run: masm_link masm_lex processor block_tree perm_memo rpo_hash vm_io vm_state vm_field' >>"$work/crates.txt"
+echo "bench_run: $libraries" >>"$work/crates.txt"
 cat >"$work/crates/bench_run/src/main.rt" <<'END'
 //! Assembles and executes a source.
 #![tactic(auto)]

@@ -6,17 +6,11 @@ set -e
 top=$(cd "$(dirname "$0")/.." && pwd)
 work=$(mktemp -d)
 trap 'rm -rf "$work"' EXIT
-for crate in vm_field buses bus_kit; do
-    mkdir -p "$work/crates/$crate"
-    cp -r "$top/crates/$crate"/{src,specs,proofs} "$work/crates/$crate/"
-done
+# shellcheck source=bench/crates.sh
+. "$top/bench/crates.sh"
+copy_crates bus_kit vm_field
 mkdir -p "$work/crates/bench_tally/src" "$work/crates/bench_tally/proofs/ask_all"
-cat >"$work/crates.txt" <<'END'
-vm_field: thiserror hex itoa
-buses:
-bus_kit: buses vm_field arrayvec
-bench_tally: bus_kit vm_field anyhow
-END
+echo 'bench_tally: bus_kit vm_field anyhow' >>"$work/crates.txt"
 cat >"$work/crates/bench_tally/src/main.rt" <<'END'
 //! Times counts of tuples.
 #![tactic(auto)]

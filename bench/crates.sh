@@ -1,0 +1,18 @@
+# shellcheck shell=bash
+# For the scripts beside this one to read. `copy_crates NAME..` copies these crates of the repository and those below them into the folder
+# `work`, with what earlier checks left in their folders out/, so that they need not be proved again, and lists them in its crates.txt.
+copy_crates() {
+    local crate below
+    for crate in "$@"; do
+        # shellcheck disable=SC2154
+        if [ ! -d "$top/crates/$crate" ] || [ -d "$work/crates/$crate" ]; then
+            continue
+        fi
+        below=$(sed -n "s/^$crate://p" "$top/crates.txt")
+        mkdir -p "$work/crates/$crate"
+        cp -r "$top/crates/$crate"/{src,specs,proofs,out} "$work/crates/$crate/" 2>/dev/null || true
+        echo "$crate:$below" >>"$work/crates.txt"
+        # shellcheck disable=SC2086
+        copy_crates $below
+    done
+}
