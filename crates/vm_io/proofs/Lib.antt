@@ -3,3 +3,4 @@ pub mod LawLemmas
 pub mod ShelfLemmas
 pub mod PieceLemmas
 pub mod WholeLemmas
+pub mod TakerLemmas

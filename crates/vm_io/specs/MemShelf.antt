@@ -66,6 +66,11 @@ after_read s name (Err read.TooLong) = counted s
 after_read s name (Err read.Failed) = with_read_fault (counted s) name
 after_read s name (Err read.Memory) = counted s
 
+-- behind a read whose bytes a taker took, by what it answered
+abbrev pub after_pieces : HeldFiles → List ℕ → Result (Unit {0}) ReadStop → HeldFiles
+after_pieces s name (Ok _) = counted s
+after_pieces s name (Err stop) = after_read s name (Err stop)
+
 -- behind a write, by what it answered
 abbrev pub after_write : HeldFiles → List ℕ → List ℕ → Result (Unit {0}) WriteStop → HeldFiles
 after_write s name bytes (Ok _) = put (counted s) name bytes

@@ -58,6 +58,11 @@ ReadStep old new name max (Err read.TooLong) = (new ≡ old) × Told old (λ m. 
 ReadStep old new name max (Err read.Failed) = ReadFails old new name
 ReadStep old new name max (Err read.Memory) = new ≡ old
 
+-- A read of at most max bytes that a taker took, by what it answers.
+abbrev pub TakenStep : ShelfState → ShelfState → List ℕ → ℕ → (List ℕ → Type 0) → Result (Unit {0}) ReadStop → Type 0
+TakenStep old new name max took (Ok _) = (bytes : List ℕ) × Reads old new name max bytes × took bytes
+TakenStep old new name max took (Err stop) = ReadStep old new name max (Err stop)
+
 -- a write that failed: a front of the bytes stands under the name
 pub record WriteFails (old new : ShelfState) (name bytes : List ℕ) : Type 0 where
   pub front : ℕ

@@ -1,10 +1,11 @@
-ghost use Rattle.std.specs.Prelude.{◌≡◌, ◌≤◌, length, IfOk, IsErrOf};
-ghost use Rattle.vm_io.specs.Count.{one_more};
-ghost use Rattle.vm_io.specs.Shelf.{ReadStep, WriteStep};
+ghost use Rattle.std.specs.Prelude.{◌≡◌, ◌≢◌, ◌≤◌, ℕ, List, [], length, IfOk, OnOk, IsErrOf};
+ghost use Rattle.vm_io.specs.Count.{Rose, one_more};
+ghost use Rattle.vm_io.specs.Shelf.{ReadStep, TakenStep, WriteStep};
 
 use crate::pieces::Pieces;
 use crate::shelf::{ReadStop, Shelf, WriteStop};
-use crate::whole::{read_whole, write_all, write_whole};
+use crate::taker::Taker;
+use crate::whole::{read_all, read_whole, write_all, write_whole};
 use std::alloc::Global;
 use std::marker::Model;
 use std::rt::Files;
@@ -38,6 +39,13 @@ impl<'a, R: Files> FolderShelf<'a, R> {
             write_faults: 0,
         }
     }
+
+    fn count_read_fault(&mut self)
+        ensures counted { self.new ≡ record self.old { reads = one_more self.old.reads } }
+        ensures rose { Rose self.old.reads self.new.reads }
+    {
+        self.read_faults = self.read_faults.saturating_add(1);
+    }
 }
 
 impl<'a, R: Files> Shelf for FolderShelf<'a, R> {
@@ -53,7 +61,22 @@ impl<'a, R: Files> Shelf for FolderShelf<'a, R> {
     {
         match load(self.rt, alloc, name, max) {
             Err(ReadStop::Failed) => {
-                self.read_faults = self.read_faults.saturating_add(1);
+                self.count_read_fault();
+                Err(ReadStop::Failed)
+            }
+            answer => answer,
+        }
+    }
+
+    /// As `read`. It keeps no more than one piece in memory.
+    fn read_pieces<T: Taker>(&mut self, name: &str, max: u64, taker: &mut T) -> Result<(), ReadStop>
+        requires fresh { T.took taker.old [] }
+        ensures step { TakenStep (untold_shelf self.old) (untold_shelf self.new) name.now max (T.took taker.new) result }
+        ensures counted { IsErrOf result ReadStop.Failed → self.new.reads ≡ one_more self.old.reads }
+    {
+        match load_pieces(self.rt, name, max, taker) {
+            Err(ReadStop::Failed) => {
+                self.count_read_fault();
                 Err(ReadStop::Failed)
             }
             answer => answer,
@@ -100,6 +123,23 @@ fn load<R: Files>(rt: &R, alloc: Global, name: &str, max: u64) -> Result<Bytes, 
 {
     match fs::open(rt, name) {
         Ok(mut file) => read_whole(alloc, &mut file, max),
+        Err(error) if error.kind() == io::ErrorKind::NotFound => Err(ReadStop::Missing),
+        Err(_) => Err(ReadStop::Failed),
+    }
+}
+
+// Reads a file for a taker.
+fn load_pieces<R: Files, T: Taker>(
+    rt: &R,
+    name: &str,
+    max: u64,
+    taker: &mut T,
+) -> Result<(), ReadStop>
+    requires fresh { T.took taker.old [] }
+    ensures taken { OnOk result ((bytes : List ℕ) × (length bytes ≤ max) × T.took taker.new bytes) }
+{
+    match fs::open(rt, name) {
+        Ok(mut file) => read_all(&mut file, max, taker),
         Err(error) if error.kind() == io::ErrorKind::NotFound => Err(ReadStop::Missing),
         Err(_) => Err(ReadStop::Failed),
     }

@@ -14,6 +14,7 @@ mod pieces;
 mod shelf;
 mod sink;
 mod std_sink;
+mod taker;
 #[cfg(test)]
 mod tests;
 mod whole;
@@ -27,4 +28,5 @@ pub use pieces::{Piece, Pieces};
 pub use shelf::{ReadStop, Shelf, WriteStop};
 pub use sink::{Sink, SinkStop};
 pub use std_sink::StdSink;
+pub use taker::Taker;
 pub use whole::gather;

@@ -3,12 +3,13 @@ ghost use Rattle.std.specs.Option.{option_copied};
 ghost use Rattle.std.specs.FinMap as map;
 ghost use Rattle.vm_io.specs.Count.{Rose, one_more};
 ghost use Rattle.vm_io.specs.Calls.{IsDue};
-ghost use Rattle.vm_io.specs.Shelf.{ReadStep, WriteStep};
+ghost use Rattle.vm_io.specs.Shelf.{ReadStep, TakenStep, WriteStep};
 
 use crate::calls::Calls;
 use crate::kept_name::KeptName;
 use crate::pieces::Pieces;
 use crate::shelf::{ReadStop, Shelf, WriteStop};
+use crate::taker::Taker;
 use crate::whole::gather;
 use std::alloc::Global;
 use std::collections::BTreeMap;
@@ -132,7 +133,7 @@ impl MemShelf {
 }
 
 impl Shelf for MemShelf {
-    ghost use Rattle.vm_io.specs.MemShelf.{told, after_read, after_write};
+    ghost use Rattle.vm_io.specs.MemShelf.{told, after_read, after_pieces, after_write};
 
     ghost state = { told };
 
@@ -155,6 +156,22 @@ impl Shelf for MemShelf {
         match Bytes::copied(alloc, file) {
             Ok(bytes) => Ok(bytes),
             Err(_) => Err(ReadStop::Memory),
+        }
+    }
+
+    /// As `read`. The file is one piece.
+    fn read_pieces<T: Taker>(&mut self, name: &str, max: u64, taker: &mut T) -> Result<(), ReadStop>
+        requires fresh { T.took taker.old [] }
+        ensures step { TakenStep (told self.old) (told self.new) name.now max (T.took taker.new) result }
+        ensures failing { IsErrOf result ReadStop.Failed ↔ IsDue self.old.calls }
+        ensures after { self.new ≡ after_pieces self.old name.now result }
+    {
+        match self.read(self.alloc, name, max) {
+            Ok(bytes) => {
+                taker.take_piece(bytes.as_slice());
+                Ok(())
+            }
+            Err(stop) => Err(stop),
         }
     }
 

@@ -1,4 +1,5 @@
 use crate::pieces::Pieces;
+use crate::taker::Taker;
 use std::alloc::Global;
 use thiserror::Error;
 use vm_field::Bytes;
@@ -36,7 +37,8 @@ pub enum WriteStop {
 /// A shelf is seen as its files, two counts of faults and the name that failed last. It may leave
 /// the files and the name untold. The counts never fall, and stop at 2^64 - 1.
 pub trait Shelf {
-    ghost use Rattle.vm_io.specs.Shelf.{ShelfState, ReadStep, WriteStep};
+    ghost use Rattle.std.specs.Prelude.{[]};
+    ghost use Rattle.vm_io.specs.Shelf.{ShelfState, ReadStep, TakenStep, WriteStep};
 
     ghost state: { Self → ShelfState };
 
@@ -47,6 +49,11 @@ pub trait Shelf {
     /// it counts a read fault, and keeps the first 200 bytes of the name.
     fn read(&mut self, alloc: Global, name: &str, max: u64) -> Result<Bytes, ReadStop>
         ensures step { ReadStep (state self.old) (state self.new) name.now max result };
+
+    /// Gives the bytes of a file to a taker that has taken nothing yet, as `read` does. They need not be in memory at once.
+    fn read_pieces<T: Taker>(&mut self, name: &str, max: u64, taker: &mut T) -> Result<(), ReadStop>
+        requires fresh { T.took taker.old [] }
+        ensures step { TakenStep (state self.old) (state self.new) name.now max (T.took taker.new) result };
 
     /// Puts these bytes under the name, in place of any that stood there. Other files stay.
     ///

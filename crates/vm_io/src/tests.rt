@@ -1,7 +1,7 @@
-ghost use Rattle.std.specs.Prelude.{◌≤◌, IfOk};
+ghost use Rattle.std.specs.Prelude.{◌≡◌, ◌≤◌, [], false, IfOk};
 
 use super::*;
-use crate::whole::{read_whole, write_whole};
+use crate::whole::{read_all, read_whole, write_whole};
 use std::alloc::Global;
 use std::io::{Read, Write};
 use std::test::Fail;
@@ -11,6 +11,7 @@ use vm_field::{Bytes, Memory};
 #[derive(Clone, Copy)]
 enum Call {
     Read(&'static str, u64),
+    ReadPieces(&'static str, u64),
     Write(&'static str, &'static str),
     WritePieces(&'static str, &'static str),
 }
@@ -34,16 +35,52 @@ impl Pieces for Pairs {
     }
 }
 
+// A taker that keeps what it took.
+#[derive(Drop)]
+struct Kept {
+    bytes: Bytes,
+    is_refused: bool,
+}
+
+impl Kept {
+    fn new(alloc: Global) -> Kept
+        ensures { (result.is_refused ≡ false) × (result.bytes ≡ []) }
+    {
+        Kept {
+            bytes: Bytes::new(alloc),
+            is_refused: false,
+        }
+    }
+}
+
+impl Taker for Kept {
+    ghost use Rattle.std.specs.Prelude.{◌≡◌, false};
+    ghost use Rattle.vm_io.specs.declared.tests.Kept.{Kept};
+
+    ghost took = { λ k bytes. k.is_refused ≡ false → k.bytes ≡ bytes };
+
+    fn take_piece(&mut self, piece: &[u8]) {
+        if self.bytes.append(piece).is_err() {
+            self.is_refused = true;
+        }
+    }
+}
+
 // What a call answers, as a text.
 fn answer<F: Shelf>(alloc: Global, shelf: &mut F, call: &Call) -> Result<Bytes, Memory> {
     match call {
         Call::Read(name, max) => match shelf.read(alloc, name, *max) {
             Ok(bytes) => Ok(bytes),
-            Err(ReadStop::Missing) => Bytes::copied(alloc, b"missing"),
-            Err(ReadStop::TooLong) => Bytes::copied(alloc, b"too long"),
-            Err(ReadStop::Failed) => Bytes::copied(alloc, b"failed"),
-            Err(ReadStop::Memory) => Err(Memory::Memory),
+            Err(stop) => stopped(alloc, stop),
         },
+        Call::ReadPieces(name, max) => {
+            let mut kept = Kept::new(alloc);
+            match shelf.read_pieces(name, *max, &mut kept) {
+                Ok(()) if kept.is_refused => Err(Memory::Memory),
+                Ok(()) => Ok(kept.bytes),
+                Err(stop) => stopped(alloc, stop),
+            }
+        }
         Call::Write(name, text) => told(alloc, shelf.write(alloc, name, text.as_bytes())),
         Call::WritePieces(name, text) => {
             let mut pieces = Pairs {
@@ -51,6 +88,15 @@ fn answer<F: Shelf>(alloc: Global, shelf: &mut F, call: &Call) -> Result<Bytes, 
             };
             told(alloc, shelf.write_pieces(alloc, name, &mut pieces))
         }
+    }
+}
+
+fn stopped(alloc: Global, stop: ReadStop) -> Result<Bytes, Memory> {
+    match stop {
+        ReadStop::Missing => Bytes::copied(alloc, b"missing"),
+        ReadStop::TooLong => Bytes::copied(alloc, b"too long"),
+        ReadStop::Failed => Bytes::copied(alloc, b"failed"),
+        ReadStop::Memory => Err(Memory::Memory),
     }
 }
 
@@ -96,7 +142,8 @@ fn a_mem_shelf_fails_when_it_is_told_to(rt: HostRuntime) -> Result<(), Fail> {
         (Call::Read("c", 1), "missing"),
         (Call::Write("a", ""), "written"),
         (Call::WritePieces("d", "whole"), "written"),
-        (Call::Read("d", 5), "whole"),
+        (Call::ReadPieces("d", 5), "whole"),
+        (Call::ReadPieces("d", 4), "too long"),
     ] {
         let told = answer(rt.alloc(), &mut shelf, &call)?;
         assert_eq!(rt; told.as_slice(), want.as_bytes());
@@ -135,7 +182,10 @@ fn a_folder_is_read_and_written(rt: HostRuntime) -> Result<(), Fail> {
             Call::WritePieces("vm_io-test-file", "a longer text"),
             "written",
         ),
-        (Call::Read("vm_io-test-file", 13), "a longer text"),
+        (Call::ReadPieces("vm_io-test-file", 13), "a longer text"),
+        (Call::ReadPieces("vm_io-test-file", 12), "too long"),
+        (Call::ReadPieces("vm_io-no-file", 5), "missing"),
+        (Call::ReadPieces(".", 3), "failed"),
         (Call::Read(".", 3), "failed"),
         (Call::Write("vm_io-no-folder/file", "text"), "failed"),
         (Call::WritePieces("vm_io-no-folder/file", "text"), "failed"),
@@ -204,6 +254,9 @@ fn a_stream_that_stops_is_a_fault(rt: HostRuntime) {
         let mut stream = Stream { room, fails };
         let read = read_whole(rt.alloc(), &mut stream, max).map(|bytes| bytes.as_slice().len());
         assert_eq!(rt; read, want);
+        let mut stream = Stream { room, fails };
+        let taken = read_all(&mut stream, max, &mut Kept::new(rt.alloc()));
+        assert_eq!(rt; taken, want.map(|_| ()));
     }
     for (room, fails, want) in [
         (4, false, true),

@@ -1,8 +1,9 @@
-ghost use Rattle.std.specs.Prelude.{◌≡◌, ◌≢◌, ℕ, ◌+◌, ◌≤◌, List, length, take, IfOk, OnOk, OnErr, IsErrOf};
+ghost use Rattle.std.specs.Prelude.{◌≡◌, ◌≢◌, ℕ, ◌+◌, ◌≤◌, List, [], length, take, IfOk, OnOk, OnErr, IsErrOf};
 ghost use Rattle.std.specs.Io.KnownBytes.{Appends, Consumes, IsAtEnd};
 
 use crate::pieces::{Piece, Pieces};
 use crate::shelf::ReadStop;
+use crate::taker::Taker;
 use std::alloc::Global;
 use std::io;
 use std::io::{Read, Write};
@@ -38,6 +39,35 @@ pub fn read_whole<R: Read>(alloc: Global, source: &mut R, max: u64) -> Result<By
         if bytes.append(&piece[..count]).is_err() {
             return Err(ReadStop::Memory);
         }
+    }
+}
+
+/// Gives all that a reader has left, which may be `max` bytes at most, to a taker that has taken nothing yet. It reads as
+/// `read_whole` does, and keeps no more than one piece in memory.
+pub fn read_all<R: Read, T: Taker>(source: &mut R, max: u64, taker: &mut T) -> Result<(), ReadStop>
+    requires { T.took taker.old [] }
+    ensures whole { OnOk result ((bytes : List ℕ) × (length bytes ≤ max) × T.took taker.new bytes
+        × Consumes (R.remaining source.old) (R.remaining source.new) bytes) }
+    ensures end { OnOk result (IsAtEnd (R.remaining source.new)) }
+    ensures too_long { IsErrOf result ReadStop.TooLong → (bytes : List ℕ) × (length bytes ≡ max + 1)
+        × Consumes (R.remaining source.old) (R.remaining source.new) bytes }
+    ensures present { result ≢ Err ReadStop.Missing }
+{
+    let mut piece = [0u8; PIECE];
+    let mut left = max;
+    loop {
+        let room = left.min(PIECE as u64 - 1) as usize + 1;
+        let Ok(count) = source.read(&mut piece[..room]) else {
+            return Err(ReadStop::Failed);
+        };
+        if count == 0 {
+            return Ok(());
+        }
+        if left < count as u64 {
+            return Err(ReadStop::TooLong);
+        }
+        taker.take_piece(&piece[..count]);
+        left -= count as u64;
     }
 }
 
