@@ -10,7 +10,7 @@ module _ {A : Type 0} (part : ℕ → Result A FileError) (size : ℕ) where
   unfolding parts_at
   parts_more m at x is = ap (λ o. behind o (λ y. behind (parts_at part size m (at + size)) (λ rest. Ok (y ∷ rest)))) is
 
-  parts_stop : (m at : ℕ) (e : FileError) → part at ≡ Err e → parts_at part size (suc m) at ≡ Err e
+  pub parts_stop : (m at : ℕ) (e : FileError) → part at ≡ Err e → parts_at part size (suc m) at ≡ Err e
   unfolding parts_at
   parts_stop m at e is = ap (λ o. behind o (λ y. behind (parts_at part size m (at + size)) (λ rest. Ok (y ∷ rest)))) is
 
@@ -55,3 +55,9 @@ module _ {A : Type 0} (part : ℕ → Result A FileError) (size : ℕ) where
 
   pub ends_in : (at count i : ℕ) (row : List A) → count ≤ i → length row ≤ i → Goes at count i (take i row) → parts_at part size count at ≡ Ok row
   ends_in at count i row past full so_far = ends at count i (take i row) past so_far ∙ ap (λ all. Ok all) (take_all i row full)
+
+  -- a further part behind a front
+  pub goes_behind : (m at : ℕ) (front : List A) (x : A) → part at ≡ Ok x
+      → behind (parts_at part size m (at + size)) (λ rest. Ok ((front ++ x ∷ []) ++ rest)) ≡ behind (parts_at part size (suc m) at) (λ rest. Ok (front ++ rest))
+  goes_behind m at front x is =
+      sym (front_more front x (parts_at part size m (at + size))) ∙ ap (λ r. behind r (λ rest. Ok (front ++ rest))) (sym (parts_more m at x is))

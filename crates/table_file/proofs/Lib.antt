@@ -9,3 +9,6 @@ mod TraceReading
 mod TableLaws
 pub mod PartReading
 pub mod LeftLemmas
+pub mod PartTraces
+pub mod RowReading
+pub mod Readers

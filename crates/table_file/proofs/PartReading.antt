@@ -1,40 +1,55 @@
--- How the elements of a row are read from its own bytes.
-use Rattle.std.proofs.Common.{◌≡◌, ℕ, ◌+◌, ◌-◌, ◌*◌, ◌<◌, ◌≤◌, List, drop, take, length, Ok, Err, ap, ◌∙◌, arith, refl, sym}
+-- What is read from bytes that stand at a place.
+use Rattle.std.proofs.Common.{◌≡◌, ℕ, ◌+◌, ◌*◌, ◌<◌, ◌≤◌, List, ◌++◌, drop, length, Ok, Err, refl, sym, ap, ◌∙◌, arith, append_assoc}
+use Rattle.std.proofs.Math.Seq.{take-append_seam, drop-append_seam}
 use Rattle.std.proofs.lemmas.Bool.{le-ltb, lt-ltb}
-use Rattle.std.proofs.lemmas.List.{drop-drop, drop-take, length-take}
+use Rattle.std.proofs.lemmas.List.{drop-append-le, drop-drop, length-append, length-drop}
 use Rattle.vm_field.specs.Field.{prime}
 use Rattle.byteorder.specs.Endian.{little_number}
 use Rattle.byteorder.specs.Numbers.{little_from-take}
 use Rattle.table_file.specs.declared.cause.FileCause.TheVariants as cause
 use Rattle.table_file.specs.declared.cause.FileError.TheVariants.{Bad}
 use Rattle.table_file.specs.Fields.{element_at, number_at}
+use Rattle.table_file.specs.Reading.{StandsAt}
 
-module _ (bytes part : List ℕ) (at j : ℕ) (is : (count : ℕ) × (at + count ≤ length bytes) × (part ≡ take count (drop at bytes)))
-    (inside : 8 * j + 8 ≤ length part) where
-  within : 8 * j + 8 ≤ is.0
-  within = omega (arith, inside, ap length is.2, length-take is.0 (drop at bytes))
+-- a number is that of its own bytes, whatever stands behind them
+pub little-front : (size : ℕ) (xs more : List ℕ) → size ≤ length xs → little_number size (xs ++ more) ≡ little_number size xs
+little-front size xs more long =
+    sym (little_from-take 0 size (length xs) (xs ++ more) (omega (arith, long))) ∙ ap (little_number size) (take-append_seam xs more)
 
-  there : at + 8 * j + 8 ≤ length bytes
-  there = let whole = is.1 in omega (arith, within, whole)
+module _ (all xs ys : List ℕ) (at : ℕ) (stands : StandsAt all at (xs ++ ys)) where
+  pub stands_front : StandsAt all at xs
+  stands_front = (ys ++ stands.0, stands.1 ∙ append_assoc xs ys stands.0)
 
-  same : little_number 8 (drop (8 * j) part) ≡ little_number 8 (drop (at + 8 * j) bytes)
+  pub stands_back : (count : ℕ) → length xs ≡ count → StandsAt all (at + count) ys
+  stands_back count long = (
+    stands.0,
+    sym (drop-drop count at all) ∙ ap (drop count) (stands.1 ∙ append_assoc xs ys stands.0)
+        ∙ ap (λ (n : ℕ). drop n (xs ++ (ys ++ stands.0))) (sym long) ∙ drop-append_seam xs (ys ++ stands.0),
+  )
+
+-- what follows bytes that were read
+pub stands_behind : (done part more : List ℕ) (at : ℕ) → length done ≡ at → StandsAt (done ++ (part ++ more)) at part
+stands_behind done part more at long = (more, ap (λ (n : ℕ). drop n (done ++ (part ++ more))) (sym long) ∙ drop-append_seam done (part ++ more))
+
+module _ (all part : List ℕ) (at j : ℕ) (stands : StandsAt all at part) (inside : 8 * j + 8 ≤ length part) where
+  there : at + 8 * j + 8 ≤ length all
+  there = omega (arith, inside, ap length stands.1, length-append part stands.0, length-drop at all)
+
+  same : little_number 8 (drop (8 * j) part) ≡ little_number 8 (drop (at + 8 * j) all)
   same =
-      let more : is.0 ≡ 8 * j + (is.0 - 8 * j) = omega (arith, within) in
-      ap (λ (p : List ℕ). little_number 8 (drop (8 * j) p)) is.2
-      ∙ ap (λ (n : ℕ). little_number 8 (drop (8 * j) (take n (drop at bytes)))) more
-      ∙ ap (little_number 8) (drop-take (8 * j) (is.0 - 8 * j) (drop at bytes))
-      ∙ little_from-take 0 8 (is.0 - 8 * j) (drop (8 * j) (drop at bytes)) (omega (arith, within))
-      ∙ ap (little_number 8) (drop-drop (8 * j) at bytes)
+      let long : 8 ≤ length (drop (8 * j) part) = omega (arith, inside, length-drop (8 * j) part) in
+      let before : 8 * j ≤ length part = omega (arith, inside) in
+      sym (little-front 8 (drop (8 * j) part) stands.0 long)
+      ∙ ap (little_number 8) (sym (drop-append-le (8 * j) part stands.0 before) ∙ ap (drop (8 * j)) (sym stands.1) ∙ drop-drop (8 * j) at all)
 
-  pub good : (n : ℕ) → n ≡ little_number 8 (drop (8 * j) part) → n < prime → element_at bytes (at + 8 * j) ≡ Ok n
+  pub good : (n : ℕ) → n ≡ little_number 8 (drop (8 * j) part) → n < prime → element_at all (at + 8 * j) ≡ Ok n
   unfolding number_at
   good n e low =
-      let number : little_number 8 (drop (at + 8 * j) bytes) ≡ n = sym same ∙ sym e in
-      rw (le-ltb (length bytes) (at + 8 * j + 8) there, number, lt-ltb n prime low) refl
+      let number : little_number 8 (drop (at + 8 * j) all) ≡ n = sym same ∙ sym e in
+      rw (le-ltb (length all) (at + 8 * j + 8) there, number, lt-ltb n prime low) refl
 
-  pub wrong : (n : ℕ) → n ≡ little_number 8 (drop (8 * j) part) → prime ≤ n
-      → element_at bytes (at + 8 * j) ≡ Err (Bad (at + 8 * j) cause.Element)
+  pub wrong : (n : ℕ) → n ≡ little_number 8 (drop (8 * j) part) → prime ≤ n → element_at all (at + 8 * j) ≡ Err (Bad (at + 8 * j) cause.Element)
   unfolding number_at
   wrong n e high =
-      let number : little_number 8 (drop (at + 8 * j) bytes) ≡ n = sym same ∙ sym e in
-      rw (le-ltb (length bytes) (at + 8 * j + 8) there, number, le-ltb n prime high) refl
+      let number : little_number 8 (drop (at + 8 * j) all) ≡ n = sym same ∙ sym e in
+      rw (le-ltb (length all) (at + 8 * j + 8) there, number, le-ltb n prime high) refl

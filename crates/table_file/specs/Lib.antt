@@ -2,3 +2,4 @@ pub mod Causes
 pub mod Fields
 pub mod Files
 pub mod Left
+pub mod Reading

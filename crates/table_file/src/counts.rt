@@ -3,7 +3,7 @@ ghost use Rattle.air_kit.specs.Traces.{HasCounts, most_rows};
 ghost use Rattle.table_file.specs.Files.{AreFew, count_at, counts_in, counts_of, end_place, least_rows, may_have, rows_at_once};
 
 use crate::cause::{FileCause, FileError, bad};
-use crate::reading::read_u32;
+use crate::head::read_u32;
 use air_kit::{TableName, Trace};
 
 /// How many rows each table has.

@@ -3,13 +3,16 @@
 
 mod cause;
 mod counts;
+mod head;
 mod laws;
-mod reading;
+mod part_trace;
+mod reader;
+mod rows;
 #[cfg(test)]
 mod tests;
 mod writing;
 
 pub use cause::{FileCause, FileError, cause_text};
 pub use laws::{file_laws, types_cross};
-pub use reading::decode;
+pub use reader::{TableReader, decode};
 pub use writing::{TablePieces, encode};

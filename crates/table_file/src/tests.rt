@@ -1,7 +1,11 @@
-use crate::{FileCause, FileError, decode, encode, types_cross};
+ghost use Rattle.std.specs.Prelude.{◌<◌};
+
+use crate::{FileCause, FileError, TableReader, decode, encode, types_cross};
+use air_kit::Trace;
 use std::alloc::Global;
 use std::test::Fail;
 use vm_field::Bytes;
+use vm_io::Taker;
 
 // `MDTB`, the version, and counts of 4, 42 and 8 rows; the other tables have none.
 const HEAD: [u8; 36] =
@@ -132,14 +136,29 @@ fn file(alloc: Global, case: &Case) -> Result<Bytes, FileError> {
     Ok(bytes)
 }
 
-fn main_rows(alloc: Global, case: &Case) -> Result<usize, FileError> {
-    let trace = decode(alloc, file(alloc, case)?.as_slice())?;
+// The trace of bytes that come in pieces of this size.
+fn read(alloc: Global, bytes: &[u8], size: usize) -> Result<Trace, FileError>
+    requires { 0 < size }
+{
+    let mut reader = TableReader::new(alloc);
+    for piece in bytes.chunks(size) {
+        reader.take_piece(piece);
+    }
+    reader.finish()
+}
+
+fn main_rows(alloc: Global, case: &Case, size: usize) -> Result<usize, FileError>
+    requires { 0 < size }
+{
+    let trace = read(alloc, file(alloc, case)?.as_slice(), size)?;
     Ok(trace.main.rows())
 }
 
-fn all_answer(alloc: Global, cases: &[Case]) -> bool {
+fn all_answer(alloc: Global, cases: &[Case], size: usize) -> bool
+    requires { 0 < size }
+{
     for case in cases {
-        if main_rows(alloc, case) != case.answer {
+        if main_rows(alloc, case, size) != case.answer {
             return false;
         }
     }
@@ -155,7 +174,8 @@ fn comes_back(alloc: Global, case: &Case) -> Result<bool, FileError> {
 #[test]
 fn reads_files(rt: HostRuntime) -> Result<(), Fail> {
     types_cross();
-    assert!(rt; all_answer(rt.alloc(), &CASES));
+    assert!(rt; all_answer(rt.alloc(), &CASES, 7));
+    assert!(rt; all_answer(rt.alloc(), &CASES, 4096));
     Ok(())
 }
 

@@ -5,7 +5,8 @@ ghost use Rattle.table_file.specs.Files.{AreFew, bytes_of, count_bytes, head_byt
 ghost use Rattle.table_file.specs.Left.{left_of};
 
 use crate::counts::{Counts, NO_ROWS, counts_in};
-use crate::reading::{ELEMENT_BYTES, MAGIC, VERSION};
+use crate::head::{MAGIC, VERSION};
+use crate::rows::ELEMENT_BYTES;
 use air_kit::Trace;
 use byteorder::{ByteOrder, LittleEndian};
 use std::alloc::Global;

@@ -1,0 +1,89 @@
+-- Rows of a table that are read one after the other, from bytes that stand at a place.
+use Rattle.std.proofs.Common.{◌≡◌, ◌⊎◌, ℕ, suc, ◌+◌, ◌-◌, ◌*◌, ◌<◌, ◌≤◌, List, [], ◌∷◌, ◌++◌, drop, take, length, Result, Ok, Err, inl, inr, refl, sym, ap, subst, ◌∙◌, arith, append_assoc, append-nil}
+use Rattle.std.proofs.Math.Nat.{mul-suc}
+use Rattle.std.proofs.Math.Seq.{take-add}
+use Rattle.std.proofs.lemmas.Bool.{lt-ltb}
+use Rattle.std.proofs.lemmas.List.{length-take-le, take-append-drop}
+use Rattle.table_file.specs.declared.cause.FileCause.TheVariants as cause
+use Rattle.table_file.specs.declared.cause.FileError.{FileError}
+use Rattle.table_file.specs.declared.cause.FileError.TheVariants.{Bad}
+use Rattle.table_file.specs.Fields.{Gives, behind, element_at, number_at, row_at, rows_at}
+use Rattle.table_file.specs.Reading.{ReadsRows, StandsAt}
+use Rattle.table_file.proofs.Chains.{bad-read}
+use Rattle.table_file.proofs.Going.{goes_behind, parts_stop}
+use Rattle.table_file.proofs.PartReading.{stands_back, stands_front}
+
+module _ (w at : ℕ) (bytes : List ℕ) (before : ℕ) (old : List (List ℕ)) where
+  pub reads_nothing : ReadsRows w at bytes before before old old 0
+  reads_nothing = record {
+    within = omega arith;
+    place = omega arith;
+    some = inl (refl, refl);
+    rows = [];
+    table = sym (append-nil old);
+    goes = λ all stands. go all;
+  }
+    where
+      same : (r : Result (List (List ℕ)) FileError) → behind r (λ rest. Ok rest) ≡ r
+      same (Ok rows) = refl
+      same (Err e) = refl
+
+      go : (all : List ℕ) → behind (rows_at all w before (at + 0)) (λ rest. Ok rest) ≡ rows_at all w before at
+      go all =
+          let here : at + 0 ≡ at = omega arith in
+          same (rows_at all w before (at + 0)) ∙ ap (rows_at all w before) here
+
+  module _ (left : ℕ) (table : List (List ℕ)) (used : ℕ) (r : ReadsRows w at bytes before left old table used) (more : 0 < left) where
+    one : left ≡ suc (left - 1)
+    one = omega (arith, more)
+
+    -- the next row follows
+    pub reads_more : (row : List ℕ) → used + 8 * w ≤ length bytes
+        → ((all : List ℕ) → StandsAt all (at + used) (take (8 * w) (drop used bytes)) → row_at all w (at + used) ≡ Ok row)
+        → ReadsRows w at bytes before (left - 1) old (table ++ row ∷ []) (used + 8 * w)
+    reads_more row within reads = record {
+      within = within;
+      place = let size = ap (λ (n : ℕ). 8 * w * n) one ∙ mul-suc (8 * w) (left - 1) in let so_far = r.place in omega (arith, size, so_far);
+      some = inr (omega arith);
+      rows = r.rows ++ row ∷ [];
+      table = ap (λ (rows : List (List ℕ)). rows ++ row ∷ []) r.table ∙ append_assoc old r.rows (row ∷ []);
+      goes = λ all stands.
+          let both = subst (StandsAt all at) (take-add used (8 * w) bytes) stands in
+          let within_used : used ≤ length bytes = r.within in
+          let is = reads all (stands_back all (take used bytes) (take (8 * w) (drop used bytes)) at both used (length-take-le used bytes within_used)) in
+          let place : at + (used + 8 * w) ≡ at + used + 8 * w = omega arith in
+          ap (λ (p : ℕ). behind (rows_at all w (left - 1) p) (λ rest. Ok ((r.rows ++ row ∷ []) ++ rest))) place
+          ∙ goes_behind (row_at all w) (8 * w) (left - 1) (at + used) r.rows row is
+          ∙ ap (λ (n : ℕ). behind (rows_at all w n (at + used)) (λ rest. Ok (r.rows ++ rest))) (sym one)
+          ∙ r.goes all (stands_front all (take used bytes) (take (8 * w) (drop used bytes)) at both);
+    }
+
+    -- the next row is refused
+    pub reads_stop : (e : FileError) → used + 8 * w ≤ length bytes
+        → ((all : List ℕ) → StandsAt all (at + used) (take (8 * w) (drop used bytes)) → row_at all w (at + used) ≡ Err e)
+        → (all : List ℕ) → StandsAt all at bytes → Gives (Err e) (rows_at all w before at)
+    reads_stop e within reads all stands =
+        let behind_used = drop used bytes in
+        let parts = subst (StandsAt all at) (sym (take-append-drop used bytes)) stands in
+        let within_used : used ≤ length bytes = r.within in
+        let there = stands_back all (take used bytes) behind_used at parts used (length-take-le used bytes within_used) in
+        let next = stands_front all (take (8 * w) behind_used) (drop (8 * w) behind_used) (at + used) (subst (StandsAt all (at + used)) (sym (take-append-drop (8 * w) behind_used)) there) in
+        bad-read (rows_at all w before at) e
+        (sym (r.goes all (stands_front all (take used bytes) behind_used at parts))
+        ∙ ap (λ (n : ℕ). behind (rows_at all w n (at + used)) (λ rest. Ok (r.rows ++ rest))) one
+        ∙ ap (λ x. behind x (λ rest. Ok (r.rows ++ rest))) (parts_stop (row_at all w) (8 * w) (left - 1) (at + used) e (reads all next)))
+
+  -- no further row stands whole: one was read at least
+  pub reads_some : (left : ℕ) (table : List (List ℕ)) (used : ℕ) → ReadsRows w at bytes before left old table used → 0 < before → 8 * w ≤ length bytes
+      → (left ≤ 0) ⊎ (length bytes - used < 8 * w) → 8 * w ≤ used
+  reads_some left table used r some enough ends = go r.some ends
+    where
+      go : ((used ≡ 0) × (before ≡ left)) ⊎ (8 * w ≤ used) → (left ≤ 0) ⊎ (length bytes - used < 8 * w) → 8 * w ≤ used
+      go (inr h) end = h
+      go (inl h) (inl none) = let same = h.1 in absurd (omega (arith, same, none, some))
+      go (inl h) (inr short) = let zero = h.0 in absurd (omega (arith, zero, short, enough))
+
+-- bytes end within an element
+pub ends_within : (all : List ℕ) (at j : ℕ) → length all < at + 8 * j + 8 → element_at all (at + 8 * j) ≡ Err (Bad (at + 8 * j) cause.Ended)
+unfolding number_at
+ends_within all at j short = rw (lt-ltb (length all) (at + 8 * j + 8) short) refl
