@@ -2,8 +2,6 @@
 ghost use Rattle.std.specs.Prelude.{◌≡◌, ◌≤◌, ◌∷◌, ◌++◌, length, codes, decimal, IfOk, Some};
 ghost use Rattle.rpo_hash.specs.Constants.{constants_of};
 ghost use Rattle.statement.specs.Statements.{claim_of};
-ghost use Rattle.table_file.specs.Fields.{Gives};
-ghost use Rattle.table_file.specs.Files.{trace_of};
 ghost use Rattle.air_kit.specs.Traces.{HasCounts};
 ghost use Rattle.commands.specs.CheckEnds.{accepted_line};
 ghost use Rattle.commands.specs.Commands.{check_steps, found_steps, judging_steps, statement_steps, table_steps};
@@ -18,7 +16,7 @@ use block_tree::Evidence;
 use checker::{Refused, Valid, check};
 use command_ends::{
     MOST_PARAMS_BYTES, MOST_STATEMENT_BYTES, MOST_TABLE_BYTES, Outcome, answered, append_number,
-    load, malformed_params, malformed_table, malformed_text, save,
+    load, load_pieces, malformed_params, malformed_table, malformed_text, save,
 };
 use commands::Status;
 use evidence_text::write_evidence;
@@ -27,7 +25,7 @@ use rpo_hash::Params;
 use run_extractor::extract;
 use statement::{TextError, read_statement};
 use std::alloc::Global;
-use table_file::{FileError, decode};
+use table_file::{FileError, TableReader};
 use vm_field::{Bytes, Memory};
 use vm_io::{Gate, Shelf};
 
@@ -65,7 +63,7 @@ pub fn check_files<F: Shelf, G: Gate>(
     }
 }
 
-// Reads the table file.
+// Reads the table file as its bytes come, so that they never stand beside the trace.
 #[tactic(auto, using(command_ends::proofs::ServingLemmas::work_ends, command_ends::proofs::ServingLemmas::says_comes))]
 fn check_table<F: Shelf, G: Gate>(
     alloc: Global,
@@ -80,8 +78,9 @@ fn check_table<F: Shelf, G: Gate>(
     ensures { EndsIn (Some (table_steps names.entry.table.now names.entry.statement.now names.entry.evidence.now (constants_of params))) result
         (F.state shelf.old) (F.state shelf.new) }
 {
-    match load(alloc, shelf, names.table, MOST_TABLE_BYTES) {
-        Ok(bytes) => match decoded(alloc, bytes) {
+    let mut reader = TableReader::new(alloc);
+    match load_pieces(alloc, shelf, names.table, MOST_TABLE_BYTES, &mut reader) {
+        Ok(()) => match reader.finish() {
             Ok(trace) => check_statement(alloc, shelf, gate, params, trace, names),
             Err(FileError::Bad { offset, cause }) => malformed_table(
                 alloc,
@@ -93,14 +92,6 @@ fn check_table<F: Shelf, G: Gate>(
         },
         Err(end) => end,
     }
-}
-
-// The trace that bytes read as. They are given up, so that they do not stand beside the trace any longer.
-fn decoded(alloc: Global, bytes: Bytes) -> Result<Trace, FileError>
-    ensures reads { Gives result (trace_of bytes) }
-    ensures counts { IfOk result HasCounts }
-{
-    decode(alloc, bytes.as_slice())
 }
 
 // Reads the statement.

@@ -166,6 +166,15 @@ goes_past_read name most next bytes old mid found =
     past : (P : Steps → Option Files → Type 0) → Leads (next bytes) P old.files → Leads (reading name most next) P old.files
     past P h = record { left = h.left; now = h.now; passes = past_read name most next bytes found.file found.within h.passes; there = h.there }
 
+-- a file that a taker took
+pub goes_past_taken : (name : List ℕ) (most : ℕ) (took : List ℕ → Type 0) (old mid : ShelfState) → (bytes : List ℕ) × Reads old mid name most bytes × took bytes
+    → (bytes : List ℕ) × took bytes × ((next : List ℕ → Steps) → GoesOn (reading name most next) (next bytes) old mid)
+goes_past_taken name most took old mid found = (found.0, found.2, λ next. goes_past_read name most next found.0 old mid found.1)
+
+-- want of memory, at a read that changed nothing
+pub gives_up_at : (steps : Steps) (old new : ShelfState) → new ≡ old → EndsIn (Some steps) outcome.Memory old new
+gives_up_at steps old new same = subst (EndsIn (Some steps) outcome.Memory old) (sym same) (same_again steps old)
+
 -- a file that was written
 pub goes_past_write : (name : List ℕ) (right : Right) (next : List ℕ → Steps) (bytes : List ℕ) (old mid : ShelfState) → IsRight right bytes
     → mid ≡ record old { files = with_file old.files name bytes }

@@ -61,8 +61,19 @@ impl TableReader {
         }
     }
 
-    /// The trace that the bytes read as, where no more come.
+    /// The trace that the bytes read as, where no more come. The first bad field decides; `Memory` comes only where memory is refused.
     pub fn finish(self) -> Result<Trace, FileError>
+        ensures reads { (bytes : List ℕ) → HasTaken self bytes → Gives result (trace_of bytes) }
+        ensures counts { (bytes : List ℕ) → HasTaken self bytes → IfOk result HasCounts }
+        ensures tables { (bytes : List ℕ) → HasTaken self bytes → IfOk result AreTables }
+    {
+        self.answer()
+    }
+}
+
+impl TableReader {
+    // The trace, or why none comes.
+    fn answer(self) -> Result<Trace, FileError>
         ensures { (bytes : List ℕ) → HasTaken self bytes → Gives result (trace_of bytes) }
     {
         let TableReader {

@@ -1,0 +1,11 @@
+use Rattle.command_ends.proofs.ServingLemmas.{missing_ends, too_long_ends, read_fault_ends}
+use Rattle.command_ends.proofs.loading.unread.Goals as goal
+
+pub returns-in-Missing : goal.returns-in-Missing
+returns-in-Missing c = λ old new most next step. missing_ends _ _ next _ _ _ step.0 step.1 c.named_answer.ensures
+
+pub returns-in-TooLong : goal.returns-in-TooLong
+returns-in-TooLong c = λ old new most next step. too_long_ends _ _ next _ _ _ step.0 step.1 c.named_answer-in-TooLong.ensures
+
+pub returns-in-Failed : goal.returns-in-Failed
+returns-in-Failed c = λ old new most next step. read_fault_ends _ _ next _ _ _ c.requires step c.named_answer-in-Failed.ensures
