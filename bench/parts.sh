@@ -1,6 +1,6 @@
 #!/bin/bash
 # Times each part of `run` and of `check` by the crates that the commands stand on, against plain Rust (fill.rs and check.rs, rustc -O)
-# in turn: assembling, executing, filling all tables, writing their file; reading it, decoding, testing the rows with counting and
+# in turn: assembling, executing, filling all tables, writing their file; reading and decoding it, testing the rows with counting and
 # comparing the buses, and extracting the evidence with its text.
 #
 # `parts.sh CASE` takes a program of sources.sh, `all` where there is none. Prints the least time of each part in
@@ -45,7 +45,7 @@ use run_files::{statement_file_of_run, trace_of_run};
 use statement::{read_inputs, read_statement};
 use std::time::Instant;
 use std::{env, fs};
-use table_file::{TablePieces, decode};
+use table_file::{TablePieces, TableReader};
 use vm_io::{FolderShelf, OpenGate, Shelf};
 
 // The microseconds since the last lap.
@@ -104,17 +104,16 @@ fn time(
     let writing = lap(rt, &mut start)?;
     drop(trace);
     start = Instant::now(rt)?;
-    let Ok(bytes) = shelf.read(alloc, "crates.table", 1073741824) else {
+    let mut reader = TableReader::new(alloc);
+    if shelf.read_pieces("crates.table", 1073741824, &mut reader).is_err() {
         println!(rt; "no table file")?;
         return Ok(());
-    };
-    let reading = lap(rt, &mut start)?;
-    let Ok(trace) = decode(alloc, bytes.as_slice()) else {
+    }
+    let Ok(trace) = reader.finish() else {
         println!(rt; "no trace")?;
         return Ok(());
     };
-    let decoding = lap(rt, &mut start)?;
-    drop(bytes);
+    let reading = lap(rt, &mut start)?;
     let public = Public { params: *params, statement };
     start = Instant::now(rt)?;
     if check_rows(&trace, &public, 1, &OpenGate).is_some() {
@@ -136,7 +135,7 @@ fn time(
     };
     let extracting = lap(rt, &mut start)?;
     drop(evidence);
-    println!(rt; "{assembling} {executing} {filling} {writing} {reading} {decoding} {testing} {counting} {extracting}")?;
+    println!(rt; "{assembling} {executing} {filling} {writing} {reading} {testing} {counting} {extracting}")?;
     Ok(())
 }
 
@@ -203,7 +202,6 @@ show assembling "$(least fill 1)" "$(least crates 1)"
 show executing "$(least fill 2)" "$(least crates 2)"
 show filling "$(least fill 3)" "$(least crates 3)"
 show "encoding and writing" "$(($(least fill 4) + $(least fill 5)))" "$(least crates 4)"
-show reading "$(least check 1)" "$(least crates 5)"
-show decoding "$(least check 2)" "$(least crates 6)"
-show "rows and buses" "$(($(least check 3) + $(least check 4)))" "$(($(least crates 7) + $(least crates 8)))"
-show extracting "$(least check 5)" "$(least crates 9)"
+show "reading and decoding" "$(($(least check 1) + $(least check 2)))" "$(least crates 5)"
+show "rows and buses" "$(($(least check 3) + $(least check 4)))" "$(($(least crates 6) + $(least crates 7)))"
+show extracting "$(least check 5)" "$(least crates 8)"
