@@ -1,5 +1,5 @@
 -- The blocks that the walk finds, kind by kind: where their children start, and the tree.
-use Rattle.std.proofs.Common.{◌≡◌, ◌≢◌, ℕ, suc, ◌+◌, ◌^◌, ◌<◌, Bool, true, false, ◌||◌, eqb, List, length, refl, sym, ap, ◌∙◌, subst, arith, add-one}
+use Rattle.std.proofs.Common.{◌≡◌, ◌≢◌, ℕ, suc, ◌+◌, ◌^◌, ◌<◌, Bool, true, false, ◌||◌, eqb, List, [], length, refl, sym, ap, ◌∙◌, subst, arith, add-one}
 use Rattle.std.proofs.Math.Path.{subst₂}
 use Rattle.vm_ops.specs.declared.op.Op.{Op}
 use Rattle.vm_ops.specs.declared.op.Op.TheVariants as ops
@@ -7,6 +7,7 @@ use Rattle.vm_table.specs.MainColumns.{s}
 use Rattle.rpo_hash.specs.Constants.{constants_of}
 use Rattle.air_kit.specs.Flags.{is_op}
 use Rattle.air_kit.specs.MainTuples.{back, front}
+use Rattle.air_kit.specs.RowStates.{taken_by}
 use Rattle.air_kit.specs.declared.trace.Public.{Public}
 use Rattle.air_kit.specs.declared.trace.Trace.{Trace}
 use Rattle.row_facts.specs.MainRows.{op_in, row_at}
@@ -20,9 +21,10 @@ use Rattle.tree_merge.specs.AddrView.{placed_of}
 use Rattle.tree_merge.specs.Placed as placed
 use Rattle.tree_merge.specs.Placed.{Placed}
 use Rattle.tree_merge.specs.declared.addr_tree.AddrTree.{AddrTree}
-use Rattle.row_walk.specs.Walking.{IsFound, IsReadable}
+use Rattle.row_walk.specs.Walking.{IsFound, IsReadable, Takes}
 use Rattle.row_walk.specs.declared.found.Found.{Found}
 use Rattle.row_walk.proofs.ReadRows.{own_small}
+use Rattle.row_walk.proofs.Takings.{joined, row_rests}
 
 differ : {A : Type 0} (op one other : Op) → op ≡ one → op ≡ other → is_op one other ≡ false → is_op other other ≡ true → A
 differ op one other is_one is_other apart same = never (sym same ∙ ap (λ o. is_op o other) (sym is_other ∙ is_one) ∙ apart)
@@ -210,3 +212,13 @@ module _ (p : Public) (t : Trace) (readable : IsReadable p t) where
       as_found i (suc i) (placed.Loop (own t.main i) (placed.Opaque (front (row_at t.main i)))) found (end_is ∙ add-one i)
       (tree_is ∙ ap (λ (n : ℕ). placed.Loop n (placed.Opaque digest)) at_is ∙ ap (λ z. placed.Loop (own t.main i) (placed.Opaque z)) digest_is)
       (Built.loop_skipped here (loop_bit i here other) (readable.facts.nesting.loop_skips i here (loop_bit i here other)))
+
+  -- ---- what is taken from the tape
+
+  -- neither the row that starts a block nor its END takes anything
+  pub wraps : (i : ℕ) (op : Op) → IsAt t.main i op → taken_by op (row_at t.main (suc i)) ≡ [] → (found : Found) → IsFound p t i found
+      → (before behind : List ℕ) → Takes t.main (i + 1) found.end before behind → Takes t.main i (found.end + 1) before behind
+  wraps i op here none found f before behind inside =
+      joined t.main i (i + 1) (found.end + 1) before before behind (row_rests t.main i op before here none)
+      (joined t.main (i + 1) found.end (found.end + 1) before behind behind inside
+      (row_rests t.main found.end ops.End behind (found_closes i found f).ends refl))

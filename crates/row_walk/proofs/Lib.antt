@@ -1,4 +1,6 @@
 pub mod ReadRows
+pub mod Marks
+pub mod Takings
 pub mod Spanning
 pub mod SpanFound
 pub mod Turning

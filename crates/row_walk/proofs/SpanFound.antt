@@ -6,6 +6,7 @@ use Rattle.rpo_hash.specs.Constants.{constants_of}
 use Rattle.air_kit.specs.Flags.{is_op}
 use Rattle.air_kit.specs.Hashes.{computation_at}
 use Rattle.air_kit.specs.MainTuples.{eight}
+use Rattle.air_kit.specs.RowStates.{taken_by}
 use Rattle.air_kit.specs.declared.trace.Public.{Public}
 use Rattle.air_kit.specs.declared.trace.Trace.{Trace}
 use Rattle.row_facts.specs.MainRows.{op_in, row_at}
@@ -14,9 +15,11 @@ use Rattle.block_rows.proofs.Operations.{op_named}
 use Rattle.row_trees.specs.Built.{Built}
 use Rattle.tree_merge.specs.Placed as placed
 use Rattle.tree_merge.specs.declared.addr_tree.AddrTree.TheVariants as tree
-use Rattle.row_walk.specs.Walking.{IsFound, IsReadable}
+use Rattle.row_walk.specs.Walking.{IsFound, IsReadable, Takes, marked_of}
+use Rattle.row_walk.proofs.Marks.{marked_end, marked_respan, marked_takes}
 use Rattle.row_walk.proofs.ReadRows.{own_small}
 use Rattle.row_walk.proofs.Spanning.{Spanned, Spanning, span_begins, span_ends, span_goes_on, stands_in_table}
+use Rattle.row_walk.proofs.Takings.{row_takes}
 
 module _ (p : Public) (t : Trace) (readable : IsReadable p t) where
   pub first_batch : (i : ℕ) → IsAt t.main i ops.Span → (batch : List ℕ) (begun : List (List ℕ)) → begun ≡ batch ∷ [] → batch ≡ eight (row_at t.main i)
@@ -31,31 +34,34 @@ module _ (p : Public) (t : Trace) (readable : IsReadable p t) where
   pub read_within : (i a : ℕ) (begun : List (List ℕ)) → Spanning t.main i a begun → a < length t.main
   read_within i a begun spanning = let within = row_within i a begun spanning in omega (arith, within)
 
-  not_end : (op here : Op) (answer : Bool) → op ≡ here → answer ≡ is_op op ops.End → answer ≡ false → is_op here ops.End ≡ false
-  not_end op here answer same is no_end = ap (λ o. is_op o ops.End) (sym same) ∙ sym is ∙ no_end
+  -- of the operation that the walk sees in row a
+  not_end : (op here : Op) (answer : Bool) → op ≡ marked_of here → answer ≡ is_op op ops.End → answer ≡ false → is_op here ops.End ≡ false
+  not_end op here answer same is no_end = sym (marked_end here) ∙ ap (λ o. is_op o ops.End) (sym same) ∙ sym is ∙ no_end
 
-  is_the_end : (op here : Op) (answer : Bool) → op ≡ here → answer ≡ is_op op ops.End → answer ≡ true → here ≡ ops.End
-  is_the_end op here answer same is yes_end = sym same ∙ op_named op ops.End (sym is ∙ yes_end)
+  is_the_end : (op here : Op) (answer : Bool) → op ≡ marked_of here → answer ≡ is_op op ops.End → answer ≡ true → here ≡ ops.End
+  is_the_end op here answer same is yes_end =
+      op_named here ops.End (sym (marked_end here) ∙ ap (λ o. is_op o ops.End) (sym same) ∙ sym is ∙ yes_end)
 
-  pub next_row : (i a : ℕ) (begun next : List (List ℕ)) (op again : Op) (answer : Bool) → Spanning t.main i a begun
-      → op ≡ op_in t.main a → answer ≡ is_op op ops.End → answer ≡ false → again ≡ op_in t.main a
-      → next ≡ cond (is_op again ops.Respan) (begun ++ eight (row_at t.main a) ∷ []) begun → Spanning t.main i (a + 1) next
-  next_row i a begun next op again answer spanning same is no_end same_again is_next =
+  pub next_row : (i a : ℕ) (begun next : List (List ℕ)) (op : Op) (answer : Bool) → Spanning t.main i a begun
+      → op ≡ marked_of (op_in t.main a) → answer ≡ is_op op ops.End → answer ≡ false
+      → next ≡ cond (is_op op ops.Respan) (begun ++ eight (row_at t.main a) ∷ []) begun → Spanning t.main i (a + 1) next
+  next_row i a begun next op answer spanning same is no_end is_next =
       subst (λ bs. Spanning t.main i (a + 1) bs)
-      (sym (is_next ∙ ap (λ o. cond (is_op o ops.Respan) (begun ++ eight (row_at t.main a) ∷ []) begun) same_again))
+      (sym (is_next ∙ ap (λ v. cond v (begun ++ eight (row_at t.main a) ∷ []) begun)
+      (ap (λ o. is_op o ops.Respan) same ∙ marked_respan (op_in t.main a))))
       (span_goes_on t.main i a begun spanning (not_end op (op_in t.main a) answer same is no_end))
 
   ended : (i a : ℕ) (begun : List (List ℕ)) (op : Op) (answer : Bool) → (spanning : Spanning t.main i a begun)
-      → op ≡ op_in t.main a → answer ≡ is_op op ops.End → answer ≡ true → Spanned t.main i a begun spanning
+      → op ≡ marked_of (op_in t.main a) → answer ≡ is_op op ops.End → answer ≡ true → Spanned t.main i a begun spanning
   ended i a begun op answer spanning same is yes_end = span_ends t.main i a begun spanning (is_the_end op (op_in t.main a) answer same is yes_end)
 
   pub span_small : (i a : ℕ) (begun : List (List ℕ)) (op : Op) (answer : Bool) → Spanning t.main i a begun
-      → op ≡ op_in t.main a → answer ≡ is_op op ops.End → answer ≡ true → own t.main i < 2 ^ 32
+      → op ≡ marked_of (op_in t.main a) → answer ≡ is_op op ops.End → answer ≡ true → own t.main i < 2 ^ 32
   span_small i a begun op answer spanning same is yes_end =
       own_small p t readable i a (ended i a begun op answer spanning same is yes_end).closes
 
   pub span_found : (i a at : ℕ) (begun : List (List ℕ)) (op : Op) (answer : Bool) → IsAt t.main i ops.Span → Spanning t.main i a begun
-      → op ≡ op_in t.main a → answer ≡ is_op op ops.End → answer ≡ true → at ≡ own t.main i
+      → op ≡ marked_of (op_in t.main a) → answer ≡ is_op op ops.End → answer ≡ true → at ≡ own t.main i
       → IsFound p t i (record { end = a; tree = tree.Span at begun })
   span_found i a at begun op answer here spanning same is yes_end at_is =
       let whole = ended i a begun op answer spanning same is yes_end in
@@ -63,3 +69,11 @@ module _ (p : Public) (t : Trace) (readable : IsReadable p t) where
         tree = subst (λ (n : ℕ). Built (constants_of p.params) (computation_at t.hasher) t.main i a (placed.Span n begun)) (sym at_is)
             (Built.span here whole.closes whole.are);
       }
+
+  -- what row a takes from the tape
+  pub row_taken : (i a : ℕ) (begun : List (List ℕ)) (op : Op) (before new : List ℕ) → Spanning t.main i a begun → op ≡ marked_of (op_in t.main a)
+      → new ≡ before ++ taken_by op (row_at t.main (suc a)) → Takes t.main a (a + 1) before new
+  row_taken i a begun op before new spanning same is =
+      row_takes t.main a before new (row_within i a begun spanning)
+      (is ∙ ap (λ (x : List ℕ). before ++ x)
+      (ap (λ o. taken_by o (row_at t.main (suc a))) same ∙ marked_takes (op_in t.main a) (row_at t.main (suc a))))

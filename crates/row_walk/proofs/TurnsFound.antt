@@ -1,8 +1,9 @@
 -- The turns of a loop that the walk finds, and the whole tree.
-use Rattle.std.proofs.Common.{◌≡◌, ◌⊎◌, ℕ, suc, ◌+◌, ◌^◌, ◌<◌, Bool, true, false, List, Result, Ok, Err, IfOk, length, refl, sym, ap, ◌∙◌, inl, inr, subst, arith, add-one}
+use Rattle.std.proofs.Common.{◌≡◌, ◌⊎◌, ℕ, suc, ◌+◌, ◌^◌, ◌<◌, Bool, true, false, List, length, refl, sym, ap, ◌∙◌, inl, inr, subst, arith, add-one}
 use Rattle.vm_ops.specs.declared.op.Op.{Op}
 use Rattle.vm_ops.specs.declared.op.Op.TheVariants as ops
 use Rattle.vm_table.specs.MainColumns.{s}
+use Rattle.std.proofs.Math.Path.{subst₂}
 use Rattle.block_tree.proofs.Refinement.{refines-digest, refines-trans}
 use Rattle.rpo_hash.specs.Constants.{constants_of}
 use Rattle.air_kit.specs.Flags.{is_op}
@@ -21,15 +22,18 @@ use Rattle.tree_merge.specs.Merging.{Good, Merged, Mergeable}
 use Rattle.tree_merge.specs.Placed as placed
 use Rattle.tree_merge.specs.Placed.{Placed, placed_digest, plain}
 use Rattle.tree_merge.specs.declared.addr_tree.AddrTree.{AddrTree}
-use Rattle.tree_merge.specs.declared.addr_tree.MergeStop.{MergeStop}
-use Rattle.row_walk.specs.Walking.{HasBits, IsFound, IsReadable, IsWhole}
+use Rattle.row_walk.specs.Walking.{HasBits, IsFound, IsReadable, IsWhole, Takes}
 use Rattle.row_walk.specs.declared.found.Found.{Found}
 use Rattle.row_walk.proofs.BlockFound.{as_found, found_closes}
 use Rattle.row_walk.proofs.ReadRows.{bits_at, own_small}
+use Rattle.row_walk.proofs.Takings.{joined, row_rests}
 use Rattle.row_walk.proofs.Turning.{Turning}
 
 add-two : (n : ℕ) → n + 2 ≡ suc (suc n)
 add-two n = omega arith
+
+suc-one : (n : ℕ) → suc n + 1 ≡ n + 2
+suc-one n = omega arith
 
 module _ (p : Public) (t : Trace) (readable : IsReadable p t) where
   pub first_turn : (i : ℕ) → IsAt t.main i ops.Loop → s (row_at t.main i) 0 ≡ 1 → (body : Placed) (digest : List ℕ) → body ≡ placed.Opaque digest
@@ -126,6 +130,16 @@ module _ (p : Public) (t : Trace) (readable : IsReadable p t) where
         again : TurnsAgain t.main i (suc turn.end)
         again = again_by (next_op op answer same is ∙ no_end) behind.1
 
+    -- REPEAT takes nothing from the tape
+    pub turn_takes : (op : Op) (answer : Bool) → op ≡ op_in t.main (turn.end + 1) → answer ≡ is_op op ops.End → answer ≡ false
+        → (begun taken grown : List ℕ) → Takes t.main (i + 1) a begun taken → Takes t.main a (turn.end + 1) taken grown
+        → Takes t.main (i + 1) (turn.end + 2) begun grown
+    turn_takes op answer same is no_end begun taken grown so_far now =
+        joined t.main (i + 1) a (turn.end + 2) begun taken grown so_far
+        (joined t.main a (turn.end + 1) (turn.end + 2) taken grown grown now
+        (subst₂ (λ (m n : ℕ). Takes t.main m n grown grown) (sym (add-one turn.end)) (suc-one turn.end)
+        (row_rests t.main (suc turn.end) ops.Repeat grown (again_by (next_op op answer same is ∙ no_end) behind.1).repeats refl)))
+
   pub whole_found : (found : Found) → IsFound p t 0 found → IsWhole p t found
   whole_found found f =
       let root = readable.facts.nesting.after_root found.end (found_closes p t readable 0 found f) in
@@ -134,7 +148,3 @@ module _ (p : Public) (t : Trace) (readable : IsReadable p t) where
         last = root.0;
         digest = built_digest (constants_of p.params) t.hasher t.main p.statement.digest readable.facts f.tree ∙ root.1;
       }
-
-  pub whole_answer : (r : Result Found MergeStop) → IfOk r (λ found. IsFound p t 0 found) → IfOk r (λ found. IsWhole p t found)
-  whole_answer (Ok found) f = whole_found found f
-  whole_answer (Err stop) f = f

@@ -1,9 +1,12 @@
 -- What a walk along the rows rests on, and what it finds.
-use Rattle.std.specs.Prelude.{◌≡◌, ℕ, suc, ◌^◌, ◌<◌, ◌≤◌, List, length}
+use Rattle.std.specs.Prelude.{◌≡◌, ℕ, suc, ◌^◌, ◌<◌, ◌≤◌, List, ◌++◌, drop, length}
+use Rattle.vm_ops.specs.declared.op.Op.{Op}
+use Rattle.vm_ops.specs.declared.op.Op.TheVariants as ops
 use Rattle.vm_table.specs.MainColumns.{b}
 use Rattle.rpo_hash.specs.Constants.{constants_of}
 use Rattle.air_kit.specs.declared.trace.Public.{Public}
 use Rattle.air_kit.specs.declared.trace.Trace.{Trace}
+use Rattle.air_kit.specs.RowStates.{tape_of}
 use Rattle.air_kit.specs.Traces.{HasCounts}
 use Rattle.row_trees.specs.TreeFacts.{HasTree, TreeFacts}
 use Rattle.tree_merge.specs.AddrView.{placed_of}
@@ -33,3 +36,15 @@ pub record IsWhole (p : Public) (t : Trace) (found : Found) : Type 0 where
   pub tree : HasTree (constants_of p.params) t.hasher t.main 0 found.end (placed_of found.tree)
   pub last : suc (suc found.end) ≡ length t.main
   pub digest : placed_digest (constants_of p.params) (placed_of found.tree) ≡ p.statement.digest
+
+-- in a span, the operations that end it, begin a batch or take from the tape; each other one counts as NOOP
+abbrev pub marked_of : Op → Op
+marked_of ops.End = ops.End
+marked_of ops.Respan = ops.Respan
+marked_of ops.AdvPop = ops.AdvPop
+marked_of ops.AdvPopW = ops.AdvPopW
+marked_of op = ops.Noop
+
+-- what the rows from row i up to row e take from the tape is what the second list has behind the first
+pub record Takes (rows : List (List ℕ)) (i e : ℕ) (before behind : List ℕ) : Type 0 where
+  pub is : before ++ tape_of (drop i rows) ≡ behind ++ tape_of (drop e rows)

@@ -3,9 +3,9 @@ ghost use Rattle.air_kit.specs.MainTuples.{back, eight, front};
 ghost use Rattle.bus_facts.specs.Blocks.{own};
 ghost use Rattle.row_facts.specs.MainRows.{op_in, row_at};
 ghost use Rattle.vm_table.specs.MainColumns.{s};
-ghost use Rattle.row_walk.specs.Walking.{HasBits};
+ghost use Rattle.row_walk.specs.Walking.{HasBits, marked_of};
 
-use crate::decode::operation_of;
+use crate::decode::{marked_in, operation_of};
 use air_kit::Trace;
 use vm_field::{Felt, Word};
 use vm_ops::Op;
@@ -18,6 +18,15 @@ pub fn operation(trace: &Trace, i: usize) -> Op
     ensures { result ≡ op_in trace.now.main i }
 {
     operation_of(&trace.main.row(i))
+}
+
+// The operation of a row in a span, if it ends the span, begins a batch or takes from the tape; else NOOP.
+pub(crate) fn marked(trace: &Trace, i: usize) -> Op
+    requires within { i < length trace.now.main }
+    requires bits { HasBits (row_at trace.now.main i) }
+    ensures { result ≡ marked_of (op_in trace.now.main i) }
+{
+    marked_in(&trace.main.row(i))
 }
 
 // The cell on top of the stack.

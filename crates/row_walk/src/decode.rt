@@ -1,7 +1,7 @@
 ghost use Rattle.std.specs.Prelude.{◌≡◌, ◌<◌};
 ghost use Rattle.air_kit.specs.Flags.{op_of, spelled};
 ghost use Rattle.vm_table.specs.MainColumns.{b};
-ghost use Rattle.row_walk.specs.Walking.{HasBits};
+ghost use Rattle.row_walk.specs.Walking.{HasBits, marked_of};
 
 use vm_field::Felt;
 use vm_ops::{Op, from_opcode};
@@ -14,6 +14,32 @@ pub(crate) fn operation_of<V: MainView>(row: &V) -> Op
     ensures { result ≡ op_of (V.cells row.now) }
 {
     from_opcode(code_of(row)).unwrap_or(Op::Noop)
+}
+
+// The same as the walk through a span has to see it. Four bits tell of most operations that they count as NOOP.
+pub(crate) fn marked_in<V: MainView>(row: &V) -> Op
+    requires { HasBits (V.cells row.now) }
+    ensures { result ≡ marked_of (op_of (V.cells row.now)) }
+{
+    if row.b2() != row.b3() {
+        return Op::Noop;
+    }
+    if row.b4() == row.b6() {
+        return Op::Noop;
+    }
+    marked(operation_of(row))
+}
+
+fn marked(op: Op) -> Op
+    ensures { result ≡ marked_of op }
+{
+    match op {
+        Op::End => Op::End,
+        Op::Respan => Op::Respan,
+        Op::AdvPop => Op::AdvPop,
+        Op::AdvPopW => Op::AdvPopW,
+        _ => Op::Noop,
+    }
 }
 
 // The number that the bits of such a row spell.

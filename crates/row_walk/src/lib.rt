@@ -6,10 +6,11 @@ mod decode;
 mod found;
 mod laws;
 mod spans;
+mod tape;
 mod turns;
 mod walk;
 
 pub use cells::operation;
-pub use found::Found;
+pub use found::{Found, Walked};
 pub use laws::readable_laws;
-pub use walk::whole;
+pub use walk::{whole, whole_with_tape};

@@ -1,17 +1,18 @@
-ghost use Rattle.std.specs.Prelude.{◌≡◌, suc, ◌<◌, length, IfOk, IfErr};
+ghost use Rattle.std.specs.Prelude.{◌≡◌, suc, ◌+◌, ◌<◌, length, IfOk, IfErr};
 ghost use Rattle.vm_ops.specs.declared.op.Op.TheVariants as ops;
+ghost use Rattle.air_kit.specs.RowStates.{tape_of};
 ghost use Rattle.bus_facts.specs.Blocks.{IsAt, Starts};
-ghost use Rattle.row_walk.specs.Walking.{IsFound, IsReadable, IsWhole};
+ghost use Rattle.row_walk.specs.Walking.{IsFound, IsReadable, IsWhole, Takes};
 ghost use Rattle.tree_merge.specs.Merges.{IsStop};
 
 use crate::cells::{address, first_digest, operation, second_digest, top};
-use crate::found::{Found, boxed};
+use crate::found::{Found, Walked, boxed};
 use crate::spans::span;
 use crate::turns::turns;
 use air_kit::{Public, Trace};
 use std::alloc::Global;
 use tree_merge::{AddrTree, MergeStop};
-use vm_field::Felt;
+use vm_field::{Felt, Felts};
 use vm_ops::Op;
 
 /// The tree of the whole trace: it has the statement's digest. Or two hashes of different inputs and one digest.
@@ -20,7 +21,20 @@ pub fn whole(alloc: Global, public: &Public, trace: &Trace) -> Result<Found, Mer
     ensures ok { IfOk result (λ found. IsWhole public.now trace.now found) }
     ensures err { IfErr result (λ stop. IsStop public.now.params trace.now stop) }
 {
-    block(alloc, public, trace, 0)
+    let walked = whole_with_tape(alloc, public, trace)?;
+    Ok(walked.found)
+}
+
+/// The same, with what its rows take from the tape.
+pub fn whole_with_tape(alloc: Global, public: &Public, trace: &Trace) -> Result<Walked, MergeStop>
+    requires { IsReadable public.now trace.now }
+    ensures ok { IfOk result (λ walked. IsWhole public.now trace.now walked.found) }
+    ensures tape { IfOk result (λ walked. walked.tape ≡ tape_of trace.now.main) }
+    ensures err { IfErr result (λ stop. IsStop public.now.params trace.now stop) }
+{
+    let mut tape = Felts::new(alloc);
+    let found = block(alloc, public, trace, 0, &mut tape)?;
+    Ok(Walked { found, tape })
 }
 
 // The tree of the block that starts in row i, and the row of its END. Where the turns of a loop show two blocks of one digest that
@@ -31,33 +45,42 @@ pub(crate) fn block(
     public: &Public,
     trace: &Trace,
     i: usize,
+    tape: &mut Felts,
 ) -> Result<Found, MergeStop>
     requires readable { IsReadable public.now trace.now }
     requires starts { Starts trace.now.main i }
     ensures ok { IfOk result (λ found. IsFound public.now trace.now i found) }
+    ensures tape { IfOk result (λ found. Takes trace.now.main i (found.end + 1) tape.old tape.new) }
     ensures err { IfErr result (λ stop. IsStop public.now.params trace.now stop) }
 {
     match operation(trace, i) {
-        Op::Span => span(alloc, public, trace, i),
-        Op::Join => join(alloc, public, trace, i),
-        Op::Split => split(alloc, public, trace, i),
-        Op::Loop => looped(alloc, public, trace, i),
-        Op::Call => call(alloc, public, trace, i),
-        Op::Syscall => syscall(alloc, public, trace, i),
+        Op::Span => span(alloc, public, trace, i, tape),
+        Op::Join => join(alloc, public, trace, i, tape),
+        Op::Split => split(alloc, public, trace, i, tape),
+        Op::Loop => looped(alloc, public, trace, i, tape),
+        Op::Call => call(alloc, public, trace, i, tape),
+        Op::Syscall => syscall(alloc, public, trace, i, tape),
         _ => unreachable!(),
     }
 }
 
 // A join's two blocks, one behind the other.
 #[cycle(blocks)]
-fn join(alloc: Global, public: &Public, trace: &Trace, i: usize) -> Result<Found, MergeStop>
+fn join(
+    alloc: Global,
+    public: &Public,
+    trace: &Trace,
+    i: usize,
+    tape: &mut Felts,
+) -> Result<Found, MergeStop>
     requires readable { IsReadable public.now trace.now }
     requires is { IsAt trace.now.main i ops.Join }
     ensures ok { IfOk result (λ found. IsFound public.now trace.now i found) }
+    ensures tape { IfOk result (λ found. Takes trace.now.main i (found.end + 1) tape.old tape.new) }
     ensures err { IfErr result (λ stop. IsStop public.now.params trace.now stop) }
 {
-    let first = block(alloc, public, trace, i + 1)?;
-    let second = block(alloc, public, trace, first.end + 1)?;
+    let first = block(alloc, public, trace, i + 1, tape)?;
+    let second = block(alloc, public, trace, first.end + 1, tape)?;
     let one = boxed(alloc, first.tree)?;
     let other = boxed(alloc, second.tree)?;
     Ok(Found {
@@ -68,13 +91,20 @@ fn join(alloc: Global, public: &Public, trace: &Trace, i: usize) -> Result<Found
 
 // The branch of a split that ran, and the other one's digest.
 #[cycle(blocks)]
-fn split(alloc: Global, public: &Public, trace: &Trace, i: usize) -> Result<Found, MergeStop>
+fn split(
+    alloc: Global,
+    public: &Public,
+    trace: &Trace,
+    i: usize,
+    tape: &mut Felts,
+) -> Result<Found, MergeStop>
     requires readable { IsReadable public.now trace.now }
     requires is { IsAt trace.now.main i ops.Split }
     ensures ok { IfOk result (λ found. IsFound public.now trace.now i found) }
+    ensures tape { IfOk result (λ found. Takes trace.now.main i (found.end + 1) tape.old tape.new) }
     ensures err { IfErr result (λ stop. IsStop public.now.params trace.now stop) }
 {
-    let branch = block(alloc, public, trace, i + 1)?;
+    let branch = block(alloc, public, trace, i + 1, tape)?;
     let ran = boxed(alloc, branch.tree)?;
     let end = branch.end + 1;
     let at = address(trace, i);
@@ -94,14 +124,21 @@ fn split(alloc: Global, public: &Public, trace: &Trace, i: usize) -> Result<Foun
 
 // A loop that was entered or skipped.
 #[cycle(blocks)]
-fn looped(alloc: Global, public: &Public, trace: &Trace, i: usize) -> Result<Found, MergeStop>
+fn looped(
+    alloc: Global,
+    public: &Public,
+    trace: &Trace,
+    i: usize,
+    tape: &mut Felts,
+) -> Result<Found, MergeStop>
     requires readable { IsReadable public.now trace.now }
     requires is { IsAt trace.now.main i ops.Loop }
     ensures ok { IfOk result (λ found. IsFound public.now trace.now i found) }
+    ensures tape { IfOk result (λ found. Takes trace.now.main i (found.end + 1) tape.old tape.new) }
     ensures err { IfErr result (λ stop. IsStop public.now.params trace.now stop) }
 {
     if top(trace, i) == Felt::ONE {
-        return turns(alloc, public, trace, i);
+        return turns(alloc, public, trace, i, tape);
     }
     let body = boxed(alloc, AddrTree::Opaque(first_digest(trace, i)))?;
     Ok(Found {
@@ -112,13 +149,20 @@ fn looped(alloc: Global, public: &Public, trace: &Trace, i: usize) -> Result<Fou
 
 // The block that is called.
 #[cycle(blocks)]
-fn call(alloc: Global, public: &Public, trace: &Trace, i: usize) -> Result<Found, MergeStop>
+fn call(
+    alloc: Global,
+    public: &Public,
+    trace: &Trace,
+    i: usize,
+    tape: &mut Felts,
+) -> Result<Found, MergeStop>
     requires readable { IsReadable public.now trace.now }
     requires is { IsAt trace.now.main i ops.Call }
     ensures ok { IfOk result (λ found. IsFound public.now trace.now i found) }
+    ensures tape { IfOk result (λ found. Takes trace.now.main i (found.end + 1) tape.old tape.new) }
     ensures err { IfErr result (λ stop. IsStop public.now.params trace.now stop) }
 {
-    let callee = block(alloc, public, trace, i + 1)?;
+    let callee = block(alloc, public, trace, i + 1, tape)?;
     let child = boxed(alloc, callee.tree)?;
     Ok(Found {
         end: callee.end + 1,
@@ -128,13 +172,20 @@ fn call(alloc: Global, public: &Public, trace: &Trace, i: usize) -> Result<Found
 
 // The block of the kernel that is called.
 #[cycle(blocks)]
-fn syscall(alloc: Global, public: &Public, trace: &Trace, i: usize) -> Result<Found, MergeStop>
+fn syscall(
+    alloc: Global,
+    public: &Public,
+    trace: &Trace,
+    i: usize,
+    tape: &mut Felts,
+) -> Result<Found, MergeStop>
     requires readable { IsReadable public.now trace.now }
     requires is { IsAt trace.now.main i ops.Syscall }
     ensures ok { IfOk result (λ found. IsFound public.now trace.now i found) }
+    ensures tape { IfOk result (λ found. Takes trace.now.main i (found.end + 1) tape.old tape.new) }
     ensures err { IfErr result (λ stop. IsStop public.now.params trace.now stop) }
 {
-    let callee = block(alloc, public, trace, i + 1)?;
+    let callee = block(alloc, public, trace, i + 1, tape)?;
     let child = boxed(alloc, callee.tree)?;
     Ok(Found {
         end: callee.end + 1,

@@ -1,5 +1,5 @@
 -- What an accepted trace shows, put together from the laws of buses, frames, nesting and spans.
-use Rattle.std.proofs.Common.{◌≡◌, ℕ, ◌<◌, length}
+use Rattle.std.proofs.Common.{◌≡◌, length}
 use Rattle.rpo_hash.specs.Constants.{constants_of}
 use Rattle.vm_table.specs.Layout.{IsTable}
 use Rattle.air_kit.specs.Acceptance.{IsAccepted}
@@ -7,14 +7,13 @@ use Rattle.air_kit.specs.Traces.{HasCounts, claim_of}
 use Rattle.air_kit.specs.declared.trace.Public.{Public}
 use Rattle.air_kit.specs.declared.trace.Trace.{Trace}
 use Rattle.air_kit.specs.declared.trace.TableName.TheVariants as table
-use Rattle.row_facts.specs.MainRows.{row_at}
 use Rattle.bus_facts.specs.BusFacts.{Granted}
 use Rattle.bus_facts.proofs.Grants.{accepted_grants}
 use Rattle.block_rows.proofs.FrameLaw.{frames_granted}
 use Rattle.block_rows.proofs.NestingLaw.{nesting_granted}
 use Rattle.span_rows.proofs.SpanLaw.{span_law}
 use Rattle.row_trees.specs.TreeFacts.{TreeFacts}
-use Rattle.row_walk.specs.Walking.{HasBits, IsReadable}
+use Rattle.row_walk.specs.Walking.{IsReadable}
 use Rattle.run_extractor.specs.Known.{IsKnown}
 
 pub known_of : (p : Public) (t : Trace) → length (constants_of p.params) ≡ 168 → HasCounts t → IsTable 65 t.main → IsTable 2 t.range
@@ -53,6 +52,3 @@ readable p t k = record {
   rows = k.whole.counts.most table.Main;
   hashes = k.whole.counts.most table.Hasher;
 }
-
-pub bits_at : (p : Public) (t : Trace) → IsKnown p t → (i : ℕ) → i < length t.main → HasBits (row_at t.main i)
-bits_at p t k i within = ((granted p t k).rows.row_is i within).reads.has.bits

@@ -1,16 +1,15 @@
-ghost use Rattle.std.specs.Prelude.{ℕ, ◌<◌, length, IfOk};
+ghost use Rattle.std.specs.Prelude.{◌≡◌, IfOk};
 ghost use Rattle.air_kit.specs.Acceptance.{IsAccepted};
+ghost use Rattle.air_kit.specs.RowStates.{tape_of};
 ghost use Rattle.air_kit.specs.Traces.{HasCounts};
-ghost use Rattle.row_facts.specs.MainRows.{row_at};
-ghost use Rattle.row_walk.specs.Walking.{HasBits, IsReadable, IsWhole};
+ghost use Rattle.row_walk.specs.Walking.{IsReadable, IsWhole};
 ghost use Rattle.tree_merge.specs.Evidences.{IsEvidence};
 ghost use Rattle.run_extractor.specs.Known.{IsKnown};
 
-use crate::tape::tape_of;
 use air_kit::{Public, Trace};
 use block_tree::Evidence;
 use checker::Valid;
-use row_walk::{Found, whole};
+use row_walk::{Walked, whole_with_tape};
 use rpo_hash::known_constants;
 use std::alloc::Global;
 use tree_merge::{MergeStop, into_tree};
@@ -30,8 +29,8 @@ pub fn extract(alloc: Global, valid: &Valid) -> Result<Evidence, Memory>
     let public = valid.public();
     known_trace(public, trace);
     readable_trace(public, trace);
-    match whole(alloc, public, trace) {
-        Ok(found) => run_of(alloc, public, trace, found),
+    match whole_with_tape(alloc, public, trace) {
+        Ok(walked) => run_of(alloc, public, trace, walked),
         Err(MergeStop::Pair { first, second }) => Ok(Evidence::Pair { first, second }),
         Err(MergeStop::Memory) => Err(Memory::Memory),
     }
@@ -50,23 +49,22 @@ fn known_trace(public: &Public, trace: &Trace)
     let _ = (trace.kernel.rows(), trace.left.rows());
 }
 
-// The laws of accepted traces. A run does nothing.
-#[tactic(auto, using(crate::proofs::Readable::readable, crate::proofs::Readable::bits_at))]
+// The law of accepted traces. A run does nothing.
+#[tactic(auto, using(crate::proofs::Readable::readable))]
 fn readable_trace(_public: &Public, _trace: &Trace)
     requires { IsKnown _public.now _trace.now }
-    ensures readable { IsReadable _public.now _trace.now }
-    ensures bits { (i : ℕ) → i < length _trace.now.main → HasBits (row_at _trace.now.main i) }
+    ensures { IsReadable _public.now _trace.now }
 {}
 
-// The run whose tree was found.
+// The run whose tree and tape were found.
 #[tactic(auto, using(crate::proofs::Runs::is_run))]
-fn run_of(alloc: Global, public: &Public, trace: &Trace, found: Found) -> Result<Evidence, Memory>
+fn run_of(alloc: Global, public: &Public, trace: &Trace, walked: Walked) -> Result<Evidence, Memory>
     requires known { IsKnown public.now trace.now }
-    requires bits { (i : ℕ) → i < length trace.now.main → HasBits (row_at trace.now.main i) }
-    requires whole { IsWhole public.now trace.now found }
+    requires whole { IsWhole public.now trace.now walked.found }
+    requires tape { walked.tape ≡ tape_of trace.now.main }
     ensures { IfOk result (IsEvidence public.now trace.now) }
 {
-    let tape = tape_of(alloc, trace)?;
+    let Walked { found, tape } = walked;
     let tree = into_tree(alloc, found.tree)?;
     let cycles = (trace.main.rows() - 1) as u32;
     Ok(Evidence::Run { cycles, tree, tape })

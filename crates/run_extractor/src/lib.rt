@@ -3,6 +3,5 @@
 #![tactic(auto)]
 
 mod extracting;
-mod tape;
 
 pub use extracting::extract;

@@ -1,6 +1,7 @@
 -- Each call goes to a later row; within a block, `block` calls `looped`, and this `turns`.
 use Rattle.std.proofs.Common.{◌+◌, ◌-◌, ◌*◌, length}
 use Rattle.tree_merge.specs.AddrView.{placed_of}
+use Rattle.row_walk.specs.Walking.{Takes}
 use Rattle.row_walk.proofs.Turning.{Turning}
 use Rattle.row_walk.proofs.+blocks.Given as goal
 
@@ -26,7 +27,7 @@ abbrev pub decreases-walk::syscall : goal.decreases-walk::syscall
 decreases-walk::syscall l = 3 * (length l.trace.now.main - l.i)
 
 abbrev pub invariant-turns::turns-loop-body : goal.invariant-turns::turns-loop-body
-invariant-turns::turns-loop-body l = Turning l.public l.trace l.i l.a (placed_of l.body)
+invariant-turns::turns-loop-body l = Turning l.public l.trace l.i l.a (placed_of l.body) × Takes l.trace.main (l.i + 1) l.a l.fn.tape l.tape
 
 abbrev pub decreases-turns::turns-loop-body : goal.decreases-turns::turns-loop-body
 decreases-turns::turns-loop-body l = length l.trace.main - l.a

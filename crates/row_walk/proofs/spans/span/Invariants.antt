@@ -1,9 +1,10 @@
-use Rattle.std.proofs.Common.{◌-◌, length}
+use Rattle.std.proofs.Common.{◌+◌, ◌-◌, length}
+use Rattle.row_walk.specs.Walking.{Takes}
 use Rattle.row_walk.proofs.Spanning.{Spanning}
 use Rattle.row_walk.proofs.spans.span.Given as goal
 
-abbrev pub invariant-loop-batches : goal.invariant-loop-batches
-invariant-loop-batches l = Spanning l.trace.main l.i l.a l.batches
+abbrev pub invariant-loop-op : goal.invariant-loop-op
+invariant-loop-op l = Spanning l.trace.main l.i l.a l.batches × Takes l.trace.main (l.i + 1) l.a l.fn.tape l.tape
 
-abbrev pub decreases-loop-batches : goal.decreases-loop-batches
-decreases-loop-batches l = length l.trace.main - l.a
+abbrev pub decreases-loop-op : goal.decreases-loop-op
+decreases-loop-op l = length l.trace.main - l.a

@@ -8,5 +8,5 @@ overflow_cast-cycles c = omega (arith, c.rows.ensures.is, c.requires.known.whole
 
 pub returns : goal.returns
 returns c =
-    is_run c.args.public.now c.args.trace.now c.args.found (c.rows.result - 1) c.in_ok-tree.tree c.in_ok-tape.tape c.requires.known c.requires.whole
-    (ap (λ n. n - 1) c.rows.ensures.is) c.in_ok-tree.ensures.same c.in_ok-tape.ensures
+    is_run c.args.public.now c.args.trace.now c.args.walked.found (c.rows.result - 1) c.in_ok-tree.tree c.args.walked.tape c.requires.known
+    c.requires.whole (ap (λ n. n - 1) c.rows.ensures.is) c.in_ok-tree.ensures.same c.requires.tape
