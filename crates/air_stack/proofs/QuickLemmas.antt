@@ -2,25 +2,26 @@
 use Rattle.std.proofs.Common.{◌≡◌, ◌≢◌, ℕ, ◌+◌, ◌-◌, ◌%◌, ◌<◌, ◌≤◌, Bool, true, false, ◌&&◌, cond, eqb, nat_lt, List, get_or, length, map, All, Option, Some, None, refl, sym, ap, subst, ◌∙◌, inl, inr, arith, zero-mul}
 use Rattle.std.proofs.lemmas.Bool.{cases_Bool, eqb-true}
 use Rattle.std.proofs.lemmas.Bool.Decides.{nat_tests}
-use Rattle.vm_field.specs.Field.{prime, felt_sub, felt_mul}
+use Rattle.vm_field.specs.Field.{prime, felt_add, felt_sub, felt_mul}
 use Rattle.vm_ops.specs.Codes.{code_of}
 use Rattle.vm_ops.specs.Moves.{leaves_of, shift_of, sources_of, takes_of}
 use Rattle.vm_ops.specs.declared.op.Op.{Op}
 use Rattle.vm_ops.specs.declared.op.Op.TheVariants as ops
 use Rattle.vm_ops.specs.declared.op.Shift.{Shift}
 use Rattle.vm_ops.specs.declared.op.Shift.TheVariants.{Left, Stay, Right}
+use Rattle.vm_ops.proofs.CodeLemmas.{code_of-different}
 use Rattle.vm_ops.proofs.MoveLemmas.{ByOne, shift_of-by_one}
-use Rattle.vm_table.specs.MainColumns.{depth, s}
+use Rattle.vm_table.specs.MainColumns.{depth, h, s}
 use Rattle.air_kit.specs.BlockValues.{calls, returns}
 use Rattle.air_kit.specs.Flags.{Flags, HasOp, flag, flags_of, is_left, is_op, is_right, is_shift, sum_over}
 use Rattle.air_kit.specs.Places.{Spot, first_fault_of, on_pair}
-use Rattle.air_kit.specs.StackValues.{below_term, cell_values, cells, deeper, depth_values, entry_115, entry_116, entry_117, entry_118, entry_119, keeps_depth, operand_values, shifts_left, shifts_right, stack_values, term, top_term}
+use Rattle.air_kit.specs.StackValues.{below_term, cell_values, cells, deeper, depth_values, end_term, entry_115, entry_116, entry_117, entry_118, entry_119, keeps_depth, operand_values, shifts_left, shifts_right, stack_values, term, top_term}
 use Rattle.air_kit.proofs.FlagLemmas.{at_op, flag_apart, flags_of-hot, sum_over-hot}
 use Rattle.air_kit.proofs.ZeroLemmas.{Zeros, no_fault, zeros_family}
 use Rattle.air_stack.specs.Parts.{spot_of}
 use Rattle.air_stack.proofs.PartLemmas.{answer_joins}
 use Rattle.air_stack.proofs.TermLemmas.{copied_term, moved_at}
-use Rattle.air_stack.specs.Quick.{AreCopies, ComeUp, Falls, GoDown, IsMoved, IsSteady, Rises, Shifts, StayLevel, Stays}
+use Rattle.air_stack.specs.Quick.{AreCopies, ComeUp, EndsBlock, EndsCall, EndsLoop, Falls, GoDown, IsMoved, IsSteady, Rises, Shifts, StayLevel, Stays}
 
 -- The flags that the entries of the depth and the key read.
 record DepthFlags (fl : Flags) (left right : ℕ) : Type 0 where
@@ -210,3 +211,105 @@ moved_answer p x next operands same after moved is =
 
 pub free_last : (m a d t deep last : ℕ) → m ≡ felt_mul a t → a ≡ felt_sub 1 d → d ≡ deep → t ≡ last → m ≡ 0 → felt_mul (felt_sub 1 deep) last ≡ 0
 free_last m a d t deep last product less is cell none = cc
+
+-- An END.
+
+-- What the entries of the depth and the key read at an END, by the flag of a loop and the sum of the flags of calls.
+record EndFlags (x : List ℕ) (loop call : ℕ) : Type 0 where
+  left_is : shifts_left (flag x) x ≡ felt_add 0 (felt_mul 1 loop)
+  right_is : shifts_right (flag x) ≡ 0
+  calls_is : calls (flag x) ≡ 0
+  returns_is : returns (flag x) x ≡ felt_mul 1 call
+
+end_flags : (x : List ℕ) (loop call : ℕ) → HasOp x ops.End → h x 4 ≡ loop → felt_add (h x 6) (h x 7) ≡ call → EndFlags x loop call
+unfolding shifts_left shifts_right calls returns
+end_flags x loop call has entered called = record {
+  left_is = rw (at_op has (flags_of is_left) ∙ flags_of-hot ops.End is_left, has.flags ops.End, entered) refl;
+  right_is = at_op has (flags_of is_right) ∙ flags_of-hot ops.End is_right;
+  calls_is = rw (has.flags ops.Call, has.flags ops.Syscall) refl;
+  returns_is = rw (has.flags ops.End, called) refl;
+}
+
+end_keeps : (x : List ℕ) (loop call : ℕ) → EndFlags x loop call
+    → keeps_depth (flag x) x ≡ felt_sub (felt_sub (felt_sub (felt_sub 1 0) (felt_add 0 (felt_mul 1 loop))) 0) (felt_mul 1 call)
+unfolding keeps_depth
+end_keeps x loop call e = rw (e.right_is, e.left_is, e.calls_is, e.returns_is) refl
+
+block_depths : (x y : List ℕ) → EndFlags x 0 0 → felt_mul (felt_sub (depth x) 16) (felt_sub 1 (deeper x)) ≡ 0 → Stays x y → Zeros (depth_values (spot_of x (Some y)))
+unfolding depth_values entry_116 entry_117 entry_118
+block_depths x y e deep m = (
+  deep_is (flag x) x deep,
+  (
+    rw (e.right_is, e.left_is, e.calls_is, end_keeps x 0 0 e, m.as_many) (simp zero-mul),
+    (rw (e.returns_is) (simp zero-mul), (rw (e.right_is, e.left_is, e.calls_is, end_keeps x 0 0 e, m.same_key) (simp zero-mul), tt)),
+  ),
+)
+
+call_depths : (x y : List ℕ) → EndFlags x 0 1 → felt_mul (felt_sub (depth x) 16) (felt_sub 1 (deeper x)) ≡ 0 → felt_sub (depth x) 16 ≡ 0
+    → Zeros (depth_values (spot_of x (Some y)))
+unfolding depth_values entry_116 entry_117 entry_118
+call_depths x y e deep full = (
+  deep_is (flag x) x deep,
+  (
+    rw (e.right_is, e.left_is, e.calls_is, end_keeps x 0 1 e) (simp zero-mul),
+    (rw (e.returns_is, full) refl, (rw (e.right_is, e.left_is, e.calls_is, end_keeps x 0 1 e) (simp zero-mul), tt)),
+  ),
+)
+
+loop_depths : (x y : List ℕ) → EndFlags x 1 0 → felt_mul (felt_sub (depth x) 16) (felt_sub 1 (deeper x)) ≡ 0 → Falls x y → Zeros (depth_values (spot_of x (Some y)))
+unfolding depth_values entry_116 entry_117 entry_118
+loop_depths x y e deep m = (
+  deep_is (flag x) x deep,
+  (
+    rw (e.right_is, e.left_is, e.calls_is, end_keeps x 1 0 e, m.fewer) (simp zero-mul),
+    (rw (e.returns_is) (simp zero-mul), (rw (e.right_is, e.left_is, e.calls_is, end_keeps x 1 0 e, one_times (deeper x), m.same_key) (simp zero-mul), tt)),
+  ),
+)
+
+end_cells : (x y : List ℕ) → HasOp x ops.End → ((j : ℕ) → j < 16 → end_term j x y ≡ 0) → first_fault_of 119 (cell_values (spot_of x (Some y))) ≡ None
+unfolding cell_values entry_119 term
+end_cells x y has zero =
+    no_fault 119 (cell_values (spot_of x (Some y)))
+    (zeros_family 16 (λ j. on_pair (entry_119 j) (spot_of x (Some y)))
+    (λ j low. at_op has (λ fl. sum_over fl (term j x y)) ∙ sum_over-hot ops.End (term j x y) ∙ ap (λ n. n % prime) (zero j low)))
+
+level_end : (x y : List ℕ) → h x 4 ≡ 0 → StayLevel 0 x y → (j : ℕ) → j < 16 → end_term j x y ≡ 0
+unfolding end_term
+level_end x y entered level j low = rw (entered, level_clean x y ops.End refl level j low (omega arith)) (simp zero-mul)
+
+left_end : (x y : List ℕ) → h x 4 ≡ 1 → felt_mul (felt_sub 1 (deeper x)) (s y 15) ≡ 0 → ComeUp 0 x y → (j : ℕ) → j < 16 → end_term j x y ≡ 0
+unfolding end_term
+left_end x y entered free up j low = rw (entered, left_clean x y ops.Drop refl free up j low (omega arith)) (simp zero-mul)
+
+end_is : (x : List ℕ) (op : Op) → HasOp x op → code_of op ≡ 76 → HasOp x ops.End
+end_is x op has is = subst (HasOp x) (code_of-different op ops.End is) has
+
+pub ends_block : (x y : List ℕ) (op : Op) → HasOp x op → code_of op ≡ 76 → felt_mul (felt_sub (depth x) 16) (felt_sub 1 (deeper x)) ≡ 0
+    → h x 4 ≡ 0 → felt_add (h x 6) (h x 7) ≡ 0 → EndsBlock x y → IsMoved x (Some y)
+ends_block x y op has is deep entered called ends =
+    let end = end_is x op has is in
+    record {
+      depths = no_fault 115 (depth_values (spot_of x (Some y))) (block_depths x y (end_flags x 0 0 end entered called) deep ends.kept);
+      tops = end_cells x y end (level_end x y entered ends.cells);
+    }
+
+pub ends_call : (x y : List ℕ) (op : Op) → HasOp x op → code_of op ≡ 76 → felt_mul (felt_sub (depth x) 16) (felt_sub 1 (deeper x)) ≡ 0
+    → h x 4 ≡ 0 → felt_add (h x 6) (h x 7) ≡ 1 → EndsCall x y → IsMoved x (Some y)
+ends_call x y op has is deep entered called ends =
+    let end = end_is x op has is in
+    record {
+      depths = no_fault 115 (depth_values (spot_of x (Some y))) (call_depths x y (end_flags x 0 1 end entered called) deep ends.full);
+      tops = end_cells x y end (level_end x y entered ends.cells);
+    }
+
+pub ends_loop : (x y : List ℕ) (op : Op) → HasOp x op → code_of op ≡ 76 → felt_mul (felt_sub (depth x) 16) (felt_sub 1 (deeper x)) ≡ 0
+    → h x 4 ≡ 1 → felt_add (h x 6) (h x 7) ≡ 0 → EndsLoop x y → IsMoved x (Some y)
+ends_loop x y op has is deep entered called ends =
+    let end = end_is x op has is in
+    record {
+      depths = no_fault 115 (depth_values (spot_of x (Some y))) (loop_depths x y (end_flags x 1 0 end entered called) deep ends.moves);
+      tops = end_cells x y end (left_end x y entered ends.free ends.cells);
+    }
+
+pub sum_is : (sum a b first second n : ℕ) → sum ≡ felt_add a b → a ≡ first → b ≡ second → sum ≡ n → felt_add first second ≡ n
+sum_is sum a b first second n is one other value = cc

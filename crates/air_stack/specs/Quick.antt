@@ -1,5 +1,5 @@
--- What is tested of the stack in a row and the one after it, where the row's operation neither calls nor ends a block. All other
--- entries of the stack's depth, key and cells are then 0.
+-- What is tested of the stack in a row and the one after it, where the row's operation does not call. All other entries of the
+-- stack's depth, key and cells are then 0.
 use Rattle.std.specs.Prelude.{◌≡◌, ◌≢◌, ℕ, ◌+◌, ◌-◌, ◌<◌, ◌≤◌, List, length, slice_index, Option, None}
 use Rattle.vm_field.specs.Signs.{◌⊞◌, ◌⊟◌, ◌⊠◌}
 use Rattle.vm_ops.specs.Codes.{code_of}
@@ -50,6 +50,22 @@ StayLevel from x y = (j : ℕ) → from ≤ j → j < 16 → s y j ⊟ s x j ≡
 
 abbrev pub GoDown : ℕ → List ℕ → List ℕ → Type 0
 GoDown from x y = (j : ℕ) → from ≤ j → j < 16 → s y j ⊟ s x (j - 1) ≡ 0
+
+-- an END that keeps the stack
+pub record EndsBlock (x y : List ℕ) : Type 0 where
+  pub kept : Stays x y
+  pub cells : StayLevel 0 x y
+
+-- the END of a call, behind which the buses fix the depth and the key
+pub record EndsCall (x y : List ℕ) : Type 0 where
+  pub full : depth x ⊟ 16 ≡ 0
+  pub cells : StayLevel 0 x y
+
+-- the END of a loop that was entered, which takes its condition off
+pub record EndsLoop (x y : List ℕ) : Type 0 where
+  pub moves : Falls x y
+  pub free : (1 ⊟ deeper x) ⊠ s y 15 ≡ 0
+  pub cells : ComeUp 0 x y
 
 -- the entries of the depth, of the key and of the cells are 0
 pub record IsMoved (x : List ℕ) (next : Option (List ℕ)) : Type 0 where

@@ -1,13 +1,14 @@
-//! A quick test of the depth, the key and the cells behind a row whose operation neither calls nor ends a block.
+//! A quick test of the depth, the key and the cells behind a row whose operation does not call.
 ghost use Rattle.std.specs.Prelude.{◌≡◌, ℕ, ◌<◌, ◌≤◌, ◌^◌, Some, None, All, IsTrue, length, option_map};
 ghost use Rattle.vm_field.specs.Signs.{◌⊟◌, ◌⊠◌};
+ghost use Rattle.vm_ops.specs.Codes.{code_of};
 ghost use Rattle.vm_ops.specs.Moves.{leaves_of, shift_of};
 ghost use Rattle.vm_table.specs.MainColumns.{depth};
 ghost use Rattle.air_kit.specs.Flags.{HasOp};
 ghost use Rattle.air_kit.specs.Places.{first_fault_of};
 ghost use Rattle.air_kit.specs.StackValues.{below_term, cell_values, deeper, depth_values, top_term};
 ghost use Rattle.air_stack.specs.Parts.{spot_of};
-ghost use Rattle.air_stack.specs.Quick.{AreCopies, ComeUp, Falls, GoDown, IsMoved, IsSteady, Rises, Shifts, StayLevel, Stays};
+ghost use Rattle.air_stack.specs.Quick.{AreCopies, ComeUp, EndsBlock, EndsCall, EndsLoop, Falls, GoDown, IsMoved, IsSteady, Rises, Shifts, StayLevel, Stays};
 
 use crate::depth::deeper;
 use crate::moves::top_term;
@@ -16,8 +17,8 @@ use vm_field::Felt;
 use vm_ops::{Op, Shift, leaves, opcode, shift, sources};
 use vm_table::MainView;
 
-/// Whether a row is not the last one, its operation neither calls nor ends a block, and its entries 115 to 134 are 0. Where the
-/// answer is false, they may be 0 all the same.
+/// Whether a row is not the last one, its operation does not call, and its entries 115 to 134 are 0. Where the answer is false,
+/// they may be 0 all the same.
 pub(crate) fn is_moved<V: MainView>(x: &Seen<'_, V>, next: &Option<V>) -> bool
     ensures { IsTrue result → IsMoved (V.cells x.now.row.now) (option_map V.cells next.now) }
 {
@@ -27,11 +28,15 @@ pub(crate) fn is_moved<V: MainView>(x: &Seen<'_, V>, next: &Option<V>) -> bool
     let Some(op) = x.operation() else {
         return false;
     };
+    let deep = deeper(x.row);
     if is_steady(op) {
-        let deep = deeper(x.row);
         if is_depth_clean(x.row, y, op, deep) {
             return are_cells_clean(x.row, y, op, deep);
         }
+        return false;
+    }
+    if opcode(op) == 76 {
+        return is_end_clean(x.row, y, op, deep);
     }
     false
 }
@@ -190,6 +195,53 @@ fn are_cells_clean<V: MainView>(x: &V, y: &V, op: Op, deep: Felt) -> bool
 {
     if are_tops_clean(x, y, op) {
         return are_below_clean(x, y, op, deep);
+    }
+    false
+}
+
+fn ends_block<V: MainView>(x: &V, y: &V) -> bool
+    ensures { IsTrue result → EndsBlock (V.cells x.now) (V.cells y.now) }
+{
+    stays(x, y) && stay_level(0, x, y)
+}
+
+fn ends_call<V: MainView>(x: &V, y: &V) -> bool
+    ensures { IsTrue result → EndsCall (V.cells x.now) (V.cells y.now) }
+{
+    is_zero(x.depth() - Felt::from_u32(16)) && stay_level(0, x, y)
+}
+
+fn ends_loop<V: MainView>(x: &V, y: &V, deep: Felt) -> bool
+    requires { deep ≡ deeper (V.cells x.now) }
+    ensures { IsTrue result → EndsLoop (V.cells x.now) (V.cells y.now) }
+{
+    falls(x, y, deep) && is_zero(under(Felt::ONE - deep, y.s15())) && come_up(0, x, y)
+}
+
+// An END keeps the stack; that of a loop that was entered takes the condition off, and that of a call brings its depth back.
+fn is_end_clean<V: MainView>(x: &V, y: &V, op: Op, deep: Felt) -> bool
+    requires has { HasOp (V.cells x.now) op }
+    requires ends { code_of op ≡ 76 }
+    requires deep { deep ≡ deeper (V.cells x.now) }
+    ensures { IsTrue result → IsMoved (V.cells x.now) (Some (V.cells y.now)) }
+{
+    if !is_deep_clean(x, deep) {
+        return false;
+    }
+    let calls = x.h6() + x.h7();
+    if is_zero(x.h4()) {
+        if is_zero(calls) {
+            return ends_block(x, y);
+        }
+        if is_one(calls) {
+            return ends_call(x, y);
+        }
+        return false;
+    }
+    if is_one(x.h4()) {
+        if is_zero(calls) {
+            return ends_loop(x, y, deep);
+        }
     }
     false
 }
