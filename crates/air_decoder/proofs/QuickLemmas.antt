@@ -15,12 +15,12 @@ use Rattle.air_kit.specs.Places.{Claim, Spot, first_fault_of, family}
 use Rattle.air_kit.specs.BoundaryValues.{boundary_values, start_values, inputs_values, end_values, outputs_values}
 use Rattle.air_kit.specs.MainValues.{decoder_values}
 use Rattle.air_kit.specs.OpcodeValues.{opcode_values, entry_1, entry_8, entry_9, entry_10}
-use Rattle.air_kit.specs.BlockValues.{starts, batches, calls, returns, stays_inside, kind_flags, entry_60, entry_61, entry_62, entry_63, entry_64, entry_65, entry_66, entry_67, entry_68, entry_69, entry_70, entry_74, entry_75, entry_79, entry_80, entry_81, entry_82, entry_83, entry_84, entry_85, entry_89, entry_90, entry_91, follow_values, shown_values, kept_values, block_values}
+use Rattle.air_kit.specs.BlockValues.{starts, batches, calls, returns, stays_inside, entry_60, entry_61, entry_62, entry_63, entry_64, entry_65, entry_66, entry_67, entry_68, entry_69, entry_70, entry_74, entry_75, entry_79, entry_80, entry_81, entry_82, entry_83, entry_84, entry_85, entry_89, entry_90, entry_91, follow_values, shown_values, kept_values, block_values}
 use Rattle.air_kit.specs.SpanValues.{opcode_in, rest, rest_flag, goes_on, entry_92, entry_95, entry_96, entry_103, entry_104, entry_105, entry_106, entry_107, entry_108, entry_109, entry_110, entry_111, entry_112, entry_113, entry_114, batch_values, group_values, span_values}
 use Rattle.air_kit.proofs.FlagLemmas.{at_op, flag_apart, flags_of-hot, sum_of-hot}
 use Rattle.air_kit.proofs.FaultLemmas.{first_append}
 use Rattle.air_kit.proofs.ZeroLemmas.{Zeros, no_fault, bit_zero}
-use Rattle.air_decoder.specs.Entries.{of_pair, spot_of}
+use Rattle.air_decoder.specs.Entries.{of_pair, of_row, spot_of}
 use Rattle.air_decoder.specs.Quick.{HasNoBatch, IsClean, IsFirstBatch, IsFrame, IsNextBatch, IsGoingOn, IsInner, IsOutside, IsOver, IsPlain, IsStep}
 use Rattle.air_decoder.specs.Quick.IsOver.{opens, ends}
 use Rattle.air_decoder.proofs.FaultLemmas.{decoder_joined}
@@ -228,25 +228,26 @@ batch_follow_clean x y first again r outside inside =
       ),
     )
 
-shown_clean : (x y : List ℕ) → QuietFlags (flag x) → Zeros (shown_values (spot_of 0 x (Some y)))
-unfolding shown_values family kind_flags calls entry_70 entry_74 entry_75 entry_79 entry_80 entry_81
-shown_clean x y q = (
-  rw (q.end) (simp zero-mul),
+pub shown_zeros : (x y : List ℕ) → flag x ops.Loop ≡ 0 → flag x ops.Call ≡ 0 → flag x ops.Syscall ≡ 0 → flag x ops.Caller ≡ 0 → flag x ops.Halt ≡ 0
+    → ((j : ℕ) → j < 4 → of_row (entry_70 j) x ≡ 0) → of_row entry_74 x ≡ 0 → Zeros (shown_values (spot_of 0 x (Some y)))
+unfolding shown_values family calls entry_75 entry_79 entry_80 entry_81
+shown_zeros x y loop call syscall caller halt bits kinds = (
+  bits 0 (omega arith),
   (
-    rw (q.end) (simp zero-mul),
+    bits 1 (omega arith),
     (
-      rw (q.end) (simp zero-mul),
+      bits 2 (omega arith),
       (
-        rw (q.end) (simp zero-mul),
+        bits 3 (omega arith),
         (
-          rw (q.end) (simp zero-mul),
+          kinds,
           (
-            rw (q.loop, q.call, q.syscall) (simp zero-mul),
+            rw (loop, call, syscall) (simp zero-mul),
             (
-              rw (q.loop, q.call, q.syscall) (simp zero-mul),
+              rw (loop, call, syscall) (simp zero-mul),
               (
-                rw (q.loop, q.call, q.syscall) (simp zero-mul),
-                (rw (q.loop, q.call, q.syscall) (simp zero-mul), (rw (q.call, q.syscall) (simp zero-mul), (rw (q.caller) (simp zero-mul), (rw (q.halt) (simp zero-mul), tt)))),
+                rw (loop, call, syscall) (simp zero-mul),
+                (rw (loop, call, syscall) (simp zero-mul), (rw (call, syscall) (simp zero-mul), (rw caller (simp zero-mul), (rw halt (simp zero-mul), tt)))),
               ),
             ),
           ),
@@ -256,16 +257,26 @@ shown_clean x y q = (
   ),
 )
 
-inside_is : (x : List ℕ) → QuietFlags (flag x) → stays_inside (flag x) x ≡ 1
-unfolding stays_inside calls returns
-inside_is x q = rw (q.call, q.syscall, q.end) (simp zero-mul)
+pub no_kinds : (x y : List ℕ) → flag x ops.End ≡ 0 → flag x ops.Loop ≡ 0 → flag x ops.Call ≡ 0 → flag x ops.Syscall ≡ 0 → flag x ops.Caller ≡ 0
+    → flag x ops.Halt ≡ 0 → Zeros (shown_values (spot_of 0 x (Some y)))
+unfolding entry_70 entry_74
+no_kinds x y end loop call syscall caller halt =
+    shown_zeros x y loop call syscall caller halt (λ j low. rw end (simp zero-mul)) (rw end (simp zero-mul))
+
+shown_clean : (x y : List ℕ) → QuietFlags (flag x) → Zeros (shown_values (spot_of 0 x (Some y)))
+shown_clean x y q = no_kinds x y q.end q.loop q.call q.syscall q.caller q.halt
+
+inside_is : (x : List ℕ) (return : ℕ) → flag x ops.Call ≡ 0 → flag x ops.Syscall ≡ 0 → returns (flag x) x ≡ return
+    → stays_inside (flag x) x ≡ felt_sub (felt_sub 1 0) return
+unfolding stays_inside calls
+inside_is x return call syscall is = rw (call, syscall, is) refl
 
 returns_is : (x : List ℕ) → QuietFlags (flag x) → returns (flag x) x ≡ 0
 unfolding returns
 returns_is x q = rw (q.end) (simp zero-mul)
 
 -- entries 82 to 88
-record FrameZero (x y : List ℕ) : Type 0 where
+pub record FrameZero (x y : List ℕ) : Type 0 where
   context : of_pair entry_82 x y ≡ 0
   locals : of_pair entry_83 x y ≡ 0
   mode : of_pair entry_84 x y ≡ 0
@@ -274,19 +285,35 @@ record FrameZero (x y : List ℕ) : Type 0 where
   digest_2 : of_pair (entry_85 2) x y ≡ 0
   digest_3 : of_pair (entry_85 3) x y ≡ 0
 
-frame_clean : (x y : List ℕ) → QuietFlags (flag x) → IsFrame x y → FrameZero x y
+pub frame_zeros : (x y : List ℕ) → flag x ops.Call ≡ 0 → flag x ops.Syscall ≡ 0 → flag x ops.FmpUpdate ≡ 0 → returns (flag x) x ≡ 0 → IsFrame x y → FrameZero x y
 unfolding entry_82 entry_83 entry_84 entry_85
-frame_clean x y q k = record {
-  context = rw (q.call, q.syscall, inside_is x q, k.context) (simp zero-mul);
-  locals = rw (q.call, q.syscall, q.update, inside_is x q, k.locals) (simp zero-mul);
-  mode = rw (q.call, q.syscall, inside_is x q, k.mode) (simp zero-mul);
-  digest_0 = rw (q.call, returns_is x q, k.digest_0) (simp zero-mul);
-  digest_1 = rw (q.call, returns_is x q, k.digest_1) (simp zero-mul);
-  digest_2 = rw (q.call, returns_is x q, k.digest_2) (simp zero-mul);
-  digest_3 = rw (q.call, returns_is x q, k.digest_3) (simp zero-mul);
+frame_zeros x y call syscall update back k = record {
+  context = rw (call, syscall, inside_is x 0 call syscall back, k.context) (simp zero-mul);
+  locals = rw (call, syscall, update, inside_is x 0 call syscall back, k.locals) (simp zero-mul);
+  mode = rw (call, syscall, inside_is x 0 call syscall back, k.mode) (simp zero-mul);
+  digest_0 = rw (call, back, k.digest_0) (simp zero-mul);
+  digest_1 = rw (call, back, k.digest_1) (simp zero-mul);
+  digest_2 = rw (call, back, k.digest_2) (simp zero-mul);
+  digest_3 = rw (call, back, k.digest_3) (simp zero-mul);
 }
 
-kept_list : (x y : List ℕ) → FrameZero x y → of_pair entry_89 x y ≡ 0 → of_pair entry_90 x y ≡ 0 → of_pair entry_91 x y ≡ 0 → Zeros (kept_values (spot_of 0 x (Some y)))
+-- behind a call the bus of blocks brings the frame back
+pub frame_free : (x y : List ℕ) → flag x ops.Call ≡ 0 → flag x ops.Syscall ≡ 0 → flag x ops.FmpUpdate ≡ 0 → returns (flag x) x ≡ 1 → FrameZero x y
+unfolding entry_82 entry_83 entry_84 entry_85
+frame_free x y call syscall update back = record {
+  context = rw (call, syscall, inside_is x 1 call syscall back) (simp zero-mul);
+  locals = rw (call, syscall, update, inside_is x 1 call syscall back) (simp zero-mul);
+  mode = rw (call, syscall, inside_is x 1 call syscall back) (simp zero-mul);
+  digest_0 = rw (call, back) (simp zero-mul);
+  digest_1 = rw (call, back) (simp zero-mul);
+  digest_2 = rw (call, back) (simp zero-mul);
+  digest_3 = rw (call, back) (simp zero-mul);
+}
+
+frame_clean : (x y : List ℕ) → QuietFlags (flag x) → IsFrame x y → FrameZero x y
+frame_clean x y q k = frame_zeros x y q.call q.syscall q.update (returns_is x q) k
+
+pub kept_list : (x y : List ℕ) → FrameZero x y → of_pair entry_89 x y ≡ 0 → of_pair entry_90 x y ≡ 0 → of_pair entry_91 x y ≡ 0 → Zeros (kept_values (spot_of 0 x (Some y)))
 unfolding kept_values family
 kept_list x y z block level batch =
     (z.context, (z.locals, (z.mode, (z.digest_0, (z.digest_1, (z.digest_2, (z.digest_3, (block, (level, (batch, tt))))))))))
@@ -310,7 +337,7 @@ next_kept_clean x y r k =
     kept_list x y (frame_clean x y r.quiet k.frame) (rw (r.starts, r.quiet.end, k.block) refl) (rw (k.level, r.starts, r.quiet.end) refl)
     (rw (r.span, r.respan, k.outside, k.batch) (simp zero-mul))
 
-block_clean : (x y : List ℕ) → Zeros (follow_values (spot_of 0 x (Some y))) → Zeros (shown_values (spot_of 0 x (Some y)))
+pub block_clean : (x y : List ℕ) → Zeros (follow_values (spot_of 0 x (Some y))) → Zeros (shown_values (spot_of 0 x (Some y)))
     → Zeros (kept_values (spot_of 0 x (Some y))) → first_fault_of 60 (block_values (spot_of 0 x (Some y))) ≡ None
 unfolding block_values
 block_clean x y follow shown kept =

@@ -4,11 +4,11 @@ use Rattle.vm_field.specs.Signs.{◌⊞◌, ◌⊟◌, ◌⊠◌}
 use Rattle.vm_ops.specs.Codes.{code_of}
 use Rattle.vm_ops.specs.declared.op.Op.{Op}
 use Rattle.vm_ops.specs.declared.op.Op.TheVariants as ops
-use Rattle.vm_table.specs.MainColumns.{clk, fmp, ctx, sys, f, addr, h, sp, gc, ox, ha, lv}
+use Rattle.vm_table.specs.MainColumns.{clk, fmp, ctx, sys, f, addr, h, sp, gc, ox, s, ha, lv}
 use Rattle.air_kit.specs.Flags.{flag}
 use Rattle.air_kit.specs.Places.{first_fault_of}
 use Rattle.air_kit.specs.OpcodeValues.{opcode_values}
-use Rattle.air_kit.specs.BlockValues.{block_values}
+use Rattle.air_kit.specs.BlockValues.{block_values, starts}
 use Rattle.air_kit.specs.SpanValues.{span_values}
 use Rattle.air_decoder.specs.Entries.{spot_of}
 
@@ -82,6 +82,41 @@ pub record IsNextBatch (x y : List ℕ) : Type 0 where
   pub block : addr y ⊟ addr x ≡ 0
   pub level : lv y ⊟ lv x ≡ 0
   pub batch : ha y ⊟ ha x ⊟ 8 ≡ 0
+
+-- a row of JOIN or SPLIT and the one after it
+pub record IsOpening (x y : List ℕ) : Type 0 where
+  pub child : 1 ⊟ starts (flag y) ≡ 0
+  pub frame : IsFrame x y
+  pub level : lv y ⊟ lv x ⊟ 1 ≡ 0
+
+-- a row of REPEAT and the one after it
+pub record IsRepeat (x y : List ℕ) : Type 0 where
+  pub holds : s x 0 ⊟ 1 ≡ 0
+  pub child : 1 ⊟ starts (flag y) ≡ 0
+  pub frame : IsFrame x y
+  pub block : addr y ⊟ addr x ≡ 0
+  pub level : lv y ⊟ lv x ≡ 0
+
+-- behind the END of a call the bus of blocks brings the frame back, and another END keeps it
+pub data IsBehindEnd (x y : List ℕ) : Type 0 where
+  returned : h x 6 ⊞ h x 7 ≡ 1 → IsBehindEnd x y
+  kept : h x 6 ⊞ h x 7 ≡ 0 → IsFrame x y → IsBehindEnd x y
+
+-- the flags of an END, of which at most one is 1
+pub record HasKind (x : List ℕ) : Type 0 where
+  pub bit_4 : h x 4 < 2
+  pub bit_5 : h x 5 < 2
+  pub bit_6 : h x 6 < 2
+  pub bit_7 : h x 7 < 2
+  pub one : h x 4 ⊞ h x 5 ⊞ h x 6 ⊞ h x 7 < 2
+
+-- a row of END and the one after it
+pub record IsEnd (x y : List ℕ) : Type 0 where
+  pub follows : 1 ⊟ starts (flag y) ⊟ flag y ops.End ⊟ flag y ops.Repeat ⊟ flag y ops.Halt ≡ 0
+  pub kind : HasKind x
+  pub condition : h x 4 ⊠ s x 0 ≡ 0
+  pub level : lv y ⊟ lv x ⊟ 0 ⊞ 1 ≡ 0
+  pub behind : IsBehindEnd x y
 
 -- all entries of a row behind the first one are 0
 pub record IsClean (x y : List ℕ) : Type 0 where

@@ -12,7 +12,7 @@ use vm_table::MainView;
 
 // The row starts a block.
 #[tactic(auto, unfolding(air_kit::specs::BlockValues::starts))]
-fn starts<V: MainView>(x: &Seen<'_, V>) -> Felt
+pub(crate) fn starts<V: MainView>(x: &Seen<'_, V>) -> Felt
     ensures { result ≡ starts (flag (V.cells x.now.row.now)) }
 {
     x.sum(OpSet::Start)

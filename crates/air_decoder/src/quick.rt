@@ -1,19 +1,19 @@
 //! A quick test of rows: only a few of their entries can be other than 0 inside a span and at the start of a batch, and at other
 //! rows of blocks those of batches and groups cannot.
 ghost use Rattle.std.specs.Prelude.{◌≡◌, ◌<◌, IsTrue, Some, None, option_map};
-ghost use Rattle.vm_field.specs.Signs.{◌⊟◌};
+ghost use Rattle.vm_field.specs.Signs.{◌⊞◌, ◌⊟◌, ◌⊠◌};
 ghost use Rattle.vm_ops.specs.declared.op.Op.TheVariants as ops;
-ghost use Rattle.vm_table.specs.MainColumns.{ox, sp};
+ghost use Rattle.vm_table.specs.MainColumns.{h, lv, ox, s, sp};
 ghost use Rattle.air_kit.specs.Flags.{HasOp, flag};
 ghost use Rattle.air_kit.specs.Places.{first_fault_of};
-ghost use Rattle.air_kit.specs.BlockValues.{block_values};
+ghost use Rattle.air_kit.specs.BlockValues.{block_values, starts};
 ghost use Rattle.air_kit.specs.SpanValues.{batch_values, group_values, rest};
 ghost use Rattle.air_decoder.specs.Entries.{spot_of};
-ghost use Rattle.air_decoder.specs.Quick.{IsClean, IsFirstBatch, HasNoBatch, IsFrame, IsGoingOn, IsInner, IsKept, IsNextBatch, IsOutside, IsOver, IsPlain, IsStep};
+ghost use Rattle.air_decoder.specs.Quick.{HasKind, IsBehindEnd, IsClean, IsEnd, IsFirstBatch, HasNoBatch, IsFrame, IsGoingOn, IsInner, IsKept, IsNextBatch, IsOpening, IsOutside, IsOver, IsPlain, IsRepeat, IsStep};
 
-use crate::blocks::block_faults;
+use crate::blocks::{block_faults, starts};
 use crate::spans::batch_faults;
-use air_kit::{Seen, are_same, is_one, is_zero};
+use air_kit::{Seen, are_same, is_one, is_zero, under};
 use vm_field::Felt;
 use vm_ops::{Op, opcode};
 use vm_table::MainView;
@@ -141,10 +141,114 @@ fn is_outside<V: MainView>(x: &V, y: &V) -> bool
     is_zero(y.clk() - x.clk() - Felt::ONE) && is_zero(x.sp())
 }
 
+fn is_bit(a: Felt) -> bool
+    ensures { IsTrue result → a < 2 }
+{
+    a.value() < 2
+}
+
+fn is_opening<V: MainView>(x: &V, y: &V) -> bool
+    ensures { IsTrue result → IsOpening (V.cells x.now) (V.cells y.now) }
+{
+    let seen = Seen::of(y);
+    is_zero(Felt::ONE - starts(&seen)) && is_frame(x, y) && is_zero(y.lv() - x.lv() - Felt::ONE)
+}
+
+fn is_repeat<V: MainView>(x: &V, y: &V) -> bool
+    ensures { IsTrue result → IsRepeat (V.cells x.now) (V.cells y.now) }
+{
+    let seen = Seen::of(y);
+    is_zero(x.s0() - Felt::ONE)
+        && is_zero(Felt::ONE - starts(&seen))
+        && is_frame(x, y)
+        && are_same(y.addr(), x.addr())
+        && are_same(y.lv(), x.lv())
+}
+
+fn is_behind_end<V: MainView>(x: &V, y: &V) -> bool
+    ensures { IsTrue result → IsBehindEnd (V.cells x.now) (V.cells y.now) }
+{
+    if is_one(x.h6() + x.h7()) {
+        true
+    } else {
+        is_zero(x.h6() + x.h7()) && is_frame(x, y)
+    }
+}
+
+// Whether a start, another END, REPEAT or HALT is behind an END.
+fn may_follow_end<V: MainView>(y: &V) -> bool
+    ensures { IsTrue result → 1 ⊟ starts (flag (V.cells y.now)) ⊟ flag (V.cells y.now) ops.End ⊟ flag (V.cells y.now) ops.Repeat ⊟ flag (V.cells y.now) ops.Halt ≡ 0 }
+{
+    let seen = Seen::of(y);
+    is_zero(
+        Felt::ONE - starts(&seen) - seen.one(Op::End) - seen.one(Op::Repeat) - seen.one(Op::Halt),
+    )
+}
+
+// Whether at most one of an END's flags is 1, and the others are 0.
+fn has_kind<V: MainView>(x: &V) -> bool
+    ensures { IsTrue result → HasKind (V.cells x.now) }
+{
+    is_bit(x.h4())
+        && is_bit(x.h5())
+        && is_bit(x.h6())
+        && is_bit(x.h7())
+        && is_bit(x.h4() + x.h5() + x.h6() + x.h7())
+}
+
+// Whether the condition is 0 where the END is of a loop that was entered.
+fn has_no_condition<V: MainView>(x: &V) -> bool
+    ensures { IsTrue result → h (V.cells x.now) 4 ⊠ s (V.cells x.now) 0 ≡ 0 }
+{
+    is_zero(under(x.h4(), x.s0()))
+}
+
+fn closes_level<V: MainView>(x: &V, y: &V) -> bool
+    ensures { IsTrue result → lv (V.cells y.now) ⊟ lv (V.cells x.now) ⊟ 0 ⊞ 1 ≡ 0 }
+{
+    is_zero(y.lv() - x.lv() - Felt::ZERO + Felt::ONE)
+}
+
+fn is_end<V: MainView>(x: &V, y: &V) -> bool
+    ensures { IsTrue result → IsEnd (V.cells x.now) (V.cells y.now) }
+{
+    if !may_follow_end(y) {
+        return false;
+    }
+    if !has_kind(x) {
+        return false;
+    }
+    if !has_no_condition(x) {
+        return false;
+    }
+    if !closes_level(x, y) {
+        return false;
+    }
+    is_behind_end(x, y)
+}
+
 // Whether a block's row shows what it has to, and the next row what is kept.
-fn has_block<V: MainView>(x: &Seen<'_, V>, y: &V) -> bool
+fn has_block<V: MainView>(x: &Seen<'_, V>, y: &V, op: Op) -> bool
+    requires has { HasOp (V.cells x.now.row.now) op }
+    requires outside { sp (V.cells x.now.row.now) ≡ 0 }
     ensures { IsTrue result → first_fault_of 60 (block_values (spot_of 0 (V.cells x.now.row.now) (Some (V.cells y.now)))) ≡ None }
 {
+    let code = opcode(op);
+    if code == 76 {
+        return is_end(x.row, y);
+    }
+    if code == 70 {
+        return is_opening(x.row, y);
+    }
+    if code == 71 {
+        if is_bit(x.row.s0()) {
+            return is_opening(x.row, y);
+        }
+        return false;
+    }
+    if code == 77 {
+        return is_repeat(x.row, y);
+    }
     let next = Some(Seen::of(y));
     match block_faults(x, &next) {
         Some(_) => false,
@@ -159,7 +263,7 @@ fn is_block_clean<V: MainView>(x: &Seen<'_, V>, y: &V, op: Op) -> bool
     ensures { IsTrue result → IsClean (V.cells x.now.row.now) (V.cells y.now) }
 {
     if is_outside(x.row, y) {
-        return has_block(x, y);
+        return has_block(x, y, op);
     }
     false
 }
