@@ -1,34 +1,41 @@
-ghost use Rattle.std.specs.Prelude.{◌≡◌, ℕ, IfOk, length};
-ghost use Rattle.run_rows.specs.Decoder.{at_start, decoder_after};
+ghost use Rattle.std.specs.Prelude.{◌≡◌, ℕ, IfOk};
 ghost use Rattle.run_rows.specs.Filling.{halted, rows_of};
 ghost use Rattle.run_rows.specs.Kinds as kinds;
+ghost use Rattle.run_rows.specs.RunRequests.{requests_of};
 ghost use Rattle.run_rows.specs.Turns.{respans};
 ghost use Rattle.event_kinds.specs.Kinds.{kind_in};
 
 use crate::decoder::Decoder;
 use crate::inverses::Inverses;
 use crate::row::write_row;
-use crate::stack::Stack;
+use crate::stack::into_elements;
 use crate::turns::turns_of;
+use air_kit::Requests;
 use event_kinds::{Kind, events_behind, kind_of, respans, seen_behind};
+use fill_requests::{no_requests, push_requests};
+use perm_memo::Permutations;
 use processor::{Event, Visible};
 use std::alloc::Global;
-use vm_field::{Felt, Memory, Word};
+use vm_field::{Felt, Memory, Sequence, Word};
 use vm_ops::Op;
 use vm_table::Table;
 
-// The rows of the events of a run that ends in a state, and the keys that are left at its end.
+// The rows of the events of a run that ends in a state, and what they ask. Each event is read for
+// both at once: a run's events are more than a cache holds.
 pub(crate) fn fill(
     alloc: Global,
+    permutations: &mut Permutations,
     last: &Visible,
     events: &[Event],
-) -> Result<(Table<65>, Stack<Felt>), Memory>
+) -> Result<(Table<65>, Requests), Memory>
     ensures rows { IfOk result (λ r. r.0 ≡ rows_of last.now events.now) }
-    ensures keys { IfOk result (λ r. r.1 ≡ (decoder_after at_start events.now).keys) }
+    ensures requests { IfOk result (λ r. r.1 ≡ requests_of permutations.old last.now events.now) }
+    ensures same { permutations.new ≡ permutations.old }
 {
     let mut turns = turns_of(alloc, events)?;
     let mut decoder = Decoder::new(alloc);
     let mut inverses = Inverses::new(alloc);
+    let mut requests = no_requests(alloc);
     let mut table = Table::new(alloc);
     table.reserve(events.len().saturating_add(1))?;
     let mut row = [Felt::ZERO; 65];
@@ -40,20 +47,30 @@ pub(crate) fn fill(
         write_row(&mut row, &mut inverses, &decoder, event, next, turn)?;
         table.push_row(&row)?;
         let kind = kind_of(event.op);
-        decoder.advance(event, kind, batches_of(alloc, kind, later)?)?;
+        let batches = batches_of(alloc, kind, later)?;
+        decoder.advance(event, kind, batches.len())?;
+        push_requests(
+            &mut requests,
+            permutations,
+            kind,
+            event,
+            next,
+            batches.as_slice(),
+        )?;
     }
     write_row(&mut row, &mut inverses, &decoder, &halted(last), last, 0)?;
     table.push_row(&row)?;
-    Ok((table, decoder.keys))
+    requests.keys = into_elements(decoder.keys);
+    Ok((table, requests))
 }
 
-// How many later batches the span has that an event of a kind starts; 0 where it starts none.
-fn batches_of(alloc: Global, kind: Kind, later: &[Event]) -> Result<usize, Memory>
-    ensures { IfOk result (λ count. kind_in kind ≡ kinds.Span → count ≡ length (respans later.now)) }
+// The later batches of the span that an event of a kind starts; none where it starts none.
+fn batches_of(alloc: Global, kind: Kind, later: &[Event]) -> Result<Sequence<[Felt; 8]>, Memory>
+    ensures { IfOk result (λ batches. kind_in kind ≡ kinds.Span → batches ≡ respans later.now) }
 {
     match kind {
-        Kind::Span => Ok(respans(alloc, later)?.len()),
-        _ => Ok(0),
+        Kind::Span => respans(alloc, later),
+        _ => Ok(Sequence::new(alloc)),
     }
 }
 

@@ -1,4 +1,4 @@
-ghost use Rattle.std.specs.Prelude.{◌≡◌, slice_index, All, IfSome};
+ghost use Rattle.std.specs.Prelude.{◌≡◌, [], slice_index, All, IfSome};
 ghost use Rattle.vm_field.specs.Field.{felt_inv};
 ghost use Rattle.run_rows.specs.Witnesses.{first_inverse};
 ghost use Rattle.fill_main.specs.Inverses.{IsInverse};
@@ -20,7 +20,9 @@ pub(crate) struct Inverses {
 
 impl Inverses {
     // No inverses yet. It allocates nothing.
-    pub fn new(alloc: Global) -> Inverses {
+    pub fn new(alloc: Global) -> Inverses
+        ensures { result.slots.items ≡ [] }
+    {
         Inverses {
             slots: Vec::new(alloc),
         }

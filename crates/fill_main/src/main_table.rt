@@ -5,9 +5,7 @@ ghost use Rattle.run_rows.specs.Filling.{rows_of};
 ghost use Rattle.run_rows.specs.RunRequests.{requests_of};
 
 use crate::fill::fill;
-use crate::stack::into_elements;
 use air_kit::Requests;
-use fill_requests::{accesses_of, bits_of, calls_of, perms_of, ranges_of};
 use perm_memo::Permutations;
 use processor::{Events, Visible};
 use std::alloc::Global;
@@ -33,19 +31,7 @@ pub fn fill_main(
     ensures same { permutations.new ≡ permutations.old }
 {
     let last = last_seen(state);
-    let events = events.as_slice();
-    let (table, keys) = fill(alloc, &last, events)?;
-    Ok((
-        table,
-        Requests {
-            perms: perms_of(alloc, permutations, events)?,
-            bits: bits_of(alloc, events)?,
-            accesses: accesses_of(alloc, events)?,
-            ranges: ranges_of(alloc, &last, events)?,
-            calls: calls_of(alloc, events)?,
-            keys: into_elements(keys),
-        },
-    ))
+    fill(alloc, permutations, &last, events.as_slice())
 }
 
 // What the row of HALT shows of the state at the end.

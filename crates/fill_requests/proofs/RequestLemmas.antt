@@ -1,15 +1,19 @@
 -- What each event of a run adds to its requests.
-use Rattle.std.proofs.Common.{◌≡◌, ℕ, ◌+◌, ◌<◌, ◌≤◌, if◌then◌else◌, List, [], ◌∷◌, ◌++◌, length, get_or, drop, take, refl}
+use Rattle.std.proofs.Common.{◌≡◌, ℕ, ◌+◌, ◌<◌, ◌≤◌, if◌then◌else◌, List, [], ◌∷◌, ◌++◌, length, get_or, drop, take, refl, ap, ap₂, ◌∙◌}
 use Rattle.vm_ops.specs.declared.op.Op.TheVariants as ops
 use Rattle.air_kit.specs.Flags.{is_op}
 use Rattle.air_kit.specs.declared.requests.Access.{Access}
 use Rattle.air_kit.specs.declared.requests.BitOp.{BitOp}
 use Rattle.air_kit.specs.declared.requests.Perm.{Perm}
+use Rattle.air_kit.specs.declared.requests.Requests.{Requests}
 use Rattle.processor.specs.declared.event.Event.{Event}
 use Rattle.processor.specs.declared.event.Visible.{Visible}
 use Rattle.run_rows.specs.Filling.{seen_behind}
-use Rattle.run_rows.specs.Kinds.{kind_of}
-use Rattle.run_rows.specs.RunRequests.{accesses_by, accesses_of, bits_by, bits_of, calls_of, perms_by, perms_of, ranges_by, ranges_of}
+use Rattle.run_rows.specs.Kinds as kinds
+use Rattle.run_rows.specs.Kinds.{Kind, kind_of}
+use Rattle.run_rows.specs.RunRequests.{accesses_by, accesses_of, bits_by, bits_of, calls_of, hash_perms, perms_by, perms_of, ranges_by, ranges_of}
+use Rattle.run_rows.specs.Turns.{respans}
+use Rattle.fill_requests.specs.Asked.{perms_as}
 use Rattle.event_kinds.proofs.LoopLemmas.{ended, step}
 
 pub bits-step : (events : List Event) (i : ℕ) (e : Event) (done more : List BitOp) → i < length events → e ≡ get_or events i e
@@ -63,3 +67,32 @@ pub perms-ended : (constants : List ℕ) (events : List Event) (i : ℕ) (done :
     → done ++ perms_of constants (drop i events) ≡ done
 unfolding perms_of
 perms-ended constants events i done past = ended (perms_of constants) refl events i done past
+
+perms-as : (constants : List ℕ) (kind : Kind) (e : Event) (batches : List (List ℕ)) (later : List Event)
+    → (kind ≡ kinds.Span → batches ≡ respans later) → perms_as kind constants e batches ≡ perms_by kind constants e later
+perms-as constants kinds.Ordinary e batches later known = refl
+perms-as constants kinds.Join e batches later known = refl
+perms-as constants kinds.Split e batches later known = refl
+perms-as constants kinds.Loop e batches later known = refl
+perms-as constants kinds.Span e batches later known = ap (λ (blocks : List (List ℕ)). hash_perms constants 0 (e.hash ∷ blocks)) (known refl)
+perms-as constants kinds.Call e batches later known = refl
+perms-as constants kinds.Syscall e batches later known = refl
+perms-as constants kinds.End e batches later known = refl
+perms-as constants kinds.Repeat e batches later known = refl
+perms-as constants kinds.Respan e batches later known = refl
+perms-as constants kinds.Halt e batches later known = refl
+
+-- what an event asks where its kind, its span's later batches and the constants are known
+pub perms-known : (constants state : List ℕ) (kind : Kind) (e : Event) (batches : List (List ℕ)) (later : List Event)
+    → state ≡ constants → kind ≡ kind_of e.op → (kind_of e.op ≡ kinds.Span → batches ≡ respans later)
+    → perms_as kind state e batches ≡ perms_by (kind_of e.op) constants e later
+perms-known constants state kind e batches later same is known =
+    ap₂ (λ (k : Kind) (xs : List ℕ). perms_as k xs e batches) is same ∙ perms-as constants (kind_of e.op) e batches later known
+
+-- requests whose lists are these
+pub all-asked : (perms perms' : List Perm) (bits bits' : List BitOp) (accesses accesses' : List Access) (ranges ranges' : List ℕ)
+    (calls calls' : List (List ℕ)) (keys keys' : List ℕ)
+    → perms ≡ perms' → bits ≡ bits' → accesses ≡ accesses' → ranges ≡ ranges' → calls ≡ calls' → keys ≡ keys'
+    → ◌≡◌ {A = Requests} (record { perms = perms; bits = bits; accesses = accesses; ranges = ranges; calls = calls; keys = keys })
+    (record { perms = perms'; bits = bits'; accesses = accesses'; ranges = ranges'; calls = calls'; keys = keys' })
+all-asked perms perms' bits bits' accesses accesses' ranges ranges' calls calls' keys keys' p b a r c k = cc

@@ -1,27 +1,15 @@
 ghost use Rattle.std.specs.Prelude.{◌≡◌, ◌++◌, IfOk, OnOk};
 ghost use Rattle.run_rows.specs.Limbs.{cell};
-ghost use Rattle.run_rows.specs.RunRequests.{bits_by, bits_of};
+ghost use Rattle.run_rows.specs.RunRequests.{bits_by};
 
 use crate::numbers::u32_of;
 use air_kit::BitOp;
 use processor::{Event, Visible};
-use std::alloc::Global;
 use vm_field::{Memory, Sequence};
 use vm_ops::Op;
 
-/// The bitwise operations of a run.
-pub fn bits_of(alloc: Global, events: &[Event]) -> Result<Sequence<BitOp>, Memory>
-    ensures { IfOk result (λ bits. bits ≡ bits_of events.now) }
-{
-    let mut bits = Sequence::new(alloc);
-    for i in 0..events.len() {
-        push_bits(&mut bits, &events[i])?;
-    }
-    Ok(bits)
-}
-
-// Those of an event.
-fn push_bits(bits: &mut Sequence<BitOp>, event: &Event) -> Result<(), Memory>
+// Adds the bitwise operations of an event.
+pub(crate) fn push_bits(bits: &mut Sequence<BitOp>, event: &Event) -> Result<(), Memory>
     ensures { OnOk result (bits.new ≡ bits.old ++ bits_by event.now.op event.now.before) }
 {
     match event.op {

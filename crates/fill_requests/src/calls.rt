@@ -1,27 +1,14 @@
-ghost use Rattle.std.specs.Prelude.{◌≡◌, ◌++◌, [], ◌∷◌, take, if◌then◌else◌, IfOk, OnOk};
+ghost use Rattle.std.specs.Prelude.{◌≡◌, ◌++◌, [], ◌∷◌, take, if◌then◌else◌, OnOk};
 ghost use Rattle.vm_ops.specs.declared.op.Op.TheVariants as ops;
 ghost use Rattle.air_kit.specs.Flags.{is_op};
-ghost use Rattle.run_rows.specs.RunRequests.{calls_of};
 
 use event_kinds::is_op;
 use processor::Event;
-use std::alloc::Global;
 use vm_field::{Felt, Memory, Word, Words};
 use vm_ops::Op;
 
-/// The digests that the syscalls of a run call.
-pub fn calls_of(alloc: Global, events: &[Event]) -> Result<Words, Memory>
-    ensures { IfOk result (λ calls. calls ≡ calls_of events.now) }
-{
-    let mut calls = Words::new(alloc);
-    for i in 0..events.len() {
-        push_call(&mut calls, &events[i])?;
-    }
-    Ok(calls)
-}
-
-// That of an event, if it is a syscall.
-fn push_call(calls: &mut Words, event: &Event) -> Result<(), Memory>
+// Adds the digest that an event calls, if it is a syscall.
+pub(crate) fn push_call(calls: &mut Words, event: &Event) -> Result<(), Memory>
     ensures { OnOk result (calls.new ≡ calls.old ++ (if is_op event.now.op ops.Syscall then take 4 event.now.hash ∷ [] else [])) }
 {
     if is_op(event.op, Op::Syscall) {

@@ -7,9 +7,6 @@ mod calls;
 mod numbers;
 mod perms;
 mod ranges;
+mod requests;
 
-pub use accesses::accesses_of;
-pub use bits::bits_of;
-pub use calls::calls_of;
-pub use perms::perms_of;
-pub use ranges::ranges_of;
+pub use requests::{no_requests, push_requests};

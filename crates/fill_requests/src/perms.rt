@@ -1,59 +1,32 @@
-ghost use Rattle.std.specs.Prelude.{◌≡◌, ◌++◌, [], ◌∷◌, false, reverse, take, IfOk, OnOk};
+ghost use Rattle.std.specs.Prelude.{◌≡◌, ◌++◌, [], ◌∷◌, false, reverse, take, OnOk};
 ghost use Rattle.vm_field.specs.Sponge.{begun};
 ghost use Rattle.vm_ops.specs.Codes.{code_of};
-ghost use Rattle.run_rows.specs.Turns.{respans};
 ghost use Rattle.event_kinds.specs.Kinds.{kind_in};
-ghost use Rattle.run_rows.specs.RunRequests.{hash_perms, perms_by, perms_by_op, perms_of};
+ghost use Rattle.run_rows.specs.RunRequests.{hash_perms, perms_by_op};
+ghost use Rattle.fill_requests.specs.Asked.{perms_as};
 
 use air_kit::Perm;
-use event_kinds::{Kind, events_behind, kind_of, respans};
+use event_kinds::Kind;
 use perm_memo::Permutations;
-use processor::{Event, Visible};
-use std::alloc::Global;
+use processor::Event;
 use vm_field::{Felt, Memory, Sequence};
 use vm_ops::{Op, opcode};
 
-/// The permutations of a run.
-pub fn perms_of(
-    alloc: Global,
-    permutations: &mut Permutations,
-    events: &[Event],
-) -> Result<Sequence<Perm>, Memory>
-    ensures perms { IfOk result (λ perms. perms ≡ perms_of permutations.old events.now) }
-    ensures same { permutations.new ≡ permutations.old }
-{
-    let mut perms = Sequence::new(alloc);
-    for i in 0..events.len() {
-        let event = &events[i];
-        let later = events_behind(events, i);
-        push_perms(
-            alloc,
-            permutations,
-            &mut perms,
-            kind_of(event.op),
-            event,
-            later,
-        )?;
-    }
-    Ok(perms)
-}
-
-// Those of an event of a kind before later ones.
+// Adds the permutations of an event of a kind, where its span has these later batches.
 #[tactic(auto, using(crate::proofs::ChainLemmas::one_block))]
-fn push_perms(
-    alloc: Global,
+pub(crate) fn push_perms(
     permutations: &mut Permutations,
     perms: &mut Sequence<Perm>,
     kind: Kind,
     event: &Event,
-    later: &[Event],
+    batches: &[[Felt; 8]],
 ) -> Result<(), Memory>
-    ensures perms { OnOk result (perms.new ≡ perms.old ++ perms_by (kind_in kind) permutations.old event.now later.now) }
+    ensures perms { OnOk result (perms.new ≡ perms.old ++ perms_as (kind_in kind) permutations.old event.now batches.now) }
     ensures same { permutations.new ≡ permutations.old }
 {
     match kind {
         Kind::Ordinary => push_operation(perms, event),
-        Kind::Span => push_span(alloc, permutations, perms, &event.hash, later),
+        Kind::Span => push_hash(permutations, perms, Felt::ZERO, &event.hash, batches),
         Kind::Join => push_block(perms, Op::Join, &event.hash),
         Kind::Split => push_block(perms, Op::Split, &event.hash),
         Kind::Loop => push_block(perms, Op::Loop, &event.hash),
@@ -87,21 +60,6 @@ fn turned(cells: &[Felt; 16]) -> [Felt; 12]
         cells[11], cells[10], cells[9], cells[8], cells[7], cells[6], cells[5], cells[4], cells[3],
         cells[2], cells[1], cells[0],
     ]
-}
-
-// Those of the hash of a span.
-fn push_span(
-    alloc: Global,
-    permutations: &mut Permutations,
-    perms: &mut Sequence<Perm>,
-    batch: &[Felt; 8],
-    later: &[Event],
-) -> Result<(), Memory>
-    ensures perms { OnOk result (perms.new ≡ perms.old ++ hash_perms permutations.old 0 (batch.now ∷ respans later.now)) }
-    ensures same { permutations.new ≡ permutations.old }
-{
-    let batches = respans(alloc, later)?;
-    push_hash(permutations, perms, Felt::ZERO, batch, batches.as_slice())
 }
 
 // That of the hash of another block.

@@ -1,53 +1,101 @@
-use Rattle.std.proofs.Common.{◌≡◌, ◌+◌, ◌++◌, [], drop, length, sym, ap, ◌∙◌, arith, slice_index, unwrap_or}
+use Rattle.std.proofs.Common.{◌≡◌, ℕ, ◌+◌, List, ◌++◌, [], drop, length, refl, sym, ap, ◌∙◌, arith, slice_index, unwrap_or}
+use Rattle.air_kit.specs.declared.requests.Perm.{Perm}
+use Rattle.air_kit.specs.declared.requests.Requests.{Requests}
+use Rattle.processor.specs.declared.event.Visible.{Visible}
 use Rattle.run_rows.specs.Decoder.{Decoder, decoder_after}
 use Rattle.run_rows.specs.Filling.{fill, row_of, seen_behind}
+use Rattle.run_rows.specs.RunRequests.{accesses_of, bits_of, calls_of, perms_of, ranges_by, ranges_of}
 use Rattle.run_rows.specs.Turns.{repeats, respans}
 use Rattle.event_kinds.specs.Kinds.{kind_in}
+use Rattle.fill_requests.proofs.RequestLemmas as ask
 use Rattle.fill_main.specs.Views.{decoder_in}
 use Rattle.fill_main.proofs.DecoderLemmas.{known}
 use Rattle.fill_main.proofs.FillLemmas.{decoder-end, decoder-step, rows-end, rows-step, turn-first, turns-here, turns-left, no-repeats, whole}
 use Rattle.fill_main.proofs.fill.fill.Goals as goal
 
 pub loop-i-init : goal.loop-i-init
-loop-i-init c = record {
-  rows =
-      ap (λ done. done ++ fill c.args.last.now (decoder_in c.new-decoder.result) c.args.events.now) (c.reserve.ensures ∙ c.new-table.ensures.empty)
-      ∙ ap (λ (d : Decoder). fill c.args.last.now d c.args.events.now) c.new-decoder.ensures;
-  after = ap (λ (d : Decoder). decoder_after d c.args.events.now) c.new-decoder.ensures;
-  turns = c.in_ok-turns.ensures;
-}
+loop-i-init c =
+    let constants = c.args.permutations.now in
+    let last = c.args.last.now in
+    let events = c.args.events.now in
+    let none = c.no_requests-requests.ensures in
+    record {
+      rows =
+          ap (λ done. done ++ fill last (decoder_in c.new-decoder.result) events) (c.reserve.ensures ∙ c.new-table.ensures.empty)
+          ∙ ap (λ (d : Decoder). fill last d events) c.new-decoder.ensures;
+      after = ap (λ (d : Decoder). decoder_after d events) c.new-decoder.ensures;
+      turns = c.in_ok-turns.ensures;
+      perms = ap (λ (r : Requests). r.perms ++ perms_of constants events) none;
+      bits = ap (λ (r : Requests). r.bits ++ bits_of events) none;
+      accesses = ap (λ (r : Requests). r.accesses ++ accesses_of events) none;
+      ranges = ap (λ (r : Requests). r.ranges ++ ranges_of last events) none;
+      calls = ap (λ (r : Requests). r.calls ++ calls_of events) none;
+      same = refl;
+    }
 
 pub loop-i-preserved : goal.loop-i-preserved
 loop-i-preserved c =
+    let constants = c.args.permutations.now in
+    let last = c.args.last.now in
     let events = c.args.events.now in
     let i = c.loop-i.i in
     let e = c.index-events-i.result in
+    let is = c.index-events-i.is in
     let later = drop (i + 1) events in
     let d = decoder_in c.loop-i.decoder in
-    let here = c.loop-i.invariant.turns ∙ turns-here events i e (omega arith) c.index-events-i.is in
+    let asked = c.loop-i.requests in
+    let added = c.in_ok-push_requests.ensures in
+    let invariant = c.loop-i.invariant in
+    let next = c.seen_behind-next.ensures ∙ ap (seen_behind last) c.events_behind-later.ensures in
+    let here = invariant.turns ∙ turns-here events i e (omega arith) is in
     let turn : c.unwrap_or-turn.result ≡ slice_index (repeats later) 0
     = turn-first c.loop-i.turns _ _ c.unwrap_or-turn.result here (c.unwrap_or-turn.ensures ∙ ap (λ o. unwrap_or o 0) c.pop.ensures.item) in
     let moved = c.in_ok-advance.ensures ∙ known e (kind_in c.kind_of-kind.result) d _ later c.kind_of-kind.ensures
-    (λ starts. c.in_ok-batches_of.ensures (c.kind_of-kind.ensures ∙ starts) ∙ ap (λ xs. length (respans xs)) c.events_behind-later.ensures) in
+    (λ starts. c.len.ensures.count ∙ ap (λ (xs : List (List ℕ)). length xs) (c.in_ok-batches.ensures (c.kind_of-kind.ensures ∙ starts))
+    ∙ ap (λ xs. length (respans xs)) c.events_behind-later.ensures) in
     record {
       rows =
-          rows-step c.args.last.now d _ events i e _ c.loop-i.table _ (omega arith) c.index-events-i.is
-          (c.in_ok-write_row.ensures later turn
-          ∙ ap (λ next. row_of d e next later) (c.seen_behind-next.ensures ∙ ap (seen_behind c.args.last.now) c.events_behind-later.ensures))
+          rows-step last d _ events i e _ c.loop-i.table _ (omega arith) is
+          (c.in_ok-write_row.ensures later turn ∙ ap (λ seen. row_of d e seen later) next)
           c.in_ok-push_row.ensures.ok moved
-          ∙ c.loop-i.invariant.rows;
-      after = decoder-step d _ events i e (omega arith) c.index-events-i.is moved ∙ c.loop-i.invariant.after;
+          ∙ invariant.rows;
+      after = decoder-step d _ events i e (omega arith) is moved ∙ invariant.after;
       turns = turns-left c.loop-i.turns _ _ _ here c.pop.ensures.left;
+      perms =
+          ask.perms-step constants events i e asked.perms _ (omega arith) is
+          (added.perms ∙ ap (λ (more : List Perm). asked.perms ++ more)
+          (ask.perms-known constants c.loop-i.permutations (kind_in c.kind_of-kind.result) e _ later invariant.same c.kind_of-kind.ensures
+          (λ starts. c.as_slice.ensures.items ∙ c.in_ok-batches.ensures (c.kind_of-kind.ensures ∙ starts) ∙ ap respans c.events_behind-later.ensures)))
+          ∙ invariant.perms;
+      bits = ask.bits-step events i e asked.bits _ (omega arith) is added.bits ∙ invariant.bits;
+      accesses = ask.accesses-step events i e asked.accesses _ (omega arith) is added.accesses ∙ invariant.accesses;
+      ranges =
+          ask.ranges-step last events i e asked.ranges _ (omega arith) is
+          (added.ranges ∙ ap (λ (seen : Visible). asked.ranges ++ ranges_by e seen) next)
+          ∙ invariant.ranges;
+      calls = ask.calls-step events i e asked.calls _ (omega arith) is added.calls ∙ invariant.calls;
+      same = c.push_requests.ensures.same ∙ invariant.same;
     }
 
 pub returns : goal.returns
 returns c =
+    let constants = c.args.permutations.now in
+    let last = c.args.last.now in
     let events = c.args.events.now in
+    let i = c.loop-i.i in
+    let asked = c.loop-i.requests in
+    let invariant = c.loop-i.invariant in
     let d = decoder_in c.loop-i.decoder in
-    let row = c.in_ok-write_row-2.ensures [] no-repeats ∙ ap (λ e. row_of d e c.args.last.now []) c.halted.ensures in
+    let row = c.in_ok-write_row-2.ensures [] no-repeats ∙ ap (λ e. row_of d e last []) c.halted.ensures in
     record {
-      rows =
-          rows-end c.args.last.now d events c.loop-i.i _ c.loop-i.table _ (omega arith) row c.in_ok-push_row-2.ensures.ok
-          ∙ c.loop-i.invariant.rows ∙ sym (whole c.args.last.now events);
-      keys = ap (λ (b : Decoder). b.keys) (decoder-end d events c.loop-i.i (omega arith) ∙ c.loop-i.invariant.after);
+      rows = rows-end last d events i _ c.loop-i.table _ (omega arith) row c.in_ok-push_row-2.ensures.ok ∙ invariant.rows ∙ sym (whole last events);
+      requests =
+          ask.all-asked _ _ _ _ _ _ _ _ _ _ _ _
+          (sym (ask.perms-ended constants events i asked.perms (omega arith)) ∙ invariant.perms)
+          (sym (ask.bits-ended events i asked.bits (omega arith)) ∙ invariant.bits)
+          (sym (ask.accesses-ended events i asked.accesses (omega arith)) ∙ invariant.accesses)
+          (sym (ask.ranges-ended last events i asked.ranges (omega arith)) ∙ invariant.ranges)
+          (sym (ask.calls-ended events i asked.calls (omega arith)) ∙ invariant.calls)
+          (c.into_elements.ensures ∙ ap (λ (b : Decoder). b.keys) (decoder-end d events i (omega arith) ∙ invariant.after));
+      same = invariant.same;
     }
