@@ -42,7 +42,6 @@ pub fn load<F: Shelf>(alloc: Global, shelf: &mut F, name: &str, most: u64) -> Re
 }
 
 /// Reads a file as `load` does, for a taker that has taken nothing yet.
-#[tactic(auto, using(crate::proofs::ServingLemmas::goes_past_taken))]
 pub fn load_pieces<F: Shelf, T: Taker>(
     alloc: Global,
     shelf: &mut F,

@@ -2,10 +2,16 @@ use Rattle.command_ends.proofs.ServingLemmas.{missing_ends, too_long_ends, read_
 use Rattle.command_ends.proofs.loading.unread.Goals as goal
 
 pub returns-in-Missing : goal.returns-in-Missing
-returns-in-Missing c = λ old new most next step. missing_ends _ _ next _ _ _ step.0 step.1 c.named_answer.ensures
+returns-in-Missing c = λ old new most next step.
+    let h = rw c.in-Missing.is at step in
+    missing_ends _ _ next _ _ _ h.0 h.1 c.named_answer.ensures
 
 pub returns-in-TooLong : goal.returns-in-TooLong
-returns-in-TooLong c = λ old new most next step. too_long_ends _ _ next _ _ _ step.0 step.1 c.named_answer-in-TooLong.ensures
+returns-in-TooLong c = λ old new most next step.
+    let h = rw c.in-TooLong.is at step in
+    too_long_ends _ _ next _ _ _ h.0 h.1 c.named_answer-in-TooLong.ensures
 
 pub returns-in-Failed : goal.returns-in-Failed
-returns-in-Failed c = λ old new most next step. read_fault_ends _ _ next _ _ _ c.requires step c.named_answer-in-Failed.ensures
+returns-in-Failed c = λ old new most next step.
+    let h = rw c.in-Failed.is at step in
+    read_fault_ends _ _ next _ _ _ c.requires h c.named_answer-in-Failed.ensures
