@@ -1,5 +1,5 @@
 -- What `check` finds of a trace decides how its steps go on.
-use Rattle.std.proofs.Common.{◌≡◌, [], ◌∷◌, ℕ, Bool, true, List, codes, Option, Some, refl, subst, sym}
+use Rattle.std.proofs.Common.{◌≡◌, ℕ, List, Some, refl, subst, sym}
 use Rattle.rpo_hash.specs.Constants.{constants_of}
 use Rattle.block_tree.specs.declared.evidence.Evidence.{Evidence}
 use Rattle.statement.specs.Statements.{claim_of}
