@@ -45,7 +45,7 @@ use run_files::{statement_file_of_run, trace_of_run};
 use statement::{read_inputs, read_statement};
 use std::time::Instant;
 use std::{env, fs};
-use table_file::{TablePieces, TableReader};
+use table_file::{TablePieces, TableReader, decode};
 use vm_io::{FolderShelf, OpenGate, Shelf};
 
 // The microseconds since the last lap.
@@ -53,6 +53,22 @@ fn lap(rt: &HostRuntime, start: &mut Instant) -> anyhow::Result<u128> {
     let micros = start.elapsed(rt)?.as_micros();
     *start = Instant::now(rt)?;
     Ok(micros)
+}
+
+// How long the table file takes to read as its bytes come.
+fn time_reading(
+    rt: &HostRuntime,
+    shelf: &mut FolderShelf<'_, HostRuntime>,
+) -> anyhow::Result<Option<u128>> {
+    let mut start = Instant::now(rt)?;
+    let mut reader = TableReader::new(rt.alloc());
+    if shelf.read_pieces("crates.table", 1073741824, &mut reader).is_err() {
+        return Ok(None);
+    }
+    if reader.finish().is_err() {
+        return Ok(None);
+    }
+    Ok(Some(lap(rt, &mut start)?))
 }
 
 fn time(
@@ -104,16 +120,19 @@ fn time(
     let writing = lap(rt, &mut start)?;
     drop(trace);
     start = Instant::now(rt)?;
-    let mut reader = TableReader::new(alloc);
-    if shelf.read_pieces("crates.table", 1073741824, &mut reader).is_err() {
+    let Some(reading) = time_reading(rt, &mut shelf)? else {
         println!(rt; "no table file")?;
         return Ok(());
-    }
-    let Ok(trace) = reader.finish() else {
+    };
+    let Ok(bytes) = shelf.read(alloc, "crates.table", 1073741824) else {
+        println!(rt; "no table file")?;
+        return Ok(());
+    };
+    let Ok(trace) = decode(alloc, bytes.as_slice()) else {
         println!(rt; "no trace")?;
         return Ok(());
     };
-    let reading = lap(rt, &mut start)?;
+    drop(bytes);
     let public = Public { params: *params, statement };
     start = Instant::now(rt)?;
     if check_rows(&trace, &public, 1, &OpenGate).is_some() {
