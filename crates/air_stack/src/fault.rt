@@ -26,6 +26,15 @@ pub fn first_fault_seen<V: MainView>(place: &Place<'_, V>, x: &Seen<'_, V>) -> O
     if is_moved(x, &place.next) {
         return operand_fault(x, &place.next);
     }
+    fault_by_entries(place, x)
+}
+
+// The same entry by entry. It stands apart, so that the rows that pass the quick test pay nothing for it.
+#[inline(never)]
+fn fault_by_entries<V: MainView>(place: &Place<'_, V>, x: &Seen<'_, V>) -> Option<(u16, Felt)>
+    requires { x.now.row.now ≡ place.now.cur }
+    ensures { result ≡ first_fault_of 115 (stack_values (spot_at V.cells place.now)) }
+{
     let depth = depth_fault(x, &place.next);
     let cells = cell_fault(x, &place.next);
     let operands = operand_fault(x, &place.next);

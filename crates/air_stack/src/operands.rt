@@ -4,19 +4,27 @@ ghost use Rattle.air_kit.specs.Places.{between, first_fault_of};
 ghost use Rattle.air_kit.specs.StackValues.{entry_135, entry_136, entry_137, entry_138, entry_139, operand_values};
 ghost use Rattle.air_stack.specs.Parts.{has_operands, HasNoOperands, spot_of};
 
-use air_kit::{Seen, first_nonzero};
+use air_kit::{Seen, first_nonzero, under};
 use vm_field::Felt;
-use vm_ops::Op;
+use vm_ops::{Op, opcode};
 use vm_table::MainView;
 
 /// The first of the entries 135 to 139, of what operands must be, that is not 0.
-#[tactic(auto, unfolding(air_kit::specs::StackValues::operand_values))]
 pub(crate) fn operand_fault<V: MainView>(x: &Seen<'_, V>, next: &Option<V>) -> Option<(u16, Felt)>
     ensures { result ≡ first_fault_of 135 (operand_values (spot_of (V.cells x.now.row.now) (option_map V.cells next.now))) }
 {
     if lacks_operands(x) {
         return None;
     }
+    tested_fault(x, next)
+}
+
+// The same by its five values. It stands apart, so that the rows of other operations pay nothing for it.
+#[inline(never)]
+#[tactic(auto, unfolding(air_kit::specs::StackValues::operand_values))]
+fn tested_fault<V: MainView>(x: &Seen<'_, V>, next: &Option<V>) -> Option<(u16, Felt)>
+    ensures { result ≡ first_fault_of 135 (operand_values (spot_of (V.cells x.now.row.now) (option_map V.cells next.now))) }
+{
     let values = [
         entry_135(x, next),
         entry_136(x, next),
@@ -37,8 +45,15 @@ fn lacks_operands<V: MainView>(x: &Seen<'_, V>) -> bool
     }
 }
 
-// The operations whose operands are tested.
+// The operations whose operands are tested. The code of none is above CSWAPW's; with that said, the others take one comparison
+// and a test of bits, and no jump by the operation.
 fn has_operands(op: Op) -> bool
+    ensures { result ≡ has_operands op }
+{
+    opcode(op) <= opcode(Op::CSwapW) && is_tested(op)
+}
+
+fn is_tested(op: Op) -> bool
     ensures { result ≡ has_operands op }
 {
     matches!(
@@ -55,7 +70,7 @@ fn entry_135<V: MainView>(x: &Seen<'_, V>, next: &Option<V>) -> Felt
     let Some(y) = next else {
         return Felt::ZERO;
     };
-    x.one(Op::Eqz) * x.row.s0() * y.s0()
+    under(under(x.one(Op::Eqz), x.row.s0()), y.s0())
 }
 
 // EQ leaves 0 where the cells differ.
@@ -66,7 +81,7 @@ fn entry_136<V: MainView>(x: &Seen<'_, V>, next: &Option<V>) -> Felt
     let Some(y) = next else {
         return Felt::ZERO;
     };
-    x.one(Op::Eq) * (x.row.s0() - x.row.s1()) * y.s0()
+    under(under(x.one(Op::Eq), x.row.s0() - x.row.s1()), y.s0())
 }
 
 // The operand is 0 or 1,
@@ -79,7 +94,7 @@ fn entry_137<V: MainView>(x: &Seen<'_, V>) -> Felt
         + x.one(Op::Or)
         + x.one(Op::CSwap)
         + x.one(Op::CSwapW);
-    binary * x.row.s0() * (x.row.s0() - Felt::ONE)
+    under(under(binary, x.row.s0()), x.row.s0() - Felt::ONE)
 }
 
 // and so is the second one.
@@ -87,7 +102,8 @@ fn entry_137<V: MainView>(x: &Seen<'_, V>) -> Felt
 fn entry_138<V: MainView>(x: &Seen<'_, V>) -> Felt
     ensures { result ≡ entry_138 (flag (V.cells x.now.row.now)) (V.cells x.now.row.now) }
 {
-    (x.one(Op::And) + x.one(Op::Or)) * x.row.s1() * (x.row.s1() - Felt::ONE)
+    let both = x.one(Op::And) + x.one(Op::Or);
+    under(under(both, x.row.s1()), x.row.s1() - Felt::ONE)
 }
 
 // What is asserted is 1.
@@ -95,5 +111,5 @@ fn entry_138<V: MainView>(x: &Seen<'_, V>) -> Felt
 fn entry_139<V: MainView>(x: &Seen<'_, V>) -> Felt
     ensures { result ≡ entry_139 (flag (V.cells x.now.row.now)) (V.cells x.now.row.now) }
 {
-    x.one(Op::Assert) * (x.row.s0() - Felt::ONE)
+    under(x.one(Op::Assert), x.row.s0() - Felt::ONE)
 }

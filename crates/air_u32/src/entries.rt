@@ -7,7 +7,7 @@ ghost use Rattle.air_u32.specs.Limbs.{has_limbs, HasNoLimbs};
 
 use air_kit::{Place, Seen, first_nonzero};
 use vm_field::Felt;
-use vm_ops::Op;
+use vm_ops::{Op, opcode};
 use vm_table::MainView;
 
 /// The first of the entries 140 to 147 that is not 0 at a place, with its value.
@@ -18,7 +18,6 @@ pub fn first_fault<V: MainView>(place: &Place<'_, V>) -> Option<(u16, Felt)>
 }
 
 /// The same, where the place's row is decoded already.
-#[tactic(auto, unfolding(air_kit::specs::U32Values::u32_values))]
 pub fn first_fault_seen<V: MainView>(place: &Place<'_, V>, x: &Seen<'_, V>) -> Option<(u16, Felt)>
     requires { x.now.row.now ≡ place.now.cur }
     ensures { result ≡ first_fault_of 140 (u32_values (spot_at V.cells place.now)) }
@@ -26,6 +25,16 @@ pub fn first_fault_seen<V: MainView>(place: &Place<'_, V>, x: &Seen<'_, V>) -> O
     if lacks_limbs(x) {
         return None;
     }
+    limb_fault(place, x)
+}
+
+// The same by its eight values. It stands apart, so that the rows of other operations pay nothing for it.
+#[inline(never)]
+#[tactic(auto, unfolding(air_kit::specs::U32Values::u32_values))]
+fn limb_fault<V: MainView>(place: &Place<'_, V>, x: &Seen<'_, V>) -> Option<(u16, Felt)>
+    requires { x.now.row.now ≡ place.now.cur }
+    ensures { result ≡ first_fault_of 140 (u32_values (spot_at V.cells place.now)) }
+{
     let values = [
         entry_140(x),
         entry_141(x),
@@ -49,8 +58,15 @@ fn lacks_limbs<V: MainView>(x: &Seen<'_, V>) -> bool
     }
 }
 
-// The operations with limbs.
+// The operations with limbs. The code of none is above U32SPLIT's; with that said, the others take one comparison and a test of
+// bits, and no jump by the operation.
 fn has_limbs(op: Op) -> bool
+    ensures { result ≡ has_limbs op }
+{
+    opcode(op) <= opcode(Op::U32Split) && is_with_limbs(op)
+}
+
+fn is_with_limbs(op: Op) -> bool
     ensures { result ≡ has_limbs op }
 {
     matches!(
