@@ -12,7 +12,7 @@ use Rattle.air_kit.specs.Places.{first_fault_of}
 use Rattle.air_kit.specs.BlockValues.{starts, batches, calls, returns, kind_flags, entry_60, entry_61, entry_62, entry_63, entry_64, entry_65, entry_66, entry_67, entry_68, entry_69, entry_70, entry_74, entry_89, entry_90, entry_91, follow_values, kept_values, block_values}
 use Rattle.air_kit.proofs.FlagLemmas.{at_op, flags_of-hot}
 use Rattle.air_kit.proofs.ZeroLemmas.{Zeros}
-use Rattle.air_decoder.specs.Entries.{of_pair, of_row, spot_of}
+use Rattle.air_blocks.specs.Entries.{of_pair, of_row, spot_of}
 use Rattle.air_decoder.specs.Quick.{HasKind, IsBehindEnd, IsEnd, IsOpening, IsRepeat}
 use Rattle.air_decoder.specs.Quick.IsBehindEnd.{returned, kept}
 use Rattle.air_decoder.proofs.QuickLemmas.{FrameZero, block_clean, frame_free, frame_zeros, kept_list, no_kinds, shown_zeros}

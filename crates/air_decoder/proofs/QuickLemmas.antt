@@ -20,7 +20,7 @@ use Rattle.air_kit.specs.SpanValues.{opcode_in, rest, rest_flag, goes_on, entry_
 use Rattle.air_kit.proofs.FlagLemmas.{at_op, flag_apart, flags_of-hot, sum_of-hot}
 use Rattle.air_kit.proofs.FaultLemmas.{first_append}
 use Rattle.air_kit.proofs.ZeroLemmas.{Zeros, no_fault, bit_zero}
-use Rattle.air_decoder.specs.Entries.{of_pair, of_row, spot_of}
+use Rattle.air_blocks.specs.Entries.{of_pair, of_row, spot_of}
 use Rattle.air_decoder.specs.Quick.{HasNoBatch, IsClean, IsFirstBatch, IsFrame, IsNextBatch, IsGoingOn, IsInner, IsOutside, IsOver, IsPlain, IsStep}
 use Rattle.air_decoder.specs.Quick.IsOver.{opens, ends}
 use Rattle.air_decoder.proofs.FaultLemmas.{decoder_joined}

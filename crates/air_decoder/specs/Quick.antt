@@ -10,7 +10,7 @@ use Rattle.air_kit.specs.Places.{first_fault_of}
 use Rattle.air_kit.specs.OpcodeValues.{opcode_values}
 use Rattle.air_kit.specs.BlockValues.{block_values, starts}
 use Rattle.air_kit.specs.SpanValues.{span_values}
-use Rattle.air_decoder.specs.Entries.{spot_of}
+use Rattle.air_blocks.specs.Entries.{spot_of}
 
 -- an ordinary operation but CALLER and FMPUPDATE, which have entries of their own
 pub record IsPlain (op : Op) : Type 0 where

@@ -3,11 +3,9 @@ ghost use Rattle.air_kit.specs.MainValues.{decoder_values};
 ghost use Rattle.air_kit.specs.Places.{first_fault_of};
 ghost use Rattle.air_kit.specs.Rows.{claim_at, spot_at};
 
-use crate::blocks::block_faults;
-use crate::boundary::boundary_faults;
-use crate::opcode::opcode_faults;
 use crate::quick::is_inner;
 use crate::spans::span_faults;
+use air_blocks::{block_faults, boundary_faults, opcode_faults};
 use air_kit::{Place, Seen, or_next};
 use vm_field::Felt;
 use vm_table::MainView;
@@ -27,6 +25,15 @@ pub fn first_fault_seen<V: MainView>(place: &Place<'_, V>, x: &Seen<'_, V>) -> O
     if is_inner(place.row, x, &place.next) {
         return None;
     }
+    fault_by_entries(place, x)
+}
+
+// The same entry by entry. It stands apart, so that the rows that pass the quick test pay nothing for it.
+#[inline(never)]
+fn fault_by_entries<V: MainView>(place: &Place<'_, V>, x: &Seen<'_, V>) -> Option<(u16, Felt)>
+    requires { x.now.row.now ≡ place.now.cur }
+    ensures { result ≡ first_fault_of 1 (decoder_values (claim_at place.now) (spot_at V.cells place.now)) }
+{
     let next = seen_next(&place.next);
     let opcode = opcode_faults(place.row, x, &next);
     let boundary = boundary_faults(place, x);

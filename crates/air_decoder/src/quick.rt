@@ -8,11 +8,11 @@ ghost use Rattle.air_kit.specs.Flags.{HasOp, flag};
 ghost use Rattle.air_kit.specs.Places.{first_fault_of};
 ghost use Rattle.air_kit.specs.BlockValues.{block_values, starts};
 ghost use Rattle.air_kit.specs.SpanValues.{batch_values, group_values, rest};
-ghost use Rattle.air_decoder.specs.Entries.{spot_of};
+ghost use Rattle.air_blocks.specs.Entries.{spot_of};
 ghost use Rattle.air_decoder.specs.Quick.{HasKind, IsBehindEnd, IsClean, IsEnd, IsFirstBatch, HasNoBatch, IsFrame, IsGoingOn, IsInner, IsKept, IsNextBatch, IsOpening, IsOutside, IsOver, IsPlain, IsRepeat, IsStep};
 
-use crate::blocks::{block_faults, starts};
 use crate::spans::batch_faults;
+use air_blocks::{block_faults, starts};
 use air_kit::{Seen, are_same, is_one, is_zero, under};
 use vm_field::Felt;
 use vm_ops::{Op, opcode};

@@ -3,9 +3,9 @@ ghost use Rattle.std.specs.Prelude.{◌≡◌, ◌<◌, option_map};
 ghost use Rattle.air_kit.specs.SpanValues.{opcode_in, rest, rest_flag, goes_on, size_flags, unused, entry_92, entry_95, entry_96, entry_103, entry_104, entry_105, entry_106, entry_107, entry_108, entry_109, entry_110, entry_111, entry_112, entry_113, entry_114, batch_values, group_values, span_values};
 ghost use Rattle.air_kit.specs.Flags.{flag};
 ghost use Rattle.air_kit.specs.Places.{first_fault_of};
-ghost use Rattle.air_decoder.specs.Entries.{of_row, of_pair, spot_of};
+ghost use Rattle.air_blocks.specs.Entries.{of_row, of_pair, spot_of};
 
-use crate::blocks::batches;
+use air_blocks::batches;
 use air_kit::{Seen, first_nonzero, or_next, under};
 use vm_field::Felt;
 use vm_ops::Op;

@@ -7,7 +7,5 @@ mod fault;
 mod moves;
 mod operands;
 mod quick;
-#[cfg(test)]
-mod tests;
 
 pub use fault::{first_fault, first_fault_seen};

@@ -4,6 +4,8 @@
 #[cfg(test)]
 mod cases;
 #[cfg(test)]
+mod first_faults;
+#[cfg(test)]
 mod making;
 #[cfg(test)]
 mod programs;

@@ -1,4 +1,3 @@
-pub mod RowLemmas
 pub mod CountLemmas
 pub mod CountingLemmas
 pub mod ApartLemmas

@@ -1,4 +1,2 @@
-pub mod Settings
-pub mod Answers
 pub mod Counting
 pub mod Refusals

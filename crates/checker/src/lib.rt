@@ -5,12 +5,8 @@ mod checking;
 mod counting;
 mod counts;
 mod refusal;
-mod rows;
-mod setting;
-#[cfg(test)]
-mod tests;
 
 pub use checking::{Valid, check};
 pub use counts::has_counts;
 pub use refusal::Refused;
-pub use rows::check_rows;
+pub use row_checks::check_rows;

@@ -1,6 +1,6 @@
 -- What a read command asks for.
 use Rattle.std.specs.Prelude.{◌≤◌, length, option_map, IfSome}
-use Rattle.source_commands.specs.Naming.{AreNamed, outputs_from}
+use Rattle.run_command.specs.Naming.{AreNamed, outputs_from}
 use Rattle.miden_app.specs.declared.words.Command.{Command}
 use Rattle.miden_app.specs.declared.words.Command.TheVariants as command
 use Rattle.commands.specs.Asked.{Asked, nothing, hash, assemble, run, check}

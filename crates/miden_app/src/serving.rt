@@ -7,10 +7,11 @@ ghost use Rattle.commands.specs.Serving.{Serves};
 
 use crate::hash::hash_files;
 use crate::words::{Command, command_of};
+use assemble_command::assemble_files;
 use check_command::{CheckNames, check_files};
 use command_ends::{Outcome, answered};
 use commands::Status;
-use source_commands::{RunOptions, assemble_files, run_source_files};
+use run_command::{RunOptions, run_source_files};
 use std::alloc::Global;
 use vm_field::Bytes;
 use vm_io::{Gate, Shelf, Sink, SinkStop};

@@ -4,11 +4,11 @@ ghost use Rattle.std.specs.List.{list_any};
 ghost use Rattle.std.specs.Str.{bytes_eq};
 ghost use Rattle.command_words.specs.Words.{texts};
 ghost use Rattle.commands.specs.Asked.{nothing, hash, assemble, check, check_words, check_of_names, is_apart, hash_words, hash_of_names, assemble_words, assemble_of_names, run, run_words, run_of_names, run_apart, given_name, outputs_in, limit_in, asked};
-ghost use Rattle.source_commands.specs.Naming.{AreNamed, outputs_from};
+ghost use Rattle.run_command.specs.Naming.{AreNamed, outputs_from};
 ghost use Rattle.miden_app.specs.Asking.{asks, IsNamed};
 
 use command_words::{is_form, name_at, optional_name, optional_number};
-use source_commands::Outputs;
+use run_command::Outputs;
 
 /// What the words after the program's name ask for.
 pub enum Command<'a> {
