@@ -10,7 +10,7 @@ work=$(mktemp -d)
 trap 'rm -rf "$work"' EXIT
 # shellcheck source=bench/crates.sh
 . "$top/bench/crates.sh"
-libraries='masm_link masm_lex block_tree op_pack rpo_hash vm_io vm_field'
+libraries='masm_link masm_lex block_tree op_pack rpo_hash host_io vm_io vm_field'
 # shellcheck disable=SC2086
 copy_crates $libraries
 mkdir -p "$work/crates/bench_assemble/src"
@@ -20,6 +20,7 @@ cat >"$work/crates/bench_assemble/src/main.rt" <<'END'
 #![tactic(auto)]
 
 use block_tree::Tree;
+use host_io::FolderShelf;
 use masm_lex::MAX_SOURCE;
 use masm_link::{AsmError, assemble};
 use op_pack::Batches;
@@ -27,7 +28,7 @@ use rpo_hash::Params;
 use std::time::Instant;
 use std::{env, io};
 use vm_field::{Bytes, Felt};
-use vm_io::{FolderShelf, Shelf};
+use vm_io::Shelf;
 
 const NO_CONSTANTS: Params = Params {
     first: [[Felt::ZERO; 12]; 7],

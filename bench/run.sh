@@ -42,7 +42,7 @@ if [ "$1" != crates ]; then
 fi
 # shellcheck source=bench/crates.sh
 . "$top/bench/crates.sh"
-libraries='masm_link masm_lex processor block_tree perm_memo rpo_hash vm_io vm_state vm_field'
+libraries='masm_link masm_lex processor cycle_events block_tree perm_memo rpo_hash host_io vm_io vm_state vm_field'
 # shellcheck disable=SC2086
 copy_crates $libraries
 mkdir -p "$work/crates/bench_run/src"
@@ -51,6 +51,7 @@ cat >"$work/crates/bench_run/src/main.rt" <<'END'
 //! Assembles and executes a source.
 #![tactic(auto)]
 
+use host_io::FolderShelf;
 use masm_lex::MAX_SOURCE;
 use masm_link::assemble;
 use processor::execute;
@@ -58,7 +59,7 @@ use rpo_hash::Params;
 use std::alloc::Global;
 use std::{env, io};
 use vm_field::{Bytes, Felt, Felts};
-use vm_io::{FolderShelf, Shelf};
+use vm_io::Shelf;
 use vm_state::Inputs;
 
 fn constants(from: u64) -> [[Felt; 12]; 7] {

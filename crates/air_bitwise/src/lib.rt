@@ -5,7 +5,5 @@
 mod fault;
 mod nibbles;
 mod steps;
-#[cfg(test)]
-mod tests;
 
 pub use fault::first_fault;

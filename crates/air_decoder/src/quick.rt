@@ -1,5 +1,5 @@
-//! A quick test of rows: only a few of their entries can be other than 0 inside a span and at the start of a batch, and at other
-//! rows of blocks those of batches and groups cannot.
+//! A quick test of rows: only a few of their entries can be other than 0 inside a span and at the
+//! start of a batch, and at other rows of blocks those of batches and groups cannot.
 ghost use Rattle.std.specs.Prelude.{◌≡◌, ◌<◌, IsTrue, Some, None, option_map};
 ghost use Rattle.vm_field.specs.Signs.{◌⊞◌, ◌⊟◌, ◌⊠◌};
 ghost use Rattle.vm_ops.specs.declared.op.Op.TheVariants as ops;
@@ -15,11 +15,11 @@ use crate::spans::batch_faults;
 use air_blocks::{block_faults, starts};
 use air_kit::{Seen, are_same, is_one, is_zero, under};
 use vm_field::Felt;
-use vm_ops::{Op, opcode};
+use vm_ops::{Op, is_ordinary, opcode};
 use vm_table::MainView;
 
-/// Whether a row is neither the first nor the last one, shows an operation, and its entries 1 to 114 are 0. Where the answer is
-/// false, they may be 0 all the same.
+/// Whether a row is neither the first nor the last one, shows an operation, and its entries 1 to 114
+/// are 0. Where the answer is false, they may be 0 all the same.
 pub(crate) fn is_inner<V: MainView>(row: u32, x: &Seen<'_, V>, next: &Option<V>) -> bool
     ensures { IsTrue result → IsInner row (V.cells x.now.row.now) (option_map V.cells next.now) }
 {
@@ -50,8 +50,7 @@ fn is_clean<V: MainView>(x: &Seen<'_, V>, y: &V) -> bool
 fn is_plain(op: Op) -> bool
     ensures { IsTrue result → IsPlain op }
 {
-    let code = opcode(op);
-    code < 70 && code != 9 && code != 49
+    is_ordinary(op) && opcode(op) != opcode(Op::Caller) && opcode(op) != opcode(Op::FmpUpdate)
 }
 
 fn is_frame<V: MainView>(x: &V, y: &V) -> bool
@@ -114,12 +113,12 @@ fn is_batch_clean<V: MainView>(x: &Seen<'_, V>, y: &V, op: Op) -> bool
     ensures { IsTrue result → IsClean (V.cells x.now.row.now) (V.cells y.now) }
 {
     let code = opcode(op);
-    if code == 73 {
+    if code == opcode(Op::Span) {
         if is_first_batch(x.row, y) {
             return has_batch(x, y);
         }
     }
-    if code == 78 {
+    if code == opcode(Op::Respan) {
         if is_next_batch(x.row, y) {
             return has_batch(x, y);
         }
@@ -132,7 +131,7 @@ fn has_no_batch(op: Op) -> bool
     ensures { IsTrue result → HasNoBatch op }
 {
     let code = opcode(op);
-    code != 73 && code != 78
+    code != opcode(Op::Span) && code != opcode(Op::Respan)
 }
 
 fn is_outside<V: MainView>(x: &V, y: &V) -> bool
@@ -234,19 +233,19 @@ fn has_block<V: MainView>(x: &Seen<'_, V>, y: &V, op: Op) -> bool
     ensures { IsTrue result → first_fault_of 60 (block_values (spot_of 0 (V.cells x.now.row.now) (Some (V.cells y.now)))) ≡ None }
 {
     let code = opcode(op);
-    if code == 76 {
+    if code == opcode(Op::End) {
         return is_end(x.row, y);
     }
-    if code == 70 {
+    if code == opcode(Op::Join) {
         return is_opening(x.row, y);
     }
-    if code == 71 {
+    if code == opcode(Op::Split) {
         if is_bit(x.row.s0()) {
             return is_opening(x.row, y);
         }
         return false;
     }
-    if code == 77 {
+    if code == opcode(Op::Repeat) {
         return is_repeat(x.row, y);
     }
     let next = Some(Seen::of(y));
@@ -268,7 +267,8 @@ fn is_block_clean<V: MainView>(x: &Seen<'_, V>, y: &V, op: Op) -> bool
     false
 }
 
-// Whether the row behind one of a span may follow it. An operation of a span has bit 3 or bit 6 at 0, END and RESPAN have not.
+// Whether the row behind one of a span may follow it. An operation of a span has bit 3 or bit 6 at 0,
+// END and RESPAN have not.
 fn may_follow<V: MainView>(y: &V) -> bool
     ensures { IsTrue result → 1 ⊟ sp (V.cells y.now) ⊟ flag (V.cells y.now) ops.End ⊟ flag (V.cells y.now) ops.Respan ≡ 0 }
 {

@@ -6,7 +6,5 @@ mod fault;
 mod flags;
 mod placed;
 mod round;
-#[cfg(test)]
-mod tests;
 
 pub use fault::first_fault;

@@ -4,8 +4,6 @@
 
 mod kernel;
 mod range;
-#[cfg(test)]
-mod tests;
 
 pub use kernel::first_fault_kernel;
 pub use range::first_fault_range;

@@ -5,8 +5,6 @@
 mod access;
 mod fault;
 mod placed;
-#[cfg(test)]
-mod tests;
 mod word;
 
 pub use fault::first_fault;

@@ -17,8 +17,8 @@ use vm_field::Felt;
 use vm_ops::{Op, Shift, leaves, opcode, shift, sources};
 use vm_table::MainView;
 
-/// Whether a row is not the last one, its operation does not call, and its entries 115 to 134 are 0. Where the answer is false,
-/// they may be 0 all the same.
+/// Whether a row is not the last one, its operation does not call, and its entries 115 to 134 are 0.
+/// Where the answer is false, they may be 0 all the same.
 pub(crate) fn is_moved<V: MainView>(x: &Seen<'_, V>, next: &Option<V>) -> bool
     ensures { IsTrue result → IsMoved (V.cells x.now.row.now) (option_map V.cells next.now) }
 {
@@ -35,7 +35,7 @@ pub(crate) fn is_moved<V: MainView>(x: &Seen<'_, V>, next: &Option<V>) -> bool
         }
         return false;
     }
-    if opcode(op) == 76 {
+    if opcode(op) == opcode(Op::End) {
         return is_end_clean(x.row, y, op, deep);
     }
     false
@@ -45,7 +45,7 @@ fn is_steady(op: Op) -> bool
     ensures { IsTrue result → IsSteady op }
 {
     let code = opcode(op);
-    code != 76 && code != 74 && code != 75
+    code != opcode(Op::End) && code != opcode(Op::Call) && code != opcode(Op::Syscall)
 }
 
 fn falls<V: MainView>(x: &V, y: &V, deep: Felt) -> bool
@@ -218,7 +218,8 @@ fn ends_loop<V: MainView>(x: &V, y: &V, deep: Felt) -> bool
     falls(x, y, deep) && is_zero(under(Felt::ONE - deep, y.s15())) && come_up(0, x, y)
 }
 
-// An END keeps the stack; that of a loop that was entered takes the condition off, and that of a call brings its depth back.
+// An END keeps the stack; that of a loop that was entered takes the condition off, and that of a call
+// brings its depth back.
 fn is_end_clean<V: MainView>(x: &V, y: &V, op: Op, deep: Felt) -> bool
     requires has { HasOp (V.cells x.now) op }
     requires ends { code_of op ≡ 76 }

@@ -6,8 +6,6 @@ mod exports;
 mod kernel;
 mod laws;
 mod program;
-#[cfg(test)]
-mod tests;
 mod tree;
 mod whole;
 

@@ -15,6 +15,3 @@ pub use laws::types_cross;
 pub use tallies::Tallies;
 pub use tally::Tally;
 pub use tuple::{Tuple, Unequal};
-
-#[cfg(test)]
-mod tests;

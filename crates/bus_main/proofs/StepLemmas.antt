@@ -13,10 +13,12 @@ use Rattle.air_kit.specs.MainTuples.{accesses_of, bitwise_asked, blocks_asked, b
 use Rattle.vm_ops.specs.Codes.{is_ordinary_op, is_start_op}
 use Rattle.vm_ops.specs.declared.op.Op.{Op}
 use Rattle.vm_ops.specs.declared.op.Op.TheVariants as ops
-use Rattle.bus_main.specs.RowTuples.{HasSpace, HaveSpace, main_asked_at, main_given_at}
-use Rattle.bus_main.proofs.BlockLemmas.{no_block, no_call, no_child, no_loop}
-use Rattle.bus_main.proofs.TwoLemmas.{given_first}
-use Rattle.bus_main.proofs.StackLemmas.{no_access, none_combined}
+use Rattle.bus_blocks.specs.Space.{HasSpace}
+use Rattle.bus_main.specs.RowTuples.{HaveSpace, main_asked_at, main_given_at}
+use Rattle.bus_blocks.proofs.BlockLemmas.{no_block, no_child, no_loop}
+use Rattle.bus_blocks.proofs.TwoLemmas.{given_first}
+use Rattle.bus_lookups.proofs.KernelLemmas.{no_call}
+use Rattle.bus_lookups.proofs.LookupLemmas.{no_access, none_combined}
 
 -- an ordinary operation is none of those of blocks
 record IsOutside (op : Op) : Type 0 where

@@ -1,19 +1,14 @@
 -- What a row of the main table gives and asks in its place, and which rows can be read.
-use Rattle.std.specs.Prelude.{◌≡◌, ℕ, ◌+◌, ◌^◌, ◌<◌, ◌≤◌, ◌==◌, true, if◌then◌else◌, List, ◌++◌}
-use Rattle.vm_table.specs.MainColumns.{b}
+use Rattle.std.specs.Prelude.{◌≡◌, ℕ, ◌≤◌, ◌==◌, true, if◌then◌else◌, List, ◌++◌}
 use Rattle.buses.specs.Counts.{OfRow, with_next}
 use Rattle.buses.specs.declared.bus.Bus.{Bus}
 use Rattle.air_kit.specs.Flags.{op_of}
 use Rattle.air_kit.specs.MainTuples.{is_batch_op, positions, main_asked, main_given}
 use Rattle.air_kit.specs.Acceptance.{statement_given}
 use Rattle.bus_kit.specs.ByBus.{tally_of}
-use Rattle.bus_kit.specs.Tallies.{asked_in, given_in}
 use Rattle.bus_kit.specs.declared.tallies.Tallies.{Tallies}
-use Rattle.bus_kit.specs.declared.tally.Tally.{Tally}
-
--- the seven bits of the operation are bits
-abbrev pub HasBits : List ℕ → Type 0
-HasBits x = (j : ℕ) → j < 7 → b x j < 2
+use Rattle.bus_blocks.specs.Bits.{HasBits}
+use Rattle.bus_blocks.specs.Space.{HasSpace}
 
 -- the row's operation can be read, and a batch has at most eight positions in use
 pub record IsReadable (x : List ℕ) : Type 0 where
@@ -29,10 +24,6 @@ abbrev pub main_given_at : List ℕ → Bus → OfRow
 main_given_at digest bus i x next =
     if i == 0 then statement_given bus digest ++ with_next (main_given bus) i x next else with_next (main_given bus) i x next
 
--- each count may grow by 2^65
-abbrev pub HasSpace : Tally → Type 0
-HasSpace t = (u : List ℕ) → (asked_in t u + 2 ^ 65 < 2 ^ 128) × (given_in t u + 2 ^ 65 < 2 ^ 128)
-
--- on each bus
+-- on each bus each count may grow by 2^65
 abbrev pub HaveSpace : Tallies → Type 0
 HaveSpace t = (bus : Bus) → HasSpace (tally_of t bus)

@@ -2,7 +2,8 @@ ghost use Rattle.std.specs.Prelude.{◌≡◌, ◌^◌, ◌==◌, ◌++◌, if�
 ghost use Rattle.buses.specs.Counts.{once};
 ghost use Rattle.bus_kit.specs.Adding.{HasRoom, IsCounted};
 ghost use Rattle.bus_kit.specs.ByBus.{AreCounted, HaveRoom};
-ghost use Rattle.bus_main.specs.RowTuples.{HasBits, IsReadable, main_asked_at, main_given_at};
+ghost use Rattle.bus_blocks.specs.Bits.{HasBits};
+ghost use Rattle.bus_main.specs.RowTuples.{IsReadable, main_asked_at, main_given_at};
 
 use crate::step::step;
 use air_kit::Place;

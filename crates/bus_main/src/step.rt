@@ -3,20 +3,14 @@ ghost use Rattle.vm_ops.specs.Codes.{is_ordinary_op};
 ghost use Rattle.air_kit.specs.Flags.{op_of};
 ghost use Rattle.air_kit.specs.MainTuples.{is_batch_op, main_asked, main_given, positions};
 ghost use Rattle.bus_kit.specs.ByBus.{AreCounted};
-ghost use Rattle.bus_main.specs.RowTuples.{HasBits, HaveSpace, IsReadable};
+ghost use Rattle.bus_blocks.specs.Bits.{HasBits};
+ghost use Rattle.bus_main.specs.RowTuples.{HaveSpace, IsReadable};
 
-use crate::bitwise::bitwise;
-use crate::blocks::blocks;
-use crate::children::children;
-use crate::decode::op_in;
-use crate::groups::groups;
-use crate::hasher::hasher;
-use crate::kernel::kernel;
-use crate::loops::loops;
-use crate::memory::memory;
-use crate::overflow::overflow;
-use crate::range::range;
+use bus_blocks::{
+    op_in, tuples_blocks, tuples_children, tuples_groups, tuples_loops, tuples_overflow,
+};
 use bus_kit::Tallies;
+use bus_lookups::{tuples_bitwise, tuples_hasher, tuples_kernel, tuples_memory, tuples_range};
 use vm_field::Memory;
 use vm_ops::{Op, is_ordinary};
 use vm_table::MainView;
@@ -46,12 +40,12 @@ fn ordinary<V: MainView>(op: Op, x: &V, y: &V, tallies: &mut Tallies) -> Result<
     ensures { OnOk result (AreCounted (2 ^ 65) tallies.old tallies.new
         (λ bus. main_asked bus (V.cells x.now) (V.cells y.now)) (λ bus. main_given bus (V.cells x.now) (V.cells y.now))) }
 {
-    groups(op, x, y, &mut tallies.groups)?;
-    overflow(op, x, y, &mut tallies.overflow)?;
-    hasher(op, x, y, &mut tallies.hasher)?;
-    bitwise(op, x, y, &mut tallies.bitwise)?;
-    memory(op, x, y, &mut tallies.memory)?;
-    range(op, x, y, &mut tallies.range)
+    tuples_groups(op, x, y, &mut tallies.groups)?;
+    tuples_overflow(op, x, y, &mut tallies.overflow)?;
+    tuples_hasher(op, x, y, &mut tallies.hasher)?;
+    tuples_bitwise(op, x, y, &mut tallies.bitwise)?;
+    tuples_memory(op, x, y, &mut tallies.memory)?;
+    tuples_range(op, x, y, &mut tallies.range)
 }
 
 // Another one has none of bitwise operations or of memory.
@@ -65,12 +59,12 @@ fn control<V: MainView>(op: Op, x: &V, y: &V, tallies: &mut Tallies) -> Result<(
     ensures { OnOk result (AreCounted (2 ^ 65) tallies.old tallies.new
         (λ bus. main_asked bus (V.cells x.now) (V.cells y.now)) (λ bus. main_given bus (V.cells x.now) (V.cells y.now))) }
 {
-    blocks(op, x, y, &mut tallies.blocks)?;
-    children(op, x, y, &mut tallies.children)?;
-    loops(op, x, y, &mut tallies.loops)?;
-    groups(op, x, y, &mut tallies.groups)?;
-    overflow(op, x, y, &mut tallies.overflow)?;
-    hasher(op, x, y, &mut tallies.hasher)?;
-    range(op, x, y, &mut tallies.range)?;
-    kernel(op, x, &mut tallies.kernel)
+    tuples_blocks(op, x, y, &mut tallies.blocks)?;
+    tuples_children(op, x, y, &mut tallies.children)?;
+    tuples_loops(op, x, y, &mut tallies.loops)?;
+    tuples_groups(op, x, y, &mut tallies.groups)?;
+    tuples_overflow(op, x, y, &mut tallies.overflow)?;
+    tuples_hasher(op, x, y, &mut tallies.hasher)?;
+    tuples_range(op, x, y, &mut tallies.range)?;
+    tuples_kernel(op, x, &mut tallies.kernel)
 }

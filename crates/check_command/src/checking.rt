@@ -20,10 +20,11 @@ use command_ends::{
 };
 use commands::Status;
 use evidence_text::write_evidence;
+use json_values::TextError;
 use refusal_lines::refused_line;
 use rpo_hash::Params;
 use run_extractor::extract;
-use statement::{TextError, read_statement};
+use statement::read_statement;
 use std::alloc::Global;
 use table_file::{FileError, TableReader};
 use vm_field::{Bytes, Memory};

@@ -7,8 +7,8 @@ ghost use Rattle.commands.specs.Malformed.{malformed_line, malformed_table_line,
 use crate::lines::append_number;
 use crate::outcome::{Outcome, answered};
 use commands::Status;
+use json_values::{TextCause, cause_text};
 use rpo_hash::{ParamCause, ParamError};
-use statement::{TextCause, cause_text};
 use std::alloc::Global;
 use table_file::{FileCause, cause_text as file_cause_text};
 use vm_field::{Bytes, Memory};

@@ -4,8 +4,6 @@
 
 mod names;
 mod parts;
-#[cfg(test)]
-mod tests;
 
 pub use names::{file_name, number_in};
 pub use parts::{is_form, name_at, optional_name, optional_number};

@@ -7,9 +7,9 @@ use Rattle.rpo_hash.specs.ParamText.{parameters_of}
 use Rattle.block_tree.specs.Execution as run
 use Rattle.block_tree.specs.TreeView.{tree_of}
 use Rattle.block_tree.specs.declared.program.Program.{Program}
-use Rattle.statement.specs.Inputs.{Given, inputs_of}
+use Rattle.run_inputs.specs.Inputs.{Given, inputs_of}
 use Rattle.statement.specs.Statements.{Claim, claim_of}
-use Rattle.statement.specs.declared.refusal.TextCause.{TextCause}
+use Rattle.json_values.specs.declared.refusal.TextCause.{TextCause}
 use Rattle.air_kit.specs.Acceptance.{IsAccepted}
 use Rattle.air_kit.specs.declared.trace.Public.{Public}
 use Rattle.air_kit.specs.declared.trace.Trace.{Trace}

@@ -5,7 +5,7 @@ use Rattle.std.specs.FinMap.{get, insert}
 use Rattle.rpo_hash.specs.ParamText.{parameters_of}
 use Rattle.evidence_text.specs.EvidenceText.{evidence_text}
 use Rattle.statement.specs.Statements.{Claim, statement_of}
-use Rattle.statement.specs.declared.refusal.TextCause.{TextCause}
+use Rattle.json_values.specs.declared.refusal.TextCause.{TextCause}
 use Rattle.air_kit.specs.declared.trace.Trace.{Trace}
 use Rattle.table_file.specs.Files.{trace_of}
 use Rattle.table_file.specs.declared.cause.FileError.{FileError}

@@ -3,14 +3,14 @@ use Rattle.std.proofs.Common.{◌≡◌, ◌⊎◌, ℕ, List, [], ◌∷◌, ru
 use Rattle.std.specs.FinMap.{insert}
 use Rattle.rpo_hash.specs.declared.params.ParamError.{ParamError}
 use Rattle.rpo_hash.specs.ParamText.{parameters_of}
-use Rattle.statement.specs.Inputs.{Given, inputs_of}
+use Rattle.run_inputs.specs.Inputs.{Given, inputs_of}
 use Rattle.statement.specs.Statements.{Claim, statement_of}
 use Rattle.air_kit.specs.declared.trace.Trace.{Trace}
 use Rattle.table_file.specs.Files.{trace_of}
 use Rattle.table_file.specs.declared.cause.FileError.{FileError}
 use Rattle.table_file.specs.declared.cause.FileError.TheVariants as file_error
 use Rattle.table_file.specs.declared.cause.FileError.TheVariants.{Bad}
-use Rattle.statement.specs.declared.refusal.TextCause.{TextCause}
+use Rattle.json_values.specs.declared.refusal.TextCause.{TextCause}
 use Rattle.vm_io.specs.Shelf.{Files, ShelfState, with_file}
 use Rattle.vm_io.specs.Sink.{SinkState}
 use Rattle.vm_io.proofs.ShelfLemmas.{get_beside}

@@ -13,7 +13,7 @@ use Rattle.commands.specs.Malformed.{bad_params, bad_inputs, bad_statement, bad_
 use Rattle.commands.specs.CheckEnds.{IsEvidenceText, IsFound, TellsEvidence, refusal}
 use Rattle.commands.specs.AssembleEnds.{AnswersAssembly}
 use Rattle.commands.specs.RunEnds.{IsCourse, run_lines}
-use Rattle.statement.specs.Inputs.{Given, inputs_of}
+use Rattle.run_inputs.specs.Inputs.{Given, inputs_of}
 use Rattle.statement.specs.Statements as statements
 use Rattle.statement.specs.Statements.{Claim}
 use Rattle.air_kit.specs.declared.trace.Trace.{Trace}
@@ -24,7 +24,7 @@ use Rattle.block_tree.specs.declared.program.Program.{Program}
 use Rattle.run_files.specs.RunFiles.{IsTableFileOf, IsStatementFileOf, claim_of_run}
 use Rattle.table_file.specs.Files.{trace_of}
 use Rattle.table_file.specs.declared.cause.FileError.{FileError}
-use Rattle.statement.specs.declared.refusal.TextCause.{TextCause}
+use Rattle.json_values.specs.declared.refusal.TextCause.{TextCause}
 
 -- the longest file of a table
 abbrev pub most_table_bytes : ℕ

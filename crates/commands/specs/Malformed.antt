@@ -2,8 +2,8 @@
 use Rattle.std.specs.Prelude.{ℕ, List, [], ◌++◌, codes, decimal}
 use Rattle.rpo_hash.specs.CauseText.{cause_text}
 use Rattle.rpo_hash.specs.declared.params.ParamError.{ParamError}
-use Rattle.statement.specs.Causes.{text_of_cause}
-use Rattle.statement.specs.declared.refusal.TextCause.{TextCause}
+use Rattle.json_values.specs.Causes.{text_of_cause}
+use Rattle.json_values.specs.declared.refusal.TextCause.{TextCause}
 use Rattle.table_file.specs.Causes as file_cause
 use Rattle.table_file.specs.declared.cause.FileCause.{FileCause}
 use Rattle.table_file.specs.declared.cause.FileError.{FileError}

@@ -10,7 +10,7 @@ use Rattle.block_tree.specs.Execution.{Outcome, Trap, OutOfCycles, execution}
 use Rattle.block_tree.specs.TreeView.{tree_of}
 use Rattle.masm_link.specs.declared.refusal.AsmCause.{AsmCause}
 use Rattle.masm_link.specs.declared.refusal.AsmError.TheVariants.{Bad}
-use Rattle.statement.specs.Inputs.{Given}
+use Rattle.run_inputs.specs.Inputs.{Given}
 use Rattle.commands.specs.declared.status.Status.TheVariants as status
 use Rattle.run_rows.specs.BlockRows.{IsRun}
 use Rattle.commands.specs.declared.answer.Answer.{Answer}

@@ -5,7 +5,7 @@ use Rattle.block_tree.specs.Execution as run
 use Rattle.block_tree.specs.declared.program.Program.{Program}
 use Rattle.commands.specs.declared.status.Status.{Status}
 use Rattle.commands.specs.declared.answer.Answer.{Answer}
-use Rattle.statement.specs.Inputs.{Given}
+use Rattle.run_inputs.specs.Inputs.{Given}
 use Rattle.statement.specs.Statements.{Claim}
 use Rattle.air_kit.specs.declared.trace.Trace.{Trace}
 use Rattle.checker.specs.declared.refusal.Refused.{Refused}

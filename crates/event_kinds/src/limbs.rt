@@ -2,7 +2,7 @@ ghost use Rattle.std.specs.Prelude.{◌≡◌, ◌-◌, ◌/◌, ◌%◌, ◌≤
 ghost use Rattle.event_kinds.specs.Parts.{ten_of};
 ghost use Rattle.run_rows.specs.Limbs.{limbs, limbs_by, limbs_of};
 
-use processor::{Event, Visible};
+use cycle_events::{Event, Visible};
 use vm_field::Felt;
 use vm_ops::Op;
 

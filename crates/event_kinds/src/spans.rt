@@ -4,22 +4,22 @@ ghost use Rattle.event_kinds.specs.Kinds.{kind_in};
 ghost use Rattle.event_kinds.specs.Spans.{batch_by, stays};
 
 use crate::kind::{Kind, kind_of};
-use processor::Event;
+use cycle_events::Kept;
 use std::alloc::Global;
 use vm_field::{Felt, Memory, Sequence};
 
 /// The batches of the span that is open, from the next RESPAN on. The scan ends with the span.
-pub fn respans(alloc: Global, later: &[Event]) -> Result<Sequence<[Felt; 8]>, Memory>
+pub fn respans(alloc: Global, later: &[Kept]) -> Result<Sequence<[Felt; 8]>, Memory>
     ensures { IfOk result (λ batches. batches ≡ respans later.now) }
 {
     let mut batches = Sequence::new(alloc);
     for i in 0..later.len() {
         let event = &later[i];
-        let kind = kind_of(event.op);
+        let kind = kind_of(event.op());
         if !stays(kind) {
             return Ok(batches);
         }
-        push_batch(&mut batches, kind, &event.hash)?;
+        push_batch(&mut batches, kind, &event.hash())?;
     }
     Ok(batches)
 }

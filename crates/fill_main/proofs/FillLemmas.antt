@@ -1,8 +1,8 @@
 -- The rows of events, one by one.
 use Rattle.std.proofs.Common.{◌≡◌, ℕ, ◌+◌, ◌<◌, ◌≤◌, List, [], ◌∷◌, ◌++◌, length, get_or, drop, slice_get, slice_index, unwrap_or, sym, refl, ap, ◌∙◌, append_assoc}
 use Rattle.std.proofs.lemmas.List.{drop_all}
-use Rattle.processor.specs.declared.event.Event.{Event}
-use Rattle.processor.specs.declared.event.Visible.{Visible}
+use Rattle.cycle_events.specs.declared.event.Event.{Event}
+use Rattle.cycle_events.specs.declared.event.Visible.{Visible}
 use Rattle.run_rows.specs.Decoder.{Decoder, advance, at_start, decoder_after}
 use Rattle.run_rows.specs.Filling.{fill, halted, row_of, rows_of, seen_behind}
 use Rattle.run_rows.specs.Kinds.{kind_of}

@@ -1,3 +1,1 @@
-pub mod Inverses
 pub mod Turns
-pub mod Views

@@ -5,16 +5,15 @@ ghost use Rattle.run_rows.specs.RunRequests.{requests_of};
 ghost use Rattle.run_rows.specs.Turns.{respans};
 ghost use Rattle.event_kinds.specs.Kinds.{kind_in};
 
-use crate::decoder::Decoder;
-use crate::inverses::Inverses;
-use crate::row::write_row;
-use crate::stack::into_elements;
 use crate::turns::turns_of;
 use air_kit::Requests;
+use cycle_events::{Event, Kept, Visible};
 use event_kinds::{Kind, events_behind, kind_of, respans, seen_behind};
+use fill_decoder::{Decoder, into_elements};
 use fill_requests::{no_requests, push_requests};
+use fill_rows::write_row;
+use inverse_memo::Inverses;
 use perm_memo::Permutations;
-use processor::{Event, Visible};
 use std::alloc::Global;
 use vm_field::{Felt, Memory, Sequence, Word};
 use vm_ops::Op;
@@ -26,7 +25,7 @@ pub(crate) fn fill(
     alloc: Global,
     permutations: &mut Permutations,
     last: &Visible,
-    events: &[Event],
+    events: &[Kept],
 ) -> Result<(Table<65>, Requests), Memory>
     ensures rows { IfOk result (λ r. r.0 ≡ rows_of last.now events.now) }
     ensures requests { IfOk result (λ r. r.1 ≡ requests_of permutations.old last.now events.now) }
@@ -40,20 +39,20 @@ pub(crate) fn fill(
     table.reserve(events.len().saturating_add(1))?;
     let mut row = [Felt::ZERO; 65];
     for i in 0..events.len() {
-        let event = &events[i];
+        let event = events[i].event();
         let later = events_behind(events, i);
         let next = seen_behind(last, later);
         let turn = turns.pop().unwrap_or(0);
-        write_row(&mut row, &mut inverses, &decoder, event, next, turn)?;
+        write_row(&mut row, &mut inverses, &decoder, &event, next, turn)?;
         table.push_row(&row)?;
         let kind = kind_of(event.op);
         let batches = batches_of(alloc, kind, later)?;
-        decoder.advance(event, kind, batches.len())?;
+        decoder.advance(&event, kind, batches.len())?;
         push_requests(
             &mut requests,
             permutations,
             kind,
-            event,
+            &event,
             next,
             batches.as_slice(),
         )?;
@@ -65,7 +64,7 @@ pub(crate) fn fill(
 }
 
 // The later batches of the span that an event of a kind starts; none where it starts none.
-fn batches_of(alloc: Global, kind: Kind, later: &[Event]) -> Result<Sequence<[Felt; 8]>, Memory>
+fn batches_of(alloc: Global, kind: Kind, later: &[Kept]) -> Result<Sequence<[Felt; 8]>, Memory>
     ensures { IfOk result (λ batches. kind_in kind ≡ kinds.Span → batches ≡ respans later.now) }
 {
     match kind {

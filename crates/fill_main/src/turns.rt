@@ -3,15 +3,14 @@ ghost use Rattle.run_rows.specs.Turns.{repeats_by};
 ghost use Rattle.event_kinds.specs.Kinds.{kind_in};
 ghost use Rattle.fill_main.specs.Turns.{turns_of};
 
-use crate::numbers::sum_of;
-use crate::stack::Stack;
+use cycle_events::Kept;
 use event_kinds::{Kind, kind_of};
-use processor::Event;
+use fill_decoder::{Stack, sum_of};
 use std::alloc::Global;
 use vm_field::Memory;
 
 // Of each event, how often the body of its loop is repeated behind it.
-pub(crate) fn turns_of(alloc: Global, events: &[Event]) -> Result<Stack<u64>, Memory>
+pub(crate) fn turns_of(alloc: Global, events: &[Kept]) -> Result<Stack<u64>, Memory>
     ensures { IfOk result (λ turns. turns ≡ turns_of events.now) }
 {
     let mut counts = Stack::new(alloc);
@@ -19,13 +18,13 @@ pub(crate) fn turns_of(alloc: Global, events: &[Event]) -> Result<Stack<u64>, Me
     for i in (0..events.len()).rev() {
         let event = &events[i];
         turns.push(front(&counts))?;
-        count(&mut counts, kind_of(event.op))?;
+        count(&mut counts, kind_of(event.op()))?;
     }
     Ok(turns)
 }
 
 // The number at the front, and 0 where there is none.
-#[tactic(auto, using(crate::proofs::GroupLemmas::first_number))]
+#[tactic(auto, using(fill_decoder::proofs::GroupLemmas::first_number))]
 fn front(counts: &Stack<u64>) -> u64
     ensures { result ≡ slice_index counts.now 0 }
 {
@@ -36,7 +35,7 @@ fn front(counts: &Stack<u64>) -> u64
 }
 
 // Counts one event more, from the end on.
-#[tactic(auto, using(crate::proofs::GroupLemmas::first_number))]
+#[tactic(auto, using(fill_decoder::proofs::GroupLemmas::first_number))]
 fn count(counts: &mut Stack<u64>, kind: Kind) -> Result<(), Memory>
     ensures { OnOk result (counts.new ≡ repeats_by (kind_in kind) counts.old) }
 {

@@ -6,8 +6,8 @@ use Rattle.air_kit.specs.declared.requests.Access.{Access}
 use Rattle.air_kit.specs.declared.requests.BitOp.{BitOp}
 use Rattle.air_kit.specs.declared.requests.Perm.{Perm}
 use Rattle.air_kit.specs.declared.requests.Requests.{Requests}
-use Rattle.processor.specs.declared.event.Event.{Event}
-use Rattle.processor.specs.declared.event.Visible.{Visible}
+use Rattle.cycle_events.specs.declared.event.Event.{Event}
+use Rattle.cycle_events.specs.declared.event.Visible.{Visible}
 use Rattle.run_rows.specs.Filling.{seen_behind}
 use Rattle.run_rows.specs.Kinds as kinds
 use Rattle.run_rows.specs.Kinds.{Kind, kind_of}

@@ -3,7 +3,7 @@ use Rattle.std.specs.Prelude.{ℕ, List, [], ◌∷◌}
 use Rattle.vm_ops.specs.Codes.{code_of}
 use Rattle.vm_ops.specs.declared.op.Op.TheVariants as ops
 use Rattle.air_kit.specs.declared.requests.Perm.{Perm}
-use Rattle.processor.specs.declared.event.Event.{Event}
+use Rattle.cycle_events.specs.declared.event.Event.{Event}
 use Rattle.run_rows.specs.Kinds as kinds
 use Rattle.run_rows.specs.Kinds.{Kind}
 use Rattle.run_rows.specs.RunRequests.{hash_perms, perms_by_op}

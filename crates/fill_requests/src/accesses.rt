@@ -3,7 +3,7 @@ ghost use Rattle.run_rows.specs.RunRequests.{access, accesses_by};
 
 use crate::numbers::u32_of;
 use air_kit::Access;
-use processor::Event;
+use cycle_events::Event;
 use vm_field::{Memory, Sequence};
 use vm_ops::Op;
 

@@ -4,7 +4,7 @@ ghost use Rattle.run_rows.specs.RunRequests.{bits_by};
 
 use crate::numbers::u32_of;
 use air_kit::BitOp;
-use processor::{Event, Visible};
+use cycle_events::{Event, Visible};
 use vm_field::{Memory, Sequence};
 use vm_ops::Op;
 

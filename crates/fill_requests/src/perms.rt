@@ -6,9 +6,9 @@ ghost use Rattle.run_rows.specs.RunRequests.{hash_perms, perms_by_op};
 ghost use Rattle.fill_requests.specs.Asked.{perms_as};
 
 use air_kit::Perm;
+use cycle_events::Event;
 use event_kinds::Kind;
 use perm_memo::Permutations;
-use processor::Event;
 use vm_field::{Felt, Memory, Sequence};
 use vm_ops::{Op, opcode};
 

@@ -2,8 +2,8 @@ ghost use Rattle.std.specs.Prelude.{◌≡◌, ◌++◌, OnOk};
 ghost use Rattle.run_rows.specs.RunRequests.{ranges_by};
 
 use crate::numbers::u16_of;
+use cycle_events::{Event, Visible};
 use event_kinds::limbs_of;
-use processor::{Event, Visible};
 use vm_field::{Felt, Memory, Sequence};
 use vm_ops::is_start;
 

@@ -11,9 +11,9 @@ use crate::calls::push_call;
 use crate::perms::push_perms;
 use crate::ranges::push_ranges;
 use air_kit::Requests;
+use cycle_events::{Event, Visible};
 use event_kinds::Kind;
 use perm_memo::Permutations;
-use processor::{Event, Visible};
 use std::alloc::Global;
 use vm_field::{Felt, Felts, Memory, Sequence, Words};
 

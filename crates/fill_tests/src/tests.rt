@@ -1,8 +1,9 @@
 use air_kit::Requests;
 use block_tree::{Exports, Program, Tree, are_distinct};
+use cycle_events::Stop;
 use fill_main::fill_main;
 use op_pack::Batches;
-use processor::{Run, Stop, execute};
+use processor::{Run, execute};
 use rpo_hash::Params;
 use std::alloc::Global;
 use std::test::Fail;

@@ -8,7 +8,7 @@ use Rattle.vm_ops.specs.Step.{left_cells}
 use Rattle.vm_ops.specs.Values.{computed, is_bit, trap_of}
 use Rattle.masm_instr.specs.declared.name.Name.TheVariants as names
 use Rattle.instr_effects.specs.Effects.{cells, listed, instr_effect, top}
-use Rattle.masm_instr.specs.Expansion.{expansion, front, dup}
+use Rattle.masm_expand.specs.Expansion.{expansion, front, dup}
 use Rattle.instr_effects.proofs.Moves.{MeetsAt, MeetsAll}
 use Rattle.instr_effects.proofs.Quiets.{moved, moves}
 use Rattle.instr_effects.proofs.Tables.{Each, of_each, by_none, by_maybe}

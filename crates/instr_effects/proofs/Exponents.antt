@@ -7,7 +7,7 @@ use Rattle.vm_ops.specs.Step.{left_cells}
 use Rattle.vm_ops.specs.Values.{computed, trap_of}
 use Rattle.masm_instr.specs.declared.name.Name.TheVariants as names
 use Rattle.instr_effects.specs.Effects.{instr_effect, listed, top}
-use Rattle.masm_instr.specs.Expansion.{expansion, front, plain}
+use Rattle.masm_expand.specs.Expansion.{expansion, front, plain}
 use Rattle.instr_effects.proofs.Moves.{MeetsAt, MeetsAll}
 use Rattle.instr_effects.proofs.Quiets.{acts, given, pushed}
 use Rattle.instr_effects.proofs.Tables.{IsAllowed, by_one}
@@ -18,7 +18,7 @@ use Rattle.std.proofs.lemmas.Nat.{shr-shr}
 use Rattle.vm_field.proofs.PowerLaws.{power-add, power-suc, power-zero}
 use Rattle.vm_ops.specs.declared.item.Item.{Item}
 use Rattle.vm_ops.specs.declared.op.Op.TheVariants as ops
-use Rattle.masm_instr.specs.Expansion.{exp_digit, exp_digits}
+use Rattle.masm_expand.specs.Expansion.{exp_digit, exp_digits}
 use Rattle.instr_effects.proofs.Quiets.{Quiet, quiet-append, acts-behind}
 use Rattle.instr_effects.proofs.Windows.{Window}
 

@@ -7,7 +7,7 @@ use Rattle.vm_ops.specs.Step.{left_cells}
 use Rattle.vm_ops.specs.Values.{computed, is_u32, or_else, trap_of, unless}
 use Rattle.masm_instr.specs.declared.name.Name.TheVariants as names
 use Rattle.instr_effects.specs.Effects.{instr_effect, top}
-use Rattle.masm_instr.specs.Expansion.{expansion, front, plain}
+use Rattle.masm_expand.specs.Expansion.{expansion, front, plain}
 use Rattle.masm_instr.specs.Table.{fixed}
 use Rattle.instr_effects.proofs.Moves.{MeetsAt, MeetsAll}
 use Rattle.instr_effects.proofs.Quiets.{acts, first-is, given}

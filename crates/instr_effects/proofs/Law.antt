@@ -5,11 +5,11 @@ use Rattle.instr_effects.proofs.Sized.{sized-of}
 use Rattle.masm_instr.specs.declared.name.Name.{Name}
 use Rattle.masm_instr.specs.declared.name.Name.TheVariants as names
 use Rattle.masm_instr.specs.Instructions.{first, is_in_form, names_local}
-use Rattle.masm_instr.proofs.Packing.{expansions_are_packable}
+use Rattle.masm_expand.proofs.Packing.{expansions_are_packable}
 use Rattle.vm_ops.specs.Runs.{run}
 use Rattle.vm_ops.proofs.RunLemmas.{run-kept}
 use Rattle.instr_effects.specs.Effects.{instr_effect}
-use Rattle.masm_instr.specs.Expansion.{expansion}
+use Rattle.masm_expand.specs.Expansion.{expansion}
 use Rattle.instr_effects.specs.HasEffect.{HasEffect}
 use Rattle.instr_effects.proofs.Meeting.{has-effect}
 use Rattle.instr_effects.proofs.Moves.{MeetsAll, meets-drop, meets-dropw, meets-padw, meets-dupw, meets-movup, meets-movdn, meets-swap, meets-swapw, meets-swapdw, meets-movupw, meets-movdnw}

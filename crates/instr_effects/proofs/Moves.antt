@@ -7,7 +7,7 @@ use Rattle.masm_instr.specs.Instructions.{is_in_form}
 use Rattle.masm_instr.specs.declared.name.Name.{Name}
 use Rattle.masm_instr.specs.declared.name.Name.TheVariants as names
 use Rattle.instr_effects.specs.Effects.{instr_effect}
-use Rattle.masm_instr.specs.Expansion.{expansion, front, movup, movdn, swap, movupw, movdnw}
+use Rattle.masm_expand.specs.Expansion.{expansion, front, movup, movdn, swap, movupw, movdnw}
 use Rattle.instr_effects.proofs.Meeting.{Meets}
 use Rattle.instr_effects.proofs.Quiets.{moves}
 use Rattle.instr_effects.proofs.Tables.{Each, of_each, by_none, by_maybe, by_one}

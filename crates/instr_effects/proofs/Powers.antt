@@ -9,7 +9,7 @@ use Rattle.vm_ops.specs.Step.{left_cells}
 use Rattle.vm_ops.specs.Values.{bit_of, computed, is_u32, or_else, trap_of, unless}
 use Rattle.masm_instr.specs.declared.name.Name.TheVariants as names
 use Rattle.instr_effects.specs.Effects.{instr_effect, top}
-use Rattle.masm_instr.specs.Expansion.{expansion, front, plain}
+use Rattle.masm_expand.specs.Expansion.{expansion, front, plain}
 use Rattle.masm_instr.specs.Table.{fixed}
 use Rattle.instr_effects.proofs.Moves.{MeetsAt, MeetsAll}
 use Rattle.instr_effects.proofs.Quiets.{acts, first-is}
@@ -17,7 +17,7 @@ use Rattle.instr_effects.proofs.Tables.{by_none, by_maybe, by_one}
 use Rattle.instr_effects.proofs.Windows.{last, trap, fits}
 use Rattle.std.proofs.lemmas.Bool.{agree_below_at}
 use Rattle.instr_effects.specs.Effects.{no_shift, turned_left, turned_right}
-use Rattle.masm_instr.specs.Expansion.{pow2}
+use Rattle.masm_expand.specs.Expansion.{pow2}
 use Rattle.instr_effects.proofs.Quiets.{given-push}
 use Rattle.instr_effects.proofs.Tables.{Each, of_each}
 use Rattle.instr_effects.proofs.Tests.{both-of, free-of, one-trap}

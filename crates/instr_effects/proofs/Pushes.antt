@@ -8,7 +8,7 @@ use Rattle.vm_ops.specs.Step.{left_cells}
 use Rattle.vm_ops.specs.Values.{computed, trap_of}
 use Rattle.masm_instr.specs.declared.name.Name.TheVariants as names
 use Rattle.instr_effects.specs.Effects.{instr_effect}
-use Rattle.masm_instr.specs.Expansion.{expansion, front, lit}
+use Rattle.masm_expand.specs.Expansion.{expansion, front, lit}
 use Rattle.instr_effects.proofs.Moves.{MeetsAll}
 use Rattle.instr_effects.proofs.Quiets.{Quiet, moved, pushed, quiet-append, acts-behind}
 use Rattle.instr_effects.proofs.Windows.{Window, last, trap, fits, window}

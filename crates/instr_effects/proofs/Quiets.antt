@@ -9,7 +9,7 @@ use Rattle.vm_ops.specs.Step.{left_cells}
 use Rattle.std.proofs.lemmas.Bool.{and_parts}
 use Rattle.vm_ops.specs.Values.{computed, or_else, trap_of}
 use Rattle.instr_effects.specs.Effects.{Effect, leaving, listed}
-use Rattle.masm_instr.specs.Expansion.{lit}
+use Rattle.masm_expand.specs.Expansion.{lit}
 use Rattle.instr_effects.proofs.Meeting.{Acts, Meets}
 use Rattle.instr_effects.proofs.Windows.{Window, window, next, trap_in, has_room, last, trap, fits}
 

@@ -8,7 +8,7 @@ use Rattle.vm_ops.specs.Step.{left_cells}
 use Rattle.vm_ops.specs.Values.{bit_of, computed, is_bit, or_else, trap_of, unless}
 use Rattle.masm_instr.specs.declared.name.Name.TheVariants as names
 use Rattle.instr_effects.specs.Effects.{are_bits, instr_effect, top, same_cells}
-use Rattle.masm_instr.specs.Expansion.{expansion, front}
+use Rattle.masm_expand.specs.Expansion.{expansion, front}
 use Rattle.instr_effects.proofs.Moves.{MeetsAt, MeetsAll}
 use Rattle.instr_effects.proofs.Quiets.{acts, first-is}
 use Rattle.instr_effects.proofs.Tables.{by_none}

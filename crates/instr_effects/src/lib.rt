@@ -5,7 +5,7 @@ ghost use Rattle.std.specs.Prelude.{◌≡◌, ℕ, ◌<◌, true, List, length,
 ghost use Rattle.instr_effects.specs.HasEffect.{HasEffect, TrapsFirst};
 ghost use Rattle.masm_instr.specs.declared.name.Name.{Name};
 ghost use Rattle.instr_effects.specs.Effects.{instr_effect};
-ghost use Rattle.masm_instr.specs.Expansion.{expansion};
+ghost use Rattle.masm_expand.specs.Expansion.{expansion};
 ghost use Rattle.masm_instr.specs.Instructions.{first, is_in_form, names_local};
 ghost use Rattle.vm_field.specs.Machine.{IsWellFormed, State};
 ghost use Rattle.vm_ops.specs.declared.cause.Cause.{Cause};

@@ -11,7 +11,7 @@ use Rattle.block_tree.specs.Cycles.{Mark, Do}
 use Rattle.block_tree.specs.Execution.{Event, Outcome, Done, Trap, OutOfCycles, Part, cycle_outcome, event_of, logged, operations, seq, skip, taking, then_do}
 use Rattle.masm_instr.specs.declared.name.Name.{Name}
 use Rattle.instr_effects.specs.Effects.{instr_effect}
-use Rattle.masm_instr.specs.Expansion.{expansion}
+use Rattle.masm_expand.specs.Expansion.{expansion}
 use Rattle.masm_instr.specs.Instructions.{is_in_form}
 use Rattle.instr_effects.specs.HasEffect.{affected, Answers, HasEffect}
 use Rattle.instr_effects.proofs.Law.{instruction-effects}

@@ -7,7 +7,7 @@ ghost use Rattle.instr_effects.specs.HasEffect.{affected};
 ghost use Rattle.instr_spans.specs.Spans.{Agrees, ComesTo};
 ghost use Rattle.masm_instr.specs.declared.name.Name.{Name};
 ghost use Rattle.instr_effects.specs.Effects.{instr_effect};
-ghost use Rattle.masm_instr.specs.Expansion.{expansion};
+ghost use Rattle.masm_expand.specs.Expansion.{expansion};
 ghost use Rattle.masm_instr.specs.Instructions.{is_in_form};
 ghost use Rattle.vm_field.specs.Machine.{IsWellFormed, State};
 ghost use Rattle.vm_ops.specs.declared.item.Item.{Item};

@@ -3,7 +3,7 @@ ghost use Rattle.vm_ops.specs.Codes.{is_ordinary_op};
 ghost use Rattle.vm_ops.specs.Items.{IsOrdinaryItem};
 
 use instr_reading::{Consts, read_instr};
-use masm_instr::expand;
+use masm_expand::expand;
 use op_steps::{StepStop, step};
 use rpo_hash::Params;
 use std::alloc::Global;

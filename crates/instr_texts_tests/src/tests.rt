@@ -1,5 +1,5 @@
 use instr_reading::{Const, Consts, InstrError, read_instr};
-use masm_instr::expand;
+use masm_expand::expand;
 use std::alloc::{AllocError, Global};
 use std::process::Abort;
 use vm_field::{Bytes, Felt, Memory};

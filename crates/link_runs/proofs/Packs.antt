@@ -14,21 +14,21 @@ use Rattle.op_pack.specs.RoundTrip.{read_batches}
 use Rattle.op_pack.proofs.BatchLemmas.{read_back}
 use Rattle.op_pack.proofs.PackedLemmas.{packed-some}
 use Rattle.block_tree.specs.Behind.{HasReading}
-use Rattle.masm_instr.specs.Expansion.{lit, expansion}
-use Rattle.masm_instr.proofs.Packing.{expansions_are_packable}
+use Rattle.masm_expand.specs.Expansion.{lit, expansion}
+use Rattle.masm_expand.proofs.Packing.{expansions_are_packable}
 use Rattle.masm_lex.specs.declared.list.Token.{Token}
 use Rattle.masm_lex.specs.declared.refusal.LexError.{LexError}
 use Rattle.masm_lex.specs.Tokens.{lexed}
 use Rattle.masm_parse.specs.declared.refusal.ParseError.{ParseError}
-use Rattle.masm_parse.specs.Forms.{BodyIsInForm, ProcedureIsInForm, MainIsInForm}
-use Rattle.masm_parse.specs.Locals.{HasLocals, ProcedureFits, MainFits}
+use Rattle.masm_tree.specs.Forms.{BodyIsInForm, ProcedureIsInForm, MainIsInForm}
+use Rattle.masm_tree.specs.Locals.{HasLocals, ProcedureFits, MainFits}
 use Rattle.masm_parse.specs.Machine.{parsed}
-use Rattle.masm_parse.specs.Trees.{Body, Procedure, Source}
+use Rattle.masm_tree.specs.Trees.{Body, Procedure, Source}
 use Rattle.masm_parse.proofs.Fitting.{locals-fit}
 use Rattle.masm_parse.proofs.Forming.{trees_are_in_form}
-use Rattle.masm_flat.specs.Blocks.{Block, Span, Join, Split, Loop, Call, Syscall, Piece, Operation, Whole, span_before, blocks_behind, paired, joined, all_joined, whole_of, block_of, seen_as, as_tree}
-use Rattle.masm_flat.specs.Lists.{Exported, IsList, nothing, instr, exec, call, syscall, branches, loops, repeated, first_procedure, first_export, times, with_locals, IsBlockOf}
-use Rattle.masm_uses.specs.Naming.{exported_of}
+use Rattle.masm_blocks.specs.Blocks.{Block, Span, Join, Split, Loop, Call, Syscall, Piece, Operation, Whole, span_before, blocks_behind, paired, joined, all_joined, whole_of, block_of, seen_as, as_tree}
+use Rattle.masm_blocks.specs.Lists.{Exported, IsList, nothing, instr, exec, call, syscall, branches, loops, repeated, first_procedure, first_export, times, with_locals, IsBlockOf}
+use Rattle.masm_names.specs.Naming.{exported_of}
 use Rattle.masm_link.specs.Assembling.{reads, read_tokens, read_parsed, KernelExports, no_kernel, of_kernel, assembled}
 use Rattle.link_runs.specs.Runs.{IsReady, AssembledIsReady}
 

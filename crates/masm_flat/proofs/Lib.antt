@@ -1,14 +1,2 @@
-pub mod Flattened
 pub mod Frames
-pub mod HasList
-pub mod Levels
-pub mod Measures
-pub mod Once
-pub mod Placed
-pub mod Rows
-pub mod Seen
-pub mod SizeLaws
-pub mod Sized
-pub mod Sizing
-pub mod Statements
 pub mod Times

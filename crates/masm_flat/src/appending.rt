@@ -1,14 +1,15 @@
 ghost use Rattle.std.specs.Prelude.{◌≡◌, [], ◌∷◌, ◌++◌, map, IfOk, OnOk};
 ghost use Rattle.block_tree.specs.TreeView.{tree_of};
 ghost use Rattle.masm_instr.specs.Instructions.{HasLocal};
-ghost use Rattle.masm_instr.specs.Expansion.{expansion};
-ghost use Rattle.masm_flat.specs.Blocks as lists;
-ghost use Rattle.masm_flat.specs.Lists.{times};
+ghost use Rattle.masm_expand.specs.Expansion.{expansion};
+ghost use Rattle.masm_blocks.specs.Blocks as lists;
+ghost use Rattle.masm_blocks.specs.Lists.{times};
 ghost use Rattle.masm_flat.specs.Views.{piece_of, pieces_of};
 
 use crate::piece::Piece;
 use block_tree::{Tree, copy};
-use masm_instr::{Instr, expand};
+use masm_expand::expand;
+use masm_instr::Instr;
 use std::alloc::Global;
 use vm_field::Memory;
 use vm_ops::Item;
@@ -18,7 +19,7 @@ pub fn add_items(items: &[Item], out: &mut Vec<Piece>) -> Result<(), Memory>
     ensures { OnOk result (pieces_of out.new.items ≡ pieces_of out.old.items ++ map lists.Operation items.now) }
 {
     for item in items {
-        out.push(Piece::Operation(*item))?;
+        out.push(Piece::of_item(item))?;
     }
     Ok(())
 }
@@ -49,7 +50,8 @@ fn copied(alloc: Global, piece: &Piece) -> Result<Piece, Memory>
     ensures { IfOk result (λ copy. piece_of copy ≡ piece_of piece.now) }
 {
     match piece {
-        Piece::Operation(item) => Ok(Piece::Operation(*item)),
+        Piece::Plain(op) => Ok(Piece::Plain(*op)),
+        Piece::Valued(op, imm) => Ok(Piece::Valued(*op, *imm)),
         Piece::Whole(tree) => Ok(Piece::Whole(Box::new(alloc, copy(alloc, tree)?)?)),
     }
 }

@@ -2,8 +2,8 @@ ghost use Rattle.std.specs.Prelude.{◌≡◌, List, [], ◌∷◌, ◌++◌, �
 ghost use Rattle.std.specs.Vec.Iter.{into_iter_items, into_iter_len};
 ghost use Rattle.block_tree.specs.Trees as trees;
 ghost use Rattle.block_tree.specs.TreeView.{tree_of};
-ghost use Rattle.masm_flat.specs.Blocks as lists;
-ghost use Rattle.masm_flat.specs.Blocks.{span_before, blocks_behind, paired, all_joined, whole, as_tree};
+ghost use Rattle.masm_blocks.specs.Blocks as lists;
+ghost use Rattle.masm_blocks.specs.Blocks.{span_before, blocks_behind, paired, all_joined, whole, as_tree};
 ghost use Rattle.masm_flat.specs.Views.{piece_of, pieces_of};
 
 use crate::piece::Piece;
@@ -16,7 +16,7 @@ use vm_field::Memory;
 use vm_ops::{Item, Items, Op};
 
 // A span of these operations, where there are any.
-#[tactic(auto, using(crate::proofs::Levels::spans))]
+#[tactic(auto, using(masm_blocks::proofs::Levels::spans))]
 fn add_span(alloc: Global, blocks: &mut Vec<Tree>, run: &Items) -> Result<(), Memory>
     ensures { OnOk result (map tree_of blocks.new.items ≡ map tree_of blocks.old.items ++ span_before as_tree.span as_tree.join run.now []) }
 {
@@ -27,7 +27,7 @@ fn add_span(alloc: Global, blocks: &mut Vec<Tree>, run: &Items) -> Result<(), Me
 }
 
 // The next piece, behind blocks and the operations that stand behind them.
-#[tactic(auto, using(crate::proofs::Levels::spans))]
+#[tactic(auto, using(masm_blocks::proofs::Levels::spans))]
 fn add_piece(
     alloc: Global,
     blocks: &mut Vec<Tree>,
@@ -39,7 +39,8 @@ fn add_piece(
         ≡ map tree_of blocks.old.items ++ blocks_behind as_tree.span as_tree.join run.old (piece_of piece ∷ rest)) }
 {
     match piece {
-        Piece::Operation(item) => run.push(item),
+        Piece::Plain(op) => run.push(Item::plain(op)),
+        Piece::Valued(op, imm) => run.push(Item { op, imm: Some(imm) }),
         Piece::Whole(tree) => {
             let before = mem::replace(run, Items::new(alloc));
             add_span(alloc, blocks, &before)?;
@@ -93,7 +94,7 @@ fn pairs(alloc: Global, level: Vec<Tree>) -> Result<Vec<Tree>, Memory>
 }
 
 // The one block that is left when no two can be joined.
-#[tactic(auto, using(crate::proofs::Levels::levels))]
+#[tactic(auto, using(masm_blocks::proofs::Levels::levels))]
 fn join_levels(alloc: Global, mut level: Vec<Tree>) -> Result<Tree, Memory>
     ensures { IfOk result (λ tree. tree_of tree ≡ all_joined as_tree.span as_tree.join (map tree_of level.items)) }
 {
@@ -107,7 +108,7 @@ fn join_levels(alloc: Global, mut level: Vec<Tree>) -> Result<Tree, Memory>
 }
 
 /// The tree of a list of operations and blocks (docs/ASSEMBLY.md, "Blocks").
-#[tactic(auto, unfolding(crate::specs::Blocks::whole_of))]
+#[tactic(auto, unfolding(masm_blocks::specs::Blocks::whole_of))]
 pub fn tree_of_list(alloc: Global, pieces: Vec<Piece>) -> Result<Tree, Memory>
     ensures { IfOk result (λ tree. tree_of tree ≡ whole as_tree (pieces_of pieces.items)) }
 {

@@ -3,22 +3,12 @@ ghost use Rattle.block_tree.specs.TreeView.{tree_of};
 ghost use Rattle.masm_flat.specs.KnownLists.{list_at, known_of};
 ghost use Rattle.masm_flat.specs.Views.{pieces_of};
 
-use crate::kernel::Kernel;
 use crate::piece::Piece;
-use crate::shape::Extent;
 use block_tree::{Tree, copy};
-use masm_uses::Names;
+use masm_blocks::Kernel;
+use masm_names::Names;
 use std::alloc::Global;
 use vm_field::{Bytes, Memory, Word};
-
-/// A procedure that a kernel exports, by its name, with its tree.
-#[derive(Drop)]
-pub struct KernelProc {
-    pub name: Bytes,
-    pub tree: Tree,
-    /// How large the tree is.
-    pub extent: Extent,
-}
 
 /// What is known of procedures when a body is flattened.
 #[derive(Clone, Copy)]

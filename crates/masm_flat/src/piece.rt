@@ -1,10 +1,31 @@
-use block_tree::Tree;
-use vm_ops::Item;
+ghost use Rattle.std.specs.Prelude.{◌≡◌};
+ghost use Rattle.masm_blocks.specs.Blocks as lists;
+ghost use Rattle.masm_flat.specs.Views.{piece_of};
 
-/// What a body is flattened to: operations and blocks. Most pieces are operations, and a list of many is
-/// held at a time, so that a block stands apart.
+use block_tree::Tree;
+use vm_field::Felt;
+use vm_ops::{Item, Op};
+
+/// What a body is flattened to: operations and blocks. Most pieces are operations without an
+/// immediate, and a list of many is held at a time, so that a piece takes no more room than these
+/// need and a block stands apart.
 #[derive(Drop)]
 pub enum Piece {
-    Operation(Item),
+    /// An operation without an immediate.
+    Plain(Op),
+    /// An operation with its immediate.
+    Valued(Op, Felt),
     Whole(Box<Tree>),
+}
+
+impl Piece {
+    // An operation as a piece.
+    pub(crate) fn of_item(item: &Item) -> Piece
+        ensures { piece_of result ≡ lists.Operation item.now }
+    {
+        match item.imm {
+            None => Piece::Plain(item.op),
+            Some(imm) => Piece::Valued(item.op, imm),
+        }
+    }
 }

@@ -2,5 +2,3 @@ pub mod Table
 pub mod Names
 pub mod Slots
 pub mod Instructions
-pub mod Expansion
-pub mod Packable

@@ -1,5 +1,5 @@
 -- The table of the instructions: how each is written, the numbers that it takes, and the operations that stand last in
--- its list, whatever its numbers. The rest of a list is in `Expansion`.
+-- its list, whatever its numbers. The rest of a list is in `masm_expand`.
 use Rattle.std.specs.Prelude.{ℕ, ◌-◌, ◌^◌, Bool, true, false, List, [], ◌∷◌, ◌++◌, codes}
 use Rattle.vm_field.specs.Field.{prime}
 use Rattle.vm_ops.specs.declared.op.Op.{Op}

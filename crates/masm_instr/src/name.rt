@@ -1,11 +1,12 @@
 ghost use Rattle.std.specs.Prelude.{◌≡◌, Some, slice_get};
 ghost use Rattle.masm_instr.specs.Instructions.{names_local};
-ghost use Rattle.masm_instr.specs.Table.{form_of, text_of};
+ghost use Rattle.masm_instr.specs.Table.{fixed, form_of, text_of};
 ghost use Rattle.masm_instr.specs.Names.{first_named, name_of, NamesAreTexts};
 
 use crate::form::Form;
 use crate::slot::{SLOTS, slot};
 use crate::table::{EVERY, row_of};
+use vm_ops::Op;
 
 /// The name of an instruction.
 #[derive(Clone, Copy, Debug, PartialEq, Eq)]
@@ -117,6 +118,13 @@ impl Name {
         ensures { result ≡ form_of self }
     {
         row_of(self).form
+    }
+
+    /// The operations that stand last in its list, whatever its numbers.
+    pub fn last_operations(self) -> &'static [Op]
+        ensures { result.now ≡ fixed self }
+    {
+        row_of(self).last
     }
 
     /// Whether the instruction's number is that of a local.

@@ -14,6 +14,3 @@ pub use refusal::LexError;
 
 /// The most bytes that a source may have.
 pub const MAX_SOURCE: usize = 1_048_576;
-
-#[cfg(test)]
-mod tests;

@@ -8,16 +8,16 @@ use Rattle.block_tree.specs.declared.program.Program.{Program}
 use Rattle.block_tree.specs.declared.tree.Tree.{Tree}
 use Rattle.block_tree.specs.Trees.{tree_digest}
 use Rattle.block_tree.specs.TreeView.{tree_of}
-use Rattle.masm_parse.specs.Trees.{Procedure, Source}
-use Rattle.masm_uses.specs.declared.refusal.LinkCause.TheVariants as causes
-use Rattle.masm_uses.specs.Naming.{one_export_more, at_procedure, exported_of}
-use Rattle.masm_flat.specs.declared.known.KernelProc.{KernelProc}
-use Rattle.masm_flat.specs.Blocks.{Block, seen_as, as_tree}
-use Rattle.masm_flat.specs.Lists.{Exported}
+use Rattle.masm_tree.specs.Trees.{Procedure, Source}
+use Rattle.masm_names.specs.declared.refusal.LinkCause.TheVariants as causes
+use Rattle.masm_names.specs.Naming.{one_export_more, at_procedure, exported_of}
+use Rattle.masm_blocks.specs.declared.kernel.KernelProc.{KernelProc}
+use Rattle.masm_blocks.specs.Blocks.{Block, seen_as, as_tree}
+use Rattle.masm_blocks.specs.Lists.{Exported}
 use Rattle.masm_link.specs.declared.linking.Linked.{Linked}
 use Rattle.masm_link.specs.declared.refusal.AsmError.{AsmError}
 use Rattle.masm_link.specs.Assembling.{reads, KernelExports, no_kernel, of_kernel, export_digest, export_of, without_repeats, Assembles, assembled, kernel_refused, refused, no_memory}
-use Rattle.masm_link.specs.Kernels.{IsExport, AreExports}
+use Rattle.masm_tables.specs.Kernels.{IsExport, AreExports}
 use Rattle.masm_link.specs.Measures.{IsLinked}
 use Rattle.masm_link.specs.Programs.{LinksIn, ExportsIn, digest_in, export_in}
 use Rattle.masm_link.specs.Refusals.{double, Links}

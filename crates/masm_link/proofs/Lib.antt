@@ -1,10 +1,5 @@
 pub mod Assembled
-pub mod Closed
-pub mod Exist
-pub mod Finding
-pub mod Known
 pub mod Linked
 pub mod Over
-pub mod Steps
 pub mod WholeTrees
 pub mod Words

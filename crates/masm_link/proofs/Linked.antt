@@ -1,53 +1,53 @@
 -- The least refusal of a source, and what it links to where nothing is refused.
-use Rattle.std.proofs.Common.{◌≡◌, ℕ, ◌+◌, ◌<◌, ◌≤◌, true, false, cond, List, [], ◌∷◌, ◌++◌, length, map, slice_get, Option, Some, None, MatchOption, Vec, Global, inl, inr, refl, sym, ap, ap₂, subst, ◌∙◌, append-nil, zero, suc, Bool, take, get_or, is_some, arith}
+use Rattle.std.proofs.Common.{◌≡◌, ℕ, ◌+◌, ◌≤◌, true, false, cond, List, [], ◌∷◌, ◌++◌, length, map, slice_get, Option, Some, None, MatchOption, Vec, Global, inl, inr, refl, sym, ap, ap₂, subst, ◌∙◌, append-nil, zero, suc, Bool, is_some, arith}
 use Rattle.std.proofs.lemmas.Bool.{cases_lt}
-use Rattle.std.proofs.lemmas.List.{map-append, take_more, length-take-le}
+use Rattle.std.proofs.lemmas.List.{map-append}
 use Rattle.std.proofs.lemmas.List.Elements.{filter-append, Contains-append_left}
 use Rattle.std.proofs.lemmas.Option.{slice_get_within}
 use Rattle.std.specs.List.{AllZip, Contains}
 use Rattle.std.specs.Option.{option_map, option_to_list}
 use Rattle.block_tree.specs.declared.tree.Tree as code
 use Rattle.block_tree.specs.TreeView.{tree_of}
-use Rattle.masm_parse.specs.declared.tree.Position.{Position}
-use Rattle.masm_parse.specs.declared.tree.Ast.{Ast}
-use Rattle.masm_parse.specs.declared.tree.Proc.{Proc}
-use Rattle.masm_parse.specs.Trees.{Procedure, Source}
-use Rattle.masm_parse.specs.Views.{body_of, procedure_of, source_of}
-use Rattle.masm_uses.specs.declared.refusal.LinkCause.{LinkCause}
-use Rattle.masm_uses.specs.declared.refusal.LinkCause.TheVariants as causes
-use Rattle.masm_uses.specs.declared.refusal.Refusal.{Refusal}
-use Rattle.masm_uses.specs.Among.{Among}
-use Rattle.masm_uses.specs.Earlier.{earlier}
-use Rattle.masm_uses.specs.Least.{IsLeast, Answers}
+use Rattle.masm_tree.specs.declared.tree.Position.{Position}
+use Rattle.masm_tree.specs.declared.tree.Ast.{Ast}
+use Rattle.masm_tree.specs.declared.tree.Proc.{Proc}
+use Rattle.masm_tree.specs.Trees.{Procedure, Source}
+use Rattle.masm_tree.specs.Views.{body_of, procedure_of, source_of}
+use Rattle.masm_names.specs.declared.refusal.LinkCause.{LinkCause}
+use Rattle.masm_names.specs.declared.refusal.LinkCause.TheVariants as causes
+use Rattle.masm_names.specs.declared.refusal.Refusal.{Refusal}
+use Rattle.masm_names.specs.Among.{Among}
+use Rattle.masm_names.specs.Earlier.{earlier}
+use Rattle.masm_names.specs.Least.{IsLeast, Answers}
 use Rattle.masm_uses.specs.Plans.{IsWanted}
 use Rattle.masm_uses.specs.Plans as plans
-use Rattle.masm_uses.specs.Naming.{Dangles, Doubles, IsClosed, at_procedure, exported_of}
-use Rattle.masm_uses.proofs.LeastLemmas.{Either, Answers-same, Answers-earlier}
+use Rattle.masm_names.specs.Naming.{Dangles, Doubles, IsClosed, at_procedure, exported_of}
+use Rattle.masm_names.proofs.LeastLemmas.{Either, Answers-same, Answers-earlier}
 use Rattle.masm_uses.proofs.UsedLemmas.{unmapped, mapped, contains_at}
-use Rattle.masm_flat.specs.declared.known.KernelProc.{KernelProc}
+use Rattle.masm_blocks.specs.declared.kernel.KernelProc.{KernelProc}
 use Rattle.masm_flat.specs.declared.piece.Piece as piece
-use Rattle.masm_flat.specs.declared.shape.Extent.{Extent}
-use Rattle.masm_flat.specs.declared.shape.Size as shape
-use Rattle.masm_flat.specs.Blocks.{Block, Piece, seen_as, seen_pieces, block_of, as_tree, as_operations, whole}
-use Rattle.masm_flat.specs.Flattening.{flat_with}
+use Rattle.masm_blocks.specs.declared.extent.Extent.{Extent}
+use Rattle.masm_size.specs.declared.shape.Size as shape
+use Rattle.masm_blocks.specs.Blocks.{Block, Piece, seen_as, seen_pieces, block_of, as_tree, as_operations, whole}
+use Rattle.masm_blocks.specs.Flattening.{flat_with}
 use Rattle.masm_flat.specs.KnownLists.{list_at, lists_known}
-use Rattle.masm_flat.specs.KnownSizes.{size_at, sizes_known}
-use Rattle.masm_flat.specs.Lists.{Exported, IsList, IsBlockOf, with_locals}
-use Rattle.masm_flat.specs.Sizes.{as_extent, extent_of, size_of, procedure_size}
-use Rattle.masm_flat.proofs.Flattened.{seen-block}
-use Rattle.masm_flat.proofs.Sized.{operations-block, procedure-sized}
+use Rattle.masm_size.specs.KnownSizes.{size_at, sizes_known}
+use Rattle.masm_blocks.specs.Lists.{Exported, IsList, IsBlockOf, with_locals}
+use Rattle.masm_size.specs.Sizes.{as_extent, extent_of, size_of, procedure_size}
+use Rattle.masm_blocks.proofs.Flattened.{seen-block}
+use Rattle.masm_size.proofs.Sized.{operations-block, procedure-sized}
 use Rattle.masm_link.specs.declared.linking.Linked.{Linked}
 use Rattle.masm_link.specs.declared.linking.Measured.{Measured}
-use Rattle.masm_link.specs.Building.{IsBuilt, AreBuilt, none, exported, inner}
-use Rattle.masm_link.specs.Kernels.{IsExport, AreExports, names_in}
-use Rattle.masm_link.specs.Limits.{IsOver}
+use Rattle.masm_tables.specs.Building.{AreBuilt, none, exported, inner}
+use Rattle.masm_tables.specs.Kernels.{IsExport, AreExports, names_in, names_of}
+use Rattle.masm_tables.specs.Limits.{IsOver}
 use Rattle.masm_link.specs.Measures.{IsMeasured, AreReady, IsLinked}
-use Rattle.masm_link.specs.Refusals.{IsTooLarge, too_many_operations, Oversized, names_of, RefusesAt, double, dangling, oversized}
-use Rattle.masm_link.specs.Tables.{AreLists}
-use Rattle.masm_link.proofs.Closed.{Behind, uses_main, uses_wanted}
-use Rattle.masm_link.proofs.Exist.{list_of_procedure, list_of_main}
-use Rattle.masm_link.proofs.Finding.{names_same}
-use Rattle.masm_link.proofs.Known.{has_operations, sizes_fit, listed}
+use Rattle.masm_link.specs.Refusals.{IsTooLarge, too_many_operations, Oversized, RefusesAt, double, dangling, oversized}
+use Rattle.masm_tables.specs.Tables.{AreLists}
+use Rattle.masm_tables.proofs.Closed.{Behind, uses_main, uses_wanted}
+use Rattle.masm_tables.proofs.Exist.{list_of_procedure, list_of_main}
+use Rattle.masm_tables.proofs.Finding.{names_same}
+use Rattle.masm_tables.proofs.Known.{has_operations, sizes_fit, listed}
 use Rattle.masm_link.proofs.Over.{Answers-fewer, extents_agree, some_operation, the_block_is, over_large, large_over, Answers-oversized}
 
 abbrev no_block : Option Block
@@ -124,24 +124,6 @@ module _ (procs : List Procedure) (exports : List Exported) (sizes : List shape.
   own_of (inner {procs = front} {exports = out} p before is) ready =
       let rest = own_of before (λ place q here. ready place q (got_before front (p ∷ []) place q here)) in
       (rest.0, subst (λ ps. AllZip IsOwn ps rest.0) (sym (one_more front p false is ∙ append-nil (exported_of (map procedure_of front)))) rest.1, rest.2)
-
--- one more procedure, exported or not
-module _ (sizes : List shape.Size) (lists : List (Vec piece.Piece Global)) (procs : List Proc) (i : ℕ) (p : Proc) (below : i < length procs)
-    (is : p ≡ get_or procs i p) where
-  longer : take (i + 1) procs ≡ take i procs ++ p ∷ []
-  longer = take_more procs i p below ∙ ap (λ q. take i procs ++ q ∷ []) (sym is)
-
-  pub built_more : (out new : List KernelProc) (export : KernelProc) → AreBuilt sizes lists (take i procs) out → p.exported ≡ true
-      → IsBuilt sizes lists i p export → new ≡ out ++ export ∷ [] → AreBuilt sizes lists (take (i + 1) procs) new
-  built_more out new export before is_so built e =
-      subst (AreBuilt sizes lists (take (i + 1) procs)) (sym e)
-      (subst (λ ps. AreBuilt sizes lists ps (out ++ export ∷ [])) (sym longer)
-      (exported p export before is_so (subst (λ k. IsBuilt sizes lists k p export) (sym (length-take-le i procs (omega arith))) built)))
-
-  pub built_same : (out new : List KernelProc) → AreBuilt sizes lists (take i procs) out → p.exported ≡ false → new ≡ out → AreBuilt sizes lists (take
-      (i + 1) procs) new
-  built_same out new before not_so e =
-      subst (AreBuilt sizes lists (take (i + 1) procs)) (sym e) (subst (λ ps. AreBuilt sizes lists ps out) (sym longer) (inner p before not_so))
 
 pub some_same : {A B C : Type 0} (f : A → C) (g : B → C) (a : Option A) (b : Option B) → option_map f a ≡ option_map g b → is_some a ≡ is_some b
 some_same f g None None e = refl

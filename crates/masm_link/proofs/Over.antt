@@ -5,28 +5,28 @@ use Rattle.std.proofs.lemmas.Bool.Decides.{nat_tests}
 use Rattle.std.proofs.lemmas.List.Elements.{Contains-append_left, Contains-append_right, Contains-append_cases}
 use Rattle.std.specs.List.{Contains}
 use Rattle.std.specs.Option.{option_to_list}
-use Rattle.masm_parse.specs.declared.tree.Position.{Position}
-use Rattle.masm_parse.specs.Trees.{Procedure, Source}
-use Rattle.masm_uses.specs.declared.refusal.LinkCause.{LinkCause}
-use Rattle.masm_uses.specs.declared.refusal.LinkCause.TheVariants as causes
-use Rattle.masm_uses.specs.declared.refusal.Refusal.{Refusal}
-use Rattle.masm_uses.specs.Among.{Among}
-use Rattle.masm_uses.specs.Causes.{order}
-use Rattle.masm_uses.specs.Earlier.{earlier}
-use Rattle.masm_uses.specs.Least.{Answers}
-use Rattle.masm_uses.specs.Naming.{at_procedure}
-use Rattle.masm_uses.proofs.LeastLemmas.{Either, Answers-same, Answers-earlier, no_later-trans}
+use Rattle.masm_tree.specs.declared.tree.Position.{Position}
+use Rattle.masm_tree.specs.Trees.{Procedure, Source}
+use Rattle.masm_names.specs.declared.refusal.LinkCause.{LinkCause}
+use Rattle.masm_names.specs.declared.refusal.LinkCause.TheVariants as causes
+use Rattle.masm_names.specs.declared.refusal.Refusal.{Refusal}
+use Rattle.masm_names.specs.Among.{Among}
+use Rattle.masm_names.specs.Causes.{order}
+use Rattle.masm_names.specs.Earlier.{earlier}
+use Rattle.masm_names.specs.Least.{Answers}
+use Rattle.masm_names.specs.Naming.{at_procedure}
+use Rattle.masm_names.proofs.LeastLemmas.{Either, Answers-same, Answers-earlier, no_later-trans}
 use Rattle.masm_uses.proofs.UsedLemmas.{contains_at, at_contains}
-use Rattle.masm_uses.proofs.UseOrderLemmas.{cons_here}
-use Rattle.masm_flat.specs.declared.shape.Extent.{Extent}
-use Rattle.masm_flat.specs.Blocks.{Block, Piece, seen_as, seen_pieces, block_of, as_operations, as_height}
-use Rattle.masm_flat.specs.Lists.{Exported, IsList, IsBlockOf, with_locals}
-use Rattle.masm_flat.specs.Sizes.{as_extent, extent_of, size_of}
-use Rattle.masm_flat.proofs.Flattened.{seen-block}
-use Rattle.masm_flat.proofs.Once.{list_once}
-use Rattle.masm_flat.proofs.Sized.{HasOperations, list-solid, solid-locals, some-whole, operations-block, height-block}
-use Rattle.masm_flat.proofs.SizeLaws.{Agree, extent-whole}
-use Rattle.masm_link.specs.Limits.{size_cause, IsOver}
+use Rattle.masm_names.proofs.DoubleLemmas.{cons_here}
+use Rattle.masm_blocks.specs.declared.extent.Extent.{Extent}
+use Rattle.masm_blocks.specs.Blocks.{Block, Piece, seen_as, seen_pieces, block_of, as_operations, as_height}
+use Rattle.masm_blocks.specs.Lists.{Exported, IsList, IsBlockOf, with_locals}
+use Rattle.masm_size.specs.Sizes.{as_extent, extent_of, size_of}
+use Rattle.masm_blocks.proofs.Flattened.{seen-block}
+use Rattle.masm_blocks.proofs.Once.{list_once}
+use Rattle.masm_size.proofs.Sized.{HasOperations, list-solid, solid-locals, some-whole, operations-block, height-block}
+use Rattle.masm_size.proofs.SizeLaws.{Agree, extent-whole}
+use Rattle.masm_tables.specs.Limits.{size_cause, IsOver}
 use Rattle.masm_link.specs.Refusals.{IsTooLarge, too_many_operations, too_deep, Oversized}
 
 -- fewer refusals, where each of the others stands behind one of them at the same place
@@ -39,9 +39,6 @@ Answers-fewer P Q (Some r) to from least = record {
       let p = from other why q in
       no_later-trans r.at r.cause other p.0 other why (least.first other p.0 p.1) (inr (refl, p.2));
 }
-
-pub over_same : (a b : Position) (e f : Extent) (r : Option Refusal) → a ≡ b → e ≡ f → Answers (IsOver a e) r → Answers (IsOver b f) r
-over_same a b e f r is_at is_extent h = subst (λ x. Answers (IsOver x f) r) is_at (subst (λ x. Answers (IsOver a x) r) is_extent h)
 
 -- what the test of an extent says
 over_operations : (e : Extent) → 524288 < e.operations → size_cause e ≡ Some causes.TooManyOps

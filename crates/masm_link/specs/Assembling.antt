@@ -11,13 +11,13 @@ use Rattle.masm_lex.specs.declared.refusal.LexError.TheVariants as lexing
 use Rattle.masm_lex.specs.Tokens.{lexed}
 use Rattle.masm_parse.specs.declared.refusal.ParseError.{ParseError}
 use Rattle.masm_parse.specs.declared.refusal.ParseError.TheVariants as parsing
-use Rattle.masm_parse.specs.declared.tree.Position.{Position}
+use Rattle.masm_tree.specs.declared.tree.Position.{Position}
 use Rattle.masm_parse.specs.Machine.{parsed}
-use Rattle.masm_parse.specs.Trees.{Source}
-use Rattle.masm_flat.specs.Blocks.{Block, seen_as, as_tree}
-use Rattle.masm_flat.specs.Lists.{Exported}
-use Rattle.masm_uses.specs.declared.refusal.LinkCause.{LinkCause}
-use Rattle.masm_uses.specs.Least.{IsLeast}
+use Rattle.masm_tree.specs.Trees.{Source}
+use Rattle.masm_blocks.specs.Blocks.{Block, seen_as, as_tree}
+use Rattle.masm_blocks.specs.Lists.{Exported}
+use Rattle.masm_names.specs.declared.refusal.LinkCause.{LinkCause}
+use Rattle.masm_names.specs.Least.{IsLeast}
 use Rattle.masm_link.specs.declared.refusal.AsmCause.TheVariants.{Lexical}
 use Rattle.masm_link.specs.declared.refusal.AsmError.{AsmError}
 use Rattle.masm_link.specs.declared.refusal.AsmError.TheVariants.{Bad, Memory}

@@ -2,10 +2,10 @@
 use Rattle.std.specs.Prelude.{ℕ, List, codes}
 use Rattle.masm_link.specs.declared.refusal.AsmCause.{AsmCause}
 use Rattle.masm_link.specs.declared.refusal.AsmCause.TheVariants as causes
-use Rattle.masm_parse.specs.declared.refusal.Cause.{Cause}
-use Rattle.masm_parse.specs.declared.refusal.Cause.TheVariants as parsing
-use Rattle.masm_uses.specs.declared.refusal.LinkCause.{LinkCause}
-use Rattle.masm_uses.specs.declared.refusal.LinkCause.TheVariants as linking
+use Rattle.masm_tree.specs.declared.refusal.Cause.{Cause}
+use Rattle.masm_tree.specs.declared.refusal.Cause.TheVariants as parsing
+use Rattle.masm_names.specs.declared.refusal.LinkCause.{LinkCause}
+use Rattle.masm_names.specs.declared.refusal.LinkCause.TheVariants as linking
 
 abbrev pub parse_cause : Cause → AsmCause
 parse_cause parsing.KernelBody = causes.KernelBody

@@ -1,10 +1,6 @@
 pub mod Assembling
-pub mod Building
 pub mod Causes
-pub mod Kernels
 pub mod Laws
-pub mod Limits
 pub mod Measures
 pub mod Programs
 pub mod Refusals
-pub mod Tables

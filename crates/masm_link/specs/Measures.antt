@@ -3,31 +3,31 @@ use Rattle.std.specs.Prelude.{◌≡◌, ℕ, ◌≤◌, true, List, length, Opt
 use Rattle.std.specs.Global.{Global}
 use Rattle.std.specs.Option.{option_map}
 use Rattle.block_tree.specs.TreeView.{tree_of}
-use Rattle.masm_parse.specs.declared.tree.Position.{Position}
-use Rattle.masm_parse.specs.Trees.{Procedure, Source}
-use Rattle.masm_flat.specs.declared.known.KernelProc.{KernelProc}
+use Rattle.masm_tree.specs.declared.tree.Position.{Position}
+use Rattle.masm_tree.specs.Trees.{Procedure, Source}
+use Rattle.masm_blocks.specs.declared.kernel.KernelProc.{KernelProc}
 use Rattle.masm_flat.specs.declared.piece.Piece as piece
-use Rattle.masm_flat.specs.declared.shape.Size as shape
-use Rattle.masm_flat.specs.Blocks.{Block, seen_as, as_tree, as_operations, whole}
+use Rattle.masm_size.specs.declared.shape.Size as shape
+use Rattle.masm_blocks.specs.Blocks.{Block, seen_as, as_tree, as_operations, whole}
 use Rattle.masm_flat.specs.KnownLists.{list_at}
-use Rattle.masm_flat.specs.KnownSizes.{size_at}
-use Rattle.masm_flat.specs.Lists.{Exported, IsBlockOf}
-use Rattle.masm_flat.specs.Sizes.{as_extent, extent_of}
-use Rattle.masm_uses.specs.declared.refusal.LinkCause.{LinkCause}
-use Rattle.masm_uses.specs.declared.refusal.Refusal.{Refusal}
-use Rattle.masm_uses.specs.Least.{IsLeast}
-use Rattle.masm_uses.specs.Names.{place_at}
-use Rattle.masm_uses.specs.Naming.{IsClosed}
+use Rattle.masm_size.specs.KnownSizes.{size_at}
+use Rattle.masm_blocks.specs.Lists.{Exported, IsBlockOf}
+use Rattle.masm_size.specs.Sizes.{as_extent, extent_of}
+use Rattle.masm_names.specs.declared.refusal.LinkCause.{LinkCause}
+use Rattle.masm_names.specs.declared.refusal.Refusal.{Refusal}
+use Rattle.masm_names.specs.Least.{IsLeast}
+use Rattle.masm_names.specs.Names.{place_at}
+use Rattle.masm_names.specs.Naming.{IsClosed}
 use Rattle.masm_uses.specs.Plans.{IsPlan}
 use Rattle.masm_uses.specs.UseOrders.{IsUseOrder}
-use Rattle.masm_uses.specs.Uses.{first_place}
+use Rattle.masm_names.specs.Uses.{first_place}
 use Rattle.masm_link.specs.declared.linking.Linked.{Linked}
 use Rattle.masm_link.specs.declared.linking.Measured.{Measured}
 use Rattle.masm_link.specs.declared.linking.Stop.{Stop}
 use Rattle.masm_link.specs.declared.linking.Stop.TheVariants.{Refused, Memory}
-use Rattle.masm_link.specs.Kernels.{AreExports, names_in}
+use Rattle.masm_tables.specs.Kernels.{AreExports, names_in}
 use Rattle.masm_link.specs.Refusals.{RefusesAt, Links}
-use Rattle.masm_link.specs.Tables.{AreSizes}
+use Rattle.masm_tables.specs.Tables.{AreSizes}
 
 -- no use leads nowhere or back, and these are the procedures in order, the steps that build lists, and the sizes of all lists
 pub record IsMeasured (source : Source) (kernel : List KernelProc) (m : Measured) : Type 0 where

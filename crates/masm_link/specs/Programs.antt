@@ -4,16 +4,16 @@ use Rattle.std.specs.Global.{Global}
 use Rattle.block_tree.specs.declared.exports.Export.{Export}
 use Rattle.block_tree.specs.Trees.{tree_digest}
 use Rattle.block_tree.specs.TreeView.{tree_of}
-use Rattle.masm_flat.specs.declared.known.KernelProc.{KernelProc}
-use Rattle.masm_flat.specs.Lists.{Exported}
-use Rattle.masm_parse.specs.declared.tree.Ast.{Ast}
-use Rattle.masm_parse.specs.Trees.{Source}
-use Rattle.masm_parse.specs.Views.{source_of}
+use Rattle.masm_blocks.specs.declared.kernel.KernelProc.{KernelProc}
+use Rattle.masm_blocks.specs.Lists.{Exported}
+use Rattle.masm_tree.specs.declared.tree.Ast.{Ast}
+use Rattle.masm_tree.specs.Trees.{Source}
+use Rattle.masm_tree.specs.Views.{source_of}
 use Rattle.masm_link.specs.declared.linking.Linked.{Linked}
 use Rattle.masm_link.specs.declared.refusal.AsmError.{AsmError}
 use Rattle.masm_link.specs.declared.refusal.AsmError.TheVariants.{Memory}
 use Rattle.masm_link.specs.Assembling.{reads, Refuses, KernelExports}
-use Rattle.masm_link.specs.Kernels.{AreExports}
+use Rattle.masm_tables.specs.Kernels.{AreExports}
 use Rattle.masm_link.specs.Measures.{IsLinked}
 
 -- an answer of the reader is that of the definition, or the want of memory

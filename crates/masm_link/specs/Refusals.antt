@@ -1,15 +1,16 @@
 -- What is refused once a source is read, and what a source that is not refused links to (docs/ASSEMBLY.md).
-pub use Rattle.masm_uses.specs.Least.{IsBefore, IsLeast, Answers}
-pub use Rattle.masm_uses.specs.Naming.{at_constant, at_procedure, exported_of, Dangles, IsClosed, Doubles}
-use Rattle.std.specs.Prelude.{◌≡◌, ℕ, ◌<◌, List, map, Option, Some, None, MatchOption}
+pub use Rattle.masm_names.specs.Least.{IsBefore, IsLeast, Answers}
+pub use Rattle.masm_names.specs.Naming.{at_constant, at_procedure, exported_of, Dangles, IsClosed, Doubles}
+use Rattle.std.specs.Prelude.{◌≡◌, ◌<◌, List, Option, Some, None, MatchOption}
 use Rattle.std.specs.List.{AllZip, Any}
-use Rattle.masm_parse.specs.declared.tree.Position.{Position}
-use Rattle.masm_parse.specs.Trees.{Procedure, Source}
-use Rattle.masm_uses.specs.declared.refusal.LinkCause.{LinkCause}
-use Rattle.masm_uses.specs.declared.refusal.LinkCause.TheVariants as causes
-use Rattle.masm_flat.specs.Blocks.{Block, seen_as, as_operations, as_height}
-use Rattle.masm_flat.specs.Lists.{Exported, IsBlockOf}
-use Rattle.masm_uses.specs.Uses.{bodies_of}
+use Rattle.masm_tree.specs.declared.tree.Position.{Position}
+use Rattle.masm_tree.specs.Trees.{Procedure, Source}
+use Rattle.masm_names.specs.declared.refusal.LinkCause.{LinkCause}
+use Rattle.masm_names.specs.declared.refusal.LinkCause.TheVariants as causes
+use Rattle.masm_blocks.specs.Blocks.{Block, seen_as, as_operations, as_height}
+use Rattle.masm_blocks.specs.Lists.{Exported, IsBlockOf}
+use Rattle.masm_names.specs.Uses.{bodies_of}
+use Rattle.masm_tables.specs.Kernels.{names_of}
 
 -- a procedure whose tree is too large
 pub data IsTooLarge (procs : List Procedure) (kernel : List Exported) (p : Procedure) : Position → LinkCause → Type 0 where
@@ -20,9 +21,6 @@ pub data IsTooLarge (procs : List Procedure) (kernel : List Exported) (p : Proce
 
 abbrev pub Oversized : Source → List Exported → Position → LinkCause → Type 0
 Oversized source kernel at cause = Any (λ p. IsTooLarge source.procs kernel p at cause) (bodies_of source)
-
-abbrev pub names_of : List Exported → List (List ℕ)
-names_of kernel = map (λ e. e.name) kernel
 
 -- The places and causes of a source that is refused. Sizes are tested only where no use leads nowhere or back.
 pub data RefusesAt (source : Source) (kernel : List Exported) (at : Position) (cause : LinkCause) : Type 0 where

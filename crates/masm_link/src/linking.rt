@@ -1,28 +1,26 @@
 ghost use Rattle.std.specs.Prelude.{◌≡◌, ℕ, List, Some, is_some, IfOk};
-ghost use Rattle.masm_flat.specs.Lists.{Exported};
+ghost use Rattle.masm_blocks.specs.Lists.{Exported};
 ghost use Rattle.masm_link.specs.declared.linking.Stop.TheVariants as stops;
-ghost use Rattle.masm_link.specs.Kernels.{AreExports, names_in};
+ghost use Rattle.masm_tables.specs.Kernels.{AreExports, names_in};
 ghost use Rattle.masm_link.specs.Measures.{IsMeasured, IsClean, Measures, IsLinked, LinksTo};
 ghost use Rattle.masm_link.specs.Refusals.{Oversized};
-ghost use Rattle.masm_parse.specs.Locals.{SourceFits};
-ghost use Rattle.masm_parse.specs.Views.{source_of};
-ghost use Rattle.masm_uses.specs.Earlier.{earlier};
-ghost use Rattle.masm_uses.specs.Least.{Answers};
-ghost use Rattle.masm_uses.specs.Names.{place_at};
-ghost use Rattle.masm_uses.specs.Naming.{IsClosed};
-ghost use Rattle.masm_uses.specs.Uses.{first_place};
+ghost use Rattle.masm_tree.specs.Locals.{SourceFits};
+ghost use Rattle.masm_tree.specs.Views.{source_of};
+ghost use Rattle.masm_names.specs.Earlier.{earlier};
+ghost use Rattle.masm_names.specs.Least.{Answers};
+ghost use Rattle.masm_names.specs.Names.{place_at};
+ghost use Rattle.masm_names.specs.Naming.{IsClosed};
+ghost use Rattle.masm_names.specs.Uses.{first_place};
 
-use crate::building::{exports_of, main_tree};
-use crate::kernel::export_names;
-use crate::limits::{first_too_large, main_too_large};
-use crate::listing::lists_of;
-use crate::sizing::sizes_of;
 use block_tree::Tree;
-use masm_flat::{Kernel, KernelProc, Size};
-use masm_parse::Ast;
-use masm_uses::{
-    Names, Plan, Refusal, Step, earlier, first_dangling, first_double, procedure_names, use_plan,
+use masm_blocks::{Kernel, KernelProc};
+use masm_names::{Names, Refusal, earlier, first_double, procedure_names};
+use masm_size::Size;
+use masm_tables::{
+    export_names, exports_of, first_too_large, lists_of, main_too_large, main_tree, sizes_of,
 };
+use masm_tree::Ast;
+use masm_uses::{Plan, Step, first_dangling, use_plan};
 use std::alloc::{AllocError, Global};
 use thiserror::Error;
 use vm_field::{Bytes, Memory};
@@ -159,7 +157,7 @@ fn built(
 {
     let lists = lists_of(alloc, ast, &measured.names, kernel, &measured.steps)?;
     let exports = exports_of(alloc, &ast.procs, &measured.sizes, &lists)?;
-    let main = main_tree(alloc, &measured.names, kernel, &ast.main, &lists)?;
+    let main = main_tree(alloc, &measured.names, kernel, &ast.main, lists)?;
     Ok(Linked { exports, main })
 }
 

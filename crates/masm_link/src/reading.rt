@@ -1,12 +1,13 @@
 ghost use Rattle.std.specs.Prelude.{◌≡◌, ◌≤◌, length, not, is_some, IfOk};
 ghost use Rattle.masm_link.specs.Assembling.{reads};
 ghost use Rattle.masm_link.specs.Programs.{Gives};
-ghost use Rattle.masm_parse.specs.Locals.{SourceFits};
-ghost use Rattle.masm_parse.specs.Views.{source_of};
+ghost use Rattle.masm_tree.specs.Locals.{SourceFits};
+ghost use Rattle.masm_tree.specs.Views.{source_of};
 
 use crate::refusal::{AsmError, lex_refusal, parse_refusal};
 use masm_lex::{MAX_SOURCE, lex};
-use masm_parse::{Ast, least_refusal, locals_fit, parse};
+use masm_parse::{least_refusal, locals_fit, parse};
+use masm_tree::Ast;
 use std::alloc::Global;
 
 // The syntax tree of a source, a kernel's or a program's, or its first refusal.

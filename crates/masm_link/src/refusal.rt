@@ -4,8 +4,9 @@ ghost use Rattle.masm_link.specs.Assembling.{lex_refusal, parse_refusal, link_re
 ghost use Rattle.masm_link.specs.Causes.{text_of_cause, parse_cause, link_cause};
 
 use masm_lex::LexError;
-use masm_parse::{Cause, ParseError};
-use masm_uses::{LinkCause, Refusal};
+use masm_names::{LinkCause, Refusal};
+use masm_parse::ParseError;
+use masm_tree::Cause;
 use std::alloc::{AllocError, AllocFailed};
 use std::fmt;
 use thiserror::Error;

@@ -7,18 +7,19 @@ use Rattle.instr_reading.specs.declared.constant.Const.{Const}
 use Rattle.masm_lex.specs.declared.place.Place.{Place}
 use Rattle.masm_lex.specs.declared.list.Token.{Token}
 use Rattle.masm_lex.specs.Tokens.{place_after, text_of}
-use Rattle.masm_parse.specs.declared.refusal.Cause.{Cause}
-use Rattle.masm_parse.specs.declared.refusal.Cause.TheVariants as causes
+use Rattle.masm_tree.specs.declared.refusal.Cause.{Cause}
+use Rattle.masm_tree.specs.declared.refusal.Cause.TheVariants as causes
 use Rattle.masm_parse.specs.declared.refusal.ParseError.{ParseError}
 use Rattle.masm_parse.specs.declared.refusal.ParseError.TheVariants.{Bad, Memory}
-use Rattle.masm_parse.specs.declared.terminal.Terminal.{Terminal}
-use Rattle.masm_parse.specs.declared.terminal.Terminal.TheVariants as terminals
-use Rattle.masm_parse.specs.declared.terminal.Symbol.{Symbol}
-use Rattle.masm_parse.specs.Causes.{order}
-use Rattle.masm_parse.specs.Classify.{Context, known_after, classify}
-use Rattle.masm_parse.specs.Trees.{Procedure, Source}
+use Rattle.masm_tree.specs.declared.terminal.Terminal.{Terminal}
+use Rattle.masm_tree.specs.declared.terminal.Terminal.TheVariants as terminals
+use Rattle.masm_tree.specs.declared.terminal.Symbol.{Symbol}
+use Rattle.masm_tree.specs.Causes.{order}
+use Rattle.masm_tree.specs.Classify.{Context, known_after, classify}
+use Rattle.masm_tree.specs.Trees.{Procedure, Source}
 use Rattle.masm_parse.specs.Machine.{Configuration, Top, Inside, Behind, Parse, shift, is_too_deep, advance, moved, step, at_of, ended, parse_from, start, parsed}
-use Rattle.masm_parse.specs.Grammar.{none, IsWhole, IsSource, constants}
+use Rattle.masm_parse.specs.Grammar.{none, IsWhole, IsSource}
+use Rattle.masm_tree.specs.Terminals.{constants}
 use Rattle.masm_parse.specs.Refusals.{symbols_of, terminals_of, source_symbols, Fits, IsTooDeep, Stands, RefusesAt, Parses, at_first, Answers, LeastRefusal, ParsesOnce}
 use Rattle.masm_parse.proofs.Complete.{run, run-append, last_configuration, whole_runs, dies}
 use Rattle.masm_parse.proofs.Standing.{Standing, StandingIf, kept, Finishes, finish, finished_source, fits}

@@ -1,4 +1,3 @@
-pub mod KeywordLemmas
 pub mod Mirror
 pub mod Complete
 pub mod Standing
@@ -7,6 +6,5 @@ pub mod Settling
 pub mod Least
 pub mod Fitting
 pub mod Positions
-pub mod TerminalPositions
 pub mod Ordering
 pub mod Forming

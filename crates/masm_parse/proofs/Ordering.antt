@@ -8,23 +8,24 @@ use Rattle.masm_lex.specs.declared.list.Token.{Token}
 use Rattle.masm_lex.specs.Tokens.{place_after, text_of, lexed}
 use Rattle.masm_lex.specs.Order.{Ascends, Precedes}
 use Rattle.masm_lex.proofs.Ascending.{tokens_ascend}
-use Rattle.masm_parse.specs.declared.refusal.Cause.{Cause}
+use Rattle.masm_tree.specs.declared.refusal.Cause.{Cause}
 use Rattle.masm_parse.specs.declared.refusal.ParseError.{ParseError}
 use Rattle.masm_parse.specs.declared.refusal.ParseError.TheVariants.{Bad}
-use Rattle.masm_parse.specs.declared.terminal.Terminal.{Terminal}
-use Rattle.masm_parse.specs.declared.terminal.Terminal.TheVariants as terminals
-use Rattle.masm_parse.specs.declared.terminal.Symbol.{Symbol}
-use Rattle.masm_parse.specs.declared.tree.Position.{Position}
-use Rattle.masm_parse.specs.declared.tree.Ast.{Ast}
-use Rattle.masm_parse.specs.Grammar.{constants}
+use Rattle.masm_tree.specs.declared.terminal.Terminal.{Terminal}
+use Rattle.masm_tree.specs.declared.terminal.Terminal.TheVariants as terminals
+use Rattle.masm_tree.specs.declared.terminal.Symbol.{Symbol}
+use Rattle.masm_tree.specs.declared.tree.Position.{Position}
+use Rattle.masm_tree.specs.declared.tree.Ast.{Ast}
+use Rattle.masm_tree.specs.Terminals.{constants, const_positions, terminal_positions}
 use Rattle.masm_parse.specs.Machine.{Configuration, Top, Inside, Behind, Parse, start, shift, settled, moved, at_of, step, ended, parse_from, parsed}
-use Rattle.masm_parse.specs.Order.{IsBefore, body_positions, position_of, procedure_positions, main_positions, const_positions, IsInOrder, TreesAreInOrder, ProceduresAscend}
-use Rattle.masm_parse.specs.Trees.{Procedure, Source}
-use Rattle.masm_parse.specs.Views.{source_of, Gives}
-use Rattle.masm_parse.specs.Classify.{Context, known_after, classify}
+use Rattle.masm_parse.specs.Order.{IsBefore, body_positions, position_of, procedure_positions, main_positions, IsInOrder, TreesAreInOrder, ProceduresAscend}
+use Rattle.masm_tree.specs.Trees.{Procedure, Source}
+use Rattle.masm_tree.specs.Views.{source_of}
+use Rattle.masm_parse.specs.Views.{Gives}
+use Rattle.masm_tree.specs.Classify.{Context, known_after, classify}
 use Rattle.masm_parse.proofs.Fitting.{same_tree}
-use Rattle.masm_parse.proofs.Positions.{terminal_positions, procs_positions, configuration_positions, HasPositions, positions_shifted}
-use Rattle.masm_parse.proofs.TerminalPositions.{AreAt, IsAt, at-symbol}
+use Rattle.masm_parse.proofs.Positions.{procs_positions, configuration_positions, HasPositions, positions_shifted}
+use Rattle.masm_tree.proofs.TerminalPositions.{AreAt, IsAt, at-symbol}
 
 -- an element less
 each_less : (P : Position → Type 0) (xs ys : List Position) (y : Position) → AllByRecursion P (xs ++ y ∷ ys) → AllByRecursion P (xs ++ ys)

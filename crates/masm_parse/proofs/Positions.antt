@@ -1,26 +1,16 @@
 -- The places that what the parser holds has, and those that a token adds.
 use Rattle.std.proofs.Common.{◌≡◌, Bool, true, false, cond, List, [], ◌∷◌, ◌++◌, Option, Some, None, refl, ap, sym, ◌∙◌, append_assoc, append-nil}
 use Rattle.std.specs.List.{flat_map}
-use Rattle.masm_parse.specs.declared.tree.Position.{Position}
-use Rattle.masm_parse.specs.declared.terminal.Role.{Role}
-use Rattle.masm_parse.specs.declared.terminal.Role.TheVariants as roles
-use Rattle.masm_parse.specs.declared.terminal.Header.{Header}
-use Rattle.masm_parse.specs.declared.terminal.Terminal.{Terminal}
-use Rattle.masm_parse.specs.declared.terminal.Terminal.TheVariants as terminals
-use Rattle.masm_parse.specs.Trees.{Body, Empty, Leaf_then, If_then, While_then, Repeat_then, Procedure, append}
-use Rattle.masm_parse.specs.Machine.{Open, In_if, In_else, In_while, In_repeat, Configuration, Top, Inside, Behind, may_begin, procedure, reduce, closed, shift}
+use Rattle.masm_tree.specs.declared.tree.Position.{Position}
+use Rattle.masm_tree.specs.declared.terminal.Role.{Role}
+use Rattle.masm_tree.specs.declared.terminal.Role.TheVariants as roles
+use Rattle.masm_tree.specs.declared.terminal.Header.{Header}
+use Rattle.masm_tree.specs.declared.terminal.Terminal.{Terminal}
+use Rattle.masm_tree.specs.declared.terminal.Terminal.TheVariants as terminals
+use Rattle.masm_tree.specs.Trees.{Body, Empty, Leaf_then, If_then, While_then, Repeat_then, Procedure, append}
+use Rattle.masm_parse.specs.Machine.{Open, In_if, In_else, In_while, In_repeat, Configuration, Top, Inside, Behind, procedure, reduce, closed, shift}
+use Rattle.masm_tree.specs.Terminals.{may_begin, terminal_positions}
 use Rattle.masm_parse.specs.Order.{body_positions, procedure_positions}
-
--- the place that a token adds to those of procedures and statements
-abbrev pub terminal_positions : Terminal → List Position
-terminal_positions (terminals.Const c) = []
-terminal_positions (terminals.Header header) = header.at ∷ []
-terminal_positions (terminals.Leaf at leaf) = at ∷ []
-terminal_positions (terminals.If at) = at ∷ []
-terminal_positions terminals.Else = []
-terminal_positions (terminals.While at) = at ∷ []
-terminal_positions (terminals.Repeat at times) = at ∷ []
-terminal_positions terminals.End = []
 
 abbrev pub open_positions : Open → List Position
 open_positions (In_if at before) = body_positions before ++ at ∷ []

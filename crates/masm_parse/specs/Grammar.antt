@@ -1,14 +1,15 @@
 -- The grammar of sources, over the terminals of their tokens: which lists of terminals spell which trees.
 use Rattle.std.specs.Prelude.{◌≡◌, ℕ, Bool, true, false, List, [], ◌∷◌, ◌++◌, Option, Some, None}
 use Rattle.instr_reading.specs.declared.constant.Const.{Const}
-use Rattle.masm_parse.specs.declared.tree.Position.{Position}
-use Rattle.masm_parse.specs.declared.terminal.Role.{Role}
-use Rattle.masm_parse.specs.declared.terminal.Role.TheVariants as roles
-use Rattle.masm_parse.specs.declared.terminal.Header.{Header}
-use Rattle.masm_parse.specs.declared.terminal.Leaf.{Leaf}
-use Rattle.masm_parse.specs.declared.terminal.Terminal.{Terminal}
-use Rattle.masm_parse.specs.declared.terminal.Terminal.TheVariants as terminals
-use Rattle.masm_parse.specs.Trees.{Body, Empty, Leaf_then, If_then, While_then, Repeat_then, Procedure, Source}
+use Rattle.masm_tree.specs.declared.tree.Position.{Position}
+use Rattle.masm_tree.specs.declared.terminal.Role.{Role}
+use Rattle.masm_tree.specs.declared.terminal.Role.TheVariants as roles
+use Rattle.masm_tree.specs.declared.terminal.Header.{Header}
+use Rattle.masm_tree.specs.declared.terminal.Leaf.{Leaf}
+use Rattle.masm_tree.specs.declared.terminal.Terminal.{Terminal}
+use Rattle.masm_tree.specs.declared.terminal.Terminal.TheVariants as terminals
+use Rattle.masm_tree.specs.Terminals.{constants}
+use Rattle.masm_tree.specs.Trees.{Body, Empty, Leaf_then, If_then, While_then, Repeat_then, Procedure, Source}
 use Rattle.masm_parse.specs.Machine.{procedure}
 
 -- these tokens spell this body
@@ -57,18 +58,6 @@ IsWhole true procs None ts = SpellsProcs true procs ts
 IsWhole true procs (Some main) ts = ⊥
 IsWhole false procs None ts = ⊥
 IsWhole false procs (Some main) ts = SpellsMain procs main ts
-
--- the constants of the tokens, in order
-abbrev pub constants : List Terminal → List Const
-constants [] = []
-constants (terminals.Const c ∷ ts) = c ∷ constants ts
-constants (terminals.Header header ∷ ts) = constants ts
-constants (terminals.Leaf at l ∷ ts) = constants ts
-constants (terminals.If at ∷ ts) = constants ts
-constants (terminals.Else ∷ ts) = constants ts
-constants (terminals.While at ∷ ts) = constants ts
-constants (terminals.Repeat at times ∷ ts) = constants ts
-constants (terminals.End ∷ ts) = constants ts
 
 -- these tokens spell this source, a kernel or a program
 pub record IsSource (kernel : Bool) (source : Source) (ts : List Terminal) : Type 0 where

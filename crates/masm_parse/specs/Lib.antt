@@ -1,11 +1,6 @@
-pub mod Causes
-pub mod Keywords
-pub mod Classify
-pub mod Trees
 pub mod Machine
 pub mod Views
 pub mod Grammar
 pub mod Refusals
-pub mod Locals
 pub mod Order
-pub mod Forms
+pub mod Laws

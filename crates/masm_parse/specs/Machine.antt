@@ -5,20 +5,21 @@ use Rattle.instr_reading.specs.declared.constant.Const.{Const}
 use Rattle.masm_lex.specs.declared.place.Place.{Place}
 use Rattle.masm_lex.specs.declared.list.Token.{Token}
 use Rattle.masm_lex.specs.Tokens.{place_after, text_of}
-use Rattle.masm_parse.specs.declared.refusal.Cause.{Cause}
-use Rattle.masm_parse.specs.declared.refusal.Cause.TheVariants as causes
+use Rattle.masm_tree.specs.declared.refusal.Cause.{Cause}
+use Rattle.masm_tree.specs.declared.refusal.Cause.TheVariants as causes
 use Rattle.masm_parse.specs.declared.refusal.ParseError.{ParseError}
 use Rattle.masm_parse.specs.declared.refusal.ParseError.TheVariants.{Bad}
-use Rattle.masm_parse.specs.declared.tree.Position.{Position}
-use Rattle.masm_parse.specs.declared.terminal.Role.{Role}
-use Rattle.masm_parse.specs.declared.terminal.Role.TheVariants as roles
-use Rattle.masm_parse.specs.declared.terminal.Header.{Header}
-use Rattle.masm_parse.specs.declared.terminal.Terminal.{Terminal}
-use Rattle.masm_parse.specs.declared.terminal.Terminal.TheVariants as terminals
-use Rattle.masm_parse.specs.declared.terminal.Symbol.{Symbol}
-use Rattle.masm_parse.specs.Causes.{is_early}
-use Rattle.masm_parse.specs.Classify.{Context, no_context, known_after, classify}
-use Rattle.masm_parse.specs.Trees.{Body, Empty, Leaf_then, If_then, While_then, Repeat_then, Procedure, Source, append}
+use Rattle.masm_tree.specs.declared.tree.Position.{Position}
+use Rattle.masm_tree.specs.declared.terminal.Role.{Role}
+use Rattle.masm_tree.specs.declared.terminal.Role.TheVariants as roles
+use Rattle.masm_tree.specs.declared.terminal.Header.{Header}
+use Rattle.masm_tree.specs.declared.terminal.Terminal.{Terminal}
+use Rattle.masm_tree.specs.declared.terminal.Terminal.TheVariants as terminals
+use Rattle.masm_tree.specs.declared.terminal.Symbol.{Symbol}
+use Rattle.masm_tree.specs.Causes.{is_early}
+use Rattle.masm_tree.specs.Classify.{Context, no_context, known_after, classify}
+use Rattle.masm_tree.specs.Terminals.{may_begin, is_opening}
+use Rattle.masm_tree.specs.Trees.{Body, Empty, Leaf_then, If_then, While_then, Repeat_then, Procedure, Source, append}
 
 -- a statement that is open: the statements before it, and for an else its first body
 pub data Open : Type 0 where
@@ -33,14 +34,6 @@ pub data Configuration : Type 0 where
   Top : (procs : List Procedure) → Configuration
   Inside : (procs : List Procedure) (header : Header) (opens : List Open) (body : Body) → Configuration
   Behind : (procs : List Procedure) (main : Procedure) → Configuration
-
--- which headers may stand in a kernel, and which in a program
-abbrev pub may_begin : Bool → Role → Bool
-may_begin kernel roles.Proc = true
-may_begin true roles.Export = true
-may_begin false roles.Export = false
-may_begin true roles.Main = false
-may_begin false roles.Main = true
 
 abbrev pub is_export : Role → Bool
 is_export roles.Proc = false
@@ -108,16 +101,6 @@ abbrev pub shift_statement : Configuration → Terminal → Option Configuration
 shift_statement (Top procs) terminal = None
 shift_statement (Inside procs header opens body) terminal = shift_inside procs header opens body terminal
 shift_statement (Behind procs main) terminal = None
-
-abbrev pub is_opening : Terminal → Bool
-is_opening (terminals.Const c) = false
-is_opening (terminals.Header header) = false
-is_opening (terminals.Leaf at leaf) = false
-is_opening (terminals.If at) = true
-is_opening terminals.Else = false
-is_opening (terminals.While at) = true
-is_opening (terminals.Repeat at times) = true
-is_opening terminals.End = false
 
 -- how many statements are open
 abbrev pub depth_of : Configuration → ℕ

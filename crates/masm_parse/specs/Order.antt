@@ -1,13 +1,13 @@
 -- The order in which the parts of a tree stand in its source.
 use Rattle.std.specs.Prelude.{◌≡◌, ℕ, Bool, List, [], ◌∷◌, ◌++◌, map, Option, Some, None, Ok}
 use Rattle.std.specs.List.{flat_map}
-use Rattle.instr_reading.specs.declared.constant.Const.{Const}
 use Rattle.masm_lex.specs.declared.list.Token.{Token}
 use Rattle.masm_lex.specs.Tokens.{lexed}
 use Rattle.masm_lex.specs.Order.{Ascends, IsEarlier}
-use Rattle.masm_parse.specs.declared.tree.Position.{Position}
+use Rattle.masm_tree.specs.declared.tree.Position.{Position}
 use Rattle.masm_parse.specs.Machine.{parsed}
-use Rattle.masm_parse.specs.Trees.{Body, Empty, Leaf_then, If_then, While_then, Repeat_then, Procedure, Source}
+use Rattle.masm_tree.specs.Terminals.{const_positions}
+use Rattle.masm_tree.specs.Trees.{Body, Empty, Leaf_then, If_then, While_then, Repeat_then, Procedure, Source}
 
 abbrev pub IsBefore : Position → Position → Type 0
 IsBefore place other = IsEarlier place.line place.column other.line other.column
@@ -33,9 +33,6 @@ main_positions (Some main) = procedure_positions main
 
 abbrev pub source_positions : Source → List Position
 source_positions source = flat_map procedure_positions source.procs ++ main_positions source.main
-
-abbrev pub const_positions : List Const → List Position
-const_positions consts = map (λ c. record { line = c.line; column = c.column }) consts
 
 -- The constants of a tree stand in it in the order of its source, and so do its procedures, with begin behind them, and
 -- all their statements.

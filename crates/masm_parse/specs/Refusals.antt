@@ -3,19 +3,20 @@ use Rattle.std.specs.Prelude.{◌≡◌, ℕ, ◌+◌, ◌≤◌, Bool, true, Li
 use Rattle.masm_lex.specs.declared.place.Place.{Place}
 use Rattle.masm_lex.specs.declared.list.Token.{Token}
 use Rattle.masm_lex.specs.Tokens.{place_after, text_of}
-use Rattle.masm_parse.specs.declared.refusal.Cause.{Cause}
-use Rattle.masm_parse.specs.declared.refusal.Cause.TheVariants as causes
+use Rattle.masm_tree.specs.declared.refusal.Cause.{Cause}
+use Rattle.masm_tree.specs.declared.refusal.Cause.TheVariants as causes
 use Rattle.masm_parse.specs.declared.refusal.ParseError.{ParseError}
 use Rattle.masm_parse.specs.declared.refusal.ParseError.TheVariants.{Bad, Memory}
-use Rattle.masm_parse.specs.declared.tree.Position.{Position}
-use Rattle.masm_parse.specs.declared.terminal.Terminal.{Terminal}
-use Rattle.masm_parse.specs.declared.terminal.Terminal.TheVariants as terminals
-use Rattle.masm_parse.specs.declared.terminal.Symbol.{Symbol}
-use Rattle.masm_parse.specs.Causes.{order}
-use Rattle.masm_parse.specs.Classify.{Context, no_context, known_after, classify}
-use Rattle.masm_parse.specs.Trees.{Source}
+use Rattle.masm_tree.specs.declared.tree.Position.{Position}
+use Rattle.masm_tree.specs.declared.terminal.Terminal.{Terminal}
+use Rattle.masm_tree.specs.declared.terminal.Terminal.TheVariants as terminals
+use Rattle.masm_tree.specs.declared.terminal.Symbol.{Symbol}
+use Rattle.masm_tree.specs.Causes.{order}
+use Rattle.masm_tree.specs.Classify.{Context, no_context, known_after, classify}
+use Rattle.masm_tree.specs.Trees.{Source}
 use Rattle.masm_parse.specs.Grammar.{IsSource}
-use Rattle.masm_parse.specs.Machine.{is_opening, at_of, parsed}
+use Rattle.masm_tree.specs.Terminals.{is_opening}
+use Rattle.masm_parse.specs.Machine.{at_of, parsed}
 
 -- the tokens of a source as they are read, each with what the tokens before it say
 abbrev pub symbols_of : Bool → List ℕ → Context → List Token → List Symbol

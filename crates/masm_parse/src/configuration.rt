@@ -1,13 +1,13 @@
 ghost use Rattle.std.specs.Prelude.{◌≡◌, ◌∷◌, Bool, map, IfOk, OnOk};
 ghost use Rattle.std.specs.Option.{option_map};
 ghost use Rattle.instr_reading.specs.declared.constant.Const.{Const};
-ghost use Rattle.masm_parse.specs.declared.terminal.Terminal.TheVariants as terminals;
-ghost use Rattle.masm_parse.specs.Trees.{Empty, Leaf_then, append};
-ghost use Rattle.masm_parse.specs.Machine.{procedure, reduce, closed, may_begin, Inside, shift, shift_statement, shift_else, shift_end, shift_inside, depth_of};
-ghost use Rattle.masm_parse.specs.Views.{stmt_view, body_of, procedure_of, open_view, opens_view, configuration_view, kept};
+ghost use Rattle.masm_tree.specs.declared.terminal.Terminal.TheVariants as terminals;
+ghost use Rattle.masm_tree.specs.Trees.{Empty, Leaf_then, append};
+ghost use Rattle.masm_parse.specs.Machine.{procedure, reduce, closed, Inside, shift, shift_statement, shift_else, shift_end, shift_inside, depth_of};
+ghost use Rattle.masm_tree.specs.Views.{stmt_view, body_of, procedure_of};
+ghost use Rattle.masm_parse.specs.Views.{open_view, opens_view, configuration_view, kept};
 
-use crate::terminal::{Header, Leaf, Role, Terminal};
-use crate::tree::{Position, Proc, Stmt};
+use masm_tree::{Header, Leaf, Position, Proc, Role, Stmt, Terminal};
 use std::alloc::{AllocError, Global};
 use std::mem;
 
@@ -107,16 +107,18 @@ fn open(
     Ok(Configuration::Inside(procs, header, opens, Vec::new(alloc)))
 }
 
+// A body that ends grows no more, and its tree is held while all procedures are linked: its room is cut to its length.
 #[tactic(auto, using(crate::proofs::Mirror::mirror))]
 fn shift_else(
     alloc: Global,
     procs: Vec<Proc>,
     header: Header,
     mut opens: Vec<OpenConstruct>,
-    body: Vec<Stmt>,
+    mut body: Vec<Stmt>,
 ) -> Result<Option<Configuration>, AllocError>
     ensures { IfOk result (λ now. option_map configuration_view now ≡ shift_else (map procedure_of procs.items) header (opens_view opens.items) (body_of body.items)) }
 {
+    body.shrink_to_fit();
     match opens.pop() {
         Some(OpenConstruct::If(at, before)) => {
             let now = open(
@@ -138,10 +140,11 @@ fn shift_end(
     procs: Vec<Proc>,
     header: Header,
     mut opens: Vec<OpenConstruct>,
-    body: Vec<Stmt>,
+    mut body: Vec<Stmt>,
 ) -> Result<Option<Configuration>, AllocError>
     ensures { IfOk result (λ now. option_map configuration_view now ≡ shift_end (map procedure_of procs.items) header (opens_view opens.items) (body_of body.items)) }
 {
+    body.shrink_to_fit();
     match opens.pop() {
         None => Ok(Some(close(procs, header, body)?)),
         Some(construct) => {
@@ -176,19 +179,6 @@ fn shift_inside(
     };
     let now = open(alloc, procs, header, opens, construct)?;
     Ok(Some(now))
-}
-
-impl Role {
-    // Whether a header may stand in a kernel, or in a program.
-    fn may_begin(self, kernel: bool) -> bool
-        ensures { result ≡ may_begin kernel self }
-    {
-        match self {
-            Role::Proc => true,
-            Role::Export => kernel,
-            Role::Main => !kernel,
-        }
-    }
 }
 
 impl Configuration {

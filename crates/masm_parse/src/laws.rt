@@ -1,5 +1,4 @@
-ghost use Rattle.masm_parse.specs.Forms.{TreesAreInForm};
-ghost use Rattle.masm_parse.specs.Locals.{LocalsFit};
+ghost use Rattle.masm_parse.specs.Laws.{TreesAreInForm, LocalsFit};
 ghost use Rattle.masm_parse.specs.Order.{TreesAreInOrder, ProceduresAscend};
 ghost use Rattle.masm_parse.specs.Refusals.{LeastRefusal, ParsesOnce};
 

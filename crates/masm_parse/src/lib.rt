@@ -3,18 +3,11 @@
 #![tactic(auto)]
 
 mod configuration;
-mod keyword;
 mod laws;
 mod parser;
 mod parsing;
-mod parts;
-mod reading;
 mod refusal;
-mod terminal;
-mod tree;
 
 pub use laws::{least_refusal, locals_fit, trees_are_in_form, trees_are_in_order};
 pub use parsing::parse;
-pub use refusal::{Cause, ParseError, cause_text};
-pub use terminal::Leaf;
-pub use tree::{Ast, Position, Proc, Stmt};
+pub use refusal::ParseError;

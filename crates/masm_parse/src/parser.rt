@@ -1,15 +1,13 @@
 ghost use Rattle.std.specs.Prelude.{◌≡◌, ◌≤◌, length, IfOk};
 ghost use Rattle.masm_lex.specs.Tokens.{IsPart, place_after};
-ghost use Rattle.masm_parse.specs.Machine.{Parse, start, advance, settled, is_opening, moved, step, ended};
+ghost use Rattle.masm_parse.specs.Machine.{Parse, start, advance, settled, moved, step, ended};
 ghost use Rattle.masm_parse.specs.Views.{parser_view, kept, StepGives, Gives};
 
 use crate::configuration::Configuration;
-use crate::reading::classify;
-use crate::refusal::{Cause, ParseError, Stop};
-use crate::terminal::{Symbol, Terminal};
-use crate::tree::{Ast, Position};
+use crate::refusal::ParseError;
 use instr_reading::Consts;
 use masm_lex::{MAX_SOURCE, Token, end_place};
+use masm_tree::{Ast, Cause, Position, Stop, Symbol, Terminal, classify};
 use std::alloc::Global;
 use vm_field::Memory;
 
@@ -23,18 +21,6 @@ pub(crate) struct Parser {
     pub consts: Consts,
     pub locals: u32,
     pub configuration: Configuration,
-}
-
-impl Terminal {
-    // Whether it opens a statement that has bodies.
-    fn is_opening(&self) -> bool
-        ensures { result ≡ is_opening self.now }
-    {
-        matches!(
-            self,
-            Terminal::If(_) | Terminal::While(_) | Terminal::Repeat(_, _)
-        )
-    }
 }
 
 // The first cause that stands, where the token fits or does not.

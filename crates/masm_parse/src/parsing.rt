@@ -2,12 +2,13 @@ ghost use Rattle.std.specs.Prelude.{◌≡◌, ◌≤◌, length, Ok, IfOk};
 ghost use Rattle.masm_lex.specs.Tokens.{lexed};
 ghost use Rattle.masm_parse.specs.Machine.{parsed};
 ghost use Rattle.masm_parse.specs.Order.{IsInOrder};
-ghost use Rattle.masm_parse.specs.Views.{source_of, Gives};
+ghost use Rattle.masm_tree.specs.Views.{source_of};
+ghost use Rattle.masm_parse.specs.Views.{Gives};
 
 use crate::parser::Parser;
-use crate::refusal::{ParseError, Stop};
-use crate::tree::Ast;
+use crate::refusal::ParseError;
 use masm_lex::{MAX_SOURCE, Tokens};
+use masm_tree::{Ast, Stop};
 use std::alloc::Global;
 
 // The parser, a token at a time.

@@ -5,22 +5,22 @@ use Rattle.std.proofs.lemmas.List.Elements.{Contains-append_left, Contains-appen
 use Rattle.std.specs.List.{flat_map, Contains}
 use Rattle.std.specs.Option.{option_map, option_to_list}
 use Rattle.instr_reading.specs.declared.constant.Const.{Const}
-use Rattle.masm_parse.specs.declared.tree.Position.{Position}
-use Rattle.masm_parse.specs.declared.tree.Proc.{Proc}
-use Rattle.masm_parse.specs.Trees.{Procedure, Source}
-use Rattle.masm_parse.specs.Views.{procedure_of}
-use Rattle.masm_uses.specs.declared.refusal.LinkCause.{LinkCause}
-use Rattle.masm_uses.specs.declared.refusal.LinkCause.TheVariants as causes
-use Rattle.masm_uses.specs.declared.refusal.Refusal.{Refusal}
-use Rattle.masm_uses.specs.Among.{Among}
+use Rattle.masm_tree.specs.declared.tree.Position.{Position}
+use Rattle.masm_tree.specs.declared.tree.Proc.{Proc}
+use Rattle.masm_tree.specs.Trees.{Procedure, Source}
+use Rattle.masm_tree.specs.Views.{procedure_of}
+use Rattle.masm_names.specs.declared.refusal.LinkCause.{LinkCause}
+use Rattle.masm_names.specs.declared.refusal.LinkCause.TheVariants as causes
+use Rattle.masm_names.specs.declared.refusal.Refusal.{Refusal}
+use Rattle.masm_names.specs.Among.{Among}
 use Rattle.masm_uses.specs.Dangling.{IsMissing, Missing, Recursions}
-use Rattle.masm_uses.specs.Earlier.{earlier}
-use Rattle.masm_uses.specs.Least.{Answers}
-use Rattle.masm_uses.specs.Links.{link_of, links_in, main_links_in}
-use Rattle.masm_uses.specs.Naming.{Dangles, unknown, not_in_kernel, recursive}
-use Rattle.masm_uses.specs.Users.{AreUsers}
-use Rattle.masm_uses.specs.Uses.{Use, uses_of, all_uses, place_in, first_place}
-use Rattle.masm_uses.proofs.LeastLemmas.{Either, Answers-same, Answers-earlier}
+use Rattle.masm_names.specs.Earlier.{earlier}
+use Rattle.masm_names.specs.Least.{Answers}
+use Rattle.masm_graph.specs.Links.{link_of, links_in, main_links_in}
+use Rattle.masm_names.specs.Naming.{Dangles, unknown, not_in_kernel, recursive}
+use Rattle.masm_graph.specs.Users.{AreUsers}
+use Rattle.masm_names.specs.Uses.{Use, uses_of, all_uses, place_in, first_place}
+use Rattle.masm_names.proofs.LeastLemmas.{Either, Answers-same, Answers-earlier}
 use Rattle.masm_uses.proofs.UsedLemmas.{contains_at, at_contains, in_all, all_in, unmapped, mapped, place_none, none_place, missing_by, missing_own, missing_kernel, used, used_by, leads_reaches, reaches_leads}
 
 abbrev uses_in : Procedure → List Use

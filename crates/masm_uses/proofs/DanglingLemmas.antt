@@ -4,15 +4,15 @@ use Rattle.std.proofs.lemmas.Bool.{cases_Bool, false≢true}
 use Rattle.std.proofs.lemmas.List.Folds.{list_any-from_Any}
 use Rattle.std.proofs.lemmas.Option.{slice_get_within, get_or_from_slice_get}
 use Rattle.std.specs.List.{list_any}
-use Rattle.masm_parse.specs.declared.tree.Position.{Position}
-use Rattle.masm_uses.specs.declared.links.Link.{Link}
-use Rattle.masm_uses.specs.declared.refusal.LinkCause.{LinkCause}
-use Rattle.masm_uses.specs.declared.refusal.LinkCause.TheVariants as causes
-use Rattle.masm_uses.specs.declared.refusal.Refusal.{Refusal}
+use Rattle.masm_tree.specs.declared.tree.Position.{Position}
+use Rattle.masm_graph.specs.declared.links.Link.{Link}
+use Rattle.masm_names.specs.declared.refusal.LinkCause.{LinkCause}
+use Rattle.masm_names.specs.declared.refusal.LinkCause.TheVariants as causes
+use Rattle.masm_names.specs.declared.refusal.Refusal.{Refusal}
 use Rattle.masm_uses.specs.Dangling.{Returns, is_own, comes_first, waits}
-use Rattle.masm_uses.specs.Least.{Answers}
-use Rattle.masm_uses.specs.Users.{HasOwn}
-use Rattle.masm_uses.proofs.LeastLemmas.{IsNoLater, is_no_later-tells, Answers-same}
+use Rattle.masm_names.specs.Least.{Answers}
+use Rattle.masm_graph.specs.Users.{HasOwn}
+use Rattle.masm_names.proofs.LeastLemmas.{IsNoLater, is_no_later-tells, Answers-same}
 
 pub Returns-same : (Back Other : ℕ → Type 0) (row : List Link) (r : Option Refusal) → ((place : ℕ) → Back place ↔ Other place)
     → Answers (Returns Back row) r → Answers (Returns Other row) r

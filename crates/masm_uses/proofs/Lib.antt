@@ -1,17 +1,6 @@
 pub mod DanglingAnswers
 pub mod DanglingLemmas
-pub mod DoubleAnswers
-pub mod DoubleLemmas
-pub mod LeastLemmas
-pub mod NameLemmas
 pub mod PlanLemmas
 pub mod PlanSources
-pub mod SettlingLemmas
-pub mod SortLemmas
-pub mod Stuck
-pub mod UseLemmas
 pub mod UseOrderLemmas
 pub mod UsedLemmas
-pub mod UserLemmas
-pub mod UsesOnly
-pub mod WalkLemmas

@@ -6,11 +6,11 @@ use Rattle.std.proofs.lemmas.Bool.Decides.{eqb_tells}
 use Rattle.std.proofs.lemmas.List.{take_more, take_all, get_or-set_same, get_or-set_other, get_or_past, length-set, reverse-append}
 use Rattle.std.proofs.lemmas.List.Elements.{Contains-push_cases}
 use Rattle.std.specs.List.{Contains}
-use Rattle.masm_uses.specs.Graph.{Edge}
-use Rattle.masm_uses.specs.Orders.{IsOrder}
+use Rattle.graphs.specs.Graph.{Edge}
+use Rattle.graphs.specs.Orders.{IsOrder}
 use Rattle.masm_uses.specs.Plans.{HeldBehind, Builds, MarksRow, StepsTo, passed, built}
 use Rattle.masm_uses.specs.declared.planning.Step.{Step}
-use Rattle.masm_uses.proofs.SortLemmas.{contains_none}
+use Rattle.graphs.proofs.SortLemmas.{contains_none}
 
 -- rows
 

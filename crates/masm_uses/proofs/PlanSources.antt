@@ -7,19 +7,19 @@ use Rattle.std.proofs.lemmas.Option.{get_or_from_slice_get, slice_get-get_or}
 use Rattle.std.specs.List.{All, Contains}
 use Rattle.std.specs.Option.{option_map}
 use Rattle.instr_reading.specs.declared.constant.Const.{Const}
-use Rattle.masm_parse.specs.declared.tree.Proc.{Proc}
-use Rattle.masm_parse.specs.Trees.{Procedure, Source}
-use Rattle.masm_parse.specs.Views.{procedure_of, body_of}
+use Rattle.masm_tree.specs.declared.tree.Proc.{Proc}
+use Rattle.masm_tree.specs.Trees.{Procedure, Source}
+use Rattle.masm_tree.specs.Views.{procedure_of, body_of}
 use Rattle.masm_uses.specs.declared.planning.Step.{Step}
-use Rattle.masm_uses.specs.Graph.{Edge}
-use Rattle.masm_uses.specs.Links.{link_of, links_in, main_links_in}
+use Rattle.graphs.specs.Graph.{Edge}
+use Rattle.masm_graph.specs.Links.{link_of, links_in, main_links_in, own_places}
 use Rattle.masm_uses.specs.Plans.{Builds, IsWanted, exported, of_main, NeedsIn, IsPlan}
-use Rattle.masm_uses.specs.UseOrders.{own_places}
-use Rattle.masm_uses.specs.Uses.{Use, Own, uses_of, first_place}
+use Rattle.masm_names.specs.Uses.{Use, Own, uses_of, first_place}
 use Rattle.masm_uses.proofs.PlanLemmas.{builds-more}
-use Rattle.masm_uses.proofs.SortLemmas.{contains_none}
+use Rattle.graphs.proofs.SortLemmas.{contains_none}
 use Rattle.masm_uses.proofs.UsedLemmas.{contains_at, at_contains, mapped, unmapped, place_within, leads_by, leads_own, used_goes}
-use Rattle.masm_uses.proofs.UseOrderLemmas.{places_own, own_in_places, goes_edge, counts}
+use Rattle.masm_uses.proofs.UseOrderLemmas.{counts}
+use Rattle.masm_graph.proofs.OwnLemmas.{places_own, own_in_places, goes_edge}
 
 module _ (own kernel : List ℕ → Option ℕ) (procs : List Proc) (places : (name : List ℕ) → own name ≡ first_place (map procedure_of procs) name) where
   abbrev graph : List (List ℕ)

@@ -4,25 +4,24 @@ use Rattle.std.proofs.lemmas.Bool.{cases_Bool}
 use Rattle.std.proofs.lemmas.List.{length-map}
 use Rattle.std.proofs.lemmas.List.Elements.{Contains-append_left, Contains-append_right, Contains-append_cases, Contains-push}
 use Rattle.std.proofs.lemmas.Option.{slice_get-map, slice_get-get_or, slice_get_within, get_or_from_slice_get, slice_get_cases}
-use Rattle.std.proofs.lemmas.Simd.{map-map}
 use Rattle.std.proofs.lemmas.Slice.Eq.{bytes_eq-Decides}
 use Rattle.std.specs.List.{flat_map, Contains}
 use Rattle.std.specs.Option.{option_map}
-use Rattle.masm_parse.specs.declared.tree.Proc.{Proc}
-use Rattle.masm_parse.specs.Trees.{Procedure}
-use Rattle.masm_parse.specs.Views.{procedure_of, body_of}
-use Rattle.masm_uses.specs.declared.links.Target.TheVariants as targets
-use Rattle.masm_uses.specs.declared.refusal.LinkCause.{LinkCause}
-use Rattle.masm_uses.specs.declared.refusal.LinkCause.TheVariants as causes
+use Rattle.masm_tree.specs.declared.tree.Proc.{Proc}
+use Rattle.masm_tree.specs.Trees.{Procedure}
+use Rattle.masm_tree.specs.Views.{procedure_of, body_of}
+use Rattle.masm_graph.specs.declared.links.Target.TheVariants as targets
+use Rattle.masm_names.specs.declared.refusal.LinkCause.{LinkCause}
+use Rattle.masm_names.specs.declared.refusal.LinkCause.TheVariants as causes
 use Rattle.masm_uses.specs.Dangling.{missing_cause}
-use Rattle.masm_uses.specs.Graph.{Leads, itself, through}
-use Rattle.masm_uses.specs.Links.{own_target, kernel_target, target_of, link_of, links_in}
-use Rattle.masm_uses.specs.Users.{Goes, AreUsers}
-use Rattle.masm_uses.specs.Uses as uses
-use Rattle.masm_uses.specs.Uses.{Kind, Own, Kernel, Use, uses_of, place_in, first_place, UsedIn, Reaches}
-use Rattle.masm_uses.proofs.DoubleLemmas.{contains_cons}
-use Rattle.masm_uses.proofs.UserLemmas.{user_within}
-use Rattle.masm_uses.proofs.WalkLemmas.{Leads-push}
+use Rattle.graphs.specs.Graph.{Leads, itself, through}
+use Rattle.masm_graph.specs.Links.{own_target, kernel_target, target_of, link_of, links_in}
+use Rattle.masm_graph.specs.Users.{Goes, AreUsers}
+use Rattle.masm_names.specs.Uses as uses
+use Rattle.masm_names.specs.Uses.{Kind, Own, Kernel, Use, uses_of, place_in, first_place, UsedIn, Reaches}
+use Rattle.masm_names.proofs.DoubleLemmas.{cons_cases}
+use Rattle.masm_graph.proofs.UserLemmas.{user_within}
+use Rattle.graphs.proofs.WalkLemmas.{Leads-push}
 
 -- Elements by their places.
 pub contains_at : {X : Type 0} (xs : List X) (k : ℕ) (x : X) → slice_get xs k ≡ Some x → Contains xs x
@@ -60,7 +59,7 @@ pub place_none : (names : List (List ℕ)) (name : List ℕ) → place_in names 
 place_none [] name e h = omega (arith, h.1)
 place_none (n ∷ names) name e h = elim (cases_Bool (bytes_eq n name)) [
   | inl same ↦ let some = ap (λ b. cond b (Some 0) (option_map (λ i. i + 1) (place_in names name))) same in cc
-  | inr other ↦ elim (contains_cons n names name h) [
+  | inr other ↦ elim (cons_cases n names name h) [
     | inl is ↦ let same = (bytes_eq-Decides n name).1 is in cc
     | inr later ↦ place_none names name (none_less (place_in names name) (sym (ap (λ b. cond b (Some 0) (option_map (λ i. i + 1) (place_in names name))) other) ∙ e)) later
   ]
@@ -87,12 +86,6 @@ place_within (n ∷ names) name k e = by (bytes_eq n name) (place_in names name)
     by true o within e = let is : 0 ≡ k = ap (λ o. unwrap_or o 0) e in omega arith
     by false None within e = cc
     by false (Some j) within e = let is : j + 1 ≡ k = ap (λ o. unwrap_or o 0) e in let below = within j refl in omega arith
-
--- the places of the procedures' names
-pub names_places : (f : List ℕ → Option ℕ) (xs procs : List Proc) → xs ≡ procs → ((name : List ℕ) → f name ≡ place_in (map (λ p. p.name) xs) name)
-    → (name : List ℕ) → f name ≡ first_place (map procedure_of procs) name
-names_places f xs procs same places name =
-    places name ∙ ap (λ names. place_in names name) (ap (map (λ p. p.name)) same ∙ sym (map-map (λ (q : Procedure). q.name) procedure_of procs))
 
 -- What the target of a use says.
 own_missing : (o : Option ℕ) (cause : LinkCause) → missing_cause (own_target o) ≡ Some cause → (o ≡ None) × (cause ≡ causes.UnknownProcedure)

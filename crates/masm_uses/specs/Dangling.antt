@@ -1,15 +1,15 @@
 -- Uses that lead nowhere, and uses that lead back.
 use Rattle.std.specs.Prelude.{◌≡◌, ℕ, Bool, true, false, not, ◌&&◌, List, Option, Some, None}
-use Rattle.masm_parse.specs.declared.tree.Position.{Position}
-use Rattle.masm_uses.specs.declared.links.Link.{Link}
-use Rattle.masm_uses.specs.declared.links.Target.{Target}
-use Rattle.masm_uses.specs.declared.links.Target.TheVariants as targets
-use Rattle.masm_uses.specs.declared.refusal.LinkCause.{LinkCause}
-use Rattle.masm_uses.specs.declared.refusal.LinkCause.TheVariants as causes
-use Rattle.masm_uses.specs.declared.refusal.Refusal.{Refusal}
-use Rattle.masm_uses.specs.Among.{Among}
-use Rattle.masm_uses.specs.Earlier.{is_no_later}
-use Rattle.masm_uses.specs.Graph.{Leads}
+use Rattle.masm_tree.specs.declared.tree.Position.{Position}
+use Rattle.masm_graph.specs.declared.links.Link.{Link}
+use Rattle.masm_graph.specs.declared.links.Target.{Target}
+use Rattle.masm_graph.specs.declared.links.Target.TheVariants as targets
+use Rattle.masm_names.specs.declared.refusal.LinkCause.{LinkCause}
+use Rattle.masm_names.specs.declared.refusal.LinkCause.TheVariants as causes
+use Rattle.masm_names.specs.declared.refusal.Refusal.{Refusal}
+use Rattle.masm_names.specs.Among.{Among}
+use Rattle.masm_names.specs.Earlier.{is_no_later}
+use Rattle.graphs.specs.Graph.{Leads}
 
 abbrev pub missing_cause : Target → Option LinkCause
 missing_cause (targets.Own place) = None

@@ -1,9 +1,9 @@
 -- Plans: which procedures' lists are built, in which order, and which of them are not needed any more behind each.
 use Rattle.std.specs.Prelude.{◌≡◌, ℕ, ◌<◌, Bool, true, false, List, [], ◌∷◌, ◌++◌, length, Some, slice_get, slice_index_or, reverse, ◌⊎◌}
 use Rattle.std.specs.List.{Contains}
-use Rattle.masm_parse.specs.Trees.{Procedure, Source}
+use Rattle.masm_tree.specs.Trees.{Procedure, Source}
 use Rattle.masm_uses.specs.declared.planning.Step.{Step}
-use Rattle.masm_uses.specs.Uses.{Use, Own, uses_of, first_place, UsedIn}
+use Rattle.masm_names.specs.Uses.{Use, Own, uses_of, first_place, UsedIn}
 
 -- what is held behind a step
 abbrev pub HeldBehind : (ℕ → Type 0) → Step → ℕ → Type 0

@@ -1,27 +1,17 @@
 ghost use Rattle.std.specs.Prelude.{◌≡◌, ℕ, List, IfOk};
-ghost use Rattle.masm_parse.specs.Views.{source_of};
-ghost use Rattle.masm_uses.specs.Least.{Answers};
-ghost use Rattle.masm_uses.specs.Names.{place_at};
-ghost use Rattle.masm_uses.specs.Naming.{Dangles};
-ghost use Rattle.masm_uses.specs.Uses.{first_place};
+ghost use Rattle.masm_tree.specs.Views.{source_of};
+ghost use Rattle.masm_names.specs.Least.{Answers};
+ghost use Rattle.masm_names.specs.Names.{place_at};
+ghost use Rattle.masm_names.specs.Naming.{Dangles};
+ghost use Rattle.masm_names.specs.Uses.{first_place};
 
-use crate::links::{all_links, main_links};
 use crate::missing::{first_missing, first_missing_of};
-use crate::names::Names;
 use crate::recursion::first_recursion;
-use crate::refusal::{Refusal, earlier};
-use crate::users::users_of;
-use masm_parse::Ast;
+use masm_graph::{all_links, main_links, users_of};
+use masm_names::{Names, Refusal, earlier};
+use masm_tree::Ast;
 use std::alloc::Global;
 use vm_field::{Bytes, Memory};
-
-/// The places of the procedures' names.
-pub fn procedure_names(alloc: Global, ast: &Ast) -> Result<Names, Memory>
-    ensures { IfOk result (λ names. (name : List ℕ) → place_at names name ≡ first_place (source_of ast.now).procs name) }
-{
-    let names = Names::of(alloc, &ast.procs)?;
-    Ok(names)
-}
 
 /// The first use that leads nowhere or back, where the kernel exports these names.
 pub fn first_dangling(

@@ -1,10 +1,10 @@
-ghost use Rattle.masm_uses.specs.Among.{Among};
+ghost use Rattle.masm_names.specs.Among.{Among};
 ghost use Rattle.masm_uses.specs.Dangling.{IsMissing, Missing};
-ghost use Rattle.masm_uses.specs.Graph.{rows_of};
-ghost use Rattle.masm_uses.specs.Least.{Answers};
+ghost use Rattle.graphs.specs.Graph.{rows_of};
+ghost use Rattle.masm_names.specs.Least.{Answers};
 
-use crate::links::{Link, Target};
-use crate::refusal::{LinkCause, Refusal, earlier};
+use masm_graph::{Link, Target};
+use masm_names::{LinkCause, Refusal, earlier};
 
 // The refusal of a use that leads nowhere.
 fn missing(link: Link) -> Option<Refusal>

@@ -1,11 +1,11 @@
 ghost use Rattle.std.specs.Prelude.{◌≡◌, ℕ, ◌<◌, true, false, length, map, reverse, slice_index_or, IfOk, OnOk};
 ghost use Rattle.std.specs.List.{All, Contains};
-ghost use Rattle.masm_uses.specs.Graph.{rows_of, Edge, IsGraph};
-ghost use Rattle.masm_uses.specs.Orders.{IsOrder};
+ghost use Rattle.graphs.specs.Graph.{rows_of, Edge, IsGraph};
+ghost use Rattle.graphs.specs.Orders.{IsOrder};
 ghost use Rattle.masm_uses.specs.Plans.{Builds, MarksRow, StepsTo};
 
-use crate::reach::{is_marked, row_at};
-use masm_parse::Proc;
+use graphs::{is_marked, row_at};
+use masm_tree::Proc;
 use std::alloc::{AllocError, Global};
 
 /// A procedure whose list is built, by its place, and those whose lists no later step needs.

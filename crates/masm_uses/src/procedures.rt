@@ -1,48 +1,18 @@
-ghost use Rattle.std.specs.Prelude.{◌≡◌, ℕ, List, map, IfOk};
-ghost use Rattle.masm_parse.specs.Views.{source_of};
-ghost use Rattle.masm_uses.specs.Graph.{rows_of};
-ghost use Rattle.masm_uses.specs.Names.{place_at};
-ghost use Rattle.masm_uses.specs.Naming.{IsClosed};
+ghost use Rattle.std.specs.Prelude.{◌≡◌, ℕ, List, IfOk};
+ghost use Rattle.masm_tree.specs.Views.{source_of};
+ghost use Rattle.masm_names.specs.Names.{place_at};
+ghost use Rattle.masm_names.specs.Naming.{IsClosed};
 ghost use Rattle.masm_uses.specs.Plans.{IsPlan};
-ghost use Rattle.masm_uses.specs.UseOrders.{own_place, own_places, IsUseOrder};
-ghost use Rattle.masm_uses.specs.Uses.{first_place};
+ghost use Rattle.masm_uses.specs.UseOrders.{IsUseOrder};
+ghost use Rattle.masm_names.specs.Uses.{first_place};
 
-use crate::links::{Link, Target, all_links, main_links};
-use crate::names::Names;
-use crate::ordering::order;
 use crate::planning::{Step, steps_of, wanted_marks};
-use masm_parse::Ast;
-use std::alloc::{AllocError, Global};
+use graphs::order;
+use masm_graph::{all_links, main_links, own_graph, own_places};
+use masm_names::Names;
+use masm_tree::Ast;
+use std::alloc::Global;
 use vm_field::{Bytes, Memory};
-
-fn own_place(target: Target) -> Option<usize>
-    ensures { result ≡ own_place target }
-{
-    match target {
-        Target::Own(place) => Some(place),
-        Target::Kernel | Target::Unknown | Target::NotInKernel => None,
-    }
-}
-
-// The source's own procedures to which these uses lead.
-fn own_places(alloc: Global, row: &[Link]) -> Result<Vec<usize>, AllocError>
-    ensures { IfOk result (λ places. places.items ≡ own_places row.now) }
-{
-    row.iter()
-        .filter_map(|link| own_place(link.target))
-        .collect(alloc)
-}
-
-// For each procedure the source's own to which its uses lead.
-pub(crate) fn own_graph(alloc: Global, rows: &[Vec<Link>]) -> Result<Vec<Vec<usize>>, AllocError>
-    ensures { IfOk result (λ graph. rows_of graph.items ≡ map own_places (rows_of rows.now)) }
-{
-    let mut graph = Vec::new(alloc);
-    for row in rows {
-        graph.push(own_places(alloc, row)?)?;
-    }
-    Ok(graph)
-}
 
 /// Which lists of a source's procedures are built, and in which order.
 #[derive(Drop)]

@@ -1,14 +1,13 @@
 ghost use Rattle.std.specs.Prelude.{◌≡◌, ℕ, ◌<◌, Bool, true, false, Some, length, slice_index_or, ◌⊎◌, IfOk};
 ghost use Rattle.std.specs.List.{list_any};
 ghost use Rattle.masm_uses.specs.Dangling.{IsReturn, Returns, Recursions, waits};
-ghost use Rattle.masm_uses.specs.Graph.{rows_of, IsGraph, Leads};
-ghost use Rattle.masm_uses.specs.Least.{Answers};
-ghost use Rattle.masm_uses.specs.Users.{HasOwn, AreUsers};
+ghost use Rattle.graphs.specs.Graph.{rows_of, IsGraph, Leads};
+ghost use Rattle.masm_names.specs.Least.{Answers};
+ghost use Rattle.masm_graph.specs.Users.{HasOwn, AreUsers};
 
-use crate::links::{Link, Target};
-use crate::reach::{is_marked, reached};
-use crate::refusal::{LinkCause, Refusal, earlier, is_no_later};
-use crate::settling::settled;
+use graphs::{is_marked, reached};
+use masm_graph::{Link, Target, settled};
+use masm_names::{LinkCause, Refusal, earlier, is_no_later};
 use std::alloc::{AllocError, Global};
 
 // The refusal of a use that leads to one of the places that are marked.

@@ -1,11 +1,12 @@
 //! The program: the words, the files and the output of the system, handed to `serve`.
 #![tactic(auto)]
 
+use host_io::{FolderShelf, StdSink};
 use miden_app::{Status, serve};
 use std::process::ExitCode;
 use std::rt::Env;
 use std::{env, io};
-use vm_io::{FolderShelf, OpenGate, StdSink};
+use vm_io::OpenGate;
 
 // The words after the program's name. There are none where the system hands out none, as for a word
 // that is not UTF-8; the answer is `None` where it tells that memory was refused.

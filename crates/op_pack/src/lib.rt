@@ -6,8 +6,6 @@ mod group;
 mod laws;
 mod packing;
 mod reading;
-#[cfg(test)]
-mod tests;
 
 pub use batches::Batches;
 pub use laws::{packing_laws, types_cross};

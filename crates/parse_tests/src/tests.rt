@@ -1,5 +1,6 @@
 use masm_lex::{MAX_SOURCE, lex};
-use masm_parse::{Ast, Cause, ParseError, Proc, Stmt, parse};
+use masm_parse::{ParseError, parse};
+use masm_tree::{Ast, Cause, Proc, Stmt};
 use std::alloc::{AllocError, Global};
 use std::process::Abort;
 use std::test::Fail;

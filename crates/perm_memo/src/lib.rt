@@ -2,7 +2,5 @@
 #![tactic(auto)]
 
 mod permutations;
-#[cfg(test)]
-mod tests;
 
 pub use permutations::Permutations;

@@ -13,11 +13,12 @@ use Rattle.block_tree.proofs.Tapes.{fed-execution}
 use Rattle.vm_state.specs.Views.{state_of}
 use Rattle.vm_state.specs.declared.inputs.Inputs.{Inputs}
 use Rattle.processor.specs.Executed.{IsRunOf}
-use Rattle.processor.specs.Running.{Ran, shown_in}
-use Rattle.processor.specs.Settings.{constants_in, execution_in}
-use Rattle.processor.specs.declared.cycle.Runner.{Runner}
-use Rattle.processor.specs.declared.event.Event.{Event}
-use Rattle.processor.specs.declared.setting.Setting.{Setting}
+use Rattle.cycle_events.specs.Running.{Ran, shown_in}
+use Rattle.cycle_events.specs.Settings.{constants_in}
+use Rattle.processor.specs.Parts.{execution_in}
+use Rattle.cycle_events.specs.declared.cycling.Runner.{Runner}
+use Rattle.cycle_events.specs.declared.event.Event.{Event}
+use Rattle.cycle_events.specs.declared.setting.Setting.{Setting}
 
 start-tape : (stack advice : List ℕ) (s : machine.State) → s ≡ start stack advice → s.tape ≡ advice
 unfolding start

@@ -5,12 +5,12 @@ use Rattle.vm_field.specs.Machine as machine
 use Rattle.block_tree.specs.Execution.{Outcome, Part, seq, skip}
 use Rattle.block_tree.proofs.Parts.{seq-done, seq-late, seq-late_second, seq-trap, seq-trap_second, skip-done}
 use Rattle.vm_state.specs.Views.{state_of}
-use Rattle.processor.specs.Running.{IsDone, Ran, RanAs, shown_in}
-use Rattle.processor.specs.declared.cycle.Runner.{Runner}
-use Rattle.processor.specs.declared.event.Event.{Event}
-use Rattle.processor.specs.declared.refusal.Stop.{Stop}
-use Rattle.processor.specs.declared.refusal.Stop.TheVariants.{Trap, OutOfCycles, Memory}
-use Rattle.processor.specs.declared.setting.Setting.{Setting}
+use Rattle.cycle_events.specs.Running.{IsDone, Ran, RanAs, shown_in}
+use Rattle.cycle_events.specs.declared.cycling.Runner.{Runner}
+use Rattle.cycle_events.specs.declared.event.Event.{Event}
+use Rattle.cycle_events.specs.declared.refusal.Stop.{Stop}
+use Rattle.cycle_events.specs.declared.refusal.Stop.TheVariants.{Trap, OutOfCycles, Memory}
+use Rattle.cycle_events.specs.declared.setting.Setting.{Setting}
 
 then-as : (f g : Part) (setting : Setting) (s : machine.State) (log : List Event) (mid after : Runner) (r : Result (Unit {0}) Stop)
     → IsDone setting (f s) log mid → RanAs setting (g (state_of mid.state)) mid.log r after → RanAs setting (seq f g s) log r after
@@ -49,11 +49,6 @@ ran-skip setting after u = record { answer = record { more = []; done = skip-don
 -- the same of an equal outcome
 pub ran-along : {setting : Setting} {o p : Outcome} {log : List Event} {r : Result (Unit {0}) Stop} {after : Runner} → o ≡ p → Ran setting p log r after → Ran setting o log r after
 ran-along e a = rw e a
-
--- the same of a runner with the same state and log
-pub ran-kept : {setting : Setting} {o : Outcome} {log : List Event} {u v : Unit {0}} {before after : Runner}
-    → after.state ≡ before.state → after.log ≡ before.log → Ran setting o log (Ok u) before → Ran setting o log (Ok v) after
-ran-kept s l h = record { answer = record { more = h.answer.more; done = rw s h.answer.done; events = l ∙ h.answer.events } }
 
 -- what is still to be run, from one state, of a whole that began at another
 pub record Left (setting : Setting) (whole rest : Part) (from now : Runner) : Type 0 where

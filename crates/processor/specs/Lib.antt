@@ -1,9 +1,2 @@
-pub mod Digests
-pub mod Effects
-pub mod Events
 pub mod Executed
-pub mod Marks
-pub mod Nodes
-pub mod Running
-pub mod Settings
-pub mod Sizes
+pub mod Parts

@@ -5,17 +5,13 @@ ghost use Rattle.block_tree.specs.Trees as trees;
 ghost use Rattle.op_pack.specs.Reading.{reading};
 ghost use Rattle.vm_ops.specs.Items.{IsOrdinaryItem};
 ghost use Rattle.vm_state.specs.Views.{state_of};
-ghost use Rattle.processor.specs.Nodes.{IsHashed, elements_of, node_tree};
-ghost use Rattle.processor.specs.Running.{Ran};
-ghost use Rattle.processor.specs.Settings.{batches_in, constants_in, digest_of, execution_in, operations_in, read_operations_in, turns_in};
+ghost use Rattle.tree_hash.specs.Nodes.{IsHashed, elements_of, node_tree};
+ghost use Rattle.cycle_events.specs.Running.{Ran};
+ghost use Rattle.cycle_events.specs.Settings.{constants_in};
+ghost use Rattle.processor.specs.Parts.{batches_in, digest_of, execution_in, operations_in, read_operations_in, turns_in};
 
-use crate::batch::ReadBatch;
-use crate::cycle::{Runner, cycle, enter, operation};
-use crate::effect::top_of;
-use crate::mark::Mark;
-use crate::node::Node;
-use crate::refusal::Stop;
-use crate::setting::Setting;
+use cycle_events::{Mark, Runner, Setting, Stop, cycle, enter, operation, top_of};
+use tree_hash::{Node, ReadBatch};
 use vm_field::{Felt, Word};
 use vm_ops::Item;
 

@@ -2,16 +2,13 @@ ghost use Rattle.std.specs.Prelude.{◌≤◌, IfOk};
 ghost use Rattle.processor.specs.Executed.{Gives, WasExecuted};
 
 use crate::blocks::block;
-use crate::cycle::Runner;
-use crate::event::Events;
-use crate::node::hashed;
-use crate::refusal::Stop;
 use crate::run::Run;
-use crate::setting::Setting;
 use block_tree::Program;
+use cycle_events::{Events, Runner, Setting, Stop};
 use perm_memo::Permutations;
 use rpo_hash::Params;
 use std::alloc::Global;
+use tree_hash::hashed;
 use vm_field::Felts;
 use vm_state::{Aside, Inputs, State};
 

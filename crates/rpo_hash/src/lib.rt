@@ -7,8 +7,6 @@ mod lines;
 mod params;
 mod permutation;
 mod sponge;
-#[cfg(test)]
-mod tests;
 
 pub use laws::{parameter_laws, permutation_laws, sponge_laws, types_cross};
 pub use lines::next_line;

@@ -9,7 +9,7 @@ use Rattle.air_kit.specs.Acceptance.{IsAccepted}
 use Rattle.air_kit.specs.Requests.{Answers}
 use Rattle.air_kit.specs.declared.trace.Public.{Public}
 use Rattle.air_kit.specs.declared.trace.Trace.{Trace}
-use Rattle.processor.specs.Events.{visible_of}
+use Rattle.cycle_events.specs.Events.{visible_of}
 use Rattle.run_rows.specs.BlockRows.{IsRun, events_of, filled}
 use Rattle.run_rows.specs.RunRequests.{requests_of}
 

@@ -8,8 +8,8 @@ use Rattle.block_tree.specs.Cycles.{Mark, Do, frame_of}
 use Rattle.block_tree.specs.Steps.{Task, Block, Within, Turned, Closing, Returning, Leaving, Next, span, join, split_1, split_0, loop_1, loop_0, call, syscall, operation, respan, span_ends, repeats, loop_ends, closes, returns, leaves}
 use Rattle.block_tree.specs.Trees.{Loop, tree_digest}
 use Rattle.air_kit.specs.MainTuples.{blocks_asked, blocks_given, no_frame}
-use Rattle.processor.specs.Events.{shown_between}
-use Rattle.processor.specs.declared.event.Event.{Event}
+use Rattle.cycle_events.specs.Events.{shown_between}
+use Rattle.cycle_events.specs.declared.event.Event.{Event}
 use Rattle.run_rows.specs.Agreement.{Agrees}
 use Rattle.run_rows.specs.Decoder.{Decoder, Open, address_of, advance, hidden_of, key_of, keys_behind}
 use Rattle.run_rows.proofs.AgreeLemmas as agree

@@ -11,8 +11,8 @@ use Rattle.block_tree.specs.Steps.{Task, Block, Within, Turned, Closing, Returni
 use Rattle.block_tree.specs.Trees.{Tree, Loop, tree_digest}
 use Rattle.air_kit.specs.MainTuples.{children_asked, children_given}
 use Rattle.air_kit.specs.Flags as flags
-use Rattle.processor.specs.Events.{shown_between}
-use Rattle.processor.specs.declared.event.Event.{Event}
+use Rattle.cycle_events.specs.Events.{shown_between}
+use Rattle.cycle_events.specs.declared.event.Event.{Event}
 use Rattle.run_rows.specs.Agreement.{AreOutside}
 use Rattle.run_rows.specs.Decoder.{Decoder, Open, address_of, advance}
 use Rattle.run_rows.specs.Moments.{Comes}

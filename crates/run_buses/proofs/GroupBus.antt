@@ -10,8 +10,8 @@ use Rattle.block_tree.specs.Cycles.{Mark, Do}
 use Rattle.block_tree.specs.Steps.{Task, Next, span, join, split_1, split_0, loop_1, loop_0, call, syscall, operation, respan, span_ends, repeats, loop_ends, closes, returns, leaves}
 use Rattle.air_kit.specs.Flags as flags
 use Rattle.air_kit.specs.MainTuples.{groups_asked, groups_given, is_batch_op, positions}
-use Rattle.processor.specs.Events.{shown_between}
-use Rattle.processor.specs.declared.event.Event.{Event}
+use Rattle.cycle_events.specs.Events.{shown_between}
+use Rattle.cycle_events.specs.declared.event.Event.{Event}
 use Rattle.row_facts.specs.RowFacts.{IsPair, IsRow, ReadsAs}
 use Rattle.run_rows.specs.Agreement.{Agrees}
 use Rattle.run_rows.specs.Decoder.{Decoder, advance}

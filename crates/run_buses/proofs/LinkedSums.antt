@@ -4,7 +4,7 @@ use Rattle.vm_field.specs.Machine.{Core, State}
 use Rattle.block_tree.specs.Cycles.{Mark}
 use Rattle.block_tree.specs.Rows.{op_of}
 use Rattle.block_tree.specs.Steps.{Task, Closing, Next, closes}
-use Rattle.processor.specs.declared.event.Event.{Event}
+use Rattle.cycle_events.specs.declared.event.Event.{Event}
 use Rattle.run_rows.specs.Agreement.{Agrees}
 use Rattle.run_rows.specs.Chains as chains
 use Rattle.run_rows.specs.Chains.{AreLinked, over_pairs}

@@ -8,7 +8,7 @@ use Rattle.block_tree.specs.Execution as run
 use Rattle.block_tree.specs.Rows.{behind, op_of}
 use Rattle.block_tree.specs.Trees.{Tree}
 use Rattle.air_kit.specs.MainTuples.{loops_asked, loops_given}
-use Rattle.processor.specs.Events.{visible_of}
+use Rattle.cycle_events.specs.Events.{visible_of}
 use Rattle.run_rows.specs.BlockRows.{IsRun, events_of, filled}
 use Rattle.run_rows.specs.Filling.{witnesses_by}
 use Rattle.run_rows.specs.Kinds as kinds

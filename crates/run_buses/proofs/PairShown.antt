@@ -9,8 +9,8 @@ use Rattle.block_tree.specs.Rows.{behind, op_of}
 use Rattle.block_tree.proofs.BehindLemmas.{behind-cycle}
 use Rattle.air_kit.specs.Flags as flags
 use Rattle.air_kit.specs.MainTuples.{back, front}
-use Rattle.processor.specs.Events.{shown_between}
-use Rattle.processor.specs.declared.event.Event.{Event}
+use Rattle.cycle_events.specs.Events.{shown_between}
+use Rattle.cycle_events.specs.declared.event.Event.{Event}
 use Rattle.run_rows.specs.Decoder.{Decoder, advance}
 use Rattle.run_rows.specs.Filling.{hash_by}
 use Rattle.run_rows.specs.Kinds.{kind_of}

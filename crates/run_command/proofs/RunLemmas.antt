@@ -7,7 +7,7 @@ use Rattle.block_tree.specs.TreeView.{tree_of}
 use Rattle.block_tree.specs.declared.program.Program.{Program}
 use Rattle.vm_state.specs.Views.{state_of}
 use Rattle.processor.specs.declared.run.Run.{Run}
-use Rattle.statement.specs.Inputs.{Given}
+use Rattle.run_inputs.specs.Inputs.{Given}
 use Rattle.run_files.specs.RunFiles.{IsFileOfRun, IsStatementFileOf, claim_of_run, claim_with}
 use Rattle.vm_io.specs.Shelf.{ShelfState}
 use Rattle.source_runs.specs.declared.course.Course as held

@@ -5,7 +5,7 @@ use Rattle.rpo_hash.specs.declared.params.Params.{Params}
 use Rattle.block_tree.specs.Execution as run
 use Rattle.block_tree.specs.declared.program.Program.{Program}
 use Rattle.vm_state.specs.Views.{state_of}
-use Rattle.statement.specs.Inputs.{Given}
+use Rattle.run_inputs.specs.Inputs.{Given}
 use Rattle.processor.specs.declared.run.Run.{Run}
 use Rattle.run_rows.specs.BlockRows.{events_of}
 use Rattle.vm_io.specs.Shelf.{ShelfState}

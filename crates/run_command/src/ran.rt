@@ -4,7 +4,7 @@ ghost use Rattle.rpo_hash.specs.Constants.{constants_of};
 ghost use Rattle.air_kit.specs.Traces.{HasCounts};
 ghost use Rattle.block_tree.specs.TreeView.{tree_of};
 ghost use Rattle.processor.specs.Executed.{WasExecuted};
-ghost use Rattle.statement.specs.Inputs.{given_of};
+ghost use Rattle.run_inputs.specs.Inputs.{given_of};
 ghost use Rattle.vm_state.specs.Views.{state_of};
 ghost use Rattle.table_file.specs.Files.{bytes_of};
 ghost use Rattle.run_files.specs.RunFiles.{IsFileOfRun, IsStatementFileOf, claim_of_run};

@@ -1,7 +1,7 @@
 // `run`: the files that it reads, and then the run of the program, its two files and its outputs.
 ghost use Rattle.std.specs.Prelude.{◌≤◌, length, option_map, IfSome, Some};
 ghost use Rattle.rpo_hash.specs.Constants.{constants_of};
-ghost use Rattle.statement.specs.Inputs.{given_of};
+ghost use Rattle.run_inputs.specs.Inputs.{given_of};
 ghost use Rattle.commands.specs.Commands.{inputs_steps, kernel_steps, run_source_steps, run_steps, running_steps};
 ghost use Rattle.run_command.specs.Naming.{AreOptions, outputs_from};
 ghost use Rattle.command_ends.specs.Outcomes.{EndsIn};
@@ -13,10 +13,11 @@ use command_ends::{
     MOST_INPUTS_BYTES, MOST_PARAMS_BYTES, MOST_SOURCE_BYTES, Outcome, load, malformed_params,
     malformed_text,
 };
+use json_values::TextError;
 use rpo_hash::Params;
+use run_inputs::read_inputs;
 use source_files::SourceFile;
 use source_runs::course_of;
-use statement::{TextError, read_inputs};
 use std::alloc::Global;
 use vm_io::Shelf;
 use vm_state::Inputs;

@@ -16,7 +16,7 @@ use Rattle.block_tree.specs.declared.program.Program.{Program}
 use Rattle.block_tree.proofs.AlongLemmas.{log-counts, steps-shallow}
 use Rattle.block_tree.proofs.RunSteps.{run-steps}
 use Rattle.block_tree.proofs.TaskLemmas.{steps-log}
-use Rattle.processor.specs.Events.{visible_of}
+use Rattle.cycle_events.specs.Events.{visible_of}
 use Rattle.processor.specs.Executed.{WasExecuted}
 use Rattle.processor.specs.declared.run.Run.{Run}
 use Rattle.air_kit.specs.Requests.{Answers, Fits}

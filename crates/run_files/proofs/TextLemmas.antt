@@ -6,7 +6,7 @@ use Rattle.std.proofs.lemmas.Fmt.{length-decimal-le}
 use Rattle.vm_field.specs.Field.{AreElements, prime}
 use Rattle.vm_field.specs.Machine.{IsWord}
 use Rattle.vm_field.specs.WordText.{hex_digits, word_hex}
-use Rattle.statement.specs.Inputs.{listed}
+use Rattle.json_values.specs.ToJson.{listed}
 use Rattle.statement.specs.Statements.{Claim, statement_text, words_listed}
 use Rattle.run_files.specs.RunFiles.{most_statement_bytes}
 

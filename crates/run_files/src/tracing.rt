@@ -6,7 +6,7 @@ ghost use Rattle.air_kit.specs.Traces.{HasCounts};
 ghost use Rattle.block_tree.specs.Trees.{tree_digest};
 ghost use Rattle.block_tree.specs.TreeView.{tree_of};
 ghost use Rattle.vm_state.specs.Views.{core_of};
-ghost use Rattle.processor.specs.Events.{visible_of};
+ghost use Rattle.cycle_events.specs.Events.{visible_of};
 ghost use Rattle.processor.specs.Executed.{WasExecuted};
 ghost use Rattle.run_rows.specs.Filling.{rows_of};
 ghost use Rattle.run_rows.specs.RunRequests.{requests_of};

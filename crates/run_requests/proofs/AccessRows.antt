@@ -16,9 +16,9 @@ use Rattle.block_tree.specs.Steps.{IsCycle}
 use Rattle.air_kit.specs.MainTuples as tuples
 use Rattle.air_kit.specs.MainTuples.{memory_asked}
 use Rattle.air_kit.specs.Requests.{access_given}
-use Rattle.processor.specs.Events.{visible_of}
-use Rattle.processor.specs.declared.event.Event.{Event}
-use Rattle.processor.specs.declared.event.Visible.{Visible}
+use Rattle.cycle_events.specs.Events.{visible_of}
+use Rattle.cycle_events.specs.declared.event.Event.{Event}
+use Rattle.cycle_events.specs.declared.event.Visible.{Visible}
 use Rattle.run_rows.specs.Limbs.{limbs_by, limbs_of, word_rest}
 use Rattle.run_rows.specs.Moments.{IsMoment, event_at}
 use Rattle.run_rows.specs.RunRequests.{access, accesses_by}

@@ -16,8 +16,8 @@ use Rattle.air_kit.specs.Flags as flags
 use Rattle.air_kit.specs.Flags.{is_op}
 use Rattle.air_kit.specs.MainTuples.{bitwise_asked}
 use Rattle.air_kit.specs.Requests.{bit_given}
-use Rattle.processor.specs.Events.{visible_of}
-use Rattle.processor.specs.declared.event.Visible.{Visible}
+use Rattle.cycle_events.specs.Events.{visible_of}
+use Rattle.cycle_events.specs.declared.event.Visible.{Visible}
 use Rattle.run_rows.specs.Moments.{IsMoment}
 use Rattle.run_rows.specs.RunRequests.{bits_by}
 use Rattle.run_rows.proofs.MomentFacts.{moment_op}

@@ -13,8 +13,8 @@ use Rattle.block_tree.specs.Steps.{Task}
 use Rattle.block_tree.proofs.RowLemmas.{hash-batch}
 use Rattle.air_kit.specs.Requests.{FollowsOn}
 use Rattle.air_kit.specs.declared.requests.Perm.{Perm}
-use Rattle.processor.specs.declared.event.Event.{Event}
-use Rattle.processor.specs.declared.event.Visible.{Visible}
+use Rattle.cycle_events.specs.declared.event.Event.{Event}
+use Rattle.cycle_events.specs.declared.event.Visible.{Visible}
 use Rattle.row_facts.proofs.Says.{never, off}
 use Rattle.run_rows.specs.Chains as chains
 use Rattle.run_rows.specs.Chains.{AreLinked}

@@ -17,8 +17,8 @@ use Rattle.buses.specs.Counts.{counted}
 use Rattle.hash_rows.proofs.Totals.{counted-none}
 use Rattle.air_kit.specs.MainTuples.{eight, hasher_asked}
 use Rattle.air_kit.specs.Requests.{perms_given}
-use Rattle.processor.specs.Events.{shown_between, visible_of}
-use Rattle.processor.specs.declared.event.Event.{Event}
+use Rattle.cycle_events.specs.Events.{shown_between, visible_of}
+use Rattle.cycle_events.specs.declared.event.Event.{Event}
 use Rattle.run_rows.specs.Agreement.{AreOutside}
 use Rattle.run_rows.specs.Decoder.{Decoder, address_of, advance, next_after}
 use Rattle.run_rows.specs.Kinds.{kind_of}

@@ -9,8 +9,8 @@ use Rattle.buses.specs.Counts.{counted, over_rows, with_next}
 use Rattle.hash_rows.proofs.Totals.{counted-none}
 use Rattle.air_kit.specs.MainTuples.{hasher_asked}
 use Rattle.air_kit.specs.Requests.{perms_given}
-use Rattle.processor.specs.Events.{visible_of}
-use Rattle.processor.specs.declared.event.Event.{Event}
+use Rattle.cycle_events.specs.Events.{visible_of}
+use Rattle.cycle_events.specs.declared.event.Event.{Event}
 use Rattle.run_rows.specs.Chains.{AreLinked}
 use Rattle.run_rows.specs.Decoder.{Decoder, advance, at_start}
 use Rattle.run_rows.specs.Moments.{IsMoment, event_at}

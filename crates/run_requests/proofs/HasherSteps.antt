@@ -18,7 +18,7 @@ use Rattle.air_kit.specs.Flags.{is_op}
 use Rattle.air_kit.specs.MainTuples.{domain_of, eight, front, hash_end, hasher_asked, twelve}
 use Rattle.air_kit.specs.Requests.{perms_given}
 use Rattle.air_kit.specs.declared.requests.Perm.{Perm}
-use Rattle.processor.specs.declared.event.Event.{Event}
+use Rattle.cycle_events.specs.declared.event.Event.{Event}
 use Rattle.run_rows.specs.Agreement.{AreOutside}
 use Rattle.run_rows.specs.Decoder.{Decoder, Open, address_of, next_after}
 use Rattle.run_rows.specs.RunRequests.{hash_perms, perms_by_op, perms_of}

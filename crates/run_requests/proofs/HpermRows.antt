@@ -24,9 +24,9 @@ use Rattle.air_kit.specs.Flags as flags
 use Rattle.air_kit.specs.Flags.{is_op}
 use Rattle.air_kit.specs.MainTuples.{hasher_asked, twelve}
 use Rattle.air_kit.specs.Requests.{perms_given}
-use Rattle.processor.specs.Events.{visible_of}
-use Rattle.processor.specs.declared.event.Event.{Event}
-use Rattle.processor.specs.declared.event.Visible.{Visible}
+use Rattle.cycle_events.specs.Events.{visible_of}
+use Rattle.cycle_events.specs.declared.event.Event.{Event}
+use Rattle.cycle_events.specs.declared.event.Visible.{Visible}
 use Rattle.row_facts.proofs.Says.{never, off}
 use Rattle.run_rows.specs.Decoder.{Decoder, next_after}
 use Rattle.run_rows.specs.Filling.{witnesses_by}

@@ -15,7 +15,7 @@ use Rattle.block_tree.specs.Marks.{IsWholeMark}
 use Rattle.block_tree.specs.Rows.{hash_of, op_of}
 use Rattle.block_tree.specs.Steps.{Task}
 use Rattle.air_kit.specs.Flags.{is_op}
-use Rattle.processor.specs.declared.event.Event.{Event}
+use Rattle.cycle_events.specs.declared.event.Event.{Event}
 use Rattle.run_rows.specs.Chains as chains
 use Rattle.run_rows.specs.Chains.{AreLinked}
 use Rattle.run_rows.specs.Decoder.{Decoder}

@@ -12,7 +12,7 @@ use Rattle.buses.specs.Counts.{Counted, counted, once, over_rows, with_next}
 use Rattle.hash_rows.proofs.Totals.{counted-append, counted-none}
 use Rattle.air_kit.specs.Flags.{is_op}
 use Rattle.air_kit.specs.MainTuples.{front, kernel_asked}
-use Rattle.processor.specs.declared.event.Event.{Event}
+use Rattle.cycle_events.specs.declared.event.Event.{Event}
 use Rattle.run_rows.specs.Chains.{AreLinked}
 use Rattle.run_rows.specs.Decoder.{Decoder, advance}
 use Rattle.run_rows.specs.Moments.{IsMoment, event_at}

@@ -9,7 +9,7 @@ use Rattle.block_tree.specs.Steps.{Task}
 use Rattle.block_tree.proofs.AlongLemmas.{cycle-clock}
 use Rattle.air_kit.specs.Requests.{FitsMemory}
 use Rattle.air_kit.specs.declared.requests.Access.{Access}
-use Rattle.processor.specs.declared.event.Event.{Event}
+use Rattle.cycle_events.specs.declared.event.Event.{Event}
 use Rattle.run_rows.specs.Chains as chains
 use Rattle.run_rows.specs.Chains.{AreLinked}
 use Rattle.run_rows.specs.Decoder.{Decoder}

@@ -12,7 +12,7 @@ use Rattle.block_tree.specs.Cycles.{Mark, Do, top}
 use Rattle.block_tree.specs.Rows.{op_of}
 use Rattle.block_tree.specs.Steps.{IsCycle}
 use Rattle.air_kit.specs.declared.requests.Access.{Access}
-use Rattle.processor.specs.declared.event.Event.{Event}
+use Rattle.cycle_events.specs.declared.event.Event.{Event}
 use Rattle.run_rows.specs.Moments.{event_at}
 use Rattle.run_rows.specs.RunRequests.{accesses_by}
 use Rattle.run_rows.proofs.MomentFacts.{core_after}

@@ -9,7 +9,7 @@ use Rattle.block_tree.specs.Marks.{IsWholeMark}
 use Rattle.block_tree.specs.Rows.{behind, hash_of, op_of}
 use Rattle.block_tree.proofs.RowLemmas.{hash-batch}
 use Rattle.air_kit.specs.MainTuples.{eight}
-use Rattle.processor.specs.Events.{shown_between}
+use Rattle.cycle_events.specs.Events.{shown_between}
 use Rattle.row_facts.proofs.Says.{never}
 use Rattle.run_rows.specs.Decoder.{Decoder, advance}
 use Rattle.run_rows.specs.Filling.{hash_by}

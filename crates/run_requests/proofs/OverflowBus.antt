@@ -12,8 +12,8 @@ use Rattle.block_tree.specs.Steps.{Task, Next, span, join, split_1, split_0, loo
 use Rattle.block_tree.specs.Trees.{Loop, tree_digest}
 use Rattle.buses.specs.Counts.{counted}
 use Rattle.air_kit.specs.MainTuples.{overflow_asked, overflow_given}
-use Rattle.processor.specs.Events.{shown_between}
-use Rattle.processor.specs.declared.event.Event.{Event}
+use Rattle.cycle_events.specs.Events.{shown_between}
+use Rattle.cycle_events.specs.declared.event.Event.{Event}
 use Rattle.run_rows.specs.Decoder.{Decoder, advance, hidden_of, keys_behind}
 use Rattle.run_rows.proofs.AgreeLemmas.{has_flags, keys_by_flags, ordinary_advance}
 use Rattle.run_rows.proofs.BlockLemmas.{no_block}

@@ -11,7 +11,7 @@ use Rattle.buses.specs.Counts.{counted, over_rows, with_next}
 use Rattle.vm_ops.proofs.FrameLemmas.{step-below}
 use Rattle.air_kit.specs.MainTuples.{overflow_asked, overflow_given}
 use Rattle.chip_columns.specs.LeftColumns as left
-use Rattle.processor.specs.declared.event.Event.{Event}
+use Rattle.cycle_events.specs.declared.event.Event.{Event}
 use Rattle.run_rows.specs.BlockRows.{IsRun, events_of, filled, keys_of}
 use Rattle.run_rows.specs.Chains.{AreLinked}
 use Rattle.run_rows.specs.Decoder.{advance, at_start, decoder_after}

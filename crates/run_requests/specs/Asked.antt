@@ -7,7 +7,7 @@ use Rattle.buses.specs.Counts.{counted, once, over_rows, with_next}
 use Rattle.air_kit.specs.MainTuples.{bitwise_asked, hasher_asked, kernel_asked, memory_asked, range_asked}
 use Rattle.air_kit.specs.Requests.{access_given, bit_given, perms_given}
 use Rattle.air_kit.specs.declared.requests.Requests.{Requests}
-use Rattle.processor.specs.Events.{visible_of}
+use Rattle.cycle_events.specs.Events.{visible_of}
 use Rattle.run_rows.specs.BlockRows.{IsRun, events_of, filled}
 use Rattle.run_rows.specs.RunRequests.{requests_of}
 

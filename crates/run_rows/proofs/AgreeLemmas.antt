@@ -16,7 +16,7 @@ use Rattle.vm_ops.proofs.MoveLemmas.{ByOne}
 use Rattle.op_pack.specs.Reading.{IsBatch, positions_in_use, read_on, reading}
 use Rattle.block_tree.specs.Steps.{Task, Block, Within, Turned, Closing, Returning, Leaving}
 use Rattle.air_kit.specs.Flags.{is_op}
-use Rattle.processor.specs.declared.event.Event.{Event}
+use Rattle.cycle_events.specs.declared.event.Event.{Event}
 use Rattle.run_rows.specs.Agreement.{ReadsOn, AreOutside, ReadsFirst, IsLowUnread}
 use Rattle.run_rows.specs.Decoder.{Decoder, hidden_of, keys_after, keys_behind, advance, advance_by}
 use Rattle.run_rows.specs.Groups.{Unread, nothing_unread, batch_begun, group_after, taken_from}

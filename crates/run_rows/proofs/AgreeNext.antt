@@ -17,8 +17,8 @@ use Rattle.block_tree.specs.Steps.{Task, Next, span, join, split_1, split_0, loo
 use Rattle.block_tree.proofs.BehindLemmas.{behind-cycle}
 use Rattle.block_tree.proofs.KeptLemmas.{cycle-step}
 use Rattle.air_kit.specs.Flags.{is_op}
-use Rattle.processor.specs.Events.{shown, shown_between}
-use Rattle.processor.specs.declared.event.Event.{Event}
+use Rattle.cycle_events.specs.Events.{shown, shown_between}
+use Rattle.cycle_events.specs.declared.event.Event.{Event}
 use Rattle.run_rows.specs.Agreement.{Agrees}
 use Rattle.run_rows.specs.Decoder.{Decoder, hidden_of, keys_behind, advance}
 use Rattle.run_rows.proofs.AgreeLemmas.{by_one, has_flags, hidden_depth, keys_by_flags, low_begun, low_taken, ordinary_advance, popped_depth, reads_begun, reads_next, reads_outside, taken_depth}

@@ -8,7 +8,7 @@ use Rattle.vm_ops.specs.declared.op.Op.TheVariants as ops
 use Rattle.vm_ops.specs.declared.op.Shift.{Shift}
 use Rattle.vm_ops.specs.declared.op.Shift.TheVariants.{Left, Stay, Right}
 use Rattle.air_kit.specs.Flags.{is_op}
-use Rattle.processor.specs.declared.event.Event.{Event}
+use Rattle.cycle_events.specs.declared.event.Event.{Event}
 use Rattle.run_rows.specs.Bounds.{IsBounded, IsLowBlock}
 use Rattle.run_rows.specs.Decoder.{Open, Decoder, advance, advance_by, at_start, ends_call, ends_loop, hidden_of, keys_after}
 use Rattle.run_rows.specs.Kinds as kinds

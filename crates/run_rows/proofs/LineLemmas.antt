@@ -9,9 +9,9 @@ use Rattle.vm_ops.specs.Codes.{code_of}
 use Rattle.vm_ops.specs.declared.op.Op.{Op}
 use Rattle.vm_ops.specs.declared.op.Op.TheVariants as ops
 use Rattle.op_pack.specs.Reading.{positions_in_use}
-use Rattle.processor.specs.Events.{visible_of}
-use Rattle.processor.specs.declared.event.Event.{Event}
-use Rattle.processor.specs.declared.event.Visible.{Visible}
+use Rattle.cycle_events.specs.Events.{visible_of}
+use Rattle.cycle_events.specs.declared.event.Event.{Event}
+use Rattle.cycle_events.specs.declared.event.Visible.{Visible}
 use Rattle.run_rows.specs.Agreement.{IsLowUnread}
 use Rattle.run_rows.specs.Bounds.{IsBounded, IsLowBlock, IsSmall}
 use Rattle.run_rows.specs.Decoder.{Open, Decoder, address_of}

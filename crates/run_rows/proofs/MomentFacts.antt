@@ -14,7 +14,7 @@ use Rattle.block_tree.specs.Steps.{Task, IsCycle}
 use Rattle.block_tree.proofs.BehindLemmas.{behind-cycle}
 use Rattle.block_tree.proofs.RowLemmas.{accessed-word, hash-batch, shown-behind}
 use Rattle.air_kit.specs.Flags as flags
-use Rattle.processor.specs.Events.{visible_of}
+use Rattle.cycle_events.specs.Events.{visible_of}
 use Rattle.vm_table.specs.MainColumns.{b, h, inv, t, w}
 use Rattle.row_facts.specs.RowFacts.{ReadsAs, IsRow, IsPair}
 use Rattle.run_rows.specs.Decoder.{Decoder, advance}

@@ -9,8 +9,8 @@ use Rattle.block_tree.specs.Steps.{Task, Steps, ended, goes}
 use Rattle.block_tree.proofs.AlongLemmas.{cycle-clock}
 use Rattle.block_tree.proofs.KeptLemmas.{cycle-kept}
 use Rattle.block_tree.proofs.TaskLemmas.{AreWholeTasks, next-whole, whole-append}
-use Rattle.processor.specs.Events.{shown, visible_of}
-use Rattle.processor.specs.declared.event.Event.{Event}
+use Rattle.cycle_events.specs.Events.{shown, visible_of}
+use Rattle.cycle_events.specs.declared.event.Event.{Event}
 use Rattle.run_rows.specs.Agreement.{Agrees}
 use Rattle.run_rows.specs.Bounds.{IsBounded, IsSmall}
 use Rattle.run_rows.specs.Chains as chains

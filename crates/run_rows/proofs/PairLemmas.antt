@@ -17,9 +17,9 @@ use Rattle.block_tree.specs.Steps.{Task, Block, Turned, Closing, Returning, Leav
 use Rattle.block_tree.specs.Trees.{Span, Join, Split, Loop, Call, Syscall, tree_digest}
 use Rattle.air_kit.specs.Flags.{is_op}
 use Rattle.air_kit.specs.MainTuples.{is_batch_op}
-use Rattle.processor.specs.Events.{shown_between}
-use Rattle.processor.specs.declared.event.Event.{Event}
-use Rattle.processor.specs.declared.event.Visible.{Visible}
+use Rattle.cycle_events.specs.Events.{shown_between}
+use Rattle.cycle_events.specs.declared.event.Event.{Event}
+use Rattle.cycle_events.specs.declared.event.Visible.{Visible}
 use Rattle.row_facts.specs.Batches.{OpensBatch}
 use Rattle.row_facts.specs.Blocks.{KeepsBlock, keeps_block, level_after}
 use Rattle.row_facts.specs.Follows.{may_follow}

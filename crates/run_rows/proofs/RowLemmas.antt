@@ -14,9 +14,9 @@ use Rattle.block_tree.specs.Steps.{Task, Next, span, join, split_1, split_0, loo
 use Rattle.block_tree.specs.Trees.{Loop, tree_digest}
 use Rattle.air_kit.specs.Flags.{is_op}
 use Rattle.air_kit.specs.MainTuples.{is_batch_op}
-use Rattle.processor.specs.Events.{shown_between}
-use Rattle.processor.specs.declared.event.Event.{Event}
-use Rattle.processor.specs.declared.event.Visible.{Visible}
+use Rattle.cycle_events.specs.Events.{shown_between}
+use Rattle.cycle_events.specs.declared.event.Event.{Event}
+use Rattle.cycle_events.specs.declared.event.Visible.{Visible}
 use Rattle.row_facts.specs.Blocks.{IsBlockRow}
 use Rattle.row_facts.specs.RowFacts.{IsRow}
 use Rattle.row_facts.proofs.Says.{never, off}

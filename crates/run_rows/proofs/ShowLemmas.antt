@@ -2,9 +2,9 @@
 use Rattle.std.proofs.Common.{◌≡◌, List, slice_index, ap, ◌∙◌, lit<}
 use Rattle.std.proofs.lemmas.List.{get_or-take}
 use Rattle.vm_field.specs.Machine.{Core}
-use Rattle.processor.specs.Events.{visible_of}
-use Rattle.processor.specs.declared.event.Event.{Event}
-use Rattle.processor.specs.declared.event.Visible.{Visible}
+use Rattle.cycle_events.specs.Events.{visible_of}
+use Rattle.cycle_events.specs.declared.event.Event.{Event}
+use Rattle.cycle_events.specs.declared.event.Visible.{Visible}
 use Rattle.run_rows.specs.Decoder.{Decoder}
 use Rattle.run_rows.specs.Filling.{hash_by, line_of, row_of}
 use Rattle.run_rows.specs.Lines.{bit_number}

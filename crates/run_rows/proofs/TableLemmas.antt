@@ -16,9 +16,9 @@ use Rattle.block_tree.proofs.RunSteps.{run-steps}
 use Rattle.block_tree.proofs.TaskLemmas.{steps-log}
 use Rattle.air_kit.specs.Flags as flags
 use Rattle.air_kit.specs.Places.{Claim}
-use Rattle.processor.specs.Events.{shown, visible_of}
-use Rattle.processor.specs.declared.event.Event.{Event}
-use Rattle.processor.specs.declared.event.Visible.{Visible}
+use Rattle.cycle_events.specs.Events.{shown, visible_of}
+use Rattle.cycle_events.specs.declared.event.Event.{Event}
+use Rattle.cycle_events.specs.declared.event.Visible.{Visible}
 use Rattle.row_facts.specs.Bounds.{IsFirstRow, IsLastRow}
 use Rattle.row_facts.specs.MainRows.{op_in, row_at}
 use Rattle.row_facts.specs.RowFacts.{ReadsAs, IsRow}

@@ -4,7 +4,7 @@ use Rattle.vm_field.specs.Machine.{State, IsWellFormed}
 use Rattle.block_tree.specs.Cycles.{Mark}
 use Rattle.block_tree.specs.Marks.{IsWholeMark}
 use Rattle.block_tree.specs.Steps.{Task, Next, IsCycle}
-use Rattle.processor.specs.declared.event.Event.{Event}
+use Rattle.cycle_events.specs.declared.event.Event.{Event}
 use Rattle.run_rows.specs.Agreement.{Agrees}
 use Rattle.run_rows.specs.Decoder.{Decoder, advance}
 use Rattle.run_rows.specs.Moments.{event_at}

@@ -8,8 +8,8 @@ use Rattle.block_tree.specs.Execution.{Done, execution}
 use Rattle.block_tree.specs.Steps.{Block}
 use Rattle.block_tree.specs.Trees.{Tree, IsWhole}
 use Rattle.air_kit.specs.Places.{Claim}
-use Rattle.processor.specs.Events.{shown, visible_of}
-use Rattle.processor.specs.declared.event.Event.{Event}
+use Rattle.cycle_events.specs.Events.{shown, visible_of}
+use Rattle.cycle_events.specs.declared.event.Event.{Event}
 use Rattle.row_facts.specs.Bounds.{IsFirstRow, IsLastRow}
 use Rattle.row_facts.specs.MainRows.{op_in, row_at}
 use Rattle.row_facts.specs.RowFacts.{ReadsAs, IsRow, IsPair}

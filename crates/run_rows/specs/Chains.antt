@@ -4,7 +4,7 @@ use Rattle.vm_field.specs.Machine.{State, start}
 use Rattle.block_tree.specs.Execution as run
 use Rattle.block_tree.specs.Steps.{Task, Block}
 use Rattle.block_tree.specs.Trees.{Tree}
-use Rattle.processor.specs.declared.event.Event.{Event}
+use Rattle.cycle_events.specs.declared.event.Event.{Event}
 use Rattle.run_rows.specs.BlockRows.{IsRun, events_of, filled}
 use Rattle.run_rows.specs.Decoder.{Decoder, advance, at_start}
 use Rattle.run_rows.specs.Moments.{IsEndRow, IsMoment, event_at}

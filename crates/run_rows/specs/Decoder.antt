@@ -7,7 +7,7 @@ use Rattle.vm_ops.specs.declared.op.Op.TheVariants as ops
 use Rattle.vm_ops.specs.declared.op.Shift.{Shift}
 use Rattle.vm_ops.specs.declared.op.Shift.TheVariants.{Left, Stay, Right}
 use Rattle.air_kit.specs.Flags.{is_op}
-use Rattle.processor.specs.declared.event.Event.{Event}
+use Rattle.cycle_events.specs.declared.event.Event.{Event}
 use Rattle.run_rows.specs.Groups.{Unread, nothing_unread, batch_begun, taken_from}
 use Rattle.run_rows.specs.Kinds as kinds
 use Rattle.run_rows.specs.Kinds.{Kind, kind_of}

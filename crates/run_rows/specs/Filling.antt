@@ -3,8 +3,8 @@ use Rattle.std.specs.Prelude.{ℕ, None, List, [], ◌∷◌, length, slice_inde
 use Rattle.vm_field.specs.Machine.{zero_word}
 use Rattle.vm_ops.specs.declared.op.Op.TheVariants as ops
 use Rattle.op_pack.specs.Reading.{positions_in_use}
-use Rattle.processor.specs.declared.event.Event.{Event}
-use Rattle.processor.specs.declared.event.Visible.{Visible}
+use Rattle.cycle_events.specs.declared.event.Event.{Event}
+use Rattle.cycle_events.specs.declared.event.Visible.{Visible}
 use Rattle.run_rows.specs.Decoder.{Decoder, address_of, key_of, advance, at_start}
 use Rattle.run_rows.specs.Kinds as kinds
 use Rattle.run_rows.specs.Kinds.{Kind, kind_of}

@@ -3,8 +3,8 @@
 use Rattle.std.specs.Prelude.{ℕ, ◌-◌, ◌/◌, ◌%◌, List, [], ◌∷◌, ◌++◌, drop, slice_index}
 use Rattle.vm_ops.specs.declared.op.Op.{Op}
 use Rattle.vm_ops.specs.declared.op.Op.TheVariants as ops
-use Rattle.processor.specs.declared.event.Event.{Event}
-use Rattle.processor.specs.declared.event.Visible.{Visible}
+use Rattle.cycle_events.specs.declared.event.Event.{Event}
+use Rattle.cycle_events.specs.declared.event.Visible.{Visible}
 
 abbrev pub limbs : ℕ → List ℕ
 limbs n = n % 65536 ∷ n / 65536 ∷ []

@@ -4,7 +4,7 @@ use Rattle.vm_field.specs.Field.{felt_inv}
 use Rattle.vm_field.specs.Signs.{◌⊟◌}
 use Rattle.vm_ops.specs.Codes.{code_of, is_ordinary_op}
 use Rattle.vm_ops.specs.declared.op.Op.{Op}
-use Rattle.processor.specs.declared.event.Visible.{Visible}
+use Rattle.cycle_events.specs.declared.event.Visible.{Visible}
 
 -- What is not given beyond the ends of the lists is 0.
 pub record Line : Type 0 where

@@ -8,9 +8,9 @@ use Rattle.block_tree.specs.Execution.{event_of}
 use Rattle.block_tree.specs.Marks.{IsWholeMark}
 use Rattle.block_tree.specs.Rows.{op_of}
 use Rattle.block_tree.specs.Steps.{Task, Next, IsCycle}
-use Rattle.processor.specs.Events.{shown, visible_of}
-use Rattle.processor.specs.declared.event.Event.{Event}
-use Rattle.processor.specs.declared.event.Visible.{Visible}
+use Rattle.cycle_events.specs.Events.{shown, visible_of}
+use Rattle.cycle_events.specs.declared.event.Event.{Event}
+use Rattle.cycle_events.specs.declared.event.Visible.{Visible}
 use Rattle.run_rows.specs.Agreement.{Agrees}
 use Rattle.run_rows.specs.Bounds.{IsBounded, IsSmall}
 use Rattle.run_rows.specs.Decoder.{Decoder, advance}

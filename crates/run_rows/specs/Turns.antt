@@ -1,6 +1,6 @@
 -- What a row takes from the cycles behind it: the later batches of its span, and how often its loop repeats.
 use Rattle.std.specs.Prelude.{ℕ, suc, List, [], ◌∷◌, drop, slice_index}
-use Rattle.processor.specs.declared.event.Event.{Event}
+use Rattle.cycle_events.specs.declared.event.Event.{Event}
 use Rattle.run_rows.specs.Kinds as kinds
 use Rattle.run_rows.specs.Kinds.{Kind, kind_of}
 

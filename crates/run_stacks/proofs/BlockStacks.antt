@@ -10,9 +10,9 @@ use Rattle.vm_table.specs.MainColumns.{depth, h}
 use Rattle.block_tree.specs.Behind.{core_behind}
 use Rattle.block_tree.specs.Cycles.{Mark, StartOpaque, StartSpan, StartJoin, StartSplit, StartLoop, StartCall, StartSyscall, Respan, Repeat, Do, End, EndSpan, EndLoop, EndCall, EndSyscall}
 use Rattle.block_tree.specs.Rows.{hash_of, op_of}
-use Rattle.processor.specs.Events.{shown_between, visible_of}
-use Rattle.processor.specs.declared.event.Visible.{Visible}
-use Rattle.processor.specs.declared.event.Event.{Event}
+use Rattle.cycle_events.specs.Events.{shown_between, visible_of}
+use Rattle.cycle_events.specs.declared.event.Visible.{Visible}
+use Rattle.cycle_events.specs.declared.event.Event.{Event}
 use Rattle.row_facts.proofs.Says.{never, off}
 use Rattle.row_facts.specs.Blocks.{ends_call}
 use Rattle.row_facts.specs.Limbs.{IsLimbRow, MovesLimbs}

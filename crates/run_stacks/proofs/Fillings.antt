@@ -20,9 +20,9 @@ use Rattle.block_tree.specs.Steps.{IsCycle}
 use Rattle.block_tree.proofs.BehindLemmas.{behind-cycle}
 use Rattle.block_tree.proofs.KeptLemmas.{cycle-step}
 use Rattle.air_kit.specs.Flags.{is_shift}
-use Rattle.processor.specs.Events.{visible_of}
-use Rattle.processor.specs.declared.event.Event.{Event}
-use Rattle.processor.specs.declared.event.Visible.{Visible}
+use Rattle.cycle_events.specs.Events.{visible_of}
+use Rattle.cycle_events.specs.declared.event.Event.{Event}
+use Rattle.cycle_events.specs.declared.event.Visible.{Visible}
 use Rattle.row_facts.proofs.Says.{never, off}
 use Rattle.row_steps.specs.Filling.{FillsRows, elsewhere_of}
 use Rattle.row_steps.proofs.Fills.{step_fills}

@@ -10,8 +10,8 @@ use Rattle.block_tree.specs.Cycles.{Mark, StartOpaque, StartSpan, StartJoin, Sta
 use Rattle.block_tree.specs.Rows.{behind, op_of}
 use Rattle.block_tree.specs.Steps.{IsCycle}
 use Rattle.air_kit.specs.Flags as flags
-use Rattle.processor.specs.Events.{visible_of}
-use Rattle.processor.specs.declared.event.Event.{Event}
+use Rattle.cycle_events.specs.Events.{visible_of}
+use Rattle.cycle_events.specs.declared.event.Event.{Event}
 use Rattle.row_facts.specs.Limbs.{IsLimbRow}
 use Rattle.row_facts.specs.Stack.{IsStackRow}
 use Rattle.row_steps.specs.Filling.{FillsRows, elsewhere_of}

@@ -20,9 +20,9 @@ use Rattle.block_tree.proofs.KeptLemmas.{cycle-kept}
 use Rattle.block_tree.proofs.RunSteps.{run-steps}
 use Rattle.block_tree.proofs.TaskLemmas.{AreWholeTasks, next-whole, whole-append}
 use Rattle.air_kit.specs.MainTuples as tuples
-use Rattle.processor.specs.Events.{shown, visible_of}
-use Rattle.processor.specs.declared.event.Event.{Event}
-use Rattle.processor.specs.declared.event.Visible.{Visible}
+use Rattle.cycle_events.specs.Events.{shown, visible_of}
+use Rattle.cycle_events.specs.declared.event.Event.{Event}
+use Rattle.cycle_events.specs.declared.event.Visible.{Visible}
 use Rattle.run_rows.specs.BlockRows.{IsRun, events_of}
 use Rattle.run_rows.specs.Decoder.{Decoder, advance}
 use Rattle.run_rows.specs.Filling.{halted, line_of, row_of, seen_behind}

@@ -7,7 +7,7 @@ use Rattle.block_tree.specs.Cycles.{Do}
 use Rattle.block_tree.specs.Execution as run
 use Rattle.block_tree.specs.Trees.{Tree}
 use Rattle.air_kit.specs.Places.{Claim}
-use Rattle.processor.specs.Events.{visible_of}
+use Rattle.cycle_events.specs.Events.{visible_of}
 use Rattle.row_facts.specs.Bounds.{IsLowClaim}
 use Rattle.row_facts.specs.MainRows.{IsZero, ShowsRows, op_in, row_at}
 use Rattle.row_steps.specs.Filling.{FillsRows, elsewhere_of}

@@ -1,6 +1,7 @@
 use block_tree::{Exports, Program, Tree, are_distinct, digest};
+use cycle_events::{Event, Stop};
 use op_pack::Batches;
-use processor::{Event, Run, Stop, execute};
+use processor::{Run, execute};
 use rpo_hash::Params;
 use std::alloc::Global;
 use std::process::Abort;
@@ -318,8 +319,8 @@ fn run_of(alloc: Global, log: &Log) -> Result<Run, Stop> {
 // Each line is shown by the cycle of its number, and there are no other cycles.
 fn is_shown(alloc: Global, log: &Log) -> Result<bool, Stop> {
     let run = run_of(alloc, log)?;
-    for (event, line) in run.events.as_slice().iter().zip(log.lines) {
-        if !shows(alloc, log, event, line)? {
+    for (kept, line) in run.events.as_slice().iter().zip(log.lines) {
+        if !shows(alloc, log, &kept.event(), line)? {
             return Ok(false);
         }
     }
@@ -389,13 +390,13 @@ fn stands(event: &Event, clock: usize, before: &Before, digest: Word) -> bool {
 fn are_visible(alloc: Global) -> Result<bool, Stop> {
     let run = run_of(alloc, &STORED)?;
     let callee = digest_at(alloc, &STORED, 1)?;
-    for (clock, (event, before)) in run.events.as_slice().iter().zip(&BEFORE).enumerate() {
+    for (clock, (kept, before)) in run.events.as_slice().iter().zip(&BEFORE).enumerate() {
         let digest = if before.context == 0 {
             Word::ZERO
         } else {
             callee
         };
-        if !stands(event, clock, before, digest) {
+        if !stands(&kept.event(), clock, before, digest) {
             return Ok(false);
         }
     }

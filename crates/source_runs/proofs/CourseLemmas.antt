@@ -6,7 +6,7 @@ use Rattle.block_tree.specs.declared.program.Program.{Program}
 use Rattle.vm_state.specs.declared.inputs.Inputs.{Inputs}
 use Rattle.processor.specs.Executed.{IsRunOf, WasExecuted}
 use Rattle.processor.specs.declared.run.Run.{Run}
-use Rattle.statement.specs.Inputs.{Given, given_of}
+use Rattle.run_inputs.specs.Inputs.{Given, given_of}
 use Rattle.source_runs.specs.declared.course.Course as held
 use Rattle.command_ends.specs.declared.outcome.Outcome.{Outcome}
 use Rattle.command_ends.specs.declared.outcome.Outcome.TheVariants as outcome

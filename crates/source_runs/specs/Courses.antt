@@ -6,7 +6,7 @@ use Rattle.block_tree.specs.Execution as run
 use Rattle.block_tree.specs.TreeView.{tree_of}
 use Rattle.block_tree.specs.declared.program.Program.{Program}
 use Rattle.vm_state.specs.Views.{state_of}
-use Rattle.statement.specs.Inputs.{Given}
+use Rattle.run_inputs.specs.Inputs.{Given}
 use Rattle.processor.specs.Executed.{WasExecuted}
 use Rattle.processor.specs.declared.run.Run.{Run}
 use Rattle.run_rows.specs.BlockRows.{IsRun, events_of}

@@ -1,7 +1,7 @@
 // How a source runs: its program and the run to its end, or the answer why there is none.
 ghost use Rattle.std.specs.Prelude.{◌≡◌, ◌≤◌, length, option_map, IfErr, IfOk, IfSome};
 ghost use Rattle.rpo_hash.specs.Constants.{constants_of};
-ghost use Rattle.statement.specs.Inputs.{given_of};
+ghost use Rattle.run_inputs.specs.Inputs.{given_of};
 ghost use Rattle.source_runs.specs.Courses.{Came, Halts, HasRun, Stopped};
 ghost use Rattle.command_ends.specs.Outcomes.{Says};
 ghost use Rattle.source_files.specs.Sources.{file_of};
@@ -11,8 +11,9 @@ use crate::halt_lines::{limit_text, trap_text};
 use block_tree::Program;
 use command_ends::{Outcome, answered};
 use commands::Status;
+use cycle_events::Stop;
 use masm_link::AsmError;
-use processor::{Run, Stop, execute};
+use processor::{Run, execute};
 use rpo_hash::{Params, known_constants};
 use source_files::{SourceFile, assemble_sources, name_of_place, refused_source};
 use std::alloc::Global;

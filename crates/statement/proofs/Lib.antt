@@ -1,4 +1,2 @@
-pub mod Steps
-pub mod Written
 pub mod Distinct
 pub mod StatementText

@@ -1,5 +1,2 @@
-pub mod Values
-pub mod Causes
-pub mod Inputs
-pub mod ToJson
 pub mod Statements
+pub mod ToJson

@@ -8,8 +8,6 @@ mod laws;
 mod part_trace;
 mod reader;
 mod rows;
-#[cfg(test)]
-mod tests;
 mod writing;
 
 pub use cause::{FileCause, FileError, cause_text};

@@ -1,9 +1,9 @@
 use block_tree::{Evidence, Tree};
 use evidence_text::write_evidence;
+use json_values::{TextCause, TextError, cause_text};
 use op_pack::Batches;
-use statement::{
-    TextCause, TextError, cause_text, read_inputs, read_statement, write_inputs, write_statement,
-};
+use run_inputs::{read_inputs, write_inputs};
+use statement::{read_statement, write_statement};
 use std::alloc::{AllocError, Global};
 use std::test::Fail;
 use vm_field::{Bytes, Felt, Felts, Memory, Word};

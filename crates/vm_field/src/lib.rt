@@ -9,8 +9,6 @@ mod operators;
 mod powers;
 mod refusal;
 mod sequence;
-#[cfg(test)]
-mod tests;
 mod word;
 
 pub use element::Felt;

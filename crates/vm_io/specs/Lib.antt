@@ -4,5 +4,4 @@ pub mod Sink
 pub mod Calls
 pub mod MemShelf
 pub mod MemSink
-pub mod Folder
 pub mod Laws

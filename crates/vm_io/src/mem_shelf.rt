@@ -6,11 +6,11 @@ ghost use Rattle.vm_io.specs.Calls.{IsDue};
 ghost use Rattle.vm_io.specs.Shelf.{ReadStep, TakenStep, WriteStep};
 
 use crate::calls::Calls;
+use crate::gathering::gather;
 use crate::kept_name::KeptName;
 use crate::pieces::Pieces;
 use crate::shelf::{ReadStop, Shelf, WriteStop};
 use crate::taker::Taker;
-use crate::whole::gather;
 use std::alloc::Global;
 use std::collections::BTreeMap;
 use std::marker::Model;

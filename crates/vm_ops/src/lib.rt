@@ -18,6 +18,3 @@ pub use item::{Item, Items};
 pub use laws::{code_laws, frame_laws, run_laws, step_laws, types_cross, value_laws};
 pub use moves::{advice, leaves, shift, sources, takes};
 pub use op::{Op, Shift};
-
-#[cfg(test)]
-mod tests;

@@ -10,8 +10,6 @@ mod stack;
 mod state;
 mod statement;
 mod tape;
-#[cfg(test)]
-mod tests;
 
 pub use aside::Aside;
 pub use inputs::Inputs;

@@ -3,8 +3,6 @@
 
 mod main_view;
 mod table;
-#[cfg(test)]
-mod tests;
 mod view;
 
 pub use main_view::MainView;

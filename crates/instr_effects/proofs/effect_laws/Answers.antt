@@ -1,4 +1,4 @@
-use Rattle.masm_instr.specs.Expansion.{expansion}
+use Rattle.masm_expand.specs.Expansion.{expansion}
 use Rattle.instr_effects.proofs.Firsts.{traps-first}
 use Rattle.instr_effects.proofs.Law.{instruction-effects, instruction-kept}
 use Rattle.instr_effects.proofs.effect_laws.Goals as goal

@@ -3,28 +3,29 @@ use Rattle.buses.specs.declared.bus.Bus.TheVariants as bus
 use Rattle.bus_main.proofs.StepLemmas.{ordinary_done}
 use Rattle.bus_main.proofs.step.ordinary.Goals as goal
 
-pub groups-requires-clause-room : goal.groups-requires-clause-room
-groups-requires-clause-room g c = c.requires.room bus.Groups
+pub tuples_groups-requires-clause-room : goal.tuples_groups-requires-clause-room
+tuples_groups-requires-clause-room g c = c.requires.room bus.Groups
 
-pub overflow-requires-clause-room : goal.overflow-requires-clause-room
-overflow-requires-clause-room g c = c.requires.room bus.Overflow
+pub tuples_overflow-requires-clause-room : goal.tuples_overflow-requires-clause-room
+tuples_overflow-requires-clause-room g c = c.requires.room bus.Overflow
 
-pub hasher-requires-clause-room : goal.hasher-requires-clause-room
-hasher-requires-clause-room g c = c.requires.room bus.Hasher
+pub tuples_hasher-requires-clause-room : goal.tuples_hasher-requires-clause-room
+tuples_hasher-requires-clause-room g c = c.requires.room bus.Hasher
 
-pub bitwise-requires-clause-room : goal.bitwise-requires-clause-room
-bitwise-requires-clause-room g c = c.requires.room bus.Bitwise
+pub tuples_bitwise-requires-clause-room : goal.tuples_bitwise-requires-clause-room
+tuples_bitwise-requires-clause-room g c = c.requires.room bus.Bitwise
 
-pub memory-requires-clause-room : goal.memory-requires-clause-room
-memory-requires-clause-room g c = c.requires.room bus.Memory
+pub tuples_memory-requires-clause-room : goal.tuples_memory-requires-clause-room
+tuples_memory-requires-clause-room g c = c.requires.room bus.Memory
 
-pub range-requires-clause-room : goal.range-requires-clause-room
-range-requires-clause-room g c = c.requires.room bus.Range
+pub tuples_range-requires-clause-room : goal.tuples_range-requires-clause-room
+tuples_range-requires-clause-room g c = c.requires.room bus.Range
 
 pub returns : goal.returns
 returns g c =
     let x = g.V.View.cells c.args.x.now in
     let y = g.V.View.cells c.args.y.now in
-    ordinary_done x y c.args.op c.requires.op c.args.tallies.now c.requires.ordinary c.groups.new.tally c.overflow.new.tally c.hasher.new.tally c.bitwise.new.tally
-    c.memory.new.tally c.range.new.tally c.range.result c.in_ok-groups.ensures c.in_ok-overflow.ensures c.in_ok-hasher.ensures
-    c.in_ok-bitwise.ensures c.in_ok-memory.ensures c.range.ensures
+    ordinary_done x y c.args.op c.requires.op c.args.tallies.now c.requires.ordinary c.tuples_groups.new.tally c.tuples_overflow.new.tally
+    c.tuples_hasher.new.tally c.tuples_bitwise.new.tally c.tuples_memory.new.tally c.tuples_range.new.tally c.tuples_range.result
+    c.in_ok-tuples_groups.ensures c.in_ok-tuples_overflow.ensures c.in_ok-tuples_hasher.ensures c.in_ok-tuples_bitwise.ensures c.in_ok-tuples_memory.ensures
+    c.tuples_range.ensures

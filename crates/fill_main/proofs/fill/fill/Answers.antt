@@ -1,15 +1,16 @@
-use Rattle.std.proofs.Common.{◌≡◌, ℕ, ◌+◌, List, ◌++◌, [], drop, length, refl, sym, ap, ◌∙◌, arith, slice_index, unwrap_or}
+use Rattle.std.proofs.Common.{◌≡◌, ℕ, ◌+◌, List, ◌++◌, [], drop, length, refl, sym, ap, ◌∙◌, arith, slice_index, subst, get_or, unwrap_or}
 use Rattle.air_kit.specs.declared.requests.Perm.{Perm}
 use Rattle.air_kit.specs.declared.requests.Requests.{Requests}
-use Rattle.processor.specs.declared.event.Visible.{Visible}
+use Rattle.cycle_events.specs.declared.event.Event.{Event}
+use Rattle.cycle_events.specs.declared.event.Visible.{Visible}
 use Rattle.run_rows.specs.Decoder.{Decoder, decoder_after}
 use Rattle.run_rows.specs.Filling.{fill, row_of, seen_behind}
 use Rattle.run_rows.specs.RunRequests.{accesses_of, bits_of, calls_of, perms_of, ranges_by, ranges_of}
 use Rattle.run_rows.specs.Turns.{repeats, respans}
 use Rattle.event_kinds.specs.Kinds.{kind_in}
 use Rattle.fill_requests.proofs.RequestLemmas as ask
-use Rattle.fill_main.specs.Views.{decoder_in}
-use Rattle.fill_main.proofs.DecoderLemmas.{known}
+use Rattle.fill_decoder.specs.Views.{decoder_in}
+use Rattle.fill_decoder.proofs.DecoderLemmas.{known}
 use Rattle.fill_main.proofs.FillLemmas.{decoder-end, decoder-step, rows-end, rows-step, turn-first, turns-here, turns-left, no-repeats, whole}
 use Rattle.fill_main.proofs.fill.fill.Goals as goal
 
@@ -39,8 +40,8 @@ loop-i-preserved c =
     let last = c.args.last.now in
     let events = c.args.events.now in
     let i = c.loop-i.i in
-    let e = c.index-events-i.result in
-    let is = c.index-events-i.is in
+    let e = c.event-event.result in
+    let is = subst (λ (x : Event). x ≡ get_or events i x) (sym c.event-event.ensures) c.index-events-i.is in
     let later = drop (i + 1) events in
     let d = decoder_in c.loop-i.decoder in
     let asked = c.loop-i.requests in

@@ -1,5 +1,5 @@
 use Rattle.std.proofs.Common.{◌≡◌, ℕ, ◌+◌, ◌-◌, ◌<◌, List, ◌∷◌, drop, length, sym, ap, ap₂, ◌∙◌, arith, slice_index}
-use Rattle.run_rows.specs.Kinds.{Kind}
+use Rattle.run_rows.specs.Kinds.{Kind, kind_of}
 use Rattle.run_rows.specs.Turns.{repeats, repeats_by}
 use Rattle.fill_main.specs.Turns.{turns_of}
 use Rattle.fill_main.proofs.FillLemmas.{none-behind, repeats-here, turns-here}
@@ -22,7 +22,7 @@ loop-i-preserved c =
     let turns = c.loop-i.invariant.turns ∙ ap (λ n. turns_of (drop n events)) next in
     record {
       counts =
-          c.in_ok-count.ensures ∙ ap₂ (λ (k : Kind) (xs : List ℕ). repeats_by k xs) c.kind_of.ensures counts
+          c.in_ok-count.ensures ∙ ap₂ (λ (k : Kind) (xs : List ℕ). repeats_by k xs) (c.kind_of.ensures ∙ ap kind_of c.op.ensures) counts
           ∙ sym (repeats-here events j e within c.index-events-i.is);
       turns =
           c.in_ok-push.ensures ∙ ap₂ (λ (n : ℕ) (xs : List ℕ). n ∷ xs) (c.front.ensures ∙ ap (λ xs. slice_index xs 0) counts) turns

@@ -1,5 +1,5 @@
 use Rattle.std.proofs.Common.{◌≡◌, ◌++◌, map, take}
-use Rattle.masm_flat.specs.Blocks.{Operation}
+use Rattle.masm_blocks.specs.Blocks.{Operation}
 use Rattle.masm_flat.specs.Views.{pieces_of}
 use Rattle.masm_flat.proofs.appending.add_items.Given as goal
 

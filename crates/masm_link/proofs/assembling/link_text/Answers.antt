@@ -1,5 +1,5 @@
 use Rattle.std.proofs.Common.{◌≡◌, Err, inl, inr, sym, subst}
-use Rattle.masm_parse.specs.Views.{source_of}
+use Rattle.masm_tree.specs.Views.{source_of}
 use Rattle.masm_link.specs.declared.linking.Stop.TheVariants as stops
 use Rattle.masm_link.specs.Assembling.{Refuses, unread, unlinked}
 use Rattle.masm_link.specs.Measures.{IsFirstRefused, LinksTo}

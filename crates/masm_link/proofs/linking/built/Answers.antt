@@ -1,13 +1,12 @@
-use Rattle.std.proofs.Common.{ap, subst, ◌∙◌}
+use Rattle.std.proofs.Common.{subst}
 use Rattle.block_tree.specs.TreeView.{tree_of}
-use Rattle.std.specs.Option.{option_map}
-use Rattle.masm_flat.specs.Blocks.{as_tree, whole}
-use Rattle.masm_flat.specs.Flattening.{flat_with}
+use Rattle.masm_blocks.specs.Blocks.{as_tree, whole}
+use Rattle.masm_blocks.specs.Flattening.{flat_with}
 use Rattle.masm_flat.specs.KnownLists.{lists_known}
-use Rattle.masm_flat.specs.Lists.{with_locals}
-use Rattle.masm_parse.specs.Views.{body_of, source_of}
-use Rattle.masm_link.specs.Building.{AreBuilt}
-use Rattle.masm_link.specs.Tables.{AreLists}
+use Rattle.masm_blocks.specs.Lists.{with_locals}
+use Rattle.masm_tree.specs.Views.{body_of, source_of}
+use Rattle.masm_tables.specs.Building.{AreBuilt}
+use Rattle.masm_tables.specs.Tables.{AreLists}
 use Rattle.masm_link.proofs.Linked.{linked_is, some_same}
 use Rattle.masm_link.proofs.linking.built.Goals as goal
 
@@ -23,15 +22,12 @@ returns-clause-linked c = λ exports are.
     subst (λ ls. AreBuilt m.sizes.items ls ast.procs.items out) c.deref-4.ensures.value
     (subst (λ ss. AreBuilt ss c.deref-4.result.now ast.procs.items out) c.deref-3.ensures.value
     (subst (λ ps. AreBuilt c.deref-3.result.now c.deref-4.result.now ps out) c.deref-2.ensures.value c.in_ok-exports.ensures)) in
-    let main = c.in_ok-main.ensures
-    ∙ ap (λ ls. option_map (λ p. whole as_tree (with_locals p.locals (flat_with as_tree (lists_known m.names ls kernel) p.locals
-    (body_of p.body.items)))) ast.main) c.deref-5.ensures.value in
     linked_is ast kernel m c.requires.measured exports are (c.requires.clean exports are) lists known
-    (record { exports = c.in_ok-exports.exports; main = c.in_ok-main.main }) built main
+    (record { exports = c.in_ok-exports.exports; main = c.in_ok-main.main }) built c.in_ok-main.ensures
 
 pub returns-clause-main : goal.returns-clause-main
 returns-clause-main c =
     some_same tree_of
-    (λ p. whole as_tree (with_locals p.locals (flat_with as_tree (lists_known c.args.measured.now.names c.deref-5.result.now c.args.kernel.now.procs.now)
+    (λ p. whole as_tree (with_locals p.locals (flat_with as_tree (lists_known c.args.measured.now.names c.in_ok-lists.lists.items c.args.kernel.now.procs.now)
     p.locals (body_of p.body.items))))
     c.in_ok-main.main c.args.ast.now.main c.in_ok-main.ensures

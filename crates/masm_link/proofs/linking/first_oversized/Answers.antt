@@ -1,11 +1,11 @@
 use Rattle.std.proofs.Common.{◌≡◌, None, Some, MatchOption, sym, subst}
-use Rattle.masm_flat.specs.KnownSizes.{size_at, sizes_known}
-use Rattle.masm_flat.specs.Sizes.{extent_of, procedure_size}
-use Rattle.masm_parse.specs.Views.{body_of, procedure_of, source_of}
-use Rattle.masm_uses.specs.Among.{Among}
-use Rattle.masm_uses.specs.Least.{Answers}
-use Rattle.masm_uses.specs.Naming.{at_procedure}
-use Rattle.masm_link.specs.Limits.{IsOver}
+use Rattle.masm_size.specs.KnownSizes.{size_at, sizes_known}
+use Rattle.masm_size.specs.Sizes.{extent_of, procedure_size}
+use Rattle.masm_tree.specs.Views.{body_of, procedure_of, source_of}
+use Rattle.masm_names.specs.Among.{Among}
+use Rattle.masm_names.specs.Least.{Answers}
+use Rattle.masm_names.specs.Naming.{at_procedure}
+use Rattle.masm_tables.specs.Limits.{IsOver}
 use Rattle.masm_link.specs.Refusals.{Oversized}
 use Rattle.masm_link.proofs.Linked.{Answers-large}
 use Rattle.masm_link.proofs.linking.first_oversized.Goals as goal

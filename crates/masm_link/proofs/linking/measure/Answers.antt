@@ -1,9 +1,10 @@
 use Rattle.std.proofs.Common.{sym, subst, ◌∙◌}
-use Rattle.masm_parse.specs.Views.{source_of}
-use Rattle.masm_uses.specs.Least.{Answers}
-use Rattle.masm_uses.specs.Naming.{Dangles}
-use Rattle.masm_link.specs.Refusals.{names_of, RefusesAt}
-use Rattle.masm_link.proofs.Finding.{names_same}
+use Rattle.masm_tree.specs.Views.{source_of}
+use Rattle.masm_names.specs.Least.{Answers}
+use Rattle.masm_names.specs.Naming.{Dangles}
+use Rattle.masm_tables.specs.Kernels.{names_of}
+use Rattle.masm_link.specs.Refusals.{RefusesAt}
+use Rattle.masm_tables.proofs.Finding.{names_same}
 use Rattle.masm_link.proofs.Linked.{refused_use, refused_size, closed_names}
 use Rattle.masm_link.proofs.linking.measure.Goals as goal
 

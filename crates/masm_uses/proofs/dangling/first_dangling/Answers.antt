@@ -1,16 +1,16 @@
 use Rattle.std.proofs.Common.{◌≡◌, ◌<◌, ℕ, List, Option, Vec, Global, map, length, sym, ap, subst, ◌∙◌, arith}
 use Rattle.std.proofs.lemmas.List.{length-map, map-id}
-use Rattle.masm_parse.specs.declared.tree.Proc.{Proc}
-use Rattle.masm_parse.specs.Views.{procedure_of}
-use Rattle.masm_uses.specs.declared.links.Link.{Link}
-use Rattle.masm_uses.specs.Among.{Among}
+use Rattle.masm_tree.specs.declared.tree.Proc.{Proc}
+use Rattle.masm_tree.specs.Views.{procedure_of}
+use Rattle.masm_graph.specs.declared.links.Link.{Link}
+use Rattle.masm_names.specs.Among.{Among}
 use Rattle.masm_uses.specs.Dangling.{Missing, Recursions}
-use Rattle.masm_uses.specs.Graph.{rows_of}
-use Rattle.masm_uses.specs.Least.{Answers}
-use Rattle.masm_uses.specs.Links.{links_in}
-use Rattle.masm_uses.specs.Names.{place_at}
-use Rattle.masm_uses.specs.Users.{Goes, AreUsers}
-use Rattle.masm_uses.specs.Uses.{place_in, first_place}
+use Rattle.graphs.specs.Graph.{rows_of}
+use Rattle.masm_names.specs.Least.{Answers}
+use Rattle.masm_graph.specs.Links.{links_in}
+use Rattle.masm_names.specs.Names.{place_at}
+use Rattle.masm_graph.specs.Users.{Goes, AreUsers}
+use Rattle.masm_names.specs.Uses.{place_in, first_place}
 use Rattle.masm_uses.proofs.DanglingAnswers.{Answers-dangling}
 use Rattle.masm_uses.proofs.UsedLemmas.{goes_within}
 use Rattle.masm_uses.proofs.dangling.first_dangling.Goals as goal

@@ -1,6 +1,6 @@
-use Rattle.masm_uses.specs.Among.{AmongFirst}
+use Rattle.masm_names.specs.Among.{AmongFirst}
 use Rattle.masm_uses.specs.Dangling.{IsMissing}
-use Rattle.masm_uses.specs.Least.{Answers}
+use Rattle.masm_names.specs.Least.{Answers}
 use Rattle.masm_uses.proofs.missing.first_missing.Given as goal
 
 abbrev pub invariant-loop-link : goal.invariant-loop-link

@@ -1,7 +1,7 @@
-use Rattle.masm_uses.specs.Among.{AmongFirst}
+use Rattle.masm_names.specs.Among.{AmongFirst}
 use Rattle.masm_uses.specs.Dangling.{Missing}
-use Rattle.masm_uses.specs.Graph.{rows_of}
-use Rattle.masm_uses.specs.Least.{Answers}
+use Rattle.graphs.specs.Graph.{rows_of}
+use Rattle.masm_names.specs.Least.{Answers}
 use Rattle.masm_uses.proofs.missing.first_missing_of.Given as goal
 
 abbrev pub invariant-loop-row : goal.invariant-loop-row

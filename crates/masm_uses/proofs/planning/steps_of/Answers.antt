@@ -1,10 +1,10 @@
 use Rattle.std.proofs.Common.{◌≡◌, ◌+◌, ◌-◌, ◌<◌, ℕ, true, false, Vec, Global, length, get_or, refl, sym, subst, ◌∙◌, arith}
 use Rattle.std.specs.Prelude.{reverse}
 use Rattle.std.proofs.lemmas.List.{length-map}
-use Rattle.masm_uses.specs.Graph.{rows_of, Edge}
+use Rattle.graphs.specs.Graph.{rows_of, Edge}
 use Rattle.masm_uses.specs.Plans.{Builds}
 use Rattle.masm_uses.proofs.PlanLemmas.{Seen, served-step, served-none, served-all}
-use Rattle.masm_uses.proofs.WalkLemmas.{within_marks}
+use Rattle.graphs.proofs.WalkLemmas.{within_marks}
 use Rattle.masm_uses.proofs.planning.steps_of.Goals as goal
 
 pub loop-k-init : goal.loop-k-init

@@ -1,6 +1,6 @@
 use Rattle.std.proofs.Common.{◌≡◌, length, true, false, get_or}
 use Rattle.std.specs.Prelude.{reverse}
-use Rattle.masm_uses.specs.Graph.{rows_of, Edge}
+use Rattle.graphs.specs.Graph.{rows_of, Edge}
 use Rattle.masm_uses.specs.Plans.{Builds}
 use Rattle.masm_uses.proofs.PlanLemmas.{Seen}
 use Rattle.masm_uses.proofs.planning.steps_of.Given as goal

@@ -1,15 +1,14 @@
 use Rattle.std.proofs.Common.{◌≡◌, ◌<◌, ℕ, true, false, List, Option, Vec, Global, map, length, get_or, sym, ap, refl, subst, ◌∙◌, arith}
 use Rattle.std.specs.Prelude.{reverse}
 use Rattle.std.proofs.lemmas.List.{length-map}
-use Rattle.masm_uses.specs.declared.links.Link.{Link}
-use Rattle.masm_uses.specs.Graph.{rows_of, IsGraph, Edge}
-use Rattle.masm_uses.specs.Links.{links_in}
-use Rattle.masm_uses.specs.Names.{place_at}
-use Rattle.masm_uses.specs.Orders.{IsAcyclic, IsOrder}
+use Rattle.masm_graph.specs.declared.links.Link.{Link}
+use Rattle.graphs.specs.Graph.{rows_of, IsGraph, Edge}
+use Rattle.masm_graph.specs.Links.{links_in, own_places}
+use Rattle.masm_names.specs.Names.{place_at}
+use Rattle.graphs.specs.Orders.{IsAcyclic, IsOrder}
 use Rattle.masm_uses.specs.Plans.{Builds}
-use Rattle.masm_uses.specs.UseOrders.{own_places}
-use Rattle.masm_parse.specs.declared.tree.Proc.{Proc}
-use Rattle.masm_parse.specs.Views.{source_of}
+use Rattle.masm_tree.specs.declared.tree.Proc.{Proc}
+use Rattle.masm_tree.specs.Views.{source_of}
 use Rattle.masm_uses.proofs.PlanSources.{row_within, plan-is}
 use Rattle.masm_uses.proofs.UseOrderLemmas.{counts, is-graph, is-acyclic, use-order}
 use Rattle.masm_uses.proofs.procedures.use_plan.Goals as goal

@@ -1,7 +1,7 @@
-use Rattle.masm_uses.specs.Among.{AmongFirst}
+use Rattle.masm_names.specs.Among.{AmongFirst}
 use Rattle.masm_uses.specs.Dangling.{Returns}
-use Rattle.masm_uses.specs.Graph.{rows_of, Leads}
-use Rattle.masm_uses.specs.Least.{Answers}
+use Rattle.graphs.specs.Graph.{rows_of, Leads}
+use Rattle.masm_names.specs.Least.{Answers}
 use Rattle.masm_uses.proofs.recursion.first_recursion.Given as goal
 
 abbrev pub invariant-loop-user : goal.invariant-loop-user

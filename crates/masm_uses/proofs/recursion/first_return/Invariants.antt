@@ -1,7 +1,7 @@
 use Rattle.std.proofs.Common.{◌≡◌, true, false, slice_index_or}
-use Rattle.masm_uses.specs.Among.{AmongFirst}
+use Rattle.masm_names.specs.Among.{AmongFirst}
 use Rattle.masm_uses.specs.Dangling.{IsReturn}
-use Rattle.masm_uses.specs.Least.{Answers}
+use Rattle.masm_names.specs.Least.{Answers}
 use Rattle.masm_uses.proofs.recursion.first_return.Given as goal
 
 abbrev pub invariant-loop-link : goal.invariant-loop-link

@@ -1,9 +1,9 @@
 use Rattle.std.proofs.Common.{◌≡◌, ℕ, true, false, Some, slice_index_or, rules}
 use Rattle.std.specs.List.{list_any}
 use Rattle.masm_uses.specs.Dangling.{Returns, waits}
-use Rattle.masm_uses.specs.Graph.{rows_of, Leads}
+use Rattle.graphs.specs.Graph.{rows_of, Leads}
 use Rattle.masm_uses.proofs.DanglingLemmas.{Returns-same, none_back, none_waits}
-use Rattle.masm_uses.proofs.LeastLemmas.{Answers-earlier, Answers-itself, Answers-stays}
+use Rattle.masm_names.proofs.LeastLemmas.{Answers-earlier, Answers-itself, Answers-stays}
 use Rattle.masm_uses.proofs.recursion.with_row.Goals as goal
 
 pub returns-then-is_settled : goal.returns-then-is_settled

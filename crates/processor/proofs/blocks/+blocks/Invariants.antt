@@ -1,6 +1,6 @@
 use Rattle.std.proofs.Common.{ℕ, ◌+◌, ◌-◌, ◌*◌, ◌≤◌, max}
 use Rattle.block_tree.specs.Trees.{tree_height}
-use Rattle.processor.specs.Nodes.{node_tree}
+use Rattle.tree_hash.specs.Nodes.{node_tree}
 use Rattle.processor.proofs.BlockLemmas.{TurnsLeft}
 use Rattle.processor.proofs.blocks.+blocks.Given as goal
 

@@ -2,8 +2,8 @@ use Rattle.std.proofs.Common.{rules, ap}
 use Rattle.std.proofs.lemmas.List.{nil_from_length}
 use Rattle.block_tree.specs.Cycles.{StartSpan}
 use Rattle.vm_state.specs.Views.{state_of}
-use Rattle.processor.specs.Nodes.{elements_of}
-use Rattle.processor.specs.Settings.{batches_in}
+use Rattle.tree_hash.specs.Nodes.{elements_of}
+use Rattle.processor.specs.Parts.{batches_in}
 use Rattle.processor.proofs.RunLemmas.{ran-along, ran-fail, ran-skip, ran-then}
 use Rattle.processor.proofs.SpanLemmas.{first-batch}
 use Rattle.processor.proofs.blocks.all_batches.Goals as goal

@@ -1,5 +1,5 @@
 use Rattle.std.proofs.Common.{drop}
-use Rattle.processor.specs.Settings.{operations_in}
+use Rattle.processor.specs.Parts.{operations_in}
 use Rattle.processor.proofs.RunLemmas.{Left}
 use Rattle.processor.proofs.blocks.all_operations.Given as goal
 

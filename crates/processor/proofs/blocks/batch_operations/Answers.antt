@@ -2,7 +2,7 @@ use Rattle.std.proofs.Common.{rules, ◌≡◌, None, sym, ap, ◌∙◌}
 use Rattle.op_pack.specs.Reading.{reading}
 use Rattle.op_pack.proofs.OrdinaryLemmas.{ordinary_reading}
 use Rattle.vm_state.specs.Views.{state_of}
-use Rattle.processor.specs.Settings.{read_operations_in}
+use Rattle.processor.specs.Parts.{read_operations_in}
 use Rattle.processor.proofs.RunLemmas.{ran-along, ran-skip}
 use Rattle.processor.proofs.blocks.batch_operations.Goals as goal
 

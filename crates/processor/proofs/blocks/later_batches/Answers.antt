@@ -2,8 +2,9 @@ use Rattle.std.proofs.Common.{rules, ◌+◌, drop, Ok}
 use Rattle.block_tree.specs.Cycles.{Respan}
 use Rattle.block_tree.specs.Execution.{seq}
 use Rattle.op_pack.specs.Reading.{reading}
-use Rattle.processor.specs.Nodes.{elements_of}
-use Rattle.processor.specs.Settings.{batches_in, cycle_in, read_operations_in}
+use Rattle.tree_hash.specs.Nodes.{elements_of}
+use Rattle.cycle_events.specs.Settings.{cycle_in}
+use Rattle.processor.specs.Parts.{batches_in, read_operations_in}
 use Rattle.processor.proofs.RunLemmas.{left-fail, left-next}
 use Rattle.processor.proofs.SpanLemmas.{left-batch, no_batches}
 use Rattle.processor.proofs.blocks.later_batches.Goals as goal

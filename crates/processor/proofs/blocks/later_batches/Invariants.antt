@@ -1,7 +1,7 @@
 use Rattle.std.proofs.Common.{drop}
 use Rattle.block_tree.specs.Cycles.{Respan}
-use Rattle.processor.specs.Nodes.{elements_of}
-use Rattle.processor.specs.Settings.{batches_in}
+use Rattle.tree_hash.specs.Nodes.{elements_of}
+use Rattle.processor.specs.Parts.{batches_in}
 use Rattle.processor.proofs.RunLemmas.{Left}
 use Rattle.processor.proofs.blocks.later_batches.Given as goal
 

@@ -1,6 +1,6 @@
 use Rattle.std.proofs.Common.{rules}
 use Rattle.vm_state.specs.Views.{state_of}
-use Rattle.processor.specs.Nodes.{elements_of}
+use Rattle.tree_hash.specs.Nodes.{elements_of}
 use Rattle.processor.proofs.RunLemmas.{ran-along, ran-fail, ran-then}
 use Rattle.processor.proofs.SpanLemmas.{span-as}
 use Rattle.processor.proofs.blocks.span.Goals as goal

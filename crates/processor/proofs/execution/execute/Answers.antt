@@ -3,7 +3,7 @@ use Rattle.block_tree.specs.TreeView.{tree_of}
 use Rattle.block_tree.specs.Trees.{tree_digest}
 use Rattle.vm_state.specs.Views.{state_of}
 use Rattle.processor.specs.Executed.{IsRunOf}
-use Rattle.processor.specs.Nodes.{node_tree}
+use Rattle.tree_hash.specs.Nodes.{node_tree}
 use Rattle.processor.proofs.ExecutionLemmas.{run_of, tape_fits}
 use Rattle.processor.proofs.execution.execute.Goals as goal
 

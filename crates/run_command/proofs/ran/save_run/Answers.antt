@@ -1,4 +1,4 @@
-use Rattle.statement.specs.Inputs.{given_of}
+use Rattle.run_inputs.specs.Inputs.{given_of}
 use Rattle.table_file.specs.Files.{bytes_of}
 use Rattle.run_command.proofs.RunLemmas.{saved_ends, unsaved_ends}
 use Rattle.run_command.proofs.ran.save_run.Goals as goal

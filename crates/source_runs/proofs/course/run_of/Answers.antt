@@ -1,5 +1,5 @@
 use Rattle.rpo_hash.specs.Constants.{constants_of}
-use Rattle.statement.specs.Inputs.{given_of}
+use Rattle.run_inputs.specs.Inputs.{given_of}
 use Rattle.commands.specs.declared.status.Status.TheVariants as status
 use Rattle.commands.specs.RunEnds.{limit_line, trap_line, trapped, unended}
 use Rattle.source_runs.proofs.CourseLemmas.{halt_says}

@@ -1,0 +1,5 @@
+use Rattle.bus_blocks.proofs.GroupLemmas.{AreGivenBelow}
+use Rattle.bus_blocks.proofs.groups.give_positions.Given as goal
+
+abbrev pub invariant-loop-q : goal.invariant-loop-q
+invariant-loop-q g l = AreGivenBelow (g.V.View.cells l.x) (g.V.View.cells l.y) l.count l.q l.fn.tally l.tally

@@ -1,5 +1,0 @@
-use Rattle.bus_main.proofs.GroupLemmas.{AreGivenBelow}
-use Rattle.bus_main.proofs.groups.give_positions.Given as goal
-
-abbrev pub invariant-loop-q : goal.invariant-loop-q
-invariant-loop-q g l = AreGivenBelow (g.V.View.cells l.x) (g.V.View.cells l.y) l.count l.q l.fn.tally l.tally

@@ -1,0 +1,296 @@
+ghost use Rattle.std.specs.Prelude.{◌≡◌, true, IfSome};
+ghost use Rattle.bus_blocks.specs.Bits.{HasBits};
+ghost use Rattle.bus_main.specs.RowTuples.{IsReadable};
+
+use air_kit::{Place, Public};
+use bus_blocks::positions;
+use bus_kit::{Tallies, Tuple};
+use bus_main::tuples;
+use buses::Bus;
+use rpo_hash::Params;
+use std::alloc::Global;
+use std::test::Fail;
+use vm_field::{Felt, Felts, Memory, Word, Words};
+use vm_ops::{Op, opcode};
+use vm_state::Statement;
+use vm_table::{MainView, Table};
+
+/// A row with its operation and cells, the row behind it, and the least tuple of one bus that is asked
+/// and given unequally often.
+struct Case {
+    number: u32,
+    op: Op,
+    cells: &'static [(usize, u32)],
+    next: &'static [(usize, u32)],
+    bus: Bus,
+    tuple: &'static [u64],
+    asked: u128,
+    given: u128,
+}
+
+// Columns: 0 the clock, 2 the context, 8 the address, 16 the hash elements, 24 the bit of spans, 25 the
+// count of groups, 27 the flags of a batch, 30 the stack, 46 its depth, 47 the key, 49 the address of
+// the batch, 50 the level, 51 witnesses, 55 limbs.
+static CASES: [Case; 13] = [
+    Case {
+        number: 3,
+        op: Op::Span,
+        cells: &[(8, 4)],
+        next: &[(8, 5)],
+        bus: Bus::Blocks,
+        tuple: &[5, 4, 2, 0, 0, 0, 0, 0, 0, 0, 0, 0],
+        asked: 0,
+        given: 1,
+    },
+    Case {
+        number: 3,
+        op: Op::End,
+        cells: &[(8, 5), (22, 1)],
+        next: &[(8, 4), (0, 7), (1, 8), (2, 9), (46, 16)],
+        bus: Bus::Blocks,
+        tuple: &[5, 4, 3, 9, 8, 0, 16, 0, 0, 0, 0, 0],
+        asked: 1,
+        given: 0,
+    },
+    Case {
+        number: 0,
+        op: Op::Noop,
+        cells: &[],
+        next: &[],
+        bus: Bus::Children,
+        tuple: &[0, 11, 12, 13, 14, 0],
+        asked: 0,
+        given: 1,
+    },
+    Case {
+        number: 3,
+        op: Op::Split,
+        cells: &[(16, 1), (20, 2), (21, 3)],
+        next: &[(8, 5)],
+        bus: Bus::Children,
+        tuple: &[5, 2, 3, 0, 0, 0],
+        asked: 0,
+        given: 1,
+    },
+    Case {
+        number: 3,
+        op: Op::Loop,
+        cells: &[(16, 1), (17, 2), (51, 6)],
+        next: &[(8, 5)],
+        bus: Bus::Loops,
+        tuple: &[5, 1, 2, 0, 0],
+        asked: 0,
+        given: 6,
+    },
+    Case {
+        number: 3,
+        op: Op::Respan,
+        cells: &[(28, 1), (17, 21), (18, 22), (19, 23)],
+        next: &[(49, 9)],
+        bus: Bus::Groups,
+        tuple: &[9, 1, 23],
+        asked: 0,
+        given: 1,
+    },
+    Case {
+        number: 3,
+        op: Op::Pad,
+        cells: &[(0, 3), (45, 8), (47, 2)],
+        next: &[],
+        bus: Bus::Overflow,
+        tuple: &[3, 8, 2],
+        asked: 0,
+        given: 1,
+    },
+    Case {
+        number: 3,
+        op: Op::Drop,
+        cells: &[(46, 17), (45, 8), (47, 2)],
+        next: &[(45, 9), (47, 1)],
+        bus: Bus::Overflow,
+        tuple: &[2, 9, 1],
+        asked: 1,
+        given: 0,
+    },
+    Case {
+        number: 3,
+        op: Op::HPerm,
+        cells: &[(51, 9), (30, 1), (41, 12)],
+        next: &[],
+        bus: Bus::Hasher,
+        tuple: &[4, 9, 12, 0, 0, 0, 0, 0, 0, 0, 0, 0, 0, 1],
+        asked: 1,
+        given: 0,
+    },
+    Case {
+        number: 3,
+        op: Op::U32Xor,
+        cells: &[(30, 5), (31, 6)],
+        next: &[(30, 3)],
+        bus: Bus::Bitwise,
+        tuple: &[1, 5, 6, 3],
+        asked: 1,
+        given: 0,
+    },
+    Case {
+        number: 3,
+        op: Op::MStore,
+        cells: &[(0, 3), (2, 4), (30, 5), (31, 6), (55, 7)],
+        next: &[],
+        bus: Bus::Memory,
+        tuple: &[2, 4, 5, 3, 6, 7, 0, 0],
+        asked: 1,
+        given: 0,
+    },
+    Case {
+        number: 3,
+        op: Op::U32Div,
+        cells: &[],
+        next: &[],
+        bus: Bus::Range,
+        tuple: &[0],
+        asked: 10,
+        given: 0,
+    },
+    Case {
+        number: 3,
+        op: Op::Syscall,
+        cells: &[(16, 1), (19, 4)],
+        next: &[],
+        bus: Bus::Kernel,
+        tuple: &[1, 0, 0, 4],
+        asked: 1,
+        given: 0,
+    },
+];
+
+fn cells_of(op: Op, changes: &[(usize, u32)]) -> [Felt; 65] {
+    let mut cells = [Felt::ZERO; 65];
+    let mut bits = opcode(op);
+    for j in 0..7 {
+        cells[9 + j] = Felt::from_u32(u32::from(bits % 2));
+        bits = bits / 2;
+    }
+    for (column, element) in changes {
+        if *column < 65 {
+            cells[*column] = Felt::from_u32(*element);
+        }
+    }
+    cells
+}
+
+fn public(alloc: Global) -> Result<Public, Memory> {
+    let digest = Word([11, 12, 13, 14].map(Felt::from_u32));
+    let outputs = Felts::copied(alloc, &[Felt::ZERO; 16])?;
+    Ok(Public {
+        params: Params {
+            first: [[Felt::ZERO; 12]; 7],
+            second: [[Felt::ZERO; 12]; 7],
+        },
+        statement: Statement::new(digest, Words::new(alloc), Felts::new(alloc), outputs),
+    })
+}
+
+fn has_bits<V: MainView>(x: &V) -> bool
+    ensures { result ≡ true → HasBits (V.cells x.now) }
+{
+    for j in 0..7 {
+        if x.b(j).value() >= 2 {
+            return false;
+        }
+    }
+    true
+}
+
+fn is_readable<V: MainView>(x: &V) -> bool
+    ensures { result ≡ true → IsReadable (V.cells x.now) }
+{
+    if !has_bits(x) {
+        return false;
+    }
+    positions(x).value() <= 8
+}
+
+fn may_follow<V: MainView>(next: &Option<V>) -> bool
+    ensures { result ≡ true → IfSome next.now (λ y. HasBits (V.cells y)) }
+{
+    match next {
+        Some(y) => has_bits(y),
+        None => true,
+    }
+}
+
+// The tallies behind a row, with or without the row behind it.
+fn tallied(alloc: Global, case: &Case, ends: bool) -> Result<Tallies, Memory> {
+    let mut table = Table::<65>::new(alloc);
+    table.push_row(&cells_of(case.op, case.cells))?;
+    table.push_row(&cells_of(Op::Noop, case.next))?;
+    let public = public(alloc)?;
+    let place = Place {
+        cur: table.row(0),
+        next: if ends { None } else { Some(table.row(1)) },
+        row: case.number,
+        lengths: [0; 7],
+        left_key: Felt::ZERO,
+        public: &public,
+    };
+    let mut tallies = Tallies::new(alloc);
+    if is_readable(&place.cur) && may_follow(&place.next) {
+        tuples(&place, &mut tallies)?;
+    }
+    Ok(tallies)
+}
+
+fn is_of(tuple: &Tuple, numbers: &[u64]) -> bool {
+    let elements = tuple.as_slice();
+    if elements.len() != numbers.len() {
+        return false;
+    }
+    for (element, number) in elements.iter().zip(numbers) {
+        if element.value() != *number {
+            return false;
+        }
+    }
+    true
+}
+
+fn counts(alloc: Global, case: &Case) -> Result<bool, Memory> {
+    let tallies = tallied(alloc, case, false)?;
+    match tallies.of(case.bus).unequal() {
+        Some(apart) => {
+            Ok(
+                is_of(&apart.tuple, case.tuple)
+                    && apart.asked == case.asked
+                    && apart.given == case.given,
+            )
+        }
+        None => Ok(false),
+    }
+}
+
+fn counts_all(alloc: Global, cases: &[Case]) -> Result<bool, Memory> {
+    for case in cases {
+        if !counts(alloc, case)? {
+            return Ok(false);
+        }
+    }
+    Ok(true)
+}
+
+// The first row gives the digest even where it is the last; another last row gives nothing.
+fn last_rows_count(alloc: Global, cases: &[Case]) -> Result<bool, Memory> {
+    for case in cases {
+        let tallies = tallied(alloc, case, true)?;
+        if tallies.of(case.bus).unequal().is_some() != (case.number == 0) {
+            return Ok(false);
+        }
+    }
+    Ok(true)
+}
+
+#[test]
+fn counts_on_each_bus(rt: HostRuntime) -> Result<(), Fail> {
+    assert!(rt; counts_all(rt.alloc(), &CASES)?);
+    assert!(rt; last_rows_count(rt.alloc(), &CASES)?);
+    Ok(())
+}

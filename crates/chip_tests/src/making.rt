@@ -1,0 +1,21 @@
+use air_kit::Public;
+use rpo_hash::Params;
+use std::alloc::Global;
+use vm_field::{Felt, Felts, Memory, Word, Words};
+use vm_state::Statement;
+
+/// The element of a number, or zero.
+pub fn felt(number: u64) -> Felt {
+    Felt::try_from_u64(number).unwrap_or(Felt::ZERO)
+}
+
+/// Constants of zeros, and a statement without a kernel.
+pub fn public(alloc: Global) -> Result<Public, Memory> {
+    let params = Params {
+        first: [[Felt::ZERO; 12]; 7],
+        second: [[Felt::ZERO; 12]; 7],
+    };
+    let outputs = Felts::copied(alloc, &[Felt::ZERO; 16])?;
+    let statement = Statement::new(Word::ZERO, Words::new(alloc), Felts::new(alloc), outputs);
+    Ok(Public { params, statement })
+}

@@ -1,0 +1,142 @@
+-- Walks over a graph: what a visit adds, and what is seen at the end.
+use Rattle.std.proofs.Common.{◌≡◌, ℕ, ◌+◌, ◌<◌, ◌≤◌, Bool, true, false, cond, List, [], ◌∷◌, ◌++◌, length, take, get_or, set, count_by, inl, inr, ◌↔◌, refl, sym, ap, subst, ◌∙◌, append_assoc, append-nil, arith}
+use Rattle.std.proofs.lemmas.Bool.Decides.{eqb_tells}
+use Rattle.std.proofs.lemmas.List.{take_more, get_or-set_same, get_or-set_other, get_or_append_left, length_push, get_or_default}
+use Rattle.std.proofs.lemmas.List.Elements.{Contains-append_left, Contains-append_right, Contains-append_cases, Contains-push, Contains-push_cases, Contains-get_or}
+use Rattle.std.proofs.lemmas.List.Sums.{sum_by-set, count_by-le-length}
+use Rattle.std.specs.List.{Contains}
+use Rattle.graphs.specs.Graph.{Edge, Leads, itself, through}
+use Rattle.graphs.specs.Walks.{AreMarks, Adds, Walked}
+
+pub contains_one : {X : Type 0} (x y : X) → Contains (x ∷ []) y → x ≡ y
+contains_one x y h = elim (Contains-push_cases [] x y h) [ inl none ↦ absurd (omega (arith, none.1)) | inr same ↦ same ]
+
+-- a place that is seen gets its mark
+pub AreMarks-visit : (marks : List Bool) (seen : List ℕ) (place : ℕ) → AreMarks marks seen → place < length marks → get_or marks place false ≡ false
+    → AreMarks (set marks place true) (seen ++ place ∷ [])
+AreMarks-visit marks seen place are within unmarked = record { marked = λ q. (to q, from q); once = counted }
+  where
+    to : (q : ℕ) → get_or (set marks place true) q false ≡ true → Contains (seen ++ place ∷ []) q
+    to q marked =
+        elim (eqb_tells q place) [
+          | inl same ↦ subst (Contains (seen ++ place ∷ [])) (sym same.1) (Contains-push seen place)
+          | inr other ↦ Contains-append_left seen (place ∷ []) q ((are.marked q).0 (sym (get_or-set_other marks place q true false other.1) ∙ marked))
+        ]
+
+    from : (q : ℕ) → Contains (seen ++ place ∷ []) q → get_or (set marks place true) q false ≡ true
+    from q has =
+        elim (eqb_tells q place) [
+          | inl same ↦ subst (λ r. get_or (set marks place true) r false ≡ true) (sym same.1) (get_or-set_same marks place true false within)
+          | inr other ↦
+              elim (Contains-push_cases seen place q has) [
+                | inl before ↦ get_or-set_other marks place q true false other.1 ∙ (are.marked q).1 before
+                | inr same ↦ absurd (other.1 (sym same))
+              ]
+        ]
+
+    counted : count_by (λ mark. mark) (set marks place true) ≡ length (seen ++ place ∷ [])
+    counted =
+        let f : Bool → ℕ = λ mark. cond mark 1 0 in
+        let changed = sum_by-set f marks place true false within in
+        let none : f (get_or marks place false) ≡ 0 = ap f unmarked in
+        let before = are.once in
+        let longer = length_push seen place in
+        omega arith
+
+pub Adds-none : (old : List ℕ) → Adds old [] old
+Adds-none old = record { more = []; keeps = sym (append-nil old); row_in = λ q h. absurd (omega (arith, h.1)); only = λ q h. inl h }
+
+pub Adds-seen : (old : List ℕ) (place : ℕ) → Contains old place → Adds old (place ∷ []) old
+Adds-seen old place has =
+    record { more = []; keeps = sym (append-nil old); row_in = λ q h. subst (Contains old) (contains_one place q h) has; only = λ q h. inl h }
+
+pub Adds-push : (old : List ℕ) (place : ℕ) → Adds old (place ∷ []) (old ++ place ∷ [])
+Adds-push old place =
+    record { more = place ∷ []; keeps = refl; row_in = λ q h. Contains-append_right old (place ∷ []) q h; only = λ q h. Contains-append_cases old (place ∷ []) q h }
+
+pub Adds-keeps : (old row new : List ℕ) (q : ℕ) → Adds old row new → Contains old q → Contains new q
+Adds-keeps old row new q adds h = subst (λ xs. Contains xs q) (sym adds.keeps) (Contains-append_left old adds.more q h)
+
+pub Adds-join : (old us mid vs new : List ℕ) → Adds old us mid → Adds mid vs new → Adds old (us ++ vs) new
+Adds-join old us mid vs new first second =
+    record {
+      more = first.more ++ second.more;
+      keeps = second.keeps ∙ (ap (λ xs. xs ++ second.more) first.keeps ∙ append_assoc old first.more second.more);
+      row_in = λ q h. elim (Contains-append_cases us vs q h) [
+        | inl in_us ↦ Adds-keeps mid vs new q second (first.row_in q in_us)
+        | inr in_vs ↦ second.row_in q in_vs
+      ];
+      only = λ q h. elim (second.only q h) [
+        | inl in_mid ↦ elim (first.only q in_mid) [ inl in_old ↦ inl in_old | inr in_us ↦ inr (Contains-append_left us vs q in_us) ]
+        | inr in_vs ↦ inr (Contains-append_right us vs q in_vs)
+      ];
+    }
+
+pub Adds-more : (old row mid new : List ℕ) (i place : ℕ) → i < length row → place ≡ get_or row i 0 → Adds old (take i row) mid → Adds mid (place ∷ []) new
+    → Adds old (take (i + 1) row) new
+Adds-more old row mid new i place within is first second =
+    subst (λ xs. Adds old xs new) (sym (take_more row i 0 within ∙ ap (λ p. take i row ++ p ∷ []) (sym is))) (Adds-join old (take i row) mid (place ∷ []) new first second)
+
+pub Leads-push : (graph : List (List ℕ)) (a b c : ℕ) → Leads graph a b → Edge graph b c → Leads graph a c
+Leads-push graph a b c itself edge = through edge itself
+Leads-push graph a b c (through {b = d} first more) edge = through first (Leads-push graph d b c more edge)
+
+pub Walked-start : (graph : List (List ℕ)) (start : ℕ) (seen : List ℕ) → Adds [] (start ∷ []) seen → Walked graph start seen 0
+Walked-start graph start seen adds =
+    record {
+      starts = adds.row_in start (Contains-push [] start);
+      reached = λ q h. elim (adds.only q h) [
+        | inl none ↦ absurd (omega (arith, none.1))
+        | inr same ↦ subst (Leads graph start) (contains_one start q same) itself
+      ];
+      followed = λ k q below. absurd (omega arith);
+    }
+
+pub Walked-more : (graph : List (List ℕ)) (start : ℕ) (seen new : List ℕ) (next place : ℕ) → Walked graph start seen next → next < length seen
+    → place ≡ get_or seen next 0 → Adds seen (get_or graph place []) new → Walked graph start new (next + 1)
+Walked-more graph start seen new next place walked within is adds =
+    record { starts = keeps start walked.starts; reached = reached; followed = followed }
+  where
+    keeps : (q : ℕ) → Contains seen q → Contains new q
+    keeps q h = Adds-keeps seen (get_or graph place []) new q adds h
+
+    here : Contains seen place
+    here = subst (Contains seen) (sym is) (Contains-get_or seen next 0 within)
+
+    reached : (q : ℕ) → Contains new q → Leads graph start q
+    reached q h = elim (adds.only q h) [ inl old ↦ walked.reached q old | inr edge ↦ Leads-push graph start place q (walked.reached place here) edge ]
+
+    stays : (k : ℕ) → k < length seen → get_or new k 0 ≡ get_or seen k 0
+    stays k below = ap (λ xs. get_or xs k 0) adds.keeps ∙ get_or_append_left seen adds.more 0 k below
+
+    followed : (k q : ℕ) → k < next + 1 → Edge graph (get_or new k 0) q → Contains new q
+    followed k q below edge =
+        elim (eqb_tells k next) [
+          | inl same ↦ adds.row_in q (subst (λ p. Edge graph p q) (stays k (omega arith) ∙ (ap (λ j. get_or seen j 0) same.1 ∙ sym is)) edge)
+          | inr other ↦ keeps q (walked.followed k q (let apart = other.1 in omega arith) (subst (λ p. Edge graph p q) (stays k (let apart = other.1 in omega arith)) edge))
+        ]
+
+closed : (graph : List (List ℕ)) (start : ℕ) (seen : List ℕ) → Walked graph start seen (length seen) → (a b : ℕ) → Leads graph a b → Contains seen a → Contains seen b
+closed graph start seen walked a b itself h = h
+closed graph start seen walked a b (through {b = c} edge more) h =
+    closed graph start seen walked c b more
+    (walked.followed h.0 c h.1 (subst (λ p. Edge graph p c) (sym h.2 ∙ get_or_default seen h.0 a 0 h.1) edge))
+
+-- at the end of a walk the marks are those of the places that are reached
+pub Walked-end : (graph : List (List ℕ)) (start : ℕ) (marks : List Bool) (seen : List ℕ) (next : ℕ) → AreMarks marks seen → Walked graph start seen next
+    → length seen ≤ next → (place : ℕ) → (get_or marks place false ≡ true) ↔ Leads graph start place
+Walked-end graph start marks seen next are walked ended place =
+    let done : Walked graph start seen (length seen) =
+    record { starts = walked.starts; reached = walked.reached; followed = λ k q below edge. walked.followed k q (omega arith) edge } in
+    (λ marked. walked.reached place ((are.marked place).0 marked), λ leads. (are.marked place).1 (closed graph start seen done start place leads walked.starts))
+
+-- there are no more places seen than marks
+pub seen-le-marks : (marks : List Bool) (seen : List ℕ) → AreMarks marks seen → length seen ≤ length marks
+seen-le-marks marks seen are = omega (arith, are.once, count_by-le-length (λ (mark : Bool). mark) marks)
+
+-- what a row of a graph has stands below the count of places
+pub within_marks : (graph : List (List ℕ)) (row : List ℕ) (place k d n : ℕ) → ((a b : ℕ) → Edge graph a b → b < length graph) → row ≡ get_or graph place []
+    → n ≡ length graph → k < length row → get_or row k d < n
+within_marks graph row place k d n closed is count below =
+    let h = closed place (get_or row k d) (subst (λ xs. Edge graph place (get_or xs k d)) (sym is) (Contains-get_or (get_or graph place []) k d (subst (λ xs. k < length xs) is below))) in
+    omega arith

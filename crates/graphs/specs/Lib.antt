@@ -1,0 +1,4 @@
+pub mod Graph
+pub mod Orders
+pub mod Sorting
+pub mod Walks

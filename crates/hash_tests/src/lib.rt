@@ -1,0 +1,12 @@
+//! Tests of the permutation and the sponge, of the permutations that are kept, of batches, and of trees
+//! with their digests.
+#![tactic(auto)]
+
+#[cfg(test)]
+mod hashing;
+#[cfg(test)]
+mod memo;
+#[cfg(test)]
+mod packing;
+#[cfg(test)]
+mod trees;

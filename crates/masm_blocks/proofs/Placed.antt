@@ -1,0 +1,38 @@
+-- What is found by a name, and the place of the name.
+use Rattle.std.proofs.Common.{◌≡◌, ℕ, Bor, length, ◌+◌, cond, List, [], ◌∷◌, map, Option, Some, None, inl, inr, refl, ap, ◌∙◌, sym, bytes_eq, add-one}
+use Rattle.std.proofs.lemmas.Bool.{cases_Bool}
+use Rattle.std.proofs.lemmas.Option.{slice_get_past, slice_get_read}
+use Rattle.std.specs.Prelude.{option_and_then, slice_get}
+use Rattle.std.specs.List.{find}
+use Rattle.std.specs.Option.{option_map, option_copied}
+use Rattle.std.specs.Slice.{IsItemAt}
+use Rattle.masm_names.specs.Uses.{place_in}
+
+behind : {X : Type 0} (x : X) (xs : List X) (o : Option ℕ) → option_and_then (slice_get (x ∷ xs)) (option_map (λ i. i + 1) o) ≡ option_and_then (slice_get xs) o
+behind x xs None = refl
+behind x xs (Some i) = ap (slice_get (x ∷ xs)) (add-one i)
+
+-- the first element of that name stands at the first place of the name
+find_placed : {X : Type 0} (name : X → List ℕ) (xs : List X) (text : List ℕ)
+    → find (λ x. bytes_eq (name x) text) xs ≡ option_and_then (slice_get xs) (place_in (map name xs) text)
+find_placed name [] text = refl
+find_placed name (x ∷ xs) text = elim (cases_Bool (bytes_eq (name x) text)) [
+  | inl same ↦
+      ap (λ b. cond b (Some x) (find (λ y. bytes_eq (name y) text) xs)) same
+      ∙ sym (ap (λ b. option_and_then (slice_get (x ∷ xs)) (cond b (Some 0) (option_map (λ i. i + 1) (place_in (map name xs) text)))) same)
+  | inr other ↦
+      ap (λ b. cond b (Some x) (find (λ y. bytes_eq (name y) text) xs)) other
+      ∙ (find_placed name xs text
+      ∙ (sym (behind x xs (place_in (map name xs) text))
+      ∙ sym (ap (λ b. option_and_then (slice_get (x ∷ xs)) (cond b (Some 0) (option_map (λ i. i + 1) (place_in (map name xs) text)))) other)))
+]
+
+-- what is found, once the place of the name is known
+pub found_at : {X : Type 0} (name : X → List ℕ) (xs : List X) (text : List ℕ) (place : Option ℕ) → place_in (map name xs) text ≡ place
+    → find (λ x. bytes_eq (name x) text) xs ≡ option_and_then (slice_get xs) place
+found_at name xs text place placed = find_placed name xs text ∙ ap (option_and_then (slice_get xs)) placed
+
+-- what a look-up by a place gives
+pub got_at : {X : Type 0} (xs : List X) (place : ℕ) (r : Option (Bor X)) → IsItemAt xs place r → option_copied r ≡ slice_get xs place
+got_at xs place None got = sym (slice_get_past xs place got.3)
+got_at xs place (Some x) got = sym (slice_get_read xs (length xs) place x.now refl got.3.0 got.1)

@@ -1,9 +1,0 @@
-use Rattle.std.proofs.Common.{◌≡◌}
-use Rattle.masm_flat.specs.Sizes.{height_among}
-use Rattle.masm_flat.proofs.heights.height_among.Given as goal
-
-abbrev pub invariant-loop-count : goal.invariant-loop-count
-invariant-loop-count l = height_among l.count l.index l.height ≡ height_among l.fn.count l.fn.index l.fn.height
-
-abbrev pub decreases-loop-count : goal.decreases-loop-count
-decreases-loop-count l = l.count

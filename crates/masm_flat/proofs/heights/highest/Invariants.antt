@@ -1,6 +1,0 @@
-use Rattle.std.proofs.Common.{◌≡◌, max, drop}
-use Rattle.masm_flat.specs.Sizes.{highest}
-use Rattle.masm_flat.proofs.heights.highest.Given as goal
-
-abbrev pub invariant-loop-rise : goal.invariant-loop-rise
-invariant-loop-rise l = max l.height (highest l.count (drop l.rise-index l.rises)) ≡ highest l.count l.rises

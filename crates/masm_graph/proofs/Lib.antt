@@ -1,0 +1,4 @@
+pub mod OwnLemmas
+pub mod SettlingLemmas
+pub mod UseLemmas
+pub mod UserLemmas

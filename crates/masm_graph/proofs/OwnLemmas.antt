@@ -1,0 +1,66 @@
+-- The places of the source's own procedures to which the uses of a row lead.
+use Rattle.std.proofs.Common.{◌≡◌, ℕ, zero, suc, List, [], ◌∷◌, map, get_or, ◌⊎◌, inl, inr, refl, sym, ap, subst, ◌∙◌, arith}
+use Rattle.std.proofs.lemmas.List.Elements.{Contains-append_right}
+use Rattle.std.specs.List.{Contains, cons_option}
+use Rattle.graphs.specs.Graph.{Edge}
+use Rattle.masm_graph.specs.declared.links.Link.{Link}
+use Rattle.masm_graph.specs.declared.links.Target.{Target}
+use Rattle.masm_graph.specs.declared.links.Target.TheVariants as targets
+use Rattle.masm_graph.specs.Links.{own_place, own_places}
+use Rattle.masm_graph.specs.Users.{HasOwn, Goes}
+use Rattle.masm_names.proofs.DoubleLemmas.{cons_cases, cons_here}
+
+cons_later : {X : Type 0} (x : X) (xs : List X) (y : X) → Contains xs y → Contains (x ∷ xs) y
+cons_later x xs y h = Contains-append_right (x ∷ []) xs y h
+
+-- the uses of one more
+own_here : (link : Link) (row : List Link) (b : ℕ) → link.target ≡ targets.Own b → HasOwn (link ∷ row) b
+own_here link row b leads = (0, link, omega arith, refl, leads)
+
+own_later : (link : Link) (row : List Link) (b : ℕ) → HasOwn row b → HasOwn (link ∷ row) b
+own_later link row b (k, l, within, is, leads) =
+    let later = cons_later link row l (k, within, is) in (later.0, l, later.1, later.2, leads)
+
+own_cases : (link : Link) (row : List Link) (b : ℕ) → HasOwn (link ∷ row) b → (link.target ≡ targets.Own b) ⊎ HasOwn row b
+own_cases link row b (k, l, within, is, leads) = elim (cons_cases link row l (k, within, is)) [
+  | inl same ↦ inl (ap (λ x. x.target) same ∙ leads)
+  | inr later ↦ inr (later.0, l, later.1, later.2, leads)
+]
+
+-- the places of a row are those to which its uses lead
+pub places_own : (row : List Link) (b : ℕ) → Contains (own_places row) b → HasOwn row b
+places_own [] b h = absurd (omega (arith, h.1))
+places_own (link ∷ row) b h = by (λ later. own_later link row b (places_own row b later)) link.target refl h
+  where
+    by : (Contains (own_places row) b → HasOwn (link ∷ row) b) → (t : Target) → link.target ≡ t → Contains (cons_option (own_place t) (own_places row)) b → HasOwn (link ∷ row) b
+    by tail (targets.Own place) is k = elim (cons_cases place (own_places row) b k) [
+      | inl same ↦ own_here link row b (is ∙ ap targets.Own same)
+      | inr later ↦ tail later
+    ]
+    by tail targets.Kernel is k = tail k
+    by tail targets.Unknown is k = tail k
+    by tail targets.NotInKernel is k = tail k
+
+pub own_in_places : (row : List Link) (b : ℕ) → HasOwn row b → Contains (own_places row) b
+own_in_places [] b h = absurd (omega (arith, h.2))
+own_in_places (link ∷ row) b h = elim (own_cases link row b h) [
+  | inl leads ↦ subst (λ t. Contains (cons_option (own_place t) (own_places row)) b) (sym leads) (cons_here b (own_places row))
+  | inr later ↦ by link.target (own_in_places row b later)
+]
+  where
+    by : (t : Target) → Contains (own_places row) b → Contains (cons_option (own_place t) (own_places row)) b
+    by (targets.Own place) k = cons_later place (own_places row) b k
+    by targets.Kernel k = k
+    by targets.Unknown k = k
+    by targets.NotInKernel k = k
+
+row_of_places : (rows : List (List Link)) (a : ℕ) → get_or (map own_places rows) a [] ≡ own_places (get_or rows a [])
+row_of_places [] a = refl
+row_of_places (row ∷ rows) zero = refl
+row_of_places (row ∷ rows) (suc a) = row_of_places rows a
+
+pub edge_goes : (rows : List (List Link)) (a b : ℕ) → Edge (map own_places rows) a b → Goes rows a b
+edge_goes rows a b h = places_own (get_or rows a []) b (subst (λ r. Contains r b) (row_of_places rows a) h)
+
+pub goes_edge : (rows : List (List Link)) (a b : ℕ) → Goes rows a b → Edge (map own_places rows) a b
+goes_edge rows a b h = subst (λ r. Contains r b) (sym (row_of_places rows a)) (own_in_places (get_or rows a []) b h)

@@ -1,0 +1,164 @@
+-- The users of procedures, as uses come in.
+use Rattle.std.proofs.Common.{◌≡◌, ◌≢◌, ℕ, ◌+◌, ◌<◌, ◌≤◌, List, [], ◌∷◌, ◌++◌, take, length, get_or, set, replicate, Vec, Global, ◌⊎◌, inl, inr, ◌↔◌, sym, ap, subst, ◌∙◌, arith}
+use Rattle.std.proofs.lemmas.Bool.{cases_lt}
+use Rattle.std.proofs.lemmas.Bool.Decides.{eqb_tells}
+use Rattle.std.proofs.lemmas.List.{map-set, length-map, take_more, get_or-map, get_or-set_same, get_or-set_other, get_or_past, get_or_default, get_or-replicate, length-replicate}
+use Rattle.std.proofs.lemmas.List.Elements.{Contains-append_left, Contains-push, Contains-push_cases}
+use Rattle.std.specs.List.{Any, Contains}
+use Rattle.masm_graph.specs.declared.links.Link.{Link}
+use Rattle.masm_graph.specs.declared.links.Target.{Target}
+use Rattle.masm_graph.specs.declared.links.Target.TheVariants as targets
+use Rattle.graphs.specs.Graph.{rows_of, Edge}
+use Rattle.masm_graph.specs.Users.{HasOwn, Goes, AreUsers}
+
+-- One more element of which one may have a property.
+module _ {X : Type 0} (P : X → Type 0) (xs : List X) (i : ℕ) (x : X) (within : i < length xs) (is : x ≡ get_or xs i x) where
+  longer : take (i + 1) xs ≡ take i xs ++ x ∷ []
+  longer = take_more xs i x within ∙ ap (λ y. take i xs ++ y ∷ []) (sym is)
+
+  pub Any-before : Any P (take i xs) → Any P (take (i + 1) xs)
+  Any-before h =
+      let c = subst (λ ys. Contains ys h.1) (sym longer) (Contains-append_left (take i xs) (x ∷ []) h.1 (h.0, h.2, h.3)) in
+      (c.0, h.1, c.1, c.2, h.4)
+
+  pub Any-here : P x → Any P (take (i + 1) xs)
+  Any-here p = let c = subst (λ ys. Contains ys x) (sym longer) (Contains-push (take i xs) x) in (c.0, x, c.1, c.2, p)
+
+  pub Any-more : Any P (take (i + 1) xs) → Any P (take i xs) ⊎ P x
+  Any-more h =
+      elim (Contains-push_cases (take i xs) x h.1 (subst (λ ys. Contains ys h.1) longer (h.0, h.2, h.3))) [
+        | inl before ↦ inl (before.0, h.1, before.1, before.2, h.4)
+        | inr same ↦ inr (subst P (sym same) h.4)
+      ]
+
+same_place : (p q : ℕ) → targets.Own p ≡ targets.Own q → p ≡ q
+same_place p q e = cc
+
+-- a use in a row
+pub row_has : (row : List Link) (i : ℕ) (link : Link) (place : ℕ) → i < length row → link ≡ get_or row i link → link.target ≡ targets.Own place → HasOwn row place
+row_has row i link place within is leads = (i, link, within, sym is, leads)
+
+-- what a use is read as behind the end of a row
+abbrev pub no_link : Link
+no_link = record { at = record { line = 0; column = 0 }; target = targets.Own 0 }
+
+pub row_itself : {X : Type 0} (rows : List (List X)) (i : ℕ) (row : List X) → i < length rows → row ≡ get_or rows i [] → row ≡ get_or rows i row
+row_itself rows i row within is = is ∙ get_or_default rows i [] row within
+
+-- what is read at a place of a list of vectors
+pub row_read : {X : Type 0} (vecs : List (Vec X Global)) (i : ℕ) (vec : Vec X Global) → i < length vecs → vec ≡ get_or vecs i vec → vec.items ≡ get_or (rows_of vecs) i []
+row_read {X} vecs i vec within is = ap (λ x. x.items) is ∙ sym (get_or-map (λ (x : Vec X Global). x.items) vecs i vec [] within)
+
+-- a user is added to the row of a place
+pub user-added : (users : List (Vec ℕ Global)) (place user : ℕ) (w v : Vec ℕ Global) (t : Target) → place < length users → w ≡ get_or users place w
+    → v.items ≡ w.items ++ user ∷ [] → t ≡ targets.Own place
+    → (p other : ℕ) → Edge (rows_of (set users place v)) p other ↔ (Edge (rows_of users) p other ⊎ ((other ≡ user) × (t ≡ targets.Own p)))
+user-added users place user w v t within is new leads = λ p other. (to p other, from p other)
+  where
+    there : w.items ≡ get_or (rows_of users) place []
+    there = ap (λ x. x.items) is ∙ sym (get_or-map (λ (x : Vec ℕ Global). x.items) users place w [] within)
+
+    sets : rows_of (set users place v) ≡ set (rows_of users) place v.items
+    sets = map-set (λ (x : Vec ℕ Global). x.items) users place v
+
+    row_here : get_or (rows_of (set users place v)) place [] ≡ get_or (rows_of users) place [] ++ user ∷ []
+    row_here =
+        ap (λ r. get_or r place []) sets
+        ∙ (get_or-set_same (rows_of users) place v.items [] (let n = length-map users (λ (x : Vec ℕ Global). x.items) in omega arith)
+        ∙ (new ∙ ap (λ r. r ++ user ∷ []) there))
+
+    row_other : (p : ℕ) → p ≢ place → get_or (rows_of (set users place v)) p [] ≡ get_or (rows_of users) p []
+    row_other p apart = ap (λ r. get_or r p []) sets ∙ get_or-set_other (rows_of users) place p v.items [] apart
+
+    to : (p other : ℕ) → Edge (rows_of (set users place v)) p other → Edge (rows_of users) p other ⊎ ((other ≡ user) × (t ≡ targets.Own p))
+    to p other edge =
+        elim (eqb_tells p place) [
+          | inl same ↦
+              elim (Contains-push_cases (get_or (rows_of users) place []) user other (subst (λ r. Contains r other) (ap (λ q. get_or (rows_of (set users place v)) q []) same.1 ∙ row_here) edge)) [
+                | inl before ↦ inl (subst (λ q. Edge (rows_of users) q other) (sym same.1) before)
+                | inr here ↦ inr (sym here, leads ∙ ap targets.Own (sym same.1))
+              ]
+          | inr apart ↦ inl (subst (λ r. Contains r other) (row_other p apart.1) edge)
+        ]
+
+    from : (p other : ℕ) → Edge (rows_of users) p other ⊎ ((other ≡ user) × (t ≡ targets.Own p)) → Edge (rows_of (set users place v)) p other
+    from p other (inl before) =
+        elim (eqb_tells p place) [
+          | inl same ↦ subst (λ q. Edge (rows_of (set users place v)) q other) (sym same.1)
+              (subst (λ r. Contains r other) (sym row_here) (Contains-append_left (get_or (rows_of users) place []) (user ∷ []) other (subst (λ q. Edge (rows_of users) q other) same.1 before)))
+          | inr apart ↦ subst (λ r. Contains r other) (sym (row_other p apart.1)) before
+        ]
+    from p other (inr here) =
+        let same : p ≡ place = same_place p place (sym here.1 ∙ leads) in
+        subst (λ q. Edge (rows_of (set users place v)) q other) (sym same)
+        (subst (λ r. Contains r other) (sym row_here) (subst (Contains (get_or (rows_of users) place [] ++ user ∷ [])) (sym here.0) (Contains-push (get_or (rows_of users) place []) user)))
+
+-- the edges after one more use of a row
+pub uses-more : (old mid new : List (List ℕ)) (user : ℕ) (row : List Link) (i : ℕ) (link : Link) → i < length row → link ≡ get_or row i link
+    → ((p other : ℕ) → Edge mid p other ↔ (Edge old p other ⊎ ((other ≡ user) × HasOwn (take i row) p)))
+    → ((p other : ℕ) → Edge new p other ↔ (Edge mid p other ⊎ ((other ≡ user) × (link.target ≡ targets.Own p))))
+    → (p other : ℕ) → Edge new p other ↔ (Edge old p other ⊎ ((other ≡ user) × HasOwn (take (i + 1) row) p))
+uses-more old mid new user row i link within is first second p other =
+    let P : Link → Type 0 = λ l. l.target ≡ targets.Own p in (
+      λ edge. elim ((second p other).0 edge) [
+        | inl in_mid ↦ elim ((first p other).0 in_mid) [ inl in_old ↦ inl in_old | inr added ↦ inr (added.0, Any-before P row i link within is added.1) ]
+        | inr here ↦ inr (here.0, Any-here P row i link within is here.1)
+      ],
+      λ h. elim h [
+        | inl in_old ↦ (second p other).1 (inl ((first p other).1 (inl in_old)))
+        | inr added ↦ elim (Any-more P row i link within is added.1) [
+          | inl before ↦ (second p other).1 (inl ((first p other).1 (inr (added.0, before))))
+          | inr here ↦ (second p other).1 (inr (added.0, here))
+        ]
+      ],
+    )
+
+pub uses-none : (old : List (List ℕ)) (user : ℕ) (row : List Link) (p other : ℕ) → Edge old p other ↔ (Edge old p other ⊎ ((other ≡ user) × HasOwn (take 0 row) p))
+uses-none old user row p other = (λ h. inl h, λ h. elim h [ inl in_old ↦ in_old | inr added ↦ absurd (let none = added.1.2 in omega arith) ])
+
+-- the edges after one more row
+pub rows-more : (rows : List (List Link)) (old new : List (List ℕ)) (i : ℕ) (row : List Link) → row ≡ get_or rows i []
+    → ((p other : ℕ) → Edge old p other ↔ ((other < i) × Goes rows other p))
+    → ((p other : ℕ) → Edge new p other ↔ (Edge old p other ⊎ ((other ≡ i) × HasOwn row p)))
+    → (p other : ℕ) → Edge new p other ↔ ((other < i + 1) × Goes rows other p)
+rows-more rows old new i row is first second p other = (
+  λ edge. elim ((second p other).0 edge) [
+    | inl before ↦ let h = (first p other).0 before in ((let l = h.0 in omega arith), h.1)
+    | inr here ↦ ((let e = here.0 in omega arith), subst (λ q. Goes rows q p) (sym here.0) (subst (λ r. HasOwn r p) is here.1))
+  ],
+  λ h. elim (eqb_tells other i) [
+    | inl same ↦ (second p other).1 (inr (same.1, subst (λ r. HasOwn r p) (sym is) (subst (λ q. Goes rows q p) same.1 h.1)))
+    | inr apart ↦ (second p other).1 (inl ((first p other).1 ((let l = h.0 in let a = apart.1 in omega arith), h.1)))
+  ],
+)
+
+pub no_edges : (n p other : ℕ) (rows : List (List Link)) → Edge (replicate n []) p other ↔ ((other < 0) × Goes rows other p)
+no_edges n p other rows =
+    (λ edge. absurd (omega (arith, edge.1, ap (length {A = ℕ}) (empty n p))), λ h. absurd (omega (arith, h.0)))
+  where
+    empty : (n p : ℕ) → get_or {A = List ℕ} (replicate n []) p [] ≡ []
+    empty n p = elim (cases_lt p n) [
+      | inl below ↦ get_or-replicate n p [] [] below
+      | inr past ↦ get_or_past (replicate n []) p [] (let l = length-replicate {A = List ℕ} n [] in omega arith)
+    ]
+
+-- a row with uses stands in the list
+pub user_within : (rows : List (List Link)) (user place : ℕ) → Goes rows user place → user < length rows
+user_within rows user place h = elim (cases_lt user (length rows)) [
+  | inl below ↦ below
+  | inr past ↦ absurd (let none = ap length (get_or_past rows user [] past) in let within = h.2 in omega arith)
+]
+
+pub AreUsers-end : (rows : List (List Link)) (users : List (List ℕ)) (n : ℕ) → length users ≡ length rows → length rows ≤ n
+    → ((p other : ℕ) → Edge users p other ↔ ((other < n) × Goes rows other p)) → AreUsers rows users
+AreUsers-end rows users n count ended edges =
+    record {
+      count = count;
+      edges = λ p other. (λ edge. ((edges p other).0 edge).1, λ goes. (edges p other).1 ((let l = user_within rows other p goes in omega arith), goes));
+    }
+
+pub AreUsers-graph : (rows : List (List Link)) (users : List (List ℕ)) → AreUsers rows users → (a b : ℕ) → Edge users a b → b < length users
+AreUsers-graph rows users are a b edge =
+    let within = user_within rows b a ((are.edges a b).0 edge) in
+    let count = are.count in
+    omega arith

@@ -1,5 +1,0 @@
-use Rattle.masm_instr.proofs.Packing.{expansions_are_packable}
-use Rattle.masm_instr.proofs.expansion.expansions_are_packable.Goals as goal
-
-pub returns : goal.returns
-returns c = expansions_are_packable

@@ -1,7 +1,0 @@
-use Rattle.std.proofs.Common.{◌≡◌, ◌++◌, drop}
-use Rattle.masm_instr.specs.Expansion.{plain}
-use Rattle.masm_instr.proofs.pieces.add_plain.Given as goal
-
-abbrev pub invariant-loop-operation : goal.invariant-loop-operation
-invariant-loop-operation l =
-    l.items ++ plain (drop l.operation-index l.operations) ≡ l.initial.items ++ plain l.operations

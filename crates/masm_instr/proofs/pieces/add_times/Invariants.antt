@@ -1,7 +1,0 @@
-use Rattle.std.proofs.Common.{◌≡◌, ◌-◌, ◌++◌, replicate}
-use Rattle.masm_instr.specs.Expansion.{plain}
-use Rattle.masm_instr.proofs.pieces.add_times.Given as goal
-
-abbrev pub invariant-loop : goal.invariant-loop
-invariant-loop l =
-    l.items ++ plain (replicate (l.times - l.counter) l.operation) ≡ l.initial.items ++ plain (replicate l.times l.operation)

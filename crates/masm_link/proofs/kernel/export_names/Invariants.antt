@@ -1,6 +1,0 @@
-use Rattle.std.proofs.Common.{◌≡◌, take}
-use Rattle.masm_link.specs.Kernels.{names_in}
-use Rattle.masm_link.proofs.kernel.export_names.Given as goal
-
-abbrev pub invariant-loop-export : goal.invariant-loop-export
-invariant-loop-export l = l.names.items ≡ names_in (take l.export-index l.kernel)

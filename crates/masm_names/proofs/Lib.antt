@@ -1,0 +1,5 @@
+pub mod DoubleAnswers
+pub mod DoubleLemmas
+pub mod LeastLemmas
+pub mod NameLemmas
+pub mod UsesOnly

@@ -1,0 +1,9 @@
+pub mod Among
+pub mod Causes
+pub mod Earlier
+pub mod Extras
+pub mod Least
+pub mod Names
+pub mod Naming
+pub mod Repeats
+pub mod Uses

@@ -1,0 +1,37 @@
+ghost use Rattle.masm_names.specs.Extras.{IsExtra, Extras};
+ghost use Rattle.masm_names.specs.Least.{Answers};
+
+use crate::names::Defined;
+use crate::refusal::{LinkCause, Refusal, earlier};
+use masm_tree::Proc;
+
+// How many procedures a kernel may export.
+const MAX_EXPORTS: usize = 255;
+
+// The refusal of a procedure behind so many exports.
+fn extra_export(exports: usize, procedure: &Proc) -> Option<Refusal>
+    ensures { Answers (IsExtra exports procedure.now) result }
+{
+    if !procedure.exported || exports != MAX_EXPORTS {
+        return None;
+    }
+    Some(Refusal {
+        at: procedure.at(),
+        cause: LinkCause::TooManyExports,
+    })
+}
+
+// The first export that is one too many.
+pub(crate) fn first_extra_export(procs: &[Proc]) -> Option<Refusal>
+    ensures { Answers (Extras procs.now) result }
+{
+    let mut exports: usize = 0;
+    let mut first = None;
+    for procedure in procs {
+        first = earlier(first, extra_export(exports, procedure));
+        if procedure.exported {
+            exports += 1;
+        }
+    }
+    first
+}

@@ -1,0 +1,5 @@
+pub mod Measures
+pub mod Rows
+pub mod SizeLaws
+pub mod Sized
+pub mod Sizing

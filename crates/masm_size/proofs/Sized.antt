@@ -1,0 +1,191 @@
+-- The size of a body that has a list is that of the list, where the sizes of the procedures that it uses are.
+use Rattle.std.proofs.Common.{◌≡◌, ℕ, zero, suc, ◌-◌, ◌<◌, ◌≤◌, ◌↔◌, min, List, [], ◌∷◌, ◌++◌, map, Some, refl, sym, ap, ap₂, subst, ◌∙◌, append_assoc, arith}
+use Rattle.std.proofs.lemmas.List.{append-nil}
+use Rattle.vm_ops.specs.declared.item.Item.{Item}
+use Rattle.vm_field.specs.Field.{prime}
+use Rattle.vm_ops.specs.declared.op.Op.TheVariants.{FmpUpdate}
+use Rattle.vm_ops.specs.Items.{plain_item}
+use Rattle.masm_expand.specs.Expansion.{lit, expansion}
+use Rattle.masm_tree.specs.Trees.{Body, Procedure}
+use Rattle.masm_blocks.specs.declared.extent.Extent.{Extent}
+use Rattle.masm_blocks.specs.Blocks.{Block, Span, Join, Split, Loop, Call, Syscall, Piece, Operation, Whole, seen_as, seen_pieces, block_of, as_operations, as_height}
+use Rattle.masm_blocks.specs.Lists.{Exported, IsList, nothing, instr, exec, call, syscall, branches, loops, repeated, first_procedure, first_export, times, with_locals}
+use Rattle.masm_size.specs.Sizes.{as_extent, size_of, run_of, both, times_size, extent_of, block_size, Known_sizes, size_onto, procedure_size}
+use Rattle.masm_blocks.proofs.Flattened.{seen-block, seen-append, seen-operations, seen-times}
+use Rattle.masm_names.proofs.UsesOnly.{UsesOnly}
+use Rattle.masm_size.proofs.SizeLaws.{size-append, size-block, size-run, size-times, IsSolid, IsSome_size, operations-whole, Agree, extent-whole, block-over, block-over_two}
+
+-- the extent of a block is its operations and its height, each up to a limit
+pub operations-block : (b : Block) → (seen_as as_extent b).operations ≡ min (seen_as as_operations b) 524289
+operations-block (Span items) = refl
+operations-block (Join a b) = omega (arith, operations-block a, operations-block b)
+operations-block (Split a b) = omega (arith, operations-block a, operations-block b)
+operations-block (Loop a) = omega (arith, operations-block a)
+operations-block (Call a) = omega (arith, operations-block a)
+operations-block (Syscall a) = omega (arith, operations-block a)
+
+pub height-block : (b : Block) → (seen_as as_extent b).height ≡ min (seen_as as_height b) 1025
+height-block (Span items) = refl
+height-block (Join a b) = omega (arith, height-block a, height-block b)
+height-block (Split a b) = omega (arith, height-block a, height-block b)
+height-block (Loop a) = omega (arith, height-block a)
+height-block (Call a) = omega (arith, height-block a)
+height-block (Syscall a) = omega (arith, height-block a)
+
+abbrev pub seen : List (Piece Block) → List (Piece Extent)
+seen pieces = seen_pieces (seen_as as_extent) pieces
+
+solid-append : (xs ys : List (Piece Extent)) → IsSolid xs → IsSolid ys → IsSolid (xs ++ ys)
+solid-append [] ys h k = k
+solid-append (Operation item ∷ xs) ys h k = solid-append xs ys h k
+solid-append (Whole e ∷ xs) ys h k = (h.0, solid-append xs ys h.1 k)
+
+solid-run : (items : List Item) → IsSolid (map Operation items)
+solid-run [] = tt
+solid-run (item ∷ items) = solid-run items
+
+solid-times : (n : ℕ) (xs : List (Piece Extent)) → IsSolid xs → IsSolid (times n xs)
+solid-times zero xs h = tt
+solid-times (suc n) xs h = solid-append xs (times n xs) h (solid-times n xs h)
+
+pub solid-locals : (n : ℕ) (xs : List (Piece Block)) → IsSolid (seen xs) → IsSolid (seen (with_locals n xs))
+solid-locals zero xs h = h
+solid-locals (suc n) xs h = subst IsSolid (sym (seen-append as_extent xs _)) (solid-append (seen xs) _ h tt)
+
+pub some-whole : (xs : List (Piece Block)) → IsSolid (seen xs) → IsSome_size (seen_as as_extent (block_of xs))
+some-whole xs h =
+    let operations = ap (λ (e : Extent). e.operations) (seen-block as_extent xs) ∙ operations-whole (seen xs) h in
+    (omega arith, omega arith, omega (arith, height-block (block_of xs)))
+
+-- each block of the kernel has an operation
+abbrev pub HasOperations : List Exported → Type 0
+HasOperations kernel = (name : List ℕ) (block : Block) → first_export kernel name ≡ Some block → 1 ≤ seen_as as_operations block
+
+module _ {procs : List Procedure} {kernel : List Exported} where
+  pub list-solid : HasOperations kernel → {locals : ℕ} {b : Body} {xs : List (Piece Block)} → IsList procs kernel locals b xs → IsSolid (seen xs)
+  list-solid some nothing = tt
+  list-solid some {locals} (instr at i {xs} d) =
+      subst IsSolid (sym (seen-append as_extent (map Operation (expansion i.name i.numbers locals)) xs))
+      (solid-append (seen (map Operation (expansion i.name i.numbers locals))) (seen xs) (subst IsSolid (sym (seen-operations as_extent (expansion i.name i.numbers locals))) (solid-run (expansion i.name i.numbers locals))) (list-solid some d))
+  list-solid some (exec at name {p} {ys} {xs} found d f) =
+      subst IsSolid (sym (seen-append as_extent (with_locals p.locals ys) xs))
+      (solid-append (seen (with_locals p.locals ys)) (seen xs) (solid-locals p.locals ys (list-solid some d)) (list-solid some f))
+  list-solid some (call at name {p} {ys} found d f) =
+      let whole = some-whole (with_locals p.locals ys) (solid-locals p.locals ys (list-solid some d)) in
+      ((omega arith, omega arith, omega arith), list-solid some f)
+  list-solid some (syscall at name {callee} found f) =
+      let one = some name callee found in
+      let is = operations-block callee in
+      ((omega arith, omega arith, omega arith), list-solid some f)
+  list-solid some (branches at {ys} {zs} a e f) =
+      let first = some-whole ys (list-solid some a) in
+      let second = some-whole zs (list-solid some e) in
+      ((omega arith, omega arith, omega arith), list-solid some f)
+  list-solid some (loops at {ys} d f) =
+      let whole = some-whole ys (list-solid some d) in
+      ((omega arith, omega arith, omega arith), list-solid some f)
+  list-solid some (repeated at n {ys} {xs} d f) =
+      subst IsSolid (sym (seen-append as_extent (times n ys) xs))
+      (solid-append (seen (times n ys)) (seen xs) (subst IsSolid (sym (seen-times as_extent n ys)) (solid-times n (seen ys) (list-solid some d))) (list-solid some f))
+
+-- The given sizes are those of these procedures' lists, and the given extents those of the kernel's blocks.
+pub record SizesFit (procs : List Procedure) (kernel : List Exported) (P : List ℕ → Type 0) (known : Known_sizes) : Type 0 where
+  pub size : (name : List ℕ) (p : Procedure) (ys : List (Piece Block)) → P name → first_procedure procs name ≡ Some p
+      → IsList procs kernel p.locals p.body ys → known.size name ≡ size_of (seen (with_locals p.locals ys))
+  pub exported : (name : List ℕ) (block : Block) → first_export kernel name ≡ Some block → known.exported name ≡ seen_as as_extent block
+
+module _ {procs : List Procedure} {kernel : List Exported} (some : HasOperations kernel) (P : List ℕ → Type 0) (known : Known_sizes) (fits : SizesFit procs kernel P known) where
+  agree : {locals : ℕ} {b : Body} {xs : List (Piece Block)} → IsList procs kernel locals b xs → Agree (extent_of (size_of (seen xs))) (seen_as as_extent (block_of xs))
+  agree {xs} d = subst (Agree (extent_of (size_of (seen xs)))) (sym (seen-block as_extent xs)) (extent-whole (seen xs) (list-solid some d))
+
+  agree-procedure : (name : List ℕ) (p : Procedure) (ys : List (Piece Block)) → P name → first_procedure procs name ≡ Some p → IsList procs kernel p.locals p.body ys
+      → Agree (extent_of (known.size name)) (seen_as as_extent (block_of (with_locals p.locals ys)))
+  agree-procedure name p ys of found d =
+      let zs = with_locals p.locals ys in
+      subst (λ z. Agree (extent_of z) (seen_as as_extent (block_of zs))) (sym (fits.size name p ys of found d))
+      (subst (Agree (extent_of (size_of (seen zs)))) (sym (seen-block as_extent zs)) (extent-whole (seen zs) (solid-locals p.locals ys (list-solid some d))))
+
+  -- a block behind a list
+  behind : (before : List (Piece Extent)) (e f : Extent) → block_size e ≡ block_size f → both (size_of before) (block_size e) ≡ size_of (before ++ Whole f ∷ [])
+  behind before e f same = ap (both (size_of before)) (same ∙ sym (size-block f)) ∙ sym (size-append before (Whole f ∷ []))
+
+  pub sized-is : (before : List (Piece Extent)) {locals : ℕ} {b : Body} {xs : List (Piece Block)} → IsList procs kernel locals b xs → UsesOnly P b
+      → size_onto known locals b (size_of before) ≡ size_of (before ++ seen xs)
+  sized-is before nothing of = ap size_of (sym (append-nil before))
+  sized-is before {locals} (instr at i {b} {xs} d) of =
+      let items = expansion i.name i.numbers locals in
+      ap (size_onto known locals b) (ap (both (size_of before)) (sym (size-run items)) ∙ sym (size-append before (map Operation items)))
+      ∙ sized-is (before ++ map Operation items) d of
+      ∙ ap size_of (append_assoc before (map Operation items) (seen xs) ∙ ap (λ zs. before ++ zs) (sym (seen-append as_extent (map Operation items) xs ∙ ap (λ zs. zs ++ seen xs) (seen-operations as_extent items))))
+  sized-is before {locals} (exec at name {p} {b} {ys} {xs} found d f) of =
+      let zs = with_locals p.locals ys in
+      ap (size_onto known locals b) (ap (both (size_of before)) (fits.size name p ys of.0 found d) ∙ sym (size-append before (seen zs)))
+      ∙ sized-is (before ++ seen zs) f of.1
+      ∙ ap size_of (append_assoc before (seen zs) (seen xs) ∙ ap (λ us. before ++ us) (sym (seen-append as_extent zs xs)))
+  sized-is before {locals} (call at name {p} {b} {ys} {xs} found d f) of =
+      let block = seen_as as_extent (block_of (with_locals p.locals ys)) in
+      ap (size_onto known locals b) (behind before _ _ (block-over (extent_of (known.size name)) block (agree-procedure name p ys of.0 found d)))
+      ∙ sized-is (before ++ Whole (as_extent.call block) ∷ []) f of.1
+      ∙ ap size_of (append_assoc before (Whole (as_extent.call block) ∷ []) (seen xs))
+  sized-is before {locals} (syscall at name {callee} {b} {xs} found f) of =
+      let block = seen_as as_extent callee in
+      ap (size_onto known locals b) (behind before _ _ (ap (λ e. block_size (as_extent.syscall e)) (fits.exported name callee found)))
+      ∙ sized-is (before ++ Whole (as_extent.syscall block) ∷ []) f of
+      ∙ ap size_of (append_assoc before (Whole (as_extent.syscall block) ∷ []) (seen xs))
+  sized-is before {locals} (branches at {a} {e} {b} {ys} {zs} {xs} d k f) of =
+      let first = seen_as as_extent (block_of ys) in
+      let second = seen_as as_extent (block_of zs) in
+      ap (size_onto known locals b)
+      (behind before _ _ (ap₂ (λ u w. block_size (as_extent.split (extent_of u) (extent_of w))) (sized-is [] d of.0) (sized-is [] k of.1)
+      ∙ block-over_two (extent_of (size_of (seen ys))) (extent_of (size_of (seen zs))) first second (agree d) (agree k)))
+      ∙ sized-is (before ++ Whole (as_extent.split first second) ∷ []) f of.2
+      ∙ ap size_of (append_assoc before (Whole (as_extent.split first second) ∷ []) (seen xs))
+  sized-is before {locals} (loops at {a} {b} {ys} {xs} d f) of =
+      let turn = seen_as as_extent (block_of ys) in
+      ap (size_onto known locals b)
+      (behind before _ _ (ap (λ u. block_size (as_extent.loop (extent_of u))) (sized-is [] d of.0) ∙ block-over (extent_of (size_of (seen ys))) turn (agree d)))
+      ∙ sized-is (before ++ Whole (as_extent.loop turn) ∷ []) f of.1
+      ∙ ap size_of (append_assoc before (Whole (as_extent.loop turn) ∷ []) (seen xs))
+  sized-is before {locals} (repeated at n {a} {b} {ys} {xs} d f) of =
+      ap (size_onto known locals b) (ap (λ s. both (size_of before) (times_size n s)) (sized-is [] d of.0) ∙ size-times n (seen ys) before)
+      ∙ sized-is (before ++ times n (seen ys)) f of.1
+      ∙ ap size_of (append_assoc before (times n (seen ys)) (seen xs) ∙ ap (λ us. before ++ us) (sym (seen-append as_extent (times n ys) xs ∙ ap (λ us. us ++ seen xs) (seen-times as_extent n ys))))
+
+  locals-sized : (n : ℕ) (b : Body) (xs : List (Piece Block)) → IsList procs kernel n b xs → UsesOnly P b → procedure_size known n b ≡ size_of (seen (with_locals n xs))
+  locals-sized zero b xs d of = sized-is [] d of
+  locals-sized (suc n) b xs d of =
+      let up : List Item = lit (suc n) ∷ plain_item FmpUpdate ∷ [] in
+      let down : List Item = lit (prime - suc n) ∷ plain_item FmpUpdate ∷ [] in
+      ap (λ z. both (size_onto known (suc n) b z) (run_of 2)) (ap (both (size_of [])) (sym (size-run up)) ∙ sym (size-append [] (map Operation up)))
+      ∙ ap₂ both (sized-is (map Operation up) d of) (sym (size-run down))
+      ∙ sym (size-append (map Operation up ++ seen xs) (map Operation down))
+      ∙ ap size_of (append_assoc (map Operation up) (seen xs) (map Operation down)
+      ∙ ap (λ us. map Operation up ++ us) (sym (seen-append as_extent xs (map Operation down))))
+
+  -- the size of a procedure's list, and the extent of its block
+  pub procedure-sized : (p : Procedure) (xs : List (Piece Block)) → IsList procs kernel p.locals p.body xs → UsesOnly P p.body
+      → procedure_size known p.locals p.body ≡ size_of (seen (with_locals p.locals xs))
+  procedure-sized p xs d of = locals-sized p.locals p.body xs d of
+
+  pub procedure-extent : (p : Procedure) (xs : List (Piece Block)) → IsList procs kernel p.locals p.body xs → UsesOnly P p.body
+      → Agree (extent_of (procedure_size known p.locals p.body)) (seen_as as_extent (block_of (with_locals p.locals xs)))
+  procedure-extent p xs d of =
+      let zs = with_locals p.locals xs in
+      subst (λ z. Agree (extent_of z) (seen_as as_extent (block_of zs))) (sym (procedure-sized p xs d of))
+      (subst (Agree (extent_of (size_of (seen zs)))) (sym (seen-block as_extent zs)) (extent-whole (seen zs) (solid-locals p.locals xs (list-solid some d))))
+
+  -- whether the limits are passed, told by the extent
+  pub procedure-operations : (p : Procedure) (xs : List (Piece Block)) → IsList procs kernel p.locals p.body xs → UsesOnly P p.body
+      → (524288 < (extent_of (procedure_size known p.locals p.body)).operations) ↔ (524288 < seen_as as_operations (block_of (with_locals p.locals xs)))
+  procedure-operations p xs d of =
+      let same = (procedure-extent p xs d of).operations in
+      let is = operations-block (block_of (with_locals p.locals xs)) in
+      (λ h. omega arith, λ h. omega arith)
+
+  pub procedure-height : (p : Procedure) (xs : List (Piece Block)) → IsList procs kernel p.locals p.body xs → UsesOnly P p.body
+      → (extent_of (procedure_size known p.locals p.body)).operations ≤ 524288
+      → (1024 < (extent_of (procedure_size known p.locals p.body)).height) ↔ (1024 < seen_as as_height (block_of (with_locals p.locals xs)))
+  procedure-height p xs d of few =
+      let same = (procedure-extent p xs d of).height few in
+      let is = height-block (block_of (with_locals p.locals xs)) in
+      (λ h. omega arith, λ h. omega arith)

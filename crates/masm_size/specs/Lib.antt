@@ -1,0 +1,2 @@
+pub mod KnownSizes
+pub mod Sizes

@@ -1,0 +1,97 @@
+-- The uses of a source of which none leads nowhere or back.
+use Rattle.std.proofs.Common.{◌≡◌, ℕ, ◌<◌, List, [], length, get_or, take, map, slice_get, Option, Some, None, refl, sym, subst, arith}
+use Rattle.std.proofs.lemmas.Grind.{flat_map-append}
+use Rattle.std.proofs.lemmas.List.{length-map}
+use Rattle.std.proofs.lemmas.List.Elements.{Contains-append_left, Contains-append_right}
+use Rattle.std.specs.List.{flat_map, Contains}
+use Rattle.std.specs.Option.{option_to_list}
+use Rattle.masm_tree.specs.Trees.{Procedure, Source}
+use Rattle.masm_names.specs.declared.refusal.LinkCause.TheVariants as causes
+use Rattle.masm_names.specs.Naming.{IsClosed, unknown, not_in_kernel}
+use Rattle.masm_uses.specs.Plans.{NeedsIn, IsWanted, of_main}
+use Rattle.masm_uses.specs.UseOrders.{IsUseOrder}
+use Rattle.masm_names.specs.Uses.{Use, Own, Kernel, uses_of, all_uses, first_place}
+use Rattle.masm_uses.proofs.UsedLemmas.{in_all, place_within}
+use Rattle.masm_names.proofs.UsesOnly.{UsesOnly, SyscallsOnly, uses_only, syscalls_only}
+use Rattle.masm_blocks.specs.Blocks.{Block}
+use Rattle.masm_blocks.specs.Lists.{Exported, first_export}
+use Rattle.masm_tables.specs.Kernels.{names_of}
+use Rattle.masm_tables.proofs.Finding.{export_none}
+
+abbrev uses_in : Procedure → List Use
+uses_in p = uses_of p.body
+
+-- the first procedure of that name stands at one of these places
+abbrev pub Behind : List Procedure → (ℕ → Type 0) → List ℕ → Type 0
+Behind procs Done name = (j : ℕ) × (first_place procs name ≡ Some j) × Done j
+
+abbrev pub IsExportName : List Exported → List ℕ → Type 0
+IsExportName exports name = (block : Block) × (first_export exports name ≡ Some block)
+
+module _ (source : Source) where
+  among_procs : (place : ℕ) (p : Procedure) (u : Use) → slice_get source.procs place ≡ Some p → Contains (uses_of p.body) u → Contains (all_uses source) u
+  among_procs place p u here has =
+      subst (λ us. Contains us u) (sym (flat_map-append uses_in source.procs (option_to_list source.main)))
+      (Contains-append_left (flat_map uses_in source.procs) _ u (in_all uses_in source.procs place p u here has))
+
+  among_main : (p : Procedure) (u : Use) → source.main ≡ Some p → Contains (uses_of p.body) u → Contains (all_uses source) u
+  among_main p u is has =
+      subst (λ us. Contains us u) (sym (flat_map-append uses_in source.procs (option_to_list source.main)))
+      (Contains-append_right (flat_map uses_in source.procs) _ u
+      (subst (λ o. Contains (flat_map uses_in (option_to_list o)) u) (sym is) (Contains-append_left (uses_of p.body) [] u has)))
+
+  module _ (names : List (List ℕ)) (closed : IsClosed source names) where
+    own_leads : (u : Use) → Contains (all_uses source) u → u.kind ≡ Own → (j : ℕ) × (first_place source.procs u.name ≡ Some j)
+    own_leads u has own = by (first_place source.procs u.name) refl
+      where
+        by : (o : Option ℕ) → first_place source.procs u.name ≡ o → (j : ℕ) × (first_place source.procs u.name ≡ Some j)
+        by None none = absurd (closed u.at causes.UnknownProcedure (unknown u has own none))
+        by (Some j) is = (j, is)
+
+    kernel_leads : (exports : List Exported) → names ≡ names_of exports → (u : Use) → Contains (all_uses source) u → u.kind ≡ Kernel
+        → IsExportName exports u.name
+    kernel_leads exports same u has kernel = by (first_export exports u.name) refl
+      where
+        by : (o : Option Block) → first_export exports u.name ≡ o → IsExportName exports u.name
+        by None none =
+            absurd (closed u.at causes.NotInKernel (not_in_kernel u has kernel (λ h. export_none exports u.name none (subst
+            (λ ns. Contains ns u.name) same h))))
+        by (Some block) is = (block, is)
+
+    pub uses_behind : (order : List ℕ) → IsUseOrder source.procs order → (k : ℕ) (p : Procedure) → k < length order
+        → slice_get source.procs (get_or order k 0) ≡ Some p → UsesOnly (Behind source.procs (Contains (take k order))) p.body
+    uses_behind order is k p below here =
+        uses_only (Behind source.procs (Contains (take k order))) p.body (λ u has own.
+        let leads = own_leads u (among_procs (get_or order k 0) p u here has) own in
+        (leads.0, leads.1, is.behind k u leads.0 below (record { procedure = p; here = here; among = has; own = own; target = leads.1 })))
+
+    pub uses_main : (order : List ℕ) → IsUseOrder source.procs order → (p : Procedure) → source.main ≡ Some p → UsesOnly (Behind source.procs (Contains order)) p.body
+    uses_main order is p main =
+        uses_only (Behind source.procs (Contains order)) p.body (λ u has own.
+        let leads = own_leads u (among_main p u main has) own in
+        let below = place_within (map (λ (q : Procedure). q.name) source.procs) u.name leads.0 leads.1 in
+        let count = length-map source.procs (λ (q : Procedure). q.name) in
+        (leads.0, leads.1, is.all leads.0 (omega arith)))
+
+    -- the same where the procedures that are used have these places
+    pub uses_held : (Held : ℕ → Type 0) (place : ℕ) (p : Procedure) → slice_get source.procs place ≡ Some p
+        → ((j : ℕ) → NeedsIn source.procs place j → Held j) → UsesOnly (Behind source.procs Held) p.body
+    uses_held Held place p here held =
+        uses_only (Behind source.procs Held) p.body (λ u has own.
+        let leads = own_leads u (among_procs place p u here has) own in
+        (leads.0, leads.1, held leads.0 (u, record { procedure = p; here = here; among = has; own = own; target = leads.1 })))
+
+    pub uses_wanted : (p : Procedure) → source.main ≡ Some p → UsesOnly (Behind source.procs (IsWanted source)) p.body
+    uses_wanted p main =
+        uses_only (Behind source.procs (IsWanted source)) p.body (λ u has own.
+        let leads = own_leads u (among_main p u main has) own in (leads.0, leads.1, of_main p u main has own leads.1))
+
+    pub syscalls_procs : (exports : List Exported) → names ≡ names_of exports → (place : ℕ) (p : Procedure) → slice_get source.procs place ≡ Some p
+        → SyscallsOnly (IsExportName exports) p.body
+    syscalls_procs exports same place p here = syscalls_only (IsExportName exports) p.body (λ u has kernel. kernel_leads exports same u
+        (among_procs place p u here has) kernel)
+
+    pub syscalls_main : (exports : List Exported) → names ≡ names_of exports → (p : Procedure) → source.main ≡ Some p → SyscallsOnly
+        (IsExportName exports) p.body
+    syscalls_main exports same p main = syscalls_only (IsExportName exports) p.body (λ u has kernel. kernel_leads exports same u
+        (among_main p u main has) kernel)

@@ -1,0 +1,90 @@
+-- Procedures and exports by their names.
+use Rattle.std.proofs.Common.{◌≡◌, ℕ, suc, ◌+◌, ◌≤◌, cond, List, [], ◌∷◌, Option, Some, None, inl, inr, refl, sym, ap, ap₂, subst, ◌∙◌, bytes_eq, slice_get, arith}
+use Rattle.std.proofs.lemmas.Bool.{cases_Bool}
+use Rattle.std.proofs.lemmas.Option.{same_Some}
+use Rattle.std.proofs.lemmas.Slice.Eq.{bytes_eq-Decides}
+use Rattle.std.specs.List.{find, Contains}
+use Rattle.std.specs.Option.{option_map}
+use Rattle.block_tree.specs.TreeView.{tree_of}
+use Rattle.masm_blocks.specs.declared.kernel.KernelProc.{KernelProc}
+use Rattle.masm_blocks.specs.Blocks.{Block, seen_as, as_tree, as_operations}
+use Rattle.masm_blocks.specs.Lists.{Exported, first_procedure, first_export}
+use Rattle.masm_size.specs.Sizes.{as_extent}
+use Rattle.masm_tree.specs.Trees.{Procedure}
+use Rattle.masm_names.specs.Uses.{first_place}
+use Rattle.masm_names.proofs.DoubleLemmas.{cons_cases}
+use Rattle.masm_tables.specs.Kernels.{AreExports, names_in, names_of}
+
+-- a name has its first place where its first procedure stands
+pub procedure_found : (procs : List Procedure) (name : List ℕ) (j : ℕ) → first_place procs name ≡ Some j
+    → (p : Procedure) × (slice_get procs j ≡ Some p) × (first_procedure procs name ≡ Some p)
+procedure_found [] name j e = cc
+procedure_found (p ∷ procs) name j e = elim (cases_Bool (bytes_eq p.name name)) [
+  | inl same ↦
+      let here : Some 0 ≡ Some j = sym (ap (λ b. cond b (Some 0) (option_map (λ i. i + 1) (first_place procs name))) same) ∙ e in
+      (p, subst (λ k. slice_get (p ∷ procs) k ≡ Some p) (same_Some 0 j here) refl, ap (λ b. cond b (Some p) (first_procedure procs name)) same)
+  | inr other ↦
+      later (first_place procs name) refl (λ i. procedure_found procs name i)
+      (sym (ap (λ b. cond b (Some 0) (option_map (λ i. i + 1) (first_place procs name))) other) ∙ e)
+      (ap (λ b. cond b (Some p) (first_procedure procs name)) other)
+]
+  where
+    later : (o : Option ℕ) → first_place procs name ≡ o
+        → ((i : ℕ) → first_place procs name ≡ Some i → (q : Procedure) × (slice_get procs i ≡ Some q) × (first_procedure procs name ≡ Some q))
+        → option_map (λ i. i + 1) o ≡ Some j → first_procedure (p ∷ procs) name ≡ first_procedure procs name
+        → (q : Procedure) × (slice_get (p ∷ procs) j ≡ Some q) × (first_procedure (p ∷ procs) name ≡ Some q)
+    later None is rest e' skips = cc
+    later (Some i) is rest e' skips =
+        let found = rest i is in
+        let one : suc i ≡ j = let is_j : i + 1 ≡ j = same_Some (i + 1) j e' in omega arith in
+        (found.0, subst (λ k. slice_get (p ∷ procs) k ≡ Some found.0) one found.1, skips ∙ found.2)
+
+-- an export of that name, with what is known of it
+pub record Found (kernel : List KernelProc) (name : List ℕ) (block : Block) : Type 0 where
+  pub proc : KernelProc
+  pub found : find (λ p. bytes_eq p.name name) kernel ≡ Some proc
+  pub tree : tree_of proc.tree ≡ seen_as as_tree block
+  pub extent : proc.extent ≡ seen_as as_extent block
+  pub some : 1 ≤ seen_as as_operations block
+
+pub export_found : (exports : List Exported) (kernel : List KernelProc) → AreExports exports kernel → (name : List ℕ) (block : Block)
+    → first_export exports name ≡ Some block → Found kernel name block
+export_found [] kernel are name block e = cc
+export_found (x ∷ exports) [] are name block e = absurd are
+export_found (x ∷ exports) (p ∷ kernel) are name block e = elim (cases_Bool (bytes_eq x.name name)) [
+  | inl same ↦
+      let is : x.block ≡ block = same_Some x.block block (sym (ap (λ b. cond b (Some x.block) (first_export exports name)) same) ∙ e) in
+      record {
+        proc = p;
+        found = ap (λ b. cond b (Some p) (find (λ q. bytes_eq q.name name) kernel)) (ap (λ n. bytes_eq n name) are.0.name ∙ same);
+        tree = are.0.tree ∙ ap (seen_as as_tree) is;
+        extent = are.0.extent ∙ ap (seen_as as_extent) is;
+        some = subst (λ b. 1 ≤ seen_as as_operations b) is are.0.some;
+      }
+  | inr other ↦
+      let rest = export_found exports kernel are.1 name block (sym (ap (λ b. cond b (Some x.block) (first_export exports name)) other) ∙ e) in
+      record {
+        proc = rest.proc;
+        found = ap (λ b. cond b (Some p) (find (λ q. bytes_eq q.name name) kernel)) (ap (λ n. bytes_eq n name) are.0.name ∙ other) ∙ rest.found;
+        tree = rest.tree;
+        extent = rest.extent;
+        some = rest.some;
+      }
+]
+
+pub names_same : (exports : List Exported) (kernel : List KernelProc) → AreExports exports kernel → names_in kernel ≡ names_of exports
+names_same [] [] are = refl
+names_same [] (p ∷ kernel) are = absurd are
+names_same (x ∷ exports) [] are = absurd are
+names_same (x ∷ exports) (p ∷ kernel) are = ap₂ (λ n ns. n ∷ ns) are.0.name (names_same exports kernel are.1)
+
+-- what is no export's name
+pub export_none : (exports : List Exported) (name : List ℕ) → first_export exports name ≡ None → ¬ (Contains (names_of exports) name)
+export_none [] name e h = absurd (omega (arith, h.1))
+export_none (x ∷ exports) name e h = elim (cases_Bool (bytes_eq x.name name)) [
+  | inl same ↦ let some = ap (λ b. cond b (Some x.block) (first_export exports name)) same in cc
+  | inr other ↦ elim (cons_cases x.name (names_of exports) name h) [
+    | inl is ↦ let same = (bytes_eq-Decides x.name name).1 is in cc
+    | inr later ↦ export_none exports name (sym (ap (λ b. cond b (Some x.block) (first_export exports name)) other) ∙ e) later
+  ]
+]

@@ -1,0 +1,13 @@
+use Rattle.std.proofs.Common.{Some}
+use Rattle.masm_size.specs.KnownSizes.{size_at}
+use Rattle.masm_size.specs.Sizes.{extent_of}
+use Rattle.masm_tree.specs.Views.{procedure_of}
+use Rattle.masm_names.specs.Among.{AmongFirst}
+use Rattle.masm_names.specs.Least.{Answers}
+use Rattle.masm_names.specs.Naming.{at_procedure}
+use Rattle.masm_tables.specs.Limits.{IsOver}
+use Rattle.masm_tables.proofs.limits.first_too_large.Given as goal
+
+abbrev pub invariant-loop-place : goal.invariant-loop-place
+invariant-loop-place l = Answers (AmongFirst (λ place p. IsOver (at_procedure (procedure_of p)) (extent_of (size_at l.sizes
+    (Some place)))) l.procs l.place) l.first

@@ -1,0 +1,4 @@
+pub mod Building
+pub mod Kernels
+pub mod Limits
+pub mod Tables

@@ -1,0 +1,88 @@
+ghost use Rattle.std.specs.Prelude.{◌≡◌, length, IfOk};
+ghost use Rattle.std.specs.Option.{option_map};
+ghost use Rattle.block_tree.specs.TreeView.{tree_of};
+ghost use Rattle.masm_blocks.specs.Blocks.{as_tree, whole};
+ghost use Rattle.masm_blocks.specs.Flattening.{flat_with};
+ghost use Rattle.masm_flat.specs.KnownLists.{lists_known};
+ghost use Rattle.masm_blocks.specs.Lists.{with_locals};
+ghost use Rattle.masm_size.specs.Sizes.{extent_of, size_view};
+ghost use Rattle.masm_flat.specs.Views.{pieces_of};
+ghost use Rattle.masm_tree.specs.Locals.{MainFits};
+ghost use Rattle.masm_tree.specs.Views.{body_of, procedure_of};
+ghost use Rattle.masm_tables.specs.Building.{AreBuilt};
+
+use block_tree::Tree;
+use masm_blocks::{Kernel, KernelProc};
+use masm_flat::{Lists, Piece, add_copies, list_of_procedure, tree_of_list};
+use masm_names::Names;
+use masm_size::{Size, extent_of};
+use masm_tree::Proc;
+use std::alloc::Global;
+use vm_field::{Bytes, Memory};
+
+// The export of a procedure with this list.
+fn export_of(
+    alloc: Global,
+    procedure: &Proc,
+    size: &Size,
+    list: &[Piece],
+) -> Result<KernelProc, Memory>
+    ensures name { IfOk result (λ export. export.name ≡ procedure.now.name) }
+    ensures tree { IfOk result (λ export. tree_of export.tree ≡ whole as_tree (pieces_of list.now)) }
+    ensures extent { IfOk result (λ export. export.extent ≡ extent_of (size_view size.now)) }
+{
+    let mut pieces = Vec::new(alloc);
+    add_copies(alloc, list, &mut pieces)?;
+    Ok(KernelProc {
+        name: Bytes::copied(alloc, procedure.name.as_slice())?,
+        tree: tree_of_list(alloc, pieces)?,
+        extent: extent_of(size.part()),
+    })
+}
+
+/// The exports among procedures, of whose lists these are the sizes and the pieces.
+pub fn exports_of(
+    alloc: Global,
+    procs: &[Proc],
+    sizes: &[Size],
+    lists: &[Vec<Piece>],
+) -> Result<Vec<KernelProc>, Memory>
+    requires sizes { length sizes.now ≡ length procs.now }
+    requires lists { length lists.now ≡ length procs.now }
+    ensures { IfOk result (λ exports. AreBuilt sizes.now lists.now procs.now exports.items) }
+{
+    let mut exports = Vec::new(alloc);
+    for (place, procedure) in procs.iter().enumerate() {
+        if procedure.exported {
+            exports.push(export_of(alloc, procedure, &sizes[place], &lists[place])?)?;
+        }
+    }
+    Ok(exports)
+}
+
+/// The tree of the body between `begin` and `end`. The procedures' lists are not needed behind its own, and are freed before its
+/// tree is built.
+pub fn main_tree(
+    alloc: Global,
+    names: &Names,
+    kernel: &Kernel<'_>,
+    main: &Option<Proc>,
+    lists: Vec<Vec<Piece>>,
+) -> Result<Option<Tree>, Memory>
+    requires { MainFits (option_map procedure_of main.now) }
+    ensures { IfOk result (λ tree. option_map tree_of tree
+        ≡ option_map (λ p. whole as_tree (with_locals p.locals
+        (flat_with as_tree (lists_known names.now lists.items kernel.now.procs.now) p.locals (body_of p.body.items)))) main.now) }
+{
+    let Some(procedure) = main else {
+        return Ok(None);
+    };
+    let known = Lists {
+        names,
+        lists: lists.as_slice(),
+        kernel,
+    };
+    let list = list_of_procedure(alloc, &known, procedure)?;
+    drop(lists);
+    Ok(Some(tree_of_list(alloc, list)?))
+}

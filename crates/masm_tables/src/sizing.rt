@@ -1,0 +1,80 @@
+ghost use Rattle.std.specs.Prelude.{◌≡◌, ℕ, ◌<◌, List, length, slice_set, IfOk, OnOk};
+ghost use Rattle.masm_size.specs.declared.shape.Size.{Size};
+ghost use Rattle.masm_size.specs.KnownSizes.{sizes_known};
+ghost use Rattle.masm_blocks.specs.Lists.{Exported};
+ghost use Rattle.masm_size.specs.Sizes.{size_view, procedure_size};
+ghost use Rattle.masm_tree.specs.Locals.{HasLocals, SourceFits};
+ghost use Rattle.masm_tree.specs.Views.{body_of, source_of};
+ghost use Rattle.masm_names.specs.Names.{place_at};
+ghost use Rattle.masm_names.specs.Naming.{IsClosed};
+ghost use Rattle.masm_uses.specs.UseOrders.{IsUseOrder};
+ghost use Rattle.masm_names.specs.Uses.{first_place};
+ghost use Rattle.masm_tables.specs.Kernels.{AreExports, names_in};
+ghost use Rattle.masm_tables.specs.Tables.{AreSizes};
+
+use masm_blocks::Kernel;
+use masm_names::Names;
+use masm_size::{Size, Sizes, size_of_procedure};
+use masm_tree::{Ast, Proc};
+use std::alloc::{AllocError, Global};
+use vm_field::Memory;
+
+fn empty_sizes(alloc: Global, count: usize) -> Result<Vec<Size>, AllocError>
+    ensures { IfOk result (λ sizes. length sizes.items ≡ count) }
+{
+    let mut sizes = Vec::new(alloc);
+    for _ in 0..count {
+        sizes.push(Size::nothing(alloc))?;
+    }
+    Ok(sizes)
+}
+
+// Puts the size of a procedure's list into the table, which has those of the procedures that it
+// uses.
+fn add_size(
+    alloc: Global,
+    names: &Names,
+    kernel: &Kernel<'_>,
+    procedure: &Proc,
+    place: usize,
+    sizes: &mut Vec<Size>,
+) -> Result<(), Memory>
+    requires place { place < length sizes.old.items }
+    requires locals { HasLocals procedure.now.locals (body_of procedure.now.body.items) }
+    ensures { OnOk result ((size : Size) × (sizes.new.items ≡ slice_set sizes.old.items place size)
+        × (size_view size ≡ procedure_size (sizes_known names.now sizes.old.items kernel.now.procs.now) procedure.now.locals
+        (body_of procedure.now.body.items))) }
+{
+    let known = Sizes {
+        names,
+        sizes: sizes.as_slice(),
+        kernel,
+    };
+    let size = size_of_procedure(alloc, &known, procedure)?;
+    sizes[place] = size;
+    Ok(())
+}
+
+/// The sizes of the procedures' lists, by their places. In the order each procedure stands behind
+/// those that it uses.
+pub fn sizes_of(
+    alloc: Global,
+    ast: &Ast,
+    names: &Names,
+    kernel: &Kernel<'_>,
+    order: &[usize],
+) -> Result<Vec<Size>, Memory>
+    requires names { (name : List ℕ) → place_at names.now name ≡ first_place (source_of ast.now).procs name }
+    requires fits { SourceFits (source_of ast.now) }
+    requires closed { IsClosed (source_of ast.now) (names_in kernel.now.procs.now) }
+    requires order { IsUseOrder (source_of ast.now).procs order.now }
+    ensures count { IfOk result (λ sizes. length sizes.items ≡ length (source_of ast.now).procs) }
+    ensures sizes { IfOk result (λ sizes. (exports : List Exported) → AreExports exports kernel.now.procs.now
+        → AreSizes (source_of ast.now).procs exports order.now sizes.items) }
+{
+    let mut sizes = empty_sizes(alloc, ast.procs.len())?;
+    for place in order {
+        add_size(alloc, names, kernel, &ast.procs[*place], *place, &mut sizes)?;
+    }
+    Ok(sizes)
+}

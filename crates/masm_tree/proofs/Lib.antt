@@ -1,0 +1,5 @@
+pub mod KeywordLemmas
+pub mod Mirror
+pub mod TerminalLocals
+pub mod TerminalForms
+pub mod TerminalPositions

@@ -1,7 +1,0 @@
-use Rattle.std.proofs.Common.{◌≡◌, ℕ, List, map, take}
-use Rattle.masm_uses.specs.Names.{place_at}
-use Rattle.masm_uses.specs.Uses.{place_in}
-use Rattle.masm_uses.proofs.names.Names.of.Given as goal
-
-abbrev pub invariant-loop-place : goal.invariant-loop-place
-invariant-loop-place g l = (text : List ℕ) → place_at l.names text ≡ place_in (map g.T.Named.name (take l.place l.items)) text

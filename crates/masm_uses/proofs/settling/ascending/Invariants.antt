@@ -1,7 +1,0 @@
-use Rattle.std.proofs.Common.{◌≡◌, length}
-use Rattle.masm_uses.specs.Graph.{rows_of}
-use Rattle.masm_uses.proofs.SettlingLemmas.{Ascend}
-use Rattle.masm_uses.proofs.settling.ascending.Given as goal
-
-abbrev pub invariant-loop-place : goal.invariant-loop-place
-invariant-loop-place l = (length l.marks.items ≡ l.place) × Ascend (rows_of l.graph) l.numbers l.marks.items

@@ -1,9 +1,0 @@
-use Rattle.std.proofs.Common.{◌≡◌, ℕ, ◌<◌, ◌↔◌, length}
-use Rattle.masm_uses.specs.Graph.{rows_of, Edge}
-use Rattle.masm_uses.specs.Users.{Goes}
-use Rattle.masm_uses.proofs.users.users_of.Given as goal
-
-abbrev pub invariant-loop-user : goal.invariant-loop-user
-invariant-loop-user l =
-    ((place other : ℕ) → Edge (rows_of l.users.items) place other ↔ ((other < l.user) × Goes (rows_of l.rows) other place))
-    × (length l.users.items ≡ length l.rows)

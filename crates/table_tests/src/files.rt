@@ -1,0 +1,187 @@
+ghost use Rattle.std.specs.Prelude.{◌<◌};
+
+use air_kit::Trace;
+use std::alloc::Global;
+use std::test::Fail;
+use table_file::{FileCause, FileError, TableReader, decode, encode, types_cross};
+use vm_field::Bytes;
+use vm_io::Taker;
+
+// `MDTB`, the version, and counts of 4, 42 and 8 rows; the other tables have none.
+const HEAD: [u8; 36] =
+    *b"MDTB\x01\0\0\0\x04\0\0\0\x2a\0\0\0\x08\0\0\0\0\0\0\0\0\0\0\0\0\0\0\0\0\0\0\0";
+
+// The same with the version 0.
+const OLD_HEAD: [u8; 36] =
+    *b"MDTB\0\0\0\0\x04\0\0\0\x2a\0\0\0\x08\0\0\0\0\0\0\0\0\0\0\0\0\0\0\0\0\0\0\0";
+
+// With two bitwise operations and three accesses of memory.
+const LONG_HEAD: [u8; 36] =
+    *b"MDTB\x01\0\0\0\x04\0\0\0\x2a\0\0\0\x08\0\0\0\x10\0\0\0\x03\0\0\0\0\0\0\0\0\0\0\0";
+
+// With nine rows of bitwise operations.
+const PART_HEAD: [u8; 36] =
+    *b"MDTB\x01\0\0\0\x04\0\0\0\x2a\0\0\0\x08\0\0\0\x09\0\0\0\0\0\0\0\0\0\0\0\0\0\0\0";
+
+// With one access more than memory may have.
+const FULL_HEAD: [u8; 36] =
+    *b"MDTB\x01\0\0\0\x04\0\0\0\x2a\0\0\0\x08\0\0\0\0\0\0\0\x01\0\x08\0\0\0\0\0\0\0\0\0";
+
+// Where the last element of the file with the first of these heads begins.
+const LAST: usize = 3740;
+
+// A head, this element at its place, and else zeros, so that the file has this length.
+struct Case {
+    length: usize,
+    head: [u8; 36],
+    last: [u8; 8],
+    answer: Result<usize, FileError>,
+}
+
+const ZERO: [u8; 8] = [0; 8];
+
+static CASES: [Case; 9] = [
+    Case {
+        length: 3748,
+        head: HEAD,
+        last: ZERO,
+        answer: Ok(4),
+    },
+    Case {
+        length: 3747,
+        head: HEAD,
+        last: ZERO,
+        answer: Err(FileError::Bad {
+            offset: 3740,
+            cause: FileCause::Ended,
+        }),
+    },
+    Case {
+        length: 3748,
+        head: HEAD,
+        last: [1, 0, 0, 0, 255, 255, 255, 255],
+        answer: Err(FileError::Bad {
+            offset: 3740,
+            cause: FileCause::Element,
+        }),
+    },
+    Case {
+        length: 3749,
+        head: HEAD,
+        last: ZERO,
+        answer: Err(FileError::Bad {
+            offset: 3748,
+            cause: FileCause::Extra,
+        }),
+    },
+    Case {
+        length: 0,
+        head: HEAD,
+        last: ZERO,
+        answer: Err(FileError::Bad {
+            offset: 0,
+            cause: FileCause::Ended,
+        }),
+    },
+    Case {
+        length: 3748,
+        head: OLD_HEAD,
+        last: ZERO,
+        answer: Err(FileError::Bad {
+            offset: 4,
+            cause: FileCause::Version,
+        }),
+    },
+    Case {
+        length: 5620,
+        head: LONG_HEAD,
+        last: ZERO,
+        answer: Ok(4),
+    },
+    Case {
+        length: 3748,
+        head: PART_HEAD,
+        last: ZERO,
+        answer: Err(FileError::Bad {
+            offset: 20,
+            cause: FileCause::Count,
+        }),
+    },
+    Case {
+        length: 3748,
+        head: FULL_HEAD,
+        last: ZERO,
+        answer: Err(FileError::Bad {
+            offset: 24,
+            cause: FileCause::Count,
+        }),
+    },
+];
+
+fn byte_of(case: &Case, i: usize) -> u8 {
+    if i < case.head.len() {
+        case.head[i]
+    } else if LAST <= i && i < LAST + 8 {
+        case.last[i - LAST]
+    } else {
+        0
+    }
+}
+
+fn file(alloc: Global, case: &Case) -> Result<Bytes, FileError> {
+    let mut bytes = Bytes::new(alloc);
+    for i in 0..case.length {
+        bytes.push(byte_of(case, i))?;
+    }
+    Ok(bytes)
+}
+
+// The trace of bytes that come in pieces of this size.
+fn read(alloc: Global, bytes: &[u8], size: usize) -> Result<Trace, FileError>
+    requires { 0 < size }
+{
+    let mut reader = TableReader::new(alloc);
+    for piece in bytes.chunks(size) {
+        reader.take_piece(piece);
+    }
+    reader.finish()
+}
+
+fn main_rows(alloc: Global, case: &Case, size: usize) -> Result<usize, FileError>
+    requires { 0 < size }
+{
+    let trace = read(alloc, file(alloc, case)?.as_slice(), size)?;
+    Ok(trace.main.rows())
+}
+
+fn all_answer(alloc: Global, cases: &[Case], size: usize) -> bool
+    requires { 0 < size }
+{
+    for case in cases {
+        if main_rows(alloc, case, size) != case.answer {
+            return false;
+        }
+    }
+    true
+}
+
+fn comes_back(alloc: Global, case: &Case) -> Result<bool, FileError> {
+    let bytes = file(alloc, case)?;
+    let trace = decode(alloc, bytes.as_slice())?;
+    Ok(encode(alloc, &trace)? == bytes)
+}
+
+#[test]
+fn reads_files(rt: HostRuntime) -> Result<(), Fail> {
+    types_cross();
+    assert!(rt; all_answer(rt.alloc(), &CASES, 7));
+    assert!(rt; all_answer(rt.alloc(), &CASES, 4096));
+    Ok(())
+}
+
+#[test]
+fn writes_what_it_reads(rt: HostRuntime) -> Result<(), Fail> {
+    assert_eq!(rt; comes_back(rt.alloc(), &CASES[0]), Ok(true));
+    assert_eq!(rt; comes_back(rt.alloc(), &CASES[6]), Ok(true));
+    Ok(())
+}

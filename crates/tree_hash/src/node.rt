@@ -1,0 +1,104 @@
+ghost use Rattle.std.specs.Prelude.{◌≡◌, ℕ, List, IfOk};
+ghost use Rattle.block_tree.specs.TreeView.{tree_of};
+ghost use Rattle.block_tree.specs.Trees.{tree_digest};
+ghost use Rattle.tree_hash.specs.Nodes.{IsHashed, digest_in, node_tree};
+
+use crate::batch::ReadBatch;
+use crate::digests::Digests;
+use crate::reading::read_batches;
+use block_tree::Tree;
+use perm_memo::Permutations;
+use std::alloc::Global;
+use vm_field::{Memory, Word};
+use vm_ops::Op;
+
+/// A block with its digest in front, so that each digest is computed once, and with its batches as
+/// they are read, so that each is read once.
+#[derive(Drop)]
+pub enum Node {
+    Opaque(Word),
+    Span(Word, Vec<ReadBatch>),
+    Join(Word, Box<Node>, Box<Node>),
+    Split(Word, Box<Node>, Box<Node>),
+    Loop(Word, Box<Node>),
+    Call(Word, Box<Node>),
+    Syscall(Word, Box<Node>),
+}
+
+impl Node {
+    /// The digest of the block.
+    pub fn digest(&self) -> Word
+        ensures is { result ≡ digest_in self.now }
+        ensures hashed { (constants : List ℕ) → IsHashed constants self.now → result ≡ tree_digest constants (node_tree self.now) }
+    {
+        match self {
+            Node::Opaque(digest)
+            | Node::Span(digest, _)
+            | Node::Join(digest, _, _)
+            | Node::Split(digest, _, _)
+            | Node::Loop(digest, _)
+            | Node::Call(digest, _)
+            | Node::Syscall(digest, _) => *digest,
+        }
+    }
+}
+
+/// The tree with its digests, and the permutations with those that were computed for it. A block is
+/// hashed once, whatever its copies.
+pub fn hashed(
+    alloc: Global,
+    permutations: Permutations,
+    tree: &Tree,
+) -> Result<(Node, Permutations), Memory>
+    ensures hashed { IfOk result (λ r. IsHashed permutations r.0) }
+    ensures tree { IfOk result (λ r. node_tree r.0 ≡ tree_of tree.now) }
+    ensures digest { IfOk result (λ r. digest_in r.0 ≡ tree_digest permutations (tree_of tree.now)) }
+    ensures permutations { IfOk result (λ r. r.1 ≡ permutations) }
+{
+    let mut digests = Digests::new(alloc, permutations);
+    let node = node_of(alloc, &mut digests, tree)?;
+    Ok((node, digests.into_permutations()))
+}
+
+// The tree with its digests, of which some may be known.
+fn node_of(alloc: Global, digests: &mut Digests, tree: &Tree) -> Result<Node, Memory>
+    ensures hashed { IfOk result (λ node. IsHashed digests.old.permutations node) }
+    ensures tree { IfOk result (λ node. node_tree node ≡ tree_of tree.now) }
+    ensures digest { IfOk result (λ node. digest_in node ≡ tree_digest digests.old.permutations (tree_of tree.now)) }
+    ensures permutations { digests.new.permutations ≡ digests.old.permutations }
+{
+    Ok(match tree {
+        Tree::Opaque(digest) => Node::Opaque(*digest),
+        Tree::Span(batches) => {
+            let digest = digests.of_span(alloc, batches)?;
+            Node::Span(digest, read_batches(alloc, batches)?)
+        }
+        Tree::Join(first, second) => {
+            let first = node_of(alloc, digests, first)?;
+            let second = node_of(alloc, digests, second)?;
+            let digest = digests.of_two(alloc, Op::Join, first.digest(), second.digest())?;
+            Node::Join(digest, Box::new(alloc, first)?, Box::new(alloc, second)?)
+        }
+        Tree::Split(on_one, on_zero) => {
+            let on_one = node_of(alloc, digests, on_one)?;
+            let on_zero = node_of(alloc, digests, on_zero)?;
+            let digest = digests.of_two(alloc, Op::Split, on_one.digest(), on_zero.digest())?;
+            Node::Split(digest, Box::new(alloc, on_one)?, Box::new(alloc, on_zero)?)
+        }
+        Tree::Loop(body) => {
+            let body = node_of(alloc, digests, body)?;
+            let digest = digests.of_two(alloc, Op::Loop, body.digest(), Word::ZERO)?;
+            Node::Loop(digest, Box::new(alloc, body)?)
+        }
+        Tree::Call(callee) => {
+            let callee = node_of(alloc, digests, callee)?;
+            let digest = digests.of_two(alloc, Op::Call, callee.digest(), Word::ZERO)?;
+            Node::Call(digest, Box::new(alloc, callee)?)
+        }
+        Tree::Syscall(callee) => {
+            let callee = node_of(alloc, digests, callee)?;
+            let digest = digests.of_two(alloc, Op::Syscall, callee.digest(), Word::ZERO)?;
+            Node::Syscall(digest, Box::new(alloc, callee)?)
+        }
+    })
+}
