@@ -14,20 +14,21 @@ use Rattle.op_steps.specs.declared.refusal.StepStop.{StepStop}
 use Rattle.op_steps.specs.declared.refusal.StepStop.TheVariants as step_stop
 use Rattle.vm_state.specs.Views.{core_of, state_of}
 use Rattle.vm_state.specs.declared.state.State.{State}
-use Rattle.cycle_events.specs.Effects.{Effected}
+use Rattle.cycle_effects.specs.Effects.{Effected}
 use Rattle.block_tree.specs.Rows.{hash_of, op_of}
 use Rattle.cycle_events.specs.Events.{shown_between, visible_of}
-use Rattle.cycle_events.specs.Marks.{mark_of}
-use Rattle.cycle_events.specs.Running.{Ran, RanAs, shown_in, stop_at}
-use Rattle.cycle_events.specs.Settings.{constants_in, cycle_in}
+use Rattle.cycle_effects.specs.Marks.{mark_of}
+use Rattle.cycle_events.specs.Running.{Ran, RanAs, shown_in}
+use Rattle.cycle_effects.specs.Stops.{stop_at}
+use Rattle.cycle_effects.specs.Settings.{constants_in, cycle_in}
 use Rattle.cycle_events.specs.declared.cycling.Runner.{Runner}
 use Rattle.cycle_events.specs.declared.event.Event.{Event}
 use Rattle.cycle_events.specs.declared.event.Visible.{Visible}
-use Rattle.cycle_events.specs.declared.mark.Mark.{Mark}
-use Rattle.cycle_events.specs.declared.mark.Mark.TheVariants.{StartOpaque}
-use Rattle.cycle_events.specs.declared.refusal.Stop.{Stop}
-use Rattle.cycle_events.specs.declared.refusal.Stop.TheVariants.{OutOfCycles}
-use Rattle.cycle_events.specs.declared.setting.Setting.{Setting}
+use Rattle.cycle_effects.specs.declared.mark.Mark.{Mark}
+use Rattle.cycle_effects.specs.declared.mark.Mark.TheVariants.{StartOpaque}
+use Rattle.cycle_effects.specs.declared.refusal.Stop.{Stop}
+use Rattle.cycle_effects.specs.declared.refusal.Stop.TheVariants.{OutOfCycles}
+use Rattle.cycle_effects.specs.declared.setting.Setting.{Setting}
 
 -- the limit cuts the cycle off
 pub ran-late : (setting : Setting) (mark : cycles.Mark) (s : machine.State) {log : List Event} {r : Result (Unit {0}) Stop} {after : Runner}

@@ -24,13 +24,14 @@ use Rattle.vm_state.specs.Views.{core_of, state_of}
 use Rattle.vm_state.specs.declared.state.State.{State}
 use Rattle.block_tree.specs.Rows.{four_of}
 use Rattle.cycle_events.specs.Events.{visible_of}
-use Rattle.cycle_events.specs.Running.{Ran, RanAs, stop_at}
-use Rattle.cycle_events.specs.Settings.{constants_in, cycle_in}
+use Rattle.cycle_events.specs.Running.{Ran, RanAs}
+use Rattle.cycle_effects.specs.Stops.{stop_at}
+use Rattle.cycle_effects.specs.Settings.{constants_in, cycle_in}
 use Rattle.cycle_events.specs.declared.cycling.Runner.{Runner}
 use Rattle.cycle_events.specs.declared.event.Event.{Event}
 use Rattle.cycle_events.specs.declared.event.Visible.{Visible}
-use Rattle.cycle_events.specs.declared.refusal.Stop.{Stop}
-use Rattle.cycle_events.specs.declared.setting.Setting.{Setting}
+use Rattle.cycle_effects.specs.declared.refusal.Stop.{Stop}
+use Rattle.cycle_effects.specs.declared.setting.Setting.{Setting}
 use Rattle.cycle_events.proofs.CycleLemmas.{ran-done}
 
 at-push : (tape advice : List ℕ) → (advice_of Push ≤ length advice → tape ≡ four_of (take (advice_of Push) advice)) → tape ≡ zero_word

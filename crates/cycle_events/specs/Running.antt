@@ -2,21 +2,14 @@
 use Rattle.std.specs.Prelude.{◌≡◌, ℕ, List, ◌++◌, map, Result, Ok, Err}
 use Rattle.block_tree.specs.Execution as run
 use Rattle.block_tree.specs.Execution.{Outcome, Done}
-use Rattle.op_steps.specs.declared.refusal.StepStop.{StepStop}
-use Rattle.op_steps.specs.declared.refusal.StepStop.TheVariants as step_stop
 use Rattle.vm_state.specs.Views.{state_of}
 use Rattle.cycle_events.specs.Events.{shown}
-use Rattle.cycle_events.specs.Settings.{constants_in}
+use Rattle.cycle_effects.specs.Settings.{constants_in}
 use Rattle.cycle_events.specs.declared.cycling.Runner.{Runner}
 use Rattle.cycle_events.specs.declared.event.Event.{Event}
-use Rattle.cycle_events.specs.declared.refusal.Stop.{Stop}
-use Rattle.cycle_events.specs.declared.refusal.Stop.TheVariants.{Trap, OutOfCycles, Memory}
-use Rattle.cycle_events.specs.declared.setting.Setting.{Setting}
-
--- what a run stops with where a cycle does
-abbrev pub stop_at : ℕ → StepStop → Stop
-stop_at clock (step_stop.Trap cause) = Trap clock cause
-stop_at clock step_stop.Memory = Memory
+use Rattle.cycle_effects.specs.declared.refusal.Stop.{Stop}
+use Rattle.cycle_effects.specs.declared.refusal.Stop.TheVariants.{Trap, OutOfCycles, Memory}
+use Rattle.cycle_effects.specs.declared.setting.Setting.{Setting}
 
 -- that a part was done, whatever it answers
 abbrev pub done_of : {A : Type 0} → Result A Stop → Result (Unit {0}) Stop

@@ -1,6 +1,6 @@
 use air_kit::Requests;
 use block_tree::{Exports, Program, Tree, are_distinct};
-use cycle_events::Stop;
+use cycle_effects::Stop;
 use fill_main::fill_main;
 use op_pack::Batches;
 use processor::{Run, execute};

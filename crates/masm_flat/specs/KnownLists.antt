@@ -8,10 +8,10 @@ use Rattle.block_tree.specs.Trees.{Tree, Opaque}
 use Rattle.block_tree.specs.TreeView.{tree_of}
 use Rattle.masm_blocks.specs.declared.kernel.KernelProc.{KernelProc}
 use Rattle.masm_flat.specs.declared.known.Lists.{Lists}
-use Rattle.masm_flat.specs.declared.piece.Piece as code
+use Rattle.masm_pieces.specs.declared.piece.Piece as code
 use Rattle.masm_blocks.specs.Blocks.{Piece}
 use Rattle.masm_blocks.specs.Flattening.{Known}
-use Rattle.masm_flat.specs.Views.{pieces_of}
+use Rattle.masm_pieces.specs.Views.{pieces_of}
 use Rattle.masm_names.specs.declared.names.Names.{Names}
 use Rattle.masm_names.specs.Names.{place_at}
 

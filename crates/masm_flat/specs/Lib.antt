@@ -1,2 +1,1 @@
 pub mod KnownLists
-pub mod Views

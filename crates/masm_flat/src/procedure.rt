@@ -10,12 +10,12 @@ ghost use Rattle.masm_blocks.specs.Flattening.{flat_with};
 ghost use Rattle.masm_tree.specs.Locals.{HasLocals};
 ghost use Rattle.masm_flat.specs.KnownLists.{known_of};
 ghost use Rattle.masm_blocks.specs.Lists.{with_locals};
-ghost use Rattle.masm_flat.specs.Views.{pieces_of};
+ghost use Rattle.masm_pieces.specs.Views.{pieces_of};
 
 use crate::appending::add_items;
 use crate::flattening::flatten;
 use crate::known::Lists;
-use crate::piece::Piece;
+use masm_pieces::Piece;
 use masm_tree::Proc;
 use std::alloc::Global;
 use vm_field::{Felt, Memory};

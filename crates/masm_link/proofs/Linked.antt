@@ -25,7 +25,7 @@ use Rattle.masm_names.specs.Naming.{Dangles, Doubles, IsClosed, at_procedure, ex
 use Rattle.masm_names.proofs.LeastLemmas.{Either, Answers-same, Answers-earlier}
 use Rattle.masm_uses.proofs.UsedLemmas.{unmapped, mapped, contains_at}
 use Rattle.masm_blocks.specs.declared.kernel.KernelProc.{KernelProc}
-use Rattle.masm_flat.specs.declared.piece.Piece as piece
+use Rattle.masm_pieces.specs.declared.piece.Piece as piece
 use Rattle.masm_blocks.specs.declared.extent.Extent.{Extent}
 use Rattle.masm_size.specs.declared.shape.Size as shape
 use Rattle.masm_blocks.specs.Blocks.{Block, Piece, seen_as, seen_pieces, block_of, as_tree, as_operations, whole}

@@ -4,7 +4,7 @@ use Rattle.std.specs.Global.{Global}
 use Rattle.std.specs.List.{Contains}
 use Rattle.masm_tree.specs.Trees.{Procedure, Source}
 use Rattle.masm_uses.specs.Plans.{IsWanted}
-use Rattle.masm_flat.specs.declared.piece.Piece as piece
+use Rattle.masm_pieces.specs.declared.piece.Piece as piece
 use Rattle.masm_size.specs.declared.shape.Size as shape
 use Rattle.masm_blocks.specs.Blocks.{Block, Piece, seen_as, seen_pieces, as_tree}
 use Rattle.masm_flat.specs.KnownLists.{list_at}

@@ -1,12 +1,12 @@
 ghost use Rattle.std.specs.Prelude.{◌≡◌, ℕ, ◌<◌, List, Vec, length, slice_get, slice_set, IfOk, OnOk};
 ghost use Rattle.std.specs.List.{Contains};
 ghost use Rattle.std.specs.Global.{Global};
-ghost use Rattle.masm_flat.specs.declared.piece.Piece.{Piece};
+ghost use Rattle.masm_pieces.specs.declared.piece.Piece.{Piece};
 ghost use Rattle.masm_blocks.specs.Blocks.{as_tree};
 ghost use Rattle.masm_blocks.specs.Flattening.{flat_with};
 ghost use Rattle.masm_flat.specs.KnownLists.{lists_known};
 ghost use Rattle.masm_blocks.specs.Lists.{Exported, with_locals};
-ghost use Rattle.masm_flat.specs.Views.{pieces_of};
+ghost use Rattle.masm_pieces.specs.Views.{pieces_of};
 ghost use Rattle.masm_tree.specs.Locals.{HasLocals, SourceFits};
 ghost use Rattle.masm_tree.specs.Views.{body_of, source_of};
 ghost use Rattle.masm_names.specs.Names.{place_at};
@@ -17,8 +17,9 @@ ghost use Rattle.masm_tables.specs.Kernels.{AreExports, names_in};
 ghost use Rattle.masm_tables.specs.Tables.{AreLists};
 
 use masm_blocks::Kernel;
-use masm_flat::{Lists, Piece, list_of_procedure};
+use masm_flat::{Lists, list_of_procedure};
 use masm_names::Names;
+use masm_pieces::Piece;
 use masm_tree::{Ast, Proc};
 use masm_uses::Step;
 use std::alloc::{AllocError, Global};

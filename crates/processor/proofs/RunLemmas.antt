@@ -8,9 +8,9 @@ use Rattle.vm_state.specs.Views.{state_of}
 use Rattle.cycle_events.specs.Running.{IsDone, Ran, RanAs, shown_in}
 use Rattle.cycle_events.specs.declared.cycling.Runner.{Runner}
 use Rattle.cycle_events.specs.declared.event.Event.{Event}
-use Rattle.cycle_events.specs.declared.refusal.Stop.{Stop}
-use Rattle.cycle_events.specs.declared.refusal.Stop.TheVariants.{Trap, OutOfCycles, Memory}
-use Rattle.cycle_events.specs.declared.setting.Setting.{Setting}
+use Rattle.cycle_effects.specs.declared.refusal.Stop.{Stop}
+use Rattle.cycle_effects.specs.declared.refusal.Stop.TheVariants.{Trap, OutOfCycles, Memory}
+use Rattle.cycle_effects.specs.declared.setting.Setting.{Setting}
 
 then-as : (f g : Part) (setting : Setting) (s : machine.State) (log : List Event) (mid after : Runner) (r : Result (Unit {0}) Stop)
     → IsDone setting (f s) log mid → RanAs setting (g (state_of mid.state)) mid.log r after → RanAs setting (seq f g s) log r after

@@ -1,5 +1,6 @@
 use block_tree::{Exports, Program, Tree, are_distinct, digest};
-use cycle_events::{Event, Stop};
+use cycle_effects::Stop;
+use cycle_events::Event;
 use op_pack::Batches;
 use processor::{Run, execute};
 use rpo_hash::Params;

@@ -11,7 +11,7 @@ use crate::halt_lines::{limit_text, trap_text};
 use block_tree::Program;
 use command_ends::{Outcome, answered};
 use commands::Status;
-use cycle_events::Stop;
+use cycle_effects::Stop;
 use masm_link::AsmError;
 use processor::{Run, execute};
 use rpo_hash::{Params, known_constants};

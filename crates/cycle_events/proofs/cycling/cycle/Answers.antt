@@ -1,5 +1,5 @@
 use Rattle.std.proofs.Common.{rules, refl}
-use Rattle.cycle_events.specs.Marks.{mark_of}
+use Rattle.cycle_effects.specs.Marks.{mark_of}
 use Rattle.cycle_events.proofs.CycleLemmas.{ran-late, mark-stop, mark-done}
 use Rattle.vm_field.specs.Machine.{zero_word}
 use Rattle.vm_state.specs.Views.{state_of}

@@ -1,6 +1,6 @@
 use Rattle.std.proofs.Common.{rules}
 use Rattle.block_tree.specs.Cycles.{Do}
-use Rattle.cycle_events.specs.Settings.{constants_in}
+use Rattle.cycle_effects.specs.Settings.{constants_in}
 use Rattle.cycle_events.proofs.CycleLemmas.{ran-late}
 use Rattle.cycle_events.proofs.OperationLemmas.{address-fits, operation-stop, operation-done, pushes-alone}
 use Rattle.vm_state.specs.Views.{state_of}

@@ -8,7 +8,7 @@ use Rattle.masm_blocks.specs.declared.kernel.KernelProc.{KernelProc}
 use Rattle.masm_blocks.specs.Blocks.{Piece, as_tree, whole}
 use Rattle.masm_blocks.specs.Flattening.{flat_with}
 use Rattle.masm_blocks.specs.Lists.{with_locals}
-use Rattle.masm_flat.specs.declared.piece.Piece as piece
+use Rattle.masm_pieces.specs.declared.piece.Piece as piece
 use Rattle.masm_flat.specs.KnownLists.{lists_known}
 use Rattle.masm_tables.proofs.building.main_tree.Goals as goal
 

@@ -1,5 +1,5 @@
 ghost use Rattle.std.specs.Prelude.{◌≡◌};
-ghost use Rattle.cycle_events.specs.Running.{stop_at};
+ghost use Rattle.cycle_effects.specs.Stops.{stop_at};
 
 use op_steps::StepStop;
 use thiserror::Error;
@@ -22,7 +22,7 @@ pub enum Stop {
 
 impl From<Memory> for Stop {
     ghost use Rattle.std.specs.Prelude.{◌≡◌};
-    ghost use Rattle.cycle_events.specs.declared.refusal.Stop.TheVariants.{Memory};
+    ghost use Rattle.cycle_effects.specs.declared.refusal.Stop.TheVariants.{Memory};
 
     ghost from_gives = { λ _ e. e ≡ Memory };
 
@@ -31,8 +31,8 @@ impl From<Memory> for Stop {
     }
 }
 
-// What the cycle at a clock stops with.
-pub(crate) fn stop_at(clock: u32, stop: StepStop) -> Stop
+/// What a run stops with where the cycle at this clock stops.
+pub fn stop_at(clock: u32, stop: StepStop) -> Stop
     ensures { result ≡ stop_at clock stop }
 {
     match stop {

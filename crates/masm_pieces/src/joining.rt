@@ -4,7 +4,7 @@ ghost use Rattle.block_tree.specs.Trees as trees;
 ghost use Rattle.block_tree.specs.TreeView.{tree_of};
 ghost use Rattle.masm_blocks.specs.Blocks as lists;
 ghost use Rattle.masm_blocks.specs.Blocks.{span_before, blocks_behind, paired, all_joined, whole, as_tree};
-ghost use Rattle.masm_flat.specs.Views.{piece_of, pieces_of};
+ghost use Rattle.masm_pieces.specs.Views.{piece_of, pieces_of};
 
 use crate::piece::Piece;
 use block_tree::Tree;

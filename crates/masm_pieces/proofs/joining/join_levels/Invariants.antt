@@ -1,7 +1,7 @@
 use Rattle.std.proofs.Common.{◌≡◌, map, vec_len}
 use Rattle.block_tree.specs.TreeView.{tree_of}
 use Rattle.masm_blocks.specs.Blocks.{all_joined, as_tree}
-use Rattle.masm_flat.proofs.joining.join_levels.Given as goal
+use Rattle.masm_pieces.proofs.joining.join_levels.Given as goal
 
 abbrev pub invariant-loop-alloc : goal.invariant-loop-alloc
 invariant-loop-alloc l =

@@ -1,9 +1,9 @@
 ghost use Rattle.std.specs.Prelude.{◌≡◌, ◌+◌, ◌-◌, ◌^◌, ◌<◌, ◌≤◌, Err, [], drop, length, nat_lt, OnOk};
 ghost use Rattle.block_tree.specs.Cycles.{and_then, closes, effect_of, enters_call, enters_syscall, is_in_kernel, opens, pops_bit, reads, returns_to, top};
 ghost use Rattle.vm_state.specs.Views.{core_of};
-ghost use Rattle.cycle_events.specs.Effects.{Effected, Opened};
-ghost use Rattle.cycle_events.specs.Marks.{SetsAside, frame_in, mark_of};
-ghost use Rattle.cycle_events.specs.Settings.{constants_in};
+ghost use Rattle.cycle_effects.specs.Effects.{Effected, Opened};
+ghost use Rattle.cycle_effects.specs.Marks.{SetsAside, frame_in, mark_of};
+ghost use Rattle.cycle_effects.specs.Settings.{constants_in};
 
 use crate::mark::{Frame, Mark};
 use crate::setting::Setting;
@@ -13,8 +13,13 @@ use vm_field::{Felt, Word};
 use vm_ops::Cause;
 use vm_state::{Aside, State};
 
-// What a cycle that is no operation does to all of the state but its clock.
-pub(crate) fn effect(
+/// What a cycle that is no operation does to all of the state but its clock, and what the start of
+/// a call sets aside.
+///
+/// # Errors
+///
+/// The cause of its trap, or that there is no memory.
+pub fn effect(
     state: &mut State,
     hidden: &mut Aside,
     setting: &Setting,

@@ -3,7 +3,7 @@ use Rattle.std.proofs.lemmas.List.{length-map}
 use Rattle.block_tree.specs.TreeView.{tree_of}
 use Rattle.masm_blocks.specs.Blocks.{as_tree}
 use Rattle.masm_blocks.proofs.Levels.{paired-shorter, joined-next}
-use Rattle.masm_flat.proofs.joining.join_levels.Goals as goal
+use Rattle.masm_pieces.proofs.joining.join_levels.Goals as goal
 
 pub loop-alloc-smaller : goal.loop-alloc-smaller
 loop-alloc-smaller c =

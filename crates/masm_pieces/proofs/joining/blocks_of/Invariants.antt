@@ -2,8 +2,8 @@ use Rattle.std.proofs.Common.{◌≡◌, [], ◌++◌, map}
 use Rattle.std.specs.Vec.Iter.{into_iter_items}
 use Rattle.block_tree.specs.TreeView.{tree_of}
 use Rattle.masm_blocks.specs.Blocks.{blocks_behind, as_tree}
-use Rattle.masm_flat.specs.Views.{pieces_of}
-use Rattle.masm_flat.proofs.joining.blocks_of.Given as goal
+use Rattle.masm_pieces.specs.Views.{pieces_of}
+use Rattle.masm_pieces.proofs.joining.blocks_of.Given as goal
 
 abbrev pub invariant-loop-piece : goal.invariant-loop-piece
 invariant-loop-piece l =

@@ -1,6 +1,6 @@
 ghost use Rattle.std.specs.Prelude.{◌≡◌};
 ghost use Rattle.masm_blocks.specs.Blocks as lists;
-ghost use Rattle.masm_flat.specs.Views.{piece_of};
+ghost use Rattle.masm_pieces.specs.Views.{piece_of};
 
 use block_tree::Tree;
 use vm_field::Felt;
@@ -20,7 +20,7 @@ pub enum Piece {
 
 impl Piece {
     // An operation as a piece.
-    pub(crate) fn of_item(item: &Item) -> Piece
+    pub fn of_item(item: &Item) -> Piece
         ensures { piece_of result ≡ lists.Operation item.now }
     {
         match item.imm {

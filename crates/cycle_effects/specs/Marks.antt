@@ -1,9 +1,9 @@
 -- The cycles of the code as those of the definition.
 use Rattle.std.specs.Prelude.{◌≡◌, ℕ, List, drop}
 use Rattle.block_tree.specs.Cycles as cycles
-use Rattle.cycle_events.specs.declared.mark.Frame.{Frame}
-use Rattle.cycle_events.specs.declared.mark.Mark.{Mark}
-use Rattle.cycle_events.specs.declared.mark.Mark.TheVariants.{StartOpaque, StartSpan, StartJoin, StartSplit, StartLoop, StartCall, StartSyscall, Respan, Repeat, End, EndSpan, EndLoop, EndCall, EndSyscall}
+use Rattle.cycle_effects.specs.declared.mark.Frame.{Frame}
+use Rattle.cycle_effects.specs.declared.mark.Mark.{Mark}
+use Rattle.cycle_effects.specs.declared.mark.Mark.TheVariants.{StartOpaque, StartSpan, StartJoin, StartSplit, StartLoop, StartCall, StartSyscall, Respan, Repeat, End, EndSpan, EndLoop, EndCall, EndSyscall}
 
 abbrev pub frame_in : Frame → cycles.Frame
 frame_in f = record { context = f.context; fmp = f.fmp; in_syscall = f.in_syscall; digest = f.digest; hidden = f.hidden }

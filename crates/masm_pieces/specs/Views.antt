@@ -3,8 +3,8 @@ use Rattle.std.specs.Prelude.{List, Some, None, map}
 use Rattle.block_tree.specs.Trees as trees
 use Rattle.block_tree.specs.TreeView.{tree_of}
 use Rattle.masm_blocks.specs.Blocks as blocks
-use Rattle.masm_flat.specs.declared.piece.Piece.{Piece}
-use Rattle.masm_flat.specs.declared.piece.Piece.TheVariants as pieces
+use Rattle.masm_pieces.specs.declared.piece.Piece.{Piece}
+use Rattle.masm_pieces.specs.declared.piece.Piece.TheVariants as pieces
 
 abbrev pub piece_of : Piece → blocks.Piece trees.Tree
 piece_of (pieces.Plain op) = blocks.Operation (record { op = op; imm = None })

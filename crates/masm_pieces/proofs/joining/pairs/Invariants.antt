@@ -2,7 +2,7 @@ use Rattle.std.proofs.Common.{◌≡◌, ◌++◌, map}
 use Rattle.std.specs.Vec.Iter.{into_iter_items, into_iter_len}
 use Rattle.block_tree.specs.TreeView.{tree_of}
 use Rattle.masm_blocks.specs.Blocks.{paired, as_tree}
-use Rattle.masm_flat.proofs.joining.pairs.Given as goal
+use Rattle.masm_pieces.proofs.joining.pairs.Given as goal
 
 abbrev pub invariant-loop-next : goal.invariant-loop-next
 invariant-loop-next l =

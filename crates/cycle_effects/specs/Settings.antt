@@ -3,7 +3,7 @@ use Rattle.std.specs.Prelude.{ℕ, List}
 use Rattle.rpo_hash.specs.Constants.{constants_of}
 use Rattle.block_tree.specs.Cycles.{Mark}
 use Rattle.block_tree.specs.Execution.{Part, cycle}
-use Rattle.cycle_events.specs.declared.setting.Setting.{Setting}
+use Rattle.cycle_effects.specs.declared.setting.Setting.{Setting}
 
 -- the constants of the permutation
 abbrev pub constants_in : Setting → List ℕ

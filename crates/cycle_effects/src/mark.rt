@@ -1,7 +1,7 @@
 ghost use Rattle.std.specs.Prelude.{◌≡◌, ◌<◌, slice_set};
 ghost use Rattle.vm_field.specs.Machine.{zero_word};
 ghost use Rattle.block_tree.specs.Rows.{hash_of, op_of};
-ghost use Rattle.cycle_events.specs.Marks.{mark_of};
+ghost use Rattle.cycle_effects.specs.Marks.{mark_of};
 
 use tree_hash::{Batch, pair};
 use vm_field::{Felt, Word};
@@ -39,8 +39,8 @@ pub enum Mark {
 }
 
 impl Mark {
-    // The operation of the cycle's row.
-    pub(crate) fn op(&self) -> Op
+    /// The operation of the cycle's row.
+    pub fn op(&self) -> Op
         ensures { result ≡ op_of (mark_of self.now) }
     {
         match self {
@@ -60,8 +60,8 @@ impl Mark {
         }
     }
 
-    // The eight elements of hashing that the cycle's row shows.
-    pub(crate) fn hash(&self) -> [Felt; 8]
+    /// The eight elements of hashing that the cycle's row shows.
+    pub fn hash(&self) -> [Felt; 8]
         ensures { result ≡ hash_of (mark_of self.now) }
     {
         let zeros = Word::ZERO;

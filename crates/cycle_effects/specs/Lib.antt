@@ -1,0 +1,4 @@
+pub mod Effects
+pub mod Marks
+pub mod Settings
+pub mod Stops
