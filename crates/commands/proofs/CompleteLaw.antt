@@ -139,7 +139,7 @@ module _ (line : List ℕ) (new : Option Files) where
       }
 
 -- no trace is refused that is accepted
-not_both : (p : Public) (t : Trace) (r : Refused) → IsAccepted p t → IsWhy p t r → ⊥
+pub not_both : (p : Public) (t : Trace) (r : Refused) → IsAccepted p t → IsWhy p t r → ⊥
 not_both p t (why.Fault f) is h = h.nonzero (h.value_is ∙ is.zero f.table f.row f.number h.within)
 not_both p t (why.Bus bus tuple asked given) is h = h.least.apart (h.least.asked_is ∙ is.buses bus tuple ∙ sym h.least.given_is)
 not_both p t why.Memory is h = h

@@ -1,5 +1,6 @@
 pub mod ApartNames
 pub mod CompleteLaw
+pub mod Completeness
 pub mod EvidenceLaw
 pub mod LawLemmas
 pub mod Walks

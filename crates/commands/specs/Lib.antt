@@ -2,6 +2,7 @@ pub mod Asked
 pub mod AssembleEnds
 pub mod CheckEnds
 pub mod Commands
+pub mod Completeness
 pub mod HashEnds
 pub mod Laws
 pub mod Malformed

@@ -1,3 +1,4 @@
+ghost use Rattle.commands.specs.Completeness.{GoodIsOk};
 ghost use Rattle.commands.specs.Laws.{OtherFilesStay, CommandsWrite, UsageMeansNothing, NothingGivesUsage, AcceptedHasEvidence, WrittenRunIsAccepted};
 
 /// Which files `serve` may change, over a shelf that tells its files: whatever the answer, those
@@ -30,4 +31,13 @@ pub fn accepted_has_evidence()
 #[tactic(auto, using(crate::proofs::CompleteLaw::written_run_is_accepted))]
 pub fn written_run_is_accepted()
     ensures { WrittenRunIsAccepted }
+{}
+
+/// No command is refused what it can do, over a shelf that tells its files. Where its files are there,
+/// within their lengths and of their forms, and where the source of `assemble` has a program, that of `run`
+/// one that ends within the limit, and the trace of `check` is accepted, it is answered `Ok`, unless a
+/// read, a write, the sink or memory fails.
+#[tactic(auto, using(crate::proofs::Completeness::good_is_ok))]
+pub fn good_files_are_served()
+    ensures { GoodIsOk }
 {}

@@ -7,6 +7,7 @@ mod status;
 
 pub use answer::Answer;
 pub use laws::{
-    accepted_has_evidence, other_files_stay, usage_is_for_no_command, written_run_is_accepted,
+    accepted_has_evidence, good_files_are_served, other_files_stay, usage_is_for_no_command,
+    written_run_is_accepted,
 };
 pub use status::Status;

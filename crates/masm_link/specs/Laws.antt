@@ -1,9 +1,11 @@
--- The trees of assembled programs.
-use Rattle.std.specs.Prelude.{◌≡◌, ℕ, ◌≤◌, List, Option, Ok}
+-- The trees of assembled programs, and that a source has one.
+use Rattle.std.specs.Prelude.{◌≡◌, ℕ, ◌≤◌, List, Option, Result, Ok, Err}
 use Rattle.block_tree.specs.declared.program.Program.{Program}
 use Rattle.block_tree.specs.Trees.{Tree, Opaque, Span, Join, Split, Loop, Call, Syscall, tree_height}
 use Rattle.block_tree.specs.TreeView.{tree_of}
 use Rattle.masm_blocks.specs.Blocks.{Block, seen_as, as_tree, as_operations}
+use Rattle.masm_link.specs.declared.refusal.AsmError.{AsmError}
+use Rattle.masm_link.specs.declared.refusal.AsmError.TheVariants.{Memory}
 use Rattle.masm_link.specs.Assembling.{Assembles}
 
 -- each block of the tree is known whole
@@ -26,3 +28,14 @@ pub record IsWithinLimits (tree : Tree) (block : Block) : Type 0 where
 abbrev pub AssembledTrees : Type 0
 AssembledTrees = (constants text : List ℕ) (kernel : Option (List ℕ)) (program : Program)
     → Assembles constants text kernel (Ok program) → (block : Block) × IsWithinLimits (tree_of program.tree) block
+
+-- an answer is this program, but for how its tree lies in memory, or the want of memory
+abbrev pub IsProgramOrMemory : Program → Result Program AsmError → Type 0
+IsProgramOrMemory program (Ok other) =
+    (tree_of other.tree ≡ tree_of program.tree) × (other.exports ≡ program.exports) × (other.kernel ≡ program.kernel)
+IsProgramOrMemory program (Err refusal) = refusal ≡ Memory
+
+-- what is assembled is assembled to one program, and is not refused
+abbrev pub OneProgram : Type 0
+OneProgram = (constants text : List ℕ) (kernel : Option (List ℕ)) (program : Program) (answer : Result Program AsmError)
+    → Assembles constants text kernel (Ok program) → Assembles constants text kernel answer → IsProgramOrMemory program answer
