@@ -10,8 +10,7 @@ use Rattle.air_kit.specs.declared.trace.TableName.TheVariants as table
 use Rattle.air_kit.specs.ChipTuples.{chip_given, memory_given}
 use Rattle.air_kit.specs.Requests.{access_given}
 use Rattle.memory_rows.specs.MemoryTables.{AreSmall, access_at}
-use Rattle.memory_rows.specs.Serving.{AreAsks, GivesAsks, asked_of}
-use Rattle.memory_rows.proofs.InOrder.{AreAsked, HasRow}
+use Rattle.memory_rows.specs.Serving.{AreAsked, AreAsks, GivesAsks, HasRow, asked_of}
 
 -- ---- sums
 

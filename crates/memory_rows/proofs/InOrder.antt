@@ -5,25 +5,14 @@ use Rattle.vm_field.specs.Machine.{zero_word}
 use Rattle.air_kit.specs.declared.requests.Access.{Access}
 use Rattle.memory_rows.specs.Accesses.{Keeps, is_at, key_of, word_behind}
 use Rattle.memory_rows.specs.MemoryTables.{AreOrdered, AreSmall, access_at, access_before}
+use Rattle.memory_rows.specs.Serving.{AreAsked, HasRow}
 use Rattle.memory_rows.proofs.Keys.{between, clock_of_place, key_of_place, rise, rise_back, rise_to}
 use Rattle.memory_rows.proofs.Latest.{KeepLatest, NoneOf, latest, latest-at, latest-none, place_is}
 use Rattle.memory_rows.proofs.RowOrder.{at_same}
 
--- a row shows this access
-pub record HasRow (rows : List (List ℕ)) (a : Access) : Type 0 where
-  pub at : ℕ
-  pub within : at < length rows
-  pub shows : access_at rows at ≡ a
-
--- each row's access is asked at its clock, and each one asked has a row
-pub record AreAsked (asks : ℕ → Option Access) (m : ℕ) (rows : List (List ℕ)) : Type 0 where
-  pub within : (q : ℕ) → q < length rows → (access_at rows q).clk < m
-  pub given : (q : ℕ) → q < length rows → asks (access_at rows q).clk ≡ Some (access_at rows q)
-  pub asked : (i : ℕ) (a : Access) → i < m → asks i ≡ Some a → HasRow rows a
-
 -- ---- keys
 
-keys_rise : (rows : List (List ℕ)) → AreOrdered rows → (q r : ℕ) → q < r → r < length rows → key_of (access_at rows q) < key_of (access_at rows r)
+pub keys_rise : (rows : List (List ℕ)) → AreOrdered rows → (q r : ℕ) → q < r → r < length rows → key_of (access_at rows q) < key_of (access_at rows r)
 keys_rise rows o q r less h = rise (λ k. key_of (access_at rows k)) (length rows) o.grows q r less h
 
 -- of two rows the one with the lesser key stands before

@@ -11,10 +11,10 @@ use Rattle.air_kit.specs.Flags.{op_of}
 use Rattle.air_kit.specs.MainTuples.{accesses_of, memory_asked}
 use Rattle.air_kit.specs.RowStates.{memory_at, memory_behind as row_behind, written_by}
 use Rattle.memory_rows.specs.Accesses.{Keeps}
-use Rattle.memory_rows.specs.MainAccesses.{GivesMain, IsClocked, ServesMain, access_by}
-use Rattle.memory_rows.specs.MemoryTables.{HaveLimbs, IsZero, row_at}
-use Rattle.memory_rows.specs.Serving.{AreAsks, AreServed, GivesAsks, asked_of, memory_before, memory_behind}
-use Rattle.memory_rows.proofs.TableServes.{serves}
+use Rattle.memory_rows.specs.MainAccesses.{GivesMain, HasMainRow, IsClocked, PairsMain, ServesMain, access_by}
+use Rattle.memory_rows.specs.MemoryTables.{HaveLimbs, IsZero, access_at, row_at}
+use Rattle.memory_rows.specs.Serving.{AreAsks, ArePaired, AreServed, GivesAsks, asked_of, memory_before, memory_behind}
+use Rattle.memory_rows.proofs.TableServes.{pairs, serves}
 
 -- ---- by the operation
 
@@ -115,3 +115,28 @@ main_serves main rows c z limbs alike i y a next is =
       address = served.addresses i a inside ask;
       keeps = subst (λ m. Keeps a (word_at m a.ctx a.addr)) (sym (memory_same main i inside)) (served.keeps i a inside ask);
     }
+
+-- the access that a row makes, with the row behind it
+row_makes : (x : List ℕ) (next : Option (List ℕ)) (a : Access) → with_row x next ≡ Some a
+    → (y : List ℕ) × (next ≡ Some y) × (access_by (op_of x) x y ≡ Some a)
+unfolding with_row
+row_makes x None a is = absurd (let clash : ⊥ = cc in clash)
+row_makes x (Some y) a is = (y, refl, is)
+
+main_row : (main : List (List ℕ)) (a : Access) → asks_of main a.clk ≡ Some a → HasMainRow main a
+unfolding asks_of
+main_row main a is =
+    let made = row_makes (row_at main a.clk) (slice_get main (suc a.clk)) a is in
+    record { behind = made.0; next = made.1; accesses = made.2 }
+
+pub pairs_main : (main rows : List (List ℕ)) → IsClocked main → IsZero rows → HaveLimbs rows → GivesMain main rows → PairsMain main rows
+pairs_main main rows c z limbs alike = record {
+  shown = λ i y a next is.
+      (let after : suc i < length main = slice_get_within main (suc i) y next in
+      p.asked.asked i a (omega (arith, after)) (row_asks main i y next ∙ is));
+  accessed = λ q h. main_row main (access_at rows q) (p.asked.given q h);
+  once = p.once;
+}
+  where
+    p : ArePaired (asks_of main) (length main) rows
+    p = pairs (asks_of main) (length main) rows (are_asks main c) z limbs (gives main rows alike)

@@ -1,11 +1,12 @@
 -- A table whose entries are 0 serves the accesses that it gives.
-use Rattle.std.proofs.Common.{ℕ, ◌<◌, ◌^◌, List, Option, sym, subst, arith}
+use Rattle.std.proofs.Common.{◌≡◌, ℕ, ◌<◌, ◌^◌, List, length, Option, inl, inr, sym, ap, subst, arith}
+use Rattle.std.proofs.lemmas.Bool.{cases_lt}
 use Rattle.air_kit.specs.declared.requests.Access.{Access}
-use Rattle.memory_rows.specs.Accesses.{Keeps}
-use Rattle.memory_rows.specs.MemoryTables.{AreSmall, HaveLimbs, IsZero}
-use Rattle.memory_rows.specs.Serving.{AreAsks, AreServed, GivesAsks}
+use Rattle.memory_rows.specs.Accesses.{Keeps, key_of}
+use Rattle.memory_rows.specs.MemoryTables.{AreOrdered, AreSmall, HaveLimbs, IsZero, access_at}
+use Rattle.memory_rows.specs.Serving.{AreAsks, ArePaired, AreServed, GivesAsks, HasRow}
 use Rattle.memory_rows.proofs.Asked.{are_asked, rows_small}
-use Rattle.memory_rows.proofs.InOrder.{HasRow, InTable, keep_latest}
+use Rattle.memory_rows.proofs.InOrder.{InTable, keep_latest, keys_rise}
 use Rattle.memory_rows.proofs.Latest.{memory_latest}
 use Rattle.memory_rows.proofs.ZerosOrder.{zeros_are_ordered}
 
@@ -28,3 +29,21 @@ serves asks m rows are z limbs gives = record {
       asked = are_asked asks m rows are gives;
       clocks = are.clocks;
     }
+
+-- rows that show the same access are one
+same_row : (rows : List (List ℕ)) → AreOrdered rows → (q r : ℕ) → q < length rows → r < length rows → access_at rows q ≡ access_at rows r → q ≡ r
+same_row rows o q r hq hr same = elim (cases_lt q r) [
+  | inl less ↦ absurd (let rise = keys_rise rows o q r less hr in let e = ap key_of same in omega (arith, rise, e))
+  | inr not_less ↦
+      elim (cases_lt r q) [
+        | inl more ↦ absurd (let rise = keys_rise rows o r q more hq in let e = ap key_of same in omega (arith, rise, e))
+        | inr not_more ↦ omega (arith, not_less, not_more)
+      ]
+]
+
+pub pairs : (asks : ℕ → Option Access) (m : ℕ) (rows : List (List ℕ)) → AreAsks asks m → IsZero rows → HaveLimbs rows
+    → GivesAsks asks m rows → ArePaired asks m rows
+pairs asks m rows are z limbs gives = record {
+  asked = are_asked asks m rows are gives;
+  once = same_row rows (zeros_are_ordered rows z limbs (rows_small asks m rows are gives));
+}

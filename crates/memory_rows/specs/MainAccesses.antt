@@ -13,7 +13,8 @@ use Rattle.air_kit.specs.Flags.{op_of}
 use Rattle.air_kit.specs.MainTuples.{memory_asked}
 use Rattle.air_kit.specs.RowStates.{memory_at}
 use Rattle.memory_rows.specs.Accesses.{Keeps}
-use Rattle.memory_rows.specs.MemoryTables.{row_at}
+use Rattle.memory_rows.specs.MemoryTables.{access_at, row_at}
+use Rattle.memory_rows.specs.Serving.{HasRow}
 
 -- an access of the word at the top of the stack, at the row's clock and in its context
 abbrev pub access_with : ℕ → List ℕ → List ℕ → Access
@@ -48,3 +49,17 @@ abbrev pub ServesMain : List (List ℕ) → Type 0
 ServesMain main =
     (i : ℕ) (y : List ℕ) (a : Access) → slice_get main (suc i) ≡ Some y → access_by (op_of (row_at main i)) (row_at main i) y ≡ Some a
     → ServesRow main i a
+
+-- the row of a main table with this access's clock makes the access
+pub record HasMainRow (main : List (List ℕ)) (a : Access) : Type 0 where
+  pub behind : List ℕ
+  pub next : slice_get main (suc a.clk) ≡ Some behind
+  pub accesses : access_by (op_of (row_at main a.clk)) (row_at main a.clk) behind ≡ Some a
+
+-- Rows of a main table that access memory and rows of memory pair one to one: each access has a row that shows it, each row shows
+-- the access of the row with its clock, and no access has two rows.
+pub record PairsMain (main rows : List (List ℕ)) : Type 0 where
+  pub shown : (i : ℕ) (y : List ℕ) (a : Access) → slice_get main (suc i) ≡ Some y
+      → access_by (op_of (row_at main i)) (row_at main i) y ≡ Some a → HasRow rows a
+  pub accessed : (q : ℕ) → q < length rows → HasMainRow main (access_at rows q)
+  pub once : (q r : ℕ) → q < length rows → r < length rows → access_at rows q ≡ access_at rows r → q ≡ r

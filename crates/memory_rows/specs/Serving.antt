@@ -1,5 +1,5 @@
 -- The memory that accesses by clock leave, and tables that serve them.
-use Rattle.std.specs.Prelude.{◌≡◌, ℕ, zero, suc, ◌^◌, ◌<◌, ◌≤◌, ◌==◌, if◌then◌else◌, List, [], ◌∷◌, Option, Some, None}
+use Rattle.std.specs.Prelude.{◌≡◌, ℕ, zero, suc, ◌^◌, ◌<◌, ◌≤◌, ◌==◌, if◌then◌else◌, List, [], ◌∷◌, length, Option, Some, None}
 use Rattle.std.specs.FinMap.{empty, insert}
 use Rattle.vm_field.specs.Machine.{WordMap, word_at}
 use Rattle.buses.specs.Counts.{Counted, counted, over_rows, total}
@@ -9,6 +9,7 @@ use Rattle.air_kit.specs.declared.trace.TableName.TheVariants as table
 use Rattle.air_kit.specs.ChipTuples.{chip_given}
 use Rattle.air_kit.specs.Requests.{access_given}
 use Rattle.memory_rows.specs.Accesses.{Keeps}
+use Rattle.memory_rows.specs.MemoryTables.{access_at}
 
 -- the memory behind an access, if there is one: what is not only read is written
 abbrev pub memory_behind : Option Access → WordMap → WordMap
@@ -40,3 +41,20 @@ GivesAsks asks m rows =
 pub record AreServed (asks : ℕ → Option Access) (m : ℕ) : Type 0 where
   pub keeps : (i : ℕ) (a : Access) → i < m → asks i ≡ Some a → Keeps a (word_at (memory_before asks i) a.ctx a.addr)
   pub addresses : (i : ℕ) (a : Access) → i < m → asks i ≡ Some a → a.addr < 2 ^ 32
+
+-- a row shows this access
+pub record HasRow (rows : List (List ℕ)) (a : Access) : Type 0 where
+  pub at : ℕ
+  pub within : at < length rows
+  pub shows : access_at rows at ≡ a
+
+-- each row's access is asked at its clock, and each one asked has a row
+pub record AreAsked (asks : ℕ → Option Access) (m : ℕ) (rows : List (List ℕ)) : Type 0 where
+  pub within : (q : ℕ) → q < length rows → (access_at rows q).clk < m
+  pub given : (q : ℕ) → q < length rows → asks (access_at rows q).clk ≡ Some (access_at rows q)
+  pub asked : (i : ℕ) (a : Access) → i < m → asks i ≡ Some a → HasRow rows a
+
+-- Accesses that are asked and rows pair one to one: none has two rows.
+pub record ArePaired (asks : ℕ → Option Access) (m : ℕ) (rows : List (List ℕ)) : Type 0 where
+  pub asked : AreAsked asks m rows
+  pub once : (q r : ℕ) → q < length rows → r < length rows → access_at rows q ≡ access_at rows r → q ≡ r
