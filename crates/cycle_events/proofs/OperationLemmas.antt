@@ -1,5 +1,5 @@
 -- One cycle of an operation, as the code answers it.
-use Rattle.std.proofs.Common.{◌≡◌, ℕ, ◌+◌, ◌^◌, ◌<◌, ◌≤◌, Bool, true, false, List, [], ◌∷◌, ◌++◌, length, take, slice_index, Option, Some, None, Ok, Err, IsTrue, IfSome, MatchOption, ◌≢◌, refl, subst, ap, arith, if◌then◌else◌}
+use Rattle.std.proofs.Common.{◌≡◌, ℕ, ◌^◌, ◌<◌, ◌≤◌, Bool, true, false, List, [], ◌∷◌, ◌++◌, length, take, slice_index, Option, Some, None, Ok, Err, IsTrue, IfSome, MatchOption, ◌≢◌, refl, subst, ap, arith, if◌then◌else◌}
 use Rattle.std.proofs.lemmas.Bool.{ltb-true}
 use Rattle.std.proofs.lemmas.List.{get_or-take}
 use Rattle.vm_field.specs.Machine as machine
@@ -12,11 +12,10 @@ use Rattle.vm_ops.specs.declared.op.Op.TheVariants.{MLoad, MLoadW, MStore, MStor
 use Rattle.vm_ops.specs.Items.{IsOrdinaryItem}
 use Rattle.vm_field.specs.Field.{prime}
 use Rattle.vm_ops.specs.Codes.{accesses_memory}
-use Rattle.vm_ops.specs.Step.{act, performed, seen, step, unless_trapped}
+use Rattle.vm_ops.specs.Step.{act, step}
 use Rattle.vm_ops.specs.Values.{Seen, advice_of, cell, is_u32, trap_of, unless}
 use Rattle.block_tree.specs.Cycles.{Do, top}
-use Rattle.block_tree.specs.Execution.{event_of}
-use Rattle.block_tree.proofs.Parts.{Cycled, taking-inv, taking-ok, taking-trap}
+use Rattle.block_tree.proofs.Parts.{taking-ok, taking-trap}
 use Rattle.op_steps.specs.Steps.{Stepped}
 use Rattle.op_steps.specs.declared.refusal.StepStop.{StepStop}
 use Rattle.op_steps.specs.declared.refusal.StepStop.TheVariants as step_stop
@@ -32,6 +31,8 @@ use Rattle.cycle_events.specs.declared.event.Event.{Event}
 use Rattle.cycle_events.specs.declared.event.Visible.{Visible}
 use Rattle.cycle_effects.specs.declared.refusal.Stop.{Stop}
 use Rattle.cycle_effects.specs.declared.setting.Setting.{Setting}
+use Rattle.vm_ops.specs.Stepping.{seen_at}
+use Rattle.vm_ops.proofs.StepLemmas.{stepped}
 use Rattle.cycle_events.proofs.CycleLemmas.{ran-done}
 
 at-push : (tape advice : List ℕ) → (advice_of Push ≤ length advice → tape ≡ four_of (take (advice_of Push) advice)) → tape ≡ zero_word
@@ -52,10 +53,6 @@ pub pushes-alone : (item : Item) → IsOrdinaryItem item → (tape word advice w
     → IfSome item.imm (λ x. (tape ≡ zero_word) × (word ≡ zero_word))
 pushes-alone item is = alone item.imm item.op is.immediate
 
-no_trap : (o : Option Cause) (c d : Core) → unless_trapped o c ≡ Ok d → o ≡ None
-no_trap None c d e = refl
-no_trap (Some cause) c d e = cc
-
 unless-true : (b : Bool) (cause : Cause) → unless b cause ≡ None → b ≡ true
 unless-true true cause e = refl
 unless-true false cause e = cc
@@ -72,17 +69,10 @@ fits _ s e h = cc
 module _ (constants : List ℕ) (item : Item) (state : State) where
   step-fits : (t : machine.State) → step constants item (state_of state) ≡ Ok t → IsTrue (accesses_memory item.op)
       → slice_index (take 16 state.stack) 0 < 2 ^ 32
-  unfolding act
-  step-fits t e h = from (taking-inv (state.clock + 1) (Do item) (advice_of item.op) (act constants item) (state_of state) t _ (taking-ok (state.clock + 1) (Do item) (advice_of item.op) (act constants item) (state_of state) t (omega arith) e))
-    where
-      from : Cycled (state.clock + 1) (Do item) (advice_of item.op) (act constants item) (state_of state) t (event_of (Do item) (advice_of item.op) (state_of state) ∷ [])
-          → slice_index (take 16 state.stack) 0 < 2 ^ 32
-      from c =
-          fits item.op (seen constants item (take (advice_of item.op) state.tape) (core_of state))
-          (no_trap _ (performed item.op (seen constants item (take (advice_of item.op) state.tape) (core_of state)) (core_of state)) c.core c.made) h
+  step-fits t e h = fits item.op (seen_at constants item (state_of state)) (stepped constants item (state_of state) t e).free h
 
   step-enough : (t : machine.State) → step constants item (state_of state) ≡ Ok t → advice_of item.op ≤ length state.tape
-  step-enough t e = (taking-inv (state.clock + 1) (Do item) (advice_of item.op) (act constants item) (state_of state) t _ (taking-ok (state.clock + 1) (Do item) (advice_of item.op) (act constants item) (state_of state) t (omega arith) e)).enough
+  step-enough t e = (stepped constants item (state_of state) t e).enough
 
   pub address-fits : (t : machine.State) (visible : Visible) → visible ≡ visible_of (core_of state) → step constants item (state_of state) ≡ Ok t
       → IsTrue (accesses_memory item.op) → slice_index visible.cells 0 < 4294967296

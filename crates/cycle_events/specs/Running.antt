@@ -1,5 +1,5 @@
 -- What the code of a part of a run answers.
-use Rattle.std.specs.Prelude.{◌≡◌, ℕ, List, ◌++◌, map, Result, Ok, Err}
+use Rattle.std.specs.Prelude.{◌≡◌, List, ◌++◌, map, Result, Ok, Err}
 use Rattle.block_tree.specs.Execution as run
 use Rattle.block_tree.specs.Execution.{Outcome, Done}
 use Rattle.vm_state.specs.Views.{state_of}

@@ -1,6 +1,5 @@
 -- Loops that add to a list what each item of another one gives.
-use Rattle.std.proofs.Common.{◌≡◌, ℕ, ◌+◌, ◌<◌, ◌≤◌, Bool, true, false, ◌&&◌, List, [], ◌∷◌, ◌++◌, length, get_or, drop, sym, ap, ap₂, ◌∙◌, append_assoc, add-one, drop-cons}
-use Rattle.std.specs.List.{list_all}
+use Rattle.std.proofs.Common.{◌≡◌, ℕ, ◌+◌, ◌<◌, ◌≤◌, List, [], ◌∷◌, ◌++◌, length, get_or, drop, sym, ap, ap₂, ◌∙◌, append_assoc, add-one, drop-cons}
 use Rattle.std.proofs.lemmas.List.{append-nil, drop_all}
 
 -- the item at a place, and what is behind it
@@ -18,15 +17,3 @@ step f g gives xs i x done more within is added =
 pub ended : {X Y : Type 0} (f : List X → List Y) → f [] ≡ [] → (xs : List X) (i : ℕ) (done : List Y) → length xs ≤ i
     → done ++ f (drop i xs) ≡ done
 ended f none xs i done past = ap (λ ys. done ++ f ys) (drop_all i xs past) ∙ ap (λ ys. done ++ ys) none ∙ append-nil done
-
--- a loop that goes on as long as a test holds
-pub all-goes : {X : Type 0} (test : X → Bool) (xs : List X) (i : ℕ) (x : X) → i < length xs → x ≡ get_or xs i x → test x ≡ true
-    → list_all test (drop (i + 1) xs) ≡ list_all test (drop i xs)
-all-goes test xs i x within is held = sym (ap (list_all test) (suffix xs i x within is) ∙ ap (λ b. b && list_all test (drop (i + 1) xs)) held)
-
-pub all-stops : {X : Type 0} (test : X → Bool) (xs : List X) (i : ℕ) (x : X) → i < length xs → x ≡ get_or xs i x → test x ≡ false
-    → list_all test (drop i xs) ≡ false
-all-stops test xs i x within is fails = ap (list_all test) (suffix xs i x within is) ∙ ap (λ b. b && list_all test (drop (i + 1) xs)) fails
-
-pub all-ended : {X : Type 0} (test : X → Bool) (xs : List X) (i : ℕ) → length xs ≤ i → list_all test (drop i xs) ≡ true
-all-ended test xs i past = ap (list_all test) (drop_all i xs past)

@@ -1,5 +1,5 @@
 -- What rows look up in memory as the rows before them leave it, which is made of words.
-use Rattle.std.proofs.Common.{◌≡◌, ℕ, zero, suc, ◌<◌, List, [], ◌∷◌, length, slice_index, Some, refl, sym}
+use Rattle.std.proofs.Common.{◌≡◌, ℕ, zero, suc, ◌<◌, List, [], length, slice_index, Some, refl, sym}
 use Rattle.std.proofs.lemmas.Option.{slice_get-get_or}
 use Rattle.vm_field.specs.Field.{prime}
 use Rattle.vm_field.specs.Machine.{IsWord, WordMap, word_at}
@@ -7,11 +7,11 @@ use Rattle.vm_field.proofs.Places.{words-empty, words-insert}
 use Rattle.vm_ops.specs.declared.op.Op.{Op}
 use Rattle.vm_ops.specs.declared.op.Op.TheVariants as ops
 use Rattle.vm_table.specs.MainColumns.{ctx, s, t}
+use Rattle.block_tree.proofs.RowLemmas.{word-of}
 use Rattle.air_kit.specs.declared.requests.Access.{Access}
 use Rattle.air_kit.specs.RowStates.{elsewhere_at, memory_at, memory_behind, written_by}
 use Rattle.memory_rows.specs.MainAccesses.{ServesRow, access_by}
 use Rattle.row_facts.specs.MainRows.{op_in, row_at}
-use Rattle.row_facts.proofs.CellFacts.{elements_each}
 use Rattle.row_facts.proofs.Says.{off}
 use Rattle.row_steps.specs.Lookups.{LooksUpWord}
 use Rattle.row_cycles.proofs.Premises.{Known, before}
@@ -42,16 +42,13 @@ looks_up_word rows i op x y serves =
 abbrev pub MadeOfWords : WordMap → Type 0
 MadeOfWords memory = (context place : ℕ) → IsWord (word_at memory context place)
 
-word_of : (a b c d : ℕ) → a < prime → b < prime → c < prime → d < prime → IsWord (a ∷ b ∷ c ∷ d ∷ [])
-word_of a b c d la lb lc ld = record { size = refl; below = elements_each (a ∷ b ∷ c ∷ d ∷ []) (la, (lb, (lc, (ld, tt)))) }
-
 stays_words : (op : Op) (x : List ℕ) (memory : WordMap) → ((k : ℕ) → slice_index x k < prime)
     → MadeOfWords memory → MadeOfWords (memory_behind x (written_by op x) memory)
 stays_words ops.MStore x memory low words =
-    words-insert memory (ctx x, s x 0) _ (word_of (s x 1) (t x 0) (t x 1) (t x 2) (low 31) (low 55) (low 56) (low 57))
+    words-insert memory (ctx x, s x 0) _ (word-of (s x 1) (t x 0) (t x 1) (t x 2) (low 31) (low 55) (low 56) (low 57))
     words
 stays_words ops.MStoreW x memory low words =
-    words-insert memory (ctx x, s x 0) _ (word_of (s x 4) (s x 3) (s x 2) (s x 1) (low 34) (low 33) (low 32) (low 31))
+    words-insert memory (ctx x, s x 0) _ (word-of (s x 4) (s x 3) (s x 2) (s x 1) (low 34) (low 33) (low 32) (low 31))
     words
 stays_words op x memory low words = words
 

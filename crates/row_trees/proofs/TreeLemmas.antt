@@ -32,9 +32,6 @@ cells_zero x zeros =
 word_size : (digest : List ℕ) (x : List ℕ) → digest ≡ front x → length digest ≡ 4
 word_size digest x is = ap length is
 
-back_size : (digest : List ℕ) (x : List ℕ) → digest ≡ back x → length digest ≡ 4
-back_size digest x is = ap length is
-
 module _ (constants : List ℕ) (hasher rows : List (List ℕ)) (root : List ℕ) (facts : TreeFacts constants hasher rows root) where
   abbrev has_tree : ℕ → ℕ → Placed → Type 0
   has_tree j e x = Built constants (computation_at hasher) rows j e x

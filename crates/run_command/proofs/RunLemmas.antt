@@ -75,21 +75,3 @@ pub last_saved : (name statement line : List ℕ) (o : Outcome) (old mid : Shelf
     → Says o status.Ok line → SavesLast name statement line o old mid
 last_saved name statement line o old mid goes says right fit =
     goes right (λ _. ending (stop status.Ok line)) fit o mid (work_ends (stop status.Ok line) o mid (says_comes status.Ok line o refl says))
-
--- the first one was written
-pub first_saved : (outputs : Outputs) (table statement line : List ℕ) (o : Outcome) (old mid new : ShelfState)
-    → ((right : Right) (next : List ℕ → Steps) → IsRight right table → GoesOn (writing outputs.table right next) (next table) old mid)
-    → SavesLast outputs.statement statement line o mid new → SavesBoth table statement line outputs o old new
-first_saved outputs table statement line o old mid new goes saves of_table of_statement fit claims =
-    goes of_table (λ _. writing outputs.statement of_statement (λ _. ending (stop status.Ok line))) fit o new (saves of_statement claims)
-
--- one of the two was not
-pub not_saved : (outputs : Outputs) (table statement line : List ℕ) (o : Outcome) (old new : ShelfState)
-    → ((right : Right) (next : List ℕ → Steps) → IsRight right table → EndsIn (Some (writing outputs.table right next)) o old new)
-    → SavesBoth table statement line outputs o old new
-not_saved outputs table statement line o old new stops of_table of_statement fit claims = stops of_table _ fit
-
-pub last_not_saved : (name statement line : List ℕ) (o : Outcome) (old new : ShelfState)
-    → ((right : Right) (next : List ℕ → Steps) → IsRight right statement → EndsIn (Some (writing name right next)) o old new)
-    → SavesLast name statement line o old new
-last_not_saved name statement line o old new stops right fit = stops right _ fit

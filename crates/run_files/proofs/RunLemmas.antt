@@ -1,9 +1,8 @@
 -- What a run that was executed shows: it is one from the start to the end, so that its requests fit, and its rows and its stack are
 -- within bounds.
-use Rattle.std.proofs.Common.{◌≡◌, ℕ, ◌^◌, ◌≤◌, List, [], ◌∷◌, length, ap, ◌∙◌, sym, subst, arith}
+use Rattle.std.proofs.Common.{◌≡◌, ℕ, ◌^◌, ◌≤◌, List, [], ◌∷◌, length, sym, subst, arith}
 use Rattle.rpo_hash.specs.Constants.{constants_of}
 use Rattle.rpo_hash.specs.declared.params.Params.{Params}
-use Rattle.vm_table.specs.Layout.{IsTable}
 use Rattle.vm_field.specs.Machine.{State, IsWellFormed, filled_up, start}
 use Rattle.vm_field.proofs.Elements.{length-filled_up}
 use Rattle.vm_field.proofs.WellFormed.{start-IsWellFormed}
@@ -19,7 +18,7 @@ use Rattle.block_tree.proofs.TaskLemmas.{steps-log}
 use Rattle.cycle_events.specs.Events.{visible_of}
 use Rattle.processor.specs.Executed.{WasExecuted}
 use Rattle.processor.specs.declared.run.Run.{Run}
-use Rattle.air_kit.specs.Requests.{Answers, Fits}
+use Rattle.air_kit.specs.Requests.{Fits}
 use Rattle.air_kit.specs.declared.requests.Requests.{Requests}
 use Rattle.run_rows.specs.BlockRows.{IsRun, events_of, filled}
 use Rattle.run_rows.specs.Filling.{rows_of}
@@ -31,7 +30,7 @@ use Rattle.run_requests.specs.Fitting.{FitsRows}
 use Rattle.run_requests.proofs.FitLaw.{run_fits}
 use Rattle.fill_chips.specs.Beside.{HasSizes, beside}
 use Rattle.fill_chips.specs.declared.chips.Chips.{Chips}
-use Rattle.run_files.specs.Inside.{HasFew, IsShort, TracesRun}
+use Rattle.run_files.specs.Inside.{HasFew, IsShort}
 
 module _ (constants : List ℕ) (kernel : List (List ℕ)) (limit : ℕ) (tree : Tree) (inputs tape : List ℕ) (u : State) (log : List run.Event)
     (r : IsRun constants kernel limit tree inputs tape u log) where
@@ -113,16 +112,3 @@ module _ (params : Params) (program : Program) (answer : Run) (size : length (co
 pub short_tables : (main : List (List ℕ)) (chips : Chips) (r : Requests) → HasFew r → HasSizes r chips → IsShort (beside main chips)
 short_tables main chips r few sizes =
     let hasher = sizes.hasher in let bitwise = sizes.bitwise in let memory = sizes.memory in omega (arith, few, hasher, bitwise, memory)
-
--- the tables that were filled are the trace of the run
-pub traced : (params : Params) (program : Program) (answer : Run) (main : List (List ℕ)) (chips : Chips)
-    → main ≡ rows_of (visible_of (core_of answer.state)) answer.events → IsTable 1 chips.left
-    → Answers (constants_of params) program.kernel (requests_of (constants_of params) (visible_of (core_of answer.state)) answer.events) (beside main chips)
-    → TracesRun params program answer (beside main chips)
-traced params program answer main chips is left answers log shown = record {
-  main_is = is ∙ ap (rows_of (visible_of (core_of answer.state))) shown;
-  left = left;
-  answers =
-      subst (λ events. Answers (constants_of params) program.kernel (requests_of (constants_of params) (visible_of (core_of answer.state)) events)
-      (beside main chips)) shown answers;
-}

@@ -1,24 +1,15 @@
 -- The text of a statement is no longer than a statement may be.
-use Rattle.std.proofs.Common.{◌≡◌, ℕ, ◌+◌, ◌*◌, ◌<◌, ◌≤◌, List, [], ◌∷◌, ◌++◌, All, codes, decimal, length, refl, arith}
+use Rattle.std.proofs.Common.{ℕ, ◌+◌, ◌*◌, ◌<◌, ◌≤◌, List, [], ◌∷◌, ◌++◌, All, codes, decimal, length, arith}
 use Rattle.std.proofs.lemmas.List.{length-append}
 use Rattle.std.proofs.lemmas.List.Elements.{All-head, All-tail}
 use Rattle.std.proofs.lemmas.Fmt.{length-decimal-le}
 use Rattle.vm_field.specs.Field.{AreElements, prime}
 use Rattle.vm_field.specs.Machine.{IsWord}
-use Rattle.vm_field.specs.WordText.{hex_digits, word_hex}
+use Rattle.vm_field.specs.WordText.{word_hex}
+use Rattle.vm_field.proofs.HexLaws.{length-word_hex}
 use Rattle.json_values.specs.ToJson.{listed}
 use Rattle.statement.specs.Statements.{Claim, statement_text, words_listed}
 use Rattle.run_files.specs.RunFiles.{most_statement_bytes}
-
-digits_size : (n : ℕ) → length (hex_digits 16 n) ≡ 16
-unfolding hex_digits
-digits_size n = refl
-
-word_size : (word : List ℕ) → length (word_hex word) ≡ 16 * length word
-unfolding word_hex
-word_size [] = omega arith
-word_size (x ∷ xs) =
-    let more = word_size xs in omega (arith, digits_size x, more, length-append (hex_digits 16 x) (word_hex xs))
 
 -- twenty digits and a comma for each element at most
 listed_size : (xs : List ℕ) → All (λ x. x < prime) xs → length (listed xs) ≤ 21 * length xs
@@ -39,12 +30,12 @@ words_size [] are = omega arith
 words_size (w ∷ []) are =
     let word = All-head IsWord w [] are in
     let four = word.size in
-    omega (arith, word_size w, four, length-append (word_hex w) (34 ∷ []))
+    omega (arith, length-word_hex w, four, length-append (word_hex w) (34 ∷ []))
 words_size (w ∷ v ∷ ws) are =
     let word = All-head IsWord w (v ∷ ws) are in
     let four = word.size in
     let more = words_size (v ∷ ws) (All-tail IsWord w (v ∷ ws) are) in
-    omega (arith, word_size w, four, more, length-append (word_hex w) (34 ∷ 44 ∷ words_listed (v ∷ ws)))
+    omega (arith, length-word_hex w, four, more, length-append (word_hex w) (34 ∷ 44 ∷ words_listed (v ∷ ws)))
 
 -- one text behind another
 joined : (a b : List ℕ) (x y : ℕ) → length a ≤ x → length b ≤ y → length (a ++ b) ≤ x + y
@@ -54,7 +45,7 @@ pub short_text : (claim : Claim) → IsWord claim.digest → All IsWord claim.ke
     → length claim.inputs ≤ 16 → length claim.kernel ≤ 255 → length claim.outputs ≤ 524303 → length (statement_text claim) ≤ most_statement_bytes
 unfolding statement_text
 short_text claim digest kernel inputs outputs few words deep =
-    let of_digest : length (word_hex claim.digest) ≤ 64 = let four = digest.size in omega (arith, four, word_size claim.digest) in
+    let of_digest : length (word_hex claim.digest) ≤ 64 = let four = digest.size in omega (arith, four, length-word_hex claim.digest) in
     let of_inputs : length (listed claim.inputs) ≤ 336 = omega (arith, few, listed_size claim.inputs inputs) in
     let of_kernel : length (words_listed claim.kernel) ≤ 17085 = omega (arith, words, words_size claim.kernel kernel) in
     let of_outputs : length (listed claim.outputs) ≤ 11010363 = omega (arith, deep, listed_size claim.outputs outputs) in

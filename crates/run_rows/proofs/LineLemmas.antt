@@ -1,5 +1,5 @@
 -- The parts of the rows of a run are elements.
-use Rattle.std.proofs.Common.{◌≡◌, ℕ, suc, ◌+◌, ◌-◌, ◌*◌, ◌/◌, ◌%◌, ◌<◌, ◌≤◌, All, Bool, true, false, cond, eqb, List, [], ◌∷◌, ◌++◌, length, drop, slice_index, arith, lit<}
+use Rattle.std.proofs.Common.{◌≡◌, ℕ, suc, ◌+◌, ◌-◌, ◌*◌, ◌/◌, ◌%◌, ◌<◌, ◌≤◌, All, Bool, true, false, cond, eqb, List, [], ◌∷◌, length, drop, slice_index, arith, lit<}
 use Rattle.std.proofs.lemmas.List.Elements.{All-cons, All-drop, All-from_recursion, All-head, All-nil, All-tail, All-weaker}
 use Rattle.vm_field.specs.Field.{prime, AreElements, felt_inv}
 use Rattle.vm_field.specs.Machine.{Core, IsWellFormedCore}
@@ -40,9 +40,6 @@ low_limb n = omega arith
 
 high_limb : (n : ℕ) → n < prime → n / 65536 < prime
 high_limb n low = omega (arith, low)
-
-both : (xs ys : List ℕ) → AreElements xs → AreElements ys → AreElements (xs ++ ys)
-both xs ys h g = elements-append xs ys h g
 
 low_limbs : (op : Op) (x y : Visible) → AreElements x.cells → AreElements y.cells → AreElements (limbs_by op x y)
 low_limbs ops.U32Split x y h g =
@@ -116,7 +113,7 @@ low_rest op word h = none_low
 low_row_limbs : (e : Event) (v : Visible) → AreElements e.before.cells → AreElements v.cells → AreElements e.word → AreElements (limbs_of e v)
 unfolding limbs_of
 low_row_limbs e v h g k =
-    both (limbs_by e.op e.before v) (word_rest e.op e.word) (low_limbs e.op e.before v h g) (low_rest e.op e.word k)
+    elements-append (limbs_by e.op e.before v) (word_rest e.op e.word) (low_limbs e.op e.before v h g) (low_rest e.op e.word k)
 
 -- ---- witnesses
 

@@ -1,8 +1,7 @@
 -- What the row of a moment of a run shows, by the operation that its bits spell, and what it and the row behind it show.
-use Rattle.std.proofs.Common.{◌≡◌, ℕ, ◌<◌, ◌≤◌, List, [], ◌∷◌, ◌++◌, length, slice_index, take, unwrap_or, refl, sym, ap, ◌∙◌, subst, arith}
-use Rattle.vm_field.specs.Field.{AreElements, felt_inv}
+use Rattle.std.proofs.Common.{◌≡◌, ℕ, ◌<◌, ◌≤◌, List, [], ◌∷◌, ◌++◌, slice_index, take, unwrap_or, refl, sym, ap, ◌∙◌, subst, arith}
+use Rattle.vm_field.specs.Field.{AreElements}
 use Rattle.vm_field.specs.Machine.{Core, State}
-use Rattle.vm_field.specs.Signs.{◌⊟◌}
 use Rattle.vm_field.proofs.Elements.{elements-replicate, elements-take, word-zero}
 use Rattle.vm_ops.specs.Codes.{code_of, op_at}
 use Rattle.vm_ops.specs.declared.op.Op.TheVariants as ops
@@ -15,7 +14,7 @@ use Rattle.block_tree.proofs.BehindLemmas.{behind-cycle}
 use Rattle.block_tree.proofs.RowLemmas.{accessed-word, hash-batch, shown-behind}
 use Rattle.air_kit.specs.Flags as flags
 use Rattle.cycle_events.specs.Events.{visible_of}
-use Rattle.vm_table.specs.MainColumns.{b, h, inv, t, w}
+use Rattle.vm_table.specs.MainColumns.{b, h, t, w}
 use Rattle.row_facts.specs.RowFacts.{ReadsAs, IsRow, IsPair}
 use Rattle.run_rows.specs.Decoder.{Decoder, advance}
 use Rattle.run_rows.specs.Filling.{halted, hash_by, line_of, row_of, witnesses_by}
@@ -24,7 +23,7 @@ use Rattle.run_rows.specs.Limbs.{limbs_of}
 use Rattle.run_rows.specs.Lines.{Line, laid_out}
 use Rattle.run_rows.specs.Moments.{Comes, IsEndRow, IsMoment, IsRowAt, event_at}
 use Rattle.run_rows.specs.Shows.{Shows}
-use Rattle.run_rows.proofs.ColumnLemmas.{col_b, col_h, col_inv, col_t, col_w}
+use Rattle.run_rows.proofs.ColumnLemmas.{col_b, col_h, col_t, col_w}
 use Rattle.run_rows.proofs.LineLemmas.{ha_low, low_line, next_low}
 use Rattle.run_rows.proofs.LowLemmas.{bits_spell, line_reads}
 use Rattle.run_rows.proofs.PairLemmas.{Known, pair_shown, ticked}
@@ -135,10 +134,6 @@ module _ (constants : List ℕ) (kernel : List (List ℕ)) (limit : ℕ) where
       → t x j ≡ slice_index (limbs_of (event_at constants kernel m.mark m.s) (visible_of m.t.core)) j
   moment_limb m j low =
       ap (λ z. t z j) m.row ∙ col_t (line_of m.d (event_at constants kernel m.mark m.s) (visible_of m.t.core) m.later) j low
-
-  pub moment_inverse : {x y : List ℕ} → (m : IsMoment constants kernel limit x y) → inv x ≡ felt_inv (length m.s.core.stack ⊟ 16)
-  moment_inverse m =
-      ap inv m.row ∙ col_inv (line_of m.d (event_at constants kernel m.mark m.s) (visible_of m.t.core) m.later)
 
   -- and what the row behind it shows
   pub behind_shows : {x y : List ℕ} → (m : IsMoment constants kernel limit x y)

@@ -1,17 +1,12 @@
 -- From a program that runs or halts, and a source that is refused, to the course of a source.
-use Rattle.std.proofs.Common.{◌≡◌, ◌≤◌, ℕ, Bool, List, length, Option, Result, Ok, Err, IfErr, refl, subst, sym}
-use Rattle.rpo_hash.specs.Constants.{constants_of}
-use Rattle.rpo_hash.specs.declared.params.Params.{Params}
+use Rattle.std.proofs.Common.{◌≡◌, ℕ, Bool, List, Option, Result, Ok, Err, IfErr, refl, subst, sym}
 use Rattle.block_tree.specs.declared.program.Program.{Program}
-use Rattle.vm_state.specs.declared.inputs.Inputs.{Inputs}
-use Rattle.processor.specs.Executed.{IsRunOf, WasExecuted}
-use Rattle.processor.specs.declared.run.Run.{Run}
-use Rattle.run_inputs.specs.Inputs.{Given, given_of}
+use Rattle.run_inputs.specs.Inputs.{Given}
 use Rattle.source_runs.specs.declared.course.Course as held
 use Rattle.command_ends.specs.declared.outcome.Outcome.{Outcome}
 use Rattle.command_ends.specs.declared.outcome.Outcome.TheVariants as outcome
 use Rattle.commands.specs.declared.status.Status.TheVariants as status
-use Rattle.source_runs.specs.Courses.{Halts, HasRun, Stopped}
+use Rattle.source_runs.specs.Courses.{Halts, Stopped}
 use Rattle.command_ends.specs.Outcomes.{Says}
 use Rattle.masm_link.specs.declared.refusal.AsmCause.{AsmCause}
 use Rattle.masm_link.specs.declared.refusal.AsmError.TheVariants.{Bad}
@@ -22,25 +17,6 @@ use Rattle.commands.specs.Statuses.{kind_of, planned}
 use Rattle.commands.specs.RunEnds as ends
 use Rattle.commands.specs.RunEnds.{IsCourse, IsHalt, halted, trapped, unended}
 use Rattle.commands.specs.Steps.{SourceFile, stopped, ends_with}
-
--- a run that was executed on these inputs
-pub has_run : (params : Params) (program : Program) (inputs : Inputs) (limit : ℕ) (answer : Run) → length (constants_of params) ≡ 168 → limit ≤ 524287
-    → WasExecuted params program answer → IsRunOf params program inputs limit answer
-    → HasRun params program (given_of inputs) limit answer
-has_run params program inputs limit answer size low was is = record {
-  executed = was;
-  log = is.log;
-  events = is.events;
-  is_run = record {
-    constants_are = size;
-    within = low;
-    whole = program.whole;
-    few = inputs.few;
-    inputs_are = inputs.cells;
-    tape_is = inputs.elements;
-    done = is.done;
-  };
-}
 
 planned_halt : (constants : List ℕ) (program : Program) (given : Given) (limit : ℕ) (a : Answer) → IsHalt constants program given limit a
     → kind_of a.status ≡ planned
