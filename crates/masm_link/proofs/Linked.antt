@@ -1,5 +1,5 @@
 -- The least refusal of a source, and what it links to where nothing is refused.
-use Rattle.std.proofs.Common.{◌≡◌, ℕ, ◌+◌, ◌≤◌, true, false, cond, List, [], ◌∷◌, ◌++◌, length, map, slice_get, Option, Some, None, MatchOption, Vec, Global, inl, inr, refl, sym, ap, ap₂, subst, ◌∙◌, append-nil, zero, suc, Bool, is_some, arith}
+use Rattle.std.proofs.Common.{◌≡◌, ℕ, ◌≤◌, true, false, cond, List, [], ◌∷◌, ◌++◌, length, map, slice_get, Option, Some, None, MatchOption, Vec, Global, inl, inr, refl, sym, ap, ap₂, subst, ◌∙◌, append-nil, zero, suc, Bool, is_some, arith}
 use Rattle.std.proofs.lemmas.Bool.{cases_lt}
 use Rattle.std.proofs.lemmas.List.{map-append}
 use Rattle.std.proofs.lemmas.List.Elements.{filter-append, Contains-append_left}
