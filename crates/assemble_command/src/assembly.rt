@@ -8,15 +8,17 @@ ghost use Rattle.command_ends.specs.Outcomes.{ComesTo, EndsIn, Says};
 ghost use Rattle.source_files.specs.Sources.{file_of};
 ghost use Rattle.commands.specs.Steps.{assembly, ending};
 
-use block_tree::{Export, Program, digest};
+use block_tree::{Export, Program};
 use command_ends::{
     MOST_PARAMS_BYTES, MOST_SOURCE_BYTES, Outcome, answered, append_word, load, malformed_params,
 };
 use commands::Status;
 use masm_link::AsmError;
+use perm_memo::Permutations;
 use rpo_hash::Params;
 use source_files::{SourceFile, assemble_sources, name_of_place, refused_source};
 use std::alloc::Global;
+use tree_hash::Digests;
 use vm_field::{Bytes, Memory};
 use vm_io::Shelf;
 
@@ -130,12 +132,14 @@ fn assembled(alloc: Global, constants: &Params, program: &Program) -> Outcome
     answered(Status::Ok, program_text(alloc, constants, program))
 }
 
-// `digest H`, and a line for each export
+// `digest H`, and a line for each export. Equal blocks of the program are hashed once.
 fn program_text(alloc: Global, constants: &Params, program: &Program) -> Result<Bytes, Memory>
     ensures { IfOk result (λ text. text ≡ program_lines (constants_of constants.now) program.now) }
 {
+    let mut digests = Digests::new(alloc, Permutations::keeping_none(alloc, constants));
+    let digest = digests.of_tree(alloc, &program.tree)?;
     let mut text = Bytes::copied(alloc, b"digest ")?;
-    append_word(alloc, &mut text, &digest(constants, &program.tree))?;
+    append_word(alloc, &mut text, &digest)?;
     text.append(b"\n")?;
     append_exports(alloc, &mut text, program.exports.as_slice())?;
     Ok(text)

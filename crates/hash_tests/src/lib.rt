@@ -1,5 +1,5 @@
 //! Tests of the permutation and the sponge, of the permutations that are kept, of batches, and of trees
-//! with their digests.
+//! with their digests, computed for each tree alone or for one after another.
 #![tactic(auto)]
 
 #[cfg(test)]

@@ -1,6 +1,5 @@
 use perm_memo::Permutations;
 use rpo_hash::{Params, permute, round};
-use std::alloc::Global;
 use vm_field::Felt;
 
 fn params(first: Felt) -> Params {
@@ -31,8 +30,7 @@ fn permutes(permutations: &mut Permutations, number: u32) -> bool {
 }
 
 // Each state comes twice, and more come than a table begins with.
-fn permutes_all(alloc: Global, params: &Params) -> bool {
-    let mut permutations = Permutations::new(alloc, params);
+fn permutes_all(mut permutations: Permutations) -> bool {
     for _turn in 0..2 {
         for number in 0..200 {
             if !permutes(&mut permutations, number) {
@@ -45,6 +43,8 @@ fn permutes_all(alloc: Global, params: &Params) -> bool {
 
 #[test]
 fn permutes_as_without_a_table(rt: HostRuntime) {
-    assert!(rt; permutes_all(rt.alloc(), &params(Felt::ZERO)));
-    assert!(rt; permutes_all(rt.alloc(), &params(Felt::from_u32(128))));
+    let other = params(Felt::from_u32(128));
+    assert!(rt; permutes_all(Permutations::new(rt.alloc(), &params(Felt::ZERO))));
+    assert!(rt; permutes_all(Permutations::new(rt.alloc(), &other)));
+    assert!(rt; permutes_all(Permutations::keeping_none(rt.alloc(), &other)));
 }

@@ -3,10 +3,12 @@ use block_tree::{
     known_whole, log_laws, row_laws, run_laws, tree_laws, types_cross,
 };
 use op_pack::Batches;
+use perm_memo::Permutations;
 use rpo_hash::Params;
 use std::alloc::Global;
 use std::process::Abort;
 use std::test::Fail;
+use tree_hash::Digests;
 use vm_field::{Bytes, Felt, Felts, Memory, Word, Words};
 
 const NO_CONSTANTS: Params = Params {
@@ -169,6 +171,28 @@ fn are_met(rt: &impl Abort, alloc: Global, rows: &[Row]) -> Result<(), Memory> {
 #[test]
 fn hashes_and_copies_trees(rt: HostRuntime) -> Result<(), Fail> {
     Ok(are_met(&rt, rt.alloc(), &ROWS)?)
+}
+
+// Whether the trees of the rows, hashed one after another, have the digests that the rows say.
+fn are_hashed(alloc: Global, permutations: Permutations, rows: &[Row]) -> Result<bool, Memory> {
+    let mut digests = Digests::new(alloc, permutations);
+    for row in rows {
+        let tree = made(alloc, row.which)?;
+        if digests.of_tree(alloc, &tree)? != word(row.digest) {
+            return Ok(false);
+        }
+    }
+    Ok(*digests.into_permutations().params() == NO_CONSTANTS)
+}
+
+#[test]
+fn hashes_trees_with_equal_blocks(rt: HostRuntime) -> Result<(), Fail> {
+    let alloc = rt.alloc();
+    let kept = Permutations::new(alloc, &NO_CONSTANTS);
+    let not_kept = Permutations::keeping_none(alloc, &NO_CONSTANTS);
+    assert!(rt; are_hashed(alloc, kept, &ROWS)?);
+    assert!(rt; are_hashed(alloc, not_kept, &ROWS)?);
+    Ok(())
 }
 
 #[test]

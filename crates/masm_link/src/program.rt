@@ -4,10 +4,12 @@ ghost use Rattle.rpo_hash.specs.Constants.{constants_of};
 ghost use Rattle.masm_link.specs.Assembling.{add_word, without_repeats};
 ghost use Rattle.masm_link.specs.Programs.{digest_in, export_in};
 
-use block_tree::{Export, Exports, Program, Tree, digest};
+use block_tree::{Export, Exports, Program, Tree};
 use masm_blocks::KernelProc;
+use perm_memo::Permutations;
 use rpo_hash::Params;
 use std::alloc::Global;
+use tree_hash::Digests;
 use vm_field::{Bytes, Memory, Word, Words};
 
 // Adds a word, unless it is there.
@@ -33,15 +35,17 @@ fn kernel_words(alloc: Global, exports: &[Export]) -> Result<Words, Memory>
     Ok(words)
 }
 
-// What a kernel exports, with the digests of the trees.
+// What a kernel exports, with the digests of the trees. A block that several exports have is hashed
+// once. No permutation is kept, since an input that is known is not permuted again.
 fn exports_of(alloc: Global, params: &Params, kernel: &[KernelProc]) -> Result<Exports, Memory>
     ensures { IfOk result (λ exports. exports ≡ map (export_in (constants_of params.now)) kernel.now) }
 {
+    let mut digests = Digests::new(alloc, Permutations::keeping_none(alloc, params));
     let mut exports = Exports::new(alloc);
     for procedure in kernel {
         exports.push(Export {
             name: Bytes::copied(alloc, procedure.name.as_slice())?,
-            digest: digest(params, &procedure.tree),
+            digest: digests.of_tree(alloc, &procedure.tree)?,
         })?;
     }
     Ok(exports)

@@ -1,10 +1,12 @@
 ghost use Rattle.std.specs.Prelude.{◌≡◌, ◌++◌, All, IfOk, IfSome};
-ghost use Rattle.block_tree.specs.Trees.{input_of_batches, input_of_two};
+ghost use Rattle.block_tree.specs.Trees.{input_of_batches, input_of_two, tree_digest};
+ghost use Rattle.block_tree.specs.TreeView.{tree_of};
 ghost use Rattle.vm_field.specs.Sponge.{digest_of_input, hashed};
 ghost use Rattle.vm_ops.specs.Codes.{code_of};
 ghost use Rattle.tree_hash.specs.Digests.{IsDigest};
 
 use crate::sponge::digest_of;
+use block_tree::Tree;
 use op_pack::Batches;
 use perm_memo::Permutations;
 use std::alloc::Global;
@@ -20,10 +22,10 @@ struct Known {
     digest: Word,
 }
 
-// The digests that were computed, so that none is computed twice, and the permutations that were
-// computed for them.
+/// The digests that were computed, so that none is computed twice, and the permutations that were
+/// computed for them.
 #[derive(Drop)]
-pub(crate) struct Digests {
+pub struct Digests {
     permutations: Permutations,
     known: Vec<Known>,
     // where a digest stands, by its input's fingerprint; another input may have the same one
@@ -32,7 +34,7 @@ pub(crate) struct Digests {
 }
 
 impl Digests {
-    // No digests yet.
+    /// No digests yet. It allocates nothing.
     pub fn new(alloc: Global, permutations: Permutations) -> Digests
         ensures { result.permutations ≡ permutations }
     {
@@ -43,15 +45,49 @@ impl Digests {
         }
     }
 
-    // The permutations, with those that were computed.
+    /// The permutations, with those that were computed.
     pub fn into_permutations(self) -> Permutations
         ensures { result ≡ self.permutations }
     {
         self.permutations
     }
 
+    /// The digest of a tree. A block that was hashed before, in this tree or in an earlier one, is
+    /// looked up. The only error is that memory is refused; the same tree may then be asked again.
+    pub fn of_tree(&mut self, alloc: Global, tree: &Tree) -> Result<Word, Memory>
+        ensures digest { IfOk result (λ digest. digest ≡ tree_digest self.old.permutations (tree_of tree.now)) }
+        ensures permutations { self.new.permutations ≡ self.old.permutations }
+    {
+        Ok(match tree {
+            Tree::Opaque(digest) => *digest,
+            Tree::Span(batches) => self.of_span(alloc, batches)?,
+            Tree::Join(first, second) => {
+                let first = self.of_tree(alloc, first)?;
+                let second = self.of_tree(alloc, second)?;
+                self.of_two(alloc, Op::Join, first, second)?
+            }
+            Tree::Split(on_one, on_zero) => {
+                let on_one = self.of_tree(alloc, on_one)?;
+                let on_zero = self.of_tree(alloc, on_zero)?;
+                self.of_two(alloc, Op::Split, on_one, on_zero)?
+            }
+            Tree::Loop(body) => {
+                let body = self.of_tree(alloc, body)?;
+                self.of_two(alloc, Op::Loop, body, Word::ZERO)?
+            }
+            Tree::Call(callee) => {
+                let callee = self.of_tree(alloc, callee)?;
+                self.of_two(alloc, Op::Call, callee, Word::ZERO)?
+            }
+            Tree::Syscall(callee) => {
+                let callee = self.of_tree(alloc, callee)?;
+                self.of_two(alloc, Op::Syscall, callee, Word::ZERO)?
+            }
+        })
+    }
+
     // The digest of a span.
-    pub fn of_span(&mut self, alloc: Global, batches: &Batches) -> Result<Word, Memory>
+    pub(crate) fn of_span(&mut self, alloc: Global, batches: &Batches) -> Result<Word, Memory>
         ensures digest { IfOk result (λ digest. digest ≡ digest_of_input self.old.permutations (input_of_batches batches.now)) }
         ensures permutations { self.new.permutations ≡ self.old.permutations }
     {
@@ -59,7 +95,7 @@ impl Digests {
     }
 
     // The digest of a block whose start is this operation, with children of these digests.
-    pub fn of_two(
+    pub(crate) fn of_two(
         &mut self,
         alloc: Global,
         start: Op,

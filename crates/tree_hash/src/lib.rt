@@ -9,5 +9,5 @@ mod reading;
 mod sponge;
 
 pub use batch::{Batch, ReadBatch};
-pub use digests::pair;
+pub use digests::{Digests, pair};
 pub use node::{Node, hashed};

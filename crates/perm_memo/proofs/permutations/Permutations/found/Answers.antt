@@ -1,4 +1,4 @@
-use Rattle.std.proofs.Common.{◌≡◌, get_or, [], ◌∙◌, sym, subst, ap, ap₂}
+use Rattle.std.proofs.Common.{◌≡◌, get_or, [], ◌∙◌, sym, subst, ap₂}
 use Rattle.std.proofs.lemmas.List.Elements.{All-get_or}
 use lib.Pointwise.{bytes_decides}
 use Rattle.rpo_hash.specs.Constants.{constants_of}
