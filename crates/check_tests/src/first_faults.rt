@@ -1,6 +1,6 @@
+use crate::making::NO_CONSTANTS;
 use air_kit::{Fault, Public, TableName, Trace};
 use checker::{check_rows, has_counts};
-use rpo_hash::Params;
 use std::alloc::Global;
 use std::test::Fail;
 use vm_field::{Felt, Felts, Memory, Word, Words};
@@ -176,10 +176,7 @@ fn trace(alloc: Global, change: Option<&Change>) -> Result<Trace, Memory> {
 fn public(alloc: Global) -> Result<Public, Memory> {
     let outputs = Felts::copied(alloc, &[Felt::ZERO; 16])?;
     Ok(Public {
-        params: Params {
-            first: [[Felt::ZERO; 12]; 7],
-            second: [[Felt::ZERO; 12]; 7],
-        },
+        params: NO_CONSTANTS,
         statement: Statement::new(Word::ZERO, Words::new(alloc), Felts::new(alloc), outputs),
     })
 }

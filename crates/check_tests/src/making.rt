@@ -9,6 +9,12 @@ use vm_field::{Felt, Felts, Memory, Word, Words};
 use vm_state::Statement;
 use vm_table::Table;
 
+/// Constants that are all 0.
+pub const NO_CONSTANTS: Params = Params {
+    first: [[Felt::ZERO; 12]; 7],
+    second: [[Felt::ZERO; 12]; 7],
+};
+
 /// A cell that is not 0: its row, its column and its value.
 pub type Cell = (usize, usize, u64);
 
@@ -169,10 +175,7 @@ pub fn public(alloc: Global, run: &Run, has_kernel: bool) -> Result<Public, Memo
         return Err(Memory::Memory);
     }
     Ok(Public {
-        params: Params {
-            first: [[Felt::ZERO; 12]; 7],
-            second: [[Felt::ZERO; 12]; 7],
-        },
+        params: NO_CONSTANTS,
         statement: Statement::new(digest, kernel, inputs, outputs),
     })
 }

@@ -1,7 +1,6 @@
-use crate::making::felt;
+use crate::making::{NO_CONSTANTS, felt};
 use air_kit::{Place, Public};
 use air_lookup::{first_fault_kernel, first_fault_range};
-use rpo_hash::Params;
 use std::alloc::Global;
 use std::test::Fail;
 use vm_field::{Felt, Felts, Memory, Word, Words};
@@ -25,12 +24,8 @@ fn statement(alloc: Global) -> Result<Statement, Memory> {
 }
 
 fn public(alloc: Global) -> Result<Public, Memory> {
-    let params = Params {
-        first: [[Felt::ZERO; 12]; 7],
-        second: [[Felt::ZERO; 12]; 7],
-    };
     Ok(Public {
-        params,
+        params: NO_CONSTANTS,
         statement: statement(alloc)?,
     })
 }

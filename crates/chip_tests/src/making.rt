@@ -4,6 +4,12 @@ use std::alloc::Global;
 use vm_field::{Felt, Felts, Memory, Word, Words};
 use vm_state::Statement;
 
+/// Constants that are all 0.
+pub const NO_CONSTANTS: Params = Params {
+    first: [[Felt::ZERO; 12]; 7],
+    second: [[Felt::ZERO; 12]; 7],
+};
+
 /// The element of a number, or zero.
 pub fn felt(number: u64) -> Felt {
     Felt::try_from_u64(number).unwrap_or(Felt::ZERO)
@@ -11,11 +17,10 @@ pub fn felt(number: u64) -> Felt {
 
 /// Constants of zeros, and a statement without a kernel.
 pub fn public(alloc: Global) -> Result<Public, Memory> {
-    let params = Params {
-        first: [[Felt::ZERO; 12]; 7],
-        second: [[Felt::ZERO; 12]; 7],
-    };
     let outputs = Felts::copied(alloc, &[Felt::ZERO; 16])?;
     let statement = Statement::new(Word::ZERO, Words::new(alloc), Felts::new(alloc), outputs);
-    Ok(Public { params, statement })
+    Ok(Public {
+        params: NO_CONSTANTS,
+        statement,
+    })
 }

@@ -1,18 +1,13 @@
+use crate::tests::NO_CONSTANTS;
 use block_tree::{Exports, Program, Tree, are_distinct};
 use op_pack::Batches;
 use processor::execute;
-use rpo_hash::Params;
 use run_files::{statement_file_of_run, trace_of_run};
 use std::alloc::Global;
 use std::test::Fail;
 use table_file::encode;
 use vm_field::{Felt, Felts, Memory, Words};
 use vm_state::Inputs;
-
-const NO_CONSTANTS: Params = Params {
-    first: [[Felt::ZERO; 12]; 7],
-    second: [[Felt::ZERO; 12]; 7],
-};
 
 // A batch, and the lengths of the two files of its run.
 type Row = ([u32; 8], usize, usize);

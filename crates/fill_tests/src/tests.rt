@@ -12,7 +12,8 @@ use vm_ops::{Op, opcode};
 use vm_state::Inputs;
 use vm_table::{Table, View};
 
-const NO_CONSTANTS: Params = Params {
+/// Constants that are all 0.
+pub const NO_CONSTANTS: Params = Params {
     first: [[Felt::ZERO; 12]; 7],
     second: [[Felt::ZERO; 12]; 7],
 };

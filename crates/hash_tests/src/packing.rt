@@ -52,7 +52,7 @@ fn are_batches(batches: &[[Felt; 8]], numbers: &[[u64; 8]]) -> bool {
 fn packs(alloc: Global, codes: &[u64], numbers: &[[u64; 8]]) -> Result<bool, Memory> {
     let items = items_of(alloc, codes)?;
     if items.is_empty() {
-        return Ok(true);
+        return Ok(false);
     }
     let packed = pack(alloc, items.as_slice())?;
     Ok(are_batches(packed.as_slice(), numbers))

@@ -6,7 +6,7 @@ use block_tree::Program;
 use masm_lex::MAX_SOURCE;
 use masm_link::{AsmError, assemble};
 use rpo_hash::Params;
-use std::alloc::Global;
+use std::alloc::{AllocError, Global};
 use vm_field::Felt;
 
 const NO_CONSTANTS: Params = Params {
@@ -33,4 +33,15 @@ fn is_refused(alloc: Global, kernel: Option<&[u8]>, source: &[u8], want: AsmErro
         Ok(_) => false,
         Err(error) => error == want,
     }
+}
+
+// So many procedures, one a line, of which each has a loop round the one before it.
+fn chain(alloc: Global, count: u32) -> Result<String, AllocError> {
+    let mut source = String::from_str(alloc, "proc.a0 end\n")?;
+    for i in 1..count {
+        let before = i - 1;
+        let line = format!(in alloc; "proc.a{i} while.true exec.a{before} end end\n")?;
+        source.push_str(line.as_str())?;
+    }
+    Ok(source)
 }

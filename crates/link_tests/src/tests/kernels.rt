@@ -1,23 +1,28 @@
-use super::{assembled, is_refused};
+use super::{assembled, chain, is_refused};
 use masm_link::{AsmCause, AsmError};
 use std::alloc::{AllocError, Global};
 use std::test::Fail;
 
 // A kernel that is refused on its first line, by the column and the cause.
-type Row = (&'static str, u32, AsmCause);
+type Row = (&'static [u8], u32, AsmCause);
 
-static KERNELS: [Row; 7] = [
-    ("begin end", 1, AsmCause::KernelBody),
-    ("export.f end proc.f end", 14, AsmCause::Duplicate),
-    ("export.f exec.g end", 10, AsmCause::UnknownProcedure),
-    ("export.f exec.f end", 10, AsmCause::Recursive),
+static KERNELS: [Row; 12] = [
+    (b"begin end", 1, AsmCause::KernelBody),
+    (b"export.f end proc.f end", 14, AsmCause::Duplicate),
+    (b"export.f exec.g end", 10, AsmCause::UnknownProcedure),
+    (b"export.f exec.f end", 10, AsmCause::Recursive),
     (
-        "export.f end proc.g repeat.10000 repeat.10000 neg end end end",
+        b"export.f end proc.g repeat.10000 repeat.10000 neg end end end",
         14,
         AsmCause::TooManyOps,
     ),
-    ("\u{80}", 1, AsmCause::Lexical),
-    ("export.f", 9, AsmCause::Syntax),
+    (b"\x80", 1, AsmCause::Lexical),
+    (b"export.f", 9, AsmCause::Syntax),
+    (b"export.f emit.1 end", 10, AsmCause::Unsupported),
+    (b"export.f frob end", 10, AsmCause::UnknownInstruction),
+    (b"export.f swap.0 end", 10, AsmCause::NumberRange),
+    (b"export.f loc_load.0 end", 10, AsmCause::LocalsRange),
+    (b"export.f repeat.0 neg end end", 10, AsmCause::RepeatRange),
 ];
 
 fn refused_at(line: u32, column: u32, cause: AsmCause) -> AsmError {
@@ -32,7 +37,7 @@ fn refused_at(line: u32, column: u32, cause: AsmCause) -> AsmError {
 // A kernel's refusal stands before that of the program.
 fn is_kernel_refused(alloc: Global, row: &Row) -> bool {
     let want = refused_at(1, row.1, row.2);
-    is_refused(alloc, Some(row.0.as_bytes()), b"begin frob end", want)
+    is_refused(alloc, Some(row.0), b"begin frob end", want)
 }
 
 // How many exports and how many words a kernel has, where a program calls its `k`.
@@ -62,10 +67,44 @@ fn exports_of(alloc: Global, count: u32) -> Result<(usize, bool), AllocError> {
     Ok((kernel_counts(alloc, text).0, refused))
 }
 
+// A kernel whose `k` has so many branches in one another.
+fn nested(alloc: Global, count: u32) -> Result<String, AllocError> {
+    let mut source = String::from_str(alloc, "export.k ")?;
+    for _ in 0..count {
+        source.push_str("if.true ")?;
+    }
+    for _ in 0..count {
+        source.push_str("end ")?;
+    }
+    source.push_str("end")?;
+    Ok(source)
+}
+
+// Whether a kernel of so many branches in one another is refused at the 257th.
+fn is_nest_refused(alloc: Global, count: u32) -> Result<bool, AllocError> {
+    let source = nested(alloc, count)?;
+    let want = refused_at(1, 2058, AsmCause::TooDeep);
+    Ok(is_refused(alloc, Some(source.as_bytes()), b"begin end", want))
+}
+
+// A kernel of `k` behind so many procedures, each with a loop round the one before it.
+fn chained(alloc: Global, count: u32) -> Result<String, AllocError> {
+    let mut source = chain(alloc, count)?;
+    source.push_str("export.k end")?;
+    Ok(source)
+}
+
+// Whether such a kernel is refused at the 1,025th procedure.
+fn is_chain_refused(alloc: Global, count: u32) -> Result<bool, AllocError> {
+    let source = chained(alloc, count)?;
+    let want = refused_at(1025, 1, AsmCause::TooDeep);
+    Ok(is_refused(alloc, Some(source.as_bytes()), b"begin end", want))
+}
+
 #[test]
 fn refuses_kernels(rt: HostRuntime) -> Result<(), Fail> {
     for row in &KERNELS {
-        assert!(rt; is_kernel_refused(rt.alloc(), row), "{}", row.0);
+        assert!(rt; is_kernel_refused(rt.alloc(), row), "{:?}", row.0);
     }
     Ok(())
 }
@@ -84,5 +123,21 @@ fn counts_exports(rt: HostRuntime) -> Result<(), Fail> {
 fn exports_at_most_255(rt: HostRuntime) -> Result<(), Fail> {
     assert_eq!(rt; exports_of(rt.alloc(), 254)?, (255, false));
     assert_eq!(rt; exports_of(rt.alloc(), 255)?, (0, true));
+    Ok(())
+}
+
+#[test]
+fn nests_to_256(rt: HostRuntime) -> Result<(), Fail> {
+    let most = nested(rt.alloc(), 256)?;
+    assert_eq!(rt; kernel_counts(rt.alloc(), most.as_str()), (1, 1));
+    assert!(rt; is_nest_refused(rt.alloc(), 257)?);
+    Ok(())
+}
+
+#[test]
+fn bounds_heights(rt: HostRuntime) -> Result<(), Fail> {
+    let most = chained(rt.alloc(), 1024)?;
+    assert_eq!(rt; kernel_counts(rt.alloc(), most.as_str()), (1, 1));
+    assert!(rt; is_chain_refused(rt.alloc(), 1025)?);
     Ok(())
 }

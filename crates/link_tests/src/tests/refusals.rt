@@ -1,96 +1,105 @@
-use super::{assembled, is_refused};
+use super::{assembled, chain, is_refused};
 use masm_link::{AsmCause, AsmError, cause_text};
 use std::alloc::{AllocError, Global};
 use std::test::Fail;
 
 // A source that is refused on its first line, by the column and the cause. Its kernel exports `k`.
-type Row = (&'static str, u32, AsmCause);
+type Row = (&'static [u8], u32, AsmCause);
 
-static PROGRAMS: [Row; 27] = [
-    ("begin mtree_get end", 7, AsmCause::Unsupported),
-    ("begin frob end", 7, AsmCause::UnknownInstruction),
-    ("begin repeat.0 neg end end", 7, AsmCause::RepeatRange),
-    ("begin add", 10, AsmCause::Syntax),
-    ("\u{80}", 1, AsmCause::Lexical),
-    ("begin swap.0 end", 7, AsmCause::NumberRange),
-    ("begin loc_load.0 end", 7, AsmCause::LocalsRange),
-    ("begin exec.g end", 7, AsmCause::UnknownProcedure),
-    ("begin syscall.j end", 7, AsmCause::NotInKernel),
-    ("begin exec.zz syscall.j end", 7, AsmCause::UnknownProcedure),
-    ("begin syscall.j exec.zz end", 7, AsmCause::NotInKernel),
+static PROGRAMS: [Row; 28] = [
+    (b"begin mtree_get end", 7, AsmCause::Unsupported),
+    (b"begin frob end", 7, AsmCause::UnknownInstruction),
+    (b"begin repeat.0 neg end end", 7, AsmCause::RepeatRange),
+    (b"begin add", 10, AsmCause::Syntax),
+    (b"\x80", 1, AsmCause::Lexical),
+    (b"begin swap.0 end", 7, AsmCause::NumberRange),
+    (b"begin loc_load.0 end", 7, AsmCause::LocalsRange),
+    (b"begin exec.g end", 7, AsmCause::UnknownProcedure),
+    (b"begin syscall.j end", 7, AsmCause::NotInKernel),
     (
-        "proc.f while.true if.true add else repeat.2 exec.g end end end end begin exec.f end",
+        b"begin exec.zz syscall.j end",
+        7,
+        AsmCause::UnknownProcedure,
+    ),
+    (b"begin syscall.j exec.zz end", 7, AsmCause::NotInKernel),
+    (
+        b"proc.f while.true if.true add else repeat.2 exec.g end end end end begin exec.f end",
         45,
         AsmCause::UnknownProcedure,
     ),
     (
-        "const.N=1 const.N=2 begin push.N end",
+        b"const.N=1 const.N=2 begin push.N end",
         11,
         AsmCause::Duplicate,
     ),
     (
-        "proc.f end const.N=1 const.N=2 proc.f end begin end",
+        b"proc.f end const.N=1 const.N=2 proc.f end begin end",
         22,
         AsmCause::Duplicate,
     ),
     (
-        "proc.f end proc.f exec.f end begin end",
+        b"proc.f end proc.f exec.f end begin end",
         12,
         AsmCause::Duplicate,
     ),
-    ("proc.f exec.f end begin end", 8, AsmCause::Recursive),
+    (b"proc.f exec.f end begin end", 8, AsmCause::Recursive),
     (
-        "proc.f exec.g end proc.g call.f end begin end",
+        b"proc.f exec.g end proc.g call.f end begin end",
         8,
         AsmCause::Recursive,
     ),
     (
-        "proc.h exec.f end proc.f exec.f end begin end",
+        b"proc.h exec.f end proc.f exec.f end begin end",
         26,
         AsmCause::Recursive,
     ),
     (
-        "proc.a exec.b end proc.b exec.c end proc.c exec.d exec.b end proc.d end begin end",
+        b"proc.a exec.b end proc.b exec.c end proc.c exec.d exec.b end proc.d end begin end",
         26,
         AsmCause::Recursive,
     ),
     (
-        "proc.f exec.f exec.g end proc.g exec.h end proc.h end begin end",
+        b"proc.f exec.f exec.g end proc.g exec.h end proc.h end begin end",
         8,
         AsmCause::Recursive,
     ),
     (
-        "proc.b exec.c end proc.c exec.d end proc.d exec.d end proc.a exec.a exec.b end begin end",
+        b"proc.b exec.c end proc.c exec.d end proc.d exec.d end proc.a exec.a exec.b end begin end",
         44,
         AsmCause::Recursive,
     ),
     (
-        "proc.f exec.g exec.f end begin end",
+        b"proc.f exec.g exec.f end begin end",
         8,
         AsmCause::UnknownProcedure,
     ),
     (
-        "begin repeat.10000 repeat.10000 neg end end end",
+        b"begin repeat.10000 repeat.10000 neg end end end",
         1,
         AsmCause::TooManyOps,
     ),
     (
-        "proc.f repeat.10000 repeat.10000 neg end end end begin end",
+        b"proc.f repeat.10000 repeat.10000 neg end end end begin end",
         1,
         AsmCause::TooManyOps,
     ),
     (
-        "begin repeat.9 repeat.9999 repeat.9999 repeat.9999 repeat.9999 neg end end end end end end",
+        b"begin repeat.9 repeat.9999 repeat.9999 repeat.9999 repeat.9999 neg end end end end end end",
         1,
         AsmCause::TooManyOps,
     ),
     (
-        "begin repeat.10000 repeat.10000 neg end end exec.g end",
+        b"begin repeat.10000 repeat.10000 repeat.10000 repeat.10000 repeat.10000 repeat.10000 repeat.10000 repeat.10000 neg end end end end end end end end end",
+        1,
+        AsmCause::TooManyOps,
+    ),
+    (
+        b"begin repeat.10000 repeat.10000 neg end end exec.g end",
         45,
         AsmCause::UnknownProcedure,
     ),
     (
-        "proc.f end proc.f repeat.10000 repeat.10000 neg end end end begin end",
+        b"proc.f end proc.f repeat.10000 repeat.10000 neg end end end begin end",
         12,
         AsmCause::Duplicate,
     ),
@@ -111,22 +120,11 @@ fn is_program_refused(alloc: Global, row: &Row) -> bool {
         column: row.1,
         cause: row.2,
     };
-    is_refused(alloc, Some(b"export.k end"), row.0.as_bytes(), want)
+    is_refused(alloc, Some(b"export.k end"), row.0, want)
 }
 
 fn is_accepted(alloc: Global, source: &str) -> bool {
     assembled(alloc, Some(b"export.k end"), source.as_bytes()).is_ok()
-}
-
-// So many procedures, one a line, of which each has a loop round the one before it.
-fn chain(alloc: Global, count: u32) -> Result<String, AllocError> {
-    let mut source = String::from_str(alloc, "proc.a0 end\n")?;
-    for i in 1..count {
-        let before = i - 1;
-        let line = format!(in alloc; "proc.a{i} while.true exec.a{before} end end\n")?;
-        source.push_str(line.as_str())?;
-    }
-    Ok(source)
 }
 
 // Whether such a chain and this body between `begin` and `end` are refused on the line as too deep.
@@ -147,7 +145,7 @@ fn is_chain_refused(alloc: Global, count: u32, main: &str, line: u32) -> Result<
 #[test]
 fn refuses_programs(rt: HostRuntime) -> Result<(), Fail> {
     for row in &PROGRAMS {
-        assert!(rt; is_program_refused(rt.alloc(), row), "{}", row.0);
+        assert!(rt; is_program_refused(rt.alloc(), row), "{:?}", row.0);
     }
     Ok(())
 }

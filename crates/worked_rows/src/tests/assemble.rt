@@ -123,7 +123,7 @@ static ROWS: [Row; 20] = [
         words: &["assemble", "z", "s"],
         files: &[
             ("z", Content::Lines(168, 0, "")),
-            ("s", Content::Text("\u{80}")),
+            ("s", Content::Bytes(b"\x80")),
         ],
         failing_call: 0,
         failing_write: 0,

@@ -48,6 +48,8 @@ pub enum Content {
     Lines(usize, usize, &'static str),
     /// This text.
     Text(&'static str),
+    /// These bytes.
+    Bytes(&'static [u8]),
 }
 
 /// The bytes of a file.
@@ -57,6 +59,7 @@ pub fn bytes_of(alloc: Global, content: &Content) -> Result<Vec<u8>, Memory> {
         Content::Table(others, size) => table(alloc, others, *size),
         Content::Lines(count, place, other) => lines(alloc, *count, *place, other),
         Content::Text(text) => Ok(Vec::from_slice(alloc, text.as_bytes())?),
+        Content::Bytes(bytes) => Ok(Vec::from_slice(alloc, bytes)?),
     }
 }
 

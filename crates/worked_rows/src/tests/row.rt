@@ -119,6 +119,21 @@ fn answers(alloc: Global, row: &Row, shelf: &mut MemShelf) -> Result<bool, Memor
     )
 }
 
+/// Fails at the first row that is not so, or behind which a file stands that a run writes.
+pub fn all_stop(rt: &(impl Abort + AllocGlobal), rows: &[Row]) -> Result<(), Fail> {
+    for row in rows {
+        let holds = stops(rt.alloc(), row)?;
+        assert!(rt; holds, "{}", row.printed);
+    }
+    Ok(())
+}
+
+fn stops(alloc: Global, row: &Row) -> Result<bool, Memory> {
+    let mut shelf = shelf_of(alloc, row)?;
+    let is_answered = answers(alloc, row, &mut shelf)?;
+    Ok(is_answered && shelf.get("t").is_none() && shelf.get("u").is_none())
+}
+
 /// A change of the files that a run wrote.
 pub enum Change {
     /// A cell of the main table: its row, its column, the value.

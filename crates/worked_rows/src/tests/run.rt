@@ -1,6 +1,6 @@
 use crate::tests::content::Content;
 use crate::tests::row::{
-    Change, Forgery, Row, all_accepted, all_forged, all_hold, all_write, all_wrong,
+    Change, Forgery, Row, all_accepted, all_forged, all_hold, all_stop, all_write, all_wrong,
 };
 use std::test::Fail;
 
@@ -105,7 +105,7 @@ static RAN: [Row; 7] = [
     },
 ];
 
-// Each ends without a file.
+// Each ends before a file is written.
 static STOPPED: [Row; 15] = [
     Row {
         words: &["run", "z", "s", "i", "--out", "t", "--statement", "u"],
@@ -323,19 +323,34 @@ static STOPPED: [Row; 15] = [
         number: 7,
         printed: "read fault i\n",
     },
+    // 33,554,434 bytes
     Row {
         words: &["run", "z", "s", "i", "--out", "t", "--statement", "u"],
         files: &[
             ("z", Content::Lines(168, 0, "")),
             ("s", Content::Text("begin end")),
-            ("i", Content::Text(r#"{"advice":[],"stack":[]}"#)),
+            ("i", Content::Lines(16777217, 0, "")),
         ],
-        failing_call: 4,
+        failing_call: 0,
         failing_write: 0,
-        number: 8,
-        printed: "write fault t\n",
+        number: 11,
+        printed: "too long i\n",
     },
 ];
+
+// The write of the table file fails.
+static FAILED: [Row; 1] = [Row {
+    words: &["run", "z", "s", "i", "--out", "t", "--statement", "u"],
+    files: &[
+        ("z", Content::Lines(168, 0, "")),
+        ("s", Content::Text("begin end")),
+        ("i", Content::Text(r#"{"advice":[],"stack":[]}"#)),
+    ],
+    failing_call: 4,
+    failing_write: 0,
+    number: 8,
+    printed: "write fault t\n",
+}];
 
 // Each writes the whole table file of `begin end`, the first and the last its statement too.
 static WHOLE: [Row; 3] = [
@@ -440,7 +455,8 @@ fn forged_tables_are_refused(rt: HostRuntime) -> Result<(), Fail> {
 
 #[test]
 fn others_are_answered(rt: HostRuntime) -> Result<(), Fail> {
-    all_hold(&rt, &STOPPED)
+    all_stop(&rt, &STOPPED)?;
+    all_hold(&rt, &FAILED)
 }
 
 #[test]
