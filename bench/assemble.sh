@@ -1,8 +1,8 @@
 #!/bin/bash
 # Assembles three sources by masm_link and by plain Rust (assemble.rs, rustc -O) in turn, and prints for each the least
 # time of both in microseconds, the peak memory of both processes, and the ratios, each of which is to be at most 1.3.
-# The sources are many procedures in near 900,000 bytes; a chain of 600 procedures, each used by the next one and by
-# begin, whose tree has near 524,288 operations; and a chain of near 950,000 bytes into a cycle, which is refused. The
+# The sources are many procedures in near 1,000,000 bytes; a chain of 600 procedures, each used by the next one and by
+# begin, whose tree has near 524,288 operations; and a chain of near 1,000,000 bytes into a cycle, which is refused. The
 # program over masm_link is made in a temporary folder.
 set -e
 top=$(cd "$(dirname "$0")/.." && pwd)
@@ -129,7 +129,7 @@ def procedures():
         "repeat.3 neg swap end",
         "while.true dup end",
     ]
-    count = 17800
+    count = 20300
     lines = [f"proc.f{i} {bodies[i % 5]} end" for i in range(count)]
     lines += ["begin"] + [("call" if i % 50 == 0 else "exec") + f".f{i}" for i in range(count)]
     return "\n".join(lines + ["end"])
@@ -140,8 +140,8 @@ def chain():
     return "\n".join(lines + ["begin"] + [f"exec.c{k}" for k in range(600)] + ["end"])
 
 def refused():
-    lines = [f"proc.f{i} exec.f{i + 1} neg end" for i in range(30500)]
-    return "\n".join(lines + ["proc.f30500 exec.f30500 end", "begin exec.f0 end"])
+    lines = [f"proc.f{i} exec.f{i + 1} neg end" for i in range(31900)]
+    return "\n".join(lines + ["proc.f31900 exec.f31900 end", "begin exec.f0 end"])
 
 cases = {"procedures": procedures, "chain": chain, "refused": refused}
 for name, source in cases.items():
