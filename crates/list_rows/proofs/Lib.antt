@@ -1,0 +1,2 @@
+pub mod KernelLaw
+pub mod RangeLaw

@@ -1,0 +1,2 @@
+pub mod KernelTables
+pub mod RangeTables
