@@ -1,8 +1,5 @@
 ghost use Rattle.std.specs.Prelude.{◌≡◌, option_map};
-ghost use Rattle.vm_field.specs.Signs.{◌⊟◌, ◌⊠◌};
-ghost use Rattle.chip_columns.specs.BitwiseColumns as columns;
-ghost use Rattle.air_kit.specs.BitwiseValues.{nibble_a, nibble_b, nibble_z};
-ghost use Rattle.air_kit.specs.ChipPlaces.{only, paired};
+ghost use Rattle.air_kit.specs.BitwiseValues.{kind_change, own_a, own_b, own_z, step_a, step_b, step_z};
 
 use crate::nibbles::{nibble_a, nibble_b, nibble_z};
 use chip_columns::BitwiseView;
@@ -10,7 +7,7 @@ use vm_field::Felt;
 
 /// In the first of the eight rows: the first operand less its four bits; else 0.
 pub(crate) fn own_a<V: BitwiseView>(begins: bool, x: &V) -> Felt
-    ensures { result ≡ only begins (columns.a (V.cells x.now) ⊟ nibble_a (V.cells x.now)) }
+    ensures { result ≡ own_a begins (V.cells x.now) }
 {
     if begins {
         x.a() - nibble_a(x)
@@ -21,7 +18,7 @@ pub(crate) fn own_a<V: BitwiseView>(begins: bool, x: &V) -> Felt
 
 /// The same of the second operand.
 pub(crate) fn own_b<V: BitwiseView>(begins: bool, x: &V) -> Felt
-    ensures { result ≡ only begins (columns.b (V.cells x.now) ⊟ nibble_b (V.cells x.now)) }
+    ensures { result ≡ own_b begins (V.cells x.now) }
 {
     if begins {
         x.b() - nibble_b(x)
@@ -32,7 +29,7 @@ pub(crate) fn own_b<V: BitwiseView>(begins: bool, x: &V) -> Felt
 
 /// The same of the result.
 pub(crate) fn own_z<V: BitwiseView>(begins: bool, x: &V) -> Felt
-    ensures { result ≡ only begins (columns.z (V.cells x.now) ⊟ nibble_z (V.cells x.now)) }
+    ensures { result ≡ own_z begins (V.cells x.now) }
 {
     if begins {
         x.z() - nibble_z(x)
@@ -43,7 +40,7 @@ pub(crate) fn own_z<V: BitwiseView>(begins: bool, x: &V) -> Felt
 
 /// The next row's kind less the row's; 0 where there is none.
 pub(crate) fn kind_change<V: BitwiseView>(x: &V, next: &Option<V>) -> Felt
-    ensures { result ≡ paired (λ y. columns.op y ⊟ columns.op (V.cells x.now)) (option_map V.cells next.now) }
+    ensures { result ≡ kind_change (V.cells x.now) (option_map V.cells next.now) }
 {
     match next {
         Some(y) => y.op() - x.op(),
@@ -53,7 +50,7 @@ pub(crate) fn kind_change<V: BitwiseView>(x: &V, next: &Option<V>) -> Felt
 
 /// The next row's first operand less sixteen times the row's, and less its own four bits; 0 where there is none.
 pub(crate) fn step_a<V: BitwiseView>(x: &V, next: &Option<V>) -> Felt
-    ensures { result ≡ paired (λ y. columns.a y ⊟ 16 ⊠ columns.a (V.cells x.now) ⊟ nibble_a y) (option_map V.cells next.now) }
+    ensures { result ≡ step_a (V.cells x.now) (option_map V.cells next.now) }
 {
     match next {
         Some(y) => y.a() - Felt::from_u32(16) * x.a() - nibble_a(y),
@@ -63,7 +60,7 @@ pub(crate) fn step_a<V: BitwiseView>(x: &V, next: &Option<V>) -> Felt
 
 /// The same of the second operand.
 pub(crate) fn step_b<V: BitwiseView>(x: &V, next: &Option<V>) -> Felt
-    ensures { result ≡ paired (λ y. columns.b y ⊟ 16 ⊠ columns.b (V.cells x.now) ⊟ nibble_b y) (option_map V.cells next.now) }
+    ensures { result ≡ step_b (V.cells x.now) (option_map V.cells next.now) }
 {
     match next {
         Some(y) => y.b() - Felt::from_u32(16) * x.b() - nibble_b(y),
@@ -73,7 +70,7 @@ pub(crate) fn step_b<V: BitwiseView>(x: &V, next: &Option<V>) -> Felt
 
 /// The same of the result.
 pub(crate) fn step_z<V: BitwiseView>(x: &V, next: &Option<V>) -> Felt
-    ensures { result ≡ paired (λ y. columns.z y ⊟ 16 ⊠ columns.z (V.cells x.now) ⊟ nibble_z y) (option_map V.cells next.now) }
+    ensures { result ≡ step_z (V.cells x.now) (option_map V.cells next.now) }
 {
     match next {
         Some(y) => y.z() - Felt::from_u32(16) * x.z() - nibble_z(y),

@@ -1,8 +1,6 @@
 ghost use Rattle.std.specs.Prelude.{◌≡◌, ◌==◌, ◌%◌, ◌<◌, nat_lt, option_map};
-ghost use Rattle.vm_field.specs.Signs.{◌⊟◌, ◌⊠◌};
-ghost use Rattle.chip_columns.specs.HasherColumns.{cont, mode, more, x as state_element};
-ghost use Rattle.air_kit.specs.ChipPlaces.{only, paired};
-ghost use Rattle.air_kit.specs.HasherValues.{begins_at_zero, bit_value, chain_values, hasher_flag_values};
+ghost use Rattle.air_kit.specs.ChipPlaces.{only};
+ghost use Rattle.air_kit.specs.HasherValues.{begins_at_zero, bit_value, capacity_change, chain_values, cont_change, cont_promise, entry_14, hasher_flag_values, mode_change};
 
 use crate::placed::{in_last, only};
 use chip_columns::HasherView;
@@ -39,7 +37,7 @@ fn bit_value(a: Felt) -> Felt
 }
 
 fn mode_change<V: HasherView>(x: &V, next: &Option<V>) -> Felt
-    ensures { result ≡ paired (λ y. mode y ⊟ mode (V.cells x.now)) (option_map V.cells next.now) }
+    ensures { result ≡ mode_change (V.cells x.now) (option_map V.cells next.now) }
 {
     match next {
         Some(y) => y.mode() - x.mode(),
@@ -48,7 +46,7 @@ fn mode_change<V: HasherView>(x: &V, next: &Option<V>) -> Felt
 }
 
 fn cont_change<V: HasherView>(x: &V, next: &Option<V>) -> Felt
-    ensures { result ≡ paired (λ y. cont y ⊟ cont (V.cells x.now)) (option_map V.cells next.now) }
+    ensures { result ≡ cont_change (V.cells x.now) (option_map V.cells next.now) }
 {
     match next {
         Some(y) => y.cont() - x.cont(),
@@ -58,7 +56,7 @@ fn cont_change<V: HasherView>(x: &V, next: &Option<V>) -> Felt
 
 // The next permutation goes on with a hash exactly where this one says so.
 fn cont_promise<V: HasherView>(x: &V, next: &Option<V>) -> Felt
-    ensures { result ≡ paired (λ y. cont y ⊟ more (V.cells x.now)) (option_map V.cells next.now) }
+    ensures { result ≡ cont_promise (V.cells x.now) (option_map V.cells next.now) }
 {
     match next {
         Some(y) => y.cont() - x.more(),
@@ -102,7 +100,7 @@ pub(crate) fn chain_values<V: HasherView>(ends: bool, x: &V, next: &Option<V>) -
 
 fn capacity_change<V: HasherView>(x: &V, next: &Option<V>, j: usize) -> Felt
     requires { j < 12 }
-    ensures { result ≡ paired (λ y. more (V.cells x.now) ⊠ (state_element y j ⊟ state_element (V.cells x.now) j)) (option_map V.cells next.now) }
+    ensures { result ≡ capacity_change (V.cells x.now) (option_map V.cells next.now) j }
 {
     match next {
         Some(y) => x.more() * (y.x(j) - x.x(j)),
@@ -113,7 +111,7 @@ fn capacity_change<V: HasherView>(x: &V, next: &Option<V>, j: usize) -> Felt
 // The same where the permutation ends, else 0.
 fn capacity_kept<V: HasherView>(ends: bool, x: &V, next: &Option<V>, j: usize) -> Felt
     requires { j < 12 }
-    ensures { result ≡ only ends (paired (λ y. more (V.cells x.now) ⊠ (state_element y j ⊟ state_element (V.cells x.now) j)) (option_map V.cells next.now)) }
+    ensures { result ≡ entry_14 j ends (V.cells x.now) (option_map V.cells next.now) }
 {
     if ends {
         capacity_change(x, next, j)

@@ -1,12 +1,12 @@
 -- What decoding a row finds, and sums over the operations from a code on.
-use Rattle.std.proofs.Common.{◌≡◌, ℕ, zero, suc, ◌+◌, ◌*◌, ◌<◌, cond, Bool, true, List, [], ◌∷◌, drop, Option, Some, None, IfSome, refl, ap, subst, ◌∙◌, arith}
+use Rattle.std.proofs.Common.{◌≡◌, ℕ, zero, suc, ◌+◌, ◌*◌, ◌<◌, cond, Bool, List, [], ◌∷◌, drop, Option, Some, None, IfSome, refl, ap, subst, ◌∙◌, arith}
 use Rattle.std.specs.List.{slice_get}
 use Rattle.vm_field.specs.Field.{felt_add}
 use Rattle.vm_ops.specs.declared.op.Op.{Op}
 use Rattle.vm_ops.specs.Codes.{every_op, op_at}
 use Rattle.vm_ops.proofs.CodeLemmas.{code_of-op_at, op_at-outside}
 use Rattle.vm_table.specs.MainColumns.{b}
-use Rattle.air_kit.specs.Flags.{flag, sum_of, flags_of, spelled, HasOp}
+use Rattle.air_kit.specs.Flags.{flag, sum_of, flags_of, spelled}
 use Rattle.air_kit.specs.Decoding.{IsDecoded, IsSpelled}
 use Rattle.air_kit.proofs.FlagLemmas.{has_op-from, flags_of-hot, at_op}
 

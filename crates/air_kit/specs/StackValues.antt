@@ -52,7 +52,7 @@ shifts_right fl = flags_of is_right fl
 unfoldable pub keeps_depth : RowEntry
 keeps_depth fl x = 1 ⊟ shifts_right fl ⊟ shifts_left fl x ⊟ calls fl ⊟ returns fl x
 
--- the operations whose values other entries or buses fix
+-- the operations whose values other entries or buses fix, or the tape
 abbrev pub is_free : Op → Bool
 is_free ops.Push = true
 is_free ops.AdvPop = true

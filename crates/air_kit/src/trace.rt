@@ -2,11 +2,12 @@ ghost use Rattle.std.specs.Prelude.{◌≡◌};
 ghost use Rattle.air_kit.specs.Tables.{table_number, text_of_table};
 
 use crate::fault::Fault;
+use crate::place::Place;
 use crate::requests::{Perm, Requests};
 use rpo_hash::Params;
 use std::fmt;
 use vm_state::Statement;
-use vm_table::Table;
+use vm_table::{Row, Table};
 
 /// The tables that show a run (docs/FORMATS.md).
 #[derive(Drop)]
@@ -103,7 +104,7 @@ pub struct Public {
 
 fn crosses<T: Send + Sync>() {}
 
-/// Traces, what they are checked against, and faults may be sent to other threads and read by several.
+/// Traces, what they are checked against, rows in their places and faults may be sent to other threads and read by several.
 pub fn types_cross() {
     crosses::<Trace>();
     crosses::<TableName>();
@@ -111,4 +112,5 @@ pub fn types_cross() {
     crosses::<Fault>();
     crosses::<Perm>();
     crosses::<Requests>();
+    crosses::<Place<'static, Row<'static, 65>>>();
 }

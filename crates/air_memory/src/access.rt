@@ -3,7 +3,7 @@ ghost use Rattle.vm_field.specs.Signs.{◌⊟◌, ◌⊠◌};
 ghost use Rattle.chip_columns.specs.MemoryColumns.{addr, ctx, n0, n1};
 ghost use Rattle.air_kit.specs.ChipPlaces.{paired};
 ghost use Rattle.air_kit.specs.HasherValues.{bit_value};
-ghost use Rattle.air_kit.specs.MemoryValues.{access_values, address_value, kind_value, order_step, step_of};
+ghost use Rattle.air_kit.specs.MemoryValues.{access_values, address_change, address_value, context_change, kind_value, order_change, order_step, step_of};
 ghost use Rattle.air_kit.specs.Rows.{spot_at};
 
 use crate::placed::{goes_on_here, only};
@@ -52,7 +52,7 @@ fn address_value<V: MemoryView>(x: &V) -> Felt
 
 // The context stays unless the next row says that it is a new one.
 fn context_change<V: MemoryView>(x: &V, next: &Option<V>) -> Felt
-    ensures { result ≡ paired (λ y. (1 ⊟ n0 y) ⊠ (ctx y ⊟ ctx (V.cells x.now))) (option_map V.cells next.now) }
+    ensures { result ≡ context_change (V.cells x.now) (option_map V.cells next.now) }
 {
     match next {
         Some(y) => (Felt::ONE - y.n0()) * (y.ctx() - x.ctx()),
@@ -62,7 +62,7 @@ fn context_change<V: MemoryView>(x: &V, next: &Option<V>) -> Felt
 
 // The address stays unless the next row says that it or the context is a new one.
 fn address_change<V: MemoryView>(x: &V, next: &Option<V>) -> Felt
-    ensures { result ≡ paired (λ y. (1 ⊟ n0 y) ⊠ (1 ⊟ n1 y) ⊠ (addr y ⊟ addr (V.cells x.now))) (option_map V.cells next.now) }
+    ensures { result ≡ address_change (V.cells x.now) (option_map V.cells next.now) }
 {
     match next {
         Some(y) => (Felt::ONE - y.n0()) * (Felt::ONE - y.n1()) * (y.addr() - x.addr()),
@@ -71,7 +71,7 @@ fn address_change<V: MemoryView>(x: &V, next: &Option<V>) -> Felt
 }
 
 fn order_change<V: MemoryView>(x: &V, next: &Option<V>) -> Felt
-    ensures { result ≡ paired (λ y. order_step (V.cells x.now) y) (option_map V.cells next.now) }
+    ensures { result ≡ order_change (V.cells x.now) (option_map V.cells next.now) }
 {
     match next {
         Some(y) => order_step(x, y),

@@ -2,7 +2,7 @@ ghost use Rattle.std.specs.Prelude.{◌≡◌, ◌<◌, Bool, option_map};
 ghost use Rattle.vm_field.specs.Signs.{◌⊟◌, ◌⊠◌};
 ghost use Rattle.chip_columns.specs.MemoryColumns.{kind, v};
 ghost use Rattle.air_kit.specs.ChipPlaces.{only, paired};
-ghost use Rattle.air_kit.specs.MemoryValues.{goes_on_here, word_values};
+ghost use Rattle.air_kit.specs.MemoryValues.{element_change, kept_change, kept_factor, read_change, read_factor, word_values};
 ghost use Rattle.air_kit.specs.Rows.{spot_at};
 
 use crate::placed::{goes_on_here, only};
@@ -30,20 +30,20 @@ pub(crate) fn word_values<V: MemoryView>(place: &Place<'_, V>) -> [Felt; 8]
 
 // Not 0 where element 0 is as it was.
 fn read_factor<V: MemoryView>(row: &V) -> Felt
-    ensures { result ≡ (kind (V.cells row.now) ⊟ 1) ⊠ (kind (V.cells row.now) ⊟ 2) }
+    ensures { result ≡ read_factor (V.cells row.now) }
 {
     (row.kind() - Felt::ONE) * (row.kind() - Felt::from_u32(2))
 }
 
 // Not 0 where the other elements are as they were.
 fn kept_factor<V: MemoryView>(row: &V) -> Felt
-    ensures { result ≡ kind (V.cells row.now) ⊟ 1 }
+    ensures { result ≡ kept_factor (V.cells row.now) }
 {
     row.kind() - Felt::ONE
 }
 
 fn read_change<V: MemoryView>(x: &V, next: &Option<V>) -> Felt
-    ensures { result ≡ paired (λ y. (kind y ⊟ 1) ⊠ (kind y ⊟ 2) ⊠ (v y 0 ⊟ goes_on_here y ⊠ v (V.cells x.now) 0)) (option_map V.cells next.now) }
+    ensures { result ≡ read_change (V.cells x.now) (option_map V.cells next.now) }
 {
     match next {
         Some(y) => read_factor(y) * element_change(x, y, 0),
@@ -53,7 +53,7 @@ fn read_change<V: MemoryView>(x: &V, next: &Option<V>) -> Felt
 
 fn kept_change<V: MemoryView>(x: &V, next: &Option<V>, j: usize) -> Felt
     requires { j < 4 }
-    ensures { result ≡ paired (λ y. (kind y ⊟ 1) ⊠ (v y j ⊟ goes_on_here y ⊠ v (V.cells x.now) j)) (option_map V.cells next.now) }
+    ensures { result ≡ kept_change (V.cells x.now) (option_map V.cells next.now) j }
 {
     match next {
         Some(y) => kept_factor(y) * element_change(x, y, j),
@@ -64,7 +64,7 @@ fn kept_change<V: MemoryView>(x: &V, next: &Option<V>, j: usize) -> Felt
 // Element j less what it was: that of the row before where the word is the same one, else 0.
 fn element_change<V: MemoryView>(x: &V, y: &V, j: usize) -> Felt
     requires { j < 4 }
-    ensures { result ≡ v (V.cells y.now) j ⊟ goes_on_here (V.cells y.now) ⊠ v (V.cells x.now) j }
+    ensures { result ≡ element_change (V.cells x.now) (V.cells y.now) j }
 {
     y.v(j) - goes_on_here(y) * x.v(j)
 }

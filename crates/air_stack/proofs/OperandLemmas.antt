@@ -3,7 +3,7 @@ use Rattle.std.proofs.Common.{◌≡◌, ℕ, Bool, true, false, IsTrue, not, eq
 use Rattle.std.proofs.lemmas.Bool.{cases_Bool, eqb-true}
 use Rattle.vm_ops.specs.Codes.{code_of}
 use Rattle.vm_ops.specs.declared.op.Op.{Op}
-use Rattle.vm_ops.specs.declared.op.Op.TheVariants.{Eqz, Eq, Not, And, Or, CSwap, CSwapW, Assert}
+use Rattle.vm_ops.specs.declared.op.Op.TheVariants as ops
 use Rattle.vm_ops.proofs.CodeLemmas.{code_of-different}
 use Rattle.air_kit.specs.Flags.{Flags, HasOp, flag, one_hot}
 use Rattle.air_kit.specs.Places.{PairEntry, Spot, between, first_fault_of}
@@ -25,23 +25,23 @@ no_operands x op has out = λ other is_in. has.flags other ∙ other_flag op oth
 
 off_135 : (fl gl : Flags) (x y : List ℕ) → HasNoOperands fl → entry_135 fl gl x y ≡ 0
 unfolding entry_135
-off_135 fl gl x y n = rw (n Eqz refl) (simp zero-mul)
+off_135 fl gl x y n = rw (n ops.Eqz refl) (simp zero-mul)
 
 off_136 : (fl gl : Flags) (x y : List ℕ) → HasNoOperands fl → entry_136 fl gl x y ≡ 0
 unfolding entry_136
-off_136 fl gl x y n = rw (n Eq refl) (simp zero-mul)
+off_136 fl gl x y n = rw (n ops.Eq refl) (simp zero-mul)
 
 off_137 : (fl : Flags) (x : List ℕ) → HasNoOperands fl → entry_137 fl x ≡ 0
 unfolding entry_137
-off_137 fl x n = rw (n Not refl, n And refl, n Or refl, n CSwap refl, n CSwapW refl) (simp zero-mul)
+off_137 fl x n = rw (n ops.Not refl, n ops.And refl, n ops.Or refl, n ops.CSwap refl, n ops.CSwapW refl) (simp zero-mul)
 
 off_138 : (fl : Flags) (x : List ℕ) → HasNoOperands fl → entry_138 fl x ≡ 0
 unfolding entry_138
-off_138 fl x n = rw (n And refl, n Or refl) (simp zero-mul)
+off_138 fl x n = rw (n ops.And refl, n ops.Or refl) (simp zero-mul)
 
 off_139 : (fl : Flags) (x : List ℕ) → HasNoOperands fl → entry_139 fl x ≡ 0
 unfolding entry_139
-off_139 fl x n = rw (n Assert refl) (simp zero-mul)
+off_139 fl x n = rw (n ops.Assert refl) (simp zero-mul)
 
 pair_off : (entry : PairEntry) (x : List ℕ) (next : Option (List ℕ)) → ((y : List ℕ) → entry (flag x) (flag y) x y ≡ 0)
     → between entry x next ≡ 0

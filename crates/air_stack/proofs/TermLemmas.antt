@@ -5,7 +5,7 @@ use Rattle.std.proofs.lemmas.Bool.Decides.{nat_tests}
 use Rattle.std.specs.List.{All}
 use Rattle.vm_field.specs.Field.{prime, felt_sub}
 use Rattle.vm_ops.specs.declared.op.Op.{Op}
-use Rattle.vm_ops.specs.declared.op.Op.TheVariants.{Noop, Push, AdvPop, AdvPopW, MLoad, MLoadW, HPerm, U32And, U32Xor, U32Split, U32Add, U32Sub, U32Mul, U32Div, U32Add3, U32MAdd, Eqz, Eq, Inv, CSwap, CSwapW, Neg, Incr, Not, FmpAdd, Caller, Add, Mul, And, Or, Pad, SDepth, Clk}
+use Rattle.vm_ops.specs.declared.op.Op.TheVariants as ops
 use Rattle.vm_ops.specs.Moves.{takes_of, leaves_of, sources_of}
 use Rattle.vm_ops.specs.Step.{left_cells}
 use Rattle.vm_ops.specs.Values.{computed}
@@ -36,73 +36,73 @@ cell_of x (suc (suc (suc (suc (suc (suc (suc (suc (suc (suc (suc (suc (suc (suc 
 cell_of x (suc (suc (suc (suc (suc (suc (suc (suc (suc (suc (suc (suc (suc (suc (suc (suc k)))))))))))))))) h = absurd (omega (arith, h))
 
 -- the operations that compute no value of their own leave copies of cells, or what other entries and buses fix
-pub moved_term : (j : ℕ) (x y : List ℕ) (op : Op) → op ≢ Eqz → op ≢ Eq → op ≢ Inv → op ≢ CSwap → op ≢ CSwapW → op ≢ Neg → op ≢ Incr → op ≢ Not → op ≢ FmpAdd → op ≢ Caller → op ≢ Add → op ≢ Mul → op ≢ And → op ≢ Or → op ≢ Pad → op ≢ SDepth → op ≢ Clk
+pub moved_term : (j : ℕ) (x y : List ℕ) (op : Op) → op ≢ ops.Eqz → op ≢ ops.Eq → op ≢ ops.Inv → op ≢ ops.CSwap → op ≢ ops.CSwapW → op ≢ ops.Neg → op ≢ ops.Incr → op ≢ ops.Not → op ≢ ops.FmpAdd → op ≢ ops.Caller → op ≢ ops.Add → op ≢ ops.Mul → op ≢ ops.And → op ≢ ops.Or → op ≢ ops.Pad → op ≢ ops.SDepth → op ≢ ops.Clk
     → top_term j x y op ≡ cond (is_free op) 0 (felt_sub (s y j) (get_or (map (λ k. get_or (cells x) k 0) (sources_of op)) j 0))
 unfolding top_term left_value left_cells computed seen_of
-moved_term j x y Eqz n0 n1 n2 n3 n4 n5 n6 n7 n8 n9 n10 n11 n12 n13 n14 n15 n16 = absurd (n0 refl)
-moved_term j x y Eq n0 n1 n2 n3 n4 n5 n6 n7 n8 n9 n10 n11 n12 n13 n14 n15 n16 = absurd (n1 refl)
-moved_term j x y Inv n0 n1 n2 n3 n4 n5 n6 n7 n8 n9 n10 n11 n12 n13 n14 n15 n16 = absurd (n2 refl)
-moved_term j x y CSwap n0 n1 n2 n3 n4 n5 n6 n7 n8 n9 n10 n11 n12 n13 n14 n15 n16 = absurd (n3 refl)
-moved_term j x y CSwapW n0 n1 n2 n3 n4 n5 n6 n7 n8 n9 n10 n11 n12 n13 n14 n15 n16 = absurd (n4 refl)
-moved_term j x y Neg n0 n1 n2 n3 n4 n5 n6 n7 n8 n9 n10 n11 n12 n13 n14 n15 n16 = absurd (n5 refl)
-moved_term j x y Incr n0 n1 n2 n3 n4 n5 n6 n7 n8 n9 n10 n11 n12 n13 n14 n15 n16 = absurd (n6 refl)
-moved_term j x y Not n0 n1 n2 n3 n4 n5 n6 n7 n8 n9 n10 n11 n12 n13 n14 n15 n16 = absurd (n7 refl)
-moved_term j x y FmpAdd n0 n1 n2 n3 n4 n5 n6 n7 n8 n9 n10 n11 n12 n13 n14 n15 n16 = absurd (n8 refl)
-moved_term j x y Caller n0 n1 n2 n3 n4 n5 n6 n7 n8 n9 n10 n11 n12 n13 n14 n15 n16 = absurd (n9 refl)
-moved_term j x y Add n0 n1 n2 n3 n4 n5 n6 n7 n8 n9 n10 n11 n12 n13 n14 n15 n16 = absurd (n10 refl)
-moved_term j x y Mul n0 n1 n2 n3 n4 n5 n6 n7 n8 n9 n10 n11 n12 n13 n14 n15 n16 = absurd (n11 refl)
-moved_term j x y And n0 n1 n2 n3 n4 n5 n6 n7 n8 n9 n10 n11 n12 n13 n14 n15 n16 = absurd (n12 refl)
-moved_term j x y Or n0 n1 n2 n3 n4 n5 n6 n7 n8 n9 n10 n11 n12 n13 n14 n15 n16 = absurd (n13 refl)
-moved_term j x y Pad n0 n1 n2 n3 n4 n5 n6 n7 n8 n9 n10 n11 n12 n13 n14 n15 n16 = absurd (n14 refl)
-moved_term j x y SDepth n0 n1 n2 n3 n4 n5 n6 n7 n8 n9 n10 n11 n12 n13 n14 n15 n16 = absurd (n15 refl)
-moved_term j x y Clk n0 n1 n2 n3 n4 n5 n6 n7 n8 n9 n10 n11 n12 n13 n14 n15 n16 = absurd (n16 refl)
+moved_term j x y ops.Eqz n0 n1 n2 n3 n4 n5 n6 n7 n8 n9 n10 n11 n12 n13 n14 n15 n16 = absurd (n0 refl)
+moved_term j x y ops.Eq n0 n1 n2 n3 n4 n5 n6 n7 n8 n9 n10 n11 n12 n13 n14 n15 n16 = absurd (n1 refl)
+moved_term j x y ops.Inv n0 n1 n2 n3 n4 n5 n6 n7 n8 n9 n10 n11 n12 n13 n14 n15 n16 = absurd (n2 refl)
+moved_term j x y ops.CSwap n0 n1 n2 n3 n4 n5 n6 n7 n8 n9 n10 n11 n12 n13 n14 n15 n16 = absurd (n3 refl)
+moved_term j x y ops.CSwapW n0 n1 n2 n3 n4 n5 n6 n7 n8 n9 n10 n11 n12 n13 n14 n15 n16 = absurd (n4 refl)
+moved_term j x y ops.Neg n0 n1 n2 n3 n4 n5 n6 n7 n8 n9 n10 n11 n12 n13 n14 n15 n16 = absurd (n5 refl)
+moved_term j x y ops.Incr n0 n1 n2 n3 n4 n5 n6 n7 n8 n9 n10 n11 n12 n13 n14 n15 n16 = absurd (n6 refl)
+moved_term j x y ops.Not n0 n1 n2 n3 n4 n5 n6 n7 n8 n9 n10 n11 n12 n13 n14 n15 n16 = absurd (n7 refl)
+moved_term j x y ops.FmpAdd n0 n1 n2 n3 n4 n5 n6 n7 n8 n9 n10 n11 n12 n13 n14 n15 n16 = absurd (n8 refl)
+moved_term j x y ops.Caller n0 n1 n2 n3 n4 n5 n6 n7 n8 n9 n10 n11 n12 n13 n14 n15 n16 = absurd (n9 refl)
+moved_term j x y ops.Add n0 n1 n2 n3 n4 n5 n6 n7 n8 n9 n10 n11 n12 n13 n14 n15 n16 = absurd (n10 refl)
+moved_term j x y ops.Mul n0 n1 n2 n3 n4 n5 n6 n7 n8 n9 n10 n11 n12 n13 n14 n15 n16 = absurd (n11 refl)
+moved_term j x y ops.And n0 n1 n2 n3 n4 n5 n6 n7 n8 n9 n10 n11 n12 n13 n14 n15 n16 = absurd (n12 refl)
+moved_term j x y ops.Or n0 n1 n2 n3 n4 n5 n6 n7 n8 n9 n10 n11 n12 n13 n14 n15 n16 = absurd (n13 refl)
+moved_term j x y ops.Pad n0 n1 n2 n3 n4 n5 n6 n7 n8 n9 n10 n11 n12 n13 n14 n15 n16 = absurd (n14 refl)
+moved_term j x y ops.SDepth n0 n1 n2 n3 n4 n5 n6 n7 n8 n9 n10 n11 n12 n13 n14 n15 n16 = absurd (n15 refl)
+moved_term j x y ops.Clk n0 n1 n2 n3 n4 n5 n6 n7 n8 n9 n10 n11 n12 n13 n14 n15 n16 = absurd (n16 refl)
 moved_term j x y op n0 n1 n2 n3 n4 n5 n6 n7 n8 n9 n10 n11 n12 n13 n14 n15 n16 = refl
 
 -- an operation that leaves as many cells as it has sources leaves copies of them, and computes nothing
 pub copied_term : (j : ℕ) (x y : List ℕ) (op : Op) → length (sources_of op) ≡ leaves_of op
     → top_term j x y op ≡ felt_sub (s y j) (get_or (map (λ k. get_or (cells x) k 0) (sources_of op)) j 0)
 unfolding top_term left_value left_cells computed seen_of
-copied_term j x y Eqz is = absurd (omega (arith, is))
-copied_term j x y Eq is = absurd (omega (arith, is))
-copied_term j x y Inv is = absurd (omega (arith, is))
-copied_term j x y CSwap is = absurd (omega (arith, is))
-copied_term j x y CSwapW is = absurd (omega (arith, is))
-copied_term j x y Neg is = absurd (omega (arith, is))
-copied_term j x y Incr is = absurd (omega (arith, is))
-copied_term j x y Not is = absurd (omega (arith, is))
-copied_term j x y FmpAdd is = absurd (omega (arith, is))
-copied_term j x y Caller is = absurd (omega (arith, is))
-copied_term j x y Add is = absurd (omega (arith, is))
-copied_term j x y Mul is = absurd (omega (arith, is))
-copied_term j x y And is = absurd (omega (arith, is))
-copied_term j x y Or is = absurd (omega (arith, is))
-copied_term j x y Pad is = absurd (omega (arith, is))
-copied_term j x y SDepth is = absurd (omega (arith, is))
-copied_term j x y Clk is = absurd (omega (arith, is))
-copied_term j x y Push is = absurd (omega (arith, is))
-copied_term j x y AdvPop is = absurd (omega (arith, is))
-copied_term j x y AdvPopW is = absurd (omega (arith, is))
-copied_term j x y MLoad is = absurd (omega (arith, is))
-copied_term j x y MLoadW is = absurd (omega (arith, is))
-copied_term j x y HPerm is = absurd (omega (arith, is))
-copied_term j x y U32And is = absurd (omega (arith, is))
-copied_term j x y U32Xor is = absurd (omega (arith, is))
-copied_term j x y U32Split is = absurd (omega (arith, is))
-copied_term j x y U32Add is = absurd (omega (arith, is))
-copied_term j x y U32Sub is = absurd (omega (arith, is))
-copied_term j x y U32Mul is = absurd (omega (arith, is))
-copied_term j x y U32Div is = absurd (omega (arith, is))
-copied_term j x y U32Add3 is = absurd (omega (arith, is))
-copied_term j x y U32MAdd is = absurd (omega (arith, is))
+copied_term j x y ops.Eqz is = absurd (omega (arith, is))
+copied_term j x y ops.Eq is = absurd (omega (arith, is))
+copied_term j x y ops.Inv is = absurd (omega (arith, is))
+copied_term j x y ops.CSwap is = absurd (omega (arith, is))
+copied_term j x y ops.CSwapW is = absurd (omega (arith, is))
+copied_term j x y ops.Neg is = absurd (omega (arith, is))
+copied_term j x y ops.Incr is = absurd (omega (arith, is))
+copied_term j x y ops.Not is = absurd (omega (arith, is))
+copied_term j x y ops.FmpAdd is = absurd (omega (arith, is))
+copied_term j x y ops.Caller is = absurd (omega (arith, is))
+copied_term j x y ops.Add is = absurd (omega (arith, is))
+copied_term j x y ops.Mul is = absurd (omega (arith, is))
+copied_term j x y ops.And is = absurd (omega (arith, is))
+copied_term j x y ops.Or is = absurd (omega (arith, is))
+copied_term j x y ops.Pad is = absurd (omega (arith, is))
+copied_term j x y ops.SDepth is = absurd (omega (arith, is))
+copied_term j x y ops.Clk is = absurd (omega (arith, is))
+copied_term j x y ops.Push is = absurd (omega (arith, is))
+copied_term j x y ops.AdvPop is = absurd (omega (arith, is))
+copied_term j x y ops.AdvPopW is = absurd (omega (arith, is))
+copied_term j x y ops.MLoad is = absurd (omega (arith, is))
+copied_term j x y ops.MLoadW is = absurd (omega (arith, is))
+copied_term j x y ops.HPerm is = absurd (omega (arith, is))
+copied_term j x y ops.U32And is = absurd (omega (arith, is))
+copied_term j x y ops.U32Xor is = absurd (omega (arith, is))
+copied_term j x y ops.U32Split is = absurd (omega (arith, is))
+copied_term j x y ops.U32Add is = absurd (omega (arith, is))
+copied_term j x y ops.U32Sub is = absurd (omega (arith, is))
+copied_term j x y ops.U32Mul is = absurd (omega (arith, is))
+copied_term j x y ops.U32Div is = absurd (omega (arith, is))
+copied_term j x y ops.U32Add3 is = absurd (omega (arith, is))
+copied_term j x y ops.U32MAdd is = absurd (omega (arith, is))
 copied_term j x y op is = refl
 
 -- no shift is by more than one cell
 nearly : (op : Op) → takes_of op ≤ leaves_of op + 1
-nearly Noop = omega arith
+nearly ops.Noop = omega arith
 nearly op = omega arith
 
 left_is : (op : Op) → is_left op ≡ nat_lt (leaves_of op) (takes_of op)
-left_is Noop = refl
+left_is ops.Noop = refl
 left_is op = refl
 
 not_less : (a b : ℕ) → nat_lt a b ≡ false → b ≤ a

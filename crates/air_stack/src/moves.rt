@@ -51,7 +51,7 @@ fn below_term<V: MainView>(j: usize, x: &V, y: &V, op: Op) -> Felt
     }
 }
 
-// Whether other entries or buses fix what the operation leaves.
+// Whether other entries, buses or the tape fix what the operation leaves.
 fn is_free(op: Op) -> bool
     ensures { result ≡ is_free op }
 {

@@ -4,7 +4,7 @@ use Rattle.std.proofs.lemmas.Bool.{cases_Bool, eqb-true}
 use Rattle.vm_field.specs.Field.{prime, felt_mul}
 use Rattle.vm_ops.specs.Codes.{code_of}
 use Rattle.vm_ops.specs.declared.op.Op.{Op}
-use Rattle.vm_ops.specs.declared.op.Op.TheVariants.{U32Split, U32Add, U32Sub, U32Mul, U32Div, U32Assert2, U32Add3, U32MAdd}
+use Rattle.vm_ops.specs.declared.op.Op.TheVariants as ops
 use Rattle.vm_ops.proofs.CodeLemmas.{code_of-different}
 use Rattle.air_kit.specs.Flags.{Flags, HasOp, flag, one_hot}
 use Rattle.air_kit.specs.Places.{PairEntry, Spot, between, first_fault_of}
@@ -30,11 +30,11 @@ zero_times a = ap (λ n. n % prime) (zero-mul a)
 no_two : (fl : Flags) → HasNoLimbs fl → takes_two fl ≡ 0
 unfolding takes_two
 no_two fl n =
-    rw (n U32Add refl, n U32Sub refl, n U32Mul refl, n U32Div refl, n U32Assert2 refl, n U32Add3 refl, n U32MAdd refl) refl
+    rw (n ops.U32Add refl, n ops.U32Sub refl, n ops.U32Mul refl, n ops.U32Div refl, n ops.U32Assert2 refl, n ops.U32Add3 refl, n ops.U32MAdd refl) refl
 
 no_three : (fl : Flags) → HasNoLimbs fl → takes_three fl ≡ 0
 unfolding takes_three
-no_three fl n = rw (n U32Add3 refl, n U32MAdd refl) refl
+no_three fl n = rw (n ops.U32Add3 refl, n ops.U32MAdd refl) refl
 
 off_140 : (fl : Flags) (x : List ℕ) → HasNoLimbs fl → entry_140 fl x ≡ 0
 unfolding entry_140
@@ -51,27 +51,27 @@ off_142 fl x n = rw (no_three fl n) (zero_times _)
 off_143 : (fl gl : Flags) (x y : List ℕ) → HasNoLimbs fl → entry_143 fl gl x y ≡ 0
 unfolding entry_143
 off_143 fl gl x y n =
-    rw (n U32Split refl, n U32Add refl, n U32Sub refl, n U32Mul refl, n U32Div refl, no_three fl n) (simp zero-mul)
+    rw (n ops.U32Split refl, n ops.U32Add refl, n ops.U32Sub refl, n ops.U32Mul refl, n ops.U32Div refl, no_three fl n) (simp zero-mul)
 
 off_144 : (fl gl : Flags) (x y : List ℕ) → HasNoLimbs fl → entry_144 fl gl x y ≡ 0
 unfolding entry_144
 off_144 fl gl x y n =
-    rw (n U32Split refl, n U32Add refl, n U32Add3 refl, n U32Sub refl, n U32Mul refl, n U32Div refl, n U32MAdd refl)
+    rw (n ops.U32Split refl, n ops.U32Add refl, n ops.U32Add3 refl, n ops.U32Sub refl, n ops.U32Mul refl, n ops.U32Div refl, n ops.U32MAdd refl)
     (simp zero-mul)
 
 off_145 : (fl gl : Flags) (x y : List ℕ) → HasNoLimbs fl → entry_145 fl gl x y ≡ 0
 unfolding entry_145
 off_145 fl gl x y n =
-    rw (n U32Split refl, n U32Add refl, n U32Add3 refl, n U32Mul refl, n U32MAdd refl, n U32Sub refl, n U32Div refl)
+    rw (n ops.U32Split refl, n ops.U32Add refl, n ops.U32Add3 refl, n ops.U32Mul refl, n ops.U32MAdd refl, n ops.U32Sub refl, n ops.U32Div refl)
     (simp zero-mul)
 
 off_146 : (fl gl : Flags) (x y : List ℕ) → HasNoLimbs fl → entry_146 fl gl x y ≡ 0
 unfolding entry_146
-off_146 fl gl x y n = rw (n U32Split refl, n U32Mul refl, n U32MAdd refl) (simp zero-mul)
+off_146 fl gl x y n = rw (n ops.U32Split refl, n ops.U32Mul refl, n ops.U32MAdd refl) (simp zero-mul)
 
 off_147 : (fl : Flags) (x : List ℕ) → HasNoLimbs fl → entry_147 fl x ≡ 0
 unfolding entry_147
-off_147 fl x n = rw (n U32Div refl) (zero_times _)
+off_147 fl x n = rw (n ops.U32Div refl) (zero_times _)
 
 pair_off : (entry : PairEntry) (x : List ℕ) (next : Option (List ℕ)) → ((y : List ℕ) → entry (flag x) (flag y) x y ≡ 0)
     → between entry x next ≡ 0

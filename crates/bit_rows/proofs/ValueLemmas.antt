@@ -6,7 +6,7 @@ use Rattle.vm_field.proofs.Algebra.{felt_sub-same}
 use Rattle.air_kit.proofs.ZeroLemmas.{bit_zero}
 use Rattle.air_kit.specs.BitwiseValues.{bitwise_values_by, nibble_a, nibble_b, nibble_z}
 use Rattle.air_kit.specs.ChipPlaces.{only}
-use Rattle.hash_rows.proofs.RowLemmas.{zeros_at}
+use Rattle.vm_field.proofs.Elements.{index-zeros}
 use Rattle.hash_rows.proofs.ZeroLemmas.{AllZero}
 use Rattle.bit_rows.specs.BitRows.{bit_number, bitwise, bit_row}
 use Rattle.bit_rows.proofs.Nibbles.{number_splits, bitwise-below, bitwise-none, bitwise-splits}
@@ -17,7 +17,7 @@ sixteen_zero : (c d e f g h i j k l m n o p q r : ℕ) → c ≡ 0 → d ≡ 0 �
     → m ≡ 0 → n ≡ 0 → o ≡ 0 → p ≡ 0 → q ≡ 0 → r ≡ 0
     → AllZero (c ∷ d ∷ e ∷ f ∷ g ∷ h ∷ i ∷ j ∷ k ∷ l ∷ m ∷ n ∷ o ∷ p ∷ q ∷ r ∷ [])
 sixteen_zero c d e f g h i j k l m n o p q r zc zd ze zf zg zh zi zj zk zl zm zn zo zp zq zr number =
-    ap (λ xs. slice_index xs number) all ∙ zeros_at 16 number
+    ap (λ xs. slice_index xs number) all ∙ index-zeros 16 number
   where
     all : ◌≡◌ {A = List ℕ} (c ∷ d ∷ e ∷ f ∷ g ∷ h ∷ i ∷ j ∷ k ∷ l ∷ m ∷ n ∷ o ∷ p ∷ q ∷ r ∷ []) (replicate 16 0)
     all = cc

@@ -1,14 +1,12 @@
 -- Rows show eight elements of hashing, and words.
-use Rattle.std.proofs.Common.{◌≡◌, ℕ, ◌-◌, ◌<◌, ◌≤◌, Bool, true, false, cond, List, [], ◌∷◌, ◌++◌, length, replicate, refl, sym, ap, ◌∙◌, arith, length-append, lit≤}
+use Rattle.std.proofs.Common.{◌≡◌, ℕ, ◌-◌, ◌<◌, ◌≤◌, Bool, true, false, cond, List, ◌++◌, length, replicate, sym, ap, ◌∙◌, arith, length-append, lit≤}
 use Rattle.std.proofs.lemmas.List.{length-replicate}
-use Rattle.std.proofs.lemmas.List.Elements.{All-nil, All-cons, All-append, All-replicate}
+use Rattle.std.proofs.lemmas.List.Elements.{All-replicate}
 use Rattle.vm_field.specs.Field.{prime, AreElements}
 use Rattle.vm_field.specs.Machine.{Core, State, IsWord, IsWellFormedCore, zero_word, word_at}
-use Rattle.vm_field.proofs.Elements.{word-zero}
+use Rattle.vm_field.proofs.Elements.{elements-append, word-of, word-zero}
 use Rattle.vm_ops.specs.Codes.{accesses_memory}
-use Rattle.vm_ops.specs.declared.op.Op.{Op}
-use Rattle.vm_ops.specs.declared.op.Op.TheVariants.{Noop}
-use Rattle.vm_ops.specs.Values.{advice_of}
+use Rattle.vm_ops.proofs.MoveLemmas.{advice_of-below}
 use Rattle.op_pack.specs.Reading.{IsBatch}
 use Rattle.block_tree.specs.Cycles.{Mark, StartOpaque, StartSpan, StartJoin, StartSplit, StartLoop, StartCall, StartSyscall, Respan, Repeat, Do, End, EndSpan, EndLoop, EndCall, EndSyscall, top, advice_taken}
 use Rattle.block_tree.specs.Marks.{IsWholeMark}
@@ -16,20 +14,11 @@ use Rattle.block_tree.specs.RowLaws.{core_after}
 use Rattle.block_tree.specs.Rows.{op_of, hash_of, accessed, behind, four_of}
 use Rattle.block_tree.specs.Steps.{IsCycle}
 
-pub word-of : (a b c d : ℕ) → a < prime → b < prime → c < prime → d < prime → IsWord (a ∷ b ∷ c ∷ d ∷ [])
-word-of a b c d l m n o = record {
-  size = refl;
-  below =
-      All-cons (λ e. e < prime) a (b ∷ c ∷ d ∷ []) l
-      (All-cons (λ e. e < prime) b (c ∷ d ∷ []) m
-      (All-cons (λ e. e < prime) c (d ∷ []) n (All-cons (λ e. e < prime) d [] o (All-nil (λ e. e < prime)))));
-}
-
 -- two words are eight elements
 pub two-words : (v w : List ℕ) → IsWord v → IsWord w → IsBatch (v ++ w)
 two-words v w hv hw = record {
   size = omega (arith, length-append v w, hv.size, hw.size);
-  below = All-append (λ e. e < prime) v w hv.below hw.below;
+  below = elements-append v w hv.below hw.below;
 }
 
 pub hash-batch : (mark : Mark) → IsWholeMark mark → IsBatch (hash_of mark)
@@ -52,15 +41,11 @@ hash-batch (EndSyscall digest frame) h = two-words _ _ h.0 (word-of 0 0 0 1 (ome
 pub four-word : (elements : List ℕ) → length elements ≤ 4 → AreElements elements → IsWord (four_of elements)
 four-word elements l h = record {
   size = omega (arith, length-append elements (replicate (4 - length elements) 0), length-replicate {A = ℕ} (4 - length elements) 0);
-  below = All-append (λ e. e < prime) elements _ h (All-replicate (λ e. e < prime) (4 - length elements) 0 (omega arith));
+  below = elements-append elements _ h (All-replicate (λ e. e < prime) (4 - length elements) 0 (omega arith));
 }
 
-pub advice_of-four : (op : Op) → advice_of op ≤ 4
-advice_of-four Noop = lit≤ tt
-advice_of-four _ = lit≤ tt
-
 pub advice-four : (mark : Mark) → advice_taken mark ≤ 4
-advice-four (Do item) = advice_of-four item.op
+advice-four (Do item) = advice_of-below item.op
 advice-four StartOpaque = lit≤ tt
 advice-four _ = lit≤ tt
 

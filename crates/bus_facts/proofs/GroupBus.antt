@@ -9,7 +9,7 @@ use Rattle.air_kit.specs.MainTuples.{domain_of, eight, groups_asked, groups_give
 use Rattle.air_kit.specs.Places.{Claim}
 use Rattle.row_facts.specs.MainRows.{ShowsRows, op_in, row_at}
 use Rattle.bus_facts.specs.Batches.{Begins, GroupFacts, IsTaken, batch_at}
-use Rattle.bus_facts.proofs.GroupPlaces.{Gives, all_are, gives, in_use, opens_asks, parts, push_asks}
+use Rattle.bus_facts.proofs.GroupPlaces.{GivesGroup, all_are, gives, in_use, opens_asks, parts, push_asks}
 use Rattle.bus_facts.proofs.HasherBus.{Asks, respan_in, start_in}
 use Rattle.bus_facts.proofs.RowSums.{IsInRow, count_in, rows_have, rows_some}
 use Rattle.bus_facts.proofs.Splits.{op_from}
@@ -49,7 +49,7 @@ module _ (rows : List (List ℕ)) (alike : (u : List ℕ) → over_rows (with_ne
       found : (i : ℕ) × IsInRow groups_given rows u i
       found = rows_some groups_given rows u (let h = rows_have groups_asked rows u r asked in let a = alike u in omega (arith, h, a))
 
-      given : Gives (row_at rows found.0) (row_at rows (suc found.0)) u
+      given : GivesGroup (row_at rows found.0) (row_at rows (suc found.0)) u
       given = gives (row_at rows found.0) (row_at rows (suc found.0)) u found.1.positive
 
       same : (batch_at rows found.0 ≡ ha (row_at rows r)) × (given.at.left ≡ gc (row_at rows r)) × (h (row_at rows found.0) given.at.place ≡ element)

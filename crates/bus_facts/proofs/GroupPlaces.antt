@@ -45,7 +45,7 @@ place_of x y q (suc n) u some =
     (let e = more_counts (once (ha y ∷ suc n ∷ h x q ∷ [])) (groups_from x y (suc q) n) u in omega (arith, e, some)))
 
 -- the batch of a row that gives a tuple
-pub record Gives (x y u : List ℕ) : Type 0 where
+pub record GivesGroup (x y u : List ℕ) : Type 0 where
   pub is_batch : is_batch_op (op_of x) ≡ true
   pub at : IsPlace x y 1 (positions x - 1) u
 
@@ -54,7 +54,7 @@ gives_if : (b : Bool) (x y u : List ℕ) → 0 < counted (cond b (groups_from x 
 gives_if true x y u some = (refl, place_of x y 1 (positions x - 1) u some)
 gives_if false x y u some = nothing_counts u some
 
-pub gives : (x y u : List ℕ) → 0 < counted (groups_given x y) u → Gives x y u
+pub gives : (x y u : List ℕ) → 0 < counted (groups_given x y) u → GivesGroup x y u
 unfolding groups_given
 gives x y u some = let g = gives_if (is_batch_op (op_of x)) x y u some in record { is_batch = g.0; at = g.1 }
 

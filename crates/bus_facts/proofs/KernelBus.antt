@@ -1,7 +1,7 @@
 -- A syscall calls a function of the kernel: the kernel's table has the digests of the statement's list, in order.
 use Rattle.std.proofs.Common.{◌≡◌, ℕ, suc, ◌<◌, true, nat_eq, All, List, [], ◌∷◌, length, slice_index, slice_index_or, refl, sym, ap, subst, ◌∙◌, arith, lit<}
 use Rattle.std.proofs.lemmas.List.Folds.{list_any_at}
-use lib.Pointwise.{pointwise}
+use lib.Pointwise.{bytes_decides, pointwise}
 use Rattle.buses.specs.Counts.{counted, once, over_rows, with_next}
 use Rattle.vm_field.specs.Field.{felt_sub}
 use Rattle.vm_field.specs.Machine.{IsWord}
@@ -21,7 +21,7 @@ use Rattle.row_facts.proofs.Zeros.{numbers_zero, zero_family}
 use Rattle.bus_facts.specs.Lookups.{KernelFacts}
 use Rattle.bus_facts.proofs.RowSums.{IsInRow, count_in, rows_have}
 use Rattle.bus_facts.proofs.TableSums.{IsInTable, table_some}
-use Rattle.bus_facts.proofs.Tuples.{pointwise_same, single_is, single_self}
+use Rattle.bus_facts.proofs.Tuples.{single_is, single_self}
 
 syscall_asks : (x y : List ℕ) → op_of x ≡ ops.Syscall → kernel_asked x y ≡ once (front x) ∷ []
 unfolding kernel_asked
@@ -87,4 +87,4 @@ module _ (k : Claim) (words : All IsWord k.kernel) (table : List (List ℕ)) (sh
         same : pointwise nat_eq u (slice_index_or k.kernel found.0 []) ≡ true
         same =
             subst (λ w. pointwise nat_eq u w ≡ true) (sym (row_gives (row_at table found.0) u found.1.positive)
-            ∙ digest_is found.0 found.1.within inside) (pointwise_same u)
+            ∙ digest_is found.0 found.1.within inside) ((bytes_decides u u).1 refl)

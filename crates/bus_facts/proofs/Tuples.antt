@@ -1,37 +1,18 @@
 -- How often a tuple counts in the lists of a row: in a list of one tuple, and where a test passes.
-use Rattle.std.proofs.Common.{◌≡◌, ℕ, ◌+◌, ◌<◌, ◌≤◌, Bool, true, false, cond, nat_eq, List, [], ◌∷◌, refl, sym, ap, ◌∙◌, arith, Equal, Less, Greater}
-use Rattle.std.proofs.lemmas.Bool.{eq-eqb}
-use Rattle.std.specs.Cmp.Lexicographic.{slice_cmp, texts_ties}
-use Rattle.std.specs.Ordering.{is_eq, nat_cmp}
-use Rattle.std.proofs.lemmas.Map.Lookups.{exact_bytes}
-use Rattle.std.specs.declared.cmp.Ordering.{Ordering}
-use lib.Pointwise.{pointwise}
+use Rattle.std.proofs.Common.{◌≡◌, ℕ, ◌+◌, ◌<◌, ◌≤◌, Bool, true, false, cond, nat_eq, List, [], ◌∷◌, refl, ap, arith}
+use lib.Pointwise.{bytes_decides, pointwise}
 use Rattle.buses.specs.Counts.{Counted, counted, hits, once}
-
-equal_from : (r : Ordering) → is_eq r ≡ true → r ≡ Equal
-equal_from Less e = cc
-equal_from Equal e = refl
-equal_from Greater e = cc
-
--- equal element by element is the same tuple
-pub same_from_pointwise : (t u : List ℕ) → pointwise nat_eq t u ≡ true → t ≡ u
-same_from_pointwise t u h =
-    exact_bytes t u (equal_from (slice_cmp nat_cmp t u) (sym (texts_ties t u) ∙ h))
-
-pub pointwise_same : (t : List ℕ) → pointwise nat_eq t t ≡ true
-pointwise_same [] = refl
-pointwise_same (x ∷ t) = rw (eq-eqb x x refl) (pointwise_same t)
 
 -- a tuple that hits is the one counted
 pub hit_is : (t : List ℕ) (count : ℕ) (u : List ℕ) → 0 < hits t count u → t ≡ u
 hit_is t count u =
     elim (pointwise nat_eq t u) as (λ b. pointwise nat_eq t u ≡ b → 0 < cond b count 0 → t ≡ u) [
-      | true ↦ λ e h. same_from_pointwise t u e
+      | true ↦ λ e h. (bytes_decides t u).0 e
       | false ↦ λ e h. absurd (omega (arith, h))
     ] refl
 
 pub hit_self : (t : List ℕ) (count : ℕ) → hits t count t ≡ count
-hit_self t count = ap (λ b. cond b count 0) (pointwise_same t)
+hit_self t count = ap (λ b. cond b count 0) ((bytes_decides t t).1 refl)
 
 pub hit_few : (t : List ℕ) (count : ℕ) (u : List ℕ) → hits t count u ≤ count
 hit_few t count u = elim (pointwise nat_eq t u) as (λ b. cond b count 0 ≤ count) [ true ↦ omega arith | false ↦ omega arith ]

@@ -1,10 +1,7 @@
 -- Both counts of a tuple behind one more.
-use Rattle.std.proofs.Common.{◌≡◌, ℕ, ◌+◌, true, false, cond, List, ◌≤◌, Some, Result, Ok, Err, OnOk, OnErr, nat_eq, unwrap_or, Equal, Less, Greater, refl, sym, ap, ◌∙◌, arith, add-zero}
+use Rattle.std.proofs.Common.{◌≡◌, ℕ, ◌+◌, true, false, cond, List, ◌≤◌, Some, Result, Ok, Err, OnOk, OnErr, nat_eq, unwrap_or, refl, sym, ap, ◌∙◌, arith, add-zero}
 use Rattle.std.specs.HashMap.{HashMap, get}
-use Rattle.std.specs.Cmp.Lexicographic.{slice_cmp, texts_ties}
-use Rattle.std.specs.Ordering.{is_eq, nat_cmp}
-use Rattle.std.proofs.lemmas.Map.Lookups.{exact_bytes}
-use lib.Pointwise.{pointwise}
+use lib.Pointwise.{bytes_decides, pointwise}
 use Rattle.bus_kit.specs.Counting.{both_in, more_on, on_side, IsAdded}
 use Rattle.buses.specs.Counts.{hits}
 use Rattle.bus_kit.specs.declared.counts.Side.{Side}
@@ -15,18 +12,13 @@ pub more_on_zero : (side : Side) (both : ℕ × ℕ) → more_on side 0 both ≡
 more_on_zero Asked both = λ i. (add-zero both.0 i, both.1)
 more_on_zero Given both = λ i. (both.0, add-zero both.1 i)
 
--- equal element by element is the same tuple
-pub same_from_pointwise : (t u : List ℕ) → pointwise nat_eq t u ≡ true → t ≡ u
-same_from_pointwise t u h =
-    exact_bytes t u (elim (slice_cmp nat_cmp t u) as (λ r. is_eq r ≡ true → r ≡ Equal) [ Less ↦ λ e. cc | Equal ↦ λ e. refl | Greater ↦ λ e. cc ] (sym (texts_ties t u) ∙ h))
-
 pub added_at : {S : Type 0} (m n : HashMap (List ℕ) (ℕ × ℕ) S) (side : Side) (t : List ℕ) (count : ℕ) (v : ℕ × ℕ) (u : List ℕ)
     → get (pointwise nat_eq) n u ≡ cond (pointwise nat_eq t u) (Some v) (get (pointwise nat_eq) m u)
     → v ≡ more_on side count (both_in m t)
     → both_in n u ≡ more_on side (hits t count u) (both_in m u)
 added_at m n side t count v u at is =
     elim (pointwise nat_eq t u) as (λ b. pointwise nat_eq t u ≡ b → get (pointwise nat_eq) n u ≡ cond b (Some v) (get (pointwise nat_eq) m u) → both_in n u ≡ more_on side (cond b count 0) (both_in m u)) [
-      | true ↦ λ same got. ap (λ o. unwrap_or o (0, 0)) got ∙ is ∙ ap (λ k. more_on side count (both_in m k)) (same_from_pointwise t u same)
+      | true ↦ λ same got. ap (λ o. unwrap_or o (0, 0)) got ∙ is ∙ ap (λ k. more_on side count (both_in m k)) ((bytes_decides t u).0 same)
       | false ↦ λ apart got. ap (λ o. unwrap_or o (0, 0)) got ∙ sym (more_on_zero side (both_in m u))
     ] refl at
 

@@ -29,7 +29,7 @@ n0 row = slice_index row 8
 abbrev pub n1 : List ℕ → ℕ
 n1 row = slice_index row 9
 
--- the low 16 bits of what the order grows by
+-- the low 16 bits of what the order grows by, less one
 abbrev pub d0 : List ℕ → ℕ
 d0 row = slice_index row 10
 

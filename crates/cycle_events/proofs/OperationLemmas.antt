@@ -8,7 +8,7 @@ use Rattle.vm_ops.specs.declared.cause.Cause.{Cause}
 use Rattle.vm_ops.specs.declared.cause.Cause.TheVariants.{AddressRange}
 use Rattle.vm_ops.specs.declared.item.Item.{Item}
 use Rattle.vm_ops.specs.declared.op.Op.{Op}
-use Rattle.vm_ops.specs.declared.op.Op.TheVariants.{MLoad, MLoadW, MStore, MStoreW, Push}
+use Rattle.vm_ops.specs.declared.op.Op.TheVariants as ops
 use Rattle.vm_ops.specs.Items.{IsOrdinaryItem}
 use Rattle.vm_field.specs.Field.{prime}
 use Rattle.vm_ops.specs.Codes.{accesses_memory}
@@ -35,10 +35,10 @@ use Rattle.vm_ops.specs.Stepping.{seen_at}
 use Rattle.vm_ops.proofs.StepLemmas.{stepped}
 use Rattle.cycle_events.proofs.CycleLemmas.{ran-done}
 
-at-push : (tape advice : List ℕ) → (advice_of Push ≤ length advice → tape ≡ four_of (take (advice_of Push) advice)) → tape ≡ zero_word
+at-push : (tape advice : List ℕ) → (advice_of ops.Push ≤ length advice → tape ≡ four_of (take (advice_of ops.Push) advice)) → tape ≡ zero_word
 at-push tape advice h = h (omega arith)
 
-alone : (imm : Option ℕ) (op : Op) → MatchOption imm (op ≢ Push) (λ value. (op ≡ Push) × (value < prime)) → (tape word advice w : List ℕ)
+alone : (imm : Option ℕ) (op : Op) → MatchOption imm (op ≢ ops.Push) (λ value. (op ≡ ops.Push) × (value < prime)) → (tape word advice w : List ℕ)
     → (advice_of op ≤ length advice → tape ≡ four_of (take (advice_of op) advice)) → word ≡ (if accesses_memory op then w else zero_word)
     → IfSome imm (λ x. (tape ≡ zero_word) × (word ≡ zero_word))
 alone None op m tape word advice w is_tape is_word = tt
@@ -60,10 +60,10 @@ unless-true false cause e = cc
 -- a memory operation that does not trap has an address on top
 fits : (op : Op) (s : Seen) → trap_of op s ≡ None → IsTrue (accesses_memory op) → cell s 0 < 2 ^ 32
 unfolding trap_of
-fits MLoad s e h = ltb-true (cell s 0) (2 ^ 32) (unless-true (is_u32 (cell s 0)) AddressRange e)
-fits MLoadW s e h = ltb-true (cell s 0) (2 ^ 32) (unless-true (is_u32 (cell s 0)) AddressRange e)
-fits MStore s e h = ltb-true (cell s 0) (2 ^ 32) (unless-true (is_u32 (cell s 0)) AddressRange e)
-fits MStoreW s e h = ltb-true (cell s 0) (2 ^ 32) (unless-true (is_u32 (cell s 0)) AddressRange e)
+fits ops.MLoad s e h = ltb-true (cell s 0) (2 ^ 32) (unless-true (is_u32 (cell s 0)) AddressRange e)
+fits ops.MLoadW s e h = ltb-true (cell s 0) (2 ^ 32) (unless-true (is_u32 (cell s 0)) AddressRange e)
+fits ops.MStore s e h = ltb-true (cell s 0) (2 ^ 32) (unless-true (is_u32 (cell s 0)) AddressRange e)
+fits ops.MStoreW s e h = ltb-true (cell s 0) (2 ^ 32) (unless-true (is_u32 (cell s 0)) AddressRange e)
 fits _ s e h = cc
 
 module _ (constants : List ℕ) (item : Item) (state : State) where

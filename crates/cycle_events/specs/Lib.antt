@@ -1,4 +1,4 @@
 pub mod Events
 pub mod Kept
 pub mod Running
-pub mod Sizes
+pub mod Log

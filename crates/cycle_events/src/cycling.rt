@@ -12,7 +12,8 @@ ghost use Rattle.cycle_events.specs.Running.{Ran, done_of};
 ghost use Rattle.cycle_effects.specs.Settings.{cycle_in};
 ghost use Rattle.cycle_effects.specs.declared.refusal.Stop.TheVariants.{OutOfCycles};
 
-use crate::event::{Events, Visible};
+use crate::event::Visible;
+use crate::log::Events;
 use cycle_effects::{Frame, Mark, Setting, Stop, effect, stop_at, top_of};
 use op_steps::step;
 use std::mem;
@@ -101,7 +102,7 @@ fn before_cycle(state: &State, setting: &Setting) -> Result<Visible, Stop>
         digest: state.digest,
         nesting: state.nesting,
         depth: state.depth(),
-        cells: state.visible(),
+        cells: *state.visible(),
     })
 }
 

@@ -3,6 +3,8 @@
 
 mod cycling;
 mod event;
+mod log;
 
 pub use cycling::{Runner, cycle, enter, operation};
-pub use event::{Event, Events, Kept, Visible};
+pub use event::{Event, Visible};
+pub use log::Events;

@@ -1,13 +1,20 @@
 -- The later batches of a span.
 use Rattle.std.proofs.Common.{◌≡◌, ℕ, ◌+◌, ◌<◌, ◌≤◌, Bool, true, false, List, [], ◌∷◌, ◌++◌, length, get_or, drop, sym, refl, ap, ◌∙◌, append_assoc}
 use Rattle.std.proofs.lemmas.Bool.{false≢true}
-use Rattle.std.proofs.lemmas.List.{append-nil, drop_all}
+use Rattle.std.proofs.lemmas.List.{append-nil, drop_all, get_or_default}
+use Rattle.vm_ops.specs.declared.op.Op.{Op}
+use Rattle.cycle_events.specs.Log.{ShowsAt}
 use Rattle.cycle_events.specs.declared.event.Event.{Event}
 use Rattle.run_rows.specs.Kinds as kinds
 use Rattle.run_rows.specs.Kinds.{Kind, kind_of}
 use Rattle.run_rows.specs.Turns.{respans, respans_by}
 use Rattle.event_kinds.specs.Spans.{batch_by, stays}
 use Rattle.event_kinds.proofs.LoopLemmas.{suffix}
+
+-- the operation that is shown at a place is that of the event there
+pub same_op : (events : List Event) (i : ℕ) (op : Op) (e : Event) → i < length events → ShowsAt events i (λ e. op ≡ e.op) → e ≡ get_or events i e → op ≡ e.op
+same_op events i op e within shown is =
+    shown.2 ∙ ap (λ (x : Event). x.op) (shown.1 ∙ get_or_default events i shown.0 e within ∙ sym is)
 
 respans-more : (e : Event) (later : List Event) → respans (e ∷ later) ≡ respans_by (kind_of e.op) e.hash (respans later)
 unfolding respans

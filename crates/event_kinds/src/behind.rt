@@ -1,22 +1,15 @@
-ghost use Rattle.std.specs.Prelude.{◌≡◌, ◌+◌, ◌<◌, drop, length};
+ghost use Rattle.std.specs.Prelude.{◌≡◌, drop};
 ghost use Rattle.run_rows.specs.Filling.{seen_behind};
 
-use cycle_events::{Kept, Visible};
+use cycle_events::{Events, Visible};
 
-/// The events behind the one at a place.
-pub fn events_behind(events: &[Kept], place: usize) -> &[Kept]
-    requires { place < length events.now }
-    ensures { result.now ≡ drop (place + 1) events.now }
+/// The state before the event at a place, or the last state where there is no such event.
+pub fn seen_behind(last: &Visible, events: &Events, place: usize) -> Visible
+    ensures { result ≡ seen_behind last.now (drop place events.now) }
 {
-    &events[place + 1..]
-}
-
-/// The state behind an event, before later ones.
-pub fn seen_behind<'a>(last: &'a Visible, later: &'a [Kept]) -> &'a Visible
-    ensures { result.now ≡ seen_behind last.now later.now }
-{
-    match later {
-        [] => last,
-        [event, ..] => event.before(),
+    if place < events.len() {
+        events.before(place)
+    } else {
+        *last
     }
 }

@@ -6,7 +6,7 @@ mod kind;
 mod limbs;
 mod spans;
 
-pub use behind::{events_behind, seen_behind};
+pub use behind::seen_behind;
 pub use kind::{Kind, is_op, kind_of};
 pub use limbs::{Limbs, limbs_of};
 pub use spans::respans;

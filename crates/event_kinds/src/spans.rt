@@ -1,25 +1,25 @@
-ghost use Rattle.std.specs.Prelude.{◌≡◌, ◌++◌, IfOk, OnOk};
+ghost use Rattle.std.specs.Prelude.{◌≡◌, ◌++◌, drop, IfOk, OnOk};
 ghost use Rattle.run_rows.specs.Turns.{respans};
 ghost use Rattle.event_kinds.specs.Kinds.{kind_in};
 ghost use Rattle.event_kinds.specs.Spans.{batch_by, stays};
 
 use crate::kind::{Kind, kind_of};
-use cycle_events::Kept;
+use cycle_events::Events;
 use std::alloc::Global;
 use vm_field::{Felt, Memory, Sequence};
 
-/// The batches of the span that is open, from the next RESPAN on. The scan ends with the span.
-pub fn respans(alloc: Global, later: &[Kept]) -> Result<Sequence<[Felt; 8]>, Memory>
-    ensures { IfOk result (λ batches. batches ≡ respans later.now) }
+/// The batches of the span that is open, from the next RESPAN on, among the events from a place on.
+/// The scan ends with the span.
+pub fn respans(alloc: Global, events: &Events, first: usize) -> Result<Sequence<[Felt; 8]>, Memory>
+    ensures { IfOk result (λ batches. batches ≡ respans (drop first events.now)) }
 {
     let mut batches = Sequence::new(alloc);
-    for i in 0..later.len() {
-        let event = &later[i];
-        let kind = kind_of(event.op());
+    for i in first..events.len() {
+        let kind = kind_of(events.op(i));
         if !stays(kind) {
             return Ok(batches);
         }
-        push_batch(&mut batches, kind, &event.hash())?;
+        push_batch(&mut batches, kind, &events.hash(i))?;
     }
     Ok(batches)
 }

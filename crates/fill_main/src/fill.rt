@@ -1,4 +1,4 @@
-ghost use Rattle.std.specs.Prelude.{◌≡◌, ℕ, IfOk};
+ghost use Rattle.std.specs.Prelude.{◌≡◌, ℕ, drop, IfOk};
 ghost use Rattle.run_rows.specs.Filling.{halted, rows_of};
 ghost use Rattle.run_rows.specs.Kinds as kinds;
 ghost use Rattle.run_rows.specs.RunRequests.{requests_of};
@@ -7,8 +7,8 @@ ghost use Rattle.event_kinds.specs.Kinds.{kind_in};
 
 use crate::turns::turns_of;
 use air_kit::Requests;
-use cycle_events::{Event, Kept, Visible};
-use event_kinds::{Kind, events_behind, kind_of, respans, seen_behind};
+use cycle_events::{Event, Events, Visible};
+use event_kinds::{Kind, kind_of, respans, seen_behind};
 use fill_decoder::{Decoder, into_elements};
 use fill_requests::{no_requests, push_requests};
 use fill_rows::write_row;
@@ -25,7 +25,7 @@ pub(crate) fn fill(
     alloc: Global,
     permutations: &mut Permutations,
     last: &Visible,
-    events: &[Kept],
+    events: &Events,
 ) -> Result<(Table<65>, Requests), Memory>
     ensures rows { IfOk result (λ r. r.0 ≡ rows_of last.now events.now) }
     ensures requests { IfOk result (λ r. r.1 ≡ requests_of permutations.old last.now events.now) }
@@ -36,24 +36,24 @@ pub(crate) fn fill(
     let mut inverses = Inverses::new(alloc);
     let mut requests = no_requests(alloc);
     let mut table = Table::new(alloc);
-    table.reserve(events.len().saturating_add(1))?;
+    let count = events.len();
+    table.reserve(count.saturating_add(1))?;
     let mut row = [Felt::ZERO; 65];
-    for i in 0..events.len() {
-        let event = events[i].event();
-        let later = events_behind(events, i);
-        let next = seen_behind(last, later);
+    for i in 0..count {
+        let event = events.event(i);
+        let next = seen_behind(last, events, i + 1);
         let turn = turns.pop().unwrap_or(0);
-        write_row(&mut row, &mut inverses, &decoder, &event, next, turn)?;
+        write_row(&mut row, &mut inverses, &decoder, &event, &next, turn)?;
         table.push_row(&row)?;
         let kind = kind_of(event.op);
-        let batches = batches_of(alloc, kind, later)?;
+        let batches = batches_of(alloc, kind, events, i + 1)?;
         decoder.advance(&event, kind, batches.len())?;
         push_requests(
             &mut requests,
             permutations,
             kind,
             &event,
-            next,
+            &next,
             batches.as_slice(),
         )?;
     }
@@ -63,12 +63,18 @@ pub(crate) fn fill(
     Ok((table, requests))
 }
 
-// The later batches of the span that an event of a kind starts; none where it starts none.
-fn batches_of(alloc: Global, kind: Kind, later: &[Kept]) -> Result<Sequence<[Felt; 8]>, Memory>
-    ensures { IfOk result (λ batches. kind_in kind ≡ kinds.Span → batches ≡ respans later.now) }
+// The later batches of the span that an event of a kind starts, among the events from a place on;
+// none where it starts none.
+fn batches_of(
+    alloc: Global,
+    kind: Kind,
+    events: &Events,
+    first: usize,
+) -> Result<Sequence<[Felt; 8]>, Memory>
+    ensures { IfOk result (λ batches. kind_in kind ≡ kinds.Span → batches ≡ respans (drop first events.now)) }
 {
     match kind {
-        Kind::Span => respans(alloc, later),
+        Kind::Span => respans(alloc, events, first),
         _ => Ok(Sequence::new(alloc)),
     }
 }

@@ -31,7 +31,7 @@ pub fn fill_main(
     ensures same { permutations.new ≡ permutations.old }
 {
     let last = last_seen(state);
-    fill(alloc, permutations, &last, events.as_slice())
+    fill(alloc, permutations, &last, events)
 }
 
 // What the row of HALT shows of the state at the end.
@@ -46,6 +46,6 @@ fn last_seen(state: &State) -> Visible
         digest: state.digest,
         nesting: state.nesting,
         depth: state.depth(),
-        cells: state.visible(),
+        cells: *state.visible(),
     }
 }

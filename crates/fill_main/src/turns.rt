@@ -3,22 +3,21 @@ ghost use Rattle.run_rows.specs.Turns.{repeats_by};
 ghost use Rattle.event_kinds.specs.Kinds.{kind_in};
 ghost use Rattle.fill_main.specs.Turns.{turns_of};
 
-use cycle_events::Kept;
+use cycle_events::Events;
 use event_kinds::{Kind, kind_of};
 use fill_decoder::{Stack, sum_of};
 use std::alloc::Global;
 use vm_field::Memory;
 
 // Of each event, how often the body of its loop is repeated behind it.
-pub(crate) fn turns_of(alloc: Global, events: &[Kept]) -> Result<Stack<u64>, Memory>
+pub(crate) fn turns_of(alloc: Global, events: &Events) -> Result<Stack<u64>, Memory>
     ensures { IfOk result (λ turns. turns ≡ turns_of events.now) }
 {
     let mut counts = Stack::new(alloc);
     let mut turns = Stack::new(alloc);
     for i in (0..events.len()).rev() {
-        let event = &events[i];
         turns.push(front(&counts))?;
-        count(&mut counts, kind_of(event.op()))?;
+        count(&mut counts, kind_of(events.op(i)))?;
     }
     Ok(turns)
 }

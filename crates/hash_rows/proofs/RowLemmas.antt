@@ -57,8 +57,3 @@ bit_is (suc (suc a)) h = absurd (omega arith)
 -- zeros
 pub zero_cons : (a n : ℕ) (xs : List ℕ) → a ≡ 0 → xs ≡ replicate n 0 → a ∷ xs ≡ replicate (suc n) 0
 zero_cons a n xs is later = ap₂ (λ (z : ℕ) (zs : List ℕ). z ∷ zs) is later
-
-pub zeros_at : (n k : ℕ) → slice_index (replicate n 0) k ≡ 0
-zeros_at zero k = refl
-zeros_at (suc n) zero = refl
-zeros_at (suc n) (suc k) = zeros_at n k

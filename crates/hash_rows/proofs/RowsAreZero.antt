@@ -6,7 +6,7 @@ use Rattle.vm_field.specs.Permutation.{before_roots, round, rounds, round_consta
 use Rattle.vm_field.proofs.Algebra.{felt_sub-same, felt_mul-zero_first, felt_mul-zero_second}
 use Rattle.vm_field.proofs.PermutationLemmas.{elements-round, elements-rounds, length-rounds, permuted-is, rounds-last, rounds-none, round-powers}
 use Rattle.vm_field.proofs.PowerLaws.{power-below}
-use Rattle.vm_field.proofs.Elements.{elements-index}
+use Rattle.vm_field.proofs.Elements.{elements-index, index-zeros}
 use Rattle.vm_table.specs.Layout.{IsTable}
 use Rattle.chip_columns.specs.HasherColumns.{mode, cont, more, x, state}
 use Rattle.rpo_hash.specs.States.{IsState}
@@ -17,7 +17,7 @@ use Rattle.air_kit.specs.HasherValues.{begins_at_zero, bit_value, hasher_flag_va
 use Rattle.air_kit.specs.Requests.{FollowsOn}
 use Rattle.hash_rows.specs.PermRows.{bit_number, perm_row, rows_before, rows_of, perm_of, perms_in}
 use Rattle.hash_rows.specs.HashTables.{IsZero, Fit}
-use Rattle.hash_rows.proofs.RowLemmas.{state_is, zero_cons, zeros_at}
+use Rattle.hash_rows.proofs.RowLemmas.{state_is, zero_cons}
 use Rattle.hash_rows.proofs.ZeroLemmas.{AllZero, CellsBelow}
 use Rattle.hash_rows.proofs.BlockLemmas.{EightZero, ZeroFrom, first_of, zero_behind}
 use Rattle.hash_rows.proofs.ZerosAreRows.{LinksTo}
@@ -31,7 +31,7 @@ joined_zero : (first begins inside ends : Bool) (constants row : List ℕ) (next
 unfolding hasher_values_by
 joined_zero first begins inside ends constants row next flags chain round n =
     ap (λ xs. slice_index xs n)
-    (ap₂ (λ (xs ys : List ℕ). xs ++ ys) flags (ap₂ (λ (xs ys : List ℕ). xs ++ ys) chain round)) ∙ zeros_at 29 n
+    (ap₂ (λ (xs ys : List ℕ). xs ++ ys) flags (ap₂ (λ (xs ys : List ℕ). xs ++ ys) chain round)) ∙ index-zeros 29 n
 
 thirteen_zero : (a b c d e f g h i j k l m : ℕ) → a ≡ 0 → b ≡ 0 → c ≡ 0 → d ≡ 0 → e ≡ 0 → f ≡ 0 → g ≡ 0 → h ≡ 0 → i ≡ 0 → j ≡ 0 → k ≡ 0
     → l ≡ 0 → m ≡ 0 → a ∷ b ∷ c ∷ d ∷ e ∷ f ∷ g ∷ h ∷ i ∷ j ∷ k ∷ l ∷ m ∷ [] ≡ replicate 13 0

@@ -1,8 +1,9 @@
 -- Lists that have the same element at each index, where 0 stands past the end: lists that are equal but for zeros at their
 -- ends.
-use Rattle.std.proofs.Common.{◌≡◌, ℕ, zero, suc, ◌+◌, ◌-◌, ◌≤◌, List, [], ◌∷◌, ◌++◌, length, take, drop, replicate, slice_index, refl, sym, ◌∙◌, ap, arith, add-one, add-zero, add-suc, suc-add, zero-add, take_all}
+use Rattle.std.proofs.Common.{◌≡◌, ℕ, zero, suc, ◌+◌, ◌-◌, ◌≤◌, List, [], ◌∷◌, ◌++◌, length, take, drop, slice_index, refl, sym, ◌∙◌, ap, arith, add-one, add-zero, add-suc, suc-add, zero-add, take_all}
 use Rattle.std.proofs.lemmas.List.{drop-append-le, drop_more, ext_get_or, get_or_append_left, get_or-drop, get_or-take, length-take-le}
 use Rattle.vm_field.specs.Machine.{filled_up}
+use Rattle.vm_ops.proofs.FrameLemmas.{index-filled_up}
 use Rattle.instr_effects.specs.Effects.{listed}
 
 pub record Alike (xs ys : List ℕ) : Type 0 where
@@ -17,18 +18,8 @@ alike-along xs ys zs a b = record { at = λ k. a.at k ∙ b.at k }
 pub alike-back : (xs ys : List ℕ) → Alike xs ys → Alike ys xs
 alike-back xs ys a = record { at = λ k. sym (a.at k) }
 
-index-zeros : (n k : ℕ) → slice_index (replicate n 0) k ≡ 0
-index-zeros zero k = refl
-index-zeros (suc n) zero = refl
-index-zeros (suc n) (suc k) = index-zeros n k
-
-index-filled : (xs : List ℕ) (n k : ℕ) → slice_index (xs ++ replicate n 0) k ≡ slice_index xs k
-index-filled [] n k = index-zeros n k
-index-filled (x ∷ xs) n zero = refl
-index-filled (x ∷ xs) n (suc k) = index-filled xs n k
-
 pub alike-filled_up : (xs : List ℕ) → Alike (filled_up xs) xs
-alike-filled_up xs = record { at = index-filled xs (16 - length xs) }
+alike-filled_up xs = record { at = index-filled_up xs }
 
 index-front : (front xs ys : List ℕ) → Alike xs ys → (k : ℕ) → slice_index (front ++ xs) k ≡ slice_index (front ++ ys) k
 index-front [] xs ys a k = a.at k

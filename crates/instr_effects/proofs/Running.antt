@@ -1,5 +1,5 @@
 -- A list of operations run from a state does what it does on a window of the state's stack.
-use Rattle.std.proofs.Common.{◌≡◌, ℕ, zero, suc, ◌+◌, ◌-◌, ◌≤◌, max, ◌⊎◌, inl, inr, Bool, true, false, cond, ◌||◌, not, nat_le, nat_lt, List, [], ◌∷◌, ◌++◌, length, take, drop, slice_index, Option, Some, None, Result, Ok, Err, refl, sym, ◌∙◌, ap, subst, arith, leb-true, ltb-false, le-ltb, lit≤}
+use Rattle.std.proofs.Common.{◌≡◌, ℕ, zero, suc, ◌+◌, ◌-◌, ◌≤◌, max, ◌⊎◌, inl, inr, Bool, true, false, cond, ◌||◌, not, nat_le, nat_lt, List, [], ◌∷◌, ◌++◌, length, take, drop, slice_index, Option, Some, None, Result, Ok, Err, refl, sym, ◌∙◌, ap, subst, arith, leb-true, ltb-false, le-ltb}
 use Rattle.std.proofs.lemmas.Bool.{and_parts, or_cases}
 use Rattle.std.proofs.lemmas.List.{get_or_append_left, length-append, length-drop, length-take-le}
 use Rattle.vm_field.specs.Machine.{Core, State, word_at}
@@ -13,6 +13,7 @@ use Rattle.vm_ops.specs.Sizes.{IsSeenBy}
 use Rattle.instr_effects.proofs.Sized.{IsSized, step-sized}
 use Rattle.vm_ops.specs.Step.{seen, left_cells, stack_after, performed, unless_trapped, act, ticked, cycle_taking, step}
 use Rattle.vm_ops.specs.Values.{Seen, advice_of, fmp_after, or_else, trap_of, unless}
+use Rattle.vm_ops.proofs.MoveLemmas.{takes_of-below}
 use Rattle.vm_ops.proofs.Sizing.{length-left_cells, length-stack_after}
 use Rattle.instr_effects.specs.Effects.{listed}
 use Rattle.vm_ops.specs.Runs.{after_ok, run}
@@ -36,10 +37,6 @@ pub record Shows (c : Core) (rest : List ℕ) (w : Window) (s : State) : Type 0 
 abbrev pub Does : Option Cause → Result State Cause → Core → List ℕ → Window → Type 0
 Does None r c rest w = (t : State) × (r ≡ Ok t) × Shows c rest w t
 Does (Some cause) r c rest w = r ≡ Err cause
-
-takes_of-below : (op : Op) → takes_of op ≤ 16
-takes_of-below ops.Noop = lit≤ tt
-takes_of-below _ = lit≤ tt
 
 is_short-is : (n : ℕ) (tape : List ℕ) → is_short n tape ≡ nat_lt (length tape) n
 is_short-is zero tape = sym (le-ltb (length tape) 0 (omega arith))

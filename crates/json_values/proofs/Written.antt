@@ -1,9 +1,9 @@
 -- The arrays that are written of numbers: their text, and what is read of them.
 use Rattle.std.proofs.Common.{◌≡◌, ℕ, suc, ◌<◌, List, [], ◌∷◌, ◌++◌, decimal, true, false, All, Some, refl, sym, ap, ◌∙◌, append_assoc, arith}
-use Rattle.std.proofs.lemmas.Bool.Decides.{nat_tests}
 use Rattle.serde_json.specs.Data.{items_depth}
 use Rattle.serde_json.specs.Written.{items_text, items_have_float}
-use Rattle.vm_field.specs.Field.{prime, element_from}
+use Rattle.vm_field.specs.Field.{prime}
+use Rattle.vm_field.proofs.Algebra.{element_from-below}
 use Rattle.json_values.specs.Values.{are_numbers, elements_of}
 use Rattle.json_values.specs.ToJson.{numbers_of, listed}
 
@@ -31,9 +31,6 @@ items_text-numbers_of (x ∷ xs) = listed_on x xs
 pub are_numbers-numbers_of : (xs : List ℕ) → are_numbers (numbers_of xs) ≡ true
 are_numbers-numbers_of [] = refl
 are_numbers-numbers_of (x ∷ xs) = are_numbers-numbers_of xs
-
-element_from-below : (x : ℕ) → x < prime → element_from x ≡ Some x
-element_from-below x h = grind (arith, nat_tests)
 
 pub elements_of-numbers_of : (xs : List ℕ) → All (λ x. x < prime) xs → elements_of (numbers_of xs) ≡ Some xs
 elements_of-numbers_of [] h = refl

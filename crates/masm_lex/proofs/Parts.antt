@@ -4,15 +4,15 @@ use Rattle.std.specs.List.{fold, All, AllByRecursion}
 use Rattle.std.proofs.Math.Seq.{take-append_seam}
 use Rattle.std.proofs.lemmas.List.Sums.{fold_push}
 use Rattle.std.proofs.lemmas.List.Elements.{All-from_recursion, All-weaker}
-use Rattle.masm_lex.specs.declared.place.Place.{Place}
+use Rattle.masm_lex.specs.declared.cursor.Cursor.{Cursor}
 use Rattle.masm_lex.specs.declared.list.Token.{Token}
 use Rattle.masm_lex.specs.Tokens.{is_blank, next, first_place, place_after, outside, inside, runs, run_on, unless_refused, lexed, token_from, IsPart, TokensAreParts}
 
 -- a place's index is the number of the bytes before it
-pub index_next : (p : Place) (b : ℕ) → (next p b).index ≡ p.index + 1
+pub index_next : (p : Cursor) (b : ℕ) → (next p b).index ≡ p.index + 1
 index_next p b = grind arith
 
-pub index_after : (p : Place) (bs : List ℕ) → (fold next p bs).index ≡ p.index + length bs
+pub index_after : (p : Cursor) (bs : List ℕ) → (fold next p bs).index ≡ p.index + length bs
 index_after p [] = omega arith
 index_after p (b ∷ bs) = omega (arith, index_after (next p b) bs, index_next p b)
 
@@ -34,7 +34,7 @@ pub runs_moved : (done bs : List ℕ) (b : ℕ)
     → AllByRecursion (IsPart (done ++ b ∷ bs)) (runs (next (place_after done) b) bs)
 runs_moved done bs b h = rw (append_assoc done (b ∷ []) bs, fold_push next first_place done b) at h
 
-pub run_on_moved : (start : Place) (done more bs : List ℕ) (b : ℕ)
+pub run_on_moved : (start : Cursor) (done more bs : List ℕ) (b : ℕ)
     → AllByRecursion (IsPart (done ++ ((more ++ b ∷ []) ++ bs))) (run_on start (place_after (done ++ (more ++ b ∷ []))) bs)
     → AllByRecursion (IsPart (done ++ (more ++ b ∷ bs))) (run_on start (next (place_after (done ++ more)) b) bs)
 run_on_moved start done more bs b h =
@@ -67,13 +67,13 @@ mutual
 
 -- blanking comments keeps the places
 mutual
-  pub same_places_outside : (p : Place) (n : ℕ) (bs : List ℕ) → fold next p (take n (outside bs)) ≡ fold next p (take n bs)
+  pub same_places_outside : (p : Cursor) (n : ℕ) (bs : List ℕ) → fold next p (take n (outside bs)) ≡ fold next p (take n bs)
   same_places_outside p zero bs = refl
   same_places_outside p (suc n) [] = refl
   same_places_outside p (suc n) (b ∷ bs) =
       grind (arith, same_places_outside (next p b) n bs, same_places_inside (next p b) n bs)
 
-  pub same_places_inside : (p : Place) (n : ℕ) (bs : List ℕ) → fold next p (take n (inside bs)) ≡ fold next p (take n bs)
+  pub same_places_inside : (p : Cursor) (n : ℕ) (bs : List ℕ) → fold next p (take n (inside bs)) ≡ fold next p (take n bs)
   same_places_inside p zero bs = refl
   same_places_inside p (suc n) [] = refl
   same_places_inside p (suc n) (b ∷ bs) =
@@ -95,7 +95,7 @@ part_of_source source token part = record {
   place = sym (same_places_outside first_place token.start source) ∙ part.place;
 }
 
-pub accepted : (refused : Option Place) (tokens read : List Token) → unless_refused refused tokens ≡ Ok read → tokens ≡ read
+pub accepted : (refused : Option Cursor) (tokens read : List Token) → unless_refused refused tokens ≡ Ok read → tokens ≡ read
 accepted None tokens read e = cc
 accepted (Some p) tokens read e = cc
 

@@ -1,7 +1,7 @@
 -- How a source is cut into tokens. Space, tab, line feed and carriage return separate them. A # begins a comment up to
 -- the end of its line, wherever it stands. Outside comments every other byte is one from 0x21 to 0x7e.
 use Rattle.std.specs.Prelude.{◌≡◌, ℕ, ◌+◌, ◌<◌, ◌≤◌, Bool, ◌==◌, ◌&&◌, ◌||◌, nat_le, if◌then◌else◌, List, [], ◌∷◌, length, take, fold, All, Option, Some, None, Result, Ok, Err, slice_range}
-use Rattle.masm_lex.specs.declared.place.Place.{Place}
+use Rattle.masm_lex.specs.declared.cursor.Cursor.{Cursor}
 use Rattle.masm_lex.specs.declared.list.Token.{Token}
 use Rattle.masm_lex.specs.declared.refusal.LexError.{LexError}
 use Rattle.masm_lex.specs.declared.refusal.LexError.TheVariants.{Bad, Memory}
@@ -14,17 +14,17 @@ is_blank b = (b == 32) || (b == 9) || (b == 10) || (b == 13)
 abbrev pub is_word : ℕ → Bool
 is_word b = nat_le 33 b && nat_le b 126
 
-abbrev pub first_place : Place
+abbrev pub first_place : Cursor
 first_place = record { index = 0; line = 1; column = 1 }
 
 -- the place behind a byte that stands at p
-abbrev pub next : Place → ℕ → Place
+abbrev pub next : Cursor → ℕ → Cursor
 next p b =
     if b == 10 then record { index = p.index + 1; line = p.line + 1; column = 1 }
     else record { index = p.index + 1; line = p.line; column = p.column + 1 }
 
 -- the place behind these bytes
-abbrev pub place_after : List ℕ → Place
+abbrev pub place_after : List ℕ → Cursor
 place_after bytes = fold next first_place bytes
 
 -- A comment counts as blanks: the source with a space in place of each byte from a # to the end of its line.
@@ -37,28 +37,28 @@ abbrev mutual
   inside [] = []
   inside (b ∷ bs) = if b == 10 then 10 ∷ outside bs else 32 ∷ inside bs
 
-abbrev pub token_from : Place → Place → Token
+abbrev pub token_from : Cursor → Cursor → Token
 token_from start behind =
     record { start = start.index; end = behind.index; line = start.line; column = start.column }
 
 -- The longest runs of bytes that are no blanks, from a place on. A run that began at start goes on in run_on.
 abbrev mutual
-  pub runs : Place → List ℕ → List Token
+  pub runs : Cursor → List ℕ → List Token
   runs p [] = []
   runs p (b ∷ bs) = if is_blank b then runs (next p b) bs else run_on p (next p b) bs
 
-  pub run_on : Place → Place → List ℕ → List Token
+  pub run_on : Cursor → Cursor → List ℕ → List Token
   run_on start p [] = token_from start p ∷ []
   run_on start p (b ∷ bs) =
       if is_blank b then token_from start p ∷ runs (next p b) bs else run_on start (next p b) bs
 
 -- the place of the first byte that is neither a blank nor one of a token
-abbrev pub first_bad : Place → List ℕ → Option Place
+abbrev pub first_bad : Cursor → List ℕ → Option Cursor
 first_bad p [] = None
 first_bad p (b ∷ bs) = if is_blank b || is_word b then first_bad (next p b) bs else Some p
 
 -- the tokens where no byte is refused
-abbrev pub unless_refused : Option Place → List Token → Result (List Token) LexError
+abbrev pub unless_refused : Option Cursor → List Token → Result (List Token) LexError
 unless_refused None tokens = Ok tokens
 unless_refused (Some p) tokens = Err (Bad p.line p.column)
 

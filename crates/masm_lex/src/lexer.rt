@@ -3,8 +3,8 @@ ghost use Rattle.masm_lex.specs.Tokens.{is_blank, is_word, lexed, Gives};
 ghost use Rattle.masm_lex.specs.Lexer.{spot_after, ended};
 
 use crate::MAX_SOURCE;
+use crate::cursor::Cursor;
 use crate::list::{Token, Tokens};
-use crate::place::Place;
 use crate::refusal::LexError;
 use std::alloc::{AllocError, Global};
 
@@ -14,7 +14,7 @@ enum Spot {
     Blank,
     Comment,
     // in a token that begins at this place
-    Word(Place),
+    Word(Cursor),
 }
 
 fn is_blank_byte(byte: u8) -> bool
@@ -30,7 +30,7 @@ fn is_word_byte(byte: u8) -> bool
 }
 
 // Where the lexer stands behind the byte at a place, or none where that byte is refused.
-fn next_spot(spot: Spot, here: Place, byte: u8) -> Option<Spot>
+fn next_spot(spot: Spot, here: Cursor, byte: u8) -> Option<Spot>
     ensures { result ≡ spot_after spot here byte }
 {
     let start = match spot {
@@ -51,7 +51,7 @@ fn next_spot(spot: Spot, here: Place, byte: u8) -> Option<Spot>
 }
 
 // Adds the token that ends between two spots, if there is one.
-fn add_ended(tokens: &mut Tokens, spot: Spot, now: Spot, here: Place) -> Result<(), AllocError>
+fn add_ended(tokens: &mut Tokens, spot: Spot, now: Spot, here: Cursor) -> Result<(), AllocError>
     ensures { OnOk result (tokens.new ≡ tokens.old ++ ended spot now here) }
 {
     match (spot, now) {
@@ -72,7 +72,7 @@ pub fn lex(alloc: Global, source: &[u8]) -> Result<Tokens, LexError>
     ensures { Gives result (lexed source.now) }
 {
     let mut tokens = Tokens::new(alloc);
-    let mut here = Place::FIRST;
+    let mut here = Cursor::FIRST;
     let mut spot = Spot::Blank;
     for byte in source {
         let Some(now) = next_spot(spot, here, *byte) else {

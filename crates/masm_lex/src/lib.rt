@@ -2,14 +2,14 @@
 //! and comments. The definitions stand in `specs/`.
 #![tactic(auto)]
 
+mod cursor;
 mod lexer;
 mod list;
-mod place;
 mod refusal;
 
+pub use cursor::{Cursor, end_place};
 pub use lexer::lex;
 pub use list::{Token, Tokens, token_text, tokens_are_parts, tokens_ascend};
-pub use place::{Place, end_place};
 pub use refusal::LexError;
 
 /// The most bytes that a source may have.

@@ -4,7 +4,7 @@ use Rattle.std.specs.Option.{option_map}
 use Rattle.std.specs.List.{AllByRecursion}
 use Rattle.instr_reading.specs.declared.constant.Const.{Const}
 use Rattle.masm_lex.specs.declared.list.Token.{Token}
-use Rattle.masm_lex.specs.declared.place.Place.{Place}
+use Rattle.masm_lex.specs.declared.cursor.Cursor.{Cursor}
 use Rattle.masm_lex.specs.Tokens.{place_after, text_of}
 use Rattle.masm_tree.specs.declared.refusal.Cause.{Cause}
 use Rattle.masm_tree.specs.declared.terminal.Header.{Header}
@@ -129,7 +129,7 @@ pub same_tree : (a b : Source) → ◌≡◌ {A = Result Source ParseError} (Ok 
 unfolding value_or
 same_tree a b e = ap (value_or a) e
 
-fits-ended : (kernel : Bool) (locals : ℕ) (configuration : Configuration) (end : Place) (consts : List Const) (source : Source) → ConfigurationFits locals configuration → ended kernel end consts configuration ≡ Ok source → SourceFits source
+fits-ended : (kernel : Bool) (locals : ℕ) (configuration : Configuration) (end : Cursor) (consts : List Const) (source : Source) → ConfigurationFits locals configuration → ended kernel end consts configuration ≡ Ok source → SourceFits source
 fits-ended true locals (Top procs) end consts source h e = subst SourceFits (same_tree _ source e) (record { procs = h; main = tt })
 fits-ended false locals (Behind procs main) end consts source h e = subst SourceFits (same_tree _ source e) (record { procs = h.0; main = h.1 })
 fits-ended true locals (Inside procs header opens body) end consts source h e = cc

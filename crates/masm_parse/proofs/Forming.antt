@@ -4,7 +4,7 @@ use Rattle.std.specs.Option.{option_map}
 use Rattle.std.specs.List.{AllByRecursion}
 use Rattle.instr_reading.specs.declared.constant.Const.{Const}
 use Rattle.masm_lex.specs.declared.list.Token.{Token}
-use Rattle.masm_lex.specs.declared.place.Place.{Place}
+use Rattle.masm_lex.specs.declared.cursor.Cursor.{Cursor}
 use Rattle.masm_lex.specs.Tokens.{place_after, text_of}
 use Rattle.masm_tree.specs.declared.refusal.Cause.{Cause}
 use Rattle.masm_tree.specs.declared.terminal.Header.{Header}
@@ -109,7 +109,7 @@ form-step : (kernel : Bool) (source : List ℕ) (r : Parse) (token : Token) → 
 unfolding step
 form-step kernel source r token h = form-moved kernel r _ h (form-classified kernel r.context (at_of token) (text_of source token))
 
-form-ended : (kernel : Bool) (configuration : Configuration) (end : Place) (consts : List Const) (source : Source) → ConfigurationIsInForm configuration → ended kernel end consts configuration ≡ Ok source → SourceIsInForm source
+form-ended : (kernel : Bool) (configuration : Configuration) (end : Cursor) (consts : List Const) (source : Source) → ConfigurationIsInForm configuration → ended kernel end consts configuration ≡ Ok source → SourceIsInForm source
 form-ended true (Top procs) end consts source h e = subst SourceIsInForm (same_tree _ source e) (record { procs = h; main = tt })
 form-ended false (Behind procs main) end consts source h e = subst SourceIsInForm (same_tree _ source e) (record { procs = h.0; main = h.1 })
 form-ended true (Inside procs header opens body) end consts source h e = cc

@@ -4,7 +4,7 @@ use Rattle.std.proofs.lemmas.Bool.Decides.{leb_tells}
 use Rattle.std.proofs.lemmas.List.{map-append}
 use Rattle.std.specs.Option.{option_map}
 use Rattle.instr_reading.specs.declared.constant.Const.{Const}
-use Rattle.masm_lex.specs.declared.place.Place.{Place}
+use Rattle.masm_lex.specs.declared.cursor.Cursor.{Cursor}
 use Rattle.masm_lex.specs.declared.list.Token.{Token}
 use Rattle.masm_lex.specs.Tokens.{place_after, text_of}
 use Rattle.masm_tree.specs.declared.refusal.Cause.{Cause}
@@ -102,7 +102,7 @@ early_program s procs None ts never so whole = whole
 early_program s procs (Some main) ts never so whole = never procs main (is_last false s procs (Some main) ts so whole)
 
 -- the source ends early
-early : (k : Bool) (end : Place) (all : List Token) (before : List Symbol) (s : Configuration)
+early : (k : Bool) (end : Cursor) (all : List Token) (before : List Symbol) (s : Configuration)
     → ((procs : List Procedure) (main : Option Procedure) → IsWhole k procs main (terminals_of before) → ⊥)
     → Standing k s (terminals_of before) → ((i : ℕ) (c : Cause) → RefusesAt k before i c → length before ≤ i) → drop (length before) all ≡ []
     → Answers k end all before (Err (Bad end.line end.column causes.Syntax))
@@ -126,7 +126,7 @@ early k end all before s never standing clear over =
       ap (λ ts. at_first ts end) over,
     )
 
-at_end : (k : Bool) (end : Place) (all : List Token) (before : List Symbol) (s : Configuration) (cs : List Const)
+at_end : (k : Bool) (end : Cursor) (all : List Token) (before : List Symbol) (s : Configuration) (cs : List Const)
     → run k (Some (Top [])) (terminals_of before) ≡ Some s → Standing k s (terminals_of before) → constants (terminals_of before) ≡ cs
     → ((i : ℕ) (c : Cause) → RefusesAt k before i c → length before ≤ i) → drop (length before) all ≡ []
     → Answers k end all before (ended k end cs s)
@@ -312,7 +312,7 @@ same_source k ts a b x y =
     let consts : a.consts ≡ b.consts = x.consts ∙ sym y.consts in
     λ i. record { consts = consts i; procs = parts.0 i; main = parts.1 i }
 
-once : (k : Bool) (end : Place) (all : List Token) (ws : List Symbol) (tree : Source) (res : Result Source ParseError)
+once : (k : Bool) (end : Cursor) (all : List Token) (ws : List Symbol) (tree : Source) (res : Result Source ParseError)
     → Answers k end all ws res → Parses k ws tree → res ≡ Ok tree
 once k end all ws tree (Ok other) a x = ap Ok (same_source k (terminals_of ws) other tree a.spelled x.spelled)
 once k end all ws tree (Err Memory) a x = absurd a

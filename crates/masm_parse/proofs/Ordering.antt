@@ -3,7 +3,7 @@ use Rattle.std.proofs.Common.{◌≡◌, ℕ, Bool, true, false, List, [], ◌�
 use Rattle.std.proofs.lemmas.List.{map-append}
 use Rattle.std.specs.List.{AllByRecursion}
 use Rattle.std.specs.Option.{option_map}
-use Rattle.masm_lex.specs.declared.place.Place.{Place}
+use Rattle.masm_lex.specs.declared.cursor.Cursor.{Cursor}
 use Rattle.masm_lex.specs.declared.list.Token.{Token}
 use Rattle.masm_lex.specs.Tokens.{place_after, text_of, lexed}
 use Rattle.masm_lex.specs.Order.{Ascends, Precedes}
@@ -99,7 +99,7 @@ going_step kernel text r token tokens h =
     going_moved kernel r token tokens (classify kernel r.context (at_of token) (text_of text token))
     (at-symbol kernel r.context (at_of token) (text_of text token)) h
 
-ordered_end : (kernel : Bool) (context : Context) (configuration : Configuration) (end : Place) (source : Source)
+ordered_end : (kernel : Bool) (context : Context) (configuration : Configuration) (end : Cursor) (source : Source)
     → Going (record { context = context; configuration = configuration }) [] → ended kernel end context.consts configuration ≡ Ok source → IsInOrder source
 ordered_end true context (Top procs) end source h e =
     subst IsInOrder (same_tree _ source e)

@@ -2,7 +2,7 @@
 use Rattle.std.specs.Prelude.{ℕ, Bool, true, false, ◌&&◌, nat_le, if◌then◌else◌, List, [], ◌∷◌, ◌++◌, length, Option, Some, None, Result, Ok, Err}
 use Rattle.std.specs.Option.{option_map}
 use Rattle.instr_reading.specs.declared.constant.Const.{Const}
-use Rattle.masm_lex.specs.declared.place.Place.{Place}
+use Rattle.masm_lex.specs.declared.cursor.Cursor.{Cursor}
 use Rattle.masm_lex.specs.declared.list.Token.{Token}
 use Rattle.masm_lex.specs.Tokens.{place_after, text_of}
 use Rattle.masm_tree.specs.declared.refusal.Cause.{Cause}
@@ -141,10 +141,10 @@ unfoldable pub step : Bool → List ℕ → Parse → Token → Result Parse Cau
 step kernel source r token = moved kernel r (classify kernel r.context (at_of token) (text_of source token))
 
 -- the tree where the source may end here; else it ends early
-abbrev pub ends_early : Place → Result Source ParseError
+abbrev pub ends_early : Cursor → Result Source ParseError
 ends_early end = Err (Bad end.line end.column causes.Syntax)
 
-abbrev pub ended : Bool → Place → List Const → Configuration → Result Source ParseError
+abbrev pub ended : Bool → Cursor → List Const → Configuration → Result Source ParseError
 ended true end consts (Top procs) = Ok (record { consts = consts; procs = procs; main = None })
 ended false end consts (Behind procs main) = Ok (record { consts = consts; procs = procs; main = Some main })
 ended kernel end consts (Inside procs header opens body) = ends_early end

@@ -1,6 +1,6 @@
 -- What is refused, and the least refusal of a source.
 use Rattle.std.specs.Prelude.{◌≡◌, ℕ, ◌+◌, ◌≤◌, Bool, true, List, [], ◌∷◌, ◌++◌, length, drop, map, Option, Some, Result, Ok, Err, ◌⊎◌}
-use Rattle.masm_lex.specs.declared.place.Place.{Place}
+use Rattle.masm_lex.specs.declared.cursor.Cursor.{Cursor}
 use Rattle.masm_lex.specs.declared.list.Token.{Token}
 use Rattle.masm_lex.specs.Tokens.{place_after, text_of}
 use Rattle.masm_tree.specs.declared.refusal.Cause.{Cause}
@@ -105,7 +105,7 @@ pub record Parses (kernel : Bool) (symbols : List Symbol) (tree : Source) : Type
   pub is_clear : (k : ℕ) (cause : Cause) → RefusesAt kernel symbols k cause → ⊥
 
 -- the place of the first of these tokens, or one past the source's last byte
-abbrev pub at_first : List Token → Place → Position
+abbrev pub at_first : List Token → Cursor → Position
 at_first [] end = record { line = end.line; column = end.column }
 at_first (token ∷ tokens) end = at_of token
 
@@ -114,7 +114,7 @@ abbrev pub source_symbols : Bool → List ℕ → List Token → List Symbol
 source_symbols kernel source tokens = symbols_of kernel source no_context tokens
 
 -- What an answer says of tokens and their symbols, in a source that ends at the place.
-abbrev pub Answers : Bool → Place → List Token → List Symbol → Result Source ParseError → Type 0
+abbrev pub Answers : Bool → Cursor → List Token → List Symbol → Result Source ParseError → Type 0
 Answers kernel end tokens symbols (Ok tree) = Parses kernel symbols tree
 Answers kernel end tokens symbols (Err Memory) = ⊥
 Answers kernel end tokens symbols (Err (Bad line column cause)) =

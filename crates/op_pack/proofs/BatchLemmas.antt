@@ -6,7 +6,7 @@ use Rattle.std.proofs.lemmas.List.Elements.{filter-append}
 use Rattle.std.specs.List.{All}
 use Rattle.std.specs.Option.{MatchOption}
 use Rattle.op_pack.proofs.CutLemmas.{IsFine, cut-zeros}
-use Rattle.op_pack.proofs.NoopLemmas.{Reads, kept, skipped}
+use Rattle.op_pack.proofs.NoopLemmas.{ReadsItems, kept, skipped}
 use Rattle.op_pack.proofs.PackLemmas.{first_rest-shorter}
 use Rattle.op_pack.proofs.RoundTripLemmas.{Each, first_read}
 use Rattle.op_pack.specs.Packing.{IsPackable, Placed, has_immediate, positions_of, with_immediate, fits, opens, placed, first_placed, zeros_behind, batch_of, batches_within, packed}
@@ -103,7 +103,7 @@ fine-front (x ∷ xs) ys h = (h.0, fine-front xs ys h.1)
 
 -- the first batch is read as operations that, with those that it doesn't hold, are these up to NOOPs
 batch_read : (item : Item) (items : List Item) → Each (item ∷ items)
-    → Reads (reading (batch_of (first_placed (item ∷ items)))) (first_placed (item ∷ items)).rest (item ∷ items)
+    → ReadsItems (reading (batch_of (first_placed (item ∷ items)))) (first_placed (item ∷ items)).rest (item ∷ items)
 unfolding reading first_placed
 batch_read item items each =
     let all : List Item = item ∷ items in

@@ -2,7 +2,7 @@
 use Rattle.std.proofs.Common.{◌≡◌, ◌≢◌, ℕ, zero, suc, ◌-◌, ◌^◌, ◌<◌, ◌≤◌, Bool, true, false, cond, List, [], ◌∷◌, length, replicate, unwrap_or, refl, arith, lit<}
 use Rattle.std.proofs.Math.Nat.{one-le-pow}
 use Rattle.std.proofs.lemmas.List.{length-append, length-replicate}
-use Rattle.std.proofs.lemmas.List.Elements.{All-append, All-cons, All-nil, All-replicate}
+use Rattle.std.proofs.lemmas.List.Elements.{All-cons, All-nil}
 use Rattle.std.specs.List.{All}
 use Rattle.op_pack.proofs.BatchLemmas.{each-all, each-first, length-placed}
 use Rattle.op_pack.proofs.PackLemmas.{packed-next}
@@ -11,6 +11,7 @@ use Rattle.op_pack.proofs.RoundTripLemmas.{Each}
 use Rattle.op_pack.specs.Packing.{IsPackable, Placed, has_immediate, positions_of, with_immediate, fits, opens, put, new_group, full, placed, first_placed, zeros_behind, batch_of, batches_within, packed}
 use Rattle.op_pack.specs.Reading.{IsBatch}
 use Rattle.vm_field.specs.Field.{prime, AreElements}
+use Rattle.vm_field.proofs.Elements.{elements-append, elements-cons, elements-none, elements-replicate}
 use Rattle.vm_ops.proofs.CodeLemmas.{code_of-below}
 use Rattle.vm_ops.proofs.RunLemmas.{immediate-below}
 use Rattle.vm_ops.specs.Codes.{code_of}
@@ -29,7 +30,7 @@ elements-with_immediate : (item : Item) (positions : List ℕ) → IsPackableIte
 elements-with_immediate item positions h below = go (has_immediate item)
   where
     go : (has : Bool) → AreElements (cond has (unwrap_or item.imm 0 ∷ positions) positions)
-    go true = All-cons (λ e. e < prime) (unwrap_or item.imm 0) positions (immediate-below item h.ordinary) below
+    go true = elements-cons (unwrap_or item.imm 0) positions (immediate-below item h.ordinary) below
     go false = below
 
 small-put : (room : ℕ) (item : Item) (p : Placed) → 0 < room → IsPackableItem item → IsSmall (room - 1) p → IsSmall room (put item p)
@@ -44,11 +45,11 @@ group-below number h = omega arith
 small-group : (room : ℕ) (p : Placed) → IsSmall 9 p → IsSmall room (new_group p)
 small-group room p small = record {
   number = one-le-pow room 128 (lit< tt);
-  positions = All-cons (λ e. e < prime) p.number p.positions (group-below p.number small.number) small.positions;
+  positions = elements-cons p.number p.positions (group-below p.number small.number) small.positions;
 }
 
 small-full : (room : ℕ) (items : List Item) → IsSmall room (full items)
-small-full room items = record { number = one-le-pow room 128 (lit< tt); positions = All-nil (λ e. e < prime) }
+small-full room items = record { number = one-le-pow room 128 (lit< tt); positions = elements-none }
 
 small-next : (b c : Bool) (item : Item) (items : List Item) (room free : ℕ) → IsPackableItem item
     → ((r f : ℕ) → IsSmall r (placed r f items)) → fits room free item ≡ b → opens free item ≡ c
@@ -69,9 +70,8 @@ small-placed (item ∷ items) room free each =
 batch_of-IsBatch : (p : Placed) → length p.positions ≤ 7 → IsSmall 9 p → IsBatch (batch_of p)
 batch_of-IsBatch p few small = record {
   size = (let count : length (zeros_behind 7 p.positions) ≡ 7 = rw (length-append, length-replicate) (omega arith) in omega arith);
-  below = All-cons (λ e. e < prime) p.number (zeros_behind 7 p.positions) (group-below p.number small.number)
-      (All-append (λ e. e < prime) p.positions (replicate (7 - length p.positions) 0) small.positions
-      (All-replicate (λ e. e < prime) (7 - length p.positions) 0 (lit< tt)));
+  below = elements-cons p.number (zeros_behind 7 p.positions) (group-below p.number small.number)
+      (elements-append p.positions (replicate (7 - length p.positions) 0) small.positions (elements-replicate (7 - length p.positions)));
 }
 
 first-IsBatch : (items : List Item) → Each items → IsBatch (batch_of (first_placed items))

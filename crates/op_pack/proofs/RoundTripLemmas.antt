@@ -1,7 +1,7 @@
 -- What is placed is read back, with any zeros behind it.
 use Rattle.std.proofs.Common.{◌≡◌, ◌≢◌, ℕ, zero, suc, ◌+◌, ◌-◌, ◌*◌, ◌/◌, ◌%◌, ◌<◌, ◌==◌, Bool, true, false, cond, ◌&&◌, nat_lt, List, [], ◌∷◌, ◌++◌, replicate, Option, Some, None, unwrap_or, refl, ap, ap₂, subst, sym, ◌∙◌, arith, lit<}
 use Rattle.std.proofs.lemmas.Bool.{ltb-true, eqb-true, cond-true, cond-false, ne_eqb, eq-eqb, lt-leb, le-leb}
-use Rattle.op_pack.proofs.NoopLemmas.{Reads, reads-along, reads-before, reads-noop, reads-skip}
+use Rattle.op_pack.proofs.NoopLemmas.{ReadsItems, reads-along, reads-before, reads-noop, reads-skip}
 use Rattle.op_pack.proofs.PackLemmas.{placed-fits, fits-first}
 use Rattle.op_pack.proofs.PlaceLemmas.{room-fits}
 use Rattle.op_pack.proofs.ReadLemmas.{read_on-plain, read_on-push}
@@ -23,14 +23,14 @@ pub zero-read : (positions : List ℕ) (room : ℕ) → read_on positions (suc r
 zero-read positions room =
     read_on-plain positions room 0 (lit< tt) ∙ ap (λ item. before item (next_group positions)) (plain_digit-code_of Noop)
 
-zeros-read : (z room : ℕ) (rest : List Item) → Reads (go_on (replicate z 0) room 0) rest rest
+zeros-read : (z room : ℕ) (rest : List Item) → ReadsItems (go_on (replicate z 0) room 0) rest rest
 zeros-read zero room rest = record { read = []; is = refl; same = refl }
 zeros-read (suc z) room rest =
     reads-along _ _ rest rest (zero-read (replicate z 0) 8) (reads-noop _ rest rest (zeros-read z 8 rest))
 
 -- behind a PUSH a group goes on, with a NOOP where its number is used up
-kept_open : (positions : List ℕ) (room number : ℕ) (rest items : List Item) → 0 < room → Reads (go_on positions room number) rest items
-    → Reads (read_on positions room number) rest items
+kept_open : (positions : List ℕ) (room number : ℕ) (rest items : List Item) → 0 < room → ReadsItems (go_on positions room number) rest items
+    → ReadsItems (read_on positions room number) rest items
 kept_open positions zero number rest items some h = absurd (omega arith)
 kept_open positions (suc room) zero rest items some h =
     reads-along _ _ rest items (zero-read positions room) (reads-noop (next_group positions) rest items h)
@@ -43,14 +43,14 @@ digit_of code number h = omega arith
 behind_digit : (code number : ℕ) → code < 128 → (code + 128 * number) / 128 ≡ number
 behind_digit code number h = omega arith
 
-reads-list : (o : Option (List Item)) (rest items others : List Item) → items ≡ others → Reads o rest others → Reads o rest items
+reads-list : (o : Option (List Item)) (rest items others : List Item) → items ≡ others → ReadsItems o rest others → ReadsItems o rest items
 reads-list o rest items others e h = rw e h
 
 -- an operation next in a group is read in front of what follows it
 put_as : (op : Op) (imm : Option ℕ) (items rest : List Item) (room number : ℕ) (positions : List ℕ)
     → IsPackableItem (record { op = op; imm = imm }) → (has_immediate (record { op = op; imm = imm }) ≡ true → 0 < room)
-    → Reads (go_on positions room number) rest items
-    → Reads (read_on (with_immediate (record { op = op; imm = imm }) positions) (suc room) (code_of op + 128 * number)) rest
+    → ReadsItems (go_on positions room number) rest items
+    → ReadsItems (read_on (with_immediate (record { op = op; imm = imm }) positions) (suc room) (code_of op + 128 * number)) rest
     (record { op = op; imm = imm } ∷ items)
 put_as op None items rest room number positions h some reads =
     let item : Item = record { op = op; imm = None } in
@@ -84,8 +84,8 @@ put_as op (Some value) items rest room number positions h some reads =
     (reads-list _ rest _ _ (ap (λ (i : Item). i ∷ items) is) (reads-before (push_item value) _ rest items open_group))
 
 put_read : (item : Item) (items rest : List Item) (room number : ℕ) (positions : List ℕ) → IsPackableItem item
-    → (has_immediate item ≡ true → 0 < room) → Reads (go_on positions room number) rest items
-    → Reads (read_on (with_immediate item positions) (suc room) (code_of item.op + 128 * number)) rest (item ∷ items)
+    → (has_immediate item ≡ true → 0 < room) → ReadsItems (go_on positions room number) rest items
+    → ReadsItems (read_on (with_immediate item positions) (suc room) (code_of item.op + 128 * number)) rest (item ∷ items)
 put_read item items rest room number positions h some reads = put_as item.op item.imm items rest room number positions h some reads
 
 -- each item is one that a batch may hold
@@ -111,15 +111,15 @@ push_room room free item e has =
 
 -- an operation in the current group
 fitting : (item : Item) (items rest : List Item) (room number : ℕ) (positions : List ℕ) → IsPackableItem item → 0 < room
-    → (has_immediate item ≡ true → 0 < room - 1) → Reads (go_on positions (room - 1) number) rest items
-    → Reads (go_on (with_immediate item positions) room (code_of item.op + 128 * number)) rest (item ∷ items)
+    → (has_immediate item ≡ true → 0 < room - 1) → ReadsItems (go_on positions (room - 1) number) rest items
+    → ReadsItems (go_on (with_immediate item positions) room (code_of item.op + 128 * number)) rest (item ∷ items)
 fitting item items rest room number positions h some push reads = go (n == 0) refl
   where
     n : ℕ
     n = code_of item.op + 128 * number
 
     go : (none : Bool) → (code_of item.op + 128 * number == 0) ≡ none
-        → Reads (go_on (with_immediate item positions) room (code_of item.op + 128 * number)) rest (item ∷ items)
+        → ReadsItems (go_on (with_immediate item positions) room (code_of item.op + 128 * number)) rest (item ∷ items)
     go true e =
         let all : code_of item.op + 128 * number ≡ 0 = eqb-true _ 0 e in
         let code : code_of item.op ≡ 0 = omega arith in
@@ -138,11 +138,11 @@ fitting item items rest room number positions h some push reads = go (n == 0) re
 
 -- what is placed is read back, with zeros behind it
 abbrev ReadsPlaced : ℕ → List ℕ → List Item → Placed → Type 0
-ReadsPlaced room zeros items p = Reads (go_on (p.positions ++ zeros) room p.number) p.rest items
+ReadsPlaced room zeros items p = ReadsItems (go_on (p.positions ++ zeros) room p.number) p.rest items
 
 -- an operation that opens a group, or that does not fit, with zeros behind it
 opening : (item : Item) (items : List Item) (q : Placed) (zeros : List ℕ) → IsPackableItem item → ReadsPlaced 8 zeros items q
-    → Reads (read_on (with_immediate item q.positions ++ zeros) 9 (code_of item.op + 128 * q.number)) q.rest (item ∷ items)
+    → ReadsItems (read_on (with_immediate item q.positions ++ zeros) 9 (code_of item.op + 128 * q.number)) q.rest (item ∷ items)
 opening item items q zeros h reads =
     reads-along _ _ q.rest _
     (ap (λ (ps : List ℕ). read_on ps 9 (code_of item.op + 128 * q.number)) (with_immediate-append item q.positions zeros))
@@ -179,12 +179,12 @@ placed_read (item ∷ items) room free z each =
 
 -- the first batch of some operations, with zeros behind it
 pub first_read : (item : Item) (items : List Item) (z : ℕ) → Each (item ∷ items)
-    → Reads (read_on ((first_placed (item ∷ items)).positions ++ replicate z 0) 9 (first_placed (item ∷ items)).number)
+    → ReadsItems (read_on ((first_placed (item ∷ items)).positions ++ replicate z 0) 9 (first_placed (item ∷ items)).number)
     (first_placed (item ∷ items)).rest (item ∷ items)
 unfolding first_placed
 first_read item items z each =
     let q : Placed = placed 8 (7 - positions_of item) items in
     let here = opening item items q (replicate z 0) each.0 (placed_read items 8 (7 - positions_of item) z each.1) in
     let path : placed 9 7 (item ∷ items) ≡ put item q = placed-fits 9 7 item items (fits-first (has_immediate item)) in
-    let IsRead : Placed → Type 0 = λ p. Reads (read_on (p.positions ++ replicate z 0) 9 p.number) p.rest (item ∷ items) in
+    let IsRead : Placed → Type 0 = λ p. ReadsItems (read_on (p.positions ++ replicate z 0) 9 p.number) p.rest (item ∷ items) in
     subst IsRead (sym path) here

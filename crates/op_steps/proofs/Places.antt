@@ -1,14 +1,15 @@
 -- Where the cells that are left stand: the shift of the stack, and the cells written over its top.
-use Rattle.std.proofs.Common.{◌≡◌, ◌≢◌, ℕ, suc, ◌+◌, ◌-◌, ◌<◌, ◌≤◌, List, [], ◌∷◌, ◌++◌, length, take, drop, set, get_or, replicate, refl, ap, sym, ◌∙◌, arith, lit≤, append_assoc, append-nil, length-append, length-drop}
+use Rattle.std.proofs.Common.{◌≡◌, ◌≢◌, ℕ, suc, ◌+◌, ◌-◌, ◌<◌, ◌≤◌, List, [], ◌∷◌, ◌++◌, length, take, drop, set, get_or, replicate, refl, ap, sym, ◌∙◌, arith, append_assoc, length-append, length-drop}
 use Rattle.std.specs.Prelude.{Option, Some, None}
 use Rattle.std.proofs.lemmas.List.{take_more, drop-drop, drop-append-le, length-take-le}
 use Rattle.std.proofs.Math.Seq.{set-append_seam, drop-cons}
 use Rattle.vm_field.specs.Machine.{filled_up}
 use Rattle.vm_ops.specs.Moves.{takes_of, leaves_of, shift_of}
 use Rattle.vm_ops.specs.declared.op.Op.{Op}
-use Rattle.vm_ops.specs.declared.op.Op.TheVariants.{Noop}
 use Rattle.vm_ops.specs.declared.op.Shift.{Shift}
 use Rattle.vm_ops.specs.declared.op.Shift.TheVariants.{Left, Stay, Right}
+use Rattle.vm_ops.proofs.FrameLemmas.{filled_up-deep}
+use Rattle.vm_ops.proofs.MoveLemmas.{ByOne, shift_of-by_one, takes_of-below}
 use Rattle.vm_state.specs.Tapes.{Taken}
 use Rattle.op_steps.specs.Places.{shifted}
 
@@ -29,23 +30,6 @@ pub taken_more : (tape : List ℕ) (k : ℕ) (o : Option ℕ) (after : List ℕ)
 taken_more tape k (Some element) after h = ap (drop 1) (sym h) ∙ drop-drop 1 k tape
 taken_more tape k None after h = h.1 ∙ ap (drop 1) (sym h.0) ∙ drop-drop 1 k tape
 
--- what a shift says of the cells taken and left
-abbrev ByOne : Shift → ℕ → ℕ → Type 0
-ByOne Left taken left = taken ≡ left + 1
-ByOne Stay taken left = taken ≡ left
-ByOne Right taken left = left ≡ taken + 1
-
-pub by_one : (op : Op) → ByOne (shift_of op) (takes_of op) (leaves_of op)
-by_one Noop = refl
-by_one _ = refl
-
-takes_few : (op : Op) → takes_of op ≤ 16
-takes_few Noop = lit≤ tt
-takes_few _ = lit≤ tt
-
-full : (cells : List ℕ) → 16 ≤ length cells → cells ≡ filled_up cells
-full cells enough = let none : 16 - length cells ≡ 0 = omega arith in rw none (sym (append-nil cells))
-
 -- cells written over the top of the shifted stack
 placed_by : (shift : Shift) (taken left : ℕ) (cells stack : List ℕ) → ByOne shift taken left → shift ≢ Right → taken ≤ 16 → length cells ≡ left
     → 16 ≤ length stack → cells ++ drop left (shifted shift stack) ≡ filled_up (cells ++ drop taken stack)
@@ -58,14 +42,14 @@ placed_by Left taken left cells stack by keeps few count enough =
     (sym (append_assoc cells (drop taken stack) (replicate (16 - length (drop 1 stack)) 0)))
 placed_by Stay taken left cells stack by keeps few count enough =
     let size : 16 ≤ length (cells ++ drop taken stack) = omega (arith, length-append cells (drop taken stack), length-drop taken stack) in
-    ap (λ n. cells ++ drop n stack) (sym by) ∙ full (cells ++ drop taken stack) size
+    ap (λ n. cells ++ drop n stack) (sym by) ∙ sym (filled_up-deep (cells ++ drop taken stack) size)
 placed_by Right taken left cells stack by keeps few count enough = absurd (keeps refl)
 
 pub placed : (op : Op) (cells stack : List ℕ) → shift_of op ≢ Right → length cells ≡ leaves_of op → 16 ≤ length stack
     → cells ++ drop (length cells) (shifted (shift_of op) stack) ≡ filled_up (cells ++ drop (takes_of op) stack)
 placed op cells stack keeps count enough =
     ap (λ n. cells ++ drop n (shifted (shift_of op) stack)) count
-    ∙ placed_by (shift_of op) (takes_of op) (leaves_of op) cells stack (by_one op) keeps (takes_few op) count enough
+    ∙ placed_by (shift_of op) (takes_of op) (leaves_of op) cells stack (shift_of-by_one op) keeps (takes_of-below op) count enough
 
 -- cells written over the top of a stack that a cell was pushed to
 grown_by : (taken left v : ℕ) (cells stack : List ℕ) → left ≡ taken + 1 → taken ≤ 16 → length cells ≡ left → 16 ≤ length stack
@@ -73,7 +57,7 @@ grown_by : (taken left v : ℕ) (cells stack : List ℕ) → left ≡ taken + 1 
 grown_by taken left v cells stack by few count enough =
     let size : 16 ≤ length (cells ++ drop taken stack) = omega (arith, length-append cells (drop taken stack), length-drop taken stack) in
     let more : left ≡ suc taken = omega arith in
-    ap (λ n. cells ++ drop n (v ∷ stack)) more ∙ full (cells ++ drop taken stack) size
+    ap (λ n. cells ++ drop n (v ∷ stack)) more ∙ sym (filled_up-deep (cells ++ drop taken stack) size)
 
 grown_shift : (op : Op) (shift : Shift) → ByOne shift (takes_of op) (leaves_of op) → shift ≡ Right → leaves_of op ≡ takes_of op + 1
 grown_shift op Left by is = cc
@@ -84,4 +68,4 @@ pub grown : (op : Op) (v : ℕ) (cells stack : List ℕ) → shift_of op ≡ Rig
     → cells ++ drop (length cells) (v ∷ stack) ≡ filled_up (cells ++ drop (takes_of op) stack)
 grown op v cells stack grows count enough =
     ap (λ n. cells ++ drop n (v ∷ stack)) count
-    ∙ grown_by (takes_of op) (leaves_of op) v cells stack (grown_shift op (shift_of op) (by_one op) grows) (takes_few op) count enough
+    ∙ grown_by (takes_of op) (leaves_of op) v cells stack (grown_shift op (shift_of op) (shift_of-by_one op) grows) (takes_of-below op) count enough

@@ -9,14 +9,15 @@ use Rattle.vm_ops.specs.declared.cause.Cause.TheVariants.{AdviceEmpty, AddressRa
 use Rattle.vm_ops.specs.declared.item.Item.{Item}
 use Rattle.vm_ops.specs.declared.op.Op.{Op}
 use Rattle.vm_ops.specs.declared.op.Op.TheVariants as ops
-use Rattle.vm_ops.specs.declared.op.Op.TheVariants.{Noop, MStore, MStoreW, FmpUpdate}
 use Rattle.vm_ops.specs.declared.op.Shift.TheVariants.{Right}
 use Rattle.vm_ops.specs.Codes.{writes_memory}
 use Rattle.vm_ops.specs.Moves.{takes_of, leaves_of, shift_of, sources_of}
 use Rattle.vm_ops.specs.Step.{performed, unless_trapped, act, ticked, cycle_taking, step, left_cells, stack_after, seen}
+use Rattle.vm_ops.specs.Stepping.{seen_at}
 use Rattle.vm_ops.specs.Values.{Seen, advice_of, trap_of, written, fmp_after, computed, is_u32, unless}
+use Rattle.vm_ops.proofs.FrameLemmas.{written-none}
 use Rattle.op_steps.proofs.Places.{placed, grown}
-use Rattle.op_steps.specs.Outcomes.{cells_unless, outcome, outcome_at, seen_of, is_single, is_move}
+use Rattle.op_steps.specs.Outcomes.{cells_unless, outcome, outcome_at, is_single, is_move}
 use Rattle.op_steps.specs.Places.{shifted}
 use Rattle.op_steps.specs.Steps.{IsQuiet}
 
@@ -34,8 +35,8 @@ trapped_by false (Some own) n tape cells c cause e = cc
 pub trapped : (constants : List ℕ) (item : Item) (s : State) (cause : Cause) → outcome_at constants item s ≡ Err cause → step constants item s ≡ Err cause
 unfolding outcome_at outcome cycle_taking act
 trapped constants item s cause e =
-    trapped_by (nat_lt (length s.tape) (advice_of item.op)) (trap_of item.op (seen_of constants item s)) (advice_of item.op) s.tape
-    (left_cells item.op (seen_of constants item s)) (performed item.op (seen_of constants item s) s.core) cause e
+    trapped_by (nat_lt (length s.tape) (advice_of item.op)) (trap_of item.op (seen_at constants item s)) (advice_of item.op) s.tape
+    (left_cells item.op (seen_at constants item s)) (performed item.op (seen_at constants item s) s.core) cause e
 
 performed_by : (short : Bool) (trap : Option Cause) (n : ℕ) (tape cells left : List ℕ) (c : Core)
     → cond short (Err AdviceEmpty) (cells_unless trap cells) ≡ Ok left
@@ -47,7 +48,7 @@ performed_by false (Some own) n tape cells left c e = cc
 -- the state behind a step, where the operation leaves these cells
 abbrev settled : List ℕ → Item → List ℕ → List ℕ → State → State
 settled constants item left stack s = record {
-  core = record (performed item.op (seen_of constants item s) s.core) { clock = s.core.clock + 1; stack = stack };
+  core = record (performed item.op (seen_at constants item s) s.core) { clock = s.core.clock + 1; stack = stack };
   tape = drop (advice_of item.op) s.tape;
 }
 
@@ -55,26 +56,20 @@ stepped : (constants : List ℕ) (item : Item) (s : State) (left : List ℕ) →
     → step constants item s ≡ Ok (settled constants item left (filled_up (left ++ drop (takes_of item.op) s.core.stack)) s)
 unfolding outcome_at outcome cycle_taking act stack_after
 stepped constants item s left e =
-    let done = performed_by (nat_lt (length s.tape) (advice_of item.op)) (trap_of item.op (seen_of constants item s)) (advice_of item.op) s.tape
-    (left_cells item.op (seen_of constants item s)) left (performed item.op (seen_of constants item s) s.core) e in
+    let done = performed_by (nat_lt (length s.tape) (advice_of item.op)) (trap_of item.op (seen_at constants item s)) (advice_of item.op) s.tape
+    (left_cells item.op (seen_at constants item s)) left (performed item.op (seen_at constants item s) s.core) e in
     done.0 ∙ ap (λ cells. Ok (settled constants item left (filled_up (cells ++ drop (takes_of item.op) s.core.stack)) s)) done.1
 
-not_written : (op : Op) (s : Seen) → writes_memory op ≡ false → written op s ≡ None
-not_written MStore s e = cc
-not_written MStoreW s e = cc
-not_written Noop s e = refl
-not_written _ s e = refl
-
 writes_nothing : (op : Op) (s : Seen) → shift_of op ≡ Right → (written op s ≡ None) × (fmp_after op s ≡ s.fmp)
-writes_nothing MStore s e = cc
-writes_nothing MStoreW s e = cc
-writes_nothing FmpUpdate s e = cc
-writes_nothing Noop s e = (refl, refl)
+writes_nothing ops.MStore s e = cc
+writes_nothing ops.MStoreW s e = cc
+writes_nothing ops.FmpUpdate s e = cc
+writes_nothing ops.Noop s e = (refl, refl)
 writes_nothing _ s e = (refl, refl)
 
 -- the step of a quiet operation
 pub stepped_quietly : (constants : List ℕ) (item : Item) (s : State) (left : List ℕ) (fmp : ℕ) → IsQuiet item.op → outcome_at constants item s ≡ Ok left
-    → length left ≡ leaves_of item.op → 16 ≤ length s.core.stack → fmp ≡ fmp_after item.op (seen_of constants item s)
+    → length left ≡ leaves_of item.op → 16 ≤ length s.core.stack → fmp ≡ fmp_after item.op (seen_at constants item s)
     → step constants item s ≡ Ok (record {
       core = record s.core {
         clock = s.core.clock + 1;
@@ -85,7 +80,7 @@ pub stepped_quietly : (constants : List ℕ) (item : Item) (s : State) (left : L
     })
 stepped_quietly constants item s left fmp quiet e count enough pointer =
     rw (pointer, placed item.op left s.core.stack quiet.shift count enough)
-    (rw (not_written item.op (seen_of constants item s) quiet.memory) at (stepped constants item s left e))
+    (rw (written-none item.op (seen_at constants item s) quiet.memory) at (stepped constants item s left e))
 
 -- the step of an operation that shifts to the right
 pub stepped_growing : (constants : List ℕ) (item : Item) (s : State) (left : List ℕ) (v : ℕ) → shift_of item.op ≡ Right → outcome_at constants item s ≡ Ok left
@@ -96,7 +91,7 @@ pub stepped_growing : (constants : List ℕ) (item : Item) (s : State) (left : L
     })
 stepped_growing constants item s left v grows e count enough =
     rw (grown item.op v left s.core.stack grows count enough)
-    (let none = writes_nothing item.op (seen_of constants item s) grows in rw (none.0, none.1) at (stepped constants item s left e))
+    (let none = writes_nothing item.op (seen_at constants item s) grows in rw (none.0, none.1) at (stepped constants item s left e))
 
 first_seen : (stack : List ℕ) → slice_index (take 16 stack) 0 ≡ slice_index stack 0
 first_seen [] = refl
@@ -113,7 +108,7 @@ not_small a h = grind (arith, nat_tests)
 
 -- what an operation leaves alone that leaves one cell
 single_keeps : (op : Op) (s : Seen) → is_single op ≡ true → (advice_of op ≡ 0) × (leaves_of op ≡ 1) × (fmp_after op s ≡ s.fmp)
-single_keeps Noop s e = cc
+single_keeps ops.Noop s e = cc
 single_keeps ops.Eqz s e = (refl, refl, refl)
 single_keeps ops.Neg s e = (refl, refl, refl)
 single_keeps ops.Incr s e = (refl, refl, refl)
@@ -168,15 +163,15 @@ long_enough false r e = refl
 long_enough true r e = cc
 
 -- an operation that takes no advice leaves what it leaves with a tape that is long enough
-without_advice : (constants : List ℕ) (item : Item) (s : State) → advice_of item.op ≡ 0 → outcome_at constants item s ≡ outcome item.op (seen_of constants item s)
+without_advice : (constants : List ℕ) (item : Item) (s : State) → advice_of item.op ≡ 0 → outcome_at constants item s ≡ outcome item.op (seen_at constants item s)
 unfolding outcome_at
 without_advice constants item s none =
-    long_enough (nat_lt (length s.tape) (advice_of item.op)) (outcome item.op (seen_of constants item s))
+    long_enough (nat_lt (length s.tape) (advice_of item.op)) (outcome item.op (seen_at constants item s))
     (ap (nat_lt (length s.tape)) none ∙ not_short (length s.tape))
 
 -- the step of a quiet operation that leaves one cell
 pub single_quietly : (constants : List ℕ) (item : Item) (s : State) (cell : ℕ) → is_single item.op ≡ true → IsQuiet item.op
-    → outcome item.op (seen_of constants item s) ≡ Ok (cell ∷ []) → 16 ≤ length s.core.stack
+    → outcome item.op (seen_at constants item s) ≡ Ok (cell ∷ []) → 16 ≤ length s.core.stack
     → step constants item s ≡ Ok (record {
       core = record s.core {
         clock = s.core.clock + 1;
@@ -185,15 +180,15 @@ pub single_quietly : (constants : List ℕ) (item : Item) (s : State) (cell : �
       tape = drop (advice_of item.op) s.tape;
     })
 single_quietly constants item s cell single quiet e enough =
-    let keeps = single_keeps item.op (seen_of constants item s) single in
+    let keeps = single_keeps item.op (seen_at constants item s) single in
     stepped_quietly constants item s (cell ∷ []) s.core.fmp quiet (without_advice constants item s keeps.0 ∙ e) (sym keeps.1) enough (sym keeps.2)
 
 -- the step of one that pushes a cell
 pub single_growing : (constants : List ℕ) (item : Item) (s : State) (cell : ℕ) → is_single item.op ≡ true → shift_of item.op ≡ Right
-    → outcome item.op (seen_of constants item s) ≡ Ok (cell ∷ []) → 16 ≤ length s.core.stack
+    → outcome item.op (seen_at constants item s) ≡ Ok (cell ∷ []) → 16 ≤ length s.core.stack
     → step constants item s ≡ Ok (record { core = record s.core { clock = s.core.clock + 1; stack = cell ∷ s.core.stack }; tape = s.tape })
 single_growing constants item s cell single grows e enough =
-    let keeps = single_keeps item.op (seen_of constants item s) single in
+    let keeps = single_keeps item.op (seen_at constants item s) single in
     stepped_growing constants item s (cell ∷ []) cell grows (without_advice constants item s keeps.0 ∙ e) (sym keeps.1) enough
     ∙ ap (λ n. Ok (record { core = record s.core { clock = s.core.clock + 1; stack = cell ∷ s.core.stack }; tape = drop n s.tape })) keeps.0
 
@@ -208,7 +203,7 @@ pub moved_quietly : (constants : List ℕ) (item : Item) (s : State) → is_move
       tape = drop (advice_of item.op) s.tape;
     })
 moved_quietly constants item s move quiet enough left is count =
-    let keeps = move_keeps item.op (seen_of constants item s) move in
+    let keeps = move_keeps item.op (seen_at constants item s) move in
     stepped_quietly constants item s left s.core.fmp quiet (without_advice constants item s keeps.0 ∙ keeps.1 ∙ ap (λ cells. Ok cells) (sym is))
     (count ∙ sym keeps.3) enough (sym keeps.2)
 
@@ -227,9 +222,9 @@ inside_by false false n tape c e f = cc
 outside_at : (op : Op) (imm : Option ℕ) (constants : List ℕ) (s : State) → writes_memory op ≡ true → is_u32 (slice_index (take 16 s.core.stack) 0) ≡ false
     → step constants (record { op = op; imm = imm }) s ≡ Err AddressRange
 unfolding cycle_taking act trap_of
-outside_at MStore imm constants s writes outside = outside_by (nat_lt (length s.tape) 0) _ 0 s.tape _ (not_short (length s.tape)) outside
-outside_at MStoreW imm constants s writes outside = outside_by (nat_lt (length s.tape) 0) _ 0 s.tape _ (not_short (length s.tape)) outside
-outside_at Noop imm constants s writes outside = cc
+outside_at ops.MStore imm constants s writes outside = outside_by (nat_lt (length s.tape) 0) _ 0 s.tape _ (not_short (length s.tape)) outside
+outside_at ops.MStoreW imm constants s writes outside = outside_by (nat_lt (length s.tape) 0) _ 0 s.tape _ (not_short (length s.tape)) outside
+outside_at ops.Noop imm constants s writes outside = cc
 outside_at _ imm constants s writes outside = cc
 
 -- a write outside the addresses
@@ -253,13 +248,13 @@ inside_at : (op : Op) (imm : Option ℕ) (constants : List ℕ) (s : State) → 
     → (word : List ℕ) → written op (seen constants (record { op = op; imm = imm }) [] s.core) ≡ Some word
     → step constants (record { op = op; imm = imm }) s ≡ Ok (stored_state word s)
 unfolding cycle_taking act trap_of stack_after left_cells computed
-inside_at MStore imm constants s writes inside word is =
+inside_at ops.MStore imm constants s writes inside word is =
     let e : word ≡ slice_index (take 16 s.core.stack) 1 ∷ drop 1 (word_at s.core.memory s.core.context (slice_index s.core.stack 0)) = cc in
     rw e (inside_by (nat_lt (length s.tape) 0) _ 0 s.tape _ (not_short (length s.tape)) inside)
-inside_at MStoreW imm constants s writes inside word is =
+inside_at ops.MStoreW imm constants s writes inside word is =
     let e : word ≡ slice_index (take 16 s.core.stack) 4 ∷ slice_index (take 16 s.core.stack) 3 ∷ slice_index (take 16 s.core.stack) 2 ∷ slice_index (take 16 s.core.stack) 1 ∷ [] = cc in
     rw e (inside_by (nat_lt (length s.tape) 0) _ 0 s.tape _ (not_short (length s.tape)) inside)
-inside_at Noop imm constants s writes inside word is = cc
+inside_at ops.Noop imm constants s writes inside word is = cc
 inside_at _ imm constants s writes inside word is = cc
 
 -- a write of a word

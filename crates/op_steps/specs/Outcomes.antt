@@ -1,13 +1,13 @@
 -- The cells that an operation leaves on top of the stack, or the cause of its trap.
-use Rattle.std.specs.Prelude.{ℕ, Bool, true, false, nat_lt, if◌then◌else◌, List, [], take, length, Option, Some, None, Result, Ok, Err}
+use Rattle.std.specs.Prelude.{ℕ, Bool, true, false, nat_lt, if◌then◌else◌, List, [], length, Option, Some, None, Result, Ok, Err}
 use Rattle.vm_field.specs.Machine.{State}
 use Rattle.vm_ops.specs.declared.cause.Cause.{Cause}
 use Rattle.vm_ops.specs.declared.cause.Cause.TheVariants.{AdviceEmpty}
 use Rattle.vm_ops.specs.declared.item.Item.{Item}
 use Rattle.vm_ops.specs.declared.op.Op.{Op}
 use Rattle.vm_ops.specs.declared.op.Op.TheVariants as ops
-use Rattle.vm_ops.specs.declared.op.Op.TheVariants.{FmpAdd, MLoad, Caller, AdvPopW, HPerm, MLoadW, MStore, MStoreW, AdvPop, SDepth, Clk, Push}
-use Rattle.vm_ops.specs.Step.{seen, left_cells}
+use Rattle.vm_ops.specs.Step.{left_cells}
+use Rattle.vm_ops.specs.Stepping.{seen_at}
 use Rattle.vm_ops.specs.Values.{Seen, advice_of, trap_of}
 
 -- these cells, unless there is a cause
@@ -19,29 +19,25 @@ cells_unless (Some cause) cells = Err cause
 unfoldable pub outcome : Op → Seen → Result (List ℕ) Cause
 outcome op s = cells_unless (trap_of op s) (left_cells op s)
 
--- what the operation sees of a state, with the advice that it takes
-abbrev pub seen_of : List ℕ → Item → State → Seen
-seen_of constants item s = seen constants item (take (advice_of item.op) s.tape) s.core
-
 -- the same of a state: it is a trap too where the tape is too short
 unfoldable pub outcome_at : List ℕ → Item → State → Result (List ℕ) Cause
 outcome_at constants item s =
-    if nat_lt (length s.tape) (advice_of item.op) then Err AdviceEmpty else outcome item.op (seen_of constants item s)
+    if nat_lt (length s.tape) (advice_of item.op) then Err AdviceEmpty else outcome item.op (seen_at constants item s)
 
 -- the operations that read more than cells of the stack
 abbrev pub reads_more : Op → Bool
-reads_more FmpAdd = true
-reads_more MLoad = true
-reads_more Caller = true
-reads_more AdvPopW = true
-reads_more HPerm = true
-reads_more MLoadW = true
-reads_more MStore = true
-reads_more MStoreW = true
-reads_more AdvPop = true
-reads_more SDepth = true
-reads_more Clk = true
-reads_more Push = true
+reads_more ops.FmpAdd = true
+reads_more ops.MLoad = true
+reads_more ops.Caller = true
+reads_more ops.AdvPopW = true
+reads_more ops.HPerm = true
+reads_more ops.MLoadW = true
+reads_more ops.MStore = true
+reads_more ops.MStoreW = true
+reads_more ops.AdvPop = true
+reads_more ops.SDepth = true
+reads_more ops.Clk = true
+reads_more ops.Push = true
 reads_more op = false
 
 -- these cells alone

@@ -6,7 +6,8 @@ ghost use Rattle.vm_ops.specs.Codes.{writes_memory};
 ghost use Rattle.vm_ops.specs.Moves.{leaves_of};
 ghost use Rattle.vm_ops.specs.Values.{advice_of};
 ghost use Rattle.vm_state.specs.Views.{state_of};
-ghost use Rattle.op_steps.specs.Outcomes.{outcome, outcome_at, reads_more, seen_of};
+ghost use Rattle.vm_ops.specs.Stepping.{seen_at};
+ghost use Rattle.op_steps.specs.Outcomes.{outcome, outcome_at, reads_more};
 
 use crate::cells::Cells;
 use crate::on_stack::on_stack;
@@ -37,7 +38,7 @@ pub(crate) fn left_cells(params: &Params, item: &Item, state: &State) -> Result<
 fn on_state(params: &Params, item: &Item, state: &State) -> Result<Cells, Cause>
     requires keeps { writes_memory item.now.op ≡ false }
     requires tape { advice_of item.now.op ≤ length state.now.tape }
-    ensures is { result ≡ outcome item.now.op (seen_of (constants_of params.now) item.now (state_of state.now)) }
+    ensures is { result ≡ outcome item.now.op (seen_at (constants_of params.now) item.now (state_of state.now)) }
     ensures count { IfOk result (λ left. length left ≡ leaves_of item.now.op) }
     ensures sixteen { 16 ≤ length state.now.stack }
 {
@@ -49,19 +50,20 @@ fn on_state(params: &Params, item: &Item, state: &State) -> Result<Cells, Cause>
         Op::Caller => caller(state),
         Op::AdvPop => Ok(Cells::one(state.advice_at(0))),
         Op::AdvPopW => Ok(Cells::of_word(next_word(state))),
-        Op::HPerm => Ok(permuted_cells(params, &cells)),
+        Op::HPerm => Ok(permuted_cells(params, cells)),
         Op::SDepth => Ok(Cells::one(Felt::reduced(state.depth() as u128))),
         Op::Clk => Ok(Cells::one(Felt::reduced(u128::from(state.clock)))),
         Op::Push => Ok(Cells::one(item.imm.unwrap_or(Felt::ZERO))),
-        op => on_stack(op, &cells),
+        op => on_stack(op, cells),
     }
 }
 
 // The cells that operations see.
-fn top_cells(state: &State) -> [Felt; 16]
-    ensures is { result ≡ take 16 state.now.stack }
+fn top_cells(state: &State) -> &[Felt; 16]
+    ensures is { result.now ≡ take 16 state.now.stack }
     ensures sixteen { 16 ≤ length state.now.stack }
 {
+    let _ = state.depth();
     state.visible()
 }
 

@@ -1,7 +1,8 @@
 ghost use Rattle.std.specs.Prelude.{◌≡◌, ◌≤◌, ℕ, List, [], ◌∷◌, true, false, length, Ok, MatchOption};
 ghost use Rattle.vm_ops.specs.Values.{bit_of};
 ghost use Rattle.vm_state.specs.Views.{state_of};
-ghost use Rattle.op_steps.specs.Outcomes.{is_single, outcome, seen_of};
+ghost use Rattle.vm_ops.specs.Stepping.{seen_at};
+ghost use Rattle.op_steps.specs.Outcomes.{is_single, outcome};
 
 use vm_field::Felt;
 use vm_ops::{Item, Op};
@@ -21,7 +22,7 @@ pub(crate) fn single(item: &Item, state: &State) -> Option<Felt>
     ensures is { (constants : List ℕ) → MatchOption result
         (is_single item.now.op ≡ false)
         (λ cell. (is_single item.now.op ≡ true)
-        × (outcome item.now.op (seen_of constants item.now (state_of state.now)) ≡ Ok (cell ∷ []))) }
+        × (outcome item.now.op (seen_at constants item.now (state_of state.now)) ≡ Ok (cell ∷ []))) }
     ensures sixteen { 16 ≤ length state.now.stack }
 {
     let _ = state.depth();

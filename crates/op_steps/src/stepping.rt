@@ -56,7 +56,7 @@ pub fn step_quiet(params: &Params, item: &Item, state: &mut State) -> Result<(),
         settle(item.op, &[cell], state);
         Ok(())
     } else if is_move(item.op) {
-        let left = moved(item.op, &state.visible());
+        let left = moved(item.op, state.visible());
         settle(item.op, left.as_slice(), state);
         Ok(())
     } else {

@@ -1,7 +1,7 @@
 -- The cells under a key: the one that the row of this clock pushed, and those under the key that this row had.
 use Rattle.std.proofs.Common.{◌≡◌, ℕ, suc, ◌<◌, false, List, [], ◌∷◌, length, sym, ap, subst, ◌∙◌, arith}
-use Rattle.std.proofs.lemmas.List.Elements.{All-cons, All-nil}
 use Rattle.vm_field.specs.Field.{prime, AreElements}
+use Rattle.vm_field.proofs.Elements.{elements-cons, elements-none}
 use Rattle.vm_table.specs.MainColumns.{s}
 use Rattle.air_kit.specs.Flags.{is_right}
 use Rattle.row_facts.specs.MainRows.{row_at, op_in}
@@ -30,9 +30,9 @@ front_of rows first at cells (some k other next later here rest) cell below push
 
 pub elements_of : (rows : List (List ℕ)) → ((r : ℕ) → r < length rows → s (row_at rows r) 15 < prime) → (at : ℕ) (cells : List ℕ)
     → Chain rows at cells → AreElements cells
-elements_of rows low at cells none = All-nil (λ e. e < prime)
+elements_of rows low at cells none = elements-none
 elements_of rows low at cells (some k cell below later here rest) =
-    All-cons (λ e. e < prime) cell later (subst (λ (n : ℕ). n < prime) (sym here.cell_is) (low k (before k (length rows) here.within)))
+    elements-cons cell later (subst (λ (n : ℕ). n < prime) (sym here.cell_is) (low k (before k (length rows) here.within)))
     (elements_of rows low below later rest)
   where
     before : (r l : ℕ) → suc r < l → r < l

@@ -6,6 +6,7 @@ ghost use Rattle.vm_table.specs.Rows.{row_cells};
 ghost use Rattle.row_checks.specs.Settings.{claim_in};
 
 use air_kit::{Place, Public, Trace};
+use chip_columns::LeftView;
 use vm_field::Felt;
 use vm_table::{Row, Table, View};
 
@@ -76,7 +77,7 @@ fn first_key(left: &Table<1>) -> Felt
     ensures { result ≡ key (slice_index_or left.now 0 []) }
 {
     if 0 < left.rows() {
-        left.row(0).cell(0)
+        left.row(0).key()
     } else {
         Felt::ZERO
     }

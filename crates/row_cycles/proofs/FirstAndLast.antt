@@ -1,5 +1,5 @@
 -- The states of the first row and of the last one.
-use Rattle.std.proofs.Common.{◌≡◌, ℕ, zero, suc, ◌-◌, ◌<◌, ◌≤◌, List, [], ◌∷◌, ◌++◌, drop, eqb, length, max, slice_index, refl, ap, sym, subst, ◌∙◌, arith, lit<}
+use Rattle.std.proofs.Common.{◌≡◌, ℕ, zero, suc, ◌-◌, ◌<◌, ◌≤◌, List, [], ◌∷◌, drop, eqb, length, max, slice_index, refl, ap, sym, subst, ◌∙◌, arith, append-nil, lit<}
 use Rattle.std.proofs.lemmas.Grind.{same_number_lists}
 use Rattle.vm_field.specs.Machine.{filled_up, start}
 use Rattle.vm_field.proofs.Elements.{length-filled_up}
@@ -32,10 +32,6 @@ cells_filled x inputs few e = same_number_lists (cells x) (filled_up inputs) (le
     each : (k : ℕ) → k < length (cells x) → slice_index (cells x) k ≡ slice_index (filled_up inputs) k
     each k h = cells_index x k (within k h) ∙ e k (within k h) ∙ sym (index-filled_up inputs k)
 
-with_none : (xs : List ℕ) → xs ++ [] ≡ xs
-with_none [] = refl
-with_none (x ∷ xs) = ap (λ (ys : List ℕ). x ∷ ys) (with_none xs)
-
 zero_digest : (x : List ℕ) → ((j : ℕ) → j < 4 → f x j ≡ 0) → function_digest x ≡ 0 ∷ 0 ∷ 0 ∷ 0 ∷ []
 unfolding function_digest
 zero_digest x e = λ i. e 0 (lit< tt) i ∷ e 1 (lit< tt) i ∷ e 2 (lit< tt) i ∷ e 3 (lit< tt) i ∷ []
@@ -46,7 +42,7 @@ unfolding start overflow_at memory_at
 first_state k rows few first =
     same_state first.start.clock first.start.context first.start.frame (ap (λ n. eqb n 1) first.start.syscall)
     (zero_digest (row_at rows 0) first.start.digest) first.start.level
-    (with_none (cells (row_at rows 0)) ∙ cells_filled (row_at rows 0) k.inputs few first.inputs) refl refl
+    (append-nil (cells (row_at rows 0)) ∙ cells_filled (row_at rows 0) k.inputs few first.inputs) refl refl
 
 -- ---- the last row
 

@@ -4,10 +4,10 @@ use Rattle.std.proofs.lemmas.Option.{slice_get-get_or}
 use Rattle.vm_field.specs.Field.{prime}
 use Rattle.vm_field.specs.Machine.{IsWord, WordMap, word_at}
 use Rattle.vm_field.proofs.Places.{words-empty, words-insert}
+use Rattle.vm_field.proofs.Elements.{word-of}
 use Rattle.vm_ops.specs.declared.op.Op.{Op}
 use Rattle.vm_ops.specs.declared.op.Op.TheVariants as ops
 use Rattle.vm_table.specs.MainColumns.{ctx, s, t}
-use Rattle.block_tree.proofs.RowLemmas.{word-of}
 use Rattle.air_kit.specs.declared.requests.Access.{Access}
 use Rattle.air_kit.specs.RowStates.{elsewhere_at, memory_at, memory_behind, written_by}
 use Rattle.memory_rows.specs.MainAccesses.{ServesRow, access_by}

@@ -1,9 +1,10 @@
 -- The cells of a row and of the row behind it, where the row moves no cell, and where it takes the top one off.
-use Rattle.std.proofs.Common.{◌≡◌, ◌≢◌, ◌⊎◌, inl, inr, ℕ, suc, ◌+◌, ◌-◌, ◌<◌, ◌≤◌, true, false, ◌&&◌, eqb, List, [], ◌∷◌, ◌++◌, drop, replicate, length, slice_index, refl, ap, sym, subst, ◌∙◌, arith, lit<}
+use Rattle.std.proofs.Common.{◌≡◌, ◌≢◌, ◌⊎◌, inl, inr, ℕ, suc, ◌+◌, ◌-◌, ◌<◌, ◌≤◌, true, false, ◌&&◌, eqb, List, [], ◌∷◌, ◌++◌, drop, length, slice_index, refl, ap, sym, subst, ◌∙◌, arith, lit<}
 use Rattle.std.proofs.lemmas.Grind.{same_number_lists}
 use Rattle.std.proofs.lemmas.Bool.{ne_eqb}
 use Rattle.vm_field.specs.Machine.{filled_up}
 use Rattle.vm_ops.specs.Moves.{takes_of, leaves_of}
+use Rattle.vm_ops.proofs.FrameLemmas.{filled_up-deep}
 use Rattle.vm_ops.specs.declared.op.Op.{Op}
 use Rattle.vm_table.specs.MainColumns.{s, depth}
 use Rattle.air_kit.specs.Flags.{is_left}
@@ -53,16 +54,6 @@ popped_flat x y e last =
     (sym last)
     ∙ tops_move x y [] e
 
-no_more : (xs : List ℕ) → 16 ≤ length xs → filled_up xs ≡ xs
-no_more xs deep = rw (none (length xs) deep) (nothing xs)
-  where
-    none : (n : ℕ) → 16 ≤ n → 16 - n ≡ 0
-    none n h = omega (arith, h)
-
-    nothing : (xs : List ℕ) → xs ++ replicate 0 0 ≡ xs
-    nothing [] = refl
-    nothing (c ∷ cs) = ap (λ (ds : List ℕ). c ∷ ds) (nothing cs)
-
 deep_rest : (x rest : List ℕ) (c : ℕ) → 16 ≤ length (drop 1 (cells x ++ (c ∷ rest)))
 unfolding cells
 deep_rest x rest c = go (length rest)
@@ -76,7 +67,7 @@ unfolding cells
 dropped x rest = refl
 
 popped_deep : (x y rest : List ℕ) → ((j : ℕ) → j < 15 → s y j ≡ s x (suc j)) → filled_up (drop 1 (cells x ++ (s y 15 ∷ rest))) ≡ cells y ++ rest
-popped_deep x y rest e = no_more (drop 1 (cells x ++ (s y 15 ∷ rest))) (deep_rest x rest (s y 15)) ∙ dropped x (s y 15 ∷ rest) ∙ tops_move x y rest e
+popped_deep x y rest e = filled_up-deep (drop 1 (cells x ++ (s y 15 ∷ rest))) (deep_rest x rest (s y 15)) ∙ dropped x (s y 15 ∷ rest) ∙ tops_move x y rest e
 
 none_in : (xs : List ℕ) → length xs ≡ 0 → xs ≡ []
 none_in [] e = refl

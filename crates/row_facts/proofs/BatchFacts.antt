@@ -2,6 +2,7 @@
 use Rattle.std.proofs.Common.{◌≡◌, ℕ, zero, suc, ◌+◌, ◌<◌, ◌≤◌, Bool, true, false, ◌&&◌, ◌||◌, cond, eqb, nat_lt, nat_le, List, slice_index, refl, ap, arith, lit<, lit≤, ◌≢◌, ◌⊎◌, inl, inr, ◌∙◌, ◌*◌}
 use Rattle.std.proofs.lemmas.Bool.Decides.{nat_tests}
 use Rattle.vm_field.specs.Field.{prime, felt_add, felt_sub, felt_mul}
+use Rattle.vm_field.proofs.Algebra.{felt_mul-zero_first}
 use Rattle.vm_ops.specs.declared.op.Op.{Op}
 use Rattle.vm_ops.specs.declared.op.Op.TheVariants as ops
 use Rattle.vm_table.specs.MainColumns.{h, gc, ox, c, w}
@@ -13,7 +14,7 @@ use Rattle.air_kit.specs.MainTuples.{is_batch_op, positions}
 use Rattle.air_kit.specs.MainValues.{main_values}
 use Rattle.row_facts.specs.Zero.{AllZero}
 use Rattle.row_facts.specs.Batches.{IsBatchRow, NeedsPositions, ShowsBatch, UsesHalf}
-use Rattle.row_facts.proofs.Says.{Says, says_of, says_as, off, rest_low, zero_says, sub_says, bit_says, gate_says, gate_says_if, gate_product_says, gate_product_says_if, three_say, none_is, either_or}
+use Rattle.row_facts.proofs.Says.{Says, says_of, says_as, off, rest_low, zero_says, sub_says, bit_says, gate_says, gate_says_if, gate_product_says, gate_product_says_if, three_say, either_or}
 use Rattle.row_facts.proofs.Hot.{hot, row_says}
 use Rattle.row_facts.proofs.OpcodeFacts.{main_parts, row_has_op}
 
@@ -226,9 +227,6 @@ says_106 op next x y low = says_of (ap (λ n. felt_mul n (ox y)) (batches_is op)
 
 -- ---- what the witnesses of a batch show
 
-none_used : (i u : ℕ) → i ≡ 0 → felt_mul i u ≡ 0
-none_used i u e = ap (λ n. felt_mul n u) e ∙ none_is u
-
 one_not_zero : (n : ℕ) → n ≡ 1 → n ≡ 0 → ⊥
 one_not_zero n one none = omega (arith, one, none)
 
@@ -240,7 +238,7 @@ some_of_two i k u v one = go (either_or i 0) (either_or k 0)
     go (inr apart) other = inl apart
     go (inl e) (inr apart) = inr apart
     go (inl e) (inl f) =
-        let z : felt_add (felt_mul i u) (felt_mul k v) ≡ 0 = ap (λ n. felt_add n (felt_mul k v)) (none_used i u e) ∙ ap (felt_add 0) (none_used k v f) in
+        let z : felt_add (felt_mul i u) (felt_mul k v) ≡ 0 = ap (λ n. felt_add n (felt_mul k v)) (felt_mul-zero_first i u e) ∙ ap (felt_add 0) (felt_mul-zero_first k v f) in
         absurd (one_not_zero _ one z)
 
 some_of_four : (i j k l u v z y : ℕ) → felt_add (felt_add (felt_add (felt_mul i u) (felt_mul j v)) (felt_mul k z)) (felt_mul l y) ≡ 1
@@ -254,9 +252,9 @@ some_of_four i j k l u v z y one = go (either_or i 0) (either_or j 0) (either_or
     go first second third (inr apart) = inr (inr apart)
     go (inl e) (inl f) (inl g) (inl o) =
         let zero_is : felt_add (felt_add (felt_add (felt_mul i u) (felt_mul j v)) (felt_mul k z)) (felt_mul l y) ≡ 0 =
-        ap (λ n. felt_add (felt_add (felt_add n (felt_mul j v)) (felt_mul k z)) (felt_mul l y)) (none_used i u e)
-        ∙ ap (λ n. felt_add (felt_add (felt_add 0 n) (felt_mul k z)) (felt_mul l y)) (none_used j v f)
-        ∙ ap (λ n. felt_add n (felt_mul l y)) (ap (felt_add 0) (none_used k z g)) ∙ ap (felt_add 0) (none_used l y o) in
+        ap (λ n. felt_add (felt_add (felt_add n (felt_mul j v)) (felt_mul k z)) (felt_mul l y)) (felt_mul-zero_first i u e)
+        ∙ ap (λ n. felt_add (felt_add (felt_add 0 n) (felt_mul k z)) (felt_mul l y)) (felt_mul-zero_first j v f)
+        ∙ ap (λ n. felt_add n (felt_mul l y)) (ap (felt_add 0) (felt_mul-zero_first k z g)) ∙ ap (felt_add 0) (felt_mul-zero_first l y o) in
         absurd (one_not_zero _ one zero_is)
 
 positions_at : (x : List ℕ) (i j k : ℕ) → c x 0 ≡ i → c x 1 ≡ j → c x 2 ≡ k → positions x ≡ positions_by i j k
@@ -278,7 +276,7 @@ four_used x e (inl some) = used_at x 2 4 e (lit≤ tt) (lit< tt) some
 four_used x e (inr some) = used_at x 3 4 e (lit≤ tt) (lit< tt) some
 
 some_of_one : (i u : ℕ) → felt_mul i u ≡ 1 → i ≢ 0
-some_of_one i u one e = absurd (one_not_zero (felt_mul i u) one (none_used i u e))
+some_of_one i u one e = absurd (one_not_zero (felt_mul i u) one (felt_mul-zero_first i u e))
 
 pub half_used : (x : List ℕ) → ShowsBatch x → 1 < positions x → UsesHalf x
 half_used x shows several =

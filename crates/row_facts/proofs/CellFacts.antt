@@ -2,9 +2,8 @@
 use Rattle.std.proofs.Common.{◌≡◌, ℕ, zero, suc, ◌+◌, ◌-◌, ◌%◌, ◌<◌, Bool, true, false, ◌&&◌, not, cond, eqb, nat_lt, List, [], ◌∷◌, ◌++◌, take, drop, slice_index, refl, sym, ap, ◌∙◌, arith, lit<}
 use Rattle.std.proofs.lemmas.Bool.{eqb-true}
 use Rattle.std.proofs.lemmas.Bool.Decides.{nat_tests}
-use Rattle.std.proofs.lemmas.List.Elements.{All-cons, All-nil}
 use Rattle.vm_field.specs.Field.{prime, felt_add, felt_sub, felt_mul, AreElements}
-use Rattle.vm_field.proofs.Elements.{elements-index, elements-append, elements-take, elements-drop, elements-reverse, elements-picked}
+use Rattle.vm_field.proofs.Elements.{elements-append, elements-cons, elements-drop, elements-index, elements-none, elements-one, elements-picked, elements-reverse, elements-take}
 use Rattle.vm_ops.specs.Moves.{takes_of, leaves_of, sources_of}
 use Rattle.vm_ops.specs.Step.{left_cells}
 use Rattle.vm_ops.specs.Values.{bit_of, computed}
@@ -23,12 +22,6 @@ use Rattle.row_facts.proofs.DepthFacts.{Witness, flat_is}
 
 -- ---- the cells that an operation leaves are elements
 
-one : (a : ℕ) → a < prime → AreElements (a ∷ [])
-one a low = All-cons (λ e. e < prime) a [] low (All-nil (λ e. e < prime))
-
-more : (a : ℕ) (xs : List ℕ) → a < prime → AreElements xs → AreElements (a ∷ xs)
-more a xs low rest = All-cons (λ e. e < prime) a xs low rest
-
 elements_if : (t : Bool) (xs ys : List ℕ) → AreElements xs → AreElements ys → AreElements (cond t xs ys)
 elements_if true xs ys low other = low
 elements_if false xs ys low other = other
@@ -43,8 +36,8 @@ EachLow [] = Unit {0}
 EachLow (v ∷ vs) = (v < prime) × EachLow vs
 
 pub elements_each : (xs : List ℕ) → EachLow xs → AreElements xs
-elements_each [] each = All-nil (λ e. e < prime)
-elements_each (v ∷ vs) each = more v vs each.0 (elements_each vs each.1)
+elements_each [] each = elements-none
+elements_each (v ∷ vs) each = elements-cons v vs each.0 (elements_each vs each.1)
 
 elements_cells : (x : List ℕ) → Low x → AreElements (cells x)
 unfolding cells
@@ -63,17 +56,14 @@ elements_digest : (x : List ℕ) → Low x → AreElements (function_digest x)
 unfolding function_digest
 elements_digest x low = elements_each (function_digest x) (low 4, (low 5, (low 6, (low 7, tt))))
 
-none_low : AreElements []
-none_low = All-nil (λ e. e < prime)
-
 elements_computed : (op : Op) (x : List ℕ) → Low x → is_free op ≡ false → is_op op ops.Inv ≡ false → AreElements (computed op (seen_of x))
 unfolding computed seen_of
-elements_computed ops.Eqz x low free out = one _ (bit_low (eqb (slice_index (cells x) 0) 0))
-elements_computed ops.Neg x low free out = one _ (rest_low _)
+elements_computed ops.Eqz x low free out = elements-one _ (bit_low (eqb (slice_index (cells x) 0) 0))
+elements_computed ops.Neg x low free out = elements-one _ (rest_low _)
 elements_computed ops.Inv x low free out = never out
-elements_computed ops.Incr x low free out = one _ (rest_low _)
-elements_computed ops.Not x low free out = one _ (rest_low _)
-elements_computed ops.FmpAdd x low free out = one _ (rest_low _)
+elements_computed ops.Incr x low free out = elements-one _ (rest_low _)
+elements_computed ops.Not x low free out = elements-one _ (rest_low _)
+elements_computed ops.FmpAdd x low free out = elements-one _ (rest_low _)
 elements_computed ops.MLoad x low free out = never free
 elements_computed ops.Caller x low free out = elements-reverse (function_digest x) (elements_digest x low)
 elements_computed ops.AdvPopW x low free out = never free
@@ -82,20 +72,20 @@ elements_computed ops.U32Add x low free out = never free
 elements_computed ops.U32Sub x low free out = never free
 elements_computed ops.U32Mul x low free out = never free
 elements_computed ops.U32Div x low free out = never free
-elements_computed ops.Eq x low free out = one _ (bit_low (eqb (slice_index (cells x) 0) (slice_index (cells x) 1)))
-elements_computed ops.Add x low free out = one _ (rest_low _)
-elements_computed ops.Mul x low free out = one _ (rest_low _)
-elements_computed ops.And x low free out = one _ (rest_low _)
-elements_computed ops.Or x low free out = one _ (rest_low _)
+elements_computed ops.Eq x low free out = elements-one _ (bit_low (eqb (slice_index (cells x) 0) (slice_index (cells x) 1)))
+elements_computed ops.Add x low free out = elements-one _ (rest_low _)
+elements_computed ops.Mul x low free out = elements-one _ (rest_low _)
+elements_computed ops.And x low free out = elements-one _ (rest_low _)
+elements_computed ops.Or x low free out = elements-one _ (rest_low _)
 elements_computed ops.U32And x low free out = never free
 elements_computed ops.U32Xor x low free out = never free
 elements_computed ops.CSwap x low free out =
     elements_if (eqb (slice_index (cells x) 0) 0) (slice_index (cells x) 1 ∷ slice_index (cells x) 2 ∷ [])
     (slice_index (cells x) 2 ∷ slice_index (cells x) 1 ∷ [])
-    (more (slice_index (cells x) 1) (slice_index (cells x) 2 ∷ []) (elements-index (cells x) 1 (elements_cells x low))
-    (one (slice_index (cells x) 2) (elements-index (cells x) 2 (elements_cells x low))))
-    (more (slice_index (cells x) 2) (slice_index (cells x) 1 ∷ []) (elements-index (cells x) 2 (elements_cells x low))
-    (one (slice_index (cells x) 1) (elements-index (cells x) 1 (elements_cells x low))))
+    (elements-cons (slice_index (cells x) 1) (slice_index (cells x) 2 ∷ []) (elements-index (cells x) 1 (elements_cells x low))
+    (elements-one (slice_index (cells x) 2) (elements-index (cells x) 2 (elements_cells x low))))
+    (elements-cons (slice_index (cells x) 2) (slice_index (cells x) 1 ∷ []) (elements-index (cells x) 2 (elements_cells x low))
+    (elements-one (slice_index (cells x) 1) (elements-index (cells x) 1 (elements_cells x low))))
 elements_computed ops.CSwapW x low free out =
     elements_if (eqb (slice_index (cells x) 0) 0) (take 8 (drop 1 (cells x))) (take 4 (drop 5 (cells x)) ++ take 4 (drop 1 (cells x)))
     (elements-take 8 (drop 1 (cells x)) (elements-drop 1 (cells x) (elements_cells x low)))
@@ -105,14 +95,14 @@ elements_computed ops.CSwapW x low free out =
 elements_computed ops.MLoadW x low free out = never free
 elements_computed ops.U32Add3 x low free out = never free
 elements_computed ops.U32MAdd x low free out = never free
-elements_computed ops.Pad x low free out = one 0 (lit< tt)
+elements_computed ops.Pad x low free out = elements-one 0 (lit< tt)
 elements_computed ops.AdvPop x low free out = never free
-elements_computed ops.SDepth x low free out = one _ (rest_low _)
-elements_computed ops.Clk x low free out = one _ (rest_low _)
+elements_computed ops.SDepth x low free out = elements-one _ (rest_low _)
+elements_computed ops.Clk x low free out = elements-one _ (rest_low _)
 elements_computed ops.U32Split x low free out = never free
 elements_computed ops.Push x low free out = never free
-elements_computed ops.Noop x low free out = none_low
-elements_computed op x low free out = none_low
+elements_computed ops.Noop x low free out = elements-none
+elements_computed op x low free out = elements-none
 
 left_low : (op : Op) (x : List ℕ) (j : ℕ) → Low x → is_free op ≡ false → is_op op ops.Inv ≡ false → left_value op j x < prime
 unfolding left_value left_cells seen_of

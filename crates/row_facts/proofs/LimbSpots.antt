@@ -9,7 +9,7 @@ use Rattle.air_kit.specs.Places.{Spot}
 use Rattle.air_kit.specs.U32Values.{limbs, two_left, u32_values, entry_140, entry_141, entry_142, entry_143, entry_144, entry_145, entry_146, entry_147}
 use Rattle.row_facts.specs.Zero.{AllZero}
 use Rattle.row_facts.specs.Limbs.{IsLimbRow, MovesLimbs, ShowsLimbs, has_third}
-use Rattle.row_facts.specs.RowFacts.{Reads}
+use Rattle.row_facts.specs.RowFacts.{HasOps}
 use Rattle.row_facts.proofs.Zeros.{each_zero}
 use Rattle.row_facts.proofs.Says.{off}
 use Rattle.row_facts.proofs.LimbFacts.{leaves_second, leaves_fourth, says_140, says_141, says_142, says_143, says_144, says_145, says_146, says_147}
@@ -47,7 +47,7 @@ div_low op e = second_of_two (is_op op ops.U32Add || is_op op ops.U32Sub || is_o
 
 -- ---- from zeros
 
-limb_row : (op : Op) (p : Spot) → Reads op p → AllZero (u32_values p) → IsLimbRow op p.cur
+limb_row : (op : Op) (p : Spot) → HasOps op p → AllZero (u32_values p) → IsLimbRow op p.cur
 unfolding u32_values
 limb_row op p r zeros = record {
   first = (row_at entry_140 r (says_140 op p.cur r.here.low)).shown (zeros 0);
@@ -56,7 +56,7 @@ limb_row op p r zeros = record {
   remainder = (row_at entry_147 r (says_147 op p.cur r.here.low)).shown (zeros 7);
 }
 
-limbs_moved : (op : Op) (p : Spot) (y : List ℕ) → Reads op p → AllZero (u32_values p) → p.next ≡ Some y → MovesLimbs op p.cur y
+limbs_moved : (op : Op) (p : Spot) (y : List ℕ) → HasOps op p → AllZero (u32_values p) → p.next ≡ Some y → MovesLimbs op p.cur y
 unfolding u32_values
 limbs_moved op p y r zeros e =
     let x : List ℕ = p.cur in
@@ -90,12 +90,12 @@ limbs_moved op p y r zeros e =
       one_way = (pair_at entry_146 r (λ u n. says_146 op (op_of u) x u n.low)).shown (zeros 6) y e;
     }
 
-pub limbs_shown : (op : Op) (p : Spot) → Reads op p → AllZero (u32_values p) → ShowsLimbs op p
+pub limbs_shown : (op : Op) (p : Spot) → HasOps op p → AllZero (u32_values p) → ShowsLimbs op p
 limbs_shown op p r zeros = record { row = limb_row op p r zeros; pair = λ y e. limbs_moved op p y r zeros e }
 
 -- ---- and back
 
-pub limbs_zeros : (op : Op) (p : Spot) → Reads op p → ShowsLimbs op p → AllZero (u32_values p)
+pub limbs_zeros : (op : Op) (p : Spot) → HasOps op p → ShowsLimbs op p → AllZero (u32_values p)
 unfolding u32_values
 limbs_zeros op p r shows =
     each_zero (u32_values p) (

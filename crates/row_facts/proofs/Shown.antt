@@ -19,7 +19,7 @@ use Rattle.row_facts.specs.Blocks.{IsEndRow, IsBlockRow, KeepsBlock, KeepsBatch,
 use Rattle.row_facts.specs.Bounds.{IsLowClaim, StartsRun, IsFirstRow, IsLastRow}
 use Rattle.row_facts.specs.Follows.{may_follow}
 use Rattle.row_facts.specs.Groups.{IsGroupRow, GoesOn}
-use Rattle.row_facts.specs.RowFacts.{ReadsAs, Reads, IsRow, IsPair, IsAtSpot}
+use Rattle.row_facts.specs.RowFacts.{ReadsAs, HasOps, IsRow, IsPair, IsAtSpot}
 use Rattle.row_facts.proofs.Zeros.{zero_front, zero_back, zero_family}
 use Rattle.row_facts.proofs.Hot.{row_says}
 use Rattle.row_facts.proofs.OpcodeFacts.{row_has_op}
@@ -59,7 +59,7 @@ stops_at : (i k : ℕ) → (i ≡ 0) ⊎ (k ≡ 0) → i ≡ 1 → k ≡ 0
 stops_at i k (inl z) one_is = absurd (omega (arith, z, one_is))
 stops_at i k (inr z) one_is = z
 
-end_row : (op : Op) (p : Spot) → Reads op p → AllZero (block_values p) → is_op op ops.End ≡ true → IsEndRow p.cur
+end_row : (op : Op) (p : Spot) → HasOps op p → AllZero (block_values p) → is_op op ops.End ≡ true → IsEndRow p.cur
 unfolding block_values follow_values shown_values kept_values family kind_flags
 end_row op p r zeros is =
     let x : List ℕ = p.cur in
@@ -77,7 +77,7 @@ end_row op p r zeros is =
     bits : (j : ℕ) → j < 4 → h p.cur (4 + j) < 2
     bits = below_four (λ j. h p.cur (4 + j) < 2) (bit 0 (zeros 10)) (bit 1 (zeros 11)) (bit 2 (zeros 12)) (bit 3 (zeros 13))
 
-block_row : (op : Op) (p : Spot) → Reads op p → AllZero (block_values p) → IsBlockRow op p.cur
+block_row : (op : Op) (p : Spot) → HasOps op p → AllZero (block_values p) → IsBlockRow op p.cur
 unfolding block_values follow_values shown_values kept_values family
 block_row op p r zeros = record {
   condition = (row_at entry_67 r (says_67 op p.cur r.here.low)).shown (zeros 7);
@@ -98,7 +98,7 @@ unused_at x batch each (suc j) le few =
     let e : j + 1 ≡ suc j = omega arith in
     subst (λ n. h x n ≡ 0) e (each j (omega (arith, few)) (omega (arith, le)))
 
-batch_shown : (op : Op) (p : Spot) → Reads op p → AllZero (span_values p) → is_batch_op op ≡ true → ShowsBatch p.cur
+batch_shown : (op : Op) (p : Spot) → HasOps op p → AllZero (span_values p) → is_batch_op op ≡ true → ShowsBatch p.cur
 unfolding span_values batch_values family
 batch_shown op p r zeros is = record {
   is_batch = batch is;
@@ -115,14 +115,14 @@ batch_shown op p r zeros is = record {
     none : (j : ℕ) → j < 7 → on_row (entry_96 j) p ≡ 0 → positions p.cur ≤ j + 1 → h p.cur (j + 1) ≡ 0
     none j few z = (row_at (entry_96 j) r (says_96 op p.cur j batch few (r.here.low (16 + (j + 1))))).shown z is
 
-group_row : (op : Op) (p : Spot) → Reads op p → AllZero (span_values p) → is_ordinary_op op ≡ true → IsGroupRow op p.cur
+group_row : (op : Op) (p : Spot) → HasOps op p → AllZero (span_values p) → is_ordinary_op op ≡ true → IsGroupRow op p.cur
 unfolding span_values batch_values group_values family
 group_row op p r zeros is = record {
   place = (row_at entry_114 r (says_114 op p.cur r.here.low r.here.span)).shown (zeros 22) is;
   witness = (row_at entry_107 r (says_107 op p.cur r.here.has r.here.low r.here.span)).shown (zeros 15) is;
 }
 
-pub row_shown : (op : Op) (p : Spot) → Reads op p → AllZero (block_values p) → AllZero (span_values p) → IsRow op p.cur
+pub row_shown : (op : Op) (p : Spot) → HasOps op p → AllZero (block_values p) → AllZero (span_values p) → IsRow op p.cur
 row_shown op p r blocks spans = record { block = block_row op p r blocks; batch = batch_shown op p r spans; group = group_row op p r spans }
 
 -- ---- the row behind it
@@ -135,7 +135,7 @@ second_of false u e = e
 pub loop_bit : (op : Op) (x : List ℕ) → IsBlockRow op x → is_op op ops.Loop ≡ true → s x 0 < 2
 loop_bit op x row is = row.condition (second_of (is_op op ops.Split) (is_op op ops.Loop) is)
 
-follows_at : (op : Op) (p : Spot) (y : List ℕ) → Reads op p → IsBlockRow op p.cur → AllZero (block_values p) → p.next ≡ Some y
+follows_at : (op : Op) (p : Spot) (y : List ℕ) → HasOps op p → IsBlockRow op p.cur → AllZero (block_values p) → p.next ≡ Some y
     → may_follow op (s p.cur 0) (op_of y) ≡ true
 unfolding block_values follow_values shown_values kept_values family
 follows_at op p y r row zeros e =
@@ -149,7 +149,7 @@ follows_at op p y r row zeros e =
       ends = (pair_at entry_66 r (λ u n. says_66 op (op_of u) x u)).shown (zeros 6) y e;
     })
 
-block_kept : (op : Op) (p : Spot) (y : List ℕ) → Reads op p → IsBlockRow op p.cur → AllZero (block_values p) → p.next ≡ Some y → KeepsBlock op p.cur y
+block_kept : (op : Op) (p : Spot) (y : List ℕ) → HasOps op p → IsBlockRow op p.cur → AllZero (block_values p) → p.next ≡ Some y → KeepsBlock op p.cur y
 unfolding block_values follow_values shown_values kept_values family
 block_kept op p y r row zeros e =
     let x : List ℕ = p.cur in
@@ -177,13 +177,13 @@ block_kept op p y r row zeros e =
     digest : (j : ℕ) → on_pair (entry_85 j) p ≡ 0 → (is_op op ops.Call ≡ true → f y j ≡ h p.cur j) × (keeps_digest op p.cur ≡ true → f y j ≡ f p.cur j)
     digest j z = (pair_at (entry_85 j) r (λ u n. says_85 op (op_of u) p.cur u j r.here.low n.low row.ends)).shown z y e
 
-batch_kept : (op : Op) (p : Spot) (y : List ℕ) → Reads op p → AllZero (block_values p) → p.next ≡ Some y → KeepsBatch op p.cur y
+batch_kept : (op : Op) (p : Spot) (y : List ℕ) → HasOps op p → AllZero (block_values p) → p.next ≡ Some y → KeepsBatch op p.cur y
 unfolding block_values follow_values shown_values kept_values family
 batch_kept op p y r zeros e =
     let said = (pair_at entry_91 r (λ u n. says_91 op (op_of u) p.cur u r.here.low n.low r.here.span)).shown (zeros 31) y e in
     record { first = said.0; later = said.1; same = said.2 }
 
-batch_opened : (op : Op) (p : Spot) (y : List ℕ) → Reads op p → (is_batch_op op ≡ true → ShowsBatch p.cur) → AllZero (span_values p) → p.next ≡ Some y
+batch_opened : (op : Op) (p : Spot) (y : List ℕ) → HasOps op p → (is_batch_op op ≡ true → ShowsBatch p.cur) → AllZero (span_values p) → p.next ≡ Some y
     → is_batch_op op ≡ true → OpensBatch p.cur y
 unfolding span_values batch_values group_values family
 batch_opened op p y r shows zeros e is = record {
@@ -192,7 +192,7 @@ batch_opened op p y r shows zeros e is = record {
   place = (pair_at entry_106 r (λ u n. says_106 op (op_of u) p.cur u (n.low 26))).shown (zeros 14) y e is;
 }
 
-group_kept : (op : Op) (p : Spot) (y : List ℕ) → Reads op p → (is_ordinary_op op ≡ true → IsGroupRow op p.cur) → AllZero (span_values p) → p.next ≡ Some y
+group_kept : (op : Op) (p : Spot) (y : List ℕ) → HasOps op p → (is_ordinary_op op ≡ true → IsGroupRow op p.cur) → AllZero (span_values p) → p.next ≡ Some y
     → is_ordinary_op op ≡ true → GoesOn op (op_of y) p.cur y
 unfolding span_values batch_values group_values family
 group_kept op p y r row zeros e is =
@@ -206,11 +206,11 @@ group_kept op p y r row zeros e is =
       count = (pair_at entry_113 r (λ u n. says_113 op (op_of u) x u r.here.has r.here.low n.low row r.here.span n.span)).shown (zeros 21) y e is;
     })
 
-clock_at : (op : Op) (p : Spot) (y : List ℕ) → Reads op p → AllZero (opcode_values p) → p.next ≡ Some y → clk y ≡ felt_add (clk p.cur) 1
+clock_at : (op : Op) (p : Spot) (y : List ℕ) → HasOps op p → AllZero (opcode_values p) → p.next ≡ Some y → clk y ≡ felt_add (clk p.cur) 1
 unfolding opcode_values family
 clock_at op p y r zeros e = (pair_at entry_10 r (λ u n. says_10 op (op_of u) p.cur u r.here.low n.low)).shown (zeros 9) y e
 
-pub pair_shown : (op : Op) (p : Spot) (y : List ℕ) → Reads op p → IsRow op p.cur → AllZero (opcode_values p) → AllZero (block_values p)
+pub pair_shown : (op : Op) (p : Spot) (y : List ℕ) → HasOps op p → IsRow op p.cur → AllZero (opcode_values p) → AllZero (block_values p)
     → AllZero (span_values p)
     → p.next ≡ Some y → IsPair op (op_of y) p.cur y
 pair_shown op p y r row opcode blocks spans e = record {
@@ -224,7 +224,7 @@ pair_shown op p y r row opcode blocks spans e = record {
 
 -- ---- the first row and the last one
 
-starts_run : (op : Op) (p : Spot) → Reads op p → AllZero (opcode_values p) → AllZero (start_values p) → p.row ≡ 0 → StartsRun op p.cur
+starts_run : (op : Op) (p : Spot) → HasOps op p → AllZero (opcode_values p) → AllZero (start_values p) → p.row ≡ 0 → StartsRun op p.cur
 unfolding opcode_values start_values family
 starts_run op p r opcode zeros e = record {
   starts = (first_at entry_11 r (says_11 op p.cur)).shown (zeros 0) e;
@@ -242,13 +242,13 @@ starts_run op p r opcode zeros e = record {
     digest : (j : ℕ) → at_first (entry_16 j) p ≡ 0 → f p.cur j ≡ 0
     digest j z = (first_at (entry_16 j) r (says_16 op p.cur j r.here.low)).shown z e
 
-inputs_shown : (k : Claim) (op : Op) (p : Spot) → IsLowClaim k → Reads op p → AllZero (inputs_values k p) → p.row ≡ 0 → (j : ℕ) → j < 16
+inputs_shown : (k : Claim) (op : Op) (p : Spot) → IsLowClaim k → HasOps op p → AllZero (inputs_values k p) → p.row ≡ 0 → (j : ℕ) → j < 16
     → s p.cur j ≡ slice_index k.inputs j
 unfolding inputs_values
 inputs_shown k op p few r zeros e j h =
     (first_at (entry_23 k j) r (says_23 k op p.cur j few r.here.low)).shown (zero_family 16 (λ j. at_first (entry_23 k j) p) zeros j h) e
 
-outputs_shown : (k : Claim) (op : Op) (p : Spot) → IsLowClaim k → Reads op p → AllZero (outputs_values k p) → p.next ≡ None → (j : ℕ) → j < 16
+outputs_shown : (k : Claim) (op : Op) (p : Spot) → IsLowClaim k → HasOps op p → AllZero (outputs_values k p) → p.next ≡ None → (j : ℕ) → j < 16
     → s p.cur j ≡ slice_index k.outputs j
 unfolding outputs_values
 outputs_shown k op p few r zeros e j h =
@@ -273,7 +273,7 @@ bounds_of k p zeros =
       outputs = zero_back (end_values k p) (outputs_values k p) later;
     }
 
-pub first_shown : (k : Claim) (op : Op) (p : Spot) → IsLowClaim k → Reads op p → AllZero (opcode_values p) → AllZero (boundary_values k p) → p.row ≡ 0
+pub first_shown : (k : Claim) (op : Op) (p : Spot) → IsLowClaim k → HasOps op p → AllZero (opcode_values p) → AllZero (boundary_values k p) → p.row ≡ 0
     → IsFirstRow k op p.cur
 unfolding end_values
 first_shown k op p few r opcode zeros e =
@@ -285,7 +285,7 @@ first_shown k op p few r opcode zeros e =
       left = (first_at (entry_40 k) r (says_40 k op p.cur few)).shown (b.finish 1) e;
     }
 
-pub last_shown : (k : Claim) (op : Op) (p : Spot) → IsLowClaim k → Reads op p → AllZero (boundary_values k p) → p.next ≡ None → IsLastRow k op p.cur
+pub last_shown : (k : Claim) (op : Op) (p : Spot) → IsLowClaim k → HasOps op p → AllZero (boundary_values k p) → p.next ≡ None → IsLastRow k op p.cur
 unfolding end_values
 last_shown k op p few r zeros e =
     let b : Bounds k p = bounds_of k p zeros in
@@ -320,7 +320,7 @@ decoder_parts k p zeros =
 pub reads_shown : (k : Claim) (p : Spot) → Low p.cur → AllZero (decoder_values k p) → ReadsAs (op_of p.cur) p.cur
 reads_shown k p low zeros = let parts : DecoderParts k p = decoder_parts k p zeros in span_at p low parts.opcode parts.blocks
 
-pub spot_shown : (k : Claim) (op : Op) (p : Spot) → IsLowClaim k → Reads op p → AllZero (decoder_values k p) → IsAtSpot k op p
+pub spot_shown : (k : Claim) (op : Op) (p : Spot) → IsLowClaim k → HasOps op p → AllZero (decoder_values k p) → IsAtSpot k op p
 spot_shown k op p few r zeros =
     let parts : DecoderParts k p = decoder_parts k p zeros in
     let row : IsRow op p.cur = row_shown op p r parts.blocks parts.spans in

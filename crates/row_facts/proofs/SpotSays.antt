@@ -5,11 +5,11 @@ use Rattle.vm_field.specs.Field.{prime}
 use Rattle.vm_ops.specs.declared.op.Op.{Op}
 use Rattle.air_kit.specs.Flags.{flag, op_of}
 use Rattle.air_kit.specs.Places.{RowEntry, PairEntry, Spot, on_row, on_pair, between, at_first, at_last, at_end}
-use Rattle.row_facts.specs.RowFacts.{Reads, ReadsAs}
+use Rattle.row_facts.specs.RowFacts.{HasOps, ReadsAs}
 use Rattle.row_facts.proofs.Says.{Says}
 use Rattle.row_facts.proofs.Hot.{hot, row_says, pair_says}
 
-pub row_at : {op : Op} {p : Spot} {P : Type 0} (entry : RowEntry) → Reads op p → Says (entry (hot op) p.cur) P → Says (on_row entry p) P
+pub row_at : {op : Op} {p : Spot} {P : Type 0} (entry : RowEntry) → HasOps op p → Says (entry (hot op) p.cur) P → Says (on_row entry p) P
 row_at entry r s = row_says entry r.here.has s
 
 -- a value that counts in some places alone
@@ -31,7 +31,7 @@ cond_low : (t : Bool) (v : ℕ) → v < prime → cond t v 0 < prime
 cond_low true v low = low
 cond_low false v low = lit< tt
 
-pub first_at : {op : Op} {p : Spot} {P : Type 0} (entry : RowEntry) → Reads op p → Says (entry (hot op) p.cur) P → Says (at_first entry p) (p.row ≡ 0 → P)
+pub first_at : {op : Op} {p : Spot} {P : Type 0} (entry : RowEntry) → HasOps op p → Says (entry (hot op) p.cur) P → Says (at_first entry p) (p.row ≡ 0 → P)
 first_at {p = p} entry r s =
     let at_row = row_at entry r s in
     counts_where (p.row ≡ 0) (cond_low (eqb p.row 0) (on_row entry p) at_row.low) (λ e. ap (λ n. cond (eqb n 0) (on_row entry p) 0) e)
@@ -45,7 +45,7 @@ end_low : (next : Option (List ℕ)) (v : ℕ) → v < prime → at_end v next <
 end_low None v low = low
 end_low (Some y) v low = lit< tt
 
-pub last_at : {op : Op} {p : Spot} {P : Type 0} (entry : RowEntry) → Reads op p → Says (entry (hot op) p.cur) P → Says (at_last entry p) (p.next ≡ None → P)
+pub last_at : {op : Op} {p : Spot} {P : Type 0} (entry : RowEntry) → HasOps op p → Says (entry (hot op) p.cur) P → Says (at_last entry p) (p.next ≡ None → P)
 last_at {p = p} entry r s =
     let at_row = row_at entry r s in
     counts_where (p.next ≡ None) (end_low p.next (on_row entry p) at_row.low) (λ e. ap (at_end (on_row entry p)) e)
@@ -61,6 +61,6 @@ between_says {P = P} entry x (Some y) s = record { low = (s y refl).low; shown =
         let same : u ≡ y = cc in
         (s u e).shown (ap (λ v. entry (flag x) (flag v) x v) same ∙ z)
 
-pub pair_at : {op : Op} {p : Spot} {P : List ℕ → Type 0} (entry : PairEntry) → Reads op p
+pub pair_at : {op : Op} {p : Spot} {P : List ℕ → Type 0} (entry : PairEntry) → HasOps op p
     → ((y : List ℕ) → ReadsAs (op_of y) y → Says (entry (hot op) (hot (op_of y)) p.cur y) (P y)) → Says (on_pair entry p) ((y : List ℕ) → p.next ≡ Some y → P y)
 pair_at {p = p} entry r s = between_says entry p.cur p.next (λ y e. pair_says entry r.here.has (r.behind y e).has (s y (r.behind y e)))

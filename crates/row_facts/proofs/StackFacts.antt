@@ -17,7 +17,7 @@ use Rattle.air_kit.specs.Places.{Spot, on_pair, family}
 use Rattle.air_kit.specs.StackValues.{cells, seen_of, left_value, depth_values, cell_values, operand_values, stack_values, entry_115, entry_116, entry_117, entry_118, entry_119, entry_135, entry_136, entry_137, entry_138, entry_139}
 use Rattle.row_facts.specs.Zero.{AllZero}
 use Rattle.row_facts.specs.Blocks.{IsBlockRow}
-use Rattle.row_facts.specs.RowFacts.{Reads}
+use Rattle.row_facts.specs.RowFacts.{HasOps}
 use Rattle.row_facts.specs.Stack.{IsStackRow, MovesDepth, ShiftsCells, LeavesCells, ShowsStack, mover, keeps_stack}
 use Rattle.row_facts.proofs.Zeros.{zero_front, zero_back, zero_family, zero_both, zero_of_family, each_zero}
 use Rattle.row_facts.proofs.Says.{off, never, none_is, either_or}
@@ -268,7 +268,7 @@ is_equal i k e = grind (arith, nat_tests)
 
 -- ---- a row in its place
 
-stack_row : (op : Op) (p : Spot) → Reads op p → IsBlockRow op p.cur → AllZero (stack_values p) → IsStackRow op p.cur
+stack_row : (op : Op) (p : Spot) → HasOps op p → IsBlockRow op p.cur → AllZero (stack_values p) → IsStackRow op p.cur
 unfolding stack_values depth_values cell_values operand_values family
 stack_row op p r row zeros = record {
   witness = (row_at entry_115 r (says_115 op p.cur r.here.low)).shown (zeros 0);
@@ -278,7 +278,7 @@ stack_row op p r row zeros = record {
   asserted = (row_at entry_139 r (says_139 op p.cur r.here.low)).shown (zeros 24);
 }
 
-depth_moved : (op : Op) (p : Spot) (y : List ℕ) → Reads op p → IsBlockRow op p.cur → Witness p.cur → AllZero (stack_values p) → p.next ≡ Some y
+depth_moved : (op : Op) (p : Spot) (y : List ℕ) → HasOps op p → IsBlockRow op p.cur → Witness p.cur → AllZero (stack_values p) → p.next ≡ Some y
     → MovesDepth op p.cur y
 unfolding stack_values depth_values cell_values operand_values family
 depth_moved op p y r row witness zeros e =
@@ -293,21 +293,21 @@ depth_moved op p y r row witness zeros e =
       same = λ is. (deep.3 is, keys.3 is);
     }
 
-cells_shown : (op : Op) (p : Spot) (y : List ℕ) → Reads op p → IsBlockRow op p.cur → IsStackRow op p.cur → AllZero (cell_values p) → p.next ≡ Some y
+cells_shown : (op : Op) (p : Spot) (y : List ℕ) → HasOps op p → IsBlockRow op p.cur → IsStackRow op p.cur → AllZero (cell_values p) → p.next ≡ Some y
     → (j : ℕ) → j < 16 → CellFact op j p.cur y
 unfolding cell_values
 cells_shown op p y r row stack zeros e j few =
     (pair_at (entry_119 j) r (λ u n. says_119 op (op_of u) j p.cur u r.here.low n.low stack.witness row.ends stack.top)).shown
     (zero_family 16 (λ j. on_pair (entry_119 j) p) zeros j few) y e
 
-compares_shown : (op : Op) (p : Spot) (y : List ℕ) → Reads op p → AllZero (operand_values p) → p.next ≡ Some y → Compares op p.cur y
+compares_shown : (op : Op) (p : Spot) (y : List ℕ) → HasOps op p → AllZero (operand_values p) → p.next ≡ Some y → Compares op p.cur y
 unfolding operand_values
 compares_shown op p y r zeros e = record {
   zero_or = (pair_at entry_135 r (λ u n. says_135 op (op_of u) p.cur u r.here.low n.low)).shown (zeros 0) y e;
   same_or = (pair_at entry_136 r (λ u n. says_136 op (op_of u) p.cur u r.here.low n.low)).shown (zeros 1) y e;
 }
 
-pub stack_shown : (op : Op) (p : Spot) → Reads op p → IsBlockRow op p.cur → AllZero (stack_values p) → ShowsStack op p
+pub stack_shown : (op : Op) (p : Spot) → HasOps op p → IsBlockRow op p.cur → AllZero (stack_values p) → ShowsStack op p
 unfolding stack_values
 stack_shown op p r row zeros =
     let stack : IsStackRow op p.cur = stack_row op p r row zeros in
@@ -327,7 +327,7 @@ stack_shown op p r row zeros =
 
 -- ---- and back
 
-depth_zeros : (op : Op) (p : Spot) → Reads op p → IsBlockRow op p.cur → ShowsStack op p → AllZero (depth_values p)
+depth_zeros : (op : Op) (p : Spot) → HasOps op p → IsBlockRow op p.cur → ShowsStack op p → AllZero (depth_values p)
 unfolding depth_values
 depth_zeros op p r row shows =
     let x : List ℕ = p.cur in
@@ -365,14 +365,14 @@ depth_zeros op p r row shows =
         let k : MovesDepth op p.cur y = (shows.pair y e).depth_moves in
         (λ is. (k.right is).1, λ is flat. (k.left_flat is (eqb-true (depth p.cur) 16 flat)).1, λ is. (k.call is).1, λ is. (k.same is).1)
 
-cell_zeros : (op : Op) (p : Spot) → Reads op p → IsBlockRow op p.cur → ShowsStack op p → AllZero (cell_values p)
+cell_zeros : (op : Op) (p : Spot) → HasOps op p → IsBlockRow op p.cur → ShowsStack op p → AllZero (cell_values p)
 unfolding cell_values
 cell_zeros op p r row shows =
     zero_of_family 16 (λ j. on_pair (entry_119 j) p) (λ j few.
     (pair_at (entry_119 j) r (λ u n. says_119 op (op_of u) j p.cur u r.here.low n.low shows.row.witness row.ends shows.row.top)).zero_where
     (λ y e. cell_back op j p.cur y r.here.low (shows.pair y e).shifts (shows.pair y e).leaves few))
 
-operand_zeros : (op : Op) (p : Spot) → Reads op p → ShowsStack op p → AllZero (operand_values p)
+operand_zeros : (op : Op) (p : Spot) → HasOps op p → ShowsStack op p → AllZero (operand_values p)
 unfolding operand_values
 operand_zeros op p r shows =
     each_zero (operand_values p) (
@@ -394,7 +394,7 @@ operand_zeros op p r shows =
       ),
     )
 
-pub stack_zeros : (op : Op) (p : Spot) → Reads op p → IsBlockRow op p.cur → ShowsStack op p → AllZero (stack_values p)
+pub stack_zeros : (op : Op) (p : Spot) → HasOps op p → IsBlockRow op p.cur → ShowsStack op p → AllZero (stack_values p)
 unfolding stack_values
 stack_zeros op p r row shows =
     zero_both (depth_values p) (cell_values p ++ operand_values p) (depth_zeros op p r row shows)

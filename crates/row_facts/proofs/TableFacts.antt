@@ -13,7 +13,7 @@ use Rattle.air_kit.specs.U32Values.{u32_values}
 use Rattle.row_facts.specs.Bounds.{IsLowClaim, IsFirstRow}
 use Rattle.row_facts.specs.Limbs.{ShowsLimbs}
 use Rattle.row_facts.specs.MainRows.{IsZero, ShowsPair, ShowsRow, ShowsRows, op_in, row_at}
-use Rattle.row_facts.specs.RowFacts.{IsAtSpot, Reads, ReadsAs}
+use Rattle.row_facts.specs.RowFacts.{IsAtSpot, HasOps, ReadsAs}
 use Rattle.row_facts.specs.Stack.{ShowsStack}
 use Rattle.row_facts.specs.Zero.{AllZero}
 use Rattle.row_facts.proofs.LimbSpots.{limbs_shown, limbs_zeros}
@@ -44,7 +44,7 @@ last_where rows i h none = go within
     go (inr e) = e
 
 reads_behind : (rows : List (List ℕ)) → ((i : ℕ) → i < length rows → ReadsAs (op_in rows i) (row_at rows i)) → (i : ℕ) → i < length rows
-    → Reads (op_in rows i) (spot_of rows i)
+    → HasOps (op_in rows i) (spot_of rows i)
 reads_behind rows reads i h = record { here = reads i h; behind = next }
   where
     next : (y : List ℕ) → slice_get rows (suc i) ≡ Some y → ReadsAs (op_of y) y
@@ -71,7 +71,7 @@ at_place : (k : Claim) (rows : List (List ℕ)) → IsLowClaim k → IsZero k ro
 at_place k rows few z i h =
     let zeros = spot_zero k rows z i h in
     let p : Spot = spot_of rows i in
-    let r : Reads (op_in rows i) p = reads_behind rows (reads_in k rows z) i h in
+    let r : HasOps (op_in rows i) p = reads_behind rows (reads_in k rows z) i h in
     let spot : IsAtSpot k (op_in rows i) p = spot_shown k (op_in rows i) p few r zeros.0 in
     record { spot = spot; stack = stack_shown (op_in rows i) p r spot.row.block zeros.1; limbs = limbs_shown (op_in rows i) p r zeros.2 }
 
@@ -109,7 +109,7 @@ place_zero : (k : Claim) (rows : List (List ℕ)) → IsLowClaim k → ShowsRows
 place_zero k rows few shows i h =
     let p : Spot = spot_of rows i in
     let op : Op = op_in rows i in
-    let r : Reads (op_in rows i) (spot_of rows i) = reads_behind rows (λ j g. (shows.row_is j g).reads) i h in
+    let r : HasOps (op_in rows i) (spot_of rows i) = reads_behind rows (λ j g. (shows.row_is j g).reads) i h in
     let x : ShowsRow (op_in rows i) (row_at rows i) = shows.row_is i h in
     whole_zero k (spot_of rows i)
     (spot_zeros k (op_in rows i) (spot_of rows i) few r (record {

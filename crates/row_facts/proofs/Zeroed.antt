@@ -19,7 +19,7 @@ use Rattle.row_facts.specs.Batches.{IsBatchRow}
 use Rattle.row_facts.specs.Blocks.{IsEndRow, IsBlockRow, KeepsBlock, KeepsBatch}
 use Rattle.row_facts.specs.Bounds.{IsLowClaim, IsFirstRow, IsLastRow}
 use Rattle.row_facts.specs.Follows.{may_follow}
-use Rattle.row_facts.specs.RowFacts.{Reads, IsRow, IsPair, IsAtSpot}
+use Rattle.row_facts.specs.RowFacts.{HasOps, IsRow, IsPair, IsAtSpot}
 use Rattle.row_facts.proofs.Zeros.{each_zero, zero_both, zero_of_family}
 use Rattle.row_facts.proofs.Says.{bit_says}
 use Rattle.row_facts.proofs.BatchFacts.{size_of, says_92, says_95, says_96, says_103, says_104, says_105, says_106}
@@ -32,7 +32,7 @@ use Rattle.row_facts.proofs.SpotSays.{row_at, first_at, last_at, pair_at}
 
 -- ---- operations and boundaries
 
-opcode_zeros : (k : Claim) (op : Op) (p : Spot) → Reads op p → ((y : List ℕ) → p.next ≡ Some y → clk y ≡ felt_add (clk p.cur) 1)
+opcode_zeros : (k : Claim) (op : Op) (p : Spot) → HasOps op p → ((y : List ℕ) → p.next ≡ Some y → clk y ≡ felt_add (clk p.cur) 1)
     → (p.row ≡ 0 → IsFirstRow k op p.cur) → AllZero (opcode_values p)
 unfolding opcode_values entry_1 entry_8
 opcode_zeros k op p r clock first =
@@ -49,7 +49,7 @@ opcode_zeros k op p r clock first =
       ),
     ))
 
-start_zeros : (k : Claim) (op : Op) (p : Spot) → Reads op p → (p.row ≡ 0 → IsFirstRow k op p.cur) → AllZero (start_values p)
+start_zeros : (k : Claim) (op : Op) (p : Spot) → HasOps op p → (p.row ≡ 0 → IsFirstRow k op p.cur) → AllZero (start_values p)
 unfolding start_values family
 start_zeros k op p r first =
     each_zero (start_values p) (
@@ -93,13 +93,13 @@ start_zeros k op p r first =
     digest : (j : ℕ) → j < 4 → at_first (entry_16 j) p ≡ 0
     digest j h = (first_at (entry_16 j) r (says_16 op p.cur j r.here.low)).zero_where (λ e. (first e).start.digest j h)
 
-inputs_zeros : (k : Claim) (op : Op) (p : Spot) → IsLowClaim k → Reads op p → (p.row ≡ 0 → IsFirstRow k op p.cur) → AllZero (inputs_values k p)
+inputs_zeros : (k : Claim) (op : Op) (p : Spot) → IsLowClaim k → HasOps op p → (p.row ≡ 0 → IsFirstRow k op p.cur) → AllZero (inputs_values k p)
 unfolding inputs_values
 inputs_zeros k op p few r first =
     zero_of_family 16 (λ j. at_first (entry_23 k j) p) (λ j h. (first_at (entry_23 k j) r (says_23 k op p.cur j few r.here.low)).zero_where
     (λ e. (first e).inputs j h))
 
-end_zeros : (k : Claim) (op : Op) (p : Spot) → IsLowClaim k → Reads op p → (p.row ≡ 0 → IsFirstRow k op p.cur) → (p.next ≡ None → IsLastRow k op p.cur)
+end_zeros : (k : Claim) (op : Op) (p : Spot) → IsLowClaim k → HasOps op p → (p.row ≡ 0 → IsFirstRow k op p.cur) → (p.next ≡ None → IsLastRow k op p.cur)
     → AllZero (end_values k p)
 unfolding end_values
 end_zeros k op p few r first last =
@@ -120,13 +120,13 @@ end_zeros k op p few r first last =
       ),
     )
 
-outputs_zeros : (k : Claim) (op : Op) (p : Spot) → IsLowClaim k → Reads op p → (p.next ≡ None → IsLastRow k op p.cur) → AllZero (outputs_values k p)
+outputs_zeros : (k : Claim) (op : Op) (p : Spot) → IsLowClaim k → HasOps op p → (p.next ≡ None → IsLastRow k op p.cur) → AllZero (outputs_values k p)
 unfolding outputs_values
 outputs_zeros k op p few r last =
     zero_of_family 16 (λ j. at_last (entry_44 k j) p) (λ j h. (last_at (entry_44 k j) r (says_44 k op p.cur j few r.here.low)).zero_where
     (λ e. (last e).outputs j h))
 
-boundary_zeros : (k : Claim) (op : Op) (p : Spot) → IsLowClaim k → Reads op p → (p.row ≡ 0 → IsFirstRow k op p.cur) → (p.next ≡ None → IsLastRow k op p.cur)
+boundary_zeros : (k : Claim) (op : Op) (p : Spot) → IsLowClaim k → HasOps op p → (p.row ≡ 0 → IsFirstRow k op p.cur) → (p.next ≡ None → IsLastRow k op p.cur)
     → AllZero (boundary_values k p)
 unfolding boundary_values
 boundary_zeros k op p few r first last =
@@ -150,7 +150,7 @@ stops_or zero k low h = inl refl
 stops_or (suc zero) k low h = inr (h refl)
 stops_or (suc (suc i)) k low h = absurd (omega (arith, low))
 
-follow_zeros : (op : Op) (p : Spot) → Reads op p → IsBlockRow op p.cur → Behind p (λ y. may_follow op (s p.cur 0) (op_of y) ≡ true) → AllZero (follow_values p)
+follow_zeros : (op : Op) (p : Spot) → HasOps op p → IsBlockRow op p.cur → Behind p (λ y. may_follow op (s p.cur 0) (op_of y) ≡ true) → AllZero (follow_values p)
 unfolding follow_values
 follow_zeros op p r row follows =
     let f : Behind p (λ y. Follow op (op_of y) (s p.cur 0)) = follow_of op p row follows in
@@ -191,7 +191,7 @@ kinds_of : (x : List ℕ) → IsEndRow x → kind_flags x < 2
 unfolding kind_flags
 kinds_of x shows = most_kinds (h x 4) (h x 5) (h x 6) (h x 7) shows.most
 
-shown_zeros : (op : Op) (p : Spot) → Reads op p → IsBlockRow op p.cur → AllZero (shown_values p)
+shown_zeros : (op : Op) (p : Spot) → HasOps op p → IsBlockRow op p.cur → AllZero (shown_values p)
 unfolding shown_values family
 shown_zeros op p r row =
     each_zero (shown_values p) (
@@ -238,7 +238,7 @@ shown_zeros op p r row =
     none : (j : ℕ) → j < 4 → on_row (entry_75 j) p ≡ 0
     none j few = (row_at (entry_75 j) r (says_75 op p.cur j r.here.low)).zero_where (λ is. row.single is j few)
 
-kept_zeros : (op : Op) (p : Spot) → Reads op p → IsBlockRow op p.cur → Behind p (λ y. KeepsBlock op p.cur y) → Behind p (λ y. KeepsBatch op p.cur y)
+kept_zeros : (op : Op) (p : Spot) → HasOps op p → IsBlockRow op p.cur → Behind p (λ y. KeepsBlock op p.cur y) → Behind p (λ y. KeepsBatch op p.cur y)
     → AllZero (kept_values p)
 unfolding kept_values family
 kept_zeros op p r row keeps batch =
@@ -283,7 +283,7 @@ kept_zeros op p r row keeps batch =
         (pair_at (entry_85 j) r (λ u n. says_85 op (op_of u) p.cur u j r.here.low n.low row.ends)).zero_where
         (λ y e. (λ is. ((keeps y e).call is).digest j few, λ is. (keeps y e).digest is j few))
 
-block_zeros : (op : Op) (p : Spot) → Reads op p → IsBlockRow op p.cur → Behind p (λ y. IsPair op (op_of y) p.cur y) → AllZero (block_values p)
+block_zeros : (op : Op) (p : Spot) → HasOps op p → IsBlockRow op p.cur → Behind p (λ y. IsPair op (op_of y) p.cur y) → AllZero (block_values p)
 unfolding block_values
 block_zeros op p r row pair =
     zero_both (follow_values p) (shown_values p ++ kept_values p) (follow_zeros op p r row (λ y e. (pair y e).follows))
@@ -291,7 +291,7 @@ block_zeros op p r row pair =
 
 -- ---- spans
 
-batch_zeros : (op : Op) (p : Spot) → Reads op p → IsRow op p.cur → Behind p (λ y. IsPair op (op_of y) p.cur y) → AllZero (batch_values p)
+batch_zeros : (op : Op) (p : Spot) → HasOps op p → IsRow op p.cur → Behind p (λ y. IsPair op (op_of y) p.cur y) → AllZero (batch_values p)
 unfolding batch_values family
 batch_zeros op p r row pair =
     each_zero (batch_values p) (
@@ -353,7 +353,7 @@ batch_zeros op p r row pair =
         (row_at (entry_96 j) r (says_96 op p.cur j batch few (r.here.low (16 + (j + 1))))).zero_where
         (λ is le. (row.batch is).unused (j + 1) le (omega (arith, few)))
 
-group_zeros : (op : Op) (p : Spot) → Reads op p → IsRow op p.cur → Behind p (λ y. IsPair op (op_of y) p.cur y) → AllZero (group_values p)
+group_zeros : (op : Op) (p : Spot) → HasOps op p → IsRow op p.cur → Behind p (λ y. IsPair op (op_of y) p.cur y) → AllZero (group_values p)
 unfolding group_values
 group_zeros op p r row pair =
     each_zero (group_values p) (
@@ -391,7 +391,7 @@ group_zeros op p r row pair =
 
 -- ---- a row in its place
 
-pub spot_zeros : (k : Claim) (op : Op) (p : Spot) → IsLowClaim k → Reads op p → IsAtSpot k op p → AllZero (decoder_values k p)
+pub spot_zeros : (k : Claim) (op : Op) (p : Spot) → IsLowClaim k → HasOps op p → IsAtSpot k op p → AllZero (decoder_values k p)
 unfolding decoder_values span_values
 spot_zeros k op p few r is =
     zero_both (opcode_values p) (boundary_values k p ++ (block_values p ++ span_values p)) (opcode_zeros k op p r (λ y e. (is.pair y e).clock) is.first)

@@ -22,7 +22,7 @@ pub record ReadsAs (op : Op) (x : List ℕ) : Type 0 where
   pub span : sp x ≡ (if is_ordinary_op op then 1 else 0)
 
 -- a row in its place, and the row behind it, if there is one, read as operations
-pub record Reads (op : Op) (p : Spot) : Type 0 where
+pub record HasOps (op : Op) (p : Spot) : Type 0 where
   pub here : ReadsAs op p.cur
   pub behind : (y : List ℕ) → p.next ≡ Some y → ReadsAs (op_of y) y
 

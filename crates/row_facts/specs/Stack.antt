@@ -50,7 +50,7 @@ pub record ShiftsCells (op : Op) (x y : List ℕ) : Type 0 where
   pub last : is_left op ≡ true → depth x ≡ 16 → s y 15 ≡ 0
 
 -- The cells that the operation leaves are those that the machine computes from the row, but for the operations whose cells other
--- entries or buses fix. Comparisons show by an inverse that their operands differ, and what is inverted is not 0.
+-- entries, buses or the tape fix. Comparisons show by an inverse that their operands differ, and what is inverted is not 0.
 pub record LeavesCells (op : Op) (x y : List ℕ) : Type 0 where
   pub cells : is_free op ≡ false → (j : ℕ) → j < leaves_of op → s y j ≡ left_value op j x
   pub not_zero : is_op op ops.Eqz ≡ true → s x 0 ≢ 0 → s x 0 ⊠ w x 0 ≡ 1

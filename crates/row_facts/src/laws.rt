@@ -22,7 +22,7 @@ ghost use Rattle.row_facts.specs.Bounds.{IsLowClaim};
 ghost use Rattle.row_facts.specs.Groups.{IsGroupRow};
 ghost use Rattle.row_facts.specs.Limbs.{ShowsLimbs};
 ghost use Rattle.row_facts.specs.MainRows.{IsZero, ShowsRows, op_in, row_at};
-ghost use Rattle.row_facts.specs.RowFacts.{IsAtSpot, Reads, ReadsAs};
+ghost use Rattle.row_facts.specs.RowFacts.{IsAtSpot, HasOps, ReadsAs};
 ghost use Rattle.row_facts.specs.Stack.{ShowsStack, mover};
 ghost use Rattle.row_facts.specs.Zero.{AllZero};
 
@@ -49,9 +49,9 @@ pub fn batch_laws()
 pub fn decoder_laws()
     ensures reads { (k : Claim) (p : Spot) → ((j : ℕ) → slice_index p.cur j < prime)
         → AllZero (decoder_values k p) → ReadsAs (op_of p.cur) p.cur }
-    ensures shows { (k : Claim) (op : Op) (p : Spot) → IsLowClaim k → Reads op p
+    ensures shows { (k : Claim) (op : Op) (p : Spot) → IsLowClaim k → HasOps op p
         → AllZero (decoder_values k p) → IsAtSpot k op p }
-    ensures zeros { (k : Claim) (op : Op) (p : Spot) → IsLowClaim k → Reads op p → IsAtSpot k op p
+    ensures zeros { (k : Claim) (op : Op) (p : Spot) → IsLowClaim k → HasOps op p → IsAtSpot k op p
         → AllZero (decoder_values k p) }
 {}
 
@@ -59,15 +59,15 @@ pub fn decoder_laws()
 /// the cells that the operation leaves, as the facts say; and they are 0 wherever these facts hold. Of the row's block, the law asks
 /// what the entries before these say.
 pub fn stack_laws()
-    ensures shows { (op : Op) (p : Spot) → Reads op p → IsBlockRow op p.cur → AllZero (stack_values p) → ShowsStack op p }
-    ensures zeros { (op : Op) (p : Spot) → Reads op p → IsBlockRow op p.cur → ShowsStack op p → AllZero (stack_values p) }
+    ensures shows { (op : Op) (p : Spot) → HasOps op p → IsBlockRow op p.cur → AllZero (stack_values p) → ShowsStack op p }
+    ensures zeros { (op : Op) (p : Spot) → HasOps op p → IsBlockRow op p.cur → ShowsStack op p → AllZero (stack_values p) }
 {}
 
 /// The law of the entries on numbers of 32 bits, whose numbers are 140 to 147: where they are 0, operands and results are the numbers of
 /// their limbs and belong together as the operation says, and they are 0 wherever these facts hold.
 pub fn limb_laws()
-    ensures shows { (op : Op) (p : Spot) → Reads op p → AllZero (u32_values p) → ShowsLimbs op p }
-    ensures zeros { (op : Op) (p : Spot) → Reads op p → ShowsLimbs op p → AllZero (u32_values p) }
+    ensures shows { (op : Op) (p : Spot) → HasOps op p → AllZero (u32_values p) → ShowsLimbs op p }
+    ensures zeros { (op : Op) (p : Spot) → HasOps op p → ShowsLimbs op p → AllZero (u32_values p) }
 {}
 
 /// The law of parts: all entries of the main table are 0 at a place exactly where those of each of its three parts are.

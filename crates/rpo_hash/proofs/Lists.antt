@@ -1,8 +1,7 @@
 -- Lists of twelve, and lists joined for each round.
-use Rattle.std.proofs.Common.{◌≡◌, ℕ, zero, suc, ◌+◌, ◌<◌, List, [], ◌∷◌, ◌++◌, length, get_or, slice_index, map, take, drop, set, sym, refl, ap, ap₂, ◌∙◌, arith, add-one, take-suc-set}
+use Rattle.std.proofs.Common.{◌≡◌, ℕ, suc, ◌+◌, ◌<◌, List, [], ◌∷◌, ◌++◌, length, get_or, slice_index, take, drop, set, sym, refl, ap, ap₂, ◌∙◌, arith, add-one, take-suc-set}
 use Rattle.std.proofs.Math.Seq.{take-append_seam, drop-append_seam, take-length}
-use Rattle.vm_field.specs.Field.{prime, felt_add, seventh_root}
-use Rattle.vm_field.proofs.Inverses.{seventh_root-below}
+use Rattle.vm_field.specs.Field.{felt_add}
 use Rattle.vm_field.specs.Permutation.{added}
 
 -- ---- parts of lists
@@ -37,12 +36,3 @@ added-by_place (x ∷ xs) (c ∷ cs) [] lc ls at = absurd (omega arith)
 added-by_place (x ∷ xs) (c ∷ cs) (s ∷ ss) lc ls at =
     ap₂ (λ (y : ℕ) (ys : List ℕ). y ∷ ys) (at 0 (omega arith))
     (added-by_place xs cs ss (omega arith) (omega arith) (λ k h. at (suc k) (omega arith)))
-
--- every element of the list is below the prime
-abbrev pub AllBelow : List ℕ → Type 0
-AllBelow xs = (k : ℕ) → k < length xs → slice_index xs k < prime
-
-pub seventh_roots-below : (xs : List ℕ) → AllBelow xs → AllBelow (map seventh_root xs)
-seventh_roots-below [] below k h = absurd (omega arith)
-seventh_roots-below (x ∷ xs) below zero h = seventh_root-below x (below 0 (omega arith))
-seventh_roots-below (x ∷ xs) below (suc k) h = seventh_roots-below xs (λ j g. below (suc j) (omega arith)) k (omega arith)

@@ -2,13 +2,14 @@
 use Rattle.std.proofs.Common.{◌≡◌, ℕ, zero, suc, ◌+◌, ◌<◌, ◌==◌, Bool, true, false, cond, List, [], ◌∷◌, ◌++◌, length, Option, Some, None, option_map, option_and_then, ok_or, Result, Ok, Err, decimal, sym, refl, subst, ap, ap₂, ◌∙◌, arith, append_assoc, append-nil, length-append, eqb-true}
 use Rattle.std.proofs.lemmas.Bool.{false≢true, and_parts}
 use Rattle.std.proofs.lemmas.Fmt.{digits_decimal}
-use Rattle.std.proofs.lemmas.List.Elements.{All-cons, All-head, All-nil, All-tail}
+use Rattle.std.proofs.lemmas.List.Elements.{All-head, All-tail}
 use Rattle.std.proofs.lemmas.Str.Parse.{numerals_by_value, tells_all_ascii_digits}
 use Rattle.std.specs.Char.{is_ascii_digit}
 use Rattle.std.specs.Str.{all_ascii_digits}
 use Rattle.vm_field.specs.Decimal.{element_of}
 use Rattle.vm_field.specs.Field.{prime, AreElements}
 use Rattle.vm_field.proofs.DecimalText.{decimal-element_of, element_of-decimal}
+use Rattle.vm_field.proofs.Elements.{elements-cons, elements-none}
 use Rattle.rpo_hash.specs.ParamText.{one_line, one_element, and_then, element_line, element_lines, nothing_left, parameters_of, text_of}
 use Rattle.rpo_hash.specs.declared.params.ParamCause.TheVariants.{Number}
 use Rattle.rpo_hash.specs.declared.params.ParamError.{ParamError}
@@ -110,14 +111,14 @@ unfolding text_of
 lines-more k e bytes behind es rest first later = record {
   text = first.0 ∙ ap (λ xs. decimal e ++ (10 ∷ xs)) later.text ∙ sym (append_assoc (decimal e) (10 ∷ text_of es) rest);
   count = ap suc later.count;
-  below = All-cons (λ x. x < prime) e es first.1 later.below;
+  below = elements-cons e es first.1 later.below;
 }
 
 lines-read : (k n : ℕ) (bytes es rest : List ℕ) → element_lines k n bytes ≡ Ok (es, rest) → AreLines k bytes es rest
 unfolding element_lines text_of
 lines-read zero n bytes es rest is =
     let P : List ℕ × List ℕ → Type 0 = λ p. AreLines 0 bytes p.0 p.1 in
-    subst P (same_read ([], bytes) (es, rest) is) (record { text = refl; count = refl; below = All-nil (λ e. e < prime) })
+    subst P (same_read ([], bytes) (es, rest) is) (record { text = refl; count = refl; below = elements-none })
 lines-read (suc k) n bytes es rest is =
     go (element_line n bytes) (line-read n bytes) (λ (first : ℕ × List ℕ). lines-read k (n + 1) first.1) is
   where

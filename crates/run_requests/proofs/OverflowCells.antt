@@ -1,12 +1,11 @@
 -- How the cells below the sixteenth and their keys move.
-use Rattle.std.proofs.Common.{◌≡◌, ◌⊎◌, inl, inr, ℕ, ◌+◌, ◌-◌, ◌<◌, ◌≤◌, max, false, cond, eqb, ◌||◌, ◌&&◌, ◌==◌, if◌then◌else◌, List, [], ◌∷◌, length, drop, slice_index, refl, sym, ap, ◌∙◌, arith, append-nil}
-use Rattle.std.proofs.lemmas.Bool.{cases_lt, ne_eqb}
-use Rattle.std.proofs.lemmas.List.{drop-drop, drop_all, get_or-drop}
+use Rattle.std.proofs.Common.{◌≡◌, ℕ, ◌+◌, ◌-◌, ◌≤◌, false, cond, eqb, ◌||◌, ◌&&◌, ◌==◌, if◌then◌else◌, List, [], ◌∷◌, length, drop, slice_index, refl, sym, ap, ◌∙◌, arith}
+use Rattle.std.proofs.lemmas.Bool.{ne_eqb}
+use Rattle.std.proofs.lemmas.List.{drop-drop, get_or-drop}
 use Rattle.vm_field.specs.Machine.{filled_up}
-use Rattle.vm_field.proofs.Elements.{length-filled_up}
 use Rattle.vm_ops.specs.declared.op.Op.{Op}
 use Rattle.vm_ops.specs.declared.op.Op.TheVariants as ops
-use Rattle.vm_ops.proofs.FrameLemmas.{index-filled_up}
+use Rattle.vm_ops.proofs.FrameLemmas.{drop-filled_up, index-filled_up}
 use Rattle.vm_table.specs.MainColumns.{clk, depth, h, key, s}
 use Rattle.buses.specs.Counts.{Counted, counted, once}
 use Rattle.hash_rows.proofs.Totals.{counted-append, counted-none}
@@ -52,16 +51,6 @@ asked_by op x y v is =
 
 -- ---- the stack
 
-pub drop_filled : (cells : List ℕ) → drop 16 (filled_up cells) ≡ drop 16 cells
-drop_filled cells = go (cases_lt (length cells) 16)
-  where
-    go : (length cells < 16) ⊎ (16 ≤ length cells) → drop 16 (filled_up cells) ≡ drop 16 cells
-    go (inl low) =
-        let size : length (filled_up cells) ≡ max 16 (length cells) = length-filled_up cells in
-        let short : length (filled_up cells) ≤ 16 = omega (arith, size, low) in
-        drop_all 16 (filled_up cells) short ∙ sym (drop_all 16 cells (omega (arith, low)))
-    go (inr high) = let none : 16 - length cells ≡ 0 = omega (arith, high) in rw (none, append-nil cells) refl
-
 -- one cell fewer: what stood below it moves up
 pub record IsPopped (stack after : List ℕ) : Type 0 where
   pub below : drop 16 after ≡ drop 1 (drop 16 stack)
@@ -69,7 +58,7 @@ pub record IsPopped (stack after : List ℕ) : Type 0 where
 
 pub popped_cells : (stack after : List ℕ) → after ≡ filled_up (drop 1 stack) → IsPopped stack after
 popped_cells stack after is = record {
-  below = ap (drop 16) is ∙ drop_filled (drop 1 stack) ∙ drop-drop 16 1 stack ∙ sym (drop-drop 1 16 stack);
+  below = ap (drop 16) is ∙ drop-filled_up (drop 1 stack) ∙ drop-drop 16 1 stack ∙ sym (drop-drop 1 16 stack);
   last = ap (λ l. slice_index l 15) is ∙ index-filled_up (drop 1 stack) 15 ∙ get_or-drop 1 stack 15 0 ∙ sym (get_or-drop 16 stack 0 0);
 }
 

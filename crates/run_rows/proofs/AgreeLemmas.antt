@@ -1,10 +1,9 @@
 -- The tasks, the decoder and the state agree behind each cycle as they do before it.
 use Rattle.std.proofs.Common.{◌≡◌, ◌≢◌, ℕ, zero, suc, ◌+◌, ◌-◌, ◌/◌, ◌%◌, ◌<◌, ◌≤◌, max, Bool, true, false, ◌||◌, eqb, cond, List, [], ◌∷◌, ◌++◌, length, take, drop, slice_index, Some, refl, sym, ap, ◌∙◌, arith, lit<, length-drop, length-take}
 use Rattle.std.proofs.lemmas.Bool.{ne_eqb}
-use Rattle.std.proofs.lemmas.List.Elements.{All-nil}
 use Rattle.vm_field.specs.Field.{prime, AreElements}
 use Rattle.vm_field.specs.Machine.{filled_up}
-use Rattle.vm_field.proofs.Elements.{elements-drop, elements-index, elements-take, length-filled_up}
+use Rattle.vm_field.proofs.Elements.{elements-drop, elements-index, elements-none, elements-take, length-filled_up}
 use Rattle.vm_ops.specs.Codes.{code_of, is_ordinary_op}
 use Rattle.vm_ops.specs.Items.{push_item}
 use Rattle.vm_ops.specs.declared.item.Item.{Item}
@@ -87,7 +86,7 @@ unfolding reading
 reads_begun batch items e = reads_as items (batch_begun batch) e
 
 pub low_nothing : IsLowUnread nothing_unread
-low_nothing = record { number = lit< tt; place = omega arith; positions = All-nil (λ e. e < prime); few = omega arith }
+low_nothing = record { number = lit< tt; place = omega arith; positions = elements-none; few = omega arith }
 
 in_use_most : (batch : List ℕ) → length batch ≡ 8 → length (drop 1 (take (positions_in_use batch) batch)) ≤ 7
 in_use_most batch size = omega (arith, length-drop 1 (take (positions_in_use batch) batch), length-take (positions_in_use batch) batch, size)

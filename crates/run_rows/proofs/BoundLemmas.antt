@@ -2,7 +2,7 @@
 use Rattle.std.proofs.Common.{All, ◌≡◌, ℕ, suc, ◌+◌, ◌*◌, ◌<◌, ◌≤◌, Bool, true, false, cond, List, [], ◌∷◌, length, drop, arith}
 use Rattle.std.proofs.lemmas.List.Elements.{All-cons, All-drop, All-head, All-nil}
 use Rattle.vm_field.specs.Field.{prime, AreElements}
-use Rattle.vm_field.proofs.Elements.{elements-drop}
+use Rattle.vm_field.proofs.Elements.{elements-cons, elements-drop, elements-none}
 use Rattle.vm_ops.specs.Moves.{shift_of}
 use Rattle.vm_ops.specs.declared.op.Op.TheVariants as ops
 use Rattle.vm_ops.specs.declared.op.Shift.{Shift}
@@ -18,14 +18,14 @@ use Rattle.run_rows.specs.Turns.{respans, respans_by}
 keys_low : (shift : Shift) (clock : ℕ) (keys : List ℕ) → clock < prime → AreElements keys → AreElements (keys_after shift clock keys)
 keys_low Left clock keys low h = elements-drop 1 keys h
 keys_low Stay clock keys low h = h
-keys_low Right clock keys low h = All-cons (λ e. e < prime) clock keys low h
+keys_low Right clock keys low h = elements-cons clock keys low h
 
 next_few : (b : Bool) (next most : ℕ) → next ≤ 1 + 8 * most → cond b (next + 8) next ≤ 1 + 8 * (most + 1)
 next_few true next most h = omega (arith, h)
 next_few false next most h = omega (arith, h)
 
 hidden_low : (blocks : List Open) → All IsLowBlock blocks → AreElements (hidden_of blocks)
-hidden_low [] h = All-nil (λ e. e < prime)
+hidden_low [] h = elements-none
 hidden_low (block ∷ blocks) h = (All-head IsLowBlock block blocks h).hidden
 
 keys_back : (a b : Bool) (first second third : List ℕ) → AreElements first → AreElements second → AreElements third
@@ -62,28 +62,28 @@ by_kind kinds.Ordinary d e later clock b =
 by_kind kinds.Join d e later clock b = record {
   next = omega (arith, b.next);
   ha = omega (arith, b.ha);
-  blocks = opened_low d.next [] d.blocks (omega (arith, b.next, b.whole)) (All-nil (λ e. e < prime)) b.blocks;
+  blocks = opened_low d.next [] d.blocks (omega (arith, b.next, b.whole)) (elements-none) b.blocks;
   keys = b.keys;
   whole = omega (arith, b.whole);
 }
 by_kind kinds.Split d e later clock b = record {
   next = omega (arith, b.next);
   ha = omega (arith, b.ha);
-  blocks = opened_low d.next [] d.blocks (omega (arith, b.next, b.whole)) (All-nil (λ e. e < prime)) b.blocks;
+  blocks = opened_low d.next [] d.blocks (omega (arith, b.next, b.whole)) (elements-none) b.blocks;
   keys = elements-drop 1 d.keys b.keys;
   whole = omega (arith, b.whole);
 }
 by_kind kinds.Loop d e later clock b = record {
   next = omega (arith, b.next);
   ha = omega (arith, b.ha);
-  blocks = opened_low d.next [] d.blocks (omega (arith, b.next, b.whole)) (All-nil (λ e. e < prime)) b.blocks;
+  blocks = opened_low d.next [] d.blocks (omega (arith, b.next, b.whole)) (elements-none) b.blocks;
   keys = elements-drop 1 d.keys b.keys;
   whole = omega (arith, b.whole);
 }
 by_kind kinds.Span d e later clock b = record {
   next = omega (arith, b.next);
   ha = omega (arith, b.next);
-  blocks = opened_low d.next [] d.blocks (omega (arith, b.next, b.whole)) (All-nil (λ e. e < prime)) b.blocks;
+  blocks = opened_low d.next [] d.blocks (omega (arith, b.next, b.whole)) (elements-none) b.blocks;
   keys = b.keys;
   whole = omega (arith, b.whole);
 }
@@ -91,14 +91,14 @@ by_kind kinds.Call d e later clock b = record {
   next = omega (arith, b.next);
   ha = omega (arith, b.ha);
   blocks = opened_low d.next d.keys d.blocks (omega (arith, b.next, b.whole)) b.keys b.blocks;
-  keys = All-nil (λ e. e < prime);
+  keys = elements-none;
   whole = omega (arith, b.whole);
 }
 by_kind kinds.Syscall d e later clock b = record {
   next = omega (arith, b.next);
   ha = omega (arith, b.ha);
   blocks = opened_low d.next d.keys d.blocks (omega (arith, b.next, b.whole)) b.keys b.blocks;
-  keys = All-nil (λ e. e < prime);
+  keys = elements-none;
   whole = omega (arith, b.whole);
 }
 by_kind kinds.End d e later clock b = record {
@@ -149,7 +149,7 @@ bounded_start events few = record {
   next = omega arith;
   ha = omega arith;
   blocks = All-nil IsLowBlock;
-  keys = All-nil (λ e. e < prime);
+  keys = elements-none;
   whole = omega (arith, few);
 }
 

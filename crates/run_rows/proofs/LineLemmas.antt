@@ -4,7 +4,7 @@ use Rattle.std.proofs.lemmas.List.Elements.{All-cons, All-drop, All-from_recursi
 use Rattle.vm_field.specs.Field.{prime, AreElements, felt_inv}
 use Rattle.vm_field.specs.Machine.{Core, IsWellFormedCore}
 use Rattle.vm_field.specs.Signs.{◌⊟◌}
-use Rattle.vm_field.proofs.Elements.{elements-append, elements-drop, elements-index, elements-take}
+use Rattle.vm_field.proofs.Elements.{elements-append, elements-cons, elements-drop, elements-index, elements-none, elements-one, elements-take}
 use Rattle.vm_ops.specs.Codes.{code_of}
 use Rattle.vm_ops.specs.declared.op.Op.{Op}
 use Rattle.vm_ops.specs.declared.op.Op.TheVariants as ops
@@ -23,15 +23,6 @@ use Rattle.run_rows.specs.Turns.{repeats, repeats_by}
 use Rattle.run_rows.specs.Witnesses.{batch_witnesses, difference, first_inverse, first_witness, operation_witnesses, upper_half}
 use Rattle.run_rows.proofs.BoundLemmas.{few_respans}
 use Rattle.run_rows.proofs.LowLemmas.{◌▸◌, IsLowLine, inverse_low, sub_low}
-
-pub none_low : AreElements []
-none_low = All-nil (λ e. e < prime)
-
-cons : (x : ℕ) (xs : List ℕ) → x < prime → AreElements xs → AreElements (x ∷ xs)
-cons x xs h g = All-cons (λ e. e < prime) x xs h g
-
-one : (x : ℕ) → x < prime → AreElements (x ∷ [])
-one x h = cons x [] h none_low
 
 -- ---- limbs
 
@@ -103,12 +94,12 @@ low_limbs ops.U32Div x y h g =
     ▸ low_limb (cell y 1) ▸ high_limb (cell y 1) (b 1)
     ▸ low_limb (cell y 0) ▸ high_limb (cell y 0) (b 0)
     ▸ low_limb (cell x 0 - cell y 0 - 1) ▸ high_limb (cell x 0 - cell y 0 - 1) rest ▸ tt)
-low_limbs op x y h g = none_low
+low_limbs op x y h g = elements-none
 
 low_rest : (op : Op) (word : List ℕ) → AreElements word → AreElements (word_rest op word)
 low_rest ops.MLoad word h = elements-drop 1 word h
 low_rest ops.MStore word h = elements-drop 1 word h
-low_rest op word h = none_low
+low_rest op word h = elements-none
 
 low_row_limbs : (e : Event) (v : Visible) → AreElements e.before.cells → AreElements v.cells → AreElements e.word → AreElements (limbs_of e v)
 unfolding limbs_of
@@ -140,12 +131,12 @@ low_operation op address number x y low h =
     (low_first op address x y low h ▸ zero_low ▸ zero_low ▸ inverse_low (number ⊟ code_of op) (sub_low number (code_of op)) ▸ tt)
 
 low_inverse : (xs : List ℕ) → AreElements xs → AreElements (first_inverse xs)
-low_inverse [] h = none_low
+low_inverse [] h = elements-none
 low_inverse (x ∷ xs) h = go (low_inverse xs (All-tail (λ e. e < prime) x xs h)) (eqb x 0)
   where
     go : AreElements (first_inverse xs) → (b : Bool) → AreElements (cond b (0 ∷ first_inverse xs) (felt_inv x ∷ []))
-    go rest true = cons 0 (first_inverse xs) (lit< tt) rest
-    go rest false = one (felt_inv x) (inverse_low x (All-head (λ e. e < prime) x xs h))
+    go rest true = elements-cons 0 (first_inverse xs) (lit< tt) rest
+    go rest false = elements-one (felt_inv x) (inverse_low x (All-head (λ e. e < prime) x xs h))
 
 low_batch : (batch : List ℕ) → AreElements batch → AreElements (batch_witnesses batch)
 low_batch batch h =
@@ -198,19 +189,19 @@ few_repeats events = go (repeats events) (counts_low events)
 low_witnesses : (k : Kind) (d : Decoder) (e : Event) (v : Visible) (later : List Event) → d.next < prime → AreElements e.before.cells
     → AreElements e.hash → length later ≤ 524287 → AreElements (witnesses_by k d e v later)
 low_witnesses kinds.Ordinary d e v later next cells hash few = low_operation e.op d.next d.unread.number e.before v next cells
-low_witnesses kinds.Loop d e v later next cells hash few = one (slice_index (repeats later) 0) (let low = few_repeats later in omega (arith, low, few))
+low_witnesses kinds.Loop d e v later next cells hash few = elements-one (slice_index (repeats later) 0) (let low = few_repeats later in omega (arith, low, few))
 low_witnesses kinds.Span d e v later next cells hash few = low_batch e.hash hash
 low_witnesses kinds.Respan d e v later next cells hash few = low_batch e.hash hash
-low_witnesses kinds.Join d e v later next cells hash few = none_low
-low_witnesses kinds.Split d e v later next cells hash few = none_low
-low_witnesses kinds.Call d e v later next cells hash few = none_low
-low_witnesses kinds.Syscall d e v later next cells hash few = none_low
-low_witnesses kinds.End d e v later next cells hash few = none_low
-low_witnesses kinds.Repeat d e v later next cells hash few = none_low
-low_witnesses kinds.Halt d e v later next cells hash few = none_low
+low_witnesses kinds.Join d e v later next cells hash few = elements-none
+low_witnesses kinds.Split d e v later next cells hash few = elements-none
+low_witnesses kinds.Call d e v later next cells hash few = elements-none
+low_witnesses kinds.Syscall d e v later next cells hash few = elements-none
+low_witnesses kinds.End d e v later next cells hash few = elements-none
+low_witnesses kinds.Repeat d e v later next cells hash few = elements-none
+low_witnesses kinds.Halt d e v later next cells hash few = elements-none
 
 low_hash : (k : Kind) (d : Decoder) (e : Event) → d.unread.number < prime → AreElements e.hash → AreElements (hash_by k d e)
-low_hash kinds.Ordinary d e number hash = one d.unread.number number
+low_hash kinds.Ordinary d e number hash = elements-one d.unread.number number
 low_hash kinds.Join d e number hash = hash
 low_hash kinds.Split d e number hash = hash
 low_hash kinds.Loop d e number hash = hash
@@ -220,7 +211,7 @@ low_hash kinds.Syscall d e number hash = hash
 low_hash kinds.End d e number hash = hash
 low_hash kinds.Repeat d e number hash = hash
 low_hash kinds.Respan d e number hash = hash
-low_hash kinds.Halt d e number hash = none_low
+low_hash kinds.Halt d e number hash = elements-none
 
 low_address : (blocks : List Open) → All IsLowBlock blocks → address_of blocks < prime
 low_address [] h = lit< tt

@@ -320,12 +320,16 @@ fn run_of(alloc: Global, log: &Log) -> Result<Run, Stop> {
 // Each line is shown by the cycle of its number, and there are no other cycles.
 fn is_shown(alloc: Global, log: &Log) -> Result<bool, Stop> {
     let run = run_of(alloc, log)?;
-    for (kept, line) in run.events.as_slice().iter().zip(log.lines) {
-        if !shows(alloc, log, &kept.event(), line)? {
+    let events = &run.events;
+    for (place, line) in log.lines.iter().enumerate() {
+        if place >= events.len() {
+            return Ok(false);
+        }
+        if !shows(alloc, log, &events.event(place), line)? {
             return Ok(false);
         }
     }
-    Ok(run.events.len() == log.lines.len())
+    Ok(events.len() == log.lines.len())
 }
 
 #[test]
@@ -391,17 +395,21 @@ fn stands(event: &Event, clock: usize, before: &Before, digest: Word) -> bool {
 fn are_visible(alloc: Global) -> Result<bool, Stop> {
     let run = run_of(alloc, &STORED)?;
     let callee = digest_at(alloc, &STORED, 1)?;
-    for (clock, (kept, before)) in run.events.as_slice().iter().zip(&BEFORE).enumerate() {
+    let events = &run.events;
+    for (clock, before) in BEFORE.iter().enumerate() {
+        if clock >= events.len() {
+            return Ok(false);
+        }
         let digest = if before.context == 0 {
             Word::ZERO
         } else {
             callee
         };
-        if !stands(&kept.event(), clock, before, digest) {
+        if !stands(&events.event(clock), clock, before, digest) {
             return Ok(false);
         }
     }
-    Ok(run.events.len() == BEFORE.len())
+    Ok(events.len() == BEFORE.len())
 }
 
 #[test]

@@ -9,7 +9,7 @@ use Rattle.air_kit.specs.declared.trace.Trace.{Trace}
 use Rattle.table_file.specs.declared.cause.FileCause.TheVariants as cause
 use Rattle.table_file.specs.declared.cause.FileError.{FileError}
 use Rattle.table_file.specs.declared.cause.FileError.TheVariants.{Bad}
-use Rattle.table_file.specs.declared.counts.Counts.{Counts}
+use Rattle.table_file.specs.declared.counts.RowCounts.{RowCounts}
 use Rattle.table_file.specs.Fields.{rows_at, table_bytes}
 use Rattle.table_file.specs.Files.{AreTables, bytes_of, counts_in, end_place, bitwise_place, hasher_place, kernel_place, left_place, memory_place, range_place, ended_at, head_bytes, head_of, tables_of, trace_of}
 use Rattle.table_file.proofs.Chains.{chain}
@@ -23,7 +23,7 @@ ends false e r x t is h = (refl, cc)
 
 module _ (bytes : List ℕ) where
   -- the tables of a file that reads as a trace
-  pub record TablesSay (c : Counts) (t : Trace) : Type 0 where
+  pub record TablesSay (c : RowCounts) (t : Trace) : Type 0 where
     pub main : rows_at bytes 65 c.main 36 ≡ Ok t.main
     pub range : rows_at bytes 2 c.range (range_place c) ≡ Ok t.range
     pub hasher : rows_at bytes 15 c.hasher (hasher_place c) ≡ Ok t.hasher
@@ -39,7 +39,7 @@ module _ (bytes : List ℕ) where
       let h = ends (nat_lt at (length bytes)) (Bad at cause.Extra) (Ok x) x t refl is in
       (ltb-false at (length bytes) h.0, h.1)
 
-  tables-say : (c : Counts) (t : Trace) → tables_of bytes c ≡ Ok t → TablesSay c t
+  tables-say : (c : RowCounts) (t : Trace) → tables_of bytes c ≡ Ok t → TablesSay c t
   unfolding tables_of
   tables-say c t e =
       let main = chain (rows_at bytes 65 c.main 36) t _ e in
@@ -61,13 +61,13 @@ module _ (bytes : List ℕ) where
         whole = end.0;
       }
 
-  pub trace-says : (t : Trace) → trace_of bytes ≡ Ok t → (c : Counts) × HeadSays bytes c × TablesSay c t
+  pub trace-says : (t : Trace) → trace_of bytes ≡ Ok t → (c : RowCounts) × HeadSays bytes c × TablesSay c t
   unfolding trace_of
   trace-says t e =
       let h = chain (head_of bytes) t (tables_of bytes) e in
       (h.0, head-says bytes h.0 h.1, tables-say h.0 t h.2)
 
-  counts-same : (c : Counts) (t : Trace) → TablesSay c t → counts_in t ≡ c
+  counts-same : (c : RowCounts) (t : Trace) → TablesSay c t → counts_in t ≡ c
   counts-same c t say =
       rw (
         rows-count bytes 65 c.main 36 t.main say.main,
@@ -79,7 +79,7 @@ module _ (bytes : List ℕ) where
         rows-count bytes 1 c.left (left_place c) t.left say.left,
       ) refl
 
-  shaped : (t : Trace) (c : Counts) → TablesSay c t → AreTables t
+  shaped : (t : Trace) (c : RowCounts) → TablesSay c t → AreTables t
   shaped t c say table.Main = rows-table bytes 65 c.main 36 t.main say.main
   shaped t c say table.Range = rows-table bytes 2 c.range (range_place c) t.range say.range
   shaped t c say table.Hasher = rows-table bytes 15 c.hasher (hasher_place c) t.hasher say.hasher
@@ -136,7 +136,7 @@ module _ (bytes : List ℕ) where
       (joined (table_bytes t.bitwise) (table_bytes t.memory ++ (table_bytes t.kernel ++ table_bytes t.left)) (bitwise_place c) (memory_place c) (rows-written bytes low 12 c.bitwise (bitwise_place c) t.bitwise say.bitwise)
       (joined (table_bytes t.memory) (table_bytes t.kernel ++ table_bytes t.left) (memory_place c) (kernel_place c) (rows-written bytes low 14 c.memory (memory_place c) t.memory say.memory)
       (joined (table_bytes t.kernel) (table_bytes t.left) (kernel_place c) (left_place c) (rows-written bytes low 5 c.kernel (kernel_place c) t.kernel say.kernel) last))))) in
-      sym (head-written bytes low c h.1) ∙ ap₂ (λ (k : Counts) (bs : List ℕ). head_bytes k ++ bs) (sym (counts-same c t say)) (sym tables)
+      sym (head-written bytes low c h.1) ∙ ap₂ (λ (k : RowCounts) (bs : List ℕ). head_bytes k ++ bs) (sym (counts-same c t say)) (sym tables)
 
 may-stand : (bytes : List ℕ) (t : Trace) → HasCounts t → MayStand bytes (counts_in t)
 may-stand bytes t has = record {

@@ -9,7 +9,7 @@ use Rattle.air_kit.specs.declared.trace.TableName.TheVariants as table
 use Rattle.table_file.specs.declared.cause.FileCause.{FileCause}
 use Rattle.table_file.specs.declared.cause.FileCause.TheVariants as cause
 use Rattle.table_file.specs.declared.cause.FileError.{FileError}
-use Rattle.table_file.specs.declared.counts.Counts.{Counts}
+use Rattle.table_file.specs.declared.counts.RowCounts.{RowCounts}
 use Rattle.table_file.specs.Fields.{number_at}
 use Rattle.table_file.specs.Files.{may_have, least_rows, rows_at_once, magic, count_at, count_bytes, counts_of, head_of, head_bytes}
 use Rattle.table_file.proofs.Chains.{chain}
@@ -40,7 +40,7 @@ may-have-if name n least most whole =
 
 module _ (bytes : List ℕ) where
   -- the fields of a head that reads as these counts
-  pub record HeadSays (c : Counts) : Type 0 where
+  pub record HeadSays (c : RowCounts) : Type 0 where
     pub word : ℕ
     pub word_is : number_at bytes 4 cause.Magic (λ n. n == magic) 0 ≡ Ok word
     pub version : ℕ
@@ -53,13 +53,13 @@ module _ (bytes : List ℕ) where
     pub kernel : count_at bytes table.Kernel 28 ≡ Ok c.kernel
     pub left : count_at bytes table.Left 32 ≡ Ok c.left
 
-  abbrev counted : Counts → Result Counts FileError
+  abbrev counted : RowCounts → Result RowCounts FileError
   counted c = Ok c
 
-  inside : (a b : Counts) → counted a ≡ Ok b → a ≡ b
+  inside : (a b : RowCounts) → counted a ≡ Ok b → a ≡ b
   inside a b e = cc
 
-  pub head-says : (c : Counts) → head_of bytes ≡ Ok c → HeadSays c
+  pub head-says : (c : RowCounts) → head_of bytes ≡ Ok c → HeadSays c
   unfolding head_of counts_of
   head-says c e =
       let word = chain (number_at bytes 4 cause.Magic (λ n. n == magic) 0) c _ e in
@@ -77,13 +77,13 @@ module _ (bytes : List ℕ) where
         word_is = word.1;
         version = version.0;
         version_is = version.1;
-        main = main.1 ∙ ap (λ (k : Counts). Ok k.main) is;
-        range = range.1 ∙ ap (λ (k : Counts). Ok k.range) is;
-        hasher = hasher.1 ∙ ap (λ (k : Counts). Ok k.hasher) is;
-        bitwise = bitwise.1 ∙ ap (λ (k : Counts). Ok k.bitwise) is;
-        memory = memory.1 ∙ ap (λ (k : Counts). Ok k.memory) is;
-        kernel = kernel.1 ∙ ap (λ (k : Counts). Ok k.kernel) is;
-        left = left.1 ∙ ap (λ (k : Counts). Ok k.left) is;
+        main = main.1 ∙ ap (λ (k : RowCounts). Ok k.main) is;
+        range = range.1 ∙ ap (λ (k : RowCounts). Ok k.range) is;
+        hasher = hasher.1 ∙ ap (λ (k : RowCounts). Ok k.hasher) is;
+        bitwise = bitwise.1 ∙ ap (λ (k : RowCounts). Ok k.bitwise) is;
+        memory = memory.1 ∙ ap (λ (k : RowCounts). Ok k.memory) is;
+        kernel = kernel.1 ∙ ap (λ (k : RowCounts). Ok k.kernel) is;
+        left = left.1 ∙ ap (λ (k : RowCounts). Ok k.left) is;
       }
 
   pub count-fits : (name : TableName) (at n : ℕ) → count_at bytes name at ≡ Ok n → (least_rows name ≤ n) × (n ≤ most_rows name) × (n % rows_at_once name ≡ 0)
@@ -97,7 +97,7 @@ module _ (bytes : List ℕ) where
   count-written low name at n is = number-written bytes 4 cause.Count (may_have name) at n low is
 
   -- the bytes of a good head are its own
-  pub head-written : AreBytes bytes → (c : Counts) → HeadSays c → head_bytes c ++ drop 36 bytes ≡ bytes
+  pub head-written : AreBytes bytes → (c : RowCounts) → HeadSays c → head_bytes c ++ drop 36 bytes ≡ bytes
   unfolding head_bytes
   head-written low c says =
       let word : says.word ≡ magic = eqb-true says.word magic (number-tested bytes 4 cause.Magic (λ n. n == magic) 0 says.word says.word_is) in
@@ -135,7 +135,7 @@ module _ (bytes : List ℕ) where
       field-read cause.Count (may_have name) at n (more ++ rest) (few-fit name n (may-have name n good).1) good (is ∙ append_assoc (count_bytes n) more rest)
 
   -- counts that tables may have
-  pub record MayStand (c : Counts) : Type 0 where
+  pub record MayStand (c : RowCounts) : Type 0 where
     pub main : may_have table.Main c.main ≡ true
     pub range : may_have table.Range c.range ≡ true
     pub hasher : may_have table.Hasher c.hasher ≡ true
@@ -145,7 +145,7 @@ module _ (bytes : List ℕ) where
     pub left : may_have table.Left c.left ≡ true
 
   -- a head's bytes read as it, and what follows stands behind it
-  pub head-read : (c : Counts) (rest : List ℕ) → MayStand c → bytes ≡ head_bytes c ++ rest → (head_of bytes ≡ Ok c) × (drop 36 bytes ≡ rest)
+  pub head-read : (c : RowCounts) (rest : List ℕ) → MayStand c → bytes ≡ head_bytes c ++ rest → (head_of bytes ≡ Ok c) × (drop 36 bytes ≡ rest)
   unfolding head_bytes head_of counts_of
   head-read c rest may is =
       let word = field-read cause.Magic (λ n. n == magic) 0 magic ((count_bytes 1 ++ (count_bytes c.main ++ (count_bytes c.range ++ (count_bytes c.hasher ++ (count_bytes c.bitwise ++ (count_bytes c.memory ++ (count_bytes c.kernel ++ count_bytes c.left))))))) ++ rest) (omega arith) refl (is ∙ append_assoc (codes "MDTB") (count_bytes 1 ++ (count_bytes c.main ++ (count_bytes c.range ++ (count_bytes c.hasher ++ (count_bytes c.bitwise ++ (count_bytes c.memory ++ (count_bytes c.kernel ++ count_bytes c.left))))))) rest) in

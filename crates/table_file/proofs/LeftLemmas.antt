@@ -2,7 +2,7 @@
 use Rattle.std.proofs.Common.{◌≡◌, ℕ, ◌+◌, ◌<◌, ◌≤◌, false, true, List, [], ◌++◌, drop, get_or, length, refl, sym, ap, subst, ◌∙◌, append_assoc}
 use Rattle.std.proofs.lemmas.List.{drop_all, drop_more}
 use Rattle.air_kit.specs.declared.trace.Trace.{Trace}
-use Rattle.table_file.specs.declared.counts.Counts.{Counts}
+use Rattle.table_file.specs.declared.counts.RowCounts.{RowCounts}
 use Rattle.table_file.specs.Fields.{parts_bytes, row_bytes, table_bytes}
 use Rattle.table_file.specs.Files.{bytes_of, counts_in, head_bytes}
 use Rattle.table_file.specs.Left.{left_of}
@@ -13,7 +13,7 @@ unfolding left_of bytes_of
 all_left t = refl
 
 -- the head was given
-pub head_goes : (t : Trace) (c : Counts) (k : Counts) (piece : List ℕ) → c ≡ counts_in t → piece ≡ head_bytes c → left_of t false k ≡ piece ++ left_of t true k
+pub head_goes : (t : Trace) (c : RowCounts) (k : RowCounts) (piece : List ℕ) → c ≡ counts_in t → piece ≡ head_bytes c → left_of t false k ≡ piece ++ left_of t true k
 unfolding left_of
 head_goes t c k piece counts is = ap (λ (bs : List ℕ). bs ++ left_of t true k) (sym (is ∙ ap head_bytes counts))
 
@@ -37,7 +37,7 @@ skip done first piece rest empty is = subst (λ (bs : List ℕ). bs ++ first ≡
 here : (first piece rest more : List ℕ) → first ≡ piece ++ rest → first ++ more ≡ piece ++ (rest ++ more)
 here first piece rest more is = ap (λ (bs : List ℕ). bs ++ more) is ∙ append_assoc piece rest more
 
-module _ (t : Trace) (k : Counts) where
+module _ (t : Trace) (k : RowCounts) where
   abbrev at_main : List ℕ
   at_main = table_bytes (drop k.main t.main)
 

@@ -6,7 +6,7 @@ use Rattle.air_kit.specs.declared.trace.Trace.{Trace}
 use Rattle.table_file.specs.declared.cause.FileCause.TheVariants as cause
 use Rattle.table_file.specs.declared.cause.FileError.{FileError}
 use Rattle.table_file.specs.declared.cause.FileError.TheVariants.{Bad, Memory}
-use Rattle.table_file.specs.declared.counts.Counts.{Counts}
+use Rattle.table_file.specs.declared.counts.RowCounts.{RowCounts}
 use Rattle.table_file.specs.declared.part_trace.PartTrace.{PartTrace}
 use Rattle.table_file.specs.Fields.{Gives, behind, parts_at, row_at, rows_at}
 use Rattle.table_file.specs.Files.{ended_at, tables_of}
@@ -18,7 +18,7 @@ abbrev Rows : Type 0
 Rows = List (List ℕ)
 
 -- nothing is read yet
-pub begins : (all : List ℕ) (c : Counts) (t : Trace) → t.main ≡ [] → t.range ≡ [] → t.hasher ≡ [] → t.bitwise ≡ [] → t.memory ≡ [] → t.kernel ≡ [] → t.left ≡ []
+pub begins : (all : List ℕ) (c : RowCounts) (t : Trace) → t.main ≡ [] → t.range ≡ [] → t.hasher ≡ [] → t.bitwise ≡ [] → t.memory ≡ [] → t.kernel ≡ [] → t.left ≡ []
     → tables_of all c ≡ from_main all 36 c t
 unfolding tables_of from_main from_range from_hasher from_bitwise from_memory from_kernel from_left
 begins all c t main range hasher bitwise memory kernel left = rw (main, range, hasher, bitwise, memory, kernel, left) refl
@@ -55,7 +55,7 @@ module _ (all : List ℕ) (w at : ℕ) (bytes : List ℕ) (before after : ℕ) (
       further (rows_at all w before at) (rows_at all w after (at + count)) r.rows _ _ (r.goes all stands)
       (λ more. ap₂ next place (sym (append_assoc old r.rows more) ∙ ap (λ (xs : Rows). xs ++ more) (sym r.table)))
 
-module _ (all : List ℕ) (at : ℕ) (c : Counts) (t : Trace) where
+module _ (all : List ℕ) (at : ℕ) (c : RowCounts) (t : Trace) where
   skip_main : c.main ≤ 0 → from_main all at c t ≡ from_range all at c t
   unfolding from_main
   skip_main none =
@@ -279,7 +279,7 @@ one_of true w later first second = first
 one_of false w later first second = second
 
 -- one byte is wanted at least
-pub one_at_least : (c : Counts) (n : ℕ) → unwrap_or (next_row c) 1 ≤ n → 1 ≤ n
+pub one_at_least : (c : RowCounts) (n : ℕ) → unwrap_or (next_row c) 1 ≤ n → 1 ≤ n
 one_at_least c n enough =
     let one : 1 ≤ unwrap_or (next_row c) 1
     = one_of (nat_lt 0 c.main) 520 _ (omega arith) (one_of (nat_lt 0 c.range) 16 _ (omega arith) (one_of (nat_lt 0 c.hasher) 120 _ (omega arith)

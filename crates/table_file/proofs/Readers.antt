@@ -10,7 +10,7 @@ use Rattle.air_kit.specs.declared.trace.Trace.{Trace}
 use Rattle.table_file.specs.declared.cause.FileCause.{FileCause}
 use Rattle.table_file.specs.declared.cause.FileCause.TheVariants as cause
 use Rattle.table_file.specs.declared.cause.FileError.{FileError}
-use Rattle.table_file.specs.declared.counts.Counts.{Counts}
+use Rattle.table_file.specs.declared.counts.RowCounts.{RowCounts}
 use Rattle.table_file.specs.declared.part_trace.PartTrace.{PartTrace}
 use Rattle.table_file.specs.Fields.{Gives, behind, number_at}
 use Rattle.table_file.specs.Files.{counts_of, head_of, magic, may_have, tables_of, trace_of}
@@ -49,7 +49,7 @@ module _ (head more : List ℕ) (whole : 36 ≤ length head) where
       ) refl
 
 -- a good head is whole
-pub head_whole : (bytes : List ℕ) (c : Counts) → head_of bytes ≡ Ok c → 36 ≤ length bytes
+pub head_whole : (bytes : List ℕ) (c : RowCounts) → head_of bytes ≡ Ok c → 36 ≤ length bytes
 head_whole bytes c is =
     let left = (head-says bytes c is).left in
     (number-says bytes 4 cause.Count (may_have table.Left) 32 c.left left).0
@@ -57,7 +57,7 @@ head_whole bytes c is =
 -- a bad head is the file's answer
 pub head_bad : (bytes : List ℕ) (e : FileError) → Err e ≡ head_of bytes → Gives {A = Trace} (Err e) (trace_of bytes)
 unfolding trace_of
-head_bad bytes e is = bad-read (trace_of bytes) e (ap (λ (r : Result Counts FileError). behind r (tables_of bytes)) (sym is))
+head_bad bytes e is = bad-read (trace_of bytes) e (ap (λ (r : Result RowCounts FileError). behind r (tables_of bytes)) (sym is))
 
 module _ (bytes : List ℕ) (whole : 36 ≤ length bytes) where
   abbrev head : List ℕ
@@ -66,7 +66,7 @@ module _ (bytes : List ℕ) (whole : 36 ≤ length bytes) where
   head_long : length head ≡ 36
   head_long = length-take-le 36 bytes whole
 
-  pub head_goes : (c : Counts) (p : PartTrace) → Ok c ≡ head_of head → p.at ≡ 36 → IsSmall p → ((all : List ℕ) → tables_of all c ≡ rest_of all p)
+  pub head_goes : (c : RowCounts) (p : PartTrace) → Ok c ≡ head_of head → p.at ≡ 36 → IsSmall p → ((all : List ℕ) → tables_of all c ≡ rest_of all p)
       → GoesFurther None (Some p) bytes 36
   unfolding trace_of
   head_goes c p is at small begins = record {

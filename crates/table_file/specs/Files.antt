@@ -9,7 +9,7 @@ use Rattle.air_kit.specs.declared.trace.Trace.{Trace}
 use Rattle.table_file.specs.declared.cause.FileCause.TheVariants as cause
 use Rattle.table_file.specs.declared.cause.FileError.{FileError}
 use Rattle.table_file.specs.declared.cause.FileError.TheVariants.{Bad}
-use Rattle.table_file.specs.declared.counts.Counts.{Counts}
+use Rattle.table_file.specs.declared.counts.RowCounts.{RowCounts}
 use Rattle.table_file.specs.Fields.{behind, number_at, rows_at, table_bytes}
 
 -- how many columns each table has
@@ -59,7 +59,7 @@ abbrev pub count_at : List ℕ → TableName → ℕ → Result ℕ FileError
 count_at bytes name at = number_at bytes 4 cause.Count (may_have name) at
 
 -- the seven row counts
-unfoldable pub counts_of : List ℕ → Result Counts FileError
+unfoldable pub counts_of : List ℕ → Result RowCounts FileError
 counts_of bytes =
     behind (count_at bytes table.Main 8) (λ main.
     behind (count_at bytes table.Range 12) (λ range.
@@ -71,47 +71,47 @@ counts_of bytes =
     Ok (record { main = main; range = range; hasher = hasher; bitwise = bitwise; memory = memory; kernel = kernel; left = left }))))))))
 
 -- `MDTB`, the version 1, and the row counts
-unfoldable pub head_of : List ℕ → Result Counts FileError
+unfoldable pub head_of : List ℕ → Result RowCounts FileError
 head_of bytes =
     behind (number_at bytes 4 cause.Magic (λ n. n == magic) 0) (λ _.
     behind (number_at bytes 4 cause.Version (λ n. n == 1) 4) (λ _. counts_of bytes))
 
 -- where each table begins, and where the file ends
-abbrev pub range_place : Counts → ℕ
-range_place c = 36 + 8 * 65 * c.main
+abbrev pub range_place : RowCounts → ℕ
+range_place c = 36 + 8 * columns table.Main * c.main
 
-abbrev pub hasher_place : Counts → ℕ
-hasher_place c = range_place c + 8 * 2 * c.range
+abbrev pub hasher_place : RowCounts → ℕ
+hasher_place c = range_place c + 8 * columns table.Range * c.range
 
-abbrev pub bitwise_place : Counts → ℕ
-bitwise_place c = hasher_place c + 8 * 15 * c.hasher
+abbrev pub bitwise_place : RowCounts → ℕ
+bitwise_place c = hasher_place c + 8 * columns table.Hasher * c.hasher
 
-abbrev pub memory_place : Counts → ℕ
-memory_place c = bitwise_place c + 8 * 12 * c.bitwise
+abbrev pub memory_place : RowCounts → ℕ
+memory_place c = bitwise_place c + 8 * columns table.Bitwise * c.bitwise
 
-abbrev pub kernel_place : Counts → ℕ
-kernel_place c = memory_place c + 8 * 14 * c.memory
+abbrev pub kernel_place : RowCounts → ℕ
+kernel_place c = memory_place c + 8 * columns table.Memory * c.memory
 
-abbrev pub left_place : Counts → ℕ
-left_place c = kernel_place c + 8 * 5 * c.kernel
+abbrev pub left_place : RowCounts → ℕ
+left_place c = kernel_place c + 8 * columns table.Kernel * c.kernel
 
-abbrev pub end_place : Counts → ℕ
-end_place c = left_place c + 8 * 1 * c.left
+abbrev pub end_place : RowCounts → ℕ
+end_place c = left_place c + 8 * columns table.Left * c.left
 
 -- a value, where no byte stands behind a place
 unfoldable pub ended_at : {A : Type 0} → List ℕ → ℕ → A → Result A FileError
 ended_at bytes at x = if nat_lt at (length bytes) then Err (Bad at cause.Extra) else Ok x
 
 -- the seven tables, behind which no byte stands
-unfoldable pub tables_of : List ℕ → Counts → Result Trace FileError
+unfoldable pub tables_of : List ℕ → RowCounts → Result Trace FileError
 tables_of bytes c =
-    behind (rows_at bytes 65 c.main 36) (λ main.
-    behind (rows_at bytes 2 c.range (range_place c)) (λ range.
-    behind (rows_at bytes 15 c.hasher (hasher_place c)) (λ hasher.
-    behind (rows_at bytes 12 c.bitwise (bitwise_place c)) (λ bitwise.
-    behind (rows_at bytes 14 c.memory (memory_place c)) (λ memory.
-    behind (rows_at bytes 5 c.kernel (kernel_place c)) (λ kernel.
-    behind (rows_at bytes 1 c.left (left_place c)) (λ left.
+    behind (rows_at bytes (columns table.Main) c.main 36) (λ main.
+    behind (rows_at bytes (columns table.Range) c.range (range_place c)) (λ range.
+    behind (rows_at bytes (columns table.Hasher) c.hasher (hasher_place c)) (λ hasher.
+    behind (rows_at bytes (columns table.Bitwise) c.bitwise (bitwise_place c)) (λ bitwise.
+    behind (rows_at bytes (columns table.Memory) c.memory (memory_place c)) (λ memory.
+    behind (rows_at bytes (columns table.Kernel) c.kernel (kernel_place c)) (λ kernel.
+    behind (rows_at bytes (columns table.Left) c.left (left_place c)) (λ left.
     ended_at bytes (end_place c)
     (record { main = main; range = range; hasher = hasher; bitwise = bitwise; memory = memory; kernel = kernel; left = left }))))))))
 
@@ -124,7 +124,7 @@ abbrev pub count_bytes : ℕ → List ℕ
 count_bytes n = little_bytes 4 n
 
 -- the row counts of a trace
-abbrev pub counts_in : Trace → Counts
+abbrev pub counts_in : Trace → RowCounts
 counts_in t = record {
   main = length t.main;
   range = length t.range;
@@ -136,7 +136,7 @@ counts_in t = record {
 }
 
 -- `MDTB`, the version and the row counts
-unfoldable pub head_bytes : Counts → List ℕ
+unfoldable pub head_bytes : RowCounts → List ℕ
 head_bytes c =
     codes "MDTB" ++ count_bytes 1 ++ count_bytes c.main ++ count_bytes c.range ++ count_bytes c.hasher ++ count_bytes c.bitwise
     ++ count_bytes c.memory ++ count_bytes c.kernel ++ count_bytes c.left
@@ -150,7 +150,7 @@ bytes_of t =
     ++ (table_bytes t.hasher ++ (table_bytes t.bitwise ++ (table_bytes t.memory ++ (table_bytes t.kernel ++ table_bytes t.left))))))
 
 -- bounds of the row counts, by which places stay small
-pub record AreFew (c : Counts) : Type 0 where
+pub record AreFew (c : RowCounts) : Type 0 where
   pub main : c.main ≤ 2 ^ 19
   pub range : c.range ≤ 2 ^ 17
   pub hasher : c.hasher ≤ 2 ^ 22

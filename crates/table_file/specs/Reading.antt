@@ -1,54 +1,71 @@
 -- A table file that is read from its front, however it is cut: what was read, and what is still to come.
 use Rattle.std.specs.Prelude.{◌≡◌, ◌⊎◌, ℕ, ◌+◌, ◌*◌, ◌^◌, ◌≤◌, nat_lt, if◌then◌else◌, List, [], ◌++◌, drop, take, length, unwrap_or, Option, Some, None, Result, Ok, Err, IfSome}
+use Rattle.air_kit.specs.declared.trace.TableName.TheVariants as table
 use Rattle.air_kit.specs.declared.trace.Trace.{Trace}
 use Rattle.table_file.specs.declared.cause.FileError.{FileError}
-use Rattle.table_file.specs.declared.counts.Counts.{Counts}
+use Rattle.table_file.specs.declared.counts.RowCounts.{RowCounts}
 use Rattle.table_file.specs.declared.part_trace.PartTrace.{PartTrace}
 use Rattle.table_file.specs.Fields.{Gives, behind, rows_at}
-use Rattle.table_file.specs.Files.{ended_at, trace_of}
+use Rattle.table_file.specs.Files.{columns, ended_at, trace_of}
 
 -- these bytes stand at a place
 abbrev pub StandsAt : List ℕ → ℕ → List ℕ → Type 0
 StandsAt all at part = (rest : List ℕ) × (drop at all ≡ part ++ rest)
 
 -- What bytes read as from a place on, where so many rows of each table are still to come, behind the rows of a trace: from each table on.
-unfoldable pub from_left : List ℕ → ℕ → Counts → Trace → Result Trace FileError
-from_left all at c t = behind (rows_at all 1 c.left at) (λ rows. ended_at all (at + 8 * 1 * c.left) (record t { left = t.left ++ rows }))
+unfoldable pub from_left : List ℕ → ℕ → RowCounts → Trace → Result Trace FileError
+from_left all at c t =
+    behind (rows_at all (columns table.Left) c.left at)
+    (λ rows. ended_at all (at + 8 * columns table.Left * c.left) (record t { left = t.left ++ rows }))
 
-unfoldable pub from_kernel : List ℕ → ℕ → Counts → Trace → Result Trace FileError
-from_kernel all at c t = behind (rows_at all 5 c.kernel at) (λ rows. from_left all (at + 8 * 5 * c.kernel) c (record t { kernel = t.kernel ++ rows }))
+unfoldable pub from_kernel : List ℕ → ℕ → RowCounts → Trace → Result Trace FileError
+from_kernel all at c t =
+    behind (rows_at all (columns table.Kernel) c.kernel at)
+    (λ rows. from_left all (at + 8 * columns table.Kernel * c.kernel) c (record t { kernel = t.kernel ++ rows }))
 
-unfoldable pub from_memory : List ℕ → ℕ → Counts → Trace → Result Trace FileError
-from_memory all at c t = behind (rows_at all 14 c.memory at) (λ rows. from_kernel all (at + 8 * 14 * c.memory) c (record t { memory = t.memory ++ rows }))
+unfoldable pub from_memory : List ℕ → ℕ → RowCounts → Trace → Result Trace FileError
+from_memory all at c t =
+    behind (rows_at all (columns table.Memory) c.memory at)
+    (λ rows. from_kernel all (at + 8 * columns table.Memory * c.memory) c (record t { memory = t.memory ++ rows }))
 
-unfoldable pub from_bitwise : List ℕ → ℕ → Counts → Trace → Result Trace FileError
-from_bitwise all at c t = behind (rows_at all 12 c.bitwise at) (λ rows. from_memory all (at + 8 * 12 * c.bitwise) c (record t { bitwise = t.bitwise ++ rows }))
+unfoldable pub from_bitwise : List ℕ → ℕ → RowCounts → Trace → Result Trace FileError
+from_bitwise all at c t =
+    behind (rows_at all (columns table.Bitwise) c.bitwise at)
+    (λ rows. from_memory all (at + 8 * columns table.Bitwise * c.bitwise) c (record t { bitwise = t.bitwise ++ rows }))
 
-unfoldable pub from_hasher : List ℕ → ℕ → Counts → Trace → Result Trace FileError
-from_hasher all at c t = behind (rows_at all 15 c.hasher at) (λ rows. from_bitwise all (at + 8 * 15 * c.hasher) c (record t { hasher = t.hasher ++ rows }))
+unfoldable pub from_hasher : List ℕ → ℕ → RowCounts → Trace → Result Trace FileError
+from_hasher all at c t =
+    behind (rows_at all (columns table.Hasher) c.hasher at)
+    (λ rows. from_bitwise all (at + 8 * columns table.Hasher * c.hasher) c (record t { hasher = t.hasher ++ rows }))
 
-unfoldable pub from_range : List ℕ → ℕ → Counts → Trace → Result Trace FileError
-from_range all at c t = behind (rows_at all 2 c.range at) (λ rows. from_hasher all (at + 8 * 2 * c.range) c (record t { range = t.range ++ rows }))
+unfoldable pub from_range : List ℕ → ℕ → RowCounts → Trace → Result Trace FileError
+from_range all at c t =
+    behind (rows_at all (columns table.Range) c.range at)
+    (λ rows. from_hasher all (at + 8 * columns table.Range * c.range) c (record t { range = t.range ++ rows }))
 
-unfoldable pub from_main : List ℕ → ℕ → Counts → Trace → Result Trace FileError
-from_main all at c t = behind (rows_at all 65 c.main at) (λ rows. from_range all (at + 8 * 65 * c.main) c (record t { main = t.main ++ rows }))
+unfoldable pub from_main : List ℕ → ℕ → RowCounts → Trace → Result Trace FileError
+from_main all at c t =
+    behind (rows_at all (columns table.Main) c.main at)
+    (λ rows. from_range all (at + 8 * columns table.Main * c.main) c (record t { main = t.main ++ rows }))
 
 -- what bytes read as, of which a front was read so far
 abbrev pub rest_of : List ℕ → PartTrace → Result Trace FileError
 rest_of all p = from_main all p.at p.left p.trace
 
 -- how many bytes the next row has, where one is still to come
-abbrev pub next_row : Counts → Option ℕ
+abbrev pub next_row : RowCounts → Option ℕ
 next_row c =
-    if nat_lt 0 c.main then Some (8 * 65) else if nat_lt 0 c.range then Some (8 * 2) else if nat_lt 0 c.hasher then Some (8 * 15)
-    else if nat_lt 0 c.bitwise then Some (8 * 12) else if nat_lt 0 c.memory then Some (8 * 14)
-    else if nat_lt 0 c.kernel then Some (8 * 5) else if nat_lt 0 c.left then Some (8 * 1) else None
+    if nat_lt 0 c.main then Some (8 * columns table.Main) else if nat_lt 0 c.range then Some (8 * columns table.Range)
+    else if nat_lt 0 c.hasher then Some (8 * columns table.Hasher) else if nat_lt 0 c.bitwise then Some (8 * columns table.Bitwise)
+    else if nat_lt 0 c.memory then Some (8 * columns table.Memory) else if nat_lt 0 c.kernel then Some (8 * columns table.Kernel)
+    else if nat_lt 0 c.left then Some (8 * columns table.Left) else None
 
 -- places stay small
 abbrev pub IsSmall : PartTrace → Type 0
 IsSmall p =
-    p.at + 8 * 65 * p.left.main + 8 * 2 * p.left.range + 8 * 15 * p.left.hasher + 8 * 12 * p.left.bitwise + 8 * 14 * p.left.memory + 8 * 5 * p.left.kernel
-    + 8 * 1 * p.left.left ≤ 2 ^ 35
+    p.at + 8 * columns table.Main * p.left.main + 8 * columns table.Range * p.left.range + 8 * columns table.Hasher * p.left.hasher
+    + 8 * columns table.Bitwise * p.left.bitwise + 8 * columns table.Memory * p.left.memory + 8 * columns table.Kernel * p.left.kernel
+    + 8 * columns table.Left * p.left.left ≤ 2 ^ 35
 
 -- From bytes at a place some rows were read behind those of a table, of which so many were to come: so many bytes were used.
 pub record ReadsRows (width at : ℕ) (bytes : List ℕ) (before after : ℕ) (old new : List (List ℕ)) (count : ℕ) : Type 0 where

@@ -8,7 +8,7 @@ use air_kit::{TableName, Trace};
 
 /// How many rows each table has.
 #[derive(Clone, Copy)]
-pub(crate) struct Counts {
+pub(crate) struct RowCounts {
     pub main: usize,
     pub range: usize,
     pub hasher: usize,
@@ -19,7 +19,7 @@ pub(crate) struct Counts {
 }
 
 /// No rows of any table.
-pub(crate) const NO_ROWS: Counts = Counts {
+pub(crate) const NO_ROWS: RowCounts = RowCounts {
     main: 0,
     range: 0,
     hasher: 0,
@@ -85,7 +85,7 @@ fn read_count(bytes: &[u8], table: TableName, at: usize) -> Result<usize, FileEr
 
 /// The seven row counts, which stand behind the version.
 #[tactic(auto, unfolding(crate::specs::Files::counts_of))]
-pub(crate) fn read_counts(bytes: &[u8]) -> Result<Counts, FileError>
+pub(crate) fn read_counts(bytes: &[u8]) -> Result<RowCounts, FileError>
     ensures is { result ≡ counts_of bytes.now }
     ensures few { IfOk result AreFew }
 {
@@ -96,7 +96,7 @@ pub(crate) fn read_counts(bytes: &[u8]) -> Result<Counts, FileError>
     let memory = read_count(bytes, TableName::Memory, 24)?;
     let kernel = read_count(bytes, TableName::Kernel, 28)?;
     let left = read_count(bytes, TableName::Left, 32)?;
-    Ok(Counts {
+    Ok(RowCounts {
         main,
         range,
         hasher,
@@ -108,12 +108,12 @@ pub(crate) fn read_counts(bytes: &[u8]) -> Result<Counts, FileError>
 }
 
 /// The row counts of a trace.
-pub(crate) fn counts_in(trace: &Trace) -> Counts
+pub(crate) fn counts_in(trace: &Trace) -> RowCounts
     requires { HasCounts trace.now }
     ensures is { result ≡ counts_in trace.now }
     ensures few { AreFew result }
 {
-    Counts {
+    RowCounts {
         main: trace.main.rows(),
         range: trace.range.rows(),
         hasher: trace.hasher.rows(),

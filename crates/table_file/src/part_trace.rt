@@ -4,7 +4,7 @@ ghost use Rattle.table_file.specs.Files.{AreFew, tables_of};
 ghost use Rattle.table_file.specs.Reading.{Advances, IsSmall, StandsAt, next_row, rest_of};
 
 use crate::cause::{FileCause, FileError, bad};
-use crate::counts::Counts;
+use crate::counts::RowCounts;
 use crate::head::HEAD_BYTES;
 use crate::rows::{ELEMENT_BYTES, cut_row, take_rows};
 use air_kit::Trace;
@@ -17,7 +17,7 @@ pub(crate) struct PartTrace {
     // the rows that are read
     trace: Trace,
     // how many rows of each table are still to come
-    left: Counts,
+    left: RowCounts,
     // where they begin in the file
     at: usize,
 }
@@ -25,7 +25,7 @@ pub(crate) struct PartTrace {
 impl PartTrace {
     /// No row is read yet.
     #[tactic(auto, using(crate::proofs::PartTraces::begins))]
-    pub(crate) fn new(alloc: Global, counts: Counts) -> PartTrace
+    pub(crate) fn new(alloc: Global, counts: RowCounts) -> PartTrace
         requires { AreFew counts }
         ensures place { result.at ≡ 36 }
         ensures small { IsSmall result }

@@ -4,7 +4,7 @@ ghost use Rattle.table_file.specs.Fields.{row_bytes, table_bytes};
 ghost use Rattle.table_file.specs.Files.{AreFew, bytes_of, count_bytes, head_bytes};
 ghost use Rattle.table_file.specs.Left.{left_of};
 
-use crate::counts::{Counts, NO_ROWS, counts_in};
+use crate::counts::{NO_ROWS, RowCounts, counts_in};
 use crate::head::{MAGIC, VERSION};
 use crate::rows::ELEMENT_BYTES;
 use air_kit::Trace;
@@ -34,7 +34,7 @@ pub struct TablePieces<'a> {
     // whether the head was given
     has_head: bool,
     // how many rows of each table were given
-    given: Counts,
+    given: RowCounts,
 }
 
 impl<'a> Model for TablePieces<'a> {
@@ -82,7 +82,7 @@ impl<'a> Pieces for TablePieces<'a> {
 }
 
 #[tactic(auto, unfolding(crate::specs::Files::head_bytes))]
-fn add_head(room: &mut Piece, counts: &Counts)
+fn add_head(room: &mut Piece, counts: &RowCounts)
     requires few { AreFew counts.now }
     requires empty { room.old.items ≡ [] }
     ensures is { room.new.items ≡ head_bytes counts.now }
@@ -111,7 +111,7 @@ fn add_u32(room: &mut Piece, number: u32)
 
 // Adds the next rows of the first table of which some are left.
 #[tactic(auto, using(crate::proofs::LeftLemmas::main_goes, crate::proofs::LeftLemmas::range_goes, crate::proofs::LeftLemmas::hasher_goes, crate::proofs::LeftLemmas::bitwise_goes, crate::proofs::LeftLemmas::memory_goes, crate::proofs::LeftLemmas::kernel_goes, crate::proofs::LeftLemmas::left_goes, crate::proofs::LeftLemmas::none_left))]
-fn add_rows(room: &mut Piece, trace: &Trace, given: &mut Counts)
+fn add_rows(room: &mut Piece, trace: &Trace, given: &mut RowCounts)
     requires { room.old.items ≡ [] }
     ensures given { left_of trace.now true given.old ≡ room.new.items ++ left_of trace.now true given.new }
     ensures end { room.new.items ≡ [] → left_of trace.now true given.old ≡ [] }

@@ -1,5 +1,5 @@
 -- Lists of elements, and what is made of them.
-use Rattle.std.proofs.Common.{◌≡◌, ℕ, ◌-◌, ◌<◌, ◌≤◌, max, ◌⊎◌, inl, inr, List, [], ◌∷◌, ◌++◌, length, map, take, drop, reverse, replicate, slice_index, refl, arith, lit<}
+use Rattle.std.proofs.Common.{◌≡◌, ℕ, zero, suc, ◌-◌, ◌<◌, ◌≤◌, max, ◌⊎◌, inl, inr, List, [], ◌∷◌, ◌++◌, length, map, take, drop, reverse, replicate, slice_index, refl, arith, lit<}
 use Rattle.std.proofs.lemmas.List.{get_or-reverse, get_or_past, length-append, length-replicate, length-reverse}
 use Rattle.std.proofs.lemmas.List.Elements.{All-append, All-cons, All-drop, All-nil, All-replicate, All-take}
 use Rattle.vm_field.specs.Field.{prime, AreElements}
@@ -15,6 +15,18 @@ elements-index xs i below = go within
     go : (i < length xs) ⊎ (length xs ≤ i) → slice_index xs i < prime
     go (inl h) = below i 0 h
     go (inr h) = rw (get_or_past xs i 0 h) (lit< tt)
+
+pub elements-cons : (e : ℕ) (es : List ℕ) → e < prime → AreElements es → AreElements (e ∷ es)
+elements-cons e es low below = All-cons (λ e. e < prime) e es low below
+
+pub elements-none : AreElements []
+elements-none = All-nil (λ e. e < prime)
+
+pub elements-one : (a : ℕ) → a < prime → AreElements (a ∷ [])
+elements-one a low = elements-cons a [] low elements-none
+
+pub elements-two : (a b : ℕ) → a < prime → b < prime → AreElements (a ∷ b ∷ [])
+elements-two a b low below = elements-cons a (b ∷ []) low (elements-one b below)
 
 pub elements-append : (xs ys : List ℕ) → AreElements xs → AreElements ys → AreElements (xs ++ ys)
 elements-append xs ys = All-append (λ e. e < prime) xs ys
@@ -39,10 +51,21 @@ elements-filled_up cells below =
 
 -- the elements at places that are picked
 pub elements-picked : (xs places : List ℕ) → AreElements xs → AreElements (map (slice_index xs) places)
-elements-picked xs [] below = All-nil (λ e. e < prime)
+elements-picked xs [] below = elements-none
 elements-picked xs (i ∷ places) below =
-    All-cons (λ e. e < prime) (slice_index xs i) (map (slice_index xs) places) (elements-index xs i below)
-    (elements-picked xs places below)
+    elements-cons (slice_index xs i) (map (slice_index xs) places) (elements-index xs i below) (elements-picked xs places below)
+
+-- zeros are 0 at each place, and past their end
+pub index-zeros : (n k : ℕ) → slice_index (replicate n 0) k ≡ 0
+index-zeros zero k = refl
+index-zeros (suc n) zero = refl
+index-zeros (suc n) (suc k) = index-zeros n k
+
+pub word-of : (a b c d : ℕ) → a < prime → b < prime → c < prime → d < prime → IsWord (a ∷ b ∷ c ∷ d ∷ [])
+word-of a b c d l m n o = record {
+  size = refl;
+  below = elements-cons a (b ∷ c ∷ d ∷ []) l (elements-cons b (c ∷ d ∷ []) m (elements-two c d n o));
+}
 
 pub word-zero : IsWord zero_word
 word-zero = record { size = refl; below = elements-replicate 4 }

@@ -5,7 +5,7 @@ use Rattle.std.proofs.Math.Seq.{take-append_seam, drop-append_seam}
 use Rattle.std.proofs.lemmas.Bool.{and_parts, cases_lt}
 use Rattle.std.proofs.lemmas.Bool.Decides.{nat_tests}
 use Rattle.std.proofs.lemmas.List.{take-append-drop, length-take-le, length-drop, map-append}
-use Rattle.std.proofs.lemmas.List.Elements.{All-head, All-tail, All-cons, All-nil}
+use Rattle.std.proofs.lemmas.List.Elements.{All-head, All-tail}
 use Rattle.std.proofs.lemmas.Nat.{mod-mul-add, mul-add-lt}
 use Rattle.std.specs.Char.{to_ascii_lowercase}
 use Rattle.std.specs.Str.{str_to_ascii_lowercase}
@@ -14,6 +14,7 @@ use Rattle.hex.proofs.HexLemmas.{IsDigits-lower_digits}
 use Rattle.vm_field.specs.Field.{prime, element_from}
 use Rattle.vm_field.proofs.Algebra.{element_from-below, element_from-some}
 use Rattle.vm_field.specs.WordText.{hex_digits, word_hex, hex_number, element_of_hex, elements_of_hex, word_of_hex}
+use Rattle.vm_field.proofs.Elements.{elements-cons, elements-none}
 
 pos_power : (k : ℕ) → 0 < 16 ^ k
 pos_power zero = lit< tt
@@ -169,7 +170,7 @@ elements_read : (k : ℕ) (text w : List ℕ) → length text ≡ 16 * k → ele
 unfolding elements_of_hex word_hex
 elements_read zero [] w len h =
     let w_is : [] ≡ w = cc in
-    subst (IsRead 0 []) w_is (refl, refl, All-nil (λ x. x < prime))
+    subst (IsRead 0 []) w_is (refl, refl, elements-none)
 elements_read zero (c ∷ cs) w len h = absurd (omega arith)
 elements_read (suc k) text w len h =
     go (element_of_hex (take 16 text)) refl (elements_of_hex k (drop 16 text)) refl h (λ es. elements_read k (drop 16 text) es (omega (arith, length-drop 16 text)))
@@ -186,7 +187,7 @@ elements_read (suc k) text w len h =
         subst (IsRead (suc k) text) w_is (
           ap₂ (λ (xs ys : List ℕ). xs ++ ys) first.0 later.0 ∙ sym (map-append to_ascii_lowercase (take 16 text) (drop 16 text)) ∙ ap str_to_ascii_lowercase (take-append-drop 16 text),
           ap suc later.1,
-          All-cons (λ x. x < prime) e es first.1 later.2,
+          elements-cons e es first.1 later.2,
         )
 
 -- a word that is read is four elements, and is written as the text in lower case

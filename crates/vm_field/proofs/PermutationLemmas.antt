@@ -1,11 +1,12 @@
 -- What the steps of the permutation give: how many elements, and that they are elements; and its rounds one by one.
 use Rattle.std.proofs.Common.{◌≡◌, ◌↔◌, ℕ, zero, suc, ◌+◌, ◌*◌, ◌<◌, ◌≤◌, Bool, true, false, cond, ◌==◌, List, [], ◌∷◌, length, map, take, drop, refl, sym, ap, ap₂, ◌∙◌, arith, lit<}
 use Rattle.std.proofs.lemmas.List.{drop-drop, length-drop, length-map, length-take-le}
-use Rattle.std.proofs.lemmas.List.Elements.{All-cons, All-head, All-nil, All-tail}
+use Rattle.std.proofs.lemmas.List.Elements.{All-head, All-tail}
 use Rattle.vm_field.specs.Field.{prime, AreElements, felt_add, felt_pow, one_below, seventh_root}
 use Rattle.vm_field.specs.Permutation.{added, mixed, rotated, row_product, powered, before_roots, round, rounds, permuted, round_constants, seventh_powers, seventh_roots}
 use Rattle.vm_field.proofs.Inverses.{felt_pow-seventh_root, seventh_root-seventh}
 use Rattle.vm_field.proofs.PowerLaws.{power-below}
+use Rattle.vm_field.proofs.Elements.{elements-cons, elements-none}
 
 -- ---- how many
 
@@ -50,19 +51,19 @@ length-permuted constants x h e = length-rounds 7 constants x (omega arith) e
 -- ---- elements
 
 pub elements-added : (xs constants : List ℕ) → AreElements (added xs constants)
-elements-added [] constants = All-nil (λ e. e < prime)
-elements-added (x ∷ xs) [] = All-nil (λ e. e < prime)
+elements-added [] constants = elements-none
+elements-added (x ∷ xs) [] = elements-none
 elements-added (x ∷ xs) (c ∷ constants) =
-    All-cons (λ e. e < prime) (felt_add x c) (added xs constants) (omega arith) (elements-added xs constants)
+    elements-cons (felt_add x c) (added xs constants) (omega arith) (elements-added xs constants)
 
 row_product-below : (x : List ℕ) → row_product x < prime
 unfolding row_product
 row_product-below x = omega arith
 
 elements-products : (xs : List (List ℕ)) → AreElements (map row_product xs)
-elements-products [] = All-nil (λ e. e < prime)
+elements-products [] = elements-none
 elements-products (x ∷ xs) =
-    All-cons (λ e. e < prime) (row_product x) (map row_product xs) (row_product-below x) (elements-products xs)
+    elements-cons (row_product x) (map row_product xs) (row_product-below x) (elements-products xs)
 
 pub elements-mixed : (x : List ℕ) → AreElements (mixed x)
 unfolding mixed
@@ -73,8 +74,8 @@ elements-mixed x =
 
 -- whatever is mapped, where the map gives elements
 elements-mapped : (f : ℕ → ℕ) → ((e : ℕ) → f e < prime) → (xs : List ℕ) → AreElements (map f xs)
-elements-mapped f below [] = All-nil (λ e. e < prime)
-elements-mapped f below (x ∷ xs) = All-cons (λ e. e < prime) (f x) (map f xs) (below x) (elements-mapped f below xs)
+elements-mapped f below [] = elements-none
+elements-mapped f below (x ∷ xs) = elements-cons (f x) (map f xs) (below x) (elements-mapped f below xs)
 
 pub elements-seventh_powers : (xs : List ℕ) → AreElements (seventh_powers xs)
 elements-seventh_powers xs = elements-mapped (λ e. felt_pow e 7) (λ e. power-below prime e 7 (lit< tt)) xs

@@ -1,8 +1,8 @@
 -- What a step keeps of a state, and how it moves the stack.
-use Rattle.std.proofs.Common.{◌≡◌, ◌≢◌, ℕ, zero, suc, ◌+◌, ◌-◌, ◌<◌, ◌≤◌, max, ◌⊎◌, inl, inr, false, List, [], ◌∷◌, ◌++◌, map, drop, length, replicate, None, Ok, slice_index, refl, ap, sym, ◌∙◌, arith, append-nil}
+use Rattle.std.proofs.Common.{◌≡◌, ◌≢◌, ℕ, ◌+◌, ◌-◌, ◌<◌, ◌≤◌, max, ◌⊎◌, inl, inr, false, List, [], ◌∷◌, ◌++◌, map, drop, length, replicate, None, Ok, slice_index, refl, ap, sym, ◌∙◌, arith, append-nil}
 use Rattle.std.proofs.lemmas.List.{drop-drop, drop_all, drop_at, drop_more, get_or_append_left, get_or-append_right, get_or-drop, get_or-map, get_or-take, get_or_past}
 use Rattle.std.proofs.lemmas.List.Elements.{All-get_or}
-use Rattle.vm_field.proofs.Elements.{length-filled_up}
+use Rattle.vm_field.proofs.Elements.{index-zeros, length-filled_up}
 use Rattle.vm_field.specs.Machine.{State, filled_up, IsWellFormed}
 use Rattle.vm_ops.proofs.MoveLemmas.{ByOne, leaves_of-below, shift_of-by_one, sources_of-visible, takes_of-below}
 use Rattle.vm_ops.proofs.Sizing.{length-computed, length-left_cells}
@@ -55,11 +55,6 @@ step-memory constants item s t quiet e =
 
 -- ---- cells of the stack; past its end there is 0
 
-zero_at : (n i : ℕ) → slice_index (replicate n 0) i ≡ 0
-zero_at zero i = refl
-zero_at (suc n) zero = refl
-zero_at (suc n) (suc i) = zero_at n i
-
 pub index-filled_up : (cells : List ℕ) (j : ℕ) → slice_index (filled_up cells) j ≡ slice_index cells j
 index-filled_up cells j = go within
   where
@@ -70,7 +65,7 @@ index-filled_up cells j = go within
     go (inl h) = get_or_append_left cells (replicate (16 - length cells) 0) 0 j h
     go (inr h) =
         get_or-append_right cells (replicate (16 - length cells) 0) (length cells) j 0 refl h
-        ∙ zero_at (16 - length cells) (j - length cells) ∙ sym (get_or_past cells j 0 h)
+        ∙ index-zeros (16 - length cells) (j - length cells) ∙ sym (get_or_past cells j 0 h)
 
 -- each cell that the operation does not leave is one that it does not take
 pub index-below : (op : Op) (s : Seen) (stack : List ℕ) (j : ℕ) → IsSeenBy op s → leaves_of op ≤ j
@@ -102,15 +97,18 @@ unfolding left_cells
 index-moved op s j h none within =
     moved (computed op s) s.cells (sources_of op) j (length-computed op s h ∙ none) (omega arith)
 
-drop-filled_up : (cells : List ℕ) → drop 16 (filled_up cells) ≡ drop 16 cells
+-- cells that are deep enough are filled up with nothing
+pub filled_up-deep : (cells : List ℕ) → 16 ≤ length cells → filled_up cells ≡ cells
+filled_up-deep cells enough = let none : 16 - length cells ≡ 0 = omega arith in rw none (append-nil cells)
+
+pub drop-filled_up : (cells : List ℕ) → drop 16 (filled_up cells) ≡ drop 16 cells
 drop-filled_up cells = go deep
   where
     deep : (16 ≤ length cells) ⊎ (length cells < 16)
     deep = grind arith
 
     go : (16 ≤ length cells) ⊎ (length cells < 16) → drop 16 (filled_up cells) ≡ drop 16 cells
-    go (inl h) =
-        let none : 16 - length cells ≡ 0 = omega arith in rw (none, append-nil cells) refl
+    go (inl h) = ap (drop 16) (filled_up-deep cells h)
     go (inr h) =
         let size : length (filled_up cells) ≡ max 16 (length cells) = length-filled_up cells in
         let short : length (filled_up cells) ≤ 16 = omega arith in

@@ -78,10 +78,10 @@ impl Stack {
     }
 
     // The visible cells.
-    pub fn visible(&self) -> [Felt; 16]
-        ensures { result ≡ take 16 self.now }
+    pub fn visible(&self) -> &[Felt; 16]
+        ensures { result.now ≡ take 16 self.now }
     {
-        self.top
+        &self.top
     }
 
     // Puts a cell on top.

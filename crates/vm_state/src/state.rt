@@ -86,8 +86,8 @@ impl State {
     }
 
     /// The sixteen cells that operations see, top first.
-    pub fn visible(&self) -> [Felt; 16]
-        ensures { result ≡ take 16 self.now.stack }
+    pub fn visible(&self) -> &[Felt; 16]
+        ensures { result.now ≡ take 16 self.now.stack }
     {
         self.stack.visible()
     }

@@ -33,7 +33,7 @@ b row j = slice_index row (9 + j)
 abbrev pub h : List ℕ → ℕ → ℕ
 h row j = slice_index row (16 + j)
 
--- 1 inside a span, else 0
+-- 1 in the row of an ordinary operation, else 0
 abbrev pub sp : List ℕ → ℕ
 sp row = slice_index row 24
 

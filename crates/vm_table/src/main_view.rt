@@ -175,7 +175,7 @@ pub trait MainView: View<65> {
         self.cell(23)
     }
 
-    /// 1 inside a span, else 0.
+    /// 1 in the row of an ordinary operation, else 0.
     fn sp(&self) -> Felt
         ensures is { result ≡ columns.sp (Self.cells self.now) }
     {

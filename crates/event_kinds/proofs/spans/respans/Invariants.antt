@@ -3,4 +3,4 @@ use Rattle.run_rows.specs.Turns.{respans}
 use Rattle.event_kinds.proofs.spans.respans.Given as goal
 
 abbrev pub invariant-loop-i : goal.invariant-loop-i
-invariant-loop-i l = l.batches ++ respans (drop l.i l.later) ≡ respans l.later
+invariant-loop-i l = l.batches ++ respans (drop l.i l.events) ≡ respans (drop l.first l.events)

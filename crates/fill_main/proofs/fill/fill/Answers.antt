@@ -4,9 +4,9 @@ use Rattle.air_kit.specs.declared.requests.Requests.{Requests}
 use Rattle.cycle_events.specs.declared.event.Event.{Event}
 use Rattle.cycle_events.specs.declared.event.Visible.{Visible}
 use Rattle.run_rows.specs.Decoder.{Decoder, decoder_after}
-use Rattle.run_rows.specs.Filling.{fill, row_of, seen_behind}
+use Rattle.run_rows.specs.Filling.{fill, row_of}
 use Rattle.run_rows.specs.RunRequests.{accesses_of, bits_of, calls_of, perms_of, ranges_by, ranges_of}
-use Rattle.run_rows.specs.Turns.{repeats, respans}
+use Rattle.run_rows.specs.Turns.{repeats}
 use Rattle.event_kinds.specs.Kinds.{kind_in}
 use Rattle.fill_requests.proofs.RequestLemmas as ask
 use Rattle.fill_decoder.specs.Views.{decoder_in}
@@ -41,19 +41,19 @@ loop-i-preserved c =
     let events = c.args.events.now in
     let i = c.loop-i.i in
     let e = c.event-event.result in
-    let is = subst (λ (x : Event). x ≡ get_or events i x) (sym c.event-event.ensures) c.index-events-i.is in
+    let shown = c.event-event.ensures in
+    let is = subst (λ (x : Event). x ≡ get_or events i x) (sym shown.2) shown.1 in
     let later = drop (i + 1) events in
     let d = decoder_in c.loop-i.decoder in
     let asked = c.loop-i.requests in
     let added = c.in_ok-push_requests.ensures in
     let invariant = c.loop-i.invariant in
-    let next = c.seen_behind-next.ensures ∙ ap (seen_behind last) c.events_behind-later.ensures in
+    let next = c.seen_behind-next.ensures in
     let here = invariant.turns ∙ turns-here events i e (omega arith) is in
     let turn : c.unwrap_or-turn.result ≡ slice_index (repeats later) 0
     = turn-first c.loop-i.turns _ _ c.unwrap_or-turn.result here (c.unwrap_or-turn.ensures ∙ ap (λ o. unwrap_or o 0) c.pop.ensures.item) in
     let moved = c.in_ok-advance.ensures ∙ known e (kind_in c.kind_of-kind.result) d _ later c.kind_of-kind.ensures
-    (λ starts. c.len.ensures.count ∙ ap (λ (xs : List (List ℕ)). length xs) (c.in_ok-batches.ensures (c.kind_of-kind.ensures ∙ starts))
-    ∙ ap (λ xs. length (respans xs)) c.events_behind-later.ensures) in
+    (λ starts. c.len.ensures.count ∙ ap (λ (xs : List (List ℕ)). length xs) (c.in_ok-batches.ensures (c.kind_of-kind.ensures ∙ starts))) in
     record {
       rows =
           rows-step last d _ events i e _ c.loop-i.table _ (omega arith) is
@@ -66,7 +66,7 @@ loop-i-preserved c =
           ask.perms-step constants events i e asked.perms _ (omega arith) is
           (added.perms ∙ ap (λ (more : List Perm). asked.perms ++ more)
           (ask.perms-known constants c.loop-i.permutations (kind_in c.kind_of-kind.result) e _ later invariant.same c.kind_of-kind.ensures
-          (λ starts. c.as_slice.ensures.items ∙ c.in_ok-batches.ensures (c.kind_of-kind.ensures ∙ starts) ∙ ap respans c.events_behind-later.ensures)))
+          (λ starts. c.as_slice.ensures.items ∙ c.in_ok-batches.ensures (c.kind_of-kind.ensures ∙ starts))))
           ∙ invariant.perms;
       bits = ask.bits-step events i e asked.bits _ (omega arith) is added.bits ∙ invariant.bits;
       accesses = ask.accesses-step events i e asked.accesses _ (omega arith) is added.accesses ∙ invariant.accesses;

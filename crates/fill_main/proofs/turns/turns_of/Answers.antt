@@ -7,7 +7,7 @@ use Rattle.fill_main.proofs.turns.turns_of.Goals as goal
 
 pub loop-i-init : goal.loop-i-init
 loop-i-init c =
-    let none = none-behind c.args.events.now (length c.args.events.now) (omega arith) in
+    let none = none-behind c.args.events.now c.len-i.result (omega (arith, c.len-i.ensures.count)) in
     record { counts = c.new-counts.ensures ∙ sym none.0; turns = c.new-turns.ensures ∙ sym none.1 }
 
 pub loop-i-preserved : goal.loop-i-preserved
@@ -15,18 +15,19 @@ loop-i-preserved c =
     let events = c.args.events.now in
     let i = c.loop-i.i in
     let j = i - 1 in
-    let e = c.index-events-i.result in
+    let shown = c.op.ensures in
+    let e = shown.0 in
     let within : j < length events = omega arith in
     let next : i ≡ j + 1 = omega arith in
     let counts = c.loop-i.invariant.counts ∙ ap (λ n. repeats (drop n events)) next in
     let turns = c.loop-i.invariant.turns ∙ ap (λ n. turns_of (drop n events)) next in
     record {
       counts =
-          c.in_ok-count.ensures ∙ ap₂ (λ (k : Kind) (xs : List ℕ). repeats_by k xs) (c.kind_of.ensures ∙ ap kind_of c.op.ensures) counts
-          ∙ sym (repeats-here events j e within c.index-events-i.is);
+          c.in_ok-count.ensures ∙ ap₂ (λ (k : Kind) (xs : List ℕ). repeats_by k xs) (c.kind_of.ensures ∙ ap kind_of shown.2) counts
+          ∙ sym (repeats-here events j e within shown.1);
       turns =
           c.in_ok-push.ensures ∙ ap₂ (λ (n : ℕ) (xs : List ℕ). n ∷ xs) (c.front.ensures ∙ ap (λ xs. slice_index xs 0) counts) turns
-          ∙ sym (turns-here events j e within c.index-events-i.is);
+          ∙ sym (turns-here events j e within shown.1);
     }
 
 pub returns : goal.returns

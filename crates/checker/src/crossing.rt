@@ -1,0 +1,9 @@
+use crate::{Refused, Valid};
+
+fn crosses<T: Send + Sync>() {}
+
+/// What the checker answers may be sent to other threads and read by several.
+pub fn types_cross() {
+    crosses::<Valid>();
+    crosses::<Refused>();
+}

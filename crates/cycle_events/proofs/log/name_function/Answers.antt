@@ -1,0 +1,11 @@
+use Rattle.std.proofs.Common.{◌∙◌, sym, ap, arith}
+use Rattle.vm_field.specs.Machine.{zero_word}
+use Rattle.cycle_events.specs.Kept.{named}
+use Rattle.cycle_events.proofs.KeptLemmas.{same_if}
+use Rattle.cycle_events.proofs.log.name_function.Goals as goal
+
+pub returns-clause-is : goal.returns-clause-is
+returns-clause-is c = (
+  omega (arith, c.len-number.ensures),
+  ap (λ xs. named zero_word xs c.len-number.result) (sym c.deref.ensures.value) ∙ sym c.function_named.ensures ∙ same_if _ _ (sym c.ne.ensures ∙ c.if-ne.false),
+)
