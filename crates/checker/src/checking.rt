@@ -41,7 +41,7 @@ impl Valid {
 /// Checks a trace: it is accepted exactly where each entry of each row is 0 and each bus has each tuple asked as often as given.
 /// Else the answer is the first fault by table, row and number; where there is none, the first bus that is apart, with the least
 /// tuple and both its counts. Memory is asked for only where no row has a fault. The rows are tested in so many pieces, of which
-/// each goes through the gate; so far there is one.
+/// each goes through the gate; there is one.
 pub fn check<G: Gate>(
     alloc: Global,
     trace: Trace,

@@ -1,4 +1,4 @@
--- The line that is printed of a trace that is refused (docs/FORMATS.md, "Refusals").
+-- The line that is printed of a trace that is refused (docs/FORMATS.md, "Checks").
 use Rattle.std.specs.Prelude.{ℕ, List, [], ◌∷◌, ◌++◌, codes, decimal}
 use Rattle.std.specs.List.{flat_map}
 use Rattle.air_kit.specs.Tables.{text_of_table}

@@ -13,7 +13,7 @@ use vm_field::Felt;
 use vm_io::Gate;
 
 /// The first entry of a trace that is not 0, by table, row and number, with its value; none where all are 0. The rows of all
-/// tables are tested in so many pieces, of which each goes through the gate; so far there is one.
+/// tables are tested in so many pieces, of which each goes through the gate; there is one.
 pub fn check_rows<G: Gate>(trace: &Trace, public: &Public, pieces: usize, gate: &G) -> Option<Fault>
     requires counts { HasCounts trace.now }
     requires pieces { pieces ≡ 1 }
