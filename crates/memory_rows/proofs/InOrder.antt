@@ -16,7 +16,7 @@ pub keys_rise : (rows : List (List ℕ)) → AreOrdered rows → (q r : ℕ) →
 keys_rise rows o q r less h = rise (λ k. key_of (access_at rows k)) (length rows) o.grows q r less h
 
 -- of two rows the one with the lesser key stands before
-rows_from_keys : (rows : List (List ℕ)) → AreOrdered rows → (q r : ℕ) → q < length rows → r < length rows
+pub rows_from_keys : (rows : List (List ℕ)) → AreOrdered rows → (q r : ℕ) → q < length rows → r < length rows
     → key_of (access_at rows q) < key_of (access_at rows r) → q < r
 rows_from_keys rows o q r hq hr less = rise_back (λ k. key_of (access_at rows k)) (length rows) o.grows q r hq hr less
 

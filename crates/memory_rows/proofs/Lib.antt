@@ -5,6 +5,7 @@ pub mod ZerosOrder
 pub mod Latest
 pub mod Keys
 pub mod InOrder
+pub mod ShowsLatest
 pub mod Asked
 pub mod TableServes
 pub mod Entries

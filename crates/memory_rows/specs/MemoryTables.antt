@@ -11,7 +11,7 @@ use Rattle.air_kit.specs.Places.{at_number}
 use Rattle.air_kit.specs.MemoryValues.{memory_values}
 use Rattle.air_kit.specs.Traces.{spot_of}
 use Rattle.air_kit.specs.ChipTuples.{chip_given}
-use Rattle.air_kit.specs.Requests.{FitsMemory, access_given}
+use Rattle.air_kit.specs.Requests.{FitsMemory, IsWordBefore, access_given}
 use Rattle.memory_rows.specs.Accesses.{Keeps, access_of, key_of, word_behind}
 
 abbrev pub row_at : List (List ℕ) → ℕ → List ℕ
@@ -51,6 +51,12 @@ pub record AreOrdered (rows : List (List ℕ)) : Type 0 where
   pub addresses : (i : ℕ) → i < length rows → (access_at rows i).addr < 2 ^ 32
   pub grows : (i : ℕ) → suc i < length rows → key_of (access_at rows i) < key_of (access_at rows (suc i))
   pub keeps : (i : ℕ) → i < length rows → Keeps (access_at rows i) (word_behind (access_before rows i) (access_at rows i))
+
+-- Each row shows the word before it, that of the last earlier row of its context and address, or zeros, changed by its own write alone.
+abbrev pub ShowLatest : List (List ℕ) → Type 0
+ShowLatest rows =
+    (i : ℕ) → i < length rows
+    → (before : List ℕ) × IsWordBefore (map access_of rows) (access_at rows i) before × Keeps (access_at rows i) before
 
 -- an access that a row can show
 pub record IsSmall (a : Access) : Type 0 where
