@@ -6,7 +6,7 @@ use Rattle.air_kit.specs.declared.trace.Trace.{Trace}
 use Rattle.bus_facts.specs.Blocks.{Closes}
 use Rattle.bus_facts.specs.BusFacts.{Granted}
 use Rattle.block_rows.specs.Frames.{GrantedFrames, IsBlock}
-use Rattle.block_rows.proofs.OpenBlocks.{closes_newest, newest_at}
+use Rattle.block_rows.proofs.OpenBlocks.{address_of, closes_newest, newest_at}
 use Rattle.block_rows.proofs.Levels.{level_at, nested_at}
 use Rattle.block_rows.proofs.Contexts.{context_at, context_below}
 
@@ -20,6 +20,7 @@ module _ (p : Public) (t : Trace) (g : Granted p t) where
 
 pub frames_granted : GrantedFrames
 frames_granted p t g = record {
+  address = λ i within. address_of t.main i (newest_at (claim_of p t) t.main g.rows g.blocks i within);
   ends = λ e is. ended_block p t g e (g.blocks.block e is);
   closed = closed_block p t g;
   level = λ i within. (level_at (claim_of p t) t.main g.rows g.few g.blocks i within).level;

@@ -7,7 +7,7 @@ use Rattle.air_kit.specs.Flags.{is_op}
 use Rattle.air_kit.specs.Places.{Claim}
 use Rattle.row_facts.specs.MainRows.{ShowsRows, row_at, op_in}
 use Rattle.bus_facts.specs.Blocks.{BlockFacts, Closes, Starts, own}
-use Rattle.block_rows.specs.Frames.{IsBlock, open_at}
+use Rattle.block_rows.specs.Frames.{IsBlock, newest_address, open_at}
 use Rattle.block_rows.proofs.Operations.{Moves, moves_of, neither_is}
 use Rattle.block_rows.proofs.Rows.{each_row}
 
@@ -35,6 +35,10 @@ open_at-first rows = refl
 pub data Newest (rows : List (List ℕ)) (i : ℕ) : Type 0 where
   none : addr (row_at rows i) ≡ 0 → open_at rows i ≡ [] → Newest rows i
   some : (j : ℕ) → j < i → Starts rows j → own rows j ≡ addr (row_at rows i) → open_at rows i ≡ j ∷ open_at rows j → Newest rows i
+
+pub address_of : (rows : List (List ℕ)) (i : ℕ) → Newest rows i → addr (row_at rows i) ≡ newest_address rows (open_at rows i)
+address_of rows i (none outside empty) = outside ∙ sym (ap (newest_address rows) empty)
+address_of rows i (some j before starts own_is newest) = sym own_is ∙ sym (ap (newest_address rows) newest)
 
 -- a later row that stands where row i stands
 later : (rows : List (List ℕ)) (i k : ℕ) → i < k → addr (row_at rows k) ≡ addr (row_at rows i) → open_at rows k ≡ open_at rows i

@@ -1,8 +1,8 @@
 ghost use Rattle.block_rows.specs.Frames.{GrantedFrames};
 ghost use Rattle.block_rows.specs.Nesting.{GrantedNesting};
 
-/// The law of frames: each END is that of the newest block that is open, at most 1,024 are, and contexts and the bit of syscalls are
-/// numbers that a run can have.
+/// The law of frames: the address in a row is that of the newest block that is open, each END is that of this block, at most 1,024
+/// are open, and contexts and the bit of syscalls are numbers that a run can have.
 pub fn frame_laws()
     ensures frames { GrantedFrames }
 {}
