@@ -1,4 +1,4 @@
--- The cells under a key: the one that the row of this clock pushed, and those under the key that this row had.
+-- What a chain has in front, and that its cells are elements.
 use Rattle.std.proofs.Common.{◌≡◌, ℕ, suc, ◌<◌, false, List, [], ◌∷◌, length, sym, ap, subst, ◌∙◌, arith}
 use Rattle.vm_field.specs.Field.{prime, AreElements}
 use Rattle.vm_field.proofs.Elements.{elements-cons, elements-none}
@@ -7,31 +7,29 @@ use Rattle.air_kit.specs.Flags.{is_right}
 use Rattle.row_facts.specs.MainRows.{row_at, op_in}
 use Rattle.row_facts.proofs.Says.{off}
 use Rattle.bus_facts.specs.Overflow.{IsPushed}
-
--- no key is 0, which stands for no cell
-pub data Chain (rows : List (List ℕ)) : ℕ → List ℕ → Type 0 where
-  none : Chain rows 0 []
-  some : (at cell below : ℕ) (cells : List ℕ) → IsPushed rows at cell below → Chain rows below cells → Chain rows at (cell ∷ cells)
+use Rattle.overflow_rows.specs.Chains.{Chain, none, some}
 
 -- what a chain has in front, and behind it
-pub record Front (rows : List (List ℕ)) (cell below : ℕ) (cells : List ℕ) : Type 0 where
+pub record Front (rows : List (List ℕ)) (at cell below : ℕ) (cells : List ℕ) : Type 0 where
   pub later : List ℕ
   pub is : cells ≡ cell ∷ later
+  pub falls : below < at
   pub chain : Chain rows below later
 
 pub front_of : (rows : List (List ℕ)) → is_right (op_in rows 0) ≡ false → (at : ℕ) (cells : List ℕ) → Chain rows at cells
-    → (cell below : ℕ) → IsPushed rows at cell below → Front rows cell below cells
+    → (cell below : ℕ) → IsPushed rows at cell below → Front rows at cell below cells
 front_of rows first at cells none cell below pushed = off (sym first ∙ pushed.right)
-front_of rows first at cells (some k other next later here rest) cell below pushed = record {
+front_of rows first at cells (some k other next later here falls rest) cell below pushed = record {
   later = later;
   is = ap (λ n. n ∷ later) (here.cell_is ∙ sym pushed.cell_is);
+  falls = subst (λ (n : ℕ). n < k) (here.below_is ∙ sym pushed.below_is) falls;
   chain = subst (λ (n : ℕ). Chain rows n later) (here.below_is ∙ sym pushed.below_is) rest;
 }
 
 pub elements_of : (rows : List (List ℕ)) → ((r : ℕ) → r < length rows → s (row_at rows r) 15 < prime) → (at : ℕ) (cells : List ℕ)
     → Chain rows at cells → AreElements cells
 elements_of rows low at cells none = elements-none
-elements_of rows low at cells (some k cell below later here rest) =
+elements_of rows low at cells (some k cell below later here falls rest) =
     elements-cons cell later (subst (λ (n : ℕ). n < prime) (sym here.cell_is) (low k (before k (length rows) here.within)))
     (elements_of rows low below later rest)
   where

@@ -10,7 +10,8 @@ use Rattle.air_kit.specs.Flags.{is_right}
 use Rattle.air_kit.specs.StackValues.{cells}
 use Rattle.row_facts.specs.MainRows.{op_in}
 use Rattle.bus_facts.specs.Overflow.{OverflowFacts}
-use Rattle.overflow_rows.proofs.Chains.{Chain, Front, front_of}
+use Rattle.overflow_rows.specs.Chains.{Chain}
+use Rattle.overflow_rows.proofs.Chains.{Front, front_of}
 
 -- the key of a row of the table of cells left
 abbrev key_left : List (List ℕ) → ℕ → ℕ
@@ -27,7 +28,8 @@ next_key_is : (left_rows : List (List ℕ)) (q : ℕ) → q < length left_rows �
 next_key_is left_rows q h = ap next_key (slice_get-get_or left_rows q [] h)
 
 front_left : {rows left_rows : List (List ℕ)} {outputs below : List ℕ} → Leaves rows left_rows outputs below → (q : ℕ) → q < length left_rows
-    → Chain rows (key_left left_rows q) (drop q below) → Front rows (slice_index outputs (16 + q)) (next_key (slice_get left_rows (suc q))) (drop q below)
+    → Chain rows (key_left left_rows q) (drop q below)
+    → Front rows (key_left left_rows q) (slice_index outputs (16 + q)) (next_key (slice_get left_rows (suc q))) (drop q below)
 front_left {rows = rows} {left_rows = left_rows} {outputs = outputs} {below = below} l q h chain =
     front_of rows l.goes (key_left left_rows q) (drop q below) chain (slice_index outputs (16 + q)) (next_key (slice_get left_rows (suc q)))
     (l.overflow.stays q h)
@@ -38,7 +40,7 @@ one_on xs q cell later h e = let f = drop-cons xs q 0 h in cc
 before : (q l : ℕ) → suc q < l → q < l
 before q l h = omega (arith, h)
 
-walk : {rows left_rows : List (List ℕ)} {outputs below : List ℕ} → Leaves rows left_rows outputs below → (q : ℕ) → q < length left_rows
+pub walk : {rows left_rows : List (List ℕ)} {outputs below : List ℕ} → Leaves rows left_rows outputs below → (q : ℕ) → q < length left_rows
     → Chain rows (key_left left_rows q) (drop q below)
 walk l zero h = l.chain h
 walk {rows = rows} {left_rows = left_rows} {below = below} l (suc q) h =

@@ -11,13 +11,15 @@ use Rattle.row_facts.specs.Bounds.{IsLastRow}
 use Rattle.row_facts.specs.MainRows.{row_at, op_in}
 use Rattle.bus_facts.specs.Blocks.{Closes}
 use Rattle.bus_facts.specs.BusFacts.{Granted}
+use Rattle.block_rows.specs.Frames.{FrameFacts}
 use Rattle.overflow_rows.specs.Lists.{below_at, GrantedOverflow}
-use Rattle.overflow_rows.proofs.Chains.{Chain, elements_of}
+use Rattle.overflow_rows.specs.Chains.{Chain, GrantedChains}
+use Rattle.overflow_rows.proofs.Chains.{elements_of}
 use Rattle.overflow_rows.proofs.RowKinds.{behind_deeper, left_right_apart}
 use Rattle.overflow_rows.proofs.Asides.{returns_is}
 use Rattle.overflow_rows.proofs.Returns.{next_is, return_back, aside_is}
 use Rattle.overflow_rows.proofs.Holds.{Known, Holds, holds, front_at, first_goes}
-use Rattle.overflow_rows.proofs.Outputs.{stack_is}
+use Rattle.overflow_rows.proofs.Outputs.{Leaves, stack_is, walk}
 
 before : (i l : ℕ) → suc i < l → i < l
 before i l h = omega (arith, h)
@@ -58,34 +60,42 @@ last_below i l e = omega (arith, e)
 counted : (d n m o : ℕ) → d ≡ 16 + n → d ≡ o → m + 16 ≡ o → n ≡ m
 counted d n m o e f g = omega (arith, e, f, g)
 
-stack_at : (p : Public) (t : Trace) → Granted p t → Known t.main t.left p.statement.outputs → (i : ℕ) → suc i ≡ length t.main
-    → cells (row_at t.main i) ++ below_at t.main i ≡ p.statement.outputs
-stack_at p t granted known i e =
-    stack_is (record {
-      goes = first_goes known some;
-      overflow = granted.overflow;
-      chain = λ more. subst (λ (n : ℕ). Chain t.main n (below_at t.main i)) last.key_is here.chain;
-      size = counted (depth (row_at t.main i)) (length (below_at t.main i)) (length t.left) (length p.statement.outputs) here.depth_is last.depth_is count;
-    }) (row_at t.main i)
-    last.outputs count
-  where
-    within : i < length t.main
-    within = last_below i (length t.main) e
+-- what the last row leaves
+module _ (p : Public) (t : Trace) (granted : Granted p t) (known : Known t.main t.left p.statement.outputs) (i : ℕ)
+    (e : suc i ≡ length t.main) where
+  within : i < length t.main
+  within = last_below i (length t.main) e
 
-    some : 0 < length t.main
-    some = omega (arith, within)
+  some : 0 < length t.main
+  some = omega (arith, within)
 
-    here : Holds t.main i
-    here = holds known i within
+  here : Holds t.main i
+  here = holds known i within
 
-    last : IsLastRow (claim_of p t) (op_in t.main i) (row_at t.main i)
-    last = granted.rows.last i e
+  last : IsLastRow (claim_of p t) (op_in t.main i) (row_at t.main i)
+  last = granted.rows.last i e
 
-    count : length t.left + 16 ≡ length p.statement.outputs
-    count = (granted.rows.first some).left
+  count : length t.left + 16 ≡ length p.statement.outputs
+  count = (granted.rows.first some).left
+
+  leaves : Leaves t.main t.left p.statement.outputs (below_at t.main i)
+  leaves = record {
+    goes = first_goes known some;
+    overflow = granted.overflow;
+    chain = λ more. subst (λ (n : ℕ). Chain t.main n (below_at t.main i)) last.key_is here.chain;
+    size = counted (depth (row_at t.main i)) (length (below_at t.main i)) (length t.left) (length p.statement.outputs)
+        here.depth_is last.depth_is count;
+  }
+
+  stack_at : cells (row_at t.main i) ++ below_at t.main i ≡ p.statement.outputs
+  stack_at = stack_is leaves (row_at t.main i) last.outputs count
 
 few_deep : (d n i : ℕ) → d ≡ 16 + n → n ≤ i → d ≤ 16 + i
 few_deep d n i e few = omega (arith, e, few)
+
+known_of : (p : Public) (t : Trace) → Granted p t → FrameFacts t.main → Known t.main t.left p.statement.outputs
+known_of p t granted frames =
+    record { claim = claim_of p t; shows = granted.rows; few = granted.few; overflow = granted.overflow; frames = frames }
 
 pub overflow_law : GrantedOverflow
 overflow_law p t granted frames = record {
@@ -98,4 +108,14 @@ overflow_law p t granted frames = record {
 }
   where
     known : Known t.main t.left p.statement.outputs
-    known = record { claim = claim_of p t; shows = granted.rows; few = granted.few; overflow = granted.overflow; frames = frames }
+    known = known_of p t granted frames
+
+pub chain_law : GrantedChains
+chain_law p t granted frames = record {
+  chain = λ i h. (holds known i h).chain;
+  left_size = λ i e. sym (leaves p t granted known i e).size;
+  left_keys = λ i e q h. walk (leaves p t granted known i e) q h;
+}
+  where
+    known : Known t.main t.left p.statement.outputs
+    known = known_of p t granted frames
