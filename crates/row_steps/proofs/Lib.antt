@@ -11,6 +11,7 @@ pub mod Numbers
 pub mod Products
 pub mod WordValues
 pub mod WordOperands
+pub mod NumberLaw
 pub mod WordTops
 pub mod Steps
 pub mod WordMade

@@ -66,6 +66,9 @@ divided_from a b r q l la lb lq lr split e =
       quotient = sym (div-mul-add q b r less) ∙ ap (λ n. n / b) (sym turned);
     }
 
+pub divided_whole : (a b r q : ℕ) → Divided a b r q → a ≡ q * b + r
+divided_whole a b r q d = sym (div-add-mod' a b) ∙ ap₂ (λ u v. u * b + v) (sym d.quotient) (sym d.remainder)
+
 quotient_low : (a b : ℕ) → a < 2 ^ 32 → b ≢ 0 → a / b < 2 ^ 32
 quotient_low a b la some =
     let whole : a / b * b + a % b ≡ a = div-add-mod' a b in

@@ -7,10 +7,12 @@ ghost use Rattle.vm_ops.specs.declared.item.Item.{Item};
 ghost use Rattle.vm_ops.specs.declared.op.Op.{Op};
 ghost use Rattle.air_kit.specs.Places.{Claim};
 ghost use Rattle.air_kit.specs.RowStates.{Elsewhere, elsewhere_at};
+ghost use Rattle.row_facts.specs.Limbs.{IsLimbRow, MovesLimbs};
 ghost use Rattle.row_facts.specs.MainRows.{ShowsPair, ShowsRow, ShowsRows, op_in, row_at};
 ghost use Rattle.row_steps.specs.Filling.{FilledBy, FillsRows, ShowsState, elsewhere_of};
 ghost use Rattle.row_steps.specs.Joined.{GoesOnBy, IsRowOf};
-ghost use Rattle.row_steps.specs.Lookups.{Lookups};
+ghost use Rattle.row_steps.specs.Lookups.{HasLimbs, Lookups};
+ghost use Rattle.row_steps.specs.Numbers.{ShowsNumbers};
 ghost use Rattle.row_steps.specs.Showing.{IsPlace, ShowsStep};
 
 /// The law of rows: a row of an ordinary operation and the row behind it, whose facts hold and to which the buses grant what they ask,
@@ -23,6 +25,13 @@ pub fn step_laws()
     ensures at_place { (constants : List ℕ) (k : Claim) (rows : List (List ℕ)) (i : ℕ) → length constants ≡ 168
         → ShowsRows k rows → IsPlace constants rows i
         → ShowsStep constants (op_in rows i) (row_at rows i) (row_at rows (suc i)) (elsewhere_at rows i) (elsewhere_at rows (suc i)) }
+{}
+
+/// The law of numbers: where the limbs of a row have 16 bits, its operands have 32 bits, and the two words of a sum or of a product are
+/// the number itself, which is below the modulus: a sum of two or of three numbers is at most two or three times 2^32 - 1. The
+/// remainder of a division is below its divisor.
+pub fn number_laws()
+    ensures numbers { (op : Op) (x y : List ℕ) → IsLimbRow op x → MovesLimbs op x y → HasLimbs op x → ShowsNumbers op x y }
 {}
 
 /// The law of fillings: where a step of an ordinary item leads from one state to another, the two rows that show these states, with the

@@ -1,7 +1,7 @@
 //! A row of an ordinary operation and the row behind it show one step of the machine where their facts hold, and a step fills rows
-//! whose facts hold (docs/CONSTRAINTS.md, docs/MACHINE.md).
+//! whose facts hold; limbs of 16 bits show numbers of 32 bits (docs/CONSTRAINTS.md, docs/MACHINE.md).
 #![tactic(auto)]
 
 mod laws;
 
-pub use laws::{fill_laws, step_laws};
+pub use laws::{fill_laws, number_laws, step_laws};
