@@ -118,6 +118,8 @@ module _ (constants : List ℕ) (rows hasher : List (List ℕ)) (table : TableGi
     goes_on = λ i at. asked_given i (2 ∷ felt_add (ha (row_at rows i)) 8 ∷ eight (row_at rows i)) (respan_in rows i at);
     ends = λ e at. asked_given e (3 ∷ hash_end (row_at rows e) ∷ front (row_at rows e)) (end_in rows e at);
     permutes = permutes_in few;
+    alone = λ i k tag values at asks. one_asker k i tag 4 (w (row_at rows i) 0) values (twelve (row_at rows i))
+        (record { within = asks.0; positive = asks.1 }) (perm_before rows i at);
   }
 
   -- blocks have addresses of their own
