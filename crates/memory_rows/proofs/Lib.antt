@@ -18,4 +18,6 @@ pub mod SortedKeys
 pub mod SortedWords
 pub mod SortedFit
 pub mod RowsShow
+pub mod RowsAre
+pub mod RowsBack
 pub mod MainServes

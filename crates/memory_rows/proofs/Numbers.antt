@@ -48,19 +48,19 @@ over from to step = felt_sub (felt_sub (felt_sub to from) 1) step
 abbrev pub by_flags : ℕ → ℕ → ℕ → ℕ → ℕ → ℕ
 by_flags n0 n1 x y z = felt_add (felt_add (felt_mul n0 x) (felt_mul n1 y)) (felt_mul (felt_sub (felt_sub 1 n0) n1) z)
 
-first_alone : (x y z : ℕ) → x < prime → by_flags 1 0 x y z ≡ 0 → x ≡ 0
+pub first_alone : (x y z : ℕ) → x < prime → by_flags 1 0 x y z ≡ 0 → x ≡ 0
 first_alone x y z h e = omega arith
 
-second_alone : (x y z : ℕ) → y < prime → by_flags 0 1 x y z ≡ 0 → y ≡ 0
+pub second_alone : (x y z : ℕ) → y < prime → by_flags 0 1 x y z ≡ 0 → y ≡ 0
 second_alone x y z h e = omega arith
 
-third_alone : (x y z : ℕ) → z < prime → by_flags 0 0 x y z ≡ 0 → z ≡ 0
+pub third_alone : (x y z : ℕ) → z < prime → by_flags 0 0 x y z ≡ 0 → z ≡ 0
 third_alone x y z h e = omega arith
 
 alone : (x : ℕ) → x < prime → felt_mul 1 x ≡ 0 → x ≡ 0
 alone x h e = omega arith
 
-over_below : (from to step : ℕ) → over from to step < prime
+pub over_below : (from to step : ℕ) → over from to step < prime
 over_below from to step = omega arith
 
 less_below : (x y : ℕ) → felt_sub x y < prime

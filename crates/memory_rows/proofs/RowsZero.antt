@@ -123,7 +123,7 @@ values_zero before (a ∷ accesses) l zero r h front =
 values_zero before (a ∷ accesses) l (suc k) r h front =
     values_zero (Some a) accesses l.1 k r (omega (arith, h)) (later_front r k before a front)
 
-zero_number : (values : List ℕ) (number : ℕ) → AllZero values → at_number values number ≡ 0
+pub zero_number : (values : List ℕ) (number : ℕ) → AllZero values → at_number values number ≡ 0
 unfolding at_number
 zero_number values zero zeros = refl
 zero_number values (suc n) zeros = zeros n

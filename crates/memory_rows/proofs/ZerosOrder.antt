@@ -13,20 +13,20 @@ numbers_zero : (values : List ℕ) → ((number : ℕ) → at_number values numb
 unfolding at_number
 numbers_zero values zeros n = zeros (suc n)
 
-spot_zero : (rows : List (List ℕ)) → IsZero rows → (i : ℕ) → i < length rows → AllZero (memory_values (spot_of rows i))
+pub spot_zero : (rows : List (List ℕ)) → IsZero rows → (i : ℕ) → i < length rows → AllZero (memory_values (spot_of rows i))
 spot_zero rows z i h = numbers_zero (memory_values (spot_of rows i)) (λ number. z.zero i number h)
 
-cells_below : (rows : List (List ℕ)) → IsZero rows → (i : ℕ) → CellsBelow (row_at rows i)
+pub cells_below : (rows : List (List ℕ)) → IsZero rows → (i : ℕ) → CellsBelow (row_at rows i)
 cells_below rows z i k = z.table.below i k
 
 pub says : (rows : List (List ℕ)) → IsZero rows → HaveLimbs rows → (i : ℕ) → i < length rows → RowSays (row_at rows i)
 says rows z limbs i h = row_says i (row_at rows i) (slice_get rows (suc i)) (cells_below rows z i) (limbs i h) (spot_zero rows z i h)
 
-says_first : (rows : List (List ℕ)) → IsZero rows → HaveLimbs rows → 0 < length rows → FirstSays (row_at rows 0)
+pub says_first : (rows : List (List ℕ)) → IsZero rows → HaveLimbs rows → 0 < length rows → FirstSays (row_at rows 0)
 says_first rows z limbs h =
     first_says (row_at rows 0) (slice_get rows 1) (cells_below rows z 0) (says rows z limbs 0 h).n0_bit (spot_zero rows z 0 h)
 
-says_next : (rows : List (List ℕ)) → IsZero rows → HaveLimbs rows → AreSmall rows → (i : ℕ) → suc i < length rows
+pub says_next : (rows : List (List ℕ)) → IsZero rows → HaveLimbs rows → AreSmall rows → (i : ℕ) → suc i < length rows
     → NextSays (row_at rows i) (row_at rows (suc i))
 says_next rows z limbs small i h =
     next_says i (row_at rows i) (row_at rows (suc i)) (cells_below rows z (suc i)) (limbs (suc i) h) (says rows z limbs i before)
