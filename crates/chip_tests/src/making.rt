@@ -1,3 +1,6 @@
+ghost use Rattle.std.specs.Prelude.{◌≡◌, ◌%◌};
+ghost use Rattle.vm_field.specs.Field.{prime};
+
 use air_kit::Public;
 use rpo_hash::Params;
 use std::alloc::Global;
@@ -10,9 +13,11 @@ pub const NO_CONSTANTS: Params = Params {
     second: [[Felt::ZERO; 12]; 7],
 };
 
-/// The element of a number, or zero.
-pub fn felt(number: u64) -> Felt {
-    Felt::try_from_u64(number).unwrap_or(Felt::ZERO)
+/// The element of a number.
+pub fn felt(number: u64) -> Felt
+    ensures { result ≡ number % prime }
+{
+    Felt::reduced(u128::from(number))
 }
 
 /// Constants of zeros, and a statement without a kernel.
