@@ -44,7 +44,7 @@ pub static ACCEPTED: [Case; 3] = [
 ];
 
 /// A fault in each group of constraints.
-pub static FAULTS: [Case; 14] = [
+pub static FAULTS: [Case; 20] = [
     // a bit that is none
     Case {
         run: Named::Empty,
@@ -63,11 +63,65 @@ pub static FAULTS: [Case; 14] = [
         }],
         answer: Answer::Fault(TableName::Main, 1, 10, MINUS_ONE),
     },
+    // a run that begins in a context of its own
+    Case {
+        run: Named::Empty,
+        changes: &[Change {
+            table: TableName::Main,
+            cell: (0, 2, 1),
+        }],
+        answer: Answer::Fault(TableName::Main, 0, 13, 1),
+    },
+    // another input
+    Case {
+        run: Named::KeepsOne,
+        changes: &[],
+        answer: Answer::Fault(TableName::Main, 0, 23, MINUS_ONE),
+    },
+    // a run that ends with END
+    Case {
+        run: Named::Empty,
+        changes: &[
+            Change {
+                table: TableName::Main,
+                cell: (3, 9, 0),
+            },
+            Change {
+                table: TableName::Main,
+                cell: (3, 10, 0),
+            },
+        ],
+        answer: Answer::Fault(TableName::Main, 3, 41, 1),
+    },
     // another output
     Case {
         run: Named::EndsWithOne,
         changes: &[],
         answer: Answer::Fault(TableName::Main, 3, 44, MINUS_ONE),
+    },
+    // a span that breaks off into HALT
+    Case {
+        run: Named::Empty,
+        changes: &[
+            Change {
+                table: TableName::Main,
+                cell: (2, 9, 1),
+            },
+            Change {
+                table: TableName::Main,
+                cell: (2, 10, 1),
+            },
+        ],
+        answer: Answer::Fault(TableName::Main, 1, 65, 1),
+    },
+    // a kind of END that is no bit
+    Case {
+        run: Named::Empty,
+        changes: &[Change {
+            table: TableName::Main,
+            cell: (2, 20, 2),
+        }],
+        answer: Answer::Fault(TableName::Main, 2, 70, 2),
     },
     // a span whose rows name another batch
     Case {
@@ -186,6 +240,53 @@ pub static FAULTS: [Case; 14] = [
             cell: (7, 7, 1),
         }],
         answer: Answer::Fault(TableName::Hasher, 6, 22, 1),
+    },
+    // a hash that goes on from another capacity
+    Case {
+        run: Named::TwoHashes,
+        changes: &[
+            Change {
+                table: TableName::Hasher,
+                cell: (7, 2, 1),
+            },
+            Change {
+                table: TableName::Hasher,
+                cell: (8, 1, 1),
+            },
+            Change {
+                table: TableName::Hasher,
+                cell: (9, 1, 1),
+            },
+            Change {
+                table: TableName::Hasher,
+                cell: (10, 1, 1),
+            },
+            Change {
+                table: TableName::Hasher,
+                cell: (11, 1, 1),
+            },
+            Change {
+                table: TableName::Hasher,
+                cell: (12, 1, 1),
+            },
+            Change {
+                table: TableName::Hasher,
+                cell: (13, 1, 1),
+            },
+            Change {
+                table: TableName::Hasher,
+                cell: (14, 1, 1),
+            },
+            Change {
+                table: TableName::Hasher,
+                cell: (15, 1, 1),
+            },
+            Change {
+                table: TableName::Hasher,
+                cell: (8, 3, 1),
+            },
+        ],
+        answer: Answer::Fault(TableName::Hasher, 7, 14, 1),
     },
     // a bitwise operation of no kind
     Case {

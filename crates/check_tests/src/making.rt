@@ -1,5 +1,6 @@
 ghost use Rattle.std.specs.List.{IsDistinct};
-ghost use Rattle.std.specs.Prelude.{◌≤◌, length, nat_eq, IfOk};
+ghost use Rattle.std.specs.Prelude.{◌≡◌, ◌≤◌, ◌%◌, length, nat_eq, IfOk};
+ghost use Rattle.vm_field.specs.Field.{prime};
 ghost use lib.Pointwise.{pointwise};
 
 use air_kit::{Public, TableName, Trace};
@@ -45,7 +46,9 @@ pub struct Change {
     pub cell: Cell,
 }
 
-fn element(value: u64) -> Felt {
+fn element(value: u64) -> Felt
+    ensures { result ≡ value % prime }
+{
     Felt::reduced(u128::from(value))
 }
 
@@ -125,6 +128,20 @@ fn left_table(alloc: Global, keys: &[u64], changes: &[Change]) -> Result<Table<1
         table.push_row(&written)?;
     }
     Ok(table)
+}
+
+/// Whether a change is one of a cell that the trace has.
+pub fn is_within(trace: &Trace, change: &Change) -> bool {
+    let (row, column, _) = change.cell;
+    match change.table {
+        TableName::Main => row < trace.main.rows() && column < 65,
+        TableName::Range => row < trace.range.rows() && column < 2,
+        TableName::Hasher => row < trace.hasher.rows() && column < 15,
+        TableName::Bitwise => row < trace.bitwise.rows() && column < 12,
+        TableName::Memory => row < trace.memory.rows() && column < 14,
+        TableName::Kernel => row < trace.kernel.rows() && column < 5,
+        TableName::Left => row < trace.left.rows() && column < 1,
+    }
 }
 
 /// The trace of a run with some cells changed, and a row of the kernel's table where there is a kernel.

@@ -1,5 +1,5 @@
 use crate::cases::{ACCEPTED, APART, Answer, Case, FAULTS};
-use crate::making::{public, trace};
+use crate::making::{is_within, public, trace};
 use air_kit::Fault;
 use bus_kit::Tuple;
 use checker::{Refused, Valid, check, has_counts};
@@ -54,7 +54,8 @@ fn answers_all(alloc: Global, cases: &[Case]) -> Result<bool, Memory> {
         let has_kernel = case.run.has_kernel();
         let trace = trace(alloc, &run, has_kernel, case.changes)?;
         let public = public(alloc, &run, has_kernel)?;
-        if !has_counts(&trace) {
+        let all_within = case.changes.iter().all(|change| is_within(&trace, change));
+        if !all_within || !has_counts(&trace) {
             return Ok(false);
         }
         let found = check(alloc, trace, public, 1, &OpenGate);
