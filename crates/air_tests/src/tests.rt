@@ -16,10 +16,6 @@ enum Part {
     Limbs,
 }
 
-fn felt(number: u64) -> Felt {
-    Felt::try_from_u64(number).unwrap_or(Felt::ZERO)
-}
-
 // A statement of zeros, under constants that are all 0.
 fn public(alloc: Global) -> Result<Public, Memory> {
     let params = Params {
@@ -31,15 +27,22 @@ fn public(alloc: Global) -> Result<Public, Memory> {
     Ok(Public { params, statement })
 }
 
-// A row with these numbers in these columns, and 0 in others.
-fn row_of(cells: &[(usize, u64)]) -> [Felt; 65] {
-    let mut row = [Felt::ZERO; 65];
-    for (column, number) in cells {
-        if *column < 65 {
-            row[*column] = felt(*number);
-        }
+// A row with this number in this column; none where that is no cell of a row.
+fn with(mut row: [Felt; 65], cell: &(usize, u64)) -> Option<[Felt; 65]> {
+    if 65 <= cell.0 {
+        return None;
     }
-    row
+    row[cell.0] = Felt::try_from_u64(cell.1).ok()?;
+    Some(row)
+}
+
+// A row with these numbers in these columns, and 0 in others.
+fn row_of(cells: &[(usize, u64)]) -> Option<[Felt; 65]> {
+    let mut row = [Felt::ZERO; 65];
+    for cell in cells {
+        row = with(row, cell)?;
+    }
+    Some(row)
 }
 
 // The first fault of a row, with the row behind it.

@@ -1,7 +1,7 @@
-use super::{Part, fault_of, felt, row_of};
+use super::{Part, fault_of, row_of, with};
 use std::alloc::Global;
 use std::test::Fail;
-use vm_field::Memory;
+use vm_field::{Felt, Memory};
 
 // INCR on the cells 10, 11, .., 25 at depth 16, and the row behind it.
 static INCR: [(usize, u64); 18] = [
@@ -37,17 +37,27 @@ static CHANGES: [((usize, u64), (usize, u64), Option<(u16, u64)>); 7] = [
     ((11, 2), (46, 16), Some((119, 18446744069414584320))),
 ];
 
+// The row of INCR with a changed cell.
+fn row_with(cell: &(usize, u64)) -> Option<[Felt; 65]> {
+    with(row_of(&INCR)?, cell)
+}
+
+// The row behind it with a changed cell.
+fn next_with(cell: &(usize, u64)) -> Option<[Felt; 65]> {
+    with(row_with(&(30, 11))?, cell)
+}
+
 fn faults_are(
     alloc: Global,
     changes: &[((usize, u64), (usize, u64), Option<(u16, u64)>)],
 ) -> Result<bool, Memory> {
     for (here, behind, fault) in changes {
-        let (mut cur, mut next) = (row_of(&INCR), row_of(&INCR));
-        next[30] = felt(11);
-        if here.0 < 65 && behind.0 < 65 {
-            cur[here.0] = felt(here.1);
-            next[behind.0] = felt(behind.1);
-        }
+        let Some(cur) = row_with(here) else {
+            return Ok(false);
+        };
+        let Some(next) = next_with(behind) else {
+            return Ok(false);
+        };
         if fault_of(alloc, Part::Stack, &cur, &next)? != *fault {
             return Ok(false);
         }

@@ -3,8 +3,9 @@ use crate::tests::row::{Change, Forgery, Outline, Row, all_forged, all_run};
 use std::test::Fail;
 
 // Programs of blocks of blocks: a loop that is not entered, whose body stays out of the evidence; branches in a loop; a call; a
-// kernel's procedure. Each is run and checked, and the evidence has the tree.
-static FLOWS: [Forgery; 5] = [
+// kernel's procedure; and spans that divide, and take words of the tape and of memory. Each is run and checked, and the evidence
+// has the tree.
+static FLOWS: [Forgery; 6] = [
     Forgery {
         run: Row {
             words: &["run", "z", "s", "i", "--out", "t", "--statement", "u"],
@@ -155,6 +156,37 @@ static FLOWS: [Forgery; 5] = [
             files: &[(
                 "e",
                 Content::Text("run\ncycles 7\ntape 40\nspan 1\nbatch 136864453 5 3 0 0 0 0 0\n"),
+            )],
+            failing_call: 0,
+            failing_write: 0,
+            number: 0,
+            printed: "accepted run\n",
+        },
+    },
+    Forgery {
+        run: Row {
+            words: &["run", "z", "s", "i", "--out", "t", "--statement", "u"],
+            files: &[
+                ("z", Content::Lines(168, 0, "")),
+                (
+                    "s",
+                    Content::Text("begin adv_loadw mem_storew.3 push.1 mem_loadw.3 end"),
+                ),
+                ("i", Content::Text(r#"{"advice":[5,6,7,8],"stack":[]}"#)),
+            ],
+            failing_call: 0,
+            failing_write: 0,
+            number: 0,
+            printed: "cycles 8\noutputs 8 7 6 5 5 0 0 0 0 0 0 0 0 0 0 0 0\n",
+        },
+        changes: &[],
+        check: Row {
+            words: &["check", "z", "t", "u", "--evidence", "e"],
+            files: &[(
+                "e",
+                Content::Text(
+                    "run\ncycles 8\ntape 5 6 7 8\nspan 1\nbatch 1599215510172 3 1 3 0 0 0 0\n",
+                ),
             )],
             failing_call: 0,
             failing_write: 0,

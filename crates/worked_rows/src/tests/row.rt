@@ -170,11 +170,13 @@ pub fn all_forged(rt: &(impl Abort + AllocGlobal), rows: &[Forgery]) -> Result<(
 fn forged(alloc: Global, row: &Forgery) -> Result<bool, Memory> {
     let mut shelf = shelf_of(alloc, &row.run)?;
     let is_answered = answers(alloc, &row.run, &mut shelf)?;
-    forge(alloc, &mut shelf, row.changes)?;
-    Ok(is_answered && answers(alloc, &row.check, &mut shelf)?)
+    let is_forged = forge(alloc, &mut shelf, row.changes)?;
+    Ok(is_answered && is_forged && answers(alloc, &row.check, &mut shelf)?)
 }
 
-fn forge(alloc: Global, shelf: &mut MemShelf, changes: &[Change]) -> Result<(), Memory> {
+// Whether each change was one of what stands there.
+fn forge(alloc: Global, shelf: &mut MemShelf, changes: &[Change]) -> Result<bool, Memory> {
+    let mut all = true;
     let mut bytes = match shelf.get("t") {
         Some(file) => Vec::from_slice(alloc, file)?,
         None => Vec::new(alloc),
@@ -182,37 +184,48 @@ fn forge(alloc: Global, shelf: &mut MemShelf, changes: &[Change]) -> Result<(), 
     for change in changes {
         match change {
             Change::Statement(text) => shelf.put("u", text.as_bytes())?,
-            _ => change_bytes(&mut bytes, change),
+            _ => all = change_bytes(&mut bytes, change) && all,
         }
     }
-    shelf.put("t", bytes.as_slice())
+    shelf.put("t", bytes.as_slice())?;
+    Ok(all)
 }
 
-fn change_bytes(bytes: &mut Vec<u8>, change: &Change) {
+// Whether the bytes had what was changed.
+fn change_bytes(bytes: &mut Vec<u8>, change: &Change) -> bool {
     match change {
         Change::Cell(row, column, value) => {
-            put_element(bytes, row.wrapping_mul(65).wrapping_add(*column), *value);
+            *column < 65 && put_element(bytes, row.wrapping_mul(65).wrapping_add(*column), *value)
         }
         Change::Element(place, value) => put_element(bytes, *place, *value),
         Change::Rows(table, count) => {
             let at = table.wrapping_mul(4).wrapping_add(8);
-            if at < bytes.len() {
-                bytes[at] = *count;
+            if *table >= 7 || bytes.len() <= at {
+                return false;
             }
+            bytes[at] = *count;
+            true
         }
-        Change::Size(size) => bytes.truncate(*size),
-        Change::Statement(_) => {}
+        Change::Size(size) => {
+            let is_within = *size <= bytes.len();
+            bytes.truncate(*size);
+            is_within
+        }
+        Change::Statement(_) => true,
     }
 }
 
-fn put_element(bytes: &mut Vec<u8>, place: usize, value: u64) {
+// Whether the bytes had the element that was put.
+fn put_element(bytes: &mut Vec<u8>, place: usize, value: u64) -> bool {
     let element = value.to_le_bytes();
     for i in 0..8usize {
         let at = place.wrapping_mul(8).wrapping_add(i).wrapping_add(36);
-        if at < bytes.len() {
-            bytes[at] = element[i];
+        if bytes.len() <= at {
+            return false;
         }
+        bytes[at] = element[i];
     }
+    true
 }
 
 /// A run and the check of its files: the run's lines end with what its row says, and the evidence has this line.
