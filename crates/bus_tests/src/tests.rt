@@ -2,6 +2,8 @@ ghost use Rattle.std.specs.Prelude.{◌≡◌, true, IfSome};
 ghost use Rattle.bus_blocks.specs.Bits.{HasBits};
 ghost use Rattle.bus_main.specs.RowTuples.{IsReadable};
 
+mod chips;
+
 use air_kit::{Place, Public};
 use bus_blocks::positions;
 use bus_kit::{Tallies, Tuple};
@@ -164,7 +166,8 @@ static CASES: [Case; 13] = [
     },
 ];
 
-fn cells_of(op: Op, changes: &[(usize, u32)]) -> [Felt; 65] {
+// The cells of a row; none where a column is none.
+fn cells_of(op: Op, changes: &[(usize, u32)]) -> Option<[Felt; 65]> {
     let mut cells = [Felt::ZERO; 65];
     let mut bits = opcode(op);
     for j in 0..7 {
@@ -172,11 +175,12 @@ fn cells_of(op: Op, changes: &[(usize, u32)]) -> [Felt; 65] {
         bits = bits / 2;
     }
     for (column, element) in changes {
-        if *column < 65 {
-            cells[*column] = Felt::from_u32(*element);
+        if 65 <= *column {
+            return None;
         }
+        cells[*column] = Felt::from_u32(*element);
     }
-    cells
+    Some(cells)
 }
 
 fn public(alloc: Global) -> Result<Public, Memory> {
@@ -220,11 +224,17 @@ fn may_follow<V: MainView>(next: &Option<V>) -> bool
     }
 }
 
-// The tallies behind a row, with or without the row behind it.
-fn tallied(alloc: Global, case: &Case, ends: bool) -> Result<Tallies, Memory> {
+// The tallies behind a row, with or without the row behind it; none where the rows cannot be read.
+fn tallied(alloc: Global, case: &Case, ends: bool) -> Result<Option<Tallies>, Memory> {
+    let Some(cur) = cells_of(case.op, case.cells) else {
+        return Ok(None);
+    };
+    let Some(next) = cells_of(Op::Noop, case.next) else {
+        return Ok(None);
+    };
     let mut table = Table::<65>::new(alloc);
-    table.push_row(&cells_of(case.op, case.cells))?;
-    table.push_row(&cells_of(Op::Noop, case.next))?;
+    table.push_row(&cur)?;
+    table.push_row(&next)?;
     let public = public(alloc)?;
     let place = Place {
         cur: table.row(0),
@@ -235,10 +245,11 @@ fn tallied(alloc: Global, case: &Case, ends: bool) -> Result<Tallies, Memory> {
         public: &public,
     };
     let mut tallies = Tallies::new(alloc);
-    if is_readable(&place.cur) && may_follow(&place.next) {
-        tuples(&place, &mut tallies)?;
+    if !is_readable(&place.cur) || !may_follow(&place.next) {
+        return Ok(None);
     }
-    Ok(tallies)
+    tuples(&place, &mut tallies)?;
+    Ok(Some(tallies))
 }
 
 fn is_of(tuple: &Tuple, numbers: &[u64]) -> bool {
@@ -255,7 +266,9 @@ fn is_of(tuple: &Tuple, numbers: &[u64]) -> bool {
 }
 
 fn counts(alloc: Global, case: &Case) -> Result<bool, Memory> {
-    let tallies = tallied(alloc, case, false)?;
+    let Some(tallies) = tallied(alloc, case, false)? else {
+        return Ok(false);
+    };
     match tallies.of(case.bus).unequal() {
         Some(apart) => {
             Ok(
@@ -280,7 +293,9 @@ fn counts_all(alloc: Global, cases: &[Case]) -> Result<bool, Memory> {
 // The first row gives the digest even where it is the last; another last row gives nothing.
 fn last_rows_count(alloc: Global, cases: &[Case]) -> Result<bool, Memory> {
     for case in cases {
-        let tallies = tallied(alloc, case, true)?;
+        let Some(tallies) = tallied(alloc, case, true)? else {
+            return Ok(false);
+        };
         if tallies.of(case.bus).unequal().is_some() != (case.number == 0) {
             return Ok(false);
         }

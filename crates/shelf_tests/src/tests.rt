@@ -151,8 +151,7 @@ fn a_mem_shelf_fails_when_it_is_told_to(rt: HostRuntime) -> Result<(), Fail> {
         let told = answer(rt.alloc(), &mut shelf, &call)?;
         assert_eq!(rt; told.as_slice(), want.as_bytes());
     }
-    assert!(rt; holds(&shelf, "a", ""));
-    assert!(rt; holds(&shelf, "b", "fr"));
+    assert!(rt; holds(&shelf, "a", "") && holds(&shelf, "b", "fr"));
     assert!(rt; shelf.get("c").is_none());
     Ok(())
 }

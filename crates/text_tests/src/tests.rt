@@ -121,6 +121,12 @@ fn takes_the_longest_advice(rt: HostRuntime) -> Result<(), Fail> {
     assert_eq!(rt; full.advice.len(), 1048576);
     assert_eq!(rt; full.stack.as_slice(), [Felt::try_from_u64(7)?].as_slice());
     assert_eq!(rt; write_inputs(alloc, &full)?.len(), 2097176);
+    Ok(())
+}
+
+#[test]
+fn refuses_longer_advice(rt: HostRuntime) -> Result<(), Fail> {
+    let alloc = rt.alloc();
     let refused = read_inputs(alloc, zeros(alloc, 1048577)?.as_bytes()).err();
     assert_eq!(rt; refused, Some(TextError::Bad(TextCause::Count)));
     Ok(())
