@@ -2,8 +2,6 @@ ghost use Rattle.std.specs.Prelude.{◌≡◌, true, IfSome};
 ghost use Rattle.bus_blocks.specs.Bits.{HasBits};
 ghost use Rattle.bus_main.specs.RowTuples.{IsReadable};
 
-mod chips;
-
 use air_kit::{Place, Public};
 use bus_blocks::positions;
 use bus_kit::{Tallies, Tuple};
@@ -166,8 +164,7 @@ static CASES: [Case; 13] = [
     },
 ];
 
-// The cells of a row; none where a column is none.
-fn cells_of(op: Op, changes: &[(usize, u32)]) -> Option<[Felt; 65]> {
+fn cells_of(op: Op, changes: &[(usize, u32)]) -> [Felt; 65] {
     let mut cells = [Felt::ZERO; 65];
     let mut bits = opcode(op);
     for j in 0..7 {
@@ -175,12 +172,11 @@ fn cells_of(op: Op, changes: &[(usize, u32)]) -> Option<[Felt; 65]> {
         bits = bits / 2;
     }
     for (column, element) in changes {
-        if 65 <= *column {
-            return None;
+        if *column < 65 {
+            cells[*column] = Felt::from_u32(*element);
         }
-        cells[*column] = Felt::from_u32(*element);
     }
-    Some(cells)
+    cells
 }
 
 fn public(alloc: Global) -> Result<Public, Memory> {
@@ -224,17 +220,11 @@ fn may_follow<V: MainView>(next: &Option<V>) -> bool
     }
 }
 
-// The tallies behind a row, with or without the row behind it; none where the rows cannot be read.
-fn tallied(alloc: Global, case: &Case, ends: bool) -> Result<Option<Tallies>, Memory> {
-    let Some(cur) = cells_of(case.op, case.cells) else {
-        return Ok(None);
-    };
-    let Some(next) = cells_of(Op::Noop, case.next) else {
-        return Ok(None);
-    };
+// The tallies behind a row, with or without the row behind it.
+fn tallied(alloc: Global, case: &Case, ends: bool) -> Result<Tallies, Memory> {
     let mut table = Table::<65>::new(alloc);
-    table.push_row(&cur)?;
-    table.push_row(&next)?;
+    table.push_row(&cells_of(case.op, case.cells))?;
+    table.push_row(&cells_of(Op::Noop, case.next))?;
     let public = public(alloc)?;
     let place = Place {
         cur: table.row(0),
@@ -245,11 +235,10 @@ fn tallied(alloc: Global, case: &Case, ends: bool) -> Result<Option<Tallies>, Me
         public: &public,
     };
     let mut tallies = Tallies::new(alloc);
-    if !is_readable(&place.cur) || !may_follow(&place.next) {
-        return Ok(None);
+    if is_readable(&place.cur) && may_follow(&place.next) {
+        tuples(&place, &mut tallies)?;
     }
-    tuples(&place, &mut tallies)?;
-    Ok(Some(tallies))
+    Ok(tallies)
 }
 
 fn is_of(tuple: &Tuple, numbers: &[u64]) -> bool {
@@ -266,9 +255,7 @@ fn is_of(tuple: &Tuple, numbers: &[u64]) -> bool {
 }
 
 fn counts(alloc: Global, case: &Case) -> Result<bool, Memory> {
-    let Some(tallies) = tallied(alloc, case, false)? else {
-        return Ok(false);
-    };
+    let tallies = tallied(alloc, case, false)?;
     match tallies.of(case.bus).unequal() {
         Some(apart) => {
             Ok(
@@ -293,9 +280,7 @@ fn counts_all(alloc: Global, cases: &[Case]) -> Result<bool, Memory> {
 // The first row gives the digest even where it is the last; another last row gives nothing.
 fn last_rows_count(alloc: Global, cases: &[Case]) -> Result<bool, Memory> {
     for case in cases {
-        let Some(tallies) = tallied(alloc, case, true)? else {
-            return Ok(false);
-        };
+        let tallies = tallied(alloc, case, true)?;
         if tallies.of(case.bus).unequal().is_some() != (case.number == 0) {
             return Ok(false);
         }
