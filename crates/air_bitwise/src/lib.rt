@@ -2,8 +2,8 @@
 //! (docs/CONSTRAINTS.md).
 #![tactic(auto)]
 
+mod entries;
 mod fault;
 mod nibbles;
-mod steps;
 
 pub use fault::first_fault;

@@ -8,7 +8,8 @@ use Rattle.air_kit.proofs.FaultLemmas.{first_append}
 use Rattle.air_blocks.specs.Entries.{spot_of}
 
 -- an answer that joins the answers of two lists
-pub joined : (n m : ℕ) (xs ys : List ℕ) (a b r : Option (ℕ × ℕ)) → r ≡ or_next a b → a ≡ first_fault_of n xs → b ≡ first_fault_of m ys → n + length xs ≡ m → r ≡ first_fault_of n (xs ++ ys)
+pub joined : (n m : ℕ) (xs ys : List ℕ) (a b r : Option (ℕ × ℕ)) → r ≡ or_next a b → a ≡ first_fault_of n xs
+    → b ≡ first_fault_of m ys → n + length xs ≡ m → r ≡ first_fault_of n (xs ++ ys)
 joined n m xs ys a b r e ea eb em =
     e ∙ ap (λ o. or_next o b) ea ∙ ap (or_next (first_fault_of n xs)) (eb ∙ ap (λ k. first_fault_of k ys) (sym em))
     ∙ sym (first_append n xs ys)
@@ -56,7 +57,8 @@ unfolding block_values follow_values shown_values kept_values family
 block_number n x y = refl
 
 -- the answers of the parts are the answer of their lists
-pub boundary_joined : (c : Claim) (p : Spot) (s i e o r0 r1 r : Option (ℕ × ℕ)) → s ≡ first_fault_of 11 (start_values p) → i ≡ first_fault_of 23 (inputs_values c p)
+pub boundary_joined : (c : Claim) (p : Spot) (s i e o r0 r1 r : Option (ℕ × ℕ)) → s ≡ first_fault_of 11 (start_values p)
+    → i ≡ first_fault_of 23 (inputs_values c p)
     → e ≡ first_fault_of 39 (end_values c p) → o ≡ first_fault_of 44 (outputs_values c p)
     → r0 ≡ or_next e o → r1 ≡ or_next i r0 → r ≡ or_next s r1 → r ≡ first_fault_of 11 (boundary_values c p)
 unfolding boundary_values

@@ -1,11 +1,11 @@
 //! Entries 60 to 91: which operation may follow which, what a block's row shows, and what is kept between rows.
 ghost use Rattle.std.specs.Prelude.{◌≡◌, ◌<◌, option_map};
-ghost use Rattle.air_kit.specs.BlockValues.{starts, batches, calls, returns, stays_inside, kind_flags, entry_60, entry_61, entry_62, entry_63, entry_64, entry_65, entry_66, entry_67, entry_68, entry_69, entry_70, entry_74, entry_75, entry_79, entry_80, entry_81, entry_82, entry_83, entry_84, entry_85, entry_89, entry_90, entry_91, follow_values, shown_values, kept_values, block_values};
+ghost use Rattle.air_kit.specs.BlockValues.{starts, batches, stays_inside, kind_flags, entry_60, entry_61, entry_62, entry_63, entry_64, entry_65, entry_66, entry_67, entry_68, entry_69, entry_70, entry_74, entry_75, entry_79, entry_80, entry_81, entry_82, entry_83, entry_84, entry_85, entry_89, entry_90, entry_91, follow_values, shown_values, kept_values, block_values};
 ghost use Rattle.air_kit.specs.Flags.{flag};
 ghost use Rattle.air_kit.specs.Places.{first_fault_of};
 ghost use Rattle.air_blocks.specs.Entries.{of_row, of_pair, spot_of};
 
-use air_kit::{OpSet, Seen, first_nonzero, or_next, under};
+use air_kit::{OpSet, Seen, first_nonzero, or_next};
 use vm_field::Felt;
 use vm_ops::Op;
 use vm_table::MainView;
@@ -26,28 +26,12 @@ pub fn batches<V: MainView>(x: &Seen<'_, V>) -> Felt
     x.one(Op::Span) + x.one(Op::Respan)
 }
 
-// The row calls.
-#[tactic(auto, unfolding(air_kit::specs::BlockValues::calls))]
-fn calls<V: MainView>(x: &Seen<'_, V>) -> Felt
-    ensures { result ≡ calls (flag (V.cells x.now.row.now)) }
-{
-    x.one(Op::Call) + x.one(Op::Syscall)
-}
-
-// The row ends a call.
-#[tactic(auto, unfolding(air_kit::specs::BlockValues::returns))]
-fn returns<V: MainView>(x: &Seen<'_, V>) -> Felt
-    ensures { result ≡ returns (flag (V.cells x.now.row.now)) (V.cells x.now.row.now) }
-{
-    under(x.one(Op::End), x.row.h(6) + x.row.h(7))
-}
-
 // The row neither calls nor ends a call.
 #[tactic(auto, unfolding(air_kit::specs::BlockValues::stays_inside))]
 fn stays_inside<V: MainView>(x: &Seen<'_, V>) -> Felt
     ensures { result ≡ stays_inside (flag (V.cells x.now.row.now)) (V.cells x.now.row.now) }
 {
-    Felt::ONE - calls(x) - returns(x)
+    Felt::ONE - x.calls() - x.returns()
 }
 
 // The sum of the flags at an END.
@@ -80,12 +64,12 @@ fn entry_61<V: MainView>(x: &Seen<'_, V>) -> Felt
 fn entry_62<V: MainView>(x: &Seen<'_, V>, y: &Seen<'_, V>) -> Felt
     ensures { result ≡ of_pair entry_62 (V.cells x.now.row.now) (V.cells y.now.row.now) }
 {
-    let opens = x.one(Op::Join)
+    (x.one(Op::Join)
         + x.one(Op::Split)
-        + calls(x)
+        + x.calls()
         + x.one(Op::Repeat)
-        + under(x.one(Op::Loop), x.row.s(0));
-    under(opens, Felt::ONE - starts(y))
+        + x.one(Op::Loop) * x.row.s(0))
+        * (Felt::ONE - starts(y))
 }
 
 // A loop that is not entered ends.
@@ -93,8 +77,7 @@ fn entry_62<V: MainView>(x: &Seen<'_, V>, y: &Seen<'_, V>) -> Felt
 fn entry_63<V: MainView>(x: &Seen<'_, V>, y: &Seen<'_, V>) -> Felt
     ensures { result ≡ of_pair entry_63 (V.cells x.now.row.now) (V.cells y.now.row.now) }
 {
-    let skips = under(x.one(Op::Loop), Felt::ONE - x.row.s(0));
-    under(skips, Felt::ONE - y.one(Op::End))
+    x.one(Op::Loop) * (Felt::ONE - x.row.s(0)) * (Felt::ONE - y.one(Op::End))
 }
 
 // A batch begins with an operation.
@@ -102,7 +85,7 @@ fn entry_63<V: MainView>(x: &Seen<'_, V>, y: &Seen<'_, V>) -> Felt
 fn entry_64<V: MainView>(x: &Seen<'_, V>, y: &Seen<'_, V>) -> Felt
     ensures { result ≡ of_pair entry_64 (V.cells x.now.row.now) (V.cells y.now.row.now) }
 {
-    under(batches(x), Felt::ONE - y.row.sp())
+    batches(x) * (Felt::ONE - y.row.sp())
 }
 
 // Behind an operation comes another one, the span's end, or its next batch.
@@ -110,8 +93,7 @@ fn entry_64<V: MainView>(x: &Seen<'_, V>, y: &Seen<'_, V>) -> Felt
 fn entry_65<V: MainView>(x: &Seen<'_, V>, y: &Seen<'_, V>) -> Felt
     ensures { result ≡ of_pair entry_65 (V.cells x.now.row.now) (V.cells y.now.row.now) }
 {
-    let follows = Felt::ONE - y.row.sp() - y.one(Op::End) - y.one(Op::Respan);
-    under(x.row.sp(), follows)
+    x.row.sp() * (Felt::ONE - y.row.sp() - y.one(Op::End) - y.one(Op::Respan))
 }
 
 // Behind an end comes a start, another end, REPEAT or HALT.
@@ -119,8 +101,7 @@ fn entry_65<V: MainView>(x: &Seen<'_, V>, y: &Seen<'_, V>) -> Felt
 fn entry_66<V: MainView>(x: &Seen<'_, V>, y: &Seen<'_, V>) -> Felt
     ensures { result ≡ of_pair entry_66 (V.cells x.now.row.now) (V.cells y.now.row.now) }
 {
-    let follows = Felt::ONE - starts(y) - y.one(Op::End) - y.one(Op::Repeat) - y.one(Op::Halt);
-    under(x.one(Op::End), follows)
+    x.one(Op::End) * (Felt::ONE - starts(y) - y.one(Op::End) - y.one(Op::Repeat) - y.one(Op::Halt))
 }
 
 // A condition is 0 or 1.
@@ -128,8 +109,7 @@ fn entry_66<V: MainView>(x: &Seen<'_, V>, y: &Seen<'_, V>) -> Felt
 fn entry_67<V: MainView>(x: &Seen<'_, V>) -> Felt
     ensures { result ≡ of_row entry_67 (V.cells x.now.row.now) }
 {
-    let condition = under(x.one(Op::Split) + x.one(Op::Loop), x.row.s(0));
-    under(condition, x.row.s(0) - Felt::ONE)
+    (x.one(Op::Split) + x.one(Op::Loop)) * x.row.s(0) * (x.row.s(0) - Felt::ONE)
 }
 
 // A loop goes on where its condition is 1.
@@ -137,7 +117,7 @@ fn entry_67<V: MainView>(x: &Seen<'_, V>) -> Felt
 fn entry_68<V: MainView>(x: &Seen<'_, V>) -> Felt
     ensures { result ≡ of_row entry_68 (V.cells x.now.row.now) }
 {
-    under(x.one(Op::Repeat), x.row.s(0) - Felt::ONE)
+    x.one(Op::Repeat) * (x.row.s(0) - Felt::ONE)
 }
 
 // And ends where it is 0.
@@ -145,7 +125,7 @@ fn entry_68<V: MainView>(x: &Seen<'_, V>) -> Felt
 fn entry_69<V: MainView>(x: &Seen<'_, V>) -> Felt
     ensures { result ≡ of_row entry_69 (V.cells x.now.row.now) }
 {
-    under(under(x.one(Op::End), x.row.h(4)), x.row.s(0))
+    x.one(Op::End) * x.row.h(4) * x.row.s(0)
 }
 
 // 70 to 73: at an END the hash elements 4 to 7 are flags.
@@ -154,8 +134,7 @@ fn entry_70<V: MainView>(j: usize, x: &Seen<'_, V>) -> Felt
     requires { j < 4 }
     ensures { result ≡ of_row (entry_70 j) (V.cells x.now.row.now) }
 {
-    let bit = x.row.h(4 + j);
-    under(under(x.one(Op::End), bit), bit - Felt::ONE)
+    x.one(Op::End) * x.row.h(4 + j) * (x.row.h(4 + j) - Felt::ONE)
 }
 
 // Of which at most one is 1.
@@ -163,8 +142,7 @@ fn entry_70<V: MainView>(j: usize, x: &Seen<'_, V>) -> Felt
 fn entry_74<V: MainView>(x: &Seen<'_, V>) -> Felt
     ensures { result ≡ of_row entry_74 (V.cells x.now.row.now) }
 {
-    let kinds = kind_flags(x);
-    under(under(x.one(Op::End), kinds), kinds - Felt::ONE)
+    x.one(Op::End) * kind_flags(x) * (kind_flags(x) - Felt::ONE)
 }
 
 // 75 to 78: behind a single child's digest stand zeros.
@@ -173,7 +151,7 @@ fn entry_75<V: MainView>(j: usize, x: &Seen<'_, V>) -> Felt
     requires { j < 4 }
     ensures { result ≡ of_row (entry_75 j) (V.cells x.now.row.now) }
 {
-    under(x.one(Op::Loop) + calls(x), x.row.h(4 + j))
+    (x.one(Op::Loop) + x.calls()) * x.row.h(4 + j)
 }
 
 // No call inside a syscall.
@@ -181,7 +159,7 @@ fn entry_75<V: MainView>(j: usize, x: &Seen<'_, V>) -> Felt
 fn entry_79<V: MainView>(x: &Seen<'_, V>) -> Felt
     ensures { result ≡ of_row entry_79 (V.cells x.now.row.now) }
 {
-    under(calls(x), x.row.sys())
+    x.calls() * x.row.sys()
 }
 
 // CALLER inside a syscall alone.
@@ -189,7 +167,7 @@ fn entry_79<V: MainView>(x: &Seen<'_, V>) -> Felt
 fn entry_80<V: MainView>(x: &Seen<'_, V>) -> Felt
     ensures { result ≡ of_row entry_80 (V.cells x.now.row.now) }
 {
-    under(x.one(Op::Caller), Felt::ONE - x.row.sys())
+    x.one(Op::Caller) * (Felt::ONE - x.row.sys())
 }
 
 // At HALT no block is open.
@@ -197,7 +175,7 @@ fn entry_80<V: MainView>(x: &Seen<'_, V>) -> Felt
 fn entry_81<V: MainView>(x: &Seen<'_, V>) -> Felt
     ensures { result ≡ of_row entry_81 (V.cells x.now.row.now) }
 {
-    under(x.one(Op::Halt), x.row.addr())
+    x.one(Op::Halt) * x.row.addr()
 }
 
 // A call's context is its clock and one, a syscall's is 0.
@@ -205,9 +183,9 @@ fn entry_81<V: MainView>(x: &Seen<'_, V>) -> Felt
 fn entry_82<V: MainView>(x: &Seen<'_, V>, y: &Seen<'_, V>) -> Felt
     ensures { result ≡ of_pair entry_82 (V.cells x.now.row.now) (V.cells y.now.row.now) }
 {
-    under(x.one(Op::Call), y.row.ctx() - x.row.clk() - Felt::ONE)
-        + under(x.one(Op::Syscall), y.row.ctx())
-        + under(stays_inside(x), y.row.ctx() - x.row.ctx())
+    x.one(Op::Call) * (y.row.ctx() - x.row.clk() - Felt::ONE)
+        + x.one(Op::Syscall) * y.row.ctx()
+        + stays_inside(x) * (y.row.ctx() - x.row.ctx())
 }
 
 // The frame pointer starts at 2^30 in a call, at 2^31 in a syscall, and moves at FMPUPDATE alone.
@@ -215,11 +193,10 @@ fn entry_82<V: MainView>(x: &Seen<'_, V>, y: &Seen<'_, V>) -> Felt
 fn entry_83<V: MainView>(x: &Seen<'_, V>, y: &Seen<'_, V>) -> Felt
     ensures { result ≡ of_pair entry_83 (V.cells x.now.row.now) (V.cells y.now.row.now) }
 {
-    let kept = stays_inside(x) - x.one(Op::FmpUpdate);
-    under(x.one(Op::Call), y.row.fmp() - Felt::from_u32(1 << 30))
-        + under(x.one(Op::Syscall), y.row.fmp() - Felt::from_u32(1 << 31))
-        + under(x.one(Op::FmpUpdate), y.row.fmp() - x.row.fmp() - x.row.s(0))
-        + under(kept, y.row.fmp() - x.row.fmp())
+    x.one(Op::Call) * (y.row.fmp() - Felt::from_u32(1 << 30))
+        + x.one(Op::Syscall) * (y.row.fmp() - Felt::from_u32(1 << 31))
+        + x.one(Op::FmpUpdate) * (y.row.fmp() - x.row.fmp() - x.row.s(0))
+        + (stays_inside(x) - x.one(Op::FmpUpdate)) * (y.row.fmp() - x.row.fmp())
 }
 
 // The bit of a syscall.
@@ -227,9 +204,9 @@ fn entry_83<V: MainView>(x: &Seen<'_, V>, y: &Seen<'_, V>) -> Felt
 fn entry_84<V: MainView>(x: &Seen<'_, V>, y: &Seen<'_, V>) -> Felt
     ensures { result ≡ of_pair entry_84 (V.cells x.now.row.now) (V.cells y.now.row.now) }
 {
-    under(x.one(Op::Call), y.row.sys())
-        + under(x.one(Op::Syscall), y.row.sys() - Felt::ONE)
-        + under(stays_inside(x), y.row.sys() - x.row.sys())
+    x.one(Op::Call) * y.row.sys()
+        + x.one(Op::Syscall) * (y.row.sys() - Felt::ONE)
+        + stays_inside(x) * (y.row.sys() - x.row.sys())
 }
 
 // 85 to 88: a call's function is its child; a syscall keeps the caller's.
@@ -238,8 +215,8 @@ fn entry_85<V: MainView>(j: usize, x: &Seen<'_, V>, y: &Seen<'_, V>) -> Felt
     requires { j < 4 }
     ensures { result ≡ of_pair (entry_85 j) (V.cells x.now.row.now) (V.cells y.now.row.now) }
 {
-    let kept = Felt::ONE - x.one(Op::Call) - returns(x);
-    under(x.one(Op::Call), y.row.f(j) - x.row.h(j)) + under(kept, y.row.f(j) - x.row.f(j))
+    x.one(Op::Call) * (y.row.f(j) - x.row.h(j))
+        + (Felt::ONE - x.one(Op::Call) - x.returns()) * (y.row.f(j) - x.row.f(j))
 }
 
 // The block stays the same but at starts and ends.
@@ -247,8 +224,7 @@ fn entry_85<V: MainView>(j: usize, x: &Seen<'_, V>, y: &Seen<'_, V>) -> Felt
 fn entry_89<V: MainView>(x: &Seen<'_, V>, y: &Seen<'_, V>) -> Felt
     ensures { result ≡ of_pair entry_89 (V.cells x.now.row.now) (V.cells y.now.row.now) }
 {
-    let kept = Felt::ONE - starts(x) - x.one(Op::End);
-    under(kept, y.row.addr() - x.row.addr())
+    (Felt::ONE - starts(x) - x.one(Op::End)) * (y.row.addr() - x.row.addr())
 }
 
 // The open blocks are counted.
@@ -264,12 +240,9 @@ fn entry_90<V: MainView>(x: &Seen<'_, V>, y: &Seen<'_, V>) -> Felt
 fn entry_91<V: MainView>(x: &Seen<'_, V>, y: &Seen<'_, V>) -> Felt
     ensures { result ≡ of_pair entry_91 (V.cells x.now.row.now) (V.cells y.now.row.now) }
 {
-    under(x.one(Op::Span), y.row.ha() - y.row.addr())
-        + under(
-            x.one(Op::Respan),
-            y.row.ha() - x.row.ha() - Felt::from_u32(8),
-        )
-        + under(x.row.sp(), y.row.ha() - x.row.ha())
+    x.one(Op::Span) * (y.row.ha() - y.row.addr())
+        + x.one(Op::Respan) * (y.row.ha() - x.row.ha() - Felt::from_u32(8))
+        + x.row.sp() * (y.row.ha() - x.row.ha())
 }
 
 /// The first of entries 60 to 69 that is not 0.

@@ -5,7 +5,7 @@ ghost use Rattle.air_kit.specs.Places.{first_fault_of};
 ghost use Rattle.air_kit.specs.Rows.{claim_at, spot_at};
 ghost use Rattle.air_blocks.specs.Entries.{of_row};
 
-use air_kit::{OpSet, Place, Seen, first_nonzero, or_next};
+use air_kit::{OpSet, Place, Seen, TableName, first_nonzero, or_next};
 use vm_field::{Felt, Felts};
 use vm_ops::Op;
 use vm_table::MainView;
@@ -109,7 +109,7 @@ fn entry_39<V: MainView>(place: &Place<'_, V>, x: &Seen<'_, V>) -> Felt
 {
     let _ = x;
     let digests = place.public.statement.kernel.len();
-    Felt::from_u32(place.lengths[5]) - Felt::from_u32(digests as u32)
+    Felt::from_u32(place.lengths[TableName::Kernel.number()]) - Felt::from_u32(digests as u32)
 }
 
 // The table of cells left has a row for each output below the sixteenth.
@@ -119,7 +119,7 @@ fn entry_40<V: MainView>(place: &Place<'_, V>, x: &Seen<'_, V>) -> Felt
 {
     let _ = x;
     let outputs = Felt::from_u32(place.public.statement.outputs.len() as u32);
-    Felt::from_u32(place.lengths[6]) - (outputs - Felt::from_u32(16))
+    Felt::from_u32(place.lengths[TableName::Left.number()]) - (outputs - Felt::from_u32(16))
 }
 
 // The last row is HALT.

@@ -33,7 +33,8 @@ record BlockFlags (fl : Flags) (op : Op) : Type 0 where
   respan : fl ops.Respan ≡ 0
   ordinary : flags_of is_ordinary_op fl ≡ 0
 
-block_flags : (x : List ℕ) (op : Op) → HasOp x op → one_hot op ops.Loop ≡ 0 → one_hot op ops.Call ≡ 0 → one_hot op ops.Syscall ≡ 0 → one_hot op ops.Halt ≡ 0
+block_flags : (x : List ℕ) (op : Op) → HasOp x op → one_hot op ops.Loop ≡ 0 → one_hot op ops.Call ≡ 0 → one_hot op ops.Syscall ≡ 0
+    → one_hot op ops.Halt ≡ 0
     → one_hot op ops.Caller ≡ 0 → one_hot op ops.FmpUpdate ≡ 0 → one_hot op ops.Span ≡ 0 → one_hot op ops.Respan ≡ 0 → is_ordinary_op op ≡ false
     → BlockFlags (flag x) op
 block_flags x op has loop call syscall halt caller update span respan control = record {
@@ -121,7 +122,8 @@ opening_kept x y op b other start outside k =
     (rw (b.starts_is, start, k.level, end) refl) (no_batch_kept x y op b outside)
 
 -- The four operations.
-opening_clean : (x y : List ℕ) (op : Op) → BlockFlags (flag x) op → one_hot op ops.End ≡ 0 → one_hot op ops.Repeat ≡ 0 → is_start_op op ≡ true → sp x ≡ 0
+opening_clean : (x y : List ℕ) (op : Op) → BlockFlags (flag x) op → one_hot op ops.End ≡ 0 → one_hot op ops.Repeat ≡ 0
+    → is_start_op op ≡ true → sp x ≡ 0
     → of_row entry_67 x ≡ 0 → IsOpening x y → first_fault_of 60 (block_values (spot_of 0 x (Some y))) ≡ None
 opening_clean x y op b other once start outside bit k =
     let end : flag x ops.End ≡ 0 = b.end ∙ other in
@@ -130,7 +132,8 @@ opening_clean x y op b other once start outside bit k =
     (no_kinds x y end b.loop b.call b.syscall b.caller b.halt)
     (opening_kept x y op b other start outside k)
 
-pub join_clean : (x y : List ℕ) (op : Op) → HasOp x op → code_of op ≡ 70 → sp x ≡ 0 → IsOpening x y → first_fault_of 60 (block_values (spot_of 0 x (Some y))) ≡ None
+pub join_clean : (x y : List ℕ) (op : Op) → HasOp x op → code_of op ≡ 70 → sp x ≡ 0 → IsOpening x y
+    → first_fault_of 60 (block_values (spot_of 0 x (Some y))) ≡ None
 join_clean x y op has is outside k =
     let b = block_flags x ops.Join (subst (HasOp x) (code_of-different op ops.Join is) has) refl refl refl refl refl refl refl refl refl in
     opening_clean x y ops.Join b refl refl refl outside (no_condition x b.split b.loop) k
@@ -151,11 +154,13 @@ repeat_kept x y b outside k =
     kept_list x y (frame_zeros x y b.call b.syscall b.update (no_return x b.end) k.frame) (rw (b.starts_is, b.end, k.block) refl)
     (rw (k.level, b.starts_is, b.end) refl) (no_batch_kept x y ops.Repeat b outside)
 
-pub repeat_clean : (x y : List ℕ) (op : Op) → HasOp x op → code_of op ≡ 77 → sp x ≡ 0 → IsRepeat x y → first_fault_of 60 (block_values (spot_of 0 x (Some y))) ≡ None
+pub repeat_clean : (x y : List ℕ) (op : Op) → HasOp x op → code_of op ≡ 77 → sp x ≡ 0 → IsRepeat x y
+    → first_fault_of 60 (block_values (spot_of 0 x (Some y))) ≡ None
 repeat_clean x y op has is outside k =
     let b = block_flags x ops.Repeat (subst (HasOp x) (code_of-different op ops.Repeat is) has) refl refl refl refl refl refl refl refl refl in
     block_clean x y
-    (follow_zeros x y ops.Repeat b outside (child_starts x y k.child) (not_behind x y b.end) (no_condition x b.split b.loop) (repeats_is x b.again k.holds)
+    (follow_zeros x y ops.Repeat b outside (child_starts x y k.child) (not_behind x y b.end) (no_condition x b.split b.loop)
+    (repeats_is x b.again k.holds)
     (not_ending x b.end))
     (no_kinds x y b.end b.loop b.call b.syscall b.caller b.halt)
     (repeat_kept x y b outside k)
@@ -166,7 +171,8 @@ unfolding entry_62 calls
 no_child x y b join = rw (join, b.split, b.call, b.syscall, b.again, b.loop) (simp zero-mul)
 
 behind_is : (x y : List ℕ) → flag x ops.End ≡ 1
-    → felt_sub (felt_sub (felt_sub (felt_sub 1 (starts (flag y))) (flag y ops.End)) (flag y ops.Repeat)) (flag y ops.Halt) ≡ 0 → of_pair entry_66 x y ≡ 0
+    → felt_sub (felt_sub (felt_sub (felt_sub 1 (starts (flag y))) (flag y ops.End)) (flag y ops.Repeat)) (flag y ops.Halt) ≡ 0
+    → of_pair entry_66 x y ≡ 0
 unfolding entry_66
 behind_is x y end follows = rw (end, follows) refl
 
@@ -202,9 +208,11 @@ end_frame x y b (kept none frame) = frame_zeros x y b.call b.syscall b.update (e
 end_kept : (x y : List ℕ) → BlockFlags (flag x) ops.End → sp x ≡ 0 → IsEnd x y → Zeros (kept_values (spot_of 0 x (Some y)))
 unfolding starts entry_89 entry_90
 end_kept x y b outside k =
-    kept_list x y (end_frame x y b k.behind) (rw (b.starts_is, b.end) (simp zero-mul)) (rw (b.starts_is, b.end, k.level) refl) (no_batch_kept x y ops.End b outside)
+    kept_list x y (end_frame x y b k.behind) (rw (b.starts_is, b.end) (simp zero-mul)) (rw (b.starts_is, b.end, k.level) refl)
+    (no_batch_kept x y ops.End b outside)
 
-pub end_clean : (x y : List ℕ) (op : Op) → HasOp x op → code_of op ≡ 76 → sp x ≡ 0 → IsEnd x y → first_fault_of 60 (block_values (spot_of 0 x (Some y))) ≡ None
+pub end_clean : (x y : List ℕ) (op : Op) → HasOp x op → code_of op ≡ 76 → sp x ≡ 0 → IsEnd x y
+    → first_fault_of 60 (block_values (spot_of 0 x (Some y))) ≡ None
 end_clean x y op has is outside k =
     let here : HasOp x ops.End = subst (HasOp x) (code_of-different op ops.End is) has in
     let b = block_flags x ops.End here refl refl refl refl refl refl refl refl refl in

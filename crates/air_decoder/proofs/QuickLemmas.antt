@@ -46,7 +46,9 @@ record RowFlags (fl : Flags) (first again plain : ℕ) : Type 0 where
   starts : flags_of is_start_op fl ≡ first
   ordinary : flags_of is_ordinary_op fl ≡ plain
 
-quiet_flags : (x : List ℕ) (op : Op) → HasOp x op → ((n : ℕ) → code_of op ≡ n → (n ≢ 70) × (n ≢ 71) × (n ≢ 72) × (n ≢ 74) × (n ≢ 75) × (n ≢ 76) × (n ≢ 77) × (n ≢ 79) × (n ≢ 9) × (n ≢ 49))
+quiet_flags : (x : List ℕ) (op : Op) → HasOp x op
+    → ((n : ℕ) → code_of op ≡ n → (n ≢ 70) × (n ≢ 71) × (n ≢ 72) × (n ≢ 74) × (n ≢ 75) × (n ≢ 76) × (n ≢ 77) × (n ≢ 79) × (n ≢ 9)
+    × (n ≢ 49))
     → QuietFlags (flag x)
 quiet_flags x op has other =
     let o = other (code_of op) refl in
@@ -202,7 +204,8 @@ follow_clean x y r t =
       ),
     )
 
-batch_follow_clean : (x y : List ℕ) (first again : ℕ) → RowFlags (flag x) first again 0 → sp x ≡ 0 → sp y ≡ 1 → Zeros (follow_values (spot_of 0 x (Some y)))
+batch_follow_clean : (x y : List ℕ) (first again : ℕ) → RowFlags (flag x) first again 0 → sp x ≡ 0 → sp y ≡ 1
+    → Zeros (follow_values (spot_of 0 x (Some y)))
 unfolding follow_values calls starts entry_60 entry_61 entry_62 entry_63 entry_64 entry_65 entry_66 entry_67 entry_68 entry_69
 batch_follow_clean x y first again r outside inside =
     let q = r.quiet in (
@@ -247,7 +250,10 @@ shown_zeros x y loop call syscall caller halt bits kinds = (
               rw (loop, call, syscall) (simp zero-mul),
               (
                 rw (loop, call, syscall) (simp zero-mul),
-                (rw (loop, call, syscall) (simp zero-mul), (rw (call, syscall) (simp zero-mul), (rw caller (simp zero-mul), (rw halt (simp zero-mul), tt)))),
+                (
+                  rw (loop, call, syscall) (simp zero-mul),
+                  (rw (call, syscall) (simp zero-mul), (rw caller (simp zero-mul), (rw halt (simp zero-mul), tt))),
+                ),
               ),
             ),
           ),
@@ -285,7 +291,8 @@ pub record FrameZero (x y : List ℕ) : Type 0 where
   digest_2 : of_pair (entry_85 2) x y ≡ 0
   digest_3 : of_pair (entry_85 3) x y ≡ 0
 
-pub frame_zeros : (x y : List ℕ) → flag x ops.Call ≡ 0 → flag x ops.Syscall ≡ 0 → flag x ops.FmpUpdate ≡ 0 → returns (flag x) x ≡ 0 → IsFrame x y → FrameZero x y
+pub frame_zeros : (x y : List ℕ) → flag x ops.Call ≡ 0 → flag x ops.Syscall ≡ 0 → flag x ops.FmpUpdate ≡ 0 → returns (flag x) x ≡ 0
+    → IsFrame x y → FrameZero x y
 unfolding entry_82 entry_83 entry_84 entry_85
 frame_zeros x y call syscall update back k = record {
   context = rw (call, syscall, inside_is x 0 call syscall back, k.context) (simp zero-mul);
@@ -313,7 +320,8 @@ frame_free x y call syscall update back = record {
 frame_clean : (x y : List ℕ) → QuietFlags (flag x) → IsFrame x y → FrameZero x y
 frame_clean x y q k = frame_zeros x y q.call q.syscall q.update (returns_is x q) k
 
-pub kept_list : (x y : List ℕ) → FrameZero x y → of_pair entry_89 x y ≡ 0 → of_pair entry_90 x y ≡ 0 → of_pair entry_91 x y ≡ 0 → Zeros (kept_values (spot_of 0 x (Some y)))
+pub kept_list : (x y : List ℕ) → FrameZero x y → of_pair entry_89 x y ≡ 0 → of_pair entry_90 x y ≡ 0 → of_pair entry_91 x y ≡ 0
+    → Zeros (kept_values (spot_of 0 x (Some y)))
 unfolding kept_values family
 kept_list x y z block level batch =
     (z.context, (z.locals, (z.mode, (z.digest_0, (z.digest_1, (z.digest_2, (z.digest_3, (block, (level, (batch, tt))))))))))
@@ -368,7 +376,19 @@ batch_clean x y e = (
               no_two _ _ _ e,
               (
                 no_two _ _ _ e,
-                (no_two _ _ _ e, (no_two _ _ _ e, (no_two _ _ _ e, (felt_mul-zero_first _ _ e, (felt_mul-zero_first _ _ e, (felt_mul-zero_first _ _ e, (felt_mul-zero_first _ _ e, tt))))))),
+                (
+                  no_two _ _ _ e,
+                  (
+                    no_two _ _ _ e,
+                    (
+                      no_two _ _ _ e,
+                      (
+                        felt_mul-zero_first _ _ e,
+                        (felt_mul-zero_first _ _ e, (felt_mul-zero_first _ _ e, (felt_mul-zero_first _ _ e, tt))),
+                      ),
+                    ),
+                  ),
+                ),
               ),
             ),
           ),
@@ -386,7 +406,8 @@ batch_length : (x y : List ℕ) → length (batch_values (spot_of 0 x (Some y)))
 unfolding batch_values family
 batch_length x y = refl
 
-span_clean : (x y : List ℕ) → first_fault_of 92 (batch_values (spot_of 0 x (Some y))) ≡ None → first_fault_of 107 (group_values (spot_of 0 x (Some y))) ≡ None
+span_clean : (x y : List ℕ) → first_fault_of 92 (batch_values (spot_of 0 x (Some y))) ≡ None
+    → first_fault_of 107 (group_values (spot_of 0 x (Some y))) ≡ None
     → first_fault_of 92 (span_values (spot_of 0 x (Some y))) ≡ None
 unfolding span_values
 span_clean x y batch group =
@@ -426,14 +447,16 @@ no_group x y e = (
 
 -- the number of the operation is its code
 joined_bits : (n0 n1 n2 n3 n4 n5 n6 : ℕ) → n0 < 2 → n1 < 2 → n2 < 2 → n3 < 2 → n4 < 2 → n5 < 2 → n6 < 2
-    → felt_add (felt_add (felt_add (felt_add (felt_add (felt_add n0 (felt_mul 2 n1)) (felt_mul 4 n2)) (felt_mul 8 n3)) (felt_mul 16 n4)) (felt_mul 32 n5)) (felt_mul 64 n6)
+    → felt_add (felt_add (felt_add (felt_add (felt_add (felt_add n0 (felt_mul 2 n1)) (felt_mul 4 n2)) (felt_mul 8 n3))
+    (felt_mul 16 n4)) (felt_mul 32 n5)) (felt_mul 64 n6)
     ≡ n0 + 2 * (n1 + 2 * (n2 + 2 * (n3 + 2 * (n4 + 2 * (n5 + 2 * (n6 + 2 * 0))))))
 joined_bits n0 n1 n2 n3 n4 n5 n6 l0 l1 l2 l3 l4 l5 l6 = omega arith
 
 code_is : (x : List ℕ) (op : Op) → HasOp x op → opcode_in x ≡ code_of op
 unfolding opcode_in spelled
 code_is x op has =
-    joined_bits (b x 0) (b x 1) (b x 2) (b x 3) (b x 4) (b x 5) (b x 6) (has.bits 0 (omega arith)) (has.bits 1 (omega arith)) (has.bits 2 (omega arith))
+    joined_bits (b x 0) (b x 1) (b x 2) (b x 3) (b x 4) (b x 5) (b x 6) (has.bits 0 (omega arith)) (has.bits 1 (omega arith))
+    (has.bits 2 (omega arith))
     (has.bits 3 (omega arith)) (has.bits 4 (omega arith)) (has.bits 5 (omega arith)) (has.bits 6 (omega arith))
     ∙ sym has.spells
 
@@ -443,7 +466,9 @@ rest_is x op code left has is less = less ∙ ap (felt_sub (h x 0)) (is ∙ sym 
 
 -- a place below nine is one of nine
 places : (a : ℕ) → a < 9
-    → felt_mul (felt_mul (felt_mul (felt_mul (felt_mul (felt_mul (felt_mul (felt_mul (felt_mul 1 a) (felt_sub a 1)) (felt_sub a 2)) (felt_sub a 3)) (felt_sub a 4)) (felt_sub a 5)) (felt_sub a 6)) (felt_sub a 7)) (felt_sub a 8) ≡ 0
+    → felt_mul (felt_mul (felt_mul
+    (felt_mul (felt_mul (felt_mul (felt_mul (felt_mul (felt_mul 1 a) (felt_sub a 1)) (felt_sub a 2)) (felt_sub a 3))
+    (felt_sub a 4)) (felt_sub a 5)) (felt_sub a 6)) (felt_sub a 7)) (felt_sub a 8) ≡ 0
 places zero l = refl
 places (suc zero) l = refl
 places (suc (suc zero)) l = refl
@@ -520,7 +545,13 @@ group_over x y push pushes inside low none stops (opens opening place count) = (
       rw (inside, stops) (simp zero-mul),
       (
         rw (inside, stops) (simp zero-mul),
-        (rw (inside, stops, opening, place) refl, (rw (inside, opening) (simp zero-mul), (rw (inside, opening, stops, sym pushes, count) refl, (place_clean (flag x) x inside low, tt)))),
+        (
+          rw (inside, stops, opening, place) refl,
+          (
+            rw (inside, opening) (simp zero-mul),
+            (rw (inside, opening, stops, sym pushes, count) refl, (place_clean (flag x) x inside low, tt)),
+          ),
+        ),
       ),
     ),
   ),
@@ -533,7 +564,10 @@ group_over x y push pushes inside low none stops (ends close count) = (
       rw (inside, stops) (simp zero-mul),
       (
         rw (inside, stops) (simp zero-mul),
-        (rw (inside, stops, close) (simp zero-mul), (rw (inside, close, count) refl, (rw (inside, close) (simp zero-mul), (place_clean (flag x) x inside low, tt)))),
+        (
+          rw (inside, stops, close) (simp zero-mul),
+          (rw (inside, close, count) refl, (rw (inside, close) (simp zero-mul), (place_clean (flag x) x inside low, tt))),
+        ),
       ),
     ),
   ),
@@ -562,7 +596,8 @@ over_clean x y left push is pushes inside low none zero_is o =
     (group_over x y push pushes inside low nothing (goes_not (flag x) x nothing (sym pushes ∙ zero_is)) o)
 
 -- all of a row
-pub row_clean : (x y : List ℕ) (op : Op) → HasOp x op → IsPlain op → IsStep x y → first_fault_of 107 (group_values (spot_of 0 x (Some y))) ≡ None → IsClean x y
+pub row_clean : (x y : List ℕ) (op : Op) → HasOp x op → IsPlain op → IsStep x y
+    → first_fault_of 107 (group_values (spot_of 0 x (Some y))) ≡ None → IsClean x y
 row_clean x y op has plain step group =
     let r = plain_flags x op has plain in
     record {
@@ -571,7 +606,8 @@ row_clean x y op has plain step group =
       span = span_clean x y (no_fault 92 (batch_values (spot_of 0 x (Some y))) (batch_clean x y (no_batches (flag x) r))) group;
     }
 
-pub first_batch_clean : (x y : List ℕ) (op : Op) → HasOp x op → code_of op ≡ 73 → IsFirstBatch x y → first_fault_of 92 (batch_values (spot_of 0 x (Some y))) ≡ None
+pub first_batch_clean : (x y : List ℕ) (op : Op) → HasOp x op → code_of op ≡ 73 → IsFirstBatch x y
+    → first_fault_of 92 (batch_values (spot_of 0 x (Some y))) ≡ None
     → IsClean x y
 first_batch_clean x y op has is step batch =
     let r = span_flags x (subst (HasOp x) (code_of-different op ops.Span is) has) in
@@ -581,7 +617,8 @@ first_batch_clean x y op has is step batch =
       span = span_clean x y batch (no_fault 107 (group_values (spot_of 0 x (Some y))) (no_group x y step.outside));
     }
 
-pub next_batch_clean : (x y : List ℕ) (op : Op) → HasOp x op → code_of op ≡ 78 → IsNextBatch x y → first_fault_of 92 (batch_values (spot_of 0 x (Some y))) ≡ None
+pub next_batch_clean : (x y : List ℕ) (op : Op) → HasOp x op → code_of op ≡ 78 → IsNextBatch x y
+    → first_fault_of 92 (batch_values (spot_of 0 x (Some y))) ≡ None
     → IsClean x y
 next_batch_clean x y op has is step batch =
     let r = respan_flags x (subst (HasOp x) (code_of-different op ops.Respan is) has) in
@@ -596,7 +633,8 @@ unfolding batches
 no_batch x op has apart =
     rw (flag_apart x op ops.Span has (λ e. apart.not_span (sym e)), flag_apart x op ops.Respan has (λ e. apart.not_respan (sym e))) refl
 
-pub outside_clean : (x y : List ℕ) (op : Op) → HasOp x op → HasNoBatch op → IsOutside x y → first_fault_of 60 (block_values (spot_of 0 x (Some y))) ≡ None
+pub outside_clean : (x y : List ℕ) (op : Op) → HasOp x op → HasNoBatch op → IsOutside x y
+    → first_fault_of 60 (block_values (spot_of 0 x (Some y))) ≡ None
     → IsClean x y
 outside_clean x y op has apart step block = record {
   opcode = λ n behind. opcode_clean n x y op has behind step.clock;
@@ -612,10 +650,12 @@ boundary_clean claim n x y behind = rw (behind_first n behind) refl
 
 parts_clean : (c : Claim) (n : ℕ) (x y : List ℕ) → n ≢ 0 → IsClean x y → None ≡ first_fault_of 1 (decoder_values c (spot_of n x (Some y)))
 parts_clean c n x y h clean =
-    decoder_joined c (spot_of n x (Some y)) x (Some y) None None None None None None None refl refl (sym (clean.opcode n h)) (sym (boundary_clean c n x y h))
+    decoder_joined c (spot_of n x (Some y)) x (Some y) None None None None None None None refl refl (sym (clean.opcode n h))
+    (sym (boundary_clean c n x y h))
     (sym clean.block) (sym clean.span) refl refl refl
 
-pub place_answer : (c : Claim) (p : Spot) (x : List ℕ) (next : Option (List ℕ)) → x ≡ p.cur → next ≡ p.next → IsInner p.row x next → None ≡ first_fault_of 1 (decoder_values c p)
+pub place_answer : (c : Claim) (p : Spot) (x : List ℕ) (next : Option (List ℕ)) → x ≡ p.cur → next ≡ p.next → IsInner p.row x next
+    → None ≡ first_fault_of 1 (decoder_values c p)
 place_answer c p x None ex ey inner = absurd inner
 place_answer c p x (Some y) ex ey inner = parts_clean c p.row x y inner.0 inner.1 ∙ ap (λ q. first_fault_of 1 (decoder_values c q)) here
   where

@@ -13,7 +13,7 @@ ghost use Rattle.air_decoder.specs.Quick.{HasKind, IsBehindEnd, IsClean, IsEnd, 
 
 use crate::spans::batch_faults;
 use air_blocks::{block_faults, starts};
-use air_kit::{Seen, are_same, is_one, is_zero, under};
+use air_kit::{Seen, are_same, is_one, is_zero};
 use vm_field::Felt;
 use vm_ops::{Op, is_ordinary, opcode};
 use vm_table::MainView;
@@ -176,7 +176,8 @@ fn is_behind_end<V: MainView>(x: &V, y: &V) -> bool
 
 // Whether a start, another END, REPEAT or HALT is behind an END.
 fn may_follow_end<V: MainView>(y: &V) -> bool
-    ensures { IsTrue result → 1 ⊟ starts (flag (V.cells y.now)) ⊟ flag (V.cells y.now) ops.End ⊟ flag (V.cells y.now) ops.Repeat ⊟ flag (V.cells y.now) ops.Halt ≡ 0 }
+    ensures { IsTrue result → 1 ⊟ starts (flag (V.cells y.now)) ⊟ flag (V.cells y.now) ops.End ⊟ flag (V.cells y.now) ops.Repeat
+        ⊟ flag (V.cells y.now) ops.Halt ≡ 0 }
 {
     let seen = Seen::of(y);
     is_zero(
@@ -199,7 +200,7 @@ fn has_kind<V: MainView>(x: &V) -> bool
 fn has_no_condition<V: MainView>(x: &V) -> bool
     ensures { IsTrue result → h (V.cells x.now) 4 ⊠ s (V.cells x.now) 0 ≡ 0 }
 {
-    is_zero(under(x.h4(), x.s0()))
+    is_zero(x.h4() * x.s0())
 }
 
 fn closes_level<V: MainView>(x: &V, y: &V) -> bool

@@ -6,7 +6,7 @@ ghost use Rattle.air_kit.specs.Places.{first_fault_of};
 ghost use Rattle.air_blocks.specs.Entries.{of_row, of_pair, spot_of};
 
 use air_blocks::batches;
-use air_kit::{Seen, first_nonzero, or_next, under};
+use air_kit::{Seen, first_nonzero, or_next};
 use vm_field::Felt;
 use vm_ops::Op;
 use vm_table::MainView;
@@ -77,7 +77,7 @@ fn entry_92<V: MainView>(j: usize, x: &Seen<'_, V>) -> Felt
     requires { j < 3 }
     ensures { result ≡ of_row (entry_92 j) (V.cells x.now.row.now) }
 {
-    under(under(batches(x), x.row.c(j)), x.row.c(j) - Felt::ONE)
+    batches(x) * x.row.c(j) * (x.row.c(j) - Felt::ONE)
 }
 
 // And at most one is 1.
@@ -85,7 +85,7 @@ fn entry_92<V: MainView>(j: usize, x: &Seen<'_, V>) -> Felt
 fn entry_95<V: MainView>(x: &Seen<'_, V>) -> Felt
     ensures { result ≡ of_row entry_95 (V.cells x.now.row.now) }
 {
-    under(under(batches(x), size_flags(x)), size_flags(x) - Felt::ONE)
+    batches(x) * size_flags(x) * (size_flags(x) - Felt::ONE)
 }
 
 // 96 to 102: a position that is not in use is 0.
@@ -94,7 +94,7 @@ fn entry_96<V: MainView>(j: usize, x: &Seen<'_, V>) -> Felt
     requires { j < 7 }
     ensures { result ≡ of_row (entry_96 j) (V.cells x.now.row.now) }
 {
-    under(under(batches(x), unused(j + 1, x)), x.row.h(j + 1))
+    batches(x) * unused(j + 1, x) * x.row.h(j + 1)
 }
 
 // One of the positions that a smaller count would leave out is not 0: no more are in use than need be.
@@ -115,7 +115,7 @@ fn entry_103<V: MainView>(x: &Seen<'_, V>) -> Felt
 fn entry_104<V: MainView>(x: &Seen<'_, V>, y: &Seen<'_, V>) -> Felt
     ensures { result ≡ of_pair entry_104 (V.cells x.now.row.now) (V.cells y.now.row.now) }
 {
-    under(batches(x), y.row.h(0) - x.row.h(0))
+    batches(x) * (y.row.h(0) - x.row.h(0))
 }
 
 // All other positions are left.
@@ -123,8 +123,11 @@ fn entry_104<V: MainView>(x: &Seen<'_, V>, y: &Seen<'_, V>) -> Felt
 fn entry_105<V: MainView>(x: &Seen<'_, V>, y: &Seen<'_, V>) -> Felt
     ensures { result ≡ of_pair entry_105 (V.cells x.now.row.now) (V.cells y.now.row.now) }
 {
-    let left = Felt::from_u32(7) * x.row.c(0);
-    batches(x) * (y.row.gc() - left - Felt::from_u32(3) * x.row.c(1) - x.row.c(2))
+    batches(x)
+        * (y.row.gc()
+            - Felt::from_u32(7) * x.row.c(0)
+            - Felt::from_u32(3) * x.row.c(1)
+            - x.row.c(2))
 }
 
 // And it is the first of its group.
@@ -132,7 +135,7 @@ fn entry_105<V: MainView>(x: &Seen<'_, V>, y: &Seen<'_, V>) -> Felt
 fn entry_106<V: MainView>(x: &Seen<'_, V>, y: &Seen<'_, V>) -> Felt
     ensures { result ≡ of_pair entry_106 (V.cells x.now.row.now) (V.cells y.now.row.now) }
 {
-    under(batches(x), y.row.ox())
+    batches(x) * y.row.ox()
 }
 
 // Where something is left of the group, the flag is 1.
@@ -188,8 +191,7 @@ fn entry_112<V: MainView>(x: &Seen<'_, V>, y: &Seen<'_, V>) -> Felt
 fn entry_113<V: MainView>(x: &Seen<'_, V>, y: &Seen<'_, V>) -> Felt
     ensures { result ≡ of_pair entry_113 (V.cells x.now.row.now) (V.cells y.now.row.now) }
 {
-    let taken = y.row.gc() - x.row.gc() + x.one(Op::Push) + Felt::ONE;
-    x.row.sp() * y.row.sp() * (taken - goes_on(x))
+    x.row.sp() * y.row.sp() * (y.row.gc() - x.row.gc() + x.one(Op::Push) + Felt::ONE - goes_on(x))
 }
 
 // A group has nine operations at most.

@@ -4,7 +4,6 @@
 
 mod fault;
 mod flags;
-mod placed;
 mod round;
 
 pub use fault::first_fault;

@@ -1,10 +1,10 @@
-ghost use Rattle.std.specs.Prelude.{◌≡◌, ◌<◌, nat_lt, length, option_map, slice_index};
+ghost use Rattle.std.specs.Prelude.{◌≡◌, ◌<◌, true, nat_lt, List, ℕ, length, Some, option_map, slice_index};
 ghost use Rattle.rpo_hash.specs.Constants.{constants_of};
 ghost use Rattle.vm_field.specs.Field.{felt_pow};
-ghost use Rattle.vm_field.specs.Permutation.{round_constants};
+ghost use Rattle.vm_field.specs.Permutation.{before_roots, round_constants};
 ghost use Rattle.vm_field.specs.Signs.{◌⊟◌};
 ghost use Rattle.chip_columns.specs.HasherColumns.{state, x as state_element};
-ghost use Rattle.air_kit.specs.HasherValues.{round_values};
+ghost use Rattle.air_kit.specs.HasherValues.{entry_18, round_values};
 ghost use Rattle.air_kit.specs.Places.{family};
 
 use chip_columns::HasherView;
@@ -54,32 +54,36 @@ fn state<V: HasherView>(x: &V) -> [Felt; 12]
     ]
 }
 
-// The seventh powers of a row's state, each less the element at its place.
+// The entries of round k, whose state before the roots is computed once for all twelve.
 #[tactic(auto, unfolding(air_kit::specs::Places::family))]
 fn powers_less<V: HasherView>(y: &V, before: &[Felt; 12]) -> [Felt; 12]
     ensures { result ≡ family 12 (λ j. felt_pow (state_element (V.cells y.now) j) 7 ⊟ slice_index before.now j) }
 {
     [
-        power_less(y.x0(), before, 0),
-        power_less(y.x1(), before, 1),
-        power_less(y.x2(), before, 2),
-        power_less(y.x3(), before, 3),
-        power_less(y.x4(), before, 4),
-        power_less(y.x5(), before, 5),
-        power_less(y.x6(), before, 6),
-        power_less(y.x7(), before, 7),
-        power_less(y.x8(), before, 8),
-        power_less(y.x9(), before, 9),
-        power_less(y.x10(), before, 10),
-        power_less(y.x11(), before, 11),
+        entry_18(0, y, before),
+        entry_18(1, y, before),
+        entry_18(2, y, before),
+        entry_18(3, y, before),
+        entry_18(4, y, before),
+        entry_18(5, y, before),
+        entry_18(6, y, before),
+        entry_18(7, y, before),
+        entry_18(8, y, before),
+        entry_18(9, y, before),
+        entry_18(10, y, before),
+        entry_18(11, y, before),
     ]
 }
 
-fn power_less(element: Felt, before: &[Felt; 12], j: usize) -> Felt
+// 18 to 29: inside the eight rows each row is the round behind the one before, here the row y behind one with this state before
+// the roots.
+fn entry_18<V: HasherView>(j: usize, y: &V, before: &[Felt; 12]) -> Felt
     requires { j < 12 }
-    ensures { result ≡ felt_pow element 7 ⊟ slice_index before.now j }
+    ensures value { result ≡ felt_pow (state_element (V.cells y.now) j) 7 ⊟ slice_index before.now j }
+    ensures named { (constants row : List ℕ) → before.now ≡ before_roots constants (state row)
+        → result ≡ entry_18 j true constants row (Some (V.cells y.now)) }
 {
-    seventh_power(element) - felt_at(before, j)
+    seventh_power(y.x(j)) - felt_at(before, j)
 }
 
 fn seventh_power(x: Felt) -> Felt

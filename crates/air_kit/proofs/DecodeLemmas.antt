@@ -11,7 +11,8 @@ use Rattle.air_kit.specs.Decoding.{IsDecoded, IsSpelled}
 use Rattle.air_kit.proofs.FlagLemmas.{has_op-from, flags_of-hot, at_op}
 
 -- seven numbers below 2 that are a row's bits
-pub spelled_by : (row : List ℕ) (n0 n1 n2 n3 n4 n5 n6 : ℕ) → n0 ≡ b row 0 → n1 ≡ b row 1 → n2 ≡ b row 2 → n3 ≡ b row 3 → n4 ≡ b row 4 → n5 ≡ b row 5 → n6 ≡ b row 6
+pub spelled_by : (row : List ℕ) (n0 n1 n2 n3 n4 n5 n6 : ℕ) → n0 ≡ b row 0 → n1 ≡ b row 1 → n2 ≡ b row 2 → n3 ≡ b row 3
+    → n4 ≡ b row 4 → n5 ≡ b row 5 → n6 ≡ b row 6
     → n0 < 2 → n1 < 2 → n2 < 2 → n3 < 2 → n4 < 2 → n5 < 2 → n6 < 2
     → IsSpelled row (n0 + 2 * n1 + 4 * n2 + 8 * n3 + 16 * n4 + 32 * n5 + 64 * n6)
 unfolding spelled
@@ -35,7 +36,8 @@ pub decoded_at : (row : List ℕ) (code : ℕ) → IsSpelled row code → IsDeco
 decoded_at row code spells op e = has_op-from row op spells.bits (code_of-op_at code op e ∙ spells.is)
 
 -- a sum of flags of a decoded row
-pub sum_decoded : (row : List ℕ) (found : Option Op) (own : Op) (test : Op → Bool) → IsDecoded row found → found ≡ Some own → flags_of test (flag row) ≡ cond (test own) 1 0
+pub sum_decoded : (row : List ℕ) (found : Option Op) (own : Op) (test : Op → Bool) → IsDecoded row found → found ≡ Some own
+    → flags_of test (flag row) ≡ cond (test own) 1 0
 sum_decoded row found own test decoded is = at_op (decoded own is) (flags_of test) ∙ flags_of-hot own test
 
 -- the operations from a code on are that of the code and those behind it
@@ -49,11 +51,14 @@ unfolding every_op
 no_code = refl
 
 -- one more term of a sum over the operations from a code on
-pub sum_step : (value : Op → ℕ) (code next term rest : ℕ) → next ≡ suc code → code < 80 → IfSome (op_at code) (λ op. term ≡ value op) → rest ≡ sum_of (drop next every_op) value → felt_add term rest ≡ sum_of (drop code every_op) value
+pub sum_step : (value : Op → ℕ) (code next term rest : ℕ) → next ≡ suc code → code < 80
+    → IfSome (op_at code) (λ op. term ≡ value op) → rest ≡ sum_of (drop next every_op) value
+    → felt_add term rest ≡ sum_of (drop code every_op) value
 unfolding sum_of op_at
 sum_step value code next term rest step low is later = go (slice_get every_op code) refl is
   where
-    go : (found : Option Op) → slice_get every_op code ≡ found → IfSome found (λ op. term ≡ value op) → felt_add term rest ≡ sum_of (drop code every_op) value
+    go : (found : Option Op) → slice_get every_op code ≡ found → IfSome found (λ op. term ≡ value op)
+        → felt_add term rest ≡ sum_of (drop code every_op) value
     go None e h = absurd (let out = (op_at-outside code).0 e in omega (arith, out, low))
     go (Some op) e h =
         let split : drop code every_op ≡ op ∷ drop (suc code) every_op = from_code every_op code op e in

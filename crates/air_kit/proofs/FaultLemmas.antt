@@ -8,8 +8,11 @@ use Rattle.air_kit.specs.Places.{family, first_fault_of, or_next}
 pub first_append : (n : ℕ) (xs ys : List ℕ) → first_fault_of n (xs ++ ys) ≡ or_next (first_fault_of n xs) (first_fault_of (n + length xs) ys)
 first_append n [] ys = let e : n ≡ n + 0 = omega arith in ap (λ k. first_fault_of k ys) e
 first_append n (x ∷ xs) ys =
-    elim (eqb x 0) as (λ b. cond b (first_fault_of (n + 1) (xs ++ ys)) (Some (n, x)) ≡ or_next (cond b (first_fault_of (n + 1) xs) (Some (n, x))) (first_fault_of (n + suc (length xs)) ys)) [
-      | true ↦ first_append (n + 1) xs ys ∙ (let e : n + 1 + length xs ≡ n + suc (length xs) = omega arith in ap (λ k. or_next (first_fault_of (n + 1) xs) (first_fault_of k ys)) e)
+    elim (eqb x 0) as (λ b. cond b (first_fault_of (n + 1) (xs ++ ys)) (Some (n, x))
+    ≡ or_next (cond b (first_fault_of (n + 1) xs) (Some (n, x))) (first_fault_of (n + suc (length xs)) ys)) [
+      | true ↦
+          first_append (n + 1) xs ys ∙ (let e : n + 1 + length xs
+          ≡ n + suc (length xs) = omega arith in ap (λ k. or_next (first_fault_of (n + 1) xs) (first_fault_of k ys)) e)
       | false ↦ refl
     ]
 

@@ -2,7 +2,7 @@
 -- the term of one operation.
 use Rattle.std.proofs.Common.{◌≡◌, ◌≢◌, ℕ, zero, suc, ◌+◌, ◌*◌, ◌/◌, ◌%◌, ◌^◌, ◌<◌, ◌≤◌, Bool, true, false, ◌&&◌, cond, eqb, List, [], ◌∷◌, length, Option, Some, None, unwrap_or, refl, sym, ap, subst, ◌∙◌, inl, inr, arith, lit<, zero-mul}
 use Rattle.std.proofs.Math.Nat.{pow-succ'}
-use Rattle.std.proofs.lemmas.Bool.{cases_Bool, eqb-true}
+use Rattle.std.proofs.lemmas.Bool.{cases_Bool, eqb-true, and_parts}
 use Rattle.std.proofs.lemmas.Bool.Decides.{nat_tests}
 use mathlib.Core.Path.{fun_ext}
 use Rattle.vm_field.specs.Field.{prime, felt_sub, felt_mul}
@@ -28,11 +28,13 @@ bit_below true = lit< tt
 bit_below false = lit< tt
 
 -- two numbers are the same where their digits and their halves are
-joined : (q r bit high code c : ℕ) → q < 2 → bit < 2 → code ≡ q + 2 * r → c ≡ bit + 2 * high → ◌≡◌ {A = ℕ} (cond (eqb q bit) (cond (eqb r high) 1 0) 0) (cond (eqb code c) 1 0)
+joined : (q r bit high code c : ℕ) → q < 2 → bit < 2 → code ≡ q + 2 * r → c ≡ bit + 2 * high
+    → ◌≡◌ {A = ℕ} (cond (eqb q bit) (cond (eqb r high) 1 0) 0) (cond (eqb code c) 1 0)
 joined q r bit high code c hq hb e f = grind (arith, nat_tests)
 
 -- the product over bits, for a code that they have room for
-pub flag_by-bits : (n code : ℕ) (bit : ℕ → ℕ) → ((j : ℕ) → j < n → bit j < 2) → code < 2 ^ n → flag_by n code bit ≡ cond (eqb code (spelled n bit)) 1 0
+pub flag_by-bits : (n code : ℕ) (bit : ℕ → ℕ) → ((j : ℕ) → j < n → bit j < 2) → code < 2 ^ n
+    → flag_by n code bit ≡ cond (eqb code (spelled n bit)) 1 0
 unfolding spelled flag_by
 flag_by-bits zero zero bit low below = refl
 flag_by-bits zero (suc code) bit low below = absurd (omega arith)
@@ -42,8 +44,10 @@ flag_by-bits (suc n) code bit low below =
     let whole : code ≡ code % 2 + 2 * (code / 2) = omega arith in
     let later : (j : ℕ) → j < n → bit (suc j) < 2 = λ j h. low (suc j) (omega arith) in
     ap (felt_mul (factor (code % 2) (bit 0))) (flag_by-bits n (code / 2) (λ j. bit (suc j)) later half)
-    ∙ factor_of (code % 2) (bit 0) (cond (eqb (code / 2) (spelled n (λ j. bit (suc j)))) 1 0) q (low 0 (omega arith)) (bit_below (eqb (code / 2) (spelled n (λ j. bit (suc j)))))
-    ∙ joined (code % 2) (code / 2) (bit 0) (spelled n (λ j. bit (suc j))) code (bit 0 + 2 * spelled n (λ j. bit (suc j))) q (low 0 (omega arith)) whole refl
+    ∙ factor_of (code % 2) (bit 0) (cond (eqb (code / 2) (spelled n (λ j. bit (suc j)))) 1 0) q (low 0 (omega arith))
+    (bit_below (eqb (code / 2) (spelled n (λ j. bit (suc j)))))
+    ∙ joined (code % 2) (code / 2) (bit 0) (spelled n (λ j. bit (suc j))) code (bit 0 + 2 * spelled n (λ j. bit (suc j))) q
+    (low 0 (omega arith)) whole refl
 
 -- so many bits spell a number below that power of 2
 pub spelled-below : (n : ℕ) (bit : ℕ → ℕ) → ((j : ℕ) → j < n → bit j < 2) → spelled n bit < 2 ^ n
@@ -55,7 +59,8 @@ spelled-below (suc n) bit low =
     let e : 2 ^ suc n ≡ 2 * 2 ^ n = pow-succ' 2 n in omega (arith, e, later, first)
 
 -- each flag of a row whose bits spell an operation's code
-pub flag-hot : (row : List ℕ) (op : Op) → ((j : ℕ) → j < 7 → b row j < 2) → code_of op ≡ spelled 7 (b row) → (other : Op) → flag row other ≡ one_hot op other
+pub flag-hot : (row : List ℕ) (op : Op) → ((j : ℕ) → j < 7 → b row j < 2) → code_of op ≡ spelled 7 (b row) → (other : Op)
+    → flag row other ≡ one_hot op other
 unfolding flag
 flag-hot row op low is other =
     flag_by-bits 7 (code_of other) (b row) low (let h = code_of-below other in omega (arith, h))
@@ -77,10 +82,6 @@ abbrev numbered : List Op → ℕ → Bool
 numbered [] n = true
 numbered (op ∷ ops) n = eqb (code_of op) n && numbered ops (suc n)
 
-both : (x y : Bool) → x && y ≡ true → (x ≡ true) × (y ≡ true)
-both true y e = (refl, e)
-both false y e = absurd (cc)
-
 every_numbered : numbered every_op 0 ≡ true
 unfolding every_op
 every_numbered = refl
@@ -90,22 +91,24 @@ unfolding every_op
 every_length = refl
 
 -- a sum without the operation
-sum_of-none : (ops : List Op) (n : ℕ) (op : Op) (value : Op → ℕ) → numbered ops n ≡ true → code_of op < n → ((o : Op) → code_of o ≢ code_of op → value o ≡ 0) → sum_of ops value ≡ 0
+sum_of-none : (ops : List Op) (n : ℕ) (op : Op) (value : Op → ℕ) → numbered ops n ≡ true → code_of op < n
+    → ((o : Op) → code_of o ≢ code_of op → value o ≡ 0) → sum_of ops value ≡ 0
 unfolding sum_of
 sum_of-none [] n op value count low others = refl
 sum_of-none (o ∷ ops) n op value count low others =
-    let parts = both (eqb (code_of o) n) (numbered ops (suc n)) count in
+    let parts = and_parts (eqb (code_of o) n) (numbered ops (suc n)) count in
     let code : code_of o ≡ n = eqb-true (code_of o) n parts.0 in
     let here : value o ≡ 0 = others o (omega (arith, code)) in
     let later : sum_of ops value ≡ 0 = sum_of-none ops (suc n) op value parts.1 (omega arith) others in
     rw (here, later) refl
 
 -- a sum in which one operation alone counts
-pub sum_of-one : (ops : List Op) (n : ℕ) (op : Op) (value : Op → ℕ) → numbered ops n ≡ true → n ≤ code_of op → code_of op < n + length ops → ((o : Op) → code_of o ≢ code_of op → value o ≡ 0) → sum_of ops value ≡ value op % prime
+pub sum_of-one : (ops : List Op) (n : ℕ) (op : Op) (value : Op → ℕ) → numbered ops n ≡ true → n ≤ code_of op
+    → code_of op < n + length ops → ((o : Op) → code_of o ≢ code_of op → value o ≡ 0) → sum_of ops value ≡ value op % prime
 unfolding sum_of
 sum_of-one [] n op value count low high others = absurd (omega arith)
 sum_of-one (o ∷ ops) n op value count low high others =
-    let parts = both (eqb (code_of o) n) (numbered ops (suc n)) count in
+    let parts = and_parts (eqb (code_of o) n) (numbered ops (suc n)) count in
     let code : code_of o ≡ n = eqb-true (code_of o) n parts.0 in
     elim (cases_Bool (eqb (code_of o) (code_of op))) [
       | inl same ↦

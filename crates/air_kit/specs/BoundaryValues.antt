@@ -7,6 +7,13 @@ use Rattle.vm_ops.specs.declared.op.Op.TheVariants as ops
 use Rattle.vm_table.specs.MainColumns.{addr, ctx, fmp, sys, f, lv, depth, key, s}
 use Rattle.air_kit.specs.Flags.{flags_of}
 use Rattle.air_kit.specs.Places.{Claim, RowEntry, Spot, at_first, at_last, family}
+use Rattle.air_kit.specs.Tables.{table_number}
+use Rattle.air_kit.specs.declared.trace.TableName.{TableName}
+use Rattle.air_kit.specs.declared.trace.TableName.TheVariants as table
+
+-- how many rows a table has
+abbrev pub rows_in : Claim → TableName → ℕ
+rows_in c name = slice_index c.lengths (table_number name)
 
 -- the first row starts a block
 unfoldable pub entry_11 : RowEntry
@@ -46,11 +53,11 @@ entry_23 c j fl x = s x j ⊟ slice_index c.inputs j
 
 -- the kernel's table has a row for each digest of the kernel
 unfoldable pub entry_39 : Claim → RowEntry
-entry_39 c fl x = slice_index c.lengths 5 ⊟ length c.kernel
+entry_39 c fl x = rows_in c table.Kernel ⊟ length c.kernel
 
 -- the table of cells left has a row for each output below the sixteenth
 unfoldable pub entry_40 : Claim → RowEntry
-entry_40 c fl x = slice_index c.lengths 6 ⊟ (length c.outputs ⊟ 16)
+entry_40 c fl x = rows_in c table.Left ⊟ (length c.outputs ⊟ 16)
 
 -- the last row is HALT
 unfoldable pub entry_41 : RowEntry

@@ -62,7 +62,8 @@ pub record HasRoom (kernel : List (List ℕ)) (r : Requests) : Type 0 where
 pub record Fits (constants : List ℕ) (kernel : List (List ℕ)) (r : Requests) : Type 0 where
   pub perms : FollowsOn constants false [] r.perms
   pub accesses : All (FitsMemory r.accesses) r.accesses
-  pub apart : (i j : ℕ) (a b : Access) → slice_index_or r.accesses i a ≡ a → slice_index_or r.accesses j b ≡ b → a.clk ≡ b.clk → i < length r.accesses → j < length r.accesses → i ≡ j
+  pub apart : (i j : ℕ) (a b : Access) → slice_index_or r.accesses i a ≡ a → slice_index_or r.accesses j b ≡ b → a.clk ≡ b.clk
+      → i < length r.accesses → j < length r.accesses → i ≡ j
   pub calls : All (λ word. (i : ℕ) × (i < length kernel) × (slice_index_or kernel i [] ≡ word)) r.calls
   pub room : HasRoom kernel r
 

@@ -2,20 +2,20 @@
 //! accepted trace is (docs/CONSTRAINTS.md).
 #![tactic(auto)]
 
+mod chips;
 mod compare;
 mod fault;
 mod flags;
 mod place;
-mod products;
 mod requests;
 mod seen;
 mod sets;
 mod trace;
 
+pub use chips::{bit_value, in_last, only};
 pub use compare::{are_same, is_one, is_zero};
 pub use fault::{Fault, first_nonzero, or_next};
 pub use place::Place;
-pub use products::under;
 pub use requests::{Access, BitOp, Perm, Requests};
 pub use seen::Seen;
 pub use sets::{OpSet, is_left};

@@ -1,5 +1,6 @@
 ghost use Rattle.std.specs.Prelude.{◌≡◌, ◌<◌, ◌≤◌, IfSome, if◌then◌else◌};
 ghost use Rattle.vm_ops.specs.Codes.{op_at};
+ghost use Rattle.air_kit.specs.BlockValues.{calls, returns};
 ghost use Rattle.air_kit.specs.Decoding.{IsDecoded, IsSpelled};
 ghost use Rattle.air_kit.specs.Flags.{flag, flags_of};
 ghost use Rattle.air_kit.specs.Sets.{passes_of};
@@ -53,6 +54,22 @@ impl<'a, V: MainView> Seen<'a, V> {
             Some(own) => one_if(set.holds(own)),
             None => sum_in(self.row, set),
         }
+    }
+
+    /// The row calls.
+    #[tactic(auto, unfolding(crate::specs::BlockValues::calls))]
+    pub fn calls(&self) -> Felt
+        ensures { result ≡ calls (flag (V.cells self.now.row.now)) }
+    {
+        self.one(Op::Call) + self.one(Op::Syscall)
+    }
+
+    /// The row ends a call.
+    #[tactic(auto, unfolding(crate::specs::BlockValues::returns))]
+    pub fn returns(&self) -> Felt
+        ensures { result ≡ returns (flag (V.cells self.now.row.now)) (V.cells self.now.row.now) }
+    {
+        self.one(Op::End) * (self.row.h(6) + self.row.h(7))
     }
 }
 

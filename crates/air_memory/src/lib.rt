@@ -4,7 +4,7 @@
 
 mod access;
 mod fault;
-mod placed;
+mod parts;
 mod word;
 
 pub use fault::first_fault;

@@ -31,7 +31,8 @@ record DepthFlags (fl : Flags) (left right : ℕ) : Type 0 where
   call : fl ops.Call ≡ 0
   syscall : fl ops.Syscall ≡ 0
 
-depth_flags : (x : List ℕ) (op : Op) → HasOp x op → IsSteady op → DepthFlags (flag x) (cond (is_shift Left (shift_of op)) 1 0) (cond (is_shift Right (shift_of op)) 1 0)
+depth_flags : (x : List ℕ) (op : Op) → HasOp x op → IsSteady op
+    → DepthFlags (flag x) (cond (is_shift Left (shift_of op)) 1 0) (cond (is_shift Right (shift_of op)) 1 0)
 depth_flags x op has steady = record {
   left_is = at_op has (flags_of is_left) ∙ flags_of-hot op is_left;
   right_is = at_op has (flags_of is_right) ∙ flags_of-hot op is_right;
@@ -59,9 +60,11 @@ right_is : (fl : Flags) (left right : ℕ) → DepthFlags fl left right → shif
 unfolding shifts_right
 right_is fl left right d = d.right_is
 
-keeps_is : (fl : Flags) (x : List ℕ) (left right : ℕ) → DepthFlags fl left right → left < 2 → keeps_depth fl x ≡ felt_sub (felt_sub (felt_sub (felt_sub 1 right) left) 0) 0
+keeps_is : (fl : Flags) (x : List ℕ) (left right : ℕ) → DepthFlags fl left right → left < 2
+    → keeps_depth fl x ≡ felt_sub (felt_sub (felt_sub (felt_sub 1 right) left) 0) 0
 unfolding keeps_depth
-keeps_is fl x left right d low = rw (right_is fl left right d, left_is fl x left right d low, calls_is fl d.call d.syscall, returns_is fl x d.end) refl
+keeps_is fl x left right d low =
+    rw (right_is fl left right d, left_is fl x left right d low, calls_is fl d.call d.syscall, returns_is fl x d.end) refl
 
 entry_117_is : (fl : Flags) (x : List ℕ) → fl ops.End ≡ 0 → entry_117 fl x ≡ 0
 unfolding entry_117
@@ -71,51 +74,102 @@ deep_is : (fl : Flags) (x : List ℕ) → felt_mul (felt_sub (depth x) 16) (felt
 unfolding entry_115
 deep_is fl x deep = deep
 
-falls_clean : (x y : List ℕ) → DepthFlags (flag x) 1 0 → felt_mul (felt_sub (depth x) 16) (felt_sub 1 (deeper x)) ≡ 0 → Falls x y → Zeros (depth_values (spot_of x (Some y)))
+falls_clean : (x y : List ℕ) → DepthFlags (flag x) 1 0 → felt_mul (felt_sub (depth x) 16) (felt_sub 1 (deeper x)) ≡ 0 → Falls x y
+    → Zeros (depth_values (spot_of x (Some y)))
 unfolding depth_values entry_116 entry_118
 falls_clean x y d deep m = (
   deep_is (flag x) x deep,
   (
-    rw (right_is (flag x) 1 0 d, left_is (flag x) x 1 0 d (omega arith), calls_is (flag x) d.call d.syscall, keeps_is (flag x) x 1 0 d (omega arith), m.fewer) (simp zero-mul),
+    rw (
+      right_is (flag x) 1 0 d,
+      left_is (flag x) x 1 0 d (omega arith),
+      calls_is (flag x) d.call d.syscall,
+      keeps_is (flag x) x 1 0 d (omega arith),
+      m.fewer,
+    ) (simp zero-mul),
     (
       entry_117_is (flag x) x d.end,
-      (rw (right_is (flag x) 1 0 d, left_is (flag x) x 1 0 d (omega arith), calls_is (flag x) d.call d.syscall, keeps_is (flag x) x 1 0 d (omega arith), one_times (deeper x), m.same_key) (simp zero-mul), tt),
+      (
+        rw (
+          right_is (flag x) 1 0 d,
+          left_is (flag x) x 1 0 d (omega arith),
+          calls_is (flag x) d.call d.syscall,
+          keeps_is (flag x) x 1 0 d (omega arith),
+          one_times (deeper x),
+          m.same_key,
+        ) (simp zero-mul),
+        tt,
+      ),
     ),
   ),
 )
 
-stays_clean : (x y : List ℕ) → DepthFlags (flag x) 0 0 → felt_mul (felt_sub (depth x) 16) (felt_sub 1 (deeper x)) ≡ 0 → Stays x y → Zeros (depth_values (spot_of x (Some y)))
+stays_clean : (x y : List ℕ) → DepthFlags (flag x) 0 0 → felt_mul (felt_sub (depth x) 16) (felt_sub 1 (deeper x)) ≡ 0 → Stays x y
+    → Zeros (depth_values (spot_of x (Some y)))
 unfolding depth_values entry_116 entry_118
 stays_clean x y d deep m = (
   deep_is (flag x) x deep,
   (
-    rw (right_is (flag x) 0 0 d, left_is (flag x) x 0 0 d (omega arith), calls_is (flag x) d.call d.syscall, keeps_is (flag x) x 0 0 d (omega arith), m.as_many) (simp zero-mul),
+    rw (
+      right_is (flag x) 0 0 d,
+      left_is (flag x) x 0 0 d (omega arith),
+      calls_is (flag x) d.call d.syscall,
+      keeps_is (flag x) x 0 0 d (omega arith),
+      m.as_many,
+    ) (simp zero-mul),
     (
       entry_117_is (flag x) x d.end,
-      (rw (right_is (flag x) 0 0 d, left_is (flag x) x 0 0 d (omega arith), calls_is (flag x) d.call d.syscall, keeps_is (flag x) x 0 0 d (omega arith), m.same_key) (simp zero-mul), tt),
+      (
+        rw (
+          right_is (flag x) 0 0 d,
+          left_is (flag x) x 0 0 d (omega arith),
+          calls_is (flag x) d.call d.syscall,
+          keeps_is (flag x) x 0 0 d (omega arith),
+          m.same_key,
+        ) (simp zero-mul),
+        tt,
+      ),
     ),
   ),
 )
 
-rises_clean : (x y : List ℕ) → DepthFlags (flag x) 0 1 → felt_mul (felt_sub (depth x) 16) (felt_sub 1 (deeper x)) ≡ 0 → Rises x y → Zeros (depth_values (spot_of x (Some y)))
+rises_clean : (x y : List ℕ) → DepthFlags (flag x) 0 1 → felt_mul (felt_sub (depth x) 16) (felt_sub 1 (deeper x)) ≡ 0 → Rises x y
+    → Zeros (depth_values (spot_of x (Some y)))
 unfolding depth_values entry_116 entry_118
 rises_clean x y d deep m = (
   deep_is (flag x) x deep,
   (
-    rw (right_is (flag x) 0 1 d, left_is (flag x) x 0 1 d (omega arith), calls_is (flag x) d.call d.syscall, keeps_is (flag x) x 0 1 d (omega arith), m.more) (simp zero-mul),
+    rw (
+      right_is (flag x) 0 1 d,
+      left_is (flag x) x 0 1 d (omega arith),
+      calls_is (flag x) d.call d.syscall,
+      keeps_is (flag x) x 0 1 d (omega arith),
+      m.more,
+    ) (simp zero-mul),
     (
       entry_117_is (flag x) x d.end,
-      (rw (right_is (flag x) 0 1 d, left_is (flag x) x 0 1 d (omega arith), calls_is (flag x) d.call d.syscall, keeps_is (flag x) x 0 1 d (omega arith), m.new_key) (simp zero-mul), tt),
+      (
+        rw (
+          right_is (flag x) 0 1 d,
+          left_is (flag x) x 0 1 d (omega arith),
+          calls_is (flag x) d.call d.syscall,
+          keeps_is (flag x) x 0 1 d (omega arith),
+          m.new_key,
+        ) (simp zero-mul),
+        tt,
+      ),
     ),
   ),
 )
 
-pub depth_clean : (x y : List ℕ) (op : Op) → HasOp x op → IsSteady op → felt_mul (felt_sub (depth x) 16) (felt_sub 1 (deeper x)) ≡ 0 → Shifts (shift_of op) x y
+pub depth_clean : (x y : List ℕ) (op : Op) → HasOp x op → IsSteady op → felt_mul (felt_sub (depth x) 16) (felt_sub 1 (deeper x)) ≡ 0
+    → Shifts (shift_of op) x y
     → first_fault_of 115 (depth_values (spot_of x (Some y))) ≡ None
 depth_clean x y op has steady deep moves =
     no_fault 115 (depth_values (spot_of x (Some y))) (go (shift_of op) (depth_flags x op has steady) moves)
   where
-    go : (shift : Shift) → DepthFlags (flag x) (cond (is_shift Left shift) 1 0) (cond (is_shift Right shift) 1 0) → Shifts shift x y → Zeros (depth_values (spot_of x (Some y)))
+    go : (shift : Shift) → DepthFlags (flag x) (cond (is_shift Left shift) 1 0) (cond (is_shift Right shift) 1 0) → Shifts shift x y
+        → Zeros (depth_values (spot_of x (Some y)))
     go Left d m = falls_clean x y d deep m
     go Stay d m = stays_clean x y d deep m
     go Right d m = rises_clean x y d deep m
@@ -146,7 +200,8 @@ unfolding cell_values entry_119
 cells_clean x y op has steady tops below =
     no_fault 119 (cell_values (spot_of x (Some y)))
     (zeros_family 16 (λ j. on_pair (entry_119 j) (spot_of x (Some y)))
-    (λ j low. at_op has (λ fl. sum_over fl (term j x y)) ∙ sum_over-hot op (term j x y) ∙ ap (λ n. n % prime) (term_zero x y op steady.not_end tops below j low)))
+    (λ j low. at_op has (λ fl. sum_over fl (term j x y)) ∙ sum_over-hot op (term j x y)
+    ∙ ap (λ n. n % prime) (term_zero x y op steady.not_end tops below j low)))
 
 by_one : (op : Op) (shift : Shift) → shift_of op ≡ shift → ByOne shift (takes_of op) (leaves_of op)
 by_one op shift is = subst (λ shift. ByOne shift (takes_of op) (leaves_of op)) is (shift_of-by_one op)
@@ -156,7 +211,8 @@ last_or_not : (t : Bool) (a b c : ℕ) → (t ≡ true → a ≡ 0) → (t ≡ f
 last_or_not true a b c last other = last refl
 last_or_not false a b c last other = other refl
 
-below_value : (x y : List ℕ) (op : Op) (left : Bool) (j : ℕ) → is_left op ≡ left → (left && eqb j 15 ≡ true → felt_mul (felt_sub 1 (deeper x)) (s y 15) ≡ 0)
+below_value : (x y : List ℕ) (op : Op) (left : Bool) (j : ℕ) → is_left op ≡ left
+    → (left && eqb j 15 ≡ true → felt_mul (felt_sub 1 (deeper x)) (s y 15) ≡ 0)
     → (left && eqb j 15 ≡ false → felt_sub (s y j) (s x (j + takes_of op - leaves_of op)) ≡ 0) → below_term j x y op ≡ 0
 unfolding below_term
 below_value x y op left j is last other = rw is (last_or_not (left && eqb j 15) _ _ 0 last other)
@@ -172,14 +228,16 @@ left_clean x y op is free up j low from =
     let place : j + 1 ≡ j + takes_of op - leaves_of op = omega (arith, more, from) in
     subst (λ k. felt_sub (s y j) (s x k) ≡ 0) place (up j from (not_last j low other))))
 
-pub level_clean : (x y : List ℕ) (op : Op) → shift_of op ≡ Stay → StayLevel (leaves_of op) x y → (j : ℕ) → j < 16 → leaves_of op ≤ j → below_term j x y op ≡ 0
+pub level_clean : (x y : List ℕ) (op : Op) → shift_of op ≡ Stay → StayLevel (leaves_of op) x y → (j : ℕ) → j < 16 → leaves_of op ≤ j
+    → below_term j x y op ≡ 0
 level_clean x y op is level j low from =
     below_value x y op false j (ap (is_shift Left) is) (λ clash. absurd (let h : false ≡ true = clash in cc))
     (λ other. (let same : takes_of op ≡ leaves_of op = by_one op Stay is in
     let place : j ≡ j + takes_of op - leaves_of op = omega (arith, same, from) in
     subst (λ k. felt_sub (s y j) (s x k) ≡ 0) place (level j from low)))
 
-pub right_clean : (x y : List ℕ) (op : Op) → shift_of op ≡ Right → GoDown (leaves_of op) x y → (j : ℕ) → j < 16 → leaves_of op ≤ j → below_term j x y op ≡ 0
+pub right_clean : (x y : List ℕ) (op : Op) → shift_of op ≡ Right → GoDown (leaves_of op) x y → (j : ℕ) → j < 16 → leaves_of op ≤ j
+    → below_term j x y op ≡ 0
 right_clean x y op is down j low from =
     below_value x y op false j (ap (is_shift Left) is) (λ clash. absurd (let h : false ≡ true = clash in cc))
     (λ other. (let more : leaves_of op ≡ takes_of op + 1 = by_one op Right is in
@@ -235,7 +293,8 @@ end_keeps : (x : List ℕ) (loop call : ℕ) → EndFlags x loop call
 unfolding keeps_depth
 end_keeps x loop call e = rw (e.right_is, e.left_is, e.calls_is, e.returns_is) refl
 
-block_depths : (x y : List ℕ) → EndFlags x 0 0 → felt_mul (felt_sub (depth x) 16) (felt_sub 1 (deeper x)) ≡ 0 → Stays x y → Zeros (depth_values (spot_of x (Some y)))
+block_depths : (x y : List ℕ) → EndFlags x 0 0 → felt_mul (felt_sub (depth x) 16) (felt_sub 1 (deeper x)) ≡ 0 → Stays x y
+    → Zeros (depth_values (spot_of x (Some y)))
 unfolding depth_values entry_116 entry_117 entry_118
 block_depths x y e deep m = (
   deep_is (flag x) x deep,
@@ -256,13 +315,21 @@ call_depths x y e deep full = (
   ),
 )
 
-loop_depths : (x y : List ℕ) → EndFlags x 1 0 → felt_mul (felt_sub (depth x) 16) (felt_sub 1 (deeper x)) ≡ 0 → Falls x y → Zeros (depth_values (spot_of x (Some y)))
+loop_depths : (x y : List ℕ) → EndFlags x 1 0 → felt_mul (felt_sub (depth x) 16) (felt_sub 1 (deeper x)) ≡ 0 → Falls x y
+    → Zeros (depth_values (spot_of x (Some y)))
 unfolding depth_values entry_116 entry_117 entry_118
 loop_depths x y e deep m = (
   deep_is (flag x) x deep,
   (
     rw (e.right_is, e.left_is, e.calls_is, end_keeps x 1 0 e, m.fewer) (simp zero-mul),
-    (rw (e.returns_is) (simp zero-mul), (rw (e.right_is, e.left_is, e.calls_is, end_keeps x 1 0 e, one_times (deeper x), m.same_key) (simp zero-mul), tt)),
+    (
+      rw (e.returns_is) (simp zero-mul),
+      (
+        rw (e.right_is, e.left_is, e.calls_is, end_keeps x 1 0 e, one_times (deeper x), m.same_key)
+            (simp zero-mul),
+        tt,
+      ),
+    ),
   ),
 )
 

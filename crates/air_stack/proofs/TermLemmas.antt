@@ -36,7 +36,9 @@ cell_of x (suc (suc (suc (suc (suc (suc (suc (suc (suc (suc (suc (suc (suc (suc 
 cell_of x (suc (suc (suc (suc (suc (suc (suc (suc (suc (suc (suc (suc (suc (suc (suc (suc k)))))))))))))))) h = absurd (omega (arith, h))
 
 -- the operations that compute no value of their own leave copies of cells, or what other entries and buses fix
-pub moved_term : (j : ℕ) (x y : List ℕ) (op : Op) → op ≢ ops.Eqz → op ≢ ops.Eq → op ≢ ops.Inv → op ≢ ops.CSwap → op ≢ ops.CSwapW → op ≢ ops.Neg → op ≢ ops.Incr → op ≢ ops.Not → op ≢ ops.FmpAdd → op ≢ ops.Caller → op ≢ ops.Add → op ≢ ops.Mul → op ≢ ops.And → op ≢ ops.Or → op ≢ ops.Pad → op ≢ ops.SDepth → op ≢ ops.Clk
+pub moved_term : (j : ℕ) (x y : List ℕ) (op : Op) → op ≢ ops.Eqz → op ≢ ops.Eq → op ≢ ops.Inv → op ≢ ops.CSwap → op ≢ ops.CSwapW
+    → op ≢ ops.Neg → op ≢ ops.Incr → op ≢ ops.Not → op ≢ ops.FmpAdd → op ≢ ops.Caller → op ≢ ops.Add → op ≢ ops.Mul → op ≢ ops.And
+    → op ≢ ops.Or → op ≢ ops.Pad → op ≢ ops.SDepth → op ≢ ops.Clk
     → top_term j x y op ≡ cond (is_free op) 0 (felt_sub (s y j) (get_or (map (λ k. get_or (cells x) k 0) (sources_of op)) j 0))
 unfolding top_term left_value left_cells computed seen_of
 moved_term j x y ops.Eqz n0 n1 n2 n3 n4 n5 n6 n7 n8 n9 n10 n11 n12 n13 n14 n15 n16 = absurd (n0 refl)

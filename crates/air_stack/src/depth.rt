@@ -1,11 +1,10 @@
 ghost use Rattle.std.specs.Prelude.{◌≡◌, option_map};
-ghost use Rattle.air_kit.specs.BlockValues.{calls, returns};
 ghost use Rattle.air_kit.specs.Flags.{flag};
 ghost use Rattle.air_kit.specs.Places.{between, first_fault_of};
 ghost use Rattle.air_kit.specs.StackValues.{deeper, shifts_left, shifts_right, keeps_depth, entry_115, entry_116, entry_117, entry_118, depth_values};
 ghost use Rattle.air_stack.specs.Parts.{spot_of};
 
-use air_kit::{OpSet, Seen, first_nonzero, under};
+use air_kit::{OpSet, Seen, first_nonzero};
 use vm_field::Felt;
 use vm_ops::Op;
 use vm_table::MainView;
@@ -29,23 +28,7 @@ pub(crate) fn depth_fault<V: MainView>(x: &Seen<'_, V>, next: &Option<V>) -> Opt
 pub(crate) fn deeper<V: MainView>(x: &V) -> Felt
     ensures { result ≡ deeper (V.cells x.now) }
 {
-    under(x.depth() - Felt::from_u32(16), x.inv())
-}
-
-// The row calls.
-#[tactic(auto, unfolding(air_kit::specs::BlockValues::calls))]
-fn calls<V: MainView>(x: &Seen<'_, V>) -> Felt
-    ensures { result ≡ calls (flag (V.cells x.now.row.now)) }
-{
-    x.one(Op::Call) + x.one(Op::Syscall)
-}
-
-// The row ends a call.
-#[tactic(auto, unfolding(air_kit::specs::BlockValues::returns))]
-fn returns<V: MainView>(x: &Seen<'_, V>) -> Felt
-    ensures { result ≡ returns (flag (V.cells x.now.row.now)) (V.cells x.now.row.now) }
-{
-    under(x.one(Op::End), x.row.h6() + x.row.h7())
+    (x.depth() - Felt::from_u32(16)) * x.inv()
 }
 
 // The stack has one cell fewer behind the row.
@@ -53,7 +36,7 @@ fn returns<V: MainView>(x: &Seen<'_, V>) -> Felt
 fn shifts_left<V: MainView>(x: &Seen<'_, V>) -> Felt
     ensures { result ≡ shifts_left (flag (V.cells x.now.row.now)) (V.cells x.now.row.now) }
 {
-    x.sum(OpSet::Left) + under(x.one(Op::End), x.row.h4())
+    x.sum(OpSet::Left) + x.one(Op::End) * x.row.h4()
 }
 
 // It has one more.
@@ -69,7 +52,7 @@ fn shifts_right<V: MainView>(x: &Seen<'_, V>) -> Felt
 fn keeps_depth<V: MainView>(x: &Seen<'_, V>) -> Felt
     ensures { result ≡ keeps_depth (flag (V.cells x.now.row.now)) (V.cells x.now.row.now) }
 {
-    Felt::ONE - shifts_right(x) - shifts_left(x) - calls(x) - returns(x)
+    Felt::ONE - shifts_right(x) - shifts_left(x) - x.calls() - x.returns()
 }
 
 // At depth sixteen the flag is 0, deeper it is 1.
@@ -77,10 +60,7 @@ fn keeps_depth<V: MainView>(x: &Seen<'_, V>) -> Felt
 fn entry_115<V: MainView>(x: &Seen<'_, V>) -> Felt
     ensures { result ≡ entry_115 (flag (V.cells x.now.row.now)) (V.cells x.now.row.now) }
 {
-    under(
-        x.row.depth() - Felt::from_u32(16),
-        Felt::ONE - deeper(x.row),
-    )
+    (x.row.depth() - Felt::from_u32(16)) * (Felt::ONE - deeper(x.row))
 }
 
 // The depth.
@@ -91,11 +71,10 @@ fn entry_116<V: MainView>(x: &Seen<'_, V>, next: &Option<V>) -> Felt
     let Some(y) = next else {
         return Felt::ZERO;
     };
-    let (before, after) = (x.row.depth(), y.depth());
-    under(shifts_right(x), after - before - Felt::ONE)
-        + under(shifts_left(x), after - before + deeper(x.row))
-        + under(calls(x), after - Felt::from_u32(16))
-        + under(keeps_depth(x), after - before)
+    shifts_right(x) * (y.depth() - x.row.depth() - Felt::ONE)
+        + shifts_left(x) * (y.depth() - x.row.depth() + deeper(x.row))
+        + x.calls() * (y.depth() - Felt::from_u32(16))
+        + keeps_depth(x) * (y.depth() - x.row.depth())
 }
 
 // A call ends at depth sixteen.
@@ -103,7 +82,7 @@ fn entry_116<V: MainView>(x: &Seen<'_, V>, next: &Option<V>) -> Felt
 fn entry_117<V: MainView>(x: &Seen<'_, V>) -> Felt
     ensures { result ≡ entry_117 (flag (V.cells x.now.row.now)) (V.cells x.now.row.now) }
 {
-    under(returns(x), x.row.depth() - Felt::from_u32(16))
+    x.returns() * (x.row.depth() - Felt::from_u32(16))
 }
 
 // The key of the first cell below the sixteenth.
@@ -114,10 +93,8 @@ fn entry_118<V: MainView>(x: &Seen<'_, V>, next: &Option<V>) -> Felt
     let Some(y) = next else {
         return Felt::ZERO;
     };
-    let (before, after) = (x.row.key(), y.key());
-    let lowest = under(shifts_left(x), Felt::ONE - deeper(x.row));
-    under(shifts_right(x), after - x.row.clk())
-        + under(lowest, after - before)
-        + under(calls(x), after)
-        + under(keeps_depth(x), after - before)
+    shifts_right(x) * (y.key() - x.row.clk())
+        + shifts_left(x) * (Felt::ONE - deeper(x.row)) * (y.key() - x.row.key())
+        + x.calls() * y.key()
+        + keeps_depth(x) * (y.key() - x.row.key())
 }

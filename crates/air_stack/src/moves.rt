@@ -4,7 +4,7 @@ ghost use Rattle.vm_ops.specs.Moves.{leaves_of};
 ghost use Rattle.air_kit.specs.StackValues.{cells, chosen, chosen_not, cell_term, word_term, is_free, top_term, below_term, end_term, term};
 
 use crate::depth::deeper;
-use air_kit::{is_left, under};
+use air_kit::is_left;
 use vm_field::Felt;
 use vm_ops::{Op, leaves, opcode, sources, takes};
 use vm_table::MainView;
@@ -33,9 +33,7 @@ fn end_term<V: MainView>(j: usize, x: &V, y: &V) -> Felt
     requires { j < 16 }
     ensures { result ≡ end_term j (V.cells x.now) (V.cells y.now) }
 {
-    let ends_loop = x.h4();
-    under(Felt::ONE - ends_loop, below_term(j, x, y, Op::End))
-        + under(ends_loop, below_term(j, x, y, Op::Drop))
+    (Felt::ONE - x.h4()) * below_term(j, x, y, Op::End) + x.h4() * below_term(j, x, y, Op::Drop)
 }
 
 // The value of a cell below those that the operation leaves: it is the one that the shift brings there.
@@ -45,7 +43,7 @@ fn below_term<V: MainView>(j: usize, x: &V, y: &V, op: Op) -> Felt
     ensures { result ≡ below_term j (V.cells x.now) (V.cells y.now) op }
 {
     if is_left(op) && j == 15 {
-        under(Felt::ONE - deeper(x), y.s15())
+        (Felt::ONE - deeper(x)) * y.s15()
     } else {
         y.s(j) - x.s((j + takes(op)).saturating_sub(leaves(op)))
     }

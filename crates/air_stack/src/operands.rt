@@ -4,7 +4,7 @@ ghost use Rattle.air_kit.specs.Places.{between, first_fault_of};
 ghost use Rattle.air_kit.specs.StackValues.{entry_135, entry_136, entry_137, entry_138, entry_139, operand_values};
 ghost use Rattle.air_stack.specs.Parts.{has_operands, HasNoOperands, spot_of};
 
-use air_kit::{Seen, first_nonzero, under};
+use air_kit::{Seen, first_nonzero};
 use vm_field::Felt;
 use vm_ops::{Op, opcode};
 use vm_table::MainView;
@@ -70,7 +70,7 @@ fn entry_135<V: MainView>(x: &Seen<'_, V>, next: &Option<V>) -> Felt
     let Some(y) = next else {
         return Felt::ZERO;
     };
-    under(under(x.one(Op::Eqz), x.row.s0()), y.s0())
+    x.one(Op::Eqz) * x.row.s0() * y.s0()
 }
 
 // EQ leaves 0 where the cells differ.
@@ -81,7 +81,7 @@ fn entry_136<V: MainView>(x: &Seen<'_, V>, next: &Option<V>) -> Felt
     let Some(y) = next else {
         return Felt::ZERO;
     };
-    under(under(x.one(Op::Eq), x.row.s0() - x.row.s1()), y.s0())
+    x.one(Op::Eq) * (x.row.s0() - x.row.s1()) * y.s0()
 }
 
 // The operand is 0 or 1,
@@ -89,12 +89,9 @@ fn entry_136<V: MainView>(x: &Seen<'_, V>, next: &Option<V>) -> Felt
 fn entry_137<V: MainView>(x: &Seen<'_, V>) -> Felt
     ensures { result ≡ entry_137 (flag (V.cells x.now.row.now)) (V.cells x.now.row.now) }
 {
-    let binary = x.one(Op::Not)
-        + x.one(Op::And)
-        + x.one(Op::Or)
-        + x.one(Op::CSwap)
-        + x.one(Op::CSwapW);
-    under(under(binary, x.row.s0()), x.row.s0() - Felt::ONE)
+    (x.one(Op::Not) + x.one(Op::And) + x.one(Op::Or) + x.one(Op::CSwap) + x.one(Op::CSwapW))
+        * x.row.s0()
+        * (x.row.s0() - Felt::ONE)
 }
 
 // and so is the second one.
@@ -102,8 +99,7 @@ fn entry_137<V: MainView>(x: &Seen<'_, V>) -> Felt
 fn entry_138<V: MainView>(x: &Seen<'_, V>) -> Felt
     ensures { result ≡ entry_138 (flag (V.cells x.now.row.now)) (V.cells x.now.row.now) }
 {
-    let both = x.one(Op::And) + x.one(Op::Or);
-    under(under(both, x.row.s1()), x.row.s1() - Felt::ONE)
+    (x.one(Op::And) + x.one(Op::Or)) * x.row.s1() * (x.row.s1() - Felt::ONE)
 }
 
 // What is asserted is 1.
@@ -111,5 +107,5 @@ fn entry_138<V: MainView>(x: &Seen<'_, V>) -> Felt
 fn entry_139<V: MainView>(x: &Seen<'_, V>) -> Felt
     ensures { result ≡ entry_139 (flag (V.cells x.now.row.now)) (V.cells x.now.row.now) }
 {
-    under(x.one(Op::Assert), x.row.s0() - Felt::ONE)
+    x.one(Op::Assert) * (x.row.s0() - Felt::ONE)
 }

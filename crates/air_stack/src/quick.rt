@@ -12,7 +12,7 @@ ghost use Rattle.air_stack.specs.Quick.{AreCopies, ComeUp, EndsBlock, EndsCall, 
 
 use crate::depth::deeper;
 use crate::moves::top_term;
-use air_kit::{Seen, are_same, is_one, is_zero, under};
+use air_kit::{Seen, are_same, is_one, is_zero};
 use vm_field::Felt;
 use vm_ops::{Op, Shift, leaves, opcode, shift, sources};
 use vm_table::MainView;
@@ -52,7 +52,7 @@ fn falls<V: MainView>(x: &V, y: &V, deep: Felt) -> bool
     requires { deep ≡ deeper (V.cells x.now) }
     ensures { IsTrue result → Falls (V.cells x.now) (V.cells y.now) }
 {
-    is_zero(y.depth() - x.depth() + deep) && is_zero(under(Felt::ONE - deep, y.key() - x.key()))
+    is_zero(y.depth() - x.depth() + deep) && is_zero((Felt::ONE - deep) * (y.key() - x.key()))
 }
 
 fn stays<V: MainView>(x: &V, y: &V) -> bool
@@ -147,7 +147,7 @@ fn are_below_clean<V: MainView>(x: &V, y: &V, op: Op, deep: Felt) -> bool
     let left = leaves(op);
     match shift(op) {
         Shift::Left => {
-            if is_zero(under(Felt::ONE - deep, y.s15())) {
+            if is_zero((Felt::ONE - deep) * y.s15()) {
                 return come_up(left, x, y);
             }
             false
@@ -215,7 +215,7 @@ fn ends_loop<V: MainView>(x: &V, y: &V, deep: Felt) -> bool
     requires { deep ≡ deeper (V.cells x.now) }
     ensures { IsTrue result → EndsLoop (V.cells x.now) (V.cells y.now) }
 {
-    falls(x, y, deep) && is_zero(under(Felt::ONE - deep, y.s15())) && come_up(0, x, y)
+    falls(x, y, deep) && is_zero((Felt::ONE - deep) * y.s15()) && come_up(0, x, y)
 }
 
 // An END keeps the stack; that of a loop that was entered takes the condition off, and that of a call

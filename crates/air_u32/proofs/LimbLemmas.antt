@@ -30,7 +30,15 @@ zero_times a = ap (λ n. n % prime) (zero-mul a)
 no_two : (fl : Flags) → HasNoLimbs fl → takes_two fl ≡ 0
 unfolding takes_two
 no_two fl n =
-    rw (n ops.U32Add refl, n ops.U32Sub refl, n ops.U32Mul refl, n ops.U32Div refl, n ops.U32Assert2 refl, n ops.U32Add3 refl, n ops.U32MAdd refl) refl
+    rw (
+      n ops.U32Add refl,
+      n ops.U32Sub refl,
+      n ops.U32Mul refl,
+      n ops.U32Div refl,
+      n ops.U32Assert2 refl,
+      n ops.U32Add3 refl,
+      n ops.U32MAdd refl,
+    ) refl
 
 no_three : (fl : Flags) → HasNoLimbs fl → takes_three fl ≡ 0
 unfolding takes_three

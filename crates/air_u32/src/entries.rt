@@ -190,14 +190,13 @@ fn entry_145<V: MainView>(x: &Seen<'_, V>, next: &Option<V>) -> Felt
     let Some(y) = next else {
         return Felt::ZERO;
     };
-    let (b, a, c) = (x.row.s0(), x.row.s1(), x.row.s2());
-    x.one(Op::U32Split) * (b - two_left(y))
-        + x.one(Op::U32Add) * (b + a - two_left(y))
-        + x.one(Op::U32Add3) * (b + a + c - two_left(y))
-        + x.one(Op::U32Mul) * (b * a - two_left(y))
-        + x.one(Op::U32MAdd) * (b * a + c - two_left(y))
-        + x.one(Op::U32Sub) * (a - b - y.s1() + two_32() * y.s0())
-        + x.one(Op::U32Div) * (a - b * y.s1() - y.s0())
+    x.one(Op::U32Split) * (x.row.s0() - two_left(y))
+        + x.one(Op::U32Add) * (x.row.s0() + x.row.s1() - two_left(y))
+        + x.one(Op::U32Add3) * (x.row.s0() + x.row.s1() + x.row.s2() - two_left(y))
+        + x.one(Op::U32Mul) * (x.row.s0() * x.row.s1() - two_left(y))
+        + x.one(Op::U32MAdd) * (x.row.s0() * x.row.s1() + x.row.s2() - two_left(y))
+        + x.one(Op::U32Sub) * (x.row.s1() - x.row.s0() - y.s1() + two_32() * y.s0())
+        + x.one(Op::U32Div) * (x.row.s1() - x.row.s0() * y.s1() - y.s0())
 }
 
 // Two words are one element in one way alone.

@@ -13,7 +13,8 @@ use Rattle.command_ends.proofs.ServingLemmas.{says_ends}
 
 -- a program that is printed
 pub assembly_ends : (constants : List ℕ) (source : SourceFile) (kernel : Option SourceFile) (program : Program) (o : Outcome)
-    → AssemblesFiles constants source kernel (Ok program) → Says o status.Ok (program_lines constants program) → ComesTo (assembly constants source kernel) o
+    → AssemblesFiles constants source kernel (Ok program) → Says o status.Ok (program_lines constants program)
+    → ComesTo (assembly constants source kernel) o
 assembly_ends constants source kernel program o is says =
     says_ends (assembly constants source kernel) status.Ok (program_lines constants program) o refl (assembled program is) says
 

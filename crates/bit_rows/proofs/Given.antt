@@ -1,25 +1,27 @@
 -- What the rows of operations give on the bitwise bus, and what that means.
-use Rattle.std.proofs.Common.{◌≡◌, ℕ, zero, suc, ◌+◌, ◌*◌, ◌%◌, ◌^◌, ◌<◌, ◌==◌, ◌⊎◌, inl, inr, Bool, true, false, cond, if◌then◌else◌, List, [], ◌∷◌, length, map, slice_index, slice_index_or, nat_eq, bit_and, bit_xor, refl, sym, ap, ap₂, ◌∙◌, arith, lit<}
+use Rattle.std.proofs.Common.{if◌then◌else◌, ◌≡◌, ℕ, zero, suc, ◌+◌, ◌*◌, ◌%◌, ◌^◌, ◌<◌, ◌==◌, ◌⊎◌, inl, inr, Bool, true, false, cond, List, [], ◌∷◌, length, map, slice_index, slice_index_or, nat_eq, bit_and, bit_xor, refl, sym, ap, ap₂, ◌∙◌, arith, lit<}
 use Rattle.std.proofs.lemmas.Bool.{cases_Bool, ne_eqb}
 use Rattle.std.proofs.lemmas.List.Elements.{All-head, All-tail}
 use Rattle.std.specs.Cmp.Lexicographic.{same_text}
 use lib.Pointwise.{pointwise}
+use Rattle.vm_ops.specs.Values.{bit_of}
 use Rattle.buses.specs.Counts.{Counted, counted, once, over_first, total}
+use Rattle.buses.proofs.Counting.{counted-none, counted-append}
 use Rattle.chip_columns.specs.BitwiseColumns as bitwise_columns
 use Rattle.air_kit.specs.declared.requests.BitOp.{BitOp}
 use Rattle.air_kit.specs.ChipTuples.{bitwise_given}
 use Rattle.air_kit.specs.Requests.{bit_given}
 use Rattle.hash_rows.proofs.BlockLemmas.{eight}
-use Rattle.hash_rows.proofs.Totals.{counted-append, counted-none, total-eight, total-same}
-use Rattle.bit_rows.specs.BitRows.{bit_number, bitwise, bit_row, rows_before, rows_of}
+use Rattle.hash_rows.proofs.Totals.{total-eight, total-same}
+use Rattle.bit_rows.specs.BitRows.{bitwise, bit_row, rows_before, rows_of}
 use Rattle.bit_rows.specs.BitTables.{HasWords, AreWords, GivesOps, IsBitwise}
 
 -- the tuple of an operation
 abbrev pub tuple_of : BitOp → List ℕ
-tuple_of p = bit_number p.xor ∷ p.a ∷ p.b ∷ bitwise p.xor p.a p.b ∷ []
+tuple_of p = bit_of p.xor ∷ p.a ∷ p.b ∷ bitwise p.xor p.a p.b ∷ []
 
 by_kind : (xor : Bool) (u v : ℕ) → ◌≡◌ {A = Counted} (if xor then once (1 ∷ u ∷ v ∷ bit_xor u v ∷ []) else once (0 ∷ u ∷ v ∷ bit_and u v ∷ []))
-    (once (bit_number xor ∷ u ∷ v ∷ bitwise xor u v ∷ []))
+    (once (bit_of xor ∷ u ∷ v ∷ bitwise xor u v ∷ []))
 by_kind true u v = refl
 by_kind false u v = refl
 
@@ -32,7 +34,8 @@ gives_by : (q k : ℕ) (row : List ℕ) → k < 8 → bitwise_given (8 * q + k) 
     ≡ (if k == 7 then once (bitwise_columns.op row ∷ bitwise_columns.a row ∷ bitwise_columns.b row ∷ bitwise_columns.z row ∷ []) ∷ [] else [])
 unfolding bitwise_given
 gives_by q k row h =
-    ap (λ m. if m == 7 then once (bitwise_columns.op row ∷ bitwise_columns.a row ∷ bitwise_columns.b row ∷ bitwise_columns.z row ∷ []) ∷ [] else []) place
+    ap (λ m. if m == 7 then once (bitwise_columns.op row ∷ bitwise_columns.a row ∷ bitwise_columns.b row ∷ bitwise_columns.z row
+    ∷ []) ∷ [] else []) place
   where
     place : (8 * q + k) % 8 ≡ k
     place = omega (arith, h)
@@ -40,7 +43,8 @@ gives_by q k row h =
 gives_none : (q k : ℕ) (row u : List ℕ) → k < 7 → counted (bitwise_given (8 * q + k) row) u ≡ 0
 gives_none q k row u h =
     ap (λ xs. counted xs u) (gives_by q k row (omega (arith, h))
-    ∙ ap (λ test. if test then once (bitwise_columns.op row ∷ bitwise_columns.a row ∷ bitwise_columns.b row ∷ bitwise_columns.z row ∷ []) ∷ [] else [])
+    ∙ ap (λ test. if test then once (bitwise_columns.op row ∷ bitwise_columns.a row ∷ bitwise_columns.b row ∷ bitwise_columns.z row
+    ∷ []) ∷ [] else [])
     (ne_eqb k 7 (λ e. omega (arith, e, h))))
     ∙ counted-none u
 
@@ -122,7 +126,7 @@ given_by_one (p ∷ ops) u words h =
       | inr k ↦ given_by_one ops u (All-tail HasWords p ops words) k
     ]
 
-right_by : (xor : Bool) (kind s t u v w : ℕ) → s < 2 ^ 32 → t < 2 ^ 32 → kind ≡ bit_number xor → u ≡ s → v ≡ t → w ≡ bitwise xor s t
+right_by : (xor : Bool) (kind s t u v w : ℕ) → s < 2 ^ 32 → t < 2 ^ 32 → kind ≡ bit_of xor → u ≡ s → v ≡ t → w ≡ bitwise xor s t
     → IsBitwise kind u v w
 right_by true kind s t u v w hs ht ek eu ev ew = record {
   kind_bit = omega arith;

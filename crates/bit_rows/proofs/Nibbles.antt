@@ -1,9 +1,10 @@
 -- Four bits of a number, and what an operation makes of a number's bits.
 use Rattle.std.proofs.Common.{◌≡◌, ℕ, zero, suc, ◌+◌, ◌*◌, ◌/◌, ◌%◌, ◌^◌, ◌<◌, Bool, true, false, refl, sym, ap, ap₂, ◌∙◌, arith}
 use Rattle.std.proofs.lemmas.Nat.{and_le_l, and_block, xor_block, xor_lt}
+use Rattle.vm_ops.specs.Values.{bit_of}
 use Rattle.vm_field.specs.Signs.{◌⊞◌, ◌⊠◌}
 use Rattle.air_kit.specs.BitwiseValues.{bit_result}
-use Rattle.bit_rows.specs.BitRows.{bit_number, bitwise}
+use Rattle.bit_rows.specs.BitRows.{bitwise}
 
 pub record AreBits (p0 p1 p2 p3 : ℕ) : Type 0 where
   pub at0 : p0 < 2
@@ -39,7 +40,7 @@ splits_as n h p0 p1 p2 p3 bits is =
 
 -- ---- the result of two bits
 
-pub bit_result-is : (xor : Bool) (p q : ℕ) → p < 2 → q < 2 → bit_result (bit_number xor) p q ≡ bitwise xor p q
+pub bit_result-is : (xor : Bool) (p q : ℕ) → p < 2 → q < 2 → bit_result (bit_of xor) p q ≡ bitwise xor p q
 unfolding bit_result
 bit_result-is true zero zero hp hq = refl
 bit_result-is true zero (suc zero) hp hq = refl

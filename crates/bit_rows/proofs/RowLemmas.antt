@@ -1,9 +1,10 @@
 -- Rows of bits: what the four bits of each number come to, and a row that is known by its bits.
 use Rattle.std.proofs.Common.{◌≡◌, ℕ, ◌+◌, ◌*◌, ◌<◌, Bool, List, [], ◌∷◌, length, refl, sym, ap, ap₂, ◌∙◌, arith}
+use Rattle.vm_ops.specs.Values.{bit_of}
 use Rattle.vm_field.specs.Signs.{◌⊞◌, ◌⊠◌}
 use Rattle.chip_columns.specs.BitwiseColumns.{op, a, b, a0, a1, a2, a3, b0, b1, b2, b3, z}
 use Rattle.air_kit.specs.BitwiseValues.{bit_result, nibble_a, nibble_b, nibble_z}
-use Rattle.bit_rows.specs.BitRows.{bit_number, bitwise, bit_row}
+use Rattle.bit_rows.specs.BitRows.{bitwise, bit_row}
 use Rattle.bit_rows.proofs.Nibbles.{AreBits, SplitsAs, nibble, nibble-is, splits_as, bit_result-is, bitwise-bits, bitwise-splits}
 
 -- the kind and the eight bits of a row are bits
@@ -40,7 +41,7 @@ pub result_are_bits : (xor : Bool) (row : List ℕ) → HasBits row
 result_are_bits xor row bits =
     bitwise-bits xor (a0 row) (a1 row) (a2 row) (a3 row) (b0 row) (b1 row) (b2 row) (b3 row) bits.first bits.second
 
-pub nibble_z-is : (xor : Bool) (row : List ℕ) → HasBits row → op row ≡ bit_number xor → nibble_z row ≡ result_bits xor row
+pub nibble_z-is : (xor : Bool) (row : List ℕ) → HasBits row → op row ≡ bit_of xor → nibble_z row ≡ result_bits xor row
 unfolding nibble_z
 nibble_z-is xor row bits is =
     sum_same _ _ _ _ (bitwise xor (a0 row) (b0 row)) (bitwise xor (a1 row) (b1 row)) (bitwise xor (a2 row) (b2 row)) (bitwise xor (a3 row) (b3 row))
@@ -65,7 +66,7 @@ twelve_same a b c d e f g h i j k l m n o p q r s t u v w x e0 e1 e2 e3 e4 e5 e6
 
 -- its numbers are sixteen times others and its own bits, and its result is so too
 pub record IsBehind (xor : Bool) (u v : ℕ) (row : List ℕ) : Type 0 where
-  pub kind_is : op row ≡ bit_number xor
+  pub kind_is : op row ≡ bit_of xor
   pub first_is : a row ≡ 16 * u + first_bits row
   pub second_is : b row ≡ 16 * v + second_bits row
   pub result_is : z row ≡ 16 * bitwise xor u v + result_bits xor row

@@ -2,6 +2,7 @@
 use Rattle.std.proofs.Common.{◌≡◌, ℕ, zero, suc, ◌+◌, ◌*◌, ◌/◌, ◌%◌, ◌^◌, ◌<◌, Bool, true, false, List, [], ◌∷◌, length, slice_get, slice_index_or, Option, Some, refl, sym, ap, ap₂, ◌∙◌, shr-shr, arith, lit<}
 use Rattle.std.proofs.lemmas.List.Elements.{All-head, All-tail}
 use Rattle.std.proofs.lemmas.Nat.{shr_le}
+use Rattle.vm_ops.specs.Values.{bit_of}
 use Rattle.vm_field.specs.Field.{prime}
 use Rattle.vm_table.specs.Layout.{IsTable}
 use Rattle.air_kit.specs.declared.requests.BitOp.{BitOp}
@@ -10,7 +11,7 @@ use Rattle.air_kit.specs.Places.{at_number}
 use Rattle.hash_rows.proofs.BlockLemmas.{eight, first_of}
 use Rattle.hash_rows.proofs.RowsAreZero.{bit_again}
 use Rattle.hash_rows.proofs.ZeroLemmas.{AllZero, CellsBelow}
-use Rattle.bit_rows.specs.BitRows.{bit_number, bit_row, row_without, rows_before, rows_of, op_of, ops_in}
+use Rattle.bit_rows.specs.BitRows.{bit_row, row_without, rows_before, rows_of, op_of, ops_in}
 use Rattle.bit_rows.specs.BitTables.{HasWords, AreWords, IsZero}
 use Rattle.bit_rows.proofs.Nibbles.{bitwise-below}
 use Rattle.bit_rows.proofs.EightRows.{EightZero, ZeroFrom, from_eight, zero_behind}
@@ -26,7 +27,8 @@ two_zero : (begins : Bool) (p : BitOp) (n : ℕ) → HasWords p → (begins ≡ 
     → AllZero (bitwise_values_by begins true (row_without (n + 4) p) (Some (row_without n p)))
 unfolding row_without
 two_zero begins p n words small =
-    inside_zero begins p.xor (p.a / 2 ^ n) (p.b / 2 ^ n) (p.a / 2 ^ (n + 4)) (p.b / 2 ^ (n + 4)) (shifted_below n p.a words.0) (shifted_below n p.b words.1)
+    inside_zero begins p.xor (p.a / 2 ^ n) (p.b / 2 ^ n) (p.a / 2 ^ (n + 4)) (p.b / 2 ^ (n + 4)) (shifted_below n p.a words.0)
+    (shifted_below n p.b words.1)
     (sym (shr-shr p.a n 4)) (sym (shr-shr p.b n 4)) small
 
 before_last : (p : BitOp) → HasWords p → AllZero (bitwise_values_by false true (row_without 4 p) (Some (bit_row p.xor p.a p.b)))
@@ -67,7 +69,7 @@ table_cons r rows wide_row below_row t = record { wide = wide; below = below }
     below zero = below_row
     below (suc i) = t.below i
 
-kind_below : (xor : Bool) → bit_number xor < prime
+kind_below : (xor : Bool) → bit_of xor < prime
 kind_below true = lit< tt
 kind_below false = lit< tt
 
@@ -88,7 +90,8 @@ row_below xor u v hu hv (suc (suc (suc (suc (suc (suc (suc zero))))))) = omega a
 row_below xor u v hu hv (suc (suc (suc (suc (suc (suc (suc (suc zero)))))))) = omega arith
 row_below xor u v hu hv (suc (suc (suc (suc (suc (suc (suc (suc (suc zero))))))))) = omega arith
 row_below xor u v hu hv (suc (suc (suc (suc (suc (suc (suc (suc (suc (suc zero)))))))))) = omega arith
-row_below xor u v hu hv (suc (suc (suc (suc (suc (suc (suc (suc (suc (suc (suc zero))))))))))) = let h = bitwise-below xor 32 u v hu hv in omega (arith, h)
+row_below xor u v hu hv (suc (suc (suc (suc (suc (suc (suc (suc (suc (suc (suc zero))))))))))) = let h =
+    bitwise-below xor 32 u v hu hv in omega (arith, h)
 row_below xor u v hu hv (suc (suc (suc (suc (suc (suc (suc (suc (suc (suc (suc (suc k)))))))))))) = lit< tt
 
 with_row : (xor : Bool) (u v : ℕ) (rows : List (List ℕ)) → u < 2 ^ 32 → v < 2 ^ 32 → IsTable 12 rows → IsTable 12 (bit_row xor u v ∷ rows)
@@ -134,7 +137,8 @@ pub rows_are_zero : (ops : List BitOp) → AreWords ops → IsZero (rows_of ops)
 rows_are_zero ops words = record {
   table = table_of ops words;
   whole = let e = rows_of-size ops in omega (arith, e);
-  zero = λ i n h. ap (λ row. at_number (bitwise_values (record { row = row; cur = slice_index_or rows i []; next = slice_get rows (suc i) })) n) (no_others i)
+  zero = λ i n h. ap (λ row. at_number (bitwise_values
+      (record { row = row; cur = slice_index_or rows i []; next = slice_get rows (suc i) })) n) (no_others i)
       ∙ zero_behind 0 rows (rows_zero 0 ops refl words) i n h;
 }
   where

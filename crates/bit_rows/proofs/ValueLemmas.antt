@@ -1,5 +1,6 @@
 -- The values of rows of operations, which are 0.
 use Rattle.std.proofs.Common.{◌≡◌, ℕ, ◌+◌, ◌*◌, ◌/◌, ◌%◌, ◌^◌, ◌<◌, Bool, true, false, List, [], ◌∷◌, replicate, slice_index, Option, Some, refl, sym, ap, ap₂, ◌∙◌, arith}
+use Rattle.vm_ops.specs.Values.{bit_of}
 use Rattle.vm_field.specs.Field.{prime, felt_sub}
 use Rattle.vm_field.specs.Signs.{◌⊟◌, ◌⊠◌}
 use Rattle.vm_field.proofs.Algebra.{felt_sub-same}
@@ -8,7 +9,7 @@ use Rattle.air_kit.specs.BitwiseValues.{bitwise_values_by, nibble_a, nibble_b, n
 use Rattle.air_kit.specs.ChipPlaces.{only}
 use Rattle.vm_field.proofs.Elements.{index-zeros}
 use Rattle.hash_rows.proofs.ZeroLemmas.{AllZero}
-use Rattle.bit_rows.specs.BitRows.{bit_number, bitwise, bit_row}
+use Rattle.bit_rows.specs.BitRows.{bitwise, bit_row}
 use Rattle.bit_rows.proofs.Nibbles.{number_splits, bitwise-below, bitwise-none, bitwise-splits}
 use Rattle.bit_rows.proofs.RowLemmas.{HasBits, nibble_a-is, nibble_b-is, nibble_z-is}
 
@@ -22,7 +23,7 @@ sixteen_zero c d e f g h i j k l m n o p q r zc zd ze zf zg zh zi zj zk zl zm zn
     all : ◌≡◌ {A = List ℕ} (c ∷ d ∷ e ∷ f ∷ g ∷ h ∷ i ∷ j ∷ k ∷ l ∷ m ∷ n ∷ o ∷ p ∷ q ∷ r ∷ []) (replicate 16 0)
     all = cc
 
-kind_below : (xor : Bool) → bit_number xor < 2
+kind_below : (xor : Bool) → bit_of xor < 2
 kind_below true = omega arith
 kind_below false = omega arith
 
@@ -66,7 +67,7 @@ only_zero : (test : Bool) (value : ℕ) → (test ≡ true → value ≡ 0) → 
 only_zero true value is = is refl
 only_zero false value is = refl
 
-same_bits : (xor : Bool) → felt_sub (bit_number xor) (bit_number xor) ≡ 0
+same_bits : (xor : Bool) → felt_sub (bit_of xor) (bit_of xor) ≡ 0
 same_bits true = refl
 same_bits false = refl
 
@@ -75,7 +76,7 @@ pub inside_zero : (begins : Bool) (xor : Bool) (s t u v : ℕ) → s < 2 ^ 32 �
     → (begins ≡ true → (u < 16) × (v < 16)) → AllZero (bitwise_values_by begins true (bit_row xor u v) (Some (bit_row xor s t)))
 unfolding bitwise_values_by bit_row
 inside_zero begins xor s t u v hs ht us vt small =
-    sixteen_zero _ _ _ _ _ _ _ _ _ _ _ _ _ _ _ _ (bit_zero (bit_number xor) bits.kind) (bit_zero (u % 2) bits.first.at0)
+    sixteen_zero _ _ _ _ _ _ _ _ _ _ _ _ _ _ _ _ (bit_zero (bit_of xor) bits.kind) (bit_zero (u % 2) bits.first.at0)
     (bit_zero (u / 2 % 2) bits.first.at1) (bit_zero (u / 4 % 2) bits.first.at2) (bit_zero (u / 8 % 2) bits.first.at3)
     (bit_zero (v % 2) bits.second.at0) (bit_zero (v / 2 % 2) bits.second.at1) (bit_zero (v / 4 % 2) bits.second.at2)
     (bit_zero (v / 8 % 2) bits.second.at3) (only_zero begins _ first_own) (only_zero begins _ second_own)
@@ -125,7 +126,7 @@ inside_zero begins xor s t u v hs ht us vt small =
 pub last_zero : (xor : Bool) (u v : ℕ) (next : Option (List ℕ)) → AllZero (bitwise_values_by false false (bit_row xor u v) next)
 unfolding bitwise_values_by bit_row
 last_zero xor u v next =
-    sixteen_zero _ _ _ _ _ _ _ _ _ _ _ _ _ _ _ _ (bit_zero (bit_number xor) bits.kind) (bit_zero (u % 2) bits.first.at0)
+    sixteen_zero _ _ _ _ _ _ _ _ _ _ _ _ _ _ _ _ (bit_zero (bit_of xor) bits.kind) (bit_zero (u % 2) bits.first.at0)
     (bit_zero (u / 2 % 2) bits.first.at1) (bit_zero (u / 4 % 2) bits.first.at2) (bit_zero (u / 8 % 2) bits.first.at3)
     (bit_zero (v % 2) bits.second.at0) (bit_zero (v / 2 % 2) bits.second.at1) (bit_zero (v / 4 % 2) bits.second.at2)
     (bit_zero (v / 8 % 2) bits.second.at3) refl refl refl refl refl refl refl

@@ -1,5 +1,6 @@
 -- Values that are 0 at a row of the bitwise table: the row is that of its numbers, which go on from those of the row before.
 use Rattle.std.proofs.Common.{◌≡◌, ℕ, ◌+◌, ◌*◌, ◌/◌, ◌^◌, ◌<◌, ◌≤◌, ◌==◌, Bool, true, List, length, Option, Some, sym, ap, ◌∙◌, pow-add, arith}
+use Rattle.vm_ops.specs.Values.{bit_of}
 use Rattle.vm_field.specs.Field.{prime}
 use Rattle.vm_field.specs.Signs.{◌⊟◌, ◌⊠◌}
 use Rattle.vm_field.proofs.Algebra.{same_from_sub, bit_from_product}
@@ -7,7 +8,7 @@ use Rattle.chip_columns.specs.BitwiseColumns.{op, a, b, a0, a1, a2, a3, b0, b1, 
 use Rattle.air_kit.specs.BitwiseValues.{bitwise_values_by, nibble_a, nibble_b, nibble_z}
 use Rattle.hash_rows.proofs.RowLemmas.{bit_is}
 use Rattle.hash_rows.proofs.ZeroLemmas.{AllZero, CellsBelow}
-use Rattle.bit_rows.specs.BitRows.{bit_number, bitwise, bit_row}
+use Rattle.bit_rows.specs.BitRows.{bitwise, bit_row}
 use Rattle.bit_rows.proofs.Nibbles.{nibble-below, splits_as, bitwise-below, bitwise-none}
 use Rattle.bit_rows.proofs.RowLemmas.{HasBits, first_bits, second_bits, result_bits, nibble_a-is, nibble_b-is, nibble_z-is, result_are_bits, row_behind}
 
@@ -83,7 +84,7 @@ first_shows inside row next len below zero_is = record {
     bits : HasBits row
     bits = has_bits true inside row next below zero_is
 
-    kind_is : op row ≡ bit_number xor
+    kind_is : op row ≡ bit_of xor
     kind_is = bit_is (op row) bits.kind
 
     first_is : a row ≡ first_bits row
@@ -137,7 +138,7 @@ goes_on k begins cur next room len below bits s zero_is = record {
     xor : Bool
     xor = op next == 1
 
-    kind_is : op next ≡ bit_number xor
+    kind_is : op next ≡ bit_of xor
     kind_is = bit_is (op next) bits.kind
 
     first_is : a next ≡ 16 * a cur + first_bits next

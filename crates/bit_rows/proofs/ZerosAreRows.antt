@@ -76,7 +76,8 @@ eight_show r0 r1 r2 r3 r4 r5 r6 r7 rows t z = record {
     g6 = goes_on 24 false r5 r6 (lit≤ tt) (t.wide 6 (omega arith)) (t.below 6) (has_bits false true r6 (Some r7) (t.below 6) z.z6) g5.shows z.z5
 
     g7 : GoesOn 28 r6 r7
-    g7 = goes_on 28 false r6 r7 (lit≤ tt) (t.wide 7 (omega arith)) (t.below 7) (has_bits false false r7 (first_of rows) (t.below 7) z.z7) g6.shows z.z6
+    g7 = goes_on 28 false r6 r7 (lit≤ tt) (t.wide 7 (omega arith)) (t.below 7)
+        (has_bits false false r7 (first_of rows) (t.below 7) z.z7) g6.shows z.z6
 
     b6 : IsBefore 4 r7 r6
     b6 = record { kind_same = g7.kind_same; first_is = g7.first_is; second_is = g7.second_is }
@@ -127,5 +128,6 @@ no_others k = omega arith
 pub zeros_are_rows : (rows : List (List ℕ)) → IsZero rows → AreRows rows
 zeros_are_rows rows z =
     from_numbers 0 rows refl z.whole z.table (zero_from 0 rows
-    (λ k n h. ap (λ row. at_number (bitwise_values (record { row = row; cur = slice_index_or rows k []; next = slice_get rows (suc k) })) n) (no_others k)
+    (λ k n h. ap (λ row. at_number (bitwise_values
+    (record { row = row; cur = slice_index_or rows k []; next = slice_get rows (suc k) })) n) (no_others k)
     ∙ z.zero k n h))

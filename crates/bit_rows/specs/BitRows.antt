@@ -1,10 +1,8 @@
 -- The rows of the bitwise table as the operations that they show: eight rows each, the operands' highest four bits first.
 use Rattle.std.specs.Prelude.{ℕ, ◌/◌, ◌%◌, ◌^◌, Bool, ◌==◌, if◌then◌else◌, List, [], ◌∷◌, bit_and, bit_xor}
+use Rattle.vm_ops.specs.Values.{bit_of}
 use Rattle.chip_columns.specs.BitwiseColumns.{op, a, b}
 use Rattle.air_kit.specs.declared.requests.BitOp.{BitOp}
-
-abbrev pub bit_number : Bool → ℕ
-bit_number bit = if bit then 1 else 0
 
 -- the exclusive or of two numbers, or their and
 abbrev pub bitwise : Bool → ℕ → ℕ → ℕ
@@ -13,7 +11,7 @@ bitwise xor u v = if xor then bit_xor u v else bit_and u v
 -- the row of two numbers: they themselves, the four lowest bits of each, and their result
 unfoldable pub bit_row : Bool → ℕ → ℕ → List ℕ
 bit_row xor u v =
-    bit_number xor ∷ u ∷ v ∷ u % 2 ∷ u / 2 % 2 ∷ u / 4 % 2 ∷ u / 8 % 2 ∷ v % 2 ∷ v / 2 % 2 ∷ v / 4 % 2 ∷ v / 8 % 2
+    bit_of xor ∷ u ∷ v ∷ u % 2 ∷ u / 2 % 2 ∷ u / 4 % 2 ∷ u / 8 % 2 ∷ v % 2 ∷ v / 2 % 2 ∷ v / 4 % 2 ∷ v / 8 % 2
     ∷ bitwise xor u v ∷ []
 
 -- the row of an operation's operands but for so many of their lowest bits

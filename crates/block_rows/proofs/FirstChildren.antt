@@ -21,7 +21,8 @@ end_no_start op is starts = off (rw is at starts)
 pub join_no_loop : {A : Type 0} (op : Op) → op ≡ ops.Join → op ≡ ops.Loop → A
 join_no_loop op join loop = absurd (let none : ⊥ = cc in none)
 
-module _ (k : Claim) (rows : List (List ℕ)) (root : List ℕ) (shows : ShowsRows k rows) (blocks : BlockFacts rows) (children : ChildFacts rows root) where
+module _ (k : Claim) (rows : List (List ℕ)) (root : List ℕ) (shows : ShowsRows k rows) (blocks : BlockFacts rows)
+    (children : ChildFacts rows root) where
   join_starts : (j : ℕ) → IsAt rows j ops.Join → Starts rows j
   join_starts j join = starts_by rows j ops.Join refl join
 

@@ -33,7 +33,8 @@ pub data Next (rows : List (List ℕ)) (j e : ℕ) : Type 0 where
   end : Closes rows j (suc e) → Next rows j e
   turn : op_in rows j ≡ ops.Loop → TurnsAgain rows j (suc e) → Next rows j e
 
-module _ (k : Claim) (rows : List (List ℕ)) (root : List ℕ) (shows : ShowsRows k rows) (blocks : BlockFacts rows) (children : ChildFacts rows root) where
+module _ (k : Claim) (rows : List (List ℕ)) (root : List ℕ) (shows : ShowsRows k rows) (blocks : BlockFacts rows)
+    (children : ChildFacts rows root) where
   -- the block of an address
   pub same_block : (i j address : ℕ) → Starts rows i → Starts rows j → own rows i ≡ address → own rows j ≡ address → i ≡ j
   same_block i j address starts_i starts_j own_i own_j = blocks.one i j starts_i starts_j (own_i ∙ sym own_j)
@@ -89,8 +90,10 @@ module _ (k : Claim) (rows : List (List ℕ)) (root : List ℕ) (shows : ShowsRo
   root_named parent digest more none (IsNamed.statement zero_is digest_is) = (digest_is, refl)
   root_named parent digest more none (IsNamed.first i here own_is digest_is) = outside i parent (starts_by rows i ops.Join refl here) own_is none
   root_named parent digest more none (IsNamed.second i here own_is digest_is) = outside i parent (starts_by rows i ops.Join refl here) own_is none
-  root_named parent digest more none (IsNamed.on_one i here top own_is digest_is) = outside i parent (starts_by rows i ops.Split refl here) own_is none
-  root_named parent digest more none (IsNamed.on_zero i here top own_is digest_is) = outside i parent (starts_by rows i ops.Split refl here) own_is none
+  root_named parent digest more none (IsNamed.on_one i here top own_is digest_is) =
+      outside i parent (starts_by rows i ops.Split refl here) own_is none
+  root_named parent digest more none (IsNamed.on_zero i here top own_is digest_is) =
+      outside i parent (starts_by rows i ops.Split refl here) own_is none
   root_named parent digest more none (IsNamed.body i here top own_is digest_is) = outside i parent (starts_by rows i ops.Loop refl here) own_is none
   root_named parent digest more none (IsNamed.callee i here own_is digest_is) = outside i parent (starts_by rows i ops.Call refl here) own_is none
   root_named parent digest more none (IsNamed.kernel i here own_is digest_is) = outside i parent (starts_by rows i ops.Syscall refl here) own_is none

@@ -38,7 +38,9 @@ one_of_four next false false true h is_s is_e is_r is_h one = repeat (op_named n
 one_of_four next false false false h is_s is_e is_r is_h one = halt (op_named next ops.Halt (is_h ∙ one))
 
 pub behind_end : (next : Op) (top : ℕ) → may_follow ops.End top next ≡ true → BehindEnd next
-behind_end next top follows = one_of_four next (is_start_op next) (is_op next ops.End) (is_op next ops.Repeat) (is_op next ops.Halt) refl refl refl refl follows
+behind_end next top follows =
+    one_of_four next (is_start_op next) (is_op next ops.End) (is_op next ops.Repeat) (is_op next ops.Halt) refl refl refl refl
+    follows
 
 -- what stands before a start
 pub data BeforeStart (op : Op) : Type 0 where

@@ -22,7 +22,8 @@ use Rattle.block_rows.proofs.FirstChildren.{join_no_loop}
 is_not : {A : Type 0} (op other : Op) → is_op op other ≡ false → op ≡ other → is_op other other ≡ true → A
 is_not op other differs is same = never (sym same ∙ ap (λ o. is_op o other) (sym is) ∙ differs)
 
-module _ (k : Claim) (rows : List (List ℕ)) (root : List ℕ) (shows : ShowsRows k rows) (blocks : BlockFacts rows) (children : ChildFacts rows root) where
+module _ (k : Claim) (rows : List (List ℕ)) (root : List ℕ) (shows : ShowsRows k rows) (blocks : BlockFacts rows)
+    (children : ChildFacts rows root) where
   -- ---- behind the start of a block
 
   pub starts_inside : (j : ℕ) (op : Op) → IsAt rows j op → is_start_op (op_in rows (suc j)) ≡ true → StartsInside rows j
@@ -61,7 +62,8 @@ module _ (k : Claim) (rows : List (List ℕ)) (root : List ℕ) (shows : ShowsRo
   second_joins : (j e : ℕ) → Starts rows j → IsAt rows e ops.End → addr (row_at rows (suc e)) ≡ own rows j → Starts rows (suc e)
       → op_in rows j ≡ ops.Join
   second_joins j e starts here inside second =
-      joins_by j (front (row_at rows e)) (is_start_op (op_in rows (suc e))) second.is (child_of k rows root shows blocks children j e starts here inside)
+      joins_by j (front (row_at rows e)) (is_start_op (op_in rows (suc e))) second.is
+      (child_of k rows root shows blocks children j e starts here inside)
 
   pub after_only : (j a : ℕ) → is_op (op_in rows j) ops.Join ≡ false → is_op (op_in rows j) ops.Loop ≡ false → Starts rows j
       → Closes rows (suc j) a → Closes rows j (suc a) × IsOnlyChild rows j (front (row_at rows a))

@@ -156,7 +156,8 @@ module _ (constants : List ℕ) (kernel : List (List ℕ)) (limit : ℕ) where
 
   -- what each cycle keeps of the tasks and the state holds of each state of a run
   pub steps-along : (P : List Task → State → Type 0) (Q : Core → Type 0)
-      → ((task : Task) (rest todo : List Task) (mark : Mark) (s t : State) → Next constants task s.core mark rest → IsCycle constants kernel limit mark s t
+      → ((task : Task) (rest todo : List Task) (mark : Mark) (s t : State) → Next constants task s.core mark rest
+      → IsCycle constants kernel limit mark s t
       → P (task ∷ todo) s → P (rest ++ todo) t)
       → ((todo : List Task) (s : State) → P todo s → Q s.core)
       → {todo : List Task} {s t : State} {events : List Event} → Steps constants kernel limit todo s events t → P todo s
@@ -286,7 +287,8 @@ module _ (constants : List ℕ) (kernel : List (List ℕ)) (limit : ℕ) where
   reached-step task rest todo mark s t first c h =
       let n = next-context constants (take (advice_taken mark) s.tape) first h.0 h.1.0 in
       let ticks = cycle-clock constants kernel limit mark s t c in
-      let context : t.core.context ≡ (behind constants kernel limit mark s).context = ap (λ x. x.context) (behind-is constants kernel limit mark s t c) in
+      let context : t.core.context ≡ (behind constants kernel limit mark s).context =
+      ap (λ x. x.context) (behind-is constants kernel limit mark s t c) in
       let below = n.0 in (
         omega arith,
         subst (λ k. AreWithin k (rest ++ todo)) (sym ticks)

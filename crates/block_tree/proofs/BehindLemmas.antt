@@ -64,7 +64,8 @@ unfolding enters_syscall
 syscall-inv kernel callee c d e =
     let h : (c.in_syscall ≡ false) × (cond (is_in_kernel kernel callee) (Ok (syscalled c)) (Err NotInKernel) ≡ Ok d)
     = unless-ok c.in_syscall (cond (is_in_kernel kernel callee) (Ok (syscalled c)) (Err NotInKernel)) CallInSyscall d e in
-    let g : (is_in_kernel kernel callee ≡ true) × (fine (syscalled c) ≡ Ok d) = if-ok (is_in_kernel kernel callee) (Ok (syscalled c)) NotInKernel d h.1 in
+    let g : (is_in_kernel kernel callee ≡ true) × (fine (syscalled c) ≡ Ok d) =
+    if-ok (is_in_kernel kernel callee) (Ok (syscalled c)) NotInKernel d h.1 in
     (h.0, g.0, same-ok (syscalled c) d g.1)
 
 pub returns-inv : (frame : Frame) (c d : Core) → returns_to frame c ≡ Ok d → (length c.stack ≤ 16) × (d ≡ returned frame c)

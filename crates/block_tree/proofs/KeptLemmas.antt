@@ -107,5 +107,6 @@ cycle-kept constants kernel limit mark s t len c w h =
     let core : IsWellFormedCore c.core
     = subst IsWellFormedCore (sym behind) (kept-core constants mark _ s.core w h.core (λ item is.
     subst IsWellFormedCore behind (unticked c.core (c.core.clock + 1) (subst IsWellFormedCore (ap (λ x. x.core) c.now)
-    (operation-kept constants kernel limit item s t len (subst (λ m. IsCycle constants kernel limit m s t) is c) (subst IsWholeMark is w) h).core)))) in
+    (operation-kept constants kernel limit item s t len (subst (λ m. IsCycle constants kernel limit m s t) is c)
+    (subst IsWholeMark is w) h).core)))) in
     subst IsWellFormed (sym c.now) (record { core = kept-ticked c.core core; tape = elements-drop (advice_taken mark) s.tape h.tape })

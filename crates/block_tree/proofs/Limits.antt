@@ -62,7 +62,8 @@ module _ (constants : List ℕ) (kernel : List (List ℕ)) (j k : ℕ) where
         (cycle-ticks constants kernel k mark s t es e);
   }
     where
-      from : (t : State) (es : List Event) → Cycled k mark (advice_taken mark) (effect_of constants kernel mark) s t es → t.core.clock ≡ s.core.clock + 1
+      from : (t : State) (es : List Event) → Cycled k mark (advice_taken mark) (effect_of constants kernel mark) s t es
+          → t.core.clock ≡ s.core.clock + 1
           → Same j (cycle constants kernel j mark s) s t es
       from t es c ticks = record {
         later = omega arith;
@@ -117,7 +118,8 @@ module _ (constants : List ℕ) (kernel : List (List ℕ)) (j k : ℕ) where
       (top b.mid.core) b.mid t b.second b.went_on in
       omega arith
 
-  turns-strict : (limit : ℕ) (digest body_digest : List ℕ) (body : Part) → ((u t : State) (es : List Event) → body u ≡ Done t es → u.core.clock ≤ t.core.clock)
+  turns-strict : (limit : ℕ) (digest body_digest : List ℕ) (body : Part)
+      → ((u t : State) (es : List Event) → body u ≡ Done t es → u.core.clock ≤ t.core.clock)
       → (n : ℕ) (s t : State) (es : List Event) → turns constants kernel limit digest body_digest n body s ≡ Done t es → s.core.clock < t.core.clock
   turns-strict limit digest body_digest body h zero s t es e = absurd (done-not_late t es e)
   turns-strict limit digest body_digest body h (suc n) s t es e =

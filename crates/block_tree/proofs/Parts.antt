@@ -70,7 +70,8 @@ pub seq-inv : (f g : Part) (s t : State) (es : List Event) → seq f g s ≡ Don
 unfolding seq
 seq-inv f g s t es e = then-inv f g s t es (f s) refl e
 
-pub seq-done : (f g : Part) (s mid t : State) (first second : List Event) → f s ≡ Done mid first → g mid ≡ Done t second → seq f g s ≡ Done t (first ++ second)
+pub seq-done : (f g : Part) (s mid t : State) (first second : List Event) → f s ≡ Done mid first → g mid ≡ Done t second
+    → seq f g s ≡ Done t (first ++ second)
 unfolding seq
 seq-done f g s mid t first second ran went_on = rw (ran, went_on) refl
 

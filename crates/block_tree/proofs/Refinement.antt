@@ -18,7 +18,8 @@ abbrev HasInput : Option HashInput → Type 0
 HasInput (Some input) = Unit {0}
 HasInput None = ⊥
 
-same-digest : (constants : List ℕ) (input other : HashInput) → Some input ≡ Some other → digest_of_input constants input ≡ digest_of_input constants other
+same-digest : (constants : List ℕ) (input other : HashInput) → Some input ≡ Some other
+    → digest_of_input constants input ≡ digest_of_input constants other
 same-digest constants input other e = ap (λ o. digest_of_input constants (input_in input o)) e
 
 module _ (constants : List ℕ) where
@@ -103,11 +104,13 @@ module _ (constants : List ℕ) (kernel : List (List ℕ)) (limit : ℕ) where
       keep-then _ _ _ _ s (h s) (λ u. keep-at_bit (top u.core) _ _ _ _ u (keep-refl _)
       (keep-then _ _ _ _ u (keep-refl _) (keep-turns digest body_digest f g h n)))
 
-  pub keep-execution : {t u : Tree} → Refines constants t u → (s : State) → Keep (execution constants kernel limit u s) (execution constants kernel limit t s)
+  pub keep-execution : {t u : Tree} → Refines constants t u → (s : State)
+      → Keep (execution constants kernel limit u s) (execution constants kernel limit t s)
   keep-execution (opaque e) s = record { rule = λ t es d. absurd (opaque-not_done constants kernel limit s t es d) }
   keep-execution span s = keep-refl _
   keep-execution (join a b) s = rw (refines-digest constants a, refines-digest constants b)
-      (keep-then _ _ _ _ s (keep-refl _) (λ u. keep-then _ _ _ _ u (keep-execution a u) (λ v. keep-then _ _ _ _ v (keep-execution b v) (λ w. keep-refl _))))
+      (keep-then _ _ _ _ s (keep-refl _)
+      (λ u. keep-then _ _ _ _ u (keep-execution a u) (λ v. keep-then _ _ _ _ v (keep-execution b v) (λ w. keep-refl _))))
   keep-execution (split a b) s = rw (refines-digest constants a, refines-digest constants b)
       (keep-then _ _ _ _ s (keep-refl _)
       (λ u. keep-then _ _ _ _ u (keep-at_bit (top s.core) _ _ _ _ u (keep-execution b u) (keep-execution a u)) (λ v. keep-refl _)))

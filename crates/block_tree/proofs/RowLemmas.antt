@@ -55,10 +55,12 @@ word-cond false v w hv hw = hw
 
 pub accessed-word : (mark : Mark) (before after : Core) → IsWellFormedCore after → IsWord (accessed mark before after)
 accessed-word mark before after h =
-    word-cond (accesses_memory (op_of mark)) (word_at after.memory before.context (top before)) zero_word (h.words before.context (top before)) word-zero
+    word-cond (accesses_memory (op_of mark)) (word_at after.memory before.context (top before)) zero_word
+    (h.words before.context (top before)) word-zero
 
 pub shown-behind : (constants : List ℕ) (kernel : List (List ℕ)) (limit : ℕ) (mark : Mark) (s t : State) → IsCycle constants kernel limit mark s t
-    → (accessed mark s.core (core_after constants kernel mark s) ≡ accessed mark s.core t.core) × (top (core_after constants kernel mark s) ≡ top t.core)
+    → (accessed mark s.core (core_after constants kernel mark s) ≡ accessed mark s.core t.core)
+    × (top (core_after constants kernel mark s) ≡ top t.core)
 shown-behind constants kernel limit mark s t c =
     let after : core_after constants kernel mark s ≡ c.core = ap (λ r. behind r s.core) c.made in
     (ap (λ x. accessed mark s.core x) after ∙ ap (λ x. accessed mark s.core x.core) (sym c.now), ap top after ∙ ap (λ x. top x.core) (sym c.now))

@@ -75,14 +75,16 @@ module _ (constants : List ℕ) (kernel : List (List ℕ)) (limit : ℕ) where
   goes-operations (item ∷ items) later digest s mid t first second e h =
       let b = seq-inv (cycle_of (Do item)) (operations constants kernel limit items) s mid first e in
       rw (b.all, append_assoc b.first b.second second)
-      (goes-first (Within (item ∷ items) later digest) (Within items later digest ∷ []) (Do item) s b.mid t b.first (b.second ++ second) operation b.ran
+      (goes-first (Within (item ∷ items) later digest) (Within items later digest ∷ []) (Do item) s b.mid t b.first
+      (b.second ++ second) operation b.ran
       (goes-operations items later digest b.mid mid t b.second second b.went_on h))
 
   -- a batch that is begun and has a reading, and the batches behind it
   goes-batch : (task : Task) (mark : Mark) (batch : List ℕ) (later : List (List ℕ)) (digest : List ℕ) (s mid t : State) (first second : List Event)
       → ((items : List Item) → reading batch ≡ Some items → Next constants task s.core mark (Within items later digest ∷ []))
       → ((u : State) (es : List Event) → cycle_of mark s ≡ Done u es → HasReading batch)
-      → seq (cycle_of mark) (seq (read_operations constants kernel limit (reading batch)) (batches_from constants kernel limit Respan later)) s ≡ Done mid first
+      → seq (cycle_of mark) (seq (read_operations constants kernel limit (reading batch))
+      (batches_from constants kernel limit Respan later)) s ≡ Done mid first
       → ((u : State) (es : List Event) → batches_from constants kernel limit Respan later u ≡ Done mid es
       → Goes (Within [] later digest ∷ []) u t (es ++ second))
       → Goes (task ∷ []) s t (first ++ second)
@@ -194,7 +196,8 @@ module _ (constants : List ℕ) (kernel : List (List ℕ)) (limit : ℕ) where
       rw (x.all, y.all, z.all)
       (goes-first (Block (Join a b)) (Block a ∷ Block b ∷ Closing (digest_of (Join a b)) ∷ []) (StartJoin (digest_of a) (digest_of b))
       s x.mid t x.first (y.first ++ (z.first ++ z.second)) join x.ran
-      (goes-two (Block a ∷ []) (Block b ∷ Closing (digest_of (Join a b)) ∷ []) x.mid y.mid t y.first (z.first ++ z.second) (g x.mid y.mid y.first y.ran)
+      (goes-two (Block a ∷ []) (Block b ∷ Closing (digest_of (Join a b)) ∷ []) x.mid y.mid t y.first (z.first ++ z.second)
+      (g x.mid y.mid y.first y.ran)
       (goes-two (Block b ∷ []) (Closing (digest_of (Join a b)) ∷ []) y.mid z.mid t z.first z.second (h y.mid z.mid z.first z.ran)
       (goes-last (Closing (digest_of (Join a b))) (End (digest_of (Join a b))) z.mid t z.second (closes {c = z.mid.core}) z.went_on))))
 

@@ -256,7 +256,8 @@ module _ (constants : List ℕ) (kernel : List (List ℕ)) (limit : ℕ) where
       (seq (cycle_of (StartSyscall (digest_of a)))
       (seq (run_of a) (cycle_of (EndSyscall (digest_of (Syscall a)) (frame_of s.core)))))
       (run_of (Syscall a)) todo s u _ refl
-      (parted-one (StartSyscall (digest_of a)) (EndSyscall (digest_of (Syscall a)) (frame_of s.core)) a (Leaving (digest_of (Syscall a)) (frame_of s.core))
+      (parted-one (StartSyscall (digest_of a)) (EndSyscall (digest_of (Syscall a)) (frame_of s.core)) a
+      (Leaving (digest_of (Syscall a)) (frame_of s.core))
       todo s t u events c (parted-tree a) (parted-leaves (digest_of (Syscall a)) (frame_of s.core)) more)
 
   none-left : (s u : State) (es : List Event) → Stepping [] s es u → (s ≡ u) × (es ≡ [])

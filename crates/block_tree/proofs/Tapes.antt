@@ -82,7 +82,8 @@ fed-taking limit mark n effect s t es c =
     }
 
 module _ (constants : List ℕ) (kernel : List (List ℕ)) (limit : ℕ) where
-  fed-cycle : (mark : Mark) (s t : State) (es : List Event) → cycle constants kernel limit mark s ≡ Done t es → Fed (cycle constants kernel limit mark) s t es
+  fed-cycle : (mark : Mark) (s t : State) (es : List Event) → cycle constants kernel limit mark s ≡ Done t es
+      → Fed (cycle constants kernel limit mark) s t es
   fed-cycle mark s t es e =
       fed-taking limit mark (advice_taken mark) (effect_of constants kernel mark) s t es
       (taking-inv limit mark (advice_taken mark) (effect_of constants kernel mark) s t es e)
@@ -108,10 +109,13 @@ module _ (constants : List ℕ) (kernel : List (List ℕ)) (limit : ℕ) where
   fed-turn : (digest body_digest : List ℕ) (again : Part)
       → ((u t : State) (es : List Event) → again u ≡ Done t es → Fed again u t es)
       → (u t : State) (es : List Event)
-      → at_bit (top u.core) (cycle constants kernel limit (EndLoop digest)) (seq (cycle constants kernel limit (Repeat body_digest)) again) u ≡ Done t es
-      → Fed (λ v. at_bit (top v.core) (cycle constants kernel limit (EndLoop digest)) (seq (cycle constants kernel limit (Repeat body_digest)) again) v) u t es
+      → at_bit (top u.core) (cycle constants kernel limit (EndLoop digest))
+      (seq (cycle constants kernel limit (Repeat body_digest)) again) u ≡ Done t es
+      → Fed (λ v. at_bit (top v.core) (cycle constants kernel limit (EndLoop digest))
+      (seq (cycle constants kernel limit (Repeat body_digest)) again) v) u t es
   fed-turn digest body_digest again h u t es e =
-      let fed : Fed (at_bit (top u.core) (cycle constants kernel limit (EndLoop digest)) (seq (cycle constants kernel limit (Repeat body_digest)) again)) u t es
+      let fed : Fed (at_bit (top u.core) (cycle constants kernel limit (EndLoop digest))
+      (seq (cycle constants kernel limit (Repeat body_digest)) again)) u t es
       = fed-at_bit (top u.core) _ _ u t es e (fed-cycle (EndLoop digest) u t es)
       (λ d. fed-then _ _ u t es d (fed-cycle (Repeat body_digest) u) (λ v fs c. h v t fs c)) in
       record { tape = fed.tape; again = fed.again }
@@ -125,7 +129,8 @@ module _ (constants : List ℕ) (kernel : List (List ℕ)) (limit : ℕ) where
       (seq (cycle constants kernel limit (Repeat body_digest)) (turns constants kernel limit digest body_digest n body)) v))
       s t es
       = fed-then _ _ s t es e (h s)
-      (λ u fs d. fed-turn digest body_digest (turns constants kernel limit digest body_digest n body) (fed-turns digest body_digest body h n) u t fs d) in
+      (λ u fs d. fed-turn digest body_digest (turns constants kernel limit digest body_digest n body)
+      (fed-turns digest body_digest body h n) u t fs d) in
       record { tape = fed.tape; again = fed.again }
 
   pub fed-execution : (u : Tree) (s t : State) (es : List Event)
@@ -147,7 +152,8 @@ module _ (constants : List ℕ) (kernel : List (List ℕ)) (limit : ℕ) where
       fed-core (λ c. seq (cycle constants kernel limit (StartLoop (tree_digest constants a)))
       (at_bit (top c)
       (cycle constants kernel limit (End (tree_digest constants (Loop a))))
-      (turns constants kernel limit (tree_digest constants (Loop a)) (tree_digest constants a) (limit - c.clock) (execution constants kernel limit a))))
+      (turns constants kernel limit (tree_digest constants (Loop a)) (tree_digest constants a) (limit - c.clock)
+      (execution constants kernel limit a))))
       s t es
       (fed-then _ _ s t es e (fed-cycle _ s) (λ u fs d.
       fed-at_bit (top s.core) _ _ u t fs d (fed-cycle _ u t fs) (fed-turns _ _ _ (fed-execution a) (limit - s.core.clock) u t fs)))

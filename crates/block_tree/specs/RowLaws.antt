@@ -31,4 +31,5 @@ core_after constants kernel mark s = behind (effect_of constants kernel mark (ta
 -- what a row shows of the state behind its cycle is what stands in the state of the next row
 abbrev pub ShownBehind : Type 0
 ShownBehind = (constants : List ℕ) (kernel : List (List ℕ)) (limit : ℕ) (mark : Mark) (s t : State) → IsCycle constants kernel limit mark s t
-    → (accessed mark s.core (core_after constants kernel mark s) ≡ accessed mark s.core t.core) × (top (core_after constants kernel mark s) ≡ top t.core)
+    → (accessed mark s.core (core_after constants kernel mark s) ≡ accessed mark s.core t.core)
+    × (top (core_after constants kernel mark s) ≡ top t.core)

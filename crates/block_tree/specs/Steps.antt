@@ -36,7 +36,8 @@ module _ (constants : List ℕ) where
     call : {c : Core} {a : Tree}
         → Next (Block (Call a)) c (StartCall (tree_digest constants a)) (Block a ∷ Returning (tree_digest constants (Call a)) (frame_of c) ∷ [])
     syscall : {c : Core} {a : Tree}
-        → Next (Block (Syscall a)) c (StartSyscall (tree_digest constants a)) (Block a ∷ Leaving (tree_digest constants (Syscall a)) (frame_of c) ∷ [])
+        → Next (Block (Syscall a)) c (StartSyscall (tree_digest constants a))
+        (Block a ∷ Leaving (tree_digest constants (Syscall a)) (frame_of c) ∷ [])
     operation : {c : Core} {item : Item} {items : List Item} {later : List (List ℕ)} {digest : List ℕ}
         → Next (Within (item ∷ items) later digest) c (Do item) (Within items later digest ∷ [])
     respan : {c : Core} {batch : List ℕ} {later : List (List ℕ)} {digest : List ℕ} {items : List Item} → reading batch ≡ Some items

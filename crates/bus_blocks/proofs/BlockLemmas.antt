@@ -111,7 +111,8 @@ not_end ops.End h = absurd (h refl)
 not_end op h = refl
 
 -- one that is none of those that have children
-pub not_parent : (op : Op) (x y : List ℕ) → (op ≡ ops.Join → ⊥) → (op ≡ ops.Split → ⊥) → (op ≡ ops.Loop → ⊥) → (op ≡ ops.Call → ⊥) → (op ≡ ops.Syscall → ⊥)
+pub not_parent : (op : Op) (x y : List ℕ) → (op ≡ ops.Join → ⊥) → (op ≡ ops.Split → ⊥) → (op ≡ ops.Loop → ⊥) → (op ≡ ops.Call → ⊥)
+    → (op ≡ ops.Syscall → ⊥)
     → (op ≡ ops.Repeat → ⊥) → [] ≡ children_of op x y
 unfolding children_of
 not_parent ops.Join x y h0 h1 h2 h3 h4 h5 = absurd (h0 refl)

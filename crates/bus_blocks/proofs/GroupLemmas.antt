@@ -70,7 +70,8 @@ unfolding groups_from
 one_more_group x y q m now mid new t tuple p rest =
     rw (← tuple) (given_first 1 m (suc m) now mid new (once t ∷ []) [] (groups_from x y (suc q) m) p rest (omega arith))
 
-pub given_below_more : (x y : List ℕ) (count q left : ℕ) (old now mid : Tally) (t : List ℕ) → q < count → left ≡ count - q → t ≡ ha y ∷ left ∷ h x q ∷ []
+pub given_below_more : (x y : List ℕ) (count q left : ℕ) (old now mid : Tally) (t : List ℕ) → q < count → left ≡ count - q
+    → t ≡ ha y ∷ left ∷ h x q ∷ []
     → IsCounted 1 now mid [] (once t ∷ []) → AreGivenBelow x y count q old now → AreGivenBelow x y count (q + 1) old mid
 given_below_more x y count q left old now mid t within is tuple p before =
     let here : count - q ≡ suc (count - (q + 1)) = omega arith in

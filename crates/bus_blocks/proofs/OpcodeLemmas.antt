@@ -20,12 +20,14 @@ small_parts n0 n1 n2 n3 n4 n5 n6 l0 l1 l2 l3 l4 l5 l6 =
     let e6 : 64 ⊠ n6 ≡ 64 * n6 = omega arith in
     let s1 : n0 ⊞ 2 * n1 ≡ n0 + 2 * n1 = small_sum n0 (2 * n1) (omega arith) (omega arith) in
     let s2 : (n0 + 2 * n1) ⊞ 4 * n2 ≡ n0 + 2 * n1 + 4 * n2 = small_sum (n0 + 2 * n1) (4 * n2) (omega arith) (omega arith) in
-    let s3 : (n0 + 2 * n1 + 4 * n2) ⊞ 8 * n3 ≡ n0 + 2 * n1 + 4 * n2 + 8 * n3 = small_sum (n0 + 2 * n1 + 4 * n2) (8 * n3) (omega arith) (omega arith) in
+    let s3 : (n0 + 2 * n1 + 4 * n2) ⊞ 8 * n3 ≡ n0 + 2 * n1 + 4 * n2 + 8 * n3 =
+    small_sum (n0 + 2 * n1 + 4 * n2) (8 * n3) (omega arith) (omega arith) in
     let s4 : (n0 + 2 * n1 + 4 * n2 + 8 * n3) ⊞ 16 * n4 ≡ n0 + 2 * n1 + 4 * n2 + 8 * n3 + 16 * n4 =
     small_sum (n0 + 2 * n1 + 4 * n2 + 8 * n3) (16 * n4) (omega arith) (omega arith) in
     let s5 : (n0 + 2 * n1 + 4 * n2 + 8 * n3 + 16 * n4) ⊞ 32 * n5 ≡ n0 + 2 * n1 + 4 * n2 + 8 * n3 + 16 * n4 + 32 * n5 =
     small_sum (n0 + 2 * n1 + 4 * n2 + 8 * n3 + 16 * n4) (32 * n5) (omega arith) (omega arith) in
-    rw (e1, e2, e3, e4, e5, e6, s1, s2, s3, s4, s5) (small_sum (n0 + 2 * n1 + 4 * n2 + 8 * n3 + 16 * n4 + 32 * n5) (64 * n6) (omega arith) (omega arith))
+    rw (e1, e2, e3, e4, e5, e6, s1, s2, s3, s4, s5)
+    (small_sum (n0 + 2 * n1 + 4 * n2 + 8 * n3 + 16 * n4 + 32 * n5) (64 * n6) (omega arith) (omega arith))
 
 pub opcode_spelled : (x : List ℕ) → HasBits x → spelled 7 (b x) ≡ opcode_in x
 unfolding opcode_in spelled

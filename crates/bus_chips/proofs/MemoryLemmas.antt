@@ -26,7 +26,8 @@ memory_bus c i x next t accesses values given asked bus.Memory = counted_within 
 memory_bus c i x next t accesses values given asked bus.Range = counted_within 16 (2 ^ 66) t.range values (memory_ranges x) [] asked (lit≤ tt)
 memory_bus c i x next t accesses values given asked bus.Kernel = none_counted (2 ^ 66) t.kernel
 
-pub memory_counted : {E : Type 0} (c : Claim) (i : ℕ) (x : List ℕ) (next : Option (List ℕ)) (t : Tallies) (accesses values : Tally) (r : Result (Unit {0}) E)
+pub memory_counted : {E : Type 0} (c : Claim) (i : ℕ) (x : List ℕ) (next : Option (List ℕ)) (t : Tallies) (accesses values : Tally)
+    (r : Result (Unit {0}) E)
     → IsCounted 1 t.memory accesses [] (memory_given x) → OnOk r (IsCounted 16 t.range values (memory_ranges x) [])
     → OnOk r (AreCounted (2 ^ 66) t (record t { memory = accesses; range = values })
     (λ b. chip_asked c b table.Memory i x next) (λ b. chip_given b table.Memory i x next))

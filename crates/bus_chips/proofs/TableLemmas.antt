@@ -12,8 +12,10 @@ use Rattle.bus_kit.specs.declared.tallies.Tallies.{Tallies}
 use Rattle.bus_kit.specs.declared.tally.Tally.{Tally}
 use Rattle.bus_kit.proofs.AddingLemmas.{counted_within, none_counted}
 
-range_bus : (c : Claim) (i : ℕ) (x : List ℕ) (next : Option (List ℕ)) (t : Tallies) (now : Tally) → IsCounted (2 ^ 64) t.range now [] (range_given x) → (b : Bus)
-    → IsCounted (2 ^ 66) (tally_of t b) (tally_of (record t { range = now }) b) (chip_asked c b table.Range i x next) (chip_given b table.Range i x next)
+range_bus : (c : Claim) (i : ℕ) (x : List ℕ) (next : Option (List ℕ)) (t : Tallies) (now : Tally)
+    → IsCounted (2 ^ 64) t.range now [] (range_given x) → (b : Bus)
+    → IsCounted (2 ^ 66) (tally_of t b) (tally_of (record t { range = now }) b) (chip_asked c b table.Range i x next)
+    (chip_given b table.Range i x next)
 range_bus c i x next t now p bus.Blocks = none_counted (2 ^ 66) t.blocks
 range_bus c i x next t now p bus.Children = none_counted (2 ^ 66) t.children
 range_bus c i x next t now p bus.Loops = none_counted (2 ^ 66) t.loops
@@ -31,8 +33,10 @@ pub range_counted : {E : Type 0} (c : Claim) (i : ℕ) (x : List ℕ) (next : Op
 range_counted c i x next t now (Ok v) p = range_bus c i x next t now p
 range_counted c i x next t now (Err e) p = tt
 
-kernel_bus : (c : Claim) (i : ℕ) (x : List ℕ) (next : Option (List ℕ)) (t : Tallies) (now : Tally) → IsCounted (2 ^ 64) t.kernel now [] (kernel_given x) → (b : Bus)
-    → IsCounted (2 ^ 66) (tally_of t b) (tally_of (record t { kernel = now }) b) (chip_asked c b table.Kernel i x next) (chip_given b table.Kernel i x next)
+kernel_bus : (c : Claim) (i : ℕ) (x : List ℕ) (next : Option (List ℕ)) (t : Tallies) (now : Tally)
+    → IsCounted (2 ^ 64) t.kernel now [] (kernel_given x) → (b : Bus)
+    → IsCounted (2 ^ 66) (tally_of t b) (tally_of (record t { kernel = now }) b) (chip_asked c b table.Kernel i x next)
+    (chip_given b table.Kernel i x next)
 kernel_bus c i x next t now p bus.Blocks = none_counted (2 ^ 66) t.blocks
 kernel_bus c i x next t now p bus.Children = none_counted (2 ^ 66) t.children
 kernel_bus c i x next t now p bus.Loops = none_counted (2 ^ 66) t.loops
@@ -50,8 +54,10 @@ pub kernel_counted : {E : Type 0} (c : Claim) (i : ℕ) (x : List ℕ) (next : O
 kernel_counted c i x next t now (Ok v) p = kernel_bus c i x next t now p
 kernel_counted c i x next t now (Err e) p = tt
 
-hasher_bus : (c : Claim) (i : ℕ) (x : List ℕ) (next : Option (List ℕ)) (t : Tallies) (now : Tally) → IsCounted 1 t.hasher now [] (hasher_given i x) → (b : Bus)
-    → IsCounted (2 ^ 66) (tally_of t b) (tally_of (record t { hasher = now }) b) (chip_asked c b table.Hasher i x next) (chip_given b table.Hasher i x next)
+hasher_bus : (c : Claim) (i : ℕ) (x : List ℕ) (next : Option (List ℕ)) (t : Tallies) (now : Tally)
+    → IsCounted 1 t.hasher now [] (hasher_given i x) → (b : Bus)
+    → IsCounted (2 ^ 66) (tally_of t b) (tally_of (record t { hasher = now }) b) (chip_asked c b table.Hasher i x next)
+    (chip_given b table.Hasher i x next)
 hasher_bus c i x next t now p bus.Blocks = none_counted (2 ^ 66) t.blocks
 hasher_bus c i x next t now p bus.Children = none_counted (2 ^ 66) t.children
 hasher_bus c i x next t now p bus.Loops = none_counted (2 ^ 66) t.loops
@@ -69,8 +75,10 @@ pub hasher_counted : {E : Type 0} (c : Claim) (i : ℕ) (x : List ℕ) (next : O
 hasher_counted c i x next t now (Ok v) p = hasher_bus c i x next t now p
 hasher_counted c i x next t now (Err e) p = tt
 
-bitwise_bus : (c : Claim) (i : ℕ) (x : List ℕ) (next : Option (List ℕ)) (t : Tallies) (now : Tally) → IsCounted 1 t.bitwise now [] (bitwise_given i x) → (b : Bus)
-    → IsCounted (2 ^ 66) (tally_of t b) (tally_of (record t { bitwise = now }) b) (chip_asked c b table.Bitwise i x next) (chip_given b table.Bitwise i x next)
+bitwise_bus : (c : Claim) (i : ℕ) (x : List ℕ) (next : Option (List ℕ)) (t : Tallies) (now : Tally)
+    → IsCounted 1 t.bitwise now [] (bitwise_given i x) → (b : Bus)
+    → IsCounted (2 ^ 66) (tally_of t b) (tally_of (record t { bitwise = now }) b) (chip_asked c b table.Bitwise i x next)
+    (chip_given b table.Bitwise i x next)
 bitwise_bus c i x next t now p bus.Blocks = none_counted (2 ^ 66) t.blocks
 bitwise_bus c i x next t now p bus.Children = none_counted (2 ^ 66) t.children
 bitwise_bus c i x next t now p bus.Loops = none_counted (2 ^ 66) t.loops
@@ -84,12 +92,15 @@ bitwise_bus c i x next t now p bus.Kernel = none_counted (2 ^ 66) t.kernel
 
 pub bitwise_counted : {E : Type 0} (c : Claim) (i : ℕ) (x : List ℕ) (next : Option (List ℕ)) (t : Tallies) (now : Tally) (r : Result (Unit {0}) E)
     → OnOk r (IsCounted 1 t.bitwise now [] (bitwise_given i x))
-    → OnOk r (AreCounted (2 ^ 66) t (record t { bitwise = now }) (λ b. chip_asked c b table.Bitwise i x next) (λ b. chip_given b table.Bitwise i x next))
+    → OnOk r (AreCounted (2 ^ 66) t (record t { bitwise = now }) (λ b. chip_asked c b table.Bitwise i x next)
+    (λ b. chip_given b table.Bitwise i x next))
 bitwise_counted c i x next t now (Ok v) p = bitwise_bus c i x next t now p
 bitwise_counted c i x next t now (Err e) p = tt
 
-left_bus : (c : Claim) (i : ℕ) (x : List ℕ) (next : Option (List ℕ)) (t : Tallies) (now : Tally) → IsCounted 1 t.overflow now (left_asked c i x next) [] → (b : Bus)
-    → IsCounted (2 ^ 66) (tally_of t b) (tally_of (record t { overflow = now }) b) (chip_asked c b table.Left i x next) (chip_given b table.Left i x next)
+left_bus : (c : Claim) (i : ℕ) (x : List ℕ) (next : Option (List ℕ)) (t : Tallies) (now : Tally)
+    → IsCounted 1 t.overflow now (left_asked c i x next) [] → (b : Bus)
+    → IsCounted (2 ^ 66) (tally_of t b) (tally_of (record t { overflow = now }) b) (chip_asked c b table.Left i x next)
+    (chip_given b table.Left i x next)
 left_bus c i x next t now p bus.Blocks = none_counted (2 ^ 66) t.blocks
 left_bus c i x next t now p bus.Children = none_counted (2 ^ 66) t.children
 left_bus c i x next t now p bus.Loops = none_counted (2 ^ 66) t.loops
@@ -108,8 +119,10 @@ left_counted c i x next t now (Ok v) p = left_bus c i x next t now p
 left_counted c i x next t now (Err e) p = tt
 
 -- the same list by another name
-pub as_given : {E : Type 0} (n : ℕ) (a b : Tally) (r : Result (Unit {0}) E) (xs ys : List Counted) → xs ≡ ys → OnOk r (IsCounted n a b [] xs) → OnOk r (IsCounted n a b [] ys)
+pub as_given : {E : Type 0} (n : ℕ) (a b : Tally) (r : Result (Unit {0}) E) (xs ys : List Counted) → xs ≡ ys
+    → OnOk r (IsCounted n a b [] xs) → OnOk r (IsCounted n a b [] ys)
 as_given n a b r xs ys e p = subst (λ given. OnOk r (IsCounted n a b [] given)) e p
 
-pub as_asked : {E : Type 0} (n : ℕ) (a b : Tally) (r : Result (Unit {0}) E) (xs ys : List Counted) → xs ≡ ys → OnOk r (IsCounted n a b xs []) → OnOk r (IsCounted n a b ys [])
+pub as_asked : {E : Type 0} (n : ℕ) (a b : Tally) (r : Result (Unit {0}) E) (xs ys : List Counted) → xs ≡ ys
+    → OnOk r (IsCounted n a b xs []) → OnOk r (IsCounted n a b ys [])
 as_asked n a b r xs ys e p = subst (λ asked. OnOk r (IsCounted n a b asked [])) e p

@@ -2,6 +2,7 @@
 use Rattle.std.proofs.Common.{◌≡◌, ℕ, ◌+◌, ◌≤◌, List, [], ◌∷◌, ◌++◌, arith}
 use Rattle.buses.specs.Counts.{counted, once, over_rows, with_next}
 use Rattle.buses.specs.declared.bus.Bus.TheVariants as bus
+use Rattle.buses.proofs.Counting.{counted-none}
 use Rattle.air_kit.specs.Acceptance.{IsAccepted, asked_on, given_on}
 use Rattle.air_kit.specs.ChipTuples.{chip_given, kernel_given, left_asked, memory_ranges, range_given}
 use Rattle.air_kit.specs.MainTuples.{bitwise_asked, blocks_asked, blocks_given, children_asked, children_given, groups_asked, groups_given, hasher_asked, kernel_asked, loops_asked, loops_given, memory_asked, overflow_asked, overflow_given, range_asked}
@@ -10,7 +11,6 @@ use Rattle.air_kit.specs.declared.trace.Public.{Public}
 use Rattle.air_kit.specs.declared.trace.TableName.TheVariants as table
 use Rattle.air_kit.specs.declared.trace.Trace.{Trace}
 use Rattle.bus_facts.proofs.RowSums.{PairTuples, pairs_none, rows_none}
-use Rattle.bus_facts.proofs.Tuples.{none_counts}
 
 -- so often the rows count it
 abbrev pub in_main : PairTuples → Trace → List ℕ → ℕ
@@ -36,7 +36,7 @@ none t u = record {
   kernel = rows_none t.kernel u;
   left = rows_none t.left u;
   main = pairs_none t.main u;
-  statement = none_counts u;
+  statement = counted-none u;
 }
 
 pub blocks_alike : (p : Public) (t : Trace) → IsAccepted p t → (u : List ℕ) → in_main blocks_asked t u ≡ in_main blocks_given t u

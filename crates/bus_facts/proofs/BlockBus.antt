@@ -66,7 +66,8 @@ asks rows e at = record {
       in omega (arith, k));
 }
 
-frame_back : (calls ends : Bool) (before behind none : List ℕ) → calls ≡ true → ends ≡ true → cond calls before none ≡ cond ends behind none → behind ≡ before
+frame_back : (calls ends : Bool) (before behind none : List ℕ) → calls ≡ true → ends ≡ true
+    → cond calls before none ≡ cond ends behind none → behind ≡ before
 frame_back calls ends before behind none is was e = sym (rw (is, was) at e)
 
 module _ (k : Claim) (rows : List (List ℕ)) (shows : ShowsRows k rows)
@@ -87,7 +88,8 @@ module _ (k : Claim) (rows : List (List ℕ)) (shows : ShowsRows k rows)
   same_parts : (e : ℕ) (p : Partner rows e)
       → SameParts rows e p.j
   same_parts e p =
-      parts (own rows p.j) (addr (row_at rows p.j)) (kind_of_start (op_in rows p.j) (row_at rows p.j)) (addr (row_at rows e)) (addr (row_at rows (suc e)))
+      parts (own rows p.j) (addr (row_at rows p.j)) (kind_of_start (op_in rows p.j) (row_at rows p.j)) (addr (row_at rows e))
+      (addr (row_at rows (suc e)))
       (kind_of_end (row_at rows e)) (cond (is_call_op (op_in rows p.j)) (frame_of (row_at rows p.j)) no_frame)
       (cond (felt_add (h (row_at rows e) 6) (h (row_at rows e) 7) == 1) (frame_of (row_at rows (suc e))) no_frame) p.same
 

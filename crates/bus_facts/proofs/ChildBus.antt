@@ -23,7 +23,8 @@ module _ (k : Claim) (rows : List (List ℕ)) (shows : ShowsRows k rows) (root :
     named_in : (parent : ℕ) (digest : List ℕ) (more : Bool) (j : ℕ) → IsInRow children_given rows (child_tuple parent digest (bit_of more)) j
         → IsNamed rows root parent digest more
     named_in parent digest more j at =
-        named_by rows root parent digest more j (op_in rows j) at.within refl (shows.row_is j (let h = at.within in omega (arith, h))).row.block.condition
+        named_by rows root parent digest more j (op_in rows j) at.within refl
+        (shows.row_is j (let h = at.within in omega (arith, h))).row.block.condition
         (subst (λ cs. 0 < counted cs (child_tuple parent digest (bit_of more))) (given_of (row_at rows j) (row_at rows (suc j))) at.positive)
 
     named_by_statement : (parent : ℕ) (digest : List ℕ) (more : Bool)

@@ -105,8 +105,10 @@ module _ (rows : List (List ℕ)) (root : List ℕ) (parent : ℕ) (digest : Lis
   unfolding children_of
   named_by j ops.Join within is bit h =
       ⊎_elim
-      (λ e. let k = same (own rows j) (front (row_at rows j)) 1 e in as_true k.more (first j (record { within = within; is = is }) k.parent (sym k.digest)))
-      (λ e. let k = same (own rows j) (back (row_at rows j)) 0 e in as_false k.more (second j (record { within = within; is = is }) k.parent (sym k.digest)))
+      (λ e. let k = same (own rows j) (front (row_at rows j)) 1 e in as_true k.more
+      (first j (record { within = within; is = is }) k.parent (sym k.digest)))
+      (λ e. let k = same (own rows j) (back (row_at rows j)) 0 e in as_false k.more
+      (second j (record { within = within; is = is }) k.parent (sym k.digest)))
       (two_are (child (own rows j) (front (row_at rows j)) 1) (child (own rows j) (back (row_at rows j)) 0) tuple h)
   named_by j ops.Split within is bit h =
       split_named j (record { within = within; is = is }) (bit refl)
@@ -116,9 +118,11 @@ module _ (rows : List (List ℕ)) (root : List ℕ) (parent : ℕ) (digest : Lis
       let k = same (own rows j) (front (row_at rows j)) 0 e.1 in
       as_false k.more (body j (record { within = within; is = is }) e.0 k.parent (sym k.digest))
   named_by j ops.Call within is bit h =
-      let k = only (own rows j) (front (row_at rows j)) 0 h in as_false k.more (callee j (record { within = within; is = is }) k.parent (sym k.digest))
+      let k = only (own rows j) (front (row_at rows j)) 0 h in as_false k.more
+      (callee j (record { within = within; is = is }) k.parent (sym k.digest))
   named_by j ops.Syscall within is bit h =
-      let k = only (own rows j) (front (row_at rows j)) 0 h in as_false k.more (kernel j (record { within = within; is = is }) k.parent (sym k.digest))
+      let k = only (own rows j) (front (row_at rows j)) 0 h in as_false k.more
+      (kernel j (record { within = within; is = is }) k.parent (sym k.digest))
   named_by j ops.Repeat within is bit h =
       let k = only (addr (row_at rows j)) (front (row_at rows j)) 0 h in
       as_false k.more (turn j (record { within = within; is = is }) k.parent (sym k.digest))

@@ -23,7 +23,8 @@ record AsksAt (rows : List (List ℕ)) (i address : ℕ) : Type 0 where
 
 module _ (rows : List (List ℕ)) (alike : (u : List ℕ) → over_rows (with_next groups_asked) rows u ≡ over_rows (with_next groups_given) rows u) where
   taken : (r element : ℕ) → suc r < length rows
-      → groups_asked (row_at rows r) (row_at rows (suc r)) ≡ once (ha (row_at rows r) ∷ gc (row_at rows r) ∷ element ∷ []) ∷ [] → IsTaken rows r element
+      → groups_asked (row_at rows r) (row_at rows (suc r)) ≡ once (ha (row_at rows r) ∷ gc (row_at rows r) ∷ element ∷ []) ∷ []
+      → IsTaken rows r element
   taken r element within asks = record {
     batch = found.0;
     begins = record { within = found.1.within; is = given.is_batch };
@@ -54,7 +55,8 @@ module _ (rows : List (List ℕ)) (alike : (u : List ℕ) → over_rows (with_ne
 
       same : (batch_at rows found.0 ≡ ha (row_at rows r)) × (given.at.left ≡ gc (row_at rows r)) × (h (row_at rows found.0) given.at.place ≡ element)
       same =
-          parts (batch_at rows found.0) given.at.left (h (row_at rows found.0) given.at.place) (ha (row_at rows r)) (gc (row_at rows r)) element given.at.is
+          parts (batch_at rows found.0) given.at.left (h (row_at rows found.0) given.at.place) (ha (row_at rows r))
+          (gc (row_at rows r)) element given.at.is
 
   module _ (k : Claim) (shows : ShowsRows k rows)
       (one_asker : (i k tag other address : ℕ) (xs ys : List ℕ) → Asks rows i (tag ∷ address ∷ xs) → Asks rows k (other ∷ address ∷ ys) → i ≡ k) where
@@ -64,7 +66,8 @@ module _ (rows : List (List ℕ)) (alike : (u : List ℕ) → over_rows (with_ne
         record {
           tag = 1;
           rest = domain_of (op_in rows i) ∷ eight (row_at rows i);
-          asks = subst (λ n. Asks rows i (1 ∷ n ∷ domain_of (op_in rows i) ∷ eight (row_at rows i))) (sym ((shows.pair_is i within).pair.batch.first is))
+          asks = subst (λ n. Asks rows i (1 ∷ n ∷ domain_of (op_in rows i) ∷ eight (row_at rows i)))
+              (sym ((shows.pair_is i within).pair.batch.first is))
               (start_in rows i (record { within = within; is = ap is_start_op e }));
         }
 

@@ -64,11 +64,14 @@ second_of_two t v = let e = more_counts (once t) (once v ∷ []) v in let s = si
 perm_before : (rows : List (List ℕ)) (i : ℕ) → IsAt rows i ops.HPerm → Asks rows i (4 ∷ w (row_at rows i) 0 ∷ twelve (row_at rows i))
 perm_before rows i at = record {
   within = at.within;
-  positive = subst (λ cs. 0 < counted cs (4 ∷ w (row_at rows i) 0 ∷ twelve (row_at rows i))) (sym (perm_asks (row_at rows i) (row_at rows (suc i)) at.is))
+  positive =
+      subst (λ cs. 0 < counted cs (4 ∷ w (row_at rows i) 0 ∷ twelve (row_at rows i)))
+      (sym (perm_asks (row_at rows i) (row_at rows (suc i)) at.is))
       (first_of_two (4 ∷ w (row_at rows i) 0 ∷ twelve (row_at rows i)) (5 ∷ felt_add (w (row_at rows i) 0) 7 ∷ twelve (row_at rows (suc i))));
 }
 
-perm_behind : (rows : List (List ℕ)) (i : ℕ) → IsAt rows i ops.HPerm → Asks rows i (5 ∷ felt_add (w (row_at rows i) 0) 7 ∷ twelve (row_at rows (suc i)))
+perm_behind : (rows : List (List ℕ)) (i : ℕ) → IsAt rows i ops.HPerm
+    → Asks rows i (5 ∷ felt_add (w (row_at rows i) 0) 7 ∷ twelve (row_at rows (suc i)))
 perm_behind rows i at = record {
   within = at.within;
   positive = subst (λ cs. 0 < counted cs (5 ∷ felt_add (w (row_at rows i) 0) 7 ∷ twelve (row_at rows (suc i))))

@@ -46,7 +46,8 @@ module _ (rows : List (List ℕ)) (root : List ℕ)
             subst (λ cs. counted cs (child_tuple parent digest 1) ≤ 1) (sym (given_of (row_at rows i) (row_at rows (suc i))))
             (first_few (op_in rows i) (row_at rows i) (row_at rows (suc i)) parent digest)
 
-        same : (i j : ℕ) → IsInRow children_given rows (child_tuple parent digest 1) i → IsInRow children_given rows (child_tuple parent digest 1) j → i ≡ j
+        same : (i j : ℕ) → IsInRow children_given rows (child_tuple parent digest 1) i
+            → IsInRow children_given rows (child_tuple parent digest 1) j → i ≡ j
         same i j here there =
             let a : GivesFirst (op_in rows i) (row_at rows i) (row_at rows (suc i)) parent digest = first_in parent digest i here in
             let b : GivesFirst (op_in rows j) (row_at rows j) (row_at rows (suc j)) parent digest = first_in parent digest j there in
@@ -85,7 +86,8 @@ module _ (rows : List (List ℕ)) (root : List ℕ)
       positive =
           (let n : count_in children_given rows (child_tuple (own rows j) (front (row_at rows j)) 1) j ≡ 1
           = ap (λ cs. counted cs (child_tuple (own rows j) (front (row_at rows j)) 1)) (given_of (row_at rows j) (row_at rows (suc j))
-          ∙ ap (λ op. children_of op (row_at rows j) (row_at rows (suc j))) at.is) ∙ join_gives (row_at rows j) (row_at rows (suc j)) in omega (arith, n));
+          ∙ ap (λ op. children_of op (row_at rows j) (row_at rows (suc j))) at.is)
+          ∙ join_gives (row_at rows j) (row_at rows (suc j)) in omega (arith, n));
     }
 
     pub first_child : (j : ℕ) → IsAt rows j ops.Join → FirstChild rows j
@@ -123,4 +125,5 @@ module _ (rows : List (List ℕ)) (root : List ℕ)
         only : (d : ℕ) → EndsFirst rows (own rows j) d → d ≡ e
         only d other =
             rows_same children_asked rows u d e (asked_once (own rows j) (front (row_at rows j)))
-            (subst (λ w. IsInRow children_asked rows (child_tuple (own rows j) w 1) d) (first_digest j d at other) (first_asks (own rows j) d other)) found.1
+            (subst (λ w. IsInRow children_asked rows (child_tuple (own rows j) w 1) d) (first_digest j d at other)
+            (first_asks (own rows j) d other)) found.1

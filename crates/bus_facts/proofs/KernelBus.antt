@@ -6,7 +6,7 @@ use Rattle.buses.specs.Counts.{counted, once, over_rows, with_next}
 use Rattle.vm_field.specs.Field.{felt_sub}
 use Rattle.vm_field.specs.Machine.{IsWord}
 use Rattle.vm_field.proofs.Algebra.{same_from_sub}
-use Rattle.vm_field.proofs.Elements.{elements-index}
+use Rattle.vm_field.proofs.Elements.{elements-index, word-is}
 use Rattle.vm_ops.specs.declared.op.Op.TheVariants as ops
 use Rattle.vm_table.specs.Layout.{IsTable}
 use Rattle.chip_columns.specs.KernelColumns as kernel
@@ -35,13 +35,6 @@ row_gives : (row u : List ℕ) → 0 < counted (kernel_given row) u → digest_o
 unfolding kernel_given
 row_gives row u some = single_is (record { tuple = digest_of row; count = kernel.count row }) u some
 
--- four elements that are a word's
-word_is : (w : List ℕ) (a b c d : ℕ) → length w ≡ 4 → a ≡ slice_index w 0 → b ≡ slice_index w 1 → c ≡ slice_index w 2 → d ≡ slice_index w 3
-    → a ∷ b ∷ c ∷ d ∷ [] ≡ w
-word_is (i ∷ j ∷ k ∷ l ∷ []) a b c d size ea eb ec ed = cc
-word_is (i ∷ j ∷ k ∷ l ∷ m ∷ w) a b c d size ea eb ec ed = absurd (omega (arith, size))
-word_is _ a b c d size ea eb ec ed = absurd (omega (arith, size))
-
 -- what a table whose entries are 0 shows
 module _ (k : Claim) (words : All IsWord k.kernel) (table : List (List ℕ)) (shape : IsTable 5 table)
     (zero : (i number : ℕ) → i < length table → at_number (kernel_values k (spot_of table i)) number ≡ 0) where
@@ -58,7 +51,7 @@ module _ (k : Claim) (words : All IsWord k.kernel) (table : List (List ℕ)) (sh
 
   digest_is : (i : ℕ) → i < length table → i < length k.kernel → digest_of (row_at table i) ≡ slice_index_or k.kernel i []
   digest_is i h inside =
-      word_is (slice_index_or k.kernel i []) (kernel.d (row_at table i) 0) (kernel.d (row_at table i) 1) (kernel.d (row_at table i) 2)
+      word-is (slice_index_or k.kernel i []) (kernel.d (row_at table i) 0) (kernel.d (row_at table i) 1) (kernel.d (row_at table i) 2)
       (kernel.d (row_at table i) 3) (word_at i inside).size (element_is i 0 h inside (lit< tt)) (element_is i 1 h inside (lit< tt))
       (element_is i 2 h inside (lit< tt)) (element_is i 3 h inside (lit< tt))
 
@@ -74,12 +67,14 @@ module _ (k : Claim) (words : All IsWord k.kernel) (table : List (List ℕ)) (sh
         asked = record {
           within = at.within;
           positive =
-              (let n : count_in kernel_asked rows u j ≡ 1 = ap (λ cs. counted cs u) (syscall_asks (row_at rows j) (row_at rows (suc j)) at.is) ∙ single_self u
+              (let n : count_in kernel_asked rows u j
+              ≡ 1 = ap (λ cs. counted cs u) (syscall_asks (row_at rows j) (row_at rows (suc j)) at.is) ∙ single_self u
               in omega (arith, n));
         }
 
         found : (i : ℕ) × IsInTable (λ i x next. kernel_given x) table u i
-        found = table_some (λ i x next. kernel_given x) table u (let h = rows_have kernel_asked rows u j asked in let a = alike u in omega (arith, h, a))
+        found = table_some (λ i x next. kernel_given x) table u
+            (let h = rows_have kernel_asked rows u j asked in let a = alike u in omega (arith, h, a))
 
         inside : found.0 < length k.kernel
         inside = let h = found.1.within in omega (arith, h, size)

@@ -34,7 +34,8 @@ module _ (rows : List (List ℕ)) (alike : (u : List ℕ) → over_rows (with_ne
       asked = record {
         within = at.within;
         positive =
-            (let k : count_in loops_asked rows u r ≡ 1 = ap (λ cs. counted cs u) (turn_asks (row_at rows r) (row_at rows (suc r)) at.is) ∙ single_self u
+            (let k : count_in loops_asked rows u r
+            ≡ 1 = ap (λ cs. counted cs u) (turn_asks (row_at rows r) (row_at rows (suc r)) at.is) ∙ single_self u
             in omega (arith, k));
       }
 

@@ -31,7 +31,8 @@ parts : (a b c i j k : ℕ) → a ∷ b ∷ c ∷ [] ≡ i ∷ j ∷ k ∷ [] �
 parts a b c i j k e = (cc, cc, cc)
 
 module _ (k : Claim) (rows left_rows : List (List ℕ))
-    (alike : (u : List ℕ) → over_rows (with_next overflow_asked) rows u + over_rows (left_asked k) left_rows u ≡ over_rows (with_next overflow_given) rows u)
+    (alike : (u : List ℕ) → over_rows (with_next overflow_asked) rows u + over_rows (left_asked k) left_rows u
+    ≡ over_rows (with_next overflow_given) rows u)
     (clock : (i : ℕ) → i < length rows → clk (row_at rows i) ≡ i) where
   -- a tuple that is given was pushed at the clock that it names
   pushed : (at cell below : ℕ) → 0 < over_rows (with_next overflow_given) rows (at ∷ cell ∷ below ∷ []) → IsPushed rows at cell below
@@ -78,7 +79,9 @@ module _ (k : Claim) (rows left_rows : List (List ℕ))
   left_counts : (i : ℕ) → counted (at_row (left_asked k) left_rows i)
       (left.key (slice_index_or left_rows i []) ∷ slice_index k.outputs (16 + i) ∷ next_key (slice_get left_rows (suc i)) ∷ []) ≡ 1
   unfolding left_asked
-  left_counts i = single_self (left.key (slice_index_or left_rows i []) ∷ slice_index k.outputs (16 + i) ∷ next_key (slice_get left_rows (suc i)) ∷ [])
+  left_counts i =
+      single_self (left.key (slice_index_or left_rows i []) ∷ slice_index k.outputs (16 + i)
+      ∷ next_key (slice_get left_rows (suc i)) ∷ [])
 
   stays : (i : ℕ) → i < length left_rows
       → IsPushed rows (left.key (slice_index_or left_rows i [])) (slice_index k.outputs (16 + i)) (next_key (slice_get left_rows (suc i)))

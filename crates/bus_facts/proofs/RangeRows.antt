@@ -51,7 +51,8 @@ four_small d low e =
 
 steps_small : (d : ℕ) → d < prime → all_steps d ≡ 0 → d ≤ 2187
 steps_small d low e =
-    either (factor (felt_mul (felt_mul (felt_mul (four_steps d) (felt_sub d 81)) (felt_sub d 243)) (felt_sub d 729)) d 2187 (rest_low _) low (omega arith) e)
+    either (factor (felt_mul (felt_mul (felt_mul (four_steps d) (felt_sub d 81)) (felt_sub d 243)) (felt_sub d 729)) d 2187
+    (rest_low _) low (omega arith) e)
     (λ e1. either (factor (felt_mul (felt_mul (four_steps d) (felt_sub d 81)) (felt_sub d 243)) d 729 (rest_low _) low (omega arith) e1)
     (λ e2. either (factor (felt_mul (four_steps d) (felt_sub d 81)) d 243 (rest_low _) low (omega arith) e2)
     (λ e3. either (factor (four_steps d) d 81 (rest_low _) low (omega arith) e3) (four_small d low))))
@@ -71,11 +72,13 @@ no_wrap a b i la lb step at few = (omega (arith, la, lb, step, at, few), omega (
 up_to : (n : ℕ) (f : ℕ → ℕ) → GoesUp n f → (i : ℕ) → i < n → f i ≤ 2187 * i
 up_to n f up zero h = let e = up.first in omega (arith, e)
 up_to n f up (suc i) h =
-    (no_wrap (f i) (f (suc i)) i (up.low i) (up.low (suc i)) (up.step i h) (up_to n f up i (omega (arith, h))) (let few = up.few in omega (arith, few, h))).1
+    (no_wrap (f i) (f (suc i)) i (up.low i) (up.low (suc i)) (up.step i h) (up_to n f up i (omega (arith, h)))
+    (let few = up.few in omega (arith, few, h))).1
 
 grows : (n : ℕ) (f : ℕ → ℕ) → GoesUp n f → (i : ℕ) → suc i < n → f i ≤ f (suc i)
 grows n f up i h =
-    (no_wrap (f i) (f (suc i)) i (up.low i) (up.low (suc i)) (up.step i h) (up_to n f up i (omega (arith, h))) (let few = up.few in omega (arith, few, h))).0
+    (no_wrap (f i) (f (suc i)) i (up.low i) (up.low (suc i)) (up.step i h) (up_to n f up i (omega (arith, h)))
+    (let few = up.few in omega (arith, few, h))).0
 
 -- so many steps before the last value
 to_last : (n : ℕ) (f : ℕ → ℕ) → GoesUp n f → (k i last : ℕ) → i + k ≡ last → last < n → f i ≤ f last

@@ -3,10 +3,11 @@ use Rattle.std.proofs.Common.{◌≡◌, ◌≢◌, ℕ, suc, ◌<◌, ◌≤◌
 use Rattle.std.proofs.lemmas.Option.{slice_get-get_or, slice_get_past}
 use Rattle.std.specs.List.{slice_get}
 use Rattle.buses.specs.Counts.{Counted, at_row, counted, once, over_first, over_rows, with_next}
+use Rattle.buses.proofs.Counting.{counted-none}
 use Rattle.row_facts.specs.MainRows.{row_at}
 use Rattle.bus_facts.proofs.Splits.{same_or}
 use Rattle.bus_facts.proofs.Sums.{SomeBelow, total_apart, total_none, total_one, total_some, total_term}
-use Rattle.bus_facts.proofs.Tuples.{none_counts, single_self}
+use Rattle.bus_facts.proofs.Tuples.{single_self}
 
 -- the tuples of row i and the row behind it
 abbrev pub PairTuples : Type 0
@@ -32,20 +33,22 @@ row_counts tuples rows u i h = ap (λ next. counted (with_next tuples i (row_at 
 
 last_counts : (tuples : PairTuples) (rows : List (List ℕ)) (u : List ℕ) (i : ℕ) → length rows ≤ suc i
     → counted (at_row (with_next tuples) rows i) u ≡ 0
-last_counts tuples rows u i h = ap (λ next. counted (with_next tuples i (row_at rows i) next) u) (none_behind rows i h) ∙ none_counts u
+last_counts tuples rows u i h = ap (λ next. counted (with_next tuples i (row_at rows i) next) u) (none_behind rows i h) ∙ counted-none u
 
 within_or : (n i : ℕ) → (suc i < n) ⊎ (n ≤ suc i)
 within_or n i = grind arith
 
 -- a row in which a tuple counts has a row behind it
-pub in_row : (tuples : PairTuples) (rows : List (List ℕ)) (u : List ℕ) (i : ℕ) → 0 < counted (at_row (with_next tuples) rows i) u → IsInRow tuples rows u i
+pub in_row : (tuples : PairTuples) (rows : List (List ℕ)) (u : List ℕ) (i : ℕ) → 0 < counted (at_row (with_next tuples) rows i) u
+    → IsInRow tuples rows u i
 in_row tuples rows u i h = go (within_or (length rows) i)
   where
     go : (suc i < length rows) ⊎ (length rows ≤ suc i) → IsInRow tuples rows u i
     go (inl more) = record { within = more; positive = (let e = row_counts tuples rows u i more in omega (arith, e, h)) }
     go (inr last) = let e = last_counts tuples rows u i last in absurd (omega (arith, e, h))
 
-pub rows_some : (tuples : PairTuples) (rows : List (List ℕ)) (u : List ℕ) → 0 < over_rows (with_next tuples) rows u → (i : ℕ) × IsInRow tuples rows u i
+pub rows_some : (tuples : PairTuples) (rows : List (List ℕ)) (u : List ℕ) → 0 < over_rows (with_next tuples) rows u
+    → (i : ℕ) × IsInRow tuples rows u i
 unfolding over_first
 rows_some tuples rows u h =
     let s : SomeBelow (length rows) (λ i. counted (at_row (with_next tuples) rows i) u) =
@@ -77,7 +80,9 @@ rows_two tuples rows u i j here there apart =
     let positive = here.positive in
     let inside = there.within in
     let some = there.positive in
-    let le = total_apart (length rows) (λ i. counted (at_row (with_next tuples) rows i) u) i j (omega (arith, within)) (omega (arith, inside)) apart in
+    let le =
+    total_apart (length rows) (λ i. counted (at_row (with_next tuples) rows i) u) i j (omega (arith, within))
+    (omega (arith, inside)) apart in
     let e = row_counts tuples rows u i within in
     let k = row_counts tuples rows u j inside in omega (arith, le, e, k, positive, some)
 
@@ -105,12 +110,12 @@ rows_one tuples rows u few one =
 -- no tuples at all
 pub rows_none : (rows : List (List ℕ)) (u : List ℕ) → over_rows (λ i x next. []) rows u ≡ 0
 unfolding over_first
-rows_none rows u = total_none (length rows) (λ i. counted [] u) (λ i h. none_counts u)
+rows_none rows u = total_none (length rows) (λ i. counted [] u) (λ i h. counted-none u)
 
 pub pairs_none : (rows : List (List ℕ)) (u : List ℕ) → over_rows (with_next (λ x y. [])) rows u ≡ 0
 unfolding over_first
 pairs_none rows u = total_none (length rows) (λ i. counted (at_row (with_next (λ x y. [])) rows i) u) (λ i h. go i (within_or (length rows) i))
   where
     go : (i : ℕ) → (suc i < length rows) ⊎ (length rows ≤ suc i) → counted (at_row (with_next (λ x y. [])) rows i) u ≡ 0
-    go i (inl more) = row_counts (λ x y. []) rows u i more ∙ none_counts u
+    go i (inl more) = row_counts (λ x y. []) rows u i more ∙ counted-none u
     go i (inr last) = last_counts (λ x y. []) rows u i last

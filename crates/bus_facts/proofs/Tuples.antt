@@ -2,6 +2,7 @@
 use Rattle.std.proofs.Common.{◌≡◌, ℕ, ◌+◌, ◌<◌, ◌≤◌, Bool, true, false, cond, nat_eq, List, [], ◌∷◌, refl, ap, arith}
 use lib.Pointwise.{bytes_decides, pointwise}
 use Rattle.buses.specs.Counts.{Counted, counted, hits, once}
+use Rattle.buses.proofs.Counting.{counted-none}
 
 -- a tuple that hits is the one counted
 pub hit_is : (t : List ℕ) (count : ℕ) (u : List ℕ) → 0 < hits t count u → t ≡ u
@@ -17,26 +18,22 @@ hit_self t count = ap (λ b. cond b count 0) ((bytes_decides t t).1 refl)
 pub hit_few : (t : List ℕ) (count : ℕ) (u : List ℕ) → hits t count u ≤ count
 hit_few t count u = elim (pointwise nat_eq t u) as (λ b. cond b count 0 ≤ count) [ true ↦ omega arith | false ↦ omega arith ]
 
-pub none_counts : (u : List ℕ) → counted [] u ≡ 0
-unfolding counted
-none_counts u = refl
-
 pub more_counts : (c : Counted) (cs : List Counted) (u : List ℕ) → counted (c ∷ cs) u ≡ hits c.tuple c.count u + counted cs u
 unfolding counted
 more_counts c cs u = refl
 
 pub nothing_counts : {P : Type 0} (u : List ℕ) → 0 < counted [] u → P
-nothing_counts u h = let e = none_counts u in absurd (omega (arith, e, h))
+nothing_counts u h = let e = counted-none u in absurd (omega (arith, e, h))
 
 -- a list of one tuple
 pub single_is : (c : Counted) (u : List ℕ) → 0 < counted (c ∷ []) u → c.tuple ≡ u
-single_is c u h = hit_is c.tuple c.count u (let e = more_counts c [] u in let n = none_counts u in omega (arith, e, n, h))
+single_is c u h = hit_is c.tuple c.count u (let e = more_counts c [] u in let n = counted-none u in omega (arith, e, n, h))
 
 pub single_self : (t : List ℕ) → counted (once t ∷ []) t ≡ 1
-single_self t = let e = more_counts (once t) [] t in let n = none_counts t in let s = hit_self t 1 in omega (arith, e, n, s)
+single_self t = let e = more_counts (once t) [] t in let n = counted-none t in let s = hit_self t 1 in omega (arith, e, n, s)
 
 pub single_few : (t u : List ℕ) → counted (once t ∷ []) u ≤ 1
-single_few t u = let e = more_counts (once t) [] u in let n = none_counts u in let s = hit_few t 1 u in omega (arith, e, n, s)
+single_few t u = let e = more_counts (once t) [] u in let n = counted-none u in let s = hit_few t 1 u in omega (arith, e, n, s)
 
 -- a tuple where a test passes
 pub tested_is : (b : Bool) (c : Counted) (u : List ℕ) → 0 < counted (cond b (c ∷ []) []) u → (b ≡ true) × (c.tuple ≡ u)
@@ -45,4 +42,4 @@ tested_is false c u h = nothing_counts u h
 
 pub tested_few : (b : Bool) (t u : List ℕ) → counted (cond b (once t ∷ []) []) u ≤ 1
 tested_few true t u = single_few t u
-tested_few false t u = let n = none_counts u in omega (arith, n)
+tested_few false t u = let n = counted-none u in omega (arith, n)

@@ -2,6 +2,7 @@
 use Rattle.std.proofs.Common.{◌≡◌, ℕ, ◌+◌, ◌≤◌, List, [], ◌∷◌, ◌++◌, ◌<◌, take, get_or, length, Result, Ok, Err, OnOk, refl, sym, ap, ◌∙◌, arith, add-zero}
 use Rattle.std.proofs.lemmas.List.{take_more}
 use Rattle.buses.specs.Counts.{Counted, counted, hits, once}
+use Rattle.buses.proofs.Counting.{counted-none, counted-append}
 use Rattle.bus_kit.specs.Adding.{IsCounted, singles}
 use Rattle.bus_kit.specs.Tallies.{asked_in, given_in}
 use Rattle.bus_kit.specs.declared.tally.Tally.{Tally}
@@ -10,15 +11,11 @@ counted_one : (c : Counted) (u : List ℕ) → counted (c ∷ []) u ≡ hits c.t
 unfolding counted
 counted_one c u = add-zero (hits c.tuple c.count u)
 
-counted_none : (u : List ℕ) → counted [] u ≡ 0
-unfolding counted
-counted_none u = refl
-
 -- nothing was counted
 pub none_counted : (n : ℕ) (t : Tally) → IsCounted n t t [] []
 none_counted n t = record {
-  asked_is = λ u. let none = counted_none u in omega arith;
-  given_is = λ u. let none = counted_none u in omega arith;
+  asked_is = λ u. let none = counted-none u in omega arith;
+  given_is = λ u. let none = counted-none u in omega arith;
   asked_grows = λ u. omega arith;
   given_grows = λ u. omega arith;
 }
@@ -29,7 +26,7 @@ pub ask_counted : {E : Type 0} (n : ℕ) (old new : Tally) (c : Counted) (r : Re
 ask_counted n old new c (Err e) few is other grows = tt
 ask_counted n old new c (Ok x) few is other grows = record {
   asked_is = λ u. let one = counted_one c u in is u ∙ ap (λ k. asked_in old u + k) (sym one);
-  given_is = λ u. let none = counted_none u in let same = other u in omega arith;
+  given_is = λ u. let none = counted-none u in let same = other u in omega arith;
   asked_grows = λ u. let grown = grows u in omega arith;
   given_grows = λ u. let same = other u in omega arith;
 }
@@ -39,31 +36,28 @@ pub give_counted : {E : Type 0} (n : ℕ) (old new : Tally) (c : Counted) (r : R
     → OnOk r ((u : List ℕ) → given_in new u ≤ given_in old u + c.count) → OnOk r (IsCounted n old new [] (c ∷ []))
 give_counted n old new c (Err e) few is other grows = tt
 give_counted n old new c (Ok x) few is other grows = record {
-  asked_is = λ u. let none = counted_none u in let same = other u in omega arith;
+  asked_is = λ u. let none = counted-none u in let same = other u in omega arith;
   given_is = λ u. let one = counted_one c u in is u ∙ ap (λ k. given_in old u + k) (sym one);
   asked_grows = λ u. let same = other u in omega arith;
   given_grows = λ u. let grown = grows u in omega arith;
 }
 
-counted_append : (xs ys : List Counted) (u : List ℕ) → counted (xs ++ ys) u ≡ counted xs u + counted ys u
-unfolding counted
-counted_append [] ys u = omega arith
-counted_append (x ∷ xs) ys u = let rest = counted_append xs ys u in omega arith
-
 -- one list of asked tuples behind another
-pub then_asked : (n m k : ℕ) (a b c : Tally) (xs ys : List Counted) → IsCounted n a b xs [] → IsCounted m b c ys [] → n + m ≤ k → IsCounted k a c (xs ++ ys) []
+pub then_asked : (n m k : ℕ) (a b c : Tally) (xs ys : List Counted) → IsCounted n a b xs [] → IsCounted m b c ys [] → n + m ≤ k
+    → IsCounted k a c (xs ++ ys) []
 then_asked n m k a b c xs ys p q few = record {
-  asked_is = λ u. let sum = counted_append xs ys u in let first = p.asked_is u in let second = q.asked_is u in omega arith;
-  given_is = λ u. let first = p.given_is u in let second = q.given_is u in let none = counted_none u in omega arith;
+  asked_is = λ u. let sum = counted-append xs ys u in let first = p.asked_is u in let second = q.asked_is u in omega arith;
+  given_is = λ u. let first = p.given_is u in let second = q.given_is u in let none = counted-none u in omega arith;
   asked_grows = λ u. let first = p.asked_grows u in let second = q.asked_grows u in omega arith;
   given_grows = λ u. let first = p.given_grows u in let second = q.given_grows u in omega arith;
 }
 
 -- given tuples behind asked ones
-pub ask_then_give : (n m k : ℕ) (a b c : Tally) (xs ys : List Counted) → IsCounted n a b xs [] → IsCounted m b c [] ys → n + m ≤ k → IsCounted k a c xs ys
+pub ask_then_give : (n m k : ℕ) (a b c : Tally) (xs ys : List Counted) → IsCounted n a b xs [] → IsCounted m b c [] ys → n + m ≤ k
+    → IsCounted k a c xs ys
 ask_then_give n m k a b c xs ys p q few = record {
-  asked_is = λ u. let first = p.asked_is u in let second = q.asked_is u in let none = counted_none u in omega arith;
-  given_is = λ u. let first = p.given_is u in let second = q.given_is u in let none = counted_none u in omega arith;
+  asked_is = λ u. let first = p.asked_is u in let second = q.asked_is u in let none = counted-none u in omega arith;
+  given_is = λ u. let first = p.given_is u in let second = q.given_is u in let none = counted-none u in omega arith;
   asked_grows = λ u. let first = p.asked_grows u in let second = q.asked_grows u in omega arith;
   given_grows = λ u. let first = p.given_grows u in let second = q.given_grows u in omega arith;
 }

@@ -14,10 +14,12 @@ use Rattle.bus_kit.proofs.ScanLemmas.{less_from_is_lt, less_than_rest}
 abbrev pub IsAnswerAt : ℕ → (List ℕ → ℕ × ℕ) → Option Unequal → Type 0
 IsAnswerAt width counts r = IsAnswerOf counts r × IfSome r (λ x. length x.tuple ≡ width)
 
-alike_at : (width : ℕ) (f h : List ℕ → ℕ × ℕ) (u : List ℕ) → (f u).0 ≡ (f u).1 → (h u).0 ≡ (h u).1 → (at_width width f h u).0 ≡ (at_width width f h u).1
+alike_at : (width : ℕ) (f h : List ℕ → ℕ × ℕ) (u : List ℕ) → (f u).0 ≡ (f u).1 → (h u).0 ≡ (h u).1
+    → (at_width width f h u).0 ≡ (at_width width f h u).1
 alike_at width f h u p q = elim (length u == width) as (λ b. (cond b (f u) (h u)).0 ≡ (cond b (f u) (h u)).1) [ true ↦ p | false ↦ q ]
 
-least_here : (width : ℕ) (f h : List ℕ → ℕ × ℕ) (x : Unequal) → IsLeastApart (λ u. (f u).0) (λ u. (f u).1) x.tuple x.asked x.given → length x.tuple ≡ width
+least_here : (width : ℕ) (f h : List ℕ → ℕ × ℕ) (x : Unequal) → IsLeastApart (λ u. (f u).0) (λ u. (f u).1) x.tuple x.asked x.given
+    → length x.tuple ≡ width
     → ((u : List ℕ) → slice_cmp nat_cmp u x.tuple ≡ Less → (h u).0 ≡ (h u).1)
     → IsLeastApart (λ u. (at_width width f h u).0) (λ u. (at_width width f h u).1) x.tuple x.asked x.given
 least_here width f h x is wide rest =
@@ -35,7 +37,9 @@ least_there : (width : ℕ) (f h : List ℕ → ℕ × ℕ) (y : Unequal) → Is
 least_there width f h y is none rest =
     let there : at_width width f h y.tuple ≡ h y.tuple =
     elim (length y.tuple == width) as (λ b. (length y.tuple == width) ≡ b → cond b (f y.tuple) (h y.tuple) ≡ h y.tuple) [
-      | true ↦ λ e. let zero = none y.tuple (eqb-true (length y.tuple) width e) in absurd (is.apart (is.asked_is ∙ ap (λ k. k.0) zero ∙ sym (is.given_is ∙ ap (λ k. k.1) zero)))
+      | true ↦ λ e. let zero =
+          none y.tuple (eqb-true (length y.tuple) width e) in absurd
+          (is.apart (is.asked_is ∙ ap (λ k. k.0) zero ∙ sym (is.given_is ∙ ap (λ k. k.1) zero)))
       | false ↦ λ _. refl
     ] refl in
     record {
@@ -52,8 +56,12 @@ answer_at width f h None None p q none = λ u. alike_at width f h u (p.0 u) (q u
 answer_at width f h None (Some y) p q none = least_there width f h y q none (λ u _. p.0 u)
 answer_at width f h (Some x) None p q none = least_here width f h x p.0 p.1 (λ u _. q u)
 answer_at width f h (Some x) (Some y) p q none =
-    elim (is_lt (slice_cmp nat_cmp y.tuple x.tuple)) as (λ b. is_lt (slice_cmp nat_cmp y.tuple x.tuple) ≡ b → IsAnswerOf (at_width width f h) (cond b (Some y) (Some x))) [
-      | true ↦ λ e. least_there width f h y q none (λ u less. p.0.least u (nat_list_cmp_total.trans u y.tuple x.tuple less (less_from_is_lt (slice_cmp nat_cmp y.tuple x.tuple) e)))
+    elim (is_lt (slice_cmp nat_cmp y.tuple x.tuple)) as
+    (λ b. is_lt (slice_cmp nat_cmp y.tuple x.tuple) ≡ b → IsAnswerOf (at_width width f h) (cond b (Some y) (Some x))) [
+      | true ↦
+          λ e. least_there width f h y q none
+          (λ u less. p.0.least u (nat_list_cmp_total.trans u y.tuple x.tuple less
+          (less_from_is_lt (slice_cmp nat_cmp y.tuple x.tuple) e)))
       | false ↦ λ e. least_here width f h x p.0 p.1 (λ u less. q.least u (less_than_rest nat_list_cmp_total u y.tuple x.tuple less e))
     ] refl
 

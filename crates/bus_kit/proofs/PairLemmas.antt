@@ -17,7 +17,9 @@ pub added_at : {S : Type 0} (m n : HashMap (List ℕ) (ℕ × ℕ) S) (side : Si
     → v ≡ more_on side count (both_in m t)
     → both_in n u ≡ more_on side (hits t count u) (both_in m u)
 added_at m n side t count v u at is =
-    elim (pointwise nat_eq t u) as (λ b. pointwise nat_eq t u ≡ b → get (pointwise nat_eq) n u ≡ cond b (Some v) (get (pointwise nat_eq) m u) → both_in n u ≡ more_on side (cond b count 0) (both_in m u)) [
+    elim (pointwise nat_eq t u) as (λ b. pointwise nat_eq t u ≡ b
+    → get (pointwise nat_eq) n u ≡ cond b (Some v) (get (pointwise nat_eq) m u)
+    → both_in n u ≡ more_on side (cond b count 0) (both_in m u)) [
       | true ↦ λ same got. ap (λ o. unwrap_or o (0, 0)) got ∙ is ∙ ap (λ k. more_on side count (both_in m k)) ((bytes_decides t u).0 same)
       | false ↦ λ apart got. ap (λ o. unwrap_or o (0, 0)) got ∙ sym (more_on_zero side (both_in m u))
     ] refl at
@@ -47,11 +49,13 @@ hits_few t u count = elim (pointwise nat_eq t u) as (λ b. cond b count 0 ≤ co
 
 -- What each count becomes where a tuple was counted on one side, and what holds where memory was refused.
 module _ {E : Type 0} (side : Side) (t : List ℕ) (count : ℕ) (b k : List ℕ → ℕ × ℕ) where
-  pub counted : (r : Result (Unit {0}) E) → IsAdded side t count b k r → OnOk r ((u : List ℕ) → on_side side (k u) ≡ on_side side (b u) + hits t count u)
+  pub counted : (r : Result (Unit {0}) E) → IsAdded side t count b k r
+      → OnOk r ((u : List ℕ) → on_side side (k u) ≡ on_side side (b u) + hits t count u)
   counted (Ok x) added = λ u. ap (on_side side) (added u) ∙ on_same side (hits t count u) (b u)
   counted (Err x) added = tt
 
-  pub counted_other : (r : Result (Unit {0}) E) → IsAdded side t count b k r → OnOk r ((u : List ℕ) → on_side (other_side side) (k u) ≡ on_side (other_side side) (b u))
+  pub counted_other : (r : Result (Unit {0}) E) → IsAdded side t count b k r
+      → OnOk r ((u : List ℕ) → on_side (other_side side) (k u) ≡ on_side (other_side side) (b u))
   counted_other (Ok x) added = λ u. ap (on_side (other_side side)) (added u) ∙ on_other side (hits t count u) (b u)
   counted_other (Err x) added = tt
 

@@ -46,8 +46,14 @@ less_from_is_lt Greater e = cc
 below_lesser : (u : List ℕ) (e : Entry) (best : Option Entry) → Below u (lesser e best) → Below u best × (pointwise nat_eq u e.0 ≡ false)
 below_lesser u e None h = (tt, apart_from_less u e.0 h)
 below_lesser u e (Some best) h =
-    elim (is_lt (slice_cmp nat_cmp e.0 best.0)) as (λ b. is_lt (slice_cmp nat_cmp e.0 best.0) ≡ b → Below u (cond b (Some e) (Some best)) → Below u (Some best) × (pointwise nat_eq u e.0 ≡ false)) [
-      | true ↦ λ less below. (nat_list_cmp_total.trans u e.0 best.0 below (less_from_is_lt (slice_cmp nat_cmp e.0 best.0) less), apart_from_less u e.0 below)
+    elim (is_lt (slice_cmp nat_cmp e.0 best.0)) as
+    (λ b. is_lt (slice_cmp nat_cmp e.0 best.0) ≡ b → Below u (cond b (Some e) (Some best))
+    → Below u (Some best) × (pointwise nat_eq u e.0 ≡ false)) [
+      | true ↦
+          λ less below. (
+            nat_list_cmp_total.trans u e.0 best.0 below (less_from_is_lt (slice_cmp nat_cmp e.0 best.0) less),
+            apart_from_less u e.0 below,
+          )
       | false ↦ λ more below. (below, apart_from_less u e.0 (less_than_rest nat_list_cmp_total u e.0 best.0 below more))
     ] refl h
 
@@ -56,18 +62,29 @@ scan_below : (u : List ℕ) (es : List Entry) (best : Option Entry) → Below u 
 scan_below u [] best h = (h, refl)
 scan_below u (e ∷ es) best h =
     let rest = scan_below u es (scanned best e) h in
-    elim (e.1.0 == e.1.1) as (λ b. (e.1.0 == e.1.1) ≡ b → Below u (cond b best (lesser e best)) → Below u best × ((look (e ∷ es) u).0 ≡ (look (e ∷ es) u).1)) [
-      | true ↦ λ alike below. (below, elim (pointwise nat_eq u e.0) as (λ b. (unwrap_or (cond b (Some e.1) (lookup (pointwise nat_eq u) es)) (0, 0)).0 ≡ (unwrap_or (cond b (Some e.1) (lookup (pointwise nat_eq u) es)) (0, 0)).1) [ true ↦ eqb-true e.1.0 e.1.1 alike | false ↦ rest.1 ])
+    elim (e.1.0 == e.1.1) as (λ b. (e.1.0 == e.1.1) ≡ b → Below u (cond b best (lesser e best))
+    → Below u best × ((look (e ∷ es) u).0 ≡ (look (e ∷ es) u).1)) [
+      | true ↦
+          λ alike below. (
+            below,
+            elim (pointwise nat_eq u e.0) as
+                (λ b. (unwrap_or (cond b (Some e.1) (lookup (pointwise nat_eq u) es)) (0, 0)).0
+                ≡ (unwrap_or (cond b (Some e.1) (lookup (pointwise nat_eq u) es)) (0, 0)).1)
+                [ true ↦ eqb-true e.1.0 e.1.1 alike | false ↦ rest.1 ],
+          )
       | false ↦ λ apart below. let both = below_lesser u e best below in (both.0, rw both.1 rest.1)
     ] refl rest.0
 
-lesser_keeps : (P : Entry → Type 0) (e : Entry) (best : Option Entry) → P e → (e.1.0 ≢ e.1.1) → IfSome best (λ e. P e × (e.1.0 ≢ e.1.1)) → IfSome (lesser e best) (λ e. P e × (e.1.0 ≢ e.1.1))
+lesser_keeps : (P : Entry → Type 0) (e : Entry) (best : Option Entry) → P e → (e.1.0 ≢ e.1.1)
+    → IfSome best (λ e. P e × (e.1.0 ≢ e.1.1)) → IfSome (lesser e best) (λ e. P e × (e.1.0 ≢ e.1.1))
 lesser_keeps P e None p apart had = (p, apart)
 lesser_keeps P e (Some best) p apart had =
-    elim (is_lt (slice_cmp nat_cmp e.0 best.0)) as (λ b. IfSome (cond b (Some e) (Some best)) (λ e. P e × (e.1.0 ≢ e.1.1))) [ true ↦ (p, apart) | false ↦ had ]
+    elim (is_lt (slice_cmp nat_cmp e.0 best.0)) as (λ b. IfSome (cond b (Some e) (Some best)) (λ e. P e × (e.1.0 ≢ e.1.1)))
+    [ true ↦ (p, apart) | false ↦ had ]
 
 -- what holds of each entry holds of the best, which is apart
-scan_keeps : (P : Entry → Type 0) (es : List Entry) (best : Option Entry) → All P es → IfSome best (λ e. P e × (e.1.0 ≢ e.1.1)) → IfSome (fold scanned best es) (λ e. P e × (e.1.0 ≢ e.1.1))
+scan_keeps : (P : Entry → Type 0) (es : List Entry) (best : Option Entry) → All P es → IfSome best (λ e. P e × (e.1.0 ≢ e.1.1))
+    → IfSome (fold scanned best es) (λ e. P e × (e.1.0 ≢ e.1.1))
 scan_keeps P [] best all had = had
 scan_keeps P (e ∷ es) best all had = scan_keeps P es (scanned best e) (All-tail P e es all)
     (elim (e.1.0 == e.1.1) as (λ b. (e.1.0 == e.1.1) ≡ b → IfSome (cond b best (lesser e best)) (λ e. P e × (e.1.0 ≢ e.1.1))) [
@@ -80,7 +97,9 @@ pub scan_is : {S : Type 0} (m : HashMap (List ℕ) (ℕ × ℕ) S) (r : Option E
     → All (λ e. get (pointwise nat_eq) m e.0 ≡ Some e.1) m.entries → IsAnswerOf (both_in m) (option_map told r)
 scan_is m None is found = λ u. (scan_below u m.entries None (rw is tt)).1
 scan_is m (Some e) is found =
-    let kept : IfSome (Some e) (λ e. (get (pointwise nat_eq) m e.0 ≡ Some e.1) × (e.1.0 ≢ e.1.1)) = subst (λ r. IfSome r (λ e. (get (pointwise nat_eq) m e.0 ≡ Some e.1) × (e.1.0 ≢ e.1.1))) is (scan_keeps (λ e. get (pointwise nat_eq) m e.0 ≡ Some e.1) m.entries None found tt) in
+    let kept : IfSome (Some e) (λ e. (get (pointwise nat_eq) m e.0 ≡ Some e.1) × (e.1.0 ≢ e.1.1)) =
+    subst (λ r. IfSome r (λ e. (get (pointwise nat_eq) m e.0 ≡ Some e.1) × (e.1.0 ≢ e.1.1))) is
+    (scan_keeps (λ e. get (pointwise nat_eq) m e.0 ≡ Some e.1) m.entries None found tt) in
     let both : both_in m e.0 ≡ e.1 = ap (λ o. unwrap_or o (0, 0)) kept.0 in
     record {
       asked_is = ap (λ k. k.0) (sym both);

@@ -7,7 +7,8 @@ use Rattle.bus_kit.specs.Singles.{one_at, AreAlikeBelow}
 use Rattle.bus_kit.specs.declared.tuple.Unequal.{Unequal}
 
 -- where all that stand in a list are alike, all are
-alike_beyond : (small : List (ℕ × ℕ)) (v : ℕ) → AreAlikeBelow small (length small) → (slice_index_or small v (0, 0)).0 ≡ (slice_index_or small v (0, 0)).1
+alike_beyond : (small : List (ℕ × ℕ)) (v : ℕ) → AreAlikeBelow small (length small)
+    → (slice_index_or small v (0, 0)).0 ≡ (slice_index_or small v (0, 0)).1
 alike_beyond small v h = ⊎_elim (h v) (λ past. rw (get_or_past small v (0, 0) past) refl) (cases_lt v (length small))
 
 -- a tuple whose counts of the others are alike has alike counts
@@ -15,7 +16,8 @@ one_alike : (small : List (ℕ × ℕ)) (great : List ℕ → ℕ × ℕ) (u : L
     → ((one_at small great u).0 ≡ (one_at small great u).1)
 one_alike small great [] h e = refl
 one_alike small great (v ∷ []) h e =
-    elim (nat_lt v 65536) as (λ b. (cond b (slice_index_or small v (0, 0)) (great (v ∷ []))).0 ≡ (cond b (slice_index_or small v (0, 0)) (great (v ∷ []))).1) [ true ↦ alike_beyond small v h | false ↦ e ]
+    elim (nat_lt v 65536) as (λ b. (cond b (slice_index_or small v (0, 0)) (great (v ∷ []))).0
+    ≡ (cond b (slice_index_or small v (0, 0)) (great (v ∷ []))).1) [ true ↦ alike_beyond small v h | false ↦ e ]
 one_alike small great (v ∷ w ∷ us) h e = refl
 
 -- a single element that is apart among the others has their counts

@@ -49,7 +49,9 @@ at_one t u e = rw e refl
 pub in_one : {E : Type 0} (side : Side) (u : List ℕ) (count : ℕ) (t : Tally) (now : Singles) (r : Result (Unit {0}) E) → length u ≡ 1
     → IsAdded side u count (one_of t.one) (one_of now) r → IsAdded side u count (both_at t) (both_at (record t { one = now })) r
 unfolding both_at
-in_one side u count t now r e = added_in_width side u count 1 (one_of t.one) (one_of now) _ _ r e (at_one t) (at_one (record t { one = now })) (λ v apart. rw apart refl)
+in_one side u count t now r e =
+    added_in_width side u count 1 (one_of t.one) (one_of now) _ _ r e (at_one t) (at_one (record t { one = now }))
+    (λ v apart. rw apart refl)
 
 pub at_three : (t : Tally) (u : List ℕ) → length u ≡ 3 → both_at t u ≡ both_in t.three.both u
 unfolding both_at
@@ -58,7 +60,9 @@ at_three t u e = rw e refl
 pub in_three : {E : Type 0} (side : Side) (u : List ℕ) (count : ℕ) (t : Tally) (now : Counts 3) (r : Result (Unit {0}) E) → length u ≡ 3
     → IsAdded side u count (both_in t.three.both) (both_in now.both) r → IsAdded side u count (both_at t) (both_at (record t { three = now })) r
 unfolding both_at
-in_three side u count t now r e = added_in_width side u count 3 (both_in t.three.both) (both_in now.both) _ _ r e (at_three t) (at_three (record t { three = now })) (λ v apart. rw apart refl)
+in_three side u count t now r e =
+    added_in_width side u count 3 (both_in t.three.both) (both_in now.both) _ _ r e (at_three t)
+    (at_three (record t { three = now })) (λ v apart. rw apart refl)
 
 pub at_four : (t : Tally) (u : List ℕ) → length u ≡ 4 → both_at t u ≡ both_in t.four.both u
 unfolding both_at
@@ -67,7 +71,9 @@ at_four t u e = rw e refl
 pub in_four : {E : Type 0} (side : Side) (u : List ℕ) (count : ℕ) (t : Tally) (now : Counts 4) (r : Result (Unit {0}) E) → length u ≡ 4
     → IsAdded side u count (both_in t.four.both) (both_in now.both) r → IsAdded side u count (both_at t) (both_at (record t { four = now })) r
 unfolding both_at
-in_four side u count t now r e = added_in_width side u count 4 (both_in t.four.both) (both_in now.both) _ _ r e (at_four t) (at_four (record t { four = now })) (λ v apart. rw apart refl)
+in_four side u count t now r e =
+    added_in_width side u count 4 (both_in t.four.both) (both_in now.both) _ _ r e (at_four t) (at_four (record t { four = now }))
+    (λ v apart. rw apart refl)
 
 pub at_five : (t : Tally) (u : List ℕ) → length u ≡ 5 → both_at t u ≡ both_in t.five.both u
 unfolding both_at
@@ -76,7 +82,9 @@ at_five t u e = rw e refl
 pub in_five : {E : Type 0} (side : Side) (u : List ℕ) (count : ℕ) (t : Tally) (now : Counts 5) (r : Result (Unit {0}) E) → length u ≡ 5
     → IsAdded side u count (both_in t.five.both) (both_in now.both) r → IsAdded side u count (both_at t) (both_at (record t { five = now })) r
 unfolding both_at
-in_five side u count t now r e = added_in_width side u count 5 (both_in t.five.both) (both_in now.both) _ _ r e (at_five t) (at_five (record t { five = now })) (λ v apart. rw apart refl)
+in_five side u count t now r e =
+    added_in_width side u count 5 (both_in t.five.both) (both_in now.both) _ _ r e (at_five t) (at_five (record t { five = now }))
+    (λ v apart. rw apart refl)
 
 pub at_six : (t : Tally) (u : List ℕ) → length u ≡ 6 → both_at t u ≡ both_in t.six.both u
 unfolding both_at
@@ -85,7 +93,9 @@ at_six t u e = rw e refl
 pub in_six : {E : Type 0} (side : Side) (u : List ℕ) (count : ℕ) (t : Tally) (now : Counts 6) (r : Result (Unit {0}) E) → length u ≡ 6
     → IsAdded side u count (both_in t.six.both) (both_in now.both) r → IsAdded side u count (both_at t) (both_at (record t { six = now })) r
 unfolding both_at
-in_six side u count t now r e = added_in_width side u count 6 (both_in t.six.both) (both_in now.both) _ _ r e (at_six t) (at_six (record t { six = now })) (λ v apart. rw apart refl)
+in_six side u count t now r e =
+    added_in_width side u count 6 (both_in t.six.both) (both_in now.both) _ _ r e (at_six t) (at_six (record t { six = now }))
+    (λ v apart. rw apart refl)
 
 pub at_eight : (t : Tally) (u : List ℕ) → length u ≡ 8 → both_at t u ≡ both_in t.eight.both u
 unfolding both_at
@@ -94,7 +104,9 @@ at_eight t u e = rw e refl
 pub in_eight : {E : Type 0} (side : Side) (u : List ℕ) (count : ℕ) (t : Tally) (now : Counts 8) (r : Result (Unit {0}) E) → length u ≡ 8
     → IsAdded side u count (both_in t.eight.both) (both_in now.both) r → IsAdded side u count (both_at t) (both_at (record t { eight = now })) r
 unfolding both_at
-in_eight side u count t now r e = added_in_width side u count 8 (both_in t.eight.both) (both_in now.both) _ _ r e (at_eight t) (at_eight (record t { eight = now })) (λ v apart. rw apart refl)
+in_eight side u count t now r e =
+    added_in_width side u count 8 (both_in t.eight.both) (both_in now.both) _ _ r e (at_eight t)
+    (at_eight (record t { eight = now })) (λ v apart. rw apart refl)
 
 pub at_ten : (t : Tally) (u : List ℕ) → length u ≡ 10 → both_at t u ≡ both_in t.ten.both u
 unfolding both_at
@@ -103,7 +115,9 @@ at_ten t u e = rw e refl
 pub in_ten : {E : Type 0} (side : Side) (u : List ℕ) (count : ℕ) (t : Tally) (now : Counts 10) (r : Result (Unit {0}) E) → length u ≡ 10
     → IsAdded side u count (both_in t.ten.both) (both_in now.both) r → IsAdded side u count (both_at t) (both_at (record t { ten = now })) r
 unfolding both_at
-in_ten side u count t now r e = added_in_width side u count 10 (both_in t.ten.both) (both_in now.both) _ _ r e (at_ten t) (at_ten (record t { ten = now })) (λ v apart. rw apart refl)
+in_ten side u count t now r e =
+    added_in_width side u count 10 (both_in t.ten.both) (both_in now.both) _ _ r e (at_ten t) (at_ten (record t { ten = now }))
+    (λ v apart. rw apart refl)
 
 pub at_eleven : (t : Tally) (u : List ℕ) → length u ≡ 11 → both_at t u ≡ both_in t.eleven.both u
 unfolding both_at
@@ -112,7 +126,9 @@ at_eleven t u e = rw e refl
 pub in_eleven : {E : Type 0} (side : Side) (u : List ℕ) (count : ℕ) (t : Tally) (now : Counts 11) (r : Result (Unit {0}) E) → length u ≡ 11
     → IsAdded side u count (both_in t.eleven.both) (both_in now.both) r → IsAdded side u count (both_at t) (both_at (record t { eleven = now })) r
 unfolding both_at
-in_eleven side u count t now r e = added_in_width side u count 11 (both_in t.eleven.both) (both_in now.both) _ _ r e (at_eleven t) (at_eleven (record t { eleven = now })) (λ v apart. rw apart refl)
+in_eleven side u count t now r e =
+    added_in_width side u count 11 (both_in t.eleven.both) (both_in now.both) _ _ r e (at_eleven t)
+    (at_eleven (record t { eleven = now })) (λ v apart. rw apart refl)
 
 pub at_twelve : (t : Tally) (u : List ℕ) → length u ≡ 12 → both_at t u ≡ both_in t.twelve.both u
 unfolding both_at
@@ -121,7 +137,9 @@ at_twelve t u e = rw e refl
 pub in_twelve : {E : Type 0} (side : Side) (u : List ℕ) (count : ℕ) (t : Tally) (now : Counts 12) (r : Result (Unit {0}) E) → length u ≡ 12
     → IsAdded side u count (both_in t.twelve.both) (both_in now.both) r → IsAdded side u count (both_at t) (both_at (record t { twelve = now })) r
 unfolding both_at
-in_twelve side u count t now r e = added_in_width side u count 12 (both_in t.twelve.both) (both_in now.both) _ _ r e (at_twelve t) (at_twelve (record t { twelve = now })) (λ v apart. rw apart refl)
+in_twelve side u count t now r e =
+    added_in_width side u count 12 (both_in t.twelve.both) (both_in now.both) _ _ r e (at_twelve t)
+    (at_twelve (record t { twelve = now })) (λ v apart. rw apart refl)
 
 pub at_fourteen : (t : Tally) (u : List ℕ) → length u ≡ 14 → both_at t u ≡ both_in t.fourteen.both u
 unfolding both_at
@@ -130,7 +148,9 @@ at_fourteen t u e = rw e refl
 pub in_fourteen : {E : Type 0} (side : Side) (u : List ℕ) (count : ℕ) (t : Tally) (now : Counts 14) (r : Result (Unit {0}) E) → length u ≡ 14
     → IsAdded side u count (both_in t.fourteen.both) (both_in now.both) r → IsAdded side u count (both_at t) (both_at (record t { fourteen = now })) r
 unfolding both_at
-in_fourteen side u count t now r e = added_in_width side u count 14 (both_in t.fourteen.both) (both_in now.both) _ _ r e (at_fourteen t) (at_fourteen (record t { fourteen = now })) (λ v apart. rw apart refl)
+in_fourteen side u count t now r e =
+    added_in_width side u count 14 (both_in t.fourteen.both) (both_in now.both) _ _ r e (at_fourteen t)
+    (at_fourteen (record t { fourteen = now })) (λ v apart. rw apart refl)
 
 pick : (b : Bool) (x y z : ℕ × ℕ) → x ≡ z → y ≡ z → cond b x y ≡ z
 pick true x y z p q = p
@@ -151,4 +171,10 @@ pub at_none : (t : Tally)
     → (u : List ℕ) → both_at t u ≡ (0, 0)
 unfolding both_at
 at_none t h1 h3 h4 h5 h6 h8 h10 h11 h12 h14 u =
-    pick (length u == 1) _ _ _ (h1 u) (pick (length u == 3) _ _ _ (h3 u) (pick (length u == 4) _ _ _ (h4 u) (pick (length u == 5) _ _ _ (h5 u) (pick (length u == 6) _ _ _ (h6 u) (pick (length u == 8) _ _ _ (h8 u) (pick (length u == 10) _ _ _ (h10 u) (pick (length u == 11) _ _ _ (h11 u) (pick (length u == 12) _ _ _ (h12 u) (pick (length u == 14) _ _ _ (h14 u) refl)))))))))
+    pick (length u == 1) _ _ _ (h1 u) (pick (length u == 3) _ _ _ (h3 u)
+    (pick (length u == 4) _ _ _ (h4 u)
+    (pick (length u == 5) _ _ _ (h5 u)
+    (pick (length u == 6) _ _ _ (h6 u)
+    (pick (length u == 8) _ _ _ (h8 u)
+    (pick (length u == 10) _ _ _ (h10 u)
+    (pick (length u == 11) _ _ _ (h11 u) (pick (length u == 12) _ _ _ (h12 u) (pick (length u == 14) _ _ _ (h14 u) refl)))))))))

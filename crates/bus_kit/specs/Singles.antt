@@ -14,4 +14,6 @@ AreAlikeBelow small n = (v : ℕ) → v < n → (slice_index_or small v (0, 0)).
 -- the least place with two counts that are apart, if there is one
 abbrev pub FirstApart : List (ℕ × ℕ) → Option ℕ → Type 0
 FirstApart small None = AreAlikeBelow small (length small)
-FirstApart small (Some place) = (place < length small) × ((slice_index_or small place (0, 0)).0 ≢ (slice_index_or small place (0, 0)).1) × AreAlikeBelow small place
+FirstApart small (Some place) =
+    (place < length small) × ((slice_index_or small place (0, 0)).0 ≢ (slice_index_or small place (0, 0)).1)
+    × AreAlikeBelow small place

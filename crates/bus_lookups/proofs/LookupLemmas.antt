@@ -125,7 +125,8 @@ not_xor ops.U32Xor h = absurd (h refl)
 not_xor op h = refl
 
 -- one that is none of those of memory
-pub not_access : (op : Op) (x y : List ℕ) → (op ≡ ops.MLoad → ⊥) → (op ≡ ops.MLoadW → ⊥) → (op ≡ ops.MStore → ⊥) → (op ≡ ops.MStoreW → ⊥) → [] ≡ accesses_of op x y
+pub not_access : (op : Op) (x y : List ℕ) → (op ≡ ops.MLoad → ⊥) → (op ≡ ops.MLoadW → ⊥) → (op ≡ ops.MStore → ⊥)
+    → (op ≡ ops.MStoreW → ⊥) → [] ≡ accesses_of op x y
 unfolding accesses_of
 not_access ops.MLoad x y h0 h1 h2 h3 = absurd (h0 refl)
 not_access ops.MLoadW x y h0 h1 h2 h3 = absurd (h1 refl)

@@ -106,7 +106,17 @@ module _ (x y : List ℕ) (op : Op) (is : op ≡ op_of x) (t : Tallies) where
       (to_hasher : IsCounted 2 t.hasher hasher (hasher_asked x y) [])
       (to_range : IsCounted 16 t.range range (range_asked x y) []) where
     abbrev Control : Tallies
-    Control = record t { blocks = blocks; children = children; loops = loops; groups = groups; overflow = overflow; hasher = hasher; range = range; kernel = kernel }
+    Control =
+        record t {
+          blocks = blocks;
+          children = children;
+          loops = loops;
+          groups = groups;
+          overflow = overflow;
+          hasher = hasher;
+          range = range;
+          kernel = kernel;
+        }
 
     control_bus : IsCounted 1 t.kernel kernel (kernel_asked x y) [] → (b : Bus)
         → IsCounted (2 ^ 65) (tally_of t b) (tally_of Control b) (main_asked b x y) (main_given b x y)
@@ -130,7 +140,15 @@ pub ordinary_done : {E : Type 0} (x y : List ℕ) (op : Op) (is : op ≡ op_of x
     → IsCounted 1 t.bitwise bitwise (bitwise_asked x y) []
     → IsCounted 1 t.memory memory (memory_asked x y) []
     → OnOk r (IsCounted 16 t.range range (range_asked x y) [])
-    → OnOk r (AreCounted (2 ^ 65) t (record t { groups = groups; overflow = overflow; hasher = hasher; bitwise = bitwise; memory = memory; range = range })
+    → OnOk r (AreCounted (2
+    ^ 65) t (record t {
+      groups = groups;
+      overflow = overflow;
+      hasher = hasher;
+      bitwise = bitwise;
+      memory = memory;
+      range = range;
+    })
     (λ b. main_asked b x y) (λ b. main_given b x y))
 ordinary_done x y op is t holds groups overflow hasher bitwise memory range (Ok v) p0 p1 p2 p3 p4 p5 =
     ordinary_counted x y op is t holds groups overflow hasher bitwise memory range p0 p1 p2 p3 p4 p5
@@ -147,7 +165,16 @@ pub control_done : {E : Type 0} (x y : List ℕ) (op : Op) (is : op ≡ op_of x)
     → IsCounted 16 t.range range (range_asked x y) []
     → ((next : List ℕ) → OnOk r (IsCounted 1 t.kernel kernel (kernel_asked x next) []))
     → OnOk r (AreCounted (2 ^ 65) t
-    (record t { blocks = blocks; children = children; loops = loops; groups = groups; overflow = overflow; hasher = hasher; range = range; kernel = kernel })
+    (record t {
+      blocks = blocks;
+      children = children;
+      loops = loops;
+      groups = groups;
+      overflow = overflow;
+      hasher = hasher;
+      range = range;
+      kernel = kernel;
+    })
     (λ b. main_asked b x y) (λ b. main_given b x y))
 control_done x y op is t fails blocks children loops groups overflow hasher range kernel (Ok v) p0 p1 p2 p3 p4 p5 p6 p7 =
     control_bus x y op is t fails blocks children loops groups overflow hasher range kernel p0 p1 p2 p3 p4 p5 p6 (p7 y)
@@ -156,7 +183,8 @@ control_done x y op is t fails blocks children loops groups overflow hasher rang
 -- What a row gives and asks in its place: the statement's digest first, then what it gives with the row behind it.
 module _ (digest x : List ℕ) (next : Option (List ℕ)) (i : ℕ) (t : Tallies) (first : Tally) (now : Tallies)
     (outermost : IsCounted 1 t.children first [] (cond (i == 0) (once (0 ∷ digest ++ 0 ∷ []) ∷ []) []))
-    (behind : AreCounted (2 ^ 65) (record t { children = first }) now (λ b. with_next (main_asked b) i x next) (λ b. with_next (main_given b) i x next)) where
+    (behind : AreCounted (2 ^ 65) (record t { children = first }) now (λ b. with_next (main_asked b) i x next)
+    (λ b. with_next (main_given b) i x next)) where
   -- a bus on which the statement gives nothing
   elsewhere : (b : Bus) (before after : Tally) (given : List Counted)
       → IsCounted (2 ^ 65) before after (with_next (main_asked b) i x next) given
@@ -164,7 +192,8 @@ module _ (digest x : List ℕ) (next : Option (List ℕ)) (i : ℕ) (t : Tallies
   elsewhere b before after given p =
       let more : IsCounted (2 ^ 66) before after (with_next (main_asked b) i x next) given =
       counted_within (2 ^ 65) (2 ^ 66) before after (with_next (main_asked b) i x next) given p (lit≤ tt) in
-      elim (i == 0) as (λ test. IsCounted (2 ^ 66) before after (with_next (main_asked b) i x next) (cond test ([] ++ given) given)) [ true ↦ more | false ↦ more ]
+      elim (i == 0) as (λ test. IsCounted (2 ^ 66) before after (with_next (main_asked b) i x next) (cond test ([] ++ given) given))
+      [ true ↦ more | false ↦ more ]
 
   here : (test : Bool) → IsCounted 1 t.children first [] (cond test (once (0 ∷ digest ++ 0 ∷ []) ∷ []) [])
       → IsCounted (2 ^ 66) t.children now.children (with_next (main_asked bus.Children) i x next)
@@ -212,7 +241,8 @@ has_space_behind : (t now : Tally) (xs : List Counted) → HasRoom t → IsCount
 has_space_behind t now xs room p u =
     let both = room u in let asked = p.asked_grows u in let given = p.given_grows u in (omega arith, omega arith)
 
-pub have_space : (t : Tallies) (first : Tally) (xs : List Counted) → HaveRoom t → IsCounted 1 t.children first [] xs → HaveSpace (record t { children = first })
+pub have_space : (t : Tallies) (first : Tally) (xs : List Counted) → HaveRoom t → IsCounted 1 t.children first [] xs
+    → HaveSpace (record t { children = first })
 have_space t first xs room p bus.Blocks = has_space t.blocks (room bus.Blocks)
 have_space t first xs room p bus.Children = has_space_behind t.children first xs (room bus.Children) p
 have_space t first xs room p bus.Loops = has_space t.loops (room bus.Loops)

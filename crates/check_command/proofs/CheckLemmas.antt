@@ -44,7 +44,8 @@ pub accepted_goes : (p : Public) (t : Trace) (name : List ℕ) (o : Outcome) (ol
     → EndsIn (Some (found_steps name (constants_of p.params) (claim_of p.statement) t accepted)) o old new
     → EndsIn (Some (judging_steps name (constants_of p.params) t (claim_of p.statement))) o old new
 accepted_goes p t name o old new is ends =
-    goes_past_finding (checked (constants_of p.params) (claim_of p.statement) t) (found_steps name (constants_of p.params) (claim_of p.statement) t) accepted old
+    goes_past_finding (checked (constants_of p.params) (claim_of p.statement) t)
+    (found_steps name (constants_of p.params) (claim_of p.statement) t) accepted old
     (record { against = p; is_public = record { params = refl; statement = refl }; found = is }) o new ends
 
 -- one that is refused, where want of memory is answered by itself
@@ -58,7 +59,8 @@ refused_ends p t name r o s is wants says = by r is wants says
 
     goes : (r : Refused) → IsWhy p t r → Says o status.Refused (refused_line r) → EndsIn (Some steps) o s s
     goes r is says =
-        goes_past_finding (checked (constants_of p.params) (claim_of p.statement) t) (found_steps name (constants_of p.params) (claim_of p.statement) t)
+        goes_past_finding (checked (constants_of p.params) (claim_of p.statement) t)
+        (found_steps name (constants_of p.params) (claim_of p.statement) t)
         (refused r) s (record { against = p; is_public = record { params = refl; statement = refl }; found = is }) o s
         (work_ends (refusal r) o s (says_comes status.Refused (refused_line r) o refl says))
 

@@ -166,7 +166,8 @@ fn refuse(alloc: Global, refused: &Refused) -> Outcome
 #[tactic(auto, using(crate::proofs::CheckLemmas::evidence_is_right, command_ends::proofs::ServingLemmas::same_again))]
 fn accept<F: Shelf>(alloc: Global, shelf: &mut F, valid: &Valid, name: &str) -> Outcome
     requires name { length name.now ≤ 200 }
-    ensures { EndsIn (Some (found_steps name.now (constants_of valid.now.public.params) (claim_of valid.now.public.statement) valid.now.trace accepted)) result
+    ensures { EndsIn (Some (found_steps name.now (constants_of valid.now.public.params) (claim_of valid.now.public.statement)
+        valid.now.trace accepted)) result
         (F.state shelf.old) (F.state shelf.new) }
 {
     let Ok(evidence) = extract(alloc, valid) else {

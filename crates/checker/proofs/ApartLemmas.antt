@@ -72,7 +72,8 @@ bus_some bus.Range = lit< tt
 bus_some bus.Kernel = lit< tt
 
 -- one bus more is alike
-pub alike_next : (asked given : OnBuses) (b : Bus) → AreAlikeBelow asked given (bus_number b) → AreAlike (asked b) (given b) → AreAlikeBelow asked given (suc (bus_number b))
+pub alike_next : (asked given : OnBuses) (b : Bus) → AreAlikeBelow asked given (bus_number b) → AreAlike (asked b) (given b)
+    → AreAlikeBelow asked given (suc (bus_number b))
 alike_next asked given b below alike other h =
     elim (cases_Bool (ltb (bus_number other) (bus_number b))) [
       | inl lower ↦ below other (ltb-true (bus_number other) (bus_number b) lower)
@@ -102,7 +103,8 @@ accepted p t k digest tallies same word counted zeros alike =
     }
 
 -- Where they are apart, the first such bus refuses it.
-pub refused_at : (p : Public) (t : Trace) (k : Claim) (digest : List ℕ) (tallies : Tallies) (a : Apart) → k ≡ claim_of p t → digest ≡ p.statement.digest
+pub refused_at : (p : Public) (t : Trace) (k : Claim) (digest : List ℕ) (tallies : Tallies) (a : Apart) → k ≡ claim_of p t
+    → digest ≡ p.statement.digest
     → IsTraceCounted k digest t tallies → AreZero (claim_of p t) t → IsFirstApart (asked_by tallies) (given_by tallies) a
     → IsBusRefusal p t a.bus a.tuple a.asked a.given
 refused_at p t k digest tallies a same word counted zeros first =

@@ -9,13 +9,14 @@ use Rattle.air_kit.specs.Traces.{HasCounts, most_rows, rows_of}
 pub counts_from : (t : Trace) → 1 ≤ length t.main → length t.main ≤ 524288 → 1 ≤ length t.range → length t.range ≤ 131072
     → length t.hasher ≤ 4194304 → length t.hasher % 8 ≡ 0 → length t.bitwise ≤ 4194304 → length t.bitwise % 8 ≡ 0
     → length t.memory ≤ 524288 → length t.kernel ≤ 255 → length t.left ≤ 524288 → HasCounts t
-counts_from t main_some main_most range_some range_most hasher_most hasher_whole bitwise_most bitwise_whole memory_most kernel_most left_most = record {
-  most = most;
-  main = main_some;
-  range = range_some;
-  hasher = hasher_whole;
-  bitwise = bitwise_whole;
-}
+counts_from t main_some main_most range_some range_most hasher_most hasher_whole bitwise_most bitwise_whole memory_most kernel_most
+    left_most = record {
+      most = most;
+      main = main_some;
+      range = range_some;
+      hasher = hasher_whole;
+      bitwise = bitwise_whole;
+    }
   where
     most : (name : TableName) → length (rows_of t name) ≤ most_rows name
     most table.Main = main_most

@@ -1,5 +1,5 @@
 -- Rows counted one after another, and tables.
-use Rattle.std.proofs.Common.{◌≡◌, ℕ, zero, suc, ◌+◌, ◌^◌, ◌<◌, ◌≤◌, ◌==◌, true, false, List, [], ◌∷◌, ◌++◌, length, Option, Result, Ok, Err, OnOk, OnSome, refl, sym, subst, add-one, arith, lit≤}
+use Rattle.std.proofs.Common.{◌≡◌, ℕ, zero, suc, ◌+◌, ◌^◌, ◌<◌, ◌≤◌, ◌==◌, true, false, List, length, Option, Result, Ok, Err, OnOk, OnSome, refl, sym, subst, add-one, arith, lit≤}
 use Rattle.std.proofs.lemmas.Bool.{eqb-true}
 use Rattle.std.specs.Result.{result_ok}
 use Rattle.air_kit.specs.Acceptance.{AreZero, asked_on, given_on, statement_given}
@@ -13,6 +13,7 @@ use Rattle.air_kit.specs.declared.trace.TableName.TheVariants as table
 use Rattle.air_kit.specs.declared.trace.Trace.{Trace}
 use Rattle.buses.specs.Counts.{Counted, OfRow, at_row, counted, over_first, total, with_next}
 use Rattle.buses.specs.declared.bus.Bus.{Bus}
+use Rattle.buses.proofs.Counting.{counted-append}
 use Rattle.bus_kit.specs.ByBus.{AreCounted, HaveRoom, asked_by, given_by}
 use Rattle.bus_kit.specs.declared.tallies.Tallies.{Tallies}
 use Rattle.bus_main.specs.RowTuples.{main_given_at}
@@ -114,13 +115,10 @@ row_counted r o c d p q digest word old new asked given is same there alike h =
     (subst (λ k. OnSome o (AreCounted (2 ^ 66) old new (asked k p) (given digest p))) same
     (as_option (AreCounted (2 ^ 66) old new (asked c p) (given digest p)) r o is h)))
 
-counted_append : (xs ys : List Counted) (u : List ℕ) → counted (xs ++ ys) u ≡ counted xs u + counted ys u
-unfolding counted
-counted_append [] ys u = omega arith
-counted_append (x ∷ xs) ys u = let rest = counted_append xs ys u in omega (arith, rest)
-
 suc_apart : (i : ℕ) → (suc i == 0) ≡ false
-suc_apart i = elim (suc i == 0) as (λ b. (suc i == 0) ≡ b → b ≡ false) [ true ↦ λ e. absurd (let same = eqb-true (suc i) 0 e in omega (arith, same)) | false ↦ λ _. refl ] refl
+suc_apart i =
+    elim (suc i == 0) as (λ b. (suc i == 0) ≡ b → b ≡ false)
+    [ true ↦ λ e. absurd (let same = eqb-true (suc i) 0 e in omega (arith, same)) | false ↦ λ _. refl ] refl
 
 -- a row of the main table but the first
 behind_first : (digest : List ℕ) (bus : Bus) (rows : List (List ℕ)) (i : ℕ) (u : List ℕ)
@@ -129,10 +127,11 @@ behind_first digest bus rows i u = rw (suc_apart i) refl
 
 -- the statement's tuples stand before those of the first row
 main_given_first : (digest : List ℕ) (bus : Bus) (rows : List (List ℕ)) (n : ℕ) (u : List ℕ)
-    → over_first (main_given_at digest bus) rows (suc n) u ≡ counted (statement_given bus digest) u + over_first (with_next (main_given bus)) rows (suc n) u
+    → over_first (main_given_at digest bus) rows (suc n) u
+    ≡ counted (statement_given bus digest) u + over_first (with_next (main_given bus)) rows (suc n) u
 unfolding over_first total
 main_given_first digest bus rows zero u =
-    let first = counted_append (statement_given bus digest) (at_row (with_next (main_given bus)) rows 0) u in omega (arith, first)
+    let first = counted-append (statement_given bus digest) (at_row (with_next (main_given bus)) rows 0) u in omega (arith, first)
 main_given_first digest bus rows (suc n) u =
     let before = main_given_first digest bus rows n u in let last = behind_first digest bus rows n u in omega (arith, before, last)
 
@@ -149,29 +148,30 @@ pub trace_counted : (c : Claim) (digest : List ℕ) (t : Trace) (none main range
     → IsTableCounted c digest t table.Memory bitwise memory → IsTableCounted c digest t table.Kernel memory kernel
     → IsTableCounted c digest t table.Left kernel left → IsTraceCounted c digest t left
 unfolding asked_on given_on
-trace_counted c digest t none main range hasher bitwise memory kernel left counts none_asked none_given by_main by_range by_hasher by_bitwise by_memory by_kernel by_left = record {
-  asked = λ bus u.
-      let h0 = none_asked bus u in
-      let h1 = by_main.asked_is bus u in
-      let h2 = by_range.asked_is bus u in
-      let h3 = by_hasher.asked_is bus u in
-      let h4 = by_bitwise.asked_is bus u in
-      let h5 = by_memory.asked_is bus u in
-      let h6 = by_kernel.asked_is bus u in
-      let h7 = by_left.asked_is bus u in
-      omega (arith, h0, h1, h2, h3, h4, h5, h6, h7);
-  given = λ bus u.
-      let h0 = none_given bus u in
-      let h1 = by_main.given_is bus u in
-      let statement = main_given_rows digest bus t.main (length t.main) u counts.main in
-      let h2 = by_range.given_is bus u in
-      let h3 = by_hasher.given_is bus u in
-      let h4 = by_bitwise.given_is bus u in
-      let h5 = by_memory.given_is bus u in
-      let h6 = by_kernel.given_is bus u in
-      let h7 = by_left.given_is bus u in
-      omega (arith, h0, h1, statement, h2, h3, h4, h5, h6, h7);
-}
+trace_counted c digest t none main range hasher bitwise memory kernel left counts none_asked none_given by_main by_range by_hasher
+    by_bitwise by_memory by_kernel by_left = record {
+      asked = λ bus u.
+          let h0 = none_asked bus u in
+          let h1 = by_main.asked_is bus u in
+          let h2 = by_range.asked_is bus u in
+          let h3 = by_hasher.asked_is bus u in
+          let h4 = by_bitwise.asked_is bus u in
+          let h5 = by_memory.asked_is bus u in
+          let h6 = by_kernel.asked_is bus u in
+          let h7 = by_left.asked_is bus u in
+          omega (arith, h0, h1, h2, h3, h4, h5, h6, h7);
+      given = λ bus u.
+          let h0 = none_given bus u in
+          let h1 = by_main.given_is bus u in
+          let statement = main_given_rows digest bus t.main (length t.main) u counts.main in
+          let h2 = by_range.given_is bus u in
+          let h3 = by_hasher.given_is bus u in
+          let h4 = by_bitwise.given_is bus u in
+          let h5 = by_memory.given_is bus u in
+          let h6 = by_kernel.given_is bus u in
+          let h7 = by_left.given_is bus u in
+          omega (arith, h0, h1, statement, h2, h3, h4, h5, h6, h7);
+    }
 
 -- a row that is counted under the table's name
 pub row_named : (o : Option (Unit {0})) (c : Claim) (digest : List ℕ) (t : Trace) (name other : TableName) (i : ℕ) (old new : Tallies)

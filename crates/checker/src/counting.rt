@@ -39,7 +39,8 @@ fn count_table(
     requires counts { HasCounts trace.now }
     requires readable { AreReadable trace.now.main }
     requires room { AreWithin (room_before name) tallies.old }
-    ensures counted { OnSome result (IsTableCounted (claim_in setting.now) setting.now.public.now.statement.digest trace.now name tallies.old tallies.new) }
+    ensures counted { OnSome result (IsTableCounted (claim_in setting.now) setting.now.public.now.statement.digest trace.now
+        name tallies.old tallies.new) }
     ensures room { OnSome result (AreWithin (room_behind name) tallies.new) }
 {
     for row in 0..rows_in(trace, name) {

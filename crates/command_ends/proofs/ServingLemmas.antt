@@ -29,7 +29,8 @@ pub same_again : (steps : Steps) (s : ShelfState) → EndsIn (Some steps) outcom
 same_again steps s = inl (record { counts = no_fault s; files = here steps _ s.files refl })
 
 -- an answer to the next step ends the steps
-concluded : (steps : Steps) (a : Answer) (s : ShelfState) → kind_of a.status ≡ planned → Concludes steps s.files a → Works (Some steps) (kind_of a.status) a s s
+concluded : (steps : Steps) (a : Answer) (s : ShelfState) → kind_of a.status ≡ planned → Concludes steps s.files a
+    → Works (Some steps) (kind_of a.status) a s s
 concluded steps a s kind last =
     subst (λ k. Works (Some steps) k a s s) (sym kind) (record { counts = no_fault s; files = here steps _ s.files (last, refl) })
 
@@ -39,7 +40,8 @@ work_ends end (outcome.Ends a) s h = concluded (ending end) a s h.kind h.ends
 work_ends end outcome.Memory s h = same_again (ending end) s
 
 -- what is said is one of the end's answers
-pub says_ends : (end : End) (s : Status) (line : List ℕ) (o : Outcome) → kind_of s ≡ planned → EndsAs end (ends_with s line) → Says o s line → ComesTo end o
+pub says_ends : (end : End) (s : Status) (line : List ℕ) (o : Outcome) → kind_of s ≡ planned → EndsAs end (ends_with s line)
+    → Says o s line → ComesTo end o
 says_ends end s line (outcome.Ends a) kind ends is = subst (Fits end) (sym is) (record { ends = ends; kind = kind })
 says_ends end s line outcome.Memory kind ends is = tt
 
@@ -58,13 +60,16 @@ pub usage_ends : (o : Outcome) (s : ShelfState) → Says o status.Usage (codes "
 usage_ends o s is = said None status.Usage (codes "usage\n") o s s is (refl, refl) refl
 
 -- a file that is missing, or too long
-refused_file : (name : List ℕ) (most : ℕ) (next : List ℕ → Steps) (a : Answer) (o : Outcome) (old new : ShelfState) → new ≡ old → kind_of a.status ≡ planned
+refused_file : (name : List ℕ) (most : ℕ) (next : List ℕ → Steps) (a : Answer) (o : Outcome) (old new : ShelfState) → new ≡ old
+    → kind_of a.status ≡ planned
     → Concludes (reading name most next) old.files a → Says o a.status a.line → EndsIn (Some (reading name most next)) o old new
 refused_file name most next a o old new same kind last is =
     subst (EndsIn (Some (reading name most next)) o old) (sym same)
-    (said (Some (reading name most next)) a.status a.line o old old is (concluded (reading name most next) a old kind last) (same_again (reading name most next) old))
+    (said (Some (reading name most next)) a.status a.line o old old is (concluded (reading name most next) a old kind last)
+    (same_again (reading name most next) old))
 
-pub missing_ends : (name : List ℕ) (most : ℕ) (next : List ℕ → Steps) (o : Outcome) (old new : ShelfState) → new ≡ old → Told old (λ m. get m name ≡ None)
+pub missing_ends : (name : List ℕ) (most : ℕ) (next : List ℕ → Steps) (o : Outcome) (old new : ShelfState) → new ≡ old
+    → Told old (λ m. get m name ≡ None)
     → Says o status.Missing (named_line (codes "missing ") name) → EndsIn (Some (reading name most next)) o old new
 missing_ends name most next o old new same none is =
     refused_file name most next (ends_with status.Missing (named_line (codes "missing ") name)) o old new same refl (None, none, refl) is
@@ -82,7 +87,8 @@ too_long_ends name most next o old new same long is = refused_file name most nex
     file m None is h = absurd h
     file m (Some bytes) is h = (Some bytes, is, (h, refl))
 
-    told : (files : Option Files) → IfSome files (λ m. IsSomeAnd (get m name) (λ bytes. most < length bytes)) → Concludes (reading name most next) files answer
+    told : (files : Option Files) → IfSome files (λ m. IsSomeAnd (get m name) (λ bytes. most < length bytes))
+        → Concludes (reading name most next) files answer
     told None h = (Some (replicate (most + 1) 0), tt, (omega (arith, length-replicate {A = ℕ} (most + 1) 0), refl))
     told (Some m) h = file m (get m name) refl h
 
@@ -90,7 +96,8 @@ named : (told new : Option (List ℕ)) (name : List ℕ) → length name ≤ 200
 named None new name short is = subst (λ o. IfSome o (λ failed. failed ≡ name)) (sym is) tt
 named (Some old) new name short is = subst (λ o. IfSome o (λ failed. failed ≡ name)) (sym is) (kept_whole name short)
 
-pub read_fault_ends : (name : List ℕ) (most : ℕ) (next : List ℕ → Steps) (o : Outcome) (old new : ShelfState) → length name ≤ 200 → ReadFails old new name
+pub read_fault_ends : (name : List ℕ) (most : ℕ) (next : List ℕ → Steps) (o : Outcome) (old new : ShelfState) → length name ≤ 200
+    → ReadFails old new name
     → Says o status.ReadFault (named_line (codes "read fault ") name) → EndsIn (Some (reading name most next)) o old new
 read_fault_ends name most next o old new short f is =
     said (Some (reading name most next)) status.ReadFault _ o old new is (name, fails, refl) (inr (inl (name, fails)))
@@ -102,7 +109,8 @@ read_fault_ends name most next o old new short f is =
       files = here (reading name most next) _ old.files (refl, f.files);
     }
 
-pub write_fault_ends : (name : List ℕ) (right : Right) (next : List ℕ → Steps) (bytes : List ℕ) (o : Outcome) (old new : ShelfState) → length name ≤ 200
+pub write_fault_ends : (name : List ℕ) (right : Right) (next : List ℕ → Steps) (bytes : List ℕ) (o : Outcome) (old new : ShelfState)
+    → length name ≤ 200
     → IsRight right bytes → WriteFails old new name bytes
     → Says o status.WriteFault (named_line (codes "write fault ") name) → EndsIn (Some (writing name right next)) o old new
 write_fault_ends name right next bytes o old new short fit f is =
@@ -167,7 +175,8 @@ goes_past_read name most next bytes old mid found =
     past P h = record { left = h.left; now = h.now; passes = past_read name most next bytes found.file found.within h.passes; there = h.there }
 
 -- a file that a taker took
-pub goes_past_taken : (name : List ℕ) (most : ℕ) (took : List ℕ → Type 0) (old mid : ShelfState) → (bytes : List ℕ) × Reads old mid name most bytes × took bytes
+pub goes_past_taken : (name : List ℕ) (most : ℕ) (took : List ℕ → Type 0) (old mid : ShelfState)
+    → (bytes : List ℕ) × Reads old mid name most bytes × took bytes
     → (bytes : List ℕ) × took bytes × ((next : List ℕ → Steps) → GoesOn (reading name most next) (next bytes) old mid)
 goes_past_taken name most took old mid found = (found.0, found.2, λ next. goes_past_read name most next found.0 old mid found.1)
 

@@ -1,20 +1,16 @@
 -- File names are text.
-use Rattle.std.proofs.Common.{◌≡◌, ℕ, zero, suc, ◌<◌, ◌&&◌, not, lit<, Bool, true, false, List, [], ◌∷◌, get_or, refl, sym, ap, ◌∙◌, inl, inr, arith, Option, Some, None, length, take, drop, ◌≤◌, ◌-◌}
+use Rattle.std.proofs.Common.{◌≡◌, ℕ, zero, suc, ◌<◌, not, lit<, true, List, [], ◌∷◌, get_or, refl, sym, ap, ◌∙◌, inl, inr, arith, Option, Some, None, length, take, drop, ◌≤◌, ◌-◌}
 use Rattle.std.specs.Str.{IsUtf8}
 use Rattle.std.specs.List.{list_all}
 use Rattle.std.proofs.lemmas.List.{take_all}
 use Rattle.std.proofs.lemmas.Str.{IsUtf8-from_ascii}
-use Rattle.std.proofs.lemmas.Bool.{cases_Bool}
+use Rattle.std.proofs.lemmas.Bool.{cases_Bool, and_parts}
 use Rattle.std.proofs.lemmas.Bool.Decides.{nat_tests}
 use Rattle.vm_field.specs.FileName.{is_name_byte, begins_with_dash, is_file_name}
 use Rattle.std.specs.Option.{option_or}
 use Rattle.std.specs.declared.vec.Vec.{Vec}
 use Rattle.std.specs.declared.alloc.Global.{Global}
 use Rattle.command_words.specs.Words.{Part, Mode, anything, positionals, value_comes, part_in, mode_behind, with_part, parts_from, value_in_part, value_of, file_name_of, texts}
-
-and_parts : (a b : Bool) → (a && b) ≡ true → (a ≡ true) × (b ≡ true)
-and_parts true b h = (refl, h)
-and_parts false b h = absurd (cc)
 
 byte_is_ascii : (b : ℕ) → is_name_byte b ≡ true → b < 128
 byte_is_ascii b h = grind (arith, nat_tests)
@@ -37,22 +33,26 @@ no_name word bad =
 
 -- the value that a word completes, or that of the words behind it
 pub value_of_first : (wanted : List ℕ) (mode : Mode) (word : List ℕ) (words : List (List ℕ))
-    → value_of wanted (parts_from mode (word ∷ words)) ≡ option_or (value_in_part wanted (part_in mode word)) (value_of wanted (parts_from (mode_behind mode word) words))
+    → value_of wanted (parts_from mode (word ∷ words))
+    ≡ option_or (value_in_part wanted (part_in mode word)) (value_of wanted (parts_from (mode_behind mode word) words))
 unfolding parts_from
 value_of_first wanted mode word words = go mode
   where
-    first : (part : Option Part) (parts : List Part) → value_of wanted (with_part part parts) ≡ option_or (value_in_part wanted part) (value_of wanted parts)
+    first : (part : Option Part) (parts : List Part)
+        → value_of wanted (with_part part parts) ≡ option_or (value_in_part wanted part) (value_of wanted parts)
     first None parts = refl
     first (Some part) parts = refl
 
     go : (mode : Mode)
-        → value_of wanted (parts_from mode (word ∷ words)) ≡ option_or (value_in_part wanted (part_in mode word)) (value_of wanted (parts_from (mode_behind mode word) words))
+        → value_of wanted (parts_from mode (word ∷ words))
+        ≡ option_or (value_in_part wanted (part_in mode word)) (value_of wanted (parts_from (mode_behind mode word) words))
     go anything = first (part_in anything word) (parts_from (mode_behind anything word) words)
     go positionals = first (part_in positionals word) (parts_from positionals words)
     go (value_comes name) = first (part_in (value_comes name) word) (parts_from anything words)
 
 -- no words have no value
-pub no_value : (wanted : List ℕ) (mode : Mode) (words : List (Vec ℕ Global)) → length words < 1 → value_of wanted (parts_from mode (texts words)) ≡ None
+pub no_value : (wanted : List ℕ) (mode : Mode) (words : List (Vec ℕ Global)) → length words < 1
+    → value_of wanted (parts_from mode (texts words)) ≡ None
 unfolding parts_from
 no_value wanted anything [] none = refl
 no_value wanted positionals [] none = refl
@@ -60,9 +60,12 @@ no_value wanted (value_comes name) [] none = refl
 no_value wanted mode (word ∷ words) none = absurd (omega arith)
 
 -- behind a word that does not have it
-pub value_behind : (wanted : List ℕ) (mode : Mode) (word : Vec ℕ Global) (words : List (Vec ℕ Global)) → value_in_part wanted (part_in mode word.items) ≡ None
+pub value_behind : (wanted : List ℕ) (mode : Mode) (word : Vec ℕ Global) (words : List (Vec ℕ Global))
+    → value_in_part wanted (part_in mode word.items) ≡ None
     → value_of wanted (parts_from (mode_behind mode word.items) (texts words)) ≡ value_of wanted (parts_from mode (texts (word ∷ words)))
-value_behind wanted mode word words none = sym (value_of_first wanted mode word.items (texts words) ∙ ap (λ o. option_or o (value_of wanted (parts_from (mode_behind mode word.items) (texts words)))) none)
+value_behind wanted mode word words none =
+    sym (value_of_first wanted mode word.items (texts words)
+    ∙ ap (λ o. option_or o (value_of wanted (parts_from (mode_behind mode word.items) (texts words)))) none)
 
 -- the same of words whose first is known by its place
 pub value_further : (wanted : List ℕ) (mode next : Mode) (slice : List ℕ) (word : Vec ℕ Global) (rest : List (Vec ℕ Global)) → 1 ≤ length rest
@@ -84,4 +87,6 @@ pub value_here : (wanted : List ℕ) (mode : Mode) (slice value : List ℕ) (wor
     → Some value ≡ value_in_part wanted (part_in mode slice) → Some value ≡ value_of wanted (parts_from mode (texts rest))
 value_here wanted mode slice value word [] some is same found = absurd (omega arith)
 value_here wanted mode slice value word (v ∷ vs) some is same found =
-    sym (value_of_first wanted mode v.items (texts vs) ∙ ap (λ o. option_or o (value_of wanted (parts_from (mode_behind mode v.items) (texts vs)))) (ap (λ w. value_in_part wanted (part_in mode w)) (sym (same ∙ ap (λ (w : Vec ℕ Global). w.items) is)) ∙ sym found))
+    sym (value_of_first wanted mode v.items (texts vs)
+    ∙ ap (λ o. option_or o (value_of wanted (parts_from (mode_behind mode v.items) (texts vs))))
+    (ap (λ w. value_in_part wanted (part_in mode w)) (sym (same ∙ ap (λ (w : Vec ℕ Global). w.items) is)) ∙ sym found))

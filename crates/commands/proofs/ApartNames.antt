@@ -1,8 +1,8 @@
 -- The words of `run` give its outputs names that no other file of it has.
-use Rattle.std.proofs.Common.{◌≡◌, ◌≢◌, ℕ, Bool, true, false, not, ◌&&◌, ◌||◌, if◌then◌else◌, codes, List, [], ◌∷◌, Option, Some, None, refl, sym, subst}
+use Rattle.std.proofs.Common.{if◌then◌else◌, ◌≡◌, ◌≢◌, ℕ, Bool, true, false, not, ◌||◌, codes, List, [], ◌∷◌, Option, Some, None, refl, sym, subst}
 use Rattle.std.specs.List.{list_any}
 use Rattle.std.specs.Str.{bytes_eq}
-use Rattle.std.proofs.lemmas.Bool.{false≢true}
+use Rattle.std.proofs.lemmas.Bool.{false≢true, and_parts}
 use Rattle.std.proofs.lemmas.Slice.Eq.{bytes_eq-Decides}
 use Rattle.command_words.specs.Words.{is_form, name_at, optional_name}
 use Rattle.commands.specs.Asked.{Asked, Outputs, nothing, hash, assemble, run, check, asked, are_apart, is_apart, given_name, check_words, hash_words, assemble_words, run_words, run_of_names, outputs_in, limit_in, check_of_names, hash_of_names, assemble_of_names}
@@ -30,7 +30,8 @@ of_assemble (Some params) (Some source) None = tt
 of_assemble (Some params) None kernel = tt
 of_assemble None source kernel = tt
 
-of_check : (params table statement : Option (List ℕ)) (evidence : Option (Option (List ℕ))) → AreOutputsApart (check_of_names params table statement evidence)
+of_check : (params table statement : Option (List ℕ)) (evidence : Option (Option (List ℕ)))
+    → AreOutputsApart (check_of_names params table statement evidence)
 of_check (Some params) (Some table) (Some statement) (Some (Some evidence)) =
     if_either (is_apart evidence (params ∷ table ∷ statement ∷ [])) (check params table statement evidence) nothing (λ apart. tt) tt
 of_check (Some params) (Some table) (Some statement) (Some None) = tt
@@ -42,7 +43,8 @@ of_check None table statement evidence = tt
 of_run : (params source inputs : Option (List ℕ)) (outputs : Option Outputs) (kernel : Option (Option (List ℕ))) (limit : Option ℕ)
     → AreOutputsApart (run_of_names params source inputs outputs kernel limit)
 of_run (Some params) (Some source) (Some inputs) (Some outputs) (Some kernel) (Some limit) =
-    if_either (are_apart outputs (params ∷ source ∷ inputs ∷ given_name kernel)) (run params source inputs outputs kernel limit) nothing (λ apart. apart) tt
+    if_either (are_apart outputs (params ∷ source ∷ inputs ∷ given_name kernel)) (run params source inputs outputs kernel limit)
+    nothing (λ apart. apart) tt
 of_run (Some params) (Some source) (Some inputs) (Some outputs) (Some kernel) None = tt
 of_run (Some params) (Some source) (Some inputs) (Some outputs) None limit = tt
 of_run (Some params) (Some source) (Some inputs) None kernel limit = tt
@@ -101,11 +103,6 @@ not_behind output name names apart = less (bytes_eq output name) (list_any (byte
     less true rest none = absurd (false≢true none)
     less false rest none = none
 
-both_hold : (a b : Bool) → (a && b) ≡ true → (a ≡ true) × (b ≡ true)
-both_hold true true h = (refl, refl)
-both_hold true false h = absurd (false≢true h)
-both_hold false b h = absurd (false≢true h)
-
 pub record AreApart (params : List ℕ) (outputs : Outputs) : Type 0 where
   pub params_table : params ≢ outputs.table
   pub params_statement : params ≢ outputs.statement
@@ -116,7 +113,7 @@ pub run_apart_names : (words : List (List ℕ)) (params source inputs : List ℕ
     → asked words ≡ run params source inputs outputs kernel limit → AreApart params outputs
 run_apart_names words params source inputs outputs kernel limit is =
     let others = source ∷ inputs ∷ given_name kernel in
-    let apart = both_hold (is_apart outputs.table (outputs.statement ∷ params ∷ others)) (is_apart outputs.statement (params ∷ others))
+    let apart = and_parts (is_apart outputs.table (outputs.statement ∷ params ∷ others)) (is_apart outputs.statement (params ∷ others))
     (subst AreOutputsApart is (all_apart words)) in
     record {
       params_table = not_first outputs.table params others (not_behind outputs.table outputs.statement (params ∷ others) apart.0);

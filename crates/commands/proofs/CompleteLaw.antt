@@ -89,8 +89,10 @@ module _ (line : List ℕ) (new : Option Files) where
   came : (outputs : Outputs) (constants : List ℕ) (source : SourceFile) (kernel : Option SourceFile) (given : Given) (limit : ℕ) (m : Files)
       (c : Course) → IsCourse constants source kernel given limit c → Went (course_steps outputs constants given c) m
       → LeftBehind constants given limit outputs m new
-  came outputs constants source kernel given limit m c (ends.refused in_kernel row column cause is) h = absurd (halts status.Source _ m (λ same. cc) h)
-  came outputs constants source kernel given limit m c (halted program is a (trapped clock cause traps)) h = absurd (halts status.Trap _ m (λ same. cc) h)
+  came outputs constants source kernel given limit m c (ends.refused in_kernel row column cause is) h =
+      absurd (halts status.Source _ m (λ same. cc) h)
+  came outputs constants source kernel given limit m c (halted program is a (trapped clock cause traps)) h =
+      absurd (halts status.Trap _ m (λ same. cc) h)
   came outputs constants source kernel given limit m c (halted program is a (unended out)) h = absurd (halts status.OutOfCycles _ m (λ same. cc) h)
   came outputs constants source kernel given limit m c (ends.ended program is last log r) h =
       let tables = was_written (ends_with status.Ok line) new outputs.table _ _ m h in
@@ -117,7 +119,9 @@ module _ (line : List ℕ) (new : Option Files) where
       let numbers = was_read line new inputs _ _ m code.3 in
       let given = inputs_said inputs (kernel_steps outputs constants.0 file kernel limit) (inputs_of numbers.0) m numbers.3 in
       let k = kernel_said kernel (running_steps outputs constants.0 file given.0 limit) m given.1 in
-      let found = was_found (ends_with status.Ok line) new (course constants.0 file k.0 given.0 limit) (course_steps outputs constants.0 given.0) m k.1 in
+      let found =
+      was_found (ends_with status.Ok line) new (course constants.0 file k.0 given.0 limit)
+      (course_steps outputs constants.0 given.0) m k.1 in
       let left = came outputs constants.0 file k.0 given.0 limit m found.0 found.1 found.2 in
       record {
         text = text.0;
@@ -163,11 +167,17 @@ module _ (a : Answer) (new : Option Files) where
       let claim = claim_of_run left.constants (tree_of left.program.tree) left.program.kernel left.given.stack left.last.core.stack in
       let trace = left.shows.trace in
       let first = read_on a new params _ _ n left.text text_stands left.short h in
-      let second = subst (λ r. Leads (with_params params (table_steps outputs.table outputs.statement evidence) r) (Done a new) (Some n)) left.says first in
+      let second =
+      subst (λ r. Leads (with_params params (table_steps outputs.table outputs.statement evidence) r) (Done a new) (Some n))
+      left.says first in
       let third = read_on a new outputs.table _ _ n left.table table_stands left.shows.short second in
-      let fourth = subst (λ r. Leads (with_trace outputs.table (statement_steps outputs.statement evidence left.constants) r) (Done a new) (Some n)) left.shows.reads third in
+      let fourth =
+      subst (λ r. Leads (with_trace outputs.table (statement_steps outputs.statement evidence left.constants) r) (Done a new)
+      (Some n)) left.shows.reads third in
       let fifth = read_on a new outputs.statement _ _ n left.claimed claimed_stands left.claims.short fourth in
-      let sixth = subst (λ r. Leads (with_statement outputs.statement (judging_steps evidence left.constants trace) r) (Done a new) (Some n)) left.claims.reads fifth in
+      let sixth =
+      subst (λ r. Leads (with_statement outputs.statement (judging_steps evidence left.constants trace) r) (Done a new)
+      (Some n)) left.claims.reads fifth in
       let found = was_found a new (checked left.constants claim trace) (found_steps evidence left.constants claim trace) n sixth in
       verdict evidence left.constants claim trace n accepts found.0 found.1 found.2
     where
@@ -175,7 +185,8 @@ module _ (a : Answer) (new : Option Files) where
           → claim_of p.statement ≡ claim_of_run left.constants (tree_of left.program.tree) left.program.kernel left.given.stack left.last.core.stack
           → IsAccepted p left.shows.trace
       accepts p params_are claims =
-          files_accepted left.constants left.program.kernel left.limit (tree_of left.program.tree) left.given.stack left.given.advice left.last left.log
+          files_accepted left.constants left.program.kernel left.limit (tree_of left.program.tree) left.given.stack
+          left.given.advice left.last left.log
           left.is_run p params_are claims left.table left.shows
 
       claimed_stands : get n outputs.statement ≡ Some left.claimed
@@ -205,13 +216,17 @@ planned_ends failed_print steps s old new c d of is h = absurd (cc)
 planned_ends no_memory steps s old new c d of is h = absurd (cc)
 
 pub written_run_is_accepted : WrittenRunIsAccepted
-written_run_is_accepted ran_by checked_by s old mid new a b c d m params source inputs evidence outputs kernel limit is ran_words went checked_words checks plan =
+written_run_is_accepted ran_by checked_by s old mid new a b c d m params source inputs evidence outputs kernel limit is ran_words
+    went checked_words checks plan =
     let answers : Answers planned (steps_of (run params source inputs outputs kernel limit)) status.Ok old mid a b
     = subst (λ x. Answers planned (steps_of x) status.Ok old mid a b) ran_words went in
     let left = run_left answers.line mid.files params source inputs outputs kernel limit m
-    (subst (Leads (run_steps params source inputs outputs kernel limit) (Done (ends_with status.Ok answers.line) mid.files)) is answers.works.files) in
+    (subst (Leads (run_steps params source inputs outputs kernel limit) (Done (ends_with status.Ok answers.line) mid.files)) is
+    answers.works.files) in
     let ended_so = planned_ends (kind_of s) (check_steps params outputs.table outputs.statement evidence) s mid new c d refl plan
     (subst (λ x. Answers (kind_of s) (steps_of x) s mid new c d) checked_words checks) in
     checked_well (ends_with s ended_so.0) new.files params evidence outputs m
-    (insert (insert m outputs.table left.table) outputs.statement left.claimed) mid.files (run_apart_names ran_by params source inputs outputs kernel limit ran_words) left refl
-    (subst (Leads (check_steps params outputs.table outputs.statement evidence) (Done (ends_with s ended_so.0) new.files)) left.files ended_so.1.files)
+    (insert (insert m outputs.table left.table) outputs.statement left.claimed) mid.files
+    (run_apart_names ran_by params source inputs outputs kernel limit ran_words) left refl
+    (subst (Leads (check_steps params outputs.table outputs.statement evidence) (Done (ends_with s ended_so.0) new.files))
+    left.files ended_so.1.files)

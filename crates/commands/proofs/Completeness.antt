@@ -2,6 +2,7 @@
 use Rattle.std.proofs.Common.{◌≡◌, ◌⊎◌, ℕ, Bool, List, Option, Some, None, Ok, Err, refl, sym, ap, ap₂, subst, inl, inr, ◌∙◌}
 use Rattle.std.specs.FinMap.{insert}
 use Rattle.std.specs.Option.{option_map}
+use Rattle.run_files.specs.RunFiles.{most_table_bytes, most_statement_bytes}
 use Rattle.vm_field.specs.Machine.{State, start}
 use Rattle.rpo_hash.specs.Constants.{constants_of}
 use Rattle.rpo_hash.specs.ParamText.{parameters_of}
@@ -36,7 +37,7 @@ use Rattle.commands.specs.HashEnds.{hash_end}
 use Rattle.commands.specs.CheckEnds.{IsFound}
 use Rattle.commands.specs.RunEnds as ends
 use Rattle.commands.specs.RunEnds.{IsCourse, halted, trapped, unended, outcome_of}
-use Rattle.commands.specs.Commands.{EndsAs, steps_of, with_params, with_inputs, with_kernel, with_trace, with_statement, most_params_bytes, most_numbers_bytes, most_inputs_bytes, most_table_bytes, most_statement_bytes, hash_steps, numbers_steps, assemble_steps, assembly_steps, run_steps, run_source_steps, kernel_steps, running_steps, course_steps, check_steps, table_steps, statement_steps, judging_steps, found_steps}
+use Rattle.commands.specs.Commands.{EndsAs, steps_of, with_params, with_inputs, with_kernel, with_trace, with_statement, most_params_bytes, most_numbers_bytes, most_inputs_bytes, hash_steps, numbers_steps, assemble_steps, assembly_steps, run_steps, run_source_steps, kernel_steps, running_steps, course_steps, check_steps, table_steps, statement_steps, judging_steps, found_steps}
 use Rattle.commands.specs.Serving.{Leads, Answers, Works, Ends}
 use Rattle.commands.specs.Completeness.{Says, HoldsSource, HoldsKernel, IsGood, hashes, assembles, runs, checks, IsFault, GoodIsOk}
 use Rattle.commands.proofs.CompleteLaw.{not_both}

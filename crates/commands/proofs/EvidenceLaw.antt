@@ -2,6 +2,7 @@
 use Rattle.std.proofs.Common.{◌≡◌, ℕ, List, Option, Some, Result, Ok, Err, refl, sym, ap, subst}
 use Rattle.std.specs.Option.{IsSomeAnd}
 use Rattle.std.specs.FinMap.{get, insert}
+use Rattle.run_files.specs.RunFiles.{most_table_bytes, most_statement_bytes}
 use Rattle.rpo_hash.specs.ParamText.{parameters_of}
 use Rattle.evidence_text.specs.EvidenceText.{evidence_text}
 use Rattle.statement.specs.Statements.{Claim, statement_of}
@@ -18,7 +19,7 @@ use Rattle.commands.specs.declared.answer.Answer.{Answer}
 use Rattle.commands.specs.Asked.{check}
 use Rattle.commands.specs.Steps.{telling, evidence_for, Question, checked, Verdict, accepted, refused, Steps, ending, ends_with}
 use Rattle.commands.specs.CheckEnds.{accepted_line}
-use Rattle.commands.specs.Commands.{Finds, most_params_bytes, most_table_bytes, most_statement_bytes, steps_of, with_params, with_trace, with_statement, check_steps, table_steps, statement_steps, judging_steps, found_steps}
+use Rattle.commands.specs.Commands.{Finds, most_params_bytes, steps_of, with_params, with_trace, with_statement, check_steps, table_steps, statement_steps, judging_steps, found_steps}
 use Rattle.commands.specs.Serving.{Leads, Prints}
 use Rattle.commands.specs.Laws.{AreAccepted, EvidenceStands, AcceptedHasEvidence}
 use Rattle.commands.proofs.Walks as walks
@@ -32,10 +33,13 @@ module _ (line : List ℕ) (new : Option Files) where
   trace_said : (name : List ℕ) (next : Trace → Steps) (read : Result Trace FileError) (m : Files) → Leads (with_trace name next read) Done (Some m)
       → (trace : Trace) × (read ≡ Ok trace) × Leads (next trace) Done (Some m)
   trace_said name next (Ok trace) m h = (trace, refl, h)
-  trace_said name next (Err (Bad offset cause)) m h = absurd (not_ok status.Malformed line _ (λ same. cc) (walks.ended (ends_with status.Ok line) new _ m h).0)
-  trace_said name next (Err file_error.Memory) m h = absurd (not_ok status.Memory line _ (λ same. cc) (walks.ended (ends_with status.Ok line) new _ m h).0)
+  trace_said name next (Err (Bad offset cause)) m h =
+      absurd (not_ok status.Malformed line _ (λ same. cc) (walks.ended (ends_with status.Ok line) new _ m h).0)
+  trace_said name next (Err file_error.Memory) m h =
+      absurd (not_ok status.Memory line _ (λ same. cc) (walks.ended (ends_with status.Ok line) new _ m h).0)
 
-  claim_said : (name : List ℕ) (next : Claim → Steps) (read : Result Claim TextCause) (m : Files) → Leads (with_statement name next read) Done (Some m)
+  claim_said : (name : List ℕ) (next : Claim → Steps) (read : Result Claim TextCause) (m : Files)
+      → Leads (with_statement name next read) Done (Some m)
       → (claim : Claim) × (read ≡ Ok claim) × Leads (next claim) Done (Some m)
   claim_said name next (Ok claim) m h = (claim, refl, h)
   claim_said name next (Err cause) m h = absurd (not_ok status.Malformed line _ (λ same. cc) (walks.ended (ends_with status.Ok line) new _ m h).0)
@@ -44,7 +48,8 @@ module _ (line : List ℕ) (new : Option Files) where
       → Leads (found_steps name constants claim trace finding) Done (Some m)
       → (finding ≡ accepted) × Leads (found_steps name constants claim trace accepted) Done (Some m)
   found_accepted name constants claim trace accepted m h = (refl, h)
-  found_accepted name constants claim trace (refused why) m h = absurd (not_ok status.Refused line _ (λ same. cc) (walks.ended (ends_with status.Ok line) new _ m h).0)
+  found_accepted name constants claim trace (refused why) m h =
+      absurd (not_ok status.Refused line _ (λ same. cc) (walks.ended (ends_with status.Ok line) new _ m h).0)
 
 some_and : (o : Option (List ℕ)) (bytes : List ℕ) (P : List ℕ → Type 0) → o ≡ Some bytes → P bytes → IsSomeAnd o P
 some_and o bytes P is p = subst (λ x. IsSomeAnd x P) (sym is) p

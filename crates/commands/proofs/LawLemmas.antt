@@ -34,7 +34,8 @@ put_beside outputs m n name bytes within stay other out = get_beside n name byte
     ∙ stay other out
 
 -- Steps without a fault.
-passes_stay : (outputs : List (List ℕ)) (first m : Files) (steps left : Steps) (told now : Option Files) → Passes steps told left now → WritesOnly outputs steps
+passes_stay : (outputs : List (List ℕ)) (first m : Files) (steps left : Steps) (told now : Option Files)
+    → Passes steps told left now → WritesOnly outputs steps
     → told ≡ Some m → StayBeside outputs first m → Stayed outputs first now × WritesOnly outputs left
 passes_stay outputs first m steps left told now none_yet only is stay = ((m, is, stay), only)
 passes_stay outputs first m steps left told now (past_read name most next bytes held short rest) only is stay =
@@ -42,7 +43,8 @@ passes_stay outputs first m steps left told now (past_read name most next bytes 
 passes_stay outputs first m steps left told now (past_finding question next finding found rest) only is stay =
     passes_stay outputs first m (next finding) left told now rest (only finding) is stay
 passes_stay outputs first m steps left told now (past_write name right next bytes fit rest) only is stay =
-    passes_stay outputs first (insert m name bytes) (next bytes) left (with_file told name bytes) now rest (only.1 bytes) (ap (λ files. with_file files name bytes) is)
+    passes_stay outputs first (insert m name bytes) (next bytes) left (with_file told name bytes) now rest (only.1 bytes)
+    (ap (λ files. with_file files name bytes) is)
     (put_beside outputs first m name bytes only.0 stay)
 
 -- a front of a file that is written
@@ -50,8 +52,11 @@ front_stays : (outputs : List (List ℕ)) (m : Files) (name : List ℕ) (left : 
     → WritesOnly outputs left
     → Stayed outputs m before → Stayed outputs m now
 front_stays outputs m name left before now front only (n, is, stay) =
-    let bytes = take front.front front.bytes in
-    (insert n name bytes, front.files ∙ ap (λ files. with_file files name bytes) is, put_beside outputs m n name bytes (its left front.right only) stay)
+    let bytes = take front.front front.bytes in (
+      insert n name bytes,
+      front.files ∙ ap (λ files. with_file files name bytes) is,
+      put_beside outputs m n name bytes (its left front.right only) stay,
+    )
   where
     its : (left : Steps) → IsWriting name front.bytes left → WritesOnly outputs left → Contains outputs name
     its (reading n most next) writes only = absurd writes
@@ -59,11 +64,14 @@ front_stays outputs m name left before now front only (n, is, stay) =
     its (asking question next) writes only = absurd writes
     its (ending end) writes only = absurd writes
 
-module _ (outputs : List (List ℕ)) (steps : Steps) (only : WritesOnly outputs steps) (m : Files) (old new : ShelfState) (is : old.files ≡ Some m) where
+module _ (outputs : List (List ℕ)) (steps : Steps) (only : WritesOnly outputs steps) (m : Files) (old new : ShelfState)
+    (is : old.files ≡ Some m) where
   led : (P : Steps → Option Files → Type 0)
       → ((left : Steps) (now : Option Files) → P left now → WritesOnly outputs left → Stayed outputs m now → Stayed outputs m new.files)
       → Leads steps P old.files → Stayed outputs m new.files
-  led P so h = let all = passes_stay outputs m m steps h.left old.files h.now h.passes only is (λ name out. refl) in so h.left h.now h.there all.1 all.0
+  led P so h = let all =
+      passes_stay outputs m m steps h.left old.files h.now h.passes only is (λ name out. refl) in so h.left h.now h.there all.1
+      all.0
 
   same : (now : Option Files) → new.files ≡ now → Stayed outputs m now → Stayed outputs m new.files
   same now eq (n, told, stay) = (n, eq ∙ told, stay)
@@ -136,10 +144,12 @@ only_of_run outputs constants given (stopped a) = tt
 pub commands_write : CommandsWrite
 commands_write nothing steps is = absurd (cc)
 commands_write (hash params numbers) steps is =
-    subst (WritesOnly []) (some_steps _ _ is) (λ bytes. only_behind_params [] params (numbers_steps numbers) (λ constants text. tt) (parameters_of bytes))
+    subst (WritesOnly []) (some_steps _ _ is)
+    (λ bytes. only_behind_params [] params (numbers_steps numbers) (λ constants text. tt) (parameters_of bytes))
 commands_write (assemble params source kernel) steps is =
     subst (WritesOnly []) (some_steps _ _ is)
-    (λ bytes. only_behind_params [] params (assembly_steps source kernel) (λ constants text. only_behind_kernel [] kernel _ (λ k. tt)) (parameters_of bytes))
+    (λ bytes. only_behind_params [] params (assembly_steps source kernel)
+    (λ constants text. only_behind_kernel [] kernel _ (λ k. tt)) (parameters_of bytes))
 commands_write (run params source inputs outputs kernel limit) steps is =
     let names = outputs.table ∷ outputs.statement ∷ [] in
     subst (WritesOnly names) (some_steps _ _ is)
@@ -175,7 +185,8 @@ pub nothing_gives_usage : NothingGivesUsage
 nothing_gives_usage words s old new before now serves none =
     answers s (subst (λ c. Answers (kind_of s) (steps_of c) s old new before now) none serves)
   where
-    answers : (s : Status) → Answers (kind_of s) None s old new before now → (new ≡ old) × ((s ≡ status.Usage) ⊎ ((s ≡ status.SinkFault) ⊎ (s ≡ status.Memory)))
+    answers : (s : Status) → Answers (kind_of s) None s old new before now
+        → (new ≡ old) × ((s ≡ status.Usage) ⊎ ((s ≡ status.SinkFault) ⊎ (s ≡ status.Memory)))
     answers status.Usage h = (h.works.1, inl refl)
     answers status.SinkFault h = (work h.answer h.works, inr (inl refl))
       where

@@ -104,11 +104,13 @@ module _ (line : List ℕ) (new : Option Files) where
   not_refused name most None h = not_ok status.Missing line _ (λ same. cc) h
   not_refused name most (Some bytes) h = not_ok status.TooLong line _ (λ same. cc) h.1
 
-  pub was_read : (name : List ℕ) (most : ℕ) (next : List ℕ → Steps) (m : Files) → Leads (reading name most next) (Done (ends_with status.Ok line) new) (Some m)
+  pub was_read : (name : List ℕ) (most : ℕ) (next : List ℕ → Steps) (m : Files)
+      → Leads (reading name most next) (Done (ends_with status.Ok line) new) (Some m)
       → (bytes : List ℕ) × (get m name ≡ Some bytes) × (length bytes ≤ most) × Leads (next bytes) (Done (ends_with status.Ok line) new) (Some m)
   was_read name most next m h = of (first (ends_with status.Ok line) new (reading name most next) m h)
     where
-      of : Done (ends_with status.Ok line) new (reading name most next) (Some m) ⊎ Beyond (Done (ends_with status.Ok line) new) (reading name most next) m
+      of : Done (ends_with status.Ok line) new (reading name most next) (Some m)
+          ⊎ Beyond (Done (ends_with status.Ok line) new) (reading name most next) m
           → (bytes : List ℕ) × (get m name ≡ Some bytes) × (length bytes ≤ most) × Leads (next bytes) (Done (ends_with status.Ok line) new) (Some m)
       of (inl e) = absurd (not_refused name most e.0.0 e.0.2)
       of (inr b) = b

@@ -75,7 +75,8 @@ run_of_names params source inputs outputs kernel limit = nothing
 abbrev pub run_words : List (List ℕ) → Asked
 run_words words =
     if is_form 3 (codes "--out" ∷ codes "--statement" ∷ codes "--kernel" ∷ codes "--limit" ∷ []) words
-    then run_of_names (name_at 0 words) (name_at 1 words) (name_at 2 words) (outputs_in words) (optional_name (codes "--kernel") words) (limit_in words)
+    then run_of_names (name_at 0 words) (name_at 1 words) (name_at 2 words) (outputs_in words)
+    (optional_name (codes "--kernel") words) (limit_in words)
     else nothing
 
 abbrev pub check_of_names : Option (List ℕ) → Option (List ℕ) → Option (List ℕ) → Option (Option (List ℕ)) → Asked

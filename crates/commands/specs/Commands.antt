@@ -21,14 +21,10 @@ use Rattle.vm_field.specs.Machine.{State}
 use Rattle.block_tree.specs.Execution as run
 use Rattle.block_tree.specs.TreeView.{tree_of}
 use Rattle.block_tree.specs.declared.program.Program.{Program}
-use Rattle.run_files.specs.RunFiles.{IsTableFileOf, IsStatementFileOf, claim_of_run}
+use Rattle.run_files.specs.RunFiles.{IsTableFileOf, IsStatementFileOf, claim_of_run, most_table_bytes, most_statement_bytes}
 use Rattle.table_file.specs.Files.{trace_of}
 use Rattle.table_file.specs.declared.cause.FileError.{FileError}
 use Rattle.json_values.specs.declared.refusal.TextCause.{TextCause}
-
--- the longest file of a table
-abbrev pub most_table_bytes : ℕ
-most_table_bytes = 1073741824
 
 -- the longest files of parameters and of numbers
 abbrev pub most_params_bytes : ℕ
@@ -43,9 +39,6 @@ most_source_bytes = 1048576
 
 abbrev pub most_inputs_bytes : ℕ
 most_inputs_bytes = 33554432
-
-abbrev pub most_statement_bytes : ℕ
-most_statement_bytes = 16777216
 
 -- a command that reads a file of parameters of this name goes on with the constants that it writes
 abbrev pub with_params : List ℕ → (List ℕ → Steps) → Result (List ℕ) ParamError → Steps
@@ -108,7 +101,8 @@ run_steps params source inputs outputs kernel limit =
 
 -- A trace that is accepted has evidence, which is written and told; one that is refused is refused by name.
 abbrev pub found_steps : List ℕ → List ℕ → Claim → Trace → Verdict → Steps
-found_steps name constants claim trace accepted = writing name (evidence_for constants claim trace) (λ bytes. ending (telling constants claim trace bytes))
+found_steps name constants claim trace accepted =
+    writing name (evidence_for constants claim trace) (λ bytes. ending (telling constants claim trace bytes))
 found_steps name constants claim trace (refused why) = ending (refusal why)
 
 abbrev pub judging_steps : List ℕ → List ℕ → Trace → Claim → Steps
@@ -121,7 +115,8 @@ with_statement name next (Err cause) = ending (bad_statement name cause)
 
 abbrev pub statement_steps : List ℕ → List ℕ → List ℕ → Trace → Steps
 statement_steps statement evidence constants trace =
-    reading statement most_statement_bytes (λ bytes. with_statement statement (judging_steps evidence constants trace) (statements.statement_of bytes))
+    reading statement most_statement_bytes
+    (λ bytes. with_statement statement (judging_steps evidence constants trace) (statements.statement_of bytes))
 
 -- a command that reads a table file of this name goes on with its trace
 abbrev pub with_trace : List ℕ → (Trace → Steps) → Result Trace FileError → Steps

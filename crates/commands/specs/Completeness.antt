@@ -1,6 +1,7 @@
 -- Commands over good files, and how they end (docs/PROOF.md).
 use Rattle.std.specs.Prelude.{◌≡◌, ◌⊎◌, ℕ, ◌≤◌, List, length, Option, Some, None, Result, Ok}
 use Rattle.std.specs.FinMap.{get}
+use Rattle.run_files.specs.RunFiles.{most_table_bytes, most_statement_bytes}
 use Rattle.rpo_hash.specs.ParamText.{parameters_of}
 use Rattle.vm_field.specs.Machine.{State}
 use Rattle.block_tree.specs.Execution as execution
@@ -21,7 +22,7 @@ use Rattle.commands.specs.Steps.{SourceFile, accepted}
 use Rattle.commands.specs.SourceEnds.{AssemblesFiles}
 use Rattle.commands.specs.RunEnds.{outcome_of}
 use Rattle.commands.specs.CheckEnds.{IsFound}
-use Rattle.commands.specs.Commands.{most_params_bytes, most_numbers_bytes, most_source_bytes, most_inputs_bytes, most_table_bytes, most_statement_bytes}
+use Rattle.commands.specs.Commands.{most_params_bytes, most_numbers_bytes, most_source_bytes, most_inputs_bytes}
 use Rattle.commands.specs.Serving.{Serves}
 
 -- a file stands under the name, is not too long, and reads as this
@@ -39,7 +40,8 @@ pub record HoldsSource (m : Files) (source : SourceFile) : Type 0 where
 -- so does that of a kernel, where one is named
 abbrev pub HoldsKernel : Files → Option (List ℕ) → Option SourceFile → Type 0
 HoldsKernel m None kernel = kernel ≡ None
-HoldsKernel m (Some name) kernel = (text : List ℕ) × HoldsSource m (record { name = name; text = text }) × (kernel ≡ Some (record { name = name; text = text }))
+HoldsKernel m (Some name) kernel =
+    (text : List ℕ) × HoldsSource m (record { name = name; text = text }) × (kernel ≡ Some (record { name = name; text = text }))
 
 -- The files of a command are there, not too long and of their forms, and what they say has an answer: the source has a program, its
 -- run ends within the limit, the trace is accepted.

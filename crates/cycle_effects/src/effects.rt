@@ -26,7 +26,8 @@ pub fn effect(
     mark: Mark,
 ) -> Result<(), StepStop>
     requires clock { state.old.clock ≤ 524287 }
-    ensures effect { Effected (effect_of (constants_in setting.now) setting.now.kernel.now (mark_of mark) [] (core_of state.old)) result state.old state.new }
+    ensures effect { Effected (effect_of (constants_in setting.now) setting.now.kernel.now (mark_of mark) []
+        (core_of state.old)) result state.old state.new }
     ensures hidden { OnOk result (SetsAside mark state.old.stack hidden.new) }
 {
     match mark {

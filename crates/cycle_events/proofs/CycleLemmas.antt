@@ -33,12 +33,17 @@ use Rattle.cycle_effects.specs.declared.setting.Setting.{Setting}
 -- the limit cuts the cycle off
 pub ran-late : (setting : Setting) (mark : cycles.Mark) (s : machine.State) {log : List Event} {r : Result (Unit {0}) Stop} {after : Runner}
     → setting.limit ≤ s.core.clock → r ≡ Err OutOfCycles → Ran setting (cycle_in setting mark s) log r after
-ran-late setting mark s late e = rw e (record { answer = taking-late setting.limit mark (advice_taken mark) (effect_of (constants_in setting) setting.kernel.now mark) s late })
+ran-late setting mark s late e =
+    rw e (record {
+      answer = taking-late setting.limit mark (advice_taken mark)
+          (effect_of (constants_in setting) setting.kernel.now mark) s late;
+    })
 
 -- what the log shows of a cycle that was done
 shown-done : (setting : Setting) (mark : cycles.Mark) (s t : machine.State) (es : List run.Event) → cycle_in setting mark s ≡ Done t es
     → map (shown_in setting) es ≡ shown_between mark (take (advice_taken mark) s.tape) s.core t.core ∷ []
-shown-done setting mark s t es e = from (taking-inv setting.limit mark (advice_taken mark) (effect_of (constants_in setting) setting.kernel.now mark) s t es e)
+shown-done setting mark s t es e =
+    from (taking-inv setting.limit mark (advice_taken mark) (effect_of (constants_in setting) setting.kernel.now mark) s t es e)
   where
     from : Cycled setting.limit mark (advice_taken mark) (effect_of (constants_in setting) setting.kernel.now mark) s t es
         → map (shown_in setting) es ≡ shown_between mark (take (advice_taken mark) s.tape) s.core t.core ∷ []
@@ -80,7 +85,8 @@ row m before after = record {
   result = top after;
 }
 
-shown-row : (m : Mark) (tape : List ℕ) (before after : Core) → shown_between (mark_of m) (take (advice_taken (mark_of m)) tape) before after ≡ row m before after
+shown-row : (m : Mark) (tape : List ℕ) (before after : Core)
+    → shown_between (mark_of m) (take (advice_taken (mark_of m)) tape) before after ≡ row m before after
 shown-row StartOpaque tape before after = refl
 shown-row _ tape before after = refl
 
@@ -117,7 +123,10 @@ module _ (setting : Setting) (m : Mark) (before mid : State) where
   mark-done {log} {after} {u} op visible tape word hash result began e now is_op is_tape is_word is_hash is_result logged =
       let none : advice_taken (mark_of m) ≡ 0 = no_advice m in
       let made : effect_at (take (advice_taken (mark_of m)) before.tape) (core_of before) ≡ Ok (core_of mid) = rw none e.0 in
-      let same : state_of after.state ≡ record { core = record (core_of mid) { clock = mid.clock + 1 }; tape = drop (advice_taken (mark_of m)) before.tape }
+      let same : state_of after.state ≡ record {
+        core = record (core_of mid) { clock = mid.clock + 1 };
+        tape = drop (advice_taken (mark_of m)) before.tape;
+      }
       = rw (now, e.1, none) refl in
       ran-done setting (mark_of m) (state_of before) log after u
       (record { op = op; before = visible; imm = None; tape = tape; word = word; hash = hash; result = result })

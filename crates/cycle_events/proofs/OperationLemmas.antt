@@ -49,7 +49,8 @@ alone (Some x) op m tape word advice w is_tape is_word = (
 
 -- an operation with an immediate takes nothing of the tape and accesses no memory
 pub pushes-alone : (item : Item) → IsOrdinaryItem item → (tape word advice w : List ℕ)
-    → (advice_of item.op ≤ length advice → tape ≡ four_of (take (advice_of item.op) advice)) → word ≡ (if accesses_memory item.op then w else zero_word)
+    → (advice_of item.op ≤ length advice → tape ≡ four_of (take (advice_of item.op) advice))
+    → word ≡ (if accesses_memory item.op then w else zero_word)
     → IfSome item.imm (λ x. (tape ≡ zero_word) × (word ≡ zero_word))
 pushes-alone item is = alone item.imm item.op is.immediate
 
@@ -95,9 +96,12 @@ module _ (setting : Setting) (item : Item) (before : State) where
   operation-stop {log} {after} stop mid visible stopped began is e = rw (is, began.0) (record { answer = stop-as log after mid stop began.1 e })
 
   -- the word at the address on top
-  same_word : (after : Core) → (if accesses_memory item.op then word_at after.memory before.context (slice_index (take 16 before.stack) 0) else zero_word)
+  same_word : (after : Core) → (if accesses_memory item.op then word_at after.memory before.context
+      (slice_index (take 16 before.stack) 0) else zero_word)
       ≡ (if accesses_memory item.op then word_at after.memory before.context (top (core_of before)) else zero_word)
-  same_word after = ap (λ x. if accesses_memory item.op then word_at after.memory before.context x else zero_word) (get_or-take 16 before.stack 0 0 (omega arith))
+  same_word after =
+      ap (λ x. if accesses_memory item.op then word_at after.memory before.context x else zero_word)
+      (get_or-take 16 before.stack 0 0 (omega arith))
 
   -- the cycle was done
   pub operation-done : {log : List Event} {after : Runner} {u : Unit {0}} (visible : Visible) (tape word : List ℕ) (result : ℕ)
@@ -106,11 +110,25 @@ module _ (setting : Setting) (item : Item) (before : State) where
       → (advice_of item.op ≤ length before.tape → tape ≡ four_of (take (advice_of item.op) before.tape))
       → word ≡ (if accesses_memory item.op then word_at after.state.memory visible.context (slice_index visible.cells 0) else zero_word)
       → result ≡ top (core_of after.state)
-      → after.log ≡ log ++ (record { op = item.op; before = visible; imm = item.imm; tape = tape; word = word; hash = zero_word ++ zero_word; result = result }) ∷ []
+      → after.log ≡ log ++ (record {
+        op = item.op;
+        before = visible;
+        imm = item.imm;
+        tape = tape;
+        word = word;
+        hash = zero_word ++ zero_word;
+        result = result;
+      }) ∷ []
       → Ran setting (cycle_in setting (Do item) (state_of before)) log (Ok u) after
   operation-done {log} {after} {u} visible tape word result began e is_tape is_word is_result logged =
       ran-done setting (Do item) (state_of before) log after u
       (record { op = item.op; before = visible; imm = item.imm; tape = tape; word = word; hash = zero_word ++ zero_word; result = result })
       (taking-ok setting.limit (Do item) (advice_of item.op) (act (constants_in setting) item) (state_of before) (state_of after.state) began.1 e)
       logged
-      (rw (is_word, began.0, is_tape (step-enough (constants_in setting) item before (state_of after.state) e), is_result, same_word (core_of after.state)) refl)
+      (rw (
+        is_word,
+        began.0,
+        is_tape (step-enough (constants_in setting) item before (state_of after.state) e),
+        is_result,
+        same_word (core_of after.state),
+      ) refl)

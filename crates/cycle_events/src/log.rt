@@ -83,7 +83,16 @@ impl Events {
         hash: [Felt; 8],
         top: Felt,
     ) -> Result<(), Memory>
-        ensures ok { OnOk result (self.new ≡ self.old ++ record { op = op; before = before; imm = None; tape = zero_word; word = zero_word; hash = hash; result = top } ∷ []) }
+        ensures ok { OnOk result (self.new ≡ self.old
+            ++ record {
+              op = op;
+              before = before;
+              imm = None;
+              tape = zero_word;
+              word = zero_word;
+              hash = hash;
+              result = top;
+            } ∷ []) }
         ensures err { OnErr result (self.new ≡ self.old) }
     {
         self.push(op, &before, Use::Block, hash, top)
@@ -101,7 +110,16 @@ impl Events {
         top: Felt,
     ) -> Result<(), Memory>
         requires { IfSome item.now.imm (λ imm. (tape ≡ zero_word) × (word ≡ zero_word)) }
-        ensures ok { OnOk result (self.new ≡ self.old ++ record { op = item.now.op; before = before; imm = item.now.imm; tape = tape; word = word; hash = zero_word ++ zero_word; result = top } ∷ []) }
+        ensures ok { OnOk result (self.new ≡ self.old
+            ++ record {
+              op = item.now.op;
+              before = before;
+              imm = item.now.imm;
+              tape = tape;
+              word = word;
+              hash = zero_word ++ zero_word;
+              result = top;
+            } ∷ []) }
         ensures err { OnErr result (self.new ≡ self.old) }
     {
         let zero = Felt::ZERO;
@@ -121,7 +139,16 @@ impl Events {
         elements: [Felt; 8],
         top: Felt,
     ) -> Result<(), Memory>
-        ensures ok { OnOk result (self.new ≡ self.old ++ record { op = op; before = before.now; imm = imm_in kind elements; tape = tape_in kind elements; word = word_in kind elements; hash = hash_in kind elements; result = top } ∷ []) }
+        ensures ok { OnOk result (self.new ≡ self.old
+            ++ record {
+              op = op;
+              before = before.now;
+              imm = imm_in kind elements;
+              tape = tape_in kind elements;
+              word = word_in kind elements;
+              hash = hash_in kind elements;
+              result = top;
+            } ∷ []) }
         ensures err { OnErr result (self.new ≡ self.old) }
     {
         let function = name_function(&mut self.functions, before.digest)?;

@@ -12,7 +12,8 @@ use Rattle.event_kinds.specs.Spans.{batch_by, stays}
 use Rattle.event_kinds.proofs.LoopLemmas.{suffix}
 
 -- the operation that is shown at a place is that of the event there
-pub same_op : (events : List Event) (i : ℕ) (op : Op) (e : Event) → i < length events → ShowsAt events i (λ e. op ≡ e.op) → e ≡ get_or events i e → op ≡ e.op
+pub same_op : (events : List Event) (i : ℕ) (op : Op) (e : Event) → i < length events → ShowsAt events i (λ e. op ≡ e.op)
+    → e ≡ get_or events i e → op ≡ e.op
 same_op events i op e within shown is =
     shown.2 ∙ ap (λ (x : Event). x.op) (shown.1 ∙ get_or_default events i shown.0 e within ∙ sym is)
 
@@ -54,7 +55,8 @@ stops kinds.End batch later fails = refl
 stops kinds.Repeat batch later fails = refl
 stops kinds.Halt batch later fails = refl
 
-pub respans-step : (events : List Event) (i : ℕ) (e : Event) (kind : Kind) (stay : Bool) (done more : List (List ℕ)) → i < length events → e ≡ get_or events i e
+pub respans-step : (events : List Event) (i : ℕ) (e : Event) (kind : Kind) (stay : Bool) (done more : List (List ℕ))
+    → i < length events → e ≡ get_or events i e
     → kind ≡ kind_of e.op → stay ≡ stays kind → stay ≡ true → more ≡ done ++ batch_by kind e.hash
     → more ++ respans (drop (i + 1) events) ≡ done ++ respans (drop i events)
 respans-step events i e kind stay done more within is kind_is stay_is held added =
@@ -63,7 +65,8 @@ respans-step events i e kind stay done more within is kind_is stay_is held added
     ∙ ap (λ (xs : List (List ℕ)). done ++ xs)
     (sym (goes kind e.hash rest (sym stay_is ∙ held)) ∙ ap (λ (k : Kind). respans_by k e.hash rest) kind_is ∙ sym (respans-here events i e within is))
 
-pub respans-stop : (events : List Event) (i : ℕ) (e : Event) (kind : Kind) (stay : Bool) (done : List (List ℕ)) → i < length events → e ≡ get_or events i e
+pub respans-stop : (events : List Event) (i : ℕ) (e : Event) (kind : Kind) (stay : Bool) (done : List (List ℕ)) → i < length events
+    → e ≡ get_or events i e
     → kind ≡ kind_of e.op → stay ≡ stays kind → stay ≡ false → done ++ respans (drop i events) ≡ done
 respans-stop events i e kind stay done within is kind_is stay_is fails =
     let rest = respans (drop (i + 1) events) in

@@ -1,15 +1,17 @@
 -- The rows of bitwise operations, one by one.
 use Rattle.std.proofs.Common.{◌≡◌, ℕ, zero, suc, ◌*◌, ◌-◌, ◌/◌, ◌%◌, ◌^◌, Bool, List, [], ◌∷◌, ◌++◌, refl, ap, ap₂, ◌∙◌}
 use Rattle.std.proofs.Math.Nat.{div-one}
+use Rattle.vm_ops.specs.Values.{bit_of}
 use Rattle.air_kit.specs.declared.requests.BitOp.{BitOp}
-use Rattle.bit_rows.specs.BitRows.{bit_number, bit_row, bitwise, row_without, rows_before, rows_of}
+use Rattle.bit_rows.specs.BitRows.{bit_row, bitwise, row_without, rows_before, rows_of}
 
 -- a row by its cells
-pub row-is : (xor : Bool) (u v : ℕ) (c0 c1 c2 c3 c4 c5 c6 c7 c8 c9 c10 c11 : ℕ) → c0 ≡ bit_number xor → c1 ≡ u → c2 ≡ v → c3 ≡ u % 2 → c4 ≡ u / 2 % 2
+pub row-is : (xor : Bool) (u v : ℕ) (c0 c1 c2 c3 c4 c5 c6 c7 c8 c9 c10 c11 : ℕ) → c0 ≡ bit_of xor → c1 ≡ u → c2 ≡ v → c3 ≡ u % 2 → c4 ≡ u / 2 % 2
     → c5 ≡ u / 4 % 2 → c6 ≡ u / 8 % 2 → c7 ≡ v % 2 → c8 ≡ v / 2 % 2 → c9 ≡ v / 4 % 2 → c10 ≡ v / 8 % 2 → c11 ≡ bitwise xor u v
     → c0 ∷ c1 ∷ c2 ∷ c3 ∷ c4 ∷ c5 ∷ c6 ∷ c7 ∷ c8 ∷ c9 ∷ c10 ∷ c11 ∷ [] ≡ bit_row xor u v
 unfolding bit_row
-row-is xor u v c0 c1 c2 c3 c4 c5 c6 c7 c8 c9 c10 c11 e0 e1 e2 e3 e4 e5 e6 e7 e8 e9 e10 e11 = rw (e0, e1, e2, e3, e4, e5, e6, e7, e8, e9, e10, e11) refl
+row-is xor u v c0 c1 c2 c3 c4 c5 c6 c7 c8 c9 c10 c11 e0 e1 e2 e3 e4 e5 e6 e7 e8 e9 e10 e11 =
+    rw (e0, e1, e2, e3, e4, e5, e6, e7, e8, e9, e10, e11) refl
 
 pub without-is : (n : ℕ) (p : BitOp) → row_without n p ≡ bit_row p.xor (p.a / 2 ^ n) (p.b / 2 ^ n)
 unfolding row_without

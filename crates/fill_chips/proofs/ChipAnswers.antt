@@ -3,9 +3,14 @@ use Rattle.std.proofs.Common.{◌≡◌, ◌≢◌, ℕ, zero, suc, ◌+◌, ◌
 use Rattle.std.proofs.lemmas.List.{length-map}
 use Rattle.std.proofs.lemmas.List.Elements.{All-append}
 use Rattle.vm_field.specs.Machine.{IsWord}
+use Rattle.hash_rows.specs.PermRows.{rows_of as perm_rows}
+use Rattle.bit_rows.specs.BitRows.{rows_of as bit_rows}
+use Rattle.bit_rows.proofs.Given.{rows_give as bits_give}
+use Rattle.bit_rows.proofs.TableLaws.{rows_show as bits_show}
 use Rattle.buses.specs.Counts.{counted, once, over_rows}
 use Rattle.buses.specs.declared.bus.Bus.{Bus}
 use Rattle.buses.specs.declared.bus.Bus.TheVariants as bus
+use Rattle.buses.proofs.Counting.{counted-none}
 use Rattle.chip_columns.specs.LeftColumns.{key}
 use Rattle.rpo_hash.specs.States.{IsState}
 use Rattle.air_kit.specs.declared.requests.Perm.{Perm}
@@ -19,15 +24,10 @@ use Rattle.air_kit.specs.Places.{Claim, at_number}
 use Rattle.air_kit.specs.Requests.{Fits, answers_on}
 use Rattle.air_kit.specs.Traces.{HasCounts, most_rows, rows_of, value_at}
 use Rattle.hash_rows.specs.HashTables.{Fit, IsZero}
-use Rattle.hash_rows.specs.PermRows.{rows_of as perm_rows}
 use Rattle.hash_rows.proofs.GivenLemmas.{rows_give}
 use Rattle.hash_rows.proofs.RowsAreZero.{rows_of-size}
 use Rattle.hash_rows.proofs.TableLaws.{rows_show}
-use Rattle.hash_rows.proofs.Totals.{counted-none}
-use Rattle.bit_rows.specs.BitRows.{rows_of as bit_rows}
 use Rattle.bit_rows.specs.BitTables.{AreWords, ShowsOps}
-use Rattle.bit_rows.proofs.Given.{rows_give as bits_give}
-use Rattle.bit_rows.proofs.TableLaws.{rows_show as bits_show}
 use Rattle.memory_rows.specs.MemoryTables.{ShowsAccesses}
 use Rattle.fill_chips.specs.declared.chips.Chips.{Chips}
 use Rattle.fill_chips.specs.Beside.{AnswersBeside, HasSizes, beside}
@@ -72,7 +72,8 @@ all_quiet : (r h b m k l : List (List ℕ)) (u : List ℕ)
     → over_rows (λ i x next. []) r u + over_rows (λ i x next. []) h u + over_rows (λ i x next. []) b u + over_rows (λ i x next. []) m u
     + over_rows (λ i x next. []) k u + over_rows (λ i x next. []) l u ≡ counted [] u
 all_quiet r h b m k l u =
-    sum_of_none _ _ _ _ _ _ (over-quiet r u) (over-quiet h u) (over-quiet b u) (over-quiet m u) (over-quiet k u) (over-quiet l u) ∙ sym (counted-none u)
+    sum_of_none _ _ _ _ _ _ (over-quiet r u) (over-quiet h u) (over-quiet b u) (over-quiet m u) (over-quiet k u) (over-quiet l u)
+    ∙ sym (counted-none u)
 
 second_alone : (a b c d e f n : ℕ) → a ≡ 0 → b ≡ n → c ≡ 0 → d ≡ 0 → e ≡ 0 → f ≡ 0 → a + b + c + d + e + f ≡ n
 second_alone a b c d e f n za is zc zd ze zf = omega (arith, za, is, zc, zd, ze, zf)
@@ -113,7 +114,8 @@ module _ (constants : List ℕ) (kernel : List (List ℕ)) (r : Requests) (memor
       most_in table.Kernel = let size = kernel-size (times_called r.calls) kernel in let room = fits.room.words in omega (arith, size, room)
       most_in table.Left = let size = length-map r.keys (λ (k : ℕ). k ∷ []) in let room = fits.room.keys in omega (arith, size, room)
 
-  zeros : length constants ≡ 168 → Fit constants r.perms → All IsWord kernel → (c : Claim) (name : TableName) (row number : ℕ) → c.constants ≡ constants
+  zeros : length constants ≡ 168 → Fit constants r.perms → All IsWord kernel → (c : Claim) (name : TableName) (row number : ℕ)
+      → c.constants ≡ constants
       → c.kernel ≡ kernel → name ≢ table.Main → row < length (rows_of trace name) → value_at c trace name row number ≡ 0
   zeros len fit words c table.Main row number ec ek apart within = absurd (apart refl)
   zeros len fit words c table.Range row number ec ek apart within = range-zero (r.ranges ++ limbs_in memory) row number within
@@ -123,7 +125,8 @@ module _ (constants : List ℕ) (kernel : List (List ℕ)) (r : Requests) (memor
   zeros len fit words c table.Kernel row number ec ek apart within = kernel-zero c (times_called r.calls) kernel ek words row number within
   zeros len fit words c table.Left row number ec ek apart within = none_at number
 
-  gives : length constants ≡ 168 → Fits constants kernel r → All (λ p. IsState p.start) r.perms → All IsWord kernel → (on : Bus) (u : List ℕ) → on ≢ bus.Range
+  gives : length constants ≡ 168 → Fits constants kernel r → All (λ p. IsState p.start) r.perms → All IsWord kernel
+      → (on : Bus) (u : List ℕ) → on ≢ bus.Range
       → over_chips (λ name rows. over_rows (chip_given on name) rows u) trace ≡ counted (answers_on constants r on) u
   gives len fits states words bus.Blocks u apart = all_quiet _ _ _ _ _ _ u
   gives len fits states words bus.Children u apart = all_quiet _ _ _ _ _ _ u
@@ -131,14 +134,16 @@ module _ (constants : List ℕ) (kernel : List (List ℕ)) (r : Requests) (memor
   gives len fits states words bus.Groups u apart = all_quiet _ _ _ _ _ _ u
   gives len fits states words bus.Overflow u apart = all_quiet _ _ _ _ _ _ u
   gives len fits states words bus.Hasher u apart =
-      second_alone _ _ _ _ _ _ _ (over-quiet _ u) (rows_give constants r.perms u len states) (over-quiet _ u) (over-quiet _ u) (over-quiet _ u) (over-quiet _ u)
+      second_alone _ _ _ _ _ _ _ (over-quiet _ u) (rows_give constants r.perms u len states) (over-quiet _ u) (over-quiet _ u)
+      (over-quiet _ u) (over-quiet _ u)
   gives len fits states words bus.Bitwise u apart =
       third_alone _ _ _ _ _ _ _ (over-quiet _ u) (over-quiet _ u) (bits_give r.bits u) (over-quiet _ u) (over-quiet _ u) (over-quiet _ u)
   gives len fits states words bus.Memory u apart =
       fourth_alone _ _ _ _ _ _ _ (over-quiet _ u) (over-quiet _ u) (over-quiet _ u) (shown.given u) (over-quiet _ u) (over-quiet _ u)
   gives len fits states words bus.Range u apart = absurd (apart refl)
   gives len fits states words bus.Kernel u apart =
-      fifth_alone _ _ _ _ _ _ _ (over-quiet _ u) (over-quiet _ u) (over-quiet _ u) (over-quiet _ u) (kernel_gives kernel r.calls u words fits.calls) (over-quiet _ u)
+      fifth_alone _ _ _ _ _ _ _ (over-quiet _ u) (over-quiet _ u) (over-quiet _ u) (over-quiet _ u)
+      (kernel_gives kernel r.calls u words fits.calls) (over-quiet _ u)
 
 pub filled-answers : (constants : List ℕ) (kernel : List (List ℕ)) (r : Requests) (memory : List (List ℕ)) → length constants ≡ 168
     → Fits constants kernel r → All (λ p. IsState p.start) r.perms → AreWords r.bits → ShowsAccesses r.accesses memory → All IsWord kernel

@@ -109,7 +109,9 @@ none-called words (call ∷ calls) u are none =
 
     apart : (b : Bool) → pointwise nat_eq call u ≡ b → ◌≡◌ {A = ℕ} (cond b 1 0) 0
     apart true same =
-        absurd (let found : stands_in words u ≡ true = list_any_at (λ word. pointwise nat_eq word u) words one.0 [] one.1 (ap (λ w. pointwise nat_eq w u) one.2 ∙ same) in cc)
+        absurd (let found : stands_in words u
+        ≡ true = list_any_at (λ word. pointwise nat_eq word u) words one.0 [] one.1
+        (ap (λ w. pointwise nat_eq w u) one.2 ∙ same) in cc)
     apart false other = refl
 
 given_by : (b : Bool) (n : ℕ) → (b ≡ false → n ≡ 0) → cond b n 0 ≡ n

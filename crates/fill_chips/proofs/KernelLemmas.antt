@@ -39,7 +39,8 @@ pub rows-step : (f g : List ℕ → ℕ) (kernel table new : List (List ℕ)) (r
     → word ≡ get_or kernel i word → new ≡ table ++ row ∷ [] → row ≡ word ++ count ∷ [] → count ≡ f word → ((u : List ℕ) → g u ≡ without word f u)
     → new ++ kernel_rows g (drop (i + 1) kernel) ≡ table ++ kernel_rows f (drop i kernel)
 rows-step f g kernel table new row i word count within word_is new_is row_is count_is same =
-    ap (λ (t : List (List ℕ)). t ++ kernel_rows g (drop (i + 1) kernel)) (new_is ∙ ap (λ (r : List ℕ). table ++ r ∷ []) (row_is ∙ ap (λ (n : ℕ). word ++ n ∷ []) count_is))
+    ap (λ (t : List (List ℕ)). t ++ kernel_rows g (drop (i + 1) kernel))
+    (new_is ∙ ap (λ (r : List ℕ). table ++ r ∷ []) (row_is ∙ ap (λ (n : ℕ). word ++ n ∷ []) count_is))
     ∙ rows-next f g word (drop (i + 1) kernel) table same ∙ ap (λ (words : List (List ℕ)). table ++ kernel_rows f words) (sym here)
   where
     here : drop i kernel ≡ word ∷ drop (i + 1) kernel

@@ -3,7 +3,7 @@ use Rattle.std.proofs.Common.{◌≡◌, ℕ, suc, ◌+◌, ◌*◌, ◌<◌, Li
 use Rattle.std.proofs.lemmas.List.{map-append}
 use Rattle.std.proofs.lemmas.List.Elements.{All-cons, All-nil}
 use Rattle.buses.specs.Counts.{counted, once, over_rows}
-use Rattle.hash_rows.proofs.Totals.{counted-append, counted-none}
+use Rattle.buses.proofs.Counting.{counted-none, counted-append}
 use Rattle.chip_columns.specs.MemoryColumns.{d0, d1, a0, a1}
 use Rattle.air_kit.specs.ChipTuples.{memory_ranges}
 use Rattle.memory_rows.specs.MemoryTables.{HasLimbs, HaveLimbs}
@@ -36,7 +36,8 @@ limbs-small (row ∷ rows) have =
     let later = limbs-small rows (λ i within. have (suc i) (omega (arith, within))) in
     All-cons (λ v. v < 65536) (d0 row) (d1 row ∷ a0 row ∷ a1 row ∷ limbs_in rows) here.d0_small
     (All-cons (λ v. v < 65536) (d1 row) (a0 row ∷ a1 row ∷ limbs_in rows) here.d1_small
-    (All-cons (λ v. v < 65536) (a0 row) (a1 row ∷ limbs_in rows) here.a0_small (All-cons (λ v. v < 65536) (a1 row) (limbs_in rows) here.a1_small later)))
+    (All-cons (λ v. v < 65536) (a0 row) (a1 row ∷ limbs_in rows) here.a0_small
+    (All-cons (λ v. v < 65536) (a1 row) (limbs_in rows) here.a1_small later)))
 
 row-asks : (row : List ℕ) (u : List ℕ) → counted (map (λ v. once (v ∷ [])) (limbs_of row)) u ≡ counted (memory_ranges row) u
 unfolding memory_ranges
@@ -51,7 +52,9 @@ asked-both xs ys u =
 
 pub limbs-asked : (rows : List (List ℕ)) (u : List ℕ)
     → counted (map (λ v. once (v ∷ [])) (limbs_in rows)) u ≡ over_rows (λ i x next. memory_ranges x) rows u
-limbs-asked [] u = ap (λ limbs. counted (map (λ (v : ℕ). once (v ∷ [])) limbs) u) limbs-none ∙ counted-none u ∙ sym (over-none (λ i x next. memory_ranges x) u)
+limbs-asked [] u =
+    ap (λ limbs. counted (map (λ (v : ℕ). once (v ∷ [])) limbs) u) limbs-none ∙ counted-none u
+    ∙ sym (over-none (λ i x next. memory_ranges x) u)
 limbs-asked (row ∷ rows) u =
     ap (λ limbs. counted (map (λ (v : ℕ). once (v ∷ [])) limbs) u) (limbs-cons row rows)
     ∙ asked-both (limbs_of row) (limbs_in rows) u

@@ -34,7 +34,8 @@ times-row asked times new limbs rows i within is are size counts = record {
       counts v
       ∙ ap₂ (λ m n. m + n) (are.counts v h) (ap (λ values. times_asked values v) is)
       ∙ sym (times-both (asked ++ limbs_in (take i rows)) (limbs_of (row_at rows i)) v)
-      ∙ ap (λ values. times_asked values v) (append_assoc asked (limbs_in (take i rows)) (limbs_of (row_at rows i)) ∙ ap (λ more. asked ++ more) (sym next));
+      ∙ ap (λ values. times_asked values v)
+      (append_assoc asked (limbs_in (take i rows)) (limbs_of (row_at rows i)) ∙ ap (λ more. asked ++ more) (sym next));
 }
   where
     next : limbs_in (take (i + 1) rows) ≡ limbs_in (take i rows) ++ limbs_of (row_at rows i)

@@ -1,10 +1,12 @@
 -- The rows of permutations, one by one.
 use Rattle.std.proofs.Common.{◌≡◌, ℕ, zero, suc, Bool, false, List, [], ◌∷◌, ◌++◌, Result, Ok, Err, OnOk, refl, ap, ◌∙◌}
+use Rattle.vm_ops.specs.Values.{bit_of}
 use Rattle.vm_field.specs.Permutation.{rounds}
 use Rattle.air_kit.specs.declared.requests.Perm.{Perm}
-use Rattle.hash_rows.specs.PermRows.{bit_number, perm_row, rows_before, rows_of}
+use Rattle.hash_rows.specs.PermRows.{perm_row, rows_before, rows_of}
 
-before-append : (constants : List ℕ) (p : Perm) (rows more : List (List ℕ)) → rows_before constants p (rows ++ more) ≡ rows_before constants p rows ++ more
+before-append : (constants : List ℕ) (p : Perm) (rows more : List (List ℕ))
+    → rows_before constants p (rows ++ more) ≡ rows_before constants p rows ++ more
 unfolding rows_before
 before-append constants p rows more = refl
 
@@ -29,7 +31,8 @@ pub first-none : (constants : List ℕ) (p : Perm) → first_rows constants p 0 
 unfolding first_rows
 first-none constants p = refl
 
-pub first-more : (constants : List ℕ) (p : Perm) (k : ℕ) → first_rows constants p (suc k) ≡ first_rows constants p k ++ perm_row constants p k false ∷ []
+pub first-more : (constants : List ℕ) (p : Perm) (k : ℕ)
+    → first_rows constants p (suc k) ≡ first_rows constants p k ++ perm_row constants p k false ∷ []
 unfolding first_rows
 first-more constants p k = refl
 
@@ -39,9 +42,9 @@ first-all constants p = refl
 
 -- a row by its state
 pub row-is : (constants : List ℕ) (p : Perm) (k : ℕ) (goes_on : Bool) (state : List ℕ) → state ≡ rounds k constants p.start
-    → bit_number p.mode ∷ bit_number p.cont ∷ bit_number goes_on ∷ state ≡ perm_row constants p k goes_on
+    → bit_of p.mode ∷ bit_of p.cont ∷ bit_of goes_on ∷ state ≡ perm_row constants p k goes_on
 unfolding perm_row
-row-is constants p k goes_on state e = ap (λ s. bit_number p.mode ∷ bit_number p.cont ∷ bit_number goes_on ∷ s) e
+row-is constants p k goes_on state e = ap (λ s. bit_of p.mode ∷ bit_of p.cont ∷ bit_of goes_on ∷ s) e
 
 -- what follows where all went well
 pub ok_then : {E : Type 0} {P Q : Type 0} (r : Result (Unit {0}) E) → (P → Q) → OnOk r P → OnOk r Q

@@ -62,7 +62,8 @@ last-single : (asked : List ℕ) (v w : ℕ) → v ≡ 65535 → (65535 < w → 
     → range_over (range_row asked 65535 ∷ []) (w ∷ []) ≡ cond (ltb w v) 0 (times_asked asked w)
 last-single asked v w last none =
     let e : range_over (range_row asked 65535 ∷ []) (w ∷ []) ≡ cond (eqb 65535 w) (times_asked asked 65535) 0 + 0 =
-    over-cons range_given (range_row asked 65535) [] (w ∷ []) ∙ ap₂ (λ m n. m + n) (row-single asked 65535 w) (over-none (λ i row next. range_given row) (w ∷ [])) in
+    over-cons range_given (range_row asked 65535) [] (w ∷ [])
+    ∙ ap₂ (λ m n. m + n) (row-single asked 65535 w) (over-none (λ i row next. range_given row) (w ∷ [])) in
     elim (cases_lt w 65535) [
       | inl less ↦ grind (arith, nat_tests)
       | inr more ↦ elim (cases_lt 65535 w) [
@@ -84,7 +85,8 @@ from-single (suc n) asked v w enough low none = elim (cases_lt v 65535) [
       let on = behind-on asked v below in
       let far = behind-far asked v below in
       let later = from-single n asked (value_behind asked v) w (omega (arith, on, enough)) (behind-last asked v below) none in
-      let e : range_over (rows_from (suc n) asked v) (w ∷ []) ≡ cond (eqb v w) (times_asked asked v) 0 + range_over (rows_from n asked (value_behind asked v)) (w ∷ []) =
+      let e : range_over (rows_from (suc n) asked v) (w ∷ [])
+      ≡ cond (eqb v w) (times_asked asked v) 0 + range_over (rows_from n asked (value_behind asked v)) (w ∷ []) =
       ap (λ rows. range_over rows (w ∷ [])) (rows-more n asked v below)
       ∙ over-cons range_given (range_row asked v) (rows_from n asked (value_behind asked v)) (w ∷ [])
       ∙ ap (λ m. m + range_over (rows_from n asked (value_behind asked v)) (w ∷ [])) (row-single asked v w) in
@@ -106,9 +108,11 @@ from-single (suc n) asked v w enough low none = elim (cases_lt v 65535) [
 from-other : (n : ℕ) (asked : List ℕ) (v : ℕ) (u : List ℕ) → ((w : ℕ) → pointwise nat_eq (w ∷ []) u ≡ false) → range_over (rows_from n asked v) u ≡ 0
 unfolding rows_from
 from-other zero asked v u none =
-    over-cons range_given (range_row asked 65535) [] u ∙ ap₂ (λ m n. m + n) (row-other asked 65535 u (none 65535)) (over-none (λ i row next. range_given row) u)
+    over-cons range_given (range_row asked 65535) [] u
+    ∙ ap₂ (λ m n. m + n) (row-other asked 65535 u (none 65535)) (over-none (λ i row next. range_given row) u)
 from-other (suc n) asked v u none =
-    elim (ltb v 65535) as (λ b. range_over (cond b (range_row asked v ∷ rows_from n asked (value_behind asked v)) (range_row asked 65535 ∷ [])) u ≡ 0) [
+    elim (ltb v 65535) as (λ b. range_over
+    (cond b (range_row asked v ∷ rows_from n asked (value_behind asked v)) (range_row asked 65535 ∷ [])) u ≡ 0) [
       | true ↦
           over-cons range_given (range_row asked v) (rows_from n asked (value_behind asked v)) u
           ∙ ap₂ (λ m n. m + n) (row-other asked v u (none v)) (from-other n asked (value_behind asked v) u none)
@@ -117,14 +121,17 @@ from-other (suc n) asked v u none =
           ∙ ap₂ (λ m n. m + n) (row-other asked 65535 u (none 65535)) (over-none (λ i row next. range_given row) u)
     ]
 
-rows-other : (asked u : List ℕ) → ((w : ℕ) → pointwise nat_eq (w ∷ []) u ≡ false) → range_over (range_rows asked) u ≡ counted (map (λ v. once (v ∷ [])) asked) u
+rows-other : (asked u : List ℕ) → ((w : ℕ) → pointwise nat_eq (w ∷ []) u ≡ false)
+    → range_over (range_rows asked) u ≡ counted (map (λ v. once (v ∷ [])) asked) u
 unfolding range_rows
 rows-other asked u none = from-other 65535 asked 0 u none ∙ sym (asked-other asked u none)
 
-rows-single : (asked : List ℕ) (w : ℕ) → All (λ v. v < 65536) asked → range_over (range_rows asked) (w ∷ []) ≡ counted (map (λ v. once (v ∷ [])) asked) (w ∷ [])
+rows-single : (asked : List ℕ) (w : ℕ) → All (λ v. v < 65536) asked
+    → range_over (range_rows asked) (w ∷ []) ≡ counted (map (λ v. once (v ∷ [])) asked) (w ∷ [])
 unfolding range_rows
 rows-single asked w small =
-    from-single 65535 asked 0 w (omega arith) (omega arith) (times-beyond asked w small) ∙ from_zero (times_asked asked w) ∙ sym (asked-single asked w)
+    from-single 65535 asked 0 w (omega arith) (omega arith) (times-beyond asked w small) ∙ from_zero (times_asked asked w)
+    ∙ sym (asked-single asked w)
   where
     from_zero : (n : ℕ) → cond (ltb w 0) 0 n ≡ n
     from_zero n = grind (arith, nat_tests)

@@ -21,7 +21,8 @@ step-is : (x y : List ℕ) → range_step x y ≡ step_product (value_of y ⊟ v
 unfolding range_step step_product
 step-is x y = refl
 
-product_cons : (s : ℕ) (steps : List ℕ) (d : ℕ) → step_product s ≡ 0 → step_product (step_within steps d) ≡ 0 → step_product (step_within (s ∷ steps) d) ≡ 0
+product_cons : (s : ℕ) (steps : List ℕ) (d : ℕ) → step_product s ≡ 0 → step_product (step_within steps d) ≡ 0
+    → step_product (step_within (s ∷ steps) d) ≡ 0
 product_cons s steps d here later =
     ap step_product (step-cons s steps d) ∙ elim (leb s d) as (λ b. step_product (cond b s (step_within steps d)) ≡ 0) [ true ↦ here | false ↦ later ]
 
@@ -137,7 +138,8 @@ unfolding rows_from
 from-few zero asked v = omega arith
 from-few (suc n) asked v =
     let later = from-few n asked (value_behind asked v) in
-    elim (ltb v 65535) as (λ b. length (cond b (range_row asked v ∷ rows_from n asked (value_behind asked v)) (range_row asked 65535 ∷ [])) ≤ suc n + 1) [
+    elim (ltb v 65535) as (λ b. length (cond b (range_row asked v ∷ rows_from n asked (value_behind asked v))
+    (range_row asked 65535 ∷ [])) ≤ suc n + 1) [
       | true ↦ omega (arith, later)
       | false ↦ omega arith
     ]

@@ -60,12 +60,14 @@ rows-step asked table new row v w below turns new_is row_is w_is =
     left : 65535 - length table ≡ suc (65535 - length new)
     left = omega (arith, longer, turns, below)
 
-pub rows-done : (asked : List ℕ) (table new : List (List ℕ)) (row : List ℕ) (v : ℕ) → 65535 ≤ v → new ≡ table ++ row ∷ [] → row ≡ range_row asked 65535
+pub rows-done : (asked : List ℕ) (table new : List (List ℕ)) (row : List ℕ) (v : ℕ) → 65535 ≤ v → new ≡ table ++ row ∷ []
+    → row ≡ range_row asked 65535
     → table ++ rows_from (65535 - length table) asked v ≡ range_rows asked → new ≡ range_rows asked
 rows-done asked table new row v past new_is row_is rows_are =
     new_is ∙ ap (λ (r : List ℕ). table ++ r ∷ []) row_is ∙ ap (λ rows. table ++ rows) (sym (rows-last (65535 - length table) asked v past)) ∙ rows_are
 
 -- the row of a value by its count
-pub row-of_times : (asked times row : List ℕ) (v : ℕ) → AreTimes asked times → v < 65536 → row ≡ slice_index times v ∷ v ∷ [] → row ≡ range_row asked v
+pub row-of_times : (asked times row : List ℕ) (v : ℕ) → AreTimes asked times → v < 65536 → row ≡ slice_index times v ∷ v ∷ []
+    → row ≡ range_row asked v
 unfolding range_row
 row-of_times asked times row v are within is = is ∙ ap (λ (n : ℕ). n ∷ v ∷ []) (are.counts v within)

@@ -34,7 +34,8 @@ step-found steps i d within far =
     let e = step-cons (get_or steps i 0) (drop (suc i) steps) d in
     rw (drop-cons steps i 0 within) (grind (arith, nat_tests))
 
-pub step-passed : (steps : List ℕ) (i d : ℕ) → i < length steps → d < get_or steps i 0 → step_within (drop i steps) d ≡ step_within (drop (i + 1) steps) d
+pub step-passed : (steps : List ℕ) (i d : ℕ) → i < length steps → d < get_or steps i 0
+    → step_within (drop i steps) d ≡ step_within (drop (i + 1) steps) d
 step-passed steps i d within far =
     let e = step-cons (get_or steps i 0) (drop (suc i) steps) d in
     rw (add-one i, drop-cons steps i 0 within) (grind (arith, nat_tests))

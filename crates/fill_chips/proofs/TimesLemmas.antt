@@ -50,6 +50,7 @@ calls-more calls i word u had now n within is put own other =
     by_test : (b : Bool) → pointwise nat_eq word u ≡ b → times_called (take (i + 1) calls) u ≡ times_called (take i calls) u + cond b 1 0
         → now ≡ cond b (Some (n + 1)) had → unwrap_or now 0 ≡ times_called (take (i + 1) calls) u
     by_test true same next put =
-        let alike : times_called (take i calls) word ≡ times_called (take i calls) u = ap (times_called (take i calls)) (same_text word u (sym same)) in
+        let alike : times_called (take i calls) word ≡ times_called (take i calls) u =
+        ap (times_called (take i calls)) (same_text word u (sym same)) in
         ap (λ o. unwrap_or o 0) put ∙ omega (arith, own, alike, next)
     by_test false apart next put = ap (λ o. unwrap_or o 0) put ∙ omega (arith, other, next)

@@ -1,6 +1,7 @@
 ghost use Rattle.std.specs.Prelude.{◌≡◌, ◌*◌, ◌^◌, ◌≤◌, [], ◌∷◌, ◌++◌, length, All, IfOk, OnOk};
 ghost use Rattle.rpo_hash.specs.States.{IsState};
-ghost use Rattle.hash_rows.specs.PermRows.{bit_number, rows_before, rows_of};
+ghost use Rattle.vm_ops.specs.Values.{bit_of};
+ghost use Rattle.hash_rows.specs.PermRows.{rows_before, rows_of};
 
 use air_kit::Perm;
 use perm_memo::Permutations;
@@ -50,7 +51,7 @@ fn push_permutation(
 
 // A row of a permutation, by whether the hash goes on behind it and its state.
 fn row_of(perm: &Perm, goes_on: bool, state: &[Felt; 12]) -> [Felt; 15]
-    ensures { result ≡ bit_number perm.now.mode ∷ bit_number perm.now.cont ∷ bit_number goes_on ∷ state.now }
+    ensures { result ≡ bit_of perm.now.mode ∷ bit_of perm.now.cont ∷ bit_of goes_on ∷ state.now }
 {
     let [a, b, c, d, e, f, g, h, i, j, k, l] = *state;
     [
@@ -74,7 +75,7 @@ fn row_of(perm: &Perm, goes_on: bool, state: &[Felt; 12]) -> [Felt; 15]
 
 /// One where the bit is set, else zero.
 pub(crate) fn bit_of(bit: bool) -> Felt
-    ensures { result ≡ bit_number bit }
+    ensures { result ≡ bit_of bit }
 {
     if bit { Felt::ONE } else { Felt::ZERO }
 }

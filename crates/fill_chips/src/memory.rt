@@ -1,10 +1,10 @@
 ghost use Rattle.std.specs.Prelude.{◌≡◌, ◌+◌, ◌*◌, ◌-◌, ◌^◌, ◌<◌, length, All, IfOk};
+ghost use Rattle.vm_ops.specs.Values.{bit_of};
 ghost use Rattle.std.specs.List.Sorted.{IsNonDecreasingBy, IsPermutation};
 ghost use Rattle.memory_rows.specs.Accesses.{key_of};
 ghost use Rattle.memory_rows.specs.AccessRows.{new_address, new_context, row_behind, rows_of, step_behind};
 ghost use Rattle.memory_rows.specs.MemoryTables.{HasLimbs, IsSmall, row_at};
 ghost use Rattle.fill_chips.specs.MemoryLimbs.{AreRowsOf, limbs_of};
-ghost use Rattle.bit_rows.specs.BitRows.{bit_number};
 
 use crate::hasher::bit_of;
 use air_kit::Access;
@@ -90,8 +90,8 @@ fn row_behind(before: &Option<Access>, access: Access) -> [Felt; 14]
 
 // The step to an access from the one before it.
 fn step_behind(before: &Option<Access>, access: Access) -> Step
-    ensures context { bit_number result.context ≡ new_context before.now access }
-    ensures address { bit_number result.address ≡ new_address before.now access }
+    ensures context { bit_of result.context ≡ new_context before.now access }
+    ensures address { bit_of result.address ≡ new_address before.now access }
     ensures grown { result.grown ≡ step_behind before.now access }
 {
     let Some(before) = *before else {

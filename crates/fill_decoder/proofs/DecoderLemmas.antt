@@ -16,7 +16,8 @@ as_known kinds.Join d e batches later known = refl
 as_known kinds.Split d e batches later known = refl
 as_known kinds.Loop d e batches later known = refl
 as_known kinds.Span d e batches later known =
-    ap (λ (n : ℕ). record (opened n d) { ha = d.next; unread = batch_begun e.hash }) (ap (λ (n : ℕ). n + 1) (known refl) ∙ add-one (length (respans later)))
+    ap (λ (n : ℕ). record (opened n d) { ha = d.next; unread = batch_begun e.hash })
+    (ap (λ (n : ℕ). n + 1) (known refl) ∙ add-one (length (respans later)))
 as_known kinds.Call d e batches later known = refl
 as_known kinds.Syscall d e batches later known = refl
 as_known kinds.End d e batches later known = refl

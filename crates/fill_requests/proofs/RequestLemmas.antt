@@ -19,7 +19,8 @@ use Rattle.event_kinds.proofs.LoopLemmas.{ended, step}
 pub bits-step : (events : List Event) (i : ℕ) (e : Event) (done more : List BitOp) → i < length events → e ≡ get_or events i e
     → more ≡ done ++ bits_by e.op e.before → more ++ bits_of (drop (i + 1) events) ≡ done ++ bits_of (drop i events)
 unfolding bits_of
-bits-step events i e done more within is added = step bits_of (λ e later. bits_by e.op e.before) (λ e later. refl) events i e done more within is added
+bits-step events i e done more within is added =
+    step bits_of (λ e later. bits_by e.op e.before) (λ e later. refl) events i e done more within is added
 
 pub bits-ended : (events : List Event) (i : ℕ) (done : List BitOp) → length events ≤ i → done ++ bits_of (drop i events) ≡ done
 unfolding bits_of
@@ -28,7 +29,8 @@ bits-ended events i done past = ended bits_of refl events i done past
 pub accesses-step : (events : List Event) (i : ℕ) (e : Event) (done more : List Access) → i < length events → e ≡ get_or events i e
     → more ≡ done ++ accesses_by e.op e → more ++ accesses_of (drop (i + 1) events) ≡ done ++ accesses_of (drop i events)
 unfolding accesses_of
-accesses-step events i e done more within is added = step accesses_of (λ e later. accesses_by e.op e) (λ e later. refl) events i e done more within is added
+accesses-step events i e done more within is added =
+    step accesses_of (λ e later. accesses_by e.op e) (λ e later. refl) events i e done more within is added
 
 pub accesses-ended : (events : List Event) (i : ℕ) (done : List Access) → length events ≤ i → done ++ accesses_of (drop i events) ≡ done
 unfolding accesses_of

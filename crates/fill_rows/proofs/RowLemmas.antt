@@ -4,12 +4,13 @@ use Rattle.std.proofs.Math.Seq.{take-length}
 use Rattle.vm_field.specs.Field.{felt_inv}
 use Rattle.vm_field.specs.Signs.{◌⊟◌}
 use Rattle.vm_ops.specs.Codes.{is_ordinary_op}
-use Rattle.run_rows.specs.Lines.{Line, bit_number, code_bit, laid_out}
+use Rattle.vm_ops.specs.Values.{bit_of}
+use Rattle.run_rows.specs.Lines.{Line, code_bit, laid_out}
 use Rattle.event_kinds.specs.Parts.{eight_of, four_of, sixteen_of, ten_of}
 
 abbrev state_part : Line → List ℕ
 state_part l =
-    l.seen.clock ∷ l.seen.fmp ∷ l.seen.context ∷ bit_number l.seen.in_syscall
+    l.seen.clock ∷ l.seen.fmp ∷ l.seen.context ∷ bit_of l.seen.in_syscall
     ∷ slice_index l.seen.digest 0 ∷ slice_index l.seen.digest 1 ∷ slice_index l.seen.digest 2 ∷ slice_index l.seen.digest 3 ∷ []
 
 abbrev block_part : Line → List ℕ
@@ -22,8 +23,8 @@ hash_part l =
 
 abbrev batch_part : Line → List ℕ
 batch_part l =
-    bit_number (is_ordinary_op l.op) ∷ l.left ∷ l.place
-    ∷ bit_number (l.in_use == 8) ∷ bit_number (l.in_use == 4) ∷ bit_number (l.in_use == 2) ∷ []
+    bit_of (is_ordinary_op l.op) ∷ l.left ∷ l.place
+    ∷ bit_of (l.in_use == 8) ∷ bit_of (l.in_use == 4) ∷ bit_of (l.in_use == 2) ∷ []
 
 abbrev cells_part : Line → List ℕ
 cells_part l =

@@ -2,7 +2,8 @@ ghost use Rattle.std.specs.Prelude.{◌≡◌, ◌==◌, [], ◌∷◌, slice_in
 ghost use Rattle.vm_field.specs.Field.{felt_inv};
 ghost use Rattle.vm_field.specs.Signs.{◌⊟◌};
 ghost use Rattle.vm_ops.specs.Codes.{is_ordinary_op};
-ghost use Rattle.run_rows.specs.Lines.{bit_number, code_bit};
+ghost use Rattle.vm_ops.specs.Values.{bit_of};
+ghost use Rattle.run_rows.specs.Lines.{code_bit};
 
 use cycle_events::Visible;
 use inverse_memo::Inverses;
@@ -11,7 +12,7 @@ use vm_ops::{Op, is_ordinary, opcode};
 
 // 1 where the test holds, else 0.
 fn bit(test: bool) -> Felt
-    ensures { result ≡ bit_number test }
+    ensures { result ≡ bit_of test }
 {
     if test { Felt::ONE } else { Felt::ZERO }
 }
@@ -28,7 +29,7 @@ pub(crate) fn felt_of(number: u64) -> Result<Felt, Memory>
 
 // The columns of the state, up to the digest of the function that runs.
 pub(crate) fn state_cells(seen: &Visible) -> [Felt; 8]
-    ensures { result ≡ seen.now.clock ∷ seen.now.fmp ∷ seen.now.context ∷ bit_number seen.now.in_syscall
+    ensures { result ≡ seen.now.clock ∷ seen.now.fmp ∷ seen.now.context ∷ bit_of seen.now.in_syscall
         ∷ slice_index seen.now.digest 0 ∷ slice_index seen.now.digest 1 ∷ slice_index seen.now.digest 2 ∷ slice_index seen.now.digest 3 ∷ [] }
 {
     [
@@ -62,8 +63,8 @@ pub(crate) fn block_cells(address: Felt, op: Op) -> [Felt; 8]
 
 // The columns of the group and of the batch.
 pub(crate) fn group_cells(op: Op, left: Felt, place: Felt, in_use: usize) -> [Felt; 6]
-    ensures { result ≡ bit_number (is_ordinary_op op) ∷ left ∷ place
-        ∷ bit_number (in_use == 8) ∷ bit_number (in_use == 4) ∷ bit_number (in_use == 2) ∷ [] }
+    ensures { result ≡ bit_of (is_ordinary_op op) ∷ left ∷ place
+        ∷ bit_of (in_use == 8) ∷ bit_of (in_use == 4) ∷ bit_of (in_use == 2) ∷ [] }
 {
     [
         bit(is_ordinary(op)),

@@ -4,7 +4,8 @@ ghost use Rattle.vm_field.specs.Field.{felt_inv};
 ghost use Rattle.vm_field.specs.Signs.{◌⊟◌};
 ghost use Rattle.run_rows.specs.Decoder.{address_of, key_of};
 ghost use Rattle.run_rows.specs.Filling.{hash_by, in_use_by, row_of, witnesses_by};
-ghost use Rattle.run_rows.specs.Lines.{bit_number, code_bit};
+ghost use Rattle.vm_ops.specs.Values.{bit_of};
+ghost use Rattle.run_rows.specs.Lines.{code_bit};
 ghost use Rattle.run_rows.specs.Turns.{repeats};
 ghost use Rattle.run_rows.specs.Witnesses.{operation_witnesses};
 ghost use Rattle.vm_ops.specs.Codes.{is_ordinary_op};
@@ -20,6 +21,23 @@ use fill_decoder::Decoder;
 use inverse_memo::Inverses;
 use op_pack::in_use;
 use vm_field::{Felt, Memory};
+
+// The columns at which the parts of a row begin (docs/CONSTRAINTS.md).
+const CLK: usize = 0;
+
+const ADDR: usize = 8;
+
+const H0: usize = 16;
+
+const SP: usize = 24;
+
+const S0: usize = 30;
+
+const DEPTH: usize = 46;
+
+const W0: usize = 51;
+
+const T0: usize = 55;
 
 /// Writes the row of an event before the state behind it, where its loop's body is repeated so often,
 /// over the row that stands there: each cell is written.
@@ -39,15 +57,15 @@ pub fn write_row(
         → OnOk result (row.new ≡ row_of (decoder_in decoder.now) event.now next.now later) }
 {
     let kind = kind_of(event.op);
-    write_cells(row, 0, &state_cells(&event.before));
-    write_cells(row, 8, &open_cells(decoder, event)?);
-    write_cells(row, 16, &hash_cells(kind, decoder, event));
-    write_cells(row, 24, &batch_cells(kind, decoder, event)?);
-    write_cells(row, 30, &stack_cells(&event.before));
-    write_cells(row, 46, &key_cells(inverses, decoder, event)?);
+    write_cells(row, CLK, &state_cells(&event.before));
+    write_cells(row, ADDR, &open_cells(decoder, event)?);
+    write_cells(row, H0, &hash_cells(kind, decoder, event));
+    write_cells(row, SP, &batch_cells(kind, decoder, event)?);
+    write_cells(row, S0, &stack_cells(&event.before));
+    write_cells(row, DEPTH, &key_cells(inverses, decoder, event)?);
     let witnesses = witness_cells(inverses, kind, decoder, event, next, turns)?;
-    write_cells(row, 51, &witnesses);
-    write_cells(row, 55, &limbs_of(event, next).cells);
+    write_cells(row, W0, &witnesses);
+    write_cells(row, T0, &limbs_of(event, next).cells);
     Ok(())
 }
 
@@ -125,9 +143,9 @@ fn eight_cells(hash: &[Felt; 8]) -> [Felt; 8]
 
 // The columns of the group and of the batch.
 fn batch_cells(kind: Kind, decoder: &Decoder, event: &Event) -> Result<[Felt; 6], Memory>
-    ensures { IfOk result (λ cells. cells ≡ bit_number (is_ordinary_op event.now.op) ∷ length decoder.now.positions ∷ decoder.now.place
-        ∷ bit_number (in_use_by (kind_in kind) event.now == 8) ∷ bit_number (in_use_by (kind_in kind) event.now == 4)
-        ∷ bit_number (in_use_by (kind_in kind) event.now == 2) ∷ []) }
+    ensures { IfOk result (λ cells. cells ≡ bit_of (is_ordinary_op event.now.op) ∷ length decoder.now.positions ∷ decoder.now.place
+        ∷ bit_of (in_use_by (kind_in kind) event.now == 8) ∷ bit_of (in_use_by (kind_in kind) event.now == 4)
+        ∷ bit_of (in_use_by (kind_in kind) event.now == 2) ∷ []) }
 {
     let left = felt_of(decoder.positions.len() as u64)?;
     let place = felt_of(decoder.place)?;

@@ -179,6 +179,11 @@ fn fills_limbs(alloc: Global) -> Result<bool, Memory> {
 fn fills_rows(rt: HostRuntime) -> Result<(), Fail> {
     assert!(rt; fills_no_operation(rt.alloc())?);
     assert!(rt; fills_pushes(rt.alloc())?);
+    Ok(())
+}
+
+#[test]
+fn fills_turns_and_limbs(rt: HostRuntime) -> Result<(), Fail> {
     assert!(rt; fills_loop(rt.alloc())?);
     assert!(rt; fills_limbs(rt.alloc())?);
     Ok(())

@@ -61,7 +61,8 @@ pub row_of : (vecs : List (Vec ℕ Global)) (place : ℕ) (vec : Vec ℕ Global)
     → row ≡ vec.items → row ≡ get_or (rows_of vecs) place []
 row_of vecs place vec row within read is = is ∙ (ap (λ v. v.items) read ∙ sym (get_or-map (λ v. v.items) vecs place vec [] within))
 
-pub edge_at : (graph : List (List ℕ)) (row : List ℕ) (place k d : ℕ) → row ≡ get_or graph place [] → k < length row → Edge graph place (get_or row k d)
+pub edge_at : (graph : List (List ℕ)) (row : List ℕ) (place k d : ℕ) → row ≡ get_or graph place [] → k < length row
+    → Edge graph place (get_or row k d)
 edge_at graph row place k d is below = subst (λ xs. Contains xs (get_or row k d)) is (Contains-get_or row k d below)
 
 pub rows_set-same : (rows new : List (List ℕ)) (i : ℕ) (row : List ℕ) → new ≡ set rows i row → i < length rows → get_or new i [] ≡ row
@@ -102,7 +103,11 @@ IsSettled-fewer graph done fewer s q part h =
 
 replicate_default : {X : Type 0} (n i : ℕ) (x : X) → get_or (replicate n x) i x ≡ x
 replicate_default n i x =
-    elim (cases_lt i n) [ inl low ↦ get_or-replicate n i x x low | inr past ↦ get_or_past (replicate n x) i x (omega (arith, past, length-replicate n x)) ]
+    elim (cases_lt i n) [
+      | inl low ↦ get_or-replicate n i x x low
+      | inr past ↦ get_or_past (replicate n x) i x
+          (omega (arith, past, length-replicate n x))
+    ]
 
 count_unmarked : (n : ℕ) → count_by (λ (mark : Bool). mark) (replicate n false) ≡ 0
 count_unmarked zero = refl
@@ -116,10 +121,12 @@ AreMarks-none n =
     }
 
 pub IsSorting-start : (graph : List (List ℕ)) (s : Sorter) → s.walk.marks.items ≡ replicate (length graph) false → s.walk.seen.items ≡ []
-    → s.passed.items ≡ replicate (length graph) 0 → All (λ row. row ≡ []) (rows_of s.waiting.items) → length s.waiting.items ≡ length graph → IsSorting graph s
+    → s.passed.items ≡ replicate (length graph) 0 → All (λ row. row ≡ []) (rows_of s.waiting.items)
+    → length s.waiting.items ≡ length graph → IsSorting graph s
 IsSorting-start graph s marks none passed empty waiting_len =
     record {
-      marks = subst (λ ms. AreMarks ms s.walk.seen.items) (sym marks) (subst (AreMarks (replicate (length graph) false)) (sym none) (AreMarks-none (length graph)));
+      marks = subst (λ ms. AreMarks ms s.walk.seen.items) (sym marks)
+          (subst (AreMarks (replicate (length graph) false)) (sym none) (AreMarks-none (length graph)));
       behind = λ k b below. absurd (omega (arith, below, ap length none));
       passed = λ q k below. absurd (omega (arith, below, start q));
       within = λ b q h. absurd (contains_none q (subst (λ xs. Contains xs q) (row b) h));
@@ -145,7 +152,9 @@ IsSorting-pass graph s t place from edge row old within is read run walk passed 
     record {
       marks = subst (λ w. AreMarks w.marks.items w.seen.items) (sym walk) old.marks;
       behind = subst (λ w. StandsBehind graph w.seen.items) (sym walk) old.behind;
-      passed = λ q k below inside. subst (λ w. Contains w.seen.items (get_or (get_or graph q []) k 0)) (sym walk) (go q k (subst (λ xs. k < get_or xs q 0) passed below) inside);
+      passed =
+          λ q k below inside. subst (λ w. Contains w.seen.items (get_or (get_or graph q []) k 0)) (sym walk)
+          (go q k (subst (λ xs. k < get_or xs q 0) passed below) inside);
       within = λ b q h. old.within b q (subst (λ w. Contains (get_or (rows_of w.items) b []) q) waiting h);
       marks_len = ap (λ w. length w.marks.items) walk ∙ old.marks_len;
       passed_len = ap (λ xs. length xs) passed ∙ (length-set s.passed.items place edge ∙ old.passed_len);
@@ -155,11 +164,14 @@ IsSorting-pass graph s t place from edge row old within is read run walk passed 
     count : place < length s.passed.items
     count = omega (arith, old.passed_len)
 
-    go : (q k : ℕ) → k < get_or (set s.passed.items place edge) q 0 → k < length (get_or graph q []) → Contains s.walk.seen.items (get_or (get_or graph q []) k 0)
+    go : (q k : ℕ) → k < get_or (set s.passed.items place edge) q 0 → k < length (get_or graph q [])
+        → Contains s.walk.seen.items (get_or (get_or graph q []) k 0)
     go q k below inside =
         elim (eqb_tells q place) [
           | inl same ↦
-              let now : k < edge = subst (λ n. k < n) (get_or-set_same s.passed.items place edge 0 count) (subst (λ p. k < get_or (set s.passed.items place edge) p 0) same.1 below) in
+              let now : k < edge =
+              subst (λ n. k < n) (get_or-set_same s.passed.items place edge 0 count)
+              (subst (λ p. k < get_or (set s.passed.items place edge) p 0) same.1 below) in
               subst (λ p. Contains s.walk.seen.items (get_or (get_or graph p []) k 0)) (sym same.1)
               (elim (cases_lt k (get_or s.passed.items place 0)) [
                 | inl early ↦ old.passed place k early (subst (λ p. k < length (get_or graph p [])) same.1 inside)
@@ -198,7 +210,8 @@ IsSorting-wait graph s t place other old within free walk passed count rows = Is
     go b q h =
         elim (eqb_tells b other) [
           | inl same ↦
-              let row : waiters t b ≡ waiters s other ++ place ∷ [] = ap (λ j. waiters t j) same.1 ∙ rows_set-same (rows_of s.waiting.items) _ other _ rows low in
+              let row : waiters t b ≡ waiters s other ++ place ∷ [] =
+              ap (λ j. waiters t j) same.1 ∙ rows_set-same (rows_of s.waiting.items) _ other _ rows low in
               elim (Contains-push_cases (waiters s other) place q (subst (λ xs. Contains xs q) row h)) [
                 | inl before ↦ old.within other q before
                 | inr is ↦ subst (λ p. p < length graph) is within
@@ -224,7 +237,8 @@ Grows-wait s t place other free walk rows = (
         elim (eqb_tells b other) [
           | inl same ↦
               subst (λ j. Contains (waiters t j) q) (sym same.1)
-              (subst (λ xs. Contains xs q) (sym same_row) (Contains-append_left (waiters s other) (place ∷ []) q (subst (λ j. Contains (waiters s j) q) same.1 h)))
+              (subst (λ xs. Contains xs q) (sym same_row)
+              (Contains-append_left (waiters s other) (place ∷ []) q (subst (λ j. Contains (waiters s j) q) same.1 h)))
           | inr apart ↦ subst (λ xs. Contains xs q) (sym (rows_set-other (rows_of s.waiting.items) _ other b _ rows apart.1)) h
         ]
 
@@ -232,10 +246,12 @@ Grows-wait s t place other free walk rows = (
 pub all-passed : (graph : List (List ℕ)) (s : Sorter) (place : ℕ) → IsSorting graph s → length (get_or graph place []) ≤ get_or s.passed.items place 0
     → (b : ℕ) → Edge graph place b → Contains s.walk.seen.items b
 all-passed graph s place sorting whole b edge =
-    subst (Contains s.walk.seen.items) (get_or_default (get_or graph place []) edge.0 0 b edge.1 ∙ edge.2) (sorting.passed place edge.0 (omega (arith, edge.1)) edge.1)
+    subst (Contains s.walk.seen.items) (get_or_default (get_or graph place []) edge.0 0 b edge.1 ∙ edge.2)
+    (sorting.passed place edge.0 (omega (arith, edge.1)) edge.1)
 
 pub IsSorting-visit : (graph : List (List ℕ)) (s t : Sorter) (place : ℕ) → IsSorting graph s → AreMarks t.walk.marks.items t.walk.seen.items
-    → Adds s.walk.seen.items (place ∷ []) t.walk.seen.items → length t.walk.marks.items ≡ length s.walk.marks.items → t.passed ≡ s.passed → t.waiting ≡ s.waiting
+    → Adds s.walk.seen.items (place ∷ []) t.walk.seen.items → length t.walk.marks.items ≡ length s.walk.marks.items
+    → t.passed ≡ s.passed → t.waiting ≡ s.waiting
     → length (get_or graph place []) ≤ get_or s.passed.items place 0 → IsSorting graph t
 IsSorting-visit graph s t place old marks adds count passed waiting whole =
     record {
@@ -273,12 +289,15 @@ IsSorting-take graph s t place old free walk passed count rows = IsSorting-rows 
     go : (b q : ℕ) → Contains (waiters t b) q → q < length graph
     go b q h =
         elim (eqb_tells b place) [
-          | inl same ↦ absurd (contains_none q (subst (λ xs. Contains xs q) (ap (λ j. waiters t j) same.1 ∙ rows_set-same (rows_of s.waiting.items) _ place _ rows low) h))
+          | inl same ↦
+              absurd (contains_none q (subst (λ xs. Contains xs q)
+              (ap (λ j. waiters t j) same.1 ∙ rows_set-same (rows_of s.waiting.items) _ place _ rows low) h))
           | inr apart ↦ old.within b q (subst (λ xs. Contains xs q) (rows_set-other (rows_of s.waiting.items) _ place b _ rows apart.1) h)
         ]
 
 -- one more of those seen is done, once all that waited for it are settled
-pub IsSettled-next : (graph : List (List ℕ)) (s t u : Sorter) (next place q : ℕ) → next < length s.walk.seen.items → place ≡ get_or s.walk.seen.items next 0
+pub IsSettled-next : (graph : List (List ℕ)) (s t u : Sorter) (next place q : ℕ) → next < length s.walk.seen.items
+    → place ≡ get_or s.walk.seen.items next 0
     → t.walk ≡ s.walk → rows_of t.waiting.items ≡ set (rows_of s.waiting.items) place [] → Grows t u
     → (Contains (waiters s place) q → IsSettled graph t.walk.seen.items u q)
     → IsSettled graph (take next s.walk.seen.items) s q → IsSettled graph (take (next + 1) u.walk.seen.items) u q
@@ -292,11 +311,13 @@ IsSettled-next graph s t u next place q within is walk rows grows waited old =
                 inr (
                   waits.0,
                   waits.1,
-                  grows.waits waits.0 q (subst (λ xs. Contains xs q) (sym (rows_set-other (rows_of s.waiting.items) _ place waits.0 _ rows apart.1)) waits.2),
-                  λ done. elim (Contains-push_cases (take next s.walk.seen.items) (get_or s.walk.seen.items next 0) waits.0 (subst (λ xs. Contains xs waits.0) front done)) [
-                    | inl before ↦ waits.3 before
-                    | inr here ↦ apart.1 (sym (is ∙ here))
-                  ],
+                  grows.waits waits.0 q (subst (λ xs. Contains xs q)
+                      (sym (rows_set-other (rows_of s.waiting.items) _ place waits.0 _ rows apart.1)) waits.2),
+                  λ done. elim (Contains-push_cases (take next s.walk.seen.items) (get_or s.walk.seen.items next 0) waits.0
+                      (subst (λ xs. Contains xs waits.0) front done)) [
+                        | inl before ↦ waits.3 before
+                        | inr here ↦ apart.1 (sym (is ∙ here))
+                      ],
                 )
           ]
     ]
@@ -314,7 +335,8 @@ IsSettled-next graph s t u next place q within is walk rows grows waited old =
     part b h = subst (λ w. Contains w.seen.items b) (sym walk) (contains_whole (next + 1) s.walk.seen.items b (subst (λ xs. Contains xs b) kept h))
 
 -- at the end all places were seen
-pub IsOrder-end : (graph : List (List ℕ)) (s : Sorter) (next : ℕ) → IsGraph graph → IsAcyclic graph → IsSorting graph s → length s.walk.seen.items ≤ next
+pub IsOrder-end : (graph : List (List ℕ)) (s : Sorter) (next : ℕ) → IsGraph graph → IsAcyclic graph → IsSorting graph s
+    → length s.walk.seen.items ≤ next
     → ((q : ℕ) → q < length graph → IsSettled graph (take next s.walk.seen.items) s q) → IsOrder graph s.walk.seen.items
 IsOrder-end graph s next is_graph acyclic sorting ended settled = record { within = low; all = all; behind = sorting.behind }
   where
@@ -325,7 +347,13 @@ IsOrder-end graph s next is_graph acyclic sorting ended settled = record { withi
     stuck a low left =
         elim (settled a low) [
           | inl here ↦ absurd (left here)
-          | inr waits ↦ (waits.0, waits.1, λ h. waits.3 (subst (λ xs. Contains (take next xs) waits.0) (append-nil s.walk.seen.items) (contains_front next s.walk.seen.items [] waits.0 ended h)))
+          | inr waits ↦ (
+            waits.0,
+            waits.1,
+            λ h. waits.3
+                (subst (λ xs. Contains (take next xs) waits.0) (append-nil s.walk.seen.items)
+                (contains_front next s.walk.seen.items [] waits.0 ended h)),
+          )
         ]
 
     decided : (a : ℕ) (mark : Bool) → get_or s.walk.marks.items a false ≡ mark → a < length graph → Contains s.walk.seen.items a

@@ -64,7 +64,8 @@ module _ (graph : List (List ℕ)) (acyclic : IsAcyclic graph) (is_graph : IsGra
   ]
 
   -- where each place that is left out has an edge to another one, a way goes on and on
-  long : (Stuck : (a : ℕ) → a < length graph → Left a → (b : ℕ) × Edge graph a b × Left b) (a : ℕ) → a < length graph → Left a → (m : ℕ) → (b : ℕ) × (bs : List ℕ) × Way b bs × (length bs ≡ m)
+  long : (Stuck : (a : ℕ) → a < length graph → Left a → (b : ℕ) × Edge graph a b × Left b) (a : ℕ) → a < length graph → Left a
+      → (m : ℕ) → (b : ℕ) × (bs : List ℕ) × Way b bs × (length bs ≡ m)
   long stuck a low left zero = (a, [], start a low left, refl)
   long stuck a low left (suc m) =
       let w = long stuck a low left m in

@@ -52,7 +52,12 @@ Adds-seen old place has =
 
 pub Adds-push : (old : List ℕ) (place : ℕ) → Adds old (place ∷ []) (old ++ place ∷ [])
 Adds-push old place =
-    record { more = place ∷ []; keeps = refl; row_in = λ q h. Contains-append_right old (place ∷ []) q h; only = λ q h. Contains-append_cases old (place ∷ []) q h }
+    record {
+      more = place ∷ [];
+      keeps = refl;
+      row_in = λ q h. Contains-append_right old (place ∷ []) q h;
+      only = λ q h. Contains-append_cases old (place ∷ []) q h;
+    }
 
 pub Adds-keeps : (old row new : List ℕ) (q : ℕ) → Adds old row new → Contains old q → Contains new q
 Adds-keeps old row new q adds h = subst (λ xs. Contains xs q) (sym adds.keeps) (Contains-append_left old adds.more q h)
@@ -72,10 +77,12 @@ Adds-join old us mid vs new first second =
       ];
     }
 
-pub Adds-more : (old row mid new : List ℕ) (i place : ℕ) → i < length row → place ≡ get_or row i 0 → Adds old (take i row) mid → Adds mid (place ∷ []) new
+pub Adds-more : (old row mid new : List ℕ) (i place : ℕ) → i < length row → place ≡ get_or row i 0 → Adds old (take i row) mid
+    → Adds mid (place ∷ []) new
     → Adds old (take (i + 1) row) new
 Adds-more old row mid new i place within is first second =
-    subst (λ xs. Adds old xs new) (sym (take_more row i 0 within ∙ ap (λ p. take i row ++ p ∷ []) (sym is))) (Adds-join old (take i row) mid (place ∷ []) new first second)
+    subst (λ xs. Adds old xs new) (sym (take_more row i 0 within ∙ ap (λ p. take i row ++ p ∷ []) (sym is)))
+    (Adds-join old (take i row) mid (place ∷ []) new first second)
 
 pub Leads-push : (graph : List (List ℕ)) (a b c : ℕ) → Leads graph a b → Edge graph b c → Leads graph a c
 Leads-push graph a b c itself edge = through edge itself
@@ -113,30 +120,39 @@ Walked-more graph start seen new next place walked within is adds =
     followed k q below edge =
         elim (eqb_tells k next) [
           | inl same ↦ adds.row_in q (subst (λ p. Edge graph p q) (stays k (omega arith) ∙ (ap (λ j. get_or seen j 0) same.1 ∙ sym is)) edge)
-          | inr other ↦ keeps q (walked.followed k q (let apart = other.1 in omega arith) (subst (λ p. Edge graph p q) (stays k (let apart = other.1 in omega arith)) edge))
+          | inr other ↦
+              keeps q (walked.followed k q (let apart = other.1 in omega arith)
+              (subst (λ p. Edge graph p q) (stays k (let apart = other.1 in omega arith)) edge))
         ]
 
-closed : (graph : List (List ℕ)) (start : ℕ) (seen : List ℕ) → Walked graph start seen (length seen) → (a b : ℕ) → Leads graph a b → Contains seen a → Contains seen b
+closed : (graph : List (List ℕ)) (start : ℕ) (seen : List ℕ) → Walked graph start seen (length seen) → (a b : ℕ) → Leads graph a b
+    → Contains seen a → Contains seen b
 closed graph start seen walked a b itself h = h
 closed graph start seen walked a b (through {b = c} edge more) h =
     closed graph start seen walked c b more
     (walked.followed h.0 c h.1 (subst (λ p. Edge graph p c) (sym h.2 ∙ get_or_default seen h.0 a 0 h.1) edge))
 
 -- at the end of a walk the marks are those of the places that are reached
-pub Walked-end : (graph : List (List ℕ)) (start : ℕ) (marks : List Bool) (seen : List ℕ) (next : ℕ) → AreMarks marks seen → Walked graph start seen next
+pub Walked-end : (graph : List (List ℕ)) (start : ℕ) (marks : List Bool) (seen : List ℕ) (next : ℕ) → AreMarks marks seen
+    → Walked graph start seen next
     → length seen ≤ next → (place : ℕ) → (get_or marks place false ≡ true) ↔ Leads graph start place
 Walked-end graph start marks seen next are walked ended place =
     let done : Walked graph start seen (length seen) =
-    record { starts = walked.starts; reached = walked.reached; followed = λ k q below edge. walked.followed k q (omega arith) edge } in
-    (λ marked. walked.reached place ((are.marked place).0 marked), λ leads. (are.marked place).1 (closed graph start seen done start place leads walked.starts))
+    record { starts = walked.starts; reached = walked.reached; followed = λ k q below edge. walked.followed k q (omega arith) edge } in (
+      λ marked. walked.reached place ((are.marked place).0 marked),
+      λ leads. (are.marked place).1 (closed graph start seen done start place leads walked.starts),
+    )
 
 -- there are no more places seen than marks
 pub seen-le-marks : (marks : List Bool) (seen : List ℕ) → AreMarks marks seen → length seen ≤ length marks
 seen-le-marks marks seen are = omega (arith, are.once, count_by-le-length (λ (mark : Bool). mark) marks)
 
 -- what a row of a graph has stands below the count of places
-pub within_marks : (graph : List (List ℕ)) (row : List ℕ) (place k d n : ℕ) → ((a b : ℕ) → Edge graph a b → b < length graph) → row ≡ get_or graph place []
+pub within_marks : (graph : List (List ℕ)) (row : List ℕ) (place k d n : ℕ) → ((a b : ℕ) → Edge graph a b → b < length graph)
+    → row ≡ get_or graph place []
     → n ≡ length graph → k < length row → get_or row k d < n
 within_marks graph row place k d n closed is count below =
-    let h = closed place (get_or row k d) (subst (λ xs. Edge graph place (get_or xs k d)) (sym is) (Contains-get_or (get_or graph place []) k d (subst (λ xs. k < length xs) is below))) in
+    let h = closed place (get_or row k d)
+    (subst (λ xs. Edge graph place (get_or xs k d)) (sym is)
+    (Contains-get_or (get_or graph place []) k d (subst (λ xs. k < length xs) is below))) in
     omega arith

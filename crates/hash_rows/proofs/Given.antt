@@ -1,13 +1,13 @@
 -- Which permutation gives a tuple.
-use Rattle.std.proofs.Common.{◌≡◌, ℕ, zero, suc, ◌+◌, ◌*◌, ◌<◌, ◌≤◌, ◌⊎◌, inl, inr, Bool, true, false, if◌then◌else◌, cond, List, [], ◌∷◌, ◌++◌, length, slice_index, take, drop, nat_eq, refl, sym, ap, ◌∙◌, arith}
+use Rattle.std.proofs.Common.{if◌then◌else◌, ◌≡◌, ℕ, zero, suc, ◌+◌, ◌*◌, ◌<◌, ◌≤◌, ◌⊎◌, inl, inr, Bool, true, false, cond, List, [], ◌∷◌, ◌++◌, length, slice_index, take, drop, nat_eq, refl, sym, ap, ◌∙◌, arith}
 use Rattle.std.proofs.lemmas.Bool.{cases_Bool}
 use Rattle.std.specs.Cmp.Lexicographic.{same_text}
 use lib.Pointwise.{pointwise}
 use Rattle.vm_field.specs.Permutation.{permuted}
 use Rattle.buses.specs.Counts.{counted, once}
+use Rattle.buses.proofs.Counting.{counted-none, counted-append}
 use Rattle.air_kit.specs.declared.requests.Perm.{Perm}
 use Rattle.air_kit.specs.Requests.{perm_begins, perm_ends, perms_given}
-use Rattle.hash_rows.proofs.Totals.{counted-append, counted-none}
 
 -- the number behind a tuple's tag
 abbrev pub address_of : List ℕ → ℕ

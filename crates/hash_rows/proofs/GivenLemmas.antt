@@ -1,18 +1,20 @@
 -- What the rows of permutations give on the hasher's bus.
-use Rattle.std.proofs.Common.{◌≡◌, ℕ, suc, ◌+◌, ◌*◌, ◌%◌, ◌<◌, ◌==◌, Bool, true, false, if◌then◌else◌, List, [], ◌∷◌, ◌++◌, length, slice_index, slice_index_or, take, drop, All, refl, sym, ap, ◌∙◌, arith, lit<}
+use Rattle.std.proofs.Common.{if◌then◌else◌, ◌≡◌, ℕ, suc, ◌+◌, ◌*◌, ◌%◌, ◌<◌, ◌==◌, Bool, true, false, List, [], ◌∷◌, ◌++◌, length, slice_index, slice_index_or, take, drop, All, refl, sym, ap, ◌∙◌, arith, lit<}
 use Rattle.std.proofs.lemmas.List.Elements.{All-head, All-tail}
+use Rattle.vm_ops.specs.Values.{bit_of}
 use Rattle.vm_field.specs.Permutation.{permuted}
 use Rattle.vm_field.proofs.PermutationLemmas.{permuted-is, rounds-none}
 use Rattle.buses.specs.Counts.{Counted, counted, once, over_first, over_rows, total}
+use Rattle.buses.proofs.Counting.{counted-none, counted-append}
 use Rattle.chip_columns.specs.HasherColumns.{mode, cont, more, state}
 use Rattle.rpo_hash.specs.States.{IsState}
 use Rattle.air_kit.specs.declared.requests.Perm.{Perm}
 use Rattle.air_kit.specs.ChipTuples.{hasher_given, permutation_begins, permutation_ends}
 use Rattle.air_kit.specs.Requests.{perm_begins, perm_ends, perms_given}
-use Rattle.hash_rows.specs.PermRows.{bit_number, perm_row, rows_before, rows_of}
+use Rattle.hash_rows.specs.PermRows.{perm_row, rows_before, rows_of}
 use Rattle.hash_rows.proofs.BlockLemmas.{eight}
 use Rattle.hash_rows.proofs.RowsAreZero.{bit_again, perm_row-mode, perm_row-cont, perm_row-more, row_state}
-use Rattle.hash_rows.proofs.Totals.{counted-append, counted-none, total-eight, total-same}
+use Rattle.hash_rows.proofs.Totals.{total-eight, total-same}
 
 -- what a permutation gives first and last, by its flags and its state
 begins_by : Bool → Bool → ℕ → List ℕ → List Counted
@@ -39,7 +41,7 @@ ends_same : (m n c d : Bool) (address : ℕ) (s t : List ℕ) → m ≡ n → c 
 ends_same m n c d address s t p q r = cc
 
 stops_at : Bool → Bool
-stops_at going = bit_number going == 0
+stops_at going = bit_of going == 0
 
 ends_at : (m going : Bool) (address : ℕ) (s : List ℕ) → ends_by m (stops_at going) address s
     ≡ (if m then once (5 ∷ address ∷ s) ∷ [] else if going then [] else once (3 ∷ address ∷ take 4 (drop 4 s)) ∷ [])
@@ -61,7 +63,8 @@ first_gives : (constants : List ℕ) (p : Perm) (address : ℕ) → length const
 first_gives constants p address len s =
     row_begins address row
     ∙ begins_same _ p.mode _ p.cont address _ p.start (ap (λ n. n == 1) (perm_row-mode constants p 0 false) ∙ bit_again p.mode)
-    (ap (λ n. n == 1) (perm_row-cont constants p 0 false) ∙ bit_again p.cont) (row_state constants p 0 false len (omega arith) s ∙ rounds-none constants p.start)
+    (ap (λ n. n == 1) (perm_row-cont constants p 0 false) ∙ bit_again p.cont)
+    (row_state constants p 0 false len (omega arith) s ∙ rounds-none constants p.start)
     ∙ perm_begins-is address p
   where
     row : List ℕ
@@ -86,7 +89,9 @@ given_at k i row = if k == 0 then permutation_begins (suc i) row else if k == 7 
 
 given_by : (q k : ℕ) (row : List ℕ) → k < 8 → hasher_given (8 * q + k) row ≡ given_at k (8 * q + k) row
 unfolding hasher_given given_at
-given_by q k row h = ap (λ m. if m == 0 then permutation_begins (suc (8 * q + k)) row else if m == 7 then permutation_ends (suc (8 * q + k)) row else []) place
+given_by q k row h =
+    ap (λ m. if m == 0 then permutation_begins (suc (8 * q + k)) row else if m
+    == 7 then permutation_ends (suc (8 * q + k)) row else []) place
   where
     place : (8 * q + k) % 8 ≡ k
     place = omega (arith, h)
@@ -140,7 +145,8 @@ unfolding rows_of rows_before perms_given total
 given_perms constants q [] u len s = sym (counted-none u)
 given_perms constants q (p ∷ perms) u len s =
     total-eight (length rows) f
-    ∙ sum_of_eight (f 0) (f 1) (f 2) (f 3) (f 4) (f 5) (f 6) (f 7) _ (counted (perm_begins (8 * q + 1) p) u) (counted (perm_ends constants (8 * q + 1 + 7) p) u)
+    ∙ sum_of_eight (f 0) (f 1) (f 2) (f 3) (f 4) (f 5) (f 6) (f 7) _ (counted (perm_begins (8 * q + 1) p) u)
+    (counted (perm_ends constants (8 * q + 1 + 7) p) u)
     (ap (λ xs. counted xs u) (gives_first q _ ∙ first_gives constants p (8 * q + 1) len own))
     (gives_none q 1 _ u (lit< tt) (given_at-one _ _)) (gives_none q 2 _ u (lit< tt) (given_at-two _ _))
     (gives_none q 3 _ u (lit< tt) (given_at-three _ _)) (gives_none q 4 _ u (lit< tt) (given_at-four _ _))
@@ -173,7 +179,8 @@ pub rows_give : (constants : List ℕ) (perms : List Perm) (u : List ℕ) → le
     → over_rows (λ i row next. hasher_given i row) (rows_of constants perms) u ≡ counted (perms_given constants 1 perms) u
 unfolding over_first
 rows_give constants perms u len s =
-    total-same (length (rows_of constants perms)) _ _ (λ i h. ap (λ n. counted (hasher_given n (slice_index_or (rows_of constants perms) i [])) u) (none i))
+    total-same (length (rows_of constants perms)) _ _
+    (λ i h. ap (λ n. counted (hasher_given n (slice_index_or (rows_of constants perms) i [])) u) (none i))
     ∙ given_perms constants 0 perms u len s
   where
     none : (i : ℕ) → i ≡ 8 * 0 + i

@@ -105,7 +105,8 @@ gives_first : (constants : List ℕ) (a : ℕ) (p : Perm) (rest : List Perm) →
 unfolding hashed
 gives_first constants a p rest s m c zeros f =
     let z = zeros m c in
-    subst (λ xs. GivesOnBy constants a (p ∷ rest) a (further p.more rest) (squeezed (sponge_after constants (permuted constants xs) (further p.more rest))))
+    subst (λ xs. GivesOnBy constants a (p ∷ rest) a (further p.more rest)
+    (squeezed (sponge_after constants (permuted constants xs) (further p.more rest))))
     (sym (start_is p.start s.size z.0 z.1 z.2)) (gives_chain constants a p rest p.more refl m f)
 
 -- behind so many permutations
@@ -153,7 +154,8 @@ opened_by constants k perms p rest s f is m c =
     let digest = hashed constants (slice_index p.start 1) (drop 4 p.start ∷ further p.more rest) in
     record {
       opens_by =
-          behind_by constants 1 k perms u (subst (λ ps. IsGivenBy constants (1 + 8 * k) ps u) (sym is) (first_opens constants (1 + 8 * k) p rest m c));
+          behind_by constants 1 k perms u
+          (subst (λ ps. IsGivenBy constants (1 + 8 * k) ps u) (sym is) (first_opens constants (1 + 8 * k) p rest m c));
       goes_on_by =
           behind_on constants 1 k perms (1 + 8 * k) blocks digest
           (subst (λ ps. GivesOnBy constants (1 + 8 * k) ps (1 + 8 * k) blocks digest) (sym is)

@@ -180,7 +180,8 @@ later_found constants a p perms b domain blocks digest f = record {
   digest_is = f.digest_is;
 }
 
-pub hash_by : (constants : List ℕ) (a : ℕ) (going : Bool) (last : List ℕ) (perms : List Perm) (b domain : ℕ) (block : List ℕ) (blocks : List (List ℕ)) (digest : List ℕ)
+pub hash_by : (constants : List ℕ) (a : ℕ) (going : Bool) (last : List ℕ) (perms : List Perm) (b domain : ℕ) (block : List ℕ)
+    (blocks : List (List ℕ)) (digest : List ℕ)
     → All (λ p. IsState p.start) perms → FollowsOn constants going last perms → IsGivenBy constants a perms (1 ∷ b ∷ domain ∷ block)
     → GivesOnBy constants a perms b blocks digest → FoundAt constants a perms b domain (block ∷ blocks) digest
 unfolding IsGivenBy
@@ -197,5 +198,6 @@ hash_by constants a going last (p ∷ perms) b domain block blocks digest s f (i
 hash_by constants a going last (p ∷ perms) b domain block blocks digest s f (inr (inr g)) h =
     let le = (given-address constants (a + 8) perms (1 ∷ b ∷ domain ∷ block) g).0 in
     later_found constants a p perms b domain (block ∷ blocks) digest
-    (hash_by constants (a + 8) p.more (permuted constants p.start) perms b domain block blocks digest (All-tail (λ p. IsState p.start) p perms s) f.4 g
+    (hash_by constants (a + 8) p.more (permuted constants p.start) perms b domain block blocks digest
+    (All-tail (λ p. IsState p.start) p perms s) f.4 g
     (later_on constants a p perms b blocks digest (omega (arith, le)) h))

@@ -1,9 +1,9 @@
 -- Rows of the hasher's table: their flags and their states.
 use Rattle.std.proofs.Common.{◌≡◌, ℕ, zero, suc, ◌<◌, ◌==◌, List, [], ◌∷◌, length, slice_index, slice_index_or, replicate, refl, ap₂, arith}
+use Rattle.vm_ops.specs.Values.{bit_of}
 use Rattle.vm_field.specs.Field.{prime}
 use Rattle.chip_columns.specs.HasherColumns.{mode, cont, more, state}
 use Rattle.rpo_hash.specs.States.{IsState}
-use Rattle.hash_rows.specs.PermRows.{bit_number}
 
 -- fifteen cells are the flags and the state
 pub row_is : (r : List ℕ) → length r ≡ 15 → r ≡ mode r ∷ cont r ∷ more r ∷ state r
@@ -49,7 +49,7 @@ pub state-IsState : (r : List ℕ) → ((k : ℕ) → slice_index r k < prime) �
 state-IsState r below = record { size = state_size r; below = λ k d h. element_at r below k d (omega (arith, h, state_size r)) }
 
 -- a bit is what its test says
-pub bit_is : (a : ℕ) → a < 2 → a ≡ bit_number (a == 1)
+pub bit_is : (a : ℕ) → a < 2 → a ≡ bit_of (a == 1)
 bit_is zero h = refl
 bit_is (suc zero) h = refl
 bit_is (suc (suc a)) h = absurd (omega arith)

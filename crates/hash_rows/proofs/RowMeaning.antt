@@ -2,6 +2,7 @@
 use Rattle.std.proofs.lemmas.Bool.{cases_Bool, eqb-true}
 use Rattle.std.proofs.Common.{◌/◌, inl, inr, ◌≡◌, ℕ, zero, suc, ◌+◌, ◌*◌, ◌-◌, ◌%◌, ◌==◌, ◌&&◌, Bool, true, false, if◌then◌else◌, List, [], ◌∷◌, length, slice_index, drop, Option, Some, None, All, refl, sym, ap, ap₂, subst, ◌∙◌, arith}
 use Rattle.std.proofs.lemmas.List.Elements.{All-head, All-tail, All-drop}
+use Rattle.vm_ops.specs.Values.{bit_of}
 use Rattle.vm_field.specs.Sponge.{HashInput}
 use Rattle.vm_field.proofs.PermutationLemmas.{rounds-none}
 use Rattle.chip_columns.specs.HasherColumns.{mode, cont, x, state}
@@ -9,7 +10,7 @@ use Rattle.rpo_hash.specs.States.{IsState}
 use Rattle.air_kit.specs.declared.requests.Perm.{Perm}
 use Rattle.air_kit.specs.ChipTuples.{absorbed_part}
 use Rattle.air_kit.specs.Hashes.{begins_hash, blocks_from, computation_from, computation_at}
-use Rattle.hash_rows.specs.PermRows.{bit_number, perm_row, rows_before, rows_of}
+use Rattle.hash_rows.specs.PermRows.{perm_row, rows_before, rows_of}
 use Rattle.hash_rows.proofs.BlockLemmas.{eight}
 use Rattle.hash_rows.proofs.MeaningLemmas.{blocks_in, FoundAt}
 use Rattle.hash_rows.proofs.RowsAreZero.{bit_again, perm_row-mode, perm_row-cont, perm_row-more, row_state}
@@ -18,7 +19,8 @@ absorbed_is : (row : List ℕ) → absorbed_part row ≡ drop 4 (state row)
 unfolding state
 absorbed_is row = refl
 
-row_absorbs : (constants : List ℕ) (p : Perm) → length constants ≡ 168 → IsState p.start → absorbed_part (perm_row constants p 0 false) ≡ drop 4 p.start
+row_absorbs : (constants : List ℕ) (p : Perm) → length constants ≡ 168 → IsState p.start
+    → absorbed_part (perm_row constants p 0 false) ≡ drop 4 p.start
 row_absorbs constants p len s =
     absorbed_is (perm_row constants p 0 false) ∙ ap (drop 4) (row_state constants p 0 false len (omega arith) s ∙ rounds-none constants p.start)
 
@@ -48,7 +50,7 @@ rows_behind constants (suc k) (p ∷ perms) =
     let e : 8 * suc k ≡ eight (8 * k) = omega arith in
     ap (λ n. drop n (rows_before constants p (rows_of constants perms))) e ∙ rows_behind constants k perms
 
-bit_zero_is : (b : Bool) → b ≡ false → (bit_number b == 0) ≡ true
+bit_zero_is : (b : Bool) → b ≡ false → (bit_of b == 0) ≡ true
 bit_zero_is true e = absurd (cc)
 bit_zero_is false e = refl
 
@@ -57,10 +59,14 @@ first_computes : (constants : List ℕ) (p : Perm) (rest : List Perm) → length
     → computation_from (rows_of constants (p ∷ rest)) ≡ Some (record { domain = slice_index p.start 1; blocks = blocks_in (p ∷ rest) })
 unfolding rows_of rows_before
 first_computes constants p rest len s m c =
-    ap₂ (λ (b d : Bool). if b && d then Some (record { domain = x (perm_row constants p 0 false) 1; blocks = blocks_from (rows_before constants p (rows_of constants rest)) }) else None)
+    ap₂ (λ (b d : Bool). if b && d then Some (record {
+      domain = x (perm_row constants p 0 false) 1;
+      blocks = blocks_from (rows_before constants p (rows_of constants rest));
+    }) else None)
     (ap (λ n. n == 0) (perm_row-mode constants p 0 false) ∙ bit_zero_is p.mode m)
     (ap (λ n. n == 0) (perm_row-cont constants p 0 false) ∙ bit_zero_is p.cont c)
-    ∙ ap₂ (λ (n : ℕ) (bs : List (List ℕ)). Some (record { domain = n; blocks = bs })) (domain_same constants p) (blocks_same constants (p ∷ rest) len s)
+    ∙ ap₂ (λ (n : ℕ) (bs : List (List ℕ)). Some (record { domain = n; blocks = bs })) (domain_same constants p)
+    (blocks_same constants (p ∷ rest) len s)
 
 at_first : (rows : List (List ℕ)) (k : ℕ) → computation_at rows (1 + 8 * k) ≡ computation_from (drop (8 * k) rows)
 at_first rows k =
@@ -103,7 +109,7 @@ and_false : (b : Bool) → (b && false) ≡ false
 and_false true = refl
 and_false false = refl
 
-bit_one_is : (b : Bool) → b ≡ true → (bit_number b == 0) ≡ false
+bit_one_is : (b : Bool) → b ≡ true → (bit_of b == 0) ≡ false
 bit_one_is true e = refl
 bit_one_is false e = absurd (cc)
 

@@ -1,6 +1,7 @@
 -- The rows of permutations that fit have all entries 0, and show these permutations again.
 use Rattle.std.proofs.Common.{◌≡◌, ℕ, zero, suc, ◌+◌, ◌*◌, ◌<◌, ◌≤◌, ◌==◌, Bool, true, false, List, [], ◌∷◌, ◌++◌, length, slice_get, slice_index, slice_index_or, take, replicate, Option, Some, None, All, refl, sym, ap, ap₂, subst, ◌∙◌, arith, lit<}
 use Rattle.std.proofs.lemmas.List.Elements.{All-head, All-tail}
+use Rattle.vm_ops.specs.Values.{bit_of}
 use Rattle.vm_field.specs.Field.{prime, AreElements, felt_pow, felt_sub, felt_mul, felt_add}
 use Rattle.vm_field.specs.Permutation.{before_roots, round, rounds, round_constants, permuted, seventh_powers}
 use Rattle.vm_field.proofs.Algebra.{felt_sub-same, felt_mul-zero_first, felt_mul-zero_second}
@@ -15,7 +16,7 @@ use Rattle.air_kit.specs.ChipPlaces.{only}
 use Rattle.air_kit.specs.Places.{Claim, at_number, family}
 use Rattle.air_kit.specs.HasherValues.{begins_at_zero, bit_value, hasher_flag_values, chain_values, round_values, hasher_values, hasher_values_by}
 use Rattle.air_kit.specs.Requests.{FollowsOn}
-use Rattle.hash_rows.specs.PermRows.{bit_number, perm_row, rows_before, rows_of, perm_of, perms_in}
+use Rattle.hash_rows.specs.PermRows.{perm_row, rows_before, rows_of, perm_of, perms_in}
 use Rattle.hash_rows.specs.HashTables.{IsZero, Fit}
 use Rattle.hash_rows.proofs.RowLemmas.{state_is, zero_cons}
 use Rattle.hash_rows.proofs.ZeroLemmas.{AllZero, CellsBelow}
@@ -49,29 +50,30 @@ family_zero (suc n) value is =
 
 -- ---- values by flags
 
-bit_zero : (b : Bool) → bit_value (bit_number b) ≡ 0
+bit_zero : (b : Bool) → bit_value (bit_of b) ≡ 0
 bit_zero true = refl
 bit_zero false = refl
 
 apart_zero : (m a b : Bool) → (m ≡ true → a ≡ false) → (m ≡ true → b ≡ false)
-    → felt_mul (bit_number m) (felt_add (bit_number a) (bit_number b)) ≡ 0
-apart_zero true a b na nb = ap₂ (λ c d. felt_mul 1 (felt_add (bit_number c) (bit_number d))) (na refl) (nb refl)
-apart_zero false a b na nb = felt_mul-zero_first 0 (felt_add (bit_number a) (bit_number b)) refl
+    → felt_mul (bit_of m) (felt_add (bit_of a) (bit_of b)) ≡ 0
+apart_zero true a b na nb = ap₂ (λ c d. felt_mul 1 (felt_add (bit_of c) (bit_of d))) (na refl) (nb refl)
+apart_zero false a b na nb = felt_mul-zero_first 0 (felt_add (bit_of a) (bit_of b)) refl
 
 only_zero : (test : Bool) (value : ℕ) → (test ≡ true → value ≡ 0) → only test value ≡ 0
 only_zero true value is = is refl
 only_zero false value is = refl
 
-begin_zero : (m c : Bool) (row : List ℕ) (j : ℕ) → mode row ≡ bit_number m → cont row ≡ bit_number c
+begin_zero : (m c : Bool) (row : List ℕ) (j : ℕ) → mode row ≡ bit_of m → cont row ≡ bit_of c
     → (m ≡ false → c ≡ false → x row j ≡ 0) → begins_at_zero row j ≡ 0
 unfolding begins_at_zero
 begin_zero true c row j em ec is =
-    felt_mul-zero_first _ (x row j) (ap₂ (λ a b. felt_mul (felt_sub 1 a) (felt_sub 1 b)) em ec ∙ felt_mul-zero_first 0 (felt_sub 1 (bit_number c)) refl)
+    felt_mul-zero_first _ (x row j) (ap₂ (λ a b. felt_mul (felt_sub 1 a) (felt_sub 1 b)) em ec
+    ∙ felt_mul-zero_first 0 (felt_sub 1 (bit_of c)) refl)
 begin_zero false true row j em ec is =
     felt_mul-zero_first _ (x row j) (ap₂ (λ a b. felt_mul (felt_sub 1 a) (felt_sub 1 b)) em ec)
 begin_zero false false row j em ec is = felt_mul-zero_second _ (x row j) (is refl refl)
 
-same_bits : (b : Bool) → felt_sub (bit_number b) (bit_number b) ≡ 0
+same_bits : (b : Bool) → felt_sub (bit_of b) (bit_of b) ≡ 0
 same_bits true = refl
 same_bits false = refl
 
@@ -132,7 +134,7 @@ flags_inside : (constants : List ℕ) (first begins : Bool) (p : Perm) (k : ℕ)
 unfolding hasher_flag_values perm_row
 flags_inside constants first begins p k going no_first no_cont zeros =
     thirteen_zero _ _ _ _ _ _ _ _ _ _ _ _ _ (bit_zero p.mode) (bit_zero p.cont) (bit_zero false)
-    (apart_zero p.mode p.cont false no_cont (λ _. refl)) (only_zero first (bit_number p.cont) (λ is. ap bit_number (no_first is)))
+    (apart_zero p.mode p.cont false no_cont (λ _. refl)) (only_zero first (bit_of p.cont) (λ is. ap bit_of (no_first is)))
     refl refl (same_bits p.mode) (same_bits p.cont) refl
     (only_zero begins _ (λ is. begin_zero p.mode p.cont row 0 refl refl (λ m c. (zeros is m c).0)))
     (only_zero begins _ (λ is. begin_zero p.mode p.cont row 2 refl refl (λ m c. (zeros is m c).1)))
@@ -145,7 +147,8 @@ inside_zero : (constants : List ℕ) (first begins : Bool) (p : Perm) (k : ℕ) 
     → (first ≡ true → p.cont ≡ false) → (p.mode ≡ true → p.cont ≡ false)
     → (begins ≡ true → p.mode ≡ false → p.cont ≡ false
     → (x (perm_row constants p k false) 0 ≡ 0) × (x (perm_row constants p k false) 2 ≡ 0) × (x (perm_row constants p k false) 3 ≡ 0))
-    → AllZero (hasher_values_by first begins true false (round_constants constants k) (perm_row constants p k false) (Some (perm_row constants p (suc k) going)))
+    → AllZero (hasher_values_by first begins true false (round_constants constants k) (perm_row constants p k false)
+    (Some (perm_row constants p (suc k) going)))
 inside_zero constants first begins p k going len h s no_first no_cont zeros =
     joined_zero first begins true false (round_constants constants k) cur (Some next) flags chain
     (round_zero (round_constants constants k) cur next
@@ -166,15 +169,15 @@ inside_zero constants first begins p k going len h s no_first no_cont zeros =
 
 -- ---- the last row of the eight
 
-bit_below : (b : Bool) → bit_number b < prime
+bit_below : (b : Bool) → bit_of b < prime
 bit_below true = lit< tt
 bit_below false = lit< tt
 
-pub perm_row-mode : (constants : List ℕ) (p : Perm) (k : ℕ) (going : Bool) → mode (perm_row constants p k going) ≡ bit_number p.mode
+pub perm_row-mode : (constants : List ℕ) (p : Perm) (k : ℕ) (going : Bool) → mode (perm_row constants p k going) ≡ bit_of p.mode
 unfolding perm_row
 perm_row-mode constants p k going = refl
 
-pub perm_row-cont : (constants : List ℕ) (p : Perm) (k : ℕ) (going : Bool) → cont (perm_row constants p k going) ≡ bit_number p.cont
+pub perm_row-cont : (constants : List ℕ) (p : Perm) (k : ℕ) (going : Bool) → cont (perm_row constants p k going) ≡ bit_of p.cont
 unfolding perm_row
 perm_row-cont constants p k going = refl
 
@@ -193,11 +196,11 @@ flags_end : (constants : List ℕ) (p : Perm) (last : List ℕ) (next : Option (
 unfolding hasher_flag_values perm_row LinksTo
 flags_end constants p last None no_cont no_more l =
     thirteen_zero _ _ _ _ _ _ _ _ _ _ _ _ _ (bit_zero p.mode) (bit_zero p.cont) (bit_zero p.more)
-    (apart_zero p.mode p.cont p.more no_cont no_more) refl (ap bit_number l) refl refl refl refl refl refl refl
+    (apart_zero p.mode p.cont p.more no_cont no_more) refl (ap bit_of l) refl refl refl refl refl refl refl
 flags_end constants p last (Some y) no_cont no_more l =
     thirteen_zero _ _ _ _ _ _ _ _ _ _ _ _ _ (bit_zero p.mode) (bit_zero p.cont) (bit_zero p.more)
     (apart_zero p.mode p.cont p.more no_cont no_more) refl refl refl refl refl
-    (ap (λ c. felt_sub c (bit_number p.more)) l.0 ∙ same_bits p.more) refl refl refl
+    (ap (λ c. felt_sub c (bit_of p.more)) l.0 ∙ same_bits p.more) refl refl refl
 
 capacity_at : (y cur : List ℕ) → take 4 (state y) ≡ take 4 (state cur) → (j : ℕ) → j < 4 → x y j ≡ x cur j
 unfolding state
@@ -207,7 +210,7 @@ capacity_at y cur e (suc (suc zero)) h = ap (λ s. slice_index s 2) e
 capacity_at y cur e (suc (suc (suc zero))) h = ap (λ s. slice_index s 3) e
 capacity_at y cur e (suc (suc (suc (suc j)))) h = absurd (omega arith)
 
-chained_zero : (going : Bool) (a b : ℕ) → b < prime → (going ≡ true → a ≡ b) → felt_mul (bit_number going) (felt_sub a b) ≡ 0
+chained_zero : (going : Bool) (a b : ℕ) → b < prime → (going ≡ true → a ≡ b) → felt_mul (bit_of going) (felt_sub a b) ≡ 0
 chained_zero true a b h same = felt_mul-zero_second 1 (felt_sub a b) (felt_sub-same a b (subst (λ n. n < prime) (sym (same refl)) h) (same refl))
 chained_zero false a b h same = felt_mul-zero_first 0 (felt_sub a b) refl
 
@@ -215,14 +218,14 @@ chain_last : (row : List ℕ) → chain_values true row None ≡ replicate 4 0
 unfolding chain_values family
 chain_last row = refl
 
-chain_next : (going : Bool) (row y last : List ℕ) → more row ≡ bit_number going → CellsBelow row → state row ≡ last
+chain_next : (going : Bool) (row y last : List ℕ) → more row ≡ bit_of going → CellsBelow row → state row ≡ last
     → LinksTo going last (Some y) → chain_values true row (Some y) ≡ replicate 4 0
 unfolding chain_values LinksTo
 chain_next going row y last is below same l =
     family_zero 4 _ (λ j h. ap (λ m. felt_mul m (felt_sub (x y j) (x row j))) is
     ∙ chained_zero going (x y j) (x row j) (below (3 + j)) (λ on. capacity_at y row (l.1 on ∙ ap (take 4) (sym same)) j h))
 
-pub perm_row-more : (constants : List ℕ) (p : Perm) (k : ℕ) (going : Bool) → more (perm_row constants p k going) ≡ bit_number going
+pub perm_row-more : (constants : List ℕ) (p : Perm) (k : ℕ) (going : Bool) → more (perm_row constants p k going) ≡ bit_of going
 unfolding perm_row
 perm_row-more constants p k going = refl
 
@@ -230,7 +233,8 @@ chain_end : (constants : List ℕ) (p : Perm) (last : List ℕ) (next : Option (
     → permuted constants p.start ≡ last → LinksTo p.more last next → chain_values true (perm_row constants p 7 p.more) next ≡ replicate 4 0
 chain_end constants p last None len s same l = chain_last (perm_row constants p 7 p.more)
 chain_end constants p last (Some y) len s same l =
-    chain_next p.more (perm_row constants p 7 p.more) y last (perm_row-more constants p 7 p.more) (perm_row-below constants p 7 p.more len (omega arith) s)
+    chain_next p.more (perm_row constants p 7 p.more) y last (perm_row-more constants p 7 p.more)
+    (perm_row-below constants p 7 p.more len (omega arith) s)
     (row_state constants p 7 p.more len (omega arith) s ∙ sym (permuted-is constants p.start) ∙ same) l
 
 -- ---- eight rows, and all
@@ -247,7 +251,8 @@ block_zero : (constants : List ℕ) (first : Bool) (p : Perm) (next : Option (Li
     → (first ≡ true → p.cont ≡ false) → (p.mode ≡ true → (p.cont ≡ false) × (p.more ≡ false))
     → (p.mode ≡ false → p.cont ≡ false → (slice_index p.start 0 ≡ 0) × (slice_index p.start 2 ≡ 0) × (slice_index p.start 3 ≡ 0))
     → LinksTo p.more (permuted constants p.start) next
-    → EightZero constants first (perm_row constants p 0 false) (perm_row constants p 1 false) (perm_row constants p 2 false) (perm_row constants p 3 false)
+    → EightZero constants first (perm_row constants p 0 false) (perm_row constants p 1 false) (perm_row constants p 2 false)
+    (perm_row constants p 3 false)
     (perm_row constants p 4 false) (perm_row constants p 5 false) (perm_row constants p 6 false) (perm_row constants p 7 p.more) next
 block_zero constants first p next len s no_first apart zeros l = record {
   z0 = inside_zero constants first true p 0 false len (lit< tt) s no_first no_cont (λ _ m c. start_zeros constants p (zeros m c));
@@ -268,7 +273,8 @@ block_zero constants first p next len s no_first apart zeros l = record {
     no_cont m = (apart m).0
 
     later : (k : ℕ) (going : Bool) → k < 7
-        → AllZero (hasher_values_by false false true false (round_constants constants k) (perm_row constants p k false) (Some (perm_row constants p (suc k) going)))
+        → AllZero (hasher_values_by false false true false (round_constants constants k) (perm_row constants p k false)
+        (Some (perm_row constants p (suc k) going)))
     later k going h = inside_zero constants false false p k going len h s (λ e. absurd (cc)) no_cont (λ e. absurd (cc))
 
 next_links : (constants : List ℕ) (going : Bool) (last : List ℕ) (perms : List Perm) → length constants ≡ 168 → All (λ p. IsState p.start) perms
@@ -276,7 +282,7 @@ next_links : (constants : List ℕ) (going : Bool) (last : List ℕ) (perms : Li
 unfolding LinksTo rows_of rows_before
 next_links constants going last [] len s f = f
 next_links constants going last (p ∷ perms) len s f = (
-  perm_row-cont constants p 0 false ∙ ap bit_number f.0,
+  perm_row-cont constants p 0 false ∙ ap bit_of f.0,
   λ on. ap (take 4) (row_state constants p 0 false len (omega arith) (All-head (λ p. IsState p.start) p perms s) ∙ rounds-none constants p.start)
       ∙ f.2 (f.0 ∙ on),
 )
@@ -332,7 +338,7 @@ unfolding rows_of rows_before
 rows_of-size constants [] = refl
 rows_of-size constants (p ∷ perms) = let e = rows_of-size constants perms in omega (arith, e)
 
-pub bit_again : (b : Bool) → (bit_number b == 1) ≡ b
+pub bit_again : (b : Bool) → (bit_of b == 1) ≡ b
 bit_again true = refl
 bit_again false = refl
 
@@ -345,7 +351,8 @@ perm_again : (constants : List ℕ) (p : Perm) → length constants ≡ 168 → 
 unfolding perm_of
 perm_again constants p len s =
     perm_from _ _ _ p.mode p.cont p.more _ p.start (ap (λ n. n == 1) (perm_row-mode constants p 0 false) ∙ bit_again p.mode)
-    (ap (λ n. n == 1) (perm_row-cont constants p 0 false) ∙ bit_again p.cont) (ap (λ n. n == 1) (perm_row-more constants p 7 p.more) ∙ bit_again p.more)
+    (ap (λ n. n == 1) (perm_row-cont constants p 0 false) ∙ bit_again p.cont)
+    (ap (λ n. n == 1) (perm_row-more constants p 7 p.more) ∙ bit_again p.more)
     (row_state constants p 0 false len (omega arith) s ∙ rounds-none constants p.start)
 
 pub perms_again : (constants : List ℕ) (perms : List Perm) → length constants ≡ 168 → All (λ p. IsState p.start) perms
@@ -360,7 +367,8 @@ pub rows_are_zero : (c : Claim) (perms : List Perm) → length c.constants ≡ 1
 rows_are_zero c perms len fit = record {
   table = table_of c.constants perms len fit.states;
   whole = let e = rows_of-size c.constants perms in omega (arith, e);
-  zero = λ i n h. ap (λ row. at_number (hasher_values c (record { row = row; cur = slice_index_or rows i []; next = slice_get rows (suc i) })) n) (row_none i)
+  zero = λ i n h. ap (λ row. at_number (hasher_values c
+      (record { row = row; cur = slice_index_or rows i []; next = slice_get rows (suc i) })) n) (row_none i)
       ∙ zero_behind c 0 rows (rows_zero c.constants true false [] perms len fit.states fit.follows (λ _. refl)) i n h;
 }
   where

@@ -25,7 +25,8 @@ given_one : (constants : List ℕ) (perms : List Perm) (given : List ℕ → ℕ
 given_one constants perms given is u h = given_by_one constants 1 perms u (let e = is u in omega (arith, e, h))
 
 gives_on_one : (constants : List ℕ) (perms : List Perm) (given : List ℕ → ℕ) → ((u : List ℕ) → given u ≡ counted (perms_given constants 1 perms) u)
-    → (address : ℕ) (blocks : List (List ℕ)) (digest : List ℕ) → GivesOn given address blocks digest → GivesOnBy constants 1 perms address blocks digest
+    → (address : ℕ) (blocks : List (List ℕ)) (digest : List ℕ) → GivesOn given address blocks digest
+    → GivesOnBy constants 1 perms address blocks digest
 unfolding GivesOn GivesOnBy
 gives_on_one constants perms given is address [] digest g = given_one constants perms given is _ g
 gives_on_one constants perms given is address (block ∷ blocks) digest g =
@@ -36,7 +37,8 @@ one_counts : (constants : List ℕ) (perms : List Perm) (given : List ℕ → �
 one_counts constants perms given is u g = let e = is u in let k = given_counts constants 1 perms u g in omega (arith, e, k)
 
 gives_on_counts : (constants : List ℕ) (perms : List Perm) (given : List ℕ → ℕ) → ((u : List ℕ) → given u ≡ counted (perms_given constants 1 perms) u)
-    → (address : ℕ) (blocks : List (List ℕ)) (digest : List ℕ) → GivesOnBy constants 1 perms address blocks digest → GivesOn given address blocks digest
+    → (address : ℕ) (blocks : List (List ℕ)) (digest : List ℕ) → GivesOnBy constants 1 perms address blocks digest
+    → GivesOn given address blocks digest
 unfolding GivesOn GivesOnBy
 gives_on_counts constants perms given is address [] digest g = one_counts constants perms given is _ g
 gives_on_counts constants perms given is address (block ∷ blocks) digest g =
@@ -68,7 +70,8 @@ perms_give : (constants : List ℕ) (perms : List Perm) (rows : List (List ℕ))
 perms_give constants perms rows given len s f rows_are is = record {
   once = λ u. let e = is u in let m = given-once constants 1 perms u in omega (arith, e, m);
   one = λ t r address xs ys g h.
-      given-same constants 1 perms (t ∷ address ∷ xs) (r ∷ address ∷ ys) refl (given_one constants perms given is _ g) (given_one constants perms given is _ h);
+      given-same constants 1 perms (t ∷ address ∷ xs) (r ∷ address ∷ ys) refl (given_one constants perms given is _ g)
+      (given_one constants perms given is _ h);
   place = λ tag address xs g.
       (let a = given-address constants 1 perms (tag ∷ address ∷ xs) (given_one constants perms given is _ g) in
       (let l = a.0 in omega (arith, l), let l = a.1 in omega (arith, l, size)));
@@ -96,4 +99,5 @@ pub table_gives : (c : Claim) (rows : List (List ℕ)) → length c.constants �
     → TableGives c.constants rows (over_rows (chip_given bus.Hasher table.Hasher) rows)
 table_gives c rows len z =
     let are = zeros_are_rows c rows len z in
-    perms_give c.constants (perms_in rows) rows (over_rows (chip_given bus.Hasher table.Hasher) rows) len are.fit.states are.fit.follows are.rows_are are.given
+    perms_give c.constants (perms_in rows) rows (over_rows (chip_given bus.Hasher table.Hasher) rows) len are.fit.states
+    are.fit.follows are.rows_are are.given

@@ -1,6 +1,6 @@
 -- Sums over the rows of a table, and counts in lists that are joined.
-use Rattle.std.proofs.Common.{◌≡◌, ℕ, zero, suc, ◌+◌, ◌<◌, List, [], ◌∷◌, ◌++◌, refl, ap, ap₂, ◌∙◌, arith}
-use Rattle.buses.specs.Counts.{Counted, counted, total}
+use Rattle.std.proofs.Common.{◌≡◌, ℕ, zero, suc, ◌+◌, ◌<◌, refl, ap, ap₂, ◌∙◌, arith}
+use Rattle.buses.specs.Counts.{total}
 
 pub total-front : (n : ℕ) (f : ℕ → ℕ) → total (suc n) f ≡ f 0 + total n (λ i. f (suc i))
 unfolding total
@@ -25,12 +25,3 @@ total-eight n f =
     ∙ ap (λ t. f 4 + t) (total-front _ (λ i. f (suc (suc (suc (suc (suc i))))))
     ∙ ap (λ t. f 5 + t) (total-front _ (λ i. f (suc (suc (suc (suc (suc (suc i)))))))
     ∙ ap (λ t. f 6 + t) (total-front n (λ i. f (suc (suc (suc (suc (suc (suc (suc i)))))))))))))))
-
-pub counted-append : (xs ys : List Counted) (u : List ℕ) → counted (xs ++ ys) u ≡ counted xs u + counted ys u
-unfolding counted
-counted-append [] ys u = omega arith
-counted-append (x ∷ xs) ys u = let e = counted-append xs ys u in omega (arith, e)
-
-pub counted-none : (u : List ℕ) → counted [] u ≡ 0
-unfolding counted
-counted-none u = refl

@@ -2,6 +2,7 @@
 use Rattle.std.proofs.Common.{◌≡◌, ℕ, zero, suc, ◌+◌, ◌*◌, ◌<◌, ◌==◌, Bool, true, false, List, [], ◌∷◌, length, slice_get, slice_index_or, take, Option, Some, None, All, refl, sym, ap, subst, ◌∙◌, arith, lit<}
 use Rattle.std.proofs.lemmas.Bool.{eqb-true}
 use Rattle.std.proofs.lemmas.List.Elements.{All-cons, All-nil}
+use Rattle.vm_ops.specs.Values.{bit_of}
 use Rattle.vm_field.specs.Permutation.{round, rounds, round_constants, permuted}
 use Rattle.vm_field.proofs.PermutationLemmas.{length-round_constants, permuted-is, rounds-last, rounds-none}
 use Rattle.vm_table.specs.Layout.{IsTable}
@@ -11,7 +12,7 @@ use Rattle.air_kit.specs.declared.requests.Perm.{Perm}
 use Rattle.air_kit.specs.Places.{Claim, at_number}
 use Rattle.air_kit.specs.HasherValues.{hasher_values}
 use Rattle.air_kit.specs.Requests.{FollowsOn}
-use Rattle.hash_rows.specs.PermRows.{bit_number, perm_row, rows_before, rows_of, perm_of, perms_in}
+use Rattle.hash_rows.specs.PermRows.{perm_row, rows_before, rows_of, perm_of, perms_in}
 use Rattle.hash_rows.specs.HashTables.{IsZero, Fit}
 use Rattle.hash_rows.proofs.RowLemmas.{row_is, state-IsState, bit_is}
 use Rattle.hash_rows.proofs.ZeroLemmas.{CellsBelow, GoesOn, goes_on, Begins, begins, Ends, ends, LinkedTo}
@@ -20,8 +21,8 @@ use Rattle.hash_rows.proofs.BlockLemmas.{EightZero, ZeroFrom, eight, first_of, z
 -- ---- a row behind k rounds of a permutation
 
 record Shown (constants : List ℕ) (p : Perm) (k : ℕ) (r : List ℕ) : Type 0 where
-  mode_is : mode r ≡ bit_number p.mode
-  cont_is : cont r ≡ bit_number p.cont
+  mode_is : mode r ≡ bit_of p.mode
+  cont_is : cont r ≡ bit_of p.cont
   state_is : state r ≡ rounds k constants p.start
 
 one_more : (constants : List ℕ) (p : Perm) (k : ℕ) (cur next : List ℕ) → GoesOn (round_constants constants k) cur next
@@ -37,7 +38,7 @@ row_from : (a b c d e f : ℕ) (s t : List ℕ) → a ≡ d → b ≡ e → c �
 row_from a b c d e f s t p q r u = cc
 
 row_shown : (constants : List ℕ) (p : Perm) (k : ℕ) (going : Bool) (r : List ℕ) → length r ≡ 15 → Shown constants p k r
-    → more r ≡ bit_number going → r ≡ perm_row constants p k going
+    → more r ≡ bit_of going → r ≡ perm_row constants p k going
 unfolding perm_row
 row_shown constants p k going r len s e = row_is r len ∙ row_from _ _ _ _ _ _ _ _ s.mode_is s.cont_is e s.state_is
 
@@ -181,7 +182,7 @@ table_next (r ∷ rows) t y e = let same : r ≡ y = cc in subst CellsBelow same
 -- what the rows before say of the next one
 unfoldable pub LinksTo : Bool → List ℕ → Option (List ℕ) → Type 0
 LinksTo going last None = going ≡ false
-LinksTo going last (Some y) = (cont y ≡ bit_number going) × (going ≡ true → take 4 (state y) ≡ take 4 last)
+LinksTo going last (Some y) = (cont y ≡ bit_of going) × (going ≡ true → take 4 (state y) ≡ take 4 last)
 
 links : (cur last : List ℕ) (next : Option (List ℕ)) → more cur < 2 → state cur ≡ last → LinkedTo cur next → LinksTo (more cur == 1) last next
 unfolding LinksTo
@@ -189,7 +190,7 @@ links cur last None bit same l = ap (λ n. n == 1) l
 links cur last (Some y) bit same l =
     (l.0 ∙ bit_is (more cur) bit, λ is. l.1 (eqb-true (more cur) 1 is) ∙ ap (take 4) same)
 
-test_of_bit : (b : Bool) → (bit_number b == 1) ≡ b
+test_of_bit : (b : Bool) → (bit_of b == 1) ≡ b
 test_of_bit true = refl
 test_of_bit false = refl
 
@@ -212,7 +213,8 @@ unfolding ZeroFrom perms_in perm_of LinksTo state
 follows constants first going last [] len t z l = l
 follows constants first going last (r0 ∷ r1 ∷ r2 ∷ r3 ∷ r4 ∷ r5 ∷ r6 ∷ r7 ∷ rows) len t z l =
     let rest = table_rest r0 r1 r2 r3 r4 r5 r6 r7 rows t in
-    let b = block_shows constants first r0 r1 r2 r3 r4 r5 r6 r7 (first_of rows) len (table_eight r0 r1 r2 r3 r4 r5 r6 r7 rows t) (table_next rows rest) z.0 in (
+    let b = block_shows constants first r0 r1 r2 r3 r4 r5 r6 r7 (first_of rows) len (table_eight r0 r1 r2 r3 r4 r5 r6 r7 rows t)
+    (table_next rows rest) z.0 in (
       cont_linked going last r0 l,
       λ is. (
         ap (λ n. n == 1) (b.starts.no_hash (eqb-true (mode r0) 1 is)),
@@ -231,7 +233,8 @@ unfolding ZeroFrom perms_in rows_of
 rows_are constants first [] len t z = refl
 rows_are constants first (r0 ∷ r1 ∷ r2 ∷ r3 ∷ r4 ∷ r5 ∷ r6 ∷ r7 ∷ rows) len t z =
     let rest = table_rest r0 r1 r2 r3 r4 r5 r6 r7 rows t in
-    let b = block_shows constants first r0 r1 r2 r3 r4 r5 r6 r7 (first_of rows) len (table_eight r0 r1 r2 r3 r4 r5 r6 r7 rows t) (table_next rows rest) z.0 in
+    let b = block_shows constants first r0 r1 r2 r3 r4 r5 r6 r7 (first_of rows) len (table_eight r0 r1 r2 r3 r4 r5 r6 r7 rows t)
+    (table_next rows rest) z.0 in
     b.rows_are rows ∙ ap (rows_before constants (perm_of r0 r7)) (rows_are constants false rows len rest z.1)
 rows_are constants first _ len t z = absurd z
 
@@ -258,7 +261,8 @@ row_none k = omega arith
 zero_is : (c : Claim) (rows : List (List ℕ)) → IsZero c rows → ZeroFrom c.constants true rows
 zero_is c rows z =
     zero_from c 0 rows z.whole
-    (λ k n h. ap (λ row. at_number (hasher_values c (record { row = row; cur = slice_index_or rows k []; next = slice_get rows (suc k) })) n) (row_none k)
+    (λ k n h. ap (λ row. at_number (hasher_values c
+    (record { row = row; cur = slice_index_or rows k []; next = slice_get rows (suc k) })) n) (row_none k)
     ∙ z.zero k n h)
 
 pub fit_of : (c : Claim) (rows : List (List ℕ)) → length c.constants ≡ 168 → IsZero c rows → Fit c.constants (perms_in rows)

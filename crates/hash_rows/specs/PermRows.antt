@@ -1,15 +1,13 @@
 -- The rows of the hasher's table as the permutations that they show, eight rows each.
-use Rattle.std.specs.Prelude.{ℕ, Bool, false, ◌==◌, if◌then◌else◌, List, [], ◌∷◌}
+use Rattle.std.specs.Prelude.{ℕ, Bool, false, ◌==◌, List, [], ◌∷◌}
+use Rattle.vm_ops.specs.Values.{bit_of}
 use Rattle.vm_field.specs.Permutation.{rounds}
 use Rattle.chip_columns.specs.HasherColumns.{mode, cont, more, state}
 use Rattle.air_kit.specs.declared.requests.Perm.{Perm}
 
-abbrev pub bit_number : Bool → ℕ
-bit_number bit = if bit then 1 else 0
-
 -- the row behind k rounds, with its third flag
 unfoldable pub perm_row : List ℕ → Perm → ℕ → Bool → List ℕ
-perm_row constants p k goes_on = bit_number p.mode ∷ bit_number p.cont ∷ bit_number goes_on ∷ rounds k constants p.start
+perm_row constants p k goes_on = bit_of p.mode ∷ bit_of p.cont ∷ bit_of goes_on ∷ rounds k constants p.start
 
 -- the eight rows of a permutation, and further rows; the last of the eight says whether the hash goes on
 unfoldable pub rows_before : List ℕ → Perm → List (List ℕ) → List (List ℕ)

@@ -20,7 +20,8 @@ pub begins : (old : Option (List ℕ)) (all : List ℕ) → Going old old all al
 begins old all = record { written = []; parts = refl; appended = nothing old }
 
 -- a further piece was written
-pub goes_on : (old mid new : Option (List ℕ)) (all left piece rest : List ℕ) → Going old mid all left → left ≡ piece ++ rest → Appends mid new piece → Going old new all rest
+pub goes_on : (old mid new : Option (List ℕ)) (all left piece rest : List ℕ) → Going old mid all left → left ≡ piece ++ rest
+    → Appends mid new piece → Going old new all rest
 goes_on old mid new all left piece rest going is more = record {
   written = going.written ++ piece;
   parts = going.parts ∙ ap (λ (bs : List ℕ). going.written ++ bs) is ∙ sym (append_assoc going.written piece rest);
@@ -29,7 +30,9 @@ goes_on old mid new all left piece rest going is more = record {
 
 -- nothing is left
 pub ends : (old new : Option (List ℕ)) (all left : List ℕ) → Going old new all left → left ≡ [] → Appends old new all
-ends old new all left going none = subst (Appends old new) (sym (going.parts ∙ ap (λ (bs : List ℕ). going.written ++ bs) none ∙ append-nil going.written)) going.appended
+ends old new all left going none =
+    subst (Appends old new) (sym (going.parts ∙ ap (λ (bs : List ℕ). going.written ++ bs) none ∙ append-nil going.written))
+    going.appended
 
 take_within : (n : ℕ) (piece rest : List ℕ) → take n piece ≡ take (min n (length piece)) (piece ++ rest)
 take_within n piece rest =
@@ -37,7 +40,8 @@ take_within n piece rest =
     sym (take-append-le (min n (length piece)) piece rest few ∙ take_min n piece)
 
 -- a front of a further piece was written
-pub stops : (old mid new : Option (List ℕ)) (all left piece rest : List ℕ) (n : ℕ) → Going old mid all left → left ≡ piece ++ rest → Appends mid new (take n piece) → (k : ℕ) × Appends old new (take k all)
+pub stops : (old mid new : Option (List ℕ)) (all left piece rest : List ℕ) (n : ℕ) → Going old mid all left → left ≡ piece ++ rest
+    → Appends mid new (take n piece) → (k : ℕ) × Appends old new (take k all)
 stops old mid new all left piece rest n going is more =
     let k : ℕ = min n (length piece) in (
       length going.written + k,

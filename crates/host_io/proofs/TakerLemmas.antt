@@ -14,7 +14,8 @@ consumed_further (Some xs) None new a b first second = absurd first
 consumed_further (Some xs) (Some ys) None a b first second = absurd second
 consumed_further (Some xs) (Some ys) (Some zs) a b first second = first ∙ ap (λ s. a ++ s) second ∙ sym (append_assoc a b zs)
 
-pub taken_further : (took now : List ℕ → Type 0) (old mid new : Option (List ℕ)) (max left n : ℕ) (piece : List ℕ) → Taken took old mid max left → n ≡ length piece → n ≤ left
+pub taken_further : (took now : List ℕ → Type 0) (old mid new : Option (List ℕ)) (max left n : ℕ) (piece : List ℕ)
+    → Taken took old mid max left → n ≡ length piece → n ≤ left
     → ((before : List ℕ) → took before → now (before ++ piece)) → Consumes mid new piece → Taken now old new max (left - n)
 taken_further took now old mid new max left n piece so_far long within takes more =
     let sum = so_far.1 in (

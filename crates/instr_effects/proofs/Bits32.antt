@@ -101,7 +101,8 @@ meets-u32checked_or constants locals s numbers form =
 u32checked_not-alone : (constants : List ℕ) (locals : ℕ) (s : State) → MeetsAt constants locals s names.U32CheckedNot []
 unfolding expansion front instr_effect last trap fits left_cells computed trap_of
 u32checked_not-alone constants locals s =
-    acts _ _ _ _ _ _ _ (lit≤ tt) refl (one-trap (is_u32 (top s 0)) causes.NotU32) refl refl refl (λ free. first-is _ _ _ (complement-is (top s 0) free))
+    acts _ _ _ _ _ _ _ (lit≤ tt) refl (one-trap (is_u32 (top s 0)) causes.NotU32) refl refl refl
+    (λ free. first-is _ _ _ (complement-is (top s 0) free))
 
 pub meets-u32checked_not : (constants : List ℕ) (locals : ℕ) (s : State) → MeetsAll constants locals s names.U32CheckedNot
 meets-u32checked_not constants locals s numbers form =

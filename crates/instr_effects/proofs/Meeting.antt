@@ -81,7 +81,8 @@ same-state : (clock clock' context context' fmp fmp' : ℕ) (in_syscall in_sysca
     (stack stack' : List ℕ) (memory memory' : WordMap) (tape tape' : List ℕ)
     → clock ≡ clock' → context ≡ context' → fmp ≡ fmp' → in_syscall ≡ in_syscall' → digest ≡ digest' → nesting ≡ nesting'
     → stack ≡ stack' → memory ≡ memory' → tape ≡ tape'
-    → state_of clock context fmp in_syscall digest nesting stack memory tape ≡ state_of clock' context' fmp' in_syscall' digest' nesting' stack' memory' tape'
+    → state_of clock context fmp in_syscall digest nesting stack memory tape
+    ≡ state_of clock' context' fmp' in_syscall' digest' nesting' stack' memory' tape'
 same-state _ _ _ _ _ _ _ _ _ _ _ _ _ _ _ _ _ _ e1 e2 e3 e4 e5 e6 e7 e8 e9 = cc
 
 target-is : (constants : List ℕ) (items : List Item) (s t : State) (e : Effect) → 16 ≤ length s.core.stack → e.takes ≤ 16
@@ -89,7 +90,8 @@ target-is : (constants : List ℕ) (items : List Item) (s t : State) (e : Effect
     → t ≡ affected e (length items) s
 target-is constants items s t e deep small left shows =
     let stack : t.core.stack ≡ filled_up (e.leaves ++ drop e.takes s.core.stack) =
-    stack-is t.core.stack s.core.stack e.leaves (last constants s.core items (window s)).cells e.takes deep small left.cells shows.stack shows.depth in
+    stack-is t.core.stack s.core.stack e.leaves (last constants s.core items (window s)).cells e.takes deep small left.cells
+    shows.stack shows.depth in
     let turn : (last constants s.core items (window s)).turn ≡ length items = last-turn constants s.core items (window s) ∙ add-zero (length items) in
     let clock : t.core.clock ≡ s.core.clock + length items = shows.clock ∙ ap (λ n. s.core.clock + n) turn in
     let memory : t.core.memory ≡ memory_with s.core.memory s.core.context e.address e.word = shows.memory ∙ left.memory in

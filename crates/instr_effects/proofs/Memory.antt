@@ -29,7 +29,8 @@ mem_load-alone constants locals s =
       does = λ free. record { fmp = refl; cells = refl; memory = refl; tape = refl };
     }
 
-mem_load-given : (constants : List ℕ) (locals : ℕ) (s : State) → (n : ℕ) → IsAllowed names.MemLoad n → MeetsAt constants locals s names.MemLoad (n ∷ [])
+mem_load-given : (constants : List ℕ) (locals : ℕ) (s : State) → (n : ℕ) → IsAllowed names.MemLoad n
+    → MeetsAt constants locals s names.MemLoad (n ∷ [])
 unfolding expansion front instr_effect last trap fits left_cells computed trap_of
 mem_load-given constants locals s n ok =
     given constants n (plain (fixed names.MemLoad)) s (instr_effect constants names.MemLoad (n ∷ []) locals s)
@@ -55,7 +56,8 @@ mem_loadw-alone constants locals s =
       does = λ free. record { fmp = refl; cells = refl; memory = refl; tape = refl };
     }
 
-mem_loadw-given : (constants : List ℕ) (locals : ℕ) (s : State) → (n : ℕ) → IsAllowed names.MemLoadw n → MeetsAt constants locals s names.MemLoadw (n ∷ [])
+mem_loadw-given : (constants : List ℕ) (locals : ℕ) (s : State) → (n : ℕ) → IsAllowed names.MemLoadw n
+    → MeetsAt constants locals s names.MemLoadw (n ∷ [])
 unfolding expansion front instr_effect last trap fits left_cells computed trap_of
 mem_loadw-given constants locals s n ok =
     given constants n (plain (fixed names.MemLoadw)) s (instr_effect constants names.MemLoadw (n ∷ []) locals s)
@@ -81,7 +83,8 @@ mem_store-alone constants locals s =
       does = λ free. record { fmp = refl; cells = refl; memory = refl; tape = refl };
     }
 
-mem_store-given : (constants : List ℕ) (locals : ℕ) (s : State) → (n : ℕ) → IsAllowed names.MemStore n → MeetsAt constants locals s names.MemStore (n ∷ [])
+mem_store-given : (constants : List ℕ) (locals : ℕ) (s : State) → (n : ℕ) → IsAllowed names.MemStore n
+    → MeetsAt constants locals s names.MemStore (n ∷ [])
 unfolding expansion front instr_effect last trap fits left_cells computed trap_of
 mem_store-given constants locals s n ok =
     given constants n (plain (fixed names.MemStore)) s (instr_effect constants names.MemStore (n ∷ []) locals s)
@@ -107,7 +110,8 @@ mem_storew-alone constants locals s =
       does = λ free. record { fmp = refl; cells = refl; memory = refl; tape = refl };
     }
 
-mem_storew-given : (constants : List ℕ) (locals : ℕ) (s : State) → (n : ℕ) → IsAllowed names.MemStorew n → MeetsAt constants locals s names.MemStorew (n ∷ [])
+mem_storew-given : (constants : List ℕ) (locals : ℕ) (s : State) → (n : ℕ) → IsAllowed names.MemStorew n
+    → MeetsAt constants locals s names.MemStorew (n ∷ [])
 unfolding expansion front instr_effect last trap fits left_cells computed trap_of
 mem_storew-given constants locals s n ok =
     given constants n (plain (fixed names.MemStorew)) s (instr_effect constants names.MemStorew (n ∷ []) locals s)
@@ -166,7 +170,8 @@ pub meets-loc_load : (constants : List ℕ) (locals : ℕ) (s : State) → Meets
 meets-loc_load constants locals s numbers form =
     by_one names.LocLoad (MeetsAt constants locals s names.LocLoad) numbers refl refl form (loc_load-at constants locals s)
 
-loc_loadw-at : (constants : List ℕ) (locals : ℕ) (s : State) → (i : ℕ) → IsAllowed names.LocLoadw i → MeetsAt constants locals s names.LocLoadw (i ∷ [])
+loc_loadw-at : (constants : List ℕ) (locals : ℕ) (s : State) → (i : ℕ) → IsAllowed names.LocLoadw i
+    → MeetsAt constants locals s names.LocLoadw (i ∷ [])
 unfolding expansion front instr_effect last trap fits left_cells computed trap_of
 loc_loadw-at constants locals s i ok =
     at-place constants (lit (prime - (locals - i)) ∷ plain (fixed names.LocLoadw)) s (locals - i) (λ i. loading_word 4 i s)
@@ -182,7 +187,8 @@ pub meets-loc_loadw : (constants : List ℕ) (locals : ℕ) (s : State) → Meet
 meets-loc_loadw constants locals s numbers form =
     by_one names.LocLoadw (MeetsAt constants locals s names.LocLoadw) numbers refl refl form (loc_loadw-at constants locals s)
 
-loc_store-at : (constants : List ℕ) (locals : ℕ) (s : State) → (i : ℕ) → IsAllowed names.LocStore i → MeetsAt constants locals s names.LocStore (i ∷ [])
+loc_store-at : (constants : List ℕ) (locals : ℕ) (s : State) → (i : ℕ) → IsAllowed names.LocStore i
+    → MeetsAt constants locals s names.LocStore (i ∷ [])
 unfolding expansion front instr_effect last trap fits left_cells computed trap_of
 loc_store-at constants locals s i ok =
     at-place constants (lit (prime - (locals - i)) ∷ plain (fixed names.LocStore)) s (locals - i) (λ i. storing 1 i (top s 0) s)
@@ -198,7 +204,8 @@ pub meets-loc_store : (constants : List ℕ) (locals : ℕ) (s : State) → Meet
 meets-loc_store constants locals s numbers form =
     by_one names.LocStore (MeetsAt constants locals s names.LocStore) numbers refl refl form (loc_store-at constants locals s)
 
-loc_storew-at : (constants : List ℕ) (locals : ℕ) (s : State) → (i : ℕ) → IsAllowed names.LocStorew i → MeetsAt constants locals s names.LocStorew (i ∷ [])
+loc_storew-at : (constants : List ℕ) (locals : ℕ) (s : State) → (i : ℕ) → IsAllowed names.LocStorew i
+    → MeetsAt constants locals s names.LocStorew (i ∷ [])
 unfolding expansion front instr_effect last trap fits left_cells computed trap_of
 loc_storew-at constants locals s i ok =
     at-place constants (lit (prime - (locals - i)) ∷ plain (fixed names.LocStorew)) s (locals - i) (λ i. storing_word 0 i 0 s)

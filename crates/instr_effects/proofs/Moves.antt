@@ -76,7 +76,8 @@ movup-table constants locals s = (
 pub meets-movup : (constants : List ℕ) (locals : ℕ) (s : State) → MeetsAll constants locals s names.Movup
 meets-movup constants locals s numbers form =
     by_one names.Movup (MeetsAt constants locals s names.Movup) numbers refl refl form
-    (λ n ok. let within = ok.most in of_each (λ n. MeetsAt constants locals s names.Movup (n ∷ [])) 16 n (movup-table constants locals s) (omega arith))
+    (λ n ok. let within = ok.most in of_each (λ n. MeetsAt constants locals s names.Movup (n ∷ [])) 16 n
+    (movup-table constants locals s) (omega arith))
 
 movdn-table : (constants : List ℕ) (locals : ℕ) (s : State) → Each (λ n. MeetsAt constants locals s names.Movdn (n ∷ [])) 16
 unfolding expansion front movdn instr_effect last trap fits left_cells computed trap_of
@@ -133,7 +134,8 @@ movdn-table constants locals s = (
 pub meets-movdn : (constants : List ℕ) (locals : ℕ) (s : State) → MeetsAll constants locals s names.Movdn
 meets-movdn constants locals s numbers form =
     by_one names.Movdn (MeetsAt constants locals s names.Movdn) numbers refl refl form
-    (λ n ok. let within = ok.most in of_each (λ n. MeetsAt constants locals s names.Movdn (n ∷ [])) 16 n (movdn-table constants locals s) (omega arith))
+    (λ n ok. let within = ok.most in of_each (λ n. MeetsAt constants locals s names.Movdn (n ∷ [])) 16 n
+    (movdn-table constants locals s) (omega arith))
 
 swap-table : (constants : List ℕ) (locals : ℕ) (s : State)
     → Each (λ n. 1 ≤ n → MeetsAt constants locals s names.Swap (n ∷ [])) 16

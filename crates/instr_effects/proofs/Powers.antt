@@ -1,6 +1,6 @@
 -- Powers of two, and the shifts and rotations that are products with them.
 use Rattle.std.proofs.Common.{◌≡◌, ℕ, ◌-◌, ◌*◌, ◌/◌, ◌%◌, ◌^◌, ◌<◌, ◌≤◌, Bool, true, false, not, ◌==◌, ◌&&◌, nat_lt, List, [], ◌∷◌, Option, None, is_some, refl, sym, ◌∙◌, ap, inl, inr, lit≤, arith, lt-ltb, le-ltb, ltb-true, eqb-true, ne_eqb}
-use Rattle.std.proofs.lemmas.Bool.{cases_lt}
+use Rattle.std.proofs.lemmas.Bool.{cases_lt, and_parts}
 use Rattle.vm_field.specs.Field.{felt_add, felt_mul}
 use Rattle.vm_field.specs.Machine.{State}
 use Rattle.vm_ops.specs.declared.cause.Cause.{Cause}
@@ -20,7 +20,7 @@ use Rattle.instr_effects.specs.Effects.{no_shift, turned_left, turned_right}
 use Rattle.masm_expand.specs.Expansion.{pow2}
 use Rattle.instr_effects.proofs.Quiets.{given-push}
 use Rattle.instr_effects.proofs.Tables.{Each, of_each}
-use Rattle.instr_effects.proofs.Tests.{both-of, free-of, one-trap}
+use Rattle.instr_effects.proofs.Tests.{free-of, one-trap}
 
 -- what a step makes of the power so far: a factor, less 1, where the operand that is left is odd
 abbrev raised : ℕ → ℕ → ℕ → ℕ
@@ -130,7 +130,7 @@ record Shiftable (b a : ℕ) : Type 0 where
 
 shiftable : (b a : ℕ) → no_shift b a ≡ false → Shiftable b a
 shiftable b a free =
-    let parts = both-of (nat_lt b 32) (is_u32 a) (free-of (nat_lt b 32 && is_u32 a) free) in
+    let parts = and_parts (nat_lt b 32) (is_u32 a) (free-of (nat_lt b 32 && is_u32 a) free) in
     record { amount = ltb-true _ _ parts.0; small = ltb-true _ _ parts.1 }
 
 power-there : (b a : ℕ) → no_shift b a ≡ false → power_of b ≡ 2 ^ b

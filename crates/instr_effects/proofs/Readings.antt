@@ -130,7 +130,8 @@ advises constants c (suc n) w whole =
     room-and : (x y : Bool) → x && true ≡ true → y ≡ true → x && y ≡ true
     room-and x y e f = rw f e
 
-adv_push-some : (constants : List ℕ) (locals : ℕ) (s : State) → (n : ℕ) → IsAllowed names.AdvPush n → MeetsAt constants locals s names.AdvPush (n ∷ [])
+adv_push-some : (constants : List ℕ) (locals : ℕ) (s : State) → (n : ℕ) → IsAllowed names.AdvPush n
+    → MeetsAt constants locals s names.AdvPush (n ∷ [])
 unfolding expansion front instr_effect
 adv_push-some constants locals s n ok =
     let all : Advises constants s.core n (window s) = advises constants s.core n (window s) (lit≤ tt) in

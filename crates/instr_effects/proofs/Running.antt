@@ -113,7 +113,8 @@ shows-next : (constants : List ℕ) (c : Core) (rest : List ℕ) (item : Item) (
 unfolding stack_after
 shows-next constants c rest item w s e deep r shows =
     let sized : IsSeenBy item.op (seen_in constants c item w) = seen-sized constants c item w e r.enough in
-    let left : length (left_cells item.op (seen_in constants c item w)) ≡ leaves_of item.op = length-left_cells item.op (seen_in constants c item w) sized in
+    let left : length (left_cells item.op (seen_in constants c item w)) ≡ leaves_of item.op =
+    length-left_cells item.op (seen_in constants c item w) sized in
     let few : takes_of item.op ≤ 16 = takes_of-below item.op in
     let enough : 16 ≤ length w.cells = r.enough in
     let fewer : takes_of item.op ≤ length w.cells = omega arith in
@@ -130,7 +131,8 @@ shows-next constants c rest item w s e deep r shows =
           (listed (leaves_of item.op) 0 (left_cells item.op (seen_in constants c item w))) s.core.stack w.cells rest (takes_of item.op)
           (listed-all (leaves_of item.op) (left_cells item.op (seen_in constants c item w)) left) fewer shows.stack;
       depth = length-stack_after item.op (seen_in constants c item w) s.core.stack sized
-          ∙ (depth-next (takes_of item.op) (leaves_of item.op) (length w.cells) (length c.stack) (length s.core.stack) deep few enough r.grows shows.depth
+          ∙ (depth-next (takes_of item.op) (leaves_of item.op) (length w.cells) (length c.stack) (length s.core.stack) deep few
+          enough r.grows shows.depth
           ∙ rw (length-append, length-listed, length-drop) refl);
       memory = rw (place, shows.memory, shows.context) refl;
       tape = ap (drop (advice_of item.op)) shows.tape;
@@ -206,5 +208,6 @@ pub last-turn : (constants : List ℕ) (c : Core) (items : List Item) (w : Windo
 unfolding last
 last-turn constants c [] w = omega arith
 last-turn constants c (item ∷ items) w =
-    let later : (last constants c items (next constants c item w)).turn ≡ length items + suc w.turn = last-turn constants c items (next constants c item w) in
+    let later : (last constants c items (next constants c item w)).turn ≡ length items + suc w.turn =
+    last-turn constants c items (next constants c item w) in
     omega arith

@@ -1,6 +1,6 @@
 -- Tests of operands, and the traps that they decide.
 use Rattle.std.proofs.Common.{◌≡◌, ℕ, Bool, true, false, ◌&&◌, ◌||◌, not, Option, None, is_some, refl, sym, ◌∙◌, ap, arith, ◌==◌, nat_lt, nat_le, ltb-true, eq-eqb, ne_eqb, lt-ltb, le-ltb, le-leb, inl, inr, ◌^◌, ◌<◌}
-use Rattle.std.proofs.lemmas.Bool.{cases_eq, cases_lt, lt-leb}
+use Rattle.std.proofs.lemmas.Bool.{cases_eq, cases_lt, lt-leb, and_parts}
 use Rattle.vm_field.specs.Field.{felt_sub}
 use Rattle.vm_ops.specs.declared.cause.Cause.{Cause}
 use Rattle.vm_ops.specs.declared.cause.Cause.TheVariants as causes
@@ -34,10 +34,6 @@ pub none-of : (test other : Bool) → test || other ≡ false → (test ≡ fals
 none-of true other e = cc
 none-of false other e = (refl, e)
 
-pub both-of : (test other : Bool) → test && other ≡ true → (test ≡ true) × (other ≡ true)
-both-of true other e = (refl, e)
-both-of false other e = cc
-
 -- a test, and nothing that traps where it holds
 pub trap-alone : (test : Bool) (cause : Cause) (later : Option Cause) → (test ≡ true → is_some later ≡ false)
     → is_some (or_else (unless test cause) later) ≡ not test
@@ -52,7 +48,7 @@ passes false cause later e = cc
 -- two bits
 pub bit-pairs : (P : ℕ → ℕ → Type 0) → P 0 0 → P 0 1 → P 1 0 → P 1 1 → (b a : ℕ) → is_bit b && is_bit a ≡ true → P b a
 bit-pairs P p00 p01 p10 p11 b a e =
-    let parts = both-of (is_bit b) (is_bit a) e in
+    let parts = and_parts (is_bit b) (is_bit a) e in
     let b_small = ltb-true b 2 parts.0 in
     let a_small = ltb-true a 2 parts.1 in
     elim (cases_lt b 1) [
@@ -97,5 +93,5 @@ pub record Small (b a : ℕ) : Type 0 where
 
 pub small : (b a : ℕ) → not_u32 b a ≡ false → Small b a
 small b a free =
-    let parts = both-of (is_u32 b) (is_u32 a) (free-of (are_u32 b a) free) in
+    let parts = and_parts (is_u32 b) (is_u32 a) (free-of (are_u32 b a) free) in
     record { first = ltb-true _ _ parts.0; second = ltb-true _ _ parts.1 }

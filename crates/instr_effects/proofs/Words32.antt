@@ -78,7 +78,8 @@ unfolding expansion front instr_effect last trap fits left_cells computed trap_o
 u32assert-alone constants locals s =
     acts _ _ _ _ _ _ _ (lit≤ tt) refl (one-trap (is_u32 (top s 0)) causes.NotU32) refl refl refl (λ free. refl)
 
-u32assert-two : (constants : List ℕ) (locals : ℕ) (s : State) → (n : ℕ) → IsAllowed names.U32Assert n → MeetsAt constants locals s names.U32Assert (n ∷ [])
+u32assert-two : (constants : List ℕ) (locals : ℕ) (s : State) → (n : ℕ) → IsAllowed names.U32Assert n
+    → MeetsAt constants locals s names.U32Assert (n ∷ [])
 unfolding expansion front instr_effect last trap fits left_cells computed trap_of
 u32assert-two constants locals s n ok =
     acts _ _ _ _ _ _ _ (lit≤ tt) refl (one-trap (are_u32 (top s 0) (top s 1)) causes.NotU32) refl refl refl (λ free. refl)
@@ -91,7 +92,8 @@ meets-u32assert constants locals s numbers form =
 u32assertw-alone : (constants : List ℕ) (locals : ℕ) (s : State) → MeetsAt constants locals s names.U32Assertw []
 unfolding expansion front instr_effect last trap fits left_cells computed trap_of
 u32assertw-alone constants locals s =
-    acts _ _ _ _ _ _ _ (lit≤ tt) refl (two-traps (are_u32 (top s 0) (top s 1)) (are_u32 (top s 2) (top s 3)) causes.NotU32 causes.NotU32) refl refl refl
+    acts _ _ _ _ _ _ _ (lit≤ tt) refl (two-traps (are_u32 (top s 0) (top s 1)) (are_u32 (top s 2) (top s 3)) causes.NotU32
+    causes.NotU32) refl refl refl
     (λ free. refl)
 
 pub meets-u32assertw : (constants : List ℕ) (locals : ℕ) (s : State) → MeetsAll constants locals s names.U32Assertw
@@ -240,7 +242,8 @@ u32overflowing_add-given constants locals s n ok =
 
 pub meets-u32overflowing_add : (constants : List ℕ) (locals : ℕ) (s : State) → MeetsAll constants locals s names.U32OverflowingAdd
 meets-u32overflowing_add constants locals s numbers form =
-    by_maybe names.U32OverflowingAdd (MeetsAt constants locals s names.U32OverflowingAdd) numbers refl form (u32overflowing_add-alone constants locals s)
+    by_maybe names.U32OverflowingAdd (MeetsAt constants locals s names.U32OverflowingAdd) numbers refl form
+    (u32overflowing_add-alone constants locals s)
     (u32overflowing_add-given constants locals s)
 
 u32overflowing_sub-alone : (constants : List ℕ) (locals : ℕ) (s : State) → MeetsAt constants locals s names.U32OverflowingSub []
@@ -257,7 +260,8 @@ u32overflowing_sub-given constants locals s n ok =
 
 pub meets-u32overflowing_sub : (constants : List ℕ) (locals : ℕ) (s : State) → MeetsAll constants locals s names.U32OverflowingSub
 meets-u32overflowing_sub constants locals s numbers form =
-    by_maybe names.U32OverflowingSub (MeetsAt constants locals s names.U32OverflowingSub) numbers refl form (u32overflowing_sub-alone constants locals s)
+    by_maybe names.U32OverflowingSub (MeetsAt constants locals s names.U32OverflowingSub) numbers refl form
+    (u32overflowing_sub-alone constants locals s)
     (u32overflowing_sub-given constants locals s)
 
 u32overflowing_mul-alone : (constants : List ℕ) (locals : ℕ) (s : State) → MeetsAt constants locals s names.U32OverflowingMul []
@@ -274,7 +278,8 @@ u32overflowing_mul-given constants locals s n ok =
 
 pub meets-u32overflowing_mul : (constants : List ℕ) (locals : ℕ) (s : State) → MeetsAll constants locals s names.U32OverflowingMul
 meets-u32overflowing_mul constants locals s numbers form =
-    by_maybe names.U32OverflowingMul (MeetsAt constants locals s names.U32OverflowingMul) numbers refl form (u32overflowing_mul-alone constants locals s)
+    by_maybe names.U32OverflowingMul (MeetsAt constants locals s names.U32OverflowingMul) numbers refl form
+    (u32overflowing_mul-alone constants locals s)
     (u32overflowing_mul-given constants locals s)
 
 u32overflowing_add3-alone : (constants : List ℕ) (locals : ℕ) (s : State) → MeetsAt constants locals s names.U32OverflowingAdd3 []
@@ -284,7 +289,8 @@ u32overflowing_add3-alone constants locals s =
 
 pub meets-u32overflowing_add3 : (constants : List ℕ) (locals : ℕ) (s : State) → MeetsAll constants locals s names.U32OverflowingAdd3
 meets-u32overflowing_add3 constants locals s numbers form =
-    by_none names.U32OverflowingAdd3 (MeetsAt constants locals s names.U32OverflowingAdd3) numbers refl form (u32overflowing_add3-alone constants locals s)
+    by_none names.U32OverflowingAdd3 (MeetsAt constants locals s names.U32OverflowingAdd3) numbers refl form
+    (u32overflowing_add3-alone constants locals s)
 
 u32wrapping_add3-alone : (constants : List ℕ) (locals : ℕ) (s : State) → MeetsAt constants locals s names.U32WrappingAdd3 []
 unfolding expansion front instr_effect last trap fits left_cells computed trap_of
@@ -302,7 +308,8 @@ u32overflowing_madd-alone constants locals s =
 
 pub meets-u32overflowing_madd : (constants : List ℕ) (locals : ℕ) (s : State) → MeetsAll constants locals s names.U32OverflowingMadd
 meets-u32overflowing_madd constants locals s numbers form =
-    by_none names.U32OverflowingMadd (MeetsAt constants locals s names.U32OverflowingMadd) numbers refl form (u32overflowing_madd-alone constants locals s)
+    by_none names.U32OverflowingMadd (MeetsAt constants locals s names.U32OverflowingMadd) numbers refl form
+    (u32overflowing_madd-alone constants locals s)
 
 u32wrapping_madd-alone : (constants : List ℕ) (locals : ℕ) (s : State) → MeetsAt constants locals s names.U32WrappingMadd []
 unfolding expansion front instr_effect last trap fits left_cells computed trap_of

@@ -47,7 +47,9 @@ fn add_value(
     name: &[u8],
     value: Felt,
 ) -> Result<(), Memory>
-    ensures ok { OnOk result ((text : List ℕ) → value_at values.new text ≡ option_or (value_at values.old text) (if bytes_eq name.now text then Some value else None)) }
+    ensures ok { OnOk result ((text : List ℕ)
+        → value_at values.new text
+        ≡ option_or (value_at values.old text) (if bytes_eq name.now text then Some value else None)) }
     ensures err { OnErr result (IsUnchanged values.old values.new) }
 {
     if values.contains_key(name) {

@@ -75,7 +75,8 @@ pub operations-effect : (constants : List ℕ) (kernel : List (List ℕ)) (limit
 unfolding HasEffect
 operations-effect constants kernel limit locals s count well name numbers form left =
     comes-to (instr_effect constants name numbers locals s).traps (operations constants kernel limit (expansion name numbers locals) s)
-    (run constants (expansion name numbers locals) s) (affected (instr_effect constants name numbers locals s) (length (expansion name numbers locals)) s)
+    (run constants (expansion name numbers locals) s)
+    (affected (instr_effect constants name numbers locals s) (length (expansion name numbers locals)) s)
     (operations-agree constants kernel limit (expansion name numbers locals) s)
     (operations-within constants kernel limit (expansion name numbers locals) s left)
     (instruction-effects constants locals s count well name numbers form)

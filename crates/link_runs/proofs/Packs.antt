@@ -37,7 +37,8 @@ batches-read : (batches : List (List ℕ)) (items : List Item) → read_batches 
 batches-read [] items e = tt
 batches-read (batch ∷ batches) items e = by (λ ys there. batches-read batches ys there) (reading batch) refl (read_batches batches) refl e
   where
-    by : ((ys : List Item) → read_batches batches ≡ Some ys → AllByRecursion HasReading batches) → (first : Option (List Item)) → reading batch ≡ first → (later : Option (List Item)) → read_batches batches ≡ later
+    by : ((ys : List Item) → read_batches batches ≡ Some ys → AllByRecursion HasReading batches) → (first : Option (List Item))
+        → reading batch ≡ first → (later : Option (List Item)) → read_batches batches ≡ later
         → option_and_then (λ xs. option_map (λ ys. xs ++ ys) later) first ≡ Some items → AllByRecursion HasReading (batch ∷ batches)
     by others None is later there none = cc
     by others (Some xs) is None there none = cc
@@ -163,7 +164,8 @@ found-good (q ∷ procs) name p h e = by (λ is. found-good procs name p h.1 is)
 
 module _ (procs : List Procedure) (kernel : List Exported) (good : AllByRecursion IsGood procs)
     (packs : (name : List ℕ) (block : Block) → first_export kernel name ≡ Some block → Packs block) where
-  packs-list : {locals : ℕ} {b : Body} {xs : List (Piece Block)} → IsList procs kernel locals b xs → HasLocals locals b → BodyIsInForm b → AllByRecursion PiecePacks xs
+  packs-list : {locals : ℕ} {b : Body} {xs : List (Piece Block)} → IsList procs kernel locals b xs → HasLocals locals b
+      → BodyIsInForm b → AllByRecursion PiecePacks xs
   packs-list nothing h k = tt
   packs-list {locals} (instr at i {xs} d) h k =
       all-append PiecePacks (map Operation (expansion i.name i.numbers locals)) xs
@@ -249,7 +251,8 @@ kernel-packs : (kernel : Option (List ℕ)) (exports : List Exported) → Kernel
 kernel-packs kernel exports no_kernel name block found = cc
 kernel-packs kernel exports (of_kernel text own links) name block found =
     let good = good-procs true text links.source links.read in
-    exports-pack links.source.procs good (exported_of links.source.procs) own (good-exported links.source.procs good) links.links.exported name block found
+    exports-pack links.source.procs good (exported_of links.source.procs) own (good-exported links.source.procs good)
+    links.links.exported name block found
 
 -- the body between begin and end
 

@@ -56,7 +56,8 @@ sound-opens effect c low h =
     subst (λ b. Sound (c.nesting + 1) (cond b (effect (record c { nesting = c.nesting + 1 })) (Err NestedTooDeep)))
     (sym (lt-ltb c.nesting 1024 low)) (h (record c { nesting = c.nesting + 1 }))
 
-sound-and : (n : ℕ) (r : Result Core Cause) (effect : Cycle) → Sound n r → ((c : Core) → Sound (c.nesting - 1) (effect c)) → Sound (n - 1) (and_then r effect)
+sound-and : (n : ℕ) (r : Result Core Cause) (effect : Cycle) → Sound n r → ((c : Core) → Sound (c.nesting - 1) (effect c))
+    → Sound (n - 1) (and_then r effect)
 sound-and n (Ok c) effect p h = subst (λ m. Sound (m - 1) (effect c)) p (h c)
 sound-and n (Err cause) effect p h = p
 
@@ -179,7 +180,8 @@ back : (n : ℕ) → n + 1 - 1 ≡ n
 back n = omega arith
 
 module _ (constants : List ℕ) (kernel : List (List ℕ)) where
-  sound-effect : (mark : Mark) (advice : List ℕ) (c : Core) → MayBe mark c.nesting → Sound (open_behind mark c.nesting) (effect_of constants kernel mark advice c)
+  sound-effect : (mark : Mark) (advice : List ℕ) (c : Core) → MayBe mark c.nesting
+      → Sound (open_behind mark c.nesting) (effect_of constants kernel mark advice c)
   sound-effect StartOpaque advice c h = absurd h
   sound-effect (StartSpan batch) advice c h = sound-opens (reads batch) c h.0 (λ d. sound-reads batch d h.1)
   sound-effect (StartJoin first second) advice c h = sound-opens (λ d. Ok d) c h (λ d. refl)
@@ -197,13 +199,16 @@ module _ (constants : List ℕ) (kernel : List (List ℕ)) where
   sound-effect (EndSyscall digest frame) advice c h = sound-returns frame c
 
   module _ (limit : ℕ) where
-    sound-cycle : (mark : Mark) (s : State) → MayBe mark s.core.nesting → SoundOut (open_behind mark s.core.nesting) (cycle constants kernel limit mark s)
+    sound-cycle : (mark : Mark) (s : State) → MayBe mark s.core.nesting
+        → SoundOut (open_behind mark s.core.nesting) (cycle constants kernel limit mark s)
     unfolding taking cycle_taking
     sound-cycle mark s h =
-        sound-out (nat_lt s.core.clock limit) (nat_lt (length s.tape) (advice_taken mark)) mark (advice_taken mark) (open_behind mark s.core.nesting) s _
+        sound-out (nat_lt s.core.clock limit) (nat_lt (length s.tape) (advice_taken mark)) mark (advice_taken mark)
+        (open_behind mark s.core.nesting) s _
         (sound-effect mark _ s.core h)
 
-    sound-at : (mark : Mark) (n : ℕ) (s : State) → s.core.nesting ≡ n → MayBe mark n → SoundOut (open_behind mark n) (cycle constants kernel limit mark s)
+    sound-at : (mark : Mark) (n : ℕ) (s : State) → s.core.nesting ≡ n → MayBe mark n
+        → SoundOut (open_behind mark n) (cycle constants kernel limit mark s)
     sound-at mark n s e h =
         subst (λ m. SoundOut (open_behind mark m) (cycle constants kernel limit mark s)) e (sound-cycle mark s (subst (MayBe mark) (sym e) h))
 
@@ -214,7 +219,8 @@ module _ (constants : List ℕ) (kernel : List (List ℕ)) where
     sound-operations : (items : List Item) (n : ℕ) (s : State) → s.core.nesting ≡ n → SoundOut n (operations constants kernel limit items s)
     sound-operations [] n s e = sound-skip n s e
     sound-operations (item ∷ items) n s e =
-        sound-seq n n (cycle constants kernel limit (Do item)) (operations constants kernel limit items) s (sound-at (Do item) n s e tt) (sound-operations items n)
+        sound-seq n n (cycle constants kernel limit (Do item)) (operations constants kernel limit items) s
+        (sound-at (Do item) n s e tt) (sound-operations items n)
 
     sound-read : (o : Option (List Item)) (n : ℕ) (s : State) → s.core.nesting ≡ n → SoundOut n (read_operations constants kernel limit o s)
     sound-read None n s e = sound-skip n s e
@@ -248,7 +254,8 @@ module _ (constants : List ℕ) (kernel : List (List ℕ)) where
         sound-seq (n + 1) n _ (cycle constants kernel limit (EndSpan (tree_digest constants (Span (batch ∷ later))))) s
         (sound-seq (n + 1) (n + 1) (cycle constants kernel limit (StartSpan batch)) _ s
         (sound-at (StartSpan batch) n s e ((let l = low in omega arith), h.1.0))
-        (λ t e'. sound-seq (n + 1) (n + 1) (read_operations constants kernel limit (reading batch)) (batches_from constants kernel limit Respan later) t
+        (λ t e'. sound-seq (n + 1) (n + 1) (read_operations constants kernel limit (reading batch))
+        (batches_from constants kernel limit Respan later) t
         (sound-read (reading batch) (n + 1) t e') (λ u e''. sound-batches later (n + 1) u e'' h.1.1)))
         (λ t e'. sound-end (EndSpan (tree_digest constants (Span (batch ∷ later)))) n t e' (back n) tt)
     sound-run (Join first second) n s e h low =
@@ -271,9 +278,11 @@ module _ (constants : List ℕ) (kernel : List (List ℕ)) where
         sound-seq (n + 1) n (cycle constants kernel limit (StartLoop (tree_digest constants body))) _ s
         (sound-at (StartLoop (tree_digest constants body)) n s e (let l = low in omega arith))
         (λ t e'. sound-bit n (top s.core) (cycle constants kernel limit (End (tree_digest constants (Loop body))))
-        (turns constants kernel limit (tree_digest constants (Loop body)) (tree_digest constants body) (limit - s.core.clock) (execution constants kernel limit body)) t
+        (turns constants kernel limit (tree_digest constants (Loop body)) (tree_digest constants body) (limit - s.core.clock)
+        (execution constants kernel limit body)) t
         (sound-end (End (tree_digest constants (Loop body))) n t e' (back n) tt)
-        (sound-turns (tree_digest constants (Loop body)) (tree_digest constants body) (limit - s.core.clock) n (execution constants kernel limit body) t e'
+        (sound-turns (tree_digest constants (Loop body)) (tree_digest constants body) (limit - s.core.clock) n
+        (execution constants kernel limit body) t e'
         (λ u e''. sound-run body (n + 1) u e'' h (let l = low in omega arith))))
     sound-run (Call callee) n s e h low =
         sound-seq (n + 1) n (cycle constants kernel limit (StartCall (tree_digest constants callee))) _ s

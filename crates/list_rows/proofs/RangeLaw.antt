@@ -49,7 +49,8 @@ four_is d low e =
 
 steps_are : (d : ℕ) → d < prime → all_steps d ≡ 0 → IsStep d
 steps_are d low e =
-    either (peel (felt_mul (felt_mul (felt_mul (four_steps d) (felt_sub d 81)) (felt_sub d 243)) (felt_sub d 729)) d 2187 (rest_low _) low (omega arith) of_2187 e)
+    either (peel (felt_mul (felt_mul (felt_mul (four_steps d) (felt_sub d 81)) (felt_sub d 243)) (felt_sub d 729)) d 2187
+    (rest_low _) low (omega arith) of_2187 e)
     (λ e1. either (peel (felt_mul (felt_mul (four_steps d) (felt_sub d 81)) (felt_sub d 243)) d 729 (rest_low _) low (omega arith) of_729 e1)
     (λ e2. either (peel (felt_mul (four_steps d) (felt_sub d 81)) d 243 (rest_low _) low (omega arith) of_243 e2)
     (λ e3. either (peel (four_steps d) d 81 (rest_low _) low (omega arith) of_81 e3) (four_is d low))))
@@ -91,7 +92,8 @@ module _ (rows : List (List ℕ)) (shape : IsTable 2 rows) (zeros : RangeIsZero 
   goes_up = record {
     first = first_is;
     last = last_is;
-    grows = λ i h. steps_are (felt_sub (value_at rows (suc i)) (value_at rows i)) (rest_low (value_at rows (suc i) + (prime - value_at rows i))) (step_is i h);
+    grows = λ i h. steps_are (felt_sub (value_at rows (suc i)) (value_at rows i))
+        (rest_low (value_at rows (suc i) + (prime - value_at rows i))) (step_is i h);
   }
 
 pub shows : (rows : List (List ℕ)) → IsTable 2 rows → RangeIsZero rows → GoesUp rows

@@ -35,14 +35,23 @@ module _ {A : Type 0} (v : View A) where
       → flat_with v known locals b ≡ seen_pieces (seen_as v) xs
   flat-is P known fits nothing of = refl
   flat-is P known fits (instr at i {xs} d) of = ap₂ (λ ys zs. ys ++ zs) (sym (seen-operations _)) (flat-is P known fits d of) ∙ sym (seen-append _ xs)
-  flat-is P known fits (exec at name {p} {ys} {xs} found d f) of = ap₂ (λ ys zs. ys ++ zs) (fits.list name p ys of.0 found d) (flat-is P known fits f of.1) ∙ sym (seen-append (with_locals p.locals ys) xs)
+  flat-is P known fits (exec at name {p} {ys} {xs} found d f) of =
+      ap₂ (λ ys zs. ys ++ zs) (fits.list name p ys of.0 found d) (flat-is P known fits f of.1)
+      ∙ sym (seen-append (with_locals p.locals ys) xs)
   flat-is P known fits (call at name {p} {ys} found d f) of =
-      ap₂ (λ t zs. Whole (v.call t) ∷ zs) (ap (whole v) (fits.list name p ys of.0 found d) ∙ sym (seen-block (with_locals p.locals ys))) (flat-is P known fits f of.1)
-  flat-is P known fits (syscall at name {callee} found f) of = ap₂ (λ t zs. Whole (v.syscall t) ∷ zs) (fits.exported name callee found) (flat-is P known fits f of)
+      ap₂ (λ t zs. Whole (v.call t) ∷ zs)
+      (ap (whole v) (fits.list name p ys of.0 found d) ∙ sym (seen-block (with_locals p.locals ys)))
+      (flat-is P known fits f of.1)
+  flat-is P known fits (syscall at name {callee} found f) of =
+      ap₂ (λ t zs. Whole (v.syscall t) ∷ zs) (fits.exported name callee found) (flat-is P known fits f of)
   flat-is P known fits (branches at {ys} {zs} a e f) of =
       ap₂ (λ t us. t ∷ us)
-      (ap₂ (λ s t. Whole (v.split s t)) (ap (whole v) (flat-is P known fits a of.0) ∙ sym (seen-block ys)) (ap (whole v) (flat-is P known fits e of.1) ∙ sym (seen-block zs)))
+      (ap₂ (λ s t. Whole (v.split s t)) (ap (whole v) (flat-is P known fits a of.0) ∙ sym (seen-block ys))
+      (ap (whole v) (flat-is P known fits e of.1) ∙ sym (seen-block zs)))
       (flat-is P known fits f of.2)
-  flat-is P known fits (loops at {ys} d f) of = ap₂ (λ t us. Whole (v.loop t) ∷ us) (ap (whole v) (flat-is P known fits d of.0) ∙ sym (seen-block ys)) (flat-is P known fits f of.1)
+  flat-is P known fits (loops at {ys} d f) of =
+      ap₂ (λ t us. Whole (v.loop t) ∷ us) (ap (whole v) (flat-is P known fits d of.0) ∙ sym (seen-block ys))
+      (flat-is P known fits f of.1)
   flat-is P known fits (repeated at n {ys} {xs} d f) of =
-      ap₂ (λ us ws. us ++ ws) (ap (times n) (flat-is P known fits d of.0) ∙ sym (seen-times n ys)) (flat-is P known fits f of.1) ∙ sym (seen-append (times n ys) xs)
+      ap₂ (λ us ws. us ++ ws) (ap (times n) (flat-is P known fits d of.0) ∙ sym (seen-times n ys)) (flat-is P known fits f of.1)
+      ∙ sym (seen-append (times n ys) xs)

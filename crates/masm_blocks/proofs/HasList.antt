@@ -8,7 +8,8 @@ use Rattle.masm_blocks.specs.Lists.{Exported, IsList, nothing, instr, exec, call
 use Rattle.masm_names.proofs.UsesOnly.{UsesOnly, SyscallsOnly}
 
 module _ {procs : List Procedure} {kernel : List Exported} (P Q : List ℕ → Type 0)
-    (own : (name : List ℕ) → P name → (p : Procedure) × (ys : List (Piece Block)) × (first_procedure procs name ≡ Some p) × IsList procs kernel p.locals p.body ys)
+    (own : (name : List ℕ) → P name → (p : Procedure) × (ys : List (Piece Block)) × (first_procedure procs name ≡ Some p)
+    × IsList procs kernel p.locals p.body ys)
     (exported : (name : List ℕ) → Q name → (block : Block) × (first_export kernel name ≡ Some block)) where
   pub has_list : (locals : ℕ) (b : Body) → UsesOnly P b → SyscallsOnly Q b → (xs : List (Piece Block)) × IsList procs kernel locals b xs
   has_list locals Empty u s = ([], nothing)
@@ -19,7 +20,11 @@ module _ {procs : List Procedure} {kernel : List Exported} (P Q : List ℕ → T
       let behind = has_list locals rest u.1 s in (with_locals used.0.locals used.1 ++ behind.0, exec at name used.2 used.3 behind.1)
   has_list locals (Leaf_then at (leaves.Call name) rest) u s =
       let used = own name u.0 in
-      let behind = has_list locals rest u.1 s in (Whole (Call (block_of (with_locals used.0.locals used.1))) ∷ behind.0, call at name used.2 used.3 behind.1)
+      let behind =
+      has_list locals rest u.1 s in (
+        Whole (Call (block_of (with_locals used.0.locals used.1))) ∷ behind.0,
+        call at name used.2 used.3 behind.1,
+      )
   has_list locals (Leaf_then at (leaves.Syscall name) rest) u s =
       let used = exported name s.0 in
       let behind = has_list locals rest u s.1 in (Whole (Syscall used.0) ∷ behind.0, syscall at name used.1 behind.1)

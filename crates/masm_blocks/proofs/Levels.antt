@@ -46,7 +46,8 @@ module _ {A : Type 0} (span : List Item → A) (join : A → A → A) where
   joined-next [] h = absurd (omega arith)
   joined-next (a ∷ []) h = absurd (omega arith)
   joined-next (a ∷ b ∷ blocks) h =
-      enough (length (b ∷ blocks)) (length (paired span join (a ∷ b ∷ blocks))) (paired span join (a ∷ b ∷ blocks)) (omega (arith, length-paired blocks)) (omega arith)
+      enough (length (b ∷ blocks)) (length (paired span join (a ∷ b ∷ blocks))) (paired span join (a ∷ b ∷ blocks))
+      (omega (arith, length-paired blocks)) (omega arith)
 
 pub ruleset spans = (before-some, before-append)
 

@@ -14,11 +14,16 @@ module _ (procs : List Procedure) (kernel : List Exported) where
   list_once {locals} (instr at i d) (instr _ _ e) = ap (λ zs. map Operation (expansion i.name i.numbers locals) ++ zs) (list_once d e)
   list_once (exec at name {p} {ys = us} found d f) (exec _ _ {p = q} {ys = vs} found' e g) =
       let same = same_some found found' in
-      ap₂ (λ us xs. us ++ xs) (ap₂ (λ r us. with_locals r.locals us) same (list_once d (subst (λ r. IsList procs kernel r.locals r.body vs) (sym same) e))) (list_once f g)
+      ap₂ (λ us xs. us ++ xs) (ap₂ (λ r us. with_locals r.locals us) same
+      (list_once d (subst (λ r. IsList procs kernel r.locals r.body vs) (sym same) e))) (list_once f g)
   list_once (call at name {p} {ys = us} found d f) (call _ _ {p = q} {ys = vs} found' e g) =
       let same = same_some found found' in
-      ap₂ (λ us xs. Whole (Call (block_of us)) ∷ xs) (ap₂ (λ r us. with_locals r.locals us) same (list_once d (subst (λ r. IsList procs kernel r.locals r.body vs) (sym same) e))) (list_once f g)
+      ap₂ (λ us xs. Whole (Call (block_of us)) ∷ xs)
+      (ap₂ (λ r us. with_locals r.locals us) same
+      (list_once d (subst (λ r. IsList procs kernel r.locals r.body vs) (sym same) e))) (list_once f g)
   list_once (syscall at name found f) (syscall _ _ found' g) = ap₂ (λ c xs. Whole (Syscall c) ∷ xs) (same_some found found') (list_once f g)
-  list_once (branches at a e f) (branches _ b g h) = ap₂ (λ t xs. t ∷ xs) (ap₂ (λ ys zs. Whole (Split (block_of ys) (block_of zs))) (list_once a b) (list_once e g)) (list_once f h)
+  list_once (branches at a e f) (branches _ b g h) =
+      ap₂ (λ t xs. t ∷ xs) (ap₂ (λ ys zs. Whole (Split (block_of ys) (block_of zs))) (list_once a b) (list_once e g))
+      (list_once f h)
   list_once (loops at d f) (loops _ e g) = ap₂ (λ ys xs. Whole (Loop (block_of ys)) ∷ xs) (list_once d e) (list_once f g)
   list_once (repeated at n d f) (repeated _ _ e g) = ap₂ (λ ys xs. times n ys ++ xs) (list_once d e) (list_once f g)

@@ -8,7 +8,8 @@ use Rattle.std.specs.Option.{option_map, option_copied}
 use Rattle.std.specs.Slice.{IsItemAt}
 use Rattle.masm_names.specs.Uses.{place_in}
 
-behind : {X : Type 0} (x : X) (xs : List X) (o : Option ℕ) → option_and_then (slice_get (x ∷ xs)) (option_map (λ i. i + 1) o) ≡ option_and_then (slice_get xs) o
+behind : {X : Type 0} (x : X) (xs : List X) (o : Option ℕ)
+    → option_and_then (slice_get (x ∷ xs)) (option_map (λ i. i + 1) o) ≡ option_and_then (slice_get xs) o
 behind x xs None = refl
 behind x xs (Some i) = ap (slice_get (x ∷ xs)) (add-one i)
 

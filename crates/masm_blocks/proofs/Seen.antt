@@ -13,10 +13,13 @@ module _ {A B : Type 0} (f : A → B) (span : List Item → A) (join : A → A �
   seen-before [] blocks = refl
   seen-before (item ∷ items) blocks = ap (λ s. s ∷ map f blocks) (spans (item ∷ items))
 
-  seen-behind : (items : List Item) (pieces : List (Piece A)) → map f (blocks_behind span join items pieces) ≡ blocks_behind span' join' items (seen_pieces f pieces)
+  seen-behind : (items : List Item) (pieces : List (Piece A))
+      → map f (blocks_behind span join items pieces) ≡ blocks_behind span' join' items (seen_pieces f pieces)
   seen-behind items [] = seen-before items []
   seen-behind items (Operation item ∷ pieces) = seen-behind (items ++ item ∷ []) pieces
-  seen-behind items (Whole block ∷ pieces) = seen-before items (block ∷ blocks_behind span join [] pieces) ∙ ap (λ bs. span_before span' join' items (f block ∷ bs)) (seen-behind [] pieces)
+  seen-behind items (Whole block ∷ pieces) =
+      seen-before items (block ∷ blocks_behind span join [] pieces)
+      ∙ ap (λ bs. span_before span' join' items (f block ∷ bs)) (seen-behind [] pieces)
 
   seen-paired : (blocks : List A) → map f (paired span join blocks) ≡ paired span' join' (map f blocks)
   seen-paired [] = refl

@@ -29,7 +29,8 @@ module _ {A : Type 0} (v : View A) (known : Known A) (locals : ℕ) where
   padded : (xs ys : List (Piece A)) → xs ++ ys ≡ (xs ++ []) ++ ys
   padded xs ys = ap (λ zs. zs ++ ys) (sym (append-nil xs))
 
-  flat-step : (f : Stmt-F (Body → Body)) (rest : Body) → flat_with v known locals (add_step f rest) ≡ flat_with v known locals (add_step f Empty) ++ flat_with v known locals rest
+  flat-step : (f : Stmt-F (Body → Body)) (rest : Body)
+      → flat_with v known locals (add_step f rest) ≡ flat_with v known locals (add_step f Empty) ++ flat_with v known locals rest
   flat-step (Stmt-F.Instr at instr) rest = padded (map Operation (expansion instr.name instr.numbers locals)) (flat_with v known locals rest)
   flat-step (Stmt-F.If at first second) rest = refl
   flat-step (Stmt-F.While at turn) rest = refl
@@ -38,21 +39,26 @@ module _ {A : Type 0} (v : View A) (known : Known A) (locals : ℕ) where
   flat-step (Stmt-F.Call at name) rest = refl
   flat-step (Stmt-F.Syscall at name) rest = refl
 
-  pub flat-first : (s : Stmt) (rest : Body) → flat_with v known locals (stmt_view s rest) ≡ flat_with v known locals (stmt_view s Empty) ++ flat_with v known locals rest
+  pub flat-first : (s : Stmt) (rest : Body)
+      → flat_with v known locals (stmt_view s rest) ≡ flat_with v known locals (stmt_view s Empty) ++ flat_with v known locals rest
   flat-first s rest =
-      each (λ g. (rest : Body) → flat_with v known locals (g rest) ≡ flat_with v known locals (g Empty) ++ flat_with v known locals rest) flat-step s rest
+      each (λ g. (rest : Body) → flat_with v known locals (g rest)
+      ≡ flat_with v known locals (g Empty) ++ flat_with v known locals rest) flat-step s rest
 
   -- the list of one statement
-  pub flat-Instr : (at : Position) (i : Instruction) → flat_with v known locals (stmt_view (Instr at i) Empty) ≡ map Operation (expansion i.name i.numbers locals)
+  pub flat-Instr : (at : Position) (i : Instruction)
+      → flat_with v known locals (stmt_view (Instr at i) Empty) ≡ map Operation (expansion i.name i.numbers locals)
   flat-Instr at i = ap (flat_with v known locals) (view-Instr at i Empty) ∙ append-nil _
 
   pub flat-Exec : (at : Position) (name : List ℕ) → flat_with v known locals (stmt_view (Exec at name) Empty) ≡ known.list name
   flat-Exec at name = ap (flat_with v known locals) (view-Exec at name Empty) ∙ append-nil _
 
-  pub flat-Call : (at : Position) (name : List ℕ) → flat_with v known locals (stmt_view (Call at name) Empty) ≡ Whole (v.call (whole v (known.list name))) ∷ []
+  pub flat-Call : (at : Position) (name : List ℕ)
+      → flat_with v known locals (stmt_view (Call at name) Empty) ≡ Whole (v.call (whole v (known.list name))) ∷ []
   flat-Call at name = ap (flat_with v known locals) (view-Call at name Empty)
 
-  pub flat-Syscall : (at : Position) (name : List ℕ) → flat_with v known locals (stmt_view (Syscall at name) Empty) ≡ Whole (v.syscall (known.exported name)) ∷ []
+  pub flat-Syscall : (at : Position) (name : List ℕ)
+      → flat_with v known locals (stmt_view (Syscall at name) Empty) ≡ Whole (v.syscall (known.exported name)) ∷ []
   flat-Syscall at name = ap (flat_with v known locals) (view-Syscall at name Empty)
 
   pub flat-If : (at : Position) (xs ys : Vec Stmt Global) → flat_with v known locals (stmt_view (If at xs ys) Empty)
@@ -73,7 +79,8 @@ pub ruleset lists = (flat-Instr, flat-Exec, flat-Call, flat-Syscall, flat-If, fl
 pub go_on : {A : Type 0} (old new xs more rest total : List A) → new ≡ old ++ more → xs ≡ more ++ rest → old ++ xs ≡ total → new ++ rest ≡ total
 go_on old new xs more rest total e f g = ap (λ n. n ++ rest) e ∙ append_assoc old more rest ∙ ap (λ r. old ++ r) (sym f) ∙ g
 
-locals-step : (locals : ℕ) (f : Stmt-F (Body → Body)) (rest : Body) → HasLocals locals (add_step f rest) → HasLocals locals (add_step f Empty) × HasLocals locals rest
+locals-step : (locals : ℕ) (f : Stmt-F (Body → Body)) (rest : Body) → HasLocals locals (add_step f rest)
+    → HasLocals locals (add_step f Empty) × HasLocals locals rest
 locals-step locals (Stmt-F.Instr at instr) rest h = ((h.0, tt), h.1)
 locals-step locals (Stmt-F.If at first second) rest h = ((h.0, h.1, tt), h.2)
 locals-step locals (Stmt-F.While at turn) rest h = ((h.0, tt), h.1)
@@ -82,7 +89,8 @@ locals-step locals (Stmt-F.Exec at name) rest h = ((tt, tt), h.1)
 locals-step locals (Stmt-F.Call at name) rest h = ((tt, tt), h.1)
 locals-step locals (Stmt-F.Syscall at name) rest h = ((tt, tt), h.1)
 
-pub locals-first : (locals : ℕ) (s : Stmt) (rest : Body) → HasLocals locals (stmt_view s rest) → HasLocals locals (stmt_view s Empty) × HasLocals locals rest
+pub locals-first : (locals : ℕ) (s : Stmt) (rest : Body) → HasLocals locals (stmt_view s rest)
+    → HasLocals locals (stmt_view s Empty) × HasLocals locals rest
 locals-first locals s rest =
     each (λ g. (rest : Body) → HasLocals locals (g rest) → HasLocals locals (g Empty) × HasLocals locals rest) (locals-step locals) s rest
 
@@ -94,7 +102,8 @@ module _ (locals : ℕ) (s : Stmt) (named : HasLocals locals (stmt_view s Empty)
   locals-Instr at i e =
       let h : HasLocal i locals × Unit {0} = subst (HasLocals locals) (ap (λ s. stmt_view s Empty) e ∙ view-Instr at i Empty) named in h.0
 
-  pub locals-If : (at : Position) (xs ys : Vec Stmt Global) → s ≡ If at xs ys → HasLocals locals (body_of xs.items) × HasLocals locals (body_of ys.items)
+  pub locals-If : (at : Position) (xs ys : Vec Stmt Global) → s ≡ If at xs ys
+      → HasLocals locals (body_of xs.items) × HasLocals locals (body_of ys.items)
   locals-If at xs ys e =
       let h : HasLocals locals (body_of xs.items) × HasLocals locals (body_of ys.items) × Unit {0} =
       subst (HasLocals locals) (ap (λ s. stmt_view s Empty) e ∙ view-If at xs ys Empty) named in (h.0, h.1)
@@ -130,7 +139,8 @@ pub weight-first : (s : Stmt) (rest : Body) → weight (stmt_view s rest) ≡ we
 weight-first s rest = each (λ g. (rest : Body) → weight (g rest) ≡ weight (g Empty) + weight rest) weight-step s rest
 
 module _ (s : Stmt) where
-  pub weight-If : (at : Position) (xs ys : Vec Stmt Global) → s ≡ If at xs ys → weight (stmt_view s Empty) ≡ 1 + weight (body_of xs.items) + weight (body_of ys.items)
+  pub weight-If : (at : Position) (xs ys : Vec Stmt Global) → s ≡ If at xs ys
+      → weight (stmt_view s Empty) ≡ 1 + weight (body_of xs.items) + weight (body_of ys.items)
   weight-If at xs ys e = omega (arith, ap weight (ap (λ s. stmt_view s Empty) e ∙ view-If at xs ys Empty))
 
   pub weight-While : (at : Position) (xs : Vec Stmt Global) → s ≡ While at xs → weight (stmt_view s Empty) ≡ 1 + weight (body_of xs.items)

@@ -46,10 +46,12 @@ pub data IsList (procs : List Procedure) (kernel : List Exported) : ℕ → Body
   call : (at : Position) (name : List ℕ) {locals : ℕ} {p : Procedure} {b : Body} {ys xs : List (Piece Block)} → first_procedure procs name ≡ Some p
       → IsList procs kernel p.locals p.body ys → IsList procs kernel locals b xs
       → IsList procs kernel locals (Leaf_then at (leaves.Call name) b) (Whole (Call (block_of (with_locals p.locals ys))) ∷ xs)
-  syscall : (at : Position) (name : List ℕ) {locals : ℕ} {callee : Block} {b : Body} {xs : List (Piece Block)} → first_export kernel name ≡ Some callee
+  syscall : (at : Position) (name : List ℕ) {locals : ℕ} {callee : Block} {b : Body} {xs : List (Piece Block)}
+      → first_export kernel name ≡ Some callee
       → IsList procs kernel locals b xs
       → IsList procs kernel locals (Leaf_then at (leaves.Syscall name) b) (Whole (Syscall callee) ∷ xs)
-  branches : (at : Position) {locals : ℕ} {a e b : Body} {ys zs xs : List (Piece Block)} → IsList procs kernel locals a ys → IsList procs kernel locals e zs
+  branches : (at : Position) {locals : ℕ} {a e b : Body} {ys zs xs : List (Piece Block)} → IsList procs kernel locals a ys
+      → IsList procs kernel locals e zs
       → IsList procs kernel locals b xs
       → IsList procs kernel locals (If_then at a e b) (Whole (Split (block_of ys) (block_of zs)) ∷ xs)
   loops : (at : Position) {locals : ℕ} {a b : Body} {ys xs : List (Piece Block)} → IsList procs kernel locals a ys → IsList procs kernel locals b xs

@@ -3,6 +3,7 @@ use Rattle.std.proofs.Common.{◌≡◌, ◌≢◌, ℕ, zero, suc, ◌+◌, ◌
 use Rattle.std.specs.List.{list_all, flat_map, AllByRecursion}
 use Rattle.std.proofs.lemmas.List.Elements.{All-from_recursion}
 use Rattle.std.proofs.Math.Nat.{pow-le-pow_right}
+use Rattle.std.proofs.lemmas.Bool.{and_parts}
 use Rattle.vm_field.specs.Field.{prime}
 use Rattle.vm_ops.specs.declared.op.Op.{Op}
 use Rattle.vm_ops.specs.declared.op.Op.TheVariants as ops
@@ -15,7 +16,6 @@ use Rattle.masm_instr.specs.declared.form.Form.{Form}
 use Rattle.masm_instr.specs.Table.{one_amount, form_of, fixed}
 use Rattle.masm_instr.specs.Instructions.{first, first_or, is_in_range, is_count, is_in_form, names_local}
 use Rattle.masm_expand.specs.Expansion.{plain, lit, dups, movups, movdns, swapws, entry, dup, movup, movdn, swap, movupw, movdnw, exp_digit, exp_digits, pow2, pow2_step, two_to, assert_u32, local, front, expansion}
-use Rattle.masm_instr.proofs.Conjunction.{both_true}
 use Rattle.masm_expand.specs.Packable.{ExpansionsArePackable}
 
 abbrev pub Each : List Item → Type 0
@@ -30,7 +30,7 @@ no_push op e is = let wrong : not (code_of ops.Push == 69) ≡ true = subst (λ 
 
 plain_packs : (op : Op) → is_plain op ≡ true → IsPackableItem (plain_item op)
 plain_packs op e =
-    let two : (is_ordinary_op op ≡ true) × (not (code_of op == 69) ≡ true) = both_true (is_ordinary_op op) (not (code_of op == 69)) e in
+    let two : (is_ordinary_op op ≡ true) × (not (code_of op == 69) ≡ true) = and_parts (is_ordinary_op op) (not (code_of op == 69)) e in
     record { ordinary = record { ordinary = two.0; immediate = no_push op two.1 }; immediate = tt }
 
 push_packs : (v : ℕ) → v < prime → v ≢ 0 → IsPackableItem (push_item v)
@@ -54,13 +54,13 @@ are_plain operations = list_all is_plain operations
 each_plain : (operations : List Op) → are_plain operations ≡ true → Each (plain operations)
 each_plain [] e = tt
 each_plain (op ∷ more) e =
-    let two : (is_plain op ≡ true) × (are_plain more ≡ true) = both_true (is_plain op) (are_plain more) e in
+    let two : (is_plain op ≡ true) × (are_plain more ≡ true) = and_parts (is_plain op) (are_plain more) e in
     (plain_packs op two.0, each_plain more two.1)
 
 plain_append : (xs ys : List Op) → are_plain xs ≡ true → are_plain ys ≡ true → are_plain (xs ++ ys) ≡ true
 plain_append [] ys h k = k
 plain_append (x ∷ xs) ys h k =
-    let two : (is_plain x ≡ true) × (are_plain xs ≡ true) = both_true (is_plain x) (are_plain xs) h in
+    let two : (is_plain x ≡ true) × (are_plain xs ≡ true) = and_parts (is_plain x) (are_plain xs) h in
     ap (λ b. b && are_plain (xs ++ ys)) two.0 ∙ plain_append xs ys two.1 k
 
 plain_if : (test : Bool) (xs ys : List Op) → are_plain xs ≡ true → are_plain ys ≡ true → are_plain (cond test xs ys) ≡ true
@@ -70,8 +70,8 @@ plain_if false xs ys h k = k
 -- an entry of a table, and the operations round it
 plain_entry : (table : List Op) (n : ℕ) → are_plain table ≡ true → is_plain (entry table n) ≡ true
 plain_entry [] n e = refl
-plain_entry (op ∷ table) zero e = (both_true (is_plain op) (are_plain table) e).0
-plain_entry (op ∷ table) (suc n) e = plain_entry table n (both_true (is_plain op) (are_plain table) e).1
+plain_entry (op ∷ table) zero e = (and_parts (is_plain op) (are_plain table) e).0
+plain_entry (op ∷ table) (suc n) e = plain_entry table n (and_parts (is_plain op) (are_plain table) e).1
 
 around : (xs ys : List Op) (op : Op) → are_plain xs ≡ true → is_plain op ≡ true → are_plain ys ≡ true → are_plain (xs ++ op ∷ ys) ≡ true
 around xs ys op h o k = plain_append xs (op ∷ ys) h (ap (λ b. b && are_plain ys) o ∙ k)
@@ -79,24 +79,29 @@ around xs ys op h o k = plain_append xs (op ∷ ys) h (ap (λ b. b && are_plain 
 plain_dup : (n : ℕ) → are_plain (dup n) ≡ true
 unfolding dup
 plain_dup n =
-    plain_if (nat_lt n 8 || n % 2 == 1) (entry dups n ∷ []) (ops.Pad ∷ entry dups (n + 1) ∷ ops.Add ∷ []) (around [] [] (entry dups n) refl (plain_entry dups n refl) refl)
+    plain_if (nat_lt n 8 || n % 2 == 1) (entry dups n ∷ []) (ops.Pad ∷ entry dups (n + 1) ∷ ops.Add ∷ [])
+    (around [] [] (entry dups n) refl (plain_entry dups n refl) refl)
     (around (ops.Pad ∷ []) (ops.Add ∷ []) (entry dups (n + 1)) refl (plain_entry dups (n + 1) refl) refl)
 
 plain_movup : (n : ℕ) → are_plain (movup n) ≡ true
 unfolding movup
 plain_movup n =
-    plain_if (nat_le n 8) (entry movups n ∷ []) (ops.SwapDW ∷ entry movups (n - 8) ∷ ops.SwapDW ∷ ops.MovUp8 ∷ []) (around [] [] (entry movups n) refl (plain_entry movups n refl) refl)
+    plain_if (nat_le n 8) (entry movups n ∷ []) (ops.SwapDW ∷ entry movups (n - 8) ∷ ops.SwapDW ∷ ops.MovUp8 ∷ [])
+    (around [] [] (entry movups n) refl (plain_entry movups n refl) refl)
     (around (ops.SwapDW ∷ []) (ops.SwapDW ∷ ops.MovUp8 ∷ []) (entry movups (n - 8)) refl (plain_entry movups (n - 8) refl) refl)
 
 plain_movdn : (n : ℕ) → are_plain (movdn n) ≡ true
 unfolding movdn
 plain_movdn n =
-    plain_if (nat_le n 8) (entry movdns n ∷ []) (ops.MovDn8 ∷ ops.SwapDW ∷ entry movdns (n - 8) ∷ ops.SwapDW ∷ []) (around [] [] (entry movdns n) refl (plain_entry movdns n refl) refl)
+    plain_if (nat_le n 8) (entry movdns n ∷ []) (ops.MovDn8 ∷ ops.SwapDW ∷ entry movdns (n - 8) ∷ ops.SwapDW ∷ [])
+    (around [] [] (entry movdns n) refl (plain_entry movdns n refl) refl)
     (around (ops.MovDn8 ∷ ops.SwapDW ∷ []) (ops.SwapDW ∷ []) (entry movdns (n - 8)) refl (plain_entry movdns (n - 8) refl) refl)
 
 plain_swap : (n : ℕ) → are_plain (swap n) ≡ true
 unfolding swap
-plain_swap n = plain_if (n == 1) (ops.Swap ∷ []) (movdn n ++ movup (n - 1)) refl (plain_append (movdn n) (movup (n - 1)) (plain_movdn n) (plain_movup (n - 1)))
+plain_swap n =
+    plain_if (n == 1) (ops.Swap ∷ []) (movdn n ++ movup (n - 1)) refl
+    (plain_append (movdn n) (movup (n - 1)) (plain_movdn n) (plain_movup (n - 1)))
 
 plain_movupw : (n : ℕ) → are_plain (movupw n) ≡ true
 unfolding movupw
@@ -143,8 +148,9 @@ each_step less small some = (
 each_steps : (factors : List ℕ) → list_all (λ n. nat_lt 0 n && nat_lt n prime) factors ≡ true → Each (flat_map pow2_step factors)
 each_steps [] e = tt
 each_steps (n ∷ factors) e =
-    let two : ((nat_lt 0 n && nat_lt n prime) ≡ true) × (list_all (λ n. nat_lt 0 n && nat_lt n prime) factors ≡ true) = both_true (nat_lt 0 n && nat_lt n prime) _ e in
-    let bounds : (nat_lt 0 n ≡ true) × (nat_lt n prime ≡ true) = both_true (nat_lt 0 n) (nat_lt n prime) two.0 in
+    let two : ((nat_lt 0 n && nat_lt n prime) ≡ true) × (list_all (λ n. nat_lt 0 n && nat_lt n prime) factors ≡ true) =
+    and_parts (nat_lt 0 n && nat_lt n prime) _ e in
+    let bounds : (nat_lt 0 n ≡ true) × (nat_lt n prime ≡ true) = and_parts (nat_lt 0 n) (nat_lt n prime) two.0 in
     let some : 0 < n = ltb-true 0 n bounds.0 in
     each_append (pow2_step n) (flat_map pow2_step factors) (each_step n (ltb-true n prime bounds.1) (λ is. omega arith)) (each_steps factors two.1)
 
@@ -168,16 +174,16 @@ record InForm (f : Form) (numbers : List ℕ) : Type 0 where
 in_form : (name : Name) (numbers : List ℕ) → is_in_form name numbers ≡ true → InForm (form_of name) numbers
 in_form name numbers e =
     let two : (is_count (form_of name) (length numbers) ≡ true) × (list_all (is_in_range (form_of name)) numbers ≡ true) =
-    both_true (is_count (form_of name) (length numbers)) _ e in
+    and_parts (is_count (form_of name) (length numbers)) _ e in
     let counts : (nat_le (form_of name).least (length numbers) ≡ true) × (nat_le (length numbers) (form_of name).most ≡ true) =
-    both_true (nat_le (form_of name).least (length numbers)) _ two.0 in
+    and_parts (nat_le (form_of name).least (length numbers)) _ two.0 in
     record { least = leb-true _ _ counts.0; most = leb-true _ _ counts.1; ranged = two.1 }
 
 range : (f : Form) (n : ℕ) (numbers : List ℕ) → list_all (is_in_range f) (n ∷ numbers) ≡ true
     → (f.low ≤ n) × (n ≤ f.high) × (list_all (is_in_range f) numbers ≡ true)
 range f n numbers e =
-    let two : (is_in_range f n ≡ true) × (list_all (is_in_range f) numbers ≡ true) = both_true (is_in_range f n) _ e in
-    let bounds : (nat_le f.low n ≡ true) × (nat_le n f.high ≡ true) = both_true (nat_le f.low n) (nat_le n f.high) two.0 in
+    let two : (is_in_range f n ≡ true) × (list_all (is_in_range f) numbers ≡ true) = and_parts (is_in_range f n) _ e in
+    let bounds : (nat_le f.low n ≡ true) × (nat_le n f.high ≡ true) = and_parts (nat_le f.low n) (nat_le n f.high) two.0 in
     (leb-true _ _ bounds.0, leb-true _ _ bounds.1, two.1)
 
 first_high : (f : Form) (numbers : List ℕ) → list_all (is_in_range f) numbers ≡ true → first numbers ≤ f.high
@@ -203,7 +209,8 @@ unfolding front
 front_packs names.Exp numbers locals f l = (lit_packs 1 (lit< tt), each_plain (exp_digits 64 (first numbers)) (plain_digits 64 (first numbers)))
 front_packs names.Pow2 numbers locals f l = each_pow2
 front_packs names.IsOdd numbers locals f l =
-    each_append (plain (ops.U32Split ∷ ops.Drop ∷ [])) (push_item 2 ∷ []) (each_plain (ops.U32Split ∷ ops.Drop ∷ []) refl) (push_packs 2 (lit< tt) (λ e. omega arith), tt)
+    each_append (plain (ops.U32Split ∷ ops.Drop ∷ [])) (push_item 2 ∷ []) (each_plain (ops.U32Split ∷ ops.Drop ∷ []) refl)
+    (push_packs 2 (lit< tt) (λ e. omega arith), tt)
 front_packs names.U32Assert numbers locals f l = each_plain (assert_u32 numbers) (plain_asserts numbers)
 front_packs names.U32CheckedNot numbers locals f l = (push_packs 4294967295 (lit< tt) (λ e. omega arith), tt)
 front_packs names.U32CheckedShl numbers locals f l = two_to_packs numbers (first_high one_amount numbers f.ranged)
@@ -218,7 +225,8 @@ front_packs names.Movup numbers locals f l = each_plain (movup (first numbers)) 
 front_packs names.Movdn numbers locals f l = each_plain (movdn (first numbers)) (plain_movdn (first numbers))
 front_packs names.Swap numbers locals f l = each_plain (swap (first_or 1 numbers)) (plain_swap (first_or 1 numbers))
 front_packs names.Swapw numbers locals f l =
-    each_plain (entry swapws (first_or 1 numbers) ∷ []) (around [] [] (entry swapws (first_or 1 numbers)) refl (plain_entry swapws (first_or 1 numbers) refl) refl)
+    each_plain (entry swapws (first_or 1 numbers) ∷ [])
+    (around [] [] (entry swapws (first_or 1 numbers)) refl (plain_entry swapws (first_or 1 numbers) refl) refl)
 front_packs names.Movupw numbers locals f l = each_plain (movupw (first numbers)) (plain_movupw (first numbers))
 front_packs names.Movdnw numbers locals f l = each_plain (movdnw (first numbers)) (plain_movdnw (first numbers))
 front_packs names.AdvPush numbers locals f l = each_plain (replicate (first numbers) ops.AdvPop) (plain_times (first numbers) ops.AdvPop refl)
@@ -311,17 +319,23 @@ some_expansion : (name : Name) (numbers : List ℕ) (locals : ℕ) → InForm (f
 unfolding front pow2
 some_expansion names.Pow2 numbers locals f = some_front names.Pow2 numbers locals (λ e. cc)
 some_expansion names.U32Assert numbers locals f = some_front names.U32Assert numbers locals (some_plain (assert_u32 numbers) (some_asserts numbers))
-some_expansion names.Dup numbers locals f = some_front names.Dup numbers locals (some_plain (dup (first_or 0 numbers)) (some_dup (first_or 0 numbers)))
+some_expansion names.Dup numbers locals f =
+    some_front names.Dup numbers locals (some_plain (dup (first_or 0 numbers)) (some_dup (first_or 0 numbers)))
 some_expansion names.Dupw numbers locals f = some_front names.Dupw numbers locals (λ e. cc)
 some_expansion names.Movup numbers locals f = some_front names.Movup numbers locals (some_plain (movup (first numbers)) (some_movup (first numbers)))
 some_expansion names.Movdn numbers locals f = some_front names.Movdn numbers locals (some_plain (movdn (first numbers)) (some_movdn (first numbers)))
-some_expansion names.Swap numbers locals f = some_front names.Swap numbers locals (some_plain (swap (first_or 1 numbers)) (some_swap (first_or 1 numbers)))
+some_expansion names.Swap numbers locals f =
+    some_front names.Swap numbers locals (some_plain (swap (first_or 1 numbers)) (some_swap (first_or 1 numbers)))
 some_expansion names.Swapw numbers locals f = some_front names.Swapw numbers locals (λ e. cc)
-some_expansion names.Movupw numbers locals f = some_front names.Movupw numbers locals (some_plain (movupw (first numbers)) (some_movupw (first numbers)))
-some_expansion names.Movdnw numbers locals f = some_front names.Movdnw numbers locals (some_plain (movdnw (first numbers)) (some_movdnw (first numbers)))
+some_expansion names.Movupw numbers locals f =
+    some_front names.Movupw numbers locals (some_plain (movupw (first numbers)) (some_movupw (first numbers)))
+some_expansion names.Movdnw numbers locals f =
+    some_front names.Movdnw numbers locals (some_plain (movdnw (first numbers)) (some_movdnw (first numbers)))
 some_expansion names.Push numbers locals f = some_front names.Push numbers locals (some_lits numbers f.least)
 some_expansion names.AdvPush numbers locals f =
-    some_front names.AdvPush numbers locals (some_plain (replicate (first numbers) ops.AdvPop) (some_times (first numbers) ops.AdvPop (first_low (form_of names.AdvPush) numbers f.least f.ranged)))
+    some_front names.AdvPush numbers locals
+    (some_plain (replicate (first numbers) ops.AdvPop)
+    (some_times (first numbers) ops.AdvPop (first_low (form_of names.AdvPush) numbers f.least f.ranged)))
 some_expansion name numbers locals f = some_fixed name numbers locals (λ e. cc)
 
 each_expansion : (name : Name) (numbers : List ℕ) (locals : ℕ) → InForm (form_of name) numbers

@@ -32,7 +32,8 @@ pub fn add_instr(
     out: &mut Vec<Piece>,
 ) -> Result<(), Memory>
     requires { HasLocal instr.now locals }
-    ensures { OnOk result (pieces_of out.new.items ≡ pieces_of out.old.items ++ map lists.Operation (expansion instr.now.name instr.now.numbers locals)) }
+    ensures { OnOk result (pieces_of out.new.items
+        ≡ pieces_of out.old.items ++ map lists.Operation (expansion instr.now.name instr.now.numbers locals)) }
 {
     let items = expand(alloc, instr, locals)?;
     add_items(items.as_slice(), out)

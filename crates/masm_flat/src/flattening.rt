@@ -79,7 +79,8 @@ fn add_statement(
     out: &mut Vec<Piece>,
 ) -> Result<(), Memory>
     requires { HasLocals locals (stmt_view stmt.now Empty) }
-    ensures { OnOk result (pieces_of out.new.items ≡ pieces_of out.old.items ++ flat_with as_tree (known_of lists.now) locals (stmt_view stmt.now Empty)) }
+    ensures { OnOk result (pieces_of out.new.items
+        ≡ pieces_of out.old.items ++ flat_with as_tree (known_of lists.now) locals (stmt_view stmt.now Empty)) }
 {
     match stmt {
         Stmt::Instr(_, instr) => add_instr(alloc, instr, locals, out),

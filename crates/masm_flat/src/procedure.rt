@@ -24,7 +24,8 @@ use vm_ops::{Item, Op};
 // The frame pointer moves up by this.
 fn add_move(by: Felt, out: &mut Vec<Piece>) -> Result<(), Memory>
     requires { 0 < by }
-    ensures { OnOk result (pieces_of out.new.items ≡ pieces_of out.old.items ++ lists.Operation (lit by) ∷ lists.Operation (plain_item FmpUpdate) ∷ []) }
+    ensures { OnOk result (pieces_of out.new.items
+        ≡ pieces_of out.old.items ++ lists.Operation (lit by) ∷ lists.Operation (plain_item FmpUpdate) ∷ []) }
 {
     add_items(&[Item::push(by), Item::plain(Op::FmpUpdate)], out)
 }
@@ -34,7 +35,9 @@ fn add_move(by: Felt, out: &mut Vec<Piece>) -> Result<(), Memory>
 #[tactic(auto, using(crate::proofs::Frames::frames))]
 pub fn list_of_procedure(alloc: Global, lists: &Lists, proc: &Proc) -> Result<Vec<Piece>, Memory>
     requires { HasLocals proc.now.locals (body_of proc.now.body.items) }
-    ensures { IfOk result (λ list. pieces_of list.items ≡ with_locals proc.now.locals (flat_with as_tree (known_of lists.now) proc.now.locals (body_of proc.now.body.items))) }
+    ensures { IfOk result (λ list. pieces_of list.items
+        ≡ with_locals proc.now.locals
+        (flat_with as_tree (known_of lists.now) proc.now.locals (body_of proc.now.body.items))) }
 {
     let mut list = Vec::new(alloc);
     if proc.locals == 0 {

@@ -32,7 +32,8 @@ pub places_own : (row : List Link) (b : ℕ) → Contains (own_places row) b →
 places_own [] b h = absurd (omega (arith, h.1))
 places_own (link ∷ row) b h = by (λ later. own_later link row b (places_own row b later)) link.target refl h
   where
-    by : (Contains (own_places row) b → HasOwn (link ∷ row) b) → (t : Target) → link.target ≡ t → Contains (cons_option (own_place t) (own_places row)) b → HasOwn (link ∷ row) b
+    by : (Contains (own_places row) b → HasOwn (link ∷ row) b) → (t : Target) → link.target ≡ t
+        → Contains (cons_option (own_place t) (own_places row)) b → HasOwn (link ∷ row) b
     by tail (targets.Own place) is k = elim (cons_cases place (own_places row) b k) [
       | inl same ↦ own_here link row b (is ∙ ap targets.Own same)
       | inr later ↦ tail later

@@ -1,7 +1,7 @@
 -- Numbers of a graph's places: where no edge leads to a lesser number, none leads back from a greater one.
-use Rattle.std.proofs.Common.{◌≡◌, ℕ, ◌+◌, ◌<◌, ◌≤◌, Bool, true, false, ◌&&◌, List, [], ◌∷◌, ◌++◌, length, map, get_or, inl, inr, refl, sym, ap, subst, ◌∙◌, arith}
+use Rattle.std.proofs.Common.{◌≡◌, ℕ, ◌+◌, ◌<◌, ◌≤◌, Bool, true, false, List, [], ◌∷◌, ◌++◌, length, map, get_or, inl, inr, sym, ap, subst, ◌∙◌, arith}
 use Rattle.std.specs.Prelude.{nat_lt, nat_le}
-use Rattle.std.proofs.lemmas.Bool.{false≢true, cases_lt}
+use Rattle.std.proofs.lemmas.Bool.{false≢true, cases_lt, and_parts}
 use Rattle.std.proofs.lemmas.Bool.Decides.{nat_tests, eqb_tells}
 use Rattle.std.proofs.lemmas.List.{get_or_past, get_or_append_left, length_push}
 use Rattle.std.proofs.Math.Seq.{get_or-append_seam}
@@ -14,15 +14,10 @@ use Rattle.graphs.proofs.SortLemmas.{contains_none}
 use Rattle.masm_names.proofs.DoubleLemmas.{cons_cases}
 use Rattle.masm_graph.proofs.OwnLemmas.{goes_edge}
 
-both_true : (a b : Bool) → (a && b) ≡ true → (a ≡ true) × (b ≡ true)
-both_true true true h = (refl, refl)
-both_true true false h = cc
-both_true false b h = cc
-
 all_at : (p : ℕ → Bool) (xs : List ℕ) (x : ℕ) → list_all p xs ≡ true → Contains xs x → p x ≡ true
 all_at p [] x h has = absurd (contains_none x has)
 all_at p (y ∷ ys) x h has =
-    let parts = both_true (p y) (list_all p ys) h in
+    let parts = and_parts (p y) (list_all p ys) h in
     elim (cons_cases y ys x has) [ inl same ↦ ap p (sym same) ∙ parts.0 | inr later ↦ all_at p ys x parts.1 later ]
 
 -- the numbers of a row
@@ -63,13 +58,17 @@ Ascend graph numbers marks = (a b : ℕ) → get_or marks a false ≡ true → E
 pub ascend-none : (graph : List (List ℕ)) (numbers : List ℕ) → Ascend graph numbers []
 ascend-none graph numbers a b marked edge = absurd (false≢true marked)
 
-pub ascend-more : (graph : List (List ℕ)) (numbers row : List ℕ) (marks : List Bool) (i : ℕ) (mark : Bool) → length marks ≡ i → row ≡ get_or graph i []
-    → Ascend graph numbers marks → mark ≡ list_all (λ place. nat_lt (get_or numbers i 0) (get_or numbers place 0)) row → Ascend graph numbers (marks ++ mark ∷ [])
+pub ascend-more : (graph : List (List ℕ)) (numbers row : List ℕ) (marks : List Bool) (i : ℕ) (mark : Bool) → length marks ≡ i
+    → row ≡ get_or graph i []
+    → Ascend graph numbers marks → mark ≡ list_all (λ place. nat_lt (get_or numbers i 0) (get_or numbers place 0)) row
+    → Ascend graph numbers (marks ++ mark ∷ [])
 ascend-more graph numbers row marks i mark count is before here a b marked edge = elim (cases_lt a i) [
   | inl low ↦ before a b (sym (get_or_append_left marks (mark ∷ []) false a (omega arith)) ∙ marked) edge
   | inr high ↦ elim (eqb_tells a i) [
     | inl same ↦
-        let is_marked = sym here ∙ (sym (get_or-append_seam marks mark [] false) ∙ (ap (λ k. get_or (marks ++ mark ∷ []) k false) (count ∙ sym same.1) ∙ marked)) in
+        let is_marked =
+        sym here ∙ (sym (get_or-append_seam marks mark [] false)
+        ∙ (ap (λ k. get_or (marks ++ mark ∷ []) k false) (count ∙ sym same.1) ∙ marked)) in
         subst (λ p. get_or numbers p 0 < get_or numbers b 0) (sym same.1)
         (greater numbers row (get_or numbers i 0) b is_marked (subst (λ xs. Contains xs b) (sym is) (subst (λ p. Edge graph p b) same.1 edge)))
     | inr apart ↦
@@ -83,7 +82,8 @@ module _ (rows : List (List Link)) (users : List (List ℕ)) (are : AreUsers row
   abbrev graph : List (List ℕ)
   graph = map own_places rows
 
-  leads_down : ((a b : ℕ) → Edge graph a b → get_or numbers a 0 ≤ get_or numbers b 0) → (a b : ℕ) → Leads users a b → get_or numbers b 0 ≤ get_or numbers a 0
+  leads_down : ((a b : ℕ) → Edge graph a b → get_or numbers a 0 ≤ get_or numbers b 0) → (a b : ℕ) → Leads users a b
+      → get_or numbers b 0 ≤ get_or numbers a 0
   leads_down ascends a b itself = omega arith
   leads_down ascends a b (through {b = c} edge more) =
       let first = ascends c a (goes_edge rows c a ((are.edges a c).0 edge)) in

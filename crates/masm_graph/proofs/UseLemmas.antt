@@ -71,7 +71,8 @@ module _ {X : Type 0} (f : Use → X) where
       → third ≡ first ++ map f (uses_of (body_of (take (i + 1) body)))
   added-more body i stmt first second third within is d e =
       joined first second third _ _ d e
-      ∙ ap (λ us. first ++ map f us) (sym (uses-more body i stmt within ∙ ap (λ s. uses_of (body_of (take i body)) ++ uses_of (stmt_view s Empty)) (sym is)))
+      ∙ ap (λ us. first ++ map f us) (sym (uses-more body i stmt within
+      ∙ ap (λ s. uses_of (body_of (take i body)) ++ uses_of (stmt_view s Empty)) (sym is)))
 
   pub added-Instr : (at : Position) (instr : Instruction) (out : List X) → out ≡ out ++ map f (uses_of (stmt_view (Instr at instr) Empty))
   added-Instr at instr out = rw (uses-Instr at instr) (sym (append-nil out))

@@ -35,7 +35,8 @@ same_place : (p q : ℕ) → targets.Own p ≡ targets.Own q → p ≡ q
 same_place p q e = cc
 
 -- a use in a row
-pub row_has : (row : List Link) (i : ℕ) (link : Link) (place : ℕ) → i < length row → link ≡ get_or row i link → link.target ≡ targets.Own place → HasOwn row place
+pub row_has : (row : List Link) (i : ℕ) (link : Link) (place : ℕ) → i < length row → link ≡ get_or row i link
+    → link.target ≡ targets.Own place → HasOwn row place
 row_has row i link place within is leads = (i, link, within, sym is, leads)
 
 -- what a use is read as behind the end of a row
@@ -46,7 +47,8 @@ pub row_itself : {X : Type 0} (rows : List (List X)) (i : ℕ) (row : List X) �
 row_itself rows i row within is = is ∙ get_or_default rows i [] row within
 
 -- what is read at a place of a list of vectors
-pub row_read : {X : Type 0} (vecs : List (Vec X Global)) (i : ℕ) (vec : Vec X Global) → i < length vecs → vec ≡ get_or vecs i vec → vec.items ≡ get_or (rows_of vecs) i []
+pub row_read : {X : Type 0} (vecs : List (Vec X Global)) (i : ℕ) (vec : Vec X Global) → i < length vecs → vec ≡ get_or vecs i vec
+    → vec.items ≡ get_or (rows_of vecs) i []
 row_read {X} vecs i vec within is = ap (λ x. x.items) is ∙ sym (get_or-map (λ (x : Vec X Global). x.items) vecs i vec [] within)
 
 -- a user is added to the row of a place
@@ -74,7 +76,8 @@ user-added users place user w v t within is new leads = λ p other. (to p other,
     to p other edge =
         elim (eqb_tells p place) [
           | inl same ↦
-              elim (Contains-push_cases (get_or (rows_of users) place []) user other (subst (λ r. Contains r other) (ap (λ q. get_or (rows_of (set users place v)) q []) same.1 ∙ row_here) edge)) [
+              elim (Contains-push_cases (get_or (rows_of users) place []) user other
+              (subst (λ r. Contains r other) (ap (λ q. get_or (rows_of (set users place v)) q []) same.1 ∙ row_here) edge)) [
                 | inl before ↦ inl (subst (λ q. Edge (rows_of users) q other) (sym same.1) before)
                 | inr here ↦ inr (sym here, leads ∙ ap targets.Own (sym same.1))
               ]
@@ -85,13 +88,17 @@ user-added users place user w v t within is new leads = λ p other. (to p other,
     from p other (inl before) =
         elim (eqb_tells p place) [
           | inl same ↦ subst (λ q. Edge (rows_of (set users place v)) q other) (sym same.1)
-              (subst (λ r. Contains r other) (sym row_here) (Contains-append_left (get_or (rows_of users) place []) (user ∷ []) other (subst (λ q. Edge (rows_of users) q other) same.1 before)))
+              (subst (λ r. Contains r other) (sym row_here)
+              (Contains-append_left (get_or (rows_of users) place []) (user ∷ []) other
+              (subst (λ q. Edge (rows_of users) q other) same.1 before)))
           | inr apart ↦ subst (λ r. Contains r other) (sym (row_other p apart.1)) before
         ]
     from p other (inr here) =
         let same : p ≡ place = same_place p place (sym here.1 ∙ leads) in
         subst (λ q. Edge (rows_of (set users place v)) q other) (sym same)
-        (subst (λ r. Contains r other) (sym row_here) (subst (Contains (get_or (rows_of users) place [] ++ user ∷ [])) (sym here.0) (Contains-push (get_or (rows_of users) place []) user)))
+        (subst (λ r. Contains r other) (sym row_here)
+        (subst (Contains (get_or (rows_of users) place [] ++ user ∷ [])) (sym here.0)
+        (Contains-push (get_or (rows_of users) place []) user)))
 
 -- the edges after one more use of a row
 pub uses-more : (old mid new : List (List ℕ)) (user : ℕ) (row : List Link) (i : ℕ) (link : Link) → i < length row → link ≡ get_or row i link
@@ -101,7 +108,9 @@ pub uses-more : (old mid new : List (List ℕ)) (user : ℕ) (row : List Link) (
 uses-more old mid new user row i link within is first second p other =
     let P : Link → Type 0 = λ l. l.target ≡ targets.Own p in (
       λ edge. elim ((second p other).0 edge) [
-        | inl in_mid ↦ elim ((first p other).0 in_mid) [ inl in_old ↦ inl in_old | inr added ↦ inr (added.0, Any-before P row i link within is added.1) ]
+        | inl in_mid ↦
+            elim ((first p other).0 in_mid)
+            [ inl in_old ↦ inl in_old | inr added ↦ inr (added.0, Any-before P row i link within is added.1) ]
         | inr here ↦ inr (here.0, Any-here P row i link within is here.1)
       ],
       λ h. elim h [
@@ -113,7 +122,8 @@ uses-more old mid new user row i link within is first second p other =
       ],
     )
 
-pub uses-none : (old : List (List ℕ)) (user : ℕ) (row : List Link) (p other : ℕ) → Edge old p other ↔ (Edge old p other ⊎ ((other ≡ user) × HasOwn (take 0 row) p))
+pub uses-none : (old : List (List ℕ)) (user : ℕ) (row : List Link) (p other : ℕ) → Edge old p other
+    ↔ (Edge old p other ⊎ ((other ≡ user) × HasOwn (take 0 row) p))
 uses-none old user row p other = (λ h. inl h, λ h. elim h [ inl in_old ↦ in_old | inr added ↦ absurd (let none = added.1.2 in omega arith) ])
 
 -- the edges after one more row
@@ -154,7 +164,10 @@ pub AreUsers-end : (rows : List (List Link)) (users : List (List ℕ)) (n : ℕ)
 AreUsers-end rows users n count ended edges =
     record {
       count = count;
-      edges = λ p other. (λ edge. ((edges p other).0 edge).1, λ goes. (edges p other).1 ((let l = user_within rows other p goes in omega arith), goes));
+      edges = λ p other. (
+        λ edge. ((edges p other).0 edge).1,
+        λ goes. (edges p other).1 ((let l = user_within rows other p goes in omega arith), goes),
+      );
     }
 
 pub AreUsers-graph : (rows : List (List Link)) (users : List (List ℕ)) → AreUsers rows users → (a b : ℕ) → Edge users a b → b < length users

@@ -64,7 +64,9 @@ fn add_statement(
     kernel: &Names,
     stmt: &Stmt,
 ) -> Result<(), Memory>
-    ensures { OnOk result (out.new.items ≡ out.old.items ++ map (link_of (place_at names.now) (place_at kernel.now)) (uses_of (stmt_view stmt.now Empty))) }
+    ensures { OnOk result (out.new.items
+        ≡ out.old.items ++ map (link_of (place_at names.now) (place_at kernel.now))
+        (uses_of (stmt_view stmt.now Empty))) }
 {
     match stmt {
         Stmt::Instr(_, _) => Ok(()),

@@ -19,7 +19,8 @@ fn empty_rows(alloc: Global, count: usize) -> Result<Vec<Vec<usize>>, AllocError
 // Adds a user to those of the procedure to which a use leads.
 fn add_user(users: &mut Vec<Vec<usize>>, user: usize, link: Link) -> Result<(), AllocError>
     requires within { (place : ℕ) → link.target ≡ Target.Own place → place < length users.old.items }
-    ensures edges { OnOk result ((place other : ℕ) → Edge (rows_of users.new.items) place other ↔ (Edge (rows_of users.old.items) place other ⊎ ((other ≡ user) × (link.target ≡ Target.Own place)))) }
+    ensures edges { OnOk result ((place other : ℕ) → Edge (rows_of users.new.items) place other
+        ↔ (Edge (rows_of users.old.items) place other ⊎ ((other ≡ user) × (link.target ≡ Target.Own place)))) }
     ensures count { length users.new.items ≡ length users.old.items }
 {
     if let Target::Own(place) = link.target {
@@ -31,7 +32,8 @@ fn add_user(users: &mut Vec<Vec<usize>>, user: usize, link: Link) -> Result<(), 
 // Adds a user to those of the procedures to which its uses lead.
 fn add_uses(users: &mut Vec<Vec<usize>>, user: usize, row: &[Link]) -> Result<(), AllocError>
     requires within { (place : ℕ) → HasOwn row.now place → place < length users.old.items }
-    ensures edges { OnOk result ((place other : ℕ) → Edge (rows_of users.new.items) place other ↔ (Edge (rows_of users.old.items) place other ⊎ ((other ≡ user) × HasOwn row.now place))) }
+    ensures edges { OnOk result ((place other : ℕ) → Edge (rows_of users.new.items) place other
+        ↔ (Edge (rows_of users.old.items) place other ⊎ ((other ≡ user) × HasOwn row.now place))) }
     ensures count { length users.new.items ≡ length users.old.items }
 {
     for link in row {

@@ -22,7 +22,8 @@ use Rattle.masm_link.specs.Measures.{IsLinked}
 use Rattle.masm_link.specs.Programs.{LinksIn, ExportsIn, digest_in, export_in}
 use Rattle.masm_link.specs.Refusals.{double, Links}
 
-none_from_map : {A B C : Type 0} (f : A → C) (g : B → C) (a : Option A) (b : Option B) → option_map f a ≡ option_map g b → is_some a ≡ false → b ≡ None
+none_from_map : {A B C : Type 0} (f : A → C) (g : B → C) (a : Option A) (b : Option B) → option_map f a ≡ option_map g b
+    → is_some a ≡ false → b ≡ None
 none_from_map f g None None e not_so = refl
 none_from_map f g None (Some y) e not_so = cc
 none_from_map f g (Some x) b e not_so = cc
@@ -58,8 +59,14 @@ export_at [] n low = absurd (omega arith)
 export_at (p ∷ procs) n low = elim (cases_Bool p.exported) [
   | inl is_so ↦ first n (λ m h. export_at procs m h) is_so (subst (λ b. n < length (cond b (p ∷ exported_of procs) (exported_of procs))) is_so low)
   | inr not_so ↦
-      let rest = export_at procs n (subst (λ b. n < length (cond b (p ∷ exported_of procs) (exported_of procs))) not_so low) in
-      (p ∷ rest.0, rest.1, rest.2, ap (λ ps. p ∷ ps) rest.3, rest.4, ap (λ b. length (cond b (p ∷ exported_of rest.0) (exported_of rest.0))) not_so ∙ rest.5)
+      let rest = export_at procs n (subst (λ b. n < length (cond b (p ∷ exported_of procs) (exported_of procs))) not_so low) in (
+        p ∷ rest.0,
+        rest.1,
+        rest.2,
+        ap (λ ps. p ∷ ps) rest.3,
+        rest.4,
+        ap (λ b. length (cond b (p ∷ exported_of rest.0) (exported_of rest.0))) not_so ∙ rest.5,
+      )
 ]
   where
     first : (n : ℕ)
@@ -94,7 +101,8 @@ few_linked _ _ (of_kernel text exports links) =
     elim (cases_lt 255 (length (exported_of procs))) [
       | inl more ↦
           let found = export_at procs 255 more in
-          absurd (links.links.clean (at_procedure found.1) causes.TooManyExports (double (one_export_more found.0 found.1 found.2 found.3 found.4 found.5)))
+          absurd (links.links.clean (at_procedure found.1) causes.TooManyExports
+          (double (one_export_more found.0 found.1 found.2 found.3 found.4 found.5)))
       | inr few ↦ omega arith
     ]
 
@@ -110,7 +118,8 @@ digests_same : (constants : List ℕ) (exports : List Exported) (procs : List Ke
 digests_same constants [] [] are = refl
 digests_same constants [] (p ∷ procs) are = absurd are
 digests_same constants (e ∷ exports) [] are = absurd are
-digests_same constants (e ∷ exports) (p ∷ procs) are = ap₂ (λ d ds. d ∷ ds) (ap (tree_digest constants) are.0.tree) (digests_same constants exports procs are.1)
+digests_same constants (e ∷ exports) (p ∷ procs) are =
+    ap₂ (λ d ds. d ∷ ds) (ap (tree_digest constants) are.0.tree) (digests_same constants exports procs are.1)
 
 exports_same : (constants : List ℕ) (exports : List Exported) (procs : List KernelProc) → AreExports exports procs → map
     (export_in constants) procs ≡ map (export_of constants) exports
@@ -143,7 +152,8 @@ module _ (constants text : List ℕ) (kernel : Option (List ℕ)) where
           → Assembles constants text kernel (Ok program)
       by source read l None none = absurd (let e = sym (ap (option_map tree_of) is) ∙ l.tree ∙ ap (option_map (seen_as as_tree)) none in cc)
       by source read l (Some block) there =
-          let e : Some (tree_of tree) ≡ Some (seen_as as_tree block) = sym (ap (option_map tree_of) is) ∙ l.tree ∙ ap (option_map (seen_as as_tree)) there in
+          let e : Some (tree_of tree) ≡ Some (seen_as as_tree block) =
+          sym (ap (option_map tree_of) is) ∙ l.tree ∙ ap (option_map (seen_as as_tree)) there in
           assembled found.0 l.exports block program found.1
           (record { source = source; read = read; links = subst (λ m. Links source found.0 l.exports m) there l.links })
           (record {

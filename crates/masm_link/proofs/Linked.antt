@@ -55,7 +55,8 @@ no_block = None
 
 module _ (source : Source) (exports : List Exported) where
   -- where a use leads nowhere or back
-  pub refused_use : (doubled : Option Refusal) (u first : Refusal) → Answers (Doubles source) doubled → Answers (Dangles source (names_of exports)) (Some u)
+  pub refused_use : (doubled : Option Refusal) (u first : Refusal) → Answers (Doubles source) doubled
+      → Answers (Dangles source (names_of exports)) (Some u)
       → Some first ≡ earlier doubled (Some u) → IsLeast (RefusesAt source exports) first.at first.cause
   refused_use doubled u first p q is =
       Answers-same (Either (Doubles source) (Dangles source (names_of exports))) (RefusesAt source exports) (Some first)
@@ -77,7 +78,8 @@ module _ (source : Source) (exports : List Exported) where
   closed_names kernel are closed = subst (IsClosed source) (names_same exports kernel are) closed
 
 -- Exports, as they are built one behind the other.
-zip_push : {X Y : Type 0} (R : X → Y → Type 0) (xs : List X) (ys : List Y) (x : X) (y : Y) → AllZip R xs ys → R x y → AllZip R (xs ++ x ∷ []) (ys ++ y ∷ [])
+zip_push : {X Y : Type 0} (R : X → Y → Type 0) (xs : List X) (ys : List Y) (x : X) (y : Y) → AllZip R xs ys → R x y
+    → AllZip R (xs ++ x ∷ []) (ys ++ y ∷ [])
 zip_push R [] [] x y h r = (r, tt)
 zip_push R [] (z ∷ ys) x y h r = absurd h
 zip_push R (w ∷ xs) [] x y h r = absurd h
@@ -122,8 +124,12 @@ module _ (procs : List Procedure) (exports : List Exported) (sizes : List shape.
         zip_push IsExport rest.0 out e export rest.2 (record { name = built.name; tree = built.tree ∙ r.2; extent = built.extent ∙ r.3; some = r.4 }),
       )
   own_of (inner {procs = front} {exports = out} p before is) ready =
-      let rest = own_of before (λ place q here. ready place q (got_before front (p ∷ []) place q here)) in
-      (rest.0, subst (λ ps. AllZip IsOwn ps rest.0) (sym (one_more front p false is ∙ append-nil (exported_of (map procedure_of front)))) rest.1, rest.2)
+      let rest = own_of before (λ place q here. ready place q (got_before front (p ∷ []) place q here)) in (
+        rest.0,
+        subst (λ ps. AllZip IsOwn ps rest.0)
+            (sym (one_more front p false is ∙ append-nil (exported_of (map procedure_of front)))) rest.1,
+        rest.2,
+      )
 
 pub some_same : {A B C : Type 0} (f : A → C) (g : B → C) (a : Option A) (b : Option B) → option_map f a ≡ option_map g b → is_some a ≡ is_some b
 some_same f g None None e = refl
@@ -155,7 +161,8 @@ module _ (ast : Ast) (kernel : List KernelProc) (m : Measured) (is : IsMeasured 
       let list = list_at_place place p here in
       ap extent_of (is.sizes exports are place p list.0 (is.order.all place (slice_get_within source.procs place p here)) here list.1)
 
-  main_extent : (p : Procedure) (main : source.main ≡ Some p) → extent_of (procedure_size (sizes_known m.names m.sizes.items kernel) p.locals p.body) ≡
+  main_extent : (p : Procedure) (main : source.main ≡ Some p)
+      → extent_of (procedure_size (sizes_known m.names m.sizes.items kernel) p.locals p.body) ≡
       the_extent p (list_of_body p main).0
   main_extent p main =
       let list = list_of_body p main in
@@ -198,7 +205,8 @@ module _ (ast : Ast) (kernel : List KernelProc) (m : Measured) (is : IsMeasured 
       → MatchOption main (first ≡ None) (λ p. Answers (IsOver (at_procedure (procedure_of p)) (extent_of (procedure_size
       (sizes_known m.names m.sizes.items kernel) p.locals (body_of p.body.items)))) first)
       → Answers LargeMain first
-  large_main None same first e = subst (Answers LargeMain) (sym e) (λ at cause h. let other = ap (option_map procedure_of) same in let is_main = h.1 in cc)
+  large_main None same first e =
+      subst (Answers LargeMain) (sym e) (λ at cause h. let other = ap (option_map procedure_of) same in let is_main = h.1 in cc)
   large_main (Some q) same first a =
       let p = procedure_of q in
       let main : source.main ≡ Some p = ap (option_map procedure_of) same in

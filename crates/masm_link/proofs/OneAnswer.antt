@@ -12,7 +12,8 @@ use Rattle.masm_link.specs.Refusals.{Links}
 use Rattle.masm_link.specs.Laws.{OneProgram}
 
 -- a procedure is one block
-block_once : (procs : List Procedure) (kernel : List Exported) (p : Procedure) (a b : Block) → IsBlockOf procs kernel p a → IsBlockOf procs kernel p b → a ≡ b
+block_once : (procs : List Procedure) (kernel : List Exported) (p : Procedure) (a b : Block) → IsBlockOf procs kernel p a
+    → IsBlockOf procs kernel p b → a ≡ b
 block_once procs kernel p a b one other =
     one.is ∙ ap (λ pieces. block_of (with_locals p.locals pieces)) (list_once procs kernel one.flat other.flat) ∙ sym other.is
 

@@ -94,9 +94,13 @@ module _ (procs : List Procedure) (exports : List Exported) (some : HasOperation
 
   pub over_large : (at : Position) (cause : LinkCause) → IsOver (at_procedure p) the_extent at cause → IsTooLarge procs exports p at cause
   over_large at cause over = elim (cases_lt 524288 the_extent.operations) [
-    | inl more ↦ moved causes.TooManyOps (same_cause _ _ _ (over_operations the_extent more) over.1) (too_many_operations the_block the_block_is (many.0 more))
+    | inl more ↦
+        moved causes.TooManyOps (same_cause _ _ _ (over_operations the_extent more) over.1)
+        (too_many_operations the_block the_block_is (many.0 more))
     | inr few ↦ elim (cases_lt 1024 the_extent.height) [
-      | inl high ↦ moved causes.TooDeep (same_cause _ _ _ (over_height the_extent few high) over.1) (too_deep the_block the_block_is ((deep few).0 high))
+      | inl high ↦
+          moved causes.TooDeep (same_cause _ _ _ (over_height the_extent few high) over.1)
+          (too_deep the_block the_block_is ((deep few).0 high))
       | inr low ↦ absurd (let none = over_none the_extent few low in let is = over.1 in cc)
     ]
   ]
@@ -106,12 +110,26 @@ module _ (procs : List Procedure) (exports : List Exported) (some : HasOperation
 
   pub large_over : (at : Position) (cause : LinkCause) → IsTooLarge procs exports p at cause
       → (first : LinkCause) × IsOver (at_procedure p) the_extent at first × (order first ≤ order cause)
-  large_over at cause (too_many_operations block is more) =
-      (causes.TooManyOps, (refl, over_operations the_extent (many.1 (subst (λ b. 524288 < seen_as as_operations b) (block_once block is) more))), omega arith)
+  large_over at cause (too_many_operations block is more) = (
+    causes.TooManyOps,
+    (
+      refl,
+      over_operations the_extent
+          (many.1 (subst (λ b. 524288 < seen_as as_operations b) (block_once block is) more)),
+    ),
+    omega arith,
+  )
   large_over at cause (too_deep block is high) = elim (cases_lt 524288 the_extent.operations) [
     | inl more ↦ (causes.TooManyOps, (refl, over_operations the_extent more), omega arith)
-    | inr few ↦
-        (causes.TooDeep, (refl, over_height the_extent few ((deep few).1 (subst (λ b. 1024 < seen_as as_height b) (block_once block is) high))), omega arith)
+    | inr few ↦ (
+      causes.TooDeep,
+      (
+        refl,
+        over_height the_extent few
+            ((deep few).1 (subst (λ b. 1024 < seen_as as_height b) (block_once block is) high)),
+      ),
+      omega arith,
+    )
   ]
 
 -- the trees of a source's procedures, and that of its main body

@@ -18,7 +18,8 @@ any_flip w [] = refl
 any_flip w (v ∷ words) = ap₂ (λ a b. a || b) (nat_list_eq_equiv.symm v w) (any_flip w words)
 
 -- one more word
-pub words_more : (words : List (List ℕ)) (w : List ℕ) → AreDistinct words → (length (add_word words w) ≤ length words + 1) × AreDistinct (add_word words w)
+pub words_more : (words : List (List ℕ)) (w : List ℕ) → AreDistinct words
+    → (length (add_word words w) ≤ length words + 1) × AreDistinct (add_word words w)
 words_more words w distinct = elim (cases_Bool (list_any (λ v. bytes_eq v w) words)) [
   | inl there ↦
       let same : add_word words w ≡ words = ap (λ b. cond b words (words ++ w ∷ [])) there in

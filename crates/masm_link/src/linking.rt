@@ -152,7 +152,8 @@ fn built(
     requires fits { SourceFits (source_of ast.now) }
     requires measured { IsMeasured (source_of ast.now) kernel.now.procs.now measured.now }
     requires clean { IsClean (source_of ast.now) kernel.now.procs.now }
-    ensures linked { IfOk result (λ linked. (exports : List Exported) → AreExports exports kernel.now.procs.now → IsLinked (source_of ast.now) exports linked) }
+    ensures linked { IfOk result (λ linked. (exports : List Exported) → AreExports exports kernel.now.procs.now
+        → IsLinked (source_of ast.now) exports linked) }
     ensures main { IfOk result (λ linked. is_some linked.main ≡ is_some ast.now.main) }
 {
     let lists = lists_of(alloc, ast, &measured.names, kernel, &measured.steps)?;

@@ -32,15 +32,21 @@ abbrev Repeated : List Procedure → Position → LinkCause → Type 0
 Repeated procs = Repeats (λ p. p.name) at_procedure procs
 
 -- the procedures of the tree, and those of the source
-repeated_to : (procs : List Proc) (at : Position) (cause : LinkCause) → Repeats name_of place_of procs at cause → Repeated (map procedure_of procs) at cause
+repeated_to : (procs : List Proc) (at : Position) (cause : LinkCause) → Repeats name_of place_of procs at cause
+    → Repeated (map procedure_of procs) at cause
 repeated_to procs at cause h =
-    Among-mapped procedure_of (λ place p. IsRepeat (place_in (map (λ q. q.name) (map procedure_of procs))) p.name (at_procedure p) place) procs at cause
-    (subst (λ names. Among (λ place x. IsRepeat (place_in names) x.name (place_of x) place) procs at cause) (sym (map-map (λ (q : Procedure). q.name) procedure_of procs)) h)
+    Among-mapped procedure_of (λ place p. IsRepeat (place_in (map (λ q. q.name) (map procedure_of procs))) p.name (at_procedure p)
+    place) procs at cause
+    (subst (λ names. Among (λ place x. IsRepeat (place_in names) x.name (place_of x) place) procs at cause)
+    (sym (map-map (λ (q : Procedure). q.name) procedure_of procs)) h)
 
-repeated_from : (procs : List Proc) (at : Position) (cause : LinkCause) → Repeated (map procedure_of procs) at cause → Repeats name_of place_of procs at cause
+repeated_from : (procs : List Proc) (at : Position) (cause : LinkCause) → Repeated (map procedure_of procs) at cause
+    → Repeats name_of place_of procs at cause
 repeated_from procs at cause h =
-    subst (λ names. Among (λ place x. IsRepeat (place_in names) x.name (place_of x) place) procs at cause) (map-map (λ (q : Procedure). q.name) procedure_of procs)
-    (Among-unmapped procedure_of (λ place p. IsRepeat (place_in (map (λ q. q.name) (map procedure_of procs))) p.name (at_procedure p) place) procs at cause h)
+    subst (λ names. Among (λ place x. IsRepeat (place_in names) x.name (place_of x) place) procs at cause)
+    (map-map (λ (q : Procedure). q.name) procedure_of procs)
+    (Among-unmapped procedure_of (λ place p. IsRepeat (place_in (map (λ q. q.name) (map procedure_of procs))) p.name
+    (at_procedure p) place) procs at cause h)
 
 exported-map : (procs : List Proc) → length (exported_of (map procedure_of procs)) ≡ exports_in procs
 exported-map [] = refl
@@ -89,7 +95,13 @@ module _ (source : Source) where
         (
           p,
           ap (λ ps. slice_get ps (length before)) e ∙ slice_get-split before p behind,
-          (exported, ap (λ ps. length (exported_of ps)) (ap (take (length before)) e ∙ take_at before (p ∷ behind) (length before) refl) ∙ count, refl, refl),
+          (
+            exported,
+            ap (λ ps. length (exported_of ps))
+                (ap (take (length before)) e ∙ take_at before (p ∷ behind) (length before) refl) ∙ count,
+            refl,
+            refl,
+          ),
         ),
       )
 
@@ -99,12 +111,15 @@ module _ (source : Source) where
   from_found : (at : Position) (cause : LinkCause) → Found at cause → Doubles source at cause
   from_found at cause (inl (inl (k, (c, e, (first, is_at, is_cause))))) =
       moved at _ cause _ is_at is_cause
-      (second_constant (take k source.consts) c (drop (suc k) source.consts) (split_at source.consts k c e).0 (repeats_split (λ d. d.name) source.consts k c e first))
+      (second_constant (take k source.consts) c (drop (suc k) source.consts) (split_at source.consts k c e).0
+      (repeats_split (λ d. d.name) source.consts k c e first))
   from_found at cause (inl (inr (k, (p, e, (first, is_at, is_cause))))) =
       moved at _ cause _ is_at is_cause
-      (second_procedure (take k source.procs) p (drop (suc k) source.procs) (split_at source.procs k p e).0 (repeats_split (λ q. q.name) source.procs k p e first))
+      (second_procedure (take k source.procs) p (drop (suc k) source.procs) (split_at source.procs k p e).0
+      (repeats_split (λ q. q.name) source.procs k p e first))
   from_found at cause (inr (k, (p, e, (exported, count, is_at, is_cause)))) =
-      moved at _ cause _ is_at is_cause (one_export_more (take k source.procs) p (drop (suc k) source.procs) (split_at source.procs k p e).0 exported count)
+      moved at _ cause _ is_at is_cause (one_export_more (take k source.procs) p (drop (suc k) source.procs)
+      (split_at source.procs k p e).0 exported count)
 
 -- the least refusal of the constants, of the procedures and of the exports
 pub Answers-doubles : (consts : List Const) (procs : List Proc) (main : Option Procedure) (a b c : Option Refusal)
@@ -115,5 +130,6 @@ Answers-doubles consts procs main a b c p q r =
     let mid = Answers-same (Repeats name_of place_of procs) (Repeated (map procedure_of procs)) b (repeated_to procs) (repeated_from procs) q in
     let last = Answers-same (Extras procs) (Extra (map procedure_of procs)) c (extra_to procs) (extra_from procs) r in
     Answers-same (Found source) (Doubles source) (earlier (earlier a b) c) (from_found source) (to_found source)
-    (Answers-earlier (Either (Repeats (λ d. d.name) at_constant consts) (Repeated (map procedure_of procs))) (Extra (map procedure_of procs)) (earlier a b) c
+    (Answers-earlier (Either (Repeats (λ d. d.name) at_constant consts) (Repeated (map procedure_of procs)))
+    (Extra (map procedure_of procs)) (earlier a b) c
     (Answers-earlier (Repeats (λ d. d.name) at_constant consts) (Repeated (map procedure_of procs)) a b p mid) last)

@@ -17,7 +17,8 @@ pub slice_get-split : {X : Type 0} (before : List X) (x : X) (behind : List X) �
 slice_get-split [] x behind = refl
 slice_get-split (y ∷ before) x behind = slice_get-split before x behind
 
-pub split_at : {X : Type 0} (xs : List X) (i : ℕ) (x : X) → slice_get xs i ≡ Some x → (xs ≡ take i xs ++ x ∷ drop (suc i) xs) × (length (take i xs) ≡ i)
+pub split_at : {X : Type 0} (xs : List X) (i : ℕ) (x : X) → slice_get xs i ≡ Some x
+    → (xs ≡ take i xs ++ x ∷ drop (suc i) xs) × (length (take i xs) ≡ i)
 split_at [] i x e = cc
 split_at (y ∷ xs) zero x e = (ap (λ o. unwrap_or o y ∷ xs) e, refl)
 split_at (y ∷ xs) (suc i) x e = (ap (λ ys. y ∷ ys) (split_at xs i x e).0, ap suc (split_at xs i x e).1)
@@ -27,7 +28,8 @@ module _ {X Y : Type 0} (f : X → Y) (P : ℕ → Y → Position → LinkCause 
   pub Among-unmapped : Among P (map f xs) at cause → Among (λ place x. P place (f x)) xs at cause
   Among-unmapped h = found h.0 h.1.0 (slice_get xs h.0) refl h.1.1 h.1.2
     where
-      found : (k : ℕ) (y : Y) (o : Option X) → slice_get xs k ≡ o → slice_get (map f xs) k ≡ Some y → P k y at cause → Among (λ place x. P place (f x)) xs at cause
+      found : (k : ℕ) (y : Y) (o : Option X) → slice_get xs k ≡ o → slice_get (map f xs) k ≡ Some y → P k y at cause
+          → Among (λ place x. P place (f x)) xs at cause
       found k y None e there has = absurd (let none : slice_get (map f xs) k ≡ None = slice_get-map f xs k ∙ ap (option_map f) e in cc)
       found k y (Some x) e there has =
           let is : y ≡ f x = ap (λ o. unwrap_or o y) (sym there ∙ (slice_get-map f xs k ∙ ap (option_map f) e)) in
@@ -48,12 +50,18 @@ cons_here x xs = (0, omega arith, refl)
 stands : (before : List (List ℕ)) (n : List ℕ) (behind : List (List ℕ))
     → ((place_in (before ++ n ∷ behind) n ≢ Some (length before)) × Contains before n)
     ⊎ ((place_in (before ++ n ∷ behind) n ≡ Some (length before)) × ¬ (Contains before n))
-stands [] n behind = inr (ap (λ b. cond b (Some 0) (option_map (λ i. i + 1) (place_in behind n))) ((bytes_eq-Decides n n).1 refl), λ h. absurd (omega (arith, h.1)))
+stands [] n behind =
+    inr (
+      ap (λ b. cond b (Some 0) (option_map (λ i. i + 1) (place_in behind n))) ((bytes_eq-Decides n n).1 refl),
+      λ h. absurd (omega (arith, h.1)),
+    )
 stands (m ∷ before) n behind = elim (cases_Bool (bytes_eq m n)) [
   | inl same ↦
       let is : m ≡ n = (bytes_eq-Decides m n).0 same in
       inl (
-        (λ e. absurd (let zeroth : Some 0 ≡ Some (suc (length before)) = sym (ap (λ b. cond b (Some 0) (option_map (λ i. i + 1) (place_in (before ++ n ∷ behind) n))) same) ∙ e in
+        (λ e. absurd (let zeroth : Some 0
+            ≡ Some (suc (length before)) = sym
+            (ap (λ b. cond b (Some 0) (option_map (λ i. i + 1) (place_in (before ++ n ∷ behind) n))) same) ∙ e in
             let less : 0 ≡ suc (length before) = ap (λ o. unwrap_or o 0) zeroth in omega arith)),
         subst (Contains (m ∷ before)) is (Contains-append_left (m ∷ []) before m (Contains-push [] m)),
       )
@@ -61,7 +69,11 @@ stands (m ∷ before) n behind = elim (cases_Bool (bytes_eq m n)) [
       let step : place_in (m ∷ (before ++ n ∷ behind)) n ≡ option_map (λ i. i + 1) (place_in (before ++ n ∷ behind) n) =
       ap (λ b. cond b (Some 0) (option_map (λ i. i + 1) (place_in (before ++ n ∷ behind) n))) other in
       elim (stands before n behind) [
-        | inl later ↦ inl ((λ e. later.0 (less_one (place_in (before ++ n ∷ behind) n) (length before) (sym step ∙ e))), Contains-append_right (m ∷ []) before n later.1)
+        | inl later ↦
+            inl (
+              (λ e. later.0 (less_one (place_in (before ++ n ∷ behind) n) (length before) (sym step ∙ e))),
+              Contains-append_right (m ∷ []) before n later.1,
+            )
         | inr first ↦ inr (
           step ∙ (ap (option_map (λ i. i + 1)) first.0 ∙ ap Some (add-one (length before))),
           λ h. elim (cons_cases m before n h) [
@@ -86,7 +98,8 @@ module _ {X : Type 0} (name : X → List ℕ) where
       let within : h.0 < length before = let l = h.1 in omega (arith, length-map before name) in
       (h.0, get_or before h.0 x, within, get_or_default before h.0 _ x within, sym (get_or-map name before h.0 x (name x) within) ∙ h.2)
 
-  place_split : (before : List X) (x : X) (behind : List X) → place_in (map name (before ++ x ∷ behind)) (name x) ≡ place_in (map name before ++ name x ∷ map name behind) (name x)
+  place_split : (before : List X) (x : X) (behind : List X)
+      → place_in (map name (before ++ x ∷ behind)) (name x) ≡ place_in (map name before ++ name x ∷ map name behind) (name x)
   place_split before x behind = ap (λ names. place_in names (name x)) (map-append name before (x ∷ behind))
 
   -- a definition is not the first of its name exactly where its name stands before it

@@ -24,14 +24,16 @@ before-trans a b c (inl p) (inr q) = inl (let e = q.0 in omega arith)
 before-trans a b c (inr p) (inl q) = inl (let e = p.0 in omega arith)
 before-trans a b c (inr p) (inr q) = inr (p.0 ∙ q.0, let d = p.1 in let e = q.1 in omega arith)
 
-pub no_later-trans : (a : Position) (x : LinkCause) (b : Position) (y : LinkCause) (c : Position) (z : LinkCause) → IsNoLater a x b y → IsNoLater b y c z → IsNoLater a x c z
+pub no_later-trans : (a : Position) (x : LinkCause) (b : Position) (y : LinkCause) (c : Position) (z : LinkCause)
+    → IsNoLater a x b y → IsNoLater b y c z → IsNoLater a x c z
 no_later-trans a x b y c z (inl p) (inl q) = inl (before-trans a b c p q)
 no_later-trans a x b y c z (inl p) (inr q) = inl (subst (IsBefore a) q.0 p)
 no_later-trans a x b y c z (inr p) (inl q) = inl (subst (λ d. IsBefore d c) (sym p.0) q)
 no_later-trans a x b y c z (inr p) (inr q) = inr (p.0 ∙ q.0, let d = p.1 in let e = q.1 in omega arith)
 
 -- the comparison of two numbers
-tells : (m n : ℕ) → ((m < n) × (ltb m n ≡ true)) ⊎ (((m ≡ n) × (ltb m n ≡ false) × (eqb m n ≡ true)) ⊎ ((n < m) × (ltb m n ≡ false) × (eqb m n ≡ false)))
+tells : (m n : ℕ) → ((m < n) × (ltb m n ≡ true))
+    ⊎ (((m ≡ n) × (ltb m n ≡ false) × (eqb m n ≡ true)) ⊎ ((n < m) × (ltb m n ≡ false) × (eqb m n ≡ false)))
 tells m n = elim (cases_lt m n) [
   | inl less ↦ inl (less, grind (arith, nat_tests))
   | inr more ↦ elim (eqb_tells m n) [
@@ -94,7 +96,9 @@ least-either P Q a b p q c e = elim (is_no_later-tells a b) [
 
 -- the earlier of two least refusals is the least of both kinds
 pub Answers-earlier : (P Q : Position → LinkCause → Type 0) (a b : Option Refusal) → Answers P a → Answers Q b → Answers (Either P Q) (earlier a b)
-Answers-earlier P Q None b p q = Answers-same Q (Either P Q) b (λ at cause h. inr h) (λ at cause h. elim h [ inl in_p ↦ absurd (p at cause in_p) | inr in_q ↦ in_q ]) q
+Answers-earlier P Q None b p q =
+    Answers-same Q (Either P Q) b (λ at cause h. inr h)
+    (λ at cause h. elim h [ inl in_p ↦ absurd (p at cause in_p) | inr in_q ↦ in_q ]) q
 Answers-earlier P Q (Some a) None p q =
     Answers-same P (Either P Q) (Some a) (λ at cause h. inl h) (λ at cause h. elim h [ inl in_p ↦ in_p | inr in_q ↦ absurd (q at cause in_q) ]) p
 Answers-earlier P Q (Some a) (Some b) p q = least-either P Q a b p q _ refl
@@ -104,7 +108,8 @@ pub Answers-with : (P Q : Position → LinkCause → Type 0) (first now : Option
     → Answers (λ at cause. (first ≡ Some (record { at = at; cause = cause })) ⊎ Q at cause) now → Answers (Either P Q) now
 Answers-with P Q None now p q =
     Answers-same (λ at cause. (None ≡ Some (record { at = at; cause = cause })) ⊎ Q at cause) (Either P Q) now
-    (λ at cause h. elim h [ inl e ↦ absurd cc | inr has ↦ inr has ]) (λ at cause h. elim h [ inl has ↦ absurd (p at cause has) | inr has ↦ inr has ]) q
+    (λ at cause h. elim h [ inl e ↦ absurd cc | inr has ↦ inr has ])
+    (λ at cause h. elim h [ inl has ↦ absurd (p at cause has) | inr has ↦ inr has ]) q
 Answers-with P Q (Some r) None p q = absurd (q r.at r.cause (inl refl))
 Answers-with P Q (Some r) (Some s) p q =
     record {
@@ -142,14 +147,19 @@ Answers-stays Q (Some r) behind =
 pub Answers-one : (P : Position → LinkCause → Type 0) (at : Position) (cause : LinkCause) → P at cause
     → ((other : Position) (why : LinkCause) → P other why → (other ≡ at) × (why ≡ cause)) → Answers P (Some (record { at = at; cause = cause }))
 Answers-one P at cause stands alone =
-    record { stands = stands; first = λ other why has. inr (sym (alone other why has).0, (let same = ap order (alone other why has).1 in omega arith)) }
+    record {
+      stands = stands;
+      first = λ other why has. inr
+          (sym (alone other why has).0, (let same = ap order (alone other why has).1 in omega arith));
+    }
 
 -- The least refusal of a list's elements, as they are tested in order.
 module _ {X : Type 0} (P : ℕ → X → Position → LinkCause → Type 0) (items : List X) where
   pub Among-start : Answers (AmongFirst P items 0) None
   Among-start = λ at cause h. absurd (omega (arith, h.1))
 
-  pub Among-either : (i : ℕ) (x : X) (r : Option Refusal) → i < length items → x ≡ get_or items i x → Answers (Either (AmongFirst P items i) (P i x)) r
+  pub Among-either : (i : ℕ) (x : X) (r : Option Refusal) → i < length items → x ≡ get_or items i x
+      → Answers (Either (AmongFirst P items i) (P i x)) r
       → Answers (AmongFirst P items (i + 1)) r
   Among-either i x r within is p =
       let here : slice_get items i ≡ Some x = slice_get_read items (length items) i x refl within is in
@@ -161,12 +171,14 @@ module _ {X : Type 0} (P : ℕ → X → Position → LinkCause → Type 0) (ite
       ])
       p
     where
-      moved : (at : Position) (cause : LinkCause) (k : ℕ) (y z : X) → k ≡ i → slice_get items k ≡ Some y → slice_get items i ≡ Some z → P k y at cause → P i z at cause
+      moved : (at : Position) (cause : LinkCause) (k : ℕ) (y z : X) → k ≡ i → slice_get items k ≡ Some y
+          → slice_get items i ≡ Some z → P k y at cause → P i z at cause
       moved at cause k y z same there here has =
           let is_z : y ≡ z = ap (λ o. unwrap_or o y) (sym there ∙ (ap (slice_get items) same ∙ here)) in
           subst (λ w. P i w at cause) is_z (subst (λ j. P j y at cause) same has)
 
-  pub Among-more : (i : ℕ) (x : X) (a b : Option Refusal) → i < length items → x ≡ get_or items i x → Answers (AmongFirst P items i) a → Answers (P i x) b
+  pub Among-more : (i : ℕ) (x : X) (a b : Option Refusal) → i < length items → x ≡ get_or items i x
+      → Answers (AmongFirst P items i) a → Answers (P i x) b
       → Answers (AmongFirst P items (i + 1)) (earlier a b)
   Among-more i x a b within is p q = Among-either i x (earlier a b) within is (Answers-earlier (AmongFirst P items i) (P i x) a b p q)
 

@@ -16,7 +16,8 @@ pub none_from : {X : Type 0} (x : Option X) → is_some x ≡ false → x ≡ No
 none_from None e = refl
 none_from (Some v) e = cc
 
-choice : {X : Type 0} (test : Bool) (v : X) (later added : Option X) → cond test (Some v) (option_or later added) ≡ option_or (cond test (Some v) later) added
+choice : {X : Type 0} (test : Bool) (v : X) (later added : Option X)
+    → cond test (Some v) (option_or later added) ≡ option_or (cond test (Some v) later) added
 choice true v later added = refl
 choice false v later added = refl
 
@@ -34,7 +35,8 @@ place-added old new key name text place is_name inserted absent =
     let none : get_by (λ k. bytes_eq key.items k.items) old ≡ None = rw is_name (none_from _ absent) in
     ap (lookup (λ k. bytes_eq text k.items)) (inserted ∙ insert_entry-new (λ x y. bytes_eq x.items y.items) old key place none)
     ∙ (lookup-push (λ k. bytes_eq text k.items) old.entries key place
-    ∙ ap (λ b. option_or (get_by (λ k. bytes_eq text k.items) old) (cond b (Some place) None)) (ap (bytes_eq text) is_name ∙ nat_list_eq_equiv.symm text name))
+    ∙ ap (λ b. option_or (get_by (λ k. bytes_eq text k.items) old) (cond b (Some place) None))
+    (ap (bytes_eq text) is_name ∙ nat_list_eq_equiv.symm text name))
 
 one_more : (later : Option ℕ) (test : Bool) (n : ℕ)
     → option_map (λ i. i + 1) (option_or later (cond test (Some n) None)) ≡ option_or (option_map (λ i. i + 1) later) (cond test (Some (suc n)) None)

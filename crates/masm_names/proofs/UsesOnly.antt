@@ -44,13 +44,19 @@ uses_only P (Leaf_then at (leaves.Syscall name) rest) h =
     uses_only P rest (λ u k. h u (Contains-append_right (use_at at Kernel name ∷ []) (uses_of rest) u k))
 uses_only P (If_then at first second rest) h = (
   uses_only P first (λ u k. h u (Contains-append_left (uses_of first) (uses_of second ++ uses_of rest) u k)),
-  uses_only P second (λ u k. h u (Contains-append_right (uses_of first) (uses_of second ++ uses_of rest) u (Contains-append_left (uses_of second) (uses_of rest) u k))),
-  uses_only P rest (λ u k. h u (Contains-append_right (uses_of first) (uses_of second ++ uses_of rest) u (Contains-append_right (uses_of second) (uses_of rest) u k))),
+  uses_only P second (λ u k. h u (Contains-append_right (uses_of first) (uses_of second ++ uses_of rest) u
+      (Contains-append_left (uses_of second) (uses_of rest) u k))),
+  uses_only P rest (λ u k. h u (Contains-append_right (uses_of first) (uses_of second ++ uses_of rest) u
+      (Contains-append_right (uses_of second) (uses_of rest) u k))),
 )
-uses_only P (While_then at turn rest) h =
-    (uses_only P turn (λ u k. h u (Contains-append_left (uses_of turn) (uses_of rest) u k)), uses_only P rest (λ u k. h u (Contains-append_right (uses_of turn) (uses_of rest) u k)))
-uses_only P (Repeat_then at n turn rest) h =
-    (uses_only P turn (λ u k. h u (Contains-append_left (uses_of turn) (uses_of rest) u k)), uses_only P rest (λ u k. h u (Contains-append_right (uses_of turn) (uses_of rest) u k)))
+uses_only P (While_then at turn rest) h = (
+  uses_only P turn (λ u k. h u (Contains-append_left (uses_of turn) (uses_of rest) u k)),
+  uses_only P rest (λ u k. h u (Contains-append_right (uses_of turn) (uses_of rest) u k)),
+)
+uses_only P (Repeat_then at n turn rest) h = (
+  uses_only P turn (λ u k. h u (Contains-append_left (uses_of turn) (uses_of rest) u k)),
+  uses_only P rest (λ u k. h u (Contains-append_right (uses_of turn) (uses_of rest) u k)),
+)
 
 pub syscalls_only : (P : List ℕ → Type 0) (b : Body) → ((u : Use) → Contains (uses_of b) u → u.kind ≡ Kernel → P u.name) → SyscallsOnly P b
 syscalls_only P Empty h = tt
@@ -64,10 +70,16 @@ syscalls_only P (Leaf_then at (leaves.Syscall name) rest) h =
     (h here (among_first here (uses_of rest)) refl, syscalls_only P rest (λ u k. h u (Contains-append_right (here ∷ []) (uses_of rest) u k)))
 syscalls_only P (If_then at first second rest) h = (
   syscalls_only P first (λ u k. h u (Contains-append_left (uses_of first) (uses_of second ++ uses_of rest) u k)),
-  syscalls_only P second (λ u k. h u (Contains-append_right (uses_of first) (uses_of second ++ uses_of rest) u (Contains-append_left (uses_of second) (uses_of rest) u k))),
-  syscalls_only P rest (λ u k. h u (Contains-append_right (uses_of first) (uses_of second ++ uses_of rest) u (Contains-append_right (uses_of second) (uses_of rest) u k))),
+  syscalls_only P second (λ u k. h u (Contains-append_right (uses_of first) (uses_of second ++ uses_of rest) u
+      (Contains-append_left (uses_of second) (uses_of rest) u k))),
+  syscalls_only P rest (λ u k. h u (Contains-append_right (uses_of first) (uses_of second ++ uses_of rest) u
+      (Contains-append_right (uses_of second) (uses_of rest) u k))),
 )
-syscalls_only P (While_then at turn rest) h =
-    (syscalls_only P turn (λ u k. h u (Contains-append_left (uses_of turn) (uses_of rest) u k)), syscalls_only P rest (λ u k. h u (Contains-append_right (uses_of turn) (uses_of rest) u k)))
-syscalls_only P (Repeat_then at n turn rest) h =
-    (syscalls_only P turn (λ u k. h u (Contains-append_left (uses_of turn) (uses_of rest) u k)), syscalls_only P rest (λ u k. h u (Contains-append_right (uses_of turn) (uses_of rest) u k)))
+syscalls_only P (While_then at turn rest) h = (
+  syscalls_only P turn (λ u k. h u (Contains-append_left (uses_of turn) (uses_of rest) u k)),
+  syscalls_only P rest (λ u k. h u (Contains-append_right (uses_of turn) (uses_of rest) u k)),
+)
+syscalls_only P (Repeat_then at n turn rest) h = (
+  syscalls_only P turn (λ u k. h u (Contains-append_left (uses_of turn) (uses_of rest) u k)),
+  syscalls_only P rest (λ u k. h u (Contains-append_right (uses_of turn) (uses_of rest) u k)),
+)

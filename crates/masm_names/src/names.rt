@@ -92,7 +92,9 @@ impl Names {
 
     // Gives a name a place, unless it has one.
     fn add(&mut self, alloc: Global, name: &[u8], place: usize) -> Result<(), Memory>
-        ensures { OnOk result ((text : List ℕ) → place_at self.new text ≡ option_or (place_at self.old text) (if bytes_eq name.now text then Some place else None)) }
+        ensures { OnOk result ((text : List ℕ)
+            → place_at self.new text
+            ≡ option_or (place_at self.old text) (if bytes_eq name.now text then Some place else None)) }
     {
         if self.places.contains_key(name) {
             return Ok(());

@@ -140,7 +140,8 @@ spells_append (if_only at {a = x} {b = b} {us = us} {ts = ts} f d) c vs e =
     (if_only at {a = x} {b = append b c} {us = us} {ts = ts ++ vs} f (spells_append d c vs e))
 spells_append (if_else at {a = x} {e = y} {b = b} {us = us} {vs = ws} {ts = ts} f g d) c vs e =
     subst (λ z. Spells (If_then at x y (append b c)) (terminals.If at ∷ z))
-    (sym (append_assoc us (terminals.Else ∷ (ws ++ terminals.End ∷ ts)) vs ∙ ap (λ z. us ++ terminals.Else ∷ z) (append_assoc ws (terminals.End ∷ ts) vs)))
+    (sym (append_assoc us (terminals.Else ∷ (ws ++ terminals.End ∷ ts)) vs
+    ∙ ap (λ z. us ++ terminals.Else ∷ z) (append_assoc ws (terminals.End ∷ ts) vs)))
     (if_else at {a = x} {e = y} {b = append b c} {us = us} {vs = ws} {ts = ts ++ vs} f g (spells_append d c vs e))
 spells_append (while at {a = x} {b = b} {us = us} {ts = ts} f d) c vs e =
     subst (λ z. Spells (While_then at x (append b c)) (terminals.While at ∷ z)) (sym (append_assoc us (terminals.End ∷ ts) vs))

@@ -1,6 +1,6 @@
 -- How many procedures and statements are open, in each configuration of the machine.
 use Rattle.std.proofs.Common.{◌≡◌, Bool, true, false, ◌+◌, ◌&&◌, nat_le, cond, List, [], ◌∷◌, ◌++◌, length, Option, Some, None, ap, ◌∙◌, arith, leb-true, le-leb}
-use Rattle.masm_instr.proofs.Conjunction.{both_true}
+use Rattle.std.proofs.lemmas.Bool.{and_parts}
 use Rattle.masm_tree.specs.declared.terminal.Role.{Role}
 use Rattle.masm_tree.specs.declared.terminal.Role.TheVariants as roles
 use Rattle.masm_tree.specs.declared.terminal.Header.{Header}
@@ -41,10 +41,12 @@ counts_begun ps h ts false e = tt
 pub counts_kept : (k : Bool) (s : Configuration) (t : Terminal) (ts : List Terminal) → Counts s ts → CountsIf (shift k s t) (ts ++ t ∷ [])
 counts_kept k (Top ps) (terminals.Const c) ts e = omega (arith, e, begun_snoc ts (terminals.Const c), done_snoc ts (terminals.Const c))
 counts_kept k (Top ps) (terminals.Header h) ts e = counts_begun ps h ts (may_begin k h.role) e
-counts_kept k (Inside ps h os b) (terminals.Leaf at l) ts e = omega (arith, e, begun_snoc ts (terminals.Leaf at l), done_snoc ts (terminals.Leaf at l))
+counts_kept k (Inside ps h os b) (terminals.Leaf at l) ts e =
+    omega (arith, e, begun_snoc ts (terminals.Leaf at l), done_snoc ts (terminals.Leaf at l))
 counts_kept k (Inside ps h os b) (terminals.If at) ts e = omega (arith, e, begun_snoc ts (terminals.If at), done_snoc ts (terminals.If at))
 counts_kept k (Inside ps h os b) (terminals.While at) ts e = omega (arith, e, begun_snoc ts (terminals.While at), done_snoc ts (terminals.While at))
-counts_kept k (Inside ps h os b) (terminals.Repeat at n) ts e = omega (arith, e, begun_snoc ts (terminals.Repeat at n), done_snoc ts (terminals.Repeat at n))
+counts_kept k (Inside ps h os b) (terminals.Repeat at n) ts e =
+    omega (arith, e, begun_snoc ts (terminals.Repeat at n), done_snoc ts (terminals.Repeat at n))
 counts_kept k (Inside ps h (In_if at before ∷ os) b) terminals.Else ts e = omega (arith, e, begun_snoc ts terminals.Else, done_snoc ts terminals.Else)
 counts_kept k (Inside ps h [] b) terminals.End ts e =
     counts_closed h.role ps (procedure h b) (ts ++ terminals.End ∷ []) (omega (arith, e, begun_snoc ts terminals.End, done_snoc ts terminals.End))
@@ -53,13 +55,13 @@ counts_kept k s t ts e = tt
 
 pub deep_stands : (s : Configuration) (t : Terminal) (ts : List Terminal) → Counts s ts → is_too_deep s t ≡ true → IsTooDeep ts t
 deep_stands (Top ps) t ts e x =
-    let two : (is_opening t ≡ true) × (nat_le 256 0 ≡ true) = both_true (is_opening t) (nat_le 256 0) x in
+    let two : (is_opening t ≡ true) × (nat_le 256 0 ≡ true) = and_parts (is_opening t) (nat_le 256 0) x in
     (two.0, omega (arith, leb-true 256 0 two.1))
 deep_stands (Inside ps h os b) t ts e x =
-    let two : (is_opening t ≡ true) × (nat_le 256 (length os) ≡ true) = both_true (is_opening t) (nat_le 256 (length os)) x in
+    let two : (is_opening t ≡ true) × (nat_le 256 (length os) ≡ true) = and_parts (is_opening t) (nat_le 256 (length os)) x in
     (two.0, omega (arith, e, leb-true 256 (length os) two.1))
 deep_stands (Behind ps main) t ts e x =
-    let two : (is_opening t ≡ true) × (nat_le 256 0 ≡ true) = both_true (is_opening t) (nat_le 256 0) x in
+    let two : (is_opening t ≡ true) × (nat_le 256 0 ≡ true) = and_parts (is_opening t) (nat_le 256 0) x in
     (two.0, omega (arith, leb-true 256 0 two.1))
 
 pub deep_found : (s : Configuration) (t : Terminal) (ts : List Terminal) → Counts s ts → IsTooDeep ts t → is_too_deep s t ≡ true

@@ -48,11 +48,13 @@ ConfigurationFits locals (Inside procs header opens body) =
     AllByRecursion ProcedureFits procs × (header.locals ≡ locals) × AllByRecursion (OpenFits locals) opens × HasLocals locals body
 ConfigurationFits locals (Behind procs main) = AllByRecursion ProcedureFits procs × ProcedureFits main
 
-fits-snoc : (procs : List Procedure) (p : Procedure) → AllByRecursion ProcedureFits procs → ProcedureFits p → AllByRecursion ProcedureFits (procs ++ p ∷ [])
+fits-snoc : (procs : List Procedure) (p : Procedure) → AllByRecursion ProcedureFits procs → ProcedureFits p
+    → AllByRecursion ProcedureFits (procs ++ p ∷ [])
 fits-snoc [] p h k = (k, tt)
 fits-snoc (q ∷ procs) p h k = (h.0, fits-snoc procs p h.1 k)
 
-fits-closed : (locals : ℕ) (procs : List Procedure) (role : Role) (p : Procedure) → AllByRecursion ProcedureFits procs → ProcedureFits p → ConfigurationFits locals (closed procs role p)
+fits-closed : (locals : ℕ) (procs : List Procedure) (role : Role) (p : Procedure) → AllByRecursion ProcedureFits procs
+    → ProcedureFits p → ConfigurationFits locals (closed procs role p)
 fits-closed locals procs roles.Proc p h k = fits-snoc procs p h k
 fits-closed locals procs roles.Export p h k = fits-snoc procs p h k
 fits-closed locals procs roles.Main p h k = (h, k)
@@ -61,7 +63,8 @@ abbrev pub ConfigurationFitsIf : ℕ → Option Configuration → Type 0
 ConfigurationFitsIf locals None = Unit {0}
 ConfigurationFitsIf locals (Some s) = ConfigurationFits locals s
 
-fits-begun : (procs : List Procedure) (h : Header) (may : Bool) → AllByRecursion ProcedureFits procs → ConfigurationFitsIf h.locals (cond may (Some (Inside procs h [] Empty)) None)
+fits-begun : (procs : List Procedure) (h : Header) (may : Bool) → AllByRecursion ProcedureFits procs
+    → ConfigurationFitsIf h.locals (cond may (Some (Inside procs h [] Empty)) None)
 fits-begun procs h true k = (k, refl, tt, tt)
 fits-begun procs h false k = tt
 
@@ -69,10 +72,12 @@ abbrev pub locals_after : ℕ → Terminal → ℕ
 locals_after locals (terminals.Header header) = header.locals
 locals_after locals terminal = locals
 
-fits-shift : (kernel : Bool) (locals : ℕ) (s : Configuration) (terminal : Terminal) → ConfigurationFits locals s → TerminalFits locals terminal → ConfigurationFitsIf (locals_after locals terminal) (shift kernel s terminal)
+fits-shift : (kernel : Bool) (locals : ℕ) (s : Configuration) (terminal : Terminal) → ConfigurationFits locals s
+    → TerminalFits locals terminal → ConfigurationFitsIf (locals_after locals terminal) (shift kernel s terminal)
 fits-shift kernel locals (Top procs) (terminals.Const c) h k = h
 fits-shift kernel locals (Top procs) (terminals.Header header) h k = fits-begun procs header (may_begin kernel header.role) h
-fits-shift kernel locals (Inside procs header opens body) (terminals.Leaf at leaf) h k = (h.0, h.1, h.2, fits-append locals body (Leaf_then at leaf Empty) h.3 (k, tt))
+fits-shift kernel locals (Inside procs header opens body) (terminals.Leaf at leaf) h k =
+    (h.0, h.1, h.2, fits-append locals body (Leaf_then at leaf Empty) h.3 (k, tt))
 fits-shift kernel locals (Inside procs header opens body) (terminals.If at) h k = (h.0, h.1, (h.3, h.2), tt)
 fits-shift kernel locals (Inside procs header opens body) (terminals.While at) h k = (h.0, h.1, (h.3, h.2), tt)
 fits-shift kernel locals (Inside procs header opens body) (terminals.Repeat at times) h k = (h.0, h.1, (h.3, h.2), tt)
@@ -100,7 +105,8 @@ known-locals context (terminals.Header header) = refl
 known-locals context (terminals.Const c) = refl
 known-locals context terminal = refl
 
-fits-advanced : (kernel : Bool) (r : Parse) (terminal : Terminal) (s : Option Configuration) → ConfigurationFitsIf (locals_after r.context.locals terminal) s
+fits-advanced : (kernel : Bool) (r : Parse) (terminal : Terminal) (s : Option Configuration)
+    → ConfigurationFitsIf (locals_after r.context.locals terminal) s
     → ParseFitsOption (option_map (λ s. record { context = known_after r.context terminal; configuration = s }) s)
 fits-advanced kernel r terminal None h = tt
 fits-advanced kernel r terminal (Some s) h = subst (λ n. ConfigurationFits n s) (sym (known-locals r.context terminal)) h
@@ -115,7 +121,8 @@ fits-settled (Some cause) deep (Some now) h = tt
 fits-moved : (kernel : Bool) (r : Parse) (symbol : Symbol) → ParseFits r → SymbolFits r.context.locals symbol → ParseFitsIf (moved kernel r symbol)
 unfolding moved
 fits-moved kernel r symbol h k =
-    fits-settled symbol.fault _ _ (λ fine. fits-advanced kernel r symbol.terminal (shift kernel r.configuration symbol.terminal) (fits-shift kernel r.context.locals r.configuration symbol.terminal h (k fine)))
+    fits-settled symbol.fault _ _ (λ fine. fits-advanced kernel r symbol.terminal (shift kernel r.configuration symbol.terminal)
+    (fits-shift kernel r.context.locals r.configuration symbol.terminal h (k fine)))
 
 fits-step : (kernel : Bool) (source : List ℕ) (r : Parse) (token : Token) → ParseFits r → ParseFitsIf (step kernel source r token)
 unfolding step
@@ -129,7 +136,8 @@ pub same_tree : (a b : Source) → ◌≡◌ {A = Result Source ParseError} (Ok 
 unfolding value_or
 same_tree a b e = ap (value_or a) e
 
-fits-ended : (kernel : Bool) (locals : ℕ) (configuration : Configuration) (end : Cursor) (consts : List Const) (source : Source) → ConfigurationFits locals configuration → ended kernel end consts configuration ≡ Ok source → SourceFits source
+fits-ended : (kernel : Bool) (locals : ℕ) (configuration : Configuration) (end : Cursor) (consts : List Const) (source : Source)
+    → ConfigurationFits locals configuration → ended kernel end consts configuration ≡ Ok source → SourceFits source
 fits-ended true locals (Top procs) end consts source h e = subst SourceFits (same_tree _ source e) (record { procs = h; main = tt })
 fits-ended false locals (Behind procs main) end consts source h e = subst SourceFits (same_tree _ source e) (record { procs = h.0; main = h.1 })
 fits-ended true locals (Inside procs header opens body) end consts source h e = cc
@@ -140,11 +148,13 @@ fits-ended false locals (Inside procs header opens body) end consts source h e =
 -- the reading of the other tokens, behind a step
 fits-later : (s : Result Parse Cause) (token : Token) (rest : Parse → Result Source ParseError) (source : Source) → ParseFitsIf s
     → ((now : Parse) → ParseFits now → rest now ≡ Ok source → SourceFits source)
-    → elim s as (λ _. Result Source ParseError) [ Ok now ↦ rest now | Err cause ↦ Err (Bad token.line token.column cause) ] ≡ Ok source → SourceFits source
+    → elim s as (λ _. Result Source ParseError) [ Ok now ↦ rest now | Err cause ↦ Err (Bad token.line token.column cause) ]
+    ≡ Ok source → SourceFits source
 fits-later (Ok now) token rest source k h e = h now k e
 fits-later (Err cause) token rest source k h e = cc
 
-fits-parsed : (kernel : Bool) (text : List ℕ) (r : Parse) (tokens : List Token) (source : Source) → ParseFits r → parse_from kernel text r tokens ≡ Ok source → SourceFits source
+fits-parsed : (kernel : Bool) (text : List ℕ) (r : Parse) (tokens : List Token) (source : Source) → ParseFits r
+    → parse_from kernel text r tokens ≡ Ok source → SourceFits source
 fits-parsed kernel text r [] source h is = fits-ended kernel r.context.locals r.configuration (place_after text) r.context.consts source h is
 fits-parsed kernel text r (token ∷ tokens) source h is =
     fits-later (step kernel text r token) token (λ now. parse_from kernel text now tokens) source (fits-step kernel text r token h)

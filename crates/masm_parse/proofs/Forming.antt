@@ -50,11 +50,13 @@ ConfigurationIsInForm (Inside procs header opens body) =
     AllByRecursion ProcedureIsInForm procs × (header.locals ≤ 65535) × AllByRecursion OpenIsInForm opens × BodyIsInForm body
 ConfigurationIsInForm (Behind procs main) = AllByRecursion ProcedureIsInForm procs × ProcedureIsInForm main
 
-form-snoc : (procs : List Procedure) (p : Procedure) → AllByRecursion ProcedureIsInForm procs → ProcedureIsInForm p → AllByRecursion ProcedureIsInForm (procs ++ p ∷ [])
+form-snoc : (procs : List Procedure) (p : Procedure) → AllByRecursion ProcedureIsInForm procs → ProcedureIsInForm p
+    → AllByRecursion ProcedureIsInForm (procs ++ p ∷ [])
 form-snoc [] p h k = (k, tt)
 form-snoc (q ∷ procs) p h k = (h.0, form-snoc procs p h.1 k)
 
-form-closed : (procs : List Procedure) (role : Role) (p : Procedure) → AllByRecursion ProcedureIsInForm procs → ProcedureIsInForm p → ConfigurationIsInForm (closed procs role p)
+form-closed : (procs : List Procedure) (role : Role) (p : Procedure) → AllByRecursion ProcedureIsInForm procs → ProcedureIsInForm p
+    → ConfigurationIsInForm (closed procs role p)
 form-closed procs roles.Proc p h k = form-snoc procs p h k
 form-closed procs roles.Export p h k = form-snoc procs p h k
 form-closed procs roles.Main p h k = (h, k)
@@ -68,10 +70,12 @@ form-begun : (procs : List Procedure) (h : Header) (may : Bool) → AllByRecursi
 form-begun procs h true k few = (k, few, tt, tt)
 form-begun procs h false k few = tt
 
-form-shift : (kernel : Bool) (s : Configuration) (terminal : Terminal) → ConfigurationIsInForm s → TerminalIsInForm terminal → ConfigurationIsInFormIf (shift kernel s terminal)
+form-shift : (kernel : Bool) (s : Configuration) (terminal : Terminal) → ConfigurationIsInForm s → TerminalIsInForm terminal
+    → ConfigurationIsInFormIf (shift kernel s terminal)
 form-shift kernel (Top procs) (terminals.Const c) h k = h
 form-shift kernel (Top procs) (terminals.Header header) h k = form-begun procs header (may_begin kernel header.role) h k
-form-shift kernel (Inside procs header opens body) (terminals.Leaf at leaf) h k = (h.0, h.1, h.2, form-append body (Leaf_then at leaf Empty) h.3 (k, tt))
+form-shift kernel (Inside procs header opens body) (terminals.Leaf at leaf) h k =
+    (h.0, h.1, h.2, form-append body (Leaf_then at leaf Empty) h.3 (k, tt))
 form-shift kernel (Inside procs header opens body) (terminals.If at) h k = (h.0, h.1, (h.3, h.2), tt)
 form-shift kernel (Inside procs header opens body) (terminals.While at) h k = (h.0, h.1, (h.3, h.2), tt)
 form-shift kernel (Inside procs header opens body) (terminals.Repeat at times) h k = (h.0, h.1, (h.3, h.2), tt)
@@ -100,16 +104,20 @@ form-settled None false (Some now) h = h
 form-settled (Some cause) deep None h = tt
 form-settled (Some cause) deep (Some now) h = tt
 
-form-moved : (kernel : Bool) (r : Parse) (symbol : Symbol) → ConfigurationIsInForm r.configuration → TerminalIsInForm symbol.terminal → ParseIsInFormIf (moved kernel r symbol)
+form-moved : (kernel : Bool) (r : Parse) (symbol : Symbol) → ConfigurationIsInForm r.configuration
+    → TerminalIsInForm symbol.terminal → ParseIsInFormIf (moved kernel r symbol)
 unfolding moved
 form-moved kernel r symbol h k =
-    form-settled symbol.fault _ _ (form-advanced r symbol.terminal (shift kernel r.configuration symbol.terminal) (form-shift kernel r.configuration symbol.terminal h k))
+    form-settled symbol.fault _ _ (form-advanced r symbol.terminal (shift kernel r.configuration symbol.terminal)
+    (form-shift kernel r.configuration symbol.terminal h k))
 
-form-step : (kernel : Bool) (source : List ℕ) (r : Parse) (token : Token) → ConfigurationIsInForm r.configuration → ParseIsInFormIf (step kernel source r token)
+form-step : (kernel : Bool) (source : List ℕ) (r : Parse) (token : Token) → ConfigurationIsInForm r.configuration
+    → ParseIsInFormIf (step kernel source r token)
 unfolding step
 form-step kernel source r token h = form-moved kernel r _ h (form-classified kernel r.context (at_of token) (text_of source token))
 
-form-ended : (kernel : Bool) (configuration : Configuration) (end : Cursor) (consts : List Const) (source : Source) → ConfigurationIsInForm configuration → ended kernel end consts configuration ≡ Ok source → SourceIsInForm source
+form-ended : (kernel : Bool) (configuration : Configuration) (end : Cursor) (consts : List Const) (source : Source)
+    → ConfigurationIsInForm configuration → ended kernel end consts configuration ≡ Ok source → SourceIsInForm source
 form-ended true (Top procs) end consts source h e = subst SourceIsInForm (same_tree _ source e) (record { procs = h; main = tt })
 form-ended false (Behind procs main) end consts source h e = subst SourceIsInForm (same_tree _ source e) (record { procs = h.0; main = h.1 })
 form-ended true (Inside procs header opens body) end consts source h e = cc
@@ -119,11 +127,13 @@ form-ended false (Inside procs header opens body) end consts source h e = cc
 
 form-later : (s : Result Parse Cause) (token : Token) (rest : Parse → Result Source ParseError) (source : Source) → ParseIsInFormIf s
     → ((now : Parse) → ConfigurationIsInForm now.configuration → rest now ≡ Ok source → SourceIsInForm source)
-    → elim s as (λ _. Result Source ParseError) [ Ok now ↦ rest now | Err cause ↦ Err (Bad token.line token.column cause) ] ≡ Ok source → SourceIsInForm source
+    → elim s as (λ _. Result Source ParseError) [ Ok now ↦ rest now | Err cause ↦ Err (Bad token.line token.column cause) ]
+    ≡ Ok source → SourceIsInForm source
 form-later (Ok now) token rest source k h e = h now k e
 form-later (Err cause) token rest source k h e = cc
 
-form-parsed : (kernel : Bool) (text : List ℕ) (r : Parse) (tokens : List Token) (source : Source) → ConfigurationIsInForm r.configuration → parse_from kernel text r tokens ≡ Ok source → SourceIsInForm source
+form-parsed : (kernel : Bool) (text : List ℕ) (r : Parse) (tokens : List Token) (source : Source)
+    → ConfigurationIsInForm r.configuration → parse_from kernel text r tokens ≡ Ok source → SourceIsInForm source
 form-parsed kernel text r [] source h is = form-ended kernel r.configuration (place_after text) r.context.consts source h is
 form-parsed kernel text r (token ∷ tokens) source h is =
     form-later (step kernel text r token) token (λ now. parse_from kernel text now tokens) source (form-step kernel text r token h)

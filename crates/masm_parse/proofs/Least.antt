@@ -154,14 +154,19 @@ at_end false end all before (Inside ps h os b) cs so standing consts clear over 
     (λ procs main. early_program (Inside ps h os b) procs main (terminals_of before) (λ qs m e. cc) so) standing clear over
 
 -- what settles a token, in the machine's terms
-settles : (k : Bool) (r : Parse) (before : List Terminal) (w : Symbol) → run k (Some (Top [])) before ≡ Some r.configuration → Standing k r.configuration before
+settles : (k : Bool) (r : Parse) (before : List Terminal) (w : Symbol) → run k (Some (Top [])) before ≡ Some r.configuration
+    → Standing k r.configuration before
     → Counts r.configuration before
     → Settles w.fault (Fits k before w.terminal → ⊥) (IsTooDeep before w.terminal) (advance k r w.terminal) (moved k r w)
 unfolding moved
 settles k r before w so standing counts =
-    settle_least w.fault (is_too_deep r.configuration w.terminal) (advance k r w.terminal) (Fits k before w.terminal → ⊥) (IsTooDeep before w.terminal)
-    (λ e f. dies k before f.more r.configuration w.terminal f.source.procs f.source.main so (mapped_none _ (shift k r.configuration w.terminal) e) f.spelled.whole)
-    (λ now e no. let some : (s : Configuration) × (shift k r.configuration w.terminal ≡ Some s) × (record { context = known_after r.context w.terminal; configuration = s } ≡ now) = mapped_some _ (shift k r.configuration w.terminal) now e in
+    settle_least w.fault (is_too_deep r.configuration w.terminal) (advance k r w.terminal) (Fits k before w.terminal → ⊥)
+    (IsTooDeep before w.terminal)
+    (λ e f. dies k before f.more r.configuration w.terminal f.source.procs f.source.main so
+    (mapped_none _ (shift k r.configuration w.terminal) e) f.spelled.whole)
+    (λ now e no. let some : (s : Configuration) × (shift k r.configuration w.terminal ≡ Some s)
+    × (record { context = known_after r.context w.terminal; configuration = s } ≡ now) = mapped_some _
+    (shift k r.configuration w.terminal) now e in
     no (fits k w.terminal before (finish k some.0 (before ++ w.terminal ∷ [])
     (subst (λ o. StandingIf k o (before ++ w.terminal ∷ [])) some.1 (kept k r.configuration w.terminal before standing)))))
     (deep_stands r.configuration w.terminal before counts)
@@ -181,7 +186,8 @@ still_clear k ws before more w split none_here clear i c x =
     ]
 
 -- what stands behind the tokens so far
-pub record Going (k : Bool) (source : List ℕ) (all : List Token) (ws : List Symbol) (ts : List Token) (before : List Symbol) (r : Parse) : Type 0 where
+pub record Going (k : Bool) (source : List ℕ) (all : List Token) (ws : List Symbol) (ts : List Token) (before : List Symbol)
+    (r : Parse) : Type 0 where
   pub split : ws ≡ before ++ symbols_of k source r.context ts
   pub so : run k (Some (Top [])) (terminals_of before) ≡ Some r.configuration
   pub standing : Standing k r.configuration (terminals_of before)
@@ -190,7 +196,8 @@ pub record Going (k : Bool) (source : List ℕ) (all : List Token) (ws : List Sy
   pub clear : (i : ℕ) (c : Cause) → RefusesAt k ws i c → length before ≤ i
   pub left : drop (length before) all ≡ ts
 
-further : (k : Bool) (source : List ℕ) (all : List Token) (ws : List Symbol) (t : Token) (ts : List Token) (before : List Symbol) (r : Parse) (w : Symbol) (s : Configuration)
+further : (k : Bool) (source : List ℕ) (all : List Token) (ws : List Symbol) (t : Token) (ts : List Token) (before : List Symbol)
+    (r : Parse) (w : Symbol) (s : Configuration)
     → w ≡ classify k r.context (at_of t) (text_of source t)
     → Going k source all ws (t ∷ ts) before r → shift k r.configuration w.terminal ≡ Some s → ((c : Cause) → Stands k (terminals_of before) w c → ⊥)
     → Going k source all ws ts (before ++ w ∷ []) (record { context = known_after r.context w.terminal; configuration = s })
@@ -205,10 +212,12 @@ further k source all ws t ts before r w s is g e none_here =
           ∙ ap (λ o. run k o (w.terminal ∷ [])) g.so ∙ e;
       standing =
           subst (λ x. Standing k s x) (sym (terminals_snoc before w))
-          (subst (λ o. StandingIf k o (terminals_of before ++ w.terminal ∷ [])) e (kept k r.configuration w.terminal (terminals_of before) g.standing));
+          (subst (λ o. StandingIf k o (terminals_of before ++ w.terminal ∷ [])) e
+          (kept k r.configuration w.terminal (terminals_of before) g.standing));
       counts =
           subst (λ x. Counts s x) (sym (terminals_snoc before w))
-          (subst (λ o. CountsIf o (terminals_of before ++ w.terminal ∷ [])) e (counts_kept k r.configuration w.terminal (terminals_of before) g.counts));
+          (subst (λ o. CountsIf o (terminals_of before ++ w.terminal ∷ [])) e
+          (counts_kept k r.configuration w.terminal (terminals_of before) g.counts));
       consts =
           ap constants (terminals_snoc before w) ∙ constants_append (terminals_of before) w.terminal
           ∙ ap (λ cs. cs ++ constants (w.terminal ∷ [])) g.consts ∙ known_consts r.context w.terminal;
@@ -227,7 +236,8 @@ led k source all ws t ts (Ok now) x = x
 led k source all ws t ts (Err cause) x = x
 
 -- a token that is refused
-refused : (k : Bool) (source : List ℕ) (all : List Token) (ws : List Symbol) (t : Token) (ts : List Token) (before : List Symbol) (r : Parse) (w : Symbol) (cause : Cause)
+refused : (k : Bool) (source : List ℕ) (all : List Token) (ws : List Symbol) (t : Token) (ts : List Token) (before : List Symbol)
+    (r : Parse) (w : Symbol) (cause : Cause)
     → w ≡ classify k r.context (at_of t) (text_of source t)
     → Going k source all ws (t ∷ ts) before r → Stands k (terminals_of before) w cause
     → ((c : Cause) → Stands k (terminals_of before) w c → order cause ≤ order c)
@@ -246,13 +256,16 @@ refused k source all ws t ts before r w cause is g stands least =
           stands = stands;
         });
         first_place = g.clear;
-        first_cause = λ c x. least c (stands_here k ws before (symbols_of k source (known_after r.context w.terminal) ts) w (length before) c split refl x);
+        first_cause =
+            λ c x. least c (stands_here k ws before (symbols_of k source (known_after r.context w.terminal) ts) w (length before) c
+            split refl x);
       },
       ap (λ x. at_first x (place_after source)) g.left,
     )
 
 -- the token decides: it is refused, or the machine goes on
-chosen : (k : Bool) (source : List ℕ) (all : List Token) (ws : List Symbol) (t : Token) (ts : List Token) (before : List Symbol) (r : Parse) (w : Symbol)
+chosen : (k : Bool) (source : List ℕ) (all : List Token) (ws : List Symbol) (t : Token) (ts : List Token) (before : List Symbol)
+    (r : Parse) (w : Symbol)
     → w ≡ classify k r.context (at_of t) (text_of source t)
     → Going k source all ws (t ∷ ts) before r
     → ((later : List Symbol) (now : Parse) → Going k source all ws ts later now → Answers k (place_after source) all ws (parse_from k source now ts))
@@ -260,7 +273,9 @@ chosen : (k : Bool) (source : List ℕ) (all : List Token) (ws : List Symbol) (t
     → Settles w.fault (Fits k (terminals_of before) w.terminal → ⊥) (IsTooDeep (terminals_of before) w.terminal) (advance k r w.terminal) res
     → Leads k source all ws t ts res
 chosen k source all ws t ts before r w is g more (Ok now) (e, none_here) =
-    let some : (s : Configuration) × (shift k r.configuration w.terminal ≡ Some s) × (record { context = known_after r.context w.terminal; configuration = s } ≡ now) = mapped_some _ (shift k r.configuration w.terminal) now e in
+    let some : (s : Configuration) × (shift k r.configuration w.terminal ≡ Some s)
+    × (record { context = known_after r.context w.terminal; configuration = s } ≡ now) = mapped_some _
+    (shift k r.configuration w.terminal) now e in
     subst (λ x. Answers k (place_after source) all ws (parse_from k source x ts)) some.2
     (more (before ++ w ∷ []) (record { context = known_after r.context w.terminal; configuration = some.0 })
     (further k source all ws t ts before r w some.0 is g some.1 none_here))

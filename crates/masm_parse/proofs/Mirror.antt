@@ -17,4 +17,17 @@ pub length_frames_view : (fs : List OpenConstruct) → length (opens_view fs) �
 unfolding opens_view
 length_frames_view fs = length-map (reverse fs) open_view ∙ length-reverse fs
 
-pub ruleset mirror = (body_of_push, body_of_nil, frames_view_push, frames_view_nil, length_frames_view, view-Instr, view-Exec, view-Call, view-Syscall, view-If, view-While, view-Repeat)
+pub ruleset mirror = (
+  body_of_push,
+  body_of_nil,
+  frames_view_push,
+  frames_view_nil,
+  length_frames_view,
+  view-Instr,
+  view-Exec,
+  view-Call,
+  view-Syscall,
+  view-If,
+  view-While,
+  view-Repeat,
+)

@@ -71,7 +71,8 @@ advanced r token tokens terminal None at places h = tt
 advanced r token tokens terminal (Some s) at places h = record {
   consts =
       subst (λ zs. Ascends IsBefore (zs ++ positions_of tokens)) (sym (const_positions_after r.context terminal))
-      (goes_on (const_positions r.context.consts) (const_positions (constants (terminal ∷ []))) (positions_of tokens) (at_of token) at.consts h.consts);
+      (goes_on (const_positions r.context.consts) (const_positions (constants (terminal ∷ []))) (positions_of tokens) (at_of token)
+      at.consts h.consts);
   procs =
       subst (λ zs. Ascends IsBefore (zs ++ positions_of tokens)) (sym places)
       (goes_on (configuration_positions r.configuration) (terminal_positions terminal) (positions_of tokens) (at_of token) at.procs h.procs);
@@ -90,7 +91,8 @@ going_moved : (kernel : Bool) (r : Parse) (token : Token) (tokens : List Token) 
 unfolding moved
 going_moved kernel r token tokens symbol at h =
     going_settled symbol.fault _ _ tokens
-    (advanced r token tokens symbol.terminal (shift kernel r.configuration symbol.terminal) at (positions_shifted kernel r.configuration symbol.terminal) h)
+    (advanced r token tokens symbol.terminal (shift kernel r.configuration symbol.terminal) at
+    (positions_shifted kernel r.configuration symbol.terminal) h)
 
 going_step : (kernel : Bool) (text : List ℕ) (r : Parse) (token : Token) (tokens : List Token) → Going r (token ∷ tokens)
     → GoingIf (step kernel text r token) tokens
@@ -100,7 +102,8 @@ going_step kernel text r token tokens h =
     (at-symbol kernel r.context (at_of token) (text_of text token)) h
 
 ordered_end : (kernel : Bool) (context : Context) (configuration : Configuration) (end : Cursor) (source : Source)
-    → Going (record { context = context; configuration = configuration }) [] → ended kernel end context.consts configuration ≡ Ok source → IsInOrder source
+    → Going (record { context = context; configuration = configuration }) []
+    → ended kernel end context.consts configuration ≡ Ok source → IsInOrder source
 ordered_end true context (Top procs) end source h e =
     subst IsInOrder (same_tree _ source e)
     (record { consts = subst (Ascends IsBefore) (append-nil (const_positions context.consts)) h.consts; procs = h.procs })
@@ -117,7 +120,8 @@ ordered_end false context (Inside procs header opens body) end source h e = cc
 -- the reading of the other tokens, behind a step
 ordered_later : (s : Result Parse Cause) (token : Token) (tokens : List Token) (rest : Parse → Result Source ParseError) (source : Source)
     → GoingIf s tokens → ((now : Parse) → Going now tokens → rest now ≡ Ok source → IsInOrder source)
-    → elim s as (λ _. Result Source ParseError) [ Ok now ↦ rest now | Err cause ↦ Err (Bad token.line token.column cause) ] ≡ Ok source → IsInOrder source
+    → elim s as (λ _. Result Source ParseError) [ Ok now ↦ rest now | Err cause ↦ Err (Bad token.line token.column cause) ]
+    ≡ Ok source → IsInOrder source
 ordered_later (Ok now) token tokens rest source h k e = k now h e
 ordered_later (Err cause) token tokens rest source h k e = cc
 
@@ -168,7 +172,8 @@ ascends_before [] ys h = tt
 ascends_before (x ∷ xs) ys h = (each_before (IsBefore x) xs ys h.0, ascends_before xs ys h.1)
 
 -- the places of procedures without those of their statements
-each_procedure : (P : Position → Type 0) (procs : List Procedure) → AllByRecursion P (procs_positions procs) → AllByRecursion P (map position_of procs)
+each_procedure : (P : Position → Type 0) (procs : List Procedure) → AllByRecursion P (procs_positions procs)
+    → AllByRecursion P (map position_of procs)
 each_procedure P [] h = tt
 each_procedure P (p ∷ procs) h = (h.0, each_procedure P procs (each_behind P (body_positions p.body) (procs_positions procs) h.1))
 

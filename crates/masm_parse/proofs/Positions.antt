@@ -61,7 +61,8 @@ abbrev pub HasPositions : Option Configuration → List Position → Type 0
 HasPositions None ps = Unit {0}
 HasPositions (Some s) ps = configuration_positions s ≡ ps
 
-positions_closed : (procs : List Procedure) (role : Role) (p : Procedure) → configuration_positions (closed procs role p) ≡ procs_positions procs ++ procedure_positions p
+positions_closed : (procs : List Procedure) (role : Role) (p : Procedure)
+    → configuration_positions (closed procs role p) ≡ procs_positions procs ++ procedure_positions p
 positions_closed procs roles.Proc p = procs_positions_push procs p
 positions_closed procs roles.Export p = procs_positions_push procs p
 positions_closed procs roles.Main p = refl
@@ -76,7 +77,8 @@ longer : (f o b more : List Position) (at : Position) → f ++ at ∷ (o ++ (b +
 longer f o b more at = simp append_assoc
 
 -- each shift adds the token's place
-pub positions_shifted : (kernel : Bool) (s : Configuration) (t : Terminal) → HasPositions (shift kernel s t) (configuration_positions s ++ terminal_positions t)
+pub positions_shifted : (kernel : Bool) (s : Configuration) (t : Terminal)
+    → HasPositions (shift kernel s t) (configuration_positions s ++ terminal_positions t)
 positions_shifted kernel (Top procs) (terminals.Const c) = sym (append-nil (procs_positions procs))
 positions_shifted kernel (Top procs) (terminals.Header header) = places_begun procs header (may_begin kernel header.role)
 positions_shifted kernel (Inside procs header opens body) (terminals.Leaf at leaf) =

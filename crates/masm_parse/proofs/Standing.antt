@@ -91,7 +91,8 @@ else_holds at before os b ts (f, us, e, h, p) =
 abbrev pub Standing : Bool → Configuration → List Terminal → Type 0
 Standing k (Top ps) ts = SpellsProcs k ps ts
 Standing k (Inside ps h os b) ts =
-    (f : List Terminal) × (us : List Terminal) × (ts ≡ f ++ terminals.Header h ∷ us) × (may_begin k h.role ≡ true) × SpellsProcs k ps f × Holds os b us
+    (f : List Terminal) × (us : List Terminal) × (ts ≡ f ++ terminals.Header h ∷ us) × (may_begin k h.role ≡ true)
+    × SpellsProcs k ps f × Holds os b us
 Standing k (Behind ps main) ts = (k ≡ false) × SpellsMain ps main ts
 
 abbrev pub StandingIf : Bool → Option Configuration → List Terminal → Type 0
@@ -149,8 +150,14 @@ kept k (Inside ps h os b) (terminals.Leaf at l) ts (f, us, e, may, d, x) = (
 )
 kept k (Inside ps h os b) (terminals.If at) ts (f, us, e, may, d, x) =
     (f, us ++ terminals.If at ∷ [], longer ts f us h (terminals.If at) e, may, d, (us, terminals.If at ∷ [], refl, x, part_if at b nothing))
-kept k (Inside ps h os b) (terminals.While at) ts (f, us, e, may, d, x) =
-    (f, us ++ terminals.While at ∷ [], longer ts f us h (terminals.While at) e, may, d, (us, terminals.While at ∷ [], refl, x, part_while at b nothing))
+kept k (Inside ps h os b) (terminals.While at) ts (f, us, e, may, d, x) = (
+  f,
+  us ++ terminals.While at ∷ [],
+  longer ts f us h (terminals.While at) e,
+  may,
+  d,
+  (us, terminals.While at ∷ [], refl, x, part_while at b nothing),
+)
 kept k (Inside ps h os b) (terminals.Repeat at n) ts (f, us, e, may, d, x) = (
   f,
   us ++ terminals.Repeat at n ∷ [],

@@ -42,7 +42,14 @@ is_export roles.Main = false
 
 abbrev pub procedure : Header → Body → Procedure
 procedure header body =
-    record { name = header.name; locals = header.locals; exported = is_export header.role; body = body; line = header.at.line; column = header.at.column }
+    record {
+      name = header.name;
+      locals = header.locals;
+      exported = is_export header.role;
+      body = body;
+      line = header.at.line;
+      column = header.at.column;
+    }
 
 -- the statements behind the end of what was open
 abbrev pub reduce : Open → Body → Body
@@ -117,7 +124,8 @@ abbrev pub start : Parse
 start = record { context = no_context; configuration = Top [] }
 
 abbrev pub advance : Bool → Parse → Terminal → Option Parse
-advance kernel r terminal = option_map (λ s. record { context = known_after r.context terminal; configuration = s }) (shift kernel r.configuration terminal)
+advance kernel r terminal =
+    option_map (λ s. record { context = known_after r.context terminal; configuration = s }) (shift kernel r.configuration terminal)
 
 -- The first cause that stands: that of the token by itself, Syntax where it does not fit, TooDeep where it stands too
 -- deep.

@@ -26,7 +26,8 @@ opens_view fs = map open_view (reverse fs)
 
 abbrev pub configuration_view : code.Configuration → Configuration
 configuration_view (configurations.Top procs) = Top (map procedure_of procs.items)
-configuration_view (configurations.Inside procs header fs body) = Inside (map procedure_of procs.items) header (opens_view fs.items) (body_of body.items)
+configuration_view (configurations.Inside procs header fs body) =
+    Inside (map procedure_of procs.items) header (opens_view fs.items) (body_of body.items)
 configuration_view (configurations.Behind procs main) = Behind (map procedure_of procs.items) (procedure_of main)
 
 abbrev pub parser_view : Parser → Parse

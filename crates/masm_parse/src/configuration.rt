@@ -69,7 +69,8 @@ fn reduce(alloc: Global, construct: OpenConstruct, body: Vec<Stmt>) -> Result<Ve
 // The configuration behind the end of a procedure, or of `begin`.
 #[tactic(auto, using(crate::proofs::Mirror::mirror))]
 fn close(mut procs: Vec<Proc>, header: Header, body: Vec<Stmt>) -> Result<Configuration, AllocError>
-    ensures { IfOk result (λ now. configuration_view now ≡ closed (map procedure_of procs.items) header.role (procedure header (body_of body.items))) }
+    ensures { IfOk result (λ now. configuration_view now
+        ≡ closed (map procedure_of procs.items) header.role (procedure header (body_of body.items))) }
 {
     let Header {
         role,
@@ -101,7 +102,8 @@ fn open(
     mut opens: Vec<OpenConstruct>,
     construct: OpenConstruct,
 ) -> Result<Configuration, AllocError>
-    ensures { IfOk result (λ now. configuration_view now ≡ Inside (map procedure_of procs.items) header (open_view construct ∷ opens_view opens.items) Empty) }
+    ensures { IfOk result (λ now. configuration_view now
+        ≡ Inside (map procedure_of procs.items) header (open_view construct ∷ opens_view opens.items) Empty) }
 {
     opens.push(construct)?;
     Ok(Configuration::Inside(procs, header, opens, Vec::new(alloc)))
@@ -116,7 +118,8 @@ fn shift_else(
     mut opens: Vec<OpenConstruct>,
     mut body: Vec<Stmt>,
 ) -> Result<Option<Configuration>, AllocError>
-    ensures { IfOk result (λ now. option_map configuration_view now ≡ shift_else (map procedure_of procs.items) header (opens_view opens.items) (body_of body.items)) }
+    ensures { IfOk result (λ now. option_map configuration_view now
+        ≡ shift_else (map procedure_of procs.items) header (opens_view opens.items) (body_of body.items)) }
 {
     body.shrink_to_fit();
     match opens.pop() {
@@ -142,7 +145,8 @@ fn shift_end(
     mut opens: Vec<OpenConstruct>,
     mut body: Vec<Stmt>,
 ) -> Result<Option<Configuration>, AllocError>
-    ensures { IfOk result (λ now. option_map configuration_view now ≡ shift_end (map procedure_of procs.items) header (opens_view opens.items) (body_of body.items)) }
+    ensures { IfOk result (λ now. option_map configuration_view now
+        ≡ shift_end (map procedure_of procs.items) header (opens_view opens.items) (body_of body.items)) }
 {
     body.shrink_to_fit();
     match opens.pop() {
@@ -163,7 +167,8 @@ fn shift_inside(
     mut body: Vec<Stmt>,
     terminal: Terminal,
 ) -> Result<Option<Configuration>, AllocError>
-    ensures { IfOk result (λ now. option_map configuration_view now ≡ shift_inside (map procedure_of procs.items) header (opens_view opens.items) (body_of body.items) terminal) }
+    ensures { IfOk result (λ now. option_map configuration_view now
+        ≡ shift_inside (map procedure_of procs.items) header (opens_view opens.items) (body_of body.items) terminal) }
 {
     let construct = match terminal {
         Terminal::Const(_) | Terminal::Header(_) => return Ok(None),
@@ -195,7 +200,9 @@ impl Configuration {
 
     // Whether a constant fits here. The configuration behind it is this one.
     pub(crate) fn takes_constant(&self) -> bool
-        ensures { (kernel : Bool) (c : Const) → kept result (configuration_view self.now) ≡ shift kernel (configuration_view self.now) (terminals.Const c) }
+        ensures { (kernel : Bool) (c : Const)
+            → kept result (configuration_view self.now)
+            ≡ shift kernel (configuration_view self.now) (terminals.Const c) }
     {
         matches!(self, Configuration::Top(_))
     }
@@ -252,7 +259,8 @@ impl Configuration {
 
     // Goes behind a statement of one token, in place; false where it does not fit.
     fn shift_leaf(&mut self, at: Position, leaf: Leaf) -> Result<bool, AllocError>
-        ensures { IfOk result (λ fits. kept fits (configuration_view self.new) ≡ shift_statement (configuration_view self.old) (terminals.Leaf at leaf)) }
+        ensures { IfOk result (λ fits. kept fits (configuration_view self.new)
+            ≡ shift_statement (configuration_view self.old) (terminals.Leaf at leaf)) }
     {
         match self {
             Configuration::Inside(_, _, _, body) => {

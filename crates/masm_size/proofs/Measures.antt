@@ -7,7 +7,8 @@ use Rattle.masm_size.specs.declared.shape.Rise.{Rise}
 use Rattle.masm_size.specs.Sizes.{Row, Size, limited, run_of, nothing, one_run, capped, top_of, top_after, rises_behind, offset_of, starts_with, row_behind, row_times, times_size}
 
 -- the last part that is higher than all before it
-top_any : (below : ℕ) (rise : Rise) (rises : List Rise) → top_of below (rise ∷ rises) ≡ top_after (slice_get (rise ∷ rises) (length (rise ∷ rises) - 1))
+top_any : (below : ℕ) (rise : Rise) (rises : List Rise)
+    → top_of below (rise ∷ rises) ≡ top_after (slice_get (rise ∷ rises) (length (rise ∷ rises) - 1))
 top_any below rise [] = refl
 top_any below rise (next ∷ rises) =
     let last : length (rise ∷ next ∷ rises) - 1 ≡ suc (length (next ∷ rises) - 1) = omega arith in
@@ -17,12 +18,14 @@ pub top_last : (rises : List Rise) → top_of 0 rises ≡ top_after (slice_get r
 top_last [] = refl
 top_last (rise ∷ rises) = top_any 0 rise rises
 
-behind-append : (offset below : ℕ) (xs ys : List Rise) → rises_behind offset below (xs ++ ys) ≡ rises_behind offset below xs ++ rises_behind offset below ys
+behind-append : (offset below : ℕ) (xs ys : List Rise)
+    → rises_behind offset below (xs ++ ys) ≡ rises_behind offset below xs ++ rises_behind offset below ys
 behind-append offset below [] ys = refl
 behind-append offset below (x ∷ xs) ys = grind (arith, nat_tests, behind-append offset below xs ys)
 
 pub behind_more : (offset below : ℕ) (rises : List Rise) (i : ℕ) (rise : Rise) → i < length rises
-    → rises_behind offset below (take (i + 1) rises) ≡ rises_behind offset below (take i rises) ++ rises_behind offset below (get_or rises i rise ∷ [])
+    → rises_behind offset below (take (i + 1) rises)
+    ≡ rises_behind offset below (take i rises) ++ rises_behind offset below (get_or rises i rise ∷ [])
 behind_more offset below rises i rise within =
     ap (rises_behind offset below) (take_more rises i rise within) ∙ behind-append offset below (take i rises) (get_or rises i rise ∷ [])
 

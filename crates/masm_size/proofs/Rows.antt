@@ -46,7 +46,8 @@ among-next (suc n) i h more =
 
 pub ruleset levels = (among-done, among-next)
 
-pub highest-more : (count : ℕ) (rise : Rise) (rises : List Rise) → highest count (rise ∷ rises) ≡ max (height_among count rise.index rise.height) (highest count rises)
+pub highest-more : (count : ℕ) (rise : Rise) (rises : List Rise)
+    → highest count (rise ∷ rises) ≡ max (height_among count rise.index rise.height) (highest count rises)
 highest-more count rise rises = refl
 
 -- heights on the next level
@@ -85,7 +86,9 @@ within-max (suc levels) count i a b = elim (cases_lt 1 count) [
       ∙ (ap (height_within levels (count / 2 + count % 2) (i / 2)) (next-max (is_joined count i) a b)
       ∙ (within-max levels (count / 2 + count % 2) (i / 2) (height_next count i a) (height_next count i b)
       ∙ sym (ap₂ max (within-go levels count i a more) (within-go levels count i b more))))
-  | inr few ↦ within-stop (suc levels) count i (max a b) few ∙ sym (ap₂ max (within-stop (suc levels) count i a few) (within-stop (suc levels) count i b few))
+  | inr few ↦
+      within-stop (suc levels) count i (max a b) few
+      ∙ sym (ap₂ max (within-stop (suc levels) count i a few) (within-stop (suc levels) count i b few))
 ]
 
 -- no block stands deeper than one before it
@@ -93,7 +96,9 @@ within-mono : (levels count i k a b : ℕ) → i ≤ k → k < count → b ≤ a
 within-mono zero count i k a b before below less low = less
 within-mono (suc levels) count i k a b before below less low = elim (cases_lt 1 count) [
   | inl more ↦
-      let deeper = within-mono levels (count / 2 + count % 2) (i / 2) (k / 2) (height_next count i a) (height_next count k b) (omega arith) (omega arith)
+      let deeper =
+      within-mono levels (count / 2 + count % 2) (i / 2) (k / 2) (height_next count i a) (height_next count k b) (omega arith)
+      (omega arith)
       (next-mono count i k a b before below less low) (next-low (is_joined count k) b low) in
       subst (λ h. h ≤ height_within (suc levels) count i a) (sym (within-go levels count k b more))
       (subst (λ h. height_within levels (count / 2 + count % 2) (k / 2) (height_next count k b) ≤ h) (sym (within-go levels count i a more)) deeper)
@@ -200,7 +205,8 @@ row_height-none row rises none = ap (row_height row) none
 
 pub ruleset row_heights = (row_height-some, row_height-none)
 
-pub height-row : (xs : List Shape) → length xs ≤ 524288 → AreLow (map height_of xs) → row_height (row_of xs) (row_of xs).rises ≡ height_joined (map height_of xs)
+pub height-row : (xs : List Shape) → length xs ≤ 524288 → AreLow (map height_of xs)
+    → row_height (row_of xs) (row_of xs).rises ≡ height_joined (map height_of xs)
 unfolding all_joined
 height-row [] few low = refl
 height-row (x ∷ xs) few low =
@@ -217,4 +223,6 @@ height-row (x ∷ xs) few low =
     ∙ (ap (λ n. highest n ((record { index = capped 0; height = h }) ∷ rises_from 1 (suc h) hs)) whole
     ∙ (ap (highest count) (sym first)
     ∙ (heights
-    ∙ (ap (λ n. best count n 0 (h ∷ hs)) (ap suc (sym same)) ∙ (ap (λ n. best n (suc (length hs)) 0 (h ∷ hs)) (ap suc (sym same)) ∙ sym (joined-best (suc (length hs)) h hs (omega arith)))))))
+    ∙ (ap (λ n. best count n 0 (h ∷ hs)) (ap suc (sym same))
+    ∙ (ap (λ n. best n (suc (length hs)) 0 (h ∷ hs)) (ap suc (sym same))
+    ∙ sym (joined-best (suc (length hs)) h hs (omega arith)))))))

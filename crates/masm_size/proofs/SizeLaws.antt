@@ -37,7 +37,8 @@ shapes-append (x ∷ xs) ys = ap (put (shape_of x)) (shapes-append xs ys) ∙ sy
 
 -- rises of two lists
 
-rises-append : (i below : ℕ) (xs ys : List ℕ) → rises_from i below (xs ++ ys) ≡ rises_from i below xs ++ rises_from (i + length xs) (top_of below (rises_from i below xs)) ys
+rises-append : (i below : ℕ) (xs ys : List ℕ)
+    → rises_from i below (xs ++ ys) ≡ rises_from i below xs ++ rises_from (i + length xs) (top_of below (rises_from i below xs)) ys
 rises-append i below [] ys = ap (λ k. rises_from k below ys) (sym (add-zero i))
 rises-append i below (h ∷ hs) ys = elim (cases_lt h below) [
   | inl under ↦
@@ -53,7 +54,8 @@ rises-append i below (h ∷ hs) ys = elim (cases_lt h below) [
 ]
 
 behind-taken : (offset below : ℕ) (rise : Rise) (rises : List Rise) → below ≤ rise.height
-    → rises_behind offset below (rise ∷ rises) ≡ (record { index = capped (offset + rise.index); height = rise.height }) ∷ rises_behind offset below rises
+    → rises_behind offset below (rise ∷ rises)
+    ≡ (record { index = capped (offset + rise.index); height = rise.height }) ∷ rises_behind offset below rises
 behind-taken offset below rise rises high =
     let test : nat_le below rise.height ≡ true = grind (arith, nat_tests) in
     ap (λ t. cond t ((record { index = capped (offset + rise.index); height = rise.height }) ∷ rises_behind offset below rises)
@@ -163,7 +165,8 @@ row-behind a b y ys is =
     ap (row_behind a b) some ∙ ap (joined_row a b) (sym some)
 
 row_same : (w w' : ℕ) (s s' e e' : Bool) (r r' : List Rise) → w ≡ w' → s ≡ s' → e ≡ e' → r ≡ r'
-    → (let row : Row = record { whole = w; starts = s; ends = e; rises = r } in row) ≡ (let row : Row = record { whole = w'; starts = s'; ends = e'; rises = r' } in row)
+    → (let row : Row = record { whole = w; starts = s; ends = e; rises = r } in row)
+    ≡ (let row : Row = record { whole = w'; starts = s'; ends = e'; rises = r' } in row)
 row_same w w' s s' e e' r r' p q t u = λ i. record { whole = p i; starts = q i; ends = t i; rises = u i }
 
 -- where two runs do not meet
@@ -185,7 +188,8 @@ row-apart xs y ys apart =
     (ap (rises_from 0 0) (map-append height_of xs (y ∷ ys))
     ∙ (rises-append 0 0 (map height_of xs) (map height_of (y ∷ ys))
     ∙ ap (λ rs. a.rises ++ rs)
-    (ap (λ k. rises_from k (top_of 0 a.rises) (map height_of (y ∷ ys))) (let e : 0 + length (map height_of xs) ≡ length xs + 0 = omega (arith, length-map xs height_of) in e)
+    (ap (λ k. rises_from k (top_of 0 a.rises) (map height_of (y ∷ ys)))
+    (let e : 0 + length (map height_of xs) ≡ length xs + 0 = omega (arith, length-map xs height_of) in e)
     ∙ (ap (λ m. rises_from (length xs + 0) m (map height_of (y ∷ ys))) (max-zero (top_of 0 a.rises))
     ∙ (sym (rises-behind (length xs) 0 (top_of 0 a.rises) 0 (map height_of (y ∷ ys)))
     ∙ ap (λ k. rises_behind k (top_of 0 a.rises) b.rises) (sym offset))))))
@@ -403,9 +407,11 @@ abbrev mutual
   behind-none (Operation item ∷ pieces) = behind-some item [] pieces
   behind-none (Whole e ∷ pieces) = ap (λ hs. e.height ∷ hs) (behind-none pieces)
 
-  behind-some : (item : Item) (items : List Item) (pieces : List (Piece Extent)) → heights (blocks_behind as_extent.span as_extent.join (item ∷ items) pieces) ≡ map height_of (put Run (shapes_of pieces))
+  behind-some : (item : Item) (items : List Item) (pieces : List (Piece Extent))
+      → heights (blocks_behind as_extent.span as_extent.join (item ∷ items) pieces) ≡ map height_of (put Run (shapes_of pieces))
   behind-some item items [] = refl
-  behind-some item items (Operation next ∷ pieces) = behind-some item (items ++ next ∷ []) pieces ∙ ap (map height_of) (sym (put-again (shapes_of pieces)))
+  behind-some item items (Operation next ∷ pieces) =
+      behind-some item (items ++ next ∷ []) pieces ∙ ap (map height_of) (sym (put-again (shapes_of pieces)))
   behind-some item items (Whole e ∷ pieces) = ap (λ hs. 1 ∷ e.height ∷ hs) (behind-none pieces)
 
 pub height-whole : (pieces : List (Piece Extent)) → (whole as_extent pieces).height ≡ height_joined (map height_of (shapes_of pieces))
@@ -434,14 +440,16 @@ abbrev sum_of : List Extent → ℕ
 sum_of [] = 0
 sum_of (e ∷ es) = e.operations + sum_of es
 
-AreSome-behind : (items : List Item) (pieces : List (Piece Extent)) → IsSolid pieces → AreSome (blocks_behind as_extent.span as_extent.join items pieces)
+AreSome-behind : (items : List Item) (pieces : List (Piece Extent)) → IsSolid pieces
+    → AreSome (blocks_behind as_extent.span as_extent.join items pieces)
 AreSome-behind [] [] h = tt
 AreSome-behind (item ∷ items) [] h = ((omega arith, omega arith, omega arith), tt)
 AreSome-behind items (Operation item ∷ pieces) h = AreSome-behind (items ++ item ∷ []) pieces h
 AreSome-behind [] (Whole e ∷ pieces) h = (h.0, AreSome-behind [] pieces h.1)
 AreSome-behind (item ∷ items) (Whole e ∷ pieces) h = ((omega arith, omega arith, omega arith), (h.0, AreSome-behind [] pieces h.1))
 
-sum-behind : (items : List Item) (pieces : List (Piece Extent)) → min (sum_of (blocks_behind as_extent.span as_extent.join items pieces)) 524289 ≡ min (length items + total pieces) 524289
+sum-behind : (items : List Item) (pieces : List (Piece Extent))
+    → min (sum_of (blocks_behind as_extent.span as_extent.join items pieces)) 524289 ≡ min (length items + total pieces) 524289
 sum-behind [] [] = omega arith
 sum-behind (item ∷ items) [] = omega arith
 sum-behind items (Operation item ∷ pieces) = omega (arith, sum-behind (items ++ item ∷ []) pieces, length-append items (item ∷ []))
@@ -464,7 +472,12 @@ sum-joined n [] k h = refl
 sum-joined n (a ∷ []) k h = omega arith
 sum-joined zero (a ∷ b ∷ blocks) k h = absurd (omega arith)
 sum-joined (suc n) (a ∷ b ∷ blocks) k h =
-    omega (arith, sum-joined n (paired as_extent.span as_extent.join (a ∷ b ∷ blocks)) (omega (arith, length-paired as_extent.span as_extent.join blocks)) (AreSome-paired (a ∷ b ∷ blocks) h), sum-paired (a ∷ b ∷ blocks))
+    omega (
+      arith,
+      sum-joined n (paired as_extent.span as_extent.join (a ∷ b ∷ blocks))
+          (omega (arith, length-paired as_extent.span as_extent.join blocks)) (AreSome-paired (a ∷ b ∷ blocks) h),
+      sum-paired (a ∷ b ∷ blocks),
+    )
 
 pub operations-whole : (pieces : List (Piece Extent)) → IsSolid pieces → (whole as_extent pieces).operations ≡ min (max 1 (total pieces)) 524289
 unfolding whole_of all_joined

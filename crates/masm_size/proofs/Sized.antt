@@ -66,7 +66,9 @@ module _ {procs : List Procedure} {kernel : List Exported} where
   list-solid some nothing = tt
   list-solid some {locals} (instr at i {xs} d) =
       subst IsSolid (sym (seen-append as_extent (map Operation (expansion i.name i.numbers locals)) xs))
-      (solid-append (seen (map Operation (expansion i.name i.numbers locals))) (seen xs) (subst IsSolid (sym (seen-operations as_extent (expansion i.name i.numbers locals))) (solid-run (expansion i.name i.numbers locals))) (list-solid some d))
+      (solid-append (seen (map Operation (expansion i.name i.numbers locals))) (seen xs)
+      (subst IsSolid (sym (seen-operations as_extent (expansion i.name i.numbers locals)))
+      (solid-run (expansion i.name i.numbers locals))) (list-solid some d))
   list-solid some (exec at name {p} {ys} {xs} found d f) =
       subst IsSolid (sym (seen-append as_extent (with_locals p.locals ys) xs))
       (solid-append (seen (with_locals p.locals ys)) (seen xs) (solid-locals p.locals ys (list-solid some d)) (list-solid some f))
@@ -86,7 +88,8 @@ module _ {procs : List Procedure} {kernel : List Exported} where
       ((omega arith, omega arith, omega arith), list-solid some f)
   list-solid some (repeated at n {ys} {xs} d f) =
       subst IsSolid (sym (seen-append as_extent (times n ys) xs))
-      (solid-append (seen (times n ys)) (seen xs) (subst IsSolid (sym (seen-times as_extent n ys)) (solid-times n (seen ys) (list-solid some d))) (list-solid some f))
+      (solid-append (seen (times n ys)) (seen xs)
+      (subst IsSolid (sym (seen-times as_extent n ys)) (solid-times n (seen ys) (list-solid some d))) (list-solid some f))
 
 -- The given sizes are those of these procedures' lists, and the given extents those of the kernel's blocks.
 pub record SizesFit (procs : List Procedure) (kernel : List Exported) (P : List ℕ → Type 0) (known : Known_sizes) : Type 0 where
@@ -94,19 +97,24 @@ pub record SizesFit (procs : List Procedure) (kernel : List Exported) (P : List 
       → IsList procs kernel p.locals p.body ys → known.size name ≡ size_of (seen (with_locals p.locals ys))
   pub exported : (name : List ℕ) (block : Block) → first_export kernel name ≡ Some block → known.exported name ≡ seen_as as_extent block
 
-module _ {procs : List Procedure} {kernel : List Exported} (some : HasOperations kernel) (P : List ℕ → Type 0) (known : Known_sizes) (fits : SizesFit procs kernel P known) where
-  agree : {locals : ℕ} {b : Body} {xs : List (Piece Block)} → IsList procs kernel locals b xs → Agree (extent_of (size_of (seen xs))) (seen_as as_extent (block_of xs))
+module _ {procs : List Procedure} {kernel : List Exported} (some : HasOperations kernel) (P : List ℕ → Type 0) (known : Known_sizes)
+    (fits : SizesFit procs kernel P known) where
+  agree : {locals : ℕ} {b : Body} {xs : List (Piece Block)} → IsList procs kernel locals b xs
+      → Agree (extent_of (size_of (seen xs))) (seen_as as_extent (block_of xs))
   agree {xs} d = subst (Agree (extent_of (size_of (seen xs)))) (sym (seen-block as_extent xs)) (extent-whole (seen xs) (list-solid some d))
 
-  agree-procedure : (name : List ℕ) (p : Procedure) (ys : List (Piece Block)) → P name → first_procedure procs name ≡ Some p → IsList procs kernel p.locals p.body ys
+  agree-procedure : (name : List ℕ) (p : Procedure) (ys : List (Piece Block)) → P name → first_procedure procs name ≡ Some p
+      → IsList procs kernel p.locals p.body ys
       → Agree (extent_of (known.size name)) (seen_as as_extent (block_of (with_locals p.locals ys)))
   agree-procedure name p ys of found d =
       let zs = with_locals p.locals ys in
       subst (λ z. Agree (extent_of z) (seen_as as_extent (block_of zs))) (sym (fits.size name p ys of found d))
-      (subst (Agree (extent_of (size_of (seen zs)))) (sym (seen-block as_extent zs)) (extent-whole (seen zs) (solid-locals p.locals ys (list-solid some d))))
+      (subst (Agree (extent_of (size_of (seen zs)))) (sym (seen-block as_extent zs))
+      (extent-whole (seen zs) (solid-locals p.locals ys (list-solid some d))))
 
   -- a block behind a list
-  behind : (before : List (Piece Extent)) (e f : Extent) → block_size e ≡ block_size f → both (size_of before) (block_size e) ≡ size_of (before ++ Whole f ∷ [])
+  behind : (before : List (Piece Extent)) (e f : Extent) → block_size e ≡ block_size f
+      → both (size_of before) (block_size e) ≡ size_of (before ++ Whole f ∷ [])
   behind before e f same = ap (both (size_of before)) (same ∙ sym (size-block f)) ∙ sym (size-append before (Whole f ∷ []))
 
   pub sized-is : (before : List (Piece Extent)) {locals : ℕ} {b : Body} {xs : List (Piece Block)} → IsList procs kernel locals b xs → UsesOnly P b
@@ -116,7 +124,9 @@ module _ {procs : List Procedure} {kernel : List Exported} (some : HasOperations
       let items = expansion i.name i.numbers locals in
       ap (size_onto known locals b) (ap (both (size_of before)) (sym (size-run items)) ∙ sym (size-append before (map Operation items)))
       ∙ sized-is (before ++ map Operation items) d of
-      ∙ ap size_of (append_assoc before (map Operation items) (seen xs) ∙ ap (λ zs. before ++ zs) (sym (seen-append as_extent (map Operation items) xs ∙ ap (λ zs. zs ++ seen xs) (seen-operations as_extent items))))
+      ∙ ap size_of (append_assoc before (map Operation items) (seen xs)
+      ∙ ap (λ zs. before ++ zs) (sym
+      (seen-append as_extent (map Operation items) xs ∙ ap (λ zs. zs ++ seen xs) (seen-operations as_extent items))))
   sized-is before {locals} (exec at name {p} {b} {ys} {xs} found d f) of =
       let zs = with_locals p.locals ys in
       ap (size_onto known locals b) (ap (both (size_of before)) (fits.size name p ys of.0 found d) ∙ sym (size-append before (seen zs)))
@@ -143,15 +153,19 @@ module _ {procs : List Procedure} {kernel : List Exported} (some : HasOperations
   sized-is before {locals} (loops at {a} {b} {ys} {xs} d f) of =
       let turn = seen_as as_extent (block_of ys) in
       ap (size_onto known locals b)
-      (behind before _ _ (ap (λ u. block_size (as_extent.loop (extent_of u))) (sized-is [] d of.0) ∙ block-over (extent_of (size_of (seen ys))) turn (agree d)))
+      (behind before _ _ (ap (λ u. block_size (as_extent.loop (extent_of u))) (sized-is [] d of.0)
+      ∙ block-over (extent_of (size_of (seen ys))) turn (agree d)))
       ∙ sized-is (before ++ Whole (as_extent.loop turn) ∷ []) f of.1
       ∙ ap size_of (append_assoc before (Whole (as_extent.loop turn) ∷ []) (seen xs))
   sized-is before {locals} (repeated at n {a} {b} {ys} {xs} d f) of =
       ap (size_onto known locals b) (ap (λ s. both (size_of before) (times_size n s)) (sized-is [] d of.0) ∙ size-times n (seen ys) before)
       ∙ sized-is (before ++ times n (seen ys)) f of.1
-      ∙ ap size_of (append_assoc before (times n (seen ys)) (seen xs) ∙ ap (λ us. before ++ us) (sym (seen-append as_extent (times n ys) xs ∙ ap (λ us. us ++ seen xs) (seen-times as_extent n ys))))
+      ∙ ap size_of (append_assoc before (times n (seen ys)) (seen xs)
+      ∙ ap (λ us. before ++ us) (sym
+      (seen-append as_extent (times n ys) xs ∙ ap (λ us. us ++ seen xs) (seen-times as_extent n ys))))
 
-  locals-sized : (n : ℕ) (b : Body) (xs : List (Piece Block)) → IsList procs kernel n b xs → UsesOnly P b → procedure_size known n b ≡ size_of (seen (with_locals n xs))
+  locals-sized : (n : ℕ) (b : Body) (xs : List (Piece Block)) → IsList procs kernel n b xs → UsesOnly P b
+      → procedure_size known n b ≡ size_of (seen (with_locals n xs))
   locals-sized zero b xs d of = sized-is [] d of
   locals-sized (suc n) b xs d of =
       let up : List Item = lit (suc n) ∷ plain_item FmpUpdate ∷ [] in
@@ -172,11 +186,13 @@ module _ {procs : List Procedure} {kernel : List Exported} (some : HasOperations
   procedure-extent p xs d of =
       let zs = with_locals p.locals xs in
       subst (λ z. Agree (extent_of z) (seen_as as_extent (block_of zs))) (sym (procedure-sized p xs d of))
-      (subst (Agree (extent_of (size_of (seen zs)))) (sym (seen-block as_extent zs)) (extent-whole (seen zs) (solid-locals p.locals xs (list-solid some d))))
+      (subst (Agree (extent_of (size_of (seen zs)))) (sym (seen-block as_extent zs))
+      (extent-whole (seen zs) (solid-locals p.locals xs (list-solid some d))))
 
   -- whether the limits are passed, told by the extent
   pub procedure-operations : (p : Procedure) (xs : List (Piece Block)) → IsList procs kernel p.locals p.body xs → UsesOnly P p.body
-      → (524288 < (extent_of (procedure_size known p.locals p.body)).operations) ↔ (524288 < seen_as as_operations (block_of (with_locals p.locals xs)))
+      → (524288 < (extent_of (procedure_size known p.locals p.body)).operations)
+      ↔ (524288 < seen_as as_operations (block_of (with_locals p.locals xs)))
   procedure-operations p xs d of =
       let same = (procedure-extent p xs d of).operations in
       let is = operations-block (block_of (with_locals p.locals xs)) in

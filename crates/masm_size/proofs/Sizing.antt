@@ -13,7 +13,9 @@ use Rattle.masm_size.specs.Sizes.{Size, Known_sizes, as_extent, run_of, nothing,
 use Rattle.masm_blocks.proofs.Statements.{each}
 
 module _ (known : Known_sizes) (locals : ℕ) where
-  onto-step : (f : Stmt-F (Body → Body)) (rest : Body) (before : Size) → size_onto known locals (add_step f rest) before ≡ size_onto known locals rest (size_onto known locals (add_step f Empty) before)
+  onto-step : (f : Stmt-F (Body → Body)) (rest : Body) (before : Size)
+      → size_onto known locals (add_step f rest) before
+      ≡ size_onto known locals rest (size_onto known locals (add_step f Empty) before)
   onto-step (Stmt-F.Instr at instr) rest before = refl
   onto-step (Stmt-F.If at first second) rest before = refl
   onto-step (Stmt-F.While at turn) rest before = refl
@@ -22,24 +24,36 @@ module _ (known : Known_sizes) (locals : ℕ) where
   onto-step (Stmt-F.Call at name) rest before = refl
   onto-step (Stmt-F.Syscall at name) rest before = refl
 
-  pub onto-first : (s : Stmt) (rest : Body) (before : Size) → size_onto known locals (stmt_view s rest) before ≡ size_onto known locals rest (size_onto known locals (stmt_view s Empty) before)
+  pub onto-first : (s : Stmt) (rest : Body) (before : Size)
+      → size_onto known locals (stmt_view s rest) before
+      ≡ size_onto known locals rest (size_onto known locals (stmt_view s Empty) before)
   onto-first s rest before =
-      each (λ g. (rest : Body) (before : Size) → size_onto known locals (g rest) before ≡ size_onto known locals rest (size_onto known locals (g Empty) before)) onto-step s rest before
+      each (λ g. (rest : Body) (before : Size)
+      → size_onto known locals (g rest) before ≡ size_onto known locals rest (size_onto known locals (g Empty) before))
+      onto-step s rest before
 
-  pub onto-Instr : (at : Position) (i : Instruction) (before : Size) → size_onto known locals (stmt_view (Instr at i) Empty) before ≡ both before (run_of (length (expansion i.name i.numbers locals)))
+  pub onto-Instr : (at : Position) (i : Instruction) (before : Size)
+      → size_onto known locals (stmt_view (Instr at i) Empty) before
+      ≡ both before (run_of (length (expansion i.name i.numbers locals)))
   onto-Instr at i before = ap (λ b. size_onto known locals b before) (view-Instr at i Empty)
 
-  pub onto-Exec : (at : Position) (name : List ℕ) (before : Size) → size_onto known locals (stmt_view (Exec at name) Empty) before ≡ both before (known.size name)
+  pub onto-Exec : (at : Position) (name : List ℕ) (before : Size)
+      → size_onto known locals (stmt_view (Exec at name) Empty) before ≡ both before (known.size name)
   onto-Exec at name before = ap (λ b. size_onto known locals b before) (view-Exec at name Empty)
 
-  pub onto-Call : (at : Position) (name : List ℕ) (before : Size) → size_onto known locals (stmt_view (Call at name) Empty) before ≡ both before (block_size (as_extent.call (extent_of (known.size name))))
+  pub onto-Call : (at : Position) (name : List ℕ) (before : Size)
+      → size_onto known locals (stmt_view (Call at name) Empty) before
+      ≡ both before (block_size (as_extent.call (extent_of (known.size name))))
   onto-Call at name before = ap (λ b. size_onto known locals b before) (view-Call at name Empty)
 
-  pub onto-Syscall : (at : Position) (name : List ℕ) (before : Size) → size_onto known locals (stmt_view (Syscall at name) Empty) before ≡ both before (block_size (as_extent.syscall (known.exported name)))
+  pub onto-Syscall : (at : Position) (name : List ℕ) (before : Size)
+      → size_onto known locals (stmt_view (Syscall at name) Empty) before
+      ≡ both before (block_size (as_extent.syscall (known.exported name)))
   onto-Syscall at name before = ap (λ b. size_onto known locals b before) (view-Syscall at name Empty)
 
   pub onto-If : (at : Position) (xs ys : Vec Stmt Global) (before : Size) → size_onto known locals (stmt_view (If at xs ys) Empty) before
-      ≡ both before (block_size (as_extent.split (extent_of (size_onto known locals (body_of xs.items) nothing)) (extent_of (size_onto known locals (body_of ys.items) nothing))))
+      ≡ both before (block_size (as_extent.split (extent_of (size_onto known locals (body_of xs.items) nothing))
+      (extent_of (size_onto known locals (body_of ys.items) nothing))))
   onto-If at xs ys before = ap (λ b. size_onto known locals b before) (view-If at xs ys Empty)
 
   pub onto-While : (at : Position) (xs : Vec Stmt Global) (before : Size) → size_onto known locals (stmt_view (While at xs) Empty) before
@@ -56,7 +70,8 @@ pub procedure_none : (known : Known_sizes) (n : ℕ) (b : Body) → n ≡ 0 → 
 procedure_none known zero b h = refl
 procedure_none known (suc n) b h = absurd (omega arith)
 
-pub procedure_some : (known : Known_sizes) (n : ℕ) (b : Body) → 0 < n → procedure_size known n b ≡ both (size_onto known n b (both nothing (run_of 2))) (run_of 2)
+pub procedure_some : (known : Known_sizes) (n : ℕ) (b : Body) → 0 < n
+    → procedure_size known n b ≡ both (size_onto known n b (both nothing (run_of 2))) (run_of 2)
 procedure_some known zero b h = absurd (omega arith)
 procedure_some known (suc n) b h = refl
 

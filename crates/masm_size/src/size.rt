@@ -99,7 +99,8 @@ fn add_rises(rises: &mut Vec<Rise>, offset: u32, more: &[Rise]) -> Result<(), Me
 // A size with another behind it, where both have so many operations.
 #[tactic(auto, unfolding(crate::specs::Sizes::row_both), using(crate::proofs::Measures::rows))]
 fn joined(operations: u32, before: Size, more: Part) -> Result<Size, Memory>
-    ensures { IfOk result (λ size. size_view size ≡ record { operations = operations; row = row_both (size_view before).row (part_view more.entry).row }) }
+    ensures { IfOk result (λ size. size_view size
+        ≡ record { operations = operations; row = row_both (size_view before).row (part_view more.entry).row }) }
 {
     if more.rises.is_empty() {
         return Ok(Size {
@@ -186,7 +187,9 @@ fn both_limited(
     outline: Outline,
     height: u32,
 ) -> Result<Size, Memory>
-    ensures { IfOk result (λ size. size_view size ≡ both (size_view before) (limited operations (row_view outline (record { index = 0; height = height } ∷ [])))) }
+    ensures { IfOk result (λ size. size_view size
+        ≡ both (size_view before)
+        (limited operations (row_view outline (record { index = 0; height = height } ∷ [])))) }
 {
     if operations > MOST {
         let operations = MOST + 1;

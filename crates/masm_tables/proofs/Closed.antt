@@ -29,7 +29,8 @@ abbrev pub IsExportName : List Exported → List ℕ → Type 0
 IsExportName exports name = (block : Block) × (first_export exports name ≡ Some block)
 
 module _ (source : Source) where
-  among_procs : (place : ℕ) (p : Procedure) (u : Use) → slice_get source.procs place ≡ Some p → Contains (uses_of p.body) u → Contains (all_uses source) u
+  among_procs : (place : ℕ) (p : Procedure) (u : Use) → slice_get source.procs place ≡ Some p → Contains (uses_of p.body) u
+      → Contains (all_uses source) u
   among_procs place p u here has =
       subst (λ us. Contains us u) (sym (flat_map-append uses_in source.procs (option_to_list source.main)))
       (Contains-append_left (flat_map uses_in source.procs) _ u (in_all uses_in source.procs place p u here has))
@@ -65,7 +66,8 @@ module _ (source : Source) where
         let leads = own_leads u (among_procs (get_or order k 0) p u here has) own in
         (leads.0, leads.1, is.behind k u leads.0 below (record { procedure = p; here = here; among = has; own = own; target = leads.1 })))
 
-    pub uses_main : (order : List ℕ) → IsUseOrder source.procs order → (p : Procedure) → source.main ≡ Some p → UsesOnly (Behind source.procs (Contains order)) p.body
+    pub uses_main : (order : List ℕ) → IsUseOrder source.procs order → (p : Procedure) → source.main ≡ Some p
+        → UsesOnly (Behind source.procs (Contains order)) p.body
     uses_main order is p main =
         uses_only (Behind source.procs (Contains order)) p.body (λ u has own.
         let leads = own_leads u (among_main p u main has) own in

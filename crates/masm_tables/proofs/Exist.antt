@@ -42,7 +42,8 @@ module _ (source : Source) (names : List (List ℕ)) (closed : IsClosed source n
   pub list_of_procedure : (place : ℕ) (p : Procedure) → slice_get source.procs place ≡ Some p → HasListOf p
   list_of_procedure place p here =
       let there = is.all place (slice_get_within source.procs place p here) in
-      exist (length order) there.0 there.1 (omega arith) p (ap (slice_get source.procs) (get_or_default order there.0 0 place there.1 ∙ there.2) ∙ here)
+      exist (length order) there.0 there.1 (omega arith) p
+      (ap (slice_get source.procs) (get_or_default order there.0 0 place there.1 ∙ there.2) ∙ here)
 
   pub list_of_main : (p : Procedure) → source.main ≡ Some p → HasListOf p
   list_of_main p main =

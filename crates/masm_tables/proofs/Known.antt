@@ -42,7 +42,8 @@ use Rattle.masm_tables.proofs.Closed.{Behind, uses_behind, uses_held}
 use Rattle.masm_tables.proofs.Finding.{procedure_found, export_found}
 
 -- one more place of a table
-known_more : {T : Type 0} (procs : List Procedure) (kernel : List Exported) (value : List (Piece Block) → T) (order : List ℕ) (k : ℕ) (old new : ℕ → T)
+known_more : {T : Type 0} (procs : List Procedure) (kernel : List Exported) (value : List (Piece Block) → T) (order : List ℕ)
+    (k : ℕ) (old new : ℕ → T)
     → k < length order → AreKnown procs kernel value (take k order) old → ((q : ℕ) → q ≢ get_or order k 0 → new q ≡ old q)
     → ((p : Procedure) (pieces : List (Piece Block)) → slice_get procs (get_or order k 0) ≡ Some p → IsList procs kernel p.locals p.body pieces
     → new (get_or order k 0) ≡ value (with_locals p.locals pieces))
@@ -120,7 +121,8 @@ module _ (source : Source) (exports : List Exported) (kernel : List KernelProc) 
   -- the list of a procedure with its locals, where that of its body is known
   pub listed : (Held : ℕ → Type 0) (lists : List (Vec piece.Piece Global)) → ((q : ℕ) → Held q → IsListAt source.procs exports lists q)
       → (p : Procedure) (xs : List (Piece Block)) → IsList source.procs exports p.locals p.body xs → UsesOnly (Behind source.procs Held) p.body
-      → with_locals p.locals (flat_with as_tree (lists_known names lists kernel) p.locals p.body) ≡ seen_pieces (seen_as as_tree) (with_locals p.locals xs)
+      → with_locals p.locals (flat_with as_tree (lists_known names lists kernel) p.locals p.body)
+      ≡ seen_pieces (seen_as as_tree) (with_locals p.locals xs)
   listed Held lists known p xs d of =
       ap (with_locals p.locals) (flat-is as_tree (Behind source.procs Held) (lists_known names lists kernel) (lists_fit Held lists known) d of)
       ∙ seen_locals p.locals xs
@@ -133,18 +135,22 @@ module _ (source : Source) (exports : List Exported) (kernel : List KernelProc) 
     sizes_more k p old new size below here known sets within is_size =
         known_more source.procs exports (λ pieces. size_of (seen_pieces (seen_as as_extent) pieces)) order k (λ q. size_at old (Some q))
         (λ q. size_at new (Some q)) below known
-        (λ q apart. ap (λ o. unwrap_or (option_map size_view o) nothing) (ap (λ xs. slice_get xs q) sets ∙ got_other old (get_or order k 0) q size apart))
+        (λ q apart. ap (λ o. unwrap_or (option_map size_view o) nothing)
+        (ap (λ xs. slice_get xs q) sets ∙ got_other old (get_or order k 0) q size apart))
         (λ q pieces there d.
         let same : p ≡ q = same_Some p q (sym here ∙ there) in
         let d' = subst (λ r. IsList source.procs exports r.locals r.body pieces) (sym same) d in
-        ap (λ o. unwrap_or (option_map size_view o) nothing) (ap (λ xs. slice_get xs (get_or order k 0)) sets ∙ got_same old (get_or order k 0) size within)
+        ap (λ o. unwrap_or (option_map size_view o) nothing)
+        (ap (λ xs. slice_get xs (get_or order k 0)) sets ∙ got_same old (get_or order k 0) size within)
         ∙ (is_size
-        ∙ (procedure-sized has_operations (Behind source.procs (Contains (take k order))) (sizes_known names old kernel) (sizes_fit (take k order) old known) p pieces d'
+        ∙ (procedure-sized has_operations (Behind source.procs (Contains (take k order))) (sizes_known names old kernel)
+        (sizes_fit (take k order) old known) p pieces d'
         (uses_behind source closed_names closed order is k p below here)
         ∙ ap (λ r. size_of (seen_pieces (seen_as as_extent) (with_locals r.locals pieces))) same)))
 
   -- a step of a plan: a list is built where those that it needs are held, and some are freed
-  module _ (closed_names : List (List ℕ)) (closed : IsClosed source closed_names) (place : ℕ) (p : Procedure) (here : slice_get source.procs place ≡ Some p)
+  module _ (closed_names : List (List ℕ)) (closed : IsClosed source closed_names) (place : ℕ) (p : Procedure)
+      (here : slice_get source.procs place ≡ Some p)
       (old mid new : List (Vec piece.Piece Global)) (list : Vec piece.Piece Global) (within : place < length old) where
     pub list_here : ((q : ℕ) → NeedsIn source.procs place q → IsListAt source.procs exports old q) → mid ≡ set old place list
         → pieces_of list.items ≡ with_locals p.locals (flat_with as_tree (lists_known names old kernel) p.locals p.body)
@@ -155,12 +161,14 @@ module _ (source : Source) (exports : List Exported) (kernel : List KernelProc) 
         ap (λ o. unwrap_or (option_map (λ (v : Vec piece.Piece Global). pieces_of v.items) o) []) (ap (λ xs. slice_get xs place) sets
         ∙ got_same old place list within)
         ∙ (is_list
-        ∙ (listed (IsListAt source.procs exports old) old (λ r held. held) p pieces d' (uses_held source closed_names closed (IsListAt source.procs exports old) place p here needs)
+        ∙ (listed (IsListAt source.procs exports old) old (λ r held. held) p pieces d'
+        (uses_held source closed_names closed (IsListAt source.procs exports old) place p here needs)
         ∙ ap (λ r. seen_pieces (seen_as as_tree) (with_locals r.locals pieces)) same))
 
     list_there : (q : ℕ) → q ≢ place → mid ≡ set old place list → IsListAt source.procs exports old q → IsListAt source.procs exports mid q
     list_there q apart sets known r pieces there d =
-        ap (λ o. unwrap_or (option_map (λ (v : Vec piece.Piece Global). pieces_of v.items) o) []) (ap (λ xs. slice_get xs q) sets ∙ got_other old place q list apart)
+        ap (λ o. unwrap_or (option_map (λ (v : Vec piece.Piece Global). pieces_of v.items) o) [])
+        (ap (λ xs. slice_get xs q) sets ∙ got_other old place q list apart)
         ∙ known r pieces there d
 
     pub list_step : ((q : ℕ) → NeedsIn source.procs place q → IsListAt source.procs exports old q) → mid ≡ set old place list

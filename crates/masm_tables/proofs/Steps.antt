@@ -23,18 +23,22 @@ module _ (source : Source) where
   pub places-all : (steps : List Step) (n : ℕ) → length steps ≤ n → IsPlan source steps → ArePlaces (length source.procs) (reverse (take n steps))
   places-all steps n all plan =
       subst (λ xs. ArePlaces (length source.procs) (reverse xs)) (sym (take_all n steps all))
-      (builds-more (NeedsIn source.procs) (λ i j. ⊥) (length source.procs) (length source.procs) (IsWanted source) (λ q. ⊥) (λ q. ⊥) (λ q. Unit {0}) (reverse steps)
+      (builds-more (NeedsIn source.procs) (λ i j. ⊥) (length source.procs) (length source.procs) (IsWanted source) (λ q. ⊥) (λ q. ⊥)
+      (λ q. Unit {0}) (reverse steps)
       refl (λ i j h. absurd h) (λ q h. absurd h) (λ q h. absurd h) plan)
 
-  pub builds-all : (exports : List Exported) (lists : List (Vec piece.Piece Global)) (steps : List Step) (n : ℕ) → length steps ≤ n → IsPlan source steps
+  pub builds-all : (exports : List Exported) (lists : List (Vec piece.Piece Global)) (steps : List Step) (n : ℕ) → length steps ≤ n
+      → IsPlan source steps
       → BuildsLists source exports lists (reverse (take n steps))
   builds-all exports lists steps n all plan =
       subst (λ xs. BuildsLists source exports lists (reverse xs)) (sym (take_all n steps all))
-      (builds-more (NeedsIn source.procs) (NeedsIn source.procs) (length source.procs) (length source.procs) (IsWanted source) (IsWanted source) (λ q. ⊥)
+      (builds-more (NeedsIn source.procs) (NeedsIn source.procs) (length source.procs) (length source.procs) (IsWanted source)
+      (IsWanted source) (λ q. ⊥)
       (IsListAt source.procs exports lists) (reverse steps) refl (λ i j h. h) (λ q h. h) (λ q h. absurd h) plan)
 
   -- the next step stands last
-  steps_more : (steps : List Step) (k : ℕ) (step : Step) → k < length steps → step ≡ get_or steps k step → reverse (take (k + 1) steps) ≡ step ∷ reverse (take k steps)
+  steps_more : (steps : List Step) (k : ℕ) (step : Step) → k < length steps → step ≡ get_or steps k step
+      → reverse (take (k + 1) steps) ≡ step ∷ reverse (take k steps)
   steps_more steps k step below is =
       ap reverse (take_more steps k step below ∙ ap (λ s. take k steps ++ s ∷ []) (sym is)) ∙ reverse-append (take k steps) (step ∷ [])
 
@@ -47,7 +51,8 @@ module _ (source : Source) where
 
     pub places-next : ArePlaces (length source.procs) (reverse (take n steps)) → ArePlaces (length source.procs) (reverse (take k steps))
     places-next places =
-        builds-more (λ i j. ⊥) (λ i j. ⊥) (length source.procs) (length source.procs) (λ q. ⊥) (λ q. ⊥) (HeldBehind (λ q. Unit {0}) step) (λ q. Unit {0})
+        builds-more (λ i j. ⊥) (λ i j. ⊥) (length source.procs) (length source.procs) (λ q. ⊥) (λ q. ⊥)
+        (HeldBehind (λ q. Unit {0}) step) (λ q. Unit {0})
         (reverse (take k steps)) refl (λ i j h. h) (λ q h. h) (λ q h. tt) (subst (ArePlaces (length source.procs)) longer places).2
 
     pub needs-next : (exports : List Exported) (lists : List (Vec piece.Piece Global)) → BuildsLists source exports lists (reverse (take n steps))
@@ -59,7 +64,8 @@ module _ (source : Source) where
         → BuildsLists source exports new (reverse (take k steps))
     builds-next exports old new builds held =
         builds-more (NeedsIn source.procs) (NeedsIn source.procs) (length source.procs) (length source.procs) (IsWanted source) (IsWanted source)
-        (HeldBehind (IsListAt source.procs exports old) step) (IsListAt source.procs exports new) (reverse (take k steps)) refl (λ i j h. h) (λ q h. h) held
+        (HeldBehind (IsListAt source.procs exports old) step) (IsListAt source.procs exports new) (reverse (take k steps)) refl
+        (λ i j h. h) (λ q h. h) held
         (subst (BuildsLists source exports old) longer builds).2
 
   pub lists-end : (exports : List Exported) (lists : List (Vec piece.Piece Global)) (steps : List Step) (n : ℕ) → n ≡ 0

@@ -13,7 +13,8 @@ use Rattle.masm_blocks.specs.Lists.{Exported, IsList, with_locals}
 use Rattle.masm_size.specs.Sizes.{as_extent, size_of}
 
 -- at these places stand the values of the procedures' lists
-abbrev pub AreKnown : {T : Type 0} (procs : List Procedure) (kernel : List Exported) (value : List (Piece Block) → T) (done : List ℕ) → (ℕ → T) → Type 0
+abbrev pub AreKnown : {T : Type 0} (procs : List Procedure) (kernel : List Exported) (value : List (Piece Block) → T)
+    (done : List ℕ) → (ℕ → T) → Type 0
 AreKnown procs kernel value done table =
     (place : ℕ) (p : Procedure) (pieces : List (Piece Block)) → Contains done place → slice_get procs place ≡ Some p
     → IsList procs kernel p.locals p.body pieces → table place ≡ value (with_locals p.locals pieces)

@@ -12,7 +12,8 @@ use Rattle.masm_tree.specs.Views.{joined, add_step, stmt_view, body_of}
 
 pub view-Instr : (at : Position) (instr : Instruction) (rest : Body) → stmt_view (Instr at instr) rest ≡ Leaf_then at (leaves.Instr instr) rest
 unfolding stmt_view
-view-Instr at instr rest = ap (λ f. f rest) (ap stmt_view (sym (rolls-Instr at instr)) ∙ fold-roll-Stmt (Body → Body) add_step (Stmt-F.Instr at instr))
+view-Instr at instr rest =
+    ap (λ f. f rest) (ap stmt_view (sym (rolls-Instr at instr)) ∙ fold-roll-Stmt (Body → Body) add_step (Stmt-F.Instr at instr))
 
 pub view-Exec : (at : Position) (name : List ℕ) (rest : Body) → stmt_view (Exec at name) rest ≡ Leaf_then at (leaves.Exec name) rest
 unfolding stmt_view
@@ -35,7 +36,8 @@ pub view-While : (at : Position) (v : Vec Stmt Global) (rest : Body) → stmt_vi
 unfolding stmt_view body_of
 view-While at v rest = ap (λ f. f rest) (ap stmt_view (sym (rolls-While at v)) ∙ fold-roll-Stmt (Body → Body) add_step (Stmt-F.While at v))
 
-pub view-Repeat : (at : Position) (n : ℕ) (v : Vec Stmt Global) (rest : Body) → stmt_view (Repeat at n v) rest ≡ Repeat_then at n (body_of v.items) rest
+pub view-Repeat : (at : Position) (n : ℕ) (v : Vec Stmt Global) (rest : Body)
+    → stmt_view (Repeat at n v) rest ≡ Repeat_then at n (body_of v.items) rest
 unfolding stmt_view body_of
 view-Repeat at n v rest = ap (λ f. f rest) (ap stmt_view (sym (rolls-Repeat at n v)) ∙ fold-roll-Stmt (Body → Body) add_step (Stmt-F.Repeat at n v))
 

@@ -122,7 +122,8 @@ form-phrase context at parts keywords.Call = form-usage uses.Call at parts
 form-phrase context at parts keywords.Syscall = form-usage uses.Syscall at parts
 form-phrase context at parts keywords.End = form-alone terminals.End parts tt
 
-form-symbol : (refused : Terminal) (r : Result Terminal Cause) → TerminalIsInForm refused → TerminalIsInFormIf r → TerminalIsInForm (symbol_with refused r).terminal
+form-symbol : (refused : Terminal) (r : Result Terminal Cause) → TerminalIsInForm refused → TerminalIsInFormIf r
+    → TerminalIsInForm (symbol_with refused r).terminal
 form-symbol refused (Ok terminal) k h = h
 form-symbol refused (Err cause) k h = k
 
@@ -140,24 +141,28 @@ form-blank at keywords.Call = tt
 form-blank at keywords.Syscall = tt
 form-blank at keywords.End = tt
 
-form-keyword : (kernel : Bool) (context : Context) (at : Position) (parts : List (List ℕ)) (k : Keyword) → TerminalIsInForm (classify_keyword kernel context at parts k).terminal
+form-keyword : (kernel : Bool) (context : Context) (at : Position) (parts : List (List ℕ)) (k : Keyword)
+    → TerminalIsInForm (classify_keyword kernel context at parts k).terminal
 unfolding classify_keyword
 form-keyword kernel context at parts k =
     form-symbol (blank_of at k) _ (form-blank at k) (form-if (kernel && is_kept_from_kernels k) _ _ tt (form-phrase context at parts k))
 
 form-instruction : (context : Context) (at : Position) (text : List ℕ) → TerminalIsInForm (classify_instruction context at text).terminal
 unfolding classify_instruction instruction
-form-instruction context at text = form-symbol (blank at) _ tt (form-local context.locals at (read context.consts text) (read-in_form context.consts text))
+form-instruction context at text =
+    form-symbol (blank at) _ tt (form-local context.locals at (read context.consts text) (read-in_form context.consts text))
 
 form-known : (kernel : Bool) (context : Context) (at : Position) (text : List ℕ) (parts : List (List ℕ)) (k : Option Keyword)
     → TerminalIsInForm (classify_known kernel context at text parts k).terminal
 form-known kernel context at text parts None = form-instruction context at text
 form-known kernel context at text parts (Some k) = form-keyword kernel context at parts k
 
-form-parts : (kernel : Bool) (context : Context) (at : Position) (text : List ℕ) (parts : List (List ℕ)) → TerminalIsInForm (classify_parts kernel context at text parts).terminal
+form-parts : (kernel : Bool) (context : Context) (at : Position) (text : List ℕ) (parts : List (List ℕ))
+    → TerminalIsInForm (classify_parts kernel context at text parts).terminal
 form-parts kernel context at text [] = form-instruction context at text
 form-parts kernel context at text (first ∷ parts) = form-known kernel context at text parts (keyword_of first)
 
-pub form-classified : (kernel : Bool) (context : Context) (at : Position) (text : List ℕ) → TerminalIsInForm (classify kernel context at text).terminal
+pub form-classified : (kernel : Bool) (context : Context) (at : Position) (text : List ℕ)
+    → TerminalIsInForm (classify kernel context at text).terminal
 unfolding classify
 form-classified kernel context at text = form-parts kernel context at text (parts_of text)

@@ -37,9 +37,13 @@ SymbolFits locals symbol = symbol.fault ≡ None → TerminalFits locals symbol.
 no-local : (instr : Instruction) (locals : ℕ) → is_no_local instr locals ≡ false → HasLocal instr locals
 no-local instr locals is named = leb-false locals _ (rw named at is)
 
-fits-tested : (locals : ℕ) (at : Position) (refused : Terminal) (r : Result Instruction InstrError) → SymbolFits locals (symbol_with refused (local_tested locals at r))
+fits-tested : (locals : ℕ) (at : Position) (refused : Terminal) (r : Result Instruction InstrError)
+    → SymbolFits locals (symbol_with refused (local_tested locals at r))
 fits-tested locals at refused (Ok instr) fine =
-    elim (is_no_local instr locals) as (λ b. is_no_local instr locals ≡ b → (symbol_with refused (cond b (Err causes.LocalsRange) (Ok (terminals.Leaf at (leaves.Instr instr))))).fault ≡ None → TerminalFits locals (symbol_with refused (cond b (Err causes.LocalsRange) (Ok (terminals.Leaf at (leaves.Instr instr))))).terminal) [
+    elim (is_no_local instr locals) as (λ b. is_no_local instr locals ≡ b
+    → (symbol_with refused (cond b (Err causes.LocalsRange) (Ok (terminals.Leaf at (leaves.Instr instr))))).fault ≡ None
+    → TerminalFits locals (symbol_with refused
+    (cond b (Err causes.LocalsRange) (Ok (terminals.Leaf at (leaves.Instr instr))))).terminal) [
       | true ↦ λ is no. cc
       | false ↦ λ is none. no-local instr locals is
     ] refl fine
@@ -123,17 +127,20 @@ none-symbol_with locals refused (Ok terminal) h fine = h locals
 none-symbol_with locals refused (Err cause) h fine = cc
 
 -- a token that is a keyword names no local
-fits-keyword : (kernel : Bool) (context : Context) (at : Position) (parts : List (List ℕ)) (k : Keyword) → SymbolFits context.locals (classify_keyword kernel context at parts k)
+fits-keyword : (kernel : Bool) (context : Context) (at : Position) (parts : List (List ℕ)) (k : Keyword)
+    → SymbolFits context.locals (classify_keyword kernel context at parts k)
 unfolding classify_keyword
 fits-keyword kernel context at parts k =
     none-symbol_with context.locals _ _ (none-if (kernel && is_kept_from_kernels k) _ _ tt (none-phrase context at parts k))
 
-fits-known : (kernel : Bool) (context : Context) (at : Position) (text : List ℕ) (parts : List (List ℕ)) (k : Option Keyword) → SymbolFits context.locals (classify_known kernel context at text parts k)
+fits-known : (kernel : Bool) (context : Context) (at : Position) (text : List ℕ) (parts : List (List ℕ)) (k : Option Keyword)
+    → SymbolFits context.locals (classify_known kernel context at text parts k)
 unfolding classify_instruction instruction
 fits-known kernel context at text parts None = fits-tested context.locals at _ (read context.consts text)
 fits-known kernel context at text parts (Some k) = fits-keyword kernel context at parts k
 
-fits-parts : (kernel : Bool) (context : Context) (at : Position) (text : List ℕ) (parts : List (List ℕ)) → SymbolFits context.locals (classify_parts kernel context at text parts)
+fits-parts : (kernel : Bool) (context : Context) (at : Position) (text : List ℕ) (parts : List (List ℕ))
+    → SymbolFits context.locals (classify_parts kernel context at text parts)
 unfolding classify_instruction instruction
 fits-parts kernel context at text [] = fits-tested context.locals at _ (read context.consts text)
 fits-parts kernel context at text (first ∷ parts) = fits-known kernel context at text parts (keyword_of first)

@@ -36,7 +36,8 @@ IsAtIf at (Ok terminal) = IsAt at terminal
 IsAtIf at (Err cause) = Unit {0}
 
 -- a terminal that is no constant, with its place
-stands : (at : Position) (terminal : Terminal) → const_positions (constants (terminal ∷ [])) ≡ [] → terminal_positions terminal ≡ at ∷ [] → IsAt at terminal
+stands : (at : Position) (terminal : Terminal) → const_positions (constants (terminal ∷ [])) ≡ []
+    → terminal_positions terminal ≡ at ∷ [] → IsAt at terminal
 stands at terminal c p = record { consts = inl c; procs = inr p }
 
 at-if : (at : Position) (b : Bool) (x y : Result Terminal Cause) → IsAtIf at x → IsAtIf at y → IsAtIf at (cond b x y)
@@ -112,11 +113,13 @@ at-blank at keywords.Else = record { consts = inl refl; procs = inl refl }
 at-blank at keywords.End = record { consts = inl refl; procs = inl refl }
 at-blank at k = record { consts = inl refl; procs = inr refl }
 
-at-symbol_with : (at : Position) (refused : Terminal) (r : Result Terminal Cause) → IsAt at refused → IsAtIf at r → IsAt at (symbol_with refused r).terminal
+at-symbol_with : (at : Position) (refused : Terminal) (r : Result Terminal Cause) → IsAt at refused → IsAtIf at r
+    → IsAt at (symbol_with refused r).terminal
 at-symbol_with at refused (Ok terminal) h k = k
 at-symbol_with at refused (Err cause) h k = h
 
-at-keyword : (kernel : Bool) (context : Context) (at : Position) (parts : List (List ℕ)) (k : Keyword) → IsAt at (classify_keyword kernel context at parts k).terminal
+at-keyword : (kernel : Bool) (context : Context) (at : Position) (parts : List (List ℕ)) (k : Keyword)
+    → IsAt at (classify_keyword kernel context at parts k).terminal
 unfolding classify_keyword
 at-keyword kernel context at parts k =
     at-symbol_with at _ _ (at-blank at k) (at-if at (kernel && is_kept_from_kernels k) _ _ tt (at-phrase context at parts k))
@@ -126,11 +129,13 @@ unfolding classify_instruction instruction
 at-instruction context at text =
     at-symbol_with at _ _ (record { consts = inl refl; procs = inr refl }) (at-tested context.locals at (read context.consts text))
 
-at-known : (kernel : Bool) (context : Context) (at : Position) (text : List ℕ) (parts : List (List ℕ)) (k : Option Keyword) → IsAt at (classify_known kernel context at text parts k).terminal
+at-known : (kernel : Bool) (context : Context) (at : Position) (text : List ℕ) (parts : List (List ℕ)) (k : Option Keyword)
+    → IsAt at (classify_known kernel context at text parts k).terminal
 at-known kernel context at text parts None = at-instruction context at text
 at-known kernel context at text parts (Some k) = at-keyword kernel context at parts k
 
-at-parts : (kernel : Bool) (context : Context) (at : Position) (text : List ℕ) (parts : List (List ℕ)) → IsAt at (classify_parts kernel context at text parts).terminal
+at-parts : (kernel : Bool) (context : Context) (at : Position) (text : List ℕ) (parts : List (List ℕ))
+    → IsAt at (classify_parts kernel context at text parts).terminal
 at-parts kernel context at text [] = at-instruction context at text
 at-parts kernel context at text (first ∷ parts) = at-known kernel context at text parts (keyword_of first)
 

@@ -278,7 +278,9 @@ fn classify_keyword(
     parts: &[&[u8]],
     keyword: Keyword,
 ) -> Result<Symbol, AllocError>
-    ensures { (locals : ℕ) → IfOk result (λ symbol. symbol ≡ classify_keyword kernel (record { consts = consts.now; locals = locals }) at (map (λ part. part.now) parts.now) keyword) }
+    ensures { (locals : ℕ) → IfOk result
+        (λ symbol. symbol ≡ classify_keyword kernel (record { consts = consts.now; locals = locals }) at
+        (map (λ part. part.now) parts.now) keyword) }
 {
     let refused = blank_of(alloc, at, keyword);
     if kernel && keyword.is_kept_from_kernels() {

@@ -27,7 +27,8 @@ abbrev uses_in : Procedure → List Use
 uses_in p = uses_of p.body
 
 module _ (own kernel : List ℕ → Option ℕ) where
-  missing_row : (p : Proc) (at : Position) (cause : LinkCause) (u : Use) → Contains (uses_in (procedure_of p)) u → IsMissing (link_of own kernel u) at cause
+  missing_row : (p : Proc) (at : Position) (cause : LinkCause) (u : Use) → Contains (uses_in (procedure_of p)) u
+      → IsMissing (link_of own kernel u) at cause
       → Missing (links_in own kernel p) at cause
   missing_row p at cause u has missing =
       let there = at_contains (uses_in (procedure_of p)) u has in
@@ -39,10 +40,12 @@ module _ (own kernel : List ℕ → Option ℕ) where
       let found = unmapped (link_of own kernel) (uses_in (procedure_of p)) h.0 h.1.0 h.1.1 in
       (found.0, contains_at (uses_in (procedure_of p)) h.0 found.0 found.1, subst (λ l. IsMissing l at cause) found.2 h.1.2)
 
-  missing_main : (main : Option Proc) (at : Position) (cause : LinkCause) (u : Use) → Contains (flat_map uses_in (option_to_list (option_map procedure_of main))) u
+  missing_main : (main : Option Proc) (at : Position) (cause : LinkCause) (u : Use)
+      → Contains (flat_map uses_in (option_to_list (option_map procedure_of main))) u
       → IsMissing (link_of own kernel u) at cause → Missing (main_links_in own kernel main) at cause
   missing_main None at cause u has missing = absurd (omega (arith, has.1))
-  missing_main (Some p) at cause u has missing = missing_row p at cause u (subst (λ us. Contains us u) (append-nil (uses_in (procedure_of p))) has) missing
+  missing_main (Some p) at cause u has missing =
+      missing_row p at cause u (subst (λ us. Contains us u) (append-nil (uses_in (procedure_of p))) has) missing
 
   main_missing : (main : Option Proc) (at : Position) (cause : LinkCause) → Missing (main_links_in own kernel main) at cause
       → (u : Use) × Contains (flat_map uses_in (option_to_list (option_map procedure_of main))) u × IsMissing (link_of own kernel u) at cause
@@ -57,7 +60,8 @@ module _ (own kernel : List ℕ → Option ℕ) where
     abbrev Lost : Position → LinkCause → Type 0
     Lost = Either (Among (λ place row. Missing row) (map (links_in own kernel) procs)) (Missing (main_links_in own kernel main))
 
-    lost : (at : Position) (cause : LinkCause) (u : Use) → Contains (all_uses the_source) u → IsMissing (link_of own kernel u) at cause → Lost at cause
+    lost : (at : Position) (cause : LinkCause) (u : Use) → Contains (all_uses the_source) u
+        → IsMissing (link_of own kernel u) at cause → Lost at cause
     lost at cause u has missing =
         elim (Contains-append_cases (flat_map uses_in (map procedure_of procs)) (flat_map uses_in (option_to_list (option_map procedure_of main))) u
         (subst (λ us. Contains us u) (flat_map-append uses_in (map procedure_of procs) (option_to_list (option_map procedure_of main))) has)) [
@@ -75,7 +79,8 @@ module _ (own kernel : List ℕ → Option ℕ) where
           | inr in_main ↦ inr (missing_main main at cause u in_main missing)
         ]
 
-    from_lost : (at : Position) (cause : LinkCause) → Lost at cause → (u : Use) × Contains (all_uses the_source) u × IsMissing (link_of own kernel u) at cause
+    from_lost : (at : Position) (cause : LinkCause) → Lost at cause
+        → (u : Use) × Contains (all_uses the_source) u × IsMissing (link_of own kernel u) at cause
     from_lost at cause (inl (i, (row, e, missing))) =
         let p = unmapped (links_in own kernel) procs i row e in
         let found = row_missing p.0 at cause (subst (λ r. Missing r at cause) p.2 missing) in
@@ -102,7 +107,8 @@ module _ (own kernel : List ℕ → Option ℕ) where
       to_found at cause (unknown u has kind none) =
           inl (lost u.at causes.UnknownProcedure u has (refl, missing_own own kernel u.kind u.name kind (places u.name ∙ none)))
       to_found at cause (not_in_kernel u has kind none) =
-          inl (lost u.at causes.NotInKernel u has (refl, missing_kernel own kernel u.kind u.name kind (exports u.name ∙ none_place names u.name none)))
+          inl (lost u.at causes.NotInKernel u has
+          (refl, missing_kernel own kernel u.kind u.name kind (exports u.name ∙ none_place names u.name none)))
       to_found at cause (recursive i u j is reaches) =
           let by = used_by own kernel procs places i u j is in
           let there = at_contains (uses_in (procedure_of by.0)) u by.2 in
@@ -122,8 +128,10 @@ module _ (own kernel : List ℕ → Option ℕ) where
             ),
           )
 
-      moved : (at other : Position) (cause why : LinkCause) → at ≡ other → cause ≡ why → Dangles the_source names other why → Dangles the_source names at cause
-      moved at other cause why is_at is_cause h = subst (λ a. Dangles the_source names a cause) (sym is_at) (subst (Dangles the_source names other) (sym is_cause) h)
+      moved : (at other : Position) (cause why : LinkCause) → at ≡ other → cause ≡ why → Dangles the_source names other why
+          → Dangles the_source names at cause
+      moved at other cause why is_at is_cause h =
+          subst (λ a. Dangles the_source names a cause) (sym is_at) (subst (Dangles the_source names other) (sym is_cause) h)
 
       from_found : (at : Position) (cause : LinkCause) → Found at cause → Dangles the_source names at cause
       from_found at cause (inl h) =
@@ -136,8 +144,11 @@ module _ (own kernel : List ℕ → Option ℕ) where
       from_found at cause (inr (i, (row, e, (k, (link, l, (is_at, is_cause, (j, target, leads))))))) =
           let p = unmapped (links_in own kernel) procs i row e in
           let u = unmapped (link_of own kernel) (uses_in (procedure_of p.0)) k link (sym (ap (λ r. slice_get r k) p.2) ∙ l) in
-          let is = used own kernel procs places i p.0 u.0 j p.1 (contains_at (uses_in (procedure_of p.0)) k u.0 u.1) (sym (ap (λ x. x.target) u.2) ∙ target) in
-          moved at u.0.at cause _ (is_at ∙ ap (λ x. x.at) u.2) is_cause (recursive i u.0 j is (leads_reaches own kernel procs places users are i j leads))
+          let is =
+          used own kernel procs places i p.0 u.0 j p.1 (contains_at (uses_in (procedure_of p.0)) k u.0 u.1)
+          (sym (ap (λ x. x.target) u.2) ∙ target) in
+          moved at u.0.at cause _ (is_at ∙ ap (λ x. x.at) u.2) is_cause
+          (recursive i u.0 j is (leads_reaches own kernel procs places users are i j leads))
 
       -- the least refusal of the uses that lead nowhere, in procedures and in the main body, and of those that lead back
       pub Answers-dangling : (a b c : Option Refusal) → Answers (Among (λ place row. Missing row) (map (links_in own kernel) procs)) a

@@ -21,7 +21,8 @@ Returns-same Back Other row r same =
     (λ at cause h. let is = h.1.2 in (h.0, (h.1.0, h.1.1, (is.0, is.1, (is.2.0, is.2.1, (same is.2.0).0 is.2.2)))))
     (λ at cause h. let is = h.1.2 in (h.0, (h.1.0, h.1.1, (is.0, is.1, (is.2.0, is.2.1, (same is.2.0).1 is.2.2)))))
 
-comes_later : (first : Option Refusal) (at : Position) → comes_first first at ≡ false → (r : Refusal) × (first ≡ Some r) × IsNoLater r.at r.cause at causes.Recursive
+comes_later : (first : Option Refusal) (at : Position) → comes_first first at ≡ false
+    → (r : Refusal) × (first ≡ Some r) × IsNoLater r.at r.cause at causes.Recursive
 comes_later None at e = absurd (false≢true (sym e))
 comes_later (Some r) at e = elim (is_no_later-tells r (record { at = at; cause = causes.Recursive })) [
   | inl ahead ↦ (r, refl, ahead.1)
@@ -39,8 +40,12 @@ none_waits first row Back none at cause h =
     elim (cases_Bool (waits first link)) [
       | inl waiting ↦ absurd (false≢true (sym none ∙ list_any-from_Any (waits first) row (h.0, link, within, is, waiting)))
       | inr passed ↦
-          let later = comes_later first link.at (sym (ap (λ t. is_own t && comes_first first link.at) has.2.1) ∙ passed) in
-          (later.0, later.1, subst (λ a. IsNoLater later.0.at later.0.cause a cause) (sym has.0) (subst (IsNoLater later.0.at later.0.cause link.at) (sym has.1) later.2))
+          let later = comes_later first link.at (sym (ap (λ t. is_own t && comes_first first link.at) has.2.1) ∙ passed) in (
+            later.0,
+            later.1,
+            subst (λ a. IsNoLater later.0.at later.0.cause a cause) (sym has.0)
+                (subst (IsNoLater later.0.at later.0.cause link.at) (sym has.1) later.2),
+          )
     ]
 
 -- where no use leads back, none comes at all

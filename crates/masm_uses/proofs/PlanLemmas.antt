@@ -89,7 +89,8 @@ module _ (graph : List (List ℕ)) (order : List ℕ) (is : IsOrder graph order)
   pub served-step : (k place : ℕ) (row : List ℕ) (marks new : List Bool) (steps more : List Step) → k < length order → place ≡ get_or order k 0
       → row ≡ get_or graph place [] → Served marks (k + 1) steps → StepsTo place row marks steps new more → Served new k more
   served-step k place row marks new steps more below here row_is before (passed unmarked) =
-      builds-more (Edge graph) (Edge graph) (length graph) (length graph) Wanted Wanted (Seen marks order (k + 1)) (Seen marks order k) (reverse steps) refl
+      builds-more (Edge graph) (Edge graph) (length graph) (length graph) Wanted Wanted (Seen marks order (k + 1))
+      (Seen marks order k) (reverse steps) refl
       (λ i j h. h) (λ q h. h)
       (λ q h. (
         h.0,
@@ -105,7 +106,8 @@ module _ (graph : List (List ℕ)) (order : List ℕ) (is : IsOrder graph order)
         λ q edge.
             let edge' = subst (λ p. Edge graph p q) at_place edge in
             (rows.marked q (subst (λ xs. Contains xs q) (sym row_is) edge'), is.behind k q below (subst (λ p. Edge graph p q) here edge')),
-        builds-more (Edge graph) (Edge graph) (length graph) (length graph) Wanted Wanted (Seen marks order (k + 1)) (HeldBehind (Seen after order k) step) (reverse steps) refl
+        builds-more (Edge graph) (Edge graph) (length graph) (length graph) Wanted Wanted (Seen marks order (k + 1))
+            (HeldBehind (Seen after order k) step) (reverse steps) refl
             (λ i j h. h) (λ q h. h) (λ q h. (held q h, λ fresh. false≢true (sym (rows.fresh_were q fresh) ∙ h.0))) before,
       )
     where
@@ -126,7 +128,8 @@ pub served-none : (graph : List (List ℕ)) (order : List ℕ) (is : IsOrder gra
 served-none graph order is marks n count all = λ q h.
     (h, subst (λ xs. Contains xs q) (sym (take_all n order all)) (is.all q (omega (arith, marked_low marks q h))))
 
-pub served-all : (graph : List (List ℕ)) (order : List ℕ) (is : IsOrder graph order) (Wanted : ℕ → Type 0) (marks : List Bool) (k : ℕ) (steps : List Step)
+pub served-all : (graph : List (List ℕ)) (order : List ℕ) (is : IsOrder graph order) (Wanted : ℕ → Type 0) (marks : List Bool)
+    (k : ℕ) (steps : List Step)
     → k ≡ 0 → Served graph order is Wanted marks k steps → Builds (Edge graph) (length graph) Wanted (λ q. ⊥) (reverse steps)
 served-all graph order is Wanted marks k steps none served =
     builds-more (Edge graph) (Edge graph) (length graph) (length graph) Wanted Wanted (Seen marks order k) (λ q. ⊥) (reverse steps) refl

@@ -42,7 +42,8 @@ module _ (own kernel : List ℕ → Option ℕ) (procs : List Proc) (places : (n
   pub row_within : (main : Option Proc) (row : List ℕ) → row ≡ own_places (main_links_in own kernel main) → All (λ q. q < length procs) row
   row_within main row is k d below = main_within main (get_or row k d) (subst (λ xs. Contains xs (get_or row k d)) is (Contains-get_or row k d below))
 
-  used_in_main : (main : Option Proc) (p : Procedure) (u : Use) (q : ℕ) → option_map procedure_of main ≡ Some p → Contains (uses_of p.body) u → u.kind ≡ Own
+  used_in_main : (main : Option Proc) (p : Procedure) (u : Use) (q : ℕ) → option_map procedure_of main ≡ Some p
+      → Contains (uses_of p.body) u → u.kind ≡ Own
       → first_place (map procedure_of procs) u.name ≡ Some q → Contains (own_places (main_links_in own kernel main)) q
   used_in_main None p u q is has own_use leads = cc
   used_in_main (Some x) p u q is has own_use leads =
@@ -64,7 +65,8 @@ module _ (own kernel : List ℕ → Option ℕ) (procs : List Proc) (places : (n
         → ((q : ℕ) → Contains row q → get_or marks q false ≡ true) → (q : ℕ) → IsWanted the_source q → get_or marks q false ≡ true
     wanted row marks is exports used q (exported p here is_so) =
         let found = unmapped procedure_of procs q p here in
-        exports q (get_or_from_slice_get (map (λ (r : Proc). r.exported) procs) q found.0.exported false (mapped (λ (r : Proc). r.exported) procs q found.0 found.1)
+        exports q (get_or_from_slice_get (map (λ (r : Proc). r.exported) procs) q found.0.exported false
+        (mapped (λ (r : Proc). r.exported) procs q found.0 found.1)
         ∙ (sym (ap (λ (r : Procedure). r.exported) found.2) ∙ is_so))
     wanted row marks is exports used q (of_main p u main_is has own_use leads) =
         used q (subst (λ xs. Contains xs q) (sym is) (used_in_main main p u q main_is has own_use leads))
@@ -74,7 +76,8 @@ module _ (own kernel : List ℕ → Option ℕ) (procs : List Proc) (places : (n
         → ((q : ℕ) → Contains row q → get_or marks q false ≡ true)
         → Builds (Edge graph) (length graph) (λ q. get_or marks q false ≡ true) (λ q. ⊥) (reverse steps) → IsPlan the_source steps
     plan-is row marks steps is exports used b =
-        builds-more (Edge graph) (NeedsIn (map procedure_of procs)) (length graph) (length (map procedure_of procs)) (λ q. get_or marks q false ≡ true)
+        builds-more (Edge graph) (NeedsIn (map procedure_of procs)) (length graph) (length (map procedure_of procs))
+        (λ q. get_or marks q false ≡ true)
         (IsWanted the_source) (λ q. ⊥) (λ q. ⊥) (reverse steps)
         (counts own kernel procs places ∙ sym (length-map procs procedure_of))
         (λ i j h. goes_edge (map (links_in own kernel) procs) i j (used_goes own kernel procs places i h.0 j h.1))

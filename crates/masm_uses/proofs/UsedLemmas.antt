@@ -30,13 +30,15 @@ contains_at xs k x e = (k, slice_get_within xs k x e, get_or_from_slice_get xs k
 pub at_contains : {X : Type 0} (xs : List X) (x : X) → Contains xs x → (k : ℕ) × (slice_get xs k ≡ Some x)
 at_contains xs x h = (h.0, slice_get-get_or xs h.0 x h.1 ∙ ap Some h.2)
 
-pub in_all : {X Y : Type 0} (f : X → List Y) (xs : List X) (i : ℕ) (x : X) (y : Y) → slice_get xs i ≡ Some x → Contains (f x) y → Contains (flat_map f xs) y
+pub in_all : {X Y : Type 0} (f : X → List Y) (xs : List X) (i : ℕ) (x : X) (y : Y) → slice_get xs i ≡ Some x → Contains (f x) y
+    → Contains (flat_map f xs) y
 in_all f [] i x y e h = cc
 in_all f (z ∷ xs) zero x y e h =
     Contains-append_left (f z) (flat_map f xs) y (subst (λ w. Contains (f w) y) (ap (λ o. unwrap_or o z) (sym e)) h)
 in_all f (z ∷ xs) (suc i) x y e h = Contains-append_right (f z) (flat_map f xs) y (in_all f xs i x y e h)
 
-pub all_in : {X Y : Type 0} (f : X → List Y) (xs : List X) (y : Y) → Contains (flat_map f xs) y → (i : ℕ) × (x : X) × (slice_get xs i ≡ Some x) × Contains (f x) y
+pub all_in : {X Y : Type 0} (f : X → List Y) (xs : List X) (y : Y) → Contains (flat_map f xs) y
+    → (i : ℕ) × (x : X) × (slice_get xs i ≡ Some x) × Contains (f x) y
 all_in f [] y h = absurd (omega (arith, h.1))
 all_in f (z ∷ xs) y h = elim (Contains-append_cases (f z) (flat_map f xs) y h) [
   | inl here ↦ (0, z, refl, here)
@@ -44,7 +46,8 @@ all_in f (z ∷ xs) y h = elim (Contains-append_cases (f z) (flat_map f xs) y h)
 ]
 
 -- what a mapped list has at a place
-pub unmapped : {X Y : Type 0} (f : X → Y) (xs : List X) (k : ℕ) (y : Y) → slice_get (map f xs) k ≡ Some y → (x : X) × (slice_get xs k ≡ Some x) × (y ≡ f x)
+pub unmapped : {X Y : Type 0} (f : X → Y) (xs : List X) (k : ℕ) (y : Y) → slice_get (map f xs) k ≡ Some y
+    → (x : X) × (slice_get xs k ≡ Some x) × (y ≡ f x)
 unmapped {X} f xs k y e = by (slice_get xs k) refl
   where
     by : (o : Option X) → slice_get xs k ≡ o → (x : X) × (slice_get xs k ≡ Some x) × (y ≡ f x)
@@ -61,7 +64,9 @@ place_none (n ∷ names) name e h = elim (cases_Bool (bytes_eq n name)) [
   | inl same ↦ let some = ap (λ b. cond b (Some 0) (option_map (λ i. i + 1) (place_in names name))) same in cc
   | inr other ↦ elim (cons_cases n names name h) [
     | inl is ↦ let same = (bytes_eq-Decides n name).1 is in cc
-    | inr later ↦ place_none names name (none_less (place_in names name) (sym (ap (λ b. cond b (Some 0) (option_map (λ i. i + 1) (place_in names name))) other) ∙ e)) later
+    | inr later ↦
+        place_none names name (none_less (place_in names name)
+        (sym (ap (λ b. cond b (Some 0) (option_map (λ i. i + 1) (place_in names name))) other) ∙ e)) later
   ]
 ]
   where
@@ -72,7 +77,9 @@ place_none (n ∷ names) name e h = elim (cases_Bool (bytes_eq n name)) [
 pub none_place : (names : List (List ℕ)) (name : List ℕ) → ¬ (Contains names name) → place_in names name ≡ None
 none_place [] name h = refl
 none_place (n ∷ names) name h = elim (cases_Bool (bytes_eq n name)) [
-  | inl same ↦ absurd (h (subst (Contains (n ∷ names)) ((bytes_eq-Decides n name).0 same) (Contains-append_left (n ∷ []) names n (Contains-push [] n))))
+  | inl same ↦
+      absurd (h (subst (Contains (n ∷ names)) ((bytes_eq-Decides n name).0 same)
+      (Contains-append_left (n ∷ []) names n (Contains-push [] n))))
   | inr other ↦
       ap (λ b. cond b (Some 0) (option_map (λ i. i + 1) (place_in names name))) other
       ∙ ap (option_map (λ i. i + 1)) (none_place names name (λ later. h (Contains-append_right (n ∷ []) names name later)))
@@ -82,7 +89,8 @@ pub place_within : (names : List (List ℕ)) (name : List ℕ) (k : ℕ) → pla
 place_within [] name k e = cc
 place_within (n ∷ names) name k e = by (bytes_eq n name) (place_in names name) (λ j. place_within names name j) e
   where
-    by : (b : Bool) (o : Option ℕ) → ((j : ℕ) → o ≡ Some j → j < length names) → cond b (Some 0) (option_map (λ i. i + 1) o) ≡ Some k → k < suc (length names)
+    by : (b : Bool) (o : Option ℕ) → ((j : ℕ) → o ≡ Some j → j < length names)
+        → cond b (Some 0) (option_map (λ i. i + 1) o) ≡ Some k → k < suc (length names)
     by true o within e = let is : 0 ≡ k = ap (λ o. unwrap_or o 0) e in omega arith
     by false None within e = cc
     by false (Some j) within e = let is : j + 1 ≡ k = ap (λ o. unwrap_or o 0) e in let below = within j refl in omega arith
@@ -106,14 +114,17 @@ kernel_leads (Some k) j e = cc
 
 module _ (own kernel : List ℕ → Option ℕ) where
   pub missing_by : (kind : Kind) (name : List ℕ) (cause : LinkCause) → missing_cause (target_of own kernel kind name) ≡ Some cause
-      → ((kind ≡ Own) × (own name ≡ None) × (cause ≡ causes.UnknownProcedure)) ⊎ ((kind ≡ Kernel) × (kernel name ≡ None) × (cause ≡ causes.NotInKernel))
+      → ((kind ≡ Own) × (own name ≡ None) × (cause ≡ causes.UnknownProcedure))
+      ⊎ ((kind ≡ Kernel) × (kernel name ≡ None) × (cause ≡ causes.NotInKernel))
   missing_by Own name cause e = let m = own_missing (own name) cause e in inl (refl, m.0, m.1)
   missing_by Kernel name cause e = let m = kernel_missing (kernel name) cause e in inr (refl, m.0, m.1)
 
-  pub missing_own : (kind : Kind) (name : List ℕ) → kind ≡ Own → own name ≡ None → missing_cause (target_of own kernel kind name) ≡ Some causes.UnknownProcedure
+  pub missing_own : (kind : Kind) (name : List ℕ) → kind ≡ Own → own name ≡ None
+      → missing_cause (target_of own kernel kind name) ≡ Some causes.UnknownProcedure
   missing_own kind name is none = ap (λ k. missing_cause (target_of own kernel k name)) is ∙ ap (λ o. missing_cause (own_target o)) none
 
-  pub missing_kernel : (kind : Kind) (name : List ℕ) → kind ≡ Kernel → kernel name ≡ None → missing_cause (target_of own kernel kind name) ≡ Some causes.NotInKernel
+  pub missing_kernel : (kind : Kind) (name : List ℕ) → kind ≡ Kernel → kernel name ≡ None
+      → missing_cause (target_of own kernel kind name) ≡ Some causes.NotInKernel
   missing_kernel kind name is none = ap (λ k. missing_cause (target_of own kernel k name)) is ∙ ap (λ o. missing_cause (kernel_target o)) none
 
   pub leads_by : (kind : Kind) (name : List ℕ) (j : ℕ) → target_of own kernel kind name ≡ targets.Own j → (kind ≡ Own) × (own name ≡ Some j)
@@ -134,8 +145,12 @@ module _ (own kernel : List ℕ → Option ℕ) (procs : List Proc) (places : (n
   pub used_by : (i : ℕ) (u : Use) (j : ℕ) → UsedIn (map procedure_of procs) i u j
       → (p : Proc) × (slice_get procs i ≡ Some p) × Contains (uses_of (body_of p.body.items)) u × (target_of own kernel u.kind u.name ≡ targets.Own j)
   used_by i u j is =
-      let found = unmapped procedure_of procs i is.procedure is.here in
-      (found.0, found.1, subst (λ q. Contains (uses_of q.body) u) found.2 is.among, leads_own own kernel u.kind u.name j is.own (places u.name ∙ is.target))
+      let found = unmapped procedure_of procs i is.procedure is.here in (
+        found.0,
+        found.1,
+        subst (λ q. Contains (uses_of q.body) u) found.2 is.among,
+        leads_own own kernel u.kind u.name j is.own (places u.name ∙ is.target),
+      )
 
   pub goes_used : (i j : ℕ) → Goes (map (links_in own kernel) procs) i j → (u : Use) × UsedIn (map procedure_of procs) i u j
   goes_used i j goes =
@@ -166,14 +181,16 @@ module _ (own kernel : List ℕ → Option ℕ) (procs : List Proc) (places : (n
   used_goes i u j is =
       let by = used_by i u j is in
       let p = by.0 in
-      let row_is : get_or (map (links_in own kernel) procs) i [] ≡ links_in own kernel p = get_or_from_slice_get _ i (links_in own kernel p) [] (mapped (links_in own kernel) procs i p by.1) in
+      let row_is : get_or (map (links_in own kernel) procs) i [] ≡ links_in own kernel p =
+      get_or_from_slice_get _ i (links_in own kernel p) [] (mapped (links_in own kernel) procs i p by.1) in
       let at_k = at_contains (uses_of (body_of p.body.items)) u by.2 in
       let link_at = contains_at (links_in own kernel p) at_k.0 (link_of own kernel u) (mapped (link_of own kernel) _ at_k.0 u at_k.1) in
       let there = subst (λ r. Contains r (link_of own kernel u)) (sym row_is) link_at in
       (there.0, link_of own kernel u, there.1, there.2, by.3)
 
   module _ (users : List (List ℕ)) (are : AreUsers (map (links_in own kernel) procs) users) where
-    reaches_push : (a b c : ℕ) (u : Use) → Reaches (map procedure_of procs) a b → UsedIn (map procedure_of procs) b u c → Reaches (map procedure_of procs) a c
+    reaches_push : (a b c : ℕ) (u : Use) → Reaches (map procedure_of procs) a b → UsedIn (map procedure_of procs) b u c
+        → Reaches (map procedure_of procs) a c
     reaches_push a b c u uses.itself last = uses.through u last uses.itself
     reaches_push a b c u (uses.through {j = d} v first more) last = uses.through v first (reaches_push d b c u more last)
 

@@ -119,7 +119,9 @@ ask_given asks m rows gives i a h is =
 
 pub are_asked : (asks : ℕ → Option Access) (m : ℕ) (rows : List (List ℕ)) → AreAsks asks m → GivesAsks asks m rows → AreAsked asks m rows
 are_asked asks m rows are gives = record {
-  within = λ q h. (let r = row_asked asks m rows gives q h in let c = are.clocks r.0 (access_at rows q) r.1 r.2 in let l = r.1 in omega (arith, c, l));
+  within =
+      λ q h. (let r = row_asked asks m rows gives q h in let c = are.clocks r.0 (access_at rows q) r.1 r.2 in let l = r.1 in omega
+      (arith, c, l));
   given = λ q h.
       (let r = row_asked asks m rows gives q h in
       subst (λ k. asks k ≡ Some (access_at rows q)) (sym (are.clocks r.0 (access_at rows q) r.1 r.2)) r.2);

@@ -6,7 +6,7 @@ use Rattle.vm_field.specs.Machine.{IsWord, zero_word}
 use Rattle.vm_field.proofs.Elements.{elements-index}
 use Rattle.air_kit.specs.ChipPlaces.{only, paired}
 use Rattle.air_kit.specs.Places.{family}
-use Rattle.air_kit.specs.MemoryValues.{access_values, address_value, goes_on_here, kind_value, memory_values, order_step, step_of, word_values}
+use Rattle.air_kit.specs.MemoryValues.{access_values, entry_1, entry_5, goes_on_here, memory_values, order_step, step_of, word_values}
 use Rattle.air_kit.specs.declared.requests.Access.{Access}
 use Rattle.memory_rows.specs.Accesses.{Keeps, word_behind}
 use Rattle.memory_rows.specs.AccessRows.{new_address, new_context, row_behind, step_behind}
@@ -128,7 +128,7 @@ paired_zero value a (Some b) zero_is fits = zero_is b fits
 -- all of a row
 pub row_zero : (r : ℕ) (before : Option Access) (a : Access) (next : Option Access) → FitsBehind before a → FirstOnly r before
     → NextFits a next → AllZero (memory_values (record { row = r; cur = row_behind before a; next = option_map (λ b. row_behind (Some a) b) next }))
-unfolding memory_values access_values word_values kind_value address_value order_step step_of goes_on_here family row_behind
+unfolding memory_values access_values word_values entry_1 entry_5 order_step step_of goes_on_here family row_behind
 row_zero r before a next f first fits =
     let o = flags_zero before a f in
     each_zero (memory_values (record { row = r; cur = row_behind before a; next = option_map (λ b. row_behind (Some a) b) next }))
@@ -138,5 +138,6 @@ row_zero r before a next f first fits =
     (more (paired_zero _ a next (λ b g. grows_next a b g) fits) (more (read_first r before a f first) (more (kept_first r before a f first 0)
     (more (kept_first r before a f first 1) (more (kept_first r before a f first 2)
     (more (paired_zero _ a next (λ b g. read_next a b g f.shown.word) fits) (more (paired_zero _ a next (λ b g. kept_next a b g f.shown.word 0) fits)
-    (more (paired_zero _ a next (λ b g. kept_next a b g f.shown.word 1) fits) (more (paired_zero _ a next (λ b g. kept_next a b g f.shown.word 2) fits)
+    (more (paired_zero _ a next (λ b g. kept_next a b g f.shown.word 1) fits)
+    (more (paired_zero _ a next (λ b g. kept_next a b g f.shown.word 2) fits)
     none)))))))))))))))))

@@ -36,8 +36,12 @@ row_before asks m rows t q k b h less is at =
     let within : k < m = (let w = t.asked.within q h in omega (arith, w, less)) in
     let row : HasRow rows b = t.asked.asked k b within is in
     let clock : b.clk ≡ k = t.clocks k b within is in
-    let less_key : key_of b < key_of (access_at rows q) = key_of_place (access_at rows q) b at (omega (arith, clock, less)) in
-    (row.at, rows_from_keys rows t.ordered row.at q row.within h (subst (λ a. key_of a < key_of (access_at rows q)) (sym row.shows) less_key), row.shows)
+    let less_key : key_of b < key_of (access_at rows q) = key_of_place (access_at rows q) b at (omega (arith, clock, less)) in (
+      row.at,
+      rows_from_keys rows t.ordered row.at q row.within h
+          (subst (λ a. key_of a < key_of (access_at rows q)) (sym row.shows) less_key),
+      row.shows,
+    )
 
 first_row : (asks : ℕ → Option Access) (m : ℕ) (rows : List (List ℕ)) → InTable asks m rows → 0 < length rows
     → latest asks (access_at rows 0).clk (access_at rows 0).ctx (access_at rows 0).addr ≡ zero_word

@@ -59,7 +59,8 @@ between b p a at low high hp hpk ha hak =
     let place = place_is b a.ctx a.addr at in
     let c : b.ctx ≡ a.ctx = place.0 in
     let d : b.addr ≡ a.addr = place.1 in
-    let low_at_a : (a.ctx * 4294967296 + a.addr) * 4294967296 + b.clk ≤ (p.ctx * 4294967296 + p.addr) * 4294967296 + p.clk = omega (arith, c, d, low) in
+    let low_at_a : (a.ctx * 4294967296 + a.addr) * 4294967296 + b.clk ≤ (p.ctx * 4294967296 + p.addr) * 4294967296 + p.clk =
+    omega (arith, c, d, low) in
     let outer : p.ctx * 4294967296 + p.addr ≡ a.ctx * 4294967296 + a.addr =
     outer_same (a.ctx * 4294967296 + a.addr) (p.ctx * 4294967296 + p.addr) b.clk p.clk a.clk hpk hak low_at_a high in
     let inner = inner_same p.ctx p.addr a.ctx a.addr hp ha outer in at_same p a.ctx a.addr inner.0 inner.1

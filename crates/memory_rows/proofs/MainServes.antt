@@ -109,7 +109,8 @@ pub main_serves : (main rows : List (List ℕ)) → IsClocked main → IsZero ro
 main_serves main rows c z limbs alike i y a next is =
     let after : suc i < length main = slice_get_within main (suc i) y next in
     let inside : i < length main = omega (arith, after) in
-    let served : AreServed (asks_of main) (length main) = serves (asks_of main) (length main) rows (are_asks main c) z limbs (gives main rows alike) in
+    let served : AreServed (asks_of main) (length main) =
+    serves (asks_of main) (length main) rows (are_asks main c) z limbs (gives main rows alike) in
     let ask : asks_of main i ≡ Some a = row_asks main i y next ∙ is in
     record {
       address = served.addresses i a inside ask;

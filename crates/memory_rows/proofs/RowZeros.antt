@@ -5,7 +5,7 @@ use Rattle.vm_field.specs.Machine.{zero_word}
 use Rattle.vm_field.proofs.Algebra.{bit_from_product, same_from_sub}
 use Rattle.chip_columns.specs.MemoryColumns.{kind, ctx, addr, clk, v, n0, n1, d0, d1, a0, a1}
 use Rattle.air_kit.specs.Places.{family}
-use Rattle.air_kit.specs.MemoryValues.{access_values, address_value, goes_on_here, kind_value, memory_values, order_step, step_of, word_values}
+use Rattle.air_kit.specs.MemoryValues.{access_values, entry_1, entry_5, goes_on_here, memory_values, order_step, step_of, word_values}
 use Rattle.memory_rows.specs.Accesses.{Keeps, access_of}
 use Rattle.memory_rows.specs.MemoryTables.{HasLimbs}
 use Rattle.memory_rows.proofs.Numbers.{Moves, address_from, kept_from, kind_from, limit, moves, read_from, step_from}
@@ -32,7 +32,7 @@ address_small a low high l h e = omega arith
 
 pub row_says : (r : ℕ) (x : List ℕ) (next : Option (List ℕ)) → CellsBelow x → HasLimbs x
     → AllZero (memory_values (record { row = r; cur = x; next = next })) → RowSays x
-unfolding memory_values access_values kind_value address_value
+unfolding memory_values access_values entry_1 entry_5
 row_says r x next below limbs zeros = record {
   kind_small = kind_from (kind x) (below 0) (zeros 0);
   n0_bit = bit_from_product (n0 x) (below 8) (zeros 1);

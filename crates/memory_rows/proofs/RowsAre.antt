@@ -6,7 +6,7 @@ use Rattle.std.proofs.lemmas.Option.{slice_get-get_or}
 use Rattle.vm_field.specs.Field.{prime, felt_add, felt_sub, felt_mul}
 use Rattle.chip_columns.specs.MemoryColumns.{kind, ctx, addr, clk, v, n0, n1, d0, d1, a0, a1}
 use Rattle.air_kit.specs.declared.requests.Access.{Access}
-use Rattle.air_kit.specs.MemoryValues.{access_values, address_value, goes_on_here, kind_value, memory_values, order_step, step_of, word_values}
+use Rattle.air_kit.specs.MemoryValues.{access_values, entry_1, entry_5, goes_on_here, memory_values, order_step, step_of, word_values}
 use Rattle.air_kit.specs.Traces.{spot_of}
 use Rattle.memory_rows.specs.Accesses.{access_of}
 use Rattle.memory_rows.specs.AccessRows.{new_address, new_context, row_behind, step_behind}
@@ -62,7 +62,7 @@ joined low high l h = omega arith
 
 address_is : (r : ℕ) (x : List ℕ) (next : Option (List ℕ)) → CellsBelow x → HasLimbs x
     → AllZero (memory_values (record { row = r; cur = x; next = next })) → addr x ≡ a0 x + 65536 * a1 x
-unfolding memory_values access_values kind_value address_value
+unfolding memory_values access_values entry_1 entry_5
 address_is r x next below limbs zeros = address_from (addr x) (a0 x) (a1 x) (below 2) limbs.a0_small limbs.a1_small (zeros 4)
 
 -- ---- the flags and the step of a row behind another one

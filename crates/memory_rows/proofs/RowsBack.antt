@@ -6,7 +6,7 @@ use Rattle.vm_field.proofs.Elements.{word-of}
 use Rattle.vm_table.specs.Layout.{IsTable}
 use Rattle.chip_columns.specs.MemoryColumns.{d0, d1}
 use Rattle.air_kit.specs.Places.{family}
-use Rattle.air_kit.specs.MemoryValues.{access_values, address_value, goes_on_here, kind_value, memory_values, order_step, step_of, word_values}
+use Rattle.air_kit.specs.MemoryValues.{access_values, entry_1, entry_5, goes_on_here, memory_values, order_step, step_of, word_values}
 use Rattle.air_kit.specs.Traces.{spot_of}
 use Rattle.air_kit.specs.declared.requests.Access.{Access}
 use Rattle.memory_rows.specs.Accesses.{key_of}
@@ -23,7 +23,7 @@ use Rattle.memory_rows.proofs.SortedKeys.{follows_from}
 first_values : (a : Access) (low high : ℕ) (next : Option (List ℕ))
     → memory_values (record { row = 0; cur = first_row a low high; next = next })
     ≡ memory_values (record { row = 0; cur = row_behind None a; next = next })
-unfolding memory_values access_values word_values kind_value address_value order_step step_of goes_on_here family row_behind first_row
+unfolding memory_values access_values word_values entry_1 entry_5 order_step step_of goes_on_here family row_behind first_row
 first_values a low high next = refl
 
 module _ (rows : List (List ℕ)) (table : IsTable 14 rows) (small : AreSmall rows) (o : AreOrdered rows) (are : AreRows rows) where

@@ -1,10 +1,11 @@
 -- The rows of accesses give these, and so do those of the same accesses in another order.
-use Rattle.std.proofs.Common.{◌≡◌, ℕ, zero, suc, ◌+◌, List, [], ◌∷◌, map, length, slice_index, Option, Some, None, refl, sym, ap, ap₂, ◌∙◌, arith}
+use Rattle.std.proofs.Common.{◌≡◌, ℕ, zero, suc, ◌+◌, List, [], ◌∷◌, map, length, Option, Some, None, refl, sym, ap, ap₂, ◌∙◌, arith}
 use Rattle.std.specs.List.{sum_by}
 use Rattle.std.specs.List.Sorted.{IsPermutation}
 use Rattle.std.proofs.lemmas.List.Sorted.{sum_by-IsPermutation}
 use Rattle.std.proofs.lemmas.List.Sums.{sum_by-cons}
 use Rattle.vm_field.specs.Machine.{IsWord}
+use Rattle.vm_field.proofs.Elements.{word-again}
 use Rattle.buses.specs.Counts.{counted, hits, over_rows, total}
 use Rattle.buses.specs.declared.bus.Bus.TheVariants as bus
 use Rattle.air_kit.specs.declared.requests.Access.{Access}
@@ -22,14 +23,10 @@ unfolding total
 total_front zero f = omega arith
 total_front (suc n) f = let e = total_front n f in omega (arith, e)
 
-four_again : (w : List ℕ) → length w ≡ 4 → slice_index w 0 ∷ slice_index w 1 ∷ slice_index w 2 ∷ slice_index w 3 ∷ [] ≡ w
-four_again (a ∷ b ∷ c ∷ d ∷ []) h = refl
-four_again _ h = absurd (omega (arith, h))
-
 -- the row of an access shows it
 access_again : (before : Option Access) (a : Access) → IsWord a.word → access_of (row_behind before a) ≡ a
 unfolding row_behind
-access_again before a w = same_fields _ a refl refl refl refl (four_again a.word w.size)
+access_again before a w = same_fields _ a refl refl refl refl (word-again a.word w.size)
 
 counts_more : (a : Access) (accesses : List Access) (u : List ℕ)
     → counted (map access_given (a ∷ accesses)) u ≡ counted (access_given a ∷ []) u + counted (map access_given accesses) u

@@ -15,7 +15,8 @@ use Rattle.memory_rows.proofs.SortedWords.{first_word, other_word, same_word}
 keeps_from : (accesses : List Access) (a : Access) (word : List ℕ) → (f : FitsMemory accesses a) → f.before ≡ word → Keeps a word
 keeps_from accesses a word f e = record { reads = λ k. f.reads k ∙ e; keeps = λ k. f.keeps k ∙ ap (λ w. drop 1 w) e }
 
-first_fits : (accesses sorted : List Access) → IsInOrder accesses sorted → (d : Access) → 0 < length sorted → FitsBehind None (slice_index_or sorted 0 d)
+first_fits : (accesses sorted : List Access) → IsInOrder accesses sorted → (d : Access) → 0 < length sorted
+    → FitsBehind None (slice_index_or sorted 0 d)
 first_fits accesses sorted o d h = record {
   shown = shown_at accesses sorted o 0 d h;
   order = λ b e. absurd (let clash : ⊥ = cc in clash);
@@ -29,7 +30,8 @@ next_fits : (accesses sorted : List Access) → IsInOrder accesses sorted → (q
 next_fits accesses sorted o q d h = record {
   shown = shown_at accesses sorted o (suc q) d h;
   order = λ b e. subst (λ x. Follows x a) (let same : p ≡ b = cc in same)
-      (follows_from p a (shown_at accesses sorted o q d (omega (arith, h))) (shown_at accesses sorted o (suc q) d h) (strict accesses sorted o d q h));
+      (follows_from p a (shown_at accesses sorted o q d (omega (arith, h))) (shown_at accesses sorted o (suc q) d h)
+      (strict accesses sorted o d q h));
   keeps = keeps_from accesses a (word_behind (Some p) a) f (go (cases_Bool (is_at p a.ctx a.addr)));
 }
   where
@@ -46,7 +48,8 @@ next_fits accesses sorted o q d h = record {
     go (inl at) = same_word accesses sorted o q d h at f.before f.is_before ∙ sym (ap (λ t. cond t p.word zero_word) at)
     go (inr apart) = other_word accesses sorted o q d h apart f.before f.is_before ∙ sym (ap (λ t. cond t p.word zero_word) apart)
 
-linked_from : (before : Option Access) (accesses : List Access) → ((d : Access) → 0 < length accesses → FitsBehind before (slice_index_or accesses 0 d))
+linked_from : (before : Option Access) (accesses : List Access)
+    → ((d : Access) → 0 < length accesses → FitsBehind before (slice_index_or accesses 0 d))
     → ((q : ℕ) (d : Access) → suc q < length accesses → FitsBehind (Some (slice_index_or accesses q d)) (slice_index_or accesses (suc q) d))
     → Linked before accesses
 unfolding Linked

@@ -45,7 +45,8 @@ shown_at accesses sorted o q d h =
 same_clock : (x y k l : ℕ) → k < limit → l < limit → x * 4294967296 + k ≡ y * 4294967296 + l → k ≡ l
 same_clock x y k l hk hl e = omega arith
 
-pub strict : (accesses sorted : List Access) → IsInOrder accesses sorted → (d : Access) → Rises (λ i. key_of (slice_index_or sorted i d)) (length sorted)
+pub strict : (accesses sorted : List Access) → IsInOrder accesses sorted → (d : Access)
+    → Rises (λ i. key_of (slice_index_or sorted i d)) (length sorted)
 strict accesses sorted o d i h = go (cases_lt (key_of b) (key_of a))
   where
     b : Access

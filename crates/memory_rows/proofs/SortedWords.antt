@@ -42,7 +42,9 @@ stands_before accesses sorted o q d h i other e earlier =
 found : (accesses sorted : List Access) → IsInOrder accesses sorted → (q : ℕ) (d a : Access) → q < length sorted
     → (k : ℕ) × (slice_index_or accesses k a ≡ slice_index_or sorted q d)
 found accesses sorted o q d a h =
-    let at = Contains-permutation sorted accesses (slice_index_or sorted q d) (IsPermutation-sym accesses sorted o.moved) (Contains-get_or sorted q d h) in
+    let at =
+    Contains-permutation sorted accesses (slice_index_or sorted q d) (IsPermutation-sym accesses sorted o.moved)
+    (Contains-get_or sorted q d h) in
     (at.0, get_or_default accesses at.0 a (slice_index_or sorted q d) at.1 ∙ at.2)
 
 -- ---- the word before

@@ -19,7 +19,8 @@ weaker told steps P Q from h = record { left = h.left; now = h.now; passes = h.p
 works_left : (steps : Option Steps) (kind : Kind) (a : Answer) (old new : ShelfState) → Works steps kind a old new → GivesUp steps old new
 works_left None no_command a old new h = h.1
 works_left None kind a old new h = absurd h
-works_left (Some steps) planned a old new h = inl (record { counts = h.counts; files = weaker old.files steps _ _ (λ left now there. there.1) h.files })
+works_left (Some steps) planned a old new h =
+    inl (record { counts = h.counts; files = weaker old.files steps _ _ (λ left now there. there.1) h.files })
 works_left (Some steps) failed_read a old new h = inr (inl (h.0, h.1))
 works_left (Some steps) failed_write a old new h = inr (inr (h.0, h.1))
 works_left (Some steps) kind a old new h = absurd h

@@ -10,7 +10,8 @@ chosen b x y a is same = subst (λ c. a ≡ (if c then x else y)) (sym is) same
 other : (b : Bool) (x y : Asked) → b ≡ false → y ≡ (if b then x else y)
 other b x y is = subst (λ c. y ≡ (if c then x else y)) (sym is) refl
 
-of_names : (a : Asked) (p q s t i j : Option (List ℕ)) (o u : Option Outputs) (k l : Option (Option (List ℕ))) (m n : Option ℕ) → p ≡ q → s ≡ t → i ≡ j
+of_names : (a : Asked) (p q s t i j : Option (List ℕ)) (o u : Option Outputs) (k l : Option (Option (List ℕ))) (m n : Option ℕ)
+    → p ≡ q → s ≡ t → i ≡ j
     → o ≡ u → k ≡ l → m ≡ n → a ≡ run_of_names p s i o k m → a ≡ run_of_names q t j u l n
 of_names a p q s t i j o u k l m n first second third fourth fifth sixth is = cc
 

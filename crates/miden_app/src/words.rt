@@ -94,7 +94,8 @@ fn check_with<'a>(
     requires table { length table.now ≤ 200 }
     requires statement { length statement.now ≤ 200 }
     requires evidence { length evidence.now ≤ 200 }
-    ensures asks { asks result ≡ check_of_names (Some params.entry.now) (Some table.entry.now) (Some statement.entry.now) (Some (Some evidence.entry.now)) }
+    ensures asks { asks result ≡ check_of_names (Some params.entry.now) (Some table.entry.now) (Some statement.entry.now)
+        (Some (Some evidence.entry.now)) }
     ensures named { IsNamed result }
 {
     if evidence == params || evidence == table || evidence == statement {

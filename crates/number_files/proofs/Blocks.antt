@@ -14,7 +14,8 @@ begins f begun m elements = ap (λ j. fold f begun (blocks_of j elements)) (same
     same : (m : ℕ) → m - 0 ≡ m
     same m = omega arith
 
-step : (f : List ℕ → List ℕ → List ℕ) (state : List ℕ) (j i : ℕ) (es : List ℕ) → j ≡ i + 1 → fold f state (blocks_of j es) ≡ fold f (f state (take 8 es)) (blocks_of i (drop 8 es))
+step : (f : List ℕ → List ℕ → List ℕ) (state : List ℕ) (j i : ℕ) (es : List ℕ) → j ≡ i + 1
+    → fold f state (blocks_of j es) ≡ fold f (f state (take 8 es)) (blocks_of i (drop 8 es))
 unfolding blocks_of
 step f state zero i es one = absurd (omega arith)
 step f state (suc j) i es one = ap (λ n. fold f (f state (take 8 es)) (blocks_of n (drop 8 es))) same

@@ -52,7 +52,8 @@ goes_on bytes xs rest behind x is some fits goes = sym taken ∙ goes
     one : length bytes - length xs ≡ next + 1
     one = omega (arith, length-append xs (x ∷ []))
 
-    taken : joined xs (elements_from (length bytes - length xs) (length xs + 1) rest) ≡ joined (xs ++ x ∷ []) (elements_from next (length (xs ++ x ∷ []) + 1) behind)
+    taken : joined xs (elements_from (length bytes - length xs) (length xs + 1) rest)
+        ≡ joined (xs ++ x ∷ []) (elements_from next (length (xs ++ x ∷ []) + 1) behind)
     taken =
         ap (joined xs) (step (length bytes - length xs) next (length xs + 1) rest _ is one some)
         ∙ joined-first xs x _
@@ -94,13 +95,17 @@ unfolding one_line
 shorter [] line behind is = absurd (cc)
 shorter (b ∷ bs) line behind is = go (shorter bs) (b == 10) is
   where
-    later : (o : Option (List ℕ × List ℕ)) → ((l r : List ℕ) → parted l r ≡ o → length r < length bs) → parted line behind ≡ option_map (λ l. (b ∷ l.0, l.1)) o → length behind < suc (length bs)
+    later : (o : Option (List ℕ × List ℕ)) → ((l r : List ℕ) → parted l r ≡ o → length r < length bs)
+        → parted line behind ≡ option_map (λ l. (b ∷ l.0, l.1)) o → length behind < suc (length bs)
     later None front h = absurd (cc)
     later (Some (l, r)) front h = let same : length behind ≡ length r = ap (λ o. length (behind_of o)) h in omega (arith, front l r refl, same)
 
-    go : ((l r : List ℕ) → parted l r ≡ one_line bs → length r < length bs) → (t : Bool) → parted line behind ≡ cond t (Some ([], bs)) (option_map (λ l. (b ∷ l.0, l.1)) (one_line bs)) → length behind < suc (length bs)
+    go : ((l r : List ℕ) → parted l r ≡ one_line bs → length r < length bs) → (t : Bool)
+        → parted line behind ≡ cond t (Some ([], bs)) (option_map (λ l. (b ∷ l.0, l.1)) (one_line bs))
+        → length behind < suc (length bs)
     go front true h = let same : length behind ≡ length bs = ap (λ o. length (behind_of o)) h in omega (arith, same)
     go front false h = later (one_line bs) front h
 
-pub one_more_fits : (bytes xs rest behind : List ℕ) (x : ℕ) → length behind < length rest → length xs + length rest ≤ length bytes → length (xs ++ x ∷ []) + length behind ≤ length bytes
+pub one_more_fits : (bytes xs rest behind : List ℕ) (x : ℕ) → length behind < length rest → length xs + length rest ≤ length bytes
+    → length (xs ++ x ∷ []) + length behind ≤ length bytes
 one_more_fits bytes xs rest behind x less fits = omega (arith, length-append xs (x ∷ []))

@@ -70,8 +70,10 @@ record IsCuttable (positions : List ℕ) : Type 0 where
       → IsCut (pushed_on positions room number) items
 
 go_on-cut : (positions : List ℕ) (room number : ℕ) → IsCuttable positions
-    → ((items : List Item) → read_on (positions ++ 0 ∷ []) room number ≡ Some items → IsFine (without_noops items) → IsCut (read_on positions room number) items)
-    → (items : List Item) → go_on (positions ++ 0 ∷ []) room number ≡ Some items → IsFine (without_noops items) → IsCut (go_on positions room number) items
+    → ((items : List Item) → read_on (positions ++ 0 ∷ []) room number ≡ Some items → IsFine (without_noops items)
+    → IsCut (read_on positions room number) items)
+    → (items : List Item) → go_on (positions ++ 0 ∷ []) room number ≡ Some items → IsFine (without_noops items)
+    → IsCut (go_on positions room number) items
 go_on-cut positions room number next later items e fine = go (number == 0) e
   where
     go : (none : Bool) → cond none (next_group (positions ++ 0 ∷ [])) (read_on (positions ++ 0 ∷ []) room number) ≡ Some items

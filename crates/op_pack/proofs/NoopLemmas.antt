@@ -29,7 +29,8 @@ without_noops-next item read rest items e = go (is_noop item) refl
 pub reads-along : (o q : Option (List Item)) (rest items : List Item) → o ≡ q → ReadsItems q rest items → ReadsItems o rest items
 reads-along o q rest items e h = rw e h
 
-pub reads-before : (item : Item) (o : Option (List Item)) (rest items : List Item) → ReadsItems o rest items → ReadsItems (before item o) rest (item ∷ items)
+pub reads-before : (item : Item) (o : Option (List Item)) (rest items : List Item) → ReadsItems o rest items
+    → ReadsItems (before item o) rest (item ∷ items)
 reads-before item o rest items h = record {
   read = item ∷ h.read;
   is = ap (λ q. before item q) h.is;

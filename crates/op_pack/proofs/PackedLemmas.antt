@@ -26,7 +26,8 @@ record IsSmall (room : ℕ) (p : Placed) : Type 0 where
 small-along : (room : ℕ) (p q : Placed) → p ≡ q → IsSmall room q → IsSmall room p
 small-along room p q e h = rw e h
 
-elements-with_immediate : (item : Item) (positions : List ℕ) → IsPackableItem item → AreElements positions → AreElements (with_immediate item positions)
+elements-with_immediate : (item : Item) (positions : List ℕ) → IsPackableItem item → AreElements positions
+    → AreElements (with_immediate item positions)
 elements-with_immediate item positions h below = go (has_immediate item)
   where
     go : (has : Bool) → AreElements (cond has (unwrap_or item.imm 0 ∷ positions) positions)

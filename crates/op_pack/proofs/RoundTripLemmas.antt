@@ -96,7 +96,8 @@ Each (item ∷ items) = IsPackableItem item × Each items
 with_immediate-append : (item : Item) (positions zeros : List ℕ) → with_immediate item positions ++ zeros ≡ with_immediate item (positions ++ zeros)
 with_immediate-append item positions zeros = go (has_immediate item)
   where
-    go : (has : Bool) → cond has (unwrap_or item.imm 0 ∷ positions) positions ++ zeros ≡ cond has (unwrap_or item.imm 0 ∷ (positions ++ zeros)) (positions ++ zeros)
+    go : (has : Bool) → cond has (unwrap_or item.imm 0 ∷ positions) positions ++ zeros
+        ≡ cond has (unwrap_or item.imm 0 ∷ (positions ++ zeros)) (positions ++ zeros)
     go true = refl
     go false = refl
 

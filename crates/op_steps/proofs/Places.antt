@@ -23,7 +23,8 @@ overwritten_more xs ys j v in_xs in_ys is =
     rw (drop-cons ys j 0 in_ys) (set-append_seam (take j xs) (get_or ys j 0) (drop (suc j) ys) v) in
     let next : suc j ≡ j + 1 = omega arith in
     ap (λ n. set (take j xs ++ drop j ys) n v) (sym written) ∙ at_seam
-    ∙ sym (append_assoc (take j xs) (v ∷ []) (drop (suc j) ys)) ∙ ap (λ zs. zs ++ drop (suc j) ys) (sym front) ∙ ap (λ n. take (j + 1) xs ++ drop n ys) next
+    ∙ sym (append_assoc (take j xs) (v ∷ []) (drop (suc j) ys)) ∙ ap (λ zs. zs ++ drop (suc j) ys) (sym front)
+    ∙ ap (λ n. take (j + 1) xs ++ drop n ys) next
 
 -- one more element is taken
 pub taken_more : (tape : List ℕ) (k : ℕ) (o : Option ℕ) (after : List ℕ) → Taken (drop k tape) o after → after ≡ drop (k + 1) tape
@@ -36,7 +37,8 @@ placed_by : (shift : Shift) (taken left : ℕ) (cells stack : List ℕ) → ByOn
 placed_by Left taken left cells stack by keeps few count enough =
     let rest : length (drop 1 stack) ≡ length stack - 1 = length-drop 1 stack in
     let low : left ≤ length (drop 1 stack) = omega arith in
-    let size : length (cells ++ drop taken stack) ≡ length (drop 1 stack) = omega (arith, length-append cells (drop taken stack), length-drop taken stack) in
+    let size : length (cells ++ drop taken stack) ≡ length (drop 1 stack) =
+    omega (arith, length-append cells (drop taken stack), length-drop taken stack) in
     let later : drop left (drop 1 stack) ≡ drop taken stack = drop-drop left 1 stack ∙ ap (λ n. drop n stack) (omega arith) in
     rw (size, drop-append-le left (drop 1 stack) (replicate (16 - length (drop 1 stack)) 0) low, later)
     (sym (append_assoc cells (drop taken stack) (replicate (16 - length (drop 1 stack)) 0)))

@@ -32,7 +32,8 @@ trapped_by false None n tape cells c cause e = cc
 trapped_by false (Some own) n tape cells c cause e = cc
 
 -- the operation's trap is the step's
-pub trapped : (constants : List ℕ) (item : Item) (s : State) (cause : Cause) → outcome_at constants item s ≡ Err cause → step constants item s ≡ Err cause
+pub trapped : (constants : List ℕ) (item : Item) (s : State) (cause : Cause) → outcome_at constants item s ≡ Err cause
+    → step constants item s ≡ Err cause
 unfolding outcome_at outcome cycle_taking act
 trapped constants item s cause e =
     trapped_by (nat_lt (length s.tape) (advice_of item.op)) (trap_of item.op (seen_at constants item s)) (advice_of item.op) s.tape
@@ -68,7 +69,8 @@ writes_nothing ops.Noop s e = (refl, refl)
 writes_nothing _ s e = (refl, refl)
 
 -- the step of a quiet operation
-pub stepped_quietly : (constants : List ℕ) (item : Item) (s : State) (left : List ℕ) (fmp : ℕ) → IsQuiet item.op → outcome_at constants item s ≡ Ok left
+pub stepped_quietly : (constants : List ℕ) (item : Item) (s : State) (left : List ℕ) (fmp : ℕ) → IsQuiet item.op
+    → outcome_at constants item s ≡ Ok left
     → length left ≡ leaves_of item.op → 16 ≤ length s.core.stack → fmp ≡ fmp_after item.op (seen_at constants item s)
     → step constants item s ≡ Ok (record {
       core = record s.core {
@@ -83,7 +85,8 @@ stepped_quietly constants item s left fmp quiet e count enough pointer =
     (rw (written-none item.op (seen_at constants item s) quiet.memory) at (stepped constants item s left e))
 
 -- the step of an operation that shifts to the right
-pub stepped_growing : (constants : List ℕ) (item : Item) (s : State) (left : List ℕ) (v : ℕ) → shift_of item.op ≡ Right → outcome_at constants item s ≡ Ok left
+pub stepped_growing : (constants : List ℕ) (item : Item) (s : State) (left : List ℕ) (v : ℕ) → shift_of item.op ≡ Right
+    → outcome_at constants item s ≡ Ok left
     → length left ≡ leaves_of item.op → 16 ≤ length s.core.stack
     → step constants item s ≡ Ok (record {
       core = record s.core { clock = s.core.clock + 1; stack = left ++ drop (length left) (v ∷ s.core.stack) };
@@ -133,7 +136,8 @@ single_keeps _ s e = cc
 
 -- a move leaves the cells that it moves
 move_keeps : (op : Op) (s : Seen) → is_move op ≡ true
-    → (advice_of op ≡ 0) × (outcome op s ≡ Ok (map (slice_index s.cells) (sources_of op))) × (fmp_after op s ≡ s.fmp) × (leaves_of op ≡ length (sources_of op))
+    → (advice_of op ≡ 0) × (outcome op s ≡ Ok (map (slice_index s.cells) (sources_of op))) × (fmp_after op s ≡ s.fmp)
+    × (leaves_of op ≡ length (sources_of op))
 unfolding outcome left_cells computed trap_of
 move_keeps ops.Noop s e = (refl, refl, refl, refl)
 move_keeps ops.Swap s e = (refl, refl, refl, refl)
@@ -163,7 +167,8 @@ long_enough false r e = refl
 long_enough true r e = cc
 
 -- an operation that takes no advice leaves what it leaves with a tape that is long enough
-without_advice : (constants : List ℕ) (item : Item) (s : State) → advice_of item.op ≡ 0 → outcome_at constants item s ≡ outcome item.op (seen_at constants item s)
+without_advice : (constants : List ℕ) (item : Item) (s : State) → advice_of item.op ≡ 0
+    → outcome_at constants item s ≡ outcome item.op (seen_at constants item s)
 unfolding outcome_at
 without_advice constants item s none =
     long_enough (nat_lt (length s.tape) (advice_of item.op)) (outcome item.op (seen_at constants item s))
@@ -219,7 +224,8 @@ inside_by true test n tape c e f = cc
 inside_by false true n tape c e f = refl
 inside_by false false n tape c e f = cc
 
-outside_at : (op : Op) (imm : Option ℕ) (constants : List ℕ) (s : State) → writes_memory op ≡ true → is_u32 (slice_index (take 16 s.core.stack) 0) ≡ false
+outside_at : (op : Op) (imm : Option ℕ) (constants : List ℕ) (s : State) → writes_memory op ≡ true
+    → is_u32 (slice_index (take 16 s.core.stack) 0) ≡ false
     → step constants (record { op = op; imm = imm }) s ≡ Err AddressRange
 unfolding cycle_taking act trap_of
 outside_at ops.MStore imm constants s writes outside = outside_by (nat_lt (length s.tape) 0) _ 0 s.tape _ (not_short (length s.tape)) outside
@@ -244,7 +250,8 @@ stored_state word s = record {
   tape = s.tape;
 }
 
-inside_at : (op : Op) (imm : Option ℕ) (constants : List ℕ) (s : State) → writes_memory op ≡ true → is_u32 (slice_index (take 16 s.core.stack) 0) ≡ true
+inside_at : (op : Op) (imm : Option ℕ) (constants : List ℕ) (s : State) → writes_memory op ≡ true
+    → is_u32 (slice_index (take 16 s.core.stack) 0) ≡ true
     → (word : List ℕ) → written op (seen constants (record { op = op; imm = imm }) [] s.core) ≡ Some word
     → step constants (record { op = op; imm = imm }) s ≡ Ok (stored_state word s)
 unfolding cycle_taking act trap_of stack_after left_cells computed
@@ -252,7 +259,8 @@ inside_at ops.MStore imm constants s writes inside word is =
     let e : word ≡ slice_index (take 16 s.core.stack) 1 ∷ drop 1 (word_at s.core.memory s.core.context (slice_index s.core.stack 0)) = cc in
     rw e (inside_by (nat_lt (length s.tape) 0) _ 0 s.tape _ (not_short (length s.tape)) inside)
 inside_at ops.MStoreW imm constants s writes inside word is =
-    let e : word ≡ slice_index (take 16 s.core.stack) 4 ∷ slice_index (take 16 s.core.stack) 3 ∷ slice_index (take 16 s.core.stack) 2 ∷ slice_index (take 16 s.core.stack) 1 ∷ [] = cc in
+    let e : word ≡ slice_index (take 16 s.core.stack) 4 ∷ slice_index (take 16 s.core.stack) 3 ∷ slice_index (take 16 s.core.stack)
+    2 ∷ slice_index (take 16 s.core.stack) 1 ∷ [] = cc in
     rw e (inside_by (nat_lt (length s.tape) 0) _ 0 s.tape _ (not_short (length s.tape)) inside)
 inside_at ops.Noop imm constants s writes inside word is = cc
 inside_at _ imm constants s writes inside word is = cc

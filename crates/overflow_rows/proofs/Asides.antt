@@ -19,7 +19,8 @@ unfoldable pub asides : List (List ℕ) → List ℕ → List (List ℕ)
 asides rows [] = []
 asides rows (j ∷ js) = if is_call_op (op_in rows j) then below_at rows j ∷ asides rows js else asides rows js
 
-pub asides-call : (rows : List (List ℕ)) (j : ℕ) (js : List ℕ) → is_call_op (op_in rows j) ≡ true → asides rows (j ∷ js) ≡ below_at rows j ∷ asides rows js
+pub asides-call : (rows : List (List ℕ)) (j : ℕ) (js : List ℕ) → is_call_op (op_in rows j) ≡ true
+    → asides rows (j ∷ js) ≡ below_at rows j ∷ asides rows js
 unfolding asides
 asides-call rows j js is = cond-true (is_call_op (op_in rows j)) _ _ is
 
@@ -54,7 +55,8 @@ returns_is rows j e closes =
     ∙ call_flags (op_in rows j)
 
 -- the block whose END a row is
-pub block_of : (rows : List (List ℕ)) → FrameFacts rows → (e : ℕ) → suc e < length rows → is_op (op_in rows e) ops.End ≡ true → (j : ℕ) × IsBlock rows j e
+pub block_of : (rows : List (List ℕ)) → FrameFacts rows → (e : ℕ) → suc e < length rows → is_op (op_in rows e) ops.End ≡ true
+    → (j : ℕ) × IsBlock rows j e
 block_of rows frames e within is =
     frames.ends e (record { within = within; is = code_of-different (op_in rows e) ops.End (eqb-true (code_of (op_in rows e)) (code_of ops.End) is) })
 

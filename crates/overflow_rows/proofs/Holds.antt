@@ -75,7 +75,8 @@ none_of : (t u v w : Bool) → t ≡ false → u ≡ false → v ≡ false → w
 none_of t u v w a b c d = rw (a, b, c, d)
 
 -- the first row is one of a start
-pub first_goes : {rows left_rows : List (List ℕ)} {outputs : List ℕ} → Known rows left_rows outputs → 0 < length rows → is_right (op_in rows 0) ≡ false
+pub first_goes : {rows left_rows : List (List ℕ)} {outputs : List ℕ} → Known rows left_rows outputs → 0 < length rows
+    → is_right (op_in rows 0) ≡ false
 first_goes {rows = rows} known h = start_apart (op_in rows 0) (known.shows.first h).start.starts
 
 some_rows : (i l : ℕ) → i < l → 0 < l
@@ -177,7 +178,8 @@ up_to i n h = grind arith
 none_below : (i : ℕ) → i ≤ 0 → i ≡ 0
 none_below i h = omega (arith, h)
 
-holds_below : {rows left_rows : List (List ℕ)} {outputs : List ℕ} → Known rows left_rows outputs → (n : ℕ) → n < length rows → (i : ℕ) → i ≤ n → Holds rows i
+holds_below : {rows left_rows : List (List ℕ)} {outputs : List ℕ} → Known rows left_rows outputs → (n : ℕ) → n < length rows
+    → (i : ℕ) → i ≤ n → Holds rows i
 holds_below {rows = rows} known zero h i few = subst (λ (k : ℕ). Holds rows k) (sym (none_below i few)) (first_holds known h)
 holds_below {rows = rows} known (suc n) h i few = elim (up_to i n few) [
   | inl early ↦ holds_below known n (before n (length rows) h) i early

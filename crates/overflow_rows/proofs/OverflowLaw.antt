@@ -1,5 +1,6 @@
 -- The law of the cells below the sixteenth.
-use Rattle.std.proofs.Common.{◌≡◌, ◌≢◌, ℕ, suc, ◌+◌, ◌<◌, ◌≤◌, true, List, [], ◌∷◌, ◌++◌, length, drop, refl, sym, ap, subst, ◌∙◌, arith}
+use Rattle.std.proofs.Common.{◌≡◌, ◌≢◌, ℕ, suc, ◌+◌, ◌<◌, ◌≤◌, true, List, [], ◌∷◌, ◌++◌, length, drop, sym, ap, subst, ◌∙◌, arith}
+use Rattle.std.proofs.lemmas.List.{nil_from_length}
 use Rattle.vm_table.specs.MainColumns.{s, depth}
 use Rattle.air_kit.specs.MainTuples.{is_call_op, row_shifts_left}
 use Rattle.air_kit.specs.RowStates.{Overflow, overflow_at}
@@ -24,10 +25,6 @@ use Rattle.overflow_rows.proofs.Outputs.{Leaves, stack_is, walk}
 before : (i l : ℕ) → suc i < l → i < l
 before i l h = omega (arith, h)
 
-no_cell : (xs : List ℕ) → length xs ≡ 0 → xs ≡ []
-no_cell [] e = refl
-no_cell (x ∷ xs) e = absurd (omega (arith, e))
-
 none_counted : (d n : ℕ) → d ≡ 16 + n → d ≡ 16 → n ≡ 0
 none_counted d n e f = omega (arith, e, f)
 
@@ -43,7 +40,7 @@ deep_at {rows = rows} known i within l a =
 returns_at : {rows left_rows : List (List ℕ)} {outputs : List ℕ} → Known rows left_rows outputs → (j e : ℕ) → Closes rows j e
     → is_call_op (op_in rows j) ≡ true → (below_at rows e ≡ []) × (below_at rows (suc e) ≡ below_at rows j)
 returns_at {rows = rows} known j e closes call = (
-  no_cell (below_at rows e) (none_counted (depth (row_at rows e)) (length (below_at rows e)) (holds known e within).depth_is flat),
+  nil_from_length (below_at rows e) (none_counted (depth (row_at rows e)) (length (below_at rows e)) (holds known e within).depth_is flat),
   ap (λ (o : Overflow). o.below)
       (return_back rows j e (known.frames.closed j e closes) call (aside_is known.claim rows known.shows known.frames e within)),
 )

@@ -46,7 +46,8 @@ return_back rows j e block call here =
     (ap is_call_op block.closes.ends.is) (returns_is rows j e block.closes ∙ call)
     ∙ ap brought_back (here ∙ ap (asides rows) block.newest ∙ asides-call rows j (open_at rows j) call)
 
-aside_step : (rows : List (List ℕ)) → FrameFacts rows → (i : ℕ) → suc i < length rows → (is_op (op_in rows i) ops.End ≡ true → IsEndRow (row_at rows i))
+aside_step : (rows : List (List ℕ)) → FrameFacts rows → (i : ℕ) → suc i < length rows
+    → (is_op (op_in rows i) ops.End ≡ true → IsEndRow (row_at rows i))
     → IsAside rows i → Kind (row_at rows i) → IsAside rows (suc i)
 aside_step rows frames i within end here (right r) =
     ap (λ (o : Overflow). o.aside) (next_is rows i ∙ behind_right (row_at rows i) (overflow_at rows i) r) ∙ here

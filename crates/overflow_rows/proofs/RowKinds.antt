@@ -1,6 +1,6 @@
 -- What a row does to the cells below the sixteenth.
 use Rattle.std.proofs.Common.{◌≡◌, ◌≢◌, ◌⊎◌, inl, inr, ℕ, ◌+◌, ◌≤◌, Bool, true, false, ◌&&◌, ◌||◌, cond, eqb, List, [], ◌∷◌, drop, refl, ap, ◌∙◌, arith}
-use Rattle.std.proofs.lemmas.Bool.{cases_Bool, eqb-true, eq-eqb, ne_eqb, cond-true, cond-false}
+use Rattle.std.proofs.lemmas.Bool.{cases_Bool, eqb-true, eq-eqb, ne_eqb, cond-true, cond-false, and_parts}
 use Rattle.vm_field.specs.Signs.{◌⊞◌}
 use Rattle.vm_ops.specs.Codes.{is_start_op}
 use Rattle.vm_ops.specs.declared.op.Op.{Op}
@@ -40,7 +40,8 @@ kind_of x = elim (cases_Bool (is_right (op_of x))) [
 
 -- ---- what is below behind the row
 
-pub behind_right : (x : List ℕ) (o : Overflow) → is_right (op_of x) ≡ true → overflow_behind x o ≡ record { below = s x 15 ∷ o.below; aside = o.aside }
+pub behind_right : (x : List ℕ) (o : Overflow) → is_right (op_of x) ≡ true
+    → overflow_behind x o ≡ record { below = s x 15 ∷ o.below; aside = o.aside }
 behind_right x o r = cond-true (is_right (op_of x)) _ _ r
 
 pub behind_flat : (x : List ℕ) (o : Overflow) → is_right (op_of x) ≡ false → row_shifts_left x ≡ true → depth x ≡ 16 → overflow_behind x o ≡ o
@@ -117,12 +118,8 @@ call_no_loop op is = off is
 
 -- ---- what a row that shifts left does not do
 
-both_pass : (t u : Bool) → t && u ≡ true → (t ≡ true) × (u ≡ true)
-both_pass true u h = (refl, h)
-both_pass false u h = off h
-
 pub returns_ends : (x : List ℕ) → row_returns x ≡ true → is_op (op_of x) ops.End ≡ true
-returns_ends x t = (both_pass (is_op (op_of x) ops.End) (eqb (h x 6 ⊞ h x 7) 1) t).0
+returns_ends x t = (and_parts (is_op (op_of x) ops.End) (eqb (h x 6 ⊞ h x 7) 1) t).0
 
 pub no_end_returns : (x : List ℕ) → is_op (op_of x) ops.End ≡ false → row_returns x ≡ false
 no_end_returns x other = ap (λ t. t && eqb (h x 6 ⊞ h x 7) 1) other
@@ -143,7 +140,7 @@ pub left_stays : (x : List ℕ) → (is_op (op_of x) ops.End ≡ true → IsEndR
 left_stays x end l = elim (either_passes (is_left (op_of x)) (is_op (op_of x) ops.End && eqb (h x 4) 1) l) [
   | inl is ↦ ((left_apart (op_of x) is).0, no_end_returns x (left_apart (op_of x) is).1)
   | inr is ↦
-      let both = both_pass (is_op (op_of x) ops.End) (eqb (h x 4) 1) is in (
+      let both = and_parts (is_op (op_of x) ops.End) (eqb (h x 4) 1) is in (
         (end_apart (op_of x) both.0).0,
         and_off (is_op (op_of x) ops.End) (eqb (h x 6 ⊞ h x 7) 1)
             (loop_returns_none (h x 4) (h x 5) (h x 6) (h x 7) (end both.0).most (eqb-true (h x 4) 1 both.1)),
@@ -161,7 +158,7 @@ left_no_right op l = one_shift (shift_of op) l
 pub left_right_apart : (x : List ℕ) → row_shifts_left x ≡ true → is_right (op_of x) ≡ false
 left_right_apart x l = elim (either_passes (is_left (op_of x)) (is_op (op_of x) ops.End && eqb (h x 4) 1) l) [
   | inl is ↦ left_no_right (op_of x) is
-  | inr is ↦ end_no_right (op_of x) (both_pass (is_op (op_of x) ops.End) (eqb (h x 4) 1) is).0
+  | inr is ↦ end_no_right (op_of x) (and_parts (is_op (op_of x) ops.End) (eqb (h x 4) 1) is).0
 ]
   where
     end_no_right : (op : Op) → is_op op ops.End ≡ true → is_right op ≡ false

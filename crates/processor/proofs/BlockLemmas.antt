@@ -31,7 +31,8 @@ module _ (setting : Setting) where
   pub join-as : (a b : Tree) (first second digest : List ℕ) (s : machine.State)
       → first ≡ digest_of setting a → second ≡ digest_of setting b → digest ≡ digest_of setting (Join a b)
       → execution_in setting (Join a b) s
-      ≡ seq (cycle_in setting (StartJoin first second)) (seq (execution_in setting a) (seq (execution_in setting b) (cycle_in setting (End digest)))) s
+      ≡ seq (cycle_in setting (StartJoin first second))
+      (seq (execution_in setting a) (seq (execution_in setting b) (cycle_in setting (End digest)))) s
   join-as a b first second digest s e f g = rw (e, f, g) refl
 
   pub split-as : (a b : Tree) (first second digest : List ℕ) (condition : ℕ) (s : machine.State)
@@ -69,22 +70,27 @@ module _ (setting : Setting) where
       ∙ execution-again (constants_in setting) setting.kernel.now t.core.clock setting.limit tree s t es e (omega arith))))
       (cases_lt s.core.clock t.core.clock)
 
-  pub block-ticks : {log : List Event} {u : Unit {0}} (tree : Tree) (s : machine.State) (after : Runner) → Ran setting (execution_in setting tree s) log (Ok u) after
+  pub block-ticks : {log : List Event} {u : Unit {0}} (tree : Tree) (s : machine.State) (after : Runner)
+      → Ran setting (execution_in setting tree s) log (Ok u) after
       → s.core.clock < after.state.clock
   block-ticks tree s after h = execution-ticks tree s (state_of after.state) h.answer.more h.answer.done
 
   -- a cycle takes one, and was below the limit
-  pub ran-ticks : {log : List Event} {u : Unit {0}} (mark : cycles.Mark) (s : machine.State) (after : Runner) → Ran setting (cycle_in setting mark s) log (Ok u) after
+  pub ran-ticks : {log : List Event} {u : Unit {0}} (mark : cycles.Mark) (s : machine.State) (after : Runner)
+      → Ran setting (cycle_in setting mark s) log (Ok u) after
       → (after.state.clock ≡ s.core.clock + 1) × (s.core.clock < setting.limit)
   ran-ticks mark s after h = (
     cycle-ticks (constants_in setting) setting.kernel.now setting.limit mark s (state_of after.state) h.answer.more h.answer.done,
-    (taking-inv setting.limit mark (advice_taken mark) (effect_of (constants_in setting) setting.kernel.now mark) s (state_of after.state) h.answer.more h.answer.done).before,
+    (taking-inv setting.limit mark (advice_taken mark) (effect_of (constants_in setting) setting.kernel.now mark) s
+        (state_of after.state) h.answer.more h.answer.done).before,
   )
 
   module _ (digest : List ℕ) (body : Tree) where
     -- what follows a turn's body
     abbrev turn : ℕ → Part
-    turn n t = at_bit (top t.core) (cycle_in setting (EndLoop digest)) (seq (cycle_in setting (Repeat (digest_of setting body))) (turns_in setting digest body n)) t
+    turn n t =
+        at_bit (top t.core) (cycle_in setting (EndLoop digest))
+        (seq (cycle_in setting (Repeat (digest_of setting body))) (turns_in setting digest body n)) t
 
     record Turn (n : ℕ) (s : machine.State) : Type 0 where
       left : ℕ
@@ -96,7 +102,8 @@ module _ (setting : Setting) where
     one_turn zero s room = record {
       left = 0;
       enough = omega arith;
-      is = sym (seq-late (execution_in setting body) (turn 0) s (execution-late (constants_in setting) setting.kernel.now setting.limit setting.limit body s (omega arith)));
+      is = sym (seq-late (execution_in setting body) (turn 0) s
+          (execution-late (constants_in setting) setting.kernel.now setting.limit setting.limit body s (omega arith)));
     }
     one_turn (suc n) s room = record { left = n; enough = omega arith; is = refl }
 
@@ -122,7 +129,12 @@ module _ (setting : Setting) where
         go one =
             let few : t.left ≤ one.left + 1 = one.enough in
             let room : setting.limit ≤ t.left + now.state.clock = t.enough in
-            record { left = one.left; enough = omega arith; rest = left-along (turns_in setting digest body t.left) (seq (execution_in setting body) (turn one.left)) one.is t.rest }
+            record {
+              left = one.left;
+              enough = omega arith;
+              rest = left-along (turns_in setting digest body t.left) (seq (execution_in setting body) (turn one.left)) one.is
+                  t.rest;
+            }
 
     -- the body stopped
     pub turns-fail : (n : ℕ) {from now : Runner} {stop : Stop} {mid : Runner} {r : Result (Unit {0}) Stop} {after : Runner}
@@ -147,7 +159,8 @@ module _ (setting : Setting) where
     repeats : (n : ℕ) (top_cell : ℕ) {from now : Runner} {u : Unit {0}} {mid : Runner} (b : Body n from now)
         → Ran setting (execution_in setting body (state_of now.state)) now.log (Ok u) mid
         → top_cell ≡ top (core_of mid.state) → top_cell ≢ 0
-        → Left setting (turns_in setting digest body n) (seq (cycle_in setting (Repeat (digest_of setting body))) (turns_in setting digest body b.left)) from mid
+        → Left setting (turns_in setting digest body n)
+        (seq (cycle_in setting (Repeat (digest_of setting body))) (turns_in setting digest body b.left)) from mid
     repeats n top_cell {mid = mid} b h is not_zero =
         left-along (turn b.left) (seq (cycle_in setting (Repeat (digest_of setting body))) (turns_in setting digest body b.left))
         (ap (λ (f : Part). f (state_of mid.state)) (at_bit-one (top (core_of mid.state)) _ _ (λ e. not_zero (is ∙ e))))
@@ -158,7 +171,8 @@ module _ (setting : Setting) where
     same_repeat digest_now s e = rw e refl
 
     -- REPEAT stopped
-    pub turns-repeat_fail : (n : ℕ) (top_cell : ℕ) (digest_now : List ℕ) {from now : Runner} {u : Unit {0}} {mid : Runner} {stop : Stop} {r : Result (Unit {0}) Stop} {next after : Runner}
+    pub turns-repeat_fail : (n : ℕ) (top_cell : ℕ) (digest_now : List ℕ) {from now : Runner} {u : Unit {0}} {mid : Runner}
+        {stop : Stop} {r : Result (Unit {0}) Stop} {next after : Runner}
         → TurnsLeft n from now → Ran setting (execution_in setting body (state_of now.state)) now.log (Ok u) mid
         → top_cell ≡ top (core_of mid.state) → top_cell ≢ 0
         → digest_now ≡ digest_of setting body

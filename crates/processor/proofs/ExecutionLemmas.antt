@@ -45,7 +45,8 @@ module _ (tree : Tree) (s : machine.State) (inputs : Inputs) where
       → s ≡ start inputs.stack inputs.advice → length after.state.tape ≤ length inputs.advice
   tape_fits {setting} {log} {after = after} h e =
       let split : length inputs.advice ≡ length (take (length inputs.advice - length after.state.tape) inputs.advice) + length after.state.tape
-      = ap length (tape_split setting log after e h) ∙ length-append (take (length inputs.advice - length after.state.tape) inputs.advice) after.state.tape in
+      = ap length (tape_split setting log after e h)
+      ∙ length-append (take (length inputs.advice - length after.state.tape) inputs.advice) after.state.tape in
       omega arith
 
   -- a run to its end

@@ -33,7 +33,8 @@ fail-as f g setting s log mid after OutOfCycles a = seq-late f g s a
 fail-as f g setting s log mid after Memory a = tt
 
 -- the first part was done
-pub ran-then : (f g : Part) {setting : Setting} {s : machine.State} {log : List Event} {u : Unit {0}} {mid : Runner} {r : Result (Unit {0}) Stop} {after : Runner}
+pub ran-then : (f g : Part) {setting : Setting} {s : machine.State} {log : List Event} {u : Unit {0}} {mid : Runner}
+    {r : Result (Unit {0}) Stop} {after : Runner}
     → Ran setting (f s) log (Ok u) mid → Ran setting (g (state_of mid.state)) mid.log r after → Ran setting (seq f g s) log r after
 ran-then f g {setting} {s} {log} {u} {mid} {r} {after} a b = record { answer = then-as f g setting s log mid after r a.answer b.answer }
 
@@ -47,7 +48,8 @@ pub ran-skip : (setting : Setting) (after : Runner) (u : Unit {0}) → Ran setti
 ran-skip setting after u = record { answer = record { more = []; done = skip-done (state_of after.state); events = sym (append-nil after.log) } }
 
 -- the same of an equal outcome
-pub ran-along : {setting : Setting} {o p : Outcome} {log : List Event} {r : Result (Unit {0}) Stop} {after : Runner} → o ≡ p → Ran setting p log r after → Ran setting o log r after
+pub ran-along : {setting : Setting} {o p : Outcome} {log : List Event} {r : Result (Unit {0}) Stop} {after : Runner} → o ≡ p
+    → Ran setting p log r after → Ran setting o log r after
 ran-along e a = rw e a
 
 -- what is still to be run, from one state, of a whole that began at another
@@ -66,7 +68,8 @@ pub left-next : {setting : Setting} {whole : Part} (f g : Part) {from now : Runn
     → Left setting whole (seq f g) from now → Ran setting (f (state_of now.state)) now.log (Ok u) mid → Left setting whole g from mid
 left-next f g left h = record { goes = λ r after k. left.goes r after (ran-then f g h k) }
 
-pub left-fail : {setting : Setting} {whole : Part} (f g : Part) {from now : Runner} {stop : Stop} {mid : Runner} {r : Result (Unit {0}) Stop} {after : Runner}
+pub left-fail : {setting : Setting} {whole : Part} (f g : Part) {from now : Runner} {stop : Stop} {mid : Runner}
+    {r : Result (Unit {0}) Stop} {after : Runner}
     → Left setting whole (seq f g) from now → r ≡ Err stop → Ran setting (f (state_of now.state)) now.log (Err stop) mid
     → Ran setting (whole (state_of from.state)) from.log r after
 left-fail f g {r = r} {after = after} left e h = left.goes r after (ran-fail f g e h)

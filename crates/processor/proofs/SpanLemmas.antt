@@ -41,20 +41,26 @@ module _ (setting : Setting) where
       → Left setting whole (batches_in setting Respan (elements_of (drop i batches))) from now
       → Left setting whole (seq (cycle_in setting (Respan elements)) (seq (read_operations_in setting (reading batch.elements))
       (batches_in setting Respan (elements_of (drop (i + 1) batches))))) from now
-  left-batch batches i batch elements {whole} {from} {now} within is same left = subst (λ shown. Left setting whole (seq (cycle_in setting (Respan shown))
-      (seq (read_operations_in setting (reading batch.elements)) (batches_in setting Respan (elements_of (drop (i + 1) batches))))) from now) (sym same) (
+  left-batch batches i batch elements {whole} {from} {now} within is same left =
+      subst (λ shown. Left setting whole (seq (cycle_in setting (Respan shown))
+      (seq (read_operations_in setting (reading batch.elements)) (batches_in setting Respan (elements_of (drop (i + 1) batches)))))
+      from now) (sym same) (
       left-along (batches_in setting Respan (elements_of (drop i batches)))
-      (seq (cycle_in setting (Respan batch.elements)) (seq (read_operations_in setting (reading batch.elements)) (batches_in setting Respan (elements_of (drop (i + 1) batches)))))
+      (seq (cycle_in setting (Respan batch.elements))
+      (seq (read_operations_in setting (reading batch.elements))
+      (batches_in setting Respan (elements_of (drop (i + 1) batches)))))
       (ap (λ xs. batches_in setting Respan (elements_of xs) (state_of now.state)) (from_place batches i batch within is)) left)
 
   -- the first batch, and then the others
   pub first-batch : (batches : List ReadBatch) (batch : ReadBatch) (later : List ReadBatch) (elements : List ℕ) (s : machine.State)
       → batches ≡ batch ∷ later → elements ≡ batch.elements
       → batches_in setting StartSpan (elements_of batches) s
-      ≡ seq (cycle_in setting (StartSpan elements)) (seq (read_operations_in setting (reading batch.elements)) (batches_in setting Respan (elements_of later))) s
+      ≡ seq (cycle_in setting (StartSpan elements))
+      (seq (read_operations_in setting (reading batch.elements)) (batches_in setting Respan (elements_of later))) s
   first-batch batches batch later elements s is same =
       ap (λ xs. batches_in setting StartSpan (elements_of xs) s) is
-      ∙ ap (λ shown. seq (cycle_in setting (StartSpan shown)) (seq (read_operations_in setting (reading batch.elements)) (batches_in setting Respan (elements_of later))) s) (sym same)
+      ∙ ap (λ shown. seq (cycle_in setting (StartSpan shown))
+      (seq (read_operations_in setting (reading batch.elements)) (batches_in setting Respan (elements_of later))) s) (sym same)
 
   pub no_batches : (batches : List ReadBatch) (i : ℕ) (now : Runner) (u : Unit {0}) → length batches ≤ i
       → Ran setting (batches_in setting Respan (elements_of (drop i batches)) (state_of now.state)) now.log (Ok u) now

@@ -44,7 +44,8 @@ fn join(
     requires digest { digest.now ≡ digest_of setting.now (trees.Join (node_tree first.now) (node_tree second.now)) }
     requires first { IsHashed (constants_in setting.now) first.now }
     requires second { IsHashed (constants_in setting.now) second.now }
-    ensures { Ran setting.now (execution_in setting.now (trees.Join (node_tree first.now) (node_tree second.now)) (state_of runner.old.state)) runner.old.log result runner.new }
+    ensures { Ran setting.now (execution_in setting.now (trees.Join (node_tree first.now) (node_tree second.now))
+        (state_of runner.old.state)) runner.old.log result runner.new }
 {
     cycle(
         runner,
@@ -67,7 +68,8 @@ fn split(
     requires digest { digest.now ≡ digest_of setting.now (trees.Split (node_tree on_one.now) (node_tree on_zero.now)) }
     requires on_one { IsHashed (constants_in setting.now) on_one.now }
     requires on_zero { IsHashed (constants_in setting.now) on_zero.now }
-    ensures { Ran setting.now (execution_in setting.now (trees.Split (node_tree on_one.now) (node_tree on_zero.now)) (state_of runner.old.state)) runner.old.log result runner.new }
+    ensures { Ran setting.now (execution_in setting.now (trees.Split (node_tree on_one.now) (node_tree on_zero.now))
+        (state_of runner.old.state)) runner.old.log result runner.new }
 {
     let condition = top_of(&runner.state);
     cycle(
@@ -90,7 +92,9 @@ fn branch(
 ) -> Result<(), Stop>
     requires on_one { IsHashed (constants_in setting.now) on_one.now }
     requires on_zero { IsHashed (constants_in setting.now) on_zero.now }
-    ensures { Ran setting.now (at_bit condition (execution_in setting.now (node_tree on_zero.now)) (execution_in setting.now (node_tree on_one.now)) (state_of runner.old.state)) runner.old.log result runner.new }
+    ensures { Ran setting.now (at_bit condition (execution_in setting.now (node_tree on_zero.now))
+        (execution_in setting.now (node_tree on_one.now)) (state_of runner.old.state)) runner.old.log result
+        runner.new }
 {
     if condition.value() == 0 {
         block(runner, setting, on_zero)
@@ -103,7 +107,8 @@ fn branch(
 fn repeated(runner: &mut Runner, setting: &Setting, digest: &Word, body: &Node) -> Result<(), Stop>
     requires digest { digest.now ≡ digest_of setting.now (trees.Loop (node_tree body.now)) }
     requires body { IsHashed (constants_in setting.now) body.now }
-    ensures { Ran setting.now (execution_in setting.now (trees.Loop (node_tree body.now)) (state_of runner.old.state)) runner.old.log result runner.new }
+    ensures { Ran setting.now (execution_in setting.now (trees.Loop (node_tree body.now)) (state_of runner.old.state))
+        runner.old.log result runner.new }
 {
     let condition = top_of(&runner.state);
     cycle(runner, setting, Mark::StartLoop(body.digest()))?;
@@ -134,7 +139,8 @@ fn turns(runner: &mut Runner, setting: &Setting, digest: &Word, body: &Node) -> 
 fn call(runner: &mut Runner, setting: &Setting, digest: &Word, callee: &Node) -> Result<(), Stop>
     requires digest { digest.now ≡ digest_of setting.now (trees.Call (node_tree callee.now)) }
     requires callee { IsHashed (constants_in setting.now) callee.now }
-    ensures { Ran setting.now (execution_in setting.now (trees.Call (node_tree callee.now)) (state_of runner.old.state)) runner.old.log result runner.new }
+    ensures { Ran setting.now (execution_in setting.now (trees.Call (node_tree callee.now)) (state_of runner.old.state))
+        runner.old.log result runner.new }
 {
     let frame = enter(runner, setting, Mark::StartCall(callee.digest()))?;
     block(runner, setting, callee)?;
@@ -145,7 +151,8 @@ fn call(runner: &mut Runner, setting: &Setting, digest: &Word, callee: &Node) ->
 fn syscall(runner: &mut Runner, setting: &Setting, digest: &Word, callee: &Node) -> Result<(), Stop>
     requires digest { digest.now ≡ digest_of setting.now (trees.Syscall (node_tree callee.now)) }
     requires callee { IsHashed (constants_in setting.now) callee.now }
-    ensures { Ran setting.now (execution_in setting.now (trees.Syscall (node_tree callee.now)) (state_of runner.old.state)) runner.old.log result runner.new }
+    ensures { Ran setting.now (execution_in setting.now (trees.Syscall (node_tree callee.now)) (state_of runner.old.state))
+        runner.old.log result runner.new }
 {
     let frame = enter(runner, setting, Mark::StartSyscall(callee.digest()))?;
     block(runner, setting, callee)?;
@@ -159,7 +166,8 @@ fn span(
     batches: &[ReadBatch],
 ) -> Result<(), Stop>
     requires digest { digest.now ≡ digest_of setting.now (trees.Span (elements_of batches.now)) }
-    ensures { Ran setting.now (execution_in setting.now (trees.Span (elements_of batches.now)) (state_of runner.old.state)) runner.old.log result runner.new }
+    ensures { Ran setting.now (execution_in setting.now (trees.Span (elements_of batches.now)) (state_of runner.old.state))
+        runner.old.log result runner.new }
 {
     all_batches(runner, setting, batches)?;
     cycle(runner, setting, Mark::EndSpan(*digest))
@@ -167,7 +175,8 @@ fn span(
 
 // The batches of a span.
 fn all_batches(runner: &mut Runner, setting: &Setting, batches: &[ReadBatch]) -> Result<(), Stop>
-    ensures { Ran setting.now (batches_in setting.now cycles.StartSpan (elements_of batches.now) (state_of runner.old.state)) runner.old.log result runner.new }
+    ensures { Ran setting.now (batches_in setting.now cycles.StartSpan (elements_of batches.now) (state_of runner.old.state))
+        runner.old.log result runner.new }
 {
     match batches.split_first() {
         None => Ok(()),
@@ -181,7 +190,8 @@ fn all_batches(runner: &mut Runner, setting: &Setting, batches: &[ReadBatch]) ->
 
 // The batches behind the first.
 fn later_batches(runner: &mut Runner, setting: &Setting, batches: &[ReadBatch]) -> Result<(), Stop>
-    ensures { Ran setting.now (batches_in setting.now cycles.Respan (elements_of batches.now) (state_of runner.old.state)) runner.old.log result runner.new }
+    ensures { Ran setting.now (batches_in setting.now cycles.Respan (elements_of batches.now) (state_of runner.old.state))
+        runner.old.log result runner.new }
 {
     for batch in batches {
         cycle(runner, setting, Mark::Respan(batch.shown()))?;
@@ -192,7 +202,8 @@ fn later_batches(runner: &mut Runner, setting: &Setting, batches: &[ReadBatch]) 
 
 // The operations of a batch, as it is read. One that has no reading has trapped before.
 fn batch_operations(runner: &mut Runner, setting: &Setting, batch: &ReadBatch) -> Result<(), Stop>
-    ensures { Ran setting.now (read_operations_in setting.now (reading batch.now.elements) (state_of runner.old.state)) runner.old.log result runner.new }
+    ensures { Ran setting.now (read_operations_in setting.now (reading batch.now.elements) (state_of runner.old.state))
+        runner.old.log result runner.new }
 {
     match &batch.items {
         None => Ok(()),

@@ -25,7 +25,8 @@ unfolding at_number
 numbers_zero values zeros zero = refl
 numbers_zero values zeros (suc k) = zeros k
 
-below_place : (values : List ℕ) (place : ℕ) → ((k : ℕ) → k < place → slice_index values k ≡ 0) → (number : ℕ) → number < suc place → at_number values number ≡ 0
+below_place : (values : List ℕ) (place : ℕ) → ((k : ℕ) → k < place → slice_index values k ≡ 0) → (number : ℕ) → number < suc place
+    → at_number values number ≡ 0
 unfolding at_number
 below_place values place zeros zero h = refl
 below_place values place zeros (suc k) h = zeros k (omega (arith, h))
@@ -35,7 +36,8 @@ unfolding at_number
 at_suc values place = refl
 
 -- the first fault of a row's values is the row's answer
-pub row_answer : (c : Claim) (t : Trace) (name : TableName) (row : ℕ) (r : Option (ℕ × ℕ)) → r ≡ first_fault_of 1 (values_at c t name row) → IsRowAnswer c t name row r
+pub row_answer : (c : Claim) (t : Trace) (name : TableName) (row : ℕ) (r : Option (ℕ × ℕ))
+    → r ≡ first_fault_of 1 (values_at c t name row) → IsRowAnswer c t name row r
 row_answer c t name row None e = numbers_zero (values_at c t name row) (first_none 1 (values_at c t name row) (sym e))
 row_answer c t name row (Some f) e =
     let first = first_some 1 (values_at c t name row) f (sym e) in
@@ -47,7 +49,8 @@ row_answer c t name row (Some f) e =
     }
 
 decoder_length : (c : Claim) (p : Spot) → length (decoder_values c p) ≡ 114
-unfolding decoder_values opcode_values boundary_values start_values inputs_values end_values outputs_values block_values follow_values shown_values kept_values span_values batch_values group_values family
+unfolding decoder_values opcode_values boundary_values start_values inputs_values end_values outputs_values block_values
+    follow_values shown_values kept_values span_values batch_values group_values family
 decoder_length c p = refl
 
 stack_length : (p : Spot) → length (stack_values p) ≡ 25
@@ -55,7 +58,9 @@ unfolding stack_values depth_values cell_values operand_values family
 stack_length p = refl
 
 -- the faults of the three parts of a main row, one behind the other
-pub main_joined : (c : Claim) (p : Spot) → or_next (first_fault_of 1 (decoder_values c p)) (or_next (first_fault_of 115 (stack_values p)) (first_fault_of 140 (u32_values p))) ≡ first_fault_of 1 (main_values c p)
+pub main_joined : (c : Claim) (p : Spot)
+    → or_next (first_fault_of 1 (decoder_values c p))
+    (or_next (first_fault_of 115 (stack_values p)) (first_fault_of 140 (u32_values p))) ≡ first_fault_of 1 (main_values c p)
 unfolding main_values
 main_joined c p =
     ap (or_next (first_fault_of 1 (decoder_values c p)))
@@ -102,7 +107,8 @@ table_below table.Kernel = lit< tt
 table_below table.Left = lit< tt
 
 -- one table more is 0
-zero_below_next : (c : Claim) (t : Trace) (name : TableName) → AreZeroBelow c t (table_number name) → IsZeroTable c t name → AreZeroBelow c t (suc (table_number name))
+zero_below_next : (c : Claim) (t : Trace) (name : TableName) → AreZeroBelow c t (table_number name) → IsZeroTable c t name
+    → AreZeroBelow c t (suc (table_number name))
 zero_below_next c t name below zeros other h =
     elim (cases_Bool (ltb (table_number other) (table_number name))) [
       | inl lower ↦ below other (ltb-true (table_number other) (table_number name) lower)
@@ -111,9 +117,12 @@ zero_below_next c t name below zeros other h =
           subst (IsZeroTable c t) (sym (same_table other name (omega (arith, h, high)))) zeros
     ]
 
-first_of : (c : Claim) (t : Trace) (f : Fault) → IsTableFault c t f → AreZeroBelow c t (table_number f.table) → (name : TableName) (row number : ℕ) → row < length (rows_of t name) → IsBefore name row number f → value_at c t name row number ≡ 0
+first_of : (c : Claim) (t : Trace) (f : Fault) → IsTableFault c t f → AreZeroBelow c t (table_number f.table)
+    → (name : TableName) (row number : ℕ) → row < length (rows_of t name) → IsBefore name row number f
+    → value_at c t name row number ≡ 0
 first_of c t f fault below name row number h (by_table lower) = below name lower row h number
-first_of c t f fault below name row number h (by_row same lower) = subst (λ x. value_at c t x row number ≡ 0) (sym same) (fault.earlier row lower number)
+first_of c t f fault below name row number h (by_row same lower) =
+    subst (λ x. value_at c t x row number ≡ 0) (sym same) (fault.earlier row lower number)
 first_of c t f fault below name row number h (by_number same at lower) =
     subst (λ x. value_at c t x row number ≡ 0) (sym same) (subst (λ r. value_at c t f.table r number ≡ 0) (sym at) (fault.row.first number lower))
 
@@ -127,7 +136,8 @@ first_from_table c t f fault below = record {
 }
 
 -- one table more
-pub answer_next : (c : Claim) (t : Trace) (name : TableName) (r : Option Fault) → AreZeroBelow c t (table_number name) → IsTableAnswer c t name r → IsAnswerBelow c t (suc (table_number name)) r
+pub answer_next : (c : Claim) (t : Trace) (name : TableName) (r : Option Fault) → AreZeroBelow c t (table_number name)
+    → IsTableAnswer c t name r → IsAnswerBelow c t (suc (table_number name)) r
 answer_next c t name None below zeros = zero_below_next c t name below zeros
 answer_next c t name (Some f) below fault = first_from_table c t f fault.1 (subst (λ x. AreZeroBelow c t (table_number x)) (sym fault.0) below)
 
@@ -147,5 +157,6 @@ left_zero c t row zero = refl
 left_zero c t row (suc number) = refl
 
 -- what is answered of a row of a table that has another name, too
-pub row_renamed : (c : Claim) (t : Trace) (name other : TableName) (row : ℕ) (r : Option (ℕ × ℕ)) → name ≡ other → IsRowAnswer c t other row r → IsRowAnswer c t name row r
+pub row_renamed : (c : Claim) (t : Trace) (name other : TableName) (row : ℕ) (r : Option (ℕ × ℕ)) → name ≡ other
+    → IsRowAnswer c t other row r → IsRowAnswer c t name row r
 row_renamed c t name other row r same answer = subst (λ n. IsRowAnswer c t n row r) (sym same) answer

@@ -62,7 +62,8 @@ module _ {constants outputs : List ℕ} {kernel rows : List (List ℕ)} (known :
   still_end j i closes no_call flag =
       state_next known i ops.End closes.ends end_quiet (ap is_call_op closes.ends.is) (returns_is rows j i closes ∙ no_call)
       (lv (row_at rows i) - 1) (cells (row_at rows i) ++ below_at rows i) (level_closes rows i known.frames closes.ends)
-      (stack_stays known i ops.End (end_moves rows i closes.ends flag) end_still (ap is_call_op closes.ends.is) (returns_is rows j i closes ∙ no_call))
+      (stack_stays known i ops.End (end_moves rows i closes.ends flag) end_still (ap is_call_op closes.ends.is)
+      (returns_is rows j i closes ∙ no_call))
 
   pub end_goes : (j i : ℕ) → Closes rows j i → is_call_op (op_in rows j) ≡ false → h (row_at rows i) 4 ≡ 0
       → Goes (state_at rows) (cycle constants kernel (length rows - 1) (End (front (row_at rows i))) (state_at rows i)) (suc i)

@@ -2,6 +2,7 @@
 use Rattle.std.proofs.Common.{◌≡◌, ◌≢◌, ◌⊎◌, inl, inr, ℕ, suc, ◌+◌, ◌-◌, ◌<◌, ◌≤◌, true, false, ◌&&◌, eqb, List, [], ◌∷◌, ◌++◌, drop, length, slice_index, refl, ap, sym, subst, ◌∙◌, arith, lit<}
 use Rattle.std.proofs.lemmas.Grind.{same_number_lists}
 use Rattle.std.proofs.lemmas.Bool.{ne_eqb}
+use Rattle.std.proofs.lemmas.List.{nil_from_length}
 use Rattle.vm_field.specs.Machine.{filled_up}
 use Rattle.vm_ops.specs.Moves.{takes_of, leaves_of}
 use Rattle.vm_ops.proofs.FrameLemmas.{filled_up-deep}
@@ -67,11 +68,9 @@ unfolding cells
 dropped x rest = refl
 
 popped_deep : (x y rest : List ℕ) → ((j : ℕ) → j < 15 → s y j ≡ s x (suc j)) → filled_up (drop 1 (cells x ++ (s y 15 ∷ rest))) ≡ cells y ++ rest
-popped_deep x y rest e = filled_up-deep (drop 1 (cells x ++ (s y 15 ∷ rest))) (deep_rest x rest (s y 15)) ∙ dropped x (s y 15 ∷ rest) ∙ tops_move x y rest e
-
-none_in : (xs : List ℕ) → length xs ≡ 0 → xs ≡ []
-none_in [] e = refl
-none_in (x ∷ xs) e = absurd (omega (arith, e))
+popped_deep x y rest e =
+    filled_up-deep (drop 1 (cells x ++ (s y 15 ∷ rest))) (deep_rest x rest (s y 15)) ∙ dropped x (s y 15 ∷ rest)
+    ∙ tops_move x y rest e
 
 either_or : (i k : ℕ) → (i ≡ k) ⊎ (i ≢ k)
 either_or i k = grind arith
@@ -92,7 +91,7 @@ stack_popped m x y below after takes leaves left moves depth_is flat deep = go (
 
     go : (depth x ≡ 16) ⊎ (depth x ≢ 16) → filled_up (drop 1 (cells x ++ below)) ≡ cells y ++ after
     go (inl at) =
-        let none : below ≡ [] = none_in below (omega (arith, depth_is, at)) in
+        let none : below ≡ [] = nil_from_length below (omega (arith, depth_is, at)) in
         ap (λ (b : List ℕ). filled_up (drop 1 (cells x ++ b))) none ∙ popped_flat x y tops (moves.last left at)
         ∙ ap (λ (b : List ℕ). cells y ++ b) (sym (flat at ∙ none))
     go (inr apart) = ap (λ (b : List ℕ). filled_up (drop 1 (cells x ++ b))) (deep apart) ∙ popped_deep x y after tops

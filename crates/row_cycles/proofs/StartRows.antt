@@ -58,7 +58,8 @@ module _ {constants outputs : List ℕ} {kernel rows : List (List ℕ)} (known :
 
   popping_start : (i : ℕ) (m : Op) → IsAt rows i m → is_start_op m ≡ true → is_call_op m ≡ false → IsQuiet m → Pops m
       → mover m (row_at rows i) ≡ m → ends_call m (row_at rows i) ≡ false
-      → state_with (state_at rows i) (clk (row_at rows i) + 1) (lv (row_at rows i) + 1) (filled_up (drop 1 (cells (row_at rows i) ++ below_at rows i)))
+      → state_with (state_at rows i) (clk (row_at rows i) + 1) (lv (row_at rows i) + 1)
+      (filled_up (drop 1 (cells (row_at rows i) ++ below_at rows i)))
       ≡ state_at rows (suc i)
   popping_start i m at start no_call quiet pops moves no_return =
       state_next known i m at quiet (ap is_call_op at.is ∙ no_call) (ap (λ o. ends_call o (row_at rows i)) at.is ∙ no_return)
@@ -90,7 +91,8 @@ module _ {constants outputs : List ℕ} {kernel rows : List (List ℕ)} (known :
       (record { takes = refl; leaves = refl; left = refl }) refl refl)
 
   pub join_goes : (i : ℕ) → IsAt rows i ops.Join
-      → Goes (state_at rows) (cycle constants kernel (length rows - 1) (StartJoin (front (row_at rows i)) (back (row_at rows i))) (state_at rows i)) (suc i)
+      → Goes (state_at rows) (cycle constants kernel (length rows - 1) (StartJoin (front (row_at rows i)) (back (row_at rows i)))
+      (state_at rows i)) (suc i)
   join_goes i at =
       goes_on constants kernel (length rows - 1) (StartJoin (front (row_at rows i)) (back (row_at rows i))) (state_at rows) i (suc i)
       (early_at i at.within) (none_taken (length (state_at rows i).tape)) (nested_at i ops.Join at refl)
@@ -98,7 +100,8 @@ module _ {constants outputs : List ℕ} {kernel rows : List (List ℕ)} (known :
       (record { takes = refl; leaves = refl; left = refl }) refl refl)
 
   pub split_goes : (i : ℕ) → IsAt rows i ops.Split
-      → Goes (state_at rows) (cycle constants kernel (length rows - 1) (StartSplit (front (row_at rows i)) (back (row_at rows i))) (state_at rows i)) (suc i)
+      → Goes (state_at rows) (cycle constants kernel (length rows - 1) (StartSplit (front (row_at rows i)) (back (row_at rows i)))
+      (state_at rows i)) (suc i)
   split_goes i at =
       goes_on constants kernel (length rows - 1) (StartSplit (front (row_at rows i)) (back (row_at rows i))) (state_at rows) i (suc i)
       (early_at i at.within) (none_taken (length (state_at rows i).tape)) (nested_at i ops.Split at refl, condition_at i ops.Split at refl)

@@ -108,8 +108,10 @@ unused_by q i j k = cond (eqb q 1) (felt_sub (felt_sub (felt_sub 1 i) j) k) (con
 unused_at : (q i j k : ℕ) → i + j + k ≤ 1 → q < 7 → unused_by (q + 1) i j k ≡ cond (nat_le (positions_by i j k) (q + 1)) 1 0
 unused_at zero i j k most h = at_bits (λ i j k. unused_by 1 i j k ≡ cond (nat_le (positions_by i j k) 1) 1 0) refl refl refl refl i j k most
 unused_at (suc zero) i j k most h = at_bits (λ i j k. unused_by 2 i j k ≡ cond (nat_le (positions_by i j k) 2) 1 0) refl refl refl refl i j k most
-unused_at (suc (suc zero)) i j k most h = at_bits (λ i j k. unused_by 3 i j k ≡ cond (nat_le (positions_by i j k) 3) 1 0) refl refl refl refl i j k most
-unused_at (suc (suc (suc zero))) i j k most h = at_bits (λ i j k. unused_by 4 i j k ≡ cond (nat_le (positions_by i j k) 4) 1 0) refl refl refl refl i j k most
+unused_at (suc (suc zero)) i j k most h =
+    at_bits (λ i j k. unused_by 3 i j k ≡ cond (nat_le (positions_by i j k) 3) 1 0) refl refl refl refl i j k most
+unused_at (suc (suc (suc zero))) i j k most h =
+    at_bits (λ i j k. unused_by 4 i j k ≡ cond (nat_le (positions_by i j k) 4) 1 0) refl refl refl refl i j k most
 unused_at (suc (suc (suc (suc zero)))) i j k most h = at_bits (λ i j k. unused_by 5 i j k ≡ cond
     (nat_le (positions_by i j k) 5) 1 0) refl refl refl refl i j k most
 unused_at (suc (suc (suc (suc (suc zero))))) i j k most h = at_bits (λ i j k. unused_by 6 i j k ≡ cond
@@ -173,13 +175,15 @@ needed_by u v z i j k lu lv lz most =
     set false f e = off e
 
     at : (t r q : Bool) → t && r ≡ false → (t || r) && q ≡ false
-        → Says (felt_add (felt_add (felt_mul (cond t 1 0) (felt_sub u 1)) (felt_mul (cond r 1 0) (felt_sub v 1))) (felt_mul (cond q 1 0) (felt_sub z 1)))
+        → Says (felt_add (felt_add (felt_mul (cond t 1 0) (felt_sub u 1)) (felt_mul (cond r 1 0) (felt_sub v 1)))
+        (felt_mul (cond q 1 0) (felt_sub z 1)))
         ((◌≡◌ {A = ℕ} (cond t 1 0) 1 → u ≡ 1) × (◌≡◌ {A = ℕ} (cond r 1 0) 1 → v ≡ 1) × (◌≡◌ {A = ℕ} (cond q 1 0) 1 → z ≡ 1))
     at t r q apart last =
         says_as (three_say t r q apart last (sub_says u 1 lu (lit< tt)) (sub_says v 1 lv (lit< tt)) (sub_says z 1 lz (lit< tt)))
         (λ h. (is_set t h.0, is_set r h.1, is_set q h.2)) (λ h. (set t h.0, set r h.1, set q h.2))
 
-pub says_103 : (op : Op) (x : List ℕ) → (is_batch_op op ≡ true → IsBatchRow x) → Says (entry_103 (hot op) x) (is_batch_op op ≡ true → NeedsPositions x)
+pub says_103 : (op : Op) (x : List ℕ) → (is_batch_op op ≡ true → IsBatchRow x)
+    → Says (entry_103 (hot op) x) (is_batch_op op ≡ true → NeedsPositions x)
 unfolding entry_103
 says_103 op x batch =
     says_of (ap (λ n. felt_mul n (felt_add (felt_add (felt_mul (c x 0) (felt_sub eight 1)) (felt_mul (c x 1) (felt_sub four 1)))
@@ -199,7 +203,8 @@ says_103 op x batch =
 
 -- ---- the row behind it
 
-pub says_104 : (op next : Op) (x y : List ℕ) → h y 0 < prime → h x 0 < prime → Says (entry_104 (hot op) (hot next) x y) (is_batch_op op ≡ true → h y 0 ≡ h x 0)
+pub says_104 : (op next : Op) (x y : List ℕ) → h y 0 < prime → h x 0 < prime
+    → Says (entry_104 (hot op) (hot next) x y) (is_batch_op op ≡ true → h y 0 ≡ h x 0)
 unfolding entry_104
 says_104 op next x y low_next low =
     says_of (ap (λ n. felt_mul n (felt_sub (h y 0) (h x 0))) (batches_is op)) (gate_says (is_batch_op op) (sub_says (h y 0) (h x 0) low_next low))
@@ -238,7 +243,8 @@ some_of_two i k u v one = go (either_or i 0) (either_or k 0)
     go (inr apart) other = inl apart
     go (inl e) (inr apart) = inr apart
     go (inl e) (inl f) =
-        let z : felt_add (felt_mul i u) (felt_mul k v) ≡ 0 = ap (λ n. felt_add n (felt_mul k v)) (felt_mul-zero_first i u e) ∙ ap (felt_add 0) (felt_mul-zero_first k v f) in
+        let z : felt_add (felt_mul i u) (felt_mul k v) ≡ 0 =
+        ap (λ n. felt_add n (felt_mul k v)) (felt_mul-zero_first i u e) ∙ ap (felt_add 0) (felt_mul-zero_first k v f) in
         absurd (one_not_zero _ one z)
 
 some_of_four : (i j k l u v z y : ℕ) → felt_add (felt_add (felt_add (felt_mul i u) (felt_mul j v)) (felt_mul k z)) (felt_mul l y) ≡ 1

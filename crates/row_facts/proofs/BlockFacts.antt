@@ -99,7 +99,8 @@ block_is op =
 pub says_61 : (op : Op) (x : List ℕ) → Low x → Says (entry_61 (hot op) x) (sp x ≡ cond (is_ordinary_op op) 1 0)
 unfolding entry_61
 says_61 op x low =
-    says_of (ap (λ n. felt_sub (sp x) n) (set_is op is_ordinary_op)) (sub_says (sp x) (cond (is_ordinary_op op) 1 0) (low 24) (test_low (is_ordinary_op op)))
+    says_of (ap (λ n. felt_sub (sp x) n) (set_is op is_ordinary_op))
+    (sub_says (sp x) (cond (is_ordinary_op op) 1 0) (low 24) (test_low (is_ordinary_op op)))
   where
     test_low : (t : Bool) → cond t 1 0 < prime
     test_low true = lit< tt
@@ -172,7 +173,8 @@ stays_or_calls false false r = refl
 
 pub says_82 : (op next : Op) (x y : List ℕ) → Low x → Low y → (is_op op ops.End ≡ true → IsEndRow x)
     → Says (entry_82 (hot op) (hot next) x y)
-    ((is_op op ops.Call ≡ true → ctx y ≡ felt_add (clk x) 1) × (is_op op ops.Syscall ≡ true → ctx y ≡ 0) × (stays_in_function op x ≡ true → ctx y ≡ ctx x))
+    ((is_op op ops.Call ≡ true → ctx y ≡ felt_add (clk x) 1) × (is_op op ops.Syscall ≡ true → ctx y ≡ 0)
+    × (stays_in_function op x ≡ true → ctx y ≡ ctx x))
 unfolding entry_82
 says_82 op next x y low low_next ends =
     says_of
@@ -181,7 +183,8 @@ says_82 op next x y low low_next ends =
     (inside_is op x ends))
     (three_say (is_op op ops.Call) (is_op op ops.Syscall) (stays_in_function op x) (one_call op)
     (stays_or_calls (is_op op ops.Call) (is_op op ops.Syscall) (ends_call op x))
-    (sub_twice_says (ctx y) (clk x) 1 (low_next 2) (low 0) (lit< tt)) (zero_says (ctx y) (low_next 2)) (sub_says (ctx y) (ctx x) (low_next 2) (low 2)))
+    (sub_twice_says (ctx y) (clk x) 1 (low_next 2) (low 0) (lit< tt)) (zero_says (ctx y) (low_next 2))
+    (sub_says (ctx y) (ctx x) (low_next 2) (low 2)))
 
 update_or_call : (op : Op) → is_call_op op && is_op op ops.FmpUpdate ≡ false
 update_or_call ops.Call = refl
@@ -202,7 +205,8 @@ pub says_83 : (op next : Op) (x y : List ℕ) → Low x → Low y → (is_op op 
 unfolding entry_83
 says_83 op next x y low low_next ends =
     says_of
-    (ap (λ n. felt_add (felt_add (felt_add (felt_mul (hot op ops.Call) (felt_sub (fmp y) (2 ^ 30))) (felt_mul (hot op ops.Syscall) (felt_sub (fmp y) (2 ^ 31))))
+    (ap (λ n. felt_add (felt_add (felt_add (felt_mul (hot op ops.Call) (felt_sub (fmp y) (2 ^ 30)))
+    (felt_mul (hot op ops.Syscall) (felt_sub (fmp y) (2 ^ 31))))
     (felt_mul (hot op ops.FmpUpdate) (felt_sub (felt_sub (fmp y) (fmp x)) (s x 0)))) (felt_mul n (felt_sub (fmp y) (fmp x)))) (frame_is op x ends))
     (four_say (is_op op ops.Call) (is_op op ops.Syscall) (is_op op ops.FmpUpdate) (keeps_frame op x) (one_call op) (update_or_call op)
     (moves_or_keeps (is_call_op op) (ends_call op x) (is_op op ops.FmpUpdate))
@@ -237,14 +241,16 @@ says_85 op next x y j low low_next ends =
 pub says_89 : (op next : Op) (x y : List ℕ) → Low x → Low y → Says (entry_89 (hot op) (hot next) x y) (keeps_block op ≡ true → addr y ≡ addr x)
 unfolding entry_89
 says_89 op next x y low low_next =
-    says_of (ap (λ n. felt_mul n (felt_sub (addr y) (addr x))) (block_is op)) (gate_says (keeps_block op) (sub_says (addr y) (addr x) (low_next 8) (low 8)))
+    says_of (ap (λ n. felt_mul n (felt_sub (addr y) (addr x))) (block_is op))
+    (gate_says (keeps_block op) (sub_says (addr y) (addr x) (low_next 8) (low 8)))
 
 level_says : (t u : Bool) (i k : ℕ) → t && u ≡ false → i < prime → k < prime
     → Says (felt_add (felt_sub (felt_sub i k) (cond t 1 0)) (cond u 1 0)) (i ≡ cond t (felt_add k 1) (cond u (felt_sub k 1) k))
 level_says true true i k apart li lk = never apart
 level_says true false i k apart li lk = record { low = rest_low _; shown = λ z. omega (arith, li, lk, z); zero_where = λ e. omega (arith, li, lk, e) }
 level_says false true i k apart li lk = record { low = rest_low _; shown = λ z. omega (arith, li, lk, z); zero_where = λ e. omega (arith, li, lk, e) }
-level_says false false i k apart li lk = record { low = rest_low _; shown = λ z. omega (arith, li, lk, z); zero_where = λ e. omega (arith, li, lk, e) }
+level_says false false i k apart li lk =
+    record { low = rest_low _; shown = λ z. omega (arith, li, lk, z); zero_where = λ e. omega (arith, li, lk, e) }
 
 pub says_90 : (op next : Op) (x y : List ℕ) → Low x → Low y → Says (entry_90 (hot op) (hot next) x y) (lv y ≡ level_after op (lv x))
 unfolding entry_90

@@ -3,7 +3,7 @@ use Rattle.std.proofs.Common.{◌≡◌, ℕ, zero, suc, ◌+◌, ◌-◌, ◌%�
 use Rattle.std.proofs.lemmas.Bool.{eqb-true}
 use Rattle.std.proofs.lemmas.Bool.Decides.{nat_tests}
 use Rattle.vm_field.specs.Field.{prime, felt_add, felt_sub, felt_mul, AreElements}
-use Rattle.vm_field.proofs.Elements.{elements-append, elements-cons, elements-drop, elements-index, elements-none, elements-one, elements-picked, elements-reverse, elements-take}
+use Rattle.vm_field.proofs.Elements.{elements-append, elements-cons, elements-drop, elements-index, elements-none, elements-one, elements-picked, elements-reverse, elements-take, elements-cond}
 use Rattle.vm_ops.specs.Moves.{takes_of, leaves_of, sources_of}
 use Rattle.vm_ops.specs.Step.{left_cells}
 use Rattle.vm_ops.specs.Values.{bit_of, computed}
@@ -21,10 +21,6 @@ use Rattle.row_facts.proofs.BlockFacts.{Low}
 use Rattle.row_facts.proofs.DepthFacts.{Witness, flat_is}
 
 -- ---- the cells that an operation leaves are elements
-
-elements_if : (t : Bool) (xs ys : List ℕ) → AreElements xs → AreElements ys → AreElements (cond t xs ys)
-elements_if true xs ys low other = low
-elements_if false xs ys low other = other
 
 bit_low : (t : Bool) → bit_of t < prime
 bit_low true = lit< tt
@@ -80,14 +76,14 @@ elements_computed ops.Or x low free out = elements-one _ (rest_low _)
 elements_computed ops.U32And x low free out = never free
 elements_computed ops.U32Xor x low free out = never free
 elements_computed ops.CSwap x low free out =
-    elements_if (eqb (slice_index (cells x) 0) 0) (slice_index (cells x) 1 ∷ slice_index (cells x) 2 ∷ [])
+    elements-cond (eqb (slice_index (cells x) 0) 0) (slice_index (cells x) 1 ∷ slice_index (cells x) 2 ∷ [])
     (slice_index (cells x) 2 ∷ slice_index (cells x) 1 ∷ [])
     (elements-cons (slice_index (cells x) 1) (slice_index (cells x) 2 ∷ []) (elements-index (cells x) 1 (elements_cells x low))
     (elements-one (slice_index (cells x) 2) (elements-index (cells x) 2 (elements_cells x low))))
     (elements-cons (slice_index (cells x) 2) (slice_index (cells x) 1 ∷ []) (elements-index (cells x) 2 (elements_cells x low))
     (elements-one (slice_index (cells x) 1) (elements-index (cells x) 1 (elements_cells x low))))
 elements_computed ops.CSwapW x low free out =
-    elements_if (eqb (slice_index (cells x) 0) 0) (take 8 (drop 1 (cells x))) (take 4 (drop 5 (cells x)) ++ take 4 (drop 1 (cells x)))
+    elements-cond (eqb (slice_index (cells x) 0) 0) (take 8 (drop 1 (cells x))) (take 4 (drop 5 (cells x)) ++ take 4 (drop 1 (cells x)))
     (elements-take 8 (drop 1 (cells x)) (elements-drop 1 (cells x) (elements_cells x low)))
     (elements-append (take 4 (drop 5 (cells x))) (take 4 (drop 1 (cells x)))
     (elements-take 4 (drop 5 (cells x)) (elements-drop 5 (cells x) (elements_cells x low)))
@@ -108,11 +104,13 @@ left_low : (op : Op) (x : List ℕ) (j : ℕ) → Low x → is_free op ≡ false
 unfolding left_value left_cells seen_of
 left_low op x j low free out =
     elements-index (left_cells op (seen_of x)) j
-    (elements-append (computed op (seen_of x)) _ (elements_computed op x low free out) (elements-picked (cells x) (sources_of op) (elements_cells x low)))
+    (elements-append (computed op (seen_of x)) _ (elements_computed op x low free out)
+    (elements-picked (cells x) (sources_of op) (elements_cells x low)))
 
 -- ---- a value by cases
 
-pub cases_say : {v u : ℕ} {P Q : Type 0} (t : Bool) → (t ≡ true → Says v P) → (t ≡ false → Says u Q) → Says (cond t v u) ((t ≡ true → P) × (t ≡ false → Q))
+pub cases_say : {v u : ℕ} {P Q : Type 0} (t : Bool) → (t ≡ true → Says v P) → (t ≡ false → Says u Q)
+    → Says (cond t v u) ((t ≡ true → P) × (t ≡ false → Q))
 cases_say true a b =
     let s = a refl in
     record { low = s.low; shown = λ z. (λ _. s.shown z, λ e. never e); zero_where = λ h. s.zero_where (h.0 refl) }
@@ -197,7 +195,8 @@ cswapw_cell x j few = word_left (eqb (s x 0) 0) x j few
 word_is : (j : ℕ) (x y : List ℕ) → Low x → s x 0 < 2 → word_term j x y ≡ felt_sub (s y j) (word_cell (eqb (s x 0) 0) x j)
 word_is j x y low few = go (nat_lt j 4)
   where
-    go : (t : Bool) → cond t (felt_sub (s y j) (chosen (s x 0) (s x (j + 1)) (s x (j + 5)))) (felt_sub (s y j) (chosen_not (s x 0) (s x (j - 3)) (s x (j + 1))))
+    go : (t : Bool) → cond t (felt_sub (s y j) (chosen (s x 0) (s x (j + 1)) (s x (j + 5))))
+        (felt_sub (s y j) (chosen_not (s x 0) (s x (j - 3)) (s x (j + 1))))
         ≡ felt_sub (s y j) (cond (eqb (s x 0) 0) (s x (j + 1)) (cond t (s x (j + 5)) (s x (j - 3))))
     go true = ap (felt_sub (s y j)) (chosen_is (s x 0) (s x (j + 1)) (s x (j + 5)) few (low (30 + (j + 1))) (low (30 + (j + 5))))
     go false = ap (felt_sub (s y j)) (chosen_not_is (s x 0) (s x (j - 3)) (s x (j + 1)) few (low (30 + (j - 3))) (low (30 + (j + 1))))
@@ -205,7 +204,8 @@ word_is j x y low few = go (nat_lt j 4)
 same_says : {v : ℕ} {P : Type 0} → Says v P → Says v (false ≡ false → P)
 same_says a = says_as a (λ e _. e) (λ f. f refl)
 
-top_says : (op : Op) (j : ℕ) (x y : List ℕ) → j < leaves_of op → Low x → Low y → (tests_top op ≡ true → s x 0 < 2) → Says (top_term j x y op) (TopFact op j x y)
+top_says : (op : Op) (j : ℕ) (x y : List ℕ) → j < leaves_of op → Low x → Low y → (tests_top op ≡ true → s x 0 < 2)
+    → Says (top_term j x y op) (TopFact op j x y)
 unfolding top_term
 top_says ops.Eqz j x y few low low_next bit = sum_one_says (s y 0) (felt_mul (s x 0) (w x 0)) (low_next 30) (rest_low _)
 top_says ops.Eq j x y few low low_next bit = sum_one_says (s y 0) (felt_mul (felt_sub (s x 0) (s x 1)) (w x 0)) (low_next 30) (rest_low _)
@@ -267,7 +267,8 @@ unfolding end_term
 end_says j x y low low_next witness few =
     says_of
     (ap (λ n. felt_add (felt_mul n (below_term j x y ops.End)) (felt_mul (h x 4) (below_term j x y ops.Drop))) (not_bit_is (h x 4) few)
-    ∙ ap (λ n. felt_add (felt_mul (cond (not (eqb (h x 4) 1)) 1 0) (below_term j x y ops.End)) (felt_mul n (below_term j x y ops.Drop))) (bit_is (h x 4) few))
+    ∙ ap (λ n. felt_add (felt_mul (cond (not (eqb (h x 4) 1)) 1 0) (below_term j x y ops.End))
+    (felt_mul n (below_term j x y ops.Drop))) (bit_is (h x 4) few))
     (two_say (not (eqb (h x 4) 1)) (eqb (h x 4) 1) (not_both (eqb (h x 4) 1)) (below_says ops.End j x y low low_next witness)
     (below_says ops.Drop j x y low low_next witness))
 
@@ -292,7 +293,8 @@ term_says op j x y low low_next witness ends bit =
 rest_same : (n : ℕ) → n < prime → n % prime ≡ n
 rest_same n low = omega arith
 
-pub says_119 : (op next : Op) (j : ℕ) (x y : List ℕ) → Low x → Low y → Witness x → (is_op op ops.End ≡ true → IsEndRow x) → (tests_top op ≡ true → s x 0 < 2)
+pub says_119 : (op next : Op) (j : ℕ) (x y : List ℕ) → Low x → Low y → Witness x → (is_op op ops.End ≡ true → IsEndRow x)
+    → (tests_top op ≡ true → s x 0 < 2)
     → Says (entry_119 j (hot op) (hot next) x y) (CellFact op j x y)
 unfolding entry_119
 says_119 op next j x y low low_next witness ends bit =

@@ -114,7 +114,8 @@ loop_or_call : (t u : Bool) → t && u ≡ false → (false || is_left (cond t o
 loop_or_call true u e = e
 loop_or_call false u e = refl
 
-move_or_end : (op : Op) (x : List ℕ) → (is_op op ops.End ≡ true → IsEndRow x) → (is_right op || is_left (mover op x) || is_call_op op) && ends_call op x ≡ false
+move_or_end : (op : Op) (x : List ℕ) → (is_op op ops.End ≡ true → IsEndRow x)
+    → (is_right op || is_left (mover op x) || is_call_op op) && ends_call op x ≡ false
 move_or_end ops.End x ends =
     loop_or_call (eqb (h x 4) 1) (eqb (felt_add (h x 6) (h x 7)) 1) (end_apart (h x 4) (h x 5) (h x 6) (h x 7) (ends refl).most)
 move_or_end ops.Noop x ends = refl
@@ -123,7 +124,8 @@ move_or_end op x ends = and_false (is_right op || is_left op || is_call_op op)
 pub keeps_is : (op : Op) (x : List ℕ) → (is_op op ops.End ≡ true → IsEndRow x) → keeps_depth (hot op) x ≡ cond (keeps_stack op x) 1 0
 unfolding keeps_depth
 keeps_is op x ends =
-    same_four (λ r l c e. felt_sub (felt_sub (felt_sub (felt_sub 1 r) l) c) e) (rights_is op) (lefts_is op x ends) (calls_is op) (returns_is op x ends)
+    same_four (λ r l c e. felt_sub (felt_sub (felt_sub (felt_sub 1 r) l) c) e) (rights_is op) (lefts_is op x ends) (calls_is op)
+    (returns_is op x ends)
     ∙ none_of (is_right op) (is_left (mover op x)) (is_call_op op) (ends_call op x) (right_or_left op x) (shift_or_call op x) (move_or_end op x ends)
 
 -- ---- depth and key
@@ -138,7 +140,8 @@ less_says false i k li lk = record { low = rest_low _; shown = λ z. omega (arit
 
 pub says_116 : (op next : Op) (x y : List ℕ) → Low x → Low y → (is_op op ops.End ≡ true → IsEndRow x) → Witness x
     → Says (entry_116 (hot op) (hot next) x y)
-    ((is_right op ≡ true → depth y ≡ felt_add (depth x) 1) × (is_left (mover op x) ≡ true → depth y ≡ cond (is_deeper x) (felt_sub (depth x) 1) (depth x))
+    ((is_right op ≡ true → depth y ≡ felt_add (depth x) 1)
+    × (is_left (mover op x) ≡ true → depth y ≡ cond (is_deeper x) (felt_sub (depth x) 1) (depth x))
     × (is_call_op op ≡ true → depth y ≡ 16) × (keeps_stack op x ≡ true → depth y ≡ depth x))
 unfolding entry_116
 says_116 op next x y low low_next ends witness =
@@ -152,10 +155,12 @@ says_116 op next x y low low_next ends witness =
     (sub_twice_says (depth y) (depth x) 1 (low_next 46) (low 46) (lit< tt)) (less_says (is_deeper x) (depth y) (depth x) (low_next 46) (low 46))
     (sub_says (depth y) 16 (low_next 46) (lit< tt)) (sub_says (depth y) (depth x) (low_next 46) (low 46)))
 
-pub says_117 : (op : Op) (x : List ℕ) → Low x → (is_op op ops.End ≡ true → IsEndRow x) → Says (entry_117 (hot op) x) (ends_call op x ≡ true → depth x ≡ 16)
+pub says_117 : (op : Op) (x : List ℕ) → Low x → (is_op op ops.End ≡ true → IsEndRow x)
+    → Says (entry_117 (hot op) x) (ends_call op x ≡ true → depth x ≡ 16)
 unfolding entry_117
 says_117 op x low ends =
-    says_of (ap (λ n. felt_mul n (felt_sub (depth x) 16)) (returns_is op x ends)) (gate_says (ends_call op x) (sub_says (depth x) 16 (low 46) (lit< tt)))
+    says_of (ap (λ n. felt_mul n (felt_sub (depth x) 16)) (returns_is op x ends))
+    (gate_says (ends_call op x) (sub_says (depth x) 16 (low 46) (lit< tt)))
 
 pub says_118 : (op next : Op) (x y : List ℕ) → Low x → Low y → (is_op op ops.End ≡ true → IsEndRow x) → Witness x
     → Says (entry_118 (hot op) (hot next) x y)
@@ -181,12 +186,14 @@ says_118 op next x y low low_next ends witness =
 
 -- ---- operands
 
-pub says_135 : (op next : Op) (x y : List ℕ) → Low x → Low y → Says (entry_135 (hot op) (hot next) x y) (is_op op ops.Eqz ≡ true → (s x 0 ≡ 0) ⊎ (s y 0 ≡ 0))
+pub says_135 : (op next : Op) (x y : List ℕ) → Low x → Low y
+    → Says (entry_135 (hot op) (hot next) x y) (is_op op ops.Eqz ≡ true → (s x 0 ≡ 0) ⊎ (s y 0 ≡ 0))
 unfolding entry_135
 says_135 op next x y low low_next =
     gate_product_says (is_op op ops.Eqz) (s x 0) (s y 0) (low 30) (mul_says (zero_says (s x 0) (low 30)) (zero_says (s y 0) (low_next 30)))
 
-pub says_136 : (op next : Op) (x y : List ℕ) → Low x → Low y → Says (entry_136 (hot op) (hot next) x y) (is_op op ops.Eq ≡ true → (s x 0 ≡ s x 1) ⊎ (s y 0 ≡ 0))
+pub says_136 : (op next : Op) (x y : List ℕ) → Low x → Low y
+    → Says (entry_136 (hot op) (hot next) x y) (is_op op ops.Eq ≡ true → (s x 0 ≡ s x 1) ⊎ (s y 0 ≡ 0))
 unfolding entry_136
 says_136 op next x y low low_next =
     gate_product_says (is_op op ops.Eq) (felt_sub (s x 0) (s x 1)) (s y 0) (rest_low _)

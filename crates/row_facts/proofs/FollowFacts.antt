@@ -90,7 +90,8 @@ unfolding entry_66
 says_66 op next x y =
     says_of
     (ap (felt_mul (hot op ops.End))
-    (ap (λ n. felt_sub (felt_sub (felt_sub (felt_sub 1 n) (hot next ops.End)) (hot next ops.Repeat)) (hot next ops.Halt)) (starts_is next) ∙ behind_end next))
+    (ap (λ n. felt_sub (felt_sub (felt_sub (felt_sub 1 n) (hot next ops.End)) (hot next ops.Repeat)) (hot next ops.Halt))
+    (starts_is next) ∙ behind_end next))
     (gate_says (is_op op ops.End) (fails_says (is_start_op next || is_op next ops.End || is_op next ops.Repeat || is_op next ops.Halt)))
 
 -- what these entries say together
@@ -106,7 +107,8 @@ inner_start : {P : Type 0} (t : Bool) → ((true ≡ false) × P) ⊎ (t ≡ tru
 inner_start t (inl h) = never h.0
 inner_start t (inr e) = e
 
-loop_goes : (top : ℕ) (t u : Bool) → top < 2 → ((false ≡ false) × (true ≡ true → top ≡ 0)) ⊎ (u ≡ true) → (1 ≡ top) ⊎ (t ≡ true) → cond (eqb top 0) t u ≡ true
+loop_goes : (top : ℕ) (t u : Bool) → top < 2 → ((false ≡ false) × (true ≡ true → top ≡ 0)) ⊎ (u ≡ true) → (1 ≡ top) ⊎ (t ≡ true)
+    → cond (eqb top 0) t u ≡ true
 loop_goes zero t u low enters (inl e) = absurd (omega (arith, e))
 loop_goes zero t u low enters (inr e) = e
 loop_goes (suc zero) t u low (inl h) skips = let z : 1 ≡ 0 = h.1 refl in absurd (omega (arith, z))

@@ -90,7 +90,8 @@ says_107 op x has low span =
     z = felt_sub (h x 0) (code_of op)
 
 -- one more place
-place_more : {u : ℕ} (t : Bool) (v k : ℕ) → v < prime → k < prime → Says u (t ≡ true → v < k) → Says (felt_mul u (felt_sub v k)) (t ≡ true → v < k + 1)
+place_more : {u : ℕ} (t : Bool) (v k : ℕ) → v < prime → k < prime → Says u (t ≡ true → v < k)
+    → Says (felt_mul u (felt_sub v k)) (t ≡ true → v < k + 1)
 place_more t v k low few s =
     says_as (mul_says s (sub_says v k low few)) (λ h is. one h is) (λ f. ⊎_elim (λ e. inr e)
     (λ apart. inl (λ is. let m : v < k + 1 = f is in omega (arith, m, apart))) (either_or v k))
@@ -99,11 +100,13 @@ place_more t v k low few s =
     one (inl f) is = let m : v < k = f is in omega (arith, m)
     one (inr e) is = omega (arith, e)
 
-pub says_114 : (op : Op) (x : List ℕ) → Low x → sp x ≡ cond (is_ordinary_op op) 1 0 → Says (entry_114 (hot op) x) (is_ordinary_op op ≡ true → ox x ≤ 8)
+pub says_114 : (op : Op) (x : List ℕ) → Low x → sp x ≡ cond (is_ordinary_op op) 1 0
+    → Says (entry_114 (hot op) x) (is_ordinary_op op ≡ true → ox x ≤ 8)
 unfolding entry_114
 says_114 op x low span =
     says_of
-    (ap (λ n. felt_mul (felt_mul (felt_mul (felt_mul (felt_mul (felt_mul (felt_mul (felt_mul (felt_mul n (ox x)) (felt_sub (ox x) 1)) (felt_sub (ox x) 2))
+    (ap (λ n. felt_mul (felt_mul (felt_mul
+    (felt_mul (felt_mul (felt_mul (felt_mul (felt_mul (felt_mul n (ox x)) (felt_sub (ox x) 1)) (felt_sub (ox x) 2))
     (felt_sub (ox x) 3)) (felt_sub (ox x) 4)) (felt_sub (ox x) 5)) (felt_sub (ox x) 6)) (felt_sub (ox x) 7)) (felt_sub (ox x) 8)) span)
     (says_as
     (more 8 (lit< tt) (more 7 (lit< tt) (more 6 (lit< tt) (more 5 (lit< tt)
@@ -141,7 +144,8 @@ turn m i k li lk lm =
 
 pub says_109 : (op next : Op) (x y : List ℕ) → HasOp x op → Low x → (is_ordinary_op op ≡ true → IsGroupRow op x)
     → sp x ≡ cond (is_ordinary_op op) 1 0
-    → Says (entry_109 (hot op) (hot next) x y) (is_ordinary_op op ≡ true → (goes op x ≡ false) ⊎ (h x 0 ≡ felt_add (code_of op) (felt_mul 128 (h y 0))))
+    → Says (entry_109 (hot op) (hot next) x y)
+    (is_ordinary_op op ≡ true → (goes op x ≡ false) ⊎ (h x 0 ≡ felt_add (code_of op) (felt_mul 128 (h y 0))))
 unfolding entry_109
 says_109 op next x y has low row span =
     says_of
@@ -157,7 +161,8 @@ unfolding entry_110
 says_110 op next x y has low low_next row span =
     says_of (ap (λ n. felt_mul (felt_mul n (goes_on (hot op) x)) (felt_sub (felt_sub (ox y) (ox x)) 1)) span)
     (gate_product_says_if (is_ordinary_op op) (goes_on (hot op) x) (felt_sub (felt_sub (ox y) (ox x)) 1) (goes_low op x)
-    (λ is. mul_says (says_of (goes_is op x has low (row is)) (test_says (goes op x))) (sub_twice_says (ox y) (ox x) 1 (low_next 26) (low 26) (lit< tt))))
+    (λ is. mul_says (says_of (goes_is op x has low (row is)) (test_says (goes op x)))
+    (sub_twice_says (ox y) (ox x) 1 (low_next 26) (low 26) (lit< tt))))
 
 three_gated : {P : Type 0} (t : Bool) (i j k : ℕ) → i < prime → (t ≡ true → Says (felt_mul (felt_mul i j) k) P)
     → Says (felt_mul (felt_mul (felt_mul (cond t 1 0) i) j) k) (t ≡ true → P)
@@ -171,7 +176,8 @@ says_111 op next x y has low low_next row span span_next =
     says_of
     (ap₂ (λ n m. felt_mul (felt_mul (felt_mul n (felt_sub 1 (goes_on (hot op) x))) m) (ox y)) span span_next)
     (three_gated (is_ordinary_op op) (felt_sub 1 (goes_on (hot op) x)) (cond (is_ordinary_op next) 1 0) (ox y) (rest_low _)
-    (λ is. mul_says (mul_says (says_of (ap (λ n. felt_sub 1 n) (goes_is op x has low (row is))) (passes_says (goes op x))) (test_says (is_ordinary_op next)))
+    (λ is. mul_says (mul_says (says_of (ap (λ n. felt_sub 1 n) (goes_is op x has low (row is))) (passes_says (goes op x)))
+    (test_says (is_ordinary_op next)))
     (zero_says (ox y) (low_next 26))))
 
 pub says_112 : (op next : Op) (x y : List ℕ) → Low x
@@ -195,11 +201,13 @@ count_says false false i k li lk = record { low = rest_low _; shown = λ z. omeg
 pub says_113 : (op next : Op) (x y : List ℕ) → HasOp x op → Low x → Low y → (is_ordinary_op op ≡ true → IsGroupRow op x)
     → sp x ≡ cond (is_ordinary_op op) 1 0 → sp y ≡ cond (is_ordinary_op next) 1 0
     → Says (entry_113 (hot op) (hot next) x y)
-    (is_ordinary_op op ≡ true → (is_ordinary_op next ≡ false) ⊎ (gc x ≡ cond (is_op op ops.Push || not (is_left_over op x)) (felt_add (gc y) 1) (gc y)))
+    (is_ordinary_op op ≡ true → (is_ordinary_op next ≡ false)
+    ⊎ (gc x ≡ cond (is_op op ops.Push || not (is_left_over op x)) (felt_add (gc y) 1) (gc y)))
 unfolding entry_113
 says_113 op next x y has low low_next row span span_next =
     says_of
-    (ap₂ (λ n m. felt_mul (felt_mul n m) (felt_sub (felt_add (felt_add (felt_sub (gc y) (gc x)) (hot op ops.Push)) 1) (goes_on (hot op) x))) span span_next)
+    (ap₂ (λ n m. felt_mul (felt_mul n m)
+    (felt_sub (felt_add (felt_add (felt_sub (gc y) (gc x)) (hot op ops.Push)) 1) (goes_on (hot op) x))) span span_next)
     (gate_product_says_if (is_ordinary_op op) (cond (is_ordinary_op next) 1 0)
     (felt_sub (felt_add (felt_add (felt_sub (gc y) (gc x)) (hot op ops.Push)) 1) (goes_on (hot op) x)) (test_says (is_ordinary_op next)).low
     (λ is. mul_says (test_says (is_ordinary_op next))
@@ -236,11 +244,13 @@ same_where i k e = grind (arith, nat_tests)
 other_where : (i k : ℕ) → not (eqb i k) ≡ true → i ≢ k
 other_where i k e same = let t : eqb i k ≡ true = grind (arith, nat_tests, same) in never (sym e ∙ ap not t)
 
-pub goes_shown : (op next : Op) (x y : List ℕ) (u g n : Bool) → is_op op ops.Push ≡ u → is_left_over op x ≡ g → is_ordinary_op next ≡ n → Goes op x y u g n
+pub goes_shown : (op next : Op) (x y : List ℕ) (u g n : Bool) → is_op op ops.Push ≡ u → is_left_over op x ≡ g
+    → is_ordinary_op next ≡ n → Goes op x y u g n
     → GoesOn op next x y
 goes_shown op next x y true g true eu eg en k = pushes eu en (holds k.rest_of) (holds k.place) (holds k.count)
 goes_shown op next x y true g false eu eg en k = off (holds k.next_row)
-goes_shown op next x y false true true eu eg en k = stays eu en (other_where (h x 0) (code_of op) eg) (holds k.rest_of) (holds k.place) (sym (holds k.count))
+goes_shown op next x y false true true eu eg en k =
+    stays eu en (other_where (h x 0) (code_of op) eg) (holds k.rest_of) (holds k.place) (sym (holds k.count))
 goes_shown op next x y false true false eu eg en k = off (holds k.next_row)
 goes_shown op next x y false false true eu eg en k = opens eu en (same_where (h x 0) (code_of op) eg) (opened k.opens_at) (holds k.count)
 goes_shown op next x y false false false eu eg en k = ends eu en (same_where (h x 0) (code_of op) eg) (holds_not k.ends_at)

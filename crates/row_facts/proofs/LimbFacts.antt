@@ -103,10 +103,13 @@ says_142 op x low =
     says_of (ap (λ n. felt_mul n (felt_sub (s x 2) (limbs 4 x))) (thirds_is op))
     (gate_says (has_third op) (sub_says (s x 2) (limbs 4 x) (low 32) (limbs_low 4 x)))
 
-three_less : (i j k l : ℕ) → i < prime → j < prime → k < prime → l < prime → Says (felt_sub (felt_sub (felt_sub i j) k) l) (i ≡ felt_add (felt_add j k) l)
-three_less i j k l hi hj hk hl = record { low = rest_low _; shown = λ z. omega (arith, hi, hj, hk, hl, z); zero_where = λ e. omega (arith, hi, hj, hk, hl, e) }
+three_less : (i j k l : ℕ) → i < prime → j < prime → k < prime → l < prime
+    → Says (felt_sub (felt_sub (felt_sub i j) k) l) (i ≡ felt_add (felt_add j k) l)
+three_less i j k l hi hj hk hl =
+    record { low = rest_low _; shown = λ z. omega (arith, hi, hj, hk, hl, z); zero_where = λ e. omega (arith, hi, hj, hk, hl, e) }
 
-pub says_147 : (op : Op) (x : List ℕ) → Low x → Says (entry_147 (hot op) x) (is_op op ops.U32Div ≡ true → s x 0 ≡ felt_add (felt_add (limbs 6 x) 1) (limbs 8 x))
+pub says_147 : (op : Op) (x : List ℕ) → Low x
+    → Says (entry_147 (hot op) x) (is_op op ops.U32Div ≡ true → s x 0 ≡ felt_add (felt_add (limbs 6 x) 1) (limbs 8 x))
 unfolding entry_147
 says_147 op x low = gate_says (is_op op ops.U32Div) (three_less (s x 0) (limbs 6 x) 1 (limbs 8 x) (low 30) (limbs_low 6 x) (lit< tt) (limbs_low 8 x))
 
@@ -169,7 +172,8 @@ apart_6 op = refl
 
 pub says_144 : (op next : Op) (x y : List ℕ) → Low x → Low y
     → Says (entry_144 (hot op) (hot next) x y)
-    ((((((is_op op ops.U32Split ≡ true → s y 0 ≡ limbs 2 x) × (is_op op ops.U32Add ≡ true → s y 0 ≡ t x 6)) × (is_op op ops.U32Add3 ≡ true → s y 0 ≡ t x 8))
+    ((((((is_op op ops.U32Split ≡ true → s y 0 ≡ limbs 2 x) × (is_op op ops.U32Add ≡ true → s y 0 ≡ t x 6))
+    × (is_op op ops.U32Add3 ≡ true → s y 0 ≡ t x 8))
     × (is_op op ops.U32Sub ≡ true → s y 0 < 2)) × (leaves_fourth op ≡ true → s y 0 ≡ limbs 6 x)) × (is_op op ops.U32MAdd ≡ true → s y 0 ≡ limbs 8 x))
 unfolding entry_144
 says_144 op next x y low low_next =
@@ -216,8 +220,10 @@ whole_apart_7 : (op : Op) → whole_6 op && is_op op ops.U32Div ≡ false
 whole_apart_7 ops.U32Split = refl
 whole_apart_7 op = refl
 
-borrow_says : (i j k m : ℕ) → i < prime → j < prime → k < prime → m < prime → Says (felt_add (felt_sub (felt_sub i j) k) m) (felt_add i m ≡ felt_add j k)
-borrow_says i j k m hi hj hk hm = record { low = rest_low _; shown = λ z. omega (arith, hi, hj, hk, hm, z); zero_where = λ e. omega (arith, hi, hj, hk, hm, e) }
+borrow_says : (i j k m : ℕ) → i < prime → j < prime → k < prime → m < prime
+    → Says (felt_add (felt_sub (felt_sub i j) k) m) (felt_add i m ≡ felt_add j k)
+borrow_says i j k m hi hj hk hm =
+    record { low = rest_low _; shown = λ z. omega (arith, hi, hj, hk, hm, z); zero_where = λ e. omega (arith, hi, hj, hk, hm, e) }
 
 pub says_145 : (op next : Op) (x y : List ℕ) → Low x → Low y
     → Says (entry_145 (hot op) (hot next) x y)

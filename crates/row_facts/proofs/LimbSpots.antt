@@ -34,10 +34,14 @@ from_four a b c d f g i k e = from_two (a || b || c) d (λ h. from_two (a || b) 
 
 -- the low words and the high ones, by operation
 add_low : (op : Op) → is_op op ops.U32Add ≡ true → leaves_second op ≡ true
-add_low op e = first_of_two _ (is_op op ops.U32Div) (first_of_two _ (is_op op ops.U32Mul) (first_of_two (is_op op ops.U32Add) (is_op op ops.U32Sub) e))
+add_low op e =
+    first_of_two _ (is_op op ops.U32Div)
+    (first_of_two _ (is_op op ops.U32Mul) (first_of_two (is_op op ops.U32Add) (is_op op ops.U32Sub) e))
 
 sub_low : (op : Op) → is_op op ops.U32Sub ≡ true → leaves_second op ≡ true
-sub_low op e = first_of_two _ (is_op op ops.U32Div) (first_of_two _ (is_op op ops.U32Mul) (second_of_two (is_op op ops.U32Add) (is_op op ops.U32Sub) e))
+sub_low op e =
+    first_of_two _ (is_op op ops.U32Div)
+    (first_of_two _ (is_op op ops.U32Mul) (second_of_two (is_op op ops.U32Add) (is_op op ops.U32Sub) e))
 
 mul_low : (op : Op) → is_op op ops.U32Mul ≡ true → leaves_second op ≡ true
 mul_low op e = first_of_two _ (is_op op ops.U32Div) (second_of_two (is_op op ops.U32Add || is_op op ops.U32Sub) (is_op op ops.U32Mul) e)
@@ -130,7 +134,8 @@ limbs_zeros op p r shows =
     low_words y m = (
       (
         λ is. (m.splits is).low,
-        from_four (is_op op ops.U32Add) (is_op op ops.U32Sub) (is_op op ops.U32Mul) (is_op op ops.U32Div) (λ is. (m.adds is).low) (λ is. (m.subtracts is).low)
+        from_four (is_op op ops.U32Add) (is_op op ops.U32Sub) (is_op op ops.U32Mul) (is_op op ops.U32Div) (λ is. (m.adds is).low)
+            (λ is. (m.subtracts is).low)
             (λ is. (m.multiplies is).low) (λ is. (m.divides is).quotient),
       ),
       from_two (is_op op ops.U32Add3) (is_op op ops.U32MAdd) (λ is. (m.adds_three is).low) (λ is. (m.multiplies_and_adds is).low),
@@ -139,7 +144,8 @@ limbs_zeros op p r shows =
     high_words : (y : List ℕ) → MovesLimbs op p.cur y
         → (((((is_op op ops.U32Split ≡ true → s y 0 ≡ limbs 2 p.cur) × (is_op op ops.U32Add ≡ true → s y 0 ≡ t p.cur 6))
         × (is_op op ops.U32Add3 ≡ true → s y 0 ≡ t p.cur 8))
-        × (is_op op ops.U32Sub ≡ true → s y 0 < 2)) × (leaves_fourth op ≡ true → s y 0 ≡ limbs 6 p.cur)) × (is_op op ops.U32MAdd ≡ true → s y 0 ≡ limbs 8 p.cur)
+        × (is_op op ops.U32Sub ≡ true → s y 0 < 2)) × (leaves_fourth op ≡ true → s y 0 ≡ limbs 6 p.cur))
+        × (is_op op ops.U32MAdd ≡ true → s y 0 ≡ limbs 8 p.cur)
     high_words y m = (
       (
         (((λ is. (m.splits is).high, λ is. (m.adds is).high), λ is. (m.adds_three is).high), λ is. (m.subtracts is).borrow),

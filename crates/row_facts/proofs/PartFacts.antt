@@ -7,7 +7,8 @@ use Rattle.air_kit.specs.U32Values.{u32_values}
 use Rattle.row_facts.specs.Zero.{AllZero}
 use Rattle.row_facts.proofs.Zeros.{zero_back, zero_both, zero_front}
 
-pub parts_shown : (k : Claim) (p : Spot) → AllZero (main_values k p) → AllZero (decoder_values k p) × AllZero (stack_values p) × AllZero (u32_values p)
+pub parts_shown : (k : Claim) (p : Spot) → AllZero (main_values k p)
+    → AllZero (decoder_values k p) × AllZero (stack_values p) × AllZero (u32_values p)
 unfolding main_values
 parts_shown k p zeros =
     let rest = zero_back (decoder_values k p) (stack_values p ++ u32_values p) zeros in (

@@ -113,7 +113,8 @@ pub regate : (t : Bool) (a k : ℕ) → a < prime → felt_mul (felt_mul (cond t
 regate true a k low = ap (λ n. felt_mul n k) (once_is a low) ∙ sym (once_is (felt_mul a k) (rest_low (a * k)))
 regate false a k low = ap (λ n. felt_mul n k) (none_is a) ∙ none_is k ∙ sym (none_is (felt_mul a k))
 
-pub gate_product_says : {P : Type 0} (t : Bool) (a k : ℕ) → a < prime → Says (felt_mul a k) P → Says (felt_mul (felt_mul (cond t 1 0) a) k) (t ≡ true → P)
+pub gate_product_says : {P : Type 0} (t : Bool) (a k : ℕ) → a < prime → Says (felt_mul a k) P
+    → Says (felt_mul (felt_mul (cond t 1 0) a) k) (t ≡ true → P)
 gate_product_says t a k low s = says_of (regate t a k low) (gate_says t s)
 
 pub gate_product_says_if : {P : Type 0} (t : Bool) (a k : ℕ) → a < prime → (t ≡ true → Says (felt_mul a k) P)

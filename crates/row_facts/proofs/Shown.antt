@@ -104,7 +104,8 @@ batch_shown op p r zeros is = record {
   is_batch = batch is;
   unused =
       unused_at p.cur (batch is)
-      (below_seven (λ j. positions p.cur ≤ j + 1 → h p.cur (j + 1) ≡ 0) (none 0 (lit< tt) (zeros 4)) (none 1 (lit< tt) (zeros 5)) (none 2 (lit< tt) (zeros 6))
+      (below_seven (λ j. positions p.cur ≤ j + 1 → h p.cur (j + 1) ≡ 0) (none 0 (lit< tt) (zeros 4)) (none 1 (lit< tt) (zeros 5))
+      (none 2 (lit< tt) (zeros 6))
       (none 3 (lit< tt) (zeros 7)) (none 4 (lit< tt) (zeros 8)) (none 5 (lit< tt) (zeros 9)) (none 6 (lit< tt) (zeros 10)));
   needed = (row_at entry_103 r (says_103 op p.cur batch)).shown (zeros 11) is;
 }
@@ -149,7 +150,8 @@ follows_at op p y r row zeros e =
       ends = (pair_at entry_66 r (λ u n. says_66 op (op_of u) x u)).shown (zeros 6) y e;
     })
 
-block_kept : (op : Op) (p : Spot) (y : List ℕ) → HasOps op p → IsBlockRow op p.cur → AllZero (block_values p) → p.next ≡ Some y → KeepsBlock op p.cur y
+block_kept : (op : Op) (p : Spot) (y : List ℕ) → HasOps op p → IsBlockRow op p.cur → AllZero (block_values p) → p.next ≡ Some y
+    → KeepsBlock op p.cur y
 unfolding block_values follow_values shown_values kept_values family
 block_kept op p y r row zeros e =
     let x : List ℕ = p.cur in
@@ -162,19 +164,22 @@ block_kept op p y r row zeros e =
         frame = frame.0 is;
         syscall = syscall.0 is;
         digest =
-            below_four (λ j. f y j ≡ h x j) ((digest 0 (zeros 25)).0 is) ((digest 1 (zeros 26)).0 is) ((digest 2 (zeros 27)).0 is) ((digest 3 (zeros 28)).0 is);
+            below_four (λ j. f y j ≡ h x j) ((digest 0 (zeros 25)).0 is) ((digest 1 (zeros 26)).0 is) ((digest 2 (zeros 27)).0 is)
+            ((digest 3 (zeros 28)).0 is);
       };
       syscall = λ is. record { context = context.1 is; frame = frame.1 is; syscall = syscall.1 is };
       function = λ is. (context.2 is, syscall.2 is);
       digest = λ is.
-          below_four (λ j. f y j ≡ f x j) ((digest 0 (zeros 25)).1 is) ((digest 1 (zeros 26)).1 is) ((digest 2 (zeros 27)).1 is) ((digest 3 (zeros 28)).1 is);
+          below_four (λ j. f y j ≡ f x j) ((digest 0 (zeros 25)).1 is) ((digest 1 (zeros 26)).1 is) ((digest 2 (zeros 27)).1 is)
+          ((digest 3 (zeros 28)).1 is);
       frame = frame.3;
       frame_moves = frame.2;
       block = (pair_at entry_89 r (λ u n. says_89 op (op_of u) x u r.here.low n.low)).shown (zeros 29) y e;
       level = (pair_at entry_90 r (λ u n. says_90 op (op_of u) x u r.here.low n.low)).shown (zeros 30) y e;
     }
   where
-    digest : (j : ℕ) → on_pair (entry_85 j) p ≡ 0 → (is_op op ops.Call ≡ true → f y j ≡ h p.cur j) × (keeps_digest op p.cur ≡ true → f y j ≡ f p.cur j)
+    digest : (j : ℕ) → on_pair (entry_85 j) p ≡ 0
+        → (is_op op ops.Call ≡ true → f y j ≡ h p.cur j) × (keeps_digest op p.cur ≡ true → f y j ≡ f p.cur j)
     digest j z = (pair_at (entry_85 j) r (λ u n. says_85 op (op_of u) p.cur u j r.here.low n.low row.ends)).shown z y e
 
 batch_kept : (op : Op) (p : Spot) (y : List ℕ) → HasOps op p → AllZero (block_values p) → p.next ≡ Some y → KeepsBatch op p.cur y
@@ -183,7 +188,8 @@ batch_kept op p y r zeros e =
     let said = (pair_at entry_91 r (λ u n. says_91 op (op_of u) p.cur u r.here.low n.low r.here.span)).shown (zeros 31) y e in
     record { first = said.0; later = said.1; same = said.2 }
 
-batch_opened : (op : Op) (p : Spot) (y : List ℕ) → HasOps op p → (is_batch_op op ≡ true → ShowsBatch p.cur) → AllZero (span_values p) → p.next ≡ Some y
+batch_opened : (op : Op) (p : Spot) (y : List ℕ) → HasOps op p → (is_batch_op op ≡ true → ShowsBatch p.cur)
+    → AllZero (span_values p) → p.next ≡ Some y
     → is_batch_op op ≡ true → OpensBatch p.cur y
 unfolding span_values batch_values group_values family
 batch_opened op p y r shows zeros e is = record {
@@ -192,7 +198,8 @@ batch_opened op p y r shows zeros e is = record {
   place = (pair_at entry_106 r (λ u n. says_106 op (op_of u) p.cur u (n.low 26))).shown (zeros 14) y e is;
 }
 
-group_kept : (op : Op) (p : Spot) (y : List ℕ) → HasOps op p → (is_ordinary_op op ≡ true → IsGroupRow op p.cur) → AllZero (span_values p) → p.next ≡ Some y
+group_kept : (op : Op) (p : Spot) (y : List ℕ) → HasOps op p → (is_ordinary_op op ≡ true → IsGroupRow op p.cur)
+    → AllZero (span_values p) → p.next ≡ Some y
     → is_ordinary_op op ≡ true → GoesOn op (op_of y) p.cur y
 unfolding span_values batch_values group_values family
 group_kept op p y r row zeros e is =
@@ -273,7 +280,8 @@ bounds_of k p zeros =
       outputs = zero_back (end_values k p) (outputs_values k p) later;
     }
 
-pub first_shown : (k : Claim) (op : Op) (p : Spot) → IsLowClaim k → HasOps op p → AllZero (opcode_values p) → AllZero (boundary_values k p) → p.row ≡ 0
+pub first_shown : (k : Claim) (op : Op) (p : Spot) → IsLowClaim k → HasOps op p → AllZero (opcode_values p)
+    → AllZero (boundary_values k p) → p.row ≡ 0
     → IsFirstRow k op p.cur
 unfolding end_values
 first_shown k op p few r opcode zeros e =

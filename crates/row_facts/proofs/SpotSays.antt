@@ -31,7 +31,8 @@ cond_low : (t : Bool) (v : ℕ) → v < prime → cond t v 0 < prime
 cond_low true v low = low
 cond_low false v low = lit< tt
 
-pub first_at : {op : Op} {p : Spot} {P : Type 0} (entry : RowEntry) → HasOps op p → Says (entry (hot op) p.cur) P → Says (at_first entry p) (p.row ≡ 0 → P)
+pub first_at : {op : Op} {p : Spot} {P : Type 0} (entry : RowEntry) → HasOps op p → Says (entry (hot op) p.cur) P
+    → Says (at_first entry p) (p.row ≡ 0 → P)
 first_at {p = p} entry r s =
     let at_row = row_at entry r s in
     counts_where (p.row ≡ 0) (cond_low (eqb p.row 0) (on_row entry p) at_row.low) (λ e. ap (λ n. cond (eqb n 0) (on_row entry p) 0) e)
@@ -45,7 +46,8 @@ end_low : (next : Option (List ℕ)) (v : ℕ) → v < prime → at_end v next <
 end_low None v low = low
 end_low (Some y) v low = lit< tt
 
-pub last_at : {op : Op} {p : Spot} {P : Type 0} (entry : RowEntry) → HasOps op p → Says (entry (hot op) p.cur) P → Says (at_last entry p) (p.next ≡ None → P)
+pub last_at : {op : Op} {p : Spot} {P : Type 0} (entry : RowEntry) → HasOps op p → Says (entry (hot op) p.cur) P
+    → Says (at_last entry p) (p.next ≡ None → P)
 last_at {p = p} entry r s =
     let at_row = row_at entry r s in
     counts_where (p.next ≡ None) (end_low p.next (on_row entry p) at_row.low) (λ e. ap (at_end (on_row entry p)) e)
@@ -54,7 +56,8 @@ last_at {p = p} entry r s =
 between_says : {P : List ℕ → Type 0} (entry : PairEntry) (x : List ℕ) (next : Option (List ℕ))
     → ((y : List ℕ) → next ≡ Some y → Says (entry (flag x) (flag y) x y) (P y)) → Says (between entry x next) ((y : List ℕ) → next ≡ Some y → P y)
 between_says entry x None s = record { low = lit< tt; shown = λ z y e. absurd (let none : ⊥ = cc in none); zero_where = λ h. refl }
-between_says {P = P} entry x (Some y) s = record { low = (s y refl).low; shown = λ z u e. shown_at z u e; zero_where = λ h. (s y refl).zero_where (h y refl) }
+between_says {P = P} entry x (Some y) s =
+    record { low = (s y refl).low; shown = λ z u e. shown_at z u e; zero_where = λ h. (s y refl).zero_where (h y refl) }
   where
     shown_at : entry (flag x) (flag y) x y ≡ 0 → (u : List ℕ) → Some y ≡ Some u → P u
     shown_at z u e =
@@ -62,5 +65,6 @@ between_says {P = P} entry x (Some y) s = record { low = (s y refl).low; shown =
         (s u e).shown (ap (λ v. entry (flag x) (flag v) x v) same ∙ z)
 
 pub pair_at : {op : Op} {p : Spot} {P : List ℕ → Type 0} (entry : PairEntry) → HasOps op p
-    → ((y : List ℕ) → ReadsAs (op_of y) y → Says (entry (hot op) (hot (op_of y)) p.cur y) (P y)) → Says (on_pair entry p) ((y : List ℕ) → p.next ≡ Some y → P y)
+    → ((y : List ℕ) → ReadsAs (op_of y) y → Says (entry (hot op) (hot (op_of y)) p.cur y) (P y))
+    → Says (on_pair entry p) ((y : List ℕ) → p.next ≡ Some y → P y)
 pair_at {p = p} entry r s = between_says entry p.cur p.next (λ y e. pair_says entry r.here.has (r.behind y e).has (s y (r.behind y e)))

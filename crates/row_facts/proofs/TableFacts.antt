@@ -83,7 +83,11 @@ rows_shown k rows few z = record {
   pair_is = λ i h.
       (let a : AtPlace k (op_in rows i) (spot_of rows i) = at_place k rows few z i (omega (arith, h)) in
       let e : slice_get rows (suc i) ≡ Some (row_at rows (suc i)) = behind_at rows i h in
-      record { pair = a.spot.pair (row_at rows (suc i)) e; stack = a.stack.pair (row_at rows (suc i)) e; limbs = a.limbs.pair (row_at rows (suc i)) e });
+      record {
+        pair = a.spot.pair (row_at rows (suc i)) e;
+        stack = a.stack.pair (row_at rows (suc i)) e;
+        limbs = a.limbs.pair (row_at rows (suc i)) e;
+      });
   first = λ h. (at_place k rows few z 0 h).spot.first refl;
   last = λ i e. (at_place k rows few z i (omega (arith, e))).spot.last (none_behind rows i e);
 }
@@ -105,7 +109,8 @@ unfolding at_number
 number_zero values zeros zero = refl
 number_zero values zeros (suc n) = zeros n
 
-place_zero : (k : Claim) (rows : List (List ℕ)) → IsLowClaim k → ShowsRows k rows → (i : ℕ) → i < length rows → AllZero (main_values k (spot_of rows i))
+place_zero : (k : Claim) (rows : List (List ℕ)) → IsLowClaim k → ShowsRows k rows → (i : ℕ) → i < length rows
+    → AllZero (main_values k (spot_of rows i))
 place_zero k rows few shows i h =
     let p : Spot = spot_of rows i in
     let op : Op = op_in rows i in

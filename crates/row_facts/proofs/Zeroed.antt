@@ -99,7 +99,8 @@ inputs_zeros k op p few r first =
     zero_of_family 16 (λ j. at_first (entry_23 k j) p) (λ j h. (first_at (entry_23 k j) r (says_23 k op p.cur j few r.here.low)).zero_where
     (λ e. (first e).inputs j h))
 
-end_zeros : (k : Claim) (op : Op) (p : Spot) → IsLowClaim k → HasOps op p → (p.row ≡ 0 → IsFirstRow k op p.cur) → (p.next ≡ None → IsLastRow k op p.cur)
+end_zeros : (k : Claim) (op : Op) (p : Spot) → IsLowClaim k → HasOps op p → (p.row ≡ 0 → IsFirstRow k op p.cur)
+    → (p.next ≡ None → IsLastRow k op p.cur)
     → AllZero (end_values k p)
 unfolding end_values
 end_zeros k op p few r first last =
@@ -126,7 +127,8 @@ outputs_zeros k op p few r last =
     zero_of_family 16 (λ j. at_last (entry_44 k j) p) (λ j h. (last_at (entry_44 k j) r (says_44 k op p.cur j few r.here.low)).zero_where
     (λ e. (last e).outputs j h))
 
-boundary_zeros : (k : Claim) (op : Op) (p : Spot) → IsLowClaim k → HasOps op p → (p.row ≡ 0 → IsFirstRow k op p.cur) → (p.next ≡ None → IsLastRow k op p.cur)
+boundary_zeros : (k : Claim) (op : Op) (p : Spot) → IsLowClaim k → HasOps op p → (p.row ≡ 0 → IsFirstRow k op p.cur)
+    → (p.next ≡ None → IsLastRow k op p.cur)
     → AllZero (boundary_values k p)
 unfolding boundary_values
 boundary_zeros k op p few r first last =
@@ -150,7 +152,8 @@ stops_or zero k low h = inl refl
 stops_or (suc zero) k low h = inr (h refl)
 stops_or (suc (suc i)) k low h = absurd (omega (arith, low))
 
-follow_zeros : (op : Op) (p : Spot) → HasOps op p → IsBlockRow op p.cur → Behind p (λ y. may_follow op (s p.cur 0) (op_of y) ≡ true) → AllZero (follow_values p)
+follow_zeros : (op : Op) (p : Spot) → HasOps op p → IsBlockRow op p.cur → Behind p (λ y. may_follow op (s p.cur 0) (op_of y) ≡ true)
+    → AllZero (follow_values p)
 unfolding follow_values
 follow_zeros op p r row follows =
     let f : Behind p (λ y. Follow op (op_of y) (s p.cur 0)) = follow_of op p row follows in
@@ -322,9 +325,11 @@ batch_zeros op p r row pair =
                               (pair_at entry_104 r (λ u n. says_104 op (op_of u) p.cur u (n.low 16) (r.here.low 16))).zero_where
                                   (λ y e is. ((pair y e).opens is).group),
                               (
-                                (pair_at entry_105 r (λ u n. says_105 op (op_of u) p.cur u batch (n.low 25))).zero_where (λ y e is. ((pair y e).opens is).left),
+                                (pair_at entry_105 r (λ u n. says_105 op (op_of u) p.cur u batch (n.low 25))).zero_where
+                                    (λ y e is. ((pair y e).opens is).left),
                                 (
-                                  (pair_at entry_106 r (λ u n. says_106 op (op_of u) p.cur u (n.low 26))).zero_where (λ y e is. ((pair y e).opens is).place),
+                                  (pair_at entry_106 r (λ u n. says_106 op (op_of u) p.cur u (n.low 26))).zero_where
+                                      (λ y e is. ((pair y e).opens is).place),
                                   tt,
                                 ),
                               ),
@@ -362,7 +367,8 @@ group_zeros op p r row pair =
         (pair_at entry_108 r (λ u n. says_108 op (op_of u) p.cur u r.here.has r.here.low row.group r.here.span n.span)).zero_where
             (λ y e is. (goes y e is).next_row),
         (
-          (pair_at entry_109 r (λ u n. says_109 op (op_of u) p.cur u r.here.has r.here.low row.group r.here.span)).zero_where (λ y e is. (goes y e is).rest_of),
+          (pair_at entry_109 r (λ u n. says_109 op (op_of u) p.cur u r.here.has r.here.low row.group r.here.span)).zero_where
+              (λ y e is. (goes y e is).rest_of),
           (
             (pair_at entry_110 r (λ u n. says_110 op (op_of u) p.cur u r.here.has r.here.low n.low row.group r.here.span)).zero_where
                 (λ y e is. (goes y e is).place),
@@ -370,7 +376,8 @@ group_zeros op p r row pair =
               (pair_at entry_111 r (λ u n. says_111 op (op_of u) p.cur u r.here.has r.here.low n.low row.group r.here.span n.span)).zero_where
                   (λ y e is. (goes y e is).opens_at),
               (
-                (pair_at entry_112 r (λ u n. says_112 op (op_of u) p.cur u r.here.low r.here.span n.span)).zero_where (λ y e is. (goes y e is).ends_at),
+                (pair_at entry_112 r (λ u n. says_112 op (op_of u) p.cur u r.here.low r.here.span n.span)).zero_where
+                    (λ y e is. (goes y e is).ends_at),
                 (
                   (pair_at entry_113 r (λ u n. says_113 op (op_of u) p.cur u r.here.has r.here.low n.low row.group r.here.span n.span)).zero_where
                       (λ y e is. (goes y e is).count),
@@ -386,7 +393,8 @@ group_zeros op p r row pair =
       ),
     )
   where
-    goes : (y : List ℕ) → p.next ≡ Some y → is_ordinary_op op ≡ true → Goes op p.cur y (is_op op ops.Push) (is_left_over op p.cur) (is_ordinary_op (op_of y))
+    goes : (y : List ℕ) → p.next ≡ Some y → is_ordinary_op op ≡ true
+        → Goes op p.cur y (is_op op ops.Push) (is_left_over op p.cur) (is_ordinary_op (op_of y))
     goes y e is = goes_from op (op_of y) p.cur y ((pair y e).group is)
 
 -- ---- a row in its place
@@ -394,7 +402,8 @@ group_zeros op p r row pair =
 pub spot_zeros : (k : Claim) (op : Op) (p : Spot) → IsLowClaim k → HasOps op p → IsAtSpot k op p → AllZero (decoder_values k p)
 unfolding decoder_values span_values
 spot_zeros k op p few r is =
-    zero_both (opcode_values p) (boundary_values k p ++ (block_values p ++ span_values p)) (opcode_zeros k op p r (λ y e. (is.pair y e).clock) is.first)
+    zero_both (opcode_values p) (boundary_values k p ++ (block_values p ++ span_values p))
+    (opcode_zeros k op p r (λ y e. (is.pair y e).clock) is.first)
     (zero_both (boundary_values k p) (block_values p ++ span_values p) (boundary_zeros k op p few r is.first is.last)
     (zero_both (block_values p) (span_values p) (block_zeros op p r is.row.block is.pair)
     (zero_both (batch_values p) (group_values p) (batch_zeros op p r is.row is.pair) (group_zeros op p r is.row is.pair))))

@@ -5,8 +5,10 @@ use Rattle.vm_ops.specs.Codes.{is_start_op}
 use Rattle.vm_ops.specs.declared.op.Op.{Op}
 use Rattle.vm_ops.specs.declared.op.Op.TheVariants as ops
 use Rattle.vm_table.specs.MainColumns.{clk, addr, ctx, fmp, sys, f, lv, depth, key, s}
+use Rattle.air_kit.specs.BoundaryValues.{rows_in}
 use Rattle.air_kit.specs.Flags.{is_op}
 use Rattle.air_kit.specs.Places.{Claim}
+use Rattle.air_kit.specs.declared.trace.TableName.TheVariants as table
 
 -- what stands beside the rows is in the range of elements, and the outputs are sixteen or more
 pub record IsLowClaim (k : Claim) : Type 0 where
@@ -34,8 +36,8 @@ pub record StartsRun (op : Op) (x : List ℕ) : Type 0 where
 pub record IsFirstRow (k : Claim) (op : Op) (x : List ℕ) : Type 0 where
   pub start : StartsRun op x
   pub inputs : (j : ℕ) → j < 16 → s x j ≡ slice_index k.inputs j
-  pub kernel : slice_index k.lengths 5 ≡ length k.kernel
-  pub left : slice_index k.lengths 6 + 16 ≡ length k.outputs
+  pub kernel : rows_in k table.Kernel ≡ length k.kernel
+  pub left : rows_in k table.Left + 16 ≡ length k.outputs
 
 -- the run ends with HALT and the outputs
 pub record IsLastRow (k : Claim) (op : Op) (x : List ℕ) : Type 0 where

@@ -59,7 +59,8 @@ whole_below lo hi v ll lh way = ⊎_elim flat some (either_or lo 0)
 pub whole_is : (n lo hi : ℕ) → n < prime → lo + 2 ^ 32 * hi < prime → n ≡ felt_add lo (felt_mul (2 ^ 32) hi) → n ≡ lo + 2 ^ 32 * hi
 whole_is n lo hi low below e = omega (arith, low, below, e)
 
-pub one_way : (n lo hi v : ℕ) → n < prime → Words n lo hi → v ≡ felt_inv (felt_sub (2 ^ 32 - 1) hi) → lo ≢ 0 → felt_mul (felt_sub (2 ^ 32 - 1) hi) v ≡ 1
+pub one_way : (n lo hi v : ℕ) → n < prime → Words n lo hi → v ≡ felt_inv (felt_sub (2 ^ 32 - 1) hi) → lo ≢ 0
+    → felt_mul (felt_sub (2 ^ 32 - 1) hi) v ≡ 1
 one_way n lo hi v low w e apart =
     let some : 0 < felt_sub (2 ^ 32 - 1) hi = omega (arith, low, w.low, w.high, apart) in
     let below : felt_sub (2 ^ 32 - 1) hi < prime = omega arith in

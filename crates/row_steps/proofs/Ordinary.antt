@@ -18,7 +18,8 @@ pub record IsOrdinary (op : Op) : Type 0 where
   pub not_first : is_op op ops.Call ≡ false
   pub not_second : is_op op ops.Syscall ≡ false
 
-none_is : (op : Op) → is_ordinary_op op && (is_op op ops.End || (is_start_op op || (is_call_op op || (is_op op ops.Call || is_op op ops.Syscall)))) ≡ false
+none_is : (op : Op) → is_ordinary_op op && (is_op op ops.End
+    || (is_start_op op || (is_call_op op || (is_op op ops.Call || is_op op ops.Syscall)))) ≡ false
 none_is ops.Noop = refl
 none_is op = refl
 
@@ -65,7 +66,8 @@ digest_stays op x o = ap (λ t. not (t || ends_call op x)) o.not_first ∙ ap no
 
 pub frame_stays : (op : Op) (x : List ℕ) → IsOrdinary op → is_op op ops.FmpUpdate ≡ false → keeps_frame op x ≡ true
 frame_stays op x o other =
-    ap (λ t. not (t || ends_call op x || is_op op ops.FmpUpdate)) o.not_call ∙ ap (λ t. not (t || is_op op ops.FmpUpdate)) (no_return op x o) ∙ ap not other
+    ap (λ t. not (t || ends_call op x || is_op op ops.FmpUpdate)) o.not_call
+    ∙ ap (λ t. not (t || is_op op ops.FmpUpdate)) (no_return op x o) ∙ ap not other
 
 pub block_stays : (op : Op) → IsOrdinary op → keeps_block op ≡ true
 block_stays op o = ap (λ t. not (t || is_op op ops.End)) o.not_start ∙ ap not o.not_end

@@ -1,6 +1,7 @@
 -- What the rows of a table do not show, from one row to the next.
 use Rattle.std.proofs.Common.{◌≡◌, ◌≢◌, ℕ, zero, suc, ◌+◌, ◌<◌, Bool, true, false, ◌&&◌, ◌||◌, cond, eqb, List, [], ◌∷◌, ◌++◌, drop, length, slice_index, refl, ap, sym, subst, ◌∙◌, ⊎_elim, arith}
 use Rattle.std.proofs.lemmas.Bool.Decides.{nat_tests}
+use Rattle.std.proofs.lemmas.List.{nil_from_length}
 use Rattle.vm_ops.specs.Moves.{shift_of}
 use Rattle.vm_ops.specs.declared.op.Op.{Op}
 use Rattle.vm_ops.specs.declared.op.Shift.{Shift}
@@ -28,10 +29,6 @@ below_by right left flat call returns x o =
     cond right (record o { below = s x 15 ∷ o.below })
     (cond left (cond flat o (record o { below = drop 1 o.below }))
     (cond call (record { below = []; aside = o.below ∷ o.aside }) (cond returns (brought_back o.aside) o)))
-
-none_in : (xs : List ℕ) → length xs ≡ 0 → xs ≡ []
-none_in [] e = refl
-none_in (x ∷ xs) e = absurd (omega (arith, e))
 
 is_same : (i n : ℕ) → i ≡ n → eqb i n ≡ true
 is_same i n e = grind (arith, nat_tests)
@@ -64,13 +61,14 @@ overflow_goes x y o k deep finds flat_is = go (shift_of (op_of x)) refl
         → (overflow_behind x o).below ≡ (below_by (is_shift Right shift) (is_shift Left shift) (eqb (depth x) 16) false false x o).below
     by shift e =
         ap (λ (u : Overflow). u.below)
-        (tests_same (is_right (op_of x)) (row_shifts_left x) (is_call_op (op_of x)) (row_returns x) (is_shift Right shift) (is_shift Left shift) false false x o
+        (tests_same (is_right (op_of x)) (row_shifts_left x) (is_call_op (op_of x)) (row_returns x) (is_shift Right shift)
+        (is_shift Left shift) false false x o
         (ap (is_shift Right) e) (lefts ∙ ap (is_shift Left) e) k.not_call returns)
 
     flat : depth x ≡ 16 → (overflow_behind x o).below ≡ (below_by false true (eqb (depth x) 16) false false x o).below
         → (overflow_behind x o).below ≡ drop 1 o.below
     flat at e =
-        let none : o.below ≡ [] = none_in o.below (omega (arith, deep, at)) in
+        let none : o.below ≡ [] = nil_from_length o.below (omega (arith, deep, at)) in
         e ∙ ap (λ u. (below_by false true u false false x o).below) (is_same (depth x) 16 at) ∙ none ∙ ap (drop 1) (sym none)
 
     more : depth x ≢ 16 → (overflow_behind x o).below ≡ (below_by false true (eqb (depth x) 16) false false x o).below
@@ -84,7 +82,7 @@ overflow_goes x y o k deep finds flat_is = go (shift_of (op_of x)) refl
         let left : is_left (op_of x) ≡ true = ap (is_shift Left) e in
         ⊎_elim
         (λ at.
-        let none : o.below ≡ [] = none_in o.below (omega (arith, deep, at)) in
+        let none : o.below ≡ [] = nil_from_length o.below (omega (arith, deep, at)) in
         (flat at (by Left e), flat_is left at ∙ ap (λ (u : List ℕ). slice_index u 0) (sym none)))
         (λ at. (more at (by Left e), finds left at)) (either_or (depth x) 16)
 
@@ -117,7 +115,8 @@ place_goes constants k rows i shows p =
       tape = tape_goes rows i p.within;
     }
 
-pub place_shows : (constants : List ℕ) (k : Claim) (rows : List (List ℕ)) (i : ℕ) → length constants ≡ 168 → ShowsRows k rows → IsPlace constants rows i
+pub place_shows : (constants : List ℕ) (k : Claim) (rows : List (List ℕ)) (i : ℕ) → length constants ≡ 168 → ShowsRows k rows
+    → IsPlace constants rows i
     → ShowsStep constants (op_in rows i) (row_at rows i) (row_at rows (suc i)) (elsewhere_at rows i) (elsewhere_at rows (suc i))
 place_shows constants k rows i count shows p =
     rows_show constants (op_in rows i) (op_in rows (suc i)) (row_at rows i) (row_at rows (suc i)) (elsewhere_at rows i) (elsewhere_at rows (suc i))

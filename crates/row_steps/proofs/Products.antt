@@ -55,7 +55,8 @@ pub record Divided (a b r q : ℕ) : Type 0 where
   pub remainder : r ≡ a % b
   pub quotient : q ≡ a / b
 
-pub divided_from : (a b r q l : ℕ) → a < prime → b < 2 ^ 32 → q < 2 ^ 32 → r < 2 ^ 32 → b ≡ r + 1 + l → a ≡ felt_add (felt_mul b q) r → Divided a b r q
+pub divided_from : (a b r q l : ℕ) → a < prime → b < 2 ^ 32 → q < 2 ^ 32 → r < 2 ^ 32 → b ≡ r + 1 + l
+    → a ≡ felt_add (felt_mul b q) r → Divided a b r q
 divided_from a b r q l la lb lq lr split e =
     let most = product_low b q lb lq in
     let less : r < b = omega (arith, split) in

@@ -2,7 +2,7 @@
 -- brings all others.
 use Rattle.std.proofs.Common.{◌≡◌, ◌≢◌, ◌⊎◌, inl, inr, ℕ, ◌+◌, ◌-◌, ◌<◌, ◌≤◌, Bool, true, false, ◌&&◌, eqb, List, [], ◌∷◌, ◌++◌, take, drop, length, slice_index, refl, ap, ap₂, sym, subst, ◌∙◌, ⊎_elim, arith, lit<}
 use Rattle.std.proofs.lemmas.Grind.{same_number_lists}
-use Rattle.std.proofs.lemmas.List.{length-take-le, get_or-take, take-append-drop}
+use Rattle.std.proofs.lemmas.List.{length-take-le, get_or-take, take-append-drop, nil_from_length}
 use Rattle.std.proofs.lemmas.Bool.Decides.{nat_tests}
 use Rattle.vm_ops.proofs.FrameLemmas.{drop-stack_after, index-below, index-left}
 use Rattle.vm_ops.proofs.MoveLemmas.{ByOne, leaves_of-below, takes_of-below, shift_of-by_one}
@@ -30,10 +30,6 @@ Behind Right top fresh before after = after ≡ top ∷ before
 Behind Stay top fresh before after = after ≡ before
 Behind Left top fresh before after = (after ≡ drop 1 before) × (fresh ≡ slice_index before 0)
 
-none_in : (xs : List ℕ) → length xs ≡ 0 → xs ≡ []
-none_in [] e = refl
-none_in (x ∷ xs) e = absurd (omega (arith, e))
-
 front_of : (xs : List ℕ) → length xs ≢ 0 → xs ≡ slice_index xs 0 ∷ drop 1 xs
 front_of [] some = absurd (some refl)
 front_of (x ∷ xs) some = refl
@@ -44,7 +40,7 @@ behind_from op x y before after deep moves below = go (shift_of op) refl
   where
     flat : is_left op ≡ true → depth x ≡ 16 → (after ≡ drop 1 before) × (s y 15 ≡ slice_index before 0)
     flat left at =
-        let none : before ≡ [] = none_in before (omega (arith, deep, at)) in
+        let none : before ≡ [] = nil_from_length before (omega (arith, deep, at)) in
         (below.left_flat left at ∙ none ∙ ap (drop 1) (sym none), moves.last left at ∙ ap (λ (xs : List ℕ). slice_index xs 0) (sym none))
 
     deeper : is_left op ≡ true → depth x ≢ 16 → (after ≡ drop 1 before) × (s y 15 ≡ slice_index before 0)
@@ -76,7 +72,7 @@ below_from op x y before after deep behind = go (shift_of op) refl behind
     }
     go Left e h = record {
       right = λ is. off (sym (ap (is_shift Right) e) ∙ is);
-      left_flat = λ is at. let none : before ≡ [] = none_in before (omega (arith, deep, at)) in h.0 ∙ ap (drop 1) none ∙ sym none;
+      left_flat = λ is at. let none : before ≡ [] = nil_from_length before (omega (arith, deep, at)) in h.0 ∙ ap (drop 1) none ∙ sym none;
       left_deep = λ is at.
           let some : length before ≢ 0 = λ z. at (omega (arith, deep, z)) in
           front_of before some ∙ ap₂ (λ (c : ℕ) (cs : List ℕ). c ∷ cs) (sym h.1) (sym h.0);
@@ -142,7 +138,8 @@ joined got y after deep same rest =
     (λ k few. let less : k < 16 = omega (arith, few, count) in get_or-take 16 got k 0 less ∙ same k less ∙ sym (cells_index y k less)) in
     sym (take-append-drop 16 got) ∙ ap₂ (λ (u v : List ℕ). u ++ v) tops rest
 
-behind_list : (shift : Shift) (top one two : ℕ) (before got after : List ℕ) → Behind shift top one before got → Behind shift top two before after → got ≡ after
+behind_list : (shift : Shift) (top one two : ℕ) (before got after : List ℕ) → Behind shift top one before got
+    → Behind shift top two before after → got ≡ after
 behind_list Right top one two before got after g h = g ∙ sym h
 behind_list Stay top one two before got after g h = g ∙ sym h
 behind_list Left top one two before got after g h = g.0 ∙ sym h.0
@@ -217,4 +214,4 @@ shifts_from op sn x y before after deep m = record { brings = m.brings; last = �
     go Right e h left flat = off (sym (ap (is_shift Left) e) ∙ left)
     go Stay e h left flat = off (sym (ap (is_shift Left) e) ∙ left)
     go Left e h left flat =
-        let none : before ≡ [] = none_in before (omega (arith, deep, flat)) in h.1 ∙ ap (λ (xs : List ℕ). slice_index xs 0) none
+        let none : before ≡ [] = nil_from_length before (omega (arith, deep, flat)) in h.1 ∙ ap (λ (xs : List ℕ). slice_index xs 0) none

@@ -47,6 +47,7 @@ leaves_filled op x y low low_second tops not_zero not_same r = record {
   cells = λ fixed. tops (fixed_is_shown op fixed);
   not_zero = λ is some. inverse_shows (s x 0) (w x 0) low some (not_zero is);
   not_same = λ is apart.
-      inverse_shows (felt_sub (s x 0) (s x 1)) (w x 0) (difference_low (s x 0) (s x 1)) (difference_some (s x 0) (s x 1) low low_second apart) (not_same is);
+      inverse_shows (felt_sub (s x 0) (s x 1)) (w x 0) (difference_low (s x 0) (s x 1))
+      (difference_some (s x 0) (s x 1) low low_second apart) (not_same is);
   inverted = r.invertible;
 }

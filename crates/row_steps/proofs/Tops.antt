@@ -29,7 +29,8 @@ leaves_list op sn y h leaves =
     let most : leaves_of op ≤ 16 = leaves_of-below op in
     let size : length (cells y) ≡ 16 = length_cells y in
     let count : length (left_cells op sn) ≡ leaves_of op = length-left_cells op sn h in
-    same_number_lists (left_cells op sn) (take (leaves_of op) (cells y)) (count ∙ sym (length-take-le (leaves_of op) (cells y) (omega (arith, most, size))))
+    same_number_lists (left_cells op sn) (take (leaves_of op) (cells y))
+    (count ∙ sym (length-take-le (leaves_of op) (cells y) (omega (arith, most, size))))
     (λ k few.
     let less : k < leaves_of op = omega (arith, few, count) in
     sym (leaves k less) ∙ sym (cells_index y k (omega (arith, less, most))) ∙ sym (get_or-take (leaves_of op) (cells y) k 0 less))
@@ -37,7 +38,8 @@ leaves_list op sn y h leaves =
 pub list_leaves : (op : Op) (sn : Seen) (y : List ℕ) → left_cells op sn ≡ take (leaves_of op) (cells y) → Leaves op sn y
 list_leaves op sn y e = λ j less.
     let most : leaves_of op ≤ 16 = leaves_of-below op in
-    sym (cells_index y j (omega (arith, less, most))) ∙ sym (get_or-take (leaves_of op) (cells y) j 0 less) ∙ ap (λ (u : List ℕ). slice_index u j) (sym e)
+    sym (cells_index y j (omega (arith, less, most))) ∙ sym (get_or-take (leaves_of op) (cells y) j 0 less)
+    ∙ ap (λ (u : List ℕ). slice_index u j) (sym e)
 
 -- ---- what the row shows
 
@@ -46,7 +48,8 @@ unfolding left_cells
 left_same op a b quiet same =
     ap₂ (λ (u v : List ℕ). u ++ v) (computed-shown op a b quiet same) (ap (λ (c : List ℕ). map (slice_index c) (sources_of op)) same.cells)
 
-pub value_is : (constants : List ℕ) (item : Item) (op : Op) (x : List ℕ) (e : Elsewhere) → depth x ≡ 16 + length e.below → reads_elsewhere op ≡ false → (j : ℕ)
+pub value_is : (constants : List ℕ) (item : Item) (op : Op) (x : List ℕ) (e : Elsewhere) → depth x ≡ 16 + length e.below
+    → reads_elsewhere op ≡ false → (j : ℕ)
     → left_value op j x ≡ slice_index (left_cells op (seen_by constants item x e)) j
 unfolding left_value
 value_is constants item op x e deep quiet j =

@@ -153,7 +153,8 @@ divides_filled op x y m is = off is
 one_way_filled : (op : Op) (x y : List ℕ) → Made op x y → has_high_word op ≡ true → s y 1 ≢ 0 → felt_mul (felt_sub (2 ^ 32 - 1) (s y 0)) (w x 0) ≡ 1
 one_way_filled ops.U32Split x y m is = one_way (s x 0) (s y 1) (s y 0) (w x 0) m.low (split_is x y m) (m.not_highest refl)
 one_way_filled ops.U32Mul x y m is = one_way (s x 1 * s x 0) (s y 1) (s y 0) (w x 0) (mul_below x y m) (mul_is x y m) (m.not_highest refl)
-one_way_filled ops.U32MAdd x y m is = one_way (s x 1 * s x 0 + s x 2) (s y 1) (s y 0) (w x 0) (mul_add_below x y m) (mul_add_is x y m) (m.not_highest refl)
+one_way_filled ops.U32MAdd x y m is =
+    one_way (s x 1 * s x 0 + s x 2) (s y 1) (s y 0) (w x 0) (mul_add_below x y m) (mul_add_is x y m) (m.not_highest refl)
 one_way_filled ops.Noop x y m is = off is
 one_way_filled op x y m is = off is
 

@@ -49,7 +49,8 @@ add_words x y has m r =
     let lh = below_by (s y 0) (t x 6) (2 ^ 16) k.high (has 6 (lit< tt)) in
     words_of (s x 1 + s x 0) (s y 1) (s y 0) ll (sum_is (s x 0) (s x 1) (s y 1) (s y 0) (r.first refl) (r.second refl) ll lh k.whole)
 
-add_three_words : (x y : List ℕ) → HasLimbs ops.U32Add3 x → MovesLimbs ops.U32Add3 x y → Runs ops.U32Add3 x → Words (s x 2 + s x 1 + s x 0) (s y 1) (s y 0)
+add_three_words : (x y : List ℕ) → HasLimbs ops.U32Add3 x → MovesLimbs ops.U32Add3 x y → Runs ops.U32Add3 x
+    → Words (s x 2 + s x 1 + s x 0) (s y 1) (s y 0)
 unfolding two_left
 add_three_words x y has m r =
     let k = m.adds_three refl in
@@ -67,7 +68,8 @@ mul_words x y has m r =
     words_of (s x 1 * s x 0) (s y 1) (s y 0) ll
     (product_is (s x 0) (s x 1) (s y 1) (s y 0) (r.first refl) (r.second refl) (whole_below (s y 1) (s y 0) (w x 0) ll lh (m.one_way refl)) k.whole)
 
-mul_add_words : (x y : List ℕ) → HasLimbs ops.U32MAdd x → MovesLimbs ops.U32MAdd x y → Runs ops.U32MAdd x → Words (s x 1 * s x 0 + s x 2) (s y 1) (s y 0)
+mul_add_words : (x y : List ℕ) → HasLimbs ops.U32MAdd x → MovesLimbs ops.U32MAdd x y → Runs ops.U32MAdd x
+    → Words (s x 1 * s x 0 + s x 2) (s y 1) (s y 0)
 unfolding two_left
 mul_add_words x y has m r =
     let k = m.multiplies_and_adds refl in

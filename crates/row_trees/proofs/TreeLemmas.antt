@@ -54,14 +54,16 @@ module _ (constants : List ℕ) (hasher rows : List (List ℕ)) (root : List ℕ
       ap₂ (λ d block. record { domain = d; blocks = block ∷ [] }) (ap domain_of here.is ∙ domain)
       (sym (ap₂ (λ one other. one ++ other) is_first is_second))
 
-  pub two_hashed : (j e : ℕ) (op : Op) (first second : List ℕ) → is_op op ops.Span ≡ false → domain_of op ≡ code_of op → IsAt rows j op → Closes rows j e
+  pub two_hashed : (j e : ℕ) (op : Op) (first second : List ℕ) → is_op op ops.Span ≡ false → domain_of op ≡ code_of op
+      → IsAt rows j op → Closes rows j e
       → first ≡ front (row_at rows j) → second ≡ back (row_at rows j) → IsHashedAs j e (input_of_two op first second)
   two_hashed j e op first second differs domain here closes is_first is_second =
       let hashed = facts.spans.block j e closes (no_span op j differs here) in
       let input = input_two j op first second domain here is_first is_second in
       record { computation = hashed.computation ∙ ap Some input; digest = sym (hashed.digest ∙ ap (digest_of_input constants) input) }
 
-  pub one_hashed : (j e : ℕ) (op : Op) (child : List ℕ) → is_op op ops.Span ≡ false → domain_of op ≡ code_of op → is_op op ops.Loop || is_call_op op ≡ true
+  pub one_hashed : (j e : ℕ) (op : Op) (child : List ℕ) → is_op op ops.Span ≡ false → domain_of op ≡ code_of op
+      → is_op op ops.Loop || is_call_op op ≡ true
       → IsAt rows j op → Closes rows j e → child ≡ front (row_at rows j) → IsHashedAs j e (input_of_one op child)
   one_hashed j e op child differs domain single here closes is_child =
       two_hashed j e op child zero_word differs domain here closes is_child
@@ -89,9 +91,11 @@ module _ (constants : List ℕ) (hasher rows : List (List ℕ)) (root : List ℕ
         (two_hashed j (suc b) ops.Join (placed_digest constants x) (placed_digest constants y) refl refl here closes
         (built_digest one ∙ is_one) (built_digest other ∙ is_other)).digest
     built_digest (Built.split_one {j} {a} {x} here top closes child is) =
-        (two_hashed j (suc a) ops.Split (placed_digest constants x) (back (row_at rows j)) refl refl here closes (built_digest child ∙ is) refl).digest
+        (two_hashed j (suc a) ops.Split (placed_digest constants x) (back (row_at rows j)) refl refl here closes
+        (built_digest child ∙ is) refl).digest
     built_digest (Built.split_zero {j} {a} {x} here top closes child is) =
-        (two_hashed j (suc a) ops.Split (front (row_at rows j)) (placed_digest constants x) refl refl here closes refl (built_digest child ∙ is)).digest
+        (two_hashed j (suc a) ops.Split (front (row_at rows j)) (placed_digest constants x) refl refl here closes refl
+        (built_digest child ∙ is)).digest
     built_digest (Built.loop_skipped {j} here top closes) =
         (one_hashed j (suc j) ops.Loop (front (row_at rows j)) refl refl refl here closes refl).digest
     built_digest (Built.loop_entered {j} {e} {x} here top closes good turns) =

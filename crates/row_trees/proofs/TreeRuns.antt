@@ -91,7 +91,8 @@ module _ (constants : List ℕ) (kernel : List (List ℕ)) (limit : ℕ) (hasher
 
   ended : (j e : ℕ) (x : Placed) (mark : List ℕ → Mark) → has_tree j e x → Shows rows st e (mark (front (row_at rows e)))
       → Goes st (cycle constants kernel limit (mark (placed_digest constants x)) (st e)) (suc e)
-  ended j e x mark tree shows = marked e mark (front (row_at rows e)) (placed_digest constants x) (built_digest constants hasher rows root facts tree) shows
+  ended j e x mark tree shows =
+      marked e mark (front (row_at rows e)) (placed_digest constants x) (built_digest constants hasher rows root facts tree) shows
 
   -- ---- turns that are left
 

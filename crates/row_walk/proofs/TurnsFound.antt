@@ -82,8 +82,10 @@ module _ (p : Public) (t : Trace) (readable : IsReadable p t) where
     pub bits_behind : HasBits (row_at t.main (turn.end + 1))
     bits_behind = bits_at p t readable (turn.end + 1) read_behind
 
-    next_op : (op : Op) (answer : Bool) → op ≡ op_in t.main (turn.end + 1) → answer ≡ is_op op ops.End → is_op (op_in t.main (suc turn.end)) ops.End ≡ answer
-    next_op op answer same is = ap (λ (m : ℕ). is_op (op_in t.main m) ops.End) (sym (add-one turn.end)) ∙ ap (λ o. is_op o ops.End) (sym same) ∙ sym is
+    next_op : (op : Op) (answer : Bool) → op ≡ op_in t.main (turn.end + 1) → answer ≡ is_op op ops.End
+        → is_op (op_in t.main (suc turn.end)) ops.End ≡ answer
+    next_op op answer same is =
+        ap (λ (m : ℕ). is_op (op_in t.main m) ops.End) (sym (add-one turn.end)) ∙ ap (λ o. is_op o ops.End) (sym same) ∙ sym is
 
     closes_by : is_op (op_in t.main (suc turn.end)) ops.End ≡ true → Closes t.main i (suc turn.end) ⊎ TurnsAgain t.main i (suc turn.end)
         → Closes t.main i (suc turn.end)
@@ -104,7 +106,8 @@ module _ (p : Public) (t : Trace) (readable : IsReadable p t) where
     loop_small op answer same is yes_end = own_small p t readable i (suc turn.end) (loop_closes op answer same is yes_end)
 
     pub loop_found : (op : Op) (answer : Bool) → op ≡ op_in t.main (turn.end + 1) → answer ≡ is_op op ops.End → answer ≡ true
-        → s (row_at t.main i) 0 ≡ 1 → (m : AddrTree) → Merged (constants_of p.params) (computation_at t.hasher) body (placed_of turn.tree) (placed_of m)
+        → s (row_at t.main i) 0 ≡ 1 → (m : AddrTree)
+        → Merged (constants_of p.params) (computation_at t.hasher) body (placed_of turn.tree) (placed_of m)
         → (found : Found) (at : ℕ) (x : AddrTree) → found.end ≡ turn.end + 1 → placed_of found.tree ≡ placed.Loop at (placed_of x)
         → at ≡ own t.main i → x ≡ m → IsFound p t i found
     loop_found op answer same is yes_end top m merged found at x end_is tree_is at_is x_is =

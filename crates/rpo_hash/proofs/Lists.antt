@@ -22,8 +22,12 @@ take-set_next xs i x below = ap (λ n. take n (set xs i x)) (add-one i) ∙ take
 -- ---- lists of numbers
 
 -- twelve elements, each known by its place
-pub twelve_elements : (xs : List ℕ) (a b c d e f g h i j k l : ℕ) → length xs ≡ 12 → a ≡ get_or xs 0 a → b ≡ get_or xs 1 b → c ≡ get_or xs 2 c → d ≡ get_or xs 3 d → e ≡ get_or xs 4 e → f ≡ get_or xs 5 f → g ≡ get_or xs 6 g → h ≡ get_or xs 7 h → i ≡ get_or xs 8 i → j ≡ get_or xs 9 j → k ≡ get_or xs 10 k → l ≡ get_or xs 11 l → xs ≡ a ∷ b ∷ c ∷ d ∷ e ∷ f ∷ g ∷ h ∷ i ∷ j ∷ k ∷ l ∷ []
-twelve_elements (x0 ∷ x1 ∷ x2 ∷ x3 ∷ x4 ∷ x5 ∷ x6 ∷ x7 ∷ x8 ∷ x9 ∷ x10 ∷ x11 ∷ []) a b c d e f g h i j k l len e0 e1 e2 e3 e4 e5 e6 e7 e8 e9 e10 e11 = cc
+pub twelve_elements : (xs : List ℕ) (a b c d e f g h i j k l : ℕ) → length xs ≡ 12 → a ≡ get_or xs 0 a → b ≡ get_or xs 1 b
+    → c ≡ get_or xs 2 c → d ≡ get_or xs 3 d → e ≡ get_or xs 4 e → f ≡ get_or xs 5 f → g ≡ get_or xs 6 g → h ≡ get_or xs 7 h
+    → i ≡ get_or xs 8 i → j ≡ get_or xs 9 j → k ≡ get_or xs 10 k → l ≡ get_or xs 11 l
+    → xs ≡ a ∷ b ∷ c ∷ d ∷ e ∷ f ∷ g ∷ h ∷ i ∷ j ∷ k ∷ l ∷ []
+twelve_elements (x0 ∷ x1 ∷ x2 ∷ x3 ∷ x4 ∷ x5 ∷ x6 ∷ x7 ∷ x8 ∷ x9 ∷ x10 ∷ x11 ∷ []) a b c d e f g h i j k l len e0 e1 e2 e3 e4 e5 e6
+    e7 e8 e9 e10 e11 = cc
 twelve_elements _ a b c d e f g h i j k l len e0 e1 e2 e3 e4 e5 e6 e7 e8 e9 e10 e11 = absurd (omega arith)
 
 -- a list of sums is known by its places

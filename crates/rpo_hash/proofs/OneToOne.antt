@@ -61,7 +61,8 @@ same_from_half : (c x y : List ℕ) → length c ≡ 12 → IsState x → IsStat
 unfolding half
 same_from_half c x y lc sx sy e =
     same_from_mixed x y sx.size sy.size sx.below sy.below
-    (same_from_added (mixed x) (mixed y) c (length-mixed y ∙ sym (length-mixed x)) (lc ∙ sym (length-mixed x)) (elements-mixed x) (elements-mixed y) e)
+    (same_from_added (mixed x) (mixed y) c (length-mixed y ∙ sym (length-mixed x)) (lc ∙ sym (length-mixed x)) (elements-mixed x)
+    (elements-mixed y) e)
 
 powers-IsState : (x : List ℕ) → IsState x → IsState (seventh_powers x)
 powers-IsState x s = record {

@@ -39,7 +39,8 @@ read_more k line middle bytes rest behind end first second firsts seconds read b
     count : 24 * (k + 1) ≡ 24 * k + 12 + 12
     count = omega arith
 
-    constants : (interleaved (take k firsts) (take k seconds) ++ first) ++ second ≡ interleaved (take (k + 1) (set firsts k first)) (take (k + 1) (set seconds k second))
+    constants : (interleaved (take k firsts) (take k seconds) ++ first) ++ second
+        ≡ interleaved (take (k + 1) (set firsts k first)) (take (k + 1) (set seconds k second))
     constants =
         append_assoc (interleaved (take k firsts) (take k seconds)) first second
         ∙ sym (interleaved-push (take k firsts) (take k seconds) first second
@@ -55,7 +56,8 @@ pub refused_first : (k line : ℕ) (bytes rest : List ℕ) (firsts seconds : Lis
     → ReadRounds k bytes firsts seconds rest → k < 7 → line ≡ 24 * k + 1 → element_lines 12 line rest ≡ Err error
     → parameters_of bytes ≡ Err error
 refused_first k line bytes rest firsts seconds error read below line_is stop =
-    refused bytes error (lines_stop (24 * k) 12 1 line 168 bytes (interleaved (take k firsts) (take k seconds)) rest error read (omega arith) stop (omega arith))
+    refused bytes error (lines_stop (24 * k) 12 1 line 168 bytes (interleaved (take k firsts) (take k seconds)) rest error read
+    (omega arith) stop (omega arith))
 
 -- or its second
 pub refused_second : (k line middle : ℕ) (bytes rest behind first : List ℕ) (firsts seconds : List (List ℕ)) (error : ParamError)
@@ -79,10 +81,12 @@ read_all k line bytes rest firsts seconds r read is lf ls line_is last =
     whole_read : element_lines 168 1 bytes ≡ Ok (interleaved firsts seconds, rest)
     whole_read =
         ap (λ n. element_lines n 1 bytes) (ap (λ n. 24 * n) (sym is)) ∙ read
-        ∙ ap₂ (λ (fs ss : List (List ℕ)). Ok (interleaved fs ss, rest)) (ap (λ n. take n firsts) is ∙ whole 7 firsts lf) (ap (λ n. take n seconds) is ∙ whole 7 seconds ls)
+        ∙ ap₂ (λ (fs ss : List (List ℕ)). Ok (interleaved fs ss, rest)) (ap (λ n. take n firsts) is ∙ whole 7 firsts lf)
+        (ap (λ n. take n seconds) is ∙ whole 7 seconds ls)
 
 pub length-read_all : (k : ℕ) (bytes rest : List ℕ) (firsts seconds : List (List ℕ)) → ReadRounds k bytes firsts seconds rest → k ≡ 7
     → length firsts ≡ 7 → length seconds ≡ 7 → length (interleaved firsts seconds) ≡ 168
 length-read_all k bytes rest firsts seconds read is lf ls =
-    ap₂ (λ (fs ss : List (List ℕ)). length (interleaved fs ss)) (sym (ap (λ n. take n firsts) is ∙ whole 7 firsts lf)) (sym (ap (λ n. take n seconds) is ∙ whole 7 seconds ls))
+    ap₂ (λ (fs ss : List (List ℕ)). length (interleaved fs ss)) (sym (ap (λ n. take n firsts) is ∙ whole 7 firsts lf))
+    (sym (ap (λ n. take n seconds) is ∙ whole 7 seconds ls))
     ∙ element_lines-length (24 * k) 1 bytes (interleaved (take k firsts) (take k seconds)) rest read ∙ ap (λ n. 24 * n) is

@@ -29,7 +29,8 @@ line-parts [] text rest e = cc
 line-parts (b ∷ bs) text rest e = go (b == 10) refl (one_line bs) (line-parts bs) e
   where
     go : (t : Bool) → (b == 10) ≡ t → (l : Option (List ℕ × List ℕ)) → ((first later : List ℕ) → l ≡ Some (first, later) → bs ≡ first ++ (10 ∷ later))
-        → cond {A = Option (List ℕ × List ℕ)} t (Some ([], bs)) (option_map (λ l. (b ∷ l.0, l.1)) l) ≡ Some (text, rest) → b ∷ bs ≡ text ++ (10 ∷ rest)
+        → cond {A = Option (List ℕ × List ℕ)} t (Some ([], bs)) (option_map (λ l. (b ∷ l.0, l.1)) l) ≡ Some (text, rest)
+        → b ∷ bs ≡ text ++ (10 ∷ rest)
     go true is l later e =
         ap (λ x. x ∷ bs) (eqb-true b 10 is) ∙ ap (λ (p : List ℕ × List ℕ). p.0 ++ (10 ∷ p.1)) (same_some ([], bs) (text, rest) e)
     go false is None later e = cc
@@ -55,7 +56,8 @@ digits-line (c ∷ cs) rest h =
 decimal-line : (e : ℕ) (rest : List ℕ) → e < prime → one_line (decimal e ++ (10 ∷ rest)) ≡ Some (decimal e, rest)
 decimal-line e rest below =
     digits-line (decimal e) rest
-    (digits_decimal {P = λ ds. all_ascii_digits ds ≡ true} (numerals_by_value (λ ds. all_ascii_digits ds ≡ true) tells_all_ascii_digits) e (omega arith))
+    (digits_decimal {P = λ ds. all_ascii_digits ds ≡ true}
+    (numerals_by_value (λ ds. all_ascii_digits ds ≡ true) tells_all_ascii_digits) e (omega arith))
 
 -- ---- one element
 

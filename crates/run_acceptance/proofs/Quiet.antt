@@ -3,14 +3,11 @@ use Rattle.std.proofs.Common.{◌≡◌, ℕ, zero, suc, ◌+◌, List, [], leng
 use Rattle.std.specs.List.{slice_get}
 use Rattle.buses.specs.Counts.{counted, over_first, over_rows, total, with_next}
 use Rattle.buses.specs.declared.bus.Bus.{Bus}
+use Rattle.buses.proofs.Counting.{counted-none}
 use Rattle.air_kit.specs.Acceptance.{over_chips}
 use Rattle.air_kit.specs.ChipTuples.{chip_given}
 use Rattle.air_kit.specs.declared.trace.Trace.{Trace}
 use Rattle.row_facts.specs.MainRows.{row_at}
-
-pub none_counts : (v : List ℕ) → counted [] v ≡ 0
-unfolding counted
-none_counts v = refl
 
 total_none : (n : ℕ) (f : ℕ → ℕ) → ((i : ℕ) → f i ≡ 0) → total n f ≡ 0
 unfolding total
@@ -20,11 +17,11 @@ total_none (suc n) f none = let before = total_none n f none in let here = none 
 -- rows without tuples
 pub rows_quiet : (rows : List (List ℕ)) (v : List ℕ) → over_rows (λ i x next. []) rows v ≡ 0
 unfolding over_first
-rows_quiet rows v = total_none (length rows) (λ i. counted [] v) (λ i. none_counts v)
+rows_quiet rows v = total_none (length rows) (λ i. counted [] v) (λ i. counted-none v)
 
 pair_quiet : (i : ℕ) (x : List ℕ) (next : Option (List ℕ)) (v : List ℕ) → counted (with_next (λ x y. []) i x next) v ≡ 0
-pair_quiet i x None v = none_counts v
-pair_quiet i x (Some y) v = none_counts v
+pair_quiet i x None v = counted-none v
+pair_quiet i x (Some y) v = counted-none v
 
 pub pairs_quiet : (rows : List (List ℕ)) (v : List ℕ) → over_rows (with_next (λ x y. [])) rows v ≡ 0
 unfolding over_first

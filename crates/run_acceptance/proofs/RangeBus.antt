@@ -2,13 +2,14 @@
 use Rattle.std.proofs.Common.{◌≡◌, ℕ, ◌+◌, List, [], ◌∷◌, map, arith}
 use Rattle.buses.specs.Counts.{counted, once, over_rows, with_next}
 use Rattle.buses.specs.declared.bus.Bus.TheVariants as bus
+use Rattle.buses.proofs.Counting.{counted-none}
 use Rattle.air_kit.specs.Acceptance.{asked_on, given_on}
 use Rattle.air_kit.specs.ChipTuples.{chip_given, memory_ranges}
 use Rattle.air_kit.specs.MainTuples.{range_asked}
 use Rattle.air_kit.specs.Places.{Claim}
 use Rattle.air_kit.specs.declared.trace.TableName.TheVariants as table
 use Rattle.air_kit.specs.declared.trace.Trace.{Trace}
-use Rattle.run_acceptance.proofs.Quiet.{none_counts, pairs_quiet, rows_quiet}
+use Rattle.run_acceptance.proofs.Quiet.{pairs_quiet, rows_quiet}
 
 fourth_alone : (a b c d e f : ℕ) → a ≡ 0 → b ≡ 0 → c ≡ 0 → e ≡ 0 → f ≡ 0 → a + b + c + d + e + f ≡ d
 fourth_alone a b c d e f za zb zc ze zf = omega (arith, za, zb, zc, ze, zf)
@@ -28,9 +29,10 @@ pub range_alike : (k : Claim) (digest ranges : List ℕ) (t : Trace) (v : List �
 unfolding asked_on given_on
 range_alike k digest ranges t v asks gives =
     ranged _ _ _ _ _ _ _ _ asks
-    (fourth_alone _ _ _ (over_rows (λ i x next. memory_ranges x) t.memory v) _ _ (rows_quiet t.range v) (rows_quiet t.hasher v) (rows_quiet t.bitwise v)
+    (fourth_alone _ _ _ (over_rows (λ i x next. memory_ranges x) t.memory v) _ _ (rows_quiet t.range v) (rows_quiet t.hasher v)
+    (rows_quiet t.bitwise v)
     (rows_quiet t.kernel v) (rows_quiet t.left v))
-    (none_counts v) (pairs_quiet t.main v)
+    (counted-none v) (pairs_quiet t.main v)
     (first_alone (over_rows (chip_given bus.Range table.Range) t.range v) _ _ _ _ _ (rows_quiet t.hasher v) (rows_quiet t.bitwise v)
     (rows_quiet t.memory v) (rows_quiet t.kernel v) (rows_quiet t.left v))
     gives

@@ -15,7 +15,8 @@ use Rattle.run_buses.proofs.PairShown.{pair_of}
 
 pub blocks_even : (constants : List ℕ) (kernel : List (List ℕ)) (limit : ℕ) (tree : Tree) (inputs tape : List ℕ) (u : State) (log : List run.Event)
     → IsRun constants kernel limit tree inputs tape u log → (tuple : List ℕ)
-    → over_rows (with_next blocks_given) (filled constants kernel u log) tuple ≡ over_rows (with_next blocks_asked) (filled constants kernel u log) tuple
+    → over_rows (with_next blocks_given) (filled constants kernel u log) tuple
+    ≡ over_rows (with_next blocks_asked) (filled constants kernel u log) tuple
 unfolding owed_blocks
 blocks_even constants kernel limit tree inputs tape u log r tuple =
     let even = balanced constants kernel limit (λ x y. counted (blocks_given x y) tuple) (λ x y. counted (blocks_asked x y) tuple)

@@ -2,17 +2,18 @@
 use Rattle.std.proofs.Common.{◌≡◌, ℕ, ◌+◌, ◌<◌, ◌==◌, true, false, cond, List, [], ◌∷◌, length, slice_index, refl, ap, ◌∙◌, lit<}
 use Rattle.vm_field.specs.Signs.{◌⊞◌}
 use Rattle.buses.specs.Counts.{counted, once}
+use Rattle.buses.proofs.Counting.{counted-none}
 use Rattle.vm_ops.specs.Codes.{is_start_op}
 use Rattle.vm_ops.specs.declared.op.Op.{Op}
 use Rattle.vm_ops.specs.declared.op.Op.TheVariants as ops
+use Rattle.vm_ops.specs.Values.{bit_of}
 use Rattle.vm_table.specs.MainColumns.{addr, ctx, depth, f, fmp, h, key, sys}
 use Rattle.block_tree.specs.Cycles.{Frame}
 use Rattle.air_kit.specs.Flags as flags
 use Rattle.air_kit.specs.MainTuples as tuples
 use Rattle.air_kit.specs.MainTuples.{blocks_asked, blocks_given, is_call_op, kind_of_end, kind_of_start, no_frame}
 use Rattle.run_rows.specs.Decoder.{key_of}
-use Rattle.run_rows.specs.Lines.{bit_number}
-use Rattle.run_buses.proofs.Hits.{hit, no_count, one_count}
+use Rattle.run_buses.proofs.Hits.{hit, one_count}
 
 -- the tuple of a block
 abbrev pub block_tuple : ℕ → ℕ → ℕ → List ℕ → List ℕ
@@ -25,10 +26,10 @@ same own own1 parent parent1 kind kind1 frame frame1 at around is saved = rw (at
 -- what an END brings back, with the keys of the cells that the call hides
 abbrev pub saved : Frame → List ℕ → List ℕ
 saved frame keys =
-    frame.context ∷ frame.fmp ∷ bit_number frame.in_syscall ∷ (length frame.hidden + 16) ∷ key_of keys
+    frame.context ∷ frame.fmp ∷ bit_of frame.in_syscall ∷ (length frame.hidden + 16) ∷ key_of keys
     ∷ slice_index frame.digest 0 ∷ slice_index frame.digest 1 ∷ slice_index frame.digest 2 ∷ slice_index frame.digest 3 ∷ []
 
-pub frame_is : (x : List ℕ) (frame : Frame) (keys : List ℕ) → ctx x ≡ frame.context → fmp x ≡ frame.fmp → sys x ≡ bit_number frame.in_syscall
+pub frame_is : (x : List ℕ) (frame : Frame) (keys : List ℕ) → ctx x ≡ frame.context → fmp x ≡ frame.fmp → sys x ≡ bit_of frame.in_syscall
     → depth x ≡ length frame.hidden + 16 → key x ≡ key_of keys → ((j : ℕ) → j < 4 → f x j ≡ slice_index frame.digest j)
     → tuples.frame_of x ≡ saved frame keys
 frame_is x frame keys context pointer syscall deep newest digest =
@@ -47,14 +48,15 @@ start_gives x y op own parent kind frame u is start at around kind_is frame_set 
     ap (λ o. counted (cond (is_start_op o) (once (starter o x y) ∷ []) []) u) is
     ∙ ap (λ b. counted (cond b (once (starter op x y) ∷ []) []) u) start
     ∙ ap (λ t. counted (once t ∷ []) u)
-    (same (addr y) own (addr x) parent (kind_of_start op x) kind (cond (is_call_op op) (tuples.frame_of x) no_frame) frame at around kind_is frame_set)
+    (same (addr y) own (addr x) parent (kind_of_start op x) kind (cond (is_call_op op) (tuples.frame_of x) no_frame) frame at around
+    kind_is frame_set)
     ∙ one_count (block_tuple own parent kind frame) u
 
 pub none_gives : (x y u : List ℕ) (op : Op) → flags.op_of x ≡ op → is_start_op op ≡ false → counted (blocks_given x y) u ≡ 0
 unfolding blocks_given
 none_gives x y u op is no_start =
     ap (λ o. counted (cond (is_start_op o) (once (starter o x y) ∷ []) []) u) is
-    ∙ ap (λ b. counted (cond b (once (starter op x y) ∷ []) []) u) no_start ∙ no_count u
+    ∙ ap (λ b. counted (cond b (once (starter op x y) ∷ []) []) u) no_start ∙ counted-none u
 
 -- ---- what is asked
 
@@ -83,7 +85,7 @@ pub none_asks : (x y u : List ℕ) (op : Op) → flags.op_of x ≡ op → flags.
 unfolding blocks_asked
 none_asks x y u op is apart =
     ap (λ o. counted (cond (flags.is_op o ops.End) (once (ender x y) ∷ []) []) u) is
-    ∙ ap (λ b. counted (cond b (once (ender x y) ∷ []) []) u) apart ∙ no_count u
+    ∙ ap (λ b. counted (cond b (once (ender x y) ∷ []) []) u) apart ∙ counted-none u
 
 -- the kind by the flags, and what is brought back
 pub loop_ended : (x y : List ℕ) → HasFlags x 1 0 0 0 → (kind_of_end x ≡ 1) × (brought_back x y ≡ no_frame)

@@ -135,7 +135,8 @@ module _ (constants : List ℕ) where
   children_pair kernel (respan read) advice b d events todo x y after p out comes u =
       let given = none_gives ops.Respan x y u p.op (plain_names x y).1 in
       let asked = none_asks x y u ops.Respan p.op refl in omega (arith, given, asked)
-  children_pair kernel (operation {c = c} {item = item} {items = items} {later = more} {digest = digest}) advice b d events todo x y after p out comes u =
+  children_pair kernel (operation {c = c} {item = item} {items = items} {later = more} {digest = digest}) advice b d events todo x y
+      after p out comes u =
       let given = none_gives item.op x y u p.op (ordinary_names item.op x y p.whole.ordinary) in
       let asked = none_asks x y u item.op p.op (no_block item.op p.whole.ordinary).end in
       let same : (advance d (shown_between (Do item) advice c b) events).blocks ≡ d.blocks

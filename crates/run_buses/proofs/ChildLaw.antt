@@ -20,7 +20,8 @@ use Rattle.run_buses.proofs.PairShown.{pair_of}
 
 pub children_even : (constants : List ℕ) (kernel : List (List ℕ)) (limit : ℕ) (tree : Tree) (inputs tape : List ℕ) (u : State) (log : List run.Event)
     → IsRun constants kernel limit tree inputs tape u log → (tuple : List ℕ)
-    → counted (statement_given bus.Children (tree_digest constants tree)) tuple + over_rows (with_next children_given) (filled constants kernel u log) tuple
+    → counted (statement_given bus.Children (tree_digest constants tree)) tuple
+    + over_rows (with_next children_given) (filled constants kernel u log) tuple
     ≡ over_rows (with_next children_asked) (filled constants kernel u log) tuple
 unfolding owed_children
 children_even constants kernel limit tree inputs tape u log r tuple =

@@ -1,13 +1,14 @@
 -- The tuples of children that a row gives and asks, by its operation.
 use Rattle.std.proofs.Common.{◌≡◌, ℕ, ◌+◌, true, false, cond, List, [], ◌∷◌, ◌++◌, refl, ap, ◌∙◌}
 use Rattle.buses.specs.Counts.{counted}
+use Rattle.buses.proofs.Counting.{counted-none}
 use Rattle.vm_ops.specs.Codes.{is_ordinary_op, is_start_op}
 use Rattle.vm_ops.specs.declared.op.Op.{Op}
 use Rattle.vm_ops.specs.declared.op.Op.TheVariants as ops
 use Rattle.vm_table.specs.MainColumns.{addr, s}
 use Rattle.air_kit.specs.Flags as flags
 use Rattle.air_kit.specs.MainTuples.{back, child, children_asked, children_given, children_of, front}
-use Rattle.run_buses.proofs.Hits.{hit, no_count, one_count, two_count}
+use Rattle.run_buses.proofs.Hits.{hit, one_count, two_count}
 
 -- the tuple of a child
 abbrev pub child_tuple : ℕ → List ℕ → ℕ → List ℕ
@@ -67,7 +68,7 @@ turn x y word n at digest = one_same (addr x) n (front x) word at digest
 -- no child
 pub none_gives : (op : Op) (x y u : List ℕ) → flags.op_of x ≡ op → children_of op x y ≡ [] → counted (children_given x y) u ≡ 0
 unfolding children_given
-none_gives op x y u is none = ap (λ o. counted (children_of o x y) u) is ∙ ap (λ cs. counted cs u) none ∙ no_count u
+none_gives op x y u is none = ap (λ o. counted (children_of o x y) u) is ∙ ap (λ cs. counted cs u) none ∙ counted-none u
 
 pub ordinary_names : (op : Op) (x y : List ℕ) → is_ordinary_op op ≡ true → children_of op x y ≡ []
 unfolding children_of
@@ -101,4 +102,4 @@ end_asks x y word n more u is at digest goes =
 
 pub none_asks : (x y u : List ℕ) (op : Op) → flags.op_of x ≡ op → flags.is_op op ops.End ≡ false → counted (children_asked x y) u ≡ 0
 unfolding children_asked
-none_asks x y u op is apart = rw (is, apart) (no_count u)
+none_asks x y u op is apart = rw (is, apart) (counted-none u)

@@ -2,6 +2,7 @@
 use Rattle.std.proofs.Common.{◌≡◌, ℕ, ◌≤◌, cond, List, take, sym, ap, ◌∙◌, arith}
 use Rattle.vm_field.specs.Machine.{Core, State}
 use Rattle.vm_ops.specs.Codes.{is_ordinary_op}
+use Rattle.vm_ops.specs.Values.{bit_of}
 use Rattle.buses.specs.Counts.{counted, over_rows, with_next}
 use Rattle.vm_table.specs.MainColumns.{sp}
 use Rattle.block_tree.specs.Cycles.{advice_taken, effect_of}
@@ -14,7 +15,6 @@ use Rattle.air_kit.specs.MainTuples.{groups_asked, groups_given}
 use Rattle.run_rows.specs.BlockRows.{IsRun, events_of, filled}
 use Rattle.run_rows.specs.Decoder.{Decoder, at_start, decoder_after}
 use Rattle.run_rows.specs.Filling.{line_of}
-use Rattle.run_rows.specs.Lines.{bit_number}
 use Rattle.run_rows.specs.Moments.{IsMoment, IsRowAt}
 use Rattle.run_rows.proofs.ChainLemmas.{balanced, over_rows_pairs}
 use Rattle.run_rows.proofs.ColumnLemmas.{col_sp}
@@ -29,9 +29,10 @@ use Rattle.run_buses.proofs.PairShown.{pair_of}
 inside : (constants : List ℕ) {todo : List Task} {d : Decoder} {c : Core} {y : List ℕ} → (at : IsRowAt constants todo d c y)
     → sp y ≡ cond (is_ordinary_op (flags.op_of y)) 1 0
 inside constants {d = d} at =
-    ap sp at.row ∙ col_sp (line_of d at.event at.next at.later) ∙ ap (λ o. bit_number (is_ordinary_op o)) (sym (place_op constants at))
+    ap sp at.row ∙ col_sp (line_of d at.event at.next at.later) ∙ ap (λ o. bit_of (is_ordinary_op o)) (sym (place_op constants at))
 
-shown_of : (constants : List ℕ) (kernel : List (List ℕ)) (limit : ℕ) (x y : List ℕ) → limit ≤ 524287 → IsMoment constants kernel limit x y → GroupPair x y
+shown_of : (constants : List ℕ) (kernel : List (List ℕ)) (limit : ℕ) (x y : List ℕ) → limit ≤ 524287
+    → IsMoment constants kernel limit x y → GroupPair x y
 shown_of constants kernel limit x y within m = record {
   reads = moment_reads constants kernel limit m;
   row = moment_row constants kernel limit within m;
@@ -41,7 +42,8 @@ shown_of constants kernel limit x y within m = record {
 
 pub groups_even : (constants : List ℕ) (kernel : List (List ℕ)) (limit : ℕ) (tree : Tree) (inputs tape : List ℕ) (u : State) (log : List run.Event)
     → IsRun constants kernel limit tree inputs tape u log → (tuple : List ℕ)
-    → over_rows (with_next groups_given) (filled constants kernel u log) tuple ≡ over_rows (with_next groups_asked) (filled constants kernel u log) tuple
+    → over_rows (with_next groups_given) (filled constants kernel u log) tuple
+    ≡ over_rows (with_next groups_asked) (filled constants kernel u log) tuple
 unfolding positions_given
 groups_even constants kernel limit tree inputs tape u log r tuple =
     let even = balanced constants kernel limit (λ x y. counted (groups_given x y) tuple) (λ x y. counted (groups_asked x y) tuple)
@@ -51,7 +53,9 @@ groups_even constants kernel limit tree inputs tape u log r tuple =
     (pair_of constants kernel limit m) (shown_of constants kernel limit x y r.within m) m.agrees (place_comes constants m.next) tuple)
     (is_linked constants kernel limit tree inputs tape u log r) in
     let last = agrees_last constants kernel limit (is_linked constants kernel limit tree inputs tape u log r) in
-    let end = nothing_owed (decoder_after at_start (events_of constants kernel log)).ha (decoder_after at_start (events_of constants kernel log)).unread
+    let end =
+    nothing_owed (decoder_after at_start (events_of constants kernel log)).ha
+    (decoder_after at_start (events_of constants kernel log)).unread
     tuple last.reads in
     let given = over_rows_pairs groups_given tuple (filled constants kernel u log) in
     let asked = over_rows_pairs groups_asked tuple (filled constants kernel u log) in

@@ -2,6 +2,7 @@
 use Rattle.std.proofs.Common.{◌≡◌, ℕ, suc, ◌+◌, ◌-◌, ◌<◌, ◌==◌, Bool, true, false, ◌&&◌, cond, List, [], ◌∷◌, length, drop, take, slice_index, refl, sym, ap, ◌∙◌, arith, length-drop, length-take}
 use Rattle.std.proofs.lemmas.List.{get_or-drop, get_or-take}
 use Rattle.buses.specs.Counts.{counted, once}
+use Rattle.buses.proofs.Counting.{counted-none}
 use Rattle.vm_ops.specs.Codes.{is_ordinary_op}
 use Rattle.vm_ops.specs.declared.op.Op.{Op}
 use Rattle.vm_ops.specs.declared.op.Op.TheVariants as ops
@@ -9,7 +10,7 @@ use Rattle.vm_table.specs.MainColumns.{gc, h, ha, s, sp}
 use Rattle.air_kit.specs.Flags as flags
 use Rattle.air_kit.specs.MainTuples.{groups_asked, groups_from, groups_given, is_batch_op, opens_group, positions}
 use Rattle.air_kit.specs.SpanValues.{rest_flag}
-use Rattle.run_buses.proofs.Hits.{hit, no_count, one_count}
+use Rattle.run_buses.proofs.Hits.{hit, one_count}
 
 -- the positions that are left of the batch of this address
 unfoldable pub positions_given : ℕ → List ℕ → List ℕ → ℕ
@@ -44,7 +45,7 @@ pub none_gives : (x y u : List ℕ) (op : Op) → flags.op_of x ≡ op → is_ba
 unfolding groups_given
 none_gives x y u op is apart =
     ap (λ o. counted (cond (is_batch_op o) (groups_from x y 1 (positions x - 1)) []) u) is
-    ∙ ap (λ b. counted (cond b (groups_from x y 1 (positions x - 1)) []) u) apart ∙ no_count u
+    ∙ ap (λ b. counted (cond b (groups_from x y 1 (positions x - 1)) []) u) apart ∙ counted-none u
 
 -- the positions of a batch behind the first
 pub places_shown : (batch x : List ℕ) (n : ℕ) → length batch ≡ 8 → ((j : ℕ) → j < 8 → h x j ≡ slice_index batch j)
@@ -62,7 +63,8 @@ immediate x y = ha x ∷ gc x ∷ s y 0 ∷ []
 abbrev group : List ℕ → List ℕ → List ℕ
 group x y = ha x ∷ gc x ∷ h y 0 ∷ []
 
-pub push_asks : (x y : List ℕ) (op : Op) (address left element : ℕ) (u : List ℕ) → flags.op_of x ≡ op → flags.is_op op ops.Push ≡ true → ha x ≡ address
+pub push_asks : (x y : List ℕ) (op : Op) (address left element : ℕ) (u : List ℕ) → flags.op_of x ≡ op
+    → flags.is_op op ops.Push ≡ true → ha x ≡ address
     → gc x ≡ left → s y 0 ≡ element → counted (groups_asked x y) u ≡ hit (address ∷ left ∷ element ∷ []) u
 unfolding groups_asked
 push_asks x y op address left element u is push at many element_is =
@@ -89,7 +91,7 @@ group_asks x y op address left element u is apart opens at many element_is =
 
 pub none_asks : (x y u : List ℕ) (op : Op) → flags.op_of x ≡ op → flags.is_op op ops.Push ≡ false → opens_group x y ≡ false
     → counted (groups_asked x y) u ≡ 0
-none_asks x y u op is apart opens = no_push x y op false u is apart opens ∙ no_count u
+none_asks x y u op is apart opens = no_push x y op false u is apart opens ∙ counted-none u
 
 -- whether a group is opened
 pub opens_where : (x y : List ℕ) (a b c : Bool) → is_ordinary_op (flags.op_of x) ≡ a → (rest_flag x == 0) ≡ b → (sp y == 1) ≡ c

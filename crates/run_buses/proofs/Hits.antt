@@ -1,14 +1,10 @@
 -- How often a tuple counts in a short list.
-use Rattle.std.proofs.Common.{◌≡◌, ℕ, ◌+◌, List, [], ◌∷◌, refl, arith}
+use Rattle.std.proofs.Common.{◌≡◌, ℕ, ◌+◌, List, [], ◌∷◌, arith}
 use Rattle.buses.specs.Counts.{counted, hits, once}
 
 -- 1 where u is this tuple, else 0
 unfoldable pub hit : List ℕ → List ℕ → ℕ
 hit t u = hits t 1 u
-
-pub no_count : (u : List ℕ) → counted [] u ≡ 0
-unfolding counted
-no_count u = refl
 
 pub one_count : (t u : List ℕ) → counted (once t ∷ []) u ≡ hit t u
 unfolding counted hit

@@ -16,7 +16,9 @@ use Rattle.run_rows.specs.Turns.{repeats, repeats_by}
 
 module _ (constants : List ℕ) (kernel : List (List ℕ)) (limit : ℕ) where
   abbrev Behind : {x y : List ℕ} → State → IsMoment constants kernel limit x y → List (List ℕ) → Type 0
-  Behind u m rows = AreLinked constants kernel limit u (m.rest ++ m.todo) (advance m.d (event_at constants kernel m.mark m.s) m.later) m.t m.later rows
+  Behind u m rows =
+      AreLinked constants kernel limit u (m.rest ++ m.todo) (advance m.d (event_at constants kernel m.mark m.s) m.later) m.t m.later
+      rows
 
   -- what is given over a run and owed at its start is what is asked and owed at its end
   pub balanced_behind : (given asked : List ℕ → List ℕ → ℕ) (owed : List Task → Decoder → State → List Event → ℕ) (u : State)

@@ -84,7 +84,9 @@ module _ (constants : List ℕ) where
         let same : (advance d (shown_between (Do item) advice c b) events).blocks ≡ d.blocks
         = ap (λ (z : Decoder). z.blocks) (ordinary_advance d (shown_between (Do item) advice c b) events p.whole.ordinary) in
         let kept = ap (λ blocks. owed_loops (Within items more digest ∷ todo) blocks (repeats events) u) same in
-        let turns = ap (λ k. owed_loops (Within items more digest ∷ todo) d.blocks (repeats_by k (repeats events)) u) (kind_is item.op p.whole.ordinary) in
+        let turns =
+        ap (λ k. owed_loops (Within items more digest ∷ todo) d.blocks (repeats_by k (repeats events)) u)
+        (kind_is item.op p.whole.ordinary) in
         omega (arith, given, asked, kept, turns)
     loops_pair span_ends advice b d events todo x y p often none u =
         let given = none_gives x y u ops.End p.op refl in

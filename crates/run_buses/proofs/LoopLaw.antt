@@ -31,7 +31,8 @@ shows_turns constants kernel limit x y m is =
 
 pub loops_even : (constants : List ℕ) (kernel : List (List ℕ)) (limit : ℕ) (tree : Tree) (inputs tape : List ℕ) (u : State) (log : List run.Event)
     → IsRun constants kernel limit tree inputs tape u log → (tuple : List ℕ)
-    → over_rows (with_next loops_given) (filled constants kernel u log) tuple ≡ over_rows (with_next loops_asked) (filled constants kernel u log) tuple
+    → over_rows (with_next loops_given) (filled constants kernel u log) tuple
+    ≡ over_rows (with_next loops_asked) (filled constants kernel u log) tuple
 unfolding owed_loops
 loops_even constants kernel limit tree inputs tape u log r tuple =
     let even = balanced_behind constants kernel limit (λ x y. counted (loops_given x y) tuple) (λ x y. counted (loops_asked x y) tuple)

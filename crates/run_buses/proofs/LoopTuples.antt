@@ -2,12 +2,13 @@
 use Rattle.std.proofs.Common.{◌≡◌, ℕ, suc, ◌+◌, true, false, cond, nat_eq, List, [], ◌∷◌, refl, ap, ◌∙◌, arith}
 use lib.Pointwise.{pointwise}
 use Rattle.buses.specs.Counts.{Counted, counted, hits, once}
+use Rattle.buses.proofs.Counting.{counted-none}
 use Rattle.vm_ops.specs.declared.op.Op.{Op}
 use Rattle.vm_ops.specs.declared.op.Op.TheVariants as ops
 use Rattle.vm_table.specs.MainColumns.{addr, w}
 use Rattle.air_kit.specs.Flags as flags
 use Rattle.air_kit.specs.MainTuples.{front, loops_asked, loops_given}
-use Rattle.run_buses.proofs.Hits.{hit, no_count, one_count}
+use Rattle.run_buses.proofs.Hits.{hit, one_count}
 
 -- so often where u is this tuple, else 0
 unfoldable pub times : List ℕ → ℕ → List ℕ → ℕ
@@ -44,7 +45,7 @@ pub none_gives : (x y u : List ℕ) (op : Op) → flags.op_of x ≡ op → flags
 unfolding loops_given giver
 none_gives x y u op is apart =
     ap (λ o. counted (cond (flags.is_op o ops.Loop) (giver x y ∷ []) []) u) is
-    ∙ ap (λ b. counted (cond b (giver x y ∷ []) []) u) apart ∙ no_count u
+    ∙ ap (λ b. counted (cond b (giver x y ∷ []) []) u) apart ∙ counted-none u
 
 pub turn_asks : (x y word : List ℕ) (n : ℕ) (u : List ℕ) → flags.op_of x ≡ ops.Repeat → addr x ≡ n → front x ≡ word
     → counted (loops_asked x y) u ≡ hit (n ∷ word) u
@@ -57,4 +58,4 @@ pub none_asks : (x y u : List ℕ) (op : Op) → flags.op_of x ≡ op → flags.
 unfolding loops_asked
 none_asks x y u op is apart =
     ap (λ o. counted (cond (flags.is_op o ops.Repeat) (once (addr x ∷ front x) ∷ []) []) u) is
-    ∙ ap (λ b. counted (cond b (once (addr x ∷ front x) ∷ []) []) u) apart ∙ no_count u
+    ∙ ap (λ b. counted (cond b (once (addr x ∷ front x) ∷ []) []) u) apart ∙ counted-none u

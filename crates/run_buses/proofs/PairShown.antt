@@ -20,7 +20,8 @@ use Rattle.run_rows.proofs.MomentFacts.{behind_shows, moment_hash, moment_op, mo
 use Rattle.run_rows.proofs.PairLemmas.{ticked}
 
 -- a cycle of this mark from a state, with the advice that it takes, and its event before later ones
-pub record Pair (constants : List ℕ) (kernel : List (List ℕ)) (mark : Mark) (advice : List ℕ) (c b : Core) (d : Decoder) (later : List Event) (x y : List ℕ)
+pub record Pair (constants : List ℕ) (kernel : List (List ℕ)) (mark : Mark) (advice : List ℕ) (c b : Core) (d : Decoder)
+    (later : List Event) (x y : List ℕ)
     : Type 0 where
   pub allowed : IsAllowed constants kernel mark advice c
   pub whole : IsWholeMark mark

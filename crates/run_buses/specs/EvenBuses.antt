@@ -11,7 +11,9 @@ use Rattle.run_rows.specs.BlockRows.{IsRun, events_of, filled}
 
 -- of what a row and the row behind it give and ask
 abbrev pub AreEven : (List ℕ → List ℕ → List Counted) → (List ℕ → List ℕ → List Counted) → Type 0
-AreEven given asked = (constants : List ℕ) (kernel : List (List ℕ)) (limit : ℕ) (tree : Tree) (inputs tape : List ℕ) (u : State) (log : List run.Event)
+AreEven given asked =
+    (constants : List ℕ) (kernel : List (List ℕ)) (limit : ℕ) (tree : Tree) (inputs tape : List ℕ) (u : State)
+    (log : List run.Event)
     → IsRun constants kernel limit tree inputs tape u log → (tuple : List ℕ)
     → over_rows (with_next given) (filled constants kernel u log) tuple ≡ over_rows (with_next asked) (filled constants kernel u log) tuple
 
@@ -28,5 +30,6 @@ GroupsAreEven = AreEven groups_given groups_asked
 abbrev pub ChildrenAreEven : Type 0
 ChildrenAreEven = (constants : List ℕ) (kernel : List (List ℕ)) (limit : ℕ) (tree : Tree) (inputs tape : List ℕ) (u : State) (log : List run.Event)
     → IsRun constants kernel limit tree inputs tape u log → (tuple : List ℕ)
-    → counted (statement_given bus.Children (tree_digest constants tree)) tuple + over_rows (with_next children_given) (filled constants kernel u log) tuple
+    → counted (statement_given bus.Children (tree_digest constants tree)) tuple
+    + over_rows (with_next children_given) (filled constants kernel u log) tuple
     ≡ over_rows (with_next children_asked) (filled constants kernel u log) tuple

@@ -24,7 +24,8 @@ use Rattle.commands.specs.Steps.{Right, SourceFile, Steps, course, ending, ran, 
 use Rattle.command_ends.proofs.ServingLemmas.{goes_past_finding, same_again, says_comes, work_ends}
 
 -- a run to the end
-pub came_ends : (outputs : Outputs) (params : Params) (source : SourceFile) (kernel : Option SourceFile) (given : Given) (limit : ℕ) (made : held.Course)
+pub came_ends : (outputs : Outputs) (params : Params) (source : SourceFile) (kernel : Option SourceFile) (given : Given) (limit : ℕ)
+    (made : held.Course)
     (o : Outcome) (old new : ShelfState) → Came params source kernel given limit made → EndsRun params made.program made.run outputs given o old new
     → EndsIn (Some (running_steps outputs (constants_of params) source given limit kernel)) o old new
 came_ends outputs params source kernel given limit made o old new came ends =
@@ -48,7 +49,8 @@ pub saved_ends : (outputs : Outputs) (params : Params) (program : Program) (answ
     → line ≡ run_lines (state_of answer.state) → SavesBoth table statement line outputs o old new
     → EndsRun params program answer outputs given o old new
 saved_ends outputs params program answer given table statement line o old new tables claims is saves log events =
-    subst (λ text. EndsIn (Some (writing outputs.table of_table (λ _. writing outputs.statement of_statement (λ _. ending (stop status.Ok text))))) o old new) is
+    subst (λ text. EndsIn (Some (writing outputs.table of_table
+    (λ _. writing outputs.statement of_statement (λ _. ending (stop status.Ok text))))) o old new) is
     (saves of_table of_statement (tables log events) claims)
   where
     of_table : Right

@@ -45,7 +45,8 @@ pub fn save_run<F: Shelf>(
 ) -> Outcome
     requires executed { WasExecuted constants.now course.program course.run }
     requires named { AreNamed outputs }
-    ensures { EndsRun constants.now course.program course.run (outputs_from outputs.entry) (given_of inputs) result (F.state shelf.old) (F.state shelf.new) }
+    ensures { EndsRun constants.now course.program course.run (outputs_from outputs.entry) (given_of inputs) result
+        (F.state shelf.old) (F.state shelf.new) }
 {
     match files_of(alloc, constants, inputs, course) {
         Ok(made) => save_made(alloc, shelf, made, outputs),

@@ -91,7 +91,8 @@ fn run_inputs<F: Shelf>(
 ) -> Outcome
     requires source { length source.text.now ≤ 1048576 }
     requires options { AreOptions options }
-    ensures { EndsIn (Some (inputs_steps (outputs_from options.entry.outputs) (constants_of constants.now) (file_of source.entry) options.entry.inputs.now
+    ensures { EndsIn (Some (inputs_steps (outputs_from options.entry.outputs) (constants_of constants.now)
+        (file_of source.entry) options.entry.inputs.now
         (option_map (λ k. k.now) options.entry.kernel) options.entry.limit)) result (F.state shelf.old) (F.state shelf.new) }
 {
     match load(alloc, shelf, options.inputs, MOST_INPUTS_BYTES) {

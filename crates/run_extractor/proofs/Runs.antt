@@ -34,9 +34,11 @@ ends p t k = ends_law p t k.constants p.statement.inputs_few k.whole (granted p 
 
 -- the tree goes from the first row to the last one
 goes : (p : Public) (t : Trace) (k : IsKnown p t) (found : Found) → IsWhole p t found
-    → Goes (states t) (execution (constants_of p.params) p.statement.kernel (length t.main - 1) (plain (placed_of found.tree)) (states t 0)) (suc found.end)
+    → Goes (states t) (execution (constants_of p.params) p.statement.kernel (length t.main - 1) (plain (placed_of found.tree))
+    (states t 0)) (suc found.end)
 goes p t k found w =
-    trees_run (constants_of p.params) p.statement.kernel (length t.main - 1) t.hasher t.main p.statement.digest (states t) (tree_facts p t k) (shows p t k)
+    trees_run (constants_of p.params) p.statement.kernel (length t.main - 1) t.hasher t.main p.statement.digest (states t)
+    (tree_facts p t k) (shows p t k)
     0 found.end (placed_of found.tree) w.tree (plain (placed_of found.tree)) (refines-refl (constants_of p.params) (plain (placed_of found.tree)))
 
 behind_end : (n end : ℕ) → suc (suc end) ≡ n → suc end ≡ n - 1

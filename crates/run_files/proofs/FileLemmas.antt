@@ -51,7 +51,8 @@ table_size width (row ∷ rows) shape =
     sized all first others width n is one more = grind (arith, is, one, more)
 
 head_size : (main range hasher bitwise memory kernel left : ℕ)
-    → length (head_bytes (record { main = main; range = range; hasher = hasher; bitwise = bitwise; memory = memory; kernel = kernel; left = left })) ≡ 36
+    → length (head_bytes (record
+    { main = main; range = range; hasher = hasher; bitwise = bitwise; memory = memory; kernel = kernel; left = left })) ≡ 36
 unfolding head_bytes
 head_size main range hasher bitwise memory kernel left = refl
 

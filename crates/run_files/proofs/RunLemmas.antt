@@ -56,7 +56,8 @@ module _ (constants : List ℕ) (kernel : List (List ℕ)) (limit : ℕ) (tree :
   rows_within : length (rows_of (visible_of u.core) (events_of constants kernel log)) ≤ 2 ^ 19
   rows_within = omega (arith, rows_counted constants kernel u log, log_within)
 
-module _ (params : Params) (program : Program) (answer : Run) (size : length (constants_of params) ≡ 168) (was : WasExecuted params program answer) where
+module _ (params : Params) (program : Program) (answer : Run) (size : length (constants_of params) ≡ 168)
+    (was : WasExecuted params program answer) where
   abbrev constants : List ℕ
   constants = constants_of params
 

@@ -51,10 +51,24 @@ short_text claim digest kernel inputs outputs few words deep =
     let of_outputs : length (listed claim.outputs) ≤ 11010363 = omega (arith, deep, listed_size claim.outputs outputs) in
     let digest_on = joined (codes "{\"digest\":\"") (word_hex claim.digest) 11 64 (omega arith) of_digest in
     let inputs_name = joined (codes "{\"digest\":\"" ++ word_hex claim.digest) (codes "\",\"inputs\":[") 75 12 digest_on (omega arith) in
-    let inputs_on = joined (codes "{\"digest\":\"" ++ word_hex claim.digest ++ codes "\",\"inputs\":[") (listed claim.inputs) 87 336 inputs_name of_inputs in
-    let kernel_name = joined (codes "{\"digest\":\"" ++ word_hex claim.digest ++ codes "\",\"inputs\":[" ++ listed claim.inputs) (codes "],\"kernel\":[") 423 12 inputs_on (omega arith) in
-    let kernel_on = joined (codes "{\"digest\":\"" ++ word_hex claim.digest ++ codes "\",\"inputs\":[" ++ listed claim.inputs ++ codes "],\"kernel\":[") (words_listed claim.kernel) 435 17085 kernel_name of_kernel in
-    let outputs_name = joined (codes "{\"digest\":\"" ++ word_hex claim.digest ++ codes "\",\"inputs\":[" ++ listed claim.inputs ++ codes "],\"kernel\":[" ++ words_listed claim.kernel) (codes "],\"outputs\":[") 17520 13 kernel_on (omega arith) in
-    let outputs_on = joined (codes "{\"digest\":\"" ++ word_hex claim.digest ++ codes "\",\"inputs\":[" ++ listed claim.inputs ++ codes "],\"kernel\":[" ++ words_listed claim.kernel ++ codes "],\"outputs\":[") (listed claim.outputs) 17533 11010363 outputs_name of_outputs in
-    let whole = joined (codes "{\"digest\":\"" ++ word_hex claim.digest ++ codes "\",\"inputs\":[" ++ listed claim.inputs ++ codes "],\"kernel\":[" ++ words_listed claim.kernel ++ codes "],\"outputs\":[" ++ listed claim.outputs) (codes "]}") 11027896 2 outputs_on (omega arith) in
+    let inputs_on =
+    joined (codes "{\"digest\":\"" ++ word_hex claim.digest ++ codes "\",\"inputs\":[") (listed claim.inputs) 87 336 inputs_name
+    of_inputs in
+    let kernel_name =
+    joined (codes "{\"digest\":\"" ++ word_hex claim.digest ++ codes "\",\"inputs\":[" ++ listed claim.inputs)
+    (codes "],\"kernel\":[") 423 12 inputs_on (omega arith) in
+    let kernel_on =
+    joined (codes "{\"digest\":\"" ++ word_hex claim.digest ++ codes "\",\"inputs\":[" ++ listed claim.inputs
+    ++ codes "],\"kernel\":[") (words_listed claim.kernel) 435 17085 kernel_name of_kernel in
+    let outputs_name =
+    joined (codes "{\"digest\":\"" ++ word_hex claim.digest ++ codes "\",\"inputs\":[" ++ listed claim.inputs
+    ++ codes "],\"kernel\":[" ++ words_listed claim.kernel) (codes "],\"outputs\":[") 17520 13 kernel_on (omega arith) in
+    let outputs_on =
+    joined (codes "{\"digest\":\"" ++ word_hex claim.digest ++ codes "\",\"inputs\":[" ++ listed claim.inputs
+    ++ codes "],\"kernel\":[" ++ words_listed claim.kernel ++ codes "],\"outputs\":[") (listed claim.outputs) 17533 11010363
+    outputs_name of_outputs in
+    let whole =
+    joined (codes "{\"digest\":\"" ++ word_hex claim.digest ++ codes "\",\"inputs\":[" ++ listed claim.inputs
+    ++ codes "],\"kernel\":[" ++ words_listed claim.kernel ++ codes "],\"outputs\":[" ++ listed claim.outputs) (codes "]}")
+    11027896 2 outputs_on (omega arith) in
     omega (arith, whole)

@@ -31,13 +31,15 @@ compact_text-inputs_data stack advice =
 
 -- ---- what is read of it
 
-pub given_by-inputs_data : (stack advice : List ℕ) → All (λ x. x < prime) stack → All (λ x. x < prime) advice → length stack ≤ 16 → length advice ≤ 1048576
+pub given_by-inputs_data : (stack advice : List ℕ) → All (λ x. x < prime) stack → All (λ x. x < prime) advice → length stack ≤ 16
+    → length advice ≤ 1048576
     → given_by (inputs_data stack advice) ≡ Ok (record { stack = stack; advice = advice })
 unfolding serde_json_on_literals
 given_by-inputs_data stack advice hs ha few short =
     rw (are_numbers-numbers_of stack, are_numbers-numbers_of advice, elements_of-numbers_of stack hs, elements_of-numbers_of advice ha)
     (grind (arith, nat_tests))
 
-pub inputs_of-read : (bytes : List ℕ) (d : Data) (given : Given) → IsUtf8 bytes → read bytes ≡ Some d → given_by d ≡ Ok given → inputs_of bytes ≡ Ok given
+pub inputs_of-read : (bytes : List ℕ) (d : Data) (given : Given) → IsUtf8 bytes → read bytes ≡ Some d → given_by d ≡ Ok given
+    → inputs_of bytes ≡ Ok given
 unfolding inputs_of
 inputs_of-read bytes d given text e by = rw (is_utf8-from_IsUtf8 bytes text, e) by

@@ -1,7 +1,8 @@
 -- A row asks on the bus of memory what its operation requests.
 use Rattle.std.proofs.Common.{◌≡◌, ℕ, ◌<◌, true, List, [], ◌∷◌, ◌++◌, length, map, drop, reverse, slice_index, unwrap_or, refl, sym, ap, ◌∙◌, subst, arith, lit<}
-use Rattle.std.proofs.lemmas.List.{ext_get_or, get_or-drop, length-drop}
+use Rattle.std.proofs.lemmas.List.{get_or-drop, length-drop}
 use Rattle.vm_field.specs.Machine.{State}
+use Rattle.vm_field.proofs.Elements.{word-is}
 use Rattle.vm_ops.specs.Codes.{accesses_memory}
 use Rattle.vm_ops.specs.Step.{left_cells}
 use Rattle.vm_ops.specs.Stepping.{seen_at}
@@ -22,7 +23,6 @@ use Rattle.cycle_events.specs.declared.event.Visible.{Visible}
 use Rattle.run_rows.specs.Limbs.{limbs_by, limbs_of, word_rest}
 use Rattle.run_rows.specs.Moments.{IsMoment, event_at}
 use Rattle.run_rows.specs.RunRequests.{access, accesses_by}
-use Rattle.run_rows.proofs.ColumnLemmas.{below_four}
 use Rattle.run_rows.proofs.MomentFacts.{moment_limb, moment_op, moment_shows}
 use Rattle.run_requests.proofs.AccessWords.{event_word}
 use Rattle.run_requests.proofs.Tops.{ShowsTops, moment_cell, moment_tops}
@@ -41,16 +41,11 @@ record ShowsAccess (op : Op) (sn : Seen) (e : Event) (next : Visible) (x y : Lis
 
 -- ---- words
 
-four_are : (word : List ℕ) (a b c d : ℕ) → length word ≡ 4 → a ≡ slice_index word 0 → b ≡ slice_index word 1 → c ≡ slice_index word 2
-    → d ≡ slice_index word 3 → a ∷ b ∷ c ∷ d ∷ [] ≡ word
-four_are word a b c d size f g h i =
-    ext_get_or 0 (a ∷ b ∷ c ∷ d ∷ []) word (sym size) (below_four (λ j. slice_index (a ∷ b ∷ c ∷ d ∷ []) j ≡ slice_index word j) f g h i)
-
 -- the first element from a cell, and the others from limbs
 first_and_rest : (word : List ℕ) (a : ℕ) (x : List ℕ) → length word ≡ 4 → a ≡ slice_index word 0
     → ((j : ℕ) → j < 10 → t x j ≡ slice_index (drop 1 word) j) → a ∷ t x 0 ∷ t x 1 ∷ t x 2 ∷ [] ≡ word
 first_and_rest word a x size first rest =
-    four_are word a (t x 0) (t x 1) (t x 2) size first (rest 0 (lit< tt) ∙ get_or-drop 1 word 0 0) (rest 1 (lit< tt) ∙ get_or-drop 1 word 1 0)
+    word-is word a (t x 0) (t x 1) (t x 2) size first (rest 0 (lit< tt) ∙ get_or-drop 1 word 0 0) (rest 1 (lit< tt) ∙ get_or-drop 1 word 1 0)
     (rest 2 (lit< tt) ∙ get_or-drop 1 word 2 0)
 
 -- a word lies on the stack with its last element on top
@@ -58,8 +53,8 @@ turned : (word y : List ℕ) → length word ≡ 4 → ((j : ℕ) → j < 4 → 
     → s y 3 ∷ s y 2 ∷ s y 1 ∷ s y 0 ∷ [] ≡ word
 turned word y size tops =
     let parts : word ≡ slice_index word 0 ∷ slice_index word 1 ∷ slice_index word 2 ∷ slice_index word 3 ∷ []
-    = sym (four_are word (slice_index word 0) (slice_index word 1) (slice_index word 2) (slice_index word 3) size refl refl refl refl) in
-    four_are word (s y 3) (s y 2) (s y 1) (s y 0) size (tops 3 (lit< tt) ∙ ap (λ w. slice_index (reverse w ++ []) 3) parts)
+    = sym (word-is word (slice_index word 0) (slice_index word 1) (slice_index word 2) (slice_index word 3) size refl refl refl refl) in
+    word-is word (s y 3) (s y 2) (s y 1) (s y 0) size (tops 3 (lit< tt) ∙ ap (λ w. slice_index (reverse w ++ []) 3) parts)
     (tops 2 (lit< tt) ∙ ap (λ w. slice_index (reverse w ++ []) 2) parts) (tops 1 (lit< tt) ∙ ap (λ w. slice_index (reverse w ++ []) 1) parts)
     (tops 0 (lit< tt) ∙ ap (λ w. slice_index (reverse w ++ []) 0) parts)
 
@@ -116,7 +111,8 @@ unfolding tuples.accesses_of
 mark_accesses constants (Do item) before e next x y shows = op_accesses (seen_at constants item before) e next x y item.op (shows item refl)
 mark_accesses constants mark before e next x y shows = refl
 
-module _ (constants : List ℕ) (len : length constants ≡ 168) (kernel : List (List ℕ)) (limit : ℕ) {x y : List ℕ} (m : IsMoment constants kernel limit x y) where
+module _ (constants : List ℕ) (len : length constants ≡ 168) (kernel : List (List ℕ)) (limit : ℕ) {x y : List ℕ}
+    (m : IsMoment constants kernel limit x y) where
   moment_access : (item : Item) → m.mark ≡ Do item
       → ShowsAccess item.op (seen_at constants item m.s) (event_at constants kernel m.mark m.s) (visible_of m.t.core) x y
   moment_access item is = record {

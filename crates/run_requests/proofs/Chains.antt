@@ -5,7 +5,7 @@ use Rattle.vm_field.specs.Sponge.{absorbed, begun, hashed, sponge_after, squeeze
 use Rattle.vm_field.proofs.PermutationLemmas.{length-permuted}
 use Rattle.op_pack.specs.Reading.{IsBatch}
 use Rattle.buses.specs.Counts.{counted, once}
-use Rattle.hash_rows.proofs.Totals.{counted-append, counted-none}
+use Rattle.buses.proofs.Counting.{counted-none, counted-append}
 use Rattle.air_kit.specs.Requests.{perm_begins, perm_ends, perms_given}
 use Rattle.air_kit.specs.declared.requests.Perm.{Perm}
 use Rattle.run_rows.specs.RunRequests.{chain, hash_perms, is_empty}
@@ -88,7 +88,8 @@ module _ (constants : List ℕ) (len : length constants ≡ 168) where
       (All-tail IsBatch next blocks all) in
       let begins : hit (2 ∷ (address + 8) ∷ drop 4 (take 4 (absorbed constants state block) ++ next)) v ≡ hit (2 ∷ (address + 8) ∷ next) v
       = ap (λ l. hit (2 ∷ (address + 8) ∷ l) v) (drop_taken (absorbed constants state block) next twelve) in
-      let a = counted-append (perm_begins (address + 8) p) (perm_ends constants (address + 8 + 7) p ++ perms_given constants (address + 8 + 8) rest) v in
+      let a = counted-append (perm_begins (address + 8) p)
+      (perm_ends constants (address + 8 + 7) p ++ perms_given constants (address + 8 + 8) rest) v in
       let b = counted-append (perm_ends constants (address + 8 + 7) p) (perms_given constants (address + 8 + 8) rest) v in
       let none = counted-none v in
       omega (arith, later, begins, a, b, none)

@@ -106,7 +106,8 @@ module _ (constants : List ℕ) (kernel : List (List ℕ)) (limit : ℕ) (u : St
       → AreLinked constants kernel limit u (m.rest ++ m.todo) (advance m.d (event_at constants kernel m.mark m.s) m.later) m.t m.later (y ∷ rows)
       → owed (m.task ∷ m.todo) m.d (event_at constants kernel m.mark m.s ∷ m.later)
       ≡ counted (tuples x y) v + owed (m.rest ++ m.todo) (advance m.d (event_at constants kernel m.mark m.s) m.later) m.later)
-      → {todo : List Task} {d : Decoder} {s : State} {events : List Event} {rows : List (List ℕ)} → AreLinked constants kernel limit u todo d s events rows
+      → {todo : List Task} {d : Decoder} {s : State} {events : List Event} {rows : List (List ℕ)}
+      → AreLinked constants kernel limit u todo d s events rows
       → owed todo d events ≡ over_pairs (λ x y. counted (tuples x y) v) rows + owed [] (decoder_after d events) []
   unfolding over_pairs decoder_after
   asked_over tuples v owed pair (chains.ends e) = omega arith
@@ -121,7 +122,8 @@ module _ (constants : List ℕ) (kernel : List (List ℕ)) (limit : ℕ) (u : St
       → owed (m.task ∷ m.todo) m.d (event_at constants kernel m.mark m.s ∷ m.later)
       ≡ counted (tuples x y) v + owed (m.rest ++ m.todo) (advance m.d (event_at constants kernel m.mark m.s) m.later) m.later)
       → ((d : Decoder) → owed [] d [] ≡ 0)
-      → {todo : List Task} {d : Decoder} {s : State} {events : List Event} {rows : List (List ℕ)} → AreLinked constants kernel limit u todo d s events rows
+      → {todo : List Task} {d : Decoder} {s : State} {events : List Event} {rows : List (List ℕ)}
+      → AreLinked constants kernel limit u todo d s events rows
       → over_rows (with_next tuples) rows v ≡ owed todo d events
   rows_ask tuples v owed pair none {d = d} {events = events} {rows = rows} linked =
       let whole = asked_over tuples v owed pair linked in

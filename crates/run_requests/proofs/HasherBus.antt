@@ -14,7 +14,7 @@ use Rattle.block_tree.specs.Steps.{Task, Next, span, join, split_1, split_0, loo
 use Rattle.block_tree.specs.Trees.{Loop, tree_digest}
 use Rattle.block_tree.proofs.RowLemmas.{hash-batch}
 use Rattle.buses.specs.Counts.{counted}
-use Rattle.hash_rows.proofs.Totals.{counted-none}
+use Rattle.buses.proofs.Counting.{counted-none}
 use Rattle.air_kit.specs.MainTuples.{eight, hasher_asked}
 use Rattle.air_kit.specs.Requests.{perms_given}
 use Rattle.cycle_events.specs.Events.{shown_between, visible_of}
@@ -57,15 +57,18 @@ module _ (constants : List ℕ) (len : length constants ≡ 168) (x y v advice :
       let asked : counted (hasher_asked x y) v ≡ hit (1 ∷ d.next ∷ 0 ∷ batch) v = asks ops.Span x y v cells.op ∙ rw (at, block) refl in
       omega (arith, given, both, place, owed, asked)
   hasher_step (join {a = a} {b = z}) d later todo b w all are out cells low op =
-      start_step constants len x y v ops.Join refl cells.op d.next (hash_of (StartJoin (tree_digest constants a) (tree_digest constants z))) (perms_of constants later)
+      start_step constants len x y v ops.Join refl cells.op d.next
+      (hash_of (StartJoin (tree_digest constants a) (tree_digest constants z))) (perms_of constants later)
       (deep constants todo d.blocks v) (hash-batch (StartJoin (tree_digest constants a) (tree_digest constants z)) w) cells.behind (cells.eight refl)
       (let next = low.next in omega (arith, next))
   hasher_step (split_1 {a = a} {b = z} bit) d later todo b w all are out cells low op =
-      start_step constants len x y v ops.Split refl cells.op d.next (hash_of (StartSplit (tree_digest constants a) (tree_digest constants z))) (perms_of constants later)
+      start_step constants len x y v ops.Split refl cells.op d.next
+      (hash_of (StartSplit (tree_digest constants a) (tree_digest constants z))) (perms_of constants later)
       (deep constants todo d.blocks v) (hash-batch (StartSplit (tree_digest constants a) (tree_digest constants z)) w) cells.behind (cells.eight refl)
       (let next = low.next in omega (arith, next))
   hasher_step (split_0 {a = a} {b = z} bit) d later todo b w all are out cells low op =
-      start_step constants len x y v ops.Split refl cells.op d.next (hash_of (StartSplit (tree_digest constants a) (tree_digest constants z))) (perms_of constants later)
+      start_step constants len x y v ops.Split refl cells.op d.next
+      (hash_of (StartSplit (tree_digest constants a) (tree_digest constants z))) (perms_of constants later)
       (deep constants todo d.blocks v) (hash-batch (StartSplit (tree_digest constants a) (tree_digest constants z)) w) cells.behind (cells.eight refl)
       (let next = low.next in omega (arith, next))
   hasher_step (loop_1 {a = a} bit) d later todo b w all are out cells low op =
@@ -85,9 +88,11 @@ module _ (constants : List ℕ) (len : length constants ≡ 168) (x y v advice :
       (deep constants todo d.blocks v) (hash-batch (StartSyscall (tree_digest constants a)) w) cells.behind (cells.eight refl)
       (let next = low.next in omega (arith, next))
   hasher_step (operation {c = c} {item = item} {items = items} {later = more} {digest = digest}) d later todo b w all are out cells low op =
-      let given : counted (perms_given constants d.next (perms_by (kind_of item.op) constants (shown_between (Do item) advice c b) later ++ perms_of constants later)) v
+      let given : counted (perms_given constants d.next
+      (perms_by (kind_of item.op) constants (shown_between (Do item) advice c b) later ++ perms_of constants later)) v
       ≡ counted (perms_given constants d.next (perms_by_op item.op (visible_of c) ++ perms_of constants later)) v
-      = ap (λ k. counted (perms_given constants d.next (perms_by k constants (shown_between (Do item) advice c b) later ++ perms_of constants later)) v)
+      = ap (λ k. counted (perms_given constants d.next
+      (perms_by k constants (shown_between (Do item) advice c b) later ++ perms_of constants later)) v)
       (kind_is item.op w.ordinary) in
       let both = perms_append constants d.next (perms_by_op item.op (visible_of c)) (perms_of constants later) v in
       let next : (advance d (shown_between (Do item) advice c b) later).next ≡ next_after item.op d.next
@@ -97,7 +102,8 @@ module _ (constants : List ℕ) (len : length constants ≡ 168) (x y v advice :
       = ap (λ n. counted (perms_given constants n (perms_of constants later)) v) (sym (next ∙ op.moves w.ordinary)) in
       let batches : batches_owed (advance d (shown_between (Do item) advice c b) later).ha more digest v ≡ batches_owed d.ha more digest v
       = ap (λ z. batches_owed z.ha more digest v) (ordinary_advance d (shown_between (Do item) advice c b) later w.ordinary) in
-      let digests : deep constants todo (drop 1 (advance d (shown_between (Do item) advice c b) later).blocks) v ≡ deep constants todo (drop 1 d.blocks) v
+      let digests : deep constants todo (drop 1 (advance d (shown_between (Do item) advice c b) later).blocks) v
+      ≡ deep constants todo (drop 1 d.blocks) v
       = ap (λ z. deep constants todo (drop 1 z.blocks) v) (ordinary_advance d (shown_between (Do item) advice c b) later w.ordinary) in
       let asked = op.given w.ordinary in
       omega (arith, given, both, moved, batches, digests, asked)
@@ -118,7 +124,9 @@ module _ (constants : List ℕ) (len : length constants ≡ 168) (x y v advice :
       let nothing = counted-none v in
       omega (arith, asked, nothing)
   hasher_step (loop_ends {a = a} bit) d later todo b w all are out cells low op =
-      let asked = end_step constants len x y v cells.op (tree_digest constants (Loop a)) 1 0 0 (address_of d.blocks) w.size (cells.eight refl) cells.address in
+      let asked =
+      end_step constants len x y v cells.op (tree_digest constants (Loop a)) 1 0 0 (address_of d.blocks) w.size
+      (cells.eight refl) cells.address in
       let none = first_none 0 todo v out in
       omega (arith, asked, none)
   hasher_step (closes {digest = digest}) d later todo b w all are out cells low op =

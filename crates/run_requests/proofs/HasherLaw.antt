@@ -6,7 +6,7 @@ use Rattle.block_tree.specs.Rows.{behind, op_of}
 use Rattle.block_tree.specs.Steps.{Block}
 use Rattle.block_tree.specs.Trees.{Tree}
 use Rattle.buses.specs.Counts.{counted, over_rows, with_next}
-use Rattle.hash_rows.proofs.Totals.{counted-none}
+use Rattle.buses.proofs.Counting.{counted-none}
 use Rattle.air_kit.specs.MainTuples.{hasher_asked}
 use Rattle.air_kit.specs.Requests.{perms_given}
 use Rattle.cycle_events.specs.Events.{visible_of}
@@ -29,7 +29,8 @@ module _ (constants : List ℕ) (len : length constants ≡ 168) (kernel : List 
   operation_asks {x = x} {y = y} m = record {
     given = λ is. operation_given constants len x y v m.mark m.d m.s (event_at constants kernel m.mark m.s) (visible_of m.t.core) m.later refl
         (moment_cells constants kernel limit m).op (let low = (moment_low constants kernel limit m).next in omega (arith, low)) m.before.core.deep
-        (moment_cell constants len kernel limit m) (moment_tops constants len kernel limit m) (moment_witness constants kernel limit m 0 (lit< tt)) is;
+        (moment_cell constants len kernel limit m) (moment_tops constants len kernel limit m)
+        (moment_witness constants kernel limit m 0 (lit< tt)) is;
     moves = λ is. operation_moves (op_of m.mark) m.d.next (visible_of m.s.core);
   }
 

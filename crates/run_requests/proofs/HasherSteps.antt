@@ -96,7 +96,8 @@ ended (a ∷ b ∷ c ∷ d ∷ f ∷ more) i j k l x size e = absurd (omega (ari
 
 module _ (constants : List ℕ) (len : length constants ≡ 168) (x y v : List ℕ) where
   -- the start of a block of one permutation; n is owed beside it
-  pub start_step : (op : Op) → is_start_op op ≡ true → flags.op_of x ≡ op → (address : ℕ) (block : List ℕ) (others : List Perm) (n : ℕ) → IsBatch block
+  pub start_step : (op : Op) → is_start_op op ≡ true → flags.op_of x ≡ op
+      → (address : ℕ) (block : List ℕ) (others : List Perm) (n : ℕ) → IsBatch block
       → addr y ≡ address → eight x ≡ block → address + 7 < prime
       → counted (perms_given constants address (hash_perms constants (domain_of op) (block ∷ []) ++ others)) v + (0 + n)
       ≡ counted (hasher_asked x y) v + (counted (perms_given constants (address + 8) others) v

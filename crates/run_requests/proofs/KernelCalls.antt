@@ -26,7 +26,8 @@ use Rattle.run_rows.proofs.MomentFacts.{known}
 -- equal element by element is the same word
 same_word : (t u : List ℕ) → pointwise nat_eq t u ≡ true → t ≡ u
 same_word t u h =
-    exact_bytes t u (elim (slice_cmp nat_cmp t u) as (λ r. is_eq r ≡ true → r ≡ Equal) [ Less ↦ λ e. cc | Equal ↦ λ e. refl | Greater ↦ λ e. cc ] (sym (texts_ties t u) ∙ h))
+    exact_bytes t u (elim (slice_cmp nat_cmp t u) as (λ r. is_eq r ≡ true → r ≡ Equal)
+    [ Less ↦ λ e. cc | Equal ↦ λ e. refl | Greater ↦ λ e. cc ] (sym (texts_ties t u) ∙ h))
 
 -- a word of a list
 abbrev pub IsWordOf : List (List ℕ) → List ℕ → Type 0

@@ -1,5 +1,5 @@
 -- The rows of a run ask on the kernel's bus the digests that its syscalls call.
-use Rattle.std.proofs.Common.{◌≡◌, ℕ, ◌+◌, Bool, true, false, if◌then◌else◌, List, [], ◌∷◌, ◌++◌, map, take, refl, ap, ◌∙◌, arith}
+use Rattle.std.proofs.Common.{if◌then◌else◌, ◌≡◌, ℕ, ◌+◌, Bool, true, false, List, [], ◌∷◌, ◌++◌, map, take, refl, ap, ◌∙◌, arith}
 use Rattle.vm_field.specs.Machine.{State}
 use Rattle.vm_ops.specs.Codes.{code_of, is_ordinary_op}
 use Rattle.vm_ops.specs.declared.op.Op.{Op}
@@ -9,7 +9,7 @@ use Rattle.std.proofs.lemmas.Bool.{eqb-true}
 use Rattle.block_tree.specs.Rows.{hash_of, op_of}
 use Rattle.block_tree.specs.Steps.{Task}
 use Rattle.buses.specs.Counts.{Counted, counted, once, over_rows, with_next}
-use Rattle.hash_rows.proofs.Totals.{counted-append, counted-none}
+use Rattle.buses.proofs.Counting.{counted-none, counted-append}
 use Rattle.air_kit.specs.Flags.{is_op}
 use Rattle.air_kit.specs.MainTuples.{front, kernel_asked}
 use Rattle.cycle_events.specs.declared.event.Event.{Event}

@@ -31,7 +31,8 @@ cells_from outputs j (x ∷ rows) v =
     let front = total-front (length rows) (cell_at outputs j (x ∷ rows) v) in
     let first : cell_at outputs j (x ∷ rows) v 0 ≡ hit (left.key x ∷ slice_index (drop (16 + j) outputs) 0 ∷ key_of (map left.key rows) ∷ []) v
     = let place : 16 + (j + 0) ≡ 16 + j + 0 = omega arith in
-    ap (λ n. hit (left.key x ∷ n ∷ next_key (slice_get (x ∷ rows) 1) ∷ []) v) (ap (slice_index outputs) place ∙ sym (get_or-drop (16 + j) outputs 0 0))
+    ap (λ n. hit (left.key x ∷ n ∷ next_key (slice_get (x ∷ rows) 1) ∷ []) v)
+    (ap (slice_index outputs) place ∙ sym (get_or-drop (16 + j) outputs 0 0))
     ∙ ap (λ n. hit (left.key x ∷ slice_index (drop (16 + j) outputs) 0 ∷ n ∷ []) v) (next_is x rows) in
     let others : total (length rows) (λ i. cell_at outputs j (x ∷ rows) v (suc i)) ≡ total (length rows) (cell_at outputs (suc j) rows v)
     = total-same (length rows) (λ i. cell_at outputs j (x ∷ rows) v (suc i)) (cell_at outputs (suc j) rows v)
@@ -41,7 +42,8 @@ cells_from outputs j (x ∷ rows) v =
     let behind : drop 1 (drop (16 + j) outputs) ≡ drop (16 + suc j) outputs
     = let place : 16 + j + 1 ≡ 16 + suc j = omega arith in drop-drop 1 (16 + j) outputs ∙ ap (λ n. drop n outputs) place in
     let more = entries_more (left.key x) (map left.key rows) (drop (16 + j) outputs) v in
-    let moved : counted (entries (map left.key rows) (drop 1 (drop (16 + j) outputs))) v ≡ counted (entries (map left.key rows) (drop (16 + suc j) outputs)) v
+    let moved : counted (entries (map left.key rows) (drop 1 (drop (16 + j) outputs))) v
+    ≡ counted (entries (map left.key rows) (drop (16 + suc j) outputs)) v
     = ap (λ l. counted (entries (map left.key rows) l) v) behind in
     omega (arith, front, first, others, later, more, moved)
 

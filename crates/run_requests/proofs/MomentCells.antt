@@ -53,7 +53,8 @@ module _ (constants : List ℕ) (kernel : List (List ℕ)) (limit : ℕ) {x y : 
   moment_eight is =
       eight_are (hash_of m.mark) x (hash-batch m.mark m.whole).size
       (mark_hash m.mark m.whole m.d (take (advice_taken m.mark) m.s.tape) m.s.core
-      (behind (effect_of constants kernel m.mark (take (advice_taken m.mark) m.s.tape) m.s.core) m.s.core) x (moment_hash constants kernel limit m) is)
+      (behind (effect_of constants kernel m.mark (take (advice_taken m.mark) m.s.tape) m.s.core) m.s.core) x
+      (moment_hash constants kernel limit m) is)
 
   pub moment_cells : Cells m.mark m.d (advance m.d (event_at constants kernel m.mark m.s) m.later) x y
   moment_cells = record {

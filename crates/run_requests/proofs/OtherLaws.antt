@@ -4,7 +4,7 @@ use Rattle.vm_field.specs.Machine.{State}
 use Rattle.block_tree.specs.Rows.{op_of}
 use Rattle.block_tree.specs.Steps.{Task}
 use Rattle.buses.specs.Counts.{counted, over_rows, with_next}
-use Rattle.hash_rows.proofs.Totals.{counted-none}
+use Rattle.buses.proofs.Counting.{counted-none}
 use Rattle.air_kit.specs.MainTuples.{bitwise_asked, memory_asked}
 use Rattle.air_kit.specs.Requests.{access_given, bit_given}
 use Rattle.cycle_events.specs.Events.{visible_of}

@@ -69,8 +69,11 @@ module _ (constants : List ℕ) (kernel : List (List ℕ)) (advice : List ℕ) (
       let none = entries_none (drop 16 stack) v in
       omega (arith, given, asked, none)
   overflow_step (operation {c = c} {item = item}) d later todo b stack w allowed is op keyed cells =
-      let moved = shifted x y v item.op (shift_of item.op) refl (Do item) c stack d (advance d (shown_between (Do item) advice c b) later) cells cells.op
-      (no_block item.op w.ordinary).end (op item refl) (ap (λ z. z.keys) (ordinary_advance d (shown_between (Do item) advice c b) later w.ordinary)) keyed in
+      let moved =
+      shifted x y v item.op (shift_of item.op) refl (Do item) c stack d (advance d (shown_between (Do item) advice c b) later)
+      cells cells.op
+      (no_block item.op w.ordinary).end (op item refl)
+      (ap (λ z. z.keys) (ordinary_advance d (shown_between (Do item) advice c b) later w.ordinary)) keyed in
       let calls : hidden todo (drop 1 (advance d (shown_between (Do item) advice c b) later).blocks) v ≡ hidden todo (drop 1 d.blocks) v
       = ap (λ z. hidden todo (drop 1 z.blocks) v) (ordinary_advance d (shown_between (Do item) advice c b) later w.ordinary) in
       omega (arith, moved, calls)
@@ -89,17 +92,22 @@ module _ (constants : List ℕ) (kernel : List (List ℕ)) (advice : List ℕ) (
   overflow_step (loop_ends {c = c} {a = a} bit) d later todo b stack w allowed is op keyed cells =
       let one = flag_of_loop x y v (tree_digest constants (Loop a)) 1 0 0 0 w.size (cells.eight refl) in
       let moved = condition x y v ops.End _ c stack d _ cells cells.op refl (loop_asked x y v cells.op one)
-      (keys_by_flags ((tree_digest constants (Loop a)) ++ 1 ∷ 0 ∷ 0 ∷ 0 ∷ []) d 1 0 0 0 (has_flags (tree_digest constants (Loop a)) 1 0 0 0 w.size)) is keyed in
+      (keys_by_flags ((tree_digest constants (Loop a)) ++ 1 ∷ 0 ∷ 0 ∷ 0 ∷ []) d 1 0 0 0
+      (has_flags (tree_digest constants (Loop a)) 1 0 0 0 w.size)) is keyed in
       omega (arith, moved)
   overflow_step (returns {c = c} {digest = digest} {frame = frame}) d later todo b stack w allowed is op keyed cells =
       let given = none_given x y v ops.End cells.op refl in
       let asked = end_keeps x y v cells.op (flag_of_loop x y v digest 0 0 1 0 w.0.size (cells.eight refl)) in
-      let back = come_back x y v d.keys (hidden_of d.blocks) c.stack frame.hidden stack (keys_behind (digest ++ 0 ∷ 0 ∷ 1 ∷ 0 ∷ []) d) keyed allowed is
+      let back =
+      come_back x y v d.keys (hidden_of d.blocks) c.stack frame.hidden stack (keys_behind (digest ++ 0 ∷ 0 ∷ 1 ∷ 0 ∷ []) d)
+      keyed allowed is
       (keys_by_flags (digest ++ 0 ∷ 0 ∷ 1 ∷ 0 ∷ []) d 0 0 1 0 (has_flags digest 0 0 1 0 w.0.size)) in
       omega (arith, given, asked, back)
   overflow_step (leaves {c = c} {digest = digest} {frame = frame}) d later todo b stack w allowed is op keyed cells =
       let given = none_given x y v ops.End cells.op refl in
       let asked = end_keeps x y v cells.op (flag_of_loop x y v digest 0 0 0 1 w.0.size (cells.eight refl)) in
-      let back = come_back x y v d.keys (hidden_of d.blocks) c.stack frame.hidden stack (keys_behind (digest ++ 0 ∷ 0 ∷ 0 ∷ 1 ∷ []) d) keyed allowed is
+      let back =
+      come_back x y v d.keys (hidden_of d.blocks) c.stack frame.hidden stack (keys_behind (digest ++ 0 ∷ 0 ∷ 0 ∷ 1 ∷ []) d)
+      keyed allowed is
       (keys_by_flags (digest ++ 0 ∷ 0 ∷ 0 ∷ 1 ∷ []) d 0 0 0 1 (has_flags digest 0 0 0 1 w.0.size)) in
       omega (arith, given, asked, back)

@@ -1,5 +1,5 @@
 -- How the cells below the sixteenth and their keys move.
-use Rattle.std.proofs.Common.{◌≡◌, ℕ, ◌+◌, ◌-◌, ◌≤◌, false, cond, eqb, ◌||◌, ◌&&◌, ◌==◌, if◌then◌else◌, List, [], ◌∷◌, length, drop, slice_index, refl, sym, ap, ◌∙◌, arith}
+use Rattle.std.proofs.Common.{if◌then◌else◌, ◌≡◌, ℕ, ◌+◌, ◌-◌, ◌≤◌, false, cond, eqb, ◌||◌, ◌&&◌, ◌==◌, List, [], ◌∷◌, length, drop, slice_index, refl, sym, ap, ◌∙◌, arith}
 use Rattle.std.proofs.lemmas.Bool.{ne_eqb}
 use Rattle.std.proofs.lemmas.List.{drop-drop, get_or-drop}
 use Rattle.vm_field.specs.Machine.{filled_up}
@@ -8,7 +8,7 @@ use Rattle.vm_ops.specs.declared.op.Op.TheVariants as ops
 use Rattle.vm_ops.proofs.FrameLemmas.{drop-filled_up, index-filled_up}
 use Rattle.vm_table.specs.MainColumns.{clk, depth, h, key, s}
 use Rattle.buses.specs.Counts.{Counted, counted, once}
-use Rattle.hash_rows.proofs.Totals.{counted-append, counted-none}
+use Rattle.buses.proofs.Counting.{counted-none, counted-append}
 use Rattle.air_kit.specs.Flags as flags
 use Rattle.air_kit.specs.Flags.{is_left, is_op, is_right}
 use Rattle.air_kit.specs.MainTuples.{overflow_asked, overflow_given}

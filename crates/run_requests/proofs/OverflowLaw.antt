@@ -66,7 +66,8 @@ module _ (constants : List ℕ) (len : length constants ≡ 168) (kernel : List 
       let none = entries_none (drop 16 s.core.stack) v in
       omega (arith, whole, given, asked, none)
 
-pub overflow_is_even : (constants : List ℕ) (kernel : List (List ℕ)) (limit : ℕ) (tree : Tree) (inputs tape : List ℕ) (u : State) (log : List run.Event)
+pub overflow_is_even : (constants : List ℕ) (kernel : List (List ℕ)) (limit : ℕ) (tree : Tree) (inputs tape : List ℕ) (u : State)
+    (log : List run.Event)
     → IsRun constants kernel limit tree inputs tape u log
     → OverflowIsEven (filled constants kernel u log) (keys_of constants kernel log) u
 overflow_is_even constants kernel limit tree inputs tape u log r =

@@ -14,7 +14,7 @@ use Rattle.block_tree.specs.Cycles.{Mark}
 use Rattle.block_tree.specs.Rows.{hash_of, op_of}
 use Rattle.block_tree.specs.Steps.{Task, Block, Within, Turned, Closing, Returning, Leaving}
 use Rattle.buses.specs.Counts.{counted}
-use Rattle.hash_rows.proofs.Totals.{counted-none}
+use Rattle.buses.proofs.Counting.{counted-none}
 use Rattle.air_kit.specs.Flags as flags
 use Rattle.air_kit.specs.Flags.{is_left, is_op, is_right, is_shift}
 use Rattle.air_kit.specs.MainTuples.{eight, overflow_asked, overflow_given}
@@ -72,7 +72,8 @@ module _ (x y v : List ℕ) where
   quiet stack after keys new is same = rw (is, same) refl
 
   -- the call's cells come back
-  pub come_back : (keys back stack hidden after new : List ℕ) → length keys + 16 ≡ length stack → length stack ≤ 16 → after ≡ stack ++ hidden → new ≡ back
+  pub come_back : (keys back stack hidden after new : List ℕ) → length keys + 16 ≡ length stack → length stack ≤ 16
+      → after ≡ stack ++ hidden → new ≡ back
       → counted (entries new (drop 16 after)) v ≡ counted (entries keys (drop 16 stack)) v + counted (entries back hidden) v
   come_back keys back stack hidden after new keyed flat is same =
       let none : keys ≡ [] = no_keys keys stack keyed flat in

@@ -10,7 +10,7 @@ use Rattle.vm_table.specs.MainColumns.{lv, t}
 use Rattle.block_tree.specs.Rows.{op_of}
 use Rattle.block_tree.specs.Steps.{Task}
 use Rattle.buses.specs.Counts.{Counted, counted, once, over_rows, with_next}
-use Rattle.hash_rows.proofs.Totals.{counted-none}
+use Rattle.buses.proofs.Counting.{counted-none}
 use Rattle.air_kit.specs.Flags as flags
 use Rattle.air_kit.specs.MainTuples.{limbs_from, range_asked}
 use Rattle.air_kit.specs.MainTuples as tuples
@@ -106,8 +106,11 @@ module _ (constants : List ℕ) (kernel : List (List ℕ)) (limit : ℕ) (u : St
   unfolding ranges_of
   moment_asks x y rows m later =
       let here = row_ranges m (small_is constants kernel limit u later).nesting in
-      let both = map_counts in_range (ranges_by (event_at constants kernel m.mark m.s) (visible_of m.t.core)) (ranges_of (visible_of u.core) m.later) v in
-      let seen : counted (map in_range (ranges_by (event_at constants kernel m.mark m.s) (seen_behind (visible_of u.core) m.later) ++ ranges_of (visible_of u.core) m.later)) v
+      let both =
+      map_counts in_range (ranges_by (event_at constants kernel m.mark m.s) (visible_of m.t.core))
+      (ranges_of (visible_of u.core) m.later) v in
+      let seen : counted (map in_range (ranges_by (event_at constants kernel m.mark m.s) (seen_behind (visible_of u.core) m.later)
+      ++ ranges_of (visible_of u.core) m.later)) v
       ≡ counted (map in_range (ranges_by (event_at constants kernel m.mark m.s) (visible_of m.t.core) ++ ranges_of (visible_of u.core) m.later)) v
       = ap (λ n. counted (map in_range (ranges_by (event_at constants kernel m.mark m.s) n ++ ranges_of (visible_of u.core) m.later)) v)
       (seen_is constants kernel limit u later) in

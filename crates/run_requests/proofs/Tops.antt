@@ -23,7 +23,8 @@ use Rattle.run_rows.proofs.MomentFacts.{moment_shows, place_shows}
 abbrev pub ShowsTops : Op → Seen → List ℕ → Type 0
 ShowsTops op sn y = (j : ℕ) → j < leaves_of op → s y j ≡ slice_index (left_cells op sn) j
 
-module _ (constants : List ℕ) (len : length constants ≡ 168) (kernel : List (List ℕ)) (limit : ℕ) {x y : List ℕ} (m : IsMoment constants kernel limit x y) where
+module _ (constants : List ℕ) (len : length constants ≡ 168) (kernel : List (List ℕ)) (limit : ℕ) {x y : List ℕ}
+    (m : IsMoment constants kernel limit x y) where
   pub moment_tops : (item : Item) → m.mark ≡ Do item → ShowsTops item.op (seen_at constants item m.s) y
   moment_tops item is j low =
       let cycle = subst (λ mark. IsCycle constants kernel limit mark m.s m.t) is m.cycle in
@@ -48,6 +49,7 @@ unfolding top_cells
 twelve_are xs y size f =
     let P : ℕ → Type 0 = λ j. j < 12 → slice_index (top_cells y) j ≡ slice_index xs j in
     ap reverse (ext_get_or 0 (top_cells y) xs (sym size) (λ j low.
-    below_sixteen (λ j. j < 12 → slice_index (top_cells y) j ≡ slice_index xs j) (f 0) (f 1) (f 2) (f 3) (f 4) (f 5) (f 6) (f 7) (f 8) (f 9) (f 10) (f 11)
+    below_sixteen (λ j. j < 12 → slice_index (top_cells y) j ≡ slice_index xs j) (f 0) (f 1) (f 2) (f 3) (f 4) (f 5) (f 6) (f 7)
+    (f 8) (f 9) (f 10) (f 11)
     (λ h. absurd (omega (arith, h))) (λ h. absurd (omega (arith, h))) (λ h. absurd (omega (arith, h))) (λ h. absurd (omega (arith, h)))
     j (omega (arith, low)) low))

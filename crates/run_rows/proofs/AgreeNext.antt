@@ -181,7 +181,8 @@ module _ (constants : List ℕ) (kernel : List (List ℕ)) (limit : ℕ) where
       = ap (λ x. x.core.nesting) cycle.now ∙ ap (λ x. x.nesting) b.1 in
       let op : Deep constants mark (take (advice_taken mark) s.tape) s.core
       = λ item is. ap length (sym stack)
-      ∙ step-depth constants item s t len h (cycle-step constants kernel limit item s t (subst (λ m. IsCycle constants kernel limit m s t) is cycle)) in
+      ∙ step-depth constants item s t len h
+      (cycle-step constants kernel limit item s t (subst (λ m. IsCycle constants kernel limit m s t) is cycle)) in
       let after = core_agrees constants (take (advice_taken mark) s.tape) kernel first b.0 w h.core.deep op d later todo
       (behind (effect_of constants kernel mark (take (advice_taken mark) s.tape) s.core) s.core) a in
       record {

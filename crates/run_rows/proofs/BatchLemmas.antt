@@ -2,6 +2,7 @@
 use Rattle.std.proofs.Common.{◌≡◌, ◌≢◌, ℕ, zero, suc, ◌+◌, ◌-◌, ◌/◌, ◌<◌, ◌≤◌, Bool, true, false, ◌&&◌, ◌==◌, eqb, cond, List, [], ◌∷◌, length, take, drop, slice_index, refl, sym, ap, ◌∙◌, subst, arith, lit<}
 use Rattle.std.proofs.lemmas.Bool.{and_parts, eqb-true, eqb-false}
 use Rattle.std.proofs.lemmas.List.{get_or-drop}
+use Rattle.vm_ops.specs.Values.{bit_of}
 use Rattle.vm_field.specs.Field.{prime, felt_inv}
 use Rattle.vm_field.specs.Signs.{◌⊞◌, ◌⊠◌}
 use Rattle.vm_field.proofs.Elements.{elements-index}
@@ -11,7 +12,6 @@ use Rattle.op_pack.specs.Reading.{IsBatch, are_zero, positions_in_use}
 use Rattle.air_kit.specs.MainTuples.{positions}
 use Rattle.row_facts.specs.Batches.{ShowsBatch}
 use Rattle.row_facts.proofs.Says.{off}
-use Rattle.run_rows.specs.Lines.{bit_number}
 use Rattle.run_rows.specs.Witnesses.{batch_witnesses, first_inverse}
 
 -- how many positions are in use
@@ -49,13 +49,13 @@ unused_zero batch n q (eight some) low few size = absurd (omega (arith, low, few
 
 -- the flags say how many
 pub flags_count : (batch : List ℕ) (n : ℕ) → InUse batch n
-    → 1 ⊞ 7 ⊠ bit_number (n == 8) ⊞ 3 ⊠ bit_number (n == 4) ⊞ bit_number (n == 2) ≡ n
+    → 1 ⊞ 7 ⊠ bit_of (n == 8) ⊞ 3 ⊠ bit_of (n == 4) ⊞ bit_of (n == 2) ≡ n
 flags_count batch n (one h) = refl
 flags_count batch n (two some h) = refl
 flags_count batch n (four some h) = refl
 flags_count batch n (eight some) = refl
 
-flags_most : (batch : List ℕ) (n : ℕ) → InUse batch n → bit_number (n == 8) + bit_number (n == 4) + bit_number (n == 2) ≤ 1
+flags_most : (batch : List ℕ) (n : ℕ) → InUse batch n → bit_of (n == 8) + bit_of (n == 4) + bit_of (n == 2) ≤ 1
 flags_most batch n (one h) = omega arith
 flags_most batch n (two some h) = omega arith
 flags_most batch n (four some h) = omega arith
@@ -108,12 +108,12 @@ four_sum a b c d la lb lc ld some = go (eqb a 0) (eqb b 0) (eqb c 0) (eqb d 0) r
 -- a row that shows a batch, with its flags and its witnesses
 pub record BatchCells (batch x : List ℕ) : Type 0 where
   pub hash : (j : ℕ) → j < 8 → h x j ≡ slice_index batch j
-  pub eight : c x 0 ≡ bit_number (positions_in_use batch == 8)
-  pub four : c x 1 ≡ bit_number (positions_in_use batch == 4)
-  pub two : c x 2 ≡ bit_number (positions_in_use batch == 2)
+  pub eight : c x 0 ≡ bit_of (positions_in_use batch == 8)
+  pub four : c x 1 ≡ bit_of (positions_in_use batch == 4)
+  pub two : c x 2 ≡ bit_of (positions_in_use batch == 2)
   pub witness : (j : ℕ) → j < 4 → w x j ≡ slice_index (batch_witnesses batch) j
 
-bit_most : (b : Bool) → bit_number b < 2
+bit_most : (b : Bool) → bit_of b < 2
 bit_most true = omega arith
 bit_most false = omega arith
 
@@ -138,7 +138,8 @@ other : {A : Type 0} (m n : ℕ) → m ≡ n → eqb m n ≡ false → A
 other m n e apart = absurd (eqb-false m n apart e)
 
 -- a list of eight elements
-eight_of : (P : List ℕ → Type 0) → ((a0 a1 a2 a3 a4 a5 a6 a7 : ℕ) → P (a0 ∷ a1 ∷ a2 ∷ a3 ∷ a4 ∷ a5 ∷ a6 ∷ a7 ∷ [])) → (batch : List ℕ) → length batch ≡ 8 →
+eight_of : (P : List ℕ → Type 0) → ((a0 a1 a2 a3 a4 a5 a6 a7 : ℕ) → P (a0 ∷ a1 ∷ a2 ∷ a3 ∷ a4 ∷ a5 ∷ a6 ∷ a7 ∷ []))
+    → (batch : List ℕ) → length batch ≡ 8 →
     P batch
 eight_of P f [] size = absurd (omega (arith, size))
 eight_of P f (a0 ∷ []) size = absurd (omega (arith, size))
@@ -167,7 +168,8 @@ one_sum a low some = rw some (inverse_mul a low some)
 
 witnesses_of : (n : ℕ) (a0 a1 a2 a3 a4 a5 a6 a7 : ℕ) → InUse (a0 ∷ a1 ∷ a2 ∷ a3 ∷ a4 ∷ a5 ∷ a6 ∷ a7 ∷ []) n → IsBatch
     (a0 ∷ a1 ∷ a2 ∷ a3 ∷ a4 ∷ a5 ∷ a6 ∷ a7 ∷ [])
-    → HasWitnesses n (a0 ∷ a1 ∷ a2 ∷ a3 ∷ a4 ∷ a5 ∷ a6 ∷ a7 ∷ []) (first_inverse (take (n / 2) (drop (n / 2) (a0 ∷ a1 ∷ a2 ∷ a3 ∷ a4 ∷ a5 ∷ a6 ∷ a7 ∷ []))))
+    → HasWitnesses n (a0 ∷ a1 ∷ a2 ∷ a3 ∷ a4 ∷ a5 ∷ a6 ∷ a7 ∷ [])
+    (first_inverse (take (n / 2) (drop (n / 2) (a0 ∷ a1 ∷ a2 ∷ a3 ∷ a4 ∷ a5 ∷ a6 ∷ a7 ∷ []))))
 witnesses_of n a0 a1 a2 a3 a4 a5 a6 a7 (one none) b = record {
   eight = λ e. other 1 8 e refl;
   four = λ e. other 1 4 e refl;
@@ -189,7 +191,8 @@ witnesses_of n a0 a1 a2 a3 a4 a5 a6 a7 (four some none) b = record {
 witnesses_of n a0 a1 a2 a3 a4 a5 a6 a7 (eight some) b = record {
   eight = λ e. four_sum a4 a5 a6 a7 (elements-index (a0 ∷ a1 ∷ a2 ∷ a3 ∷ a4 ∷ a5 ∷ a6 ∷ a7 ∷ []) 4 b.below)
       (elements-index (a0 ∷ a1 ∷ a2 ∷ a3 ∷ a4 ∷ a5 ∷ a6 ∷ a7 ∷ []) 5 b.below)
-      (elements-index (a0 ∷ a1 ∷ a2 ∷ a3 ∷ a4 ∷ a5 ∷ a6 ∷ a7 ∷ []) 6 b.below) (elements-index (a0 ∷ a1 ∷ a2 ∷ a3 ∷ a4 ∷ a5 ∷ a6 ∷ a7 ∷ []) 7 b.below) some;
+      (elements-index (a0 ∷ a1 ∷ a2 ∷ a3 ∷ a4 ∷ a5 ∷ a6 ∷ a7 ∷ []) 6 b.below)
+      (elements-index (a0 ∷ a1 ∷ a2 ∷ a3 ∷ a4 ∷ a5 ∷ a6 ∷ a7 ∷ []) 7 b.below) some;
   four = λ e. other 8 4 e refl;
   two = λ e. other 8 2 e refl;
 }
@@ -199,12 +202,12 @@ has_witnesses batch b =
     let P : List ℕ → Type 0 = λ xs. IsBatch xs → (n : ℕ) → InUse xs n → HasWitnesses n xs (first_inverse (take (n / 2) (drop (n / 2) xs))) in
     eight_of P (λ a0 a1 a2 a3 a4 a5 a6 a7 w n u. witnesses_of n a0 a1 a2 a3 a4 a5 a6 a7 u w) batch b.size b (positions_in_use batch) (in_use batch)
 
-count_is : (n k : ℕ) → bit_number (n == k) ≡ 1 → n ≡ k
+count_is : (n k : ℕ) → bit_of (n == k) ≡ 1 → n ≡ k
 count_is n k e = go (eqb n k) refl
   where
     go : (b : Bool) → eqb n k ≡ b → n ≡ k
     go true i = eqb-true n k i
-    go false i = let zero_is : bit_number (eqb n k) ≡ 0 = rw i refl in absurd (omega (arith, e, zero_is))
+    go false i = let zero_is : bit_of (eqb n k) ≡ 0 = rw i refl in absurd (omega (arith, e, zero_is))
 
 pub batch_row : (batch x : List ℕ) → IsBatch batch → BatchCells batch x → ShowsBatch x
 batch_row batch x b cells =
@@ -214,7 +217,8 @@ batch_row batch x b cells =
     let ws : HasWitnesses (positions_in_use batch) batch (batch_witnesses batch) = has_witnesses batch b in
     record {
       is_batch = record {
-        bits = below_three (λ j. c x j < 2) (rw cells.eight (bit_most (positions_in_use batch == 8))) (rw cells.four (bit_most (positions_in_use batch == 4)))
+        bits = below_three (λ j. c x j < 2) (rw cells.eight (bit_most (positions_in_use batch == 8)))
+            (rw cells.four (bit_most (positions_in_use batch == 4)))
             (rw cells.two (bit_most (positions_in_use batch == 2)));
         most = rw (cells.eight, cells.four, cells.two) (flags_most batch (positions_in_use batch) u);
         room = rw count (count_few batch (positions_in_use batch) u).1;

@@ -5,7 +5,7 @@ use Rattle.std.proofs.lemmas.List.{get_or_append_left}
 use Rattle.vm_field.specs.Machine.{Core, zero_word}
 use Rattle.vm_field.specs.Signs.{◌⊞◌, ◌⊟◌}
 use Rattle.vm_ops.specs.Codes.{code_of, is_ordinary_op, is_start_op}
-use Rattle.vm_ops.specs.Values.{Seen, fmp_after, trap_of, unless}
+use Rattle.vm_ops.specs.Values.{Seen, fmp_after, trap_of, unless, bit_of}
 use Rattle.vm_ops.specs.declared.cause.Cause.TheVariants.{NotInSyscall}
 use Rattle.vm_ops.specs.declared.op.Op.{Op}
 use Rattle.vm_ops.specs.declared.op.Op.TheVariants as ops
@@ -15,7 +15,6 @@ use Rattle.air_kit.specs.Flags.{is_op}
 use Rattle.row_facts.specs.Blocks.{IsBlockRow, KeepsBlock, keeps_block, keeps_frame, level_after}
 use Rattle.row_facts.proofs.Says.{never, off}
 use Rattle.run_rows.specs.Decoder.{Decoder, address_of}
-use Rattle.run_rows.specs.Lines.{bit_number}
 use Rattle.run_rows.specs.Shows.{Shows}
 use Rattle.run_rows.proofs.AgreeLemmas.{HasFlags, has_flags}
 use Rattle.run_rows.proofs.ColumnLemmas.{below_four}
@@ -72,7 +71,7 @@ caller_inside ops.Caller v is none = go v.in_syscall none
     go false e = cc
 caller_inside op v is none = off is
 
-pub ordinary_row : (op : Op) (x : List ℕ) (v : Seen) → is_ordinary_op op ≡ true → trap_of op v ≡ None → sys x ≡ bit_number v.in_syscall
+pub ordinary_row : (op : Op) (x : List ℕ) (v : Seen) → is_ordinary_op op ≡ true → trap_of op v ≡ None → sys x ≡ bit_of v.in_syscall
     → IsBlockRow op x
 ordinary_row op x v is none shows =
     let apart = no_block op is in
@@ -82,7 +81,7 @@ ordinary_row op x v is none shows =
       ends = λ b. never (sym b ∙ apart.end);
       single = λ b. neither (is_op op ops.Loop) (is_op op ops.Call) (is_op op ops.Syscall) apart.loop apart.call apart.syscall b;
       outside = λ b. either (is_op op ops.Call) (is_op op ops.Syscall) apart.call apart.syscall b;
-      inside = λ b. shows ∙ ap bit_number (caller_inside op v b none);
+      inside = λ b. shows ∙ ap bit_of (caller_inside op v b none);
       closed = λ b. never (sym b ∙ apart.halt);
     }
 
@@ -136,7 +135,7 @@ kept_block op next x y d after c b sx sy no_call no_syscall same frame moves blo
   syscall = λ is. never (sym is ∙ no_syscall);
   function = λ is. (
     sy.context ∙ same.context ∙ sym sx.context,
-    sy.syscall ∙ ap bit_number same.syscall ∙ sym sx.syscall,
+    sy.syscall ∙ ap bit_of same.syscall ∙ sym sx.syscall,
   );
   digest = λ is j low. sy.digest j low ∙ ap (λ v. slice_index v j) same.digest ∙ sym (sx.digest j low);
   frame = λ is. sy.frame ∙ frame is ∙ sym sx.frame;
@@ -190,7 +189,7 @@ entered_call callee next x y d after c b sx sy hash size early context frame sys
   call = λ is. record {
     context = sy.context ∙ context ∙ tick c.clock early ∙ ap (λ n. n ⊞ 1) (sym sx.clock);
     frame = sy.frame ∙ frame;
-    syscall = sy.syscall ∙ ap bit_number syscall;
+    syscall = sy.syscall ∙ ap bit_of syscall;
     digest = λ j low. sy.digest j low ∙ ap (λ v. slice_index v j) digest ∙ sym (get_or_append_left callee zero_word 0 j (rw size low))
         ∙ sym (hash j (omega (arith, low)));
   };
@@ -209,7 +208,7 @@ pub entered_syscall : (next : Op) (x y : List ℕ) (d after : Decoder) (c b : Co
     → KeepsBlock ops.Syscall x y
 entered_syscall next x y d after c b sx sy context frame syscall digest nesting = record {
   call = λ is. off is;
-  syscall = λ is. record { context = sy.context ∙ context; frame = sy.frame ∙ frame; syscall = sy.syscall ∙ ap bit_number syscall };
+  syscall = λ is. record { context = sy.context ∙ context; frame = sy.frame ∙ frame; syscall = sy.syscall ∙ ap bit_of syscall };
   function = λ is. off is;
   digest = λ is j low. sy.digest j low ∙ ap (λ v. slice_index v j) digest ∙ sym (sx.digest j low);
   frame = λ is. off is;

@@ -4,8 +4,9 @@ use Rattle.std.proofs.lemmas.Bool.{cases_lt}
 use Rattle.vm_field.specs.Field.{felt_inv}
 use Rattle.vm_field.specs.Signs.{◌⊟◌}
 use Rattle.vm_ops.specs.Codes.{is_ordinary_op}
+use Rattle.vm_ops.specs.Values.{bit_of}
 use Rattle.vm_table.specs.MainColumns.{clk, fmp, ctx, sys, f, addr, b, h, sp, gc, ox, c, s, depth, key, inv, ha, lv, w, t}
-use Rattle.run_rows.specs.Lines.{Line, bit_number, code_bit, laid_out}
+use Rattle.run_rows.specs.Lines.{Line, code_bit, laid_out}
 
 pub below_four : (P : ℕ → Type 0) → P 0 → P 1 → P 2 → P 3 → (j : ℕ) → j < 4 → P j
 below_four P p0 p1 p2 p3 zero h = p0
@@ -72,7 +73,7 @@ pub col_ctx : (l : Line) → ctx (laid_out l) ≡ l.seen.context
 unfolding laid_out
 col_ctx l = refl
 
-pub col_sys : (l : Line) → sys (laid_out l) ≡ bit_number l.seen.in_syscall
+pub col_sys : (l : Line) → sys (laid_out l) ≡ bit_of l.seen.in_syscall
 unfolding laid_out
 col_sys l = refl
 
@@ -80,7 +81,7 @@ pub col_addr : (l : Line) → addr (laid_out l) ≡ l.address
 unfolding laid_out
 col_addr l = refl
 
-pub col_sp : (l : Line) → sp (laid_out l) ≡ bit_number (is_ordinary_op l.op)
+pub col_sp : (l : Line) → sp (laid_out l) ≡ bit_of (is_ordinary_op l.op)
 unfolding laid_out
 col_sp l = refl
 
@@ -126,7 +127,9 @@ col_h l = below_eight (λ j. h (laid_out l) j ≡ slice_index l.hash j) refl ref
 
 pub col_s : (l : Line) (j : ℕ) → j < 16 → s (laid_out l) j ≡ slice_index l.seen.cells j
 unfolding laid_out
-col_s l = below_sixteen (λ j. s (laid_out l) j ≡ slice_index l.seen.cells j) refl refl refl refl refl refl refl refl refl refl refl refl refl refl refl refl
+col_s l =
+    below_sixteen (λ j. s (laid_out l) j ≡ slice_index l.seen.cells j) refl refl refl refl refl refl refl refl refl refl refl refl
+    refl refl refl refl
 
 pub col_w : (l : Line) (j : ℕ) → j < 4 → w (laid_out l) j ≡ slice_index l.witnesses j
 unfolding laid_out
@@ -136,14 +139,14 @@ pub col_t : (l : Line) (j : ℕ) → j < 10 → t (laid_out l) j ≡ slice_index
 unfolding laid_out
 col_t l = below_ten (λ j. t (laid_out l) j ≡ slice_index l.limbs j) refl refl refl refl refl refl refl refl refl refl
 
-pub col_c0 : (l : Line) → c (laid_out l) 0 ≡ bit_number (l.in_use == 8)
+pub col_c0 : (l : Line) → c (laid_out l) 0 ≡ bit_of (l.in_use == 8)
 unfolding laid_out
 col_c0 l = refl
 
-pub col_c1 : (l : Line) → c (laid_out l) 1 ≡ bit_number (l.in_use == 4)
+pub col_c1 : (l : Line) → c (laid_out l) 1 ≡ bit_of (l.in_use == 4)
 unfolding laid_out
 col_c1 l = refl
 
-pub col_c2 : (l : Line) → c (laid_out l) 2 ≡ bit_number (l.in_use == 2)
+pub col_c2 : (l : Line) → c (laid_out l) 2 ≡ bit_of (l.in_use == 2)
 unfolding laid_out
 col_c2 l = refl

@@ -189,7 +189,8 @@ few_repeats events = go (repeats events) (counts_low events)
 low_witnesses : (k : Kind) (d : Decoder) (e : Event) (v : Visible) (later : List Event) → d.next < prime → AreElements e.before.cells
     → AreElements e.hash → length later ≤ 524287 → AreElements (witnesses_by k d e v later)
 low_witnesses kinds.Ordinary d e v later next cells hash few = low_operation e.op d.next d.unread.number e.before v next cells
-low_witnesses kinds.Loop d e v later next cells hash few = elements-one (slice_index (repeats later) 0) (let low = few_repeats later in omega (arith, low, few))
+low_witnesses kinds.Loop d e v later next cells hash few =
+    elements-one (slice_index (repeats later) 0) (let low = few_repeats later in omega (arith, low, few))
 low_witnesses kinds.Span d e v later next cells hash few = low_batch e.hash hash
 low_witnesses kinds.Respan d e v later next cells hash few = low_batch e.hash hash
 low_witnesses kinds.Join d e v later next cells hash few = elements-none

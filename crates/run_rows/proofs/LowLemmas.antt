@@ -8,11 +8,12 @@ use Rattle.vm_field.proofs.Elements.{elements-index}
 use Rattle.vm_ops.specs.Codes.{code_of, is_ordinary_op}
 use Rattle.vm_ops.specs.declared.op.Op.{Op}
 use Rattle.vm_ops.proofs.CodeLemmas.{code_of-below}
+use Rattle.vm_ops.specs.Values.{bit_of}
 use Rattle.vm_table.specs.MainColumns.{b}
 use Rattle.air_kit.specs.Flags.{HasOp, spelled}
 use Rattle.air_kit.proofs.FlagLemmas.{has_op-from}
 use Rattle.row_facts.specs.RowFacts.{ReadsAs}
-use Rattle.run_rows.specs.Lines.{Line, bit_number, code_bit, laid_out}
+use Rattle.run_rows.specs.Lines.{Line, code_bit, laid_out}
 use Rattle.run_rows.proofs.ColumnLemmas.{col_b, col_sp}
 
 -- facts of a list's elements, one after another
@@ -37,7 +38,7 @@ pub record IsLowLine (l : Line) : Type 0 where
   pub witnesses : AreElements l.witnesses
   pub limbs : AreElements l.limbs
 
-bit_low : (bit : Bool) → bit_number bit < prime
+bit_low : (bit : Bool) → bit_of bit < prime
 bit_low true = lit< tt
 bit_low false = lit< tt
 

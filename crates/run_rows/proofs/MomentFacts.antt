@@ -147,7 +147,8 @@ module _ (constants : List ℕ) (kernel : List (List ℕ)) (limit : ℕ) where
   moment_pair {x = x} {y = y} within m =
       let core : m.t.core ≡ ticked (core_behind constants m.mark (take (advice_taken m.mark) m.s.tape) m.s.core)
       = core_after m.mark m.s m.t m.cycle in
-      let comes : Comes constants (m.rest ++ m.todo) (ticked (core_behind constants m.mark (take (advice_taken m.mark) m.s.tape) m.s.core)) (flags.op_of y)
+      let comes : Comes constants (m.rest ++ m.todo)
+      (ticked (core_behind constants m.mark (take (advice_taken m.mark) m.s.tape) m.s.core)) (flags.op_of y)
       = subst (λ c. Comes constants (m.rest ++ m.todo) c (flags.op_of y)) core (place_comes constants m.next) in
       let pair : IsPair (op_of m.mark) (flags.op_of y) (row_of m.d (event_at constants kernel m.mark m.s) (visible_of m.t.core) m.later) y
       = pair_shown constants kernel (take (advice_taken m.mark) m.s.tape) m.first m.d m.later m.todo

@@ -162,7 +162,8 @@ module _ (constants : List ℕ) (kernel : List (List ℕ)) (advice : List ℕ) w
       = λ n low. col_h (line_of d (shown_between (StartCall (tree_digest constants a)) advice c b) v later) n low in
       block_pair ops.Call next _ y refl refl refl (clock_shown ops.Call next _ y d _ c _ sx sy refl k.early)
       (starts_block constants a (Returning (tree_digest constants (Call a)) (frame_of c) ∷ todo) _ next comes)
-      (entered_call (tree_digest constants a) next _ y d _ c _ sx sy hash k.whole.size k.early refl refl k.allowed.1 refl (one_more c.nesting k.allowed.0))
+      (entered_call (tree_digest constants a) next _ y d _ c _ sx sy hash k.whole.size k.early refl refl k.allowed.1 refl
+      (one_more c.nesting k.allowed.0))
   pair_shown (syscall {c = c} {a = a}) d later todo b v y next k agrees sy comes =
       let sx : Shows ops.Syscall d c (row_of d (shown_between (StartSyscall (tree_digest constants a)) advice c b) v later)
       = shows_row d (shown_between (StartSyscall (tree_digest constants a)) advice c b) v later c refl in
@@ -185,7 +186,8 @@ module _ (constants : List ℕ) (kernel : List (List ℕ)) (advice : List ℕ) w
       record {
         clock = clock_shown ops.Span next _ y d _ c _ sx sy refl k.early;
         follows = ordinary;
-        block = started ops.Span next _ y d _ c _ sx sy refl refl refl refl (record { context = refl; syscall = refl; digest = refl }) refl refl k.allowed.0;
+        block = started ops.Span next _ y d _ c _ sx sy refl refl refl refl
+            (record { context = refl; syscall = refl; digest = refl }) refl refl k.allowed.0;
         batch = record { first = λ is. sy.batch ∙ sym sy.address; later = λ is. off is; same = λ is. off is };
         opens = λ is. opens_shown batch _ y next _ _ cells k.whole.size sy refl ordinary;
         group = λ is. off is;
@@ -205,7 +207,8 @@ module _ (constants : List ℕ) (kernel : List (List ℕ)) (advice : List ℕ) w
       record {
         clock = clock_shown ops.Respan next _ y d _ c _ sx sy refl k.early;
         follows = ordinary;
-        block = kept_block ops.Respan next _ y d _ c _ sx sy refl refl (record { context = refl; syscall = refl; digest = refl }) (λ is. refl) (λ is. off is)
+        block = kept_block ops.Respan next _ y d _ c _ sx sy refl refl (record { context = refl; syscall = refl; digest = refl })
+            (λ is. refl) (λ is. off is)
             (λ is. refl) refl;
         batch = record {
           first = λ is. off is;
@@ -269,7 +272,8 @@ module _ (constants : List ℕ) (kernel : List (List ℕ)) (advice : List ℕ) w
   pair_shown (returns {c = c} {digest = digest} {frame = frame}) d later todo b v y next k agrees sy comes =
       let sx : Shows ops.End d c (row_of d (shown_between (EndCall digest frame) advice c b) v later)
       = shows_row d (shown_between (EndCall digest frame) advice c b) v later c refl in
-      let hash : (n : ℕ) → n < 8 → h (row_of d (shown_between (EndCall digest frame) advice c b) v later) n ≡ slice_index (digest ++ 0 ∷ 0 ∷ 1 ∷ 0 ∷ []) n
+      let hash : (n : ℕ) → n < 8 → h (row_of d (shown_between (EndCall digest frame) advice c b) v later) n
+      ≡ slice_index (digest ++ 0 ∷ 0 ∷ 1 ∷ 0 ∷ []) n
       = λ n low. col_h (line_of d (shown_between (EndCall digest frame) advice c b) v later) n low in
       let some : 0 < c.nesting = let opened = agrees.framed.0 in omega (arith, opened, agrees.nesting) in
       let z = behind_digest digest 0 0 1 0 _ k.whole.0.size hash in
@@ -279,7 +283,8 @@ module _ (constants : List ℕ) (kernel : List (List ℕ)) (advice : List ℕ) w
   pair_shown (leaves {c = c} {digest = digest} {frame = frame}) d later todo b v y next k agrees sy comes =
       let sx : Shows ops.End d c (row_of d (shown_between (EndSyscall digest frame) advice c b) v later)
       = shows_row d (shown_between (EndSyscall digest frame) advice c b) v later c refl in
-      let hash : (n : ℕ) → n < 8 → h (row_of d (shown_between (EndSyscall digest frame) advice c b) v later) n ≡ slice_index (digest ++ 0 ∷ 0 ∷ 0 ∷ 1 ∷ []) n
+      let hash : (n : ℕ) → n < 8 → h (row_of d (shown_between (EndSyscall digest frame) advice c b) v later) n
+      ≡ slice_index (digest ++ 0 ∷ 0 ∷ 0 ∷ 1 ∷ []) n
       = λ n low. col_h (line_of d (shown_between (EndSyscall digest frame) advice c b) v later) n low in
       let some : 0 < c.nesting = let opened = agrees.framed.0 in omega (arith, opened, agrees.nesting) in
       let z = behind_digest digest 0 0 0 1 _ k.whole.0.size hash in

@@ -7,6 +7,7 @@ use Rattle.vm_ops.specs.Codes.{code_of, is_ordinary_op}
 use Rattle.vm_ops.specs.Step.{seen}
 use Rattle.vm_ops.specs.declared.op.Op.{Op}
 use Rattle.vm_ops.specs.declared.op.Op.TheVariants as ops
+use Rattle.vm_ops.specs.Values.{bit_of}
 use Rattle.vm_table.specs.MainColumns.{h, w}
 use Rattle.block_tree.specs.Cycles.{Mark, StartSpan, StartJoin, StartSplit, StartLoop, StartCall, StartSyscall, Respan, Repeat, Do, End, EndSpan, EndLoop, EndCall, EndSyscall, top}
 use Rattle.block_tree.specs.Rows.{op_of}
@@ -23,7 +24,6 @@ use Rattle.row_facts.proofs.Says.{never, off}
 use Rattle.run_rows.specs.Agreement.{Agrees}
 use Rattle.run_rows.specs.Decoder.{Decoder, address_of}
 use Rattle.run_rows.specs.Filling.{halted, line_of, row_of, witnesses_by}
-use Rattle.run_rows.specs.Lines.{bit_number}
 use Rattle.run_rows.specs.Shows.{Shows}
 use Rattle.run_rows.specs.Witnesses.{operation_witnesses}
 use Rattle.run_rows.proofs.AgreeLemmas.{kind_is}
@@ -134,7 +134,7 @@ module _ (constants : List ℕ) (kernel : List (List ℕ)) (advice : List ℕ) w
         again = λ is. off is;
         ends = λ is. off is;
         single = λ is. four_zeros (tree_digest constants a) _ k.whole.size hash;
-        outside = λ is. sx.syscall ∙ ap bit_number k.allowed.1;
+        outside = λ is. sx.syscall ∙ ap bit_of k.allowed.1;
         inside = λ is. off is;
         closed = λ is. off is;
       })
@@ -149,7 +149,7 @@ module _ (constants : List ℕ) (kernel : List (List ℕ)) (advice : List ℕ) w
         again = λ is. off is;
         ends = λ is. off is;
         single = λ is. four_zeros (tree_digest constants a) _ k.whole.size hash;
-        outside = λ is. sx.syscall ∙ ap bit_number k.allowed.1;
+        outside = λ is. sx.syscall ∙ ap bit_of k.allowed.1;
         inside = λ is. off is;
         closed = λ is. off is;
       })
@@ -244,14 +244,16 @@ module _ (constants : List ℕ) (kernel : List (List ℕ)) (advice : List ℕ) w
   row_shown (returns {c = c} {digest = digest} {frame = frame}) d later todo b v k agrees =
       let sx : Shows ops.End d c (row_of d (shown_between (EndCall digest frame) advice c b) v later)
       = shows_row d (shown_between (EndCall digest frame) advice c b) v later c refl in
-      let hash : (n : ℕ) → n < 8 → h (row_of d (shown_between (EndCall digest frame) advice c b) v later) n ≡ slice_index (digest ++ 0 ∷ 0 ∷ 1 ∷ 0 ∷ []) n
+      let hash : (n : ℕ) → n < 8 → h (row_of d (shown_between (EndCall digest frame) advice c b) v later) n
+      ≡ slice_index (digest ++ 0 ∷ 0 ∷ 1 ∷ 0 ∷ []) n
       = λ n low. col_h (line_of d (shown_between (EndCall digest frame) advice c b) v later) n low in
       plain_row ops.End _ refl refl refl
       (end_row (digest) 0 0 1 0 _ k.whole.0.size hash (omega arith) (omega arith) (omega arith) (omega arith) (omega arith) (λ e. not_one e))
   row_shown (leaves {c = c} {digest = digest} {frame = frame}) d later todo b v k agrees =
       let sx : Shows ops.End d c (row_of d (shown_between (EndSyscall digest frame) advice c b) v later)
       = shows_row d (shown_between (EndSyscall digest frame) advice c b) v later c refl in
-      let hash : (n : ℕ) → n < 8 → h (row_of d (shown_between (EndSyscall digest frame) advice c b) v later) n ≡ slice_index (digest ++ 0 ∷ 0 ∷ 0 ∷ 1 ∷ []) n
+      let hash : (n : ℕ) → n < 8 → h (row_of d (shown_between (EndSyscall digest frame) advice c b) v later) n
+      ≡ slice_index (digest ++ 0 ∷ 0 ∷ 0 ∷ 1 ∷ []) n
       = λ n low. col_h (line_of d (shown_between (EndSyscall digest frame) advice c b) v later) n low in
       plain_row ops.End _ refl refl refl
       (end_row (digest) 0 0 0 1 _ k.whole.0.size hash (omega arith) (omega arith) (omega arith) (omega arith) (omega arith) (λ e. not_one e))

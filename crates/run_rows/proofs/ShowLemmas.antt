@@ -1,13 +1,13 @@
 -- Each row shows the decoder and the state before it, and its event's hash.
 use Rattle.std.proofs.Common.{◌≡◌, List, slice_index, ap, ◌∙◌, lit<}
 use Rattle.std.proofs.lemmas.List.{get_or-take}
+use Rattle.vm_ops.specs.Values.{bit_of}
 use Rattle.vm_field.specs.Machine.{Core}
 use Rattle.cycle_events.specs.Events.{visible_of}
 use Rattle.cycle_events.specs.declared.event.Event.{Event}
 use Rattle.cycle_events.specs.declared.event.Visible.{Visible}
 use Rattle.run_rows.specs.Decoder.{Decoder}
 use Rattle.run_rows.specs.Filling.{hash_by, line_of, row_of}
-use Rattle.run_rows.specs.Lines.{bit_number}
 use Rattle.run_rows.specs.Shows.{Shows}
 use Rattle.run_rows.proofs.AgreeLemmas.{kind_is}
 use Rattle.run_rows.proofs.ColumnLemmas.{col_clk, col_fmp, col_ctx, col_sys, col_f, col_addr, col_h, col_gc, col_ox, col_s, col_depth, col_key, col_ha, col_lv}
@@ -19,7 +19,7 @@ shows_row d e n later core before =
       clock = col_clk (line_of d e n later) ∙ ap (λ v. v.clock) before;
       frame = col_fmp (line_of d e n later) ∙ ap (λ v. v.fmp) before;
       context = col_ctx (line_of d e n later) ∙ ap (λ v. v.context) before;
-      syscall = col_sys (line_of d e n later) ∙ ap (λ v. bit_number v.in_syscall) before;
+      syscall = col_sys (line_of d e n later) ∙ ap (λ v. bit_of v.in_syscall) before;
       digest = λ j low. col_f (line_of d e n later) j low ∙ ap (λ v. slice_index v.digest j) before;
       level = col_lv (line_of d e n later) ∙ ap (λ v. v.nesting) before;
       cells = λ j low. col_s (line_of d e n later) j low ∙ ap (λ v. slice_index v.cells j) before ∙ get_or-take 16 core.stack j 0 low;

@@ -139,7 +139,8 @@ module _ (constants : List ℕ) (kernel : List (List ℕ)) (limit : ℕ) (within
       go (inl h) = (all_read i h).low k
       go (inr past) = rw (get_or_past rows i [] past) (lit< tt)
 
-  last_shown : (k : Claim) (inputs : List ℕ) → ClaimsRun k inputs d.keys u → (i : ℕ) → suc i ≡ length rows → IsLastRow k (op_in rows i) (row_at rows i)
+  last_shown : (k : Claim) (inputs : List ℕ) → ClaimsRun k inputs d.keys u → (i : ℕ) → suc i ≡ length rows
+      → IsLastRow k (op_in rows i) (row_at rows i)
   last_shown k inputs claims i e =
       let end : IsEndRow d u (row_at rows i) = end_at constants kernel limit d u rows moments i e in
       let shows : Shows (op_in rows i) d u.core (row_at rows i) = end_shows end in
@@ -183,7 +184,8 @@ unfolding fill
 fill_count last d [] = refl
 fill_count last d (e ∷ later) = let behind = fill_count last (advance d e later) later in omega (arith, behind)
 
-pub rows_counted : (constants : List ℕ) (kernel : List (List ℕ)) (u : State) (log : List run.Event) → length (filled constants kernel u log) ≡ length log + 1
+pub rows_counted : (constants : List ℕ) (kernel : List (List ℕ)) (u : State) (log : List run.Event)
+    → length (filled constants kernel u log) ≡ length log + 1
 unfolding rows_of
 rows_counted constants kernel u log =
     let count = fill_count (visible_of u.core) at_start (events_of constants kernel log) in
@@ -197,7 +199,8 @@ last_keyed constants kernel limit d u rows moments some =
 
 pub is_linked : (constants : List ℕ) (kernel : List (List ℕ)) (limit : ℕ) (tree : Tree) (inputs tape : List ℕ) (u : State) (log : List run.Event)
     → IsRun constants kernel limit tree inputs tape u log
-    → AreLinked constants kernel limit u (Block tree ∷ []) at_start (start inputs tape) (events_of constants kernel log) (filled constants kernel u log)
+    → AreLinked constants kernel limit u (Block tree ∷ []) at_start (start inputs tape) (events_of constants kernel log)
+    (filled constants kernel u log)
 is_linked constants kernel limit tree inputs tape u log r =
     let f = filled_run constants kernel limit tree inputs tape u log r in
     subst (AreLinked constants kernel limit u (Block tree ∷ []) at_start (start inputs tape) (events_of constants kernel log)) (sym f.are) f.linked
@@ -219,16 +222,22 @@ shows_blocks constants kernel limit tree inputs tape u log r k claims =
     let m = has_moments constants kernel limit tree inputs tape u log r in
     record {
       table = record {
-        wide = all_wide constants kernel limit r.within (decoder_after at_start (events_of constants kernel log)) u (filled constants kernel u log) m.0;
-        below = all_low constants kernel limit r.within (decoder_after at_start (events_of constants kernel log)) u (filled constants kernel u log) m.0;
+        wide = all_wide constants kernel limit r.within (decoder_after at_start (events_of constants kernel log)) u
+            (filled constants kernel u log) m.0;
+        below = all_low constants kernel limit r.within (decoder_after at_start (events_of constants kernel log)) u
+            (filled constants kernel u log) m.0;
       };
-      reads = all_read constants kernel limit r.within (decoder_after at_start (events_of constants kernel log)) u (filled constants kernel u log) m.0;
-      row_is = all_rows constants kernel limit r.within (decoder_after at_start (events_of constants kernel log)) u (filled constants kernel u log) m.0;
+      reads = all_read constants kernel limit r.within (decoder_after at_start (events_of constants kernel log)) u
+          (filled constants kernel u log) m.0;
+      row_is =
+          all_rows constants kernel limit r.within (decoder_after at_start (events_of constants kernel log)) u
+          (filled constants kernel u log) m.0;
       pair_is = λ i h. moment_pair constants kernel limit r.within
           (moment_at constants kernel limit (decoder_after at_start (events_of constants kernel log)) u (filled constants kernel u log) m.0 i h);
       first = λ h. first_shown constants tree inputs tape u (decoder_after at_start (events_of constants kernel log))
           (row_at (filled constants kernel u log) 0) k m.1 r.few claims
           (last_keyed constants kernel limit (decoder_after at_start (events_of constants kernel log)) u (filled constants kernel u log) m.0 h);
-      last = last_shown constants kernel limit r.within (decoder_after at_start (events_of constants kernel log)) u (filled constants kernel u log) m.0 k
+      last = last_shown constants kernel limit r.within (decoder_after at_start (events_of constants kernel log)) u
+          (filled constants kernel u log) m.0 k
           inputs claims;
     }

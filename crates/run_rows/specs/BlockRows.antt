@@ -1,5 +1,5 @@
 -- What the rows of a run show of blocks, batches, groups and boundaries, and the laws of runs that say so.
-use Rattle.std.specs.Prelude.{◌≡◌, ℕ, suc, ◌+◌, ◌<◌, ◌≤◌, List, [], ◌∷◌, length, map, slice_index}
+use Rattle.std.specs.Prelude.{◌≡◌, ℕ, suc, ◌+◌, ◌<◌, ◌≤◌, List, [], ◌∷◌, length, map}
 use Rattle.vm_field.specs.Field.{AreElements}
 use Rattle.vm_field.specs.Machine.{State, start}
 use Rattle.vm_table.specs.Layout.{IsTable}
@@ -7,7 +7,9 @@ use Rattle.block_tree.specs.Execution as run
 use Rattle.block_tree.specs.Execution.{Done, execution}
 use Rattle.block_tree.specs.Steps.{Block}
 use Rattle.block_tree.specs.Trees.{Tree, IsWhole}
+use Rattle.air_kit.specs.BoundaryValues.{rows_in}
 use Rattle.air_kit.specs.Places.{Claim}
+use Rattle.air_kit.specs.declared.trace.TableName.TheVariants as table
 use Rattle.cycle_events.specs.Events.{shown, visible_of}
 use Rattle.cycle_events.specs.declared.event.Event.{Event}
 use Rattle.row_facts.specs.Bounds.{IsFirstRow, IsLastRow}
@@ -43,8 +45,8 @@ keys_of constants kernel log = (decoder_after at_start (events_of constants kern
 pub record ClaimsRun (k : Claim) (inputs keys : List ℕ) (u : State) : Type 0 where
   pub inputs_are : k.inputs ≡ inputs
   pub outputs_are : k.outputs ≡ u.core.stack
-  pub kernel_rows : slice_index k.lengths 5 ≡ length k.kernel
-  pub left_rows : slice_index k.lengths 6 ≡ length keys
+  pub kernel_rows : rows_in k table.Kernel ≡ length k.kernel
+  pub left_rows : rows_in k table.Left ≡ length keys
   pub left_key_is : k.left_key ≡ key_of keys
 
 pub record ShowsBlocks (k : Claim) (rows : List (List ℕ)) : Type 0 where
@@ -70,4 +72,6 @@ RunHasMoments = (constants : List ℕ) (kernel : List (List ℕ)) (limit : ℕ) 
 
 -- there is one row more than there are events
 abbrev pub RowsAreCounted : Type 0
-RowsAreCounted = (constants : List ℕ) (kernel : List (List ℕ)) (u : State) (log : List run.Event) → length (filled constants kernel u log) ≡ length log + 1
+RowsAreCounted =
+    (constants : List ℕ) (kernel : List (List ℕ)) (u : State) (log : List run.Event)
+    → length (filled constants kernel u log) ≡ length log + 1

@@ -27,4 +27,5 @@ over_pairs count (x ∷ y ∷ rows) = count x y + over_pairs count (y ∷ rows)
 abbrev pub RunIsLinked : Type 0
 RunIsLinked = (constants : List ℕ) (kernel : List (List ℕ)) (limit : ℕ) (tree : Tree) (inputs tape : List ℕ) (u : State) (log : List run.Event)
     → IsRun constants kernel limit tree inputs tape u log
-    → AreLinked constants kernel limit u (Block tree ∷ []) at_start (start inputs tape) (events_of constants kernel log) (filled constants kernel u log)
+    → AreLinked constants kernel limit u (Block tree ∷ []) at_start (start inputs tape) (events_of constants kernel log)
+    (filled constants kernel u log)

@@ -1,9 +1,10 @@
 -- A row of the main table from its parts: the 65 cells in the order of the columns.
-use Rattle.std.specs.Prelude.{ℕ, ◌/◌, ◌%◌, ◌^◌, Bool, ◌==◌, if◌then◌else◌, List, [], ◌∷◌, slice_index}
+use Rattle.std.specs.Prelude.{ℕ, ◌/◌, ◌%◌, ◌^◌, ◌==◌, List, [], ◌∷◌, slice_index}
 use Rattle.vm_field.specs.Field.{felt_inv}
 use Rattle.vm_field.specs.Signs.{◌⊟◌}
 use Rattle.vm_ops.specs.Codes.{code_of, is_ordinary_op}
 use Rattle.vm_ops.specs.declared.op.Op.{Op}
+use Rattle.vm_ops.specs.Values.{bit_of}
 use Rattle.cycle_events.specs.declared.event.Visible.{Visible}
 
 -- What is not given beyond the ends of the lists is 0.
@@ -20,23 +21,20 @@ pub record Line : Type 0 where
   pub witnesses : List ℕ
   pub limbs : List ℕ
 
-abbrev pub bit_number : Bool → ℕ
-bit_number bit = if bit then 1 else 0
-
 -- bit j of an operation's code
 abbrev pub code_bit : Op → ℕ → ℕ
 code_bit op j = code_of op / 2 ^ j % 2
 
 unfoldable pub laid_out : Line → List ℕ
 laid_out l =
-    l.seen.clock ∷ l.seen.fmp ∷ l.seen.context ∷ bit_number l.seen.in_syscall
+    l.seen.clock ∷ l.seen.fmp ∷ l.seen.context ∷ bit_of l.seen.in_syscall
     ∷ slice_index l.seen.digest 0 ∷ slice_index l.seen.digest 1 ∷ slice_index l.seen.digest 2 ∷ slice_index l.seen.digest 3
     ∷ l.address
     ∷ code_bit l.op 0 ∷ code_bit l.op 1 ∷ code_bit l.op 2 ∷ code_bit l.op 3 ∷ code_bit l.op 4 ∷ code_bit l.op 5 ∷ code_bit l.op 6
     ∷ slice_index l.hash 0 ∷ slice_index l.hash 1 ∷ slice_index l.hash 2 ∷ slice_index l.hash 3
     ∷ slice_index l.hash 4 ∷ slice_index l.hash 5 ∷ slice_index l.hash 6 ∷ slice_index l.hash 7
-    ∷ bit_number (is_ordinary_op l.op) ∷ l.left ∷ l.place
-    ∷ bit_number (l.in_use == 8) ∷ bit_number (l.in_use == 4) ∷ bit_number (l.in_use == 2)
+    ∷ bit_of (is_ordinary_op l.op) ∷ l.left ∷ l.place
+    ∷ bit_of (l.in_use == 8) ∷ bit_of (l.in_use == 4) ∷ bit_of (l.in_use == 2)
     ∷ slice_index l.seen.cells 0 ∷ slice_index l.seen.cells 1 ∷ slice_index l.seen.cells 2 ∷ slice_index l.seen.cells 3
     ∷ slice_index l.seen.cells 4 ∷ slice_index l.seen.cells 5 ∷ slice_index l.seen.cells 6 ∷ slice_index l.seen.cells 7
     ∷ slice_index l.seen.cells 8 ∷ slice_index l.seen.cells 9 ∷ slice_index l.seen.cells 10 ∷ slice_index l.seen.cells 11

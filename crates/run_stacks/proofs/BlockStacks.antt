@@ -145,7 +145,8 @@ module _ (constants : List ℕ) (kernel : List (List ℕ)) (advice : List ℕ) w
       let x : List ℕ = line (End digest) d c b v later in
       let size : length digest ≡ 4 = k.whole.size in
       let ends : EndsBy x 0 0 0 =
-      ends_by (End digest) digest 0 0 0 0 d c b v later refl (λ n low. col_h (line_of d (shown_between (End digest) advice c b) v later) n low) size in
+      ends_by (End digest) digest 0 0 0 0 d c b v later refl
+      (λ n low. col_h (line_of d (shown_between (End digest) advice c b) v later) n low) size in
       facts (End digest) d c b v later y refl k (end_stays x 0 ends)
       (kept ops.End next x y d _ c _ a refl (end_moves x 0 0 ends) refl refl refl refl refl
       (ap key_of (end_keys (End digest) digest 0 0 0 0 d refl size)))
@@ -154,7 +155,8 @@ module _ (constants : List ℕ) (kernel : List (List ℕ)) (advice : List ℕ) w
       let x : List ℕ = line (EndSpan digest) d c b v later in
       let size : length digest ≡ 4 = k.whole.size in
       let ends : EndsBy x 0 0 0 =
-      ends_by (EndSpan digest) digest 0 1 0 0 d c b v later refl (λ n low. col_h (line_of d (shown_between (EndSpan digest) advice c b) v later) n low) size in
+      ends_by (EndSpan digest) digest 0 1 0 0 d c b v later refl
+      (λ n low. col_h (line_of d (shown_between (EndSpan digest) advice c b) v later) n low) size in
       facts (EndSpan digest) d c b v later y refl k (end_stays x 0 ends)
       (kept ops.End next x y d _ c _ a refl (end_moves x 0 0 ends) refl refl refl refl refl
       (ap key_of (end_keys (EndSpan digest) digest 0 1 0 0 d refl size)))
@@ -163,7 +165,8 @@ module _ (constants : List ℕ) (kernel : List (List ℕ)) (advice : List ℕ) w
       let x : List ℕ = line (EndLoop digest) d c b v later in
       let size : length digest ≡ 4 = k.whole.size in
       let ends : EndsBy x 1 0 0 =
-      ends_by (EndLoop digest) digest 1 0 0 0 d c b v later refl (λ n low. col_h (line_of d (shown_between (EndLoop digest) advice c b) v later) n low) size in
+      ends_by (EndLoop digest) digest 1 0 0 0 d c b v later refl
+      (λ n low. col_h (line_of d (shown_between (EndLoop digest) advice c b) v later) n low) size in
       facts (EndLoop digest) d c b v later y refl k (end_stays x 1 ends)
       (popped ops.End next ops.Drop x y d _ c _ a refl (ap (λ n. cond (eqb n 1) ops.Drop ops.End) ends.loop) refl refl refl refl refl
       (end_keys (EndLoop digest) digest 1 0 0 0 d refl size) keyed (shallow (EndLoop digest) c d k))

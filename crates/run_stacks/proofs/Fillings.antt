@@ -99,7 +99,8 @@ module _ (constants : List ℕ) (kernel : List (List ℕ)) (limit : ℕ) where
       → IsCycle constants kernel limit (Do item) from to → IsOrdinaryItem item → IsWellFormed from → IsWellFormed to
       → from.core.clock < 2 ^ 19 → length from.core.stack < 2 ^ 20 → length d.keys + 16 ≡ length from.core.stack
       → Shows next (advance d (event_at constants kernel (Do item) from) later) to.core y
-      → FillsRows constants item (row_of d (event_at constants kernel (Do item) from) (visible_of to.core) later) y (elsewhere_of from) (elsewhere_of to)
+      → FillsRows constants item (row_of d (event_at constants kernel (Do item) from) (visible_of to.core) later) y
+      (elsewhere_of from) (elsewhere_of to)
   do_fills item from to d later y next len cycle o h g early few keyed sy =
       let e : Event = event_at constants kernel (Do item) from in
       let v : Visible = visible_of to.core in

@@ -65,7 +65,8 @@ module _ (constants : List ℕ) (kernel : List (List ℕ)) (limit : ℕ) where
       → IsShown mark s t d later y → StackFacts (op_of mark) (row_of d (event_at constants kernel mark s) (visible_of t.core) later) y
   block mark s t d later y is h =
       block_facts constants kernel (take (advice_taken mark) s.tape) mark d s.core
-      (behind (effect_of constants kernel mark (take (advice_taken mark) s.tape) s.core) s.core) (visible_of t.core) later y (flags.op_of y) is h.known_is
+      (behind (effect_of constants kernel mark (take (advice_taken mark) s.tape) s.core) s.core) (visible_of t.core) later y
+      (flags.op_of y) is h.known_is
       h.keyed (blocks mark s t d later y h)
 
   facts : (mark : Mark) (s t : State) (d : Decoder) (later : List Event) (y : List ℕ) → length constants ≡ 168 → IsShown mark s t d later y
@@ -107,7 +108,8 @@ module _ (constants : List ℕ) (kernel : List (List ℕ)) (limit : ℕ) where
       → m.mark ≡ Do item → FillsRows constants item x y (elsewhere_of m.s) (elsewhere_of m.t)
   moment_fills x y len within m item is =
       let P : Mark → Type 0 = λ mark. IsShown mark m.s m.t m.d m.later y
-      → FillsRows constants item (row_of m.d (event_at constants kernel mark m.s) (visible_of m.t.core) m.later) y (elsewhere_of m.s) (elsewhere_of m.t)
+      → FillsRows constants item (row_of m.d (event_at constants kernel mark m.s) (visible_of m.t.core) m.later) y
+      (elsewhere_of m.s) (elsewhere_of m.t)
       in
       subst (λ z. FillsRows constants item z y (elsewhere_of m.s) (elsewhere_of m.t)) (sym m.row)
       (subst P (sym is) (fills item m.s m.t m.d m.later y len) (shown within m))

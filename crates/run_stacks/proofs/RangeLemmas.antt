@@ -110,7 +110,8 @@ module _ (constants : List ℕ) (kernel : List (List ℕ)) (limit : ℕ) where
   behind_is ended = refl
   behind_is (goes first cycle later) = refl
 
-  along : {todo : List Task} {s u : State} {log : List run.Event} → Steps constants kernel limit todo s log u → length constants ≡ 168 → limit ≤ 524287
+  along : {todo : List Task} {s u : State} {log : List run.Event} → Steps constants kernel limit todo s log u
+      → length constants ≡ 168 → limit ≤ 524287
       → AreWholeTasks todo → IsWellFormed s → All (λ e. length e.core.stack ≤ 16 + e.core.clock) log
       → All Is16 (ranges_of (visible_of u.core) (map (shown constants kernel) log))
   unfolding ranges_of

@@ -1,7 +1,8 @@
 -- A row that shows the machine's state before it in each column shows it as a whole.
-use Rattle.std.proofs.Common.{◌≡◌, ℕ, ◌<◌, ◌≤◌, List, [], ◌∷◌, length, take, slice_index, refl, sym, ◌∙◌, arith, lit<}
+use Rattle.std.proofs.Common.{◌≡◌, ℕ, ◌<◌, ◌≤◌, List, [], ◌∷◌, length, take, slice_index, sym, ◌∙◌, arith, lit<}
 use Rattle.std.proofs.lemmas.List.{ext_get_or, get_or-take, length-take-le}
 use Rattle.vm_field.specs.Machine.{Core, State}
+use Rattle.vm_field.proofs.Elements.{word-again}
 use Rattle.vm_ops.specs.declared.op.Op.{Op}
 use Rattle.vm_table.specs.MainColumns.{f}
 use Rattle.air_kit.specs.StackValues.{cells, function_digest}
@@ -10,14 +11,6 @@ use Rattle.row_steps.proofs.Seeing.{cells_index, length_cells}
 use Rattle.run_rows.specs.Decoder.{Decoder}
 use Rattle.run_rows.specs.Shows.{Shows}
 
-pub four_of : (xs : List ℕ) → length xs ≡ 4 → slice_index xs 0 ∷ slice_index xs 1 ∷ slice_index xs 2 ∷ slice_index xs 3 ∷ [] ≡ xs
-four_of (a ∷ b ∷ c ∷ d ∷ []) size = refl
-four_of [] size = absurd (omega (arith, size))
-four_of (a ∷ []) size = absurd (omega (arith, size))
-four_of (a ∷ b ∷ []) size = absurd (omega (arith, size))
-four_of (a ∷ b ∷ c ∷ []) size = absurd (omega (arith, size))
-four_of (a ∷ b ∷ c ∷ d ∷ e ∷ more) size = absurd (omega (arith, size))
-
 digest_shown : (x digest : List ℕ) → length digest ≡ 4 → ((j : ℕ) → j < 4 → f x j ≡ slice_index digest j) → function_digest x ≡ digest
 unfolding function_digest
 digest_shown x digest size each =
@@ -25,7 +18,7 @@ digest_shown x digest size each =
     let b : f x 1 ≡ slice_index digest 1 = each 1 (lit< tt) in
     let c : f x 2 ≡ slice_index digest 2 = each 2 (lit< tt) in
     let d : f x 3 ≡ slice_index digest 3 = each 3 (lit< tt) in
-    (λ i. a i ∷ b i ∷ c i ∷ d i ∷ []) ∙ four_of digest size
+    (λ i. a i ∷ b i ∷ c i ∷ d i ∷ []) ∙ word-again digest size
 
 cells_shown : {op : Op} {d : Decoder} {c : Core} {x : List ℕ} → Shows op d c x → 16 ≤ length c.stack → cells x ≡ take 16 c.stack
 cells_shown {c = c} {x = x} sx deep =

@@ -42,7 +42,8 @@ pub fn course_of(
     requires kernel { IfSome kernel (λ k. length k.text.now ≤ 1048576) }
     requires limit { limit ≤ 524287 }
     ensures came { IfOk result (Came constants.now (file_of source.entry) (option_map file_of kernel.entry) (given_of inputs.now) limit) }
-    ensures stopped { IfErr result (Stopped (constants_of constants.now) (file_of source.entry) (option_map file_of kernel.entry) (given_of inputs.now) limit) }
+    ensures stopped { IfErr result (Stopped (constants_of constants.now) (file_of source.entry)
+        (option_map file_of kernel.entry) (given_of inputs.now) limit) }
 {
     match assemble_sources(alloc, constants, source, kernel) {
         Ok(program) => run_of(alloc, constants, program, inputs, limit),

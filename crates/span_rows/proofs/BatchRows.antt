@@ -46,7 +46,8 @@ pub record Runs (rows : List (List ℕ)) (i r : ℕ) : Type 0 where
 
 -- ---- the row of an ordinary operation
 
-pub not_last : {rows : List (List ℕ)} {i : ℕ} → IsRead rows i → (r : ℕ) → r < length rows → (is_op (op_in rows r) ops.Halt ≡ true → ⊥) → suc r < length rows
+pub not_last : {rows : List (List ℕ)} {i : ℕ} → IsRead rows i → (r : ℕ) → r < length rows
+    → (is_op (op_in rows r) ops.Halt ≡ true → ⊥) → suc r < length rows
 not_last {rows = rows} c r h goes = more (suc r) (length rows) h (λ e. goes ((halts_last c.claim rows c.shows r h).1 e))
   where
     more : (n l : ℕ) → n ≤ l → n ≢ l → n < l
@@ -65,7 +66,8 @@ pub found_as : (positions others : List ℕ) (room number : ℕ) (item other : I
 found_as positions others room number item other items e f found =
     subst (λ (it : Item). Found others room number (it ∷ items)) f (subst (λ (ps : List ℕ). Found ps room number (item ∷ items)) e found)
 
-pub place_at : {rows : List (List ℕ)} {i : ℕ} → IsRead rows i → (r : ℕ) → r < length rows → is_ordinary_op (op_in rows r) ≡ true → ox (row_at rows r) ≤ 8
+pub place_at : {rows : List (List ℕ)} {i : ℕ} → IsRead rows i → (r : ℕ) → r < length rows → is_ordinary_op (op_in rows r) ≡ true
+    → ox (row_at rows r) ≤ 8
 place_at c r h is = ((c.shows.row_is r h).row.group is).place
 
 pub low_at : {rows : List (List ℕ)} {i : ℕ} → IsRead rows i → (r : ℕ) → r < length rows → gc (row_at rows r) < 18446744069414584321

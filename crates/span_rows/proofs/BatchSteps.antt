@@ -58,7 +58,8 @@ step_stays : {rows : List (List ℕ)} {i : ℕ} → IsRead rows i → (r : ℕ) 
 step_stays {rows = rows} {i = i} c r here later other ordinary apart is place left =
     extended c r here l
     (found_as _ _ _ _ _ _ l.items (ap (left_of (row_at rows i)) left) (plain_at rows r other)
-    (found-stays (left_of (row_at rows i) (gc y)) (9 - ox x) (9 - ox y) (h x 0) (h y 0) (op_in rows r) l.items room (at_most_eight (9 - ox y) (ox x) room)
+    (found-stays (left_of (row_at rows i) (gc y)) (9 - ox x) (9 - ox y) (h x 0) (h y 0) (op_in rows r) l.items room
+    (at_most_eight (9 - ox y) (ox x) room)
     (plain_code (op_in rows r) here.ordinary other) is apart l.found))
   where
     x : List ℕ
@@ -71,7 +72,8 @@ step_stays {rows = rows} {i = i} c r here later other ordinary apart is place le
     l = later ordinary (subst (λ (n : ℕ). n < positions (row_at rows i)) (sym left) here.left)
 
     room : suc (9 - ox y) ≡ 9 - ox x
-    room = next_place (ox x) (ox y) (place_at c r (one_before r (length rows) here.within) here.ordinary) (place_at c (suc r) here.within ordinary) place
+    room = next_place (ox x) (ox y) (place_at c r (one_before r (length rows) here.within) here.ordinary)
+        (place_at c (suc r) here.within ordinary) place
 
 step_pushes : {rows : List (List ℕ)} {i : ℕ} → IsRead rows i → (r : ℕ) → IsInBatch rows i r → Later rows i r → is_op (op_in rows r) ops.Push ≡ true
     → is_ordinary_op (op_in rows (suc r)) ≡ true → h (row_at rows r) 0 ≡ code_of (op_in rows r) ⊞ 128 ⊠ h (row_at rows (suc r)) 0
@@ -100,7 +102,8 @@ step_pushes {rows = rows} {i = i} c r here later push ordinary is place left =
     l = later ordinary (fewer_than (gc x) (gc y) (positions (row_at rows i)) here.left fewer)
 
     room : suc (9 - ox y) ≡ 9 - ox x
-    room = next_place (ox x) (ox y) (place_at c r (one_before r (length rows) here.within) here.ordinary) (place_at c (suc r) here.within ordinary) place
+    room = next_place (ox x) (ox y) (place_at c r (one_before r (length rows) here.within) here.ordinary)
+        (place_at c (suc r) here.within ordinary) place
 
 -- the row behind has the next group
 group_opens : {rows : List (List ℕ)} {i : ℕ} → IsRead rows i → (r : ℕ) → IsInBatch rows i r → is_ordinary_op (op_in rows (suc r)) ≡ true
@@ -108,7 +111,8 @@ group_opens : {rows : List (List ℕ)} {i : ℕ} → IsRead rows i → (r : ℕ)
 group_opens {rows = rows} c r here ordinary is =
     three_pass _ _ _ here.ordinary
     (nothing_left (op_in rows r) (row_at rows r) row.reads (row.row.group here.ordinary) ∙ eq-eqb (h (row_at rows r) 0) (code_of (op_in rows r)) is)
-    (eq-eqb (sp (row_at rows (suc r))) 1 ((c.shows.row_is (suc r) here.within).reads.span ∙ cond-true (is_ordinary_op (op_in rows (suc r))) 1 0 ordinary))
+    (eq-eqb (sp (row_at rows (suc r))) 1
+    ((c.shows.row_is (suc r) here.within).reads.span ∙ cond-true (is_ordinary_op (op_in rows (suc r))) 1 0 ordinary))
   where
     row : ShowsRow (op_in rows r) (row_at rows r)
     row = c.shows.row_is r (one_before r (length rows) here.within)

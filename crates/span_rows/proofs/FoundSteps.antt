@@ -44,7 +44,10 @@ pub found-pushes : (position : ℕ) (positions : List ℕ) (room later number re
     → number ≡ 69 ⊞ 128 ⊠ rest → Found positions later rest items → Found (position ∷ positions) room number (push_item position ∷ items)
 found-pushes position positions room later number rest items e few is f =
     with_room (position ∷ positions) (suc later) room number (push_item position ∷ items) e
-    (record { reads = read-pushes position positions later number rest items whole f.reads; fits = one_more number 69 rest later whole (lit< tt) f.fits })
+    (record {
+      reads = read-pushes position positions later number rest items whole f.reads;
+      fits = one_more number 69 rest later whole (lit< tt) f.fits;
+    })
   where
     whole : number ≡ 69 + 128 * rest
     whole = unwrapped number 69 rest later is (lit< tt) few f.fits

@@ -141,7 +141,8 @@ left_more x left later element few p e =
     ap (λ n. drop n used) (front_of (positions x) left p.place p.left_is)
     ∙ drop-cons used p.place 0 (rw (length-take-le (positions x) (eight x) few) p.in_use)
     ∙ ap₂ (λ v xs. v ∷ xs)
-    (get_or-take (positions x) (eight x) p.place 0 p.in_use ∙ index_is (eight x) p.place ∙ at_place x p.place (omega (arith, few, p.in_use)) ∙ sym p.is)
+    (get_or-take (positions x) (eight x) p.place 0 p.in_use ∙ index_is (eight x) p.place
+    ∙ at_place x p.place (omega (arith, few, p.in_use)) ∙ sym p.is)
     (ap (λ n. drop n used) (sym (place_of (positions x) left p.place later p.left_is e)))
   where
     used : List ℕ

@@ -48,7 +48,8 @@ pub read-opens : (position : ℕ) (positions : List ℕ) (room number : ℕ) (op
     → number ≡ code_of op → read_on positions 9 position ≡ Some items
     → read_on (position ∷ positions) (suc room) number ≡ Some (plain_item op ∷ items)
 read-opens position positions room number op items few e later =
-    plain_step (position ∷ positions) room number 0 op few (let f : number ≡ code_of op + 128 * 0 = omega (arith, e) in f) ∙ ap (before (plain_item op)) later
+    plain_step (position ∷ positions) room number 0 op few (let f : number ≡ code_of op + 128 * 0 = omega (arith, e) in f)
+    ∙ ap (before (plain_item op)) later
 
 -- nothing is left of it, and no position is
 pub read-ends : (room number : ℕ) (op : Op) → code_of op < 69 → number ≡ code_of op → read_on [] (suc room) number ≡ Some (plain_item op ∷ [])

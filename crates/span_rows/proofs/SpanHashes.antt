@@ -19,7 +19,8 @@ use Rattle.span_rows.proofs.Addresses.{address_of_block, last_row}
 abbrev Gives : List (List ℕ) → ℕ → ℕ → List ℕ → Type 0
 Gives hasher tag address xs = 0 < hasher_gives hasher (tag ∷ address ∷ xs)
 
-pub gives_at : (hasher : List (List ℕ)) (tag a b : ℕ) (xs : List ℕ) → a ≡ b → 0 < hasher_gives hasher (tag ∷ a ∷ xs) → 0 < hasher_gives hasher (tag ∷ b ∷ xs)
+pub gives_at : (hasher : List (List ℕ)) (tag a b : ℕ) (xs : List ℕ) → a ≡ b → 0 < hasher_gives hasher (tag ∷ a ∷ xs)
+    → 0 < hasher_gives hasher (tag ∷ b ∷ xs)
 gives_at hasher tag a b xs e h = subst (λ n. Gives hasher tag n xs) e h
 
 pub end_of_span : (x : List ℕ) → h x 5 ≡ 1 → hash_end x ≡ ha x ⊞ 7

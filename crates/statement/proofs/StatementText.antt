@@ -75,7 +75,8 @@ joined text rest =
 ended : (text rest : List ℕ) → (text ++ 34 ∷ []) ++ rest ≡ text ++ 34 ∷ rest
 ended text rest = append_assoc text (34 ∷ []) rest
 
-words_listed_on : (w : List ℕ) (ws : List (List ℕ)) → compact_text (string (word_hex w)) ++ items_text true (texts_of ws) ≡ words_listed (w ∷ ws) ++ 93 ∷ []
+words_listed_on : (w : List ℕ) (ws : List (List ℕ))
+    → compact_text (string (word_hex w)) ++ items_text true (texts_of ws) ≡ words_listed (w ∷ ws) ++ 93 ∷ []
 words_listed_on w [] = rw (escape-word_hex w) refl
 words_listed_on w (v ∷ vs) =
     ap₂ (λ text rest. 34 ∷ ((text ++ 34 ∷ []) ++ 44 ∷ rest)) (escape-word_hex w) (words_listed_on v vs) ∙ joined (word_hex w) (words_listed (v ∷ vs))
@@ -145,6 +146,7 @@ claim_by-statement_data claim good =
     )
     (grind (arith, nat_tests, good.inputs_few, good.kernel_few, good.outputs_full, good.outputs_few))
 
-pub statement_of-read : (bytes : List ℕ) (d : Data) (claim : Claim) → IsUtf8 bytes → read bytes ≡ Some d → claim_by d ≡ Ok claim → statement_of bytes ≡ Ok claim
+pub statement_of-read : (bytes : List ℕ) (d : Data) (claim : Claim) → IsUtf8 bytes → read bytes ≡ Some d → claim_by d ≡ Ok claim
+    → statement_of bytes ≡ Ok claim
 unfolding statement_of
 statement_of-read bytes d claim text e by = rw (is_utf8-from_IsUtf8 bytes text, e) by

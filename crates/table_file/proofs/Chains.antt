@@ -14,6 +14,7 @@ bad-read r (Bad offset why) is = is
 bad-read r Memory is = tt
 
 -- the good field that another stands behind
-pub chain : {A B : Type 0} (r : Result A FileError) (y : B) (next : A → Result B FileError) → behind r next ≡ Ok y → (x : A) × (r ≡ Ok x) × (next x ≡ Ok y)
+pub chain : {A B : Type 0} (r : Result A FileError) (y : B) (next : A → Result B FileError) → behind r next ≡ Ok y
+    → (x : A) × (r ≡ Ok x) × (next x ≡ Ok y)
 chain (Ok x) y next e = (x, refl, e)
 chain (Err why) y next e = cc

@@ -49,7 +49,16 @@ module _ (bytes : List ℕ) where
       let memory = chain (rows_at bytes 14 c.memory (memory_place c)) t _ bitwise.2 in
       let kernel = chain (rows_at bytes 5 c.kernel (kernel_place c)) t _ memory.2 in
       let left = chain (rows_at bytes 1 c.left (left_place c)) t _ kernel.2 in
-      let end = ended-says (end_place c) (record { main = main.0; range = range.0; hasher = hasher.0; bitwise = bitwise.0; memory = memory.0; kernel = kernel.0; left = left.0 }) t left.2 in
+      let end =
+      ended-says (end_place c) (record {
+        main = main.0;
+        range = range.0;
+        hasher = hasher.0;
+        bitwise = bitwise.0;
+        memory = memory.0;
+        kernel = kernel.0;
+        left = left.0;
+      }) t left.2 in
       record {
         main = main.1 ∙ ap (λ (x : Trace). Ok x.main) end.1;
         range = range.1 ∙ ap (λ (x : Trace). Ok x.range) end.1;
@@ -130,12 +139,22 @@ module _ (bytes : List ℕ) where
       sym (append-nil (table_bytes t.left)) ∙ ap (λ (bs : List ℕ). table_bytes t.left ++ bs) (sym end)
       ∙ rows-written bytes low 1 c.left (left_place c) t.left say.left in
       let tables =
-      joined (table_bytes t.main) (table_bytes t.range ++ (table_bytes t.hasher ++ (table_bytes t.bitwise ++ (table_bytes t.memory ++ (table_bytes t.kernel ++ table_bytes t.left))))) 36 (range_place c) (rows-written bytes low 65 c.main 36 t.main say.main)
-      (joined (table_bytes t.range) (table_bytes t.hasher ++ (table_bytes t.bitwise ++ (table_bytes t.memory ++ (table_bytes t.kernel ++ table_bytes t.left)))) (range_place c) (hasher_place c) (rows-written bytes low 2 c.range (range_place c) t.range say.range)
-      (joined (table_bytes t.hasher) (table_bytes t.bitwise ++ (table_bytes t.memory ++ (table_bytes t.kernel ++ table_bytes t.left))) (hasher_place c) (bitwise_place c) (rows-written bytes low 15 c.hasher (hasher_place c) t.hasher say.hasher)
-      (joined (table_bytes t.bitwise) (table_bytes t.memory ++ (table_bytes t.kernel ++ table_bytes t.left)) (bitwise_place c) (memory_place c) (rows-written bytes low 12 c.bitwise (bitwise_place c) t.bitwise say.bitwise)
-      (joined (table_bytes t.memory) (table_bytes t.kernel ++ table_bytes t.left) (memory_place c) (kernel_place c) (rows-written bytes low 14 c.memory (memory_place c) t.memory say.memory)
-      (joined (table_bytes t.kernel) (table_bytes t.left) (kernel_place c) (left_place c) (rows-written bytes low 5 c.kernel (kernel_place c) t.kernel say.kernel) last))))) in
+      joined (table_bytes t.main) (table_bytes t.range
+      ++ (table_bytes t.hasher ++ (table_bytes t.bitwise
+      ++ (table_bytes t.memory ++ (table_bytes t.kernel ++ table_bytes t.left))))) 36 (range_place c)
+      (rows-written bytes low 65 c.main 36 t.main say.main)
+      (joined (table_bytes t.range) (table_bytes t.hasher
+      ++ (table_bytes t.bitwise ++ (table_bytes t.memory ++ (table_bytes t.kernel ++ table_bytes t.left)))) (range_place c)
+      (hasher_place c) (rows-written bytes low 2 c.range (range_place c) t.range say.range)
+      (joined (table_bytes t.hasher) (table_bytes t.bitwise
+      ++ (table_bytes t.memory ++ (table_bytes t.kernel ++ table_bytes t.left))) (hasher_place c) (bitwise_place c)
+      (rows-written bytes low 15 c.hasher (hasher_place c) t.hasher say.hasher)
+      (joined (table_bytes t.bitwise) (table_bytes t.memory ++ (table_bytes t.kernel ++ table_bytes t.left)) (bitwise_place c)
+      (memory_place c) (rows-written bytes low 12 c.bitwise (bitwise_place c) t.bitwise say.bitwise)
+      (joined (table_bytes t.memory) (table_bytes t.kernel ++ table_bytes t.left) (memory_place c) (kernel_place c)
+      (rows-written bytes low 14 c.memory (memory_place c) t.memory say.memory)
+      (joined (table_bytes t.kernel) (table_bytes t.left) (kernel_place c) (left_place c)
+      (rows-written bytes low 5 c.kernel (kernel_place c) t.kernel say.kernel) last))))) in
       sym (head-written bytes low c h.1) ∙ ap₂ (λ (k : RowCounts) (bs : List ℕ). head_bytes k ++ bs) (sym (counts-same c t say)) (sym tables)
 
 may-stand : (bytes : List ℕ) (t : Trace) → HasCounts t → MayStand bytes (counts_in t)
@@ -154,11 +173,26 @@ read-parts : (bytes : List ℕ) (t : Trace) → HasCounts t → AreTables t → 
 unfolding bytes_of trace_of tables_of ended_at
 read-parts bytes t has shaped is =
     let c = counts_in t in
-    let head = head-read bytes c (table_bytes t.main ++ (table_bytes t.range ++ (table_bytes t.hasher ++ (table_bytes t.bitwise ++ (table_bytes t.memory ++ (table_bytes t.kernel ++ table_bytes t.left)))))) (may-stand bytes t has) is in
-    let main = rows-read bytes 65 36 t.main (table_bytes t.range ++ (table_bytes t.hasher ++ (table_bytes t.bitwise ++ (table_bytes t.memory ++ (table_bytes t.kernel ++ table_bytes t.left))))) (shaped table.Main) head.1 in
-    let range = rows-read bytes 2 (range_place c) t.range (table_bytes t.hasher ++ (table_bytes t.bitwise ++ (table_bytes t.memory ++ (table_bytes t.kernel ++ table_bytes t.left)))) (shaped table.Range) main.1 in
-    let hasher = rows-read bytes 15 (hasher_place c) t.hasher (table_bytes t.bitwise ++ (table_bytes t.memory ++ (table_bytes t.kernel ++ table_bytes t.left))) (shaped table.Hasher) range.1 in
-    let bitwise = rows-read bytes 12 (bitwise_place c) t.bitwise (table_bytes t.memory ++ (table_bytes t.kernel ++ table_bytes t.left)) (shaped table.Bitwise) hasher.1 in
+    let head =
+    head-read bytes c (table_bytes t.main
+    ++ (table_bytes t.range ++ (table_bytes t.hasher
+    ++ (table_bytes t.bitwise ++ (table_bytes t.memory ++ (table_bytes t.kernel ++ table_bytes t.left))))))
+    (may-stand bytes t has) is in
+    let main =
+    rows-read bytes 65 36 t.main (table_bytes t.range
+    ++ (table_bytes t.hasher ++ (table_bytes t.bitwise
+    ++ (table_bytes t.memory ++ (table_bytes t.kernel ++ table_bytes t.left))))) (shaped table.Main) head.1 in
+    let range =
+    rows-read bytes 2 (range_place c) t.range
+    (table_bytes t.hasher ++ (table_bytes t.bitwise ++ (table_bytes t.memory ++ (table_bytes t.kernel ++ table_bytes t.left))))
+    (shaped table.Range) main.1 in
+    let hasher =
+    rows-read bytes 15 (hasher_place c) t.hasher
+    (table_bytes t.bitwise ++ (table_bytes t.memory ++ (table_bytes t.kernel ++ table_bytes t.left))) (shaped table.Hasher)
+    range.1 in
+    let bitwise =
+    rows-read bytes 12 (bitwise_place c) t.bitwise (table_bytes t.memory ++ (table_bytes t.kernel ++ table_bytes t.left))
+    (shaped table.Bitwise) hasher.1 in
     let memory = rows-read bytes 14 (memory_place c) t.memory (table_bytes t.kernel ++ table_bytes t.left) (shaped table.Memory) bitwise.1 in
     let kernel = rows-read bytes 5 (kernel_place c) t.kernel (table_bytes t.left) (shaped table.Kernel) memory.1 in
     let left = rows-read bytes 1 (left_place c) t.left [] (shaped table.Left) (kernel.1 ∙ sym (append-nil (table_bytes t.left))) in

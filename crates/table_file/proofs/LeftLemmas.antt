@@ -13,12 +13,15 @@ unfolding left_of bytes_of
 all_left t = refl
 
 -- the head was given
-pub head_goes : (t : Trace) (c : RowCounts) (k : RowCounts) (piece : List ℕ) → c ≡ counts_in t → piece ≡ head_bytes c → left_of t false k ≡ piece ++ left_of t true k
+pub head_goes : (t : Trace) (c : RowCounts) (k : RowCounts) (piece : List ℕ) → c ≡ counts_in t → piece ≡ head_bytes c
+    → left_of t false k ≡ piece ++ left_of t true k
 unfolding left_of
 head_goes t c k piece counts is = ap (λ (bs : List ℕ). bs ++ left_of t true k) (sym (is ∙ ap head_bytes counts))
 
 -- a further row
-pub row_goes : (rows : List (List ℕ)) (i : ℕ) (all so_far now : List ℕ) → i < length rows → all ≡ so_far ++ table_bytes (drop i rows) → now ≡ so_far ++ row_bytes (get_or rows i []) → all ≡ now ++ table_bytes (drop (i + 1) rows)
+pub row_goes : (rows : List (List ℕ)) (i : ℕ) (all so_far now : List ℕ) → i < length rows
+    → all ≡ so_far ++ table_bytes (drop i rows) → now ≡ so_far ++ row_bytes (get_or rows i [])
+    → all ≡ now ++ table_bytes (drop (i + 1) rows)
 unfolding parts_bytes
 row_goes rows i all so_far now inside before is =
     before
@@ -61,40 +64,63 @@ module _ (t : Trace) (k : RowCounts) where
     unfolding left_of
     main_goes is = here _ piece _ _ is
 
-    pub range_goes : length t.main ≤ k.main → at_range ≡ piece ++ table_bytes (drop n t.range) → left_of t true k ≡ piece ++ left_of t true (record k { range = n })
+    pub range_goes : length t.main ≤ k.main → at_range ≡ piece ++ table_bytes (drop n t.range)
+        → left_of t true k ≡ piece ++ left_of t true (record k { range = n })
     unfolding left_of
     range_goes main is = skip at_main _ piece _ (none t.main k.main main) (here _ piece _ _ is)
 
-    pub hasher_goes : length t.main ≤ k.main → length t.range ≤ k.range → at_hasher ≡ piece ++ table_bytes (drop n t.hasher) → left_of t true k ≡ piece ++ left_of t true (record k { hasher = n })
+    pub hasher_goes : length t.main ≤ k.main → length t.range ≤ k.range → at_hasher ≡ piece ++ table_bytes (drop n t.hasher)
+        → left_of t true k ≡ piece ++ left_of t true (record k { hasher = n })
     unfolding left_of
-    hasher_goes main range is = skip at_main _ piece _ (none t.main k.main main) (skip at_range _ piece _ (none t.range k.range range) (here _ piece _ _ is))
+    hasher_goes main range is =
+        skip at_main _ piece _ (none t.main k.main main)
+        (skip at_range _ piece _ (none t.range k.range range) (here _ piece _ _ is))
 
-    pub bitwise_goes : length t.main ≤ k.main → length t.range ≤ k.range → length t.hasher ≤ k.hasher → at_bitwise ≡ piece ++ table_bytes (drop n t.bitwise) → left_of t true k ≡ piece ++ left_of t true (record k { bitwise = n })
+    pub bitwise_goes : length t.main ≤ k.main → length t.range ≤ k.range → length t.hasher ≤ k.hasher
+        → at_bitwise ≡ piece ++ table_bytes (drop n t.bitwise)
+        → left_of t true k ≡ piece ++ left_of t true (record k { bitwise = n })
     unfolding left_of
     bitwise_goes main range hasher is =
         skip at_main _ piece _ (none t.main k.main main) (skip at_range _ piece _ (none t.range k.range range)
         (skip at_hasher _ piece _ (none t.hasher k.hasher hasher) (here _ piece _ _ is)))
 
-    pub memory_goes : length t.main ≤ k.main → length t.range ≤ k.range → length t.hasher ≤ k.hasher → length t.bitwise ≤ k.bitwise → at_memory ≡ piece ++ table_bytes (drop n t.memory) → left_of t true k ≡ piece ++ left_of t true (record k { memory = n })
+    pub memory_goes : length t.main ≤ k.main → length t.range ≤ k.range → length t.hasher ≤ k.hasher → length t.bitwise ≤ k.bitwise
+        → at_memory ≡ piece ++ table_bytes (drop n t.memory) → left_of t true k ≡ piece ++ left_of t true (record k { memory = n })
     unfolding left_of
     memory_goes main range hasher bitwise is =
         skip at_main _ piece _ (none t.main k.main main) (skip at_range _ piece _ (none t.range k.range range)
-        (skip at_hasher _ piece _ (none t.hasher k.hasher hasher) (skip at_bitwise _ piece _ (none t.bitwise k.bitwise bitwise) (here _ piece _ _ is))))
+        (skip at_hasher _ piece _ (none t.hasher k.hasher hasher)
+        (skip at_bitwise _ piece _ (none t.bitwise k.bitwise bitwise) (here _ piece _ _ is))))
 
-    pub kernel_goes : length t.main ≤ k.main → length t.range ≤ k.range → length t.hasher ≤ k.hasher → length t.bitwise ≤ k.bitwise → length t.memory ≤ k.memory → at_kernel ≡ piece ++ table_bytes (drop n t.kernel) → left_of t true k ≡ piece ++ left_of t true (record k { kernel = n })
+    pub kernel_goes : length t.main ≤ k.main → length t.range ≤ k.range → length t.hasher ≤ k.hasher → length t.bitwise ≤ k.bitwise
+        → length t.memory ≤ k.memory → at_kernel ≡ piece ++ table_bytes (drop n t.kernel)
+        → left_of t true k ≡ piece ++ left_of t true (record k { kernel = n })
     unfolding left_of
     kernel_goes main range hasher bitwise memory is =
         skip at_main _ piece _ (none t.main k.main main) (skip at_range _ piece _ (none t.range k.range range)
         (skip at_hasher _ piece _ (none t.hasher k.hasher hasher) (skip at_bitwise _ piece _ (none t.bitwise k.bitwise bitwise)
         (skip at_memory _ piece _ (none t.memory k.memory memory) (here _ piece _ _ is)))))
 
-    pub left_goes : length t.main ≤ k.main → length t.range ≤ k.range → length t.hasher ≤ k.hasher → length t.bitwise ≤ k.bitwise → length t.memory ≤ k.memory → length t.kernel ≤ k.kernel → table_bytes (drop k.left t.left) ≡ piece ++ table_bytes (drop n t.left) → left_of t true k ≡ piece ++ left_of t true (record k { left = n })
+    pub left_goes : length t.main ≤ k.main → length t.range ≤ k.range → length t.hasher ≤ k.hasher → length t.bitwise ≤ k.bitwise
+        → length t.memory ≤ k.memory → length t.kernel ≤ k.kernel
+        → table_bytes (drop k.left t.left) ≡ piece ++ table_bytes (drop n t.left)
+        → left_of t true k ≡ piece ++ left_of t true (record k { left = n })
     unfolding left_of
     left_goes main range hasher bitwise memory kernel is =
         skip at_main _ piece _ (none t.main k.main main) (skip at_range _ piece _ (none t.range k.range range)
         (skip at_hasher _ piece _ (none t.hasher k.hasher hasher) (skip at_bitwise _ piece _ (none t.bitwise k.bitwise bitwise)
         (skip at_memory _ piece _ (none t.memory k.memory memory) (skip at_kernel _ piece _ (none t.kernel k.kernel kernel) is)))))
 
-  pub none_left : length t.main ≤ k.main → length t.range ≤ k.range → length t.hasher ≤ k.hasher → length t.bitwise ≤ k.bitwise → length t.memory ≤ k.memory → length t.kernel ≤ k.kernel → length t.left ≤ k.left → left_of t true k ≡ []
+  pub none_left : length t.main ≤ k.main → length t.range ≤ k.range → length t.hasher ≤ k.hasher → length t.bitwise ≤ k.bitwise
+      → length t.memory ≤ k.memory → length t.kernel ≤ k.kernel → length t.left ≤ k.left → left_of t true k ≡ []
   unfolding left_of
-  none_left main range hasher bitwise memory kernel left = rw (none t.main k.main main, none t.range k.range range, none t.hasher k.hasher hasher, none t.bitwise k.bitwise bitwise, none t.memory k.memory memory, none t.kernel k.kernel kernel, none t.left k.left left) refl
+  none_left main range hasher bitwise memory kernel left =
+      rw (
+        none t.main k.main main,
+        none t.range k.range range,
+        none t.hasher k.hasher hasher,
+        none t.bitwise k.bitwise bitwise,
+        none t.memory k.memory memory,
+        none t.kernel k.kernel kernel,
+        none t.left k.left left,
+      ) refl

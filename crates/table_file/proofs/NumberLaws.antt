@@ -41,14 +41,16 @@ spelled (suc n) (b ∷ ys) len low =
     (low_first-suc 0 n (b + 256 * r) ∙ ap (bytes_low_first 0 n) above)
     ∙ ap (λ (xs : List ℕ). b ∷ xs) (spelled n ys (omega arith) (All-tail (λ x. x < 256) b ys low))
 
-picked : (ends passes : Bool) (e f : FileError) (r : Result ℕ FileError) (n x : ℕ) → r ≡ Ok n → cond ends (Err e) (cond passes r (Err f)) ≡ Ok x → (ends ≡ false) × (passes ≡ true) × (n ≡ x)
+picked : (ends passes : Bool) (e f : FileError) (r : Result ℕ FileError) (n x : ℕ) → r ≡ Ok n
+    → cond ends (Err e) (cond passes r (Err f)) ≡ Ok x → (ends ≡ false) × (passes ≡ true) × (n ≡ x)
 picked true passes e f r n x is h = cc
 picked false false e f r n x is h = cc
 picked false true e f r n x is h = (refl, refl, cc)
 
 module _ (bytes : List ℕ) (size : ℕ) (why : FileCause) (test : ℕ → Bool) where
   -- what a good number says
-  pub number-says : (at x : ℕ) → number_at bytes size why test at ≡ Ok x → (at + size ≤ length bytes) × (test (little_number size (drop at bytes)) ≡ true) × (little_number size (drop at bytes) ≡ x)
+  pub number-says : (at x : ℕ) → number_at bytes size why test at ≡ Ok x
+      → (at + size ≤ length bytes) × (test (little_number size (drop at bytes)) ≡ true) × (little_number size (drop at bytes) ≡ x)
   unfolding number_at
   number-says at x is =
       let n = little_number size (drop at bytes) in
@@ -60,7 +62,8 @@ module _ (bytes : List ℕ) (size : ℕ) (why : FileCause) (test : ℕ → Bool)
   number-tested at x is = let h = number-says at x is in sym (ap test h.2) ∙ h.1
 
   -- the bytes of a good number are its own
-  pub number-written : (at x : ℕ) → AreBytes bytes → number_at bytes size why test at ≡ Ok x → little_bytes size x ++ drop (at + size) bytes ≡ drop at bytes
+  pub number-written : (at x : ℕ) → AreBytes bytes → number_at bytes size why test at ≡ Ok x
+      → little_bytes size x ++ drop (at + size) bytes ≡ drop at bytes
   number-written at x low is =
       let h = number-says at x is in
       let within : at + size ≤ length bytes = h.0 in
@@ -69,7 +72,8 @@ module _ (bytes : List ℕ) (size : ℕ) (why : FileCause) (test : ℕ → Bool)
       ∙ spelled size (drop at bytes) long (All-drop (λ b. b < 256) at bytes low)
 
   -- a number's bytes read as it
-  pub number-reads : (at x : ℕ) (rest : List ℕ) → 1 ≤ size → x < 256 ^ size → test x ≡ true → drop at bytes ≡ little_bytes size x ++ rest → number_at bytes size why test at ≡ Ok x
+  pub number-reads : (at x : ℕ) (rest : List ℕ) → 1 ≤ size → x < 256 ^ size → test x ≡ true
+      → drop at bytes ≡ little_bytes size x ++ rest → number_at bytes size why test at ≡ Ok x
   unfolding number_at
   number-reads at x rest some fits good is =
       let value : little_number size (drop at bytes) ≡ x = ap (little_number size) is ∙ little_number-reads_back size x rest fits in

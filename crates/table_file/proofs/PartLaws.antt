@@ -20,7 +20,8 @@ module _ {A : Type 0} (part : ℕ → Result A FileError) (size : ℕ) where
   none_is : (at : ℕ) (all : List A) → parts_at part size zero at ≡ Ok all → all ≡ []
   none_is at all is = same [] all (parts_at part size zero at) (parts_none part size at) is
 
-  split : (m at : ℕ) (all : List A) → parts_at part size (suc m) at ≡ Ok all → (x : A) × (part at ≡ Ok x) × (rest : List A) × (parts_at part size m (at + size) ≡ Ok rest) × (all ≡ x ∷ rest)
+  split : (m at : ℕ) (all : List A) → parts_at part size (suc m) at ≡ Ok all
+      → (x : A) × (part at ≡ Ok x) × (rest : List A) × (parts_at part size m (at + size) ≡ Ok rest) × (all ≡ x ∷ rest)
   unfolding parts_at
   split m at all is =
       let a = chain (part at) all _ is in
@@ -34,7 +35,8 @@ module _ {A : Type 0} (part : ℕ → Result A FileError) (size : ℕ) where
       ap length s.4 ∙ ap suc (parts-count n (at + size) s.2 s.3)
 
   -- what each good part has, all have
-  pub parts-have : (Good : A → Type 0) → ((at : ℕ) (x : A) → part at ≡ Ok x → Good x) → (n at : ℕ) (all : List A) → parts_at part size n at ≡ Ok all → All Good all
+  pub parts-have : (Good : A → Type 0) → ((at : ℕ) (x : A) → part at ≡ Ok x → Good x) → (n at : ℕ) (all : List A)
+      → parts_at part size n at ≡ Ok all → All Good all
   parts-have Good each zero at all is = subst (All Good) (sym (none_is at all is)) (All-nil Good)
   parts-have Good each (suc n) at all is =
       let s = split n at all is in
@@ -42,7 +44,9 @@ module _ {A : Type 0} (part : ℕ → Result A FileError) (size : ℕ) where
 
   module _ (bytes : List ℕ) (write : A → List ℕ) where
     -- the bytes of good parts are their own, where each part's are
-    pub parts-written : ((at : ℕ) (x : A) → part at ≡ Ok x → write x ++ drop (at + size) bytes ≡ drop at bytes) → (n at : ℕ) (all : List A) → parts_at part size n at ≡ Ok all → parts_bytes write all ++ drop (at + size * n) bytes ≡ drop at bytes
+    pub parts-written : ((at : ℕ) (x : A) → part at ≡ Ok x → write x ++ drop (at + size) bytes ≡ drop at bytes)
+        → (n at : ℕ) (all : List A) → parts_at part size n at ≡ Ok all
+        → parts_bytes write all ++ drop (at + size * n) bytes ≡ drop at bytes
     unfolding parts_bytes
     parts-written each zero at all is =
         let place : at + size * 0 ≡ at = omega arith in
@@ -65,7 +69,9 @@ module _ {A : Type 0} (part : ℕ → Result A FileError) (size : ℕ) where
           omega (arith, one, more, length-append (write x) (parts_bytes write xs))
 
       -- the bytes of parts read as the parts, where each part's do
-      pub parts-read : ((at : ℕ) (x : A) (rest : List ℕ) → Good x → drop at bytes ≡ write x ++ rest → part at ≡ Ok x) → (xs : List A) (at : ℕ) (rest : List ℕ) → All Good xs → drop at bytes ≡ parts_bytes write xs ++ rest → parts_at part size (length xs) at ≡ Ok xs
+      pub parts-read : ((at : ℕ) (x : A) (rest : List ℕ) → Good x → drop at bytes ≡ write x ++ rest → part at ≡ Ok x)
+          → (xs : List A) (at : ℕ) (rest : List ℕ) → All Good xs → drop at bytes ≡ parts_bytes write xs ++ rest
+          → parts_at part size (length xs) at ≡ Ok xs
       unfolding parts_bytes
       parts-read each [] at rest good is = parts_none part size at
       parts-read each (x ∷ xs) at rest good is =
@@ -73,4 +79,5 @@ module _ {A : Type 0} (part : ℕ → Result A FileError) (size : ℕ) where
           let there : drop at bytes ≡ write x ++ (parts_bytes write xs ++ rest) = is ∙ append_assoc (write x) (parts_bytes write xs) rest in
           parts_more part size (length xs) at x (each at x (parts_bytes write xs ++ rest) first there)
           ∙ ap (λ r. behind r (λ ys. Ok (x ∷ ys)))
-          (parts-read each xs (at + size) rest (All-tail Good x xs good) (behind_part bytes (write x) (parts_bytes write xs ++ rest) at size (wide x first) there))
+          (parts-read each xs (at + size) rest (All-tail Good x xs good)
+          (behind_part bytes (write x) (parts_bytes write xs ++ rest) at size (wide x first) there))

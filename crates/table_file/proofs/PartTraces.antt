@@ -18,7 +18,8 @@ abbrev Rows : Type 0
 Rows = List (List ℕ)
 
 -- nothing is read yet
-pub begins : (all : List ℕ) (c : RowCounts) (t : Trace) → t.main ≡ [] → t.range ≡ [] → t.hasher ≡ [] → t.bitwise ≡ [] → t.memory ≡ [] → t.kernel ≡ [] → t.left ≡ []
+pub begins : (all : List ℕ) (c : RowCounts) (t : Trace) → t.main ≡ [] → t.range ≡ [] → t.hasher ≡ [] → t.bitwise ≡ []
+    → t.memory ≡ [] → t.kernel ≡ [] → t.left ≡ []
     → tables_of all c ≡ from_main all 36 c t
 unfolding tables_of from_main from_range from_hasher from_bitwise from_memory from_kernel from_left
 begins all c t main range hasher bitwise memory kernel left = rw (main, range, hasher, bitwise, memory, kernel, left) refl
@@ -29,7 +30,8 @@ refused (Bad at why) r next is = ap (λ o. behind o next) is
 refused Memory r next is = tt
 
 -- what follows goes on behind the rows that were read
-further : (first rest : Result Rows FileError) (rows : Rows) (next later : Rows → Result Trace FileError) → behind rest (λ more. Ok (rows ++ more)) ≡ first
+further : (first rest : Result Rows FileError) (rows : Rows) (next later : Rows → Result Trace FileError)
+    → behind rest (λ more. Ok (rows ++ more)) ≡ first
     → ((more : Rows) → next (rows ++ more) ≡ later more) → behind first next ≡ behind rest later
 further first rest rows next later is same = ap (λ r. behind r next) (sym is) ∙ go rest
   where
@@ -44,13 +46,15 @@ nothing all w at count next none =
     let zero : count ≡ 0 = omega arith in
     rw zero refl
 
-module _ (all : List ℕ) (w at : ℕ) (bytes : List ℕ) (before after : ℕ) (old new : Rows) (count : ℕ) (r : ReadsRows w at bytes before after old new count) where
+module _ (all : List ℕ) (w at : ℕ) (bytes : List ℕ) (before after : ℕ) (old new : Rows) (count : ℕ)
+    (r : ReadsRows w at bytes before after old new count) where
   place : at + 8 * w * before ≡ at + count + 8 * w * after
   place = let used = r.place in omega (arith, used)
 
   -- rows were read: the rest goes on behind them
   step : StandsAt all at (take count bytes) → (next : ℕ → Rows → Result Trace FileError)
-      → behind (rows_at all w before at) (λ rows. next (at + 8 * w * before) (old ++ rows)) ≡ behind (rows_at all w after (at + count)) (λ rows. next (at + count + 8 * w * after) (new ++ rows))
+      → behind (rows_at all w before at) (λ rows. next (at + 8 * w * before) (old ++ rows))
+      ≡ behind (rows_at all w after (at + count)) (λ rows. next (at + count + 8 * w * after) (new ++ rows))
   step stands next =
       further (rows_at all w before at) (rows_at all w after (at + count)) r.rows _ _ (r.goes all stands)
       (λ more. ap₂ next place (sym (append_assoc old r.rows more) ∙ ap (λ (xs : Rows). xs ++ more) (sym r.table)))
@@ -130,11 +134,14 @@ module _ (all : List ℕ) (at : ℕ) (c : RowCounts) (t : Trace) where
   to_left : c.main ≤ 0 → c.range ≤ 0 → c.hasher ≤ 0 → c.bitwise ≤ 0 → c.memory ≤ 0 → c.kernel ≤ 0 → from_main all at c t ≡ from_left all at c t
   to_left main range hasher bitwise memory kernel = to_kernel main range hasher bitwise memory ∙ skip_kernel kernel
 
-  to_end : c.main ≤ 0 → c.range ≤ 0 → c.hasher ≤ 0 → c.bitwise ≤ 0 → c.memory ≤ 0 → c.kernel ≤ 0 → c.left ≤ 0 → from_main all at c t ≡ ended_at all at t
+  to_end : c.main ≤ 0 → c.range ≤ 0 → c.hasher ≤ 0 → c.bitwise ≤ 0 → c.memory ≤ 0 → c.kernel ≤ 0 → c.left ≤ 0
+      → from_main all at c t ≡ ended_at all at t
   to_end main range hasher bitwise memory kernel left = to_left main range hasher bitwise memory kernel ∙ skip_left left
 
 module _ (p : PartTrace) (bytes : List ℕ) (after : ℕ) (new : Rows) (count : ℕ) (small : IsSmall p) where
-  pub main_reads : ReadsRows 65 p.at bytes p.left.main after p.trace.main new count → 8 * 65 ≤ count → Advances p (record p { at = p.at + count; left = record p.left { main = after }; trace = record p.trace { main = new } }) bytes count
+  pub main_reads : ReadsRows 65 p.at bytes p.left.main after p.trace.main new count → 8 * 65 ≤ count
+      → Advances p (record p { at = p.at + count; left = record p.left { main = after }; trace = record p.trace { main = new } })
+      bytes count
   unfolding from_main from_range from_hasher from_bitwise from_memory from_kernel from_left
   main_reads r some =
       let used = r.place in record {
@@ -142,10 +149,13 @@ module _ (p : PartTrace) (bytes : List ℕ) (after : ℕ) (new : Rows) (count : 
         within = r.within;
         place = refl;
         small = omega (arith, small, used);
-        goes = λ all stands. step all 65 p.at bytes p.left.main after p.trace.main new count r stands (λ (place : ℕ) (rows : Rows). from_range all place p.left (record p.trace { main = rows }));
+        goes = λ all stands. step all 65 p.at bytes p.left.main after p.trace.main new count r stands
+            (λ (place : ℕ) (rows : Rows). from_range all place p.left (record p.trace { main = rows }));
       }
 
-  pub range_reads : p.left.main ≤ 0 → ReadsRows 2 p.at bytes p.left.range after p.trace.range new count → 8 * 2 ≤ count → Advances p (record p { at = p.at + count; left = record p.left { range = after }; trace = record p.trace { range = new } }) bytes count
+  pub range_reads : p.left.main ≤ 0 → ReadsRows 2 p.at bytes p.left.range after p.trace.range new count → 8 * 2 ≤ count
+      → Advances p (record p { at = p.at + count; left = record p.left { range = after }; trace = record p.trace { range = new } })
+      bytes count
   unfolding from_main from_range from_hasher from_bitwise from_memory from_kernel from_left
   range_reads main r some =
       let used = r.place in record {
@@ -155,11 +165,14 @@ module _ (p : PartTrace) (bytes : List ℕ) (after : ℕ) (new : Rows) (count : 
         small = omega (arith, small, used);
         goes = λ all stands.
             to_range all p.at p.left p.trace main
-            ∙ step all 2 p.at bytes p.left.range after p.trace.range new count r stands (λ (place : ℕ) (rows : Rows). from_hasher all place p.left (record p.trace { range = rows }))
+            ∙ step all 2 p.at bytes p.left.range after p.trace.range new count r stands
+            (λ (place : ℕ) (rows : Rows). from_hasher all place p.left (record p.trace { range = rows }))
             ∙ sym (to_range all (p.at + count) (record p.left { range = after }) (record p.trace { range = new }) main);
       }
 
-  pub hasher_reads : p.left.main ≤ 0 → p.left.range ≤ 0 → ReadsRows 15 p.at bytes p.left.hasher after p.trace.hasher new count → 8 * 15 ≤ count → Advances p (record p { at = p.at + count; left = record p.left { hasher = after }; trace = record p.trace { hasher = new } }) bytes count
+  pub hasher_reads : p.left.main ≤ 0 → p.left.range ≤ 0 → ReadsRows 15 p.at bytes p.left.hasher after p.trace.hasher new count
+      → 8 * 15 ≤ count → Advances p (record p
+      { at = p.at + count; left = record p.left { hasher = after }; trace = record p.trace { hasher = new } }) bytes count
   unfolding from_main from_range from_hasher from_bitwise from_memory from_kernel from_left
   hasher_reads main range r some =
       let used = r.place in record {
@@ -169,104 +182,184 @@ module _ (p : PartTrace) (bytes : List ℕ) (after : ℕ) (new : Rows) (count : 
         small = omega (arith, small, used);
         goes = λ all stands.
             to_hasher all p.at p.left p.trace main range
-            ∙ step all 15 p.at bytes p.left.hasher after p.trace.hasher new count r stands (λ (place : ℕ) (rows : Rows). from_bitwise all place p.left (record p.trace { hasher = rows }))
+            ∙ step all 15 p.at bytes p.left.hasher after p.trace.hasher new count r stands
+            (λ (place : ℕ) (rows : Rows). from_bitwise all place p.left (record p.trace { hasher = rows }))
             ∙ sym (to_hasher all (p.at + count) (record p.left { hasher = after }) (record p.trace { hasher = new }) main range);
       }
 
-  pub bitwise_reads : p.left.main ≤ 0 → p.left.range ≤ 0 → p.left.hasher ≤ 0 → ReadsRows 12 p.at bytes p.left.bitwise after p.trace.bitwise new count → 8 * 12 ≤ count → Advances p (record p { at = p.at + count; left = record p.left { bitwise = after }; trace = record p.trace { bitwise = new } }) bytes count
+  pub bitwise_reads : p.left.main ≤ 0 → p.left.range ≤ 0 → p.left.hasher ≤ 0
+      → ReadsRows 12 p.at bytes p.left.bitwise after p.trace.bitwise new count → 8 * 12 ≤ count
+      → Advances p (record p {
+        at = p.at + count;
+        left = record p.left { bitwise = after };
+        trace = record p.trace { bitwise = new };
+      }) bytes count
   unfolding from_main from_range from_hasher from_bitwise from_memory from_kernel from_left
   bitwise_reads main range hasher r some =
       let used = r.place in record {
-        some = rw (le-ltb 0 p.left.main main, le-ltb 0 p.left.range range, le-ltb 0 p.left.hasher hasher, lt-ltb 0 p.left.bitwise (omega (arith, used, some))) some;
+        some = rw (
+          le-ltb 0 p.left.main main,
+          le-ltb 0 p.left.range range,
+          le-ltb 0 p.left.hasher hasher,
+          lt-ltb 0 p.left.bitwise (omega (arith, used, some)),
+        ) some;
         within = r.within;
         place = refl;
         small = omega (arith, small, used);
         goes = λ all stands.
             to_bitwise all p.at p.left p.trace main range hasher
-            ∙ step all 12 p.at bytes p.left.bitwise after p.trace.bitwise new count r stands (λ (place : ℕ) (rows : Rows). from_memory all place p.left (record p.trace { bitwise = rows }))
+            ∙ step all 12 p.at bytes p.left.bitwise after p.trace.bitwise new count r stands
+            (λ (place : ℕ) (rows : Rows). from_memory all place p.left (record p.trace { bitwise = rows }))
             ∙ sym (to_bitwise all (p.at + count) (record p.left { bitwise = after }) (record p.trace { bitwise = new }) main range hasher);
       }
 
-  pub memory_reads : p.left.main ≤ 0 → p.left.range ≤ 0 → p.left.hasher ≤ 0 → p.left.bitwise ≤ 0 → ReadsRows 14 p.at bytes p.left.memory after p.trace.memory new count → 8 * 14 ≤ count → Advances p (record p { at = p.at + count; left = record p.left { memory = after }; trace = record p.trace { memory = new } }) bytes count
+  pub memory_reads : p.left.main ≤ 0 → p.left.range ≤ 0 → p.left.hasher ≤ 0 → p.left.bitwise ≤ 0
+      → ReadsRows 14 p.at bytes p.left.memory after p.trace.memory new count → 8 * 14 ≤ count
+      → Advances p (record p {
+        at = p.at + count;
+        left = record p.left { memory = after };
+        trace = record p.trace { memory = new };
+      }) bytes count
   unfolding from_main from_range from_hasher from_bitwise from_memory from_kernel from_left
   memory_reads main range hasher bitwise r some =
       let used = r.place in record {
-        some = rw (le-ltb 0 p.left.main main, le-ltb 0 p.left.range range, le-ltb 0 p.left.hasher hasher, le-ltb 0 p.left.bitwise bitwise, lt-ltb 0 p.left.memory (omega (arith, used, some))) some;
+        some = rw (
+          le-ltb 0 p.left.main main,
+          le-ltb 0 p.left.range range,
+          le-ltb 0 p.left.hasher hasher,
+          le-ltb 0 p.left.bitwise bitwise,
+          lt-ltb 0 p.left.memory (omega (arith, used, some)),
+        ) some;
         within = r.within;
         place = refl;
         small = omega (arith, small, used);
         goes = λ all stands.
             to_memory all p.at p.left p.trace main range hasher bitwise
-            ∙ step all 14 p.at bytes p.left.memory after p.trace.memory new count r stands (λ (place : ℕ) (rows : Rows). from_kernel all place p.left (record p.trace { memory = rows }))
+            ∙ step all 14 p.at bytes p.left.memory after p.trace.memory new count r stands
+            (λ (place : ℕ) (rows : Rows). from_kernel all place p.left (record p.trace { memory = rows }))
             ∙ sym (to_memory all (p.at + count) (record p.left { memory = after }) (record p.trace { memory = new }) main range hasher bitwise);
       }
 
-  pub kernel_reads : p.left.main ≤ 0 → p.left.range ≤ 0 → p.left.hasher ≤ 0 → p.left.bitwise ≤ 0 → p.left.memory ≤ 0 → ReadsRows 5 p.at bytes p.left.kernel after p.trace.kernel new count → 8 * 5 ≤ count → Advances p (record p { at = p.at + count; left = record p.left { kernel = after }; trace = record p.trace { kernel = new } }) bytes count
+  pub kernel_reads : p.left.main ≤ 0 → p.left.range ≤ 0 → p.left.hasher ≤ 0 → p.left.bitwise ≤ 0 → p.left.memory ≤ 0
+      → ReadsRows 5 p.at bytes p.left.kernel after p.trace.kernel new count → 8 * 5 ≤ count
+      → Advances p (record p {
+        at = p.at + count;
+        left = record p.left { kernel = after };
+        trace = record p.trace { kernel = new };
+      }) bytes count
   unfolding from_main from_range from_hasher from_bitwise from_memory from_kernel from_left
   kernel_reads main range hasher bitwise memory r some =
       let used = r.place in record {
-        some = rw (le-ltb 0 p.left.main main, le-ltb 0 p.left.range range, le-ltb 0 p.left.hasher hasher, le-ltb 0 p.left.bitwise bitwise, le-ltb 0 p.left.memory memory, lt-ltb 0 p.left.kernel (omega (arith, used, some))) some;
+        some = rw (
+          le-ltb 0 p.left.main main,
+          le-ltb 0 p.left.range range,
+          le-ltb 0 p.left.hasher hasher,
+          le-ltb 0 p.left.bitwise bitwise,
+          le-ltb 0 p.left.memory memory,
+          lt-ltb 0 p.left.kernel (omega (arith, used, some)),
+        )
+            some;
         within = r.within;
         place = refl;
         small = omega (arith, small, used);
         goes = λ all stands.
             to_kernel all p.at p.left p.trace main range hasher bitwise memory
-            ∙ step all 5 p.at bytes p.left.kernel after p.trace.kernel new count r stands (λ (place : ℕ) (rows : Rows). from_left all place p.left (record p.trace { kernel = rows }))
-            ∙ sym (to_kernel all (p.at + count) (record p.left { kernel = after }) (record p.trace { kernel = new }) main range hasher bitwise memory);
+            ∙ step all 5 p.at bytes p.left.kernel after p.trace.kernel new count r stands
+            (λ (place : ℕ) (rows : Rows). from_left all place p.left (record p.trace { kernel = rows }))
+            ∙ sym (to_kernel all (p.at + count) (record p.left { kernel = after }) (record p.trace { kernel = new }) main range
+            hasher bitwise memory);
       }
 
-  pub left_reads : p.left.main ≤ 0 → p.left.range ≤ 0 → p.left.hasher ≤ 0 → p.left.bitwise ≤ 0 → p.left.memory ≤ 0 → p.left.kernel ≤ 0 → ReadsRows 1 p.at bytes p.left.left after p.trace.left new count → 8 * 1 ≤ count → Advances p (record p { at = p.at + count; left = record p.left { left = after }; trace = record p.trace { left = new } }) bytes count
+  pub left_reads : p.left.main ≤ 0 → p.left.range ≤ 0 → p.left.hasher ≤ 0 → p.left.bitwise ≤ 0 → p.left.memory ≤ 0
+      → p.left.kernel ≤ 0 → ReadsRows 1 p.at bytes p.left.left after p.trace.left new count → 8 * 1 ≤ count
+      → Advances p (record p { at = p.at + count; left = record p.left { left = after }; trace = record p.trace { left = new } })
+      bytes count
   unfolding from_main from_range from_hasher from_bitwise from_memory from_kernel from_left
   left_reads main range hasher bitwise memory kernel r some =
       let used = r.place in record {
-        some = rw (le-ltb 0 p.left.main main, le-ltb 0 p.left.range range, le-ltb 0 p.left.hasher hasher, le-ltb 0 p.left.bitwise bitwise, le-ltb 0 p.left.memory memory, le-ltb 0 p.left.kernel kernel, lt-ltb 0 p.left.left (omega (arith, used, some))) some;
+        some = rw (
+          le-ltb 0 p.left.main main,
+          le-ltb 0 p.left.range range,
+          le-ltb 0 p.left.hasher hasher,
+          le-ltb 0 p.left.bitwise bitwise,
+          le-ltb 0 p.left.memory memory,
+          le-ltb 0 p.left.kernel kernel,
+          lt-ltb 0 p.left.left (omega (arith, used, some)),
+        ) some;
         within = r.within;
         place = refl;
         small = omega (arith, small, used);
         goes = λ all stands.
             to_left all p.at p.left p.trace main range hasher bitwise memory kernel
-            ∙ step all 1 p.at bytes p.left.left after p.trace.left new count r stands (λ (place : ℕ) (rows : Rows). ended_at all place (record p.trace { left = rows }))
-            ∙ sym (to_left all (p.at + count) (record p.left { left = after }) (record p.trace { left = new }) main range hasher bitwise memory kernel);
+            ∙ step all 1 p.at bytes p.left.left after p.trace.left new count r stands
+            (λ (place : ℕ) (rows : Rows). ended_at all place (record p.trace { left = rows }))
+            ∙ sym (to_left all (p.at + count) (record p.left { left = after }) (record p.trace { left = new }) main range hasher
+            bitwise memory kernel);
       }
 
 module _ (p : PartTrace) (bytes : List ℕ) (e : FileError) where
-  pub main_stops : ((all : List ℕ) → StandsAt all p.at bytes → Gives (Err e) (rows_at all 65 p.left.main p.at)) → (all : List ℕ) → StandsAt all p.at bytes
+  pub main_stops : ((all : List ℕ) → StandsAt all p.at bytes → Gives (Err e) (rows_at all 65 p.left.main p.at)) → (all : List ℕ)
+      → StandsAt all p.at bytes
       → Gives (Err e) (rest_of all p)
   unfolding from_main
   main_stops is all stands = refused e (rows_at all 65 p.left.main p.at) _ (is all stands)
 
-  pub range_stops : p.left.main ≤ 0 → ((all : List ℕ) → StandsAt all p.at bytes → Gives (Err e) (rows_at all 2 p.left.range p.at)) → (all : List ℕ) → StandsAt all p.at bytes
+  pub range_stops : p.left.main ≤ 0 → ((all : List ℕ) → StandsAt all p.at bytes → Gives (Err e) (rows_at all 2 p.left.range p.at))
+      → (all : List ℕ) → StandsAt all p.at bytes
       → Gives (Err e) (rest_of all p)
   unfolding from_range
-  range_stops main is all stands = subst (Gives (Err e)) (sym (to_range all p.at p.left p.trace main)) (refused e (rows_at all 2 p.left.range p.at) _ (is all stands))
+  range_stops main is all stands =
+      subst (Gives (Err e)) (sym (to_range all p.at p.left p.trace main))
+      (refused e (rows_at all 2 p.left.range p.at) _ (is all stands))
 
-  pub hasher_stops : p.left.main ≤ 0 → p.left.range ≤ 0 → ((all : List ℕ) → StandsAt all p.at bytes → Gives (Err e) (rows_at all 15 p.left.hasher p.at)) → (all : List ℕ) → StandsAt all p.at bytes
+  pub hasher_stops : p.left.main ≤ 0 → p.left.range ≤ 0
+      → ((all : List ℕ) → StandsAt all p.at bytes → Gives (Err e) (rows_at all 15 p.left.hasher p.at)) → (all : List ℕ)
+      → StandsAt all p.at bytes
       → Gives (Err e) (rest_of all p)
   unfolding from_hasher
-  hasher_stops main range is all stands = subst (Gives (Err e)) (sym (to_hasher all p.at p.left p.trace main range)) (refused e (rows_at all 15 p.left.hasher p.at) _ (is all stands))
+  hasher_stops main range is all stands =
+      subst (Gives (Err e)) (sym (to_hasher all p.at p.left p.trace main range))
+      (refused e (rows_at all 15 p.left.hasher p.at) _ (is all stands))
 
-  pub bitwise_stops : p.left.main ≤ 0 → p.left.range ≤ 0 → p.left.hasher ≤ 0 → ((all : List ℕ) → StandsAt all p.at bytes → Gives (Err e) (rows_at all 12 p.left.bitwise p.at)) → (all : List ℕ) → StandsAt all p.at bytes
+  pub bitwise_stops : p.left.main ≤ 0 → p.left.range ≤ 0 → p.left.hasher ≤ 0
+      → ((all : List ℕ) → StandsAt all p.at bytes → Gives (Err e) (rows_at all 12 p.left.bitwise p.at)) → (all : List ℕ)
+      → StandsAt all p.at bytes
       → Gives (Err e) (rest_of all p)
   unfolding from_bitwise
-  bitwise_stops main range hasher is all stands = subst (Gives (Err e)) (sym (to_bitwise all p.at p.left p.trace main range hasher)) (refused e (rows_at all 12 p.left.bitwise p.at) _ (is all stands))
+  bitwise_stops main range hasher is all stands =
+      subst (Gives (Err e)) (sym (to_bitwise all p.at p.left p.trace main range hasher))
+      (refused e (rows_at all 12 p.left.bitwise p.at) _ (is all stands))
 
-  pub memory_stops : p.left.main ≤ 0 → p.left.range ≤ 0 → p.left.hasher ≤ 0 → p.left.bitwise ≤ 0 → ((all : List ℕ) → StandsAt all p.at bytes → Gives (Err e) (rows_at all 14 p.left.memory p.at)) → (all : List ℕ) → StandsAt all p.at bytes
+  pub memory_stops : p.left.main ≤ 0 → p.left.range ≤ 0 → p.left.hasher ≤ 0 → p.left.bitwise ≤ 0
+      → ((all : List ℕ) → StandsAt all p.at bytes → Gives (Err e) (rows_at all 14 p.left.memory p.at)) → (all : List ℕ)
+      → StandsAt all p.at bytes
       → Gives (Err e) (rest_of all p)
   unfolding from_memory
-  memory_stops main range hasher bitwise is all stands = subst (Gives (Err e)) (sym (to_memory all p.at p.left p.trace main range hasher bitwise)) (refused e (rows_at all 14 p.left.memory p.at) _ (is all stands))
+  memory_stops main range hasher bitwise is all stands =
+      subst (Gives (Err e)) (sym (to_memory all p.at p.left p.trace main range hasher bitwise))
+      (refused e (rows_at all 14 p.left.memory p.at) _ (is all stands))
 
-  pub kernel_stops : p.left.main ≤ 0 → p.left.range ≤ 0 → p.left.hasher ≤ 0 → p.left.bitwise ≤ 0 → p.left.memory ≤ 0 → ((all : List ℕ) → StandsAt all p.at bytes → Gives (Err e) (rows_at all 5 p.left.kernel p.at)) → (all : List ℕ) → StandsAt all p.at bytes
+  pub kernel_stops : p.left.main ≤ 0 → p.left.range ≤ 0 → p.left.hasher ≤ 0 → p.left.bitwise ≤ 0 → p.left.memory ≤ 0
+      → ((all : List ℕ) → StandsAt all p.at bytes → Gives (Err e) (rows_at all 5 p.left.kernel p.at)) → (all : List ℕ)
+      → StandsAt all p.at bytes
       → Gives (Err e) (rest_of all p)
   unfolding from_kernel
-  kernel_stops main range hasher bitwise memory is all stands = subst (Gives (Err e)) (sym (to_kernel all p.at p.left p.trace main range hasher bitwise memory)) (refused e (rows_at all 5 p.left.kernel p.at) _ (is all stands))
+  kernel_stops main range hasher bitwise memory is all stands =
+      subst (Gives (Err e)) (sym (to_kernel all p.at p.left p.trace main range hasher bitwise memory))
+      (refused e (rows_at all 5 p.left.kernel p.at) _ (is all stands))
 
-  pub left_stops : p.left.main ≤ 0 → p.left.range ≤ 0 → p.left.hasher ≤ 0 → p.left.bitwise ≤ 0 → p.left.memory ≤ 0 → p.left.kernel ≤ 0 → ((all : List ℕ) → StandsAt all p.at bytes → Gives (Err e) (rows_at all 1 p.left.left p.at)) → (all : List ℕ) → StandsAt all p.at bytes
+  pub left_stops : p.left.main ≤ 0 → p.left.range ≤ 0 → p.left.hasher ≤ 0 → p.left.bitwise ≤ 0 → p.left.memory ≤ 0
+      → p.left.kernel ≤ 0 → ((all : List ℕ) → StandsAt all p.at bytes → Gives (Err e) (rows_at all 1 p.left.left p.at))
+      → (all : List ℕ) → StandsAt all p.at bytes
       → Gives (Err e) (rest_of all p)
   unfolding from_left
-  left_stops main range hasher bitwise memory kernel is all stands = subst (Gives (Err e)) (sym (to_left all p.at p.left p.trace main range hasher bitwise memory kernel)) (refused e (rows_at all 1 p.left.left p.at) _ (is all stands))
+  left_stops main range hasher bitwise memory kernel is all stands =
+      subst (Gives (Err e)) (sym (to_left all p.at p.left p.trace main range hasher bitwise memory kernel))
+      (refused e (rows_at all 1 p.left.left p.at) _ (is all stands))
 
 -- bytes stand behind the last row
-pub extra : (p : PartTrace) (bytes : List ℕ) → p.left.main ≤ 0 → p.left.range ≤ 0 → p.left.hasher ≤ 0 → p.left.bitwise ≤ 0 → p.left.memory ≤ 0 → p.left.kernel ≤ 0 → p.left.left ≤ 0 → 1 ≤ length bytes → (all : List ℕ) → StandsAt all p.at bytes
+pub extra : (p : PartTrace) (bytes : List ℕ) → p.left.main ≤ 0 → p.left.range ≤ 0 → p.left.hasher ≤ 0 → p.left.bitwise ≤ 0
+    → p.left.memory ≤ 0 → p.left.kernel ≤ 0 → p.left.left ≤ 0 → 1 ≤ length bytes → (all : List ℕ) → StandsAt all p.at bytes
     → Gives (Err (Bad p.at cause.Extra)) (rest_of all p)
 unfolding ended_at
 extra p bytes main range hasher bitwise memory kernel left some all stands =
@@ -296,7 +389,8 @@ seen_some true w v later h = inl (refl, cc)
 seen_some false w v later h = inr (refl, h)
 
 -- the file ends behind its last row
-pub ended : (p : PartTrace) (rest : List ℕ) → next_row p.left ≡ None → length rest < 1 → (all : List ℕ) → drop p.at all ≡ rest → Gives (Ok p.trace) (rest_of all p)
+pub ended : (p : PartTrace) (rest : List ℕ) → next_row p.left ≡ None → length rest < 1 → (all : List ℕ) → drop p.at all ≡ rest
+    → Gives (Ok p.trace) (rest_of all p)
 unfolding ended_at
 ended p rest none short all is =
     let main = seen_none (nat_lt 0 p.left.main) (8 * 65) _ none in
@@ -307,7 +401,9 @@ ended p rest none short all is =
     let kernel = seen_none (nat_lt 0 p.left.kernel) (8 * 5) _ memory.1 in
     let left = seen_none (nat_lt 0 p.left.left) (8 * 1) _ kernel.1 in
     let whole : length all ≤ p.at = omega (arith, ap length is, length-drop p.at all, short) in
-    to_end all p.at p.left p.trace (ltb-false 0 p.left.main main.0) (ltb-false 0 p.left.range range.0) (ltb-false 0 p.left.hasher hasher.0) (ltb-false 0 p.left.bitwise bitwise.0) (ltb-false 0 p.left.memory memory.0) (ltb-false 0 p.left.kernel kernel.0) (ltb-false 0 p.left.left left.0)
+    to_end all p.at p.left p.trace (ltb-false 0 p.left.main main.0) (ltb-false 0 p.left.range range.0)
+    (ltb-false 0 p.left.hasher hasher.0) (ltb-false 0 p.left.bitwise bitwise.0) (ltb-false 0 p.left.memory memory.0)
+    (ltb-false 0 p.left.kernel kernel.0) (ltb-false 0 p.left.left left.0)
     ∙ rw (le-ltb p.at (length all) whole) refl
 
 module _ (p : PartTrace) (rest all : List ℕ) (e : FileError) (is : drop p.at all ≡ rest)
@@ -321,49 +417,87 @@ module _ (p : PartTrace) (rest all : List ℕ) (e : FileError) (is : drop p.at a
   no_some : (w : ℕ) → None ≡ Some w → ⊥
   no_some w h = cc
 
-  cut_left : (w : ℕ) → p.left.main ≤ 0 → p.left.range ≤ 0 → p.left.hasher ≤ 0 → p.left.bitwise ≤ 0 → p.left.memory ≤ 0 → p.left.kernel ≤ 0 → (if nat_lt 0 p.left.left then Some (8 * 1) else None) ≡ Some w → length rest < w → rest_of all p ≡ Err e
+  cut_left : (w : ℕ) → p.left.main ≤ 0 → p.left.range ≤ 0 → p.left.hasher ≤ 0 → p.left.bitwise ≤ 0 → p.left.memory ≤ 0
+      → p.left.kernel ≤ 0 → (if nat_lt 0 p.left.left then Some (8 * 1) else None) ≡ Some w → length rest < w → rest_of all p ≡ Err e
   unfolding from_left
   cut_left w main range hasher bitwise memory kernel found short = elim (seen_some (nat_lt 0 p.left.left) (8 * 1) w _ found) [
-    | inl h ↦ to_left all p.at p.left p.trace main range hasher bitwise memory kernel ∙ cut_in 1 p.left.left _ (ltb-true 0 p.left.left h.0) (subst (λ (v : ℕ). length rest < v) (sym h.1) short)
+    | inl h ↦
+        to_left all p.at p.left p.trace main range hasher bitwise memory kernel
+        ∙ cut_in 1 p.left.left _ (ltb-true 0 p.left.left h.0) (subst (λ (v : ℕ). length rest < v) (sym h.1) short)
     | inr h ↦ absurd (no_some w h.1)
   ]
 
-  cut_kernel : (w : ℕ) → p.left.main ≤ 0 → p.left.range ≤ 0 → p.left.hasher ≤ 0 → p.left.bitwise ≤ 0 → p.left.memory ≤ 0 → (if nat_lt 0 p.left.kernel then Some (8 * 5) else (if nat_lt 0 p.left.left then Some (8 * 1) else None)) ≡ Some w → length rest < w → rest_of all p ≡ Err e
+  cut_kernel : (w : ℕ) → p.left.main ≤ 0 → p.left.range ≤ 0 → p.left.hasher ≤ 0 → p.left.bitwise ≤ 0 → p.left.memory ≤ 0
+      → (if nat_lt 0 p.left.kernel then Some (8 * 5) else (if nat_lt 0 p.left.left then Some (8 * 1) else None)) ≡ Some w
+      → length rest < w → rest_of all p ≡ Err e
   unfolding from_kernel
   cut_kernel w main range hasher bitwise memory found short = elim (seen_some (nat_lt 0 p.left.kernel) (8 * 5) w _ found) [
-    | inl h ↦ to_kernel all p.at p.left p.trace main range hasher bitwise memory ∙ cut_in 5 p.left.kernel _ (ltb-true 0 p.left.kernel h.0) (subst (λ (v : ℕ). length rest < v) (sym h.1) short)
+    | inl h ↦
+        to_kernel all p.at p.left p.trace main range hasher bitwise memory
+        ∙ cut_in 5 p.left.kernel _ (ltb-true 0 p.left.kernel h.0) (subst (λ (v : ℕ). length rest < v) (sym h.1) short)
     | inr h ↦ cut_left w main range hasher bitwise memory (ltb-false 0 p.left.kernel h.0) h.1 short
   ]
 
-  cut_memory : (w : ℕ) → p.left.main ≤ 0 → p.left.range ≤ 0 → p.left.hasher ≤ 0 → p.left.bitwise ≤ 0 → (if nat_lt 0 p.left.memory then Some (8 * 14) else (if nat_lt 0 p.left.kernel then Some (8 * 5) else (if nat_lt 0 p.left.left then Some (8 * 1) else None))) ≡ Some w → length rest < w → rest_of all p ≡ Err e
+  cut_memory : (w : ℕ) → p.left.main ≤ 0 → p.left.range ≤ 0 → p.left.hasher ≤ 0 → p.left.bitwise ≤ 0
+      → (if nat_lt 0 p.left.memory then Some
+      (8 * 14) else (if nat_lt 0 p.left.kernel then Some (8 * 5) else (if nat_lt 0 p.left.left then Some (8 * 1) else None)))
+      ≡ Some w → length rest < w → rest_of all p ≡ Err e
   unfolding from_memory
   cut_memory w main range hasher bitwise found short = elim (seen_some (nat_lt 0 p.left.memory) (8 * 14) w _ found) [
-    | inl h ↦ to_memory all p.at p.left p.trace main range hasher bitwise ∙ cut_in 14 p.left.memory _ (ltb-true 0 p.left.memory h.0) (subst (λ (v : ℕ). length rest < v) (sym h.1) short)
+    | inl h ↦
+        to_memory all p.at p.left p.trace main range hasher bitwise
+        ∙ cut_in 14 p.left.memory _ (ltb-true 0 p.left.memory h.0) (subst (λ (v : ℕ). length rest < v) (sym h.1) short)
     | inr h ↦ cut_kernel w main range hasher bitwise (ltb-false 0 p.left.memory h.0) h.1 short
   ]
 
-  cut_bitwise : (w : ℕ) → p.left.main ≤ 0 → p.left.range ≤ 0 → p.left.hasher ≤ 0 → (if nat_lt 0 p.left.bitwise then Some (8 * 12) else (if nat_lt 0 p.left.memory then Some (8 * 14) else (if nat_lt 0 p.left.kernel then Some (8 * 5) else (if nat_lt 0 p.left.left then Some (8 * 1) else None)))) ≡ Some w → length rest < w → rest_of all p ≡ Err e
+  cut_bitwise : (w : ℕ) → p.left.main ≤ 0 → p.left.range ≤ 0 → p.left.hasher ≤ 0
+      → (if nat_lt 0 p.left.bitwise then Some
+      (8 * 12) else (if nat_lt 0 p.left.memory then Some
+      (8 * 14) else (if nat_lt 0 p.left.kernel then Some (8 * 5) else (if nat_lt 0 p.left.left then Some (8 * 1) else None))))
+      ≡ Some w → length rest < w → rest_of all p ≡ Err e
   unfolding from_bitwise
   cut_bitwise w main range hasher found short = elim (seen_some (nat_lt 0 p.left.bitwise) (8 * 12) w _ found) [
-    | inl h ↦ to_bitwise all p.at p.left p.trace main range hasher ∙ cut_in 12 p.left.bitwise _ (ltb-true 0 p.left.bitwise h.0) (subst (λ (v : ℕ). length rest < v) (sym h.1) short)
+    | inl h ↦
+        to_bitwise all p.at p.left p.trace main range hasher
+        ∙ cut_in 12 p.left.bitwise _ (ltb-true 0 p.left.bitwise h.0) (subst (λ (v : ℕ). length rest < v) (sym h.1) short)
     | inr h ↦ cut_memory w main range hasher (ltb-false 0 p.left.bitwise h.0) h.1 short
   ]
 
-  cut_hasher : (w : ℕ) → p.left.main ≤ 0 → p.left.range ≤ 0 → (if nat_lt 0 p.left.hasher then Some (8 * 15) else (if nat_lt 0 p.left.bitwise then Some (8 * 12) else (if nat_lt 0 p.left.memory then Some (8 * 14) else (if nat_lt 0 p.left.kernel then Some (8 * 5) else (if nat_lt 0 p.left.left then Some (8 * 1) else None))))) ≡ Some w → length rest < w → rest_of all p ≡ Err e
+  cut_hasher : (w : ℕ) → p.left.main ≤ 0 → p.left.range ≤ 0
+      → (if nat_lt 0 p.left.hasher then Some
+      (8 * 15) else (if nat_lt 0 p.left.bitwise then Some
+      (8 * 12) else (if nat_lt 0 p.left.memory then Some
+      (8 * 14) else (if nat_lt 0 p.left.kernel then Some (8 * 5) else (if nat_lt 0 p.left.left then Some (8 * 1) else None)))))
+      ≡ Some w → length rest < w → rest_of all p ≡ Err e
   unfolding from_hasher
   cut_hasher w main range found short = elim (seen_some (nat_lt 0 p.left.hasher) (8 * 15) w _ found) [
-    | inl h ↦ to_hasher all p.at p.left p.trace main range ∙ cut_in 15 p.left.hasher _ (ltb-true 0 p.left.hasher h.0) (subst (λ (v : ℕ). length rest < v) (sym h.1) short)
+    | inl h ↦
+        to_hasher all p.at p.left p.trace main range
+        ∙ cut_in 15 p.left.hasher _ (ltb-true 0 p.left.hasher h.0) (subst (λ (v : ℕ). length rest < v) (sym h.1) short)
     | inr h ↦ cut_bitwise w main range (ltb-false 0 p.left.hasher h.0) h.1 short
   ]
 
-  cut_range : (w : ℕ) → p.left.main ≤ 0 → (if nat_lt 0 p.left.range then Some (8 * 2) else (if nat_lt 0 p.left.hasher then Some (8 * 15) else (if nat_lt 0 p.left.bitwise then Some (8 * 12) else (if nat_lt 0 p.left.memory then Some (8 * 14) else (if nat_lt 0 p.left.kernel then Some (8 * 5) else (if nat_lt 0 p.left.left then Some (8 * 1) else None)))))) ≡ Some w → length rest < w → rest_of all p ≡ Err e
+  cut_range : (w : ℕ) → p.left.main ≤ 0 → (if nat_lt 0 p.left.range then Some
+      (8 * 2) else (if nat_lt 0 p.left.hasher then Some
+      (8 * 15) else (if nat_lt 0 p.left.bitwise then Some
+      (8 * 12) else (if nat_lt 0 p.left.memory then Some
+      (8 * 14) else (if nat_lt 0 p.left.kernel then Some (8 * 5) else (if nat_lt 0 p.left.left then Some (8 * 1) else None))))))
+      ≡ Some w → length rest < w → rest_of all p ≡ Err e
   unfolding from_range
   cut_range w main found short = elim (seen_some (nat_lt 0 p.left.range) (8 * 2) w _ found) [
-    | inl h ↦ to_range all p.at p.left p.trace main ∙ cut_in 2 p.left.range _ (ltb-true 0 p.left.range h.0) (subst (λ (v : ℕ). length rest < v) (sym h.1) short)
+    | inl h ↦
+        to_range all p.at p.left p.trace main
+        ∙ cut_in 2 p.left.range _ (ltb-true 0 p.left.range h.0) (subst (λ (v : ℕ). length rest < v) (sym h.1) short)
     | inr h ↦ cut_hasher w main (ltb-false 0 p.left.range h.0) h.1 short
   ]
 
-  cut_main : (w : ℕ) → (if nat_lt 0 p.left.main then Some (8 * 65) else (if nat_lt 0 p.left.range then Some (8 * 2) else (if nat_lt 0 p.left.hasher then Some (8 * 15) else (if nat_lt 0 p.left.bitwise then Some (8 * 12) else (if nat_lt 0 p.left.memory then Some (8 * 14) else (if nat_lt 0 p.left.kernel then Some (8 * 5) else (if nat_lt 0 p.left.left then Some (8 * 1) else None))))))) ≡ Some w → length rest < w → rest_of all p ≡ Err e
+  cut_main : (w : ℕ) → (if nat_lt 0 p.left.main then Some
+      (8 * 65) else (if nat_lt 0 p.left.range then Some
+      (8 * 2) else (if nat_lt 0 p.left.hasher then Some
+      (8 * 15) else (if nat_lt 0 p.left.bitwise then Some
+      (8 * 12) else (if nat_lt 0 p.left.memory then Some
+      (8 * 14) else (if nat_lt 0 p.left.kernel then Some (8 * 5) else (if nat_lt 0 p.left.left then Some (8 * 1) else None)))))))
+      ≡ Some w → length rest < w → rest_of all p ≡ Err e
   unfolding from_main
   cut_main w found short = elim (seen_some (nat_lt 0 p.left.main) (8 * 65) w _ found) [
     | inl h ↦ cut_in 65 p.left.main _ (ltb-true 0 p.left.main h.0) (subst (λ (v : ℕ). length rest < v) (sym h.1) short)

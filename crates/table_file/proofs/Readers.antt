@@ -75,11 +75,13 @@ module _ (bytes : List ℕ) (whole : 36 ≤ length bytes) where
     small = small;
     goes = λ done none. subst (λ (d : List ℕ). GoesOn (Some p) (d ++ head)) (sym none) (
       head_long ∙ sym at,
-      λ more. goes_past (head_of (head ++ more)) c (tables_of (head ++ more)) (head_front head more (omega (arith, head_long)) ∙ sym is) ∙ begins (head ++ more),
+      λ more. goes_past (head_of (head ++ more)) c (tables_of (head ++ more))
+          (head_front head more (omega (arith, head_long)) ∙ sym is) ∙ begins (head ++ more),
     );
   }
 
-  pub head_stops : (e : FileError) → Err e ≡ head_of head → (done more : List ℕ) → GoesOn None done → Gives {A = Trace} (Err e) (trace_of (done ++ (bytes ++ more)))
+  pub head_stops : (e : FileError) → Err e ≡ head_of head → (done more : List ℕ) → GoesOn None done
+      → Gives {A = Trace} (Err e) (trace_of (done ++ (bytes ++ more)))
   head_stops e is done more none =
       let parts : bytes ++ more ≡ head ++ (drop 36 bytes ++ more)
       = ap (λ (bs : List ℕ). bs ++ more) (sym (take-append-drop 36 bytes)) ∙ append_assoc head (drop 36 bytes) more in
@@ -108,7 +110,8 @@ rows_stop p bytes e stops done more on =
     subst (Gives (Err e)) (sym (on.1 (bytes ++ more))) (stops (done ++ (bytes ++ more)) (stands_behind done bytes more p.at on.0))
 
 -- the reading stops within these bytes
-pub stopped : (bytes done : List ℕ) (e : FileError) (part : Option PartTrace) → ((more : List ℕ) → Gives {A = Trace} (Err e) (trace_of (done ++ (bytes ++ more))))
+pub stopped : (bytes done : List ℕ) (e : FileError) (part : Option PartTrace)
+    → ((more : List ℕ) → Gives {A = Trace} (Err e) (trace_of (done ++ (bytes ++ more))))
     → HasRead (Some e) part (done ++ take (length bytes) bytes)
 stopped bytes done e part stops more =
     let all : (done ++ take (length bytes) bytes) ++ more ≡ done ++ (bytes ++ more)
@@ -116,7 +119,8 @@ stopped bytes done e part stops more =
     subst (λ (bs : List ℕ). Gives {A = Trace} (Err e) (trace_of bs)) (sym all) (stops more)
 
 -- where the reading has stopped, more bytes change nothing
-pub stays : (stop : Option FileError) (part : Option PartTrace) (bytes more : List ℕ) → is_some stop ≡ true → HasRead stop part bytes → HasRead stop part (bytes ++ more)
+pub stays : (stop : Option FileError) (part : Option PartTrace) (bytes more : List ℕ) → is_some stop ≡ true
+    → HasRead stop part bytes → HasRead stop part (bytes ++ more)
 stays (Some e) part bytes more is read =
     λ later. subst (λ (bs : List ℕ). Gives {A = Trace} (Err e) (trace_of bs)) (sym (append_assoc bytes more later)) (read (more ++ later))
 stays None part bytes more is read = absurd (none_some is)
@@ -164,7 +168,8 @@ read_further stopped stop old new before piece at count going so_far reads =
     (reads (before ++ take at piece) (going_on stopped old (before ++ take at piece) going so_far))
 
 -- two parts of a piece were taken
-pub taken_both : (r : Reader) (before piece : List ℕ) (at : ℕ) → HasTaken r ((before ++ take at piece) ++ drop at piece) → HasTaken r (before ++ piece)
+pub taken_both : (r : Reader) (before piece : List ℕ) (at : ℕ) → HasTaken r ((before ++ take at piece) ++ drop at piece)
+    → HasTaken r (before ++ piece)
 taken_both r before piece at taken =
     subst (HasTaken r) (append_assoc before (take at piece) (drop at piece) ∙ ap (λ (bs : List ℕ). before ++ bs) (take-append-drop at piece)) taken
 
@@ -194,14 +199,20 @@ answer_stopped r e bytes is taken =
 -- what was taken, where no head was whole
 pub carried_all : (r : Reader) (bytes : List ℕ) → r.stop ≡ None → r.part ≡ None → HasTaken r bytes → bytes ≡ r.carried
 carried_all r bytes going none taken =
-    let empty : GoesOn None taken.done = subst (λ (part : Option PartTrace). GoesOn part taken.done) none (subst (λ (stop : Option FileError). HasRead stop r.part taken.done) going taken.read) in
+    let empty : GoesOn None taken.done =
+    subst (λ (part : Option PartTrace). GoesOn part taken.done) none
+    (subst (λ (stop : Option FileError). HasRead stop r.part taken.done) going taken.read) in
     taken.parts ∙ ap (λ (bs : List ℕ). bs ++ r.carried) empty
 
 -- the answer behind the last bytes
 pub answer_of : (r : Reader) (p : PartTrace) (result : Result Trace FileError) → r.stop ≡ None → r.part ≡ Some p
-    → ((all : List ℕ) → drop p.at all ≡ r.carried → Gives result (rest_of all p)) → (bytes : List ℕ) → HasTaken r bytes → Gives result (trace_of bytes)
+    → ((all : List ℕ) → drop p.at all ≡ r.carried → Gives result (rest_of all p)) → (bytes : List ℕ) → HasTaken r bytes
+    → Gives result (trace_of bytes)
 answer_of r p result going some reads bytes taken =
-    let on : GoesOn (Some p) taken.done = subst (λ (part : Option PartTrace). GoesOn part taken.done) some (subst (λ (stop : Option FileError). HasRead stop r.part taken.done) going taken.read) in
+    let on : GoesOn (Some p) taken.done =
+    subst (λ (part : Option PartTrace). GoesOn part taken.done) some
+    (subst (λ (stop : Option FileError). HasRead stop r.part taken.done) going taken.read) in
     let rest : drop p.at (taken.done ++ r.carried) ≡ r.carried
     = ap (λ (n : ℕ). drop n (taken.done ++ r.carried)) (sym on.0) ∙ drop-append_seam taken.done r.carried in
-    subst (λ (bs : List ℕ). Gives result (trace_of bs)) (sym taken.parts) (subst (Gives result) (sym (on.1 r.carried)) (reads (taken.done ++ r.carried) rest))
+    subst (λ (bs : List ℕ). Gives result (trace_of bs)) (sym taken.parts)
+    (subst (Gives result) (sym (on.1 r.carried)) (reads (taken.done ++ r.carried) rest))

@@ -50,7 +50,9 @@ module _ (w at : ℕ) (bytes : List ℕ) (before : ℕ) (old : List (List ℕ)) 
       goes = λ all stands.
           let both = subst (StandsAt all at) (take-add used (8 * w) bytes) stands in
           let within_used : used ≤ length bytes = r.within in
-          let is = reads all (stands_back all (take used bytes) (take (8 * w) (drop used bytes)) at both used (length-take-le used bytes within_used)) in
+          let is =
+          reads all (stands_back all (take used bytes) (take (8 * w) (drop used bytes)) at both used
+          (length-take-le used bytes within_used)) in
           let place : at + (used + 8 * w) ≡ at + used + 8 * w = omega arith in
           ap (λ (p : ℕ). behind (rows_at all w (left - 1) p) (λ rest. Ok ((r.rows ++ row ∷ []) ++ rest))) place
           ∙ goes_behind (row_at all w) (8 * w) (left - 1) (at + used) r.rows row is
@@ -67,7 +69,9 @@ module _ (w at : ℕ) (bytes : List ℕ) (before : ℕ) (old : List (List ℕ)) 
         let parts = subst (StandsAt all at) (sym (take-append-drop used bytes)) stands in
         let within_used : used ≤ length bytes = r.within in
         let there = stands_back all (take used bytes) behind_used at parts used (length-take-le used bytes within_used) in
-        let next = stands_front all (take (8 * w) behind_used) (drop (8 * w) behind_used) (at + used) (subst (StandsAt all (at + used)) (sym (take-append-drop (8 * w) behind_used)) there) in
+        let next =
+        stands_front all (take (8 * w) behind_used) (drop (8 * w) behind_used) (at + used)
+        (subst (StandsAt all (at + used)) (sym (take-append-drop (8 * w) behind_used)) there) in
         bad-read (rows_at all w before at) e
         (sym (r.goes all (stands_front all (take used bytes) behind_used at parts))
         ∙ ap (λ (n : ℕ). behind (rows_at all w n (at + used)) (λ rest. Ok (r.rows ++ rest))) one

@@ -59,7 +59,8 @@ module _ (bytes : List ℕ) where
   pub rows-table : (w n at : ℕ) (rows : List (List ℕ)) → rows_at bytes w n at ≡ Ok rows → IsTable w rows
   rows-table w n at rows is = to-table w rows (parts-have (row_at bytes w) (8 * w) (IsRow w) (is-row w) n at rows is)
 
-  pub rows-written : AreBytes bytes → (w n at : ℕ) (rows : List (List ℕ)) → rows_at bytes w n at ≡ Ok rows → table_bytes rows ++ drop (at + 8 * w * n) bytes ≡ drop at bytes
+  pub rows-written : AreBytes bytes → (w n at : ℕ) (rows : List (List ℕ)) → rows_at bytes w n at ≡ Ok rows
+      → table_bytes rows ++ drop (at + 8 * w * n) bytes ≡ drop at bytes
   rows-written low w n at rows is =
       parts-written (row_at bytes w) (8 * w) bytes row_bytes
       (λ place row is-row. parts-written (element_at bytes) 8 bytes (little_bytes 8)
@@ -76,9 +77,12 @@ module _ (bytes : List ℕ) where
       row at rest good.1 is)
 
   -- the bytes of a table read as it, and what follows stands behind it
-  pub rows-read : (w at : ℕ) (rows : List (List ℕ)) (rest : List ℕ) → IsTable w rows → drop at bytes ≡ table_bytes rows ++ rest → (rows_at bytes w (length rows) at ≡ Ok rows) × (drop (at + 8 * w * length rows) bytes ≡ rest)
+  pub rows-read : (w at : ℕ) (rows : List (List ℕ)) (rest : List ℕ) → IsTable w rows → drop at bytes ≡ table_bytes rows ++ rest
+      → (rows_at bytes w (length rows) at ≡ Ok rows) × (drop (at + 8 * w * length rows) bytes ≡ rest)
   rows-read w at rows rest shape is =
       let good = from-table w rows shape in (
-        parts-read (row_at bytes w) (8 * w) bytes row_bytes (IsRow w) (wide-row w) (λ place row more. row-reads w place row more) rows at rest good is,
-        behind_part bytes (table_bytes rows) rest at (8 * w * length rows) (parts-wide (row_at bytes w) (8 * w) bytes row_bytes (IsRow w) (wide-row w) rows good) is,
+        parts-read (row_at bytes w) (8 * w) bytes row_bytes (IsRow w) (wide-row w) (λ place row more. row-reads w place row more)
+            rows at rest good is,
+        behind_part bytes (table_bytes rows) rest at (8 * w * length rows)
+            (parts-wide (row_at bytes w) (8 * w) bytes row_bytes (IsRow w) (wide-row w) rows good) is,
       )

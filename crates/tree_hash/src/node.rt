@@ -44,7 +44,7 @@ impl Node {
 }
 
 /// The tree with its digests, and the permutations with those that were computed for it. A block is
-/// hashed once, whatever its copies.
+/// hashed once, whatever its copies, unless another one with its fingerprint stands between them.
 pub fn hashed(
     alloc: Global,
     permutations: Permutations,

@@ -153,7 +153,9 @@ not_early n g N qs h (suc k) positive below one = go (first_or_none test (suc k)
 
     go : FirstBelow test (suc k) ⊎ NoneBelow test (suc k) → ⊥
     go (inl found) =
-        let d_is : suc found.0 ≡ N = least_is n g N qs h (suc found.0) (omega arith) (eqb-true (power n g (suc found.0)) 1 found.2) (earlier found.0 found.3) in
+        let d_is : suc found.0 ≡ N =
+        least_is n g N qs h (suc found.0) (omega arith) (eqb-true (power n g (suc found.0)) 1 found.2)
+        (earlier found.0 found.3) in
         absurd (omega (arith, d_is, found.1))
     go (inr none) = false≢true (sym (none k (omega arith)) ∙ eq-eqb (power n g (suc k)) 1 one)
 

@@ -101,5 +101,6 @@ decimal_found text r e n below is = e ∙ ap element_of is ∙ element_of-decima
 pub element_of-any_decimal : (n : ℕ) → n < 2 ^ 64 → element_of (decimal n) ≡ element_from n
 element_of-any_decimal n small =
     ⊎_elim (λ below. element_of-decimal n below ∙ sym (element_from-below n below))
-    (λ above. element_of-none (decimal n) (λ m below is. absurd (omega (arith, decimal_injective n m small (omega arith) is))) ∙ sym (element_from-above n above))
+    (λ above. element_of-none (decimal n) (λ m below is. absurd (omega (arith, decimal_injective n m small (omega arith) is)))
+    ∙ sym (element_from-above n above))
     (cases_lt n prime)

@@ -1,5 +1,5 @@
 -- Lists of elements, and what is made of them.
-use Rattle.std.proofs.Common.{◌≡◌, ℕ, zero, suc, ◌-◌, ◌<◌, ◌≤◌, max, ◌⊎◌, inl, inr, List, [], ◌∷◌, ◌++◌, length, map, take, drop, reverse, replicate, slice_index, refl, arith, lit<}
+use Rattle.std.proofs.Common.{◌≡◌, ℕ, zero, suc, ◌-◌, ◌<◌, ◌≤◌, max, ◌⊎◌, inl, inr, Bool, true, false, cond, List, [], ◌∷◌, ◌++◌, length, map, take, drop, reverse, replicate, slice_index, refl, arith, lit<}
 use Rattle.std.proofs.lemmas.List.{get_or-reverse, get_or_past, length-append, length-replicate, length-reverse}
 use Rattle.std.proofs.lemmas.List.Elements.{All-append, All-cons, All-drop, All-nil, All-replicate, All-take}
 use Rattle.vm_field.specs.Field.{prime, AreElements}
@@ -42,6 +42,10 @@ elements-reverse xs below k d h =
     let within : k < length xs = omega (arith, length-reverse {A = ℕ}) in
     rw (get_or-reverse xs k d within) (below (length xs - 1 - k) d (omega arith))
 
+pub elements-cond : (test : Bool) (xs ys : List ℕ) → AreElements xs → AreElements ys → AreElements (cond test xs ys)
+elements-cond true xs ys below other = below
+elements-cond false xs ys below other = other
+
 pub elements-replicate : (n : ℕ) → AreElements (replicate n 0)
 elements-replicate n = All-replicate (λ e. e < prime) n 0 (lit< tt)
 
@@ -66,6 +70,16 @@ word-of a b c d l m n o = record {
   size = refl;
   below = elements-cons a (b ∷ c ∷ d ∷ []) l (elements-cons b (c ∷ d ∷ []) m (elements-two c d n o));
 }
+
+-- four elements make a word again
+pub word-is : (w : List ℕ) (a b c d : ℕ) → length w ≡ 4 → a ≡ slice_index w 0 → b ≡ slice_index w 1 → c ≡ slice_index w 2 → d ≡ slice_index w 3
+    → a ∷ b ∷ c ∷ d ∷ [] ≡ w
+word-is (i ∷ j ∷ k ∷ l ∷ []) a b c d size ea eb ec ed = cc
+word-is (i ∷ j ∷ k ∷ l ∷ m ∷ w) a b c d size ea eb ec ed = absurd (omega (arith, size))
+word-is _ a b c d size ea eb ec ed = absurd (omega (arith, size))
+
+pub word-again : (w : List ℕ) → length w ≡ 4 → slice_index w 0 ∷ slice_index w 1 ∷ slice_index w 2 ∷ slice_index w 3 ∷ [] ≡ w
+word-again w size = word-is w (slice_index w 0) (slice_index w 1) (slice_index w 2) (slice_index w 3) size refl refl refl refl
 
 pub word-zero : IsWord zero_word
 word-zero = record { size = refl; below = elements-replicate 4 }

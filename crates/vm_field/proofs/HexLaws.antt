@@ -80,8 +80,10 @@ unfolding word_hex elements_of_hex join
 elements_of_hex-word_hex [] below = refl
 elements_of_hex-word_hex (e ∷ es) below =
     ap₂ join
-    (ap element_of_hex (front 16 (hex_digits 16 e) (word_hex es) (length-hex_digits 16 e)) ∙ element_of_hex-hex_digits e (All-head (λ x. x < prime) e es below))
-    (ap (elements_of_hex (length es)) (back 16 (hex_digits 16 e) (word_hex es) (length-hex_digits 16 e)) ∙ elements_of_hex-word_hex es (All-tail (λ x. x < prime) e es below))
+    (ap element_of_hex (front 16 (hex_digits 16 e) (word_hex es) (length-hex_digits 16 e))
+    ∙ element_of_hex-hex_digits e (All-head (λ x. x < prime) e es below))
+    (ap (elements_of_hex (length es)) (back 16 (hex_digits 16 e) (word_hex es) (length-hex_digits 16 e))
+    ∙ elements_of_hex-word_hex es (All-tail (λ x. x < prime) e es below))
 
 -- a word that was written is read as it was
 pub word_of_hex-word_hex : (w : List ℕ) → length w ≡ 4 → All (λ e. e < prime) w → word_of_hex (word_hex w) ≡ Some w
@@ -118,7 +120,8 @@ past_f c above = grind (arith, nat_tests)
 digit_facts : (c d : ℕ) → hex_digit_value c ≡ Some d → (d < 16) × (slice_index lower_digits d ≡ to_ascii_lowercase c)
 digit_facts c d e = ⊎_elim small (λ above. cc (past_f c above, e)) (cases_lt c 103)
   where
-    facts : (nat_lt d 16 ≡ true) × ((slice_index lower_digits d == to_ascii_lowercase c) ≡ true) → (d < 16) × (slice_index lower_digits d ≡ to_ascii_lowercase c)
+    facts : (nat_lt d 16 ≡ true) × ((slice_index lower_digits d == to_ascii_lowercase c) ≡ true)
+        → (d < 16) × (slice_index lower_digits d ≡ to_ascii_lowercase c)
     facts h = (ltb-true d 16 h.0, eqb-true (slice_index lower_digits d) (to_ascii_lowercase c) h.1)
 
     small : c < 103 → (d < 16) × (slice_index lower_digits d ≡ to_ascii_lowercase c)
@@ -173,7 +176,8 @@ elements_read zero [] w len h =
     subst (IsRead 0 []) w_is (refl, refl, elements-none)
 elements_read zero (c ∷ cs) w len h = absurd (omega arith)
 elements_read (suc k) text w len h =
-    go (element_of_hex (take 16 text)) refl (elements_of_hex k (drop 16 text)) refl h (λ es. elements_read k (drop 16 text) es (omega (arith, length-drop 16 text)))
+    go (element_of_hex (take 16 text)) refl (elements_of_hex k (drop 16 text)) refl h
+    (λ es. elements_read k (drop 16 text) es (omega (arith, length-drop 16 text)))
   where
     go : (o : Option ℕ) → element_of_hex (take 16 text) ≡ o → (os : Option (List ℕ)) → elements_of_hex k (drop 16 text) ≡ os
         → option_and_then (λ x. option_and_then (λ xs. Some (x ∷ xs)) os) o ≡ Some w
@@ -185,7 +189,8 @@ elements_read (suc k) text w len h =
         let later = rest es are in
         let w_is : e ∷ es ≡ w = cc in
         subst (IsRead (suc k) text) w_is (
-          ap₂ (λ (xs ys : List ℕ). xs ++ ys) first.0 later.0 ∙ sym (map-append to_ascii_lowercase (take 16 text) (drop 16 text)) ∙ ap str_to_ascii_lowercase (take-append-drop 16 text),
+          ap₂ (λ (xs ys : List ℕ). xs ++ ys) first.0 later.0 ∙ sym (map-append to_ascii_lowercase (take 16 text) (drop 16 text))
+              ∙ ap str_to_ascii_lowercase (take-append-drop 16 text),
           ap suc later.1,
           elements-cons e es first.1 later.2,
         )

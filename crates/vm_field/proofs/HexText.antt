@@ -51,7 +51,8 @@ unfolding encode_with hex_digits pairs
 encode-bytes zero n = refl
 encode-bytes (suc k) n =
     ap₂ (λ (x y : ℕ). slice_index lower_digits x ∷ slice_index lower_digits y ∷ encode_lower (bytes_high_first k n)) (high_digit k n) (low_digit k n)
-    ∙ ap (λ (ds : List ℕ). slice_index lower_digits (n / 16 ^ suc (pairs k) % 16) ∷ slice_index lower_digits (n / 16 ^ pairs k % 16) ∷ ds) (encode-bytes k n)
+    ∙ ap (λ (ds : List ℕ). slice_index lower_digits (n / 16 ^ suc (pairs k) % 16) ∷ slice_index lower_digits (n / 16 ^ pairs k % 16)
+    ∷ ds) (encode-bytes k n)
 
 -- the crate `hex` writes a number's eight bytes as its sixteen digits
 pub encode_lower-to_be_bytes : (n : ℕ) → encode_lower (to_be_bytes w64 n) ≡ hex_digits 16 n
@@ -75,7 +76,8 @@ pair_step : (n high low i : ℕ) (rest : List ℕ) (h l : Option ℕ) (r : Resul
     → ((m : ℕ) → hex_number m rest ≡ option_map (after_bytes m) (result_ok r))
     → option_and_then (λ d. option_and_then (λ e. hex_number (16 * (16 * n + d) + e) rest) l) h
     ≡ option_map (after_bytes n)
-    (result_ok ((digit_or_error high i h >>= (λ x. digit_or_error low (i + 1) l >>= (λ y. Ok (x * 16 + y)))) >>= (λ byte. r >>= (λ bytes. Ok (byte ∷ bytes)))))
+    (result_ok ((digit_or_error high i h >>= (λ x. digit_or_error low (i + 1) l >>= (λ y. Ok (x * 16 + y)))) >>=
+    (λ byte. r >>= (λ bytes. Ok (byte ∷ bytes)))))
 unfolding after_bytes
 pair_step n high low i rest None l r ih = refl
 pair_step n high low i rest (Some d) None r ih = refl

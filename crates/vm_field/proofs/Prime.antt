@@ -73,7 +73,8 @@ Euclid-65537 =
 factors : List ℕ
 factors = repeat 32 2 (3 ∷ 5 ∷ 17 ∷ 257 ∷ 65537 ∷ [])
 
-of_seven : (q : ℕ) → 0 < q → IsEuclid q → (prime - 1) / q < 2 ^ 64 → eqb (fast_power 64 prime 7 ((prime - 1) / q)) 1 ≡ false → IsFactor prime 7 (prime - 1) q
+of_seven : (q : ℕ) → 0 < q → IsEuclid q → (prime - 1) / q < 2 ^ 64 → eqb (fast_power 64 prime 7 ((prime - 1) / q)) 1 ≡ false
+    → IsFactor prime 7 (prime - 1) q
 of_seven q = factor prime 7 (prime - 1) q
 
 generated : Generates prime 7 (prime - 1) factors

@@ -35,8 +35,13 @@ impl Mul for Felt {
 
     ghost mul_gives = { λ a b r. r ≡ felt_mul a b };
 
+    // In a table's entries the first factor is a flag, which is 0 or 1 in nearly every row: there none is computed.
     fn mul(self, b: Felt) -> Felt {
-        Felt::mul(self, b)
+        match self.value() {
+            0 => Felt::ZERO,
+            1 => b,
+            _ => Felt::mul(self, b),
+        }
     }
 }
 

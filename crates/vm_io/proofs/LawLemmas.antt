@@ -23,9 +23,12 @@ told_at : (s : ShelfState) (m : Files) (P : Files → Type 0) → s.files ≡ So
 told_at s m P is told = subst (λ o. IfSome o P) is told
 
 pub files_decide : FilesDecide
-files_decide old new m name max (Ok bytes) step is unfailed given = whole_answer max bytes _ (told_at old m (λ m. get m name ≡ Some bytes) is step.file) step.within
-files_decide old new m name max (Err read.Missing) step is unfailed given = ap (answer_at max) (sym (told_at old m (λ m. get m name ≡ None) is step.1))
-files_decide old new m name max (Err read.TooLong) step is unfailed given = long_answer max _ (told_at old m (λ m. IsSomeAnd (get m name) (λ bytes. max < length bytes)) is step.1)
+files_decide old new m name max (Ok bytes) step is unfailed given =
+    whole_answer max bytes _ (told_at old m (λ m. get m name ≡ Some bytes) is step.file) step.within
+files_decide old new m name max (Err read.Missing) step is unfailed given =
+    ap (answer_at max) (sym (told_at old m (λ m. get m name ≡ None) is step.1))
+files_decide old new m name max (Err read.TooLong) step is unfailed given =
+    long_answer max _ (told_at old m (λ m. IsSomeAnd (get m name) (λ bytes. max < length bytes)) is step.1)
 files_decide old new m name max (Err read.Failed) step is unfailed given = absurd (unfailed refl)
 files_decide old new m name max (Err read.Memory) step is unfailed given = absurd (given refl)
 

@@ -23,9 +23,16 @@ pub record HeldFiles : Type 0 where
 abbrev pub held_code : Coded HeldFiles
 held_code =
     code_by (Files × (ℕ × (ℕ × (List ℕ × (ℕ × List ℕ)))))
-    (coded× (code (coded_list coded_ℕ) (coded_list coded_ℕ)) (coded× coded_ℕ (coded× coded_ℕ (coded× (coded_list coded_ℕ) (coded× coded_ℕ (coded_list coded_ℕ))))))
+    (coded× (code (coded_list coded_ℕ) (coded_list coded_ℕ))
+    (coded× coded_ℕ (coded× coded_ℕ (coded× (coded_list coded_ℕ) (coded× coded_ℕ (coded_list coded_ℕ))))))
     (λ s. (s.files, (s.read_faults, (s.write_faults, (s.failed_name, (s.calls.made, s.calls.failing))))))
-    (λ p. record { files = p.0; read_faults = p.1.0; write_faults = p.1.1.0; failed_name = p.1.1.1.0; calls = record { made = p.1.1.1.1.0; failing = p.1.1.1.1.1 } })
+    (λ p. record {
+      files = p.0;
+      read_faults = p.1.0;
+      write_faults = p.1.1.0;
+      failed_name = p.1.1.1.0;
+      calls = record { made = p.1.1.1.1.0; failing = p.1.1.1.1.1 };
+    })
     (λ _. refl)
 
 -- the files of a map from texts

@@ -1,6 +1,6 @@
 -- The table of codes, both ways.
-use Rattle.std.proofs.Common.{◌≡◌, ℕ, zero, suc, ◌+◌, ◌<◌, ◌≤◌, ◌==◌, ◌&&◌, Bool, true, false, List, [], ◌∷◌, Some, None, length, refl, ap, sym, ◌∙◌, arith, lit<, ◌↔◌, inl, inr, add-zero}
-use Rattle.std.proofs.lemmas.Bool.{eqb-true}
+use Rattle.std.proofs.Common.{◌≡◌, ℕ, zero, suc, ◌+◌, ◌<◌, ◌≤◌, ◌==◌, ◌&&◌, Bool, true, List, [], ◌∷◌, Some, None, length, refl, ap, sym, ◌∙◌, arith, lit<, ◌↔◌, inl, inr, add-zero}
+use Rattle.std.proofs.lemmas.Bool.{eqb-true, and_parts}
 use Rattle.std.specs.List.{slice_get}
 use Rattle.std.proofs.lemmas.Option.{slice_get_past, slice_get_cases}
 use Rattle.vm_ops.specs.Codes.{code_of, op_at, every_op}
@@ -25,17 +25,13 @@ abbrev numbered : List Op → ℕ → Bool
 numbered [] n = true
 numbered (op ∷ ops) n = (code_of op == n) && numbered ops (suc n)
 
-both : (a b : Bool) → a && b ≡ true → (a ≡ true) × (b ≡ true)
-both true b e = (refl, e)
-both false b e = cc
-
 code_of-numbered : (ops : List Op) (n i : ℕ) (op : Op) → numbered ops n ≡ true → slice_get ops i ≡ Some op → code_of op ≡ n + i
 code_of-numbered [] n i op h e = cc
 code_of-numbered (x ∷ xs) n zero op h e =
     let x_is : x ≡ op = cc in
-    ap code_of (sym x_is) ∙ eqb-true (code_of x) n (both (code_of x == n) (numbered xs (suc n)) h).0 ∙ sym (add-zero n)
+    ap code_of (sym x_is) ∙ eqb-true (code_of x) n (and_parts (code_of x == n) (numbered xs (suc n)) h).0 ∙ sym (add-zero n)
 code_of-numbered (x ∷ xs) n (suc i) op h e =
-    let later : code_of op ≡ suc n + i = code_of-numbered xs (suc n) i op (both (code_of x == n) (numbered xs (suc n)) h).1 e in
+    let later : code_of op ≡ suc n + i = code_of-numbered xs (suc n) i op (and_parts (code_of x == n) (numbered xs (suc n)) h).1 e in
     omega arith
 
 every_op-numbered : numbered every_op 0 ≡ true
@@ -54,7 +50,8 @@ code_of-op_at code op e =
 pub op_at-outside : (code : ℕ) → (op_at code ≡ None) ↔ (80 ≤ code)
 unfolding op_at
 op_at-outside code = (
-  λ none. elim (slice_get_cases every_op code).1 [ inl found ↦ let some = found.2 in cc | inr past ↦ (let count = every_op-length in omega (arith, past.0)) ],
+  λ none. elim (slice_get_cases every_op code).1
+      [ inl found ↦ let some = found.2 in cc | inr past ↦ (let count = every_op-length in omega (arith, past.0)) ],
   λ past. slice_get_past every_op code (rw every_op-length past),
 )
 

@@ -1,11 +1,11 @@
 -- What an operation leaves is made of elements.
-use Rattle.std.proofs.Common.{◌≡◌, ◌≢◌, ℕ, ◌+◌, ◌-◌, ◌*◌, ◌/◌, ◌%◌, ◌^◌, ◌<◌, ◌≤◌, ◌==◌, ◌&&◌, not, Bool, true, false, cond, List, [], ◌∷◌, ◌++◌, take, drop, reverse, length, Option, Some, None, refl, arith, nat_lt, lit<}
+use Rattle.std.proofs.Common.{◌≡◌, ◌≢◌, ℕ, ◌+◌, ◌-◌, ◌*◌, ◌/◌, ◌%◌, ◌^◌, ◌<◌, ◌≤◌, ◌==◌, ◌&&◌, not, Bool, true, false, [], ◌∷◌, ◌++◌, take, drop, reverse, length, Option, Some, None, refl, arith, nat_lt, lit<}
 use Rattle.std.proofs.lemmas.Bool.{ltb-true, eqb-false}
 use Rattle.std.proofs.lemmas.List.{length-drop, length-reverse, length-take-le}
 use Rattle.std.proofs.lemmas.Nat.{and_le_r, xor_of_32}
 use Rattle.std.proofs.Math.Nat.{div-le_self, mul-le-mul_left, mul-le-mul_right}
 use Rattle.std.specs.Option.{MatchOption}
-use Rattle.vm_field.proofs.Elements.{elements-append, elements-cons, elements-drop, elements-index, elements-none, elements-one, elements-picked, elements-reverse, elements-take, elements-two}
+use Rattle.vm_field.proofs.Elements.{elements-append, elements-cons, elements-drop, elements-index, elements-none, elements-one, elements-picked, elements-reverse, elements-take, elements-two, elements-cond}
 use Rattle.vm_field.proofs.Inverses.{felt_inv-below}
 use Rattle.vm_field.proofs.PermutationLemmas.{elements-permuted}
 use Rattle.vm_field.specs.Field.{prime, AreElements, felt_inv}
@@ -17,10 +17,6 @@ use Rattle.vm_ops.specs.Moves.{sources_of}
 use Rattle.vm_ops.specs.Sizes.{IsSeenBy, IsMadeOfElements}
 use Rattle.vm_ops.specs.Step.{left_cells}
 use Rattle.vm_ops.specs.Values.{Seen, cell, bit_of, two_words, computed, fmp_after, written, is_u32, unless, or_else, two_u32, three_u32, trap_of}
-
-elements-cond : (b : Bool) (xs ys : List ℕ) → AreElements xs → AreElements ys → AreElements (cond b xs ys)
-elements-cond true xs ys h k = h
-elements-cond false xs ys h k = k
 
 bit_of-below : (b : Bool) → bit_of b < prime
 bit_of-below true = lit< tt

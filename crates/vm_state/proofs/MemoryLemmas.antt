@@ -20,7 +20,8 @@ pub get-words_of : (m : BTreeMap (ℕ × ℕ) (List ℕ)) (place : ℕ × ℕ) �
 get-words_of m place = get-from_entries place_cmp_total _ place ∙ find-lookup m.entries place
 
 -- an entry that is put into the map is a word that is put in
-pub words_of-insert : (m n : BTreeMap (ℕ × ℕ) (List ℕ)) (place : ℕ × ℕ) (word : List ℕ) → Updates place_cmp m n place (Some word) → words_of n.entries ≡ insert (words_of m.entries) place word
+pub words_of-insert : (m n : BTreeMap (ℕ × ℕ) (List ℕ)) (place : ℕ × ℕ) (word : List ℕ) → Updates place_cmp m n place (Some word)
+    → words_of n.entries ≡ insert (words_of m.entries) place word
 words_of-insert m n place word updates = same_map place_cmp_total place_cmp-IsAntisymmetric _ _ (λ q.
     get-words_of n q
     ∙ updates.0 q

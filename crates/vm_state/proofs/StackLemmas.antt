@@ -19,7 +19,8 @@ full : (cells : List ℕ) → 16 ≤ length cells → cells ≡ filled_up cells
 full cells enough = let none : 16 - length cells ≡ 0 = omega arith in rw none (sym (append-nil cells))
 
 -- cells, and zeros in place of the top of a stack that they don't fill
-held : (cells : List ℕ) (n : ℕ) → n ≡ min (length cells) 16 → (16 < length cells) ⊎ (length cells ≤ 16) → (take n cells ++ replicate (16 - n) 0) ++ drop n cells ≡ filled_up cells
+held : (cells : List ℕ) (n : ℕ) → n ≡ min (length cells) 16 → (16 < length cells) ⊎ (length cells ≤ 16)
+    → (take n cells ++ replicate (16 - n) 0) ++ drop n cells ≡ filled_up cells
 held cells n is (inr few) =
     let all : n ≡ length cells = omega (arith, is, few) in
     rw (all, take-length cells, drop-length cells) (append-nil _)
@@ -42,7 +43,8 @@ rotated (t ∷ ts) v size =
     subst (λ n. set (ts ++ t ∷ []) n v ≡ ts ++ v ∷ []) later (set-append_seam ts t [] v)
 
 -- the top cell is gone, and the highest cell below comes in, or a zero where there is none
-pub dropped-is : (top below rest : List ℕ) (popped : Option ℕ) → length top ≡ 16 → below ≡ rest ++ option_to_list popped → (popped ≡ None → length rest ≡ 0) →
+pub dropped-is : (top below rest : List ℕ) (popped : Option ℕ) → length top ≡ 16 → below ≡ rest ++ option_to_list popped
+    → (popped ≡ None → length rest ≡ 0) →
     set (drop 1 top ++ take 1 top) 15 (unwrap_or popped 0) ++ reverse rest ≡ filled_up (drop 1 (top ++ reverse below))
 dropped-is [] below rest popped size was none = absurd (omega (arith, size))
 dropped-is (t ∷ ts) below (r ∷ rest) None size was none = absurd (omega (arith, none refl))
@@ -55,7 +57,8 @@ dropped-is (t ∷ ts) below rest (Some v) size was none =
     (append_assoc ts (v ∷ []) (reverse rest) ∙ full (ts ++ v ∷ reverse rest) (rw (length-append ts (v ∷ reverse rest)) (omega (arith, later))))
 
 -- what stood at a pop that gave nothing
-pub emptied : (popped : Option ℕ) (m n : ℕ) (before after : List ℕ) (P : ℕ → Type 0) → MatchOption popped ((m ≡ 0) × (n ≡ 0)) P → after ≡ take (m - 1) before → popped ≡ None → length after ≡ 0
+pub emptied : (popped : Option ℕ) (m n : ℕ) (before after : List ℕ) (P : ℕ → Type 0) → MatchOption popped ((m ≡ 0) × (n ≡ 0)) P
+    → after ≡ take (m - 1) before → popped ≡ None → length after ≡ 0
 emptied None m n before after P cases rest none =
     let nothing : m - 1 ≡ 0 = omega (arith, cases.0) in
     rw (rest, nothing) refl

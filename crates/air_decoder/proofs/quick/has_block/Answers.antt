@@ -15,7 +15,8 @@ returns-then-code-opcode-2 g c = λ is.
 pub returns-then-is_bit : goal.returns-then-is_bit
 returns-then-is_bit g c = λ is.
     split_clean (g.V.View.cells c.args.x.now.row.now) (g.V.View.cells c.args.y.now) c.args.op c.requires.has
-    (sym c.opcode-code.ensures.is ∙ c.if-code-opcode-3.true ∙ c.opcode-3.ensures.is) c.requires.outside (subst (λ a. a < 2) c.s0.ensures.is (c.is_bit.ensures c.if-is_bit.true)) (c.is_opening-then-is_bit.ensures is)
+    (sym c.opcode-code.ensures.is ∙ c.if-code-opcode-3.true ∙ c.opcode-3.ensures.is) c.requires.outside
+    (subst (λ a. a < 2) c.s0.ensures.is (c.is_bit.ensures c.if-is_bit.true)) (c.is_opening-then-is_bit.ensures is)
 
 pub returns-then-code-opcode-4 : goal.returns-then-code-opcode-4
 returns-then-code-opcode-4 g c = λ is.

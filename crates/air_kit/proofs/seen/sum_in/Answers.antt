@@ -13,10 +13,13 @@ pub loop-code-preserved : goal.loop-code-preserved
 loop-code-preserved g c =
     c.add-total.ensures
     ∙ sum_step (λ op. cond (passes_of c.args.set op) (flag (g.V.View.cells c.args.row.now) op) 0) (c.loop-code.code - 1) c.loop-code.code _ _
-    (let h = c.loop-code-test.true in omega (arith, h)) (let h = c.loop-code.auto.code in let k = c.loop-code-test.true in omega (arith, h, k)) c.flag_at.ensures c.loop-code.invariant
+    (let h = c.loop-code-test.true in omega (arith, h))
+    (let h = c.loop-code.auto.code in let k = c.loop-code-test.true in omega (arith, h, k)) c.flag_at.ensures
+    c.loop-code.invariant
 
 pub returns : goal.returns
 unfolding flags_of
 returns g c =
     let zero_is : c.loop-code.code ≡ 0 = let h = c.loop-code-test.false in omega (arith, h) in
-    c.loop-code.invariant ∙ ap (λ k. sum_of (drop k every_op) (λ op. cond (passes_of c.args.set op) (flag (g.V.View.cells c.args.row.now) op) 0)) zero_is
+    c.loop-code.invariant ∙ ap (λ k. sum_of (drop k every_op)
+    (λ op. cond (passes_of c.args.set op) (flag (g.V.View.cells c.args.row.now) op) 0)) zero_is

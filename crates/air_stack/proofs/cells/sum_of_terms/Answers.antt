@@ -13,13 +13,17 @@ loop-code-init g c = rw no_code refl
 pub loop-code-preserved : goal.loop-code-preserved
 loop-code-preserved g c =
     c.add-total.ensures
-    ∙ sum_step (λ op. felt_mul (flag (g.V.View.cells c.args.x.now.row.now) op) (term c.args.j (g.V.View.cells c.args.x.now.row.now) (g.V.View.cells c.args.y.now) op))
+    ∙ sum_step (λ op. felt_mul (flag (g.V.View.cells c.args.x.now.row.now) op)
+    (term c.args.j (g.V.View.cells c.args.x.now.row.now) (g.V.View.cells c.args.y.now) op))
     (c.loop-code.code - 1) c.loop-code.code _ _
-    (let h = c.loop-code-test.true in omega (arith, h)) (let h = c.loop-code.auto.code in let k = c.loop-code-test.true in omega (arith, h, k)) c.term_at.ensures c.loop-code.invariant
+    (let h = c.loop-code-test.true in omega (arith, h))
+    (let h = c.loop-code.auto.code in let k = c.loop-code-test.true in omega (arith, h, k)) c.term_at.ensures
+    c.loop-code.invariant
 
 pub returns : goal.returns
 unfolding sum_over
 returns g c =
     let zero_is : c.loop-code.code ≡ 0 = let h = c.loop-code-test.false in omega (arith, h) in
     c.loop-code.invariant
-    ∙ ap (λ k. sum_of (drop k every_op) (λ op. felt_mul (flag (g.V.View.cells c.args.x.now.row.now) op) (term c.args.j (g.V.View.cells c.args.x.now.row.now) (g.V.View.cells c.args.y.now) op))) zero_is
+    ∙ ap (λ k. sum_of (drop k every_op) (λ op. felt_mul (flag (g.V.View.cells c.args.x.now.row.now) op)
+    (term c.args.j (g.V.View.cells c.args.x.now.row.now) (g.V.View.cells c.args.y.now) op))) zero_is

@@ -60,4 +60,5 @@ returns-in_default g c =
     let x = g.V.View.cells c.args.x.now in
     let y = g.V.View.cells c.args.y.now in
     no_child 2 c.args.tally.now x y c.args.op c.requires.op (not_end c.args.op c.in_default.not-End)
-    (not_parent c.args.op _ _ c.in_default.not-Join c.in_default.not-Split c.in_default.not-Loop c.in_default.not-Call c.in_default.not-Syscall c.in_default.not-Repeat)
+    (not_parent c.args.op _ _ c.in_default.not-Join c.in_default.not-Split c.in_default.not-Loop c.in_default.not-Call
+    c.in_default.not-Syscall c.in_default.not-Repeat)

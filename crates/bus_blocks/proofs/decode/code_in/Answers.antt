@@ -34,4 +34,5 @@ returns g c =
     (c.bit-b4.ensures.is ∙ c.b4.ensures.is)
     (c.bit-b5.ensures.is ∙ c.b5.ensures.is)
     (c.bit-b6.ensures.is ∙ c.b6.ensures.is)
-    c.bit-b0.ensures.below c.bit-b1.ensures.below c.bit-b2.ensures.below c.bit-b3.ensures.below c.bit-b4.ensures.below c.bit-b5.ensures.below c.bit-b6.ensures.below).is
+    c.bit-b0.ensures.below c.bit-b1.ensures.below c.bit-b2.ensures.below c.bit-b3.ensures.below c.bit-b4.ensures.below
+    c.bit-b5.ensures.below c.bit-b6.ensures.below).is

@@ -26,7 +26,8 @@ returns-then-opens_group g c =
     let x = g.V.View.cells c.args.x.now in
     let y = g.V.View.cells c.args.y.now in
     wider 1 8 _ _ _ _ _ (lit≤ tt)
-    (group_taken _ _ _ _ x y c.args.op _ _ c.requires.op (not_push c.args.op c.in_default.not-Push) (not_batch c.args.op c.in_default.not-Span c.in_default.not-Respan)
+    (group_taken _ _ _ _ x y c.args.op _ _ c.requires.op (not_push c.args.op c.in_default.not-Push)
+    (not_batch c.args.op c.in_default.not-Span c.in_default.not-Respan)
     c.if-opens_group.ensures c.taken-then-opens_group.ensures c.h0.ensures.is c.ask-then-opens_group.ensures)
 
 pub returns-else-opens_group : goal.returns-else-opens_group

@@ -8,7 +8,11 @@ pub returns-then-eq : goal.returns-then-eq
 returns-then-eq g c = as_given _ _ _ _ _ _ (ends_permutation _ _ _ _ c.if-eq.ensures c.mode.ensures.is c.whole.ensures) c.give.ensures
 
 pub returns-then-eq-2 : goal.returns-then-eq-2
-returns-then-eq-2 g c = as_given _ _ _ _ _ _ (ends_hash _ _ _ _ _ c.if-eq.ensures c.mode.ensures.is c.if-eq-2.ensures c.more.ensures.is c.digest.ensures) c.give-then-eq-2.ensures
+returns-then-eq-2 g c =
+    as_given _ _ _ _ _ _ (ends_hash _ _ _ _ _ c.if-eq.ensures c.mode.ensures.is c.if-eq-2.ensures c.more.ensures.is
+    c.digest.ensures) c.give-then-eq-2.ensures
 
 pub returns-else-eq-2 : goal.returns-else-eq-2
-returns-else-eq-2 g c = rw (← ends_nothing c.args.address _ _ _ c.if-eq.ensures c.mode.ensures.is c.if-eq-2.ensures c.more.ensures.is) (none_counted 1 c.args.tally.now)
+returns-else-eq-2 g c =
+    rw (← ends_nothing c.args.address _ _ _ c.if-eq.ensures c.mode.ensures.is c.if-eq-2.ensures c.more.ensures.is)
+    (none_counted 1 c.args.tally.now)

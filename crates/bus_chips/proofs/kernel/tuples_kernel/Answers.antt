@@ -14,4 +14,7 @@ unfolding kernel_given
 returns g c =
     kernel_counted _ _ _ _ c.args.tallies.now c.give_times.new.tally c.give_times.result
     (subst (λ given. OnOk c.give_times.result (IsCounted (2 ^ 64) c.args.tallies.now.kernel c.give_times.new.tally [] given))
-    (λ i. record { tuple = c.d0.ensures.is i ∷ c.d1.ensures.is i ∷ c.d2.ensures.is i ∷ c.d3.ensures.is i ∷ []; count = c.count.ensures.is i } ∷ []) c.give_times.ensures)
+    (λ i. record {
+      tuple = c.d0.ensures.is i ∷ c.d1.ensures.is i ∷ c.d2.ensures.is i ∷ c.d3.ensures.is i ∷ [];
+      count = c.count.ensures.is i;
+    } ∷ []) c.give_times.ensures)

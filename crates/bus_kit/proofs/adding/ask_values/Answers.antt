@@ -13,10 +13,14 @@ ask-requires-clause-room c = λ u. let grown = c.loop-value.invariant.asked_grow
 
 pub loop-value-preserved : goal.loop-value-preserved
 loop-value-preserved c =
-    one_more_value c.loop-value.value-index c.args.tally.now c.loop-value.tally c.ask.new.tally c.args.values.now c.value-item.result c.value-item.result c.loop-value-test.true c.value-item.is
+    one_more_value c.loop-value.value-index c.args.tally.now c.loop-value.tally c.ask.new.tally c.args.values.now
+    c.value-item.result c.value-item.result c.loop-value-test.true c.value-item.is
     c.loop-value.invariant c.in_ok-ask.ensures
 
 pub returns : goal.returns
 returns c =
-    let all = counted_within c.loop-value.value-index 16 c.args.tally.now c.loop-value.tally (singles (take c.loop-value.value-index c.args.values.now)) [] c.loop-value.invariant (omega arith) in
-    subst (λ vs. IsCounted 16 c.args.tally.now c.loop-value.tally (singles vs) []) (take_all c.loop-value.value-index c.args.values.now c.loop-value-test.false) all
+    let all =
+    counted_within c.loop-value.value-index 16 c.args.tally.now c.loop-value.tally
+    (singles (take c.loop-value.value-index c.args.values.now)) [] c.loop-value.invariant (omega arith) in
+    subst (λ vs. IsCounted 16 c.args.tally.now c.loop-value.tally (singles vs) [])
+    (take_all c.loop-value.value-index c.args.values.now c.loop-value-test.false) all

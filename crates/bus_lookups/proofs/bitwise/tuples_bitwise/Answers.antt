@@ -10,4 +10,5 @@ returns-in-U32Xor g c = xor_asked _ _ _ _ _ _ _ _ c.requires.op c.in-U32Xor.is c
 
 pub returns-in_default : goal.returns-in_default
 returns-in_default g c =
-    none_combined 1 c.args.tally.now _ _ c.args.op c.requires.op (not_and c.args.op c.in_default.not-U32And) (not_xor c.args.op c.in_default.not-U32Xor)
+    none_combined 1 c.args.tally.now _ _ c.args.op c.requires.op (not_and c.args.op c.in_default.not-U32And)
+    (not_xor c.args.op c.in_default.not-U32Xor)

@@ -11,5 +11,6 @@ returns g c =
     let x = g.V.View.cells c.args.x.now in
     let y = g.V.View.cells c.args.y.now in
     two_asked _ _ _ _ _ _ _ _ (c.whole.ensures ∙ ap (λ k. 4 ∷ k ∷ twelve x) c.w0.ensures.is)
-    (c.whole-2.ensures ∙ ap (λ k. 5 ∷ k ∷ twelve y) (c.add.ensures ∙ ap (λ k. k ⊞ c.from_u32.result) c.w0-2.ensures.is ∙ ap (λ k. w x 0 ⊞ k) c.from_u32.ensures))
+    (c.whole-2.ensures ∙ ap (λ k. 5 ∷ k ∷ twelve y)
+    (c.add.ensures ∙ ap (λ k. k ⊞ c.from_u32.result) c.w0-2.ensures.is ∙ ap (λ k. w x 0 ⊞ k) c.from_u32.ensures))
     c.in_ok-ask.ensures c.ask-2.ensures

@@ -12,11 +12,13 @@ step-requires-clause-room g c = have_space c.args.tallies.now c.outermost.new.ta
 pub returns-in-Some : goal.returns-in-Some
 returns-in-Some g c =
     rw c.in-Some.is
-    (placed_done c.args.place.now.public.now.statement.digest (g.V.View.cells c.args.place.now.cur) (g.V.View.cells c.in-Some.next) c.args.place.now.row c.args.tallies.now
+    (placed_done c.args.place.now.public.now.statement.digest (g.V.View.cells c.args.place.now.cur) (g.V.View.cells c.in-Some.next)
+    c.args.place.now.row c.args.tallies.now
     c.outermost.new.tally c.step.new.tallies c.step.result c.in_ok-outermost.ensures c.step.ensures)
 
 pub returns-in-None : goal.returns-in-None
 returns-in-None g c =
     rw c.in-None.is
-    (placed_last c.args.place.now.public.now.statement.digest (g.V.View.cells c.args.place.now.cur) c.args.place.now.row c.args.tallies.now c.outermost.new.tally
+    (placed_last c.args.place.now.public.now.statement.digest (g.V.View.cells c.args.place.now.cur) c.args.place.now.row
+    c.args.tallies.now c.outermost.new.tally
     c.in_ok-outermost.ensures)

@@ -31,7 +31,10 @@ pub returns : goal.returns
 returns g c =
     let x = g.V.View.cells c.args.x.now in
     let y = g.V.View.cells c.args.y.now in
-    control_done x y c.args.op c.requires.op c.args.tallies.now c.requires.control c.tuples_blocks.new.tally c.tuples_children.new.tally c.tuples_loops.new.tally
-    c.tuples_groups.new.tally c.tuples_overflow.new.tally c.tuples_hasher.new.tally c.tuples_range.new.tally c.tuples_kernel.new.tally c.tuples_kernel.result
-    c.in_ok-tuples_blocks.ensures c.in_ok-tuples_children.ensures c.in_ok-tuples_loops.ensures c.in_ok-tuples_groups.ensures c.in_ok-tuples_overflow.ensures
+    control_done x y c.args.op c.requires.op c.args.tallies.now c.requires.control c.tuples_blocks.new.tally
+    c.tuples_children.new.tally c.tuples_loops.new.tally
+    c.tuples_groups.new.tally c.tuples_overflow.new.tally c.tuples_hasher.new.tally c.tuples_range.new.tally
+    c.tuples_kernel.new.tally c.tuples_kernel.result
+    c.in_ok-tuples_blocks.ensures c.in_ok-tuples_children.ensures c.in_ok-tuples_loops.ensures c.in_ok-tuples_groups.ensures
+    c.in_ok-tuples_overflow.ensures
     c.in_ok-tuples_hasher.ensures c.in_ok-tuples_range.ensures c.tuples_kernel.ensures

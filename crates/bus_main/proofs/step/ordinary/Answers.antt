@@ -27,5 +27,6 @@ returns g c =
     let y = g.V.View.cells c.args.y.now in
     ordinary_done x y c.args.op c.requires.op c.args.tallies.now c.requires.ordinary c.tuples_groups.new.tally c.tuples_overflow.new.tally
     c.tuples_hasher.new.tally c.tuples_bitwise.new.tally c.tuples_memory.new.tally c.tuples_range.new.tally c.tuples_range.result
-    c.in_ok-tuples_groups.ensures c.in_ok-tuples_overflow.ensures c.in_ok-tuples_hasher.ensures c.in_ok-tuples_bitwise.ensures c.in_ok-tuples_memory.ensures
+    c.in_ok-tuples_groups.ensures c.in_ok-tuples_overflow.ensures c.in_ok-tuples_hasher.ensures c.in_ok-tuples_bitwise.ensures
+    c.in_ok-tuples_memory.ensures
     c.tuples_range.ensures

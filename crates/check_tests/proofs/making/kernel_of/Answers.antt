@@ -4,7 +4,8 @@ use Rattle.std.specs.List.{IsDistinct}
 use lib.Pointwise.{pointwise}
 use Rattle.check_tests.proofs.making.kernel_of.Goals as goal
 
-one_is_distinct : {E : Type 0} (r : Result (List (List ℕ)) E) (word : List ℕ) → IfOk r (λ words. words ≡ word ∷ []) → IfOk r (IsDistinct (pointwise nat_eq))
+one_is_distinct : {E : Type 0} (r : Result (List (List ℕ)) E) (word : List ℕ) → IfOk r (λ words. words ≡ word ∷ [])
+    → IfOk r (IsDistinct (pointwise nat_eq))
 unfolding IsDistinct
 one_is_distinct (Ok words) word is = rw is (tt, tt)
 one_is_distinct (Err e) word is = is

@@ -11,8 +11,10 @@ count_all-requires-clause-readable c = all_readable _ c.args.trace.now c.rows.en
 pub returns-in-Some-first_apart : goal.returns-in-Some-first_apart
 returns-in-Some-first_apart c =
     refused_with c.args.public.now c.args.trace.now c.refused.result c.in-Some-first_apart.apart c.refused.ensures
-    (refused_at c.args.public.now c.args.trace.now (claim_in c.of-setting.result) c.of-setting.result.public.now.statement.digest c.in-Some.tallies c.in-Some-first_apart.apart
-    c.of-setting.ensures.claim (ap (λ p. p.statement.digest) c.of-setting.ensures.public) c.in-Some.ensures c.requires.zero c.in-Some-first_apart.ensures)
+    (refused_at c.args.public.now c.args.trace.now (claim_in c.of-setting.result) c.of-setting.result.public.now.statement.digest
+    c.in-Some.tallies c.in-Some-first_apart.apart
+    c.of-setting.ensures.claim (ap (λ p. p.statement.digest) c.of-setting.ensures.public) c.in-Some.ensures c.requires.zero
+    c.in-Some-first_apart.ensures)
 
 pub returns : goal.returns
 returns c =

@@ -18,4 +18,5 @@ pub returns-clause-ran : goal.returns-clause-ran
 returns-clause-ran c =
     mark-done c.args.setting.now c.args.mark c.args.runner.now.state c.effect.new.state
     c.op-op.result c.in_ok-before.before zero_word zero_word c.hash-hash.result c.top_of-top.result
-    c.in_ok-before.ensures c.in_default.ensures.effect refl c.op-op.ensures refl refl c.hash-hash.ensures c.top_of-top.ensures c.in_ok-push_block.ensures.ok
+    c.in_ok-before.ensures c.in_default.ensures.effect refl c.op-op.ensures refl refl c.hash-hash.ensures c.top_of-top.ensures
+    c.in_ok-push_block.ensures.ok

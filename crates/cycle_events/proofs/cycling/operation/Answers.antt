@@ -12,19 +12,23 @@ returns-in_err-before c =
 
 pub returns-in-Err : goal.returns-in-Err
 returns-in-Err c =
-    operation-stop c.args.setting.now c.args.item.now c.args.runner.now.state c.in-Err.stop (state_of c.step.new.state) c.in_ok-before.before c.stop_at.result
+    operation-stop c.args.setting.now c.args.item.now c.args.runner.now.state c.in-Err.stop (state_of c.step.new.state)
+    c.in_ok-before.before c.stop_at.result
     c.in_ok-before.ensures c.stop_at.ensures c.in-Err.ensures
 
 pub word_behind-word-requires : goal.word_behind-word-requires
 word_behind-word-requires c = record {
-  address = address-fits (constants_in c.args.setting.now) c.args.item.now c.args.runner.now.state (state_of c.step.new.state) c.in_ok-before.before c.in_ok-before.ensures.0 c.in_default.ensures;
+  address =
+      address-fits (constants_in c.args.setting.now) c.args.item.now c.args.runner.now.state (state_of c.step.new.state)
+      c.in_ok-before.before c.in_ok-before.ensures.0 c.in_default.ensures;
 }
 
 pub returns : goal.returns
 returns c =
     operation-done c.args.setting.now c.args.item.now c.args.runner.now.state
     c.in_ok-before.before c.next_advice-tape.result c.word_behind-word.result c.top_of-top.result
-    c.in_ok-before.ensures c.in_default.ensures c.next_advice-tape.ensures c.word_behind-word.ensures c.top_of-top.ensures c.in_ok-push_operation.ensures.ok
+    c.in_ok-before.ensures c.in_default.ensures c.next_advice-tape.ensures c.word_behind-word.ensures c.top_of-top.ensures
+    c.in_ok-push_operation.ensures.ok
 
 pub push_operation-requires : goal.push_operation-requires
 push_operation-requires c =

@@ -7,5 +7,6 @@ use Rattle.cycle_events.proofs.log.name_function.Goals as goal
 pub returns-clause-is : goal.returns-clause-is
 returns-clause-is c = (
   omega (arith, c.len-number.ensures),
-  ap (λ xs. named zero_word xs c.len-number.result) (sym c.deref.ensures.value) ∙ sym c.function_named.ensures ∙ same_if _ _ (sym c.ne.ensures ∙ c.if-ne.false),
+  ap (λ xs. named zero_word xs c.len-number.result) (sym c.deref.ensures.value) ∙ sym c.function_named.ensures
+      ∙ same_if _ _ (sym c.ne.ensures ∙ c.if-ne.false),
 )

@@ -21,5 +21,6 @@ loop-op-preserved c =
           ∙ sym (rows-push (take i ops) op) ∙ ap rows_of (sym more);
       words =
           subst AreWords (sym more)
-          (All-append HasWords (take i ops) (op ∷ []) c.loop-op.invariant.words (All-cons HasWords op [] c.push_operation.ensures.words (All-nil HasWords)));
+          (All-append HasWords (take i ops) (op ∷ []) c.loop-op.invariant.words
+          (All-cons HasWords op [] c.push_operation.ensures.words (All-nil HasWords)));
     }

@@ -32,10 +32,12 @@ loop-word-preserved c =
     = λ u. ap (λ o. unwrap_or o 0) (c.remove.ensures.updates.0 u) ∙ without-is (pointwise nat_eq word u) _ in
     record {
       rows =
-          rows-step had (times_in c.remove.new.self) c.args.kernel.now c.loop-word.table c.push_row.new.self c.row_of.result c.loop-word.word-index word
+          rows-step had (times_in c.remove.new.self) c.args.kernel.now c.loop-word.table c.push_row.new.self c.row_of.result
+          c.loop-word.word-index word
           c.unwrap_or-count.result c.loop-word-test.true c.word-item.is c.in_ok-push_row.ensures.ok c.row_of.ensures is same
           ∙ c.loop-word.invariant.rows;
-      few = λ u. without-few (pointwise nat_eq word u) (had u) (times_in c.remove.new.self u) (length c.args.calls.now) (same u) (c.loop-word.invariant.few u);
+      few = λ u. without-few (pointwise nat_eq word u) (had u) (times_in c.remove.new.self u) (length c.args.calls.now) (same u)
+          (c.loop-word.invariant.few u);
     }
 
 pub returns : goal.returns

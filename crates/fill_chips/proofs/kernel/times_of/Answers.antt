@@ -15,5 +15,7 @@ loop-word-preserved c = λ u.
     let word = c.word-item.result in
     let had = c.or_insert.ensures.value ∙ ap (λ o. unwrap_or o 0) c.in_ok-times.ensures.value ∙ c.loop-word.invariant word in
     let put = (c.in_ok-times.ensures.update.0 (c.or_insert.result.now + 1)).0 u in
-    let now = calls-more c.args.calls.now c.loop-word.word-index word u _ _ c.or_insert.result.now c.loop-word-test.true c.word-item.is put had (c.loop-word.invariant u) in
+    let now =
+    calls-more c.args.calls.now c.loop-word.word-index word u _ _ c.or_insert.result.now c.loop-word-test.true c.word-item.is
+    put had (c.loop-word.invariant u) in
     grind (arith, common_steps)

@@ -21,7 +21,8 @@ loop-access-preserved c =
     = take_more sorted i access c.loop-access-test.true ∙ ap (λ a. take i sorted ++ a ∷ []) (sym c.access-item.is) in
     record {
       rows =
-          rows-step sorted c.loop-access.table c.push_row.new.self c.row_behind.result c.loop-access.before i access c.loop-access-test.true c.access-item.is
+          rows-step sorted c.loop-access.table c.push_row.new.self c.row_behind.result c.loop-access.before i access
+          c.loop-access-test.true c.access-item.is
           c.in_ok-push_row.ensures.ok c.row_behind.ensures.row
           ∙ c.loop-access.invariant.rows;
       small =

@@ -7,7 +7,9 @@ pub overflow_add-index_mut : goal.overflow_add-index_mut
 overflow_add-index_mut c =
     let value = c.from.result in
     let within : value < 65536 = omega (arith, c.from.ensures, c.type_inv.values c.loop-value.value-index) in
-    let is = get_or_read c.loop-value.times.items value c.index_mut.result.now (omega (arith, c.loop-value.invariant.size)) c.index_mut.ensures.value 0 in
+    let is =
+    get_or_read c.loop-value.times.items value c.index_mut.result.now (omega (arith, c.loop-value.invariant.size))
+    c.index_mut.ensures.value 0 in
     let count = c.loop-value.invariant.counts value in
     let few = times-few c.args.values.now c.loop-value.value-index value in
     let room = c.requires.few value in
@@ -22,6 +24,7 @@ loop-value-preserved c =
     record {
       size = omega (arith, length-set {A = ℕ}, c.loop-value.invariant.size);
       counts = λ v.
-          times-more (slice_index c.args.times.now.items) c.args.values.now times c.loop-value.value-index value c.index_mut.result.now v c.loop-value-test.true
+          times-more (slice_index c.args.times.now.items) c.args.values.now times c.loop-value.value-index value
+          c.index_mut.result.now v c.loop-value-test.true
           c.from.ensures (omega (arith, c.loop-value.invariant.size)) is (c.loop-value.invariant.counts value) (c.loop-value.invariant.counts v);
     }

@@ -15,9 +15,11 @@ loop-place-preserved c =
       λ q below. elim (eqb_tells q c.loop-place.place) [
         | inl same ↦
             subst (λ p. IsSettled graph [] c.settle.new.self p) (sym same.1)
-            (IsSettled-fewer graph c.loop-place.sorter.walk.seen.items [] c.settle.new.self _ (λ b none. absurd (contains_none b none)) c.in_ok-settle.ensures.settled)
+            (IsSettled-fewer graph c.loop-place.sorter.walk.seen.items [] c.settle.new.self _
+            (λ b none. absurd (contains_none b none)) c.in_ok-settle.ensures.settled)
         | inr other ↦
-            IsSettled-grows graph [] c.loop-place.sorter _ q c.in_ok-settle.ensures.grows (c.loop-place.invariant.1 q (let apart = other.1 in omega arith))
+            IsSettled-grows graph [] c.loop-place.sorter _ q c.in_ok-settle.ensures.grows
+            (c.loop-place.invariant.1 q (let apart = other.1 in omega arith))
       ],
     )
 
@@ -59,7 +61,8 @@ loop-next-preserved c =
     let taken = c.take_waiters-waiters.ensures in (
       c.in_ok-settle_all.ensures.sorting,
       λ q below. IsSettled-next graph sorter c.take_waiters-waiters.new.self c.settle_all.new.self c.loop-next.next place q within
-          (get_or_read sorter.walk.seen.items c.loop-next.next place within c.index-place.ensures 0) taken.walk taken.rows c.in_ok-settle_all.ensures.grows
+          (get_or_read sorter.walk.seen.items c.loop-next.next place within c.index-place.ensures 0) taken.walk taken.rows
+          c.in_ok-settle_all.ensures.grows
           (λ waited. c.in_ok-settle_all.ensures.settled q (subst (λ xs. Contains xs q) (sym (c.as_slice.ensures.value ∙ taken.taken)) waited))
           (c.loop-next.invariant.1 q below),
     )

@@ -6,7 +6,8 @@ use Rattle.graphs.proofs.reach.reached.Goals as goal
 
 pub loop-next-init : goal.loop-next-init
 loop-next-init c =
-    let count : length c.visit.new.self.marks.items ≡ length c.args.graph.now = c.in_ok-visit.ensures.count ∙ c.in_ok-walk.ensures.count ∙ search rules in
+    let count : length c.visit.new.self.marks.items ≡ length c.args.graph.now =
+    c.in_ok-visit.ensures.count ∙ c.in_ok-walk.ensures.count ∙ search rules in
     (c.in_ok-visit.ensures.marks, Walked-start _ _ _ (rw c.in_ok-walk.ensures.seen at c.in_ok-visit.ensures.adds), count)
 
 pub visit_all-requires-clause-within : goal.visit_all-requires-clause-within

@@ -8,5 +8,7 @@ use Rattle.masm_expand.proofs.expansion.expand.Goals as goal
 pub returns-clause-packable : goal.returns-clause-packable
 returns-clause-packable c =
     subst ArePackable
-    (sym (c.in_ok-add_expansion.ensures.items ∙ ap (λ (old : List Item). old ++ expansion c.args.instr.now.name c.args.instr.now.numbers c.args.locals) c.new-items.ensures.empty))
+    (sym (c.in_ok-add_expansion.ensures.items
+    ∙ ap (λ (old : List Item). old ++ expansion c.args.instr.now.name c.args.instr.now.numbers c.args.locals)
+    c.new-items.ensures.empty))
     (expansions_are_packable c.args.instr.now.name c.args.instr.now.numbers c.args.locals c.add_expansion.ensures.form c.requires)

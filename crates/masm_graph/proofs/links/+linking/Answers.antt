@@ -15,4 +15,5 @@ add_statement-returns-in-Instr t c = rw (c.in-Instr.is) (added-Instr _ c.in-Inst
 pub add_statement-returns-in_ok-add_body-in-If-2 : goal.add_statement-returns-in_ok-add_body-in-If-2
 add_statement-returns-in_ok-add_body-in-If-2 t c =
     rw (c.in-If.is) (added-If _ c.in-If.field-0 c.in-If.first c.in-If.second c.deref.result.now c.deref-in-If.result.now
-    c.args.out.now.items c.add_body.new.out.items _ c.deref.ensures.value c.deref-in-If.ensures.value c.in_ok-add_body-in-If.ensures c.in_ok-add_body-in-If-2.ensures)
+    c.args.out.now.items c.add_body.new.out.items _ c.deref.ensures.value c.deref-in-If.ensures.value c.in_ok-add_body-in-If.ensures
+    c.in_ok-add_body-in-If-2.ensures)

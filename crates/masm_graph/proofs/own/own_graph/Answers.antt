@@ -10,7 +10,8 @@ pub loop-row-preserved : goal.loop-row-preserved
 loop-row-preserved c =
     let rows = rows_of c.args.rows.now in
     let i = c.loop-row.row-index in
-    let within : i < length rows = let l = length-map c.args.rows.now (λ (v : Vec Link Global). v.items) in let t = c.loop-row-test.true in omega arith in
+    let within : i < length rows = let l = length-map c.args.rows.now (λ (v : Vec Link Global). v.items) in let t =
+    c.loop-row-test.true in omega arith in
     let is = c.deref.ensures.value ∙ row_read c.args.rows.now i c.row-item.result c.loop-row-test.true c.row-item.is in
     ap rows_of c.in_ok-push.ensures.items
     ∙ map-append (λ (v : Vec ℕ Global). v.items) c.loop-row.graph.items (c.in_ok-own_places.field-0 ∷ [])

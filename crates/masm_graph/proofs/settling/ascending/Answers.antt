@@ -19,5 +19,6 @@ loop-place-preserved c =
     let here = c.all_greater.ensures ∙ ap (λ n. list_all (λ place. nat_lt n (get_or numbers place 0)) row) c.number_at.ensures in
     let count = c.loop-place.invariant.0 in (
       ap length c.in_ok-push.ensures.items ∙ (let long = length_push marks mark in omega arith),
-      subst (Ascend graph numbers) (sym c.in_ok-push.ensures.items) (ascend-more graph numbers row marks i mark count is c.loop-place.invariant.1 here),
+      subst (Ascend graph numbers) (sym c.in_ok-push.ensures.items)
+          (ascend-more graph numbers row marks i mark count is c.loop-place.invariant.1 here),
     )

@@ -8,4 +8,6 @@ pub returns-in-Some : goal.returns-in-Some
 returns-in-Some c = subst (λ kernel. ExportsIn (option_map (λ text. text.now) kernel) c.text_exports.result) (sym c.in-Some.is) c.text_exports.ensures
 
 pub returns-in-None : goal.returns-in-None
-returns-in-None c = kernel_none (option_map (λ text. text.now) c.args.kernel) c.new.result (ap (option_map (λ text. text.now)) c.in-None.is) c.new.ensures.items
+returns-in-None c =
+    kernel_none (option_map (λ text. text.now) c.args.kernel) c.new.result (ap (option_map (λ text. text.now)) c.in-None.is)
+    c.new.ensures.items

@@ -28,6 +28,7 @@ returns-clause-linked c = λ exports are.
 pub returns-clause-main : goal.returns-clause-main
 returns-clause-main c =
     some_same tree_of
-    (λ p. whole as_tree (with_locals p.locals (flat_with as_tree (lists_known c.args.measured.now.names c.in_ok-lists.lists.items c.args.kernel.now.procs.now)
+    (λ p. whole as_tree (with_locals p.locals
+    (flat_with as_tree (lists_known c.args.measured.now.names c.in_ok-lists.lists.items c.args.kernel.now.procs.now)
     p.locals (body_of p.body.items))))
     c.in_ok-main.main c.args.ast.now.main c.in_ok-main.ensures

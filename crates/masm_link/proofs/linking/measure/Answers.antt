@@ -22,7 +22,8 @@ returns-in-Some-earlier c = λ exports are.
     let source = source_of c.args.ast.now in
     let closed = closed_names source exports c.args.kernel.now.procs.now are c.in_ok-measured.ensures.closed in
     subst (Answers (RefusesAt source exports)) (sym c.earlier.ensures ∙ c.in-Some-earlier.is)
-    (refused_size source exports closed c.in_ok-double.double c.in_ok-oversized.oversized c.in_ok-double.ensures (c.in_ok-oversized.ensures exports are))
+    (refused_size source exports closed c.in_ok-double.double c.in_ok-oversized.oversized c.in_ok-double.ensures
+    (c.in_ok-oversized.ensures exports are))
 
 pub returns : goal.returns
 returns c = (
@@ -31,5 +32,6 @@ returns c = (
       let source = source_of c.args.ast.now in
       let closed = closed_names source exports c.args.kernel.now.procs.now are c.in_ok-measured.ensures.closed in
       subst (Answers (RefusesAt source exports)) (sym c.earlier.ensures ∙ c.in-None.is)
-      (refused_size source exports closed c.in_ok-double.double c.in_ok-oversized.oversized c.in_ok-double.ensures (c.in_ok-oversized.ensures exports are)),
+      (refused_size source exports closed c.in_ok-double.double c.in_ok-oversized.oversized c.in_ok-double.ensures
+      (c.in_ok-oversized.ensures exports are)),
 )

@@ -21,7 +21,8 @@ loop-export-preserved c =
     let words : without_repeats (map (λ (x : Export). x.digest) (take (i + 1) exports)) ≡ add_word old e.digest =
     ap without_repeats (map_more (λ (x : Export). x.digest) exports i e c.loop-export-test.true)
     ∙ (ap (λ (x : Export). without_repeats (map (λ (y : Export). y.digest) (take i exports) ++ x.digest ∷ [])) (sym c.export-item.is)
-    ∙ (without_push (map (λ (x : Export). x.digest) (take i exports)) e.digest ∙ ap (λ ws. add_word ws e.digest) (sym c.loop-export.invariant.0))) in (
+    ∙ (without_push (map (λ (x : Export). x.digest) (take i exports)) e.digest
+    ∙ ap (λ ws. add_word ws e.digest) (sym c.loop-export.invariant.0))) in (
       is ∙ sym words,
       let low = c.loop-export.invariant.1 in let one = more.0 in omega arith,
       subst AreDistinct (sym is) more.1,

@@ -39,7 +39,8 @@ loop-procedure-preserved c =
     let bound : c.if-procedure.exports ≤ i + 1 = elim c.if-procedure.branch [ then-procedure w ↦ omega arith | else-procedure w ↦ omega arith ] in (
       count,
       bound,
-      rw c.earlier-first.ensures (Among-more (λ place p. IsExtra (exports_in (take place procs)) p) procs i c.procedure-item.result c.loop-procedure.first _
+      rw c.earlier-first.ensures (Among-more (λ place p. IsExtra (exports_in (take place procs)) p) procs i c.procedure-item.result
+          c.loop-procedure.first _
           c.loop-procedure-test.true c.procedure-item.is inv.2 (rw inv.0 at c.extra_export.ensures)),
     )
 

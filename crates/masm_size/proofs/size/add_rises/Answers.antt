@@ -13,7 +13,8 @@ loop-rise-preserved c =
     let none : Rise = record { index = 0; height = 0 } in
     let rise = get_or more i none in
     let top : top_after c.copied-highest.result ≡ top_of 0 rises =
-    ap top_after (c.copied-highest.ensures ∙ (c.last.ensures.value ∙ ap (λ xs. slice_get xs (length xs - 1)) c.deref.ensures.value)) ∙ sym (top_last rises) in
+    ap top_after (c.copied-highest.ensures ∙ (c.last.ensures.value ∙ ap (λ xs. slice_get xs (length xs - 1)) c.deref.ensures.value))
+    ∙ sym (top_last rises) in
     c.in_ok-add_rise.ensures
     ∙ (ap₂ (λ xs below. xs ++ rises_behind offset below (rise ∷ [])) c.loop-rise.invariant top
     ∙ (append_assoc rises (rises_behind offset (top_of 0 rises) (take i more)) (rises_behind offset (top_of 0 rises) (rise ∷ []))

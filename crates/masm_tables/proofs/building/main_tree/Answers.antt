@@ -13,7 +13,8 @@ use Rattle.masm_flat.specs.KnownLists.{lists_known}
 use Rattle.masm_tables.proofs.building.main_tree.Goals as goal
 
 -- the tree of a list that is built with lists that are lent
-tree_is : (main : Option Proc) (p : Proc) (names : Names) (kernel : List KernelProc) (lent lists : List (Vec piece.Piece Global)) (pieces : List (Piece Tree))
+tree_is : (main : Option Proc) (p : Proc) (names : Names) (kernel : List KernelProc) (lent lists : List (Vec piece.Piece Global))
+    (pieces : List (Piece Tree))
     (tree : Tree) → main ≡ Some p → lent ≡ lists
     → pieces ≡ with_locals p.locals (flat_with as_tree (lists_known names lent kernel) p.locals (body_of p.body.items)) → tree ≡ whole as_tree pieces
     → Some tree ≡ option_map (λ (q : Proc). whole as_tree (with_locals q.locals (flat_with as_tree (lists_known names lists kernel) q.locals
@@ -26,5 +27,6 @@ tree_is main p names kernel lent lists pieces tree there same listed built =
 
 pub returns : goal.returns
 returns c =
-    tree_is c.args.main.now _ c.args.names.now c.args.kernel.now.procs.now c.as_slice.result.now c.args.lists.items _ _ c.in-Some.is c.as_slice.ensures.value
+    tree_is c.args.main.now _ c.args.names.now c.args.kernel.now.procs.now c.as_slice.result.now c.args.lists.items _ _ c.in-Some.is
+    c.as_slice.ensures.value
     c.in_ok-list.ensures c.in_ok-tree_of_list.ensures

@@ -12,6 +12,7 @@ pub returns : goal.returns
 returns c =
     let extent = c.extent_of.ensures ∙ ap extent_of (c.part.ensures ∙ c.in_ok-size.ensures) in
     subst (λ o. MatchOption o (c.too_large.result ≡ None)
-    (λ p. Answers (IsOver (at_procedure (procedure_of p)) (extent_of (procedure_size (sizes_known c.args.names.now c.args.sizes.now c.args.kernel.now.procs.now)
+    (λ p. Answers (IsOver (at_procedure (procedure_of p))
+    (extent_of (procedure_size (sizes_known c.args.names.now c.args.sizes.now c.args.kernel.now.procs.now)
     p.locals (body_of p.body.items)))) c.too_large.result))
     (sym c.in-Some.is) (over_same _ _ _ _ c.too_large.result c.at.ensures extent c.too_large.ensures)

@@ -26,7 +26,8 @@ loop-place-preserved c =
       | then-place-len w ↦ (
         λ q none.
             ap (λ v. slice_get v.items q) w.lists-is
-            ∙ (got_other c.loop-place.lists.items (get_or places i 0) q w.new.result (not_last places i q below none) ∙ old.0 q (fewer places i q below none)),
+            ∙ (got_other c.loop-place.lists.items (get_or places i 0) q w.new.result (not_last places i q below none)
+            ∙ old.0 q (fewer places i q below none)),
         ap (λ v. length v.items) w.lists-is ∙ (length-set c.loop-place.lists.items (get_or places i 0) w.new.result ∙ old.1),
       )
       | else-place-len w ↦ (

@@ -29,7 +29,9 @@ add_list-requires-clause-locals c =
     let ast = c.args.ast.now in
     let k = c.loop-k.k - 1 in
     let step = c.index-steps-k.result in
-    let low = place-next (source_of ast) c.args.steps.now k c.loop-k.k step (omega arith) c.index-steps-k.is (omega arith) c.loop-k.invariant.places in
+    let low =
+    place-next (source_of ast) c.args.steps.now k c.loop-k.k step (omega arith) c.index-steps-k.is (omega arith)
+    c.loop-k.invariant.places in
     let here = read_here ast step.place c.index.result.now low c.index.ensures in
     all_at ProcedureFits (source_of ast).procs step.place (procedure_of c.index.result.now) c.requires.fits.procs here
 
@@ -65,4 +67,5 @@ loop-k-preserved c =
 
 pub returns-clause-lists : goal.returns-clause-lists
 returns-clause-lists c = λ exports are.
-    lists-end (source_of c.args.ast.now) exports c.loop-k.lists.items c.args.steps.now c.loop-k.k (omega arith) (c.loop-k.invariant.builds exports are)
+    lists-end (source_of c.args.ast.now) exports c.loop-k.lists.items c.args.steps.now c.loop-k.k (omega arith)
+    (c.loop-k.invariant.builds exports are)

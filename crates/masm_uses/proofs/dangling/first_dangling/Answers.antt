@@ -20,7 +20,8 @@ rows_are : (own kernel : List ℕ → Option ℕ) (procs lent : List Proc) (rows
     → rows_of rows ≡ map (links_in own kernel) lent → rows_of lent_rows ≡ map (links_in own kernel) procs
 rows_are own kernel procs lent rows lent_rows same same_rows e = ap rows_of same_rows ∙ (e ∙ ap (map (links_in own kernel)) same)
 
-leads_within : (own kernel : List ℕ → Option ℕ) (procs : List Proc) (rows : List (Vec Link Global)) → ((name : List ℕ) → own name ≡ first_place (map procedure_of procs) name)
+leads_within : (own kernel : List ℕ → Option ℕ) (procs : List Proc) (rows : List (Vec Link Global))
+    → ((name : List ℕ) → own name ≡ first_place (map procedure_of procs) name)
     → rows_of rows ≡ map (links_in own kernel) procs → (i j : ℕ) → Goes (rows_of rows) i j → j < length rows
 leads_within own kernel procs rows places is i j goes =
     let below = goes_within own kernel procs places i j (subst (λ r. Goes r i j) is goes) in
@@ -31,8 +32,11 @@ leads_within own kernel procs rows places is i j goes =
 
 pub users_of-requires : goal.users_of-requires
 users_of-requires c = record {
-  within = leads_within (place_at c.args.names.now) (place_at c.in_ok-exports.exports) c.args.ast.now.procs.items c.deref-2.result.now c.requires.names
-      (rows_are (place_at c.args.names.now) (place_at c.in_ok-exports.exports) c.args.ast.now.procs.items c.deref.result.now c.in_ok-rows.rows.items c.deref-2.result.now c.deref.ensures.value c.deref-2.ensures.value c.in_ok-rows.ensures);
+  within =
+      leads_within (place_at c.args.names.now) (place_at c.in_ok-exports.exports) c.args.ast.now.procs.items c.deref-2.result.now
+      c.requires.names
+      (rows_are (place_at c.args.names.now) (place_at c.in_ok-exports.exports) c.args.ast.now.procs.items c.deref.result.now
+      c.in_ok-rows.rows.items c.deref-2.result.now c.deref.ensures.value c.deref-2.ensures.value c.in_ok-rows.ensures);
 }
 
 pub first_recursion-requires : goal.first_recursion-requires
@@ -45,14 +49,20 @@ returns c =
     let ast = c.args.ast.now in
     let own : List ℕ → Option ℕ = place_at c.args.names.now in
     let kernel : List ℕ → Option ℕ = place_at c.in_ok-exports.exports in
-    let rows : rows_of c.in_ok-rows.rows.items ≡ map (links_in own kernel) ast.procs.items = c.in_ok-rows.ensures ∙ ap (map (links_in own kernel)) c.deref.ensures.value in
-    let exports : (name : List ℕ) → kernel name ≡ place_in c.args.kernel.now name = λ name. c.in_ok-exports.ensures name ∙ ap (λ names. place_in names name) (map-id c.args.kernel.now) in
+    let rows : rows_of c.in_ok-rows.rows.items ≡ map (links_in own kernel) ast.procs.items =
+    c.in_ok-rows.ensures ∙ ap (map (links_in own kernel)) c.deref.ensures.value in
+    let exports : (name : List ℕ) → kernel name ≡ place_in c.args.kernel.now name =
+    λ name. c.in_ok-exports.ensures name ∙ ap (λ names. place_in names name) (map-id c.args.kernel.now) in
     let are : AreUsers (map (links_in own kernel) ast.procs.items) (rows_of c.in_ok-users.users.items) =
     subst (λ r. AreUsers r (rows_of c.in_ok-users.users.items)) (ap rows_of c.deref-2.ensures.value ∙ rows) c.in_ok-users.ensures in
-    let a = subst (λ r. Answers (Among (λ place row. Missing row) r) c.first_missing_of.result) (ap rows_of c.deref-3.ensures.value ∙ rows) c.first_missing_of.ensures in
+    let a = subst (λ r. Answers (Among (λ place row. Missing row) r) c.first_missing_of.result)
+    (ap rows_of c.deref-3.ensures.value ∙ rows) c.first_missing_of.ensures in
     let b = subst (λ r. Answers (Missing r) c.first_missing.result) (c.deref-4.ensures.value ∙ c.in_ok-main.ensures) c.first_missing.ensures in
-    let d = subst (λ r. Answers (Recursions (rows_of c.in_ok-users.users.items) r) c.in_ok-first_recursion.field-0) (ap rows_of c.deref-6.ensures.value ∙ rows)
-    (subst (λ us. Answers (Recursions (rows_of us) (rows_of c.deref-6.result.now)) c.in_ok-first_recursion.field-0) c.deref-5.ensures.value c.in_ok-first_recursion.ensures) in
+    let d = subst (λ r. Answers (Recursions (rows_of c.in_ok-users.users.items) r) c.in_ok-first_recursion.field-0)
+    (ap rows_of c.deref-6.ensures.value ∙ rows)
+    (subst (λ us. Answers (Recursions (rows_of us) (rows_of c.deref-6.result.now)) c.in_ok-first_recursion.field-0)
+    c.deref-5.ensures.value c.in_ok-first_recursion.ensures) in
     rw (c.earlier.ensures, c.earlier-missing.ensures)
-    (Answers-dangling own kernel ast.consts ast.procs.items ast.main c.args.kernel.now (rows_of c.in_ok-users.users.items) c.requires.names exports are
+    (Answers-dangling own kernel ast.consts ast.procs.items ast.main c.args.kernel.now (rows_of c.in_ok-users.users.items)
+    c.requires.names exports are
     c.first_missing_of.result c.first_missing.result c.in_ok-first_recursion.field-0 a b d)

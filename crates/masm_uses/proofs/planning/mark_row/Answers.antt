@@ -5,7 +5,8 @@ use Rattle.masm_uses.proofs.PlanLemmas.{row_passed, row_marked}
 use Rattle.masm_uses.proofs.planning.mark_row.Goals as goal
 use Rattle.masm_uses.proofs.planning.mark_row.Goals.{then-not-index+in_ok-push, else-not-index}
 
-moved : (old new new' : List Bool) (row fresh fresh' : List ℕ) → new' ≡ new → fresh' ≡ fresh → MarksRow old row new fresh → MarksRow old row new' fresh'
+moved : (old new new' : List Bool) (row fresh fresh' : List ℕ) → new' ≡ new → fresh' ≡ fresh → MarksRow old row new fresh
+    → MarksRow old row new' fresh'
 moved old new new' row fresh fresh' marks_is fresh_is h =
     subst (λ marks. MarksRow old row marks fresh') (sym marks_is) (subst (MarksRow old row new) (sym fresh_is) h)
 

@@ -34,12 +34,14 @@ loop-k-preserved c =
     let below : k < length order = omega arith in (
       served-step graph order c.requires.order (λ q. get_or wanted q false ≡ true) k (get_or order k 0) c.row_at.result.now old.marks.items
           c.add_step.new.marks.items old.steps.items c.add_step.new.steps.items below refl c.row_at.ensures
-          (subst (λ n. Builds (Edge graph) (length graph) (λ q. get_or wanted q false ≡ true) (Seen old.marks.items order n) (reverse old.steps.items)) same
+          (subst (λ n. Builds (Edge graph) (length graph) (λ q. get_or wanted q false ≡ true) (Seen old.marks.items order n)
+          (reverse old.steps.items)) same
           old.invariant.0) c.in_ok-add_step.ensures.steps,
       c.in_ok-add_step.ensures.count ∙ old.invariant.1,
     )
 
 pub returns : goal.returns
 returns c =
-    served-all (rows_of c.args.graph.now) c.args.order.now c.requires.order (λ q. get_or c.args.wanted.items q false ≡ true) c.loop-k.marks.items c.loop-k.k
+    served-all (rows_of c.args.graph.now) c.args.order.now c.requires.order (λ q. get_or c.args.wanted.items q false ≡ true)
+    c.loop-k.marks.items c.loop-k.k
     c.loop-k.steps.items (omega arith) c.loop-k.invariant.0

@@ -17,7 +17,8 @@ abbrev graph_in : (own kernel : List ℕ → Option ℕ) → List Proc → List 
 graph_in own kernel procs = map own_places (map (links_in own kernel) procs)
 
 -- the graph and the row, as they are lent
-graph_is : (own kernel : List ℕ → Option ℕ) (procs lent : List Proc) (rows lent_rows : List (Vec Link Global)) (graph lent_graph : List (Vec ℕ Global))
+graph_is : (own kernel : List ℕ → Option ℕ) (procs lent : List Proc) (rows lent_rows : List (Vec Link Global))
+    (graph lent_graph : List (Vec ℕ Global))
     → lent ≡ procs → lent_rows ≡ rows → lent_graph ≡ graph → rows_of rows ≡ map (links_in own kernel) lent
     → rows_of graph ≡ map own_places (rows_of lent_rows) → rows_of lent_graph ≡ graph_in own kernel procs
 graph_is own kernel procs lent rows lent_rows graph lent_graph same same_rows same_graph e f =
@@ -39,7 +40,9 @@ order-requires-clause-graph c =
     let kernel : List ℕ → Option ℕ = place_at c.in_ok-exports.exports in
     let ast = c.args.ast.now in
     let procs = ast.procs.items in
-    let graph = graph_is own kernel procs c.as_slice-procs.result.now c.in_ok-rows.rows.items c.as_slice-3.result.now c.in_ok-graph.graph.items c.as_slice-graph.result.now
+    let graph =
+    graph_is own kernel procs c.as_slice-procs.result.now c.in_ok-rows.rows.items c.as_slice-3.result.now
+    c.in_ok-graph.graph.items c.as_slice-graph.result.now
     c.as_slice-procs.ensures.value c.as_slice-3.ensures.value c.as_slice-graph.ensures.value c.in_ok-rows.ensures c.in_ok-graph.ensures in
     subst IsGraph (sym graph) (is-graph own kernel procs c.requires.names)
 
@@ -49,7 +52,9 @@ order-requires-clause-acyclic c =
     let kernel : List ℕ → Option ℕ = place_at c.in_ok-exports.exports in
     let ast = c.args.ast.now in
     let procs = ast.procs.items in
-    let graph = graph_is own kernel procs c.as_slice-procs.result.now c.in_ok-rows.rows.items c.as_slice-3.result.now c.in_ok-graph.graph.items c.as_slice-graph.result.now
+    let graph =
+    graph_is own kernel procs c.as_slice-procs.result.now c.in_ok-rows.rows.items c.as_slice-3.result.now
+    c.in_ok-graph.graph.items c.as_slice-graph.result.now
     c.as_slice-procs.ensures.value c.as_slice-3.ensures.value c.as_slice-graph.ensures.value c.in_ok-rows.ensures c.in_ok-graph.ensures in
     subst IsAcyclic (sym graph) (is-acyclic own kernel procs c.requires.names (source_of ast) c.args.kernel.now refl c.requires.closed)
 
@@ -59,7 +64,9 @@ steps_of-requires-clause-graph c =
     let kernel : List ℕ → Option ℕ = place_at c.in_ok-exports.exports in
     let ast = c.args.ast.now in
     let procs = ast.procs.items in
-    let graph = graph_is own kernel procs c.as_slice-procs.result.now c.in_ok-rows.rows.items c.as_slice-3.result.now c.in_ok-graph.graph.items c.as_slice-graph.result.now
+    let graph =
+    graph_is own kernel procs c.as_slice-procs.result.now c.in_ok-rows.rows.items c.as_slice-3.result.now
+    c.in_ok-graph.graph.items c.as_slice-graph.result.now
     c.as_slice-procs.ensures.value c.as_slice-3.ensures.value c.as_slice-graph.ensures.value c.in_ok-rows.ensures c.in_ok-graph.ensures in
     subst IsGraph (sym graph) (is-graph own kernel procs c.requires.names)
 
@@ -69,7 +76,9 @@ steps_of-requires-clause-count c =
     let kernel : List ℕ → Option ℕ = place_at c.in_ok-exports.exports in
     let ast = c.args.ast.now in
     let procs = ast.procs.items in
-    let graph = graph_is own kernel procs c.as_slice-procs.result.now c.in_ok-rows.rows.items c.as_slice-3.result.now c.in_ok-graph.graph.items c.as_slice-graph.result.now
+    let graph =
+    graph_is own kernel procs c.as_slice-procs.result.now c.in_ok-rows.rows.items c.as_slice-3.result.now
+    c.in_ok-graph.graph.items c.as_slice-graph.result.now
     c.as_slice-procs.ensures.value c.as_slice-3.ensures.value c.as_slice-graph.ensures.value c.in_ok-rows.ensures c.in_ok-graph.ensures in
     let vecs = length-map c.as_slice-graph.result.now (λ (v : Vec ℕ Global). v.items) in
     let same = ap length graph in
@@ -84,7 +93,9 @@ returns-clause-order c =
     let kernel : List ℕ → Option ℕ = place_at c.in_ok-exports.exports in
     let ast = c.args.ast.now in
     let procs = ast.procs.items in
-    let graph = graph_is own kernel procs c.as_slice-procs.result.now c.in_ok-rows.rows.items c.as_slice-3.result.now c.in_ok-graph.graph.items c.as_slice-graph.result.now
+    let graph =
+    graph_is own kernel procs c.as_slice-procs.result.now c.in_ok-rows.rows.items c.as_slice-3.result.now
+    c.in_ok-graph.graph.items c.as_slice-graph.result.now
     c.as_slice-procs.ensures.value c.as_slice-3.ensures.value c.as_slice-graph.ensures.value c.in_ok-rows.ensures c.in_ok-graph.ensures in
     let order = c.in_ok-order.order.items in
     use-order own kernel procs c.requires.names order (subst (λ g. IsOrder g order) graph c.in_ok-order.ensures)
@@ -96,10 +107,13 @@ returns-clause-steps c =
     let ast = c.args.ast.now in
     let procs = ast.procs.items in
     let row = c.as_slice-2.ensures.value ∙ (c.in_ok-row.ensures ∙ ap own_places (c.as_slice.ensures.value ∙ c.in_ok-main.ensures)) in
-    let graph = graph_is own kernel procs c.as_slice-procs.result.now c.in_ok-rows.rows.items c.as_slice-3.result.now c.in_ok-graph.graph.items c.as_slice-graph.result.now
+    let graph =
+    graph_is own kernel procs c.as_slice-procs.result.now c.in_ok-rows.rows.items c.as_slice-3.result.now
+    c.in_ok-graph.graph.items c.as_slice-graph.result.now
     c.as_slice-procs.ensures.value c.as_slice-3.ensures.value c.as_slice-graph.ensures.value c.in_ok-rows.ensures c.in_ok-graph.ensures in
     let marks = c.in_ok-wanted.wanted.items in
     plan-is own kernel procs c.requires.names ast.consts ast.main c.as_slice-2.result.now marks c.in_ok-steps.steps.items row
     (λ q is. c.in_ok-wanted.ensures.exported q (ap (λ ps. get_or (map (λ (p : Proc). p.exported) ps) q false) c.as_slice-procs.ensures.value ∙ is))
     c.in_ok-wanted.ensures.used
-    (subst (λ g. Builds (Edge g) (length g) (λ q. get_or marks q false ≡ true) (λ q. ⊥) (reverse c.in_ok-steps.steps.items)) graph c.in_ok-steps.ensures)
+    (subst (λ g. Builds (Edge g) (length g) (λ q. get_or marks q false ≡ true) (λ q. ⊥) (reverse c.in_ok-steps.steps.items)) graph
+    c.in_ok-steps.ensures)

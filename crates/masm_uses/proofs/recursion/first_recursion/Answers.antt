@@ -14,8 +14,11 @@ with_row-requires-clause-graph c = AreUsers-graph (rows_of c.args.rows.now) (row
 
 pub with_row-requires-clause-settled : goal.with_row-requires-clause-settled
 with_row-requires-clause-settled c = λ marked place has.
-    let is = c.deref-in-loop-user.ensures.value ∙ row_read c.args.rows.now c.loop-user.user c.index-rows-user.result c.loop-user-test.true c.index-rows-user.is in
-    c.in_ok-settled.ensures c.loop-user.user place (ap (λ marks. get_or marks c.loop-user.user false) (sym c.deref.ensures.value) ∙ (sym c.is_marked.ensures ∙ marked))
+    let is =
+    c.deref-in-loop-user.ensures.value
+    ∙ row_read c.args.rows.now c.loop-user.user c.index-rows-user.result c.loop-user-test.true c.index-rows-user.is in
+    c.in_ok-settled.ensures c.loop-user.user place
+    (ap (λ marks. get_or marks c.loop-user.user false) (sym c.deref.ensures.value) ∙ (sym c.is_marked.ensures ∙ marked))
     (subst (λ r. HasOwn r place) is has)
 
 pub loop-user-preserved : goal.loop-user-preserved
@@ -24,7 +27,8 @@ loop-user-preserved c =
     let users = rows_of c.args.users.now in
     let i = c.loop-user.user in
     let row = c.deref-in-loop-user.result.now in
-    let within : i < length rows = let l = length-map c.args.rows.now (λ (v : Vec Link Global). v.items) in let t = c.loop-user-test.true in omega arith in
+    let within : i < length rows = let l = length-map c.args.rows.now (λ (v : Vec Link Global). v.items) in let t =
+    c.loop-user-test.true in omega arith in
     let is = c.deref-in-loop-user.ensures.value ∙ row_read c.args.rows.now i c.index-rows-user.result c.loop-user-test.true c.index-rows-user.is in
     Among-either (λ user row. Returns (Leads users user) row) rows i row c.in_ok-first.first within (row_itself rows i row within is)
     (Answers-with (AmongFirst (λ user row. Returns (Leads users user) row) rows i) (Returns (Leads users i) row) c.loop-user.first c.in_ok-first.first

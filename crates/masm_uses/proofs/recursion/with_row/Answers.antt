@@ -22,5 +22,6 @@ returns c =
     let row = c.args.row.now in
     let Back : ℕ → Type 0 = Leads (rows_of c.args.users.now) c.args.user in
     let marked = rw c.deref.ensures.value at c.first_return.ensures in
-    rw c.earlier.ensures (Answers-earlier (λ at cause. c.args.first ≡ Some (record { at = at; cause = cause })) (Returns Back row) c.args.first _ (Answers-itself c.args.first)
+    rw c.earlier.ensures (Answers-earlier (λ at cause. c.args.first ≡ Some (record { at = at; cause = cause })) (Returns Back row)
+    c.args.first _ (Answers-itself c.args.first)
     (Returns-same (λ q. slice_index_or c.in_ok-marks.marks.items q false ≡ true) Back row _ c.in_ok-marks.ensures marked))

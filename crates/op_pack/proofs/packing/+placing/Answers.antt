@@ -26,7 +26,11 @@ pub put-overflow_mul-result : goal.put-overflow_mul-result
 put-overflow_mul-result t c =
     let some = room-fits c.args.room _ c.args.item.now c.requires.fits in
     let small : c.if-has_immediate.behind.number < 128 ^ (c.args.room - 1) =
-    elim c.if-has_immediate.branch [ put-then-has_immediate w ↦ rw w.behind-is w.place-behind.ensures.below | put-else-has_immediate w ↦ rw w.behind-is w.place-behind-else-has_immediate.ensures.below ] in
+    elim c.if-has_immediate.branch [
+      | put-then-has_immediate w ↦ rw w.behind-is w.place-behind.ensures.below
+      | put-else-has_immediate
+          w ↦ rw w.behind-is w.place-behind-else-has_immediate.ensures.below
+    ] in
     let next = below_next c.args.room 0 c.if-has_immediate.behind.number some (omega arith) small in
     let word = below_nine c.args.room (0 + 128 * c.if-has_immediate.behind.number) c.requires.room next in
     omega arith
@@ -35,7 +39,11 @@ pub put-overflow_add-result : goal.put-overflow_add-result
 put-overflow_add-result t c =
     let some = room-fits c.args.room _ c.args.item.now c.requires.fits in
     let small : c.if-has_immediate.behind.number < 128 ^ (c.args.room - 1) =
-    elim c.if-has_immediate.branch [ put-then-has_immediate w ↦ rw w.behind-is w.place-behind.ensures.below | put-else-has_immediate w ↦ rw w.behind-is w.place-behind-else-has_immediate.ensures.below ] in
+    elim c.if-has_immediate.branch [
+      | put-then-has_immediate w ↦ rw w.behind-is w.place-behind.ensures.below
+      | put-else-has_immediate
+          w ↦ rw w.behind-is w.place-behind-else-has_immediate.ensures.below
+    ] in
     let code : c.from.result < 80 = omega arith in
     let next = below_next c.args.room c.from.result c.if-has_immediate.behind.number some code small in
     let word = below_nine c.args.room (c.from.result + 128 * c.if-has_immediate.behind.number) c.requires.room next in
@@ -45,6 +53,10 @@ pub put-returns-clause-below : goal.put-returns-clause-below
 put-returns-clause-below t c =
     let some = room-fits c.args.room _ c.args.item.now c.requires.fits in
     let small : c.if-has_immediate.behind.number < 128 ^ (c.args.room - 1) =
-    elim c.if-has_immediate.branch [ put-then-has_immediate w ↦ rw w.behind-is w.place-behind.ensures.below | put-else-has_immediate w ↦ rw w.behind-is w.place-behind-else-has_immediate.ensures.below ] in
+    elim c.if-has_immediate.branch [
+      | put-then-has_immediate w ↦ rw w.behind-is w.place-behind.ensures.below
+      | put-else-has_immediate
+          w ↦ rw w.behind-is w.place-behind-else-has_immediate.ensures.below
+    ] in
     let code : c.from.result < 80 = omega arith in
     below_next c.args.room c.from.result c.if-has_immediate.behind.number some code small

@@ -7,6 +7,9 @@ loop-i-preserved c =
     let low : c.loop-i.i < length c.loop-i.copies = omega arith in
     let in_sources : c.loop-i.i < length c.sources-sources.result.now = omega arith in (
       omega (arith, length-set {A = ℕ}),
-      rw (take_more_set c.loop-i.copies c.loop-i.i _ low, map_more (slice_index c.args.cells.now) c.sources-sources.result.now c.loop-i.i 0 in_sources)
+      rw (
+        take_more_set c.loop-i.copies c.loop-i.i _ low,
+        map_more (slice_index c.args.cells.now) c.sources-sources.result.now c.loop-i.i 0 in_sources,
+      )
           (cc (c.loop-i.invariant.1, c.felt_at.ensures.is)),
     )

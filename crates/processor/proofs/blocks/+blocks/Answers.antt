@@ -11,100 +11,127 @@ use Rattle.processor.proofs.blocks.+blocks.Goals as goal
 
 pub call-returns-in_err-frame : goal.call-returns-in_err-frame
 call-returns-in_err-frame t c =
-    ran-along (call-as c.args.setting.now (node_tree c.args.callee.now) c.digest.result c.args.digest.now (frame_of (core_of c.args.runner.now.state)) (state_of c.args.runner.now.state)
+    ran-along (call-as c.args.setting.now (node_tree c.args.callee.now) c.digest.result c.args.digest.now
+    (frame_of (core_of c.args.runner.now.state)) (state_of c.args.runner.now.state)
     (c.digest.ensures.hashed (constants_in c.args.setting.now) c.requires.callee) c.requires.digest refl)
     (ran-fail _ _ (search rules) c.in_err-frame.ensures.ran)
 
 pub call-returns-in_err-block : goal.call-returns-in_err-block
 call-returns-in_err-block t c =
-    ran-along (call-as c.args.setting.now (node_tree c.args.callee.now) c.digest.result c.args.digest.now (frame_in c.in_ok-frame.frame) (state_of c.args.runner.now.state)
+    ran-along (call-as c.args.setting.now (node_tree c.args.callee.now) c.digest.result c.args.digest.now
+    (frame_in c.in_ok-frame.frame) (state_of c.args.runner.now.state)
     (c.digest.ensures.hashed (constants_in c.args.setting.now) c.requires.callee) c.requires.digest c.in_ok-frame.ensures.frame)
     (ran-then _ _ c.in_ok-frame.ensures.ran (ran-fail _ _ (search rules) c.in_err-block.ensures))
 
 pub call-returns : goal.call-returns
 call-returns t c =
-    ran-along (call-as c.args.setting.now (node_tree c.args.callee.now) c.digest.result c.args.digest.now (frame_in c.in_ok-frame.frame) (state_of c.args.runner.now.state)
+    ran-along (call-as c.args.setting.now (node_tree c.args.callee.now) c.digest.result c.args.digest.now
+    (frame_in c.in_ok-frame.frame) (state_of c.args.runner.now.state)
     (c.digest.ensures.hashed (constants_in c.args.setting.now) c.requires.callee) c.requires.digest c.in_ok-frame.ensures.frame)
     (ran-then _ _ c.in_ok-frame.ensures.ran (ran-then _ _ c.in_ok-block.ensures c.cycle.ensures.ran))
 
 pub syscall-returns-in_err-frame : goal.syscall-returns-in_err-frame
 syscall-returns-in_err-frame t c =
-    ran-along (syscall-as c.args.setting.now (node_tree c.args.callee.now) c.digest.result c.args.digest.now (frame_of (core_of c.args.runner.now.state)) (state_of c.args.runner.now.state)
+    ran-along (syscall-as c.args.setting.now (node_tree c.args.callee.now) c.digest.result c.args.digest.now
+    (frame_of (core_of c.args.runner.now.state)) (state_of c.args.runner.now.state)
     (c.digest.ensures.hashed (constants_in c.args.setting.now) c.requires.callee) c.requires.digest refl)
     (ran-fail _ _ (search rules) c.in_err-frame.ensures.ran)
 
 pub syscall-returns-in_err-block : goal.syscall-returns-in_err-block
 syscall-returns-in_err-block t c =
-    ran-along (syscall-as c.args.setting.now (node_tree c.args.callee.now) c.digest.result c.args.digest.now (frame_in c.in_ok-frame.frame) (state_of c.args.runner.now.state)
+    ran-along (syscall-as c.args.setting.now (node_tree c.args.callee.now) c.digest.result c.args.digest.now
+    (frame_in c.in_ok-frame.frame) (state_of c.args.runner.now.state)
     (c.digest.ensures.hashed (constants_in c.args.setting.now) c.requires.callee) c.requires.digest c.in_ok-frame.ensures.frame)
     (ran-then _ _ c.in_ok-frame.ensures.ran (ran-fail _ _ (search rules) c.in_err-block.ensures))
 
 pub syscall-returns : goal.syscall-returns
 syscall-returns t c =
-    ran-along (syscall-as c.args.setting.now (node_tree c.args.callee.now) c.digest.result c.args.digest.now (frame_in c.in_ok-frame.frame) (state_of c.args.runner.now.state)
+    ran-along (syscall-as c.args.setting.now (node_tree c.args.callee.now) c.digest.result c.args.digest.now
+    (frame_in c.in_ok-frame.frame) (state_of c.args.runner.now.state)
     (c.digest.ensures.hashed (constants_in c.args.setting.now) c.requires.callee) c.requires.digest c.in_ok-frame.ensures.frame)
     (ran-then _ _ c.in_ok-frame.ensures.ran (ran-then _ _ c.in_ok-block.ensures c.cycle.ensures.ran))
 
 pub join-returns-in_err-cycle : goal.join-returns-in_err-cycle
 join-returns-in_err-cycle t c =
-    ran-along (join-as c.args.setting.now (node_tree c.args.first.now) (node_tree c.args.second.now) c.digest.result c.digest-2.result c.args.digest.now (state_of c.args.runner.now.state)
-    (c.digest.ensures.hashed (constants_in c.args.setting.now) c.requires.first) (c.digest-2.ensures.hashed (constants_in c.args.setting.now) c.requires.second) c.requires.digest)
+    ran-along (join-as c.args.setting.now (node_tree c.args.first.now) (node_tree c.args.second.now) c.digest.result
+    c.digest-2.result c.args.digest.now (state_of c.args.runner.now.state)
+    (c.digest.ensures.hashed (constants_in c.args.setting.now) c.requires.first)
+    (c.digest-2.ensures.hashed (constants_in c.args.setting.now) c.requires.second) c.requires.digest)
     (ran-fail _ _ (search rules) c.in_err-cycle.ensures.ran)
 
 pub join-returns-in_err-block : goal.join-returns-in_err-block
 join-returns-in_err-block t c =
-    ran-along (join-as c.args.setting.now (node_tree c.args.first.now) (node_tree c.args.second.now) c.digest.result c.digest-2.result c.args.digest.now (state_of c.args.runner.now.state)
-    (c.digest.ensures.hashed (constants_in c.args.setting.now) c.requires.first) (c.digest-2.ensures.hashed (constants_in c.args.setting.now) c.requires.second) c.requires.digest)
+    ran-along (join-as c.args.setting.now (node_tree c.args.first.now) (node_tree c.args.second.now) c.digest.result
+    c.digest-2.result c.args.digest.now (state_of c.args.runner.now.state)
+    (c.digest.ensures.hashed (constants_in c.args.setting.now) c.requires.first)
+    (c.digest-2.ensures.hashed (constants_in c.args.setting.now) c.requires.second) c.requires.digest)
     (ran-then _ _ c.in_ok-cycle.ensures.ran (ran-fail _ _ (search rules) c.in_err-block.ensures))
 
 pub join-returns-in_err-block-2 : goal.join-returns-in_err-block-2
 join-returns-in_err-block-2 t c =
-    ran-along (join-as c.args.setting.now (node_tree c.args.first.now) (node_tree c.args.second.now) c.digest.result c.digest-2.result c.args.digest.now (state_of c.args.runner.now.state)
-    (c.digest.ensures.hashed (constants_in c.args.setting.now) c.requires.first) (c.digest-2.ensures.hashed (constants_in c.args.setting.now) c.requires.second) c.requires.digest)
+    ran-along (join-as c.args.setting.now (node_tree c.args.first.now) (node_tree c.args.second.now) c.digest.result
+    c.digest-2.result c.args.digest.now (state_of c.args.runner.now.state)
+    (c.digest.ensures.hashed (constants_in c.args.setting.now) c.requires.first)
+    (c.digest-2.ensures.hashed (constants_in c.args.setting.now) c.requires.second) c.requires.digest)
     (ran-then _ _ c.in_ok-cycle.ensures.ran (ran-then _ _ c.in_ok-block.ensures (ran-fail _ _ (search rules) c.in_err-block-2.ensures)))
 
 pub join-returns : goal.join-returns
 join-returns t c =
-    ran-along (join-as c.args.setting.now (node_tree c.args.first.now) (node_tree c.args.second.now) c.digest.result c.digest-2.result c.args.digest.now (state_of c.args.runner.now.state)
-    (c.digest.ensures.hashed (constants_in c.args.setting.now) c.requires.first) (c.digest-2.ensures.hashed (constants_in c.args.setting.now) c.requires.second) c.requires.digest)
+    ran-along (join-as c.args.setting.now (node_tree c.args.first.now) (node_tree c.args.second.now) c.digest.result
+    c.digest-2.result c.args.digest.now (state_of c.args.runner.now.state)
+    (c.digest.ensures.hashed (constants_in c.args.setting.now) c.requires.first)
+    (c.digest-2.ensures.hashed (constants_in c.args.setting.now) c.requires.second) c.requires.digest)
     (ran-then _ _ c.in_ok-cycle.ensures.ran (ran-then _ _ c.in_ok-block.ensures (ran-then _ _ c.in_ok-block-2.ensures c.cycle-2.ensures.ran)))
 
 pub split-returns-in_err-cycle : goal.split-returns-in_err-cycle
 split-returns-in_err-cycle t c =
-    ran-along (split-as c.args.setting.now (node_tree c.args.on_one.now) (node_tree c.args.on_zero.now) c.digest.result c.digest-2.result c.args.digest.now c.top_of-condition.result (state_of c.args.runner.now.state)
-    (c.digest.ensures.hashed (constants_in c.args.setting.now) c.requires.on_one) (c.digest-2.ensures.hashed (constants_in c.args.setting.now) c.requires.on_zero) c.requires.digest c.top_of-condition.ensures)
+    ran-along (split-as c.args.setting.now (node_tree c.args.on_one.now) (node_tree c.args.on_zero.now) c.digest.result
+    c.digest-2.result c.args.digest.now c.top_of-condition.result (state_of c.args.runner.now.state)
+    (c.digest.ensures.hashed (constants_in c.args.setting.now) c.requires.on_one)
+    (c.digest-2.ensures.hashed (constants_in c.args.setting.now) c.requires.on_zero) c.requires.digest
+    c.top_of-condition.ensures)
     (ran-fail _ _ (search rules) c.in_err-cycle.ensures.ran)
 
 pub split-returns-in_err-branch : goal.split-returns-in_err-branch
 split-returns-in_err-branch t c =
-    ran-along (split-as c.args.setting.now (node_tree c.args.on_one.now) (node_tree c.args.on_zero.now) c.digest.result c.digest-2.result c.args.digest.now c.top_of-condition.result (state_of c.args.runner.now.state)
-    (c.digest.ensures.hashed (constants_in c.args.setting.now) c.requires.on_one) (c.digest-2.ensures.hashed (constants_in c.args.setting.now) c.requires.on_zero) c.requires.digest c.top_of-condition.ensures)
+    ran-along (split-as c.args.setting.now (node_tree c.args.on_one.now) (node_tree c.args.on_zero.now) c.digest.result
+    c.digest-2.result c.args.digest.now c.top_of-condition.result (state_of c.args.runner.now.state)
+    (c.digest.ensures.hashed (constants_in c.args.setting.now) c.requires.on_one)
+    (c.digest-2.ensures.hashed (constants_in c.args.setting.now) c.requires.on_zero) c.requires.digest
+    c.top_of-condition.ensures)
     (ran-then _ _ c.in_ok-cycle.ensures.ran (ran-fail _ _ (search rules) c.in_err-branch.ensures))
 
 pub split-returns : goal.split-returns
 split-returns t c =
-    ran-along (split-as c.args.setting.now (node_tree c.args.on_one.now) (node_tree c.args.on_zero.now) c.digest.result c.digest-2.result c.args.digest.now c.top_of-condition.result (state_of c.args.runner.now.state)
-    (c.digest.ensures.hashed (constants_in c.args.setting.now) c.requires.on_one) (c.digest-2.ensures.hashed (constants_in c.args.setting.now) c.requires.on_zero) c.requires.digest c.top_of-condition.ensures)
+    ran-along (split-as c.args.setting.now (node_tree c.args.on_one.now) (node_tree c.args.on_zero.now) c.digest.result
+    c.digest-2.result c.args.digest.now c.top_of-condition.result (state_of c.args.runner.now.state)
+    (c.digest.ensures.hashed (constants_in c.args.setting.now) c.requires.on_one)
+    (c.digest-2.ensures.hashed (constants_in c.args.setting.now) c.requires.on_zero) c.requires.digest
+    c.top_of-condition.ensures)
     (ran-then _ _ c.in_ok-cycle.ensures.ran (ran-then _ _ c.in_ok-branch.ensures c.cycle-2.ensures.ran))
 
 pub repeated-returns-in_err-cycle : goal.repeated-returns-in_err-cycle
 repeated-returns-in_err-cycle t c =
-    ran-along (loop-as c.args.setting.now (node_tree c.args.body.now) c.digest.result c.args.digest.now c.top_of-condition.result (state_of c.args.runner.now.state)
+    ran-along (loop-as c.args.setting.now (node_tree c.args.body.now) c.digest.result c.args.digest.now c.top_of-condition.result
+    (state_of c.args.runner.now.state)
     (c.digest.ensures.hashed (constants_in c.args.setting.now) c.requires.body) c.requires.digest c.top_of-condition.ensures)
     (ran-fail _ _ (search rules) c.in_err-cycle.ensures.ran)
 
 pub repeated-returns-then-value-eq0 : goal.repeated-returns-then-value-eq0
 repeated-returns-then-value-eq0 t c =
-    ran-along (loop-as c.args.setting.now (node_tree c.args.body.now) c.digest.result c.args.digest.now c.value.result (state_of c.args.runner.now.state)
+    ran-along (loop-as c.args.setting.now (node_tree c.args.body.now) c.digest.result c.args.digest.now c.value.result
+    (state_of c.args.runner.now.state)
     (c.digest.ensures.hashed (constants_in c.args.setting.now) c.requires.body) c.requires.digest (c.value.ensures.is ∙ c.top_of-condition.ensures))
     (ran-then _ _ c.in_ok-cycle.ensures.ran
-    (ran-along (ap (λ (f : Part). f (state_of c.cycle.new.runner.state)) (at_bit-zero c.value.result _ _ c.if-value-eq0.true)) c.cycle-then-value-eq0.ensures.ran))
+    (ran-along (ap (λ (f : Part). f (state_of c.cycle.new.runner.state)) (at_bit-zero c.value.result _ _ c.if-value-eq0.true))
+    c.cycle-then-value-eq0.ensures.ran))
 
 pub repeated-returns-else-value-eq0 : goal.repeated-returns-else-value-eq0
 repeated-returns-else-value-eq0 t c =
     let ticked : c.cycle.new.runner.state.clock ≡ c.args.runner.now.state.clock + 1
     = (ran-ticks c.args.setting.now (StartLoop c.digest.result) (state_of c.args.runner.now.state) c.cycle.new.runner c.in_ok-cycle.ensures.ran).0 in
-    ran-along (loop-as c.args.setting.now (node_tree c.args.body.now) c.digest.result c.args.digest.now c.value.result (state_of c.args.runner.now.state)
+    ran-along (loop-as c.args.setting.now (node_tree c.args.body.now) c.digest.result c.args.digest.now c.value.result
+    (state_of c.args.runner.now.state)
     (c.digest.ensures.hashed (constants_in c.args.setting.now) c.requires.body) c.requires.digest (c.value.ensures.is ∙ c.top_of-condition.ensures))
     (ran-then _ _ c.in_ok-cycle.ensures.ran
     (ran-along (ap (λ (f : Part). f (state_of c.cycle.new.runner.state)) (at_bit-one c.value.result _ _ c.if-value-eq0.false))
@@ -112,7 +139,8 @@ repeated-returns-else-value-eq0 t c =
 
 pub turns-returns-in_err-block : goal.turns-returns-in_err-block
 turns-returns-in_err-block t c = λ n room.
-    turns-fail c.args.setting.now c.args.digest.now (node_tree c.args.body.now) n (c.loop-runner.invariant n room) (search rules) c.in_err-block.ensures
+    turns-fail c.args.setting.now c.args.digest.now (node_tree c.args.body.now) n (c.loop-runner.invariant n room) (search rules)
+    c.in_err-block.ensures
 
 pub turns-returns-then-value-eq0 : goal.turns-returns-then-value-eq0
 turns-returns-then-value-eq0 t c = λ n room.
@@ -121,7 +149,8 @@ turns-returns-then-value-eq0 t c = λ n room.
 
 pub turns-returns-in_err-cycle : goal.turns-returns-in_err-cycle
 turns-returns-in_err-cycle t c = λ n room.
-    turns-repeat_fail c.args.setting.now c.args.digest.now (node_tree c.args.body.now) n c.value.result c.digest.result (c.loop-runner.invariant n room) c.in_ok-block.ensures
+    turns-repeat_fail c.args.setting.now c.args.digest.now (node_tree c.args.body.now) n c.value.result c.digest.result
+    (c.loop-runner.invariant n room) c.in_ok-block.ensures
     (c.value.ensures.is ∙ c.top_of.ensures) c.if-value-eq0.false (c.digest.ensures.hashed (constants_in c.args.setting.now) c.requires.body)
     (search rules) c.in_err-cycle.ensures.ran
 
@@ -129,13 +158,16 @@ pub turns-loop-runner-smaller : goal.turns-loop-runner-smaller
 turns-loop-runner-smaller t c =
     let body : c.loop-runner.runner.state.clock < c.block.new.runner.state.clock
     = block-ticks c.args.setting.now (node_tree c.args.body.now) (state_of c.loop-runner.runner.state) c.block.new.runner c.in_ok-block.ensures in
-    let repeat : (c.cycle-in-loop-runner.new.runner.state.clock ≡ c.block.new.runner.state.clock + 1) × (c.block.new.runner.state.clock < c.args.setting.now.limit)
-    = ran-ticks c.args.setting.now (Repeat c.digest.result) (state_of c.block.new.runner.state) c.cycle-in-loop-runner.new.runner c.in_ok-cycle.ensures.ran in
+    let repeat : (c.cycle-in-loop-runner.new.runner.state.clock ≡ c.block.new.runner.state.clock + 1)
+    × (c.block.new.runner.state.clock < c.args.setting.now.limit)
+    = ran-ticks c.args.setting.now (Repeat c.digest.result) (state_of c.block.new.runner.state) c.cycle-in-loop-runner.new.runner
+    c.in_ok-cycle.ensures.ran in
     omega (arith, body, repeat.0, repeat.1)
 
 pub turns-loop-runner-preserved : goal.turns-loop-runner-preserved
 turns-loop-runner-preserved t c = λ n room.
-    turns-more c.args.setting.now c.args.digest.now (node_tree c.args.body.now) n c.value.result c.digest.result (c.loop-runner.invariant n room) c.in_ok-block.ensures
+    turns-more c.args.setting.now c.args.digest.now (node_tree c.args.body.now) n c.value.result c.digest.result
+    (c.loop-runner.invariant n room) c.in_ok-block.ensures
     (c.value.ensures.is ∙ c.top_of.ensures) c.if-value-eq0.false (c.digest.ensures.hashed (constants_in c.args.setting.now) c.requires.body)
     c.in_ok-cycle.ensures.ran
 

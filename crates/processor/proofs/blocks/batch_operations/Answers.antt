@@ -16,4 +16,5 @@ all_operations-requires c = record {
 pub returns-in-None : goal.returns-in-None
 returns-in-None c =
     let none : reading c.args.batch.now.elements ≡ None = search rules in
-    ran-along (ap (λ o. read_operations_in c.args.setting.now o (state_of c.args.runner.now.state)) none) (ran-skip c.args.setting.now c.args.runner.now tt)
+    ran-along (ap (λ o. read_operations_in c.args.setting.now o (state_of c.args.runner.now.state)) none)
+    (ran-skip c.args.setting.now c.args.runner.now tt)

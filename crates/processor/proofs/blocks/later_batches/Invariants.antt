@@ -7,4 +7,5 @@ use Rattle.processor.proofs.blocks.later_batches.Given as goal
 
 abbrev pub invariant-loop-batch : goal.invariant-loop-batch
 invariant-loop-batch l =
-    Left l.setting (batches_in l.setting Respan (elements_of l.batches)) (batches_in l.setting Respan (elements_of (drop l.batch-index l.batches))) l.fn.runner l.runner
+    Left l.setting (batches_in l.setting Respan (elements_of l.batches))
+    (batches_in l.setting Respan (elements_of (drop l.batch-index l.batches))) l.fn.runner l.runner

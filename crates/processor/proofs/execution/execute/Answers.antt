@@ -15,7 +15,8 @@ overflow_sub-taken c =
 pub returns : goal.returns
 returns c =
     let run : IsRunOf c.args.params.now c.args.program.now c.args.inputs.now c.args.limit _ =
-    run_of (node_tree c.in_ok-node.node) (state_of c.in_ok-start.field-0) c.args.inputs.now c.args.params.now c.args.program.now c.args.limit c.in_ok-copied.field-0
+    run_of (node_tree c.in_ok-node.node) (state_of c.in_ok-start.field-0) c.args.inputs.now c.args.params.now c.args.program.now
+    c.args.limit c.in_ok-copied.field-0
     c.digest.result c.in_ok-node.permutations
     c.in_ok-block.ensures c.new.ensures.empty refl c.as_slice.ensures.items refl c.in_ok-node.ensures.tree c.in_ok-start.ensures
     (rw (← c.as_slice-advice.ensures.items, ← c.advice_left.ensures) c.in_ok-copied.ensures.items)

@@ -10,4 +10,5 @@ returns c =
     let blocks = c.args.blocks.now in
     c.digest.ensures
     ∙ ap squeezed
-    (c.loop-block.invariant.state ∙ ap (sponge_after (constants_of c.args.params.now) (begun c.args.domain)) (whole c.loop-block.block-index blocks (omega arith)))
+    (c.loop-block.invariant.state ∙ ap (sponge_after (constants_of c.args.params.now) (begun c.args.domain))
+    (whole c.loop-block.block-index blocks (omega arith)))

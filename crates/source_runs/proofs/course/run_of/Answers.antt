@@ -13,5 +13,6 @@ returns-in-Err-Trap-clause-stopped c =
 
 pub returns-in-Err-OutOfCycles-clause-stopped : goal.returns-in-Err-OutOfCycles-clause-stopped
 returns-in-Err-OutOfCycles-clause-stopped c =
-    halt_says (constants_of c.args.constants.now) c.args.program (given_of c.args.inputs.now) c.args.limit status.OutOfCycles (limit_line c.args.limit) _
+    halt_says (constants_of c.args.constants.now) c.args.program (given_of c.args.inputs.now) c.args.limit status.OutOfCycles
+    (limit_line c.args.limit) _
     (unended (rw c.in-Err-OutOfCycles.field-0-is at c.in-Err-OutOfCycles.ensures.is)) c.out_of_cycles.ensures

@@ -28,4 +28,5 @@ returns c = λ all width is short.
     let same : j ≡ length c.args.part.now / 8 = omega (arith, c.loop-j-test.false, c.loop-j.auto.j-end) in
     let long = ap length is in
     stops (element_at all) 8 c.args.at width j so_far.0 c.bad.result (omega (arith, c.loop-j-test.false, short))
-    (ap Err (c.bad.ensures ∙ ap (λ (n : ℕ). Bad (c.args.at + 8 * n) cause.Ended) (sym same)) ∙ sym (ends_within all c.args.at j (omega (arith, long, length-drop c.args.at all, c.loop-j-test.false)))) so_far.1
+    (ap Err (c.bad.ensures ∙ ap (λ (n : ℕ). Bad (c.args.at + 8 * n) cause.Ended) (sym same))
+    ∙ sym (ends_within all c.args.at j (omega (arith, long, length-drop c.args.at all, c.loop-j-test.false)))) so_far.1

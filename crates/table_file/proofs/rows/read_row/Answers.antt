@@ -19,7 +19,8 @@ returns-in_err-element g c =
 
 pub loop-j-preserved : goal.loop-j-preserved
 loop-j-preserved g c = record {
-  goes = λ all stands. goes_on_in (element_at all) 8 _ _ _ _ _ c.loop-j-test.true (omega arith) (c.in_ok-element.ensures all stands) (c.loop-j.invariant.goes all stands);
+  goes = λ all stands. goes_on_in (element_at all) 8 _ _ _ _ _ c.loop-j-test.true (omega arith) (c.in_ok-element.ensures all stands)
+      (c.loop-j.invariant.goes all stands);
   wide = length-set c.loop-j.row c.loop-j.j c.in_ok-element.element ∙ c.loop-j.invariant.wide;
 }
 

@@ -9,4 +9,5 @@ returns-clause-digest c =
     let blocks = c.args.blocks.now in
     c.squeezed.ensures
     ∙ ap squeezed
-    (c.loop-block.invariant.state ∙ ap (sponge_after c.args.permutations.now (begun c.args.domain)) (whole c.loop-block.block-index blocks (omega arith)))
+    (c.loop-block.invariant.state ∙ ap (sponge_after c.args.permutations.now (begun c.args.domain))
+    (whole c.loop-block.block-index blocks (omega arith)))

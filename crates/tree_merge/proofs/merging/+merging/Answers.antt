@@ -13,10 +13,12 @@ use Rattle.tree_merge.proofs.MergeLemmas.{join-twos, split-twos, loop-ones, call
 use Rattle.tree_merge.proofs.merging.+merging.Goals as goal
 
 -- what is known of two trees is known of what they were found to be, and the other way round
-found : (constants : List ℕ) (comp : ℕ → Option HashInput) (a b x y : Placed) → a ≡ x → b ≡ y → Mergeable constants comp a b → Mergeable constants comp x y
+found : (constants : List ℕ) (comp : ℕ → Option HashInput) (a b x y : Placed) → a ≡ x → b ≡ y → Mergeable constants comp a b
+    → Mergeable constants comp x y
 found constants comp a b x y e f m = subst₂ (λ u v. Mergeable constants comp u v) e f m
 
-made : (constants : List ℕ) (comp : ℕ → Option HashInput) (a b x y m : Placed) → a ≡ x → b ≡ y → Merged constants comp x y m → Merged constants comp a b m
+made : (constants : List ℕ) (comp : ℕ → Option HashInput) (a b x y m : Placed) → a ≡ x → b ≡ y → Merged constants comp x y m
+    → Merged constants comp a b m
 made constants comp a b x y m e f h = subst₂ (λ u v. Merged constants comp u v m) (sym e) (sym f) h
 
 moved : (constants : List ℕ) (comp : ℕ → Option HashInput) (p q r s : ℕ) → r ≡ p → s ≡ q → Differs constants comp p q → Differs constants comp r s
@@ -40,8 +42,11 @@ merge-pair-requires t c =
 pub merge-two-requires : goal.merge-two-requires
 merge-two-requires t c =
     let e = ap tall c.in-Join-Join.is-0 in
-    let d = c.decreases in
-    (omega (arith, e, d), join-twos _ _ _ _ _ _ _ _ (found _ _ _ _ _ _ (ap placed_of c.in-Join-Join.is-0) (ap placed_of c.in-Join-Join.is-1) c.requires))
+    let d = c.decreases in (
+      omega (arith, e, d),
+      join-twos _ _ _ _ _ _ _ _
+          (found _ _ _ _ _ _ (ap placed_of c.in-Join-Join.is-0) (ap placed_of c.in-Join-Join.is-1) c.requires),
+    )
 
 pub merge-returns-in_ok-a-in-Join-Join-clause-ok :
     goal.merge-returns-in_ok-a-in-Join-Join-clause-ok
@@ -53,8 +58,11 @@ merge-returns-in_ok-a-in-Join-Join-clause-ok t c =
 pub merge-two-requires-in-Split-Split : goal.merge-two-requires-in-Split-Split
 merge-two-requires-in-Split-Split t c =
     let e = ap tall c.in-Split-Split.is-0 in
-    let d = c.decreases in
-    (omega (arith, e, d), split-twos _ _ _ _ _ _ _ _ (found _ _ _ _ _ _ (ap placed_of c.in-Split-Split.is-0) (ap placed_of c.in-Split-Split.is-1) c.requires))
+    let d = c.decreases in (
+      omega (arith, e, d),
+      split-twos _ _ _ _ _ _ _ _
+          (found _ _ _ _ _ _ (ap placed_of c.in-Split-Split.is-0) (ap placed_of c.in-Split-Split.is-1) c.requires),
+    )
 
 pub merge-returns-in_ok-a-in-Split-Split-clause-ok :
     goal.merge-returns-in_ok-a-in-Split-Split-clause-ok

@@ -11,4 +11,5 @@ returns-in_err-ok c =
 pub returns : goal.returns
 returns c =
     c.ok-2.ensures.value ∙ c.try_from_u64.ensures.element
-    ∙ sym (element_decoded c.args.digits.now _ _ _ c.requires c.decode_to_slice.auto.out c.decode_to_slice.ensures.value (sym c.ok.ensures.value ∙ c.in_ok-ok.was) ∙ ap element_from (sym c.from_be_bytes.ensures))
+    ∙ sym (element_decoded c.args.digits.now _ _ _ c.requires c.decode_to_slice.auto.out c.decode_to_slice.ensures.value
+    (sym c.ok.ensures.value ∙ c.in_ok-ok.was) ∙ ap element_from (sym c.from_be_bytes.ensures))

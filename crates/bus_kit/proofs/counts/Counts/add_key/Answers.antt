@@ -10,5 +10,7 @@ pub returns : goal.returns
 returns g c = λ u.
     let had = ap (λ o. unwrap_or o (0, 0)) c.in_ok-entry.ensures.value in
     let is = c.added.ensures ∙ ap (more_on c.args.side c.args.count) (c.or_insert-both.ensures.value ∙ had) in
-    let now = added_at c.args.self.now.both (map_with_value c.in_ok-entry.entry c.added.result) c.args.side c.args.key c.args.count c.added.result u ((c.in_ok-entry.ensures.update.0 c.added.result).0 u) is in
+    let now =
+    added_at c.args.self.now.both (map_with_value c.in_ok-entry.entry c.added.result) c.args.side c.args.key c.args.count
+    c.added.result u ((c.in_ok-entry.ensures.update.0 c.added.result).0 u) is in
     grind (arith, common_steps)

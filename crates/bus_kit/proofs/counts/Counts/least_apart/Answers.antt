@@ -6,8 +6,10 @@ use Rattle.bus_kit.proofs.counts.Counts.least_apart.Goals as goal
 
 pub returns-in-None-best-clause-least : goal.returns-in-None-best-clause-least
 returns-in-None-best-clause-least g c =
-    scan_told c.args.self.now.both _ _ _ c.loop-tuple.invariant c.in-None.ensures.steps.0 c.iter-tuple-items.ensures.found (ap (option_map told) (sym c.in-None-best.is))
+    scan_told c.args.self.now.both _ _ _ c.loop-tuple.invariant c.in-None.ensures.steps.0 c.iter-tuple-items.ensures.found
+    (ap (option_map told) (sym c.in-None-best.is))
 
 pub returns-in-Some-best-clause-least : goal.returns-in-Some-best-clause-least
 returns-in-Some-best-clause-least g c =
-    scan_told c.args.self.now.both _ _ _ c.loop-tuple.invariant c.in-None.ensures.steps.0 c.iter-tuple-items.ensures.found (ap Some c.told.ensures.is ∙ ap (option_map told) (sym c.in-Some-best.is))
+    scan_told c.args.self.now.both _ _ _ c.loop-tuple.invariant c.in-None.ensures.steps.0 c.iter-tuple-items.ensures.found
+    (ap Some c.told.ensures.is ∙ ap (option_map told) (sym c.in-Some-best.is))

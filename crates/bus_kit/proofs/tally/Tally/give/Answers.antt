@@ -14,16 +14,24 @@ returns-clause-ok c = counted Given c.args.tuple.now c.args.count (both_at c.arg
 
 pub returns-clause-other : goal.returns-clause-other
 unfolding asked_in given_in
-returns-clause-other c = counted_other Given c.args.tuple.now c.args.count (both_at c.args.self.now) (both_at c.add.new.self) c.add.result c.add.ensures.added
+returns-clause-other c =
+    counted_other Given c.args.tuple.now c.args.count (both_at c.args.self.now) (both_at c.add.new.self) c.add.result
+    c.add.ensures.added
 
 pub returns-clause-grows : goal.returns-clause-grows
 unfolding asked_in given_in
-returns-clause-grows c = counted_few Given c.args.tuple.now c.args.count (both_at c.args.self.now) (both_at c.add.new.self) c.add.result c.add.ensures.added
+returns-clause-grows c =
+    counted_few Given c.args.tuple.now c.args.count (both_at c.args.self.now) (both_at c.add.new.self) c.add.result
+    c.add.ensures.added
 
 pub returns-clause-absent : goal.returns-clause-absent
 unfolding asked_in given_in
-returns-clause-absent c = counted_absent Given c.args.tuple.now c.args.count (both_at c.args.self.now) (both_at c.add.new.self) c.add.result c.add.ensures.added
+returns-clause-absent c =
+    counted_absent Given c.args.tuple.now c.args.count (both_at c.args.self.now) (both_at c.add.new.self) c.add.result
+    c.add.ensures.added
 
 pub returns-clause-err : goal.returns-clause-err
 unfolding asked_in given_in
-returns-clause-err c = counted_none Given c.args.tuple.now c.args.count (both_at c.args.self.now) (both_at c.add.new.self) c.add.result c.add.ensures.added
+returns-clause-err c =
+    counted_none Given c.args.tuple.now c.args.count (both_at c.args.self.now) (both_at c.add.new.self) c.add.result
+    c.add.ensures.added

@@ -6,7 +6,8 @@ use Rattle.cycle_events.proofs.log.Events.before.Goals as goal
 
 pub returns : goal.returns
 returns c =
-    shows c.self.inside.functions.items c.self.inside.uses.items c.self.inside.items.items c.args.self.now c.args.place c.index-kept.result.now c.self.view_is c.requires.within c.index-kept.ensures
+    shows c.self.inside.functions.items c.self.inside.uses.items c.self.inside.items.items c.args.self.now c.args.place
+    c.index-kept.result.now c.self.view_is c.requires.within c.index-kept.ensures
     (ap (λ (digest : List ℕ). record {
       clock = c.index-kept.result.now.clock;
       context = c.index-kept.result.now.context;

@@ -20,7 +20,9 @@ pub wait-requires : goal.wait-requires
 wait-requires c =
     let graph = rows_of c.args.graph.now in
     let row = row_of c.args.graph.now c.args.place _ c.as_slice-row.result.now c.requires.place c.index-graph-place.is c.as_slice-row.ensures.value in
-    let low = c.requires.graph c.args.place _ (edge_at graph c.as_slice-row.result.now c.args.place c.first_unseen-edge.result 0 row c.if-edge-row.true) in
+    let low =
+    c.requires.graph c.args.place _ (edge_at graph c.as_slice-row.result.now c.args.place c.first_unseen-edge.result 0 row
+    c.if-edge-row.true) in
     omega (arith, low, c.requires.sorting.waiting_len)
 
 pub returns-then-edge-row-clause-sorting : goal.returns-then-edge-row-clause-sorting
@@ -33,19 +35,24 @@ returns-then-edge-row-clause-sorting c =
     let within : place < length graph = omega (arith, length-map c.args.graph.now (λ vec. vec.items)) in
     let passed : Sorter = record { walk = s.walk; passed = with_item s.passed place edge; waiting = s.waiting } in
     let sorting : IsSorting graph passed =
-    IsSorting-pass graph s passed place c.index.result.now edge c.as_slice-row.result.now c.requires.sorting within row c.index.ensures c.first_unseen-edge.ensures.seen refl refl refl in
+    IsSorting-pass graph s passed place c.index.result.now edge c.as_slice-row.result.now c.requires.sorting within row
+    c.index.ensures c.first_unseen-edge.ensures.seen refl refl refl in
     on_ok_weaker c.wait.result
     (IsSorting-wait graph passed c.wait.new.self place _ sorting within
-    (c.requires.graph place _ (edge_at graph c.as_slice-row.result.now place edge 0 row c.if-edge-row.true)) c.wait.ensures.walk c.wait.ensures.passed c.wait.ensures.count)
+    (c.requires.graph place _ (edge_at graph c.as_slice-row.result.now place edge 0 row c.if-edge-row.true)) c.wait.ensures.walk
+    c.wait.ensures.passed c.wait.ensures.count)
     c.wait.ensures.rows
 
 pub returns-then-edge-row-clause-grows : goal.returns-then-edge-row-clause-grows
 returns-then-edge-row-clause-grows c =
     let graph = rows_of c.args.graph.now in
     let row = row_of c.args.graph.now c.args.place _ c.as_slice-row.result.now c.requires.place c.index-graph-place.is c.as_slice-row.ensures.value in
-    let low = c.requires.graph c.args.place _ (edge_at graph c.as_slice-row.result.now c.args.place c.first_unseen-edge.result 0 row c.if-edge-row.true) in
+    let low =
+    c.requires.graph c.args.place _ (edge_at graph c.as_slice-row.result.now c.args.place c.first_unseen-edge.result 0 row
+    c.if-edge-row.true) in
     on_ok_weaker c.wait.result
-    (λ rows. (Grows-wait c.args.self.now c.wait.new.self c.args.place _ (omega (arith, low, c.requires.sorting.waiting_len)) c.wait.ensures.walk rows).0)
+    (λ rows. (Grows-wait c.args.self.now c.wait.new.self c.args.place _ (omega (arith, low, c.requires.sorting.waiting_len))
+    c.wait.ensures.walk rows).0)
     c.wait.ensures.rows
 
 pub returns-then-edge-row-clause-settled : goal.returns-then-edge-row-clause-settled
@@ -74,8 +81,11 @@ returns-else-edge-row-clause-sorting c =
     let within : place < length graph = omega (arith, length-map c.args.graph.now (λ vec. vec.items)) in
     let passed : Sorter = record { walk = s.walk; passed = with_item s.passed place edge; waiting = s.waiting } in
     let sorting : IsSorting graph passed =
-    IsSorting-pass graph s passed place c.index.result.now edge c.as_slice-row.result.now c.requires.sorting within row c.index.ensures c.first_unseen-edge.ensures.seen refl refl refl in
-    let stands : get_or passed.passed.items place 0 ≡ edge = get_or-set_same s.passed.items place edge 0 (omega (arith, c.requires.sorting.passed_len)) in
+    IsSorting-pass graph s passed place c.index.result.now edge c.as_slice-row.result.now c.requires.sorting within row
+    c.index.ensures c.first_unseen-edge.ensures.seen refl refl refl in
+    let stands : get_or passed.passed.items place 0 ≡ edge =
+    get_or-set_same s.passed.items place edge 0 (omega (arith, c.requires.sorting.passed_len)) in
     let whole : length (get_or graph place []) ≤ get_or passed.passed.items place 0 = omega (arith, ap length row, stands) in
     OnOk-both c.visit.result
-    (λ marks adds. IsSorting-visit graph passed _ place sorting marks adds c.visit.ensures.count refl refl whole) c.visit.ensures.marks c.visit.ensures.adds
+    (λ marks adds. IsSorting-visit graph passed _ place sorting marks adds c.visit.ensures.count refl refl whole)
+    c.visit.ensures.marks c.visit.ensures.adds

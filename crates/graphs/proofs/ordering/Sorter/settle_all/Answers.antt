@@ -20,9 +20,12 @@ loop-place-preserved c =
         | inl early ↦ IsSettled-grows graph start.walk.seen.items before _ q c.in_ok-settle.ensures.grows (c.loop-place.invariant.2 q early)
         | inr here ↦
             subst (λ p. IsSettled graph start.walk.seen.items c.settle.new.self p) here
-            (IsSettled-fewer graph before.walk.seen.items start.walk.seen.items c.settle.new.self _ (λ b. Grows-keeps start before b c.loop-place.invariant.1) c.in_ok-settle.ensures.settled)
+            (IsSettled-fewer graph before.walk.seen.items start.walk.seen.items c.settle.new.self _
+            (λ b. Grows-keeps start before b c.loop-place.invariant.1) c.in_ok-settle.ensures.settled)
       ],
     )
 
 pub returns-clause-settled : goal.returns-clause-settled
-returns-clause-settled c = λ q h. c.loop-place.invariant.2 q (subst (λ ys. Contains ys q) (sym (take_all c.loop-place.place-index c.args.places.now c.loop-place-test.false)) h)
+returns-clause-settled c =
+    λ q h. c.loop-place.invariant.2 q (subst (λ ys. Contains ys q)
+    (sym (take_all c.loop-place.place-index c.args.places.now c.loop-place-test.false)) h)

@@ -6,7 +6,8 @@ use Rattle.op_pack.proofs.reading.Unread.next.Goals as goal
 
 pub returns-then-self-eq0-clause-is : goal.returns-then-self-eq0-clause-is
 returns-then-self-eq0-clause-is c =
-    ap (λ room. read_on c.args.self.positions.now room c.args.self.number) c.if-self-eq0.true ∙ read_on-full c.args.self.positions.now c.args.self.number
+    ap (λ room. read_on c.args.self.positions.now room c.args.self.number) c.if-self-eq0.true
+    ∙ read_on-full c.args.self.positions.now c.args.self.number
 
 pub returns-then-digit-lt-PUSH-clause-is : goal.returns-then-digit-lt-PUSH-clause-is
 returns-then-digit-lt-PUSH-clause-is c =
@@ -14,7 +15,8 @@ returns-then-digit-lt-PUSH-clause-is c =
     let n : ℕ = 10 * length c.args.self.positions.now + (c.args.self.room - 1) + 1 in
     let falls : size_of c.args.self ≡ n = omega arith in
     IsNext-along _ _ n _ c.after_plain.result
-    (read ∙ ap (λ item. before item (go_on c.args.self.positions.now (c.args.self.room - 1) (c.args.self.number / 128))) (sym c.plain_digit.ensures.is)) falls c.after_plain.ensures.is
+    (read ∙ ap (λ item. before item (go_on c.args.self.positions.now (c.args.self.room - 1) (c.args.self.number / 128)))
+    (sym c.plain_digit.ensures.is)) falls c.after_plain.ensures.is
 
 pub returns-then-digit-eq-PUSH-clause-is : goal.returns-then-digit-eq-PUSH-clause-is
 returns-then-digit-eq-PUSH-clause-is c =

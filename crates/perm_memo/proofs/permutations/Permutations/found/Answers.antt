@@ -12,5 +12,6 @@ returns-then-eq c =
     let first : get_or states 0 [] ≡ c.args.state.now = (bytes_decides _ _).0 (sym c.eq.ensures ∙ c.if-eq.true) in
     let found = c.in_ok-states.ensures.lookup in
     let are : AreRounds constants states =
-    subst (AreRounds constants) (sym found.1) (All-get_or (AreRounds constants) _ c.in_ok-get.field-0.now _ found.3.0 (rw c.deref.ensures.value c.self.invariant)) in
+    subst (AreRounds constants) (sym found.1)
+    (All-get_or (AreRounds constants) _ c.in_ok-get.field-0.now _ found.3.0 (rw c.deref.ensures.value c.self.invariant)) in
     are ∙ ap₂ round_states c.self.view_is first

@@ -16,10 +16,12 @@ returns-in_default-clause-read c =
 pub returns-in_default-read_decimal-clause-read : goal.returns-in_default-read_decimal-clause-read
 returns-in_default-read_decimal-clause-read c =
     let lines = c.args.self.now in
-    line_wrong lines.line lines.rest.now _ _ (sym c.is_empty.ensures ∙ c.if-is_empty.false) c.in-Some.ensures.is c.in_default-read_decimal.ensures.value
+    line_wrong lines.line lines.rest.now _ _ (sym c.is_empty.ensures ∙ c.if-is_empty.false) c.in-Some.ensures.is
+    c.in_default-read_decimal.ensures.value
     ∙ ap Err (sym c.wrong-in_default-read_decimal.ensures)
 
 pub returns-clause-read : goal.returns-clause-read
 returns-clause-read c =
     let lines = c.args.self.now in
-    line_right lines.line lines.rest.now _ _ c.in-Some-read_decimal.element (sym c.is_empty.ensures ∙ c.if-is_empty.false) c.in-Some.ensures.is c.in-Some-read_decimal.ensures.value
+    line_right lines.line lines.rest.now _ _ c.in-Some-read_decimal.element (sym c.is_empty.ensures ∙ c.if-is_empty.false)
+    c.in-Some.ensures.is c.in-Some-read_decimal.ensures.value

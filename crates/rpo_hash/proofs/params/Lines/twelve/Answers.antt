@@ -10,7 +10,8 @@ loop-i-init c = record { read = element_lines-zero _ _; line = omega arith; size
 pub returns-in_err-elements-clause-read : goal.returns-in_err-elements-clause-read
 returns-in_err-elements-clause-read c =
     let p = err_from_is_err_and c.from_residual.result c.from_residual.ensures.1 in
-    rw (p.1, p.2) (line_stop c.loop-i.i _ _ 12 _ _ _ _ c.loop-i.invariant.read c.loop-i.invariant.line c.in_err-elements.ensures.read c.loop-i-test.true)
+    rw (p.1, p.2) (line_stop c.loop-i.i _ _ 12 _ _ _ _ c.loop-i.invariant.read c.loop-i.invariant.line
+    c.in_err-elements.ensures.read c.loop-i-test.true)
 
 pub loop-i-preserved : goal.loop-i-preserved
 loop-i-preserved c =

@@ -35,11 +35,13 @@ pub returns-in_err-end-clause-refused : goal.returns-in_err-end-clause-refused
 returns-in_err-end-clause-refused c =
     let p = err_from_is_err_and c.from_residual-in_err-end.result c.from_residual-in_err-end.ensures.1 in
     rw (p.1, p.2)
-    (read_all c.loop-k.k c.loop-k.lines.line _ _ _ _ _ c.loop-k.invariant.read (omega arith) c.loop-k.invariant.first_size c.loop-k.invariant.second_size (omega arith) c.in_err-end.ensures)
+    (read_all c.loop-k.k c.loop-k.lines.line _ _ _ _ _ c.loop-k.invariant.read (omega arith) c.loop-k.invariant.first_size
+    c.loop-k.invariant.second_size (omega arith) c.in_err-end.ensures)
 
 pub returns-clause-value : goal.returns-clause-value
 returns-clause-value c =
-    read_all c.loop-k.k c.loop-k.lines.line _ _ _ _ _ c.loop-k.invariant.read (omega arith) c.loop-k.invariant.first_size c.loop-k.invariant.second_size (omega arith) c.in_ok-end.ensures
+    read_all c.loop-k.k c.loop-k.lines.line _ _ _ _ _ c.loop-k.invariant.read (omega arith) c.loop-k.invariant.first_size
+    c.loop-k.invariant.second_size (omega arith) c.in_ok-end.ensures
 
 pub returns-clause-count : goal.returns-clause-count
 returns-clause-count c =

@@ -23,14 +23,35 @@ returns-in-Err-clause-err c =
     let bytes = c.args.bytes.now in
     let e = c.in-Err.error in
     elim c.if-left-gt0.branch [
-      | then-left-gt0 w ↦ main_stops p bytes e (told (Refused 65 p.at bytes p.left.main) _ w.take_rows-taken.result e w.taken-is c.in-Err.is w.take_rows-taken.ensures.err)
-      | else-left-gt0+then-left-gt0-2 w ↦ range_stops p bytes e w.if-left-gt0.false (told (Refused 2 p.at bytes p.left.range) _ w.take_rows.result e w.taken-is c.in-Err.is w.take_rows.ensures.err)
-      | else-left-gt0+else-left-gt0-2+then-left-gt0-3 w ↦ hasher_stops p bytes e w.if-left-gt0.false w.if-left-gt0-2.false (told (Refused 15 p.at bytes p.left.hasher) _ w.take_rows-then-left-gt0-3.result e w.taken-is c.in-Err.is w.take_rows-then-left-gt0-3.ensures.err)
-      | else-left-gt0+else-left-gt0-2+else-left-gt0-3+then-left-gt0-4 w ↦ bitwise_stops p bytes e w.if-left-gt0.false w.if-left-gt0-2.false w.if-left-gt0-3.false (told (Refused 12 p.at bytes p.left.bitwise) _ w.take_rows-then-left-gt0-4.result e w.taken-is c.in-Err.is w.take_rows-then-left-gt0-4.ensures.err)
-      | else-left-gt0+else-left-gt0-2+else-left-gt0-3+else-left-gt0-4+then-left-gt0-5 w ↦ memory_stops p bytes e w.if-left-gt0.false w.if-left-gt0-2.false w.if-left-gt0-3.false w.if-left-gt0-4.false (told (Refused 14 p.at bytes p.left.memory) _ w.take_rows-then-left-gt0-5.result e w.taken-is c.in-Err.is w.take_rows-then-left-gt0-5.ensures.err)
-      | else-left-gt0+else-left-gt0-2+else-left-gt0-3+else-left-gt0-4+else-left-gt0-5+then-left-gt0-6 w ↦ kernel_stops p bytes e w.if-left-gt0.false w.if-left-gt0-2.false w.if-left-gt0-3.false w.if-left-gt0-4.false w.if-left-gt0-5.false (told (Refused 5 p.at bytes p.left.kernel) _ w.take_rows-then-left-gt0-6.result e w.taken-is c.in-Err.is w.take_rows-then-left-gt0-6.ensures.err)
-      | else-left-gt0+else-left-gt0-2+else-left-gt0-3+else-left-gt0-4+else-left-gt0-5+else-left-gt0-6+then-left-gt0-7 w ↦ left_stops p bytes e w.if-left-gt0.false w.if-left-gt0-2.false w.if-left-gt0-3.false w.if-left-gt0-4.false w.if-left-gt0-5.false w.if-left-gt0-6.false (told (Refused 1 p.at bytes p.left.left) _ w.take_rows-then-left-gt0-7.result e w.taken-is c.in-Err.is w.take_rows-then-left-gt0-7.ensures.err)
+      | then-left-gt0 w ↦
+          main_stops p bytes e (told (Refused 65 p.at bytes p.left.main) _ w.take_rows-taken.result e w.taken-is c.in-Err.is
+          w.take_rows-taken.ensures.err)
+      | else-left-gt0+then-left-gt0-2 w ↦
+          range_stops p bytes e w.if-left-gt0.false
+          (told (Refused 2 p.at bytes p.left.range) _ w.take_rows.result e w.taken-is c.in-Err.is w.take_rows.ensures.err)
+      | else-left-gt0+else-left-gt0-2+then-left-gt0-3 w ↦
+          hasher_stops p bytes e w.if-left-gt0.false w.if-left-gt0-2.false
+          (told (Refused 15 p.at bytes p.left.hasher) _ w.take_rows-then-left-gt0-3.result e w.taken-is c.in-Err.is
+          w.take_rows-then-left-gt0-3.ensures.err)
+      | else-left-gt0+else-left-gt0-2+else-left-gt0-3+then-left-gt0-4 w ↦
+          bitwise_stops p bytes e w.if-left-gt0.false w.if-left-gt0-2.false w.if-left-gt0-3.false
+          (told (Refused 12 p.at bytes p.left.bitwise) _ w.take_rows-then-left-gt0-4.result e w.taken-is c.in-Err.is
+          w.take_rows-then-left-gt0-4.ensures.err)
+      | else-left-gt0+else-left-gt0-2+else-left-gt0-3+else-left-gt0-4+then-left-gt0-5 w ↦
+          memory_stops p bytes e w.if-left-gt0.false w.if-left-gt0-2.false w.if-left-gt0-3.false w.if-left-gt0-4.false
+          (told (Refused 14 p.at bytes p.left.memory) _ w.take_rows-then-left-gt0-5.result e w.taken-is c.in-Err.is
+          w.take_rows-then-left-gt0-5.ensures.err)
+      | else-left-gt0+else-left-gt0-2+else-left-gt0-3+else-left-gt0-4+else-left-gt0-5+then-left-gt0-6 w ↦
+          kernel_stops p bytes e w.if-left-gt0.false w.if-left-gt0-2.false w.if-left-gt0-3.false w.if-left-gt0-4.false
+          w.if-left-gt0-5.false (told (Refused 5 p.at bytes p.left.kernel) _ w.take_rows-then-left-gt0-6.result e w.taken-is
+          c.in-Err.is w.take_rows-then-left-gt0-6.ensures.err)
+      | else-left-gt0+else-left-gt0-2+else-left-gt0-3+else-left-gt0-4+else-left-gt0-5+else-left-gt0-6+then-left-gt0-7 w ↦
+          left_stops p bytes e w.if-left-gt0.false w.if-left-gt0-2.false w.if-left-gt0-3.false w.if-left-gt0-4.false
+          w.if-left-gt0-5.false w.if-left-gt0-6.false
+          (told (Refused 1 p.at bytes p.left.left) _ w.take_rows-then-left-gt0-7.result e w.taken-is c.in-Err.is
+          w.take_rows-then-left-gt0-7.ensures.err)
       | else-left-gt0+else-left-gt0-2+else-left-gt0-3+else-left-gt0-4+else-left-gt0-5+else-left-gt0-6+else-left-gt0-7 w ↦ λ all stands.
           subst (λ (f : FileError). Gives (Err f) (rest_of all p)) (sym w.bad.ensures ∙ same_error _ e w.bad.result w.taken-is c.in-Err.is)
-          (extra p bytes w.if-left-gt0.false w.if-left-gt0-2.false w.if-left-gt0-3.false w.if-left-gt0-4.false w.if-left-gt0-5.false w.if-left-gt0-6.false w.if-left-gt0-7.false (one_at_least p.left (length bytes) c.requires.enough) all stands)
+          (extra p bytes w.if-left-gt0.false w.if-left-gt0-2.false w.if-left-gt0-3.false w.if-left-gt0-4.false w.if-left-gt0-5.false
+          w.if-left-gt0-6.false w.if-left-gt0-7.false (one_at_least p.left (length bytes) c.requires.enough) all stands)
     ]

@@ -22,7 +22,8 @@ returns-in-None-Some c =
 pub returns-in-Err : goal.returns-in-Err
 returns-in-Err c = λ bytes taken.
     let all =
-    carried_all c.args.self bytes (ap (λ (r : Reader). r.stop) (sym c.self.view_is) ∙ c.in-None-None.is-0) (ap (λ (r : Reader). r.part) (sym c.self.view_is) ∙ c.in-None-None.is-1) taken
+    carried_all c.args.self bytes (ap (λ (r : Reader). r.stop) (sym c.self.view_is) ∙ c.in-None-None.is-0)
+    (ap (λ (r : Reader). r.part) (sym c.self.view_is) ∙ c.in-None-None.is-1) taken
     ∙ ap (λ (r : Reader). r.carried) (sym c.self.view_is) ∙ sym c.as_slice-in-None-None.ensures.value in
     subst (λ (bs : List ℕ). Gives {A = Trace} (Err c.in-Err.error) (trace_of bs)) (sym all)
     (head_bad c.as_slice-in-None-None.result.now c.in-Err.error (sym c.in-Err.is ∙ c.read_head.ensures.is))

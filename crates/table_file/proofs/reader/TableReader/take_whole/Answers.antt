@@ -28,7 +28,8 @@ loop-self-preserved c =
       read = λ before taken.
           read_further c.self.inside.stop _ c.self.inside.part _ before piece at c.go_on-at.result c.loop-self-test.ensures
           (subst (λ (r : Reader). HasRead r.stop r.part (before ++ take at piece)) (sym c.self.view_is) (so_far.read before taken))
-          (λ done on. subst (λ (bs : List ℕ). HasRead c.go_on-at.new.stop c.go_on-at.new.part (done ++ take c.go_on-at.result bs)) rest (further.read done on));
+          (λ done on. subst (λ (bs : List ℕ). HasRead c.go_on-at.new.stop c.go_on-at.new.part (done ++ take c.go_on-at.result bs))
+          rest (further.read done on));
     }
 
 pub returns-then-is_none : goal.returns-then-is_none
@@ -51,5 +52,6 @@ returns-else-is_none c = record {
       let front = before ++ take at piece in
       let is : is_some reader.stop ≡ true = subst (λ (r : Reader). is_some r.stop ≡ true) c.self-2.view_is c.if-is_none.ensures in
       taken_both reader before piece at
-      (taken_so_far reader (front ++ drop at piece) c.loop-self.invariant.empty (stays reader.stop reader.part front (drop at piece) is (c.loop-self.invariant.read before taken)));
+      (taken_so_far reader (front ++ drop at piece) c.loop-self.invariant.empty
+      (stays reader.stop reader.part front (drop at piece) is (c.loop-self.invariant.read before taken)));
 }

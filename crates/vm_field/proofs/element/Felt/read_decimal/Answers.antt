@@ -47,7 +47,9 @@ returns-then-eq c =
     let text_is : text ≡ decimal number =
     sym (sym c.format.ensures.text ∙ (bytes_eq-Decides _ _).0 (sym c.eq.ensures ∙ c.if-eq.true) ∙ c.in-Ok.ensures.cases.0) in
     let value : c.ok.result ≡ element_of text =
-    c.ok.ensures.value ∙ c.try_from_u64.ensures.element ∙ sym (ap element_of text_is ∙ element_of-any_decimal number (omega (arith, c.in-Ok-parse.ensures.value.0.0.1, c.in-Ok-parse.ensures.value.0.1))) in
+    c.ok.ensures.value ∙ c.try_from_u64.ensures.element
+    ∙ sym (ap element_of text_is ∙ element_of-any_decimal number
+    (omega (arith, c.in-Ok-parse.ensures.value.0.0.1, c.in-Ok-parse.ensures.value.0.1))) in
     record {
       value = value;
       text = decimal_read text c.ok.result value;
@@ -63,7 +65,8 @@ returns-else-eq c =
     λ n below is.
     let parsed = parse-decimal 64 n _ _ (omega arith) (omega arith) (c.in-Ok.ensures.cases.0 ∙ is) c.parse.ensures.value.0 in
     let same : number ≡ n = cc in
-    false≢true (sym c.if-eq.false ∙ c.eq.ensures ∙ (bytes_eq-Decides _ _).1 (c.format.ensures.text ∙ ap decimal same ∙ sym is ∙ sym c.in-Ok.ensures.cases.0)) in
+    false≢true (sym c.if-eq.false ∙ c.eq.ensures
+    ∙ (bytes_eq-Decides _ _).1 (c.format.ensures.text ∙ ap decimal same ∙ sym is ∙ sym c.in-Ok.ensures.cases.0)) in
     let value = sym (element_of-none text other) in
     record {
       value = value;

@@ -9,4 +9,5 @@ returns c =
     (c.copy_from_slice-2.ensures.after ∙ c.to_be_bytes-2.ensures) (c.copy_from_slice-3.ensures.after ∙ c.to_be_bytes-3.ensures)
     (c.copy_from_slice-4.ensures.after ∙ c.to_be_bytes-4.ensures) refl
     ∙ ap word_hex
-    (sym (four_elements c.self.inside.0 _ _ _ _ _ _ _ _ c.self.invariant c.value.ensures.is c.value-2.ensures.is c.value-3.ensures.is c.value-4.ensures.is) ∙ c.self.view_is)
+    (sym (four_elements c.self.inside.0 _ _ _ _ _ _ _ _ c.self.invariant c.value.ensures.is c.value-2.ensures.is
+    c.value-3.ensures.is c.value-4.ensures.is) ∙ c.self.view_is)

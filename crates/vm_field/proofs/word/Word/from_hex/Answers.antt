@@ -11,16 +11,32 @@ returns-in_err-first c =
 
 pub returns-in_err-second : goal.returns-in_err-second
 returns-in_err-second c =
-    record { value = c.from_residual-in_err-second.ensures ∙ word_of_hex-parts c.args.text.now (Some c.in_ok-first.first) None _ _ (omega arith) c.in_ok-first.ensures c.in_err-second.ensures refl refl }
+    record {
+      value = c.from_residual-in_err-second.ensures
+          ∙ word_of_hex-parts c.args.text.now (Some c.in_ok-first.first) None _ _ (omega arith) c.in_ok-first.ensures
+          c.in_err-second.ensures refl refl;
+    }
 
 pub returns : goal.returns
 returns c =
-    record { value = word_of_hex-parts c.args.text.now (Some c.in_ok-first.first) (Some c.in_ok-second.second) (Some c.in_ok-third.third) (Some c.in_ok-fourth.fourth) (omega arith) c.in_ok-first.ensures c.in_ok-second.ensures c.in_ok-third.ensures c.in_ok-fourth.ensures }
+    record {
+      value = word_of_hex-parts c.args.text.now (Some c.in_ok-first.first) (Some c.in_ok-second.second)
+          (Some c.in_ok-third.third) (Some c.in_ok-fourth.fourth) (omega arith) c.in_ok-first.ensures c.in_ok-second.ensures
+          c.in_ok-third.ensures c.in_ok-fourth.ensures;
+    }
 
 pub returns-in_err-third : goal.returns-in_err-third
 returns-in_err-third c =
-    record { value = c.from_residual-in_err-third.ensures ∙ word_of_hex-parts c.args.text.now (Some c.in_ok-first.first) (Some c.in_ok-second.second) None _ (omega arith) c.in_ok-first.ensures c.in_ok-second.ensures c.in_err-third.ensures refl }
+    record {
+      value = c.from_residual-in_err-third.ensures
+          ∙ word_of_hex-parts c.args.text.now (Some c.in_ok-first.first) (Some c.in_ok-second.second) None _ (omega arith)
+          c.in_ok-first.ensures c.in_ok-second.ensures c.in_err-third.ensures refl;
+    }
 
 pub returns-in_err-fourth : goal.returns-in_err-fourth
 returns-in_err-fourth c =
-    record { value = c.from_residual-in_err-fourth.ensures ∙ word_of_hex-parts c.args.text.now (Some c.in_ok-first.first) (Some c.in_ok-second.second) (Some c.in_ok-third.third) None (omega arith) c.in_ok-first.ensures c.in_ok-second.ensures c.in_ok-third.ensures c.in_err-fourth.ensures }
+    record {
+      value = c.from_residual-in_err-fourth.ensures
+          ∙ word_of_hex-parts c.args.text.now (Some c.in_ok-first.first) (Some c.in_ok-second.second) (Some c.in_ok-third.third) None
+          (omega arith) c.in_ok-first.ensures c.in_ok-second.ensures c.in_ok-third.ensures c.in_err-fourth.ensures;
+    }

@@ -6,4 +6,6 @@ pub returns-clause-aside : goal.returns-clause-aside
 returns-clause-aside c = rw c.replace.ensures.value (hidden-is _ _ c.self.invariant.0 ∙ ap (drop 16) c.self.view_is)
 
 pub returns-clause-left : goal.returns-clause-left
-returns-clause-left c = rw (c.replace.ensures.after, c.new-none.ensures.items) (append-nil _ ∙ visible-is _ _ c.self.invariant.0 ∙ ap (take 16) c.self.view_is)
+returns-clause-left c =
+    rw (c.replace.ensures.after, c.new-none.ensures.items)
+    (append-nil _ ∙ visible-is _ _ c.self.invariant.0 ∙ ap (take 16) c.self.view_is)
