@@ -10,6 +10,10 @@ use Rattle.vm_ops.specs.declared.op.Shift.{Shift}
 use Rattle.vm_ops.specs.declared.op.Shift.TheVariants.{Left, Stay, Right}
 use Rattle.vm_table.specs.MainColumns.{b}
 
+-- the seven bits of the operation are bits
+abbrev pub HasBits : List ℕ → Type 0
+HasBits row = (j : ℕ) → j < 7 → b row j < 2
+
 -- the bit itself where the digit is 1, else 1 less the bit
 abbrev pub factor : ℕ → ℕ → ℕ
 factor digit bit = if digit == 1 then bit else 1 ⊟ bit

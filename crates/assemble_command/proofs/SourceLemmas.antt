@@ -6,14 +6,14 @@ use Rattle.masm_link.specs.declared.refusal.AsmError.TheVariants.{Bad}
 use Rattle.commands.specs.declared.status.Status.TheVariants as status
 use Rattle.command_ends.specs.declared.outcome.Outcome.{Outcome}
 use Rattle.commands.specs.Steps.{SourceFile, assembly}
-use Rattle.command_ends.specs.Outcomes.{ComesTo, Says}
+use Rattle.command_ends.specs.Outcomes.{ComesTo, SaysStatus}
 use Rattle.commands.specs.SourceEnds.{AssemblesFiles, name_of_place, source_line}
 use Rattle.commands.specs.AssembleEnds.{program_lines, assembled, refused}
 use Rattle.command_ends.proofs.ServingLemmas.{says_ends}
 
 -- a program that is printed
 pub assembly_ends : (constants : List ℕ) (source : SourceFile) (kernel : Option SourceFile) (program : Program) (o : Outcome)
-    → AssemblesFiles constants source kernel (Ok program) → Says o status.Ok (program_lines constants program)
+    → AssemblesFiles constants source kernel (Ok program) → SaysStatus o status.Ok (program_lines constants program)
     → ComesTo (assembly constants source kernel) o
 assembly_ends constants source kernel program o is says =
     says_ends (assembly constants source kernel) status.Ok (program_lines constants program) o refl (assembled program is) says
@@ -22,7 +22,7 @@ assembly_ends constants source kernel program o is says =
 pub refused_assembly_ends : (constants : List ℕ) (source : SourceFile) (kernel : Option SourceFile)
     (in_kernel : Bool) (line column : ℕ) (cause : AsmCause) (o : Outcome)
     → AssemblesFiles constants source kernel (Err (Bad in_kernel line column cause))
-    → Says o status.Source (source_line (name_of_place in_kernel source kernel) line column cause) → ComesTo (assembly constants source kernel) o
+    → SaysStatus o status.Source (source_line (name_of_place in_kernel source kernel) line column cause) → ComesTo (assembly constants source kernel) o
 refused_assembly_ends constants source kernel in_kernel line column cause o is says =
     says_ends (assembly constants source kernel) status.Source (source_line (name_of_place in_kernel source kernel) line column cause) o refl
     (refused in_kernel line column cause is) says

@@ -4,7 +4,7 @@ ghost use Rattle.std.specs.List.{flat_map};
 ghost use Rattle.rpo_hash.specs.Constants.{constants_of};
 ghost use Rattle.commands.specs.AssembleEnds.{export_line, program_lines};
 ghost use Rattle.commands.specs.Commands.{assemble_steps, assembly_steps, with_kernel};
-ghost use Rattle.command_ends.specs.Outcomes.{ComesTo, EndsIn, Says};
+ghost use Rattle.command_ends.specs.Outcomes.{ComesTo, EndsIn, SaysStatus};
 ghost use Rattle.source_files.specs.Sources.{file_of};
 ghost use Rattle.commands.specs.Steps.{assembly, ending};
 
@@ -127,7 +127,7 @@ fn answer(
 
 #[tactic(auto, using(command_ends::proofs::OutcomeLemmas::says_line))]
 fn assembled(alloc: Global, constants: &Params, program: &Program) -> Outcome
-    ensures { Says result Status.Ok (program_lines (constants_of constants.now) program.now) }
+    ensures { SaysStatus result Status.Ok (program_lines (constants_of constants.now) program.now) }
 {
     answered(Status::Ok, program_text(alloc, constants, program))
 }

@@ -14,7 +14,7 @@ use Rattle.air_kit.specs.Requests.{bit_given}
 use Rattle.hash_rows.proofs.BlockLemmas.{eight}
 use Rattle.hash_rows.proofs.Totals.{total-eight, total-same}
 use Rattle.bit_rows.specs.BitRows.{bitwise, bit_row, rows_before, rows_of}
-use Rattle.bit_rows.specs.BitTables.{HasWords, AreWords, GivesOps, IsBitwise}
+use Rattle.bit_rows.specs.BitTables.{HasWords, HaveWords, GivesOps, IsBitwise}
 
 -- the tuple of an operation
 abbrev pub tuple_of : BitOp → List ℕ
@@ -118,7 +118,7 @@ one_of_two : (k l : ℕ) → 0 < k + l → (0 < k) ⊎ (0 < l)
 one_of_two zero l h = inr (omega (arith, h))
 one_of_two (suc k) l h = inl (omega arith)
 
-pub given_by_one : (ops : List BitOp) (u : List ℕ) → AreWords ops → 0 < counted (map bit_given ops) u → IsGiven u
+pub given_by_one : (ops : List BitOp) (u : List ℕ) → HaveWords ops → 0 < counted (map bit_given ops) u → IsGiven u
 given_by_one [] u words h = absurd (let e = counted-none u in omega (arith, e, h))
 given_by_one (p ∷ ops) u words h =
     elim (one_of_two (counted (once (tuple_of p) ∷ []) u) (counted (map bit_given ops) u) (let e = head_counts p ops u in omega (arith, e, h))) [

@@ -8,7 +8,7 @@ use Rattle.bit_rows.specs.BitRows.{bitwise, bit_row}
 use Rattle.bit_rows.proofs.Nibbles.{AreBits, SplitsAs, nibble, nibble-is, splits_as, bit_result-is, bitwise-bits, bitwise-splits}
 
 -- the kind and the eight bits of a row are bits
-pub record HasBits (row : List ℕ) : Type 0 where
+pub record HasRowBits (row : List ℕ) : Type 0 where
   pub kind : op row < 2
   pub first : AreBits (a0 row) (a1 row) (a2 row) (a3 row)
   pub second : AreBits (b0 row) (b1 row) (b2 row) (b3 row)
@@ -24,11 +24,11 @@ abbrev pub result_bits : Bool → List ℕ → ℕ
 result_bits xor row =
     nibble (bitwise xor (a0 row) (b0 row)) (bitwise xor (a1 row) (b1 row)) (bitwise xor (a2 row) (b2 row)) (bitwise xor (a3 row) (b3 row))
 
-pub nibble_a-is : (row : List ℕ) → HasBits row → nibble_a row ≡ first_bits row
+pub nibble_a-is : (row : List ℕ) → HasRowBits row → nibble_a row ≡ first_bits row
 unfolding nibble_a
 nibble_a-is row bits = nibble-is (a0 row) (a1 row) (a2 row) (a3 row) bits.first
 
-pub nibble_b-is : (row : List ℕ) → HasBits row → nibble_b row ≡ second_bits row
+pub nibble_b-is : (row : List ℕ) → HasRowBits row → nibble_b row ≡ second_bits row
 unfolding nibble_b
 nibble_b-is row bits = nibble-is (b0 row) (b1 row) (b2 row) (b3 row) bits.second
 
@@ -36,12 +36,12 @@ sum_same : (r0 r1 r2 r3 s0 s1 s2 s3 : ℕ) → r0 ≡ s0 → r1 ≡ s1 → r2 �
     → r0 ⊞ 2 ⊠ r1 ⊞ 4 ⊠ r2 ⊞ 8 ⊠ r3 ≡ s0 ⊞ 2 ⊠ s1 ⊞ 4 ⊠ s2 ⊞ 8 ⊠ s3
 sum_same r0 r1 r2 r3 s0 s1 s2 s3 e0 e1 e2 e3 = rw (e0, e1, e2, e3) refl
 
-pub result_are_bits : (xor : Bool) (row : List ℕ) → HasBits row
+pub result_are_bits : (xor : Bool) (row : List ℕ) → HasRowBits row
     → AreBits (bitwise xor (a0 row) (b0 row)) (bitwise xor (a1 row) (b1 row)) (bitwise xor (a2 row) (b2 row)) (bitwise xor (a3 row) (b3 row))
 result_are_bits xor row bits =
     bitwise-bits xor (a0 row) (a1 row) (a2 row) (a3 row) (b0 row) (b1 row) (b2 row) (b3 row) bits.first bits.second
 
-pub nibble_z-is : (xor : Bool) (row : List ℕ) → HasBits row → op row ≡ bit_of xor → nibble_z row ≡ result_bits xor row
+pub nibble_z-is : (xor : Bool) (row : List ℕ) → HasRowBits row → op row ≡ bit_of xor → nibble_z row ≡ result_bits xor row
 unfolding nibble_z
 nibble_z-is xor row bits is =
     sum_same _ _ _ _ (bitwise xor (a0 row) (b0 row)) (bitwise xor (a1 row) (b1 row)) (bitwise xor (a2 row) (b2 row)) (bitwise xor (a3 row) (b3 row))
@@ -71,7 +71,7 @@ pub record IsBehind (xor : Bool) (u v : ℕ) (row : List ℕ) : Type 0 where
   pub second_is : b row ≡ 16 * v + second_bits row
   pub result_is : z row ≡ 16 * bitwise xor u v + result_bits xor row
 
-pub row_behind : (xor : Bool) (u v : ℕ) (row : List ℕ) → length row ≡ 12 → HasBits row → IsBehind xor u v row
+pub row_behind : (xor : Bool) (u v : ℕ) (row : List ℕ) → length row ≡ 12 → HasRowBits row → IsBehind xor u v row
     → row ≡ bit_row xor (a row) (b row)
 unfolding bit_row
 row_behind xor u v row len bits is =

@@ -12,7 +12,7 @@ use Rattle.hash_rows.proofs.BlockLemmas.{eight, first_of}
 use Rattle.hash_rows.proofs.RowsAreZero.{bit_again}
 use Rattle.hash_rows.proofs.ZeroLemmas.{AllZero, CellsBelow}
 use Rattle.bit_rows.specs.BitRows.{bit_row, row_without, rows_before, rows_of, op_of, ops_in}
-use Rattle.bit_rows.specs.BitTables.{HasWords, AreWords, IsZero}
+use Rattle.bit_rows.specs.BitTables.{HasWords, HaveWords, BitwiseIsZero}
 use Rattle.bit_rows.proofs.Nibbles.{bitwise-below}
 use Rattle.bit_rows.proofs.EightRows.{EightZero, ZeroFrom, from_eight, zero_behind}
 use Rattle.bit_rows.proofs.ValueLemmas.{inside_zero, last_zero}
@@ -49,7 +49,7 @@ eight_zero p next words = record {
   z7 = last_zero p.xor p.a p.b next;
 }
 
-rows_zero : (i : ℕ) (ops : List BitOp) → i % 8 ≡ 0 → AreWords ops → ZeroFrom i (rows_of ops)
+rows_zero : (i : ℕ) (ops : List BitOp) → i % 8 ≡ 0 → HaveWords ops → ZeroFrom i (rows_of ops)
 unfolding ZeroFrom rows_of rows_before
 rows_zero i [] start words = tt
 rows_zero i (p ∷ ops) start words =
@@ -97,7 +97,7 @@ row_below xor u v hu hv (suc (suc (suc (suc (suc (suc (suc (suc (suc (suc (suc (
 with_row : (xor : Bool) (u v : ℕ) (rows : List (List ℕ)) → u < 2 ^ 32 → v < 2 ^ 32 → IsTable 12 rows → IsTable 12 (bit_row xor u v ∷ rows)
 with_row xor u v rows hu hv t = table_cons (bit_row xor u v) rows (row_wide xor u v) (row_below xor u v hu hv) t
 
-table_of : (ops : List BitOp) → AreWords ops → IsTable 12 (rows_of ops)
+table_of : (ops : List BitOp) → HaveWords ops → IsTable 12 (rows_of ops)
 unfolding rows_of rows_before row_without
 table_of [] words = record { wide = λ i h. absurd (omega arith); below = λ i k. lit< tt }
 table_of (p ∷ ops) words =
@@ -133,7 +133,7 @@ ops_again (p ∷ ops) = ap₂ (λ (q : BitOp) (qs : List BitOp). q ∷ qs) (op_a
 no_others : (k : ℕ) → k ≡ 0 + k
 no_others k = omega arith
 
-pub rows_are_zero : (ops : List BitOp) → AreWords ops → IsZero (rows_of ops)
+pub rows_are_zero : (ops : List BitOp) → HaveWords ops → BitwiseIsZero (rows_of ops)
 rows_are_zero ops words = record {
   table = table_of ops words;
   whole = let e = rows_of-size ops in omega (arith, e);

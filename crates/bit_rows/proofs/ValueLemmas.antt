@@ -11,7 +11,7 @@ use Rattle.vm_field.proofs.Elements.{index-zeros}
 use Rattle.hash_rows.proofs.ZeroLemmas.{AllZero}
 use Rattle.bit_rows.specs.BitRows.{bitwise, bit_row}
 use Rattle.bit_rows.proofs.Nibbles.{number_splits, bitwise-below, bitwise-none, bitwise-splits}
-use Rattle.bit_rows.proofs.RowLemmas.{HasBits, nibble_a-is, nibble_b-is, nibble_z-is}
+use Rattle.bit_rows.proofs.RowLemmas.{HasRowBits, nibble_a-is, nibble_b-is, nibble_z-is}
 
 -- sixteen zeros
 sixteen_zero : (c d e f g h i j k l m n o p q r : ℕ) → c ≡ 0 → d ≡ 0 → e ≡ 0 → f ≡ 0 → g ≡ 0 → h ≡ 0 → i ≡ 0 → j ≡ 0 → k ≡ 0 → l ≡ 0
@@ -27,7 +27,7 @@ kind_below : (xor : Bool) → bit_of xor < 2
 kind_below true = omega arith
 kind_below false = omega arith
 
-row_bits : (xor : Bool) (u v : ℕ) → HasBits (bit_row xor u v)
+row_bits : (xor : Bool) (u v : ℕ) → HasRowBits (bit_row xor u v)
 unfolding bit_row
 row_bits xor u v = record {
   kind = kind_below xor;
@@ -88,7 +88,7 @@ inside_zero begins xor s t u v hs ht us vt small =
     next : List ℕ
     next = bit_row xor s t
 
-    bits : HasBits row
+    bits : HasRowBits row
     bits = row_bits xor u v
 
     result_below : (m n : ℕ) → m < 2 ^ 32 → n < 2 ^ 32 → bitwise xor m n < prime
@@ -131,5 +131,5 @@ last_zero xor u v next =
     (bit_zero (v % 2) bits.second.at0) (bit_zero (v / 2 % 2) bits.second.at1) (bit_zero (v / 4 % 2) bits.second.at2)
     (bit_zero (v / 8 % 2) bits.second.at3) refl refl refl refl refl refl refl
   where
-    bits : HasBits (bit_row xor u v)
+    bits : HasRowBits (bit_row xor u v)
     bits = row_bits xor u v

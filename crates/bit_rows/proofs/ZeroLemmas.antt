@@ -10,10 +10,10 @@ use Rattle.hash_rows.proofs.RowLemmas.{bit_is}
 use Rattle.hash_rows.proofs.ZeroLemmas.{AllZero, CellsBelow}
 use Rattle.bit_rows.specs.BitRows.{bitwise, bit_row}
 use Rattle.bit_rows.proofs.Nibbles.{nibble-below, splits_as, bitwise-below, bitwise-none}
-use Rattle.bit_rows.proofs.RowLemmas.{HasBits, first_bits, second_bits, result_bits, nibble_a-is, nibble_b-is, nibble_z-is, result_are_bits, row_behind}
+use Rattle.bit_rows.proofs.RowLemmas.{HasRowBits, first_bits, second_bits, result_bits, nibble_a-is, nibble_b-is, nibble_z-is, result_are_bits, row_behind}
 
 pub has_bits : (begins inside : Bool) (row : List ℕ) (next : Option (List ℕ)) → CellsBelow row
-    → AllZero (bitwise_values_by begins inside row next) → HasBits row
+    → AllZero (bitwise_values_by begins inside row next) → HasRowBits row
 unfolding bitwise_values_by
 has_bits begins inside row next below zero_is = record {
   kind = bit_from_product (op row) (below 0) (zero_is 0);
@@ -32,24 +32,24 @@ has_bits begins inside row next below zero_is = record {
 }
 
 -- the four bits of a row are a number below 16
-first_below : (row : List ℕ) → HasBits row → first_bits row < 16
+first_below : (row : List ℕ) → HasRowBits row → first_bits row < 16
 first_below row bits = nibble-below (a0 row) (a1 row) (a2 row) (a3 row) bits.first
 
-second_below : (row : List ℕ) → HasBits row → second_bits row < 16
+second_below : (row : List ℕ) → HasRowBits row → second_bits row < 16
 second_below row bits = nibble-below (b0 row) (b1 row) (b2 row) (b3 row) bits.second
 
-result_below : (xor : Bool) (row : List ℕ) → HasBits row → result_bits xor row < 16
+result_below : (xor : Bool) (row : List ℕ) → HasRowBits row → result_bits xor row < 16
 result_below xor row bits = nibble-below _ _ _ _ (result_are_bits xor row bits)
 
 -- ---- a row of numbers of so many bits
 
-pub record Shows (k : ℕ) (row : List ℕ) : Type 0 where
+pub record ShowsBits (k : ℕ) (row : List ℕ) : Type 0 where
   pub kind : op row < 2
   pub first : a row < 2 ^ k
   pub second : b row < 2 ^ k
   pub row_is : row ≡ bit_row (op row == 1) (a row) (b row)
 
-shows_result : (k : ℕ) (row : List ℕ) → Shows k row → z row ≡ bitwise (op row == 1) (a row) (b row)
+shows_result : (k : ℕ) (row : List ℕ) → ShowsBits k row → z row ≡ bitwise (op row == 1) (a row) (b row)
 unfolding bit_row
 shows_result k row s = ap z s.row_is
 
@@ -64,7 +64,7 @@ own_number n p q below is small zero_is = same_from_sub n p below (omega arith) 
 
 -- the first of the eight
 pub first_shows : (inside : Bool) (row : List ℕ) (next : Option (List ℕ)) → length row ≡ 12 → CellsBelow row
-    → AllZero (bitwise_values_by true inside row next) → Shows 4 row
+    → AllZero (bitwise_values_by true inside row next) → ShowsBits 4 row
 unfolding bitwise_values_by
 first_shows inside row next len below zero_is = record {
   kind = bits.kind;
@@ -81,7 +81,7 @@ first_shows inside row next len below zero_is = record {
     xor : Bool
     xor = op row == 1
 
-    bits : HasBits row
+    bits : HasRowBits row
     bits = has_bits true inside row next below zero_is
 
     kind_is : op row ≡ bit_of xor
@@ -100,8 +100,8 @@ first_shows inside row next len below zero_is = record {
 
 -- ---- a further row
 
-pub record GoesOn (k : ℕ) (cur next : List ℕ) : Type 0 where
-  pub shows : Shows (k + 4) next
+pub record IsNextRow (k : ℕ) (cur next : List ℕ) : Type 0 where
+  pub shows : ShowsBits (k + 4) next
   pub kind_same : op cur ≡ op next
   pub first_is : a cur ≡ a next / 2 ^ 4
   pub second_is : b cur ≡ b next / 2 ^ 4
@@ -112,8 +112,8 @@ next_number y x p q below room is small zero_is = omega arith
 wider : (k y x q : ℕ) → x < 2 ^ k → q < 16 → y ≡ 16 * x + q → y < 2 ^ (k + 4)
 wider k y x q room small is = let e = pow-add 2 k 4 in omega (arith, e)
 
-pub goes_on : (k : ℕ) (begins : Bool) (cur next : List ℕ) → 2 ^ k ≤ 2 ^ 28 → length next ≡ 12 → CellsBelow next → HasBits next → Shows k cur
-    → AllZero (bitwise_values_by begins true cur (Some next)) → GoesOn k cur next
+pub goes_on : (k : ℕ) (begins : Bool) (cur next : List ℕ) → 2 ^ k ≤ 2 ^ 28 → length next ≡ 12 → CellsBelow next → HasRowBits next → ShowsBits k cur
+    → AllZero (bitwise_values_by begins true cur (Some next)) → IsNextRow k cur next
 unfolding bitwise_values_by
 goes_on k begins cur next room len below bits s zero_is = record {
   shows = record {

@@ -7,8 +7,8 @@ use Rattle.air_kit.specs.BitwiseValues.{bitwise_values}
 use Rattle.air_kit.specs.Places.{at_number}
 use Rattle.hash_rows.proofs.BlockLemmas.{eight, first_of}
 use Rattle.bit_rows.specs.BitRows.{bit_row, row_without, rows_before, rows_of, op_of, ops_in}
-use Rattle.bit_rows.specs.BitTables.{HasWords, AreRows, IsZero}
-use Rattle.bit_rows.proofs.ZeroLemmas.{GoesOn, Shows, first_shows, goes_on, has_bits}
+use Rattle.bit_rows.specs.BitTables.{HasWords, AreOpRows, BitwiseIsZero}
+use Rattle.bit_rows.proofs.ZeroLemmas.{IsNextRow, ShowsBits, first_shows, goes_on, has_bits}
 use Rattle.bit_rows.proofs.EightRows.{EightZero, ZeroFrom, eight_from, zero_from}
 
 -- ---- a row before others of its eight, whose last one is known
@@ -18,7 +18,7 @@ record IsBefore (n : ℕ) (last row : List ℕ) : Type 0 where
   first_is : a row ≡ a last / 2 ^ n
   second_is : b row ≡ b last / 2 ^ n
 
-one_before : (n k : ℕ) (last cur next : List ℕ) → IsBefore n last next → GoesOn k cur next → IsBefore (n + 4) last cur
+one_before : (n k : ℕ) (last cur next : List ℕ) → IsBefore n last next → IsNextRow k cur next → IsBefore (n + 4) last cur
 one_before n k last cur next h g = record {
   kind_same = g.kind_same ∙ h.kind_same;
   first_is = g.first_is ∙ ap (λ m. m / 2 ^ 4) h.first_is ∙ shr-shr (a last) n 4;
@@ -28,7 +28,7 @@ one_before n k last cur next h g = record {
 row_same : (x y : Bool) (s t u v : ℕ) → x ≡ y → s ≡ t → u ≡ v → bit_row x s u ≡ bit_row y t v
 row_same x y s t u v p q r = cc
 
-before_is : (n k : ℕ) (last row : List ℕ) → Shows k row → IsBefore n last row → row ≡ row_without n (op_of last)
+before_is : (n k : ℕ) (last row : List ℕ) → ShowsBits k row → IsBefore n last row → row ≡ row_without n (op_of last)
 unfolding row_without op_of
 before_is n k last row s h =
     s.row_is ∙ row_same (op row == 1) (op last == 1) (a row) _ (b row) _ (ap (λ o. o == 1) h.kind_same) h.first_is h.second_is
@@ -54,28 +54,28 @@ eight_show r0 r1 r2 r3 r4 r5 r6 r7 rows t z = record {
   words = (g7.shows.first, g7.shows.second);
 }
   where
-    s0 : Shows 4 r0
+    s0 : ShowsBits 4 r0
     s0 = first_shows true r0 (Some r1) (t.wide 0 (omega arith)) (t.below 0) z.z0
 
-    g1 : GoesOn 4 r0 r1
+    g1 : IsNextRow 4 r0 r1
     g1 = goes_on 4 true r0 r1 (lit≤ tt) (t.wide 1 (omega arith)) (t.below 1) (has_bits false true r1 (Some r2) (t.below 1) z.z1) s0 z.z0
 
-    g2 : GoesOn 8 r1 r2
+    g2 : IsNextRow 8 r1 r2
     g2 = goes_on 8 false r1 r2 (lit≤ tt) (t.wide 2 (omega arith)) (t.below 2) (has_bits false true r2 (Some r3) (t.below 2) z.z2) g1.shows z.z1
 
-    g3 : GoesOn 12 r2 r3
+    g3 : IsNextRow 12 r2 r3
     g3 = goes_on 12 false r2 r3 (lit≤ tt) (t.wide 3 (omega arith)) (t.below 3) (has_bits false true r3 (Some r4) (t.below 3) z.z3) g2.shows z.z2
 
-    g4 : GoesOn 16 r3 r4
+    g4 : IsNextRow 16 r3 r4
     g4 = goes_on 16 false r3 r4 (lit≤ tt) (t.wide 4 (omega arith)) (t.below 4) (has_bits false true r4 (Some r5) (t.below 4) z.z4) g3.shows z.z3
 
-    g5 : GoesOn 20 r4 r5
+    g5 : IsNextRow 20 r4 r5
     g5 = goes_on 20 false r4 r5 (lit≤ tt) (t.wide 5 (omega arith)) (t.below 5) (has_bits false true r5 (Some r6) (t.below 5) z.z5) g4.shows z.z4
 
-    g6 : GoesOn 24 r5 r6
+    g6 : IsNextRow 24 r5 r6
     g6 = goes_on 24 false r5 r6 (lit≤ tt) (t.wide 6 (omega arith)) (t.below 6) (has_bits false true r6 (Some r7) (t.below 6) z.z6) g5.shows z.z5
 
-    g7 : GoesOn 28 r6 r7
+    g7 : IsNextRow 28 r6 r7
     g7 = goes_on 28 false r6 r7 (lit≤ tt) (t.wide 7 (omega arith)) (t.below 7)
         (has_bits false false r7 (first_of rows) (t.below 7) z.z7) g6.shows z.z6
 
@@ -109,7 +109,7 @@ table_rest r0 r1 r2 r3 r4 r5 r6 r7 rows t = record {
   below = λ i k. t.below (eight i) k;
 }
 
-from_numbers : (i : ℕ) (rows : List (List ℕ)) → i % 8 ≡ 0 → length rows % 8 ≡ 0 → IsTable 12 rows → ZeroFrom i rows → AreRows rows
+from_numbers : (i : ℕ) (rows : List (List ℕ)) → i % 8 ≡ 0 → length rows % 8 ≡ 0 → IsTable 12 rows → ZeroFrom i rows → AreOpRows rows
 unfolding rows_of ops_in
 from_numbers i [] start whole t z = record { words = All-nil HasWords; rows_are = refl }
 from_numbers i (r0 ∷ r1 ∷ r2 ∷ r3 ∷ r4 ∷ r5 ∷ r6 ∷ r7 ∷ rows) start whole t z =
@@ -125,7 +125,7 @@ from_numbers i _ start whole t z = absurd (omega arith)
 no_others : (k : ℕ) → 0 + k ≡ k
 no_others k = omega arith
 
-pub zeros_are_rows : (rows : List (List ℕ)) → IsZero rows → AreRows rows
+pub zeros_are_rows : (rows : List (List ℕ)) → BitwiseIsZero rows → AreOpRows rows
 zeros_are_rows rows z =
     from_numbers 0 rows refl z.whole z.table (zero_from 0 rows
     (λ k n h. ap (λ row. at_number (bitwise_values

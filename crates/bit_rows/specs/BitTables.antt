@@ -13,7 +13,7 @@ use Rattle.air_kit.specs.Traces.{spot_of}
 use Rattle.bit_rows.specs.BitRows.{rows_of, ops_in}
 
 -- each entry is 0 in each row
-pub record IsZero (rows : List (List ℕ)) : Type 0 where
+pub record BitwiseIsZero (rows : List (List ℕ)) : Type 0 where
   pub table : IsTable 12 rows
   pub whole : length rows % 8 ≡ 0
   pub zero : (i number : ℕ) → i < length rows → at_number (bitwise_values (spot_of rows i)) number ≡ 0
@@ -22,22 +22,22 @@ pub record IsZero (rows : List (List ℕ)) : Type 0 where
 abbrev pub HasWords : BitOp → Type 0
 HasWords p = (p.a < 2 ^ 32) × (p.b < 2 ^ 32)
 
-abbrev pub AreWords : List BitOp → Type 0
-AreWords ops = All HasWords ops
+abbrev pub HaveWords : List BitOp → Type 0
+HaveWords ops = All HasWords ops
 
 -- how often rows give a tuple on the bitwise bus
 abbrev pub given_in : List (List ℕ) → List ℕ → ℕ
 given_in rows = over_rows (chip_given bus.Bitwise table.Bitwise) rows
 
 -- the rows are those of the operations that they show
-pub record AreRows (rows : List (List ℕ)) : Type 0 where
-  pub words : AreWords (ops_in rows)
+pub record AreOpRows (rows : List (List ℕ)) : Type 0 where
+  pub words : HaveWords (ops_in rows)
   pub rows_are : rows ≡ rows_of (ops_in rows)
 
 -- rows that show these operations and no more, and whose entries are 0
 pub record ShowsOps (ops : List BitOp) (rows : List (List ℕ)) : Type 0 where
   pub size : length rows ≡ 8 * length ops
-  pub zero : IsZero rows
+  pub zero : BitwiseIsZero rows
   pub ops_are : ops_in rows ≡ ops
 
 -- on the bitwise bus the rows give what the operations give

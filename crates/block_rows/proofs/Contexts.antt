@@ -8,7 +8,8 @@ use Rattle.air_kit.specs.Flags.{is_op}
 use Rattle.air_kit.specs.MainTuples.{is_call_op}
 use Rattle.air_kit.specs.Places.{Claim}
 use Rattle.row_facts.specs.Blocks.{ends_call, stays_in_function}
-use Rattle.row_facts.specs.MainRows.{ShowsRows, row_at, op_in}
+use Rattle.vm_table.specs.Layout.{row_at}
+use Rattle.row_facts.specs.MainRows.{ShowsRows, op_in}
 use Rattle.row_facts.proofs.RunFacts.{clock_is}
 use Rattle.row_facts.proofs.Says.{off}
 use Rattle.bus_facts.specs.Blocks.{BlockFacts, Closes, ShowsKind}

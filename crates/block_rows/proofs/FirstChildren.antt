@@ -6,7 +6,8 @@ use Rattle.vm_ops.specs.declared.op.Op.TheVariants as ops
 use Rattle.vm_table.specs.MainColumns.{addr, s}
 use Rattle.air_kit.specs.MainTuples.{front, back}
 use Rattle.air_kit.specs.Places.{Claim}
-use Rattle.row_facts.specs.MainRows.{ShowsRows, row_at, op_in}
+use Rattle.vm_table.specs.Layout.{row_at}
+use Rattle.row_facts.specs.MainRows.{ShowsRows, op_in}
 use Rattle.row_facts.proofs.Says.{never, off}
 use Rattle.bus_facts.specs.Blocks.{BlockFacts, Closes, IsAt, Starts, own}
 use Rattle.bus_facts.specs.Children.{ChildFacts, EndsFirst, FirstChild}

@@ -8,7 +8,8 @@ use Rattle.vm_table.specs.MainColumns.{lv}
 use Rattle.air_kit.specs.Flags.{is_op}
 use Rattle.air_kit.specs.Places.{Claim}
 use Rattle.row_facts.specs.Blocks.{level_after}
-use Rattle.row_facts.specs.MainRows.{ShowsRows, row_at, op_in}
+use Rattle.vm_table.specs.Layout.{row_at}
+use Rattle.row_facts.specs.MainRows.{ShowsRows, op_in}
 use Rattle.bus_facts.specs.Blocks.{BlockFacts, Closes, Starts}
 use Rattle.bus_facts.specs.Lookups.{RangeFacts}
 use Rattle.block_rows.specs.Frames.{open_at}

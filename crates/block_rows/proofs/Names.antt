@@ -9,7 +9,8 @@ use Rattle.air_kit.specs.MainTuples.{front, back}
 use Rattle.air_kit.specs.Places.{Claim}
 use Rattle.row_facts.specs.Blocks.{keeps_block}
 use Rattle.row_facts.specs.Follows.{may_follow}
-use Rattle.row_facts.specs.MainRows.{ShowsRows, row_at, op_in}
+use Rattle.vm_table.specs.Layout.{row_at}
+use Rattle.row_facts.specs.MainRows.{ShowsRows, op_in}
 use Rattle.bus_facts.specs.Blocks.{BlockFacts, Closes, IsAt, Starts, own}
 use Rattle.bus_facts.specs.Children.{ChildFacts, IsNamed, IsTurnOf}
 use Rattle.block_rows.specs.Nesting.{IsOnlyChild, TurnsAgain}

@@ -5,7 +5,8 @@ use Rattle.vm_ops.specs.declared.op.Op.TheVariants as ops
 use Rattle.vm_table.specs.MainColumns.{addr}
 use Rattle.air_kit.specs.Flags.{is_op}
 use Rattle.air_kit.specs.Places.{Claim}
-use Rattle.row_facts.specs.MainRows.{ShowsRows, row_at, op_in}
+use Rattle.vm_table.specs.Layout.{row_at}
+use Rattle.row_facts.specs.MainRows.{ShowsRows, op_in}
 use Rattle.bus_facts.specs.Blocks.{BlockFacts, Closes, Starts, own}
 use Rattle.block_rows.specs.Frames.{IsBlock, newest_address, open_at}
 use Rattle.block_rows.proofs.Operations.{Moves, moves_of, neither_is}

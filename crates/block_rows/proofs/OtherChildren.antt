@@ -7,7 +7,8 @@ use Rattle.vm_table.specs.MainColumns.{addr, s}
 use Rattle.air_kit.specs.Flags.{is_op}
 use Rattle.air_kit.specs.MainTuples.{front}
 use Rattle.air_kit.specs.Places.{Claim}
-use Rattle.row_facts.specs.MainRows.{ShowsRows, row_at, op_in}
+use Rattle.vm_table.specs.Layout.{row_at}
+use Rattle.row_facts.specs.MainRows.{ShowsRows, op_in}
 use Rattle.row_facts.proofs.RunFacts.{halts_last}
 use Rattle.row_facts.proofs.Says.{never, off}
 use Rattle.bus_facts.specs.Blocks.{BlockFacts, Closes, IsAt, Starts, own}

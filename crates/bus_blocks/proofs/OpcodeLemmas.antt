@@ -2,9 +2,8 @@
 use Rattle.std.proofs.Common.{◌≡◌, ℕ, ◌+◌, ◌*◌, ◌<◌, List, arith, lit<}
 use Rattle.vm_field.specs.Signs.{◌⊞◌, ◌⊠◌}
 use Rattle.vm_table.specs.MainColumns.{b}
-use Rattle.air_kit.specs.Flags.{spelled}
+use Rattle.air_kit.specs.Flags.{spelled, HasBits}
 use Rattle.air_kit.specs.SpanValues.{opcode_in}
-use Rattle.bus_blocks.specs.Bits.{HasBits}
 
 small_sum : (m n : ℕ) → m < 128 → n < 128 → m ⊞ n ≡ m + n
 small_sum m n p q = omega arith

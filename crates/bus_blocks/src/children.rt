@@ -1,10 +1,9 @@
 ghost use Rattle.std.specs.Prelude.{◌≡◌, ◌==◌, if◌then◌else◌, [], ◌∷◌, ◌++◌, OnOk};
 ghost use Rattle.vm_ops.specs.Codes.{is_start_op};
 ghost use Rattle.vm_table.specs.MainColumns.{addr, s};
-ghost use Rattle.air_kit.specs.Flags.{op_of};
+ghost use Rattle.air_kit.specs.Flags.{op_of, HasBits};
 ghost use Rattle.air_kit.specs.MainTuples.{back, child, children_given, children_asked, front};
 ghost use Rattle.bus_kit.specs.Adding.{IsCounted};
-ghost use Rattle.bus_blocks.specs.Bits.{HasBits};
 ghost use Rattle.bus_blocks.specs.Space.{HasSpace};
 
 use crate::decode::op_in;

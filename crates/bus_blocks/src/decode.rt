@@ -1,7 +1,6 @@
 ghost use Rattle.std.specs.Prelude.{◌≡◌, ◌<◌};
-ghost use Rattle.air_kit.specs.Flags.{is_op, op_of, spelled};
+ghost use Rattle.air_kit.specs.Flags.{is_op, op_of, spelled, HasBits};
 ghost use Rattle.vm_table.specs.MainColumns.{b};
-ghost use Rattle.bus_blocks.specs.Bits.{HasBits};
 
 use vm_field::Felt;
 use vm_ops::{Op, from_opcode};

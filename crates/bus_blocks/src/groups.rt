@@ -2,11 +2,10 @@ ghost use Rattle.std.specs.Prelude.{◌≡◌, ◌==◌, ◌&&◌, ◌-◌, ◌<
 ghost use Rattle.vm_table.specs.MainColumns.{gc, h, ha, s, sp};
 ghost use Rattle.vm_ops.specs.Codes.{is_ordinary_op};
 ghost use Rattle.buses.specs.Counts.{once};
-ghost use Rattle.air_kit.specs.Flags.{op_of};
+ghost use Rattle.air_kit.specs.Flags.{op_of, HasBits};
 ghost use Rattle.air_kit.specs.MainTuples.{groups_asked, groups_from, groups_given, is_batch_op, positions};
 ghost use Rattle.air_kit.specs.SpanValues.{opcode_in, rest, rest_flag};
 ghost use Rattle.bus_kit.specs.Adding.{IsCounted};
-ghost use Rattle.bus_blocks.specs.Bits.{HasBits};
 ghost use Rattle.bus_blocks.specs.Space.{HasSpace};
 
 use crate::decode::code_in;

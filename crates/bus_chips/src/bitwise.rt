@@ -2,7 +2,7 @@ ghost use Rattle.std.specs.Prelude.{◌≡◌, ◌^◌, [], OnOk, option_map};
 ghost use Rattle.air_kit.specs.ChipTuples.{bitwise_given, chip_given, chip_asked};
 ghost use Rattle.air_kit.specs.Rows.{claim_at};
 ghost use Rattle.air_kit.specs.declared.trace.TableName.TheVariants as table;
-ghost use Rattle.bus_kit.specs.Adding.{HasRoom, IsCounted};
+ghost use Rattle.bus_kit.specs.Adding.{CanCount, IsCounted};
 ghost use Rattle.bus_kit.specs.ByBus.{AreCounted, HaveRoom};
 
 use air_kit::Place;
@@ -25,7 +25,7 @@ pub fn tuples_bitwise<V: BitwiseView>(
 
 // What row i of the table gives.
 fn operation<V: BitwiseView>(i: u32, row: &V, tally: &mut Tally) -> Result<(), Memory>
-    requires { HasRoom tally.old }
+    requires { CanCount tally.old }
     ensures { OnOk result (IsCounted 1 tally.old tally.new [] (bitwise_given i (V.cells row.now))) }
 {
     let place = i % 8;

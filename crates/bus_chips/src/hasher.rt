@@ -3,7 +3,7 @@ ghost use Rattle.air_kit.specs.ChipTuples.{chip_given, chip_asked, hasher_given,
 ghost use Rattle.chip_columns.specs.HasherColumns as hasher;
 ghost use Rattle.air_kit.specs.Rows.{claim_at};
 ghost use Rattle.air_kit.specs.declared.trace.TableName.TheVariants as table;
-ghost use Rattle.bus_kit.specs.Adding.{HasRoom, IsCounted};
+ghost use Rattle.bus_kit.specs.Adding.{CanCount, IsCounted};
 ghost use Rattle.bus_kit.specs.ByBus.{AreCounted, HaveRoom};
 
 use air_kit::Place;
@@ -27,7 +27,7 @@ pub fn tuples_hasher<V: HasherView>(
 
 // What row i of the table gives.
 fn permutation<V: HasherView>(i: u32, row: &V, tally: &mut Tally) -> Result<(), Memory>
-    requires { HasRoom tally.old }
+    requires { CanCount tally.old }
     ensures { OnOk result (IsCounted 1 tally.old tally.new [] (hasher_given i (V.cells row.now))) }
 {
     let place = i % 8;
@@ -50,7 +50,7 @@ fn address_of(i: u32) -> Felt
 
 // What the first row of a permutation gives.
 fn begins<V: HasherView>(address: Felt, row: &V, tally: &mut Tally) -> Result<(), Memory>
-    requires { HasRoom tally.old }
+    requires { CanCount tally.old }
     ensures { OnOk result (IsCounted 1 tally.old tally.new [] (permutation_begins address (V.cells row.now))) }
 {
     if row.mode() == Felt::ONE {
@@ -64,7 +64,7 @@ fn begins<V: HasherView>(address: Felt, row: &V, tally: &mut Tally) -> Result<()
 
 // What the last row of a permutation gives.
 fn ends<V: HasherView>(address: Felt, row: &V, tally: &mut Tally) -> Result<(), Memory>
-    requires { HasRoom tally.old }
+    requires { CanCount tally.old }
     ensures { OnOk result (IsCounted 1 tally.old tally.new [] (permutation_ends address (V.cells row.now))) }
 {
     if row.mode() == Felt::ONE {

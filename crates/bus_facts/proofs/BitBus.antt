@@ -5,9 +5,9 @@ use Rattle.vm_ops.specs.declared.op.Op.TheVariants as ops
 use Rattle.vm_table.specs.MainColumns.{s}
 use Rattle.air_kit.specs.Flags.{op_of}
 use Rattle.air_kit.specs.MainTuples.{bitwise_asked}
-use Rattle.bit_rows.specs.BitTables.{IsBitwise, IsZero, given_in}
+use Rattle.bit_rows.specs.BitTables.{IsBitwise, BitwiseIsZero, given_in}
 use Rattle.bit_rows.proofs.TableLaws.{means}
-use Rattle.row_facts.specs.MainRows.{row_at}
+use Rattle.vm_table.specs.Layout.{row_at}
 use Rattle.bus_facts.specs.Lookups.{BitFacts}
 use Rattle.bus_facts.proofs.RowSums.{row_has, rows_have}
 
@@ -23,7 +23,7 @@ xor_asks : (x y : List ℕ) → op_of x ≡ ops.U32Xor → bitwise_asked x y ≡
 unfolding bitwise_asked
 xor_asks x y is = rw is refl
 
-module _ (rows table : List (List ℕ)) (zero : IsZero table)
+module _ (rows table : List (List ℕ)) (zero : BitwiseIsZero table)
     (alike : (u : List ℕ) → over_rows (with_next bitwise_asked) rows u ≡ given_in table u) where
   looked_up : (i kind : ℕ) → suc i < length rows
       → bitwise_asked (row_at rows i) (row_at rows (suc i)) ≡ once (bits_of kind (row_at rows i) (row_at rows (suc i))) ∷ []

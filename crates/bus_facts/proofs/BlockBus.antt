@@ -8,7 +8,8 @@ use Rattle.vm_table.specs.MainColumns.{addr, h, s}
 use Rattle.air_kit.specs.Flags.{is_op, op_of}
 use Rattle.air_kit.specs.MainTuples.{blocks_asked, blocks_given, frame_of, is_call_op, kind_of_end, kind_of_start, no_frame}
 use Rattle.air_kit.specs.Places.{Claim}
-use Rattle.row_facts.specs.MainRows.{ShowsRows, op_in, row_at}
+use Rattle.vm_table.specs.Layout.{row_at}
+use Rattle.row_facts.specs.MainRows.{ShowsRows, op_in}
 use Rattle.bus_facts.specs.Blocks.{BlockFacts, Closes, IsAt, ShowsKind, Starts, own}
 use Rattle.bus_facts.proofs.BlockKinds.{call_flagged, flags_of_end, kind_shown}
 use Rattle.bus_facts.proofs.RowSums.{IsInRow, count_in, rows_have, rows_one, rows_same, rows_some}

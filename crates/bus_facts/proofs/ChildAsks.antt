@@ -6,7 +6,7 @@ use Rattle.vm_ops.specs.declared.op.Op.TheVariants as ops
 use Rattle.vm_table.specs.MainColumns.{addr, h}
 use Rattle.air_kit.specs.Flags.{is_op, op_of}
 use Rattle.air_kit.specs.MainTuples.{children_asked, children_given, children_of, front}
-use Rattle.row_facts.specs.MainRows.{row_at}
+use Rattle.vm_table.specs.Layout.{row_at}
 use Rattle.bus_facts.specs.Blocks.{IsAt}
 use Rattle.bus_facts.proofs.ChildTuples.{bit_of, child_tuple}
 use Rattle.bus_facts.proofs.RowSums.{IsInRow, count_in}

@@ -6,7 +6,8 @@ use Rattle.vm_ops.specs.declared.op.Op.TheVariants as ops
 use Rattle.vm_table.specs.MainColumns.{addr, h}
 use Rattle.air_kit.specs.MainTuples.{children_asked, children_given, front}
 use Rattle.air_kit.specs.Places.{Claim}
-use Rattle.row_facts.specs.MainRows.{ShowsRows, op_in, row_at}
+use Rattle.vm_table.specs.Layout.{row_at}
+use Rattle.row_facts.specs.MainRows.{ShowsRows, op_in}
 use Rattle.bus_facts.specs.Blocks.{IsAt}
 use Rattle.bus_facts.specs.Children.{IsNamed, statement}
 use Rattle.bus_facts.proofs.ChildAsks.{asked_by, asks, given_of}

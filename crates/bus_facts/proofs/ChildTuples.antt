@@ -7,7 +7,8 @@ use Rattle.vm_ops.specs.declared.op.Op.TheVariants as ops
 use Rattle.vm_table.specs.MainColumns.{addr, s}
 use Rattle.air_kit.specs.Flags.{is_op}
 use Rattle.air_kit.specs.MainTuples.{back, child, children_of, front}
-use Rattle.row_facts.specs.MainRows.{op_in, row_at}
+use Rattle.vm_table.specs.Layout.{row_at}
+use Rattle.row_facts.specs.MainRows.{op_in}
 use Rattle.bus_facts.specs.Blocks.{IsAt, own}
 use Rattle.bus_facts.specs.Children.{IsNamed, first, second, on_one, on_zero, body, callee, kernel, turn}
 use Rattle.bus_facts.proofs.Splits.{positive_part, zero_or}

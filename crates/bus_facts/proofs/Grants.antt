@@ -13,11 +13,12 @@ use Rattle.air_kit.specs.declared.trace.Trace.{Trace}
 use Rattle.hash_rows.specs.HashMeaning.{TableGives}
 use Rattle.hash_rows.proofs.TableMeaning.{table_gives}
 use Rattle.memory_rows.proofs.MainServes.{main_serves}
-use Rattle.row_facts.specs.MainRows.{ShowsRows, row_at}
+use Rattle.vm_table.specs.Layout.{row_at}
+use Rattle.row_facts.specs.MainRows.{ShowsRows}
 use Rattle.row_facts.proofs.ClaimFacts.{trace_shown}
 use Rattle.row_facts.proofs.RunFacts.{clock_is}
 use Rattle.bus_facts.specs.Blocks.{Starts, own}
-use Rattle.bus_facts.specs.BusFacts.{Granted, IsWhole}
+use Rattle.bus_facts.specs.BusFacts.{Granted, HasTables}
 use Rattle.bus_facts.specs.Lookups.{hasher_gives}
 use Rattle.bus_facts.proofs.Balance.{bits_alike, blocks_alike, children_alike, groups_alike, hasher_alike, kernel_alike, limbs_alike, loops_alike, memory_alike, overflow_alike, range_alike}
 use Rattle.bus_facts.proofs.BitBus.{bit_facts}
@@ -39,7 +40,7 @@ few_rows n few = omega (arith, few)
 few_clocks : (n : ℕ) → n ≤ 2 ^ 19 → n ≤ 2 ^ 32
 few_clocks n few = omega (arith, few)
 
-pub accepted_grants : (p : Public) (t : Trace) → length (constants_of p.params) ≡ 168 → IsWhole t → IsAccepted p t → Granted p t
+pub accepted_grants : (p : Public) (t : Trace) → length (constants_of p.params) ≡ 168 → HasTables t → IsAccepted p t → Granted p t
 accepted_grants p t len whole accepted = record {
   rows = shows;
   few = few;

@@ -7,7 +7,8 @@ use Rattle.vm_table.specs.MainColumns.{gc, h, ha, s}
 use Rattle.air_kit.specs.Flags.{is_op}
 use Rattle.air_kit.specs.MainTuples.{domain_of, eight, groups_asked, groups_given, positions}
 use Rattle.air_kit.specs.Places.{Claim}
-use Rattle.row_facts.specs.MainRows.{ShowsRows, op_in, row_at}
+use Rattle.vm_table.specs.Layout.{row_at}
+use Rattle.row_facts.specs.MainRows.{ShowsRows, op_in}
 use Rattle.bus_facts.specs.Batches.{Begins, GroupFacts, IsTaken, batch_at}
 use Rattle.bus_facts.proofs.GroupPlaces.{GivesGroup, all_are, gives, in_use, opens_asks, parts, push_asks}
 use Rattle.bus_facts.proofs.HasherBus.{Asks, respan_in, start_in}

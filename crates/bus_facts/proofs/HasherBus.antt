@@ -9,7 +9,8 @@ use Rattle.vm_table.specs.MainColumns.{addr, ha, w}
 use Rattle.air_kit.specs.Flags.{op_of}
 use Rattle.air_kit.specs.MainTuples.{domain_of, eight, front, hash_end, hasher_asked, twelve}
 use Rattle.hash_rows.specs.HashMeaning.{TableGives}
-use Rattle.row_facts.specs.MainRows.{op_in, row_at}
+use Rattle.vm_table.specs.Layout.{row_at}
+use Rattle.row_facts.specs.MainRows.{op_in}
 use Rattle.bus_facts.specs.Blocks.{IsAt, Starts, own}
 use Rattle.bus_facts.specs.Lookups.{HashFacts, hasher_gives}
 use Rattle.bus_facts.proofs.RowSums.{IsInRow, row_has, rows_have, rows_same}

@@ -6,7 +6,8 @@ use Rattle.vm_ops.specs.declared.op.Op.TheVariants as ops
 use Rattle.vm_table.specs.MainColumns.{addr, h}
 use Rattle.air_kit.specs.Flags.{is_op}
 use Rattle.air_kit.specs.MainTuples.{children_asked, children_given, children_of, front}
-use Rattle.row_facts.specs.MainRows.{op_in, row_at}
+use Rattle.vm_table.specs.Layout.{row_at}
+use Rattle.row_facts.specs.MainRows.{op_in}
 use Rattle.bus_facts.specs.Blocks.{IsAt, Starts, own}
 use Rattle.bus_facts.specs.Children.{EndsFirst, FirstChild}
 use Rattle.bus_facts.proofs.ChildAsks.{asked_is, asks, end_tuple, given_of}

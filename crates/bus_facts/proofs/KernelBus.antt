@@ -8,7 +8,7 @@ use Rattle.vm_field.specs.Machine.{IsWord}
 use Rattle.vm_field.proofs.Algebra.{same_from_sub}
 use Rattle.vm_field.proofs.Elements.{elements-index, word-is}
 use Rattle.vm_ops.specs.declared.op.Op.TheVariants as ops
-use Rattle.vm_table.specs.Layout.{IsTable}
+use Rattle.vm_table.specs.Layout.{IsTable, row_at}
 use Rattle.chip_columns.specs.KernelColumns as kernel
 use Rattle.air_kit.specs.ChipTuples.{kernel_given}
 use Rattle.air_kit.specs.Flags.{op_of}
@@ -16,7 +16,6 @@ use Rattle.air_kit.specs.KernelValues.{kernel_values}
 use Rattle.air_kit.specs.MainTuples.{front, kernel_asked}
 use Rattle.air_kit.specs.Places.{Claim, at_number}
 use Rattle.air_kit.specs.Traces.{spot_of}
-use Rattle.row_facts.specs.MainRows.{row_at}
 use Rattle.row_facts.proofs.Zeros.{numbers_zero, zero_family}
 use Rattle.bus_facts.specs.Lookups.{KernelFacts}
 use Rattle.bus_facts.proofs.RowSums.{IsInRow, count_in, rows_have}

@@ -5,7 +5,8 @@ use Rattle.vm_ops.specs.declared.op.Op.TheVariants as ops
 use Rattle.vm_table.specs.MainColumns.{addr, w}
 use Rattle.air_kit.specs.Flags.{is_op, op_of}
 use Rattle.air_kit.specs.MainTuples.{front, loops_asked, loops_given}
-use Rattle.row_facts.specs.MainRows.{op_in, row_at}
+use Rattle.vm_table.specs.Layout.{row_at}
+use Rattle.row_facts.specs.MainRows.{op_in}
 use Rattle.bus_facts.specs.Blocks.{IsAt, own}
 use Rattle.bus_facts.specs.Children.{IsTurnOf}
 use Rattle.bus_facts.proofs.RowSums.{IsInRow, count_in, rows_have, rows_some}

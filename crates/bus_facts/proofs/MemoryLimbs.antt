@@ -5,7 +5,7 @@ use Rattle.chip_columns.specs.MemoryColumns as memory
 use Rattle.chip_columns.specs.RangeColumns as range
 use Rattle.air_kit.specs.ChipTuples.{memory_ranges, range_given}
 use Rattle.memory_rows.specs.MemoryTables.{HaveLimbs}
-use Rattle.row_facts.specs.MainRows.{row_at}
+use Rattle.vm_table.specs.Layout.{row_at}
 use Rattle.bus_facts.proofs.RangeBus.{given_short}
 use Rattle.bus_facts.proofs.TableSums.{table_has}
 use Rattle.bus_facts.proofs.Tuples.{hit_self, more_counts}

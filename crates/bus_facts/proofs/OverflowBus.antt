@@ -8,7 +8,8 @@ use Rattle.air_kit.specs.ChipTuples.{left_asked, next_key}
 use Rattle.air_kit.specs.Flags.{is_right, op_of}
 use Rattle.air_kit.specs.MainTuples.{overflow_asked, overflow_given, row_shifts_left}
 use Rattle.air_kit.specs.Places.{Claim}
-use Rattle.row_facts.specs.MainRows.{op_in, row_at}
+use Rattle.vm_table.specs.Layout.{row_at}
+use Rattle.row_facts.specs.MainRows.{op_in}
 use Rattle.bus_facts.specs.Overflow.{IsPushed, OverflowFacts}
 use Rattle.bus_facts.proofs.RowSums.{IsInRow, count_in, rows_have, rows_some}
 use Rattle.bus_facts.proofs.Splits.{not_equal}

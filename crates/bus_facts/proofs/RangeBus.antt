@@ -10,7 +10,8 @@ use Rattle.chip_columns.specs.RangeColumns as range
 use Rattle.air_kit.specs.ChipTuples.{range_given}
 use Rattle.air_kit.specs.Flags.{op_of}
 use Rattle.air_kit.specs.MainTuples.{limbs_from, limbs_of, range_asked}
-use Rattle.row_facts.specs.MainRows.{op_in, row_at}
+use Rattle.vm_table.specs.Layout.{row_at}
+use Rattle.row_facts.specs.MainRows.{op_in}
 use Rattle.bus_facts.specs.Blocks.{Starts}
 use Rattle.bus_facts.specs.Lookups.{RangeFacts}
 use Rattle.bus_facts.proofs.RowSums.{IsInRow, rows_have}

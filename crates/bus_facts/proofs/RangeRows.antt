@@ -4,13 +4,12 @@ use Rattle.std.specs.List.{slice_get}
 use Rattle.std.proofs.lemmas.Option.{slice_get-get_or, slice_get_past}
 use Rattle.vm_field.specs.Field.{prime, felt_sub, felt_mul}
 use Rattle.vm_field.proofs.Algebra.{same_from_sub, zero_factor}
-use Rattle.vm_table.specs.Layout.{IsTable}
+use Rattle.vm_table.specs.Layout.{IsTable, row_at}
 use Rattle.chip_columns.specs.RangeColumns.{v}
 use Rattle.air_kit.specs.Places.{at_number}
 use Rattle.air_kit.specs.ChipPlaces.{in_last, paired}
 use Rattle.air_kit.specs.RangeValues.{range_step, range_values}
 use Rattle.air_kit.specs.Traces.{spot_of}
-use Rattle.row_facts.specs.MainRows.{row_at}
 use Rattle.row_facts.proofs.Zeros.{numbers_zero}
 
 -- ---- one step

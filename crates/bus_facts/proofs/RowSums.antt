@@ -4,7 +4,7 @@ use Rattle.std.proofs.lemmas.Option.{slice_get-get_or, slice_get_past}
 use Rattle.std.specs.List.{slice_get}
 use Rattle.buses.specs.Counts.{Counted, at_row, counted, once, over_first, over_rows, with_next}
 use Rattle.buses.proofs.Counting.{counted-none}
-use Rattle.row_facts.specs.MainRows.{row_at}
+use Rattle.vm_table.specs.Layout.{row_at}
 use Rattle.bus_facts.proofs.Splits.{same_or}
 use Rattle.bus_facts.proofs.Sums.{SomeBelow, total_apart, total_none, total_one, total_some, total_term}
 use Rattle.bus_facts.proofs.Tuples.{single_self}

@@ -6,7 +6,8 @@ use Rattle.vm_ops.specs.declared.op.Op.TheVariants as ops
 use Rattle.vm_table.specs.MainColumns.{addr, h, s}
 use Rattle.air_kit.specs.Flags.{is_op}
 use Rattle.air_kit.specs.MainTuples.{frame_of, is_call_op}
-use Rattle.row_facts.specs.MainRows.{row_at, op_in}
+use Rattle.vm_table.specs.Layout.{row_at}
+use Rattle.row_facts.specs.MainRows.{op_in}
 
 -- row i has this operation, and a row stands behind it
 pub record IsAt (rows : List (List ℕ)) (i : ℕ) (op : Op) : Type 0 where

@@ -14,7 +14,7 @@ use Rattle.bus_facts.specs.Overflow.{OverflowFacts}
 use Rattle.bus_facts.specs.Lookups.{HashFacts, BitFacts, MemoryFacts, RangeFacts, KernelFacts}
 
 -- the tables of a trace are tables of elements, of so many rows as they may have
-pub record IsWhole (t : Trace) : Type 0 where
+pub record HasTables (t : Trace) : Type 0 where
   pub counts : HasCounts t
   pub main : IsTable 65 t.main
   pub range : IsTable 2 t.range
@@ -40,4 +40,4 @@ pub record Granted (p : Public) (t : Trace) : Type 0 where
 
 -- an accepted trace grants all this
 abbrev pub AcceptedGrants : Type 0
-AcceptedGrants = (p : Public) (t : Trace) → length (constants_of p.params) ≡ 168 → IsWhole t → IsAccepted p t → Granted p t
+AcceptedGrants = (p : Public) (t : Trace) → length (constants_of p.params) ≡ 168 → HasTables t → IsAccepted p t → Granted p t

@@ -13,7 +13,8 @@ use Rattle.block_tree.specs.Cycles.{is_in_kernel}
 use Rattle.hash_rows.specs.HashMeaning.{TableGives}
 use Rattle.bit_rows.specs.BitTables.{IsBitwise}
 use Rattle.memory_rows.specs.MainAccesses.{ServesMain}
-use Rattle.row_facts.specs.MainRows.{row_at, op_in}
+use Rattle.vm_table.specs.Layout.{row_at}
+use Rattle.row_facts.specs.MainRows.{op_in}
 use Rattle.bus_facts.specs.Blocks.{IsAt, Starts, own}
 
 -- how often the hasher's table gives a tuple

@@ -5,7 +5,8 @@ use Rattle.chip_columns.specs.LeftColumns as left
 use Rattle.air_kit.specs.ChipTuples.{next_key}
 use Rattle.air_kit.specs.Flags.{is_right}
 use Rattle.air_kit.specs.MainTuples.{row_shifts_left}
-use Rattle.row_facts.specs.MainRows.{row_at, op_in}
+use Rattle.vm_table.specs.Layout.{row_at}
+use Rattle.row_facts.specs.MainRows.{op_in}
 
 -- the cell under a key: a row whose clock is the key pushed it below the sixteenth, where this was the key of the one below it
 pub record IsPushed (rows : List (List ℕ)) (at cell below : ℕ) : Type 0 where

@@ -12,8 +12,8 @@ pub record IsCounted (n : ℕ) (old new : Tally) (asked given : List Counted) : 
   pub given_grows : (u : List ℕ) → given_in new u ≤ given_in old u + n
 
 -- each count is below 2^127
-abbrev pub HasRoom : Tally → Type 0
-HasRoom t = (u : List ℕ) → (asked_in t u < 2 ^ 127) × (given_in t u < 2 ^ 127)
+abbrev pub CanCount : Tally → Type 0
+CanCount t = (u : List ℕ) → (asked_in t u < 2 ^ 127) × (given_in t u < 2 ^ 127)
 
 -- the tuple once, if there is one
 abbrev pub once_if : Option (List ℕ) → List Counted

@@ -3,7 +3,7 @@ use Rattle.std.specs.Prelude.{ℕ, List}
 use Rattle.buses.specs.declared.bus.Bus.{Bus}
 use Rattle.buses.specs.declared.bus.Bus.TheVariants as bus
 use Rattle.buses.specs.Counts.{Counted}
-use Rattle.bus_kit.specs.Adding.{HasRoom, IsCounted}
+use Rattle.bus_kit.specs.Adding.{CanCount, IsCounted}
 use Rattle.bus_kit.specs.Tallies.{asked_in, given_in}
 use Rattle.bus_kit.specs.declared.tallies.Tallies.{Tallies}
 use Rattle.bus_kit.specs.declared.tally.Tally.{Tally}
@@ -31,7 +31,7 @@ given_by t bus u = given_in (tally_of t bus) u
 
 -- each count on each bus is below 2^127
 abbrev pub HaveRoom : Tallies → Type 0
-HaveRoom t = (bus : Bus) → HasRoom (tally_of t bus)
+HaveRoom t = (bus : Bus) → CanCount (tally_of t bus)
 
 -- On each bus the tuples of one list were asked and those of another given, and no count grew by more than n.
 abbrev pub AreCounted : ℕ → Tallies → Tallies → (Bus → List Counted) → (Bus → List Counted) → Type 0

@@ -3,7 +3,7 @@ use Rattle.std.proofs.Common.{◌≡◌, ℕ, ◌^◌, ◌≤◌, ◌==◌, Bool
 use Rattle.buses.specs.Counts.{Counted, once, with_next}
 use Rattle.buses.specs.declared.bus.Bus.{Bus}
 use Rattle.buses.specs.declared.bus.Bus.TheVariants as bus
-use Rattle.bus_kit.specs.Adding.{HasRoom, IsCounted}
+use Rattle.bus_kit.specs.Adding.{CanCount, IsCounted}
 use Rattle.bus_kit.specs.ByBus.{AreCounted, HaveRoom, tally_of}
 use Rattle.bus_kit.specs.declared.tallies.Tallies.{Tallies}
 use Rattle.bus_kit.specs.declared.tally.Tally.{Tally}
@@ -234,10 +234,10 @@ placed_last digest x i t first p = placed digest x None i t first (record t { ch
     nothing b = none_counted (2 ^ 65) (tally_of (record t { children = first }) b)
 
 -- counts that are below 2^127 have space, also behind one more tuple
-has_space : (t : Tally) → HasRoom t → HasSpace t
+has_space : (t : Tally) → CanCount t → HasSpace t
 has_space t room u = let both = room u in (omega arith, omega arith)
 
-has_space_behind : (t now : Tally) (xs : List Counted) → HasRoom t → IsCounted 1 t now [] xs → HasSpace now
+has_space_behind : (t now : Tally) (xs : List Counted) → CanCount t → IsCounted 1 t now [] xs → HasSpace now
 has_space_behind t now xs room p u =
     let both = room u in let asked = p.asked_grows u in let given = p.given_grows u in (omega arith, omega arith)
 

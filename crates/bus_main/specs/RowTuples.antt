@@ -2,12 +2,11 @@
 use Rattle.std.specs.Prelude.{◌≡◌, ℕ, ◌≤◌, ◌==◌, true, if◌then◌else◌, List, ◌++◌}
 use Rattle.buses.specs.Counts.{OfRow, with_next}
 use Rattle.buses.specs.declared.bus.Bus.{Bus}
-use Rattle.air_kit.specs.Flags.{op_of}
+use Rattle.air_kit.specs.Flags.{op_of, HasBits}
 use Rattle.air_kit.specs.MainTuples.{is_batch_op, positions, main_asked, main_given}
 use Rattle.air_kit.specs.Acceptance.{statement_given}
 use Rattle.bus_kit.specs.ByBus.{tally_of}
 use Rattle.bus_kit.specs.declared.tallies.Tallies.{Tallies}
-use Rattle.bus_blocks.specs.Bits.{HasBits}
 use Rattle.bus_blocks.specs.Space.{HasSpace}
 
 -- the row's operation can be read, and a batch has at most eight positions in use

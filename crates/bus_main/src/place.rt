@@ -1,8 +1,8 @@
 ghost use Rattle.std.specs.Prelude.{◌≡◌, ◌^◌, ◌==◌, ◌++◌, if◌then◌else◌, [], ◌∷◌, IfSome, OnOk, option_map};
 ghost use Rattle.buses.specs.Counts.{once};
-ghost use Rattle.bus_kit.specs.Adding.{HasRoom, IsCounted};
+ghost use Rattle.bus_kit.specs.Adding.{CanCount, IsCounted};
 ghost use Rattle.bus_kit.specs.ByBus.{AreCounted, HaveRoom};
-ghost use Rattle.bus_blocks.specs.Bits.{HasBits};
+ghost use Rattle.air_kit.specs.Flags.{HasBits};
 ghost use Rattle.bus_main.specs.RowTuples.{IsReadable, main_asked_at, main_given_at};
 
 use crate::step::step;
@@ -34,7 +34,7 @@ pub fn tuples<V: MainView>(place: &Place<'_, V>, tallies: &mut Tallies) -> Resul
 
 // The first row gives the statement's digest, as the child of no block.
 fn outermost(row: u32, digest: &Word, tally: &mut Tally) -> Result<(), Memory>
-    requires { HasRoom tally.old }
+    requires { CanCount tally.old }
     ensures { OnOk result (IsCounted 1 tally.old tally.new []
         (if row == 0 then once (0 ∷ digest.now ++ 0 ∷ []) ∷ [] else [])) }
 {

@@ -1,9 +1,8 @@
 ghost use Rattle.std.specs.Prelude.{◌≡◌, ◌^◌, ◌≤◌, true, false, OnOk};
 ghost use Rattle.vm_ops.specs.Codes.{is_ordinary_op};
-ghost use Rattle.air_kit.specs.Flags.{op_of};
+ghost use Rattle.air_kit.specs.Flags.{op_of, HasBits};
 ghost use Rattle.air_kit.specs.MainTuples.{is_batch_op, main_asked, main_given, positions};
 ghost use Rattle.bus_kit.specs.ByBus.{AreCounted};
-ghost use Rattle.bus_blocks.specs.Bits.{HasBits};
 ghost use Rattle.bus_main.specs.RowTuples.{HaveSpace, IsReadable};
 
 use bus_blocks::{

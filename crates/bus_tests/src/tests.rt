@@ -1,5 +1,5 @@
 ghost use Rattle.std.specs.Prelude.{◌≡◌, true, IfSome};
-ghost use Rattle.bus_blocks.specs.Bits.{HasBits};
+ghost use Rattle.air_kit.specs.Flags.{HasBits};
 ghost use Rattle.bus_main.specs.RowTuples.{IsReadable};
 
 use air_kit::{Place, Public};

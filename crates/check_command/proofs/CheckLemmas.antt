@@ -18,7 +18,7 @@ use Rattle.command_ends.specs.declared.outcome.Outcome.TheVariants as outcome
 use Rattle.commands.specs.declared.status.Status.TheVariants as status
 use Rattle.commands.specs.CheckEnds.{IsEvidenceFor, IsWhy, accepted_line, refusal}
 use Rattle.commands.specs.Commands.{IsRight, found_steps, judging_steps}
-use Rattle.command_ends.specs.Outcomes.{EndsIn, Says}
+use Rattle.command_ends.specs.Outcomes.{EndsIn, SaysStatus}
 use Rattle.commands.specs.Steps.{Steps, accepted, refused, checked, ending, evidence_for, telling}
 use Rattle.command_ends.proofs.ServingLemmas.{goes_past_finding, same_again, says_comes, says_ends, work_ends}
 
@@ -33,7 +33,7 @@ evidence_is_right p t e bytes is text = record { evidence = e; is_evidence = evi
 
 -- it is told which evidence was written
 pub told_ends : (p : Public) (t : Trace) (e : Evidence) (bytes : List ℕ) (o : Outcome) (s : ShelfState) → IsEvidence p t e → bytes ≡ evidence_text e
-    → Says o status.Ok (accepted_line e) → EndsIn (Some (ending (telling (constants_of p.params) (claim_of p.statement) t bytes))) o s s
+    → SaysStatus o status.Ok (accepted_line e) → EndsIn (Some (ending (telling (constants_of p.params) (claim_of p.statement) t bytes))) o s s
 told_ends p t e bytes o s is text says =
     let end = telling (constants_of p.params) (claim_of p.statement) t bytes in
     work_ends end o s (says_ends end status.Ok (accepted_line e) o refl
@@ -50,21 +50,21 @@ accepted_goes p t name o old new is ends =
 
 -- one that is refused, where want of memory is answered by itself
 pub refused_ends : (p : Public) (t : Trace) (name : List ℕ) (r : Refused) (o : Outcome) (s : ShelfState) → IsRefusal p t r
-    → (r ≡ why.Memory → o ≡ outcome.Memory) → Says o status.Refused (refused_line r)
+    → (r ≡ why.Memory → o ≡ outcome.Memory) → SaysStatus o status.Refused (refused_line r)
     → EndsIn (Some (judging_steps name (constants_of p.params) t (claim_of p.statement))) o s s
 refused_ends p t name r o s is wants says = by r is wants says
   where
     steps : Steps
     steps = judging_steps name (constants_of p.params) t (claim_of p.statement)
 
-    goes : (r : Refused) → IsWhy p t r → Says o status.Refused (refused_line r) → EndsIn (Some steps) o s s
+    goes : (r : Refused) → IsWhy p t r → SaysStatus o status.Refused (refused_line r) → EndsIn (Some steps) o s s
     goes r is says =
         goes_past_finding (checked (constants_of p.params) (claim_of p.statement) t)
         (found_steps name (constants_of p.params) (claim_of p.statement) t)
         (refused r) s (record { against = p; is_public = record { params = refl; statement = refl }; found = is }) o s
         (work_ends (refusal r) o s (says_comes status.Refused (refused_line r) o refl says))
 
-    by : (r : Refused) → IsRefusal p t r → (r ≡ why.Memory → o ≡ outcome.Memory) → Says o status.Refused (refused_line r) → EndsIn (Some steps) o s s
+    by : (r : Refused) → IsRefusal p t r → (r ≡ why.Memory → o ≡ outcome.Memory) → SaysStatus o status.Refused (refused_line r) → EndsIn (Some steps) o s s
     by (why.Fault f) is wants says = goes (why.Fault f) is says
     by (why.Bus bus tuple asked given) is wants says = goes (why.Bus bus tuple asked given) is says
     by why.Memory is wants says = subst (λ x. EndsIn (Some steps) x s s) (sym (wants refl)) (same_again steps s)

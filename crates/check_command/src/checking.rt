@@ -8,7 +8,7 @@ ghost use Rattle.commands.specs.Commands.{check_steps, found_steps, judging_step
 ghost use Rattle.checker.specs.declared.refusal.Refused.TheVariants as why;
 ghost use Rattle.refusal_lines.specs.Lines.{refused_line};
 ghost use Rattle.command_ends.specs.declared.outcome.Outcome.TheVariants as outcome;
-ghost use Rattle.command_ends.specs.Outcomes.{EndsIn, Says};
+ghost use Rattle.command_ends.specs.Outcomes.{EndsIn, SaysStatus};
 ghost use Rattle.commands.specs.Steps.{accepted};
 
 use air_kit::{Public, Trace};
@@ -151,7 +151,7 @@ fn judge<F: Shelf, G: Gate>(
 // Tells why a trace is refused.
 #[tactic(auto, using(command_ends::proofs::OutcomeLemmas::says_line))]
 fn refuse(alloc: Global, refused: &Refused) -> Outcome
-    ensures says { Says result Status.Refused (refused_line refused.now) }
+    ensures says { SaysStatus result Status.Refused (refused_line refused.now) }
     ensures memory { refused.now ≡ why.Memory → result ≡ outcome.Memory }
 {
     match refused {

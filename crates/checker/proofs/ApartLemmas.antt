@@ -13,7 +13,7 @@ use Rattle.buses.specs.declared.bus.Bus.TheVariants as bus
 use Rattle.bus_kit.specs.ByBus.{asked_by, given_by}
 use Rattle.bus_kit.specs.declared.tallies.Tallies.{Tallies}
 use Rattle.checker.specs.Counting.{IsTraceCounted}
-use Rattle.checker.specs.Refusals.{AreAlikeBelow, IsApartAnswer, IsApartBelow, IsFirstApart, IsRefusal, OnBuses}
+use Rattle.checker.specs.Refusals.{BusesAreAlikeBelow, IsApartAnswer, IsApartBelow, IsFirstApart, IsRefusal, OnBuses}
 use Rattle.checker.specs.declared.refusal.Apart.{Apart}
 use Rattle.checker.specs.declared.refusal.Refused.{Refused}
 use Rattle.checker.specs.declared.refusal.Refused.TheVariants as refused
@@ -72,8 +72,8 @@ bus_some bus.Range = lit< tt
 bus_some bus.Kernel = lit< tt
 
 -- one bus more is alike
-pub alike_next : (asked given : OnBuses) (b : Bus) → AreAlikeBelow asked given (bus_number b) → AreAlike (asked b) (given b)
-    → AreAlikeBelow asked given (suc (bus_number b))
+pub alike_next : (asked given : OnBuses) (b : Bus) → BusesAreAlikeBelow asked given (bus_number b) → AreAlike (asked b) (given b)
+    → BusesAreAlikeBelow asked given (suc (bus_number b))
 alike_next asked given b below alike other h =
     elim (cases_Bool (ltb (bus_number other) (bus_number b))) [
       | inl lower ↦ below other (ltb-true (bus_number other) (bus_number b) lower)
@@ -84,7 +84,7 @@ alike_next asked given b below alike other h =
     ]
 
 -- before the first bus
-pub none_before : (asked given : OnBuses) → AreAlikeBelow asked given 1
+pub none_before : (asked given : OnBuses) → BusesAreAlikeBelow asked given 1
 none_before asked given b h = absurd (let some = bus_some b in omega (arith, h, some))
 
 -- all buses

@@ -16,17 +16,17 @@ abbrev pub OnBuses : Type 0
 OnBuses = Bus → List ℕ → ℕ
 
 -- on each bus of a lesser number each tuple is asked as often as it is given
-abbrev pub AreAlikeBelow : OnBuses → OnBuses → ℕ → Type 0
-AreAlikeBelow asked given n = (bus : Bus) → bus_number bus < n → AreAlike (asked bus) (given bus)
+abbrev pub BusesAreAlikeBelow : OnBuses → OnBuses → ℕ → Type 0
+BusesAreAlikeBelow asked given n = (bus : Bus) → bus_number bus < n → AreAlike (asked bus) (given bus)
 
 -- the first bus with counts that are apart, and there the least tuple
 pub record IsFirstApart (asked given : OnBuses) (a : Apart) : Type 0 where
-  pub earlier : AreAlikeBelow asked given (bus_number a.bus)
+  pub earlier : BusesAreAlikeBelow asked given (bus_number a.bus)
   pub least : IsLeastApart (asked a.bus) (given a.bus) a.tuple a.asked a.given
 
 -- the answer where the buses of a lesser number were compared
 abbrev pub IsApartBelow : OnBuses → OnBuses → ℕ → Option Apart → Type 0
-IsApartBelow asked given n None = AreAlikeBelow asked given n
+IsApartBelow asked given n None = BusesAreAlikeBelow asked given n
 IsApartBelow asked given n (Some a) = IsFirstApart asked given a
 
 -- the answer where all were

@@ -3,12 +3,11 @@
 
 mod checking;
 mod counting;
-mod counts;
 mod crossing;
 mod refusal;
 
 pub use checking::{Valid, check};
-pub use counts::has_counts;
 pub use crossing::types_cross;
 pub use refusal::Refused;
 pub use row_checks::check_rows;
+pub use row_counts::has_counts;

@@ -4,10 +4,10 @@ use Rattle.std.specs.Result.{IfOk}
 use Rattle.vm_field.specs.declared.refusal.Memory.{Memory}
 use Rattle.commands.specs.declared.status.Status.{Status}
 use Rattle.command_ends.specs.declared.outcome.Outcome.{Outcome}
-use Rattle.command_ends.specs.Outcomes.{Says, SaysLine}
+use Rattle.command_ends.specs.Outcomes.{SaysStatus, SaysLine}
 
 -- the answer has the line that was made
 pub says_line : (o : Outcome) (s : Status) (made : Result (List ℕ) Memory) (line : List ℕ) → SaysLine o s made
-    → IfOk made (λ l. l ≡ line) → Says o s line
-says_line o s (Ok l) line says is = subst (Says o s) is says
-says_line o s (Err e) line says is = subst (λ x. Says x s line) (sym says) tt
+    → IfOk made (λ l. l ≡ line) → SaysStatus o s line
+says_line o s (Ok l) line says is = subst (SaysStatus o s) is says
+says_line o s (Err e) line says is = subst (λ x. SaysStatus x s line) (sym says) tt

@@ -11,17 +11,17 @@ use Rattle.commands.specs.declared.status.Status.TheVariants as status
 use Rattle.commands.specs.declared.answer.Answer.{Answer}
 use Rattle.command_ends.specs.declared.outcome.Outcome.{Outcome}
 use Rattle.command_ends.specs.declared.outcome.Outcome.TheVariants as outcome
-use Rattle.commands.specs.Statuses.{Kind, planned, failed_read, failed_write, kind_of}
+use Rattle.commands.specs.Statuses.{StatusKind, planned, failed_read, failed_write, kind_of}
 use Rattle.commands.specs.Steps.{End, stop, Finding, Question, Right, Steps, reading, writing, asking, ending, ends_with, named_line}
 use Rattle.commands.specs.Commands.{Finds, IsRight, EndsAs}
-use Rattle.commands.specs.Serving.{none_yet, past_read, past_write, past_finding, Leads, Concludes, NoFault, Ends, Stops, FailsAtRead, FailsAtWrite, Works, GivesUp}
-use Rattle.command_ends.specs.Outcomes.{Fits, ComesTo, EndsIn, GoesOn, Says}
+use Rattle.commands.specs.Serving.{none_yet, past_read, past_write, past_finding, ComesWhere, Concludes, NoFault, Ends, Stops, FailsAtRead, FailsAtWrite, Works, GivesUp}
+use Rattle.command_ends.specs.Outcomes.{IsAnswerOfEnd, ComesTo, EndsIn, Continues, SaysStatus}
 
 no_fault : (s : ShelfState) → NoFault s s
 no_fault s = record { reads = refl; writes = refl }
 
 -- the steps stand where they began
-here : (steps : Steps) (P : Steps → Option Files → Type 0) (m : Option Files) → P steps m → Leads steps P m
+here : (steps : Steps) (P : Steps → Option Files → Type 0) (m : Option Files) → P steps m → ComesWhere steps P m
 here steps P m there = record { left = steps; now = m; passes = none_yet; there = there }
 
 -- no step was taken
@@ -41,28 +41,28 @@ work_ends end outcome.Memory s h = same_again (ending end) s
 
 -- what is said is one of the end's answers
 pub says_ends : (end : End) (s : Status) (line : List ℕ) (o : Outcome) → kind_of s ≡ planned → EndsAs end (ends_with s line)
-    → Says o s line → ComesTo end o
-says_ends end s line (outcome.Ends a) kind ends is = subst (Fits end) (sym is) (record { ends = ends; kind = kind })
+    → SaysStatus o s line → ComesTo end o
+says_ends end s line (outcome.Ends a) kind ends is = subst (IsAnswerOfEnd end) (sym is) (record { ends = ends; kind = kind })
 says_ends end s line outcome.Memory kind ends is = tt
 
 -- what is said is the end that is determined
-pub says_comes : (s : Status) (line : List ℕ) (o : Outcome) → kind_of s ≡ planned → Says o s line → ComesTo (stop s line) o
+pub says_comes : (s : Status) (line : List ℕ) (o : Outcome) → kind_of s ≡ planned → SaysStatus o s line → ComesTo (stop s line) o
 says_comes s line o kind is = says_ends (stop s line) s line o kind refl is
 
 -- what is said, for what holds of the answer and at want of memory
-said : (steps : Option Steps) (s : Status) (line : List ℕ) (o : Outcome) (old new : ShelfState) → Says o s line
+said : (steps : Option Steps) (s : Status) (line : List ℕ) (o : Outcome) (old new : ShelfState) → SaysStatus o s line
     → Works steps (kind_of s) (ends_with s line) old new → GivesUp steps old new → EndsIn steps o old new
 said steps s line (outcome.Ends a) old new is works gives_up = subst (λ (x : Answer). Works steps (kind_of x.status) x old new) (sym is) works
 said steps s line outcome.Memory old new is works gives_up = gives_up
 
 -- words of no command
-pub usage_ends : (o : Outcome) (s : ShelfState) → Says o status.Usage (codes "usage\n") → EndsIn None o s s
+pub usage_ends : (o : Outcome) (s : ShelfState) → SaysStatus o status.Usage (codes "usage\n") → EndsIn None o s s
 usage_ends o s is = said None status.Usage (codes "usage\n") o s s is (refl, refl) refl
 
 -- a file that is missing, or too long
 refused_file : (name : List ℕ) (most : ℕ) (next : List ℕ → Steps) (a : Answer) (o : Outcome) (old new : ShelfState) → new ≡ old
     → kind_of a.status ≡ planned
-    → Concludes (reading name most next) old.files a → Says o a.status a.line → EndsIn (Some (reading name most next)) o old new
+    → Concludes (reading name most next) old.files a → SaysStatus o a.status a.line → EndsIn (Some (reading name most next)) o old new
 refused_file name most next a o old new same kind last is =
     subst (EndsIn (Some (reading name most next)) o old) (sym same)
     (said (Some (reading name most next)) a.status a.line o old old is (concluded (reading name most next) a old kind last)
@@ -70,13 +70,13 @@ refused_file name most next a o old new same kind last is =
 
 pub missing_ends : (name : List ℕ) (most : ℕ) (next : List ℕ → Steps) (o : Outcome) (old new : ShelfState) → new ≡ old
     → Told old (λ m. get m name ≡ None)
-    → Says o status.Missing (named_line (codes "missing ") name) → EndsIn (Some (reading name most next)) o old new
+    → SaysStatus o status.Missing (named_line (codes "missing ") name) → EndsIn (Some (reading name most next)) o old new
 missing_ends name most next o old new same none is =
     refused_file name most next (ends_with status.Missing (named_line (codes "missing ") name)) o old new same refl (None, none, refl) is
 
 pub too_long_ends : (name : List ℕ) (most : ℕ) (next : List ℕ → Steps) (o : Outcome) (old new : ShelfState) → new ≡ old
     → Told old (λ m. IsSomeAnd (get m name) (λ bytes. most < length bytes))
-    → Says o status.TooLong (named_line (codes "too long ") name) → EndsIn (Some (reading name most next)) o old new
+    → SaysStatus o status.TooLong (named_line (codes "too long ") name) → EndsIn (Some (reading name most next)) o old new
 too_long_ends name most next o old new same long is = refused_file name most next answer o old new same refl (told old.files long) is
   where
     answer : Answer
@@ -98,7 +98,7 @@ named (Some old) new name short is = subst (λ o. IfSome o (λ failed. failed �
 
 pub read_fault_ends : (name : List ℕ) (most : ℕ) (next : List ℕ → Steps) (o : Outcome) (old new : ShelfState) → length name ≤ 200
     → ReadFails old new name
-    → Says o status.ReadFault (named_line (codes "read fault ") name) → EndsIn (Some (reading name most next)) o old new
+    → SaysStatus o status.ReadFault (named_line (codes "read fault ") name) → EndsIn (Some (reading name most next)) o old new
 read_fault_ends name most next o old new short f is =
     said (Some (reading name most next)) status.ReadFault _ o old new is (name, fails, refl) (inr (inl (name, fails)))
   where
@@ -112,7 +112,7 @@ read_fault_ends name most next o old new short f is =
 pub write_fault_ends : (name : List ℕ) (right : Right) (next : List ℕ → Steps) (bytes : List ℕ) (o : Outcome) (old new : ShelfState)
     → length name ≤ 200
     → IsRight right bytes → WriteFails old new name bytes
-    → Says o status.WriteFault (named_line (codes "write fault ") name) → EndsIn (Some (writing name right next)) o old new
+    → SaysStatus o status.WriteFault (named_line (codes "write fault ") name) → EndsIn (Some (writing name right next)) o old new
 write_fault_ends name right next bytes o old new short fit f is =
     said (Some (writing name right next)) status.WriteFault _ o old new is (name, fails, refl) (inr (inr (name, fails)))
   where
@@ -125,7 +125,7 @@ write_fault_ends name right next bytes o old new short fit f is =
 
 -- The rest of the steps goes on from where these steps came to without a fault.
 module _ (steps rest : Steps) (old mid : ShelfState) (counts : NoFault old mid)
-    (behind : (P : Steps → Option Files → Type 0) → Leads rest P mid.files → Leads steps P old.files) where
+    (behind : (P : Steps → Option Files → Type 0) → ComesWhere rest P mid.files → ComesWhere steps P old.files) where
   ends_further : (a : Answer) (new : ShelfState) → Ends rest a mid new → Ends steps a old new
   ends_further a new h = record {
     counts = record { reads = h.counts.reads ∙ counts.reads; writes = h.counts.writes ∙ counts.writes };
@@ -152,13 +152,13 @@ module _ (steps rest : Steps) (old mid : ShelfState) (counts : NoFault old mid)
     files = behind _ h.files;
   }
 
-  works_further : (kind : Kind) (a : Answer) (new : ShelfState) → Works (Some rest) kind a mid new → Works (Some steps) kind a old new
+  works_further : (kind : StatusKind) (a : Answer) (new : ShelfState) → Works (Some rest) kind a mid new → Works (Some steps) kind a old new
   works_further planned a new h = ends_further a new h
   works_further failed_read a new h = (h.0, read_fails_further h.0 new h.1, h.2)
   works_further failed_write a new h = (h.0, write_fails_further h.0 new h.1, h.2)
   works_further kind a new h = absurd h
 
-  goes_further : GoesOn steps rest old mid
+  goes_further : Continues steps rest old mid
   goes_further (outcome.Ends a) new h = works_further (kind_of a.status) a new h
   goes_further outcome.Memory new (inl h) = inl (stops_further new h)
   goes_further outcome.Memory new (inr (inl h)) = inr (inl (h.0, read_fails_further h.0 new h.1))
@@ -166,18 +166,18 @@ module _ (steps rest : Steps) (old mid : ShelfState) (counts : NoFault old mid)
 
 -- a file that was read
 pub goes_past_read : (name : List ℕ) (most : ℕ) (next : List ℕ → Steps) (bytes : List ℕ) (old mid : ShelfState) → Reads old mid name most bytes
-    → GoesOn (reading name most next) (next bytes) old mid
+    → Continues (reading name most next) (next bytes) old mid
 goes_past_read name most next bytes old mid found =
-    subst (GoesOn (reading name most next) (next bytes) old) (sym found.same)
+    subst (Continues (reading name most next) (next bytes) old) (sym found.same)
     (goes_further (reading name most next) (next bytes) old old (no_fault old) past)
   where
-    past : (P : Steps → Option Files → Type 0) → Leads (next bytes) P old.files → Leads (reading name most next) P old.files
+    past : (P : Steps → Option Files → Type 0) → ComesWhere (next bytes) P old.files → ComesWhere (reading name most next) P old.files
     past P h = record { left = h.left; now = h.now; passes = past_read name most next bytes found.file found.within h.passes; there = h.there }
 
 -- a file that a taker took
 pub goes_past_taken : (name : List ℕ) (most : ℕ) (took : List ℕ → Type 0) (old mid : ShelfState)
     → (bytes : List ℕ) × Reads old mid name most bytes × took bytes
-    → (bytes : List ℕ) × took bytes × ((next : List ℕ → Steps) → GoesOn (reading name most next) (next bytes) old mid)
+    → (bytes : List ℕ) × took bytes × ((next : List ℕ → Steps) → Continues (reading name most next) (next bytes) old mid)
 goes_past_taken name most took old mid found = (found.0, found.2, λ next. goes_past_read name most next found.0 old mid found.1)
 
 -- want of memory, at a read that changed nothing
@@ -187,18 +187,18 @@ gives_up_at steps old new same = subst (EndsIn (Some steps) outcome.Memory old) 
 -- a file that was written
 pub goes_past_write : (name : List ℕ) (right : Right) (next : List ℕ → Steps) (bytes : List ℕ) (old mid : ShelfState) → IsRight right bytes
     → mid ≡ record old { files = with_file old.files name bytes }
-    → GoesOn (writing name right next) (next bytes) old mid
+    → Continues (writing name right next) (next bytes) old mid
 goes_past_write name right next bytes old mid fit is =
-    subst (GoesOn (writing name right next) (next bytes) old) (sym is)
+    subst (Continues (writing name right next) (next bytes) old) (sym is)
     (goes_further (writing name right next) (next bytes) old _ (record { reads = refl; writes = refl }) past)
   where
-    past : (P : Steps → Option Files → Type 0) → Leads (next bytes) P (with_file old.files name bytes) → Leads (writing name right next) P old.files
+    past : (P : Steps → Option Files → Type 0) → ComesWhere (next bytes) P (with_file old.files name bytes) → ComesWhere (writing name right next) P old.files
     past P h = record { left = h.left; now = h.now; passes = past_write name right next bytes fit h.passes; there = h.there }
 
 -- something that was found
 pub goes_past_finding : (question : Question) (next : Finding question → Steps) (finding : Finding question) (s : ShelfState) → Finds question finding
-    → GoesOn (asking question next) (next finding) s s
+    → Continues (asking question next) (next finding) s s
 goes_past_finding question next finding s found = goes_further (asking question next) (next finding) s s (no_fault s) past
   where
-    past : (P : Steps → Option Files → Type 0) → Leads (next finding) P s.files → Leads (asking question next) P s.files
+    past : (P : Steps → Option Files → Type 0) → ComesWhere (next finding) P s.files → ComesWhere (asking question next) P s.files
     past P h = record { left = h.left; now = h.now; passes = past_finding question next finding found h.passes; there = h.there }

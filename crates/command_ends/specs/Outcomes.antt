@@ -14,13 +14,13 @@ use Rattle.commands.specs.Commands.{EndsAs}
 use Rattle.commands.specs.Serving.{Works, GivesUp}
 
 -- the answer is one of the end's
-pub record Fits (end : End) (a : Answer) : Type 0 where
+pub record IsAnswerOfEnd (end : End) (a : Answer) : Type 0 where
   pub ends : EndsAs end a
   pub kind : kind_of a.status ≡ planned
 
 -- What the command's own work comes to, with no call of the shelf. Want of memory says nothing.
 abbrev pub ComesTo : End → Outcome → Type 0
-ComesTo end (outcome.Ends a) = Fits end a
+ComesTo end (outcome.Ends a) = IsAnswerOfEnd end a
 ComesTo end outcome.Memory = Unit {0}
 
 -- these steps ended, from the old shelf to the new one
@@ -29,21 +29,21 @@ EndsIn steps (outcome.Ends a) old new = Works steps (kind_of a.status) a old new
 EndsIn steps outcome.Memory old new = GivesUp steps old new
 
 -- However the rest ends from here, so the steps end from where they began.
-abbrev pub GoesOn : Steps → Steps → ShelfState → ShelfState → Type 0
-GoesOn steps rest old mid = (end : Outcome) (new : ShelfState) → EndsIn (Some rest) end mid new → EndsIn (Some steps) end old new
+abbrev pub Continues : Steps → Steps → ShelfState → ShelfState → Type 0
+Continues steps rest old mid = (end : Outcome) (new : ShelfState) → EndsIn (Some rest) end mid new → EndsIn (Some steps) end old new
 
 -- an answer that is this status with this line, unless memory is refused
-abbrev pub Says : Outcome → Status → List ℕ → Type 0
-Says (outcome.Ends a) s line = a ≡ ends_with s line
-Says outcome.Memory s line = Unit {0}
+abbrev pub SaysStatus : Outcome → Status → List ℕ → Type 0
+SaysStatus (outcome.Ends a) s line = a ≡ ends_with s line
+SaysStatus outcome.Memory s line = Unit {0}
 
 -- an answer that is this one, unless memory is refused
 abbrev pub SaysAnswer : Outcome → Answer → Type 0
-SaysAnswer o a = Says o a.status a.line
+SaysAnswer o a = SaysStatus o a.status a.line
 
 -- the answer with a line, where there was memory for it
 abbrev pub SaysLine : Outcome → Status → Result (List ℕ) Memory → Type 0
-SaysLine o s (Ok line) = Says o s line
+SaysLine o s (Ok line) = SaysStatus o s line
 SaysLine o s (Err e) = o ≡ outcome.Memory
 
 -- What printing a command's line leaves. A status other than the command's own says that the sink or memory failed.

@@ -1,7 +1,7 @@
 // Files that are not of their form.
 ghost use Rattle.std.specs.Prelude.{◌≡◌, IfOk};
 ghost use Rattle.rpo_hash.specs.CauseText.{cause_text as param_cause_text};
-ghost use Rattle.command_ends.specs.Outcomes.{Says};
+ghost use Rattle.command_ends.specs.Outcomes.{SaysStatus};
 ghost use Rattle.commands.specs.Malformed.{malformed_line, malformed_table_line, malformed_text_line};
 
 use crate::lines::append_number;
@@ -16,14 +16,14 @@ use vm_field::{Bytes, Memory};
 /// `malformed NAME line N CAUSE`
 #[tactic(auto, using(crate::proofs::OutcomeLemmas::says_line))]
 pub fn malformed(alloc: Global, name: &str, line: u32, cause: &str) -> Outcome
-    ensures { Says result Status.Malformed (malformed_line name.now line cause.now) }
+    ensures { SaysStatus result Status.Malformed (malformed_line name.now line cause.now) }
 {
     answered(Status::Malformed, malformed_line(alloc, name, line, cause))
 }
 
 /// The answer to parameters that are not of their form.
 pub fn malformed_params(alloc: Global, name: &str, error: ParamError) -> Outcome
-    ensures { Says result Status.Malformed (malformed_line name.now error.line (param_cause_text error.cause)) }
+    ensures { SaysStatus result Status.Malformed (malformed_line name.now error.line (param_cause_text error.cause)) }
 {
     malformed(alloc, name, error.line, param_cause(error.cause))
 }
@@ -45,7 +45,7 @@ fn malformed_line(alloc: Global, name: &str, line: u32, cause: &str) -> Result<B
 /// The answer to a JSON text that is not of its form: `malformed NAME CAUSE`.
 #[tactic(auto, using(crate::proofs::OutcomeLemmas::says_line))]
 pub fn malformed_text(alloc: Global, name: &str, cause: TextCause) -> Outcome
-    ensures { Says result Status.Malformed (malformed_text_line name.now cause) }
+    ensures { SaysStatus result Status.Malformed (malformed_text_line name.now cause) }
 {
     answered(Status::Malformed, malformed_text_line(alloc, name, cause))
 }
@@ -64,7 +64,7 @@ fn malformed_text_line(alloc: Global, name: &str, cause: TextCause) -> Result<By
 /// `malformed NAME offset N CAUSE`
 #[tactic(auto, using(crate::proofs::OutcomeLemmas::says_line))]
 pub fn malformed_table(alloc: Global, name: &str, offset: u64, cause: FileCause) -> Outcome
-    ensures { Says result Status.Malformed (malformed_table_line name.now offset cause) }
+    ensures { SaysStatus result Status.Malformed (malformed_table_line name.now offset cause) }
 {
     answered(
         Status::Malformed,

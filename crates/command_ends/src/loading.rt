@@ -1,6 +1,6 @@
 ghost use Rattle.std.specs.Prelude.{ℕ, List, [], Some, Err, ◌≤◌, length, IfOk, OnOk, IfErr};
 ghost use Rattle.vm_io.specs.Shelf.{ReadStep, ShelfState};
-ghost use Rattle.command_ends.specs.Outcomes.{EndsIn, GoesOn};
+ghost use Rattle.command_ends.specs.Outcomes.{EndsIn, Continues};
 ghost use Rattle.commands.specs.Steps.{Steps, reading};
 
 use crate::outcome::{Outcome, named_answer};
@@ -30,7 +30,7 @@ pub const MOST_TABLE_BYTES: u64 = 1_073_741_824;
 pub fn load<F: Shelf>(alloc: Global, shelf: &mut F, name: &str, most: u64) -> Result<Bytes, Outcome>
     requires { length name.now ≤ 200 }
     ensures found { IfOk result (λ bytes. (next : List ℕ → Steps)
-        → GoesOn (reading name.now most next) (next bytes) (F.state shelf.old) (F.state shelf.new)) }
+        → Continues (reading name.now most next) (next bytes) (F.state shelf.old) (F.state shelf.new)) }
     ensures short { IfOk result (λ bytes. length bytes ≤ most) }
     ensures stopped { IfErr result (λ end. (next : List ℕ → Steps)
         → EndsIn (Some (reading name.now most next)) end (F.state shelf.old) (F.state shelf.new)) }
@@ -52,7 +52,7 @@ pub fn load_pieces<F: Shelf, T: Taker>(
     requires name { length name.now ≤ 200 }
     requires fresh { T.took taker.old [] }
     ensures found { OnOk result ((bytes : List ℕ) × T.took taker.new bytes × ((next : List ℕ → Steps)
-        → GoesOn (reading name.now most next) (next bytes) (F.state shelf.old) (F.state shelf.new))) }
+        → Continues (reading name.now most next) (next bytes) (F.state shelf.old) (F.state shelf.new))) }
     ensures stopped { IfErr result (λ end. (next : List ℕ → Steps)
         → EndsIn (Some (reading name.now most next)) end (F.state shelf.old) (F.state shelf.new)) }
 {

@@ -1,5 +1,5 @@
 ghost use Rattle.std.specs.Prelude.{◌≡◌, IfOk};
-ghost use Rattle.command_ends.specs.Outcomes.{Says, SaysLine};
+ghost use Rattle.command_ends.specs.Outcomes.{SaysStatus, SaysLine};
 ghost use Rattle.commands.specs.Steps.{named_line};
 
 use commands::{Answer, Status};
@@ -28,7 +28,7 @@ pub fn answered(status: Status, line: Result<Bytes, Memory>) -> Outcome
 /// The answer whose line is a text and a name behind it.
 #[tactic(auto, using(crate::proofs::OutcomeLemmas::says_line))]
 pub fn named_answer(alloc: Global, status: Status, text: &str, name: &str) -> Outcome
-    ensures { Says result status (named_line text.now name.now) }
+    ensures { SaysStatus result status (named_line text.now name.now) }
 {
     answered(status, line_with(alloc, text, name))
 }

@@ -1,6 +1,6 @@
 ghost use Rattle.std.specs.Prelude.{ℕ, List, Some, ◌≤◌, length, OnOk, IfErr};
 ghost use Rattle.commands.specs.Commands.{IsRight};
-ghost use Rattle.command_ends.specs.Outcomes.{EndsIn, GoesOn};
+ghost use Rattle.command_ends.specs.Outcomes.{EndsIn, Continues};
 ghost use Rattle.commands.specs.Steps.{Right, Steps, writing};
 
 use crate::outcome::{Outcome, named_answer};
@@ -14,7 +14,7 @@ use vm_io::{Shelf, WriteStop};
 pub fn save<F: Shelf>(alloc: Global, shelf: &mut F, name: &str, bytes: &[u8]) -> Result<(), Outcome>
     requires { length name.now ≤ 200 }
     ensures written { OnOk result ((right : Right) (next : List ℕ → Steps) → IsRight right bytes.now
-        → GoesOn (writing name.now right next) (next bytes.now) (F.state shelf.old) (F.state shelf.new)) }
+        → Continues (writing name.now right next) (next bytes.now) (F.state shelf.old) (F.state shelf.new)) }
     ensures stopped { IfErr result (λ end. (right : Right) (next : List ℕ → Steps) → IsRight right bytes.now
         → EndsIn (Some (writing name.now right next)) end (F.state shelf.old) (F.state shelf.new)) }
 {

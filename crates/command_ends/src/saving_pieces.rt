@@ -1,6 +1,6 @@
 ghost use Rattle.std.specs.Prelude.{ℕ, List, Some, ◌≤◌, length, OnOk, IfErr};
 ghost use Rattle.commands.specs.Commands.{IsRight};
-ghost use Rattle.command_ends.specs.Outcomes.{EndsIn, GoesOn};
+ghost use Rattle.command_ends.specs.Outcomes.{EndsIn, Continues};
 ghost use Rattle.commands.specs.Steps.{Right, Steps, writing};
 
 use crate::outcome::{Outcome, named_answer};
@@ -18,7 +18,7 @@ pub fn save_pieces<F: Shelf, P: Pieces>(
 ) -> Result<(), Outcome>
     requires { length name.now ≤ 200 }
     ensures written { OnOk result ((right : Right) (next : List ℕ → Steps) → IsRight right (P.rest pieces.old)
-        → GoesOn (writing name.now right next) (next (P.rest pieces.old)) (F.state shelf.old) (F.state shelf.new)) }
+        → Continues (writing name.now right next) (next (P.rest pieces.old)) (F.state shelf.old) (F.state shelf.new)) }
     ensures stopped { IfErr result (λ end. (right : Right) (next : List ℕ → Steps) → IsRight right (P.rest pieces.old)
         → EndsIn (Some (writing name.now right next)) end (F.state shelf.old) (F.state shelf.new)) }
 {

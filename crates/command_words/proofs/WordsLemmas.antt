@@ -10,7 +10,7 @@ use Rattle.vm_field.specs.FileName.{is_name_byte, begins_with_dash, is_file_name
 use Rattle.std.specs.Option.{option_or}
 use Rattle.std.specs.declared.vec.Vec.{Vec}
 use Rattle.std.specs.declared.alloc.Global.{Global}
-use Rattle.command_words.specs.Words.{Part, Mode, anything, positionals, value_comes, part_in, mode_behind, with_part, parts_from, value_in_part, value_of, file_name_of, texts}
+use Rattle.command_words.specs.Words.{CommandPart, Mode, anything, positionals, value_comes, part_in, mode_behind, with_part, parts_from, value_in_part, value_of, file_name_of, texts}
 
 byte_is_ascii : (b : ℕ) → is_name_byte b ≡ true → b < 128
 byte_is_ascii b h = grind (arith, nat_tests)
@@ -38,7 +38,7 @@ pub value_of_first : (wanted : List ℕ) (mode : Mode) (word : List ℕ) (words 
 unfolding parts_from
 value_of_first wanted mode word words = go mode
   where
-    first : (part : Option Part) (parts : List Part)
+    first : (part : Option CommandPart) (parts : List CommandPart)
         → value_of wanted (with_part part parts) ≡ option_or (value_in_part wanted part) (value_of wanted parts)
     first None parts = refl
     first (Some part) parts = refl

@@ -1,11 +1,11 @@
 -- The parts of words as the code holds them.
-use Rattle.command_words.specs.Words.{Part, positional, given, Mode, anything, positionals, value_comes}
+use Rattle.command_words.specs.Words.{CommandPart, positional, given, Mode, anything, positionals, value_comes}
 use Rattle.command_words.specs.declared.parts.WordPart.{WordPart}
 use Rattle.command_words.specs.declared.parts.WordPart.TheVariants as word_part
 use Rattle.command_words.specs.declared.parts.WordMode.{WordMode}
 use Rattle.command_words.specs.declared.parts.WordMode.TheVariants as word_mode
 
-abbrev pub part_of : WordPart → Part
+abbrev pub part_of : WordPart → CommandPart
 part_of (word_part.Positional word) = positional word.now
 part_of (word_part.Given name value) = given name.now value.now
 

@@ -8,10 +8,10 @@ use Rattle.std.specs.declared.alloc.Global.{Global}
 use Rattle.vm_field.specs.Decimal.{element_of}
 use Rattle.vm_field.specs.FileName.{is_file_name}
 
-pub data Part : Type 0 where
-  positional : (word : List ℕ) → Part
-  given : (name value : List ℕ) → Part  -- an option; the name with its dashes
-  lacking : Part  -- an option whose value is missing
+pub data CommandPart : Type 0 where
+  positional : (word : List ℕ) → CommandPart
+  given : (name value : List ℕ) → CommandPart  -- an option; the name with its dashes
+  lacking : CommandPart  -- an option whose value is missing
 
 -- what the next word may be
 pub data Mode : Type 0 where
@@ -29,7 +29,7 @@ abbrev pub sign_in : List ℕ → Option ℕ
 sign_in word = position (λ b. b == 61) word
 
 -- `--x=V` is an option with its value; behind `--x` the value comes as a word of its own
-abbrev pub option_part : List ℕ → Option ℕ → Option Part
+abbrev pub option_part : List ℕ → Option ℕ → Option CommandPart
 option_part word None = None
 option_part word (Some sign) = Some (given (take sign word) (drop (sign + 1) word))
 
@@ -38,7 +38,7 @@ mode_behind_option word None = value_comes word
 mode_behind_option word (Some sign) = anything
 
 -- the part that a word completes, if any
-abbrev pub part_in : Mode → List ℕ → Option Part
+abbrev pub part_in : Mode → List ℕ → Option CommandPart
 part_in anything word =
     if bytes_eq word (codes "--") then None
     else if begins_with_dashes word then option_part word (sign_in word)
@@ -55,37 +55,37 @@ mode_behind anything word =
 mode_behind positionals word = positionals
 mode_behind (value_comes name) word = anything
 
-abbrev pub with_part : Option Part → List Part → List Part
+abbrev pub with_part : Option CommandPart → List CommandPart → List CommandPart
 with_part None parts = parts
 with_part (Some part) parts = part ∷ parts
 
 -- the parts that words spell
-unfoldable pub parts_from : Mode → List (List ℕ) → List Part
+unfoldable pub parts_from : Mode → List (List ℕ) → List CommandPart
 parts_from (value_comes name) [] = lacking ∷ []
 parts_from mode [] = []
 parts_from mode (word ∷ words) = with_part (part_in mode word) (parts_from (mode_behind mode word) words)
 
 -- the positional of this number, counted from 0
-abbrev pub positional_at : ℕ → List Part → Option (List ℕ)
+abbrev pub positional_at : ℕ → List CommandPart → Option (List ℕ)
 positional_at i [] = None
 positional_at i (positional word ∷ parts) = if i == 0 then Some word else positional_at (i - 1) parts
 positional_at i (given name value ∷ parts) = positional_at i parts
 positional_at i (lacking ∷ parts) = positional_at i parts
 
 -- the value of an option of this name
-abbrev pub value_in_part : List ℕ → Option Part → Option (List ℕ)
+abbrev pub value_in_part : List ℕ → Option CommandPart → Option (List ℕ)
 value_in_part wanted None = None
 value_in_part wanted (Some (positional word)) = None
 value_in_part wanted (Some (given name value)) = if bytes_eq name wanted then Some value else None
 value_in_part wanted (Some lacking) = None
 
 -- the value of the first option of this name
-abbrev pub value_of : List ℕ → List Part → Option (List ℕ)
+abbrev pub value_of : List ℕ → List CommandPart → Option (List ℕ)
 value_of wanted [] = None
 value_of wanted (part ∷ parts) = option_or (value_in_part wanted (Some part)) (value_of wanted parts)
 
 -- so many positionals, and options of these names with their values, each at most once
-abbrev pub has_form : ℕ → List (List ℕ) → List Part → Bool
+abbrev pub has_form : ℕ → List (List ℕ) → List CommandPart → Bool
 has_form count names [] = count == 0
 has_form count names (positional word ∷ parts) = not (count == 0) && has_form (count - 1) names parts
 has_form count names (given name value ∷ parts) =

@@ -8,12 +8,12 @@ use Rattle.block_tree.specs.Execution as run
 use Rattle.block_tree.specs.TreeView.{tree_of}
 use Rattle.block_tree.specs.declared.program.Program.{Program}
 use Rattle.run_inputs.specs.Inputs.{Given, inputs_of}
-use Rattle.statement.specs.Statements.{Claim, claim_of}
+use Rattle.statement.specs.Statements.{Stated, claim_of}
 use Rattle.json_values.specs.declared.refusal.TextCause.{TextCause}
 use Rattle.air_kit.specs.Acceptance.{IsAccepted}
 use Rattle.air_kit.specs.declared.trace.Public.{Public}
 use Rattle.air_kit.specs.declared.trace.Trace.{Trace}
-use Rattle.run_rows.specs.BlockRows.{IsRun}
+use Rattle.run_rows.specs.BlockRows.{IsWholeRun}
 use Rattle.run_files.specs.RunFiles.{IsTableFileOf, IsStatementFileOf, claim_of_run}
 use Rattle.run_files.proofs.AcceptedLemmas.{files_accepted}
 use Rattle.vm_io.specs.Shelf.{Files, ShelfState}
@@ -24,14 +24,14 @@ use Rattle.checker.specs.declared.refusal.Refused.TheVariants as why
 use Rattle.commands.specs.declared.status.Status.{Status}
 use Rattle.commands.specs.declared.status.Status.TheVariants as status
 use Rattle.commands.specs.declared.answer.Answer.{Answer}
-use Rattle.commands.specs.Statuses.{Kind, kind_of, planned, no_command, failed_read, failed_write, failed_print, no_memory}
+use Rattle.commands.specs.Statuses.{StatusKind, kind_of, planned, no_command, failed_read, failed_write, failed_print, no_memory}
 use Rattle.commands.specs.Asked.{Outputs, run, asked}
 use Rattle.commands.specs.Steps.{SourceFile, Steps, Verdict, accepted, refused, Course, course, checked, telling, ending, stop, ends_with}
-use Rattle.commands.specs.CheckEnds.{IsFound, IsWhy}
+use Rattle.commands.specs.CheckEnds.{IsVerdictFor, IsWhy}
 use Rattle.commands.specs.RunEnds as ends
 use Rattle.commands.specs.RunEnds.{IsCourse, halted, trapped, unended}
 use Rattle.commands.specs.Commands.{steps_of, with_params, with_inputs, with_kernel, with_trace, with_statement, most_params_bytes, check_steps, table_steps, statement_steps, judging_steps, found_steps, run_steps, run_source_steps, kernel_steps, running_steps, course_steps}
-use Rattle.commands.specs.Serving.{Leads, Answers, Ends, Works}
+use Rattle.commands.specs.Serving.{ComesWhere, ServesAs, Ends, Works}
 use Rattle.commands.specs.Laws.{WrittenRunIsAccepted}
 use Rattle.commands.proofs.ApartNames.{AreApart, run_apart_names}
 use Rattle.commands.proofs.Walks.{Done, ended, not_ok, read_on, params_said, was_found, was_read, was_written}
@@ -48,7 +48,7 @@ record Left (params : List ℕ) (outputs : Outputs) (m : Files) (new : Option Fi
   program : Program
   last : State
   log : List run.Event
-  is_run : IsRun constants program.kernel limit (tree_of program.tree) given.stack given.advice last log
+  is_run : IsWholeRun constants program.kernel limit (tree_of program.tree) given.stack given.advice last log
   table : List ℕ
   shows : IsTableFileOf constants program.kernel last log table
   claimed : List ℕ
@@ -60,7 +60,7 @@ record LeftBehind (constants : List ℕ) (given : Given) (limit : ℕ) (outputs 
   program : Program
   last : State
   log : List run.Event
-  is_run : IsRun constants program.kernel limit (tree_of program.tree) given.stack given.advice last log
+  is_run : IsWholeRun constants program.kernel limit (tree_of program.tree) given.stack given.advice last log
   table : List ℕ
   shows : IsTableFileOf constants program.kernel last log table
   claimed : List ℕ
@@ -70,7 +70,7 @@ record LeftBehind (constants : List ℕ) (given : Given) (limit : ℕ) (outputs 
 -- the steps of `run`, which ended with `Ok` and this line
 module _ (line : List ℕ) (new : Option Files) where
   abbrev Went : Steps → Files → Type 0
-  Went steps m = Leads steps (Done (ends_with status.Ok line) new) (Some m)
+  Went steps m = ComesWhere steps (Done (ends_with status.Ok line) new) (Some m)
 
   inputs_said : (name : List ℕ) (next : Given → Steps) (read : Result Given TextCause) (m : Files) → Went (with_inputs name next read) m
       → (given : Given) × Went (next given) m
@@ -150,9 +150,9 @@ not_both p t why.Memory is h = h
 
 -- the steps of `check` over what `run` left, which ended with some answer
 module _ (a : Answer) (new : Option Files) where
-  verdict : (name constants : List ℕ) (claim : Claim) (t : Trace) (m : Files)
+  verdict : (name constants : List ℕ) (claim : Stated) (t : Trace) (m : Files)
       → ((p : Public) → constants_of p.params ≡ constants → claim_of p.statement ≡ claim → IsAccepted p t)
-      → (v : Verdict) → IsFound constants claim t v → Leads (found_steps name constants claim t v) (Done a new) (Some m) → a.status ≡ status.Ok
+      → (v : Verdict) → IsVerdictFor constants claim t v → ComesWhere (found_steps name constants claim t v) (Done a new) (Some m) → a.status ≡ status.Ok
   verdict name constants claim t m all accepted found h =
       let written = was_written a new name _ _ m h in
       let told = ended a new (telling constants claim t written.0) (insert m name written.0) written.2 in
@@ -162,21 +162,21 @@ module _ (a : Answer) (new : Option Files) where
 
   checked_well : (params evidence : List ℕ) (outputs : Outputs) (m n : Files) (new_files : Option Files) → AreApart params outputs
       → (left : Left params outputs m new_files) → n ≡ insert (insert m outputs.table left.table) outputs.statement left.claimed
-      → Leads (check_steps params outputs.table outputs.statement evidence) (Done a new) (Some n) → a.status ≡ status.Ok
+      → ComesWhere (check_steps params outputs.table outputs.statement evidence) (Done a new) (Some n) → a.status ≡ status.Ok
   checked_well params evidence outputs m n new_files apart left is h =
       let claim = claim_of_run left.constants (tree_of left.program.tree) left.program.kernel left.given.stack left.last.core.stack in
       let trace = left.shows.trace in
       let first = read_on a new params _ _ n left.text text_stands left.short h in
       let second =
-      subst (λ r. Leads (with_params params (table_steps outputs.table outputs.statement evidence) r) (Done a new) (Some n))
+      subst (λ r. ComesWhere (with_params params (table_steps outputs.table outputs.statement evidence) r) (Done a new) (Some n))
       left.says first in
       let third = read_on a new outputs.table _ _ n left.table table_stands left.shows.short second in
       let fourth =
-      subst (λ r. Leads (with_trace outputs.table (statement_steps outputs.statement evidence left.constants) r) (Done a new)
+      subst (λ r. ComesWhere (with_trace outputs.table (statement_steps outputs.statement evidence left.constants) r) (Done a new)
       (Some n)) left.shows.reads third in
       let fifth = read_on a new outputs.statement _ _ n left.claimed claimed_stands left.claims.short fourth in
       let sixth =
-      subst (λ r. Leads (with_statement outputs.statement (judging_steps evidence left.constants trace) r) (Done a new)
+      subst (λ r. ComesWhere (with_statement outputs.statement (judging_steps evidence left.constants trace) r) (Done a new)
       (Some n)) left.claims.reads fifth in
       let found = was_found a new (checked left.constants claim trace) (found_steps evidence left.constants claim trace) n sixth in
       verdict evidence left.constants claim trace n accepts found.0 found.1 found.2
@@ -206,8 +206,8 @@ module _ (a : Answer) (new : Option Files) where
           ∙ left.stands
 
 -- a status that is planned says how the steps ended
-planned_ends : (kind : Kind) (steps : Steps) (s : Status) (old new : ShelfState) (c d : SinkState) → kind ≡ kind_of s → kind ≡ planned
-    → Answers kind (Some steps) s old new c d → (line : List ℕ) × Ends steps (ends_with s line) old new
+planned_ends : (kind : StatusKind) (steps : Steps) (s : Status) (old new : ShelfState) (c d : SinkState) → kind ≡ kind_of s → kind ≡ planned
+    → ServesAs kind (Some steps) s old new c d → (line : List ℕ) × Ends steps (ends_with s line) old new
 planned_ends planned steps s old new c d of is h = (h.line, subst (λ k. Works (Some steps) k (ends_with s h.line) old new) (sym of) h.works)
 planned_ends no_command steps s old new c d of is h = absurd (cc)
 planned_ends failed_read steps s old new c d of is h = absurd (cc)
@@ -218,15 +218,15 @@ planned_ends no_memory steps s old new c d of is h = absurd (cc)
 pub written_run_is_accepted : WrittenRunIsAccepted
 written_run_is_accepted ran_by checked_by s old mid new a b c d m params source inputs evidence outputs kernel limit is ran_words
     went checked_words checks plan =
-    let answers : Answers planned (steps_of (run params source inputs outputs kernel limit)) status.Ok old mid a b
-    = subst (λ x. Answers planned (steps_of x) status.Ok old mid a b) ran_words went in
+    let answers : ServesAs planned (steps_of (run params source inputs outputs kernel limit)) status.Ok old mid a b
+    = subst (λ x. ServesAs planned (steps_of x) status.Ok old mid a b) ran_words went in
     let left = run_left answers.line mid.files params source inputs outputs kernel limit m
-    (subst (Leads (run_steps params source inputs outputs kernel limit) (Done (ends_with status.Ok answers.line) mid.files)) is
+    (subst (ComesWhere (run_steps params source inputs outputs kernel limit) (Done (ends_with status.Ok answers.line) mid.files)) is
     answers.works.files) in
     let ended_so = planned_ends (kind_of s) (check_steps params outputs.table outputs.statement evidence) s mid new c d refl plan
-    (subst (λ x. Answers (kind_of s) (steps_of x) s mid new c d) checked_words checks) in
+    (subst (λ x. ServesAs (kind_of s) (steps_of x) s mid new c d) checked_words checks) in
     checked_well (ends_with s ended_so.0) new.files params evidence outputs m
     (insert (insert m outputs.table left.table) outputs.statement left.claimed) mid.files
     (run_apart_names ran_by params source inputs outputs kernel limit ran_words) left refl
-    (subst (Leads (check_steps params outputs.table outputs.statement evidence) (Done (ends_with s ended_so.0) new.files))
+    (subst (ComesWhere (check_steps params outputs.table outputs.statement evidence) (Done (ends_with s ended_so.0) new.files))
     left.files ended_so.1.files)

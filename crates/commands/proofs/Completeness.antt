@@ -15,7 +15,7 @@ use Rattle.masm_link.specs.declared.refusal.AsmError.TheVariants.{Bad, Memory}
 use Rattle.masm_link.proofs.OneAnswer.{one_program}
 use Rattle.run_inputs.specs.Inputs.{Given, inputs_of}
 use Rattle.statement.specs.Statements as statements
-use Rattle.statement.specs.Statements.{Claim}
+use Rattle.statement.specs.Statements.{Stated}
 use Rattle.air_kit.specs.Acceptance.{AreZero, IsAccepted, asked_on, given_on}
 use Rattle.buses.specs.Counts.{AreAlike}
 use Rattle.air_kit.specs.Traces as traces
@@ -27,19 +27,19 @@ use Rattle.vm_io.specs.Sink.{SinkState}
 use Rattle.commands.specs.declared.status.Status.{Status}
 use Rattle.commands.specs.declared.status.Status.TheVariants as status
 use Rattle.commands.specs.declared.answer.Answer.{Answer}
-use Rattle.commands.specs.Statuses.{Kind, planned, no_command, failed_read, failed_write, failed_print, no_memory, kind_of}
+use Rattle.commands.specs.Statuses.{StatusKind, planned, no_command, failed_read, failed_write, failed_print, no_memory, kind_of}
 use Rattle.commands.specs.Asked.{Asked, Outputs, asked}
 use Rattle.commands.specs.Steps.{SourceFile, Steps, Verdict, accepted, refused, Course, course, checked, telling, assembly, reading, ending, ends_with}
 use Rattle.commands.specs.SourceEnds.{AssemblesFiles}
 use Rattle.commands.specs.AssembleEnds as assembling
 use Rattle.commands.specs.AssembleEnds.{AnswersAssembly, assembled}
 use Rattle.commands.specs.HashEnds.{hash_end}
-use Rattle.commands.specs.CheckEnds.{IsFound}
+use Rattle.commands.specs.CheckEnds.{IsVerdictFor}
 use Rattle.commands.specs.RunEnds as ends
 use Rattle.commands.specs.RunEnds.{IsCourse, halted, trapped, unended, outcome_of}
 use Rattle.commands.specs.Commands.{EndsAs, steps_of, with_params, with_inputs, with_kernel, with_trace, with_statement, most_params_bytes, most_numbers_bytes, most_inputs_bytes, hash_steps, numbers_steps, assemble_steps, assembly_steps, run_steps, run_source_steps, kernel_steps, running_steps, course_steps, check_steps, table_steps, statement_steps, judging_steps, found_steps}
-use Rattle.commands.specs.Serving.{Leads, Answers, Works, Ends}
-use Rattle.commands.specs.Completeness.{Says, HoldsSource, HoldsKernel, IsGood, hashes, assembles, runs, checks, IsFault, GoodIsOk}
+use Rattle.commands.specs.Serving.{ComesWhere, ServesAs, Works, Ends}
+use Rattle.commands.specs.Completeness.{FileSays, HoldsSource, HoldsKernel, IsGood, hashes, assembles, runs, checks, IsFault, GoodIsOk}
 use Rattle.commands.proofs.CompleteLaw.{not_both}
 use Rattle.commands.proofs.Walks as walks
 use Rattle.commands.proofs.Walks.{ended, read_on, was_found, was_written}
@@ -65,10 +65,10 @@ same_outcome constants source kernel p q given limit one other =
 same_accepted : (p q : Public) (t : Trace) → constants_of p.params ≡ constants_of q.params
     → statements.claim_of p.statement ≡ statements.claim_of q.statement → IsAccepted p t → IsAccepted q t
 same_accepted p q t params claims is =
-    let digest : p.statement.digest ≡ q.statement.digest = ap (λ (c : Claim). c.digest) claims in
-    let kernel : p.statement.kernel ≡ q.statement.kernel = ap (λ (c : Claim). c.kernel) claims in
-    let inputs : p.statement.inputs ≡ q.statement.inputs = ap (λ (c : Claim). c.inputs) claims in
-    let outputs : p.statement.outputs ≡ q.statement.outputs = ap (λ (c : Claim). c.outputs) claims in
+    let digest : p.statement.digest ≡ q.statement.digest = ap (λ (c : Stated). c.digest) claims in
+    let kernel : p.statement.kernel ≡ q.statement.kernel = ap (λ (c : Stated). c.kernel) claims in
+    let inputs : p.statement.inputs ≡ q.statement.inputs = ap (λ (c : Stated). c.inputs) claims in
+    let outputs : p.statement.outputs ≡ q.statement.outputs = ap (λ (c : Stated). c.outputs) claims in
     let same : traces.claim_of p t ≡ traces.claim_of q t = rw (params, kernel, inputs, outputs) refl in
     record {
       zero = subst (λ c. AreZero c t) same is.zero;
@@ -79,9 +79,9 @@ same_accepted p q t params claims is =
 -- steps over these files that ended with an answer
 module _ (a : Answer) (new : Option Files) (m : Files) where
   abbrev Goes : Steps → Type 0
-  Goes steps = Leads steps (walks.Done a new) (Some m)
+  Goes steps = ComesWhere steps (walks.Done a new) (Some m)
 
-  params_read : (name : List ℕ) (next : List ℕ → Steps) (constants : List ℕ) → Says m name most_params_bytes parameters_of constants
+  params_read : (name : List ℕ) (next : List ℕ → Steps) (constants : List ℕ) → FileSays m name most_params_bytes parameters_of constants
       → Goes (reading name most_params_bytes (λ bytes. with_params name next (parameters_of bytes))) → Goes (next constants)
   params_read name next constants h goes =
       subst (λ r. Goes (with_params name next r)) h.says (read_on a new name most_params_bytes _ m h.bytes h.stands h.short goes)
@@ -91,8 +91,8 @@ module _ (a : Answer) (new : Option Files) (m : Files) where
   kernel_read None kernel next is goes = subst (λ k. Goes (next k)) (sym is) goes
   kernel_read (Some name) kernel next is goes = subst (λ k. Goes (next k)) (sym is.2) (read_on a new name _ _ m is.0 is.1.stands is.1.short goes)
 
-  hashed : (params numbers constants elements : List ℕ) → Says m params most_params_bytes parameters_of constants
-      → Says m numbers most_numbers_bytes numbers_of elements → Goes (hash_steps params numbers) → a.status ≡ status.Ok
+  hashed : (params numbers constants elements : List ℕ) → FileSays m params most_params_bytes parameters_of constants
+      → FileSays m numbers most_numbers_bytes numbers_of elements → Goes (hash_steps params numbers) → a.status ≡ status.Ok
   hashed params numbers constants elements p n goes =
       let first = params_read params (numbers_steps numbers) constants p goes in
       let second = read_on a new numbers _ _ m n.bytes n.stands n.short first in
@@ -106,7 +106,7 @@ module _ (a : Answer) (new : Option Files) (m : Files) where
       absurd (bad_or_program constants source kernel program in_kernel line column cause is bad)
 
   assembled_well : (params constants : List ℕ) (source : SourceFile) (name : Option (List ℕ)) (kernel : Option SourceFile) (program : Program)
-      → Says m params most_params_bytes parameters_of constants → HoldsSource m source → HoldsKernel m name kernel
+      → FileSays m params most_params_bytes parameters_of constants → HoldsSource m source → HoldsKernel m name kernel
       → AssemblesFiles constants source kernel (Ok program) → Goes (assemble_steps params source.name name) → a.status ≡ status.Ok
   assembled_well params constants source name kernel program p s k is goes =
       let first = params_read params (assembly_steps source.name name) constants p goes in
@@ -131,7 +131,7 @@ module _ (a : Answer) (new : Option Files) (m : Files) where
 
   ran_well : (params constants inputs : List ℕ) (source : SourceFile) (name : Option (List ℕ)) (kernel : Option SourceFile) (outputs : Outputs)
       (limit : ℕ) (given : Given) (program : Program) (last : State) (log : List execution.Event)
-      → Says m params most_params_bytes parameters_of constants → HoldsSource m source → Says m inputs most_inputs_bytes inputs_of given
+      → FileSays m params most_params_bytes parameters_of constants → HoldsSource m source → FileSays m inputs most_inputs_bytes inputs_of given
       → HoldsKernel m name kernel → AssemblesFiles constants source kernel (Ok program)
       → outcome_of constants program given limit ≡ Done last log → Goes (run_steps params source.name inputs outputs name limit)
       → a.status ≡ status.Ok
@@ -144,8 +144,8 @@ module _ (a : Answer) (new : Option Files) (m : Files) where
       let found = was_found a new (course constants source kernel given limit) (course_steps outputs constants given) m fifth in
       course_ok constants source kernel outputs given limit program last log found.0 is done found.1 found.2
 
-  verdict_ok : (evidence constants : List ℕ) (claim : Claim) (t : Trace) (v : Verdict) → IsFound constants claim t accepted
-      → IsFound constants claim t v → Goes (found_steps evidence constants claim t v) → a.status ≡ status.Ok
+  verdict_ok : (evidence constants : List ℕ) (claim : Stated) (t : Trace) (v : Verdict) → IsVerdictFor constants claim t accepted
+      → IsVerdictFor constants claim t v → Goes (found_steps evidence constants claim t v) → a.status ≡ status.Ok
   verdict_ok evidence constants claim t accepted is found goes =
       let written = was_written a new evidence _ _ m goes in
       let told = ended a new (telling constants claim t written.0) (insert m evidence written.0) written.2 in
@@ -155,9 +155,9 @@ module _ (a : Answer) (new : Option Files) (m : Files) where
       (same_accepted is.against found.against t (is.is_public.params ∙ sym found.is_public.params)
       (is.is_public.statement ∙ sym found.is_public.statement) is.found) found.found)
 
-  checked_well : (params table statement evidence constants : List ℕ) (trace : Trace) (claim : Claim)
-      → Says m params most_params_bytes parameters_of constants → Says m table most_table_bytes trace_of trace
-      → Says m statement most_statement_bytes statements.statement_of claim → IsFound constants claim trace accepted
+  checked_well : (params table statement evidence constants : List ℕ) (trace : Trace) (claim : Stated)
+      → FileSays m params most_params_bytes parameters_of constants → FileSays m table most_table_bytes trace_of trace
+      → FileSays m statement most_statement_bytes statements.statement_of claim → IsVerdictFor constants claim trace accepted
       → Goes (check_steps params table statement evidence) → a.status ≡ status.Ok
   checked_well params table statement evidence constants trace claim p t s is goes =
       let first = params_read params (table_steps table statement evidence) constants p goes in
@@ -172,21 +172,21 @@ module _ (a : Answer) (new : Option Files) (m : Files) where
 good_ends : (c : Asked) (s : Status) (line : List ℕ) (old new : ShelfState) (m : Files) (steps : Steps) → steps_of c ≡ Some steps
     → old.files ≡ Some m → IsGood m c → Ends steps (ends_with s line) old new → s ≡ status.Ok
 good_ends c s line old new m steps are is good h =
-    of good are (subst (Leads steps (walks.Done (ends_with s line) new.files)) is h.files)
+    of good are (subst (ComesWhere steps (walks.Done (ends_with s line) new.files)) is h.files)
   where
-    of : {c : Asked} → IsGood m c → steps_of c ≡ Some steps → Leads steps (walks.Done (ends_with s line) new.files) (Some m) → s ≡ status.Ok
+    of : {c : Asked} → IsGood m c → steps_of c ≡ Some steps → ComesWhere steps (walks.Done (ends_with s line) new.files) (Some m) → s ≡ status.Ok
     of (hashes params numbers constants elements p n) are goes =
         hashed (ends_with s line) new.files m params numbers constants elements p n
-        (subst (λ x. Leads x (walks.Done (ends_with s line) new.files) (Some m)) (let e = are in cc) goes)
+        (subst (λ x. ComesWhere x (walks.Done (ends_with s line) new.files) (Some m)) (let e = are in cc) goes)
     of (assembles params constants source name kernel program p f k made) are goes =
         assembled_well (ends_with s line) new.files m params constants source name kernel program p f k made
-        (subst (λ x. Leads x (walks.Done (ends_with s line) new.files) (Some m)) (let e = are in cc) goes)
+        (subst (λ x. ComesWhere x (walks.Done (ends_with s line) new.files) (Some m)) (let e = are in cc) goes)
     of (runs params constants inputs source name kernel outputs limit given program last log p f i k made done) are goes =
         ran_well (ends_with s line) new.files m params constants inputs source name kernel outputs limit given program last log p f i k made done
-        (subst (λ x. Leads x (walks.Done (ends_with s line) new.files) (Some m)) (let e = are in cc) goes)
+        (subst (λ x. ComesWhere x (walks.Done (ends_with s line) new.files) (Some m)) (let e = are in cc) goes)
     of (checks params table statement evidence constants trace claim p t f found) are goes =
         checked_well (ends_with s line) new.files m params table statement evidence constants trace claim p t f found
-        (subst (λ x. Leads x (walks.Done (ends_with s line) new.files) (Some m)) (let e = are in cc) goes)
+        (subst (λ x. ComesWhere x (walks.Done (ends_with s line) new.files) (Some m)) (let e = are in cc) goes)
 
 -- and has steps
 good_steps : (m : Files) (c : Asked) → IsGood m c → (steps : Steps) × (steps_of c ≡ Some steps)
@@ -196,8 +196,8 @@ good_steps m c (runs params constants inputs source name kernel outputs limit gi
 good_steps m c (checks params table statement evidence constants trace claim p t f found) = (_, refl)
 
 -- whatever is answered
-good_answers : (kind : Kind) (c : Asked) (s : Status) (old new : ShelfState) (before now : SinkState) (m : Files) (steps : Steps)
-    → steps_of c ≡ Some steps → old.files ≡ Some m → IsGood m c → kind ≡ kind_of s → Answers kind (Some steps) s old new before now
+good_answers : (kind : StatusKind) (c : Asked) (s : Status) (old new : ShelfState) (before now : SinkState) (m : Files) (steps : Steps)
+    → steps_of c ≡ Some steps → old.files ≡ Some m → IsGood m c → kind ≡ kind_of s → ServesAs kind (Some steps) s old new before now
     → (s ≡ status.Ok) ⊎ IsFault kind
 good_answers planned c s old new before now m steps are is good of h =
     inl (good_ends c s h.line old new m steps are is good (subst (λ k. Works (Some steps) k (ends_with s h.line) old new) (sym of) h.works))
@@ -212,4 +212,4 @@ pub good_is_ok : GoodIsOk
 good_is_ok words s old new before now m is good h =
     let steps = good_steps m (asked words) good in
     good_answers (kind_of s) (asked words) s old new before now m steps.0 steps.1 is good refl
-    (subst (λ x. Answers (kind_of s) x s old new before now) steps.1 h)
+    (subst (λ x. ServesAs (kind_of s) x s old new before now) steps.1 h)

@@ -5,7 +5,7 @@ use Rattle.std.specs.FinMap.{get, insert}
 use Rattle.run_files.specs.RunFiles.{most_table_bytes, most_statement_bytes}
 use Rattle.rpo_hash.specs.ParamText.{parameters_of}
 use Rattle.evidence_text.specs.EvidenceText.{evidence_text}
-use Rattle.statement.specs.Statements.{Claim, statement_of}
+use Rattle.statement.specs.Statements.{Stated, statement_of}
 use Rattle.json_values.specs.declared.refusal.TextCause.{TextCause}
 use Rattle.air_kit.specs.declared.trace.Trace.{Trace}
 use Rattle.table_file.specs.Files.{trace_of}
@@ -20,7 +20,7 @@ use Rattle.commands.specs.Asked.{check}
 use Rattle.commands.specs.Steps.{telling, evidence_for, Question, checked, Verdict, accepted, refused, Steps, ending, ends_with}
 use Rattle.commands.specs.CheckEnds.{accepted_line}
 use Rattle.commands.specs.Commands.{Finds, most_params_bytes, steps_of, with_params, with_trace, with_statement, check_steps, table_steps, statement_steps, judging_steps, found_steps}
-use Rattle.commands.specs.Serving.{Leads, Prints}
+use Rattle.commands.specs.Serving.{ComesWhere, Prints}
 use Rattle.commands.specs.Laws.{AreAccepted, EvidenceStands, AcceptedHasEvidence}
 use Rattle.commands.proofs.Walks as walks
 use Rattle.commands.proofs.Walks.{not_ok}
@@ -30,23 +30,23 @@ module _ (line : List ℕ) (new : Option Files) where
   abbrev Done : Steps → Option Files → Type 0
   Done = walks.Done (ends_with status.Ok line) new
 
-  trace_said : (name : List ℕ) (next : Trace → Steps) (read : Result Trace FileError) (m : Files) → Leads (with_trace name next read) Done (Some m)
-      → (trace : Trace) × (read ≡ Ok trace) × Leads (next trace) Done (Some m)
+  trace_said : (name : List ℕ) (next : Trace → Steps) (read : Result Trace FileError) (m : Files) → ComesWhere (with_trace name next read) Done (Some m)
+      → (trace : Trace) × (read ≡ Ok trace) × ComesWhere (next trace) Done (Some m)
   trace_said name next (Ok trace) m h = (trace, refl, h)
   trace_said name next (Err (Bad offset cause)) m h =
       absurd (not_ok status.Malformed line _ (λ same. cc) (walks.ended (ends_with status.Ok line) new _ m h).0)
   trace_said name next (Err file_error.Memory) m h =
       absurd (not_ok status.Memory line _ (λ same. cc) (walks.ended (ends_with status.Ok line) new _ m h).0)
 
-  claim_said : (name : List ℕ) (next : Claim → Steps) (read : Result Claim TextCause) (m : Files)
-      → Leads (with_statement name next read) Done (Some m)
-      → (claim : Claim) × (read ≡ Ok claim) × Leads (next claim) Done (Some m)
+  claim_said : (name : List ℕ) (next : Stated → Steps) (read : Result Stated TextCause) (m : Files)
+      → ComesWhere (with_statement name next read) Done (Some m)
+      → (claim : Stated) × (read ≡ Ok claim) × ComesWhere (next claim) Done (Some m)
   claim_said name next (Ok claim) m h = (claim, refl, h)
   claim_said name next (Err cause) m h = absurd (not_ok status.Malformed line _ (λ same. cc) (walks.ended (ends_with status.Ok line) new _ m h).0)
 
-  found_accepted : (name constants : List ℕ) (claim : Claim) (trace : Trace) (finding : Verdict) (m : Files)
-      → Leads (found_steps name constants claim trace finding) Done (Some m)
-      → (finding ≡ accepted) × Leads (found_steps name constants claim trace accepted) Done (Some m)
+  found_accepted : (name constants : List ℕ) (claim : Stated) (trace : Trace) (finding : Verdict) (m : Files)
+      → ComesWhere (found_steps name constants claim trace finding) Done (Some m)
+      → (finding ≡ accepted) × ComesWhere (found_steps name constants claim trace accepted) Done (Some m)
   found_accepted name constants claim trace accepted m h = (refl, h)
   found_accepted name constants claim trace (refused why) m h =
       absurd (not_ok status.Refused line _ (λ same. cc) (walks.ended (ends_with status.Ok line) new _ m h).0)
@@ -70,7 +70,7 @@ module _ (params table statement output line : List ℕ) (m : Files) (new : Shel
   Stands = EvidenceStands params table statement output m new before now
 
   abbrev Left : Steps → Files → Type 0
-  Left steps n = Leads steps (Done line new.files) (Some n)
+  Left steps n = ComesWhere steps (Done line new.files) (Some n)
 
   from_written : (said : AreAccepted params table statement m) (written : List ℕ)
       → Left (ending (telling said.constants said.claim said.trace written)) (insert m output written) → Stands
@@ -91,7 +91,7 @@ module _ (params table statement output line : List ℕ) (m : Files) (new : Shel
       let b = walks.was_written (ends_with status.Ok line) new.files output right next m h in
       from_written said b.0 b.2
 
-  from_claim : (constants : List ℕ) (trace : Trace) (claim : Claim) → IsSomeAnd (get m params) (λ bytes. parameters_of bytes ≡ Ok constants)
+  from_claim : (constants : List ℕ) (trace : Trace) (claim : Stated) → IsSomeAnd (get m params) (λ bytes. parameters_of bytes ≡ Ok constants)
       → IsSomeAnd (get m table) (λ bytes. trace_of bytes ≡ Ok trace) → IsSomeAnd (get m statement) (λ bytes. statement_of bytes ≡ Ok claim)
       → Left (judging_steps output constants trace claim) m → Stands
   from_claim constants trace claim params_say table_says statement_says h =
@@ -139,4 +139,4 @@ accepted_has_evidence words old new before now params table statement output m s
         → EvidenceStands params table statement output m new before now
     printed h =
         stands params table statement output h.line m new before now h.taken
-        (subst (Leads (check_steps params table statement output) (Done h.line new.files)) is h.works.files)
+        (subst (ComesWhere (check_steps params table statement output) (Done h.line new.files)) is h.works.files)

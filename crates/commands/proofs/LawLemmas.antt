@@ -4,7 +4,7 @@ use Rattle.std.specs.FinMap.{insert}
 use Rattle.rpo_hash.specs.declared.params.ParamError.{ParamError}
 use Rattle.rpo_hash.specs.ParamText.{parameters_of}
 use Rattle.run_inputs.specs.Inputs.{Given, inputs_of}
-use Rattle.statement.specs.Statements.{Claim, statement_of}
+use Rattle.statement.specs.Statements.{Stated, statement_of}
 use Rattle.air_kit.specs.declared.trace.Trace.{Trace}
 use Rattle.table_file.specs.Files.{trace_of}
 use Rattle.table_file.specs.declared.cause.FileError.{FileError}
@@ -17,11 +17,11 @@ use Rattle.vm_io.proofs.ShelfLemmas.{get_beside}
 use Rattle.commands.specs.declared.status.Status.{Status}
 use Rattle.commands.specs.declared.status.Status.TheVariants as status
 use Rattle.commands.specs.declared.answer.Answer.{Answer}
-use Rattle.commands.specs.Statuses.{Kind, planned, no_command, failed_read, failed_write, failed_print, no_memory, kind_of}
+use Rattle.commands.specs.Statuses.{StatusKind, planned, no_command, failed_read, failed_write, failed_print, no_memory, kind_of}
 use Rattle.commands.specs.Asked.{Asked, Outputs, nothing, hash, assemble, run, check, asked}
 use Rattle.commands.specs.Steps.{Course, Verdict, SourceFile, Steps, reading, writing, asking, ending, accepted, refused, ran, stopped}
 use Rattle.commands.specs.Commands.{steps_of, with_params, with_kernel, with_inputs, with_statement, with_trace, numbers_steps, assembly_steps, run_source_steps, kernel_steps, running_steps, course_steps, table_steps, statement_steps, judging_steps, found_steps}
-use Rattle.commands.specs.Serving.{Passes, none_yet, past_read, past_write, past_finding, Leads, IsWriting, FrontWritten, Works, GivesUp, Prints, Answers}
+use Rattle.commands.specs.Serving.{Passes, none_yet, past_read, past_write, past_finding, ComesWhere, IsWriting, FrontWritten, Works, GivesUp, Prints, ServesAs}
 use Rattle.commands.specs.Laws.{WritesOnly, StayBeside, OtherFilesStay, CommandsWrite, UsageMeansNothing, NothingGivesUsage}
 
 -- the files of m stay in what is told now
@@ -68,7 +68,7 @@ module _ (outputs : List (List ℕ)) (steps : Steps) (only : WritesOnly outputs 
     (is : old.files ≡ Some m) where
   led : (P : Steps → Option Files → Type 0)
       → ((left : Steps) (now : Option Files) → P left now → WritesOnly outputs left → Stayed outputs m now → Stayed outputs m new.files)
-      → Leads steps P old.files → Stayed outputs m new.files
+      → ComesWhere steps P old.files → Stayed outputs m new.files
   led P so h = let all =
       passes_stay outputs m m steps h.left old.files h.now h.passes only is (λ name out. refl) in so h.left h.now h.there all.1
       all.0
@@ -76,7 +76,7 @@ module _ (outputs : List (List ℕ)) (steps : Steps) (only : WritesOnly outputs 
   same : (now : Option Files) → new.files ≡ now → Stayed outputs m now → Stayed outputs m new.files
   same now eq (n, told, stay) = (n, eq ∙ told, stay)
 
-  works_stay : (kind : Kind) (a : Answer) → Works (Some steps) kind a old new → Stayed outputs m new.files
+  works_stay : (kind : StatusKind) (a : Answer) → Works (Some steps) kind a old new → Stayed outputs m new.files
   works_stay planned a h = led _ (λ left now there w. same now there.1) h.files
   works_stay failed_read a h = led _ (λ left now there w. same now there.1) h.1.files
   works_stay failed_write a h = led _ (λ left now there w. front_stays outputs m h.0 left now new.files there w) h.1.files
@@ -87,7 +87,7 @@ module _ (outputs : List (List ℕ)) (steps : Steps) (only : WritesOnly outputs 
   gives_up_stays (inr (inl h)) = led _ (λ left now there w. same now there.1) h.1.files
   gives_up_stays (inr (inr h)) = led _ (λ left now there w. front_stays outputs m h.0 left now new.files there w) h.1.files
 
-  answers_stay : (kind : Kind) (s : Status) (before now : SinkState) → Answers kind (Some steps) s old new before now → Stayed outputs m new.files
+  answers_stay : (kind : StatusKind) (s : Status) (before now : SinkState) → ServesAs kind (Some steps) s old new before now → Stayed outputs m new.files
   answers_stay failed_print s before now h = works_stay (kind_of h.answer.status) h.answer h.works
   answers_stay no_memory s before now h = gives_up_stays h.gives_up
   answers_stay planned s before now h = works_stay (kind_of s) _ h.works
@@ -97,7 +97,7 @@ module _ (outputs : List (List ℕ)) (steps : Steps) (only : WritesOnly outputs 
 
 pub other_files_stay : OtherFilesStay
 other_files_stay words s old new before now steps outputs m serves command only is =
-    answers_stay outputs steps only m old new is (kind_of s) s before now (subst (λ c. Answers (kind_of s) c s old new before now) command serves)
+    answers_stay outputs steps only m old new is (kind_of s) s before now (subst (λ c. ServesAs (kind_of s) c s old new before now) command serves)
 
 some_steps : (a b : Steps) → Some a ≡ Some b → a ≡ b
 some_steps a b same = cc
@@ -123,13 +123,13 @@ only_behind_trace outputs name next only (Ok t) = only t
 only_behind_trace outputs name next only (Err (Bad offset cause)) = tt
 only_behind_trace outputs name next only (Err file_error.Memory) = tt
 
-only_behind_statement : (outputs : List (List ℕ)) (name : List ℕ) (next : Claim → Steps) → ((claim : Claim) → WritesOnly outputs (next claim))
-    → (read : Result Claim TextCause) → WritesOnly outputs (with_statement name next read)
+only_behind_statement : (outputs : List (List ℕ)) (name : List ℕ) (next : Stated → Steps) → ((claim : Stated) → WritesOnly outputs (next claim))
+    → (read : Result Stated TextCause) → WritesOnly outputs (with_statement name next read)
 only_behind_statement outputs name next only (Ok claim) = only claim
 only_behind_statement outputs name next only (Err cause) = tt
 
 -- what is found of a trace decides whether evidence is written
-only_evidence : (name constants : List ℕ) (claim : Claim) (t : Trace) (finding : Verdict)
+only_evidence : (name constants : List ℕ) (claim : Stated) (t : Trace) (finding : Verdict)
     → WritesOnly (name ∷ []) (found_steps name constants claim t finding)
 only_evidence name constants claim t accepted = (search rules, λ bytes. tt)
 only_evidence name constants claim t (refused why) = tt
@@ -183,9 +183,9 @@ usage_means_nothing words old new before now serves = no_steps (asked words) (go
 
 pub nothing_gives_usage : NothingGivesUsage
 nothing_gives_usage words s old new before now serves none =
-    answers s (subst (λ c. Answers (kind_of s) (steps_of c) s old new before now) none serves)
+    answers s (subst (λ c. ServesAs (kind_of s) (steps_of c) s old new before now) none serves)
   where
-    answers : (s : Status) → Answers (kind_of s) None s old new before now
+    answers : (s : Status) → ServesAs (kind_of s) None s old new before now
         → (new ≡ old) × ((s ≡ status.Usage) ⊎ ((s ≡ status.SinkFault) ⊎ (s ≡ status.Memory)))
     answers status.Usage h = (h.works.1, inl refl)
     answers status.SinkFault h = (work h.answer h.works, inr (inl refl))
@@ -193,7 +193,7 @@ nothing_gives_usage words s old new before now serves none =
         work : (a : Answer) → Works None (kind_of a.status) a old new → new ≡ old
         work a w = of (kind_of a.status) w
           where
-            of : (kind : Kind) → Works None kind a old new → new ≡ old
+            of : (kind : StatusKind) → Works None kind a old new → new ≡ old
             of no_command v = v.1
             of kind v = absurd v
     answers status.Memory h = (h.gives_up, inr (inr refl))

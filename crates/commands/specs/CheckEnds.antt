@@ -3,7 +3,7 @@ use Rattle.std.specs.Prelude.{◌≡◌, ℕ, List, ◌∷◌, ◌++◌, codes, 
 use Rattle.rpo_hash.specs.Constants.{constants_of}
 use Rattle.block_tree.specs.declared.evidence.Evidence.{Evidence}
 use Rattle.block_tree.specs.declared.evidence.Evidence.TheVariants.{Run, Pair}
-use Rattle.statement.specs.Statements.{Claim, claim_of}
+use Rattle.statement.specs.Statements.{Stated, claim_of}
 use Rattle.evidence_text.specs.EvidenceText.{evidence_text}
 use Rattle.air_kit.specs.Acceptance.{IsAccepted, IsBusRefusal, IsFirstFault}
 use Rattle.air_kit.specs.Traces as traces
@@ -18,7 +18,7 @@ use Rattle.commands.specs.declared.answer.Answer.{Answer}
 use Rattle.commands.specs.Steps.{End, stop, Verdict, accepted, refused, ends_with}
 
 -- what a trace is checked against: these constants, and a statement that claims this
-pub record IsPublic (constants : List ℕ) (claim : Claim) (p : Public) : Type 0 where
+pub record IsPublic (constants : List ℕ) (claim : Stated) (p : Public) : Type 0 where
   pub params : constants_of p.params ≡ constants
   pub statement : claim_of p.statement ≡ claim
 
@@ -33,19 +33,19 @@ IsVerdictOf p trace accepted = IsAccepted p trace
 IsVerdictOf p trace (refused r) = IsWhy p trace r
 
 -- what is found of a trace, under these constants, for what is claimed
-pub record IsFound (constants : List ℕ) (claim : Claim) (trace : Trace) (verdict : Verdict) : Type 0 where
+pub record IsVerdictFor (constants : List ℕ) (claim : Stated) (trace : Trace) (verdict : Verdict) : Type 0 where
   pub against : Public
   pub is_public : IsPublic constants claim against
   pub found : IsVerdictOf against trace verdict
 
 -- the evidence is that of the trace, under these constants, of what is claimed
-pub record IsEvidenceFor (constants : List ℕ) (claim : Claim) (trace : Trace) (evidence : Evidence) : Type 0 where
+pub record IsEvidenceFor (constants : List ℕ) (claim : Stated) (trace : Trace) (evidence : Evidence) : Type 0 where
   pub against : Public
   pub is_public : IsPublic constants claim against
   pub is_evidence : IsEvidence against trace evidence
 
 -- the text of such evidence
-pub record IsEvidenceText (constants : List ℕ) (claim : Claim) (trace : Trace) (bytes : List ℕ) : Type 0 where
+pub record IsEvidenceText (constants : List ℕ) (claim : Stated) (trace : Trace) (bytes : List ℕ) : Type 0 where
   pub evidence : Evidence
   pub is_evidence : IsEvidenceFor constants claim trace evidence
   pub text : bytes ≡ evidence_text evidence
@@ -55,7 +55,7 @@ accepted_line (Run cycles tree tape) = codes "accepted run\n"
 accepted_line (Pair first second) = codes "accepted pair " ++ decimal first ++ 32 ∷ decimal second ++ codes "\n"
 
 -- it is told which evidence this is the text of
-pub record TellsEvidence (constants : List ℕ) (claim : Claim) (trace : Trace) (written : List ℕ) (a : Answer) : Type 0 where
+pub record TellsEvidence (constants : List ℕ) (claim : Stated) (trace : Trace) (written : List ℕ) (a : Answer) : Type 0 where
   pub evidence : Evidence
   pub is_evidence : IsEvidenceFor constants claim trace evidence
   pub text : written ≡ evidence_text evidence

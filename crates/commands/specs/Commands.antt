@@ -10,12 +10,12 @@ use Rattle.commands.specs.Steps.{SourceFile, End, stop, assembly, telling, Right
 use Rattle.number_files.specs.Grammar.{numbers_of}
 use Rattle.commands.specs.HashEnds.{hash_end}
 use Rattle.commands.specs.Malformed.{bad_params, bad_inputs, bad_statement, bad_table}
-use Rattle.commands.specs.CheckEnds.{IsEvidenceText, IsFound, TellsEvidence, refusal}
+use Rattle.commands.specs.CheckEnds.{IsEvidenceText, IsVerdictFor, TellsEvidence, refusal}
 use Rattle.commands.specs.AssembleEnds.{AnswersAssembly}
 use Rattle.commands.specs.RunEnds.{IsCourse, run_lines}
 use Rattle.run_inputs.specs.Inputs.{Given, inputs_of}
 use Rattle.statement.specs.Statements as statements
-use Rattle.statement.specs.Statements.{Claim}
+use Rattle.statement.specs.Statements.{Stated}
 use Rattle.air_kit.specs.declared.trace.Trace.{Trace}
 use Rattle.vm_field.specs.Machine.{State}
 use Rattle.block_tree.specs.Execution as run
@@ -100,16 +100,16 @@ run_steps params source inputs outputs kernel limit =
     reading params most_params_bytes (λ bytes. with_params params (run_source_steps outputs source inputs kernel limit) (parameters_of bytes))
 
 -- A trace that is accepted has evidence, which is written and told; one that is refused is refused by name.
-abbrev pub found_steps : List ℕ → List ℕ → Claim → Trace → Verdict → Steps
+abbrev pub found_steps : List ℕ → List ℕ → Stated → Trace → Verdict → Steps
 found_steps name constants claim trace accepted =
     writing name (evidence_for constants claim trace) (λ bytes. ending (telling constants claim trace bytes))
 found_steps name constants claim trace (refused why) = ending (refusal why)
 
-abbrev pub judging_steps : List ℕ → List ℕ → Trace → Claim → Steps
+abbrev pub judging_steps : List ℕ → List ℕ → Trace → Stated → Steps
 judging_steps evidence constants trace claim = asking (checked constants claim trace) (found_steps evidence constants claim trace)
 
 -- a command that reads a statement of this name goes on with what it claims
-abbrev pub with_statement : List ℕ → (Claim → Steps) → Result Claim TextCause → Steps
+abbrev pub with_statement : List ℕ → (Stated → Steps) → Result Stated TextCause → Steps
 with_statement name next (Ok claim) = next claim
 with_statement name next (Err cause) = ending (bad_statement name cause)
 
@@ -153,5 +153,5 @@ IsRight (evidence_for constants claim trace) written = IsEvidenceText constants 
 
 -- what may be found
 abbrev pub Finds : (question : Question) → Finding question → Type 0
-Finds (checked constants claim trace) verdict = IsFound constants claim trace verdict
+Finds (checked constants claim trace) verdict = IsVerdictFor constants claim trace verdict
 Finds (course constants source kernel given limit) found = IsCourse constants source kernel given limit found

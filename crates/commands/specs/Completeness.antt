@@ -9,24 +9,24 @@ use Rattle.block_tree.specs.Execution.{Done}
 use Rattle.block_tree.specs.declared.program.Program.{Program}
 use Rattle.number_files.specs.Grammar.{numbers_of}
 use Rattle.run_inputs.specs.Inputs.{Given, inputs_of}
-use Rattle.statement.specs.Statements.{Claim, statement_of}
+use Rattle.statement.specs.Statements.{Stated, statement_of}
 use Rattle.air_kit.specs.declared.trace.Trace.{Trace}
 use Rattle.table_file.specs.Files.{trace_of}
 use Rattle.vm_io.specs.Shelf.{Files, ShelfState}
 use Rattle.vm_io.specs.Sink.{SinkState}
 use Rattle.commands.specs.declared.status.Status.{Status}
 use Rattle.commands.specs.declared.status.Status.TheVariants as status
-use Rattle.commands.specs.Statuses.{Kind, planned, no_command, failed_read, failed_write, failed_print, no_memory, kind_of}
+use Rattle.commands.specs.Statuses.{StatusKind, planned, no_command, failed_read, failed_write, failed_print, no_memory, kind_of}
 use Rattle.commands.specs.Asked.{Asked, Outputs, hash, assemble, run, check, asked}
 use Rattle.commands.specs.Steps.{SourceFile, accepted}
 use Rattle.commands.specs.SourceEnds.{AssemblesFiles}
 use Rattle.commands.specs.RunEnds.{outcome_of}
-use Rattle.commands.specs.CheckEnds.{IsFound}
+use Rattle.commands.specs.CheckEnds.{IsVerdictFor}
 use Rattle.commands.specs.Commands.{most_params_bytes, most_numbers_bytes, most_source_bytes, most_inputs_bytes}
 use Rattle.commands.specs.Serving.{Serves}
 
 -- a file stands under the name, is not too long, and reads as this
-pub record Says {A E : Type 0} (m : Files) (name : List ℕ) (most : ℕ) (reading : List ℕ → Result A E) (value : A) : Type 0 where
+pub record FileSays {A E : Type 0} (m : Files) (name : List ℕ) (most : ℕ) (reading : List ℕ → Result A E) (value : A) : Type 0 where
   pub bytes : List ℕ
   pub stands : get m name ≡ Some bytes
   pub short : length bytes ≤ most
@@ -46,23 +46,23 @@ HoldsKernel m (Some name) kernel =
 -- The files of a command are there, not too long and of their forms, and what they say has an answer: the source has a program, its
 -- run ends within the limit, the trace is accepted.
 pub data IsGood (m : Files) : Asked → Type 0 where
-  hashes : (params numbers constants elements : List ℕ) → Says m params most_params_bytes parameters_of constants
-      → Says m numbers most_numbers_bytes numbers_of elements → IsGood m (hash params numbers)
+  hashes : (params numbers constants elements : List ℕ) → FileSays m params most_params_bytes parameters_of constants
+      → FileSays m numbers most_numbers_bytes numbers_of elements → IsGood m (hash params numbers)
   assembles : (params constants : List ℕ) (source : SourceFile) (name : Option (List ℕ)) (kernel : Option SourceFile) (program : Program)
-      → Says m params most_params_bytes parameters_of constants → HoldsSource m source → HoldsKernel m name kernel
+      → FileSays m params most_params_bytes parameters_of constants → HoldsSource m source → HoldsKernel m name kernel
       → AssemblesFiles constants source kernel (Ok program) → IsGood m (assemble params source.name name)
   runs : (params constants inputs : List ℕ) (source : SourceFile) (name : Option (List ℕ)) (kernel : Option SourceFile) (outputs : Outputs)
       (limit : ℕ) (given : Given) (program : Program) (last : State) (log : List execution.Event)
-      → Says m params most_params_bytes parameters_of constants → HoldsSource m source → Says m inputs most_inputs_bytes inputs_of given
+      → FileSays m params most_params_bytes parameters_of constants → HoldsSource m source → FileSays m inputs most_inputs_bytes inputs_of given
       → HoldsKernel m name kernel → AssemblesFiles constants source kernel (Ok program)
       → outcome_of constants program given limit ≡ Done last log → IsGood m (run params source.name inputs outputs name limit)
-  checks : (params table statement evidence constants : List ℕ) (trace : Trace) (claim : Claim)
-      → Says m params most_params_bytes parameters_of constants → Says m table most_table_bytes trace_of trace
-      → Says m statement most_statement_bytes statement_of claim → IsFound constants claim trace accepted
+  checks : (params table statement evidence constants : List ℕ) (trace : Trace) (claim : Stated)
+      → FileSays m params most_params_bytes parameters_of constants → FileSays m table most_table_bytes trace_of trace
+      → FileSays m statement most_statement_bytes statement_of claim → IsVerdictFor constants claim trace accepted
       → IsGood m (check params table statement evidence)
 
 -- a read, a write or a print failed, or memory was refused
-abbrev pub IsFault : Kind → Type 0
+abbrev pub IsFault : StatusKind → Type 0
 IsFault planned = ⊥
 IsFault no_command = ⊥
 IsFault failed_read = Unit {0}

@@ -3,7 +3,7 @@ use Rattle.std.specs.Prelude.{◌≡◌, ◌⊎◌, ℕ, List, [], ◌∷◌, Co
 use Rattle.std.specs.FinMap.{get, insert}
 use Rattle.rpo_hash.specs.ParamText.{parameters_of}
 use Rattle.block_tree.specs.declared.evidence.Evidence.{Evidence}
-use Rattle.statement.specs.Statements.{Claim, statement_of}
+use Rattle.statement.specs.Statements.{Stated, statement_of}
 use Rattle.evidence_text.specs.EvidenceText.{evidence_text}
 use Rattle.air_kit.specs.declared.trace.Trace.{Trace}
 use Rattle.table_file.specs.Files.{trace_of}
@@ -14,7 +14,7 @@ use Rattle.commands.specs.declared.status.Status.TheVariants as status
 use Rattle.commands.specs.Statuses.{kind_of, planned}
 use Rattle.commands.specs.Asked.{Asked, Outputs, nothing, hash, assemble, run, check, asked}
 use Rattle.commands.specs.Steps.{Finding, accepted, Steps, reading, writing, asking, ending}
-use Rattle.commands.specs.CheckEnds.{IsEvidenceFor, IsFound, accepted_line}
+use Rattle.commands.specs.CheckEnds.{IsEvidenceFor, IsVerdictFor, accepted_line}
 use Rattle.commands.specs.Commands.{steps_of}
 use Rattle.commands.specs.Serving.{Serves}
 
@@ -63,11 +63,11 @@ NothingGivesUsage =
 pub record AreAccepted (params table statement : List ℕ) (m : Files) : Type 0 where
   pub constants : List ℕ
   pub trace : Trace
-  pub claim : Claim
+  pub claim : Stated
   pub params_say : IsSomeAnd (get m params) (λ bytes. parameters_of bytes ≡ Ok constants)
   pub table_says : IsSomeAnd (get m table) (λ bytes. trace_of bytes ≡ Ok trace)
   pub statement_says : IsSomeAnd (get m statement) (λ bytes. statement_of bytes ≡ Ok claim)
-  pub found : IsFound constants claim trace accepted
+  pub found : IsVerdictFor constants claim trace accepted
 
 -- evidence of it stands under the output's name, beside the files of m, and the line that tells of it was printed
 pub record EvidenceStands (params table statement output : List ℕ) (m : Files) (new : ShelfState) (before now : SinkState) : Type 0 where

@@ -12,7 +12,7 @@ use Rattle.masm_link.specs.declared.refusal.AsmCause.{AsmCause}
 use Rattle.masm_link.specs.declared.refusal.AsmError.TheVariants.{Bad}
 use Rattle.run_inputs.specs.Inputs.{Given}
 use Rattle.commands.specs.declared.status.Status.TheVariants as status
-use Rattle.run_rows.specs.BlockRows.{IsRun}
+use Rattle.run_rows.specs.BlockRows.{IsWholeRun}
 use Rattle.commands.specs.declared.answer.Answer.{Answer}
 use Rattle.commands.specs.Steps.{SourceFile, Course, ran, stopped, ends_with}
 use Rattle.commands.specs.SourceEnds.{AssemblesFiles, name_of_place, source_line}
@@ -51,5 +51,5 @@ pub data IsCourse (constants : List ℕ) (source : SourceFile) (kernel : Option 
       → IsCourse constants source kernel given limit (stopped a)
   ended : (program : Program) → AssemblesFiles constants source kernel (Ok program)
       → (last : State) (log : List run.Event)
-      → IsRun constants program.kernel limit (tree_of program.tree) given.stack given.advice last log
+      → IsWholeRun constants program.kernel limit (tree_of program.tree) given.stack given.advice last log
       → IsCourse constants source kernel given limit (ran program last log)

@@ -7,7 +7,7 @@ use Rattle.vm_io.specs.Sink.{SinkState, SinkFails, with_piece}
 use Rattle.commands.specs.declared.status.Status.{Status}
 use Rattle.commands.specs.declared.status.Status.TheVariants as status
 use Rattle.commands.specs.declared.answer.Answer.{Answer}
-use Rattle.commands.specs.Statuses.{Kind, planned, no_command, failed_read, failed_write, failed_print, no_memory, kind_of}
+use Rattle.commands.specs.Statuses.{StatusKind, planned, no_command, failed_read, failed_write, failed_print, no_memory, kind_of}
 use Rattle.commands.specs.Asked.{asked}
 use Rattle.commands.specs.Steps.{Finding, Question, Right, Steps, reading, writing, asking, ending, ends_with, named_line}
 use Rattle.commands.specs.Commands.{steps_of, EndsAs, Finds, IsRight}
@@ -28,7 +28,7 @@ pub data Passes : Steps → Option Files → Steps → Option Files → Type 0 w
       → Finds question finding → Passes (next finding) m left n → Passes (asking question next) m left n
 
 -- The steps come to a place where P holds of those that are left and of the files.
-pub record Leads (steps : Steps) (P : Steps → Option Files → Type 0) (m : Option Files) : Type 0 where
+pub record ComesWhere (steps : Steps) (P : Steps → Option Files → Type 0) (m : Option Files) : Type 0 where
   pub left : Steps
   pub now : Option Files
   pub passes : Passes steps m left now
@@ -75,18 +75,18 @@ pub record OnlyWriteFault (old new : ShelfState) : Type 0 where
 -- The steps went to their end, which is this answer.
 pub record Ends (steps : Steps) (a : Answer) (old new : ShelfState) : Type 0 where
   pub counts : NoFault old new
-  pub files : Leads steps (λ left now. Concludes left now a × (new.files ≡ now)) old.files
+  pub files : ComesWhere steps (λ left now. Concludes left now a × (new.files ≡ now)) old.files
 
 -- The steps stopped behind one of them, without a fault.
 pub record Stops (steps : Steps) (old new : ShelfState) : Type 0 where
   pub counts : NoFault old new
-  pub files : Leads steps (λ left now. new.files ≡ now) old.files
+  pub files : ComesWhere steps (λ left now. new.files ≡ now) old.files
 
 -- The read of this file failed when its turn had come.
 pub record FailsAtRead (steps : Steps) (name : List ℕ) (old new : ShelfState) : Type 0 where
   pub counts : OnlyReadFault old new
   pub told : IfSome new.failed_name (λ failed. failed ≡ name)
-  pub files : Leads steps (λ left now. IsReading name left × (new.files ≡ now)) old.files
+  pub files : ComesWhere steps (λ left now. IsReading name left × (new.files ≡ now)) old.files
 
 -- a front of right bytes stands under the name, and the writes before it are whole
 pub record FrontWritten (name : List ℕ) (left : Steps) (before now : Option Files) : Type 0 where
@@ -99,10 +99,10 @@ pub record FrontWritten (name : List ℕ) (left : Steps) (before now : Option Fi
 pub record FailsAtWrite (steps : Steps) (name : List ℕ) (old new : ShelfState) : Type 0 where
   pub counts : OnlyWriteFault old new
   pub told : IfSome new.failed_name (λ failed. failed ≡ name)
-  pub files : Leads steps (λ left before. FrontWritten name left before new.files) old.files
+  pub files : ComesWhere steps (λ left before. FrontWritten name left before new.files) old.files
 
 -- The work of a command, before its answer is printed, by the kind of the answer's status.
-abbrev pub Works : Option Steps → Kind → Answer → ShelfState → ShelfState → Type 0
+abbrev pub Works : Option Steps → StatusKind → Answer → ShelfState → ShelfState → Type 0
 Works None no_command a old new = (a.line ≡ codes "usage\n") × (new ≡ old)
 Works (Some steps) planned a old new = Ends steps a old new
 Works (Some steps) failed_read a old new = (name : List ℕ) × FailsAtRead steps name old new × (a.line ≡ named_line (codes "read fault ") name)
@@ -132,11 +132,11 @@ pub record PrintsNothing (steps : Option Steps) (old new : ShelfState) (before n
   pub gives_up : GivesUp steps old new
   pub taken : now ≡ before
 
-abbrev pub Answers : Kind → Option Steps → Status → ShelfState → ShelfState → SinkState → SinkState → Type 0
-Answers failed_print steps s old new before now = FailsToPrint steps old new before now
-Answers no_memory steps s old new before now = PrintsNothing steps old new before now
-Answers kind steps s old new before now = Prints steps s old new before now
+abbrev pub ServesAs : StatusKind → Option Steps → Status → ShelfState → ShelfState → SinkState → SinkState → Type 0
+ServesAs failed_print steps s old new before now = FailsToPrint steps old new before now
+ServesAs no_memory steps s old new before now = PrintsNothing steps old new before now
+ServesAs kind steps s old new before now = Prints steps s old new before now
 
 -- `serve` with these words ended so, from the old shelf and sink to the new ones.
 abbrev pub Serves : List (List ℕ) → Status → ShelfState → ShelfState → SinkState → SinkState → Type 0
-Serves words s old new before now = Answers (kind_of s) (steps_of (asked words)) s old new before now
+Serves words s old new before now = ServesAs (kind_of s) (steps_of (asked words)) s old new before now

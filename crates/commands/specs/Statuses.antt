@@ -19,15 +19,15 @@ number_of status.TooLong = 11
 number_of status.Memory = 12
 
 -- what a status speaks of
-pub data Kind : Type 0 where
-  planned : Kind  -- what the words and the files come to
-  no_command : Kind  -- the words
-  failed_read : Kind
-  failed_write : Kind
-  failed_print : Kind
-  no_memory : Kind
+pub data StatusKind : Type 0 where
+  planned : StatusKind  -- what the words and the files come to
+  no_command : StatusKind  -- the words
+  failed_read : StatusKind
+  failed_write : StatusKind
+  failed_print : StatusKind
+  no_memory : StatusKind
 
-abbrev pub kind_of : Status → Kind
+abbrev pub kind_of : Status → StatusKind
 kind_of status.Ok = planned
 kind_of status.Refused = planned
 kind_of status.Usage = no_command

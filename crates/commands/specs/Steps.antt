@@ -6,7 +6,7 @@ use Rattle.block_tree.specs.declared.program.Program.{Program}
 use Rattle.commands.specs.declared.status.Status.{Status}
 use Rattle.commands.specs.declared.answer.Answer.{Answer}
 use Rattle.run_inputs.specs.Inputs.{Given}
-use Rattle.statement.specs.Statements.{Claim}
+use Rattle.statement.specs.Statements.{Stated}
 use Rattle.air_kit.specs.declared.trace.Trace.{Trace}
 use Rattle.checker.specs.declared.refusal.Refused.{Refused}
 
@@ -22,21 +22,21 @@ pub data End : Type 0 where
   -- a source is assembled under these constants, with a kernel where there is one
   assembly : (constants : List ℕ) (source : SourceFile) (kernel : Option SourceFile) → End
   -- it is told what evidence was written for a trace, under these constants, of what is claimed
-  telling : (constants : List ℕ) (claim : Claim) (trace : Trace) (written : List ℕ) → End
+  telling : (constants : List ℕ) (claim : Stated) (trace : Trace) (written : List ℕ) → End
 
 -- Which bytes are right for a file that is written. There may be several.
 pub data Right : Type 0 where
   -- the tables of a run that ended in a state with this log, under these constants and with this kernel
   tables_of : (constants : List ℕ) (kernel : List (List ℕ)) (last : State) (log : List run.Event) → Right
   -- the text of what is claimed
-  statement_of : (claim : Claim) → Right
+  statement_of : (claim : Stated) → Right
   -- the text of evidence for a trace, under these constants, of what is claimed
-  evidence_for : (constants : List ℕ) (claim : Claim) (trace : Trace) → Right
+  evidence_for : (constants : List ℕ) (claim : Stated) (trace : Trace) → Right
 
 -- What is looked into between two steps, with no call of the shelf.
 pub data Question : Type 0 where
   -- whether a trace is accepted, under these constants, for what is claimed
-  checked : (constants : List ℕ) (claim : Claim) (trace : Trace) → Question
+  checked : (constants : List ℕ) (claim : Stated) (trace : Trace) → Question
   -- how a source runs that is assembled under these constants, with a kernel where there is one, on these inputs within so many cycles
   course : (constants : List ℕ) (source : SourceFile) (kernel : Option SourceFile) (given : Given) (limit : ℕ) → Question
 

@@ -8,7 +8,7 @@ use Rattle.cycle_events.specs.declared.event.Event.{Event}
 use Rattle.cycle_events.specs.declared.log.Kept.{Kept}
 use Rattle.cycle_events.specs.declared.log.Use.{Use}
 use Rattle.cycle_events.specs.declared.log.Use.TheVariants.{Immediate, Operation}
-use Rattle.cycle_events.specs.Kept.{AreNamed, IsNamed, event_of, events_of, hash_in, named, zeros}
+use Rattle.cycle_events.specs.Kept.{HaveNames, HasNames, event_of, events_of, hash_in, named, zeros}
 use Rattle.cycle_events.specs.Log.{ShowsAt}
 
 -- what holds holds of an error
@@ -34,16 +34,16 @@ pub named-last : (none : List ℕ) (xs : List (List ℕ)) (x : List ℕ) → nam
 named-last none [] x = refl
 named-last none (y ∷ ys) x = named-last none ys x
 
-event-more : (fs us f u : List (List ℕ)) (k : Kept) → IsNamed fs us k → event_of (fs ++ f) (us ++ u) k ≡ event_of fs us k
+event-more : (fs us f u : List (List ℕ)) (k : Kept) → HasNames fs us k → event_of (fs ++ f) (us ++ u) k ≡ event_of fs us k
 event-more fs us f u k h = rw (named-more zero_word fs f k.function h.function, named-more zeros us u k.elements h.elements) refl
 
-pub events-more : (fs us f u : List (List ℕ)) (items : List Kept) → AreNamed fs us items → events_of (fs ++ f) (us ++ u) items ≡ events_of fs us items
+pub events-more : (fs us f u : List (List ℕ)) (items : List Kept) → HaveNames fs us items → events_of (fs ++ f) (us ++ u) items ≡ events_of fs us items
 events-more fs us f u [] h = refl
 events-more fs us f u (k ∷ items) h =
     ap₂ (λ (e : Event) (es : List Event). e ∷ es) (event-more fs us f u k (h 0 k (omega arith)))
     (events-more fs us f u items (λ i d within. h (suc i) d (omega arith)))
 
-named_still : (fs us f u : List (List ℕ)) (k : Kept) → IsNamed fs us k → IsNamed (fs ++ f) (us ++ u) k
+named_still : (fs us f u : List (List ℕ)) (k : Kept) → HasNames fs us k → HasNames (fs ++ f) (us ++ u) k
 named_still fs us f u k h = record {
   function = omega (arith, length-append fs f, h.function);
   elements = omega (arith, length-append us u, h.elements);
@@ -70,14 +70,14 @@ module _ (fs us : List (List ℕ)) (items : List Kept) (events : List Event) (pl
 
 -- one event more
 module _ (fs us f u gs vs : List (List ℕ)) (items : List Kept)
-    (functions : gs ≡ fs ++ f) (uses : vs ≡ us ++ u) (before : AreNamed fs us items) where
-  pub named-kept : AreNamed gs vs items
+    (functions : gs ≡ fs ++ f) (uses : vs ≡ us ++ u) (before : HaveNames fs us items) where
+  pub named-kept : HaveNames gs vs items
   named-kept = rw (functions, uses) (λ i d within. named_still fs us f u _ (before i d within))
 
-  pub named-next : (more : List Kept) (k : Kept) → k.function ≤ length gs → k.elements ≤ length vs → more ≡ items ++ k ∷ [] → AreNamed gs vs more
+  pub named-next : (more : List Kept) (k : Kept) → k.function ≤ length gs → k.elements ≤ length vs → more ≡ items ++ k ∷ [] → HaveNames gs vs more
   named-next more k function elements is =
-      rw is (All-append (IsNamed gs vs) items (k ∷ []) named-kept
-      (All-cons (IsNamed gs vs) k [] (record { function = function; elements = elements }) (All-nil (IsNamed gs vs))))
+      rw is (All-append (HasNames gs vs) items (k ∷ []) named-kept
+      (All-cons (HasNames gs vs) k [] (record { function = function; elements = elements }) (All-nil (HasNames gs vs))))
 
   pub events-kept : events_of gs vs items ≡ events_of fs us items
   events-kept = rw (functions, uses) (events-more fs us f u items before)

@@ -16,7 +16,7 @@ use Rattle.vm_ops.specs.Step.{act, step}
 use Rattle.vm_ops.specs.Values.{Seen, advice_of, cell, is_u32, trap_of, unless}
 use Rattle.block_tree.specs.Cycles.{Do, top}
 use Rattle.block_tree.proofs.Parts.{taking-ok, taking-trap}
-use Rattle.op_steps.specs.Steps.{Stepped}
+use Rattle.op_steps.specs.Steps.{AnswersStep}
 use Rattle.op_steps.specs.declared.refusal.StepStop.{StepStop}
 use Rattle.op_steps.specs.declared.refusal.StepStop.TheVariants as step_stop
 use Rattle.vm_state.specs.Views.{core_of, state_of}
@@ -81,7 +81,7 @@ module _ (constants : List ℕ) (item : Item) (state : State) where
 
 module _ (setting : Setting) (item : Item) (before : State) where
   stop-as : (log : List Event) (after : Runner) (mid : machine.State) (stop : StepStop) → before.clock < setting.limit
-      → Stepped (step (constants_in setting) item (state_of before)) (Err stop) (state_of before) mid
+      → AnswersStep (step (constants_in setting) item (state_of before)) (Err stop) (state_of before) mid
       → RanAs setting (cycle_in setting (Do item) (state_of before)) log (Err (stop_at before.clock stop)) after
   stop-as log after mid (step_stop.Trap cause) within e =
       taking-trap setting.limit (Do item) (advice_of item.op) (act (constants_in setting) item) (state_of before) cause within e.0
@@ -91,7 +91,7 @@ module _ (setting : Setting) (item : Item) (before : State) where
   pub operation-stop : {log : List Event} {after : Runner} (stop : StepStop) (mid : machine.State) (visible : Visible) (stopped : Stop)
       → (visible ≡ visible_of (core_of before)) × (before.clock < setting.limit)
       → stopped ≡ stop_at visible.clock stop
-      → Stepped (step (constants_in setting) item (state_of before)) (Err stop) (state_of before) mid
+      → AnswersStep (step (constants_in setting) item (state_of before)) (Err stop) (state_of before) mid
       → Ran setting (cycle_in setting (Do item) (state_of before)) log (Err stopped) after
   operation-stop {log} {after} stop mid visible stopped began is e = rw (is, began.0) (record { answer = stop-as log after mid stop began.1 e })
 

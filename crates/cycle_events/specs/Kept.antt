@@ -59,9 +59,9 @@ abbrev pub events_of : List (List ℕ) → List (List ℕ) → List Kept → Lis
 events_of functions uses items = map (event_of functions uses) items
 
 -- each number names something
-pub record IsNamed (functions uses : List (List ℕ)) (k : Kept) : Type 0 where
+pub record HasNames (functions uses : List (List ℕ)) (k : Kept) : Type 0 where
   pub function : k.function ≤ length functions
   pub elements : k.elements ≤ length uses
 
-abbrev pub AreNamed : List (List ℕ) → List (List ℕ) → List Kept → Type 0
-AreNamed functions uses items = All (IsNamed functions uses) items
+abbrev pub HaveNames : List (List ℕ) → List (List ℕ) → List Kept → Type 0
+HaveNames functions uses items = All (HasNames functions uses) items

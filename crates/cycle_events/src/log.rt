@@ -52,14 +52,14 @@ pub struct Events {
 
 impl Model for Events {
     ghost use Rattle.std.specs.Prelude.{List};
-    ghost use Rattle.cycle_events.specs.Kept.{AreNamed, events_of};
+    ghost use Rattle.cycle_events.specs.Kept.{HaveNames, events_of};
     ghost use Rattle.cycle_events.specs.declared.event.Event.{Event};
 
     ghost Value = { List Event };
 
     ghost view = { λ a. events_of a.functions.items a.uses.items a.items.items };
 
-    ghost invariant = { λ a. AreNamed a.functions.items a.uses.items a.items.items };
+    ghost invariant = { λ a. HaveNames a.functions.items a.uses.items a.items.items };
 }
 
 impl Events {

@@ -6,7 +6,7 @@ use Rattle.air_kit.specs.declared.requests.Access.{Access}
 use Rattle.air_kit.specs.declared.requests.Requests.{Requests}
 use Rattle.air_kit.specs.Requests.{Fits}
 use Rattle.memory_rows.specs.AccessRows.{new_address, new_context, row_behind, rows_behind, step_behind}
-use Rattle.memory_rows.specs.MemoryTables.{Fit, IsSmall, ShowsAccesses}
+use Rattle.memory_rows.specs.MemoryTables.{AccessesFit, IsSmallAccess, ShowsAccesses}
 use Rattle.memory_rows.proofs.RowsShow.{rows_show}
 use Rattle.fill_chips.specs.MemoryLimbs.{AreRowsOf}
 
@@ -57,10 +57,10 @@ rows-done sorted table before i past =
 
 -- the rows of accesses that fit show these
 pub rows-shown : (constants : List ℕ) (kernel : List (List ℕ)) (r : Requests) (accesses : List Access) (rows : List (List ℕ)) → accesses ≡ r.accesses
-    → Fits constants kernel r → All IsSmall accesses → AreRowsOf accesses rows → ShowsAccesses r.accesses rows
+    → Fits constants kernel r → All IsSmallAccess accesses → AreRowsOf accesses rows → ShowsAccesses r.accesses rows
 rows-shown constants kernel r accesses rows e fits small made =
     let same = subst (λ (xs : List Access). IsPermutation xs made.sorted) e made.same in
-    let fit : Fit r.accesses = record { small = subst (All IsSmall) e small; fits = fits.accesses; apart = fits.apart } in
+    let fit : AccessesFit r.accesses = record { small = subst (All IsSmallAccess) e small; fits = fits.accesses; apart = fits.apart } in
     subst (ShowsAccesses r.accesses) (sym made.are) (rows_show r.accesses made.sorted fit same made.in_order)
 
 -- what follows where all went well

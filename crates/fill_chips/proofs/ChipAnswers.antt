@@ -23,11 +23,11 @@ use Rattle.air_kit.specs.ChipTuples.{chip_given}
 use Rattle.air_kit.specs.Places.{Claim, at_number}
 use Rattle.air_kit.specs.Requests.{Fits, answers_on}
 use Rattle.air_kit.specs.Traces.{HasCounts, most_rows, rows_of, value_at}
-use Rattle.hash_rows.specs.HashTables.{Fit, IsZero}
+use Rattle.hash_rows.specs.HashTables.{PermsFit, HasherIsZero}
 use Rattle.hash_rows.proofs.GivenLemmas.{rows_give}
 use Rattle.hash_rows.proofs.RowsAreZero.{rows_of-size}
 use Rattle.hash_rows.proofs.TableLaws.{rows_show}
-use Rattle.bit_rows.specs.BitTables.{AreWords, ShowsOps}
+use Rattle.bit_rows.specs.BitTables.{HaveWords, ShowsOps}
 use Rattle.memory_rows.specs.MemoryTables.{ShowsAccesses}
 use Rattle.fill_chips.specs.declared.chips.Chips.{Chips}
 use Rattle.fill_chips.specs.Beside.{AnswersBeside, HasSizes, beside}
@@ -53,10 +53,10 @@ filled constants kernel r memory = record {
 
 -- ---- entries
 
-hasher-zero : (c : Claim) (constants : List ℕ) (perms : List Perm) → c.constants ≡ constants → length constants ≡ 168 → Fit constants perms
-    → IsZero c (perm_rows constants perms)
+hasher-zero : (c : Claim) (constants : List ℕ) (perms : List Perm) → c.constants ≡ constants → length constants ≡ 168 → PermsFit constants perms
+    → HasherIsZero c (perm_rows constants perms)
 hasher-zero c constants perms e =
-    subst (λ (k : List ℕ). length k ≡ 168 → Fit k perms → IsZero c (perm_rows k perms)) e (λ len fit. (rows_show c perms len fit).zero)
+    subst (λ (k : List ℕ). length k ≡ 168 → PermsFit k perms → HasherIsZero c (perm_rows k perms)) e (λ len fit. (rows_show c perms len fit).zero)
 
 none_at : (number : ℕ) → at_number [] number ≡ 0
 unfolding at_number
@@ -114,7 +114,7 @@ module _ (constants : List ℕ) (kernel : List (List ℕ)) (r : Requests) (memor
       most_in table.Kernel = let size = kernel-size (times_called r.calls) kernel in let room = fits.room.words in omega (arith, size, room)
       most_in table.Left = let size = length-map r.keys (λ (k : ℕ). k ∷ []) in let room = fits.room.keys in omega (arith, size, room)
 
-  zeros : length constants ≡ 168 → Fit constants r.perms → All IsWord kernel → (c : Claim) (name : TableName) (row number : ℕ)
+  zeros : length constants ≡ 168 → PermsFit constants r.perms → All IsWord kernel → (c : Claim) (name : TableName) (row number : ℕ)
       → c.constants ≡ constants
       → c.kernel ≡ kernel → name ≢ table.Main → row < length (rows_of trace name) → value_at c trace name row number ≡ 0
   zeros len fit words c table.Main row number ec ek apart within = absurd (apart refl)
@@ -146,7 +146,7 @@ module _ (constants : List ℕ) (kernel : List (List ℕ)) (r : Requests) (memor
       (kernel_gives kernel r.calls u words fits.calls) (over-quiet _ u)
 
 pub filled-answers : (constants : List ℕ) (kernel : List (List ℕ)) (r : Requests) (memory : List (List ℕ)) → length constants ≡ 168
-    → Fits constants kernel r → All (λ p. IsState p.start) r.perms → AreWords r.bits → ShowsAccesses r.accesses memory → All IsWord kernel
+    → Fits constants kernel r → All (λ p. IsState p.start) r.perms → HaveWords r.bits → ShowsAccesses r.accesses memory → All IsWord kernel
     → All (λ v. v < 65536) r.ranges → AnswersBeside constants kernel r (filled constants kernel r memory)
 filled-answers constants kernel r memory len fits states operands shown words small main some most =
     let bits = bits_show r.bits operands in
@@ -162,7 +162,7 @@ filled-answers constants kernel r memory len fits states operands shown words sm
           ∙ asked-both r.ranges (limbs_in memory) u ∙ ap (λ n. counted (map (λ v. once (v ∷ [])) r.ranges) u + n) (limbs-asked memory u);
     }
 
-pub filled-sizes : (constants : List ℕ) (kernel : List (List ℕ)) (r : Requests) (memory : List (List ℕ)) → AreWords r.bits
+pub filled-sizes : (constants : List ℕ) (kernel : List (List ℕ)) (r : Requests) (memory : List (List ℕ)) → HaveWords r.bits
     → ShowsAccesses r.accesses memory → HasSizes r (filled constants kernel r memory)
 filled-sizes constants kernel r memory operands shown = record {
   hasher = rows_of-size constants r.perms;

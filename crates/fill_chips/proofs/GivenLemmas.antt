@@ -1,8 +1,7 @@
 -- What the rows of a table give, row by row.
 use Rattle.std.proofs.Common.{◌≡◌, ℕ, zero, suc, ◌+◌, List, [], ◌∷◌, length, slice_index_or, refl, arith}
 use Rattle.buses.specs.Counts.{Counted, OfRow, counted, over_first, over_rows, total}
-use Rattle.buses.proofs.Counting.{counted-none}
-use Rattle.hash_rows.proofs.Totals.{total-front}
+use Rattle.buses.proofs.Counting.{counted-none, total-front}
 
 total-zero : (n : ℕ) (f : ℕ → ℕ) → ((i : ℕ) → f i ≡ 0) → total n f ≡ 0
 unfolding total

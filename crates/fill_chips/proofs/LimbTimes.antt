@@ -3,7 +3,7 @@ use Rattle.std.proofs.Common.{◌≡◌, ℕ, ◌+◌, ◌*◌, ◌<◌, ◌≤�
 use Rattle.std.proofs.lemmas.Bool.{cases_lt}
 use Rattle.std.proofs.lemmas.List.{append-nil, get_or_past, take_more}
 use Rattle.std.proofs.lemmas.List.Sums.{count_by-le-length, sum_by-append}
-use Rattle.memory_rows.specs.MemoryTables.{row_at}
+use Rattle.vm_table.specs.Layout.{row_at}
 use Rattle.fill_chips.specs.MemoryLimbs.{limbs_in, limbs_of}
 use Rattle.fill_chips.specs.RangeRows.{AreTimes, times_asked}
 use Rattle.fill_chips.proofs.LimbLemmas.{limbs-count, limbs-none, limbs-push}

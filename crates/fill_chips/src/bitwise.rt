@@ -1,6 +1,6 @@
 ghost use Rattle.std.specs.Prelude.{◌≡◌, ◌*◌, ◌^◌, ◌<◌, ◌≤◌, [], ◌++◌, length, IfOk, OnOk};
 ghost use Rattle.bit_rows.specs.BitRows.{bit_row, bitwise, row_without, rows_before, rows_of};
-ghost use Rattle.bit_rows.specs.BitTables.{AreWords, HasWords};
+ghost use Rattle.bit_rows.specs.BitTables.{HaveWords, HasWords};
 
 use crate::hasher::bit_of;
 use air_kit::BitOp;
@@ -12,7 +12,7 @@ use vm_table::Table;
 pub(crate) fn bitwise_table(alloc: Global, ops: &[BitOp]) -> Result<Table<12>, Memory>
     requires room { 8 * length ops.now ≤ 2 ^ 22 }
     ensures rows { IfOk result (λ table. table ≡ rows_of ops.now) }
-    ensures words { IfOk result (λ table. AreWords ops.now) }
+    ensures words { IfOk result (λ table. HaveWords ops.now) }
 {
     let mut table = Table::new(alloc);
     table.reserve(8 * ops.len())?;

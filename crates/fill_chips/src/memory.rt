@@ -3,7 +3,8 @@ ghost use Rattle.vm_ops.specs.Values.{bit_of};
 ghost use Rattle.std.specs.List.Sorted.{IsNonDecreasingBy, IsPermutation};
 ghost use Rattle.memory_rows.specs.Accesses.{key_of};
 ghost use Rattle.memory_rows.specs.AccessRows.{new_address, new_context, row_behind, rows_of, step_behind};
-ghost use Rattle.memory_rows.specs.MemoryTables.{HasLimbs, IsSmall, row_at};
+ghost use Rattle.vm_table.specs.Layout.{row_at};
+ghost use Rattle.memory_rows.specs.MemoryTables.{HasLimbs, IsSmallAccess};
 ghost use Rattle.fill_chips.specs.MemoryLimbs.{AreRowsOf, limbs_of};
 
 use crate::hasher::bit_of;
@@ -24,7 +25,7 @@ struct Step {
 /// A row for each access, by context, then by address, then by clock.
 pub(crate) fn memory_table(alloc: Global, accesses: &[Access]) -> Result<Table<14>, Memory>
     ensures rows { IfOk result (AreRowsOf accesses.now) }
-    ensures small { IfOk result (λ table. All IsSmall accesses.now) }
+    ensures small { IfOk result (λ table. All IsSmallAccess accesses.now) }
 {
     let sorted = sorted(alloc, accesses)?;
     table_of(alloc, sorted.as_slice())
@@ -50,7 +51,7 @@ fn key_of(ctx: u32, addr: u32, clk: u32) -> u128
 // The rows of accesses that stand in order.
 fn table_of(alloc: Global, sorted: &[Access]) -> Result<Table<14>, Memory>
     ensures rows { IfOk result (λ table. table ≡ rows_of sorted.now) }
-    ensures small { IfOk result (λ table. All IsSmall sorted.now) }
+    ensures small { IfOk result (λ table. All IsSmallAccess sorted.now) }
 {
     let mut table = Table::new(alloc);
     table.reserve(sorted.len())?;
@@ -65,7 +66,7 @@ fn table_of(alloc: Global, sorted: &[Access]) -> Result<Table<14>, Memory>
 // The row of an access behind another one.
 fn row_behind(before: &Option<Access>, access: Access) -> [Felt; 14]
     ensures row { result ≡ row_behind before.now access }
-    ensures small { IsSmall access }
+    ensures small { IsSmallAccess access }
 {
     let step = step_behind(before, access);
     let [v0, v1, v2, v3] = access.word;

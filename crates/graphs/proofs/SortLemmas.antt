@@ -10,10 +10,10 @@ use Rattle.std.specs.declared.vec.Vec.{Vec}
 use Rattle.std.specs.declared.alloc.Global.{Global}
 use Rattle.graphs.specs.Graph.{rows_of, Edge, IsGraph}
 use Rattle.graphs.specs.Orders.{IsAcyclic, StandsBehind, IsOrder}
-use Rattle.graphs.specs.Walks.{AreMarks, Adds}
+use Rattle.graphs.specs.Walks.{AreMarks, AddsPlaces}
 use Rattle.graphs.specs.Sorting.{waiters, IsSorting, IsSettled, Grows}
 use Rattle.graphs.specs.declared.ordering.Sorter.{Sorter}
-use Rattle.graphs.proofs.WalkLemmas.{contains_one, Adds-keeps}
+use Rattle.graphs.proofs.WalkLemmas.{contains_one, AddsPlaces-keeps}
 use Rattle.graphs.proofs.Stuck.{not-stuck}
 
 pub OnOk-both : {T E P Q R : Type 0} (r : Result T E) → (P → Q → R) → OnOk r P → OnOk r Q → OnOk r R
@@ -36,7 +36,7 @@ contains_none x h = omega (arith, h.1)
 
 -- orders
 
-StandsBehind-visit : (graph : List (List ℕ)) (old new : List ℕ) (place : ℕ) → StandsBehind graph old → Adds old (place ∷ []) new
+StandsBehind-visit : (graph : List (List ℕ)) (old new : List ℕ) (place : ℕ) → StandsBehind graph old → AddsPlaces old (place ∷ []) new
     → ((b : ℕ) → Edge graph place b → Contains old b) → StandsBehind graph new
 StandsBehind-visit graph old new place behind adds free k b below edge =
     subst (λ xs. Contains (take k xs) b) (sym adds.keeps)
@@ -250,21 +250,21 @@ all-passed graph s place sorting whole b edge =
     (sorting.passed place edge.0 (omega (arith, edge.1)) edge.1)
 
 pub IsSorting-visit : (graph : List (List ℕ)) (s t : Sorter) (place : ℕ) → IsSorting graph s → AreMarks t.walk.marks.items t.walk.seen.items
-    → Adds s.walk.seen.items (place ∷ []) t.walk.seen.items → length t.walk.marks.items ≡ length s.walk.marks.items
+    → AddsPlaces s.walk.seen.items (place ∷ []) t.walk.seen.items → length t.walk.marks.items ≡ length s.walk.marks.items
     → t.passed ≡ s.passed → t.waiting ≡ s.waiting
     → length (get_or graph place []) ≤ get_or s.passed.items place 0 → IsSorting graph t
 IsSorting-visit graph s t place old marks adds count passed waiting whole =
     record {
       marks = marks;
       behind = StandsBehind-visit graph _ _ place old.behind adds (all-passed graph s place old whole);
-      passed = λ q k below inside. Adds-keeps _ (place ∷ []) _ _ adds (old.passed q k (subst (λ v. k < get_or v.items q 0) passed below) inside);
+      passed = λ q k below inside. AddsPlaces-keeps _ (place ∷ []) _ _ adds (old.passed q k (subst (λ v. k < get_or v.items q 0) passed below) inside);
       within = λ b q h. old.within b q (subst (λ v. Contains (get_or (rows_of v.items) b []) q) waiting h);
       marks_len = count ∙ old.marks_len;
       passed_len = ap (λ v. length v.items) passed ∙ old.passed_len;
       waiting_len = ap (λ v. length v.items) waiting ∙ old.waiting_len;
     }
 
-pub Grows-visit : (s t : Sorter) (place : ℕ) → Adds s.walk.seen.items (place ∷ []) t.walk.seen.items → t.waiting ≡ s.waiting → Grows s t
+pub Grows-visit : (s t : Sorter) (place : ℕ) → AddsPlaces s.walk.seen.items (place ∷ []) t.walk.seen.items → t.waiting ≡ s.waiting → Grows s t
 Grows-visit s t place adds waiting =
     record { more = adds.more; seen = adds.keeps; waits = λ b q h. subst (λ v. Contains (get_or (rows_of v.items) b []) q) (sym waiting) h }
 

@@ -6,7 +6,7 @@ use Rattle.std.proofs.lemmas.List.Elements.{Contains-append_left, Contains-appen
 use Rattle.std.proofs.lemmas.List.Sums.{sum_by-set, count_by-le-length}
 use Rattle.std.specs.List.{Contains}
 use Rattle.graphs.specs.Graph.{Edge, Leads, itself, through}
-use Rattle.graphs.specs.Walks.{AreMarks, Adds, Walked}
+use Rattle.graphs.specs.Walks.{AreMarks, AddsPlaces, Walked}
 
 pub contains_one : {X : Type 0} (x y : X) → Contains (x ∷ []) y → x ≡ y
 contains_one x y h = elim (Contains-push_cases [] x y h) [ inl none ↦ absurd (omega (arith, none.1)) | inr same ↦ same ]
@@ -43,15 +43,15 @@ AreMarks-visit marks seen place are within unmarked = record { marked = λ q. (t
         let longer = length_push seen place in
         omega arith
 
-pub Adds-none : (old : List ℕ) → Adds old [] old
-Adds-none old = record { more = []; keeps = sym (append-nil old); row_in = λ q h. absurd (omega (arith, h.1)); only = λ q h. inl h }
+pub AddsPlaces-none : (old : List ℕ) → AddsPlaces old [] old
+AddsPlaces-none old = record { more = []; keeps = sym (append-nil old); row_in = λ q h. absurd (omega (arith, h.1)); only = λ q h. inl h }
 
-pub Adds-seen : (old : List ℕ) (place : ℕ) → Contains old place → Adds old (place ∷ []) old
-Adds-seen old place has =
+pub AddsPlaces-seen : (old : List ℕ) (place : ℕ) → Contains old place → AddsPlaces old (place ∷ []) old
+AddsPlaces-seen old place has =
     record { more = []; keeps = sym (append-nil old); row_in = λ q h. subst (Contains old) (contains_one place q h) has; only = λ q h. inl h }
 
-pub Adds-push : (old : List ℕ) (place : ℕ) → Adds old (place ∷ []) (old ++ place ∷ [])
-Adds-push old place =
+pub AddsPlaces-push : (old : List ℕ) (place : ℕ) → AddsPlaces old (place ∷ []) (old ++ place ∷ [])
+AddsPlaces-push old place =
     record {
       more = place ∷ [];
       keeps = refl;
@@ -59,16 +59,16 @@ Adds-push old place =
       only = λ q h. Contains-append_cases old (place ∷ []) q h;
     }
 
-pub Adds-keeps : (old row new : List ℕ) (q : ℕ) → Adds old row new → Contains old q → Contains new q
-Adds-keeps old row new q adds h = subst (λ xs. Contains xs q) (sym adds.keeps) (Contains-append_left old adds.more q h)
+pub AddsPlaces-keeps : (old row new : List ℕ) (q : ℕ) → AddsPlaces old row new → Contains old q → Contains new q
+AddsPlaces-keeps old row new q adds h = subst (λ xs. Contains xs q) (sym adds.keeps) (Contains-append_left old adds.more q h)
 
-pub Adds-join : (old us mid vs new : List ℕ) → Adds old us mid → Adds mid vs new → Adds old (us ++ vs) new
-Adds-join old us mid vs new first second =
+pub AddsPlaces-join : (old us mid vs new : List ℕ) → AddsPlaces old us mid → AddsPlaces mid vs new → AddsPlaces old (us ++ vs) new
+AddsPlaces-join old us mid vs new first second =
     record {
       more = first.more ++ second.more;
       keeps = second.keeps ∙ (ap (λ xs. xs ++ second.more) first.keeps ∙ append_assoc old first.more second.more);
       row_in = λ q h. elim (Contains-append_cases us vs q h) [
-        | inl in_us ↦ Adds-keeps mid vs new q second (first.row_in q in_us)
+        | inl in_us ↦ AddsPlaces-keeps mid vs new q second (first.row_in q in_us)
         | inr in_vs ↦ second.row_in q in_vs
       ];
       only = λ q h. elim (second.only q h) [
@@ -77,18 +77,18 @@ Adds-join old us mid vs new first second =
       ];
     }
 
-pub Adds-more : (old row mid new : List ℕ) (i place : ℕ) → i < length row → place ≡ get_or row i 0 → Adds old (take i row) mid
-    → Adds mid (place ∷ []) new
-    → Adds old (take (i + 1) row) new
-Adds-more old row mid new i place within is first second =
-    subst (λ xs. Adds old xs new) (sym (take_more row i 0 within ∙ ap (λ p. take i row ++ p ∷ []) (sym is)))
-    (Adds-join old (take i row) mid (place ∷ []) new first second)
+pub AddsPlaces-more : (old row mid new : List ℕ) (i place : ℕ) → i < length row → place ≡ get_or row i 0 → AddsPlaces old (take i row) mid
+    → AddsPlaces mid (place ∷ []) new
+    → AddsPlaces old (take (i + 1) row) new
+AddsPlaces-more old row mid new i place within is first second =
+    subst (λ xs. AddsPlaces old xs new) (sym (take_more row i 0 within ∙ ap (λ p. take i row ++ p ∷ []) (sym is)))
+    (AddsPlaces-join old (take i row) mid (place ∷ []) new first second)
 
 pub Leads-push : (graph : List (List ℕ)) (a b c : ℕ) → Leads graph a b → Edge graph b c → Leads graph a c
 Leads-push graph a b c itself edge = through edge itself
 Leads-push graph a b c (through {b = d} first more) edge = through first (Leads-push graph d b c more edge)
 
-pub Walked-start : (graph : List (List ℕ)) (start : ℕ) (seen : List ℕ) → Adds [] (start ∷ []) seen → Walked graph start seen 0
+pub Walked-start : (graph : List (List ℕ)) (start : ℕ) (seen : List ℕ) → AddsPlaces [] (start ∷ []) seen → Walked graph start seen 0
 Walked-start graph start seen adds =
     record {
       starts = adds.row_in start (Contains-push [] start);
@@ -100,12 +100,12 @@ Walked-start graph start seen adds =
     }
 
 pub Walked-more : (graph : List (List ℕ)) (start : ℕ) (seen new : List ℕ) (next place : ℕ) → Walked graph start seen next → next < length seen
-    → place ≡ get_or seen next 0 → Adds seen (get_or graph place []) new → Walked graph start new (next + 1)
+    → place ≡ get_or seen next 0 → AddsPlaces seen (get_or graph place []) new → Walked graph start new (next + 1)
 Walked-more graph start seen new next place walked within is adds =
     record { starts = keeps start walked.starts; reached = reached; followed = followed }
   where
     keeps : (q : ℕ) → Contains seen q → Contains new q
-    keeps q h = Adds-keeps seen (get_or graph place []) new q adds h
+    keeps q h = AddsPlaces-keeps seen (get_or graph place []) new q adds h
 
     here : Contains seen place
     here = subst (Contains seen) (sym is) (Contains-get_or seen next 0 within)

@@ -9,7 +9,7 @@ pub record AreMarks (marks : List Bool) (seen : List ℕ) : Type 0 where
   pub once : count_by (λ mark. mark) marks ≡ length seen
 
 -- places are added to those seen
-pub record Adds (old row new : List ℕ) : Type 0 where
+pub record AddsPlaces (old row new : List ℕ) : Type 0 where
   pub more : List ℕ
   pub keeps : new ≡ old ++ more
   pub row_in : (place : ℕ) → Contains row place → Contains new place

@@ -1,7 +1,7 @@
 ghost use Rattle.std.specs.Prelude.{◌≡◌, ℕ, ◌<◌, ◌∷◌, [], length, slice_index_or, false, true, ◌↔◌, IfOk, OnOk};
 ghost use Rattle.std.specs.List.{All};
 ghost use Rattle.graphs.specs.Graph.{rows_of, IsGraph, Leads};
-ghost use Rattle.graphs.specs.Walks.{AreMarks, Adds};
+ghost use Rattle.graphs.specs.Walks.{AreMarks, AddsPlaces};
 
 use std::alloc::{AllocError, Global};
 
@@ -29,7 +29,7 @@ impl Walk {
         requires within { place < length self.old.marks.items }
         requires marks { AreMarks self.old.marks.items self.old.seen.items }
         ensures marks { OnOk result (AreMarks self.new.marks.items self.new.seen.items) }
-        ensures adds { OnOk result (Adds self.old.seen.items (place ∷ []) self.new.seen.items) }
+        ensures adds { OnOk result (AddsPlaces self.old.seen.items (place ∷ []) self.new.seen.items) }
         ensures count { length self.new.marks.items ≡ length self.old.marks.items }
     {
         if self.marks[place] {
@@ -44,7 +44,7 @@ impl Walk {
         requires within { All (λ place. place < length self.old.marks.items) row.now }
         requires marks { AreMarks self.old.marks.items self.old.seen.items }
         ensures marks { OnOk result (AreMarks self.new.marks.items self.new.seen.items) }
-        ensures adds { OnOk result (Adds self.old.seen.items row.now self.new.seen.items) }
+        ensures adds { OnOk result (AddsPlaces self.old.seen.items row.now self.new.seen.items) }
         ensures count { length self.new.marks.items ≡ length self.old.marks.items }
     {
         for place in row {

@@ -2,11 +2,11 @@
 use Rattle.std.proofs.Common.{◌≡◌, ℕ, zero, suc, ◌+◌, ◌*◌, ◌<◌, inl, inr, Bool, true, false, cond, if◌then◌else◌, List, [], ◌∷◌, ◌++◌, slice_index, take, drop, nat_eq, All, refl, sym, ap, subst, ◌∙◌, arith}
 use Rattle.std.proofs.lemmas.Bool.{cases_Bool}
 use Rattle.std.proofs.lemmas.List.Elements.{All-head, All-drop}
-use Rattle.std.specs.Cmp.Lexicographic.{other_text}
 use lib.Pointwise.{pointwise}
 use Rattle.vm_field.specs.Permutation.{permuted}
 use Rattle.vm_field.specs.Sponge.{sponge_after, squeezed, hashed}
 use Rattle.buses.specs.Counts.{counted, once}
+use Rattle.buses.proofs.Counting.{tuple-same}
 use Rattle.rpo_hash.specs.States.{IsState}
 use Rattle.air_kit.specs.declared.requests.Perm.{Perm}
 use Rattle.air_kit.specs.Requests.{FollowsOn, perms_given}
@@ -19,13 +19,10 @@ own_is : (b : Bool) (n : ℕ) → b ≡ true → n ≡ cond b 1 0 + 0 → n ≡ 
 own_is true n e is = is
 own_is false n e is = absurd (cc)
 
-same_as_own : (t : List ℕ) → pointwise nat_eq t t ≡ true
-same_as_own t = elim (cases_Bool (pointwise nat_eq t t)) [ inl is ↦ is | inr not ↦ absurd (other_text t t (sym not) refl) ]
-
 once_own : (t u : List ℕ) → u ≡ t → 0 < counted (once t ∷ []) u
 unfolding counted
 once_own t u same =
-    let e = own_is (pointwise nat_eq t u) (counted (once t ∷ []) u) (ap (pointwise nat_eq t) same ∙ same_as_own t) refl in omega (arith, e)
+    let e = own_is (pointwise nat_eq t u) (counted (once t ∷ []) u) (ap (pointwise nat_eq t) same ∙ tuple-same t) refl in omega (arith, e)
 
 begins_counts : (a : ℕ) (p : Perm) (m c : Bool) (u : List ℕ) → p.mode ≡ m → p.cont ≡ c → BeginsAs a p u
     → 0 < counted (if m then once (4 ∷ a ∷ p.start) ∷ []

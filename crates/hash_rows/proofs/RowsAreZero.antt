@@ -17,7 +17,7 @@ use Rattle.air_kit.specs.Places.{Claim, at_number, family}
 use Rattle.air_kit.specs.HasherValues.{begins_at_zero, bit_value, hasher_flag_values, chain_values, round_values, hasher_values, hasher_values_by}
 use Rattle.air_kit.specs.Requests.{FollowsOn}
 use Rattle.hash_rows.specs.PermRows.{perm_row, rows_before, rows_of, perm_of, perms_in}
-use Rattle.hash_rows.specs.HashTables.{IsZero, Fit}
+use Rattle.hash_rows.specs.HashTables.{HasherIsZero, PermsFit}
 use Rattle.hash_rows.proofs.RowLemmas.{state_is, zero_cons}
 use Rattle.hash_rows.proofs.ZeroLemmas.{AllZero, CellsBelow}
 use Rattle.hash_rows.proofs.BlockLemmas.{EightZero, ZeroFrom, first_of, zero_behind}
@@ -363,7 +363,7 @@ perms_again constants (p ∷ perms) len s =
     ap₂ (λ (q : Perm) (qs : List Perm). q ∷ qs) (perm_again constants p len (All-head (λ p. IsState p.start) p perms s))
     (perms_again constants perms len (All-tail (λ p. IsState p.start) p perms s))
 
-pub rows_are_zero : (c : Claim) (perms : List Perm) → length c.constants ≡ 168 → Fit c.constants perms → IsZero c (rows_of c.constants perms)
+pub rows_are_zero : (c : Claim) (perms : List Perm) → length c.constants ≡ 168 → PermsFit c.constants perms → HasherIsZero c (rows_of c.constants perms)
 rows_are_zero c perms len fit = record {
   table = table_of c.constants perms len fit.states;
   whole = let e = rows_of-size c.constants perms in omega (arith, e);

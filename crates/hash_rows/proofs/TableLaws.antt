@@ -7,12 +7,12 @@ use Rattle.air_kit.specs.declared.trace.TableName.TheVariants as table
 use Rattle.air_kit.specs.ChipTuples.{chip_given}
 use Rattle.air_kit.specs.Places.{Claim}
 use Rattle.hash_rows.specs.PermRows.{rows_of, perms_in}
-use Rattle.hash_rows.specs.HashTables.{IsZero, Fit, AreRows, ShowsPerms}
+use Rattle.hash_rows.specs.HashTables.{HasherIsZero, PermsFit, ArePermRows, ShowsPerms}
 use Rattle.hash_rows.proofs.ZerosAreRows.{fit_of, are_rows}
 use Rattle.hash_rows.proofs.RowsAreZero.{rows_of-size, rows_are_zero, perms_again}
 use Rattle.hash_rows.proofs.GivenLemmas.{rows_give}
 
-pub zeros_are_rows : (c : Claim) (rows : List (List ℕ)) → length c.constants ≡ 168 → IsZero c rows → AreRows c.constants rows
+pub zeros_are_rows : (c : Claim) (rows : List (List ℕ)) → length c.constants ≡ 168 → HasherIsZero c rows → ArePermRows c.constants rows
 zeros_are_rows c rows len z = record {
   fit = fit;
   rows_are = are_rows c rows len z;
@@ -21,10 +21,10 @@ zeros_are_rows c rows len z = record {
       ∙ rows_give c.constants (perms_in rows) u len fit.states;
 }
   where
-    fit : Fit c.constants (perms_in rows)
+    fit : PermsFit c.constants (perms_in rows)
     fit = fit_of c rows len z
 
-pub rows_show : (c : Claim) (perms : List Perm) → length c.constants ≡ 168 → Fit c.constants perms → ShowsPerms c perms (rows_of c.constants perms)
+pub rows_show : (c : Claim) (perms : List Perm) → length c.constants ≡ 168 → PermsFit c.constants perms → ShowsPerms c perms (rows_of c.constants perms)
 rows_show c perms len fit = record {
   size = rows_of-size c.constants perms;
   zero = rows_are_zero c perms len fit;

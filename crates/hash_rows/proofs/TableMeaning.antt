@@ -10,7 +10,7 @@ use Rattle.air_kit.specs.Hashes.{computation_at}
 use Rattle.air_kit.specs.Places.{Claim}
 use Rattle.air_kit.specs.Requests.{FollowsOn, perms_given}
 use Rattle.hash_rows.specs.PermRows.{rows_of, perms_in}
-use Rattle.hash_rows.specs.HashTables.{IsZero}
+use Rattle.hash_rows.specs.HashTables.{HasherIsZero}
 use Rattle.hash_rows.specs.HashMeaning.{GivesOn, IsGivenWhole, IsHash, TableGives}
 use Rattle.hash_rows.proofs.Given.{IsGivenBy, given_by_one, given-address, given-same, given-once}
 use Rattle.hash_rows.proofs.MeaningLemmas.{GivesOnBy, FoundAt, blocks_in, permutes_by, hash_by}
@@ -95,7 +95,7 @@ perms_give constants perms rows given len s f rows_are is = record {
       digest_is = found.digest_is;
     }
 
-pub table_gives : (c : Claim) (rows : List (List ℕ)) → length c.constants ≡ 168 → IsZero c rows
+pub table_gives : (c : Claim) (rows : List (List ℕ)) → length c.constants ≡ 168 → HasherIsZero c rows
     → TableGives c.constants rows (over_rows (chip_given bus.Hasher table.Hasher) rows)
 table_gives c rows len z =
     let are = zeros_are_rows c rows len z in

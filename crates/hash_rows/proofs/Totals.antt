@@ -1,11 +1,7 @@
 -- Sums over the rows of a table, and counts in lists that are joined.
 use Rattle.std.proofs.Common.{◌≡◌, ℕ, zero, suc, ◌+◌, ◌<◌, refl, ap, ap₂, ◌∙◌, arith}
 use Rattle.buses.specs.Counts.{total}
-
-pub total-front : (n : ℕ) (f : ℕ → ℕ) → total (suc n) f ≡ f 0 + total n (λ i. f (suc i))
-unfolding total
-total-front zero f = omega arith
-total-front (suc n) f = let e = total-front n f in omega (arith, e)
+use Rattle.buses.proofs.Counting.{total-front}
 
 pub total-same : (n : ℕ) (f g : ℕ → ℕ) → ((i : ℕ) → i < n → f i ≡ g i) → total n f ≡ total n g
 unfolding total

@@ -23,7 +23,7 @@ CellsBelow row = (k : ℕ) → slice_index row k < prime
 
 -- ---- inside of the eight rows: flags stay, and a round goes by
 
-pub record GoesOn (constants cur next : List ℕ) : Type 0 where
+pub record IsNextRound (constants cur next : List ℕ) : Type 0 where
   pub more_none : more cur ≡ 0
   pub mode_same : mode next ≡ mode cur
   pub cont_same : cont next ≡ cont cur
@@ -61,7 +61,7 @@ rounds_zero first begins constants cur next zero_is (suc (suc (suc (suc (suc (su
 rounds_zero first begins constants cur next zero_is (suc (suc (suc (suc (suc (suc (suc (suc (suc (suc (suc (suc j)))))))))))) h = absurd (omega arith)
 
 pub goes_on : (first begins : Bool) (constants cur next : List ℕ) → length constants ≡ 24 → CellsBelow cur → CellsBelow next
-    → AllZero (hasher_values_by first begins true false constants cur (Some next)) → GoesOn constants cur next
+    → AllZero (hasher_values_by first begins true false constants cur (Some next)) → IsNextRound constants cur next
 unfolding hasher_values_by hasher_flag_values
 goes_on first begins constants cur next len below below_next zero_is = record {
   more_none = zero_is 6;

@@ -13,9 +13,9 @@ use Rattle.air_kit.specs.Places.{Claim, at_number}
 use Rattle.air_kit.specs.HasherValues.{hasher_values}
 use Rattle.air_kit.specs.Requests.{FollowsOn}
 use Rattle.hash_rows.specs.PermRows.{perm_row, rows_before, rows_of, perm_of, perms_in}
-use Rattle.hash_rows.specs.HashTables.{IsZero, Fit}
+use Rattle.hash_rows.specs.HashTables.{HasherIsZero, PermsFit}
 use Rattle.hash_rows.proofs.RowLemmas.{row_is, state-IsState, bit_is}
-use Rattle.hash_rows.proofs.ZeroLemmas.{CellsBelow, GoesOn, goes_on, Begins, begins, Ends, ends, LinkedTo}
+use Rattle.hash_rows.proofs.ZeroLemmas.{CellsBelow, IsNextRound, goes_on, Begins, begins, Ends, ends, LinkedTo}
 use Rattle.hash_rows.proofs.BlockLemmas.{EightZero, ZeroFrom, eight, first_of, zero_from}
 
 -- ---- a row behind k rounds of a permutation
@@ -25,7 +25,7 @@ record Shown (constants : List ℕ) (p : Perm) (k : ℕ) (r : List ℕ) : Type 0
   cont_is : cont r ≡ bit_of p.cont
   state_is : state r ≡ rounds k constants p.start
 
-one_more : (constants : List ℕ) (p : Perm) (k : ℕ) (cur next : List ℕ) → GoesOn (round_constants constants k) cur next
+one_more : (constants : List ℕ) (p : Perm) (k : ℕ) (cur next : List ℕ) → IsNextRound (round_constants constants k) cur next
     → Shown constants p k cur → Shown constants p (suc k) next
 one_more constants p k cur next g s = record {
   mode_is = g.mode_same ∙ s.mode_is;
@@ -98,43 +98,43 @@ block_shows constants first r0 r1 r2 r3 r4 r5 r6 r7 next len are below_next z = 
       state_is = sym (rounds-none constants (state r0));
     }
 
-    g0 : GoesOn (round_constants constants 0) r0 r1
+    g0 : IsNextRound (round_constants constants 0) r0 r1
     g0 = goes_on first true (round_constants constants 0) r0 r1 (length-round_constants constants 0 len (lit< tt)) (are.below 0) (are.below 1) z.z0
 
     s1 : Shown constants p 1 r1
     s1 = one_more constants p 0 r0 r1 g0 s0
 
-    g1 : GoesOn (round_constants constants 1) r1 r2
+    g1 : IsNextRound (round_constants constants 1) r1 r2
     g1 = goes_on false false (round_constants constants 1) r1 r2 (length-round_constants constants 1 len (lit< tt)) (are.below 1) (are.below 2) z.z1
 
     s2 : Shown constants p 2 r2
     s2 = one_more constants p 1 r1 r2 g1 s1
 
-    g2 : GoesOn (round_constants constants 2) r2 r3
+    g2 : IsNextRound (round_constants constants 2) r2 r3
     g2 = goes_on false false (round_constants constants 2) r2 r3 (length-round_constants constants 2 len (lit< tt)) (are.below 2) (are.below 3) z.z2
 
     s3 : Shown constants p 3 r3
     s3 = one_more constants p 2 r2 r3 g2 s2
 
-    g3 : GoesOn (round_constants constants 3) r3 r4
+    g3 : IsNextRound (round_constants constants 3) r3 r4
     g3 = goes_on false false (round_constants constants 3) r3 r4 (length-round_constants constants 3 len (lit< tt)) (are.below 3) (are.below 4) z.z3
 
     s4 : Shown constants p 4 r4
     s4 = one_more constants p 3 r3 r4 g3 s3
 
-    g4 : GoesOn (round_constants constants 4) r4 r5
+    g4 : IsNextRound (round_constants constants 4) r4 r5
     g4 = goes_on false false (round_constants constants 4) r4 r5 (length-round_constants constants 4 len (lit< tt)) (are.below 4) (are.below 5) z.z4
 
     s5 : Shown constants p 5 r5
     s5 = one_more constants p 4 r4 r5 g4 s4
 
-    g5 : GoesOn (round_constants constants 5) r5 r6
+    g5 : IsNextRound (round_constants constants 5) r5 r6
     g5 = goes_on false false (round_constants constants 5) r5 r6 (length-round_constants constants 5 len (lit< tt)) (are.below 5) (are.below 6) z.z5
 
     s6 : Shown constants p 6 r6
     s6 = one_more constants p 5 r5 r6 g5 s5
 
-    g6 : GoesOn (round_constants constants 6) r6 r7
+    g6 : IsNextRound (round_constants constants 6) r6 r7
     g6 = goes_on false false (round_constants constants 6) r6 r7 (length-round_constants constants 6 len (lit< tt)) (are.below 6) (are.below 7) z.z6
 
     s7 : Shown constants p 7 r7
@@ -258,19 +258,19 @@ row_none k = omega arith
 
 -- ---- the whole table
 
-zero_is : (c : Claim) (rows : List (List ℕ)) → IsZero c rows → ZeroFrom c.constants true rows
+zero_is : (c : Claim) (rows : List (List ℕ)) → HasherIsZero c rows → ZeroFrom c.constants true rows
 zero_is c rows z =
     zero_from c 0 rows z.whole
     (λ k n h. ap (λ row. at_number (hasher_values c
     (record { row = row; cur = slice_index_or rows k []; next = slice_get rows (suc k) })) n) (row_none k)
     ∙ z.zero k n h)
 
-pub fit_of : (c : Claim) (rows : List (List ℕ)) → length c.constants ≡ 168 → IsZero c rows → Fit c.constants (perms_in rows)
+pub fit_of : (c : Claim) (rows : List (List ℕ)) → length c.constants ≡ 168 → HasherIsZero c rows → PermsFit c.constants (perms_in rows)
 fit_of c rows len z = record {
   follows =
       follows c.constants true false [] rows len z.table (zero_is c rows z) (first_links c.constants rows len z.table (zero_is c rows z));
   states = states rows z.table;
 }
 
-pub are_rows : (c : Claim) (rows : List (List ℕ)) → length c.constants ≡ 168 → IsZero c rows → rows ≡ rows_of c.constants (perms_in rows)
+pub are_rows : (c : Claim) (rows : List (List ℕ)) → length c.constants ≡ 168 → HasherIsZero c rows → rows ≡ rows_of c.constants (perms_in rows)
 are_rows c rows len z = rows_are c.constants true rows len z.table (zero_is c rows z)

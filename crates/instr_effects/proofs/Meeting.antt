@@ -8,10 +8,10 @@ use Rattle.vm_ops.specs.declared.item.Item.{Item}
 use Rattle.instr_effects.proofs.Sized.{IsSized}
 use Rattle.vm_ops.specs.Step.{memory_with}
 use Rattle.instr_effects.specs.Effects.{Effect, listed}
-use Rattle.instr_effects.specs.HasEffect.{affected, Answers, HasEffect}
+use Rattle.instr_effects.specs.HasEffect.{affected, TrapsOrLeaves, HasEffect}
 use Rattle.vm_ops.specs.Runs.{run}
 use Rattle.instr_effects.proofs.Alikes.{Alike, alike-along, alike-back, alike-equal, alike-filled_up, alike-front, alike-drop, alike-listed, length-listed}
-use Rattle.instr_effects.proofs.Running.{Does, Shows, last-turn, run-does}
+use Rattle.instr_effects.proofs.Running.{Does, WindowShows, last-turn, run-does}
 use Rattle.instr_effects.proofs.Windows.{Window, window, last, trap, fits}
 
 -- what the list leaves is what the effect leaves
@@ -31,7 +31,7 @@ pub record Acts (constants : List ℕ) (items : List Item) (s : State) (e : Effe
 abbrev pub Meets : List ℕ → List Item → State → Effect → Type 0
 Meets constants items s e = Acts constants items s e (window s)
 
-shows-start : (s : State) → 16 ≤ length s.core.stack → Shows s.core (drop 24 s.core.stack) (window s) s
+shows-start : (s : State) → 16 ≤ length s.core.stack → WindowShows s.core (drop 24 s.core.stack) (window s) s
 shows-start s deep = record {
   clock = sym (add-zero s.core.clock);
   context = refl;
@@ -86,7 +86,7 @@ same-state : (clock clock' context context' fmp fmp' : ℕ) (in_syscall in_sysca
 same-state _ _ _ _ _ _ _ _ _ _ _ _ _ _ _ _ _ _ e1 e2 e3 e4 e5 e6 e7 e8 e9 = cc
 
 target-is : (constants : List ℕ) (items : List Item) (s t : State) (e : Effect) → 16 ≤ length s.core.stack → e.takes ≤ 16
-    → Left e s (last constants s.core items (window s)) → Shows s.core (drop 24 s.core.stack) (last constants s.core items (window s)) t
+    → Left e s (last constants s.core items (window s)) → WindowShows s.core (drop 24 s.core.stack) (last constants s.core items (window s)) t
     → t ≡ affected e (length items) s
 target-is constants items s t e deep small left shows =
     let stack : t.core.stack ≡ filled_up (e.leaves ++ drop e.takes s.core.stack) =
@@ -101,7 +101,7 @@ target-is constants items s t e deep small left shows =
     clock shows.context fmp shows.in_syscall shows.digest shows.nesting stack memory tape
 
 answers : (o : Option Cause) (b : Bool) (r : Result State Cause) (c : Core) (rest : List ℕ) (w : Window) (target : State)
-    → is_some o ≡ b → Does o r c rest w → (b ≡ false → (t : State) → Shows c rest w t → t ≡ target) → Answers b r target
+    → is_some o ≡ b → Does o r c rest w → (b ≡ false → (t : State) → WindowShows c rest w t → t ≡ target) → TrapsOrLeaves b r target
 answers None false r c rest w target e (t, is, shows) same = is ∙ ap Ok (same refl t shows)
 answers (Some cause) true r c rest w target e is same = (cause, is)
 answers None true r c rest w target e does same = cc

@@ -1,5 +1,5 @@
 -- A list of operations run from a state does what it does on a window of the state's stack.
-use Rattle.std.proofs.Common.{◌≡◌, ℕ, zero, suc, ◌+◌, ◌-◌, ◌≤◌, max, ◌⊎◌, inl, inr, Bool, true, false, cond, ◌||◌, not, nat_le, nat_lt, List, [], ◌∷◌, ◌++◌, length, take, drop, slice_index, Option, Some, None, Result, Ok, Err, refl, sym, ◌∙◌, ap, subst, arith, leb-true, ltb-false, le-ltb}
+use Rattle.std.proofs.Common.{◌≡◌, ℕ, zero, suc, ◌+◌, ◌-◌, ◌≤◌, max, ◌⊎◌, inl, inr, Bool, true, false, ◌||◌, not, nat_le, nat_lt, List, [], ◌∷◌, ◌++◌, length, take, drop, slice_index, Option, Some, None, Result, Ok, Err, refl, sym, ◌∙◌, ap, subst, arith, leb-true, ltb-true, ltb-false, le-ltb}
 use Rattle.std.proofs.lemmas.Bool.{and_parts, or_cases}
 use Rattle.std.proofs.lemmas.List.{get_or_append_left, length-append, length-drop, length-take-le}
 use Rattle.vm_field.specs.Machine.{Core, State, word_at}
@@ -11,17 +11,19 @@ use Rattle.vm_ops.specs.declared.op.Op.TheVariants as ops
 use Rattle.vm_ops.specs.Moves.{takes_of, leaves_of}
 use Rattle.vm_ops.specs.Sizes.{IsSeenBy}
 use Rattle.instr_effects.proofs.Sized.{IsSized, step-sized}
-use Rattle.vm_ops.specs.Step.{seen, left_cells, stack_after, performed, unless_trapped, act, ticked, cycle_taking, step}
+use Rattle.vm_ops.specs.Step.{seen, left_cells, stack_after, performed, step}
+use Rattle.vm_ops.specs.Stepping.{seen_at, state_after}
 use Rattle.vm_ops.specs.Values.{Seen, advice_of, fmp_after, or_else, trap_of, unless}
 use Rattle.vm_ops.proofs.MoveLemmas.{takes_of-below}
 use Rattle.vm_ops.proofs.Sizing.{length-left_cells, length-stack_after}
+use Rattle.vm_ops.proofs.StepLemmas.{step-goes, step-traps}
 use Rattle.instr_effects.specs.Effects.{listed}
 use Rattle.vm_ops.specs.Runs.{after_ok, run}
 use Rattle.instr_effects.proofs.Alikes.{Alike, alike-stack, alike-top, length-listed, listed-all, listed-front}
 use Rattle.instr_effects.proofs.Windows.{Window, seen_in, next, is_short, trap_in, has_room, last, trap, fits}
 
 -- A state is what the window shows, in a run from a state of this core; the rest of the stack lies below the known cells.
-pub record Shows (c : Core) (rest : List ℕ) (w : Window) (s : State) : Type 0 where
+pub record WindowShows (c : Core) (rest : List ℕ) (w : Window) (s : State) : Type 0 where
   pub clock : s.core.clock ≡ c.clock + w.turn
   pub context : s.core.context ≡ c.context
   pub fmp : s.core.fmp ≡ w.fmp
@@ -35,7 +37,7 @@ pub record Shows (c : Core) (rest : List ℕ) (w : Window) (s : State) : Type 0 
 
 -- the outcome is the trap, or a state that the window shows
 abbrev pub Does : Option Cause → Result State Cause → Core → List ℕ → Window → Type 0
-Does None r c rest w = (t : State) × (r ≡ Ok t) × Shows c rest w t
+Does None r c rest w = (t : State) × (r ≡ Ok t) × WindowShows c rest w t
 Does (Some cause) r c rest w = r ≡ Err cause
 
 is_short-is : (n : ℕ) (tape : List ℕ) → is_short n tape ≡ nat_lt (length tape) n
@@ -43,12 +45,12 @@ is_short-is zero tape = sym (le-ltb (length tape) 0 (omega arith))
 is_short-is (suc n) tape = refl
 
 -- cell 0 of the state is that of the window
-top-is : (c : Core) (rest : List ℕ) (w : Window) (s : State) → Shows c rest w s → 16 ≤ length w.cells
+top-is : (c : Core) (rest : List ℕ) (w : Window) (s : State) → WindowShows c rest w s → 16 ≤ length w.cells
     → slice_index s.core.stack 0 ≡ slice_index w.cells 0
 top-is c rest w s shows enough = shows.stack.at 0 ∙ get_or_append_left w.cells rest 0 0 (omega arith)
 
 -- what the operation sees, where the tape has what it takes
-seen-is : (constants : List ℕ) (c : Core) (rest : List ℕ) (item : Item) (w : Window) (s : State) → IsSized s.core → Shows c rest w s
+seen-is : (constants : List ℕ) (c : Core) (rest : List ℕ) (item : Item) (w : Window) (s : State) → IsSized s.core → WindowShows c rest w s
     → 16 ≤ length w.cells → advice_of item.op ≤ length s.tape
     → seen constants item (take (advice_of item.op) s.tape) s.core ≡ seen_in constants c item w
 seen-is constants c rest item w s sized shows enough taken =
@@ -108,8 +110,8 @@ behind op v s = record {
 }
 
 shows-next : (constants : List ℕ) (c : Core) (rest : List ℕ) (item : Item) (w : Window) (s : State) → length constants ≡ 168
-    → 16 ≤ length c.stack → Room item w.cells → Shows c rest w s
-    → Shows c rest (next constants c item w) (behind item.op (seen_in constants c item w) s)
+    → 16 ≤ length c.stack → Room item w.cells → WindowShows c rest w s
+    → WindowShows c rest (next constants c item w) (behind item.op (seen_in constants c item w) s)
 unfolding stack_after
 shows-next constants c rest item w s e deep r shows =
     let sized : IsSeenBy item.op (seen_in constants c item w) = seen-sized constants c item w e r.enough in
@@ -141,50 +143,48 @@ shows-next constants c rest item w s e deep r shows =
     fmp-is : (op : Op) (v : Seen) → fmp_after op v ≡ fmp_after op v
     fmp-is op v = refl
 
--- an operation that isn't short of advice
-finish : (c : Core) (rest : List ℕ) (w : Window) (n : ℕ) (tape : List ℕ) (o : Option Cause) (k : Core)
-    → Shows c rest w (record { core = record k { clock = k.clock + 1 }; tape = drop n tape })
-    → Does o (ticked n tape (unless_trapped o k)) c rest w
-finish c rest w n tape None k shows = (record { core = record k { clock = k.clock + 1 }; tape = drop n tape }, refl, shows)
-finish c rest w n tape (Some cause) k shows = refl
+-- an operation that is not short of advice
+finish : (constants : List ℕ) (c : Core) (rest : List ℕ) (item : Item) (w : Window) (s t : State) (own : Option Cause)
+    → advice_of item.op ≤ length s.tape → trap_of item.op (seen_at constants item s) ≡ own → t ≡ state_after constants item s
+    → WindowShows c rest w t → Does own (step constants item s) c rest w
+finish constants c rest item w s t None enough free is shows =
+    (t, step-goes constants item s t (record { enough = enough; free = free; is = is }), shows)
+finish constants c rest item w s t (Some cause) enough traps is shows =
+    step-traps constants item s cause (record { why = inr (enough, traps) })
 
-short-or : (short lacks : Bool) (own : Option Cause) (r : Result State Cause) (c : Core) (rest : List ℕ) (w : Window) → short ≡ lacks
-    → (lacks ≡ false → Does own r c rest w)
-    → Does (or_else (unless (not short) causes.AdviceEmpty) own) (cond lacks (Err causes.AdviceEmpty) r) c rest w
-short-or true true own r c rest w e does = refl
-short-or false false own r c rest w e does = does refl
-short-or true false own r c rest w e does = cc
-short-or false true own r c rest w e does = cc
+-- an operation that may be short of it
+short-or : (short : Bool) (own : Option Cause) (r : Result State Cause) (c : Core) (rest : List ℕ) (w : Window)
+    → (short ≡ true → r ≡ Err causes.AdviceEmpty) → (short ≡ false → Does own r c rest w)
+    → Does (or_else (unless (not short) causes.AdviceEmpty) own) r c rest w
+short-or true own r c rest w lacks does = lacks refl
+short-or false own r c rest w lacks does = does refl
 
 pub step-does : (constants : List ℕ) (c : Core) (rest : List ℕ) (item : Item) (w : Window) (s : State) → length constants ≡ 168
-    → 16 ≤ length c.stack → has_room item w.cells ≡ true → IsSized s.core → Shows c rest w s
+    → 16 ≤ length c.stack → has_room item w.cells ≡ true → IsSized s.core → WindowShows c rest w s
     → Does (trap_in constants c item w) (step constants item s) c rest (next constants c item w)
-unfolding cycle_taking act
 step-does constants c rest item w s e deep has sized shows =
-    short-or (is_short (advice_of item.op) w.tape) (nat_lt (length s.tape) (advice_of item.op))
-    (trap_of item.op (seen_in constants c item w)) _ c rest (next constants c item w)
-    (is_short-is (advice_of item.op) w.tape ∙ ap (λ (tape : List ℕ). nat_lt (length tape) (advice_of item.op)) (sym shows.tape))
-    (λ taken. went (ltb-false _ _ taken))
+    short-or (is_short (advice_of item.op) w.tape) (trap_of item.op (seen_in constants c item w)) (step constants item s) c rest
+    (next constants c item w)
+    (λ lacks. step-traps constants item s causes.AdviceEmpty (record { why = inl (ltb-true _ _ (sym short-is ∙ lacks), refl) }))
+    (λ has_all. went (ltb-false _ _ (sym short-is ∙ has_all)))
   where
     r : Room item w.cells
     r = room item w.cells has
 
-    went : advice_of item.op ≤ length s.tape
-        → Does (trap_of item.op (seen_in constants c item w))
-        (ticked (advice_of item.op) s.tape (unless_trapped (trap_of item.op (seen constants item (take (advice_of item.op) s.tape) s.core))
-        (performed item.op (seen constants item (take (advice_of item.op) s.tape) s.core) s.core)))
-        c rest (next constants c item w)
+    short-is : is_short (advice_of item.op) w.tape ≡ nat_lt (length s.tape) (advice_of item.op)
+    short-is = is_short-is (advice_of item.op) w.tape ∙ ap (λ (tape : List ℕ). nat_lt (length tape) (advice_of item.op)) (sym shows.tape)
+
+    went : advice_of item.op ≤ length s.tape → Does (trap_of item.op (seen_in constants c item w)) (step constants item s) c rest
+        (next constants c item w)
     went taken =
-        let P : Seen → Type 0 = λ v. Does (trap_of item.op (seen_in constants c item w))
-        (ticked (advice_of item.op) s.tape (unless_trapped (trap_of item.op v) (performed item.op v s.core)))
-        c rest (next constants c item w) in
-        subst P (sym (seen-is constants c rest item w s sized shows r.enough taken))
-        (finish c rest (next constants c item w) (advice_of item.op) s.tape (trap_of item.op (seen_in constants c item w))
-        (performed item.op (seen_in constants c item w) s.core) (shows-next constants c rest item w s e deep r shows))
+        let same : seen_at constants item s ≡ seen_in constants c item w = seen-is constants c rest item w s sized shows r.enough taken in
+        finish constants c rest item (next constants c item w) s (behind item.op (seen_in constants c item w) s)
+        (trap_of item.op (seen_in constants c item w)) taken (ap (trap_of item.op) same)
+        (ap (λ (v : Seen). behind item.op v s) (sym same)) (shows-next constants c rest item w s e deep r shows)
 
 -- the first step, and then the others
 run-on : (constants : List ℕ) (c : Core) (rest : List ℕ) (items : List Item) (w v : Window) (own later : Option Cause) (r : Result State Cause)
-    → Does own r c rest w → ((t : State) → r ≡ Ok t → Shows c rest w t → Does later (run constants items t) c rest v)
+    → Does own r c rest w → ((t : State) → r ≡ Ok t → WindowShows c rest w t → Does later (run constants items t) c rest v)
     → Does (or_else own later) (after_ok (run constants items) r) c rest v
 run-on constants c rest items w v None later r (t, is, shows) go =
     let P : Result State Cause → Type 0 = λ o. Does later (after_ok (run constants items) o) c rest v in
@@ -192,7 +192,7 @@ run-on constants c rest items w v None later r (t, is, shows) go =
 run-on constants c rest items w v (Some cause) later r is go = ap (after_ok (run constants items)) is
 
 pub run-does : (constants : List ℕ) (c : Core) (rest : List ℕ) (items : List Item) (w : Window) (s : State) → length constants ≡ 168
-    → 16 ≤ length c.stack → fits constants c items w ≡ true → IsSized s.core → Shows c rest w s
+    → 16 ≤ length c.stack → fits constants c items w ≡ true → IsSized s.core → WindowShows c rest w s
     → Does (trap constants c items w) (run constants items s) c rest (last constants c items w)
 unfolding run last trap fits
 run-does constants c rest [] w s e deep fit sized shows = (s, refl, shows)

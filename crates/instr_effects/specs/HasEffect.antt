@@ -19,13 +19,13 @@ affected e cycles s = record {
 }
 
 -- a trap where the test holds, else the state
-abbrev pub Answers : Bool → Result State Cause → State → Type 0
-Answers true r t = (cause : Cause) × (r ≡ Err cause)
-Answers false r t = r ≡ Ok t
+abbrev pub TrapsOrLeaves : Bool → Result State Cause → State → Type 0
+TrapsOrLeaves true r t = (cause : Cause) × (r ≡ Err cause)
+TrapsOrLeaves false r t = r ≡ Ok t
 
 -- the list traps exactly where the effect does, and else leaves what the effect leaves
 unfoldable pub HasEffect : List ℕ → List Item → State → Effect → Type 0
-HasEffect constants items s e = Answers e.traps (run constants items s) (affected e (length items) s)
+HasEffect constants items s e = TrapsOrLeaves e.traps (run constants items s) (affected e (length items) s)
 
 -- An operation of the list traps for the cause, and those before it do not.
 pub record TrapsFirst (constants : List ℕ) (items : List Item) (s : State) (cause : Cause) : Type 0 where

@@ -1,6 +1,6 @@
 -- How a token is read as an instruction, with the constants defined before it. The parts of a token are what stands
 -- between its dots: the first is the instruction's name, and each other gives a number.
-use Rattle.std.specs.Prelude.{◌≡◌, ℕ, Bool, ◌==◌, ◌||◌, if◌then◌else◌, List, [], ◌∷◌, length, Option, Some, None, Result, Ok, Err, bytes_eq, codes}
+use Rattle.std.specs.Prelude.{ℕ, Bool, ◌==◌, ◌||◌, if◌then◌else◌, List, [], ◌∷◌, length, Option, Some, None, Result, Ok, Err, bytes_eq, codes}
 use Rattle.std.specs.List.{list_all, list_any, slice_split}
 use Rattle.std.specs.Option.{option_or}
 use Rattle.masm_instr.specs.declared.name.Name.{Name}
@@ -12,6 +12,14 @@ use Rattle.masm_instr.specs.Table.{form_of}
 use Rattle.instr_reading.specs.Constants.{constant_of}
 use Rattle.instr_reading.specs.Numbers.{number}
 use Rattle.masm_instr.specs.Instructions.{Instruction, is_count, is_in_range}
+
+-- what an error says of the token: its refusal, if it is one
+abbrev pub refusal_in : InstrError → Option InstrError
+refusal_in errors.Unsupported = Some errors.Unsupported
+refusal_in errors.UnknownInstruction = Some errors.UnknownInstruction
+refusal_in errors.Syntax = Some errors.Syntax
+refusal_in errors.NumberRange = Some errors.NumberRange
+refusal_in errors.Memory = None
 
 -- the number that a part gives, by itself or, where constants may stand, by a constant's name
 unfoldable pub parameter_of : List Const → Bool → List ℕ → Option ℕ
@@ -71,9 +79,3 @@ parts_of token = slice_split (λ b. b == 46) token
 -- the instruction of a token, or the first of the refusals Unsupported, UnknownInstruction, Syntax and NumberRange
 unfoldable pub read : List Const → List ℕ → Result Instruction InstrError
 read consts token = read_parts consts token (parts_of token)
-
--- An answer of the reader is that of the definition, or the want of memory.
-abbrev pub Gives : Result Instruction InstrError → Result Instruction InstrError → Type 0
-Gives (Ok instr) defined = defined ≡ Ok instr
-Gives (Err errors.Memory) defined = Unit {0}
-Gives (Err refusal) defined = defined ≡ Err refusal

@@ -1,7 +1,8 @@
 ghost use Rattle.std.specs.Prelude.{◌≡◌, ◌==◌, map, IfOk, OnOk, bytes_eq};
 ghost use Rattle.std.specs.List.{list_all, list_any, slice_split};
 ghost use Rattle.masm_instr.specs.Instructions.{is_in_range, IsInForm};
-ghost use Rattle.instr_reading.specs.Reading.{parameter_of, parameters_of, formed, is_unsupported, parts_of, read_parts, read, Gives};
+ghost use Rattle.answers.specs.Gives.{Gives};
+ghost use Rattle.instr_reading.specs.Reading.{parameter_of, parameters_of, formed, is_unsupported, parts_of, read_parts, read, refusal_in};
 
 use crate::constant::Consts;
 use crate::number::read_number;
@@ -123,7 +124,7 @@ fn read_named(
     name: Name,
     parts: &[&[u8]],
 ) -> Result<Instr, InstrError>
-    ensures { Gives result (formed consts.now (map (λ part. part.now) parts.now) name) }
+    ensures { Gives (λ x. x) refusal_in result (formed consts.now (map (λ part. part.now) parts.now) name) }
 {
     let form = name.form();
     if parts.len() < form.least || form.most < parts.len() {
@@ -149,7 +150,7 @@ pub fn read_parts(
     parts: &[&[u8]],
     consts: &Consts,
 ) -> Result<Instr, InstrError>
-    ensures { Gives result (read_parts consts.now token.now (map (λ part. part.now) parts.now)) }
+    ensures { Gives (λ x. x) refusal_in result (read_parts consts.now token.now (map (λ part. part.now) parts.now)) }
 {
     let Some((first, parts)) = parts.split_first() else {
         return Err(InstrError::UnknownInstruction);
@@ -165,7 +166,7 @@ pub fn read_parts(
 /// The instruction that a token gives, with the constants defined before it.
 #[tactic(auto, unfolding(crate::specs::Reading::read))]
 pub fn read_instr(alloc: Global, token: &[u8], consts: &Consts) -> Result<Instr, InstrError>
-    ensures { Gives result (read consts.now token.now) }
+    ensures { Gives (λ x. x) refusal_in result (read consts.now token.now) }
 {
     let parts = split(alloc, token, b'.')?;
     read_parts(alloc, token, parts.as_slice(), consts)

@@ -13,24 +13,24 @@ use Rattle.masm_instr.specs.declared.name.Name.{Name}
 use Rattle.instr_effects.specs.Effects.{instr_effect}
 use Rattle.masm_expand.specs.Expansion.{expansion}
 use Rattle.masm_instr.specs.Instructions.{is_in_form}
-use Rattle.instr_effects.specs.HasEffect.{affected, Answers, HasEffect}
+use Rattle.instr_effects.specs.HasEffect.{affected, TrapsOrLeaves, HasEffect}
 use Rattle.instr_effects.proofs.Law.{instruction-effects}
-use Rattle.instr_spans.specs.Spans.{Agrees, ComesTo}
+use Rattle.instr_spans.specs.Spans.{EndsLike, TrapsOrIsDone}
 
-agrees-logged : (events : List Event) (o : Outcome) (r : Result State Cause) → Agrees o r → Agrees (logged events o) r
+agrees-logged : (events : List Event) (o : Outcome) (r : Result State Cause) → EndsLike o r → EndsLike (logged events o) r
 agrees-logged events (Done t more) r h = h
 agrees-logged events (Trap clock cause) r h = h
 agrees-logged events OutOfCycles r h = tt
 
 -- the first cycle, and then the others
 agrees-on : (left : Bool) (mark : Mark) (n : ℕ) (s : State) (r : Result State Cause) (part : Part) (later : State → Result State Cause)
-    → ((t : State) → Agrees (part t) (later t)) → Agrees (then_do (cond left (cycle_outcome mark n s r) OutOfCycles) part) (after_ok later r)
+    → ((t : State) → EndsLike (part t) (later t)) → EndsLike (then_do (cond left (cycle_outcome mark n s r) OutOfCycles) part) (after_ok later r)
 agrees-on false mark n s r part later h = tt
 agrees-on true mark n s (Err cause) part later h = refl
 agrees-on true mark n s (Ok t) part later h = agrees-logged (event_of mark n s ∷ []) (part t) (later t) (h t)
 
 pub operations-agree : (constants : List ℕ) (kernel : List (List ℕ)) (limit : ℕ) (items : List Item) (s : State)
-    → Agrees (operations constants kernel limit items s) (run constants items s)
+    → EndsLike (operations constants kernel limit items s) (run constants items s)
 unfolding run seq skip taking
 operations-agree constants kernel limit [] s = refl
 operations-agree constants kernel limit (item ∷ items) s =
@@ -57,8 +57,8 @@ operations-within constants kernel limit (item ∷ items) s h =
     (lt-ltb s.core.clock limit (omega arith))
     (λ t is. operations-within constants kernel limit items t (let clock = step-clock constants item s t is in omega arith))
 
-comes-to : (traps : Bool) (o : Outcome) (r : Result State Cause) (target : State) → Agrees o r → o ≢ OutOfCycles → Answers traps r target
-    → ComesTo traps o target
+comes-to : (traps : Bool) (o : Outcome) (r : Result State Cause) (target : State) → EndsLike o r → o ≢ OutOfCycles → TrapsOrLeaves traps r target
+    → TrapsOrIsDone traps o target
 comes-to true (Done t events) r target agrees within (cause, is) = absurd (let no : Ok t ≡ Err cause = sym agrees ∙ is in cc)
 comes-to true (Trap clock cause) r target agrees within answers = (clock, cause, refl)
 comes-to true OutOfCycles r target agrees within answers = absurd (within refl)
@@ -70,7 +70,7 @@ comes-to false OutOfCycles r target agrees within answers = absurd (within refl)
 
 pub operations-effect : (constants : List ℕ) (kernel : List (List ℕ)) (limit locals : ℕ) (s : State) → length constants ≡ 168 → IsWellFormed s
     → (name : Name) (numbers : List ℕ) → is_in_form name numbers ≡ true → s.core.clock + length (expansion name numbers locals) ≤ limit
-    → ComesTo (instr_effect constants name numbers locals s).traps (operations constants kernel limit (expansion name numbers locals) s)
+    → TrapsOrIsDone (instr_effect constants name numbers locals s).traps (operations constants kernel limit (expansion name numbers locals) s)
     (affected (instr_effect constants name numbers locals s) (length (expansion name numbers locals)) s)
 unfolding HasEffect
 operations-effect constants kernel limit locals s count well name numbers form left =

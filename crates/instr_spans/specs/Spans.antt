@@ -5,12 +5,12 @@ use Rattle.vm_ops.specs.declared.cause.Cause.{Cause}
 use Rattle.block_tree.specs.Execution.{Event, Outcome, Done, Trap, OutOfCycles}
 
 -- the part of the run comes out as the list does, unless the limit cuts it off
-abbrev pub Agrees : Outcome → Result State Cause → Type 0
-Agrees (Done t events) r = r ≡ Ok t
-Agrees (Trap clock cause) r = r ≡ Err cause
-Agrees OutOfCycles r = Unit {0}
+abbrev pub EndsLike : Outcome → Result State Cause → Type 0
+EndsLike (Done t events) r = r ≡ Ok t
+EndsLike (Trap clock cause) r = r ≡ Err cause
+EndsLike OutOfCycles r = Unit {0}
 
 -- a trap where the test holds, else done with the state
-abbrev pub ComesTo : Bool → Outcome → State → Type 0
-ComesTo true o t = (clock : ℕ) × (cause : Cause) × (o ≡ Trap clock cause)
-ComesTo false o t = (events : List Event) × (o ≡ Done t events)
+abbrev pub TrapsOrIsDone : Bool → Outcome → State → Type 0
+TrapsOrIsDone true o t = (clock : ℕ) × (cause : Cause) × (o ≡ Trap clock cause)
+TrapsOrIsDone false o t = (events : List Event) × (o ≡ Done t events)

@@ -4,7 +4,7 @@
 ghost use Rattle.std.specs.Prelude.{◌≡◌, ◌≢◌, ℕ, ◌+◌, ◌≤◌, true, List, length};
 ghost use Rattle.block_tree.specs.Execution.{operations, OutOfCycles};
 ghost use Rattle.instr_effects.specs.HasEffect.{affected};
-ghost use Rattle.instr_spans.specs.Spans.{Agrees, ComesTo};
+ghost use Rattle.instr_spans.specs.Spans.{EndsLike, TrapsOrIsDone};
 ghost use Rattle.masm_instr.specs.declared.name.Name.{Name};
 ghost use Rattle.instr_effects.specs.Effects.{instr_effect};
 ghost use Rattle.masm_expand.specs.Expansion.{expansion};
@@ -18,7 +18,7 @@ ghost use Rattle.vm_ops.specs.Runs.{run};
 /// instruction trap where its effect does, and else leave what the effect leaves.
 pub fn span_laws()
     ensures agree { (constants : List ℕ) (kernel : List (List ℕ)) (limit : ℕ) (items : List Item) (s : State)
-        → Agrees (operations constants kernel limit items s) (run constants items s) }
+        → EndsLike (operations constants kernel limit items s) (run constants items s) }
     ensures within { (constants : List ℕ) (kernel : List (List ℕ)) (limit : ℕ) (items : List Item) (s : State)
         → s.core.clock + length items ≤ limit
         → operations constants kernel limit items s ≢ OutOfCycles }
@@ -26,7 +26,7 @@ pub fn span_laws()
         → length constants ≡ 168 → IsWellFormed s → (name : Name) (numbers : List ℕ)
         → is_in_form name numbers ≡ true
         → s.core.clock + length (expansion name numbers locals) ≤ limit
-        → ComesTo (instr_effect constants name numbers locals s).traps
+        → TrapsOrIsDone (instr_effect constants name numbers locals s).traps
         (operations constants kernel limit (expansion name numbers locals) s)
         (affected (instr_effect constants name numbers locals s)
         (length (expansion name numbers locals)) s) }

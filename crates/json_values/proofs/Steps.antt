@@ -1,12 +1,13 @@
 -- Answers step by step.
 use Rattle.std.proofs.Common.{Result, Err, refl}
-use Rattle.json_values.specs.Causes.{and_then, Gives}
+use Rattle.answers.specs.Gives.{Gives}
+use Rattle.json_values.specs.Causes.{and_then, cause_in}
 use Rattle.json_values.specs.declared.refusal.TextCause.{TextCause}
 use Rattle.json_values.specs.declared.refusal.TextError.{TextError}
 use Rattle.json_values.specs.declared.refusal.TextError.TheVariants.{Bad, Memory}
 
 -- an error of a step is one of those that follow
 pub stops : {A B C D : Type 0} (see : A → B) (see_last : C → D) (error : TextError) (defined : Result B TextCause) (step : B → Result D TextCause)
-    → Gives see (Err error) defined → Gives see_last (Err error) (and_then defined step)
+    → Gives see cause_in (Err error) defined → Gives see_last cause_in (Err error) (and_then defined step)
 stops see see_last (Bad cause) defined step h = rw h refl
 stops see see_last Memory defined step h = tt

@@ -1,5 +1,5 @@
 -- Why a text is refused.
-use Rattle.std.specs.Prelude.{◌≡◌, ℕ, List, codes, Result, Ok, Err}
+use Rattle.std.specs.Prelude.{ℕ, List, codes, Option, Some, None, Result, Ok, Err}
 use Rattle.json_values.specs.declared.refusal.TextCause.{TextCause}
 use Rattle.json_values.specs.declared.refusal.TextCause.TheVariants.{NotJson, Shape, Element, Digest, Count, Repeated}
 use Rattle.json_values.specs.declared.refusal.TextError.{TextError}
@@ -14,13 +14,12 @@ text_of_cause Digest = codes "Digest"
 text_of_cause Count = codes "Count"
 text_of_cause Repeated = codes "Repeated"
 
+-- what an error says of the text: its cause, if it has one
+abbrev pub cause_in : TextError → Option TextCause
+cause_in (Bad cause) = Some cause
+cause_in Memory = None
+
 -- the next step, where no cause was found before
 abbrev pub and_then : {A B : Type 0} → Result A TextCause → (A → Result B TextCause) → Result B TextCause
 and_then (Ok a) step = step a
 and_then (Err cause) step = Err cause
-
--- An answer, seen by `see`, is that of the definition, or the want of memory.
-abbrev pub Gives : {A B : Type 0} → (A → B) → Result A TextError → Result B TextCause → Type 0
-Gives see (Ok answer) defined = defined ≡ Ok (see answer)
-Gives see (Err (Bad cause)) defined = defined ≡ Err cause
-Gives see (Err Memory) defined = Unit {0}

@@ -1,13 +1,14 @@
 // The JSON value of a text, texts and arrays within a value, and the array of a list.
 ghost use Rattle.std.specs.Prelude.{◌≡◌, ◌<◌, All, IfOk, OnOk, option_map};
 ghost use Rattle.std.specs.Option.{ok_or};
+ghost use Rattle.answers.specs.Gives.{Gives};
 ghost use Rattle.serde_json.specs.Data.{array, string};
 ghost use Rattle.serde_json.specs.View.{view, items_view};
 ghost use Rattle.vm_field.specs.Field.{prime};
 ghost use Rattle.vm_field.specs.WordText.{word_hex};
 ghost use Rattle.json_values.specs.Values as values;
 ghost use Rattle.json_values.specs.Values.{value_of, has_keys, numbers_at, element_of, elements_of, text_at, texts_at, word_in, words_of};
-ghost use Rattle.json_values.specs.Causes.{Gives};
+ghost use Rattle.json_values.specs.Causes.{cause_in};
 ghost use Rattle.json_values.specs.ToJson.{numbers_of, texts_of};
 ghost use Rattle.json_values.specs.declared.refusal.TextCause.TheVariants.{NotJson};
 
@@ -19,7 +20,7 @@ use vm_field::{Felt, Felts, Memory, Word, Words};
 
 /// The JSON value of a text.
 pub fn value_of(alloc: Global, bytes: &[u8]) -> Result<Value, TextError>
-    ensures { Gives view result (ok_or (value_of bytes.now) NotJson) }
+    ensures { Gives view cause_in result (ok_or (value_of bytes.now) NotJson) }
 {
     let Ok(text) = str::from_utf8(bytes) else {
         return Err(TextError::Bad(TextCause::NotJson));

@@ -1,5 +1,5 @@
 -- The trees of assembled programs are ready: their operations can be packed, and what is packed has a reading.
-use Rattle.std.proofs.Common.{◌≡◌, ◌≢◌, ℕ, zero, suc, ◌-◌, ◌<◌, ◌≤◌, ◌==◌, Bool, true, false, cond, List, [], ◌∷◌, ◌++◌, length, map, Option, Some, None, MatchOption, option_map, option_and_then, Result, Ok, Err, refl, sym, ap, subst, bytes_eq, arith}
+use Rattle.std.proofs.Common.{◌≡◌, ◌≢◌, ℕ, zero, suc, ◌-◌, ◌≤◌, Bool, true, false, cond, List, [], ◌∷◌, ◌++◌, length, map, Option, Some, None, MatchOption, option_map, option_and_then, Result, Ok, Err, refl, sym, ap, subst, bytes_eq, arith}
 use Rattle.std.proofs.lemmas.List.Elements.{All-from_recursion}
 use Rattle.std.proofs.lemmas.Option.{same_Some}
 use Rattle.std.specs.List.{All, AllByRecursion, AllZip}
@@ -7,7 +7,7 @@ use Rattle.vm_field.specs.Field.{prime}
 use Rattle.vm_ops.specs.declared.item.Item.{Item}
 use Rattle.vm_ops.specs.declared.op.Op.{Op}
 use Rattle.vm_ops.specs.declared.op.Op.TheVariants as ops
-use Rattle.vm_ops.specs.Items.{plain_item, push_item, IsPackableItem}
+use Rattle.vm_ops.specs.Items.{plain_item, IsPackableItem}
 use Rattle.op_pack.specs.Packing.{IsPackable, packed}
 use Rattle.op_pack.specs.Reading.{reading}
 use Rattle.op_pack.specs.RoundTrip.{read_batches}
@@ -15,7 +15,7 @@ use Rattle.op_pack.proofs.BatchLemmas.{read_back}
 use Rattle.op_pack.proofs.PackedLemmas.{packed-some}
 use Rattle.block_tree.specs.Behind.{HasReading}
 use Rattle.masm_expand.specs.Expansion.{lit, expansion}
-use Rattle.masm_expand.proofs.Packing.{expansions_are_packable}
+use Rattle.masm_expand.proofs.Packing.{expansions_are_packable, lit_packs}
 use Rattle.masm_lex.specs.declared.list.Token.{Token}
 use Rattle.masm_lex.specs.declared.refusal.LexError.{LexError}
 use Rattle.masm_lex.specs.Tokens.{lexed}
@@ -119,21 +119,8 @@ packs-times zero xs h = tt
 packs-times (suc n) xs h = all-append PiecePacks xs (times n xs) h (packs-times n xs h)
 
 -- the frame pointer's moves
-push_packs : (v : ℕ) → v < prime → v ≢ 0 → IsPackableItem (push_item v)
-push_packs v small some = record { ordinary = record { ordinary = refl; immediate = (refl, small) }; immediate = some }
-
-pad_packs : IsPackableItem (plain_item ops.Pad)
-pad_packs = record { ordinary = record { ordinary = refl; immediate = λ e. cc }; immediate = tt }
-
 update_packs : IsPackableItem (plain_item ops.FmpUpdate)
 update_packs = record { ordinary = record { ordinary = refl; immediate = λ e. cc }; immediate = tt }
-
-lit_by : (v : ℕ) (test : Bool) → (v == 0) ≡ test → v < prime → IsPackableItem (cond test (plain_item ops.Pad) (push_item v))
-lit_by v true e small = pad_packs
-lit_by v false e small = push_packs v small (λ is. let zero_too : (v == 0) ≡ true = ap (λ x. x == 0) is in cc)
-
-lit_packs : (v : ℕ) → v < prime → IsPackableItem (lit v)
-lit_packs v small = lit_by v (v == 0) refl small
 
 packs-locals : (n : ℕ) (xs : List (Piece Block)) → n ≤ 65535 → AllByRecursion PiecePacks xs → AllByRecursion PiecePacks (with_locals n xs)
 packs-locals zero xs few h = h

@@ -10,7 +10,7 @@ use Rattle.air_kit.specs.ChipPlaces.{in_last, only, paired}
 use Rattle.air_kit.specs.Places.{at_number}
 use Rattle.air_kit.specs.RangeValues.{range_step, range_values}
 use Rattle.air_kit.specs.Traces.{spot_of}
-use Rattle.list_rows.specs.RangeTables.{GoesUp, RangeIsZero, IsStep, none, one, three, nine, of_27, of_81, of_243, of_729, of_2187, value_at}
+use Rattle.list_rows.specs.RangeTables.{GoesUp, RangeIsZero, IsRangeStep, none, one, three, nine, of_27, of_81, of_243, of_729, of_2187, value_at}
 
 -- ---- one step
 
@@ -29,25 +29,25 @@ all_steps d =
     felt_mul (felt_mul (felt_mul (felt_mul (four_steps d) (felt_sub d 81)) (felt_sub d 243)) (felt_sub d 729)) (felt_sub d 2187)
 
 -- the last factor is 0, or the product of those before
-peel : (p d k : ℕ) → p < prime → d < prime → k < prime → IsStep k → felt_mul p (felt_sub d k) ≡ 0 → (p ≡ 0) ⊎ IsStep d
+peel : (p d k : ℕ) → p < prime → d < prime → k < prime → IsRangeStep k → felt_mul p (felt_sub d k) ≡ 0 → (p ≡ 0) ⊎ IsRangeStep d
 peel p d k lp ld lk step e =
-    ⊎_elim (λ z. inl z) (λ z. inr (subst IsStep (sym (same_from_sub d k ld lk z)) step))
+    ⊎_elim (λ z. inl z) (λ z. inr (subst IsRangeStep (sym (same_from_sub d k ld lk z)) step))
     (zero_factor p (felt_sub d k) lp (rest_low (d + (prime - k))) e)
 
 either : {A P : Type 0} → A ⊎ P → (A → P) → P
 either (inl a) f = f a
 either (inr p) f = p
 
-one_is : (d : ℕ) → d < prime → one_step d ≡ 0 → IsStep d
-one_is d low e = either (peel d d 1 low low (omega arith) one e) (λ z. subst IsStep (sym z) none)
+one_is : (d : ℕ) → d < prime → one_step d ≡ 0 → IsRangeStep d
+one_is d low e = either (peel d d 1 low low (omega arith) one e) (λ z. subst IsRangeStep (sym z) none)
 
-four_is : (d : ℕ) → d < prime → four_steps d ≡ 0 → IsStep d
+four_is : (d : ℕ) → d < prime → four_steps d ≡ 0 → IsRangeStep d
 four_is d low e =
     either (peel (felt_mul (felt_mul (one_step d) (felt_sub d 3)) (felt_sub d 9)) d 27 (rest_low _) low (omega arith) of_27 e)
     (λ e1. either (peel (felt_mul (one_step d) (felt_sub d 3)) d 9 (rest_low _) low (omega arith) nine e1)
     (λ e2. either (peel (one_step d) d 3 (rest_low _) low (omega arith) three e2) (one_is d low)))
 
-steps_are : (d : ℕ) → d < prime → all_steps d ≡ 0 → IsStep d
+steps_are : (d : ℕ) → d < prime → all_steps d ≡ 0 → IsRangeStep d
 steps_are d low e =
     either (peel (felt_mul (felt_mul (felt_mul (four_steps d) (felt_sub d 81)) (felt_sub d 243)) (felt_sub d 729)) d 2187
     (rest_low _) low (omega arith) of_2187 e)
@@ -55,7 +55,7 @@ steps_are d low e =
     (λ e2. either (peel (felt_mul (four_steps d) (felt_sub d 81)) d 243 (rest_low _) low (omega arith) of_243 e2)
     (λ e3. either (peel (four_steps d) d 81 (rest_low _) low (omega arith) of_81 e3) (four_is d low))))
 
-steps_zero : (d : ℕ) → IsStep d → all_steps d ≡ 0
+steps_zero : (d : ℕ) → IsRangeStep d → all_steps d ≡ 0
 steps_zero _ none = refl
 steps_zero _ one = refl
 steps_zero _ three = refl

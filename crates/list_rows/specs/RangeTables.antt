@@ -11,16 +11,16 @@ abbrev pub RangeIsZero : List (List ℕ) → Type 0
 RangeIsZero rows = (i number : ℕ) → i < length rows → at_number (range_values (spot_of rows i)) number ≡ 0
 
 -- by how much a value may grow: not at all, or by a power of 3 up to 2187
-pub data IsStep : ℕ → Type 0 where
-  none : IsStep 0
-  one : IsStep 1
-  three : IsStep 3
-  nine : IsStep 9
-  of_27 : IsStep 27
-  of_81 : IsStep 81
-  of_243 : IsStep 243
-  of_729 : IsStep 729
-  of_2187 : IsStep 2187
+pub data IsRangeStep : ℕ → Type 0 where
+  none : IsRangeStep 0
+  one : IsRangeStep 1
+  three : IsRangeStep 3
+  nine : IsRangeStep 9
+  of_27 : IsRangeStep 27
+  of_81 : IsRangeStep 81
+  of_243 : IsRangeStep 243
+  of_729 : IsRangeStep 729
+  of_2187 : IsRangeStep 2187
 
 -- the value of row i
 abbrev pub value_at : List (List ℕ) → ℕ → ℕ
@@ -30,4 +30,4 @@ value_at rows i = v (slice_index_or rows i [])
 pub record GoesUp (rows : List (List ℕ)) : Type 0 where
   pub first : 0 < length rows → value_at rows 0 ≡ 0
   pub last : (i : ℕ) → suc i ≡ length rows → value_at rows i ≡ 65535
-  pub grows : (i : ℕ) → suc i < length rows → IsStep (value_at rows (suc i) ⊟ value_at rows i)
+  pub grows : (i : ℕ) → suc i < length rows → IsRangeStep (value_at rows (suc i) ⊟ value_at rows i)

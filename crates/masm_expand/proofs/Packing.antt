@@ -40,7 +40,7 @@ lit_by : (v : ℕ) (test : Bool) → (v == 0) ≡ test → v < prime → IsPacka
 lit_by v true e small = plain_packs ops.Pad refl
 lit_by v false e small = push_packs v small (λ is. let zero_too : (v == 0) ≡ true = ap (λ x. x == 0) is in cc)
 
-lit_packs : (v : ℕ) → v < prime → IsPackableItem (lit v)
+pub lit_packs : (v : ℕ) → v < prime → IsPackableItem (lit v)
 lit_packs v small = lit_by v (v == 0) refl small
 
 each_append : (xs ys : List Item) → Each xs → Each ys → Each (xs ++ ys)

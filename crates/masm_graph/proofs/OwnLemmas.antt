@@ -7,7 +7,7 @@ use Rattle.masm_graph.specs.declared.links.Link.{Link}
 use Rattle.masm_graph.specs.declared.links.Target.{Target}
 use Rattle.masm_graph.specs.declared.links.Target.TheVariants as targets
 use Rattle.masm_graph.specs.Links.{own_place, own_places}
-use Rattle.masm_graph.specs.Users.{HasOwn, Goes}
+use Rattle.masm_graph.specs.Users.{HasOwn, UsesProcedure}
 use Rattle.masm_names.proofs.DoubleLemmas.{cons_cases, cons_here}
 
 cons_later : {X : Type 0} (x : X) (xs : List X) (y : X) → Contains xs y → Contains (x ∷ xs) y
@@ -60,8 +60,8 @@ row_of_places [] a = refl
 row_of_places (row ∷ rows) zero = refl
 row_of_places (row ∷ rows) (suc a) = row_of_places rows a
 
-pub edge_goes : (rows : List (List Link)) (a b : ℕ) → Edge (map own_places rows) a b → Goes rows a b
+pub edge_goes : (rows : List (List Link)) (a b : ℕ) → Edge (map own_places rows) a b → UsesProcedure rows a b
 edge_goes rows a b h = places_own (get_or rows a []) b (subst (λ r. Contains r b) (row_of_places rows a) h)
 
-pub goes_edge : (rows : List (List Link)) (a b : ℕ) → Goes rows a b → Edge (map own_places rows) a b
+pub goes_edge : (rows : List (List Link)) (a b : ℕ) → UsesProcedure rows a b → Edge (map own_places rows) a b
 goes_edge rows a b h = subst (λ r. Contains r b) (sym (row_of_places rows a)) (own_in_places (get_or rows a []) b h)

@@ -9,7 +9,7 @@ use Rattle.std.specs.List.{Contains, list_all}
 use Rattle.masm_graph.specs.declared.links.Link.{Link}
 use Rattle.graphs.specs.Graph.{Edge, Leads, itself, through}
 use Rattle.masm_graph.specs.Links.{own_places}
-use Rattle.masm_graph.specs.Users.{Goes, AreUsers}
+use Rattle.masm_graph.specs.Users.{UsesProcedure, AreUsers}
 use Rattle.graphs.proofs.SortLemmas.{contains_none}
 use Rattle.masm_names.proofs.DoubleLemmas.{cons_cases}
 use Rattle.masm_graph.proofs.OwnLemmas.{goes_edge}
@@ -91,7 +91,7 @@ module _ (rows : List (List Link)) (users : List (List ℕ)) (are : AreUsers row
       omega arith
 
   pub settles : ((a b : ℕ) → Edge graph a b → get_or numbers a 0 ≤ get_or numbers b 0) → (marks : List Bool) → Ascend graph numbers marks
-      → (user place : ℕ) → get_or marks user false ≡ true → Goes rows user place → Leads users user place → ⊥
+      → (user place : ℕ) → get_or marks user false ≡ true → UsesProcedure rows user place → Leads users user place → ⊥
   settles ascends marks ascend user place marked goes leads =
       let up = ascend user place marked (goes_edge rows user place goes) in
       let down = leads_down ascends user place leads in

@@ -9,7 +9,7 @@ use Rattle.masm_graph.specs.declared.links.Link.{Link}
 use Rattle.masm_graph.specs.declared.links.Target.{Target}
 use Rattle.masm_graph.specs.declared.links.Target.TheVariants as targets
 use Rattle.graphs.specs.Graph.{rows_of, Edge}
-use Rattle.masm_graph.specs.Users.{HasOwn, Goes, AreUsers}
+use Rattle.masm_graph.specs.Users.{HasOwn, UsesProcedure, AreUsers}
 
 -- One more element of which one may have a property.
 module _ {X : Type 0} (P : X → Type 0) (xs : List X) (i : ℕ) (x : X) (within : i < length xs) (is : x ≡ get_or xs i x) where
@@ -128,21 +128,21 @@ uses-none old user row p other = (λ h. inl h, λ h. elim h [ inl in_old ↦ in_
 
 -- the edges after one more row
 pub rows-more : (rows : List (List Link)) (old new : List (List ℕ)) (i : ℕ) (row : List Link) → row ≡ get_or rows i []
-    → ((p other : ℕ) → Edge old p other ↔ ((other < i) × Goes rows other p))
+    → ((p other : ℕ) → Edge old p other ↔ ((other < i) × UsesProcedure rows other p))
     → ((p other : ℕ) → Edge new p other ↔ (Edge old p other ⊎ ((other ≡ i) × HasOwn row p)))
-    → (p other : ℕ) → Edge new p other ↔ ((other < i + 1) × Goes rows other p)
+    → (p other : ℕ) → Edge new p other ↔ ((other < i + 1) × UsesProcedure rows other p)
 rows-more rows old new i row is first second p other = (
   λ edge. elim ((second p other).0 edge) [
     | inl before ↦ let h = (first p other).0 before in ((let l = h.0 in omega arith), h.1)
-    | inr here ↦ ((let e = here.0 in omega arith), subst (λ q. Goes rows q p) (sym here.0) (subst (λ r. HasOwn r p) is here.1))
+    | inr here ↦ ((let e = here.0 in omega arith), subst (λ q. UsesProcedure rows q p) (sym here.0) (subst (λ r. HasOwn r p) is here.1))
   ],
   λ h. elim (eqb_tells other i) [
-    | inl same ↦ (second p other).1 (inr (same.1, subst (λ r. HasOwn r p) (sym is) (subst (λ q. Goes rows q p) same.1 h.1)))
+    | inl same ↦ (second p other).1 (inr (same.1, subst (λ r. HasOwn r p) (sym is) (subst (λ q. UsesProcedure rows q p) same.1 h.1)))
     | inr apart ↦ (second p other).1 (inl ((first p other).1 ((let l = h.0 in let a = apart.1 in omega arith), h.1)))
   ],
 )
 
-pub no_edges : (n p other : ℕ) (rows : List (List Link)) → Edge (replicate n []) p other ↔ ((other < 0) × Goes rows other p)
+pub no_edges : (n p other : ℕ) (rows : List (List Link)) → Edge (replicate n []) p other ↔ ((other < 0) × UsesProcedure rows other p)
 no_edges n p other rows =
     (λ edge. absurd (omega (arith, edge.1, ap (length {A = ℕ}) (empty n p))), λ h. absurd (omega (arith, h.0)))
   where
@@ -153,14 +153,14 @@ no_edges n p other rows =
     ]
 
 -- a row with uses stands in the list
-pub user_within : (rows : List (List Link)) (user place : ℕ) → Goes rows user place → user < length rows
+pub user_within : (rows : List (List Link)) (user place : ℕ) → UsesProcedure rows user place → user < length rows
 user_within rows user place h = elim (cases_lt user (length rows)) [
   | inl below ↦ below
   | inr past ↦ absurd (let none = ap length (get_or_past rows user [] past) in let within = h.2 in omega arith)
 ]
 
 pub AreUsers-end : (rows : List (List Link)) (users : List (List ℕ)) (n : ℕ) → length users ≡ length rows → length rows ≤ n
-    → ((p other : ℕ) → Edge users p other ↔ ((other < n) × Goes rows other p)) → AreUsers rows users
+    → ((p other : ℕ) → Edge users p other ↔ ((other < n) × UsesProcedure rows other p)) → AreUsers rows users
 AreUsers-end rows users n count ended edges =
     record {
       count = count;

@@ -6,7 +6,7 @@ use Rattle.masm_tree.specs.Views.{body_of}
 use Rattle.masm_graph.specs.declared.links.Link.{Link}
 use Rattle.masm_graph.specs.declared.links.Target.{Target}
 use Rattle.masm_graph.specs.declared.links.Target.TheVariants as targets
-use Rattle.masm_names.specs.Uses.{Kind, Own, Kernel, Use, uses_of}
+use Rattle.masm_names.specs.Uses.{Owner, Own, Kernel, Use, uses_of}
 
 abbrev pub own_target : Option ℕ → Target
 own_target (Some place) = targets.Own place
@@ -17,7 +17,7 @@ kernel_target (Some place) = targets.Kernel
 kernel_target None = targets.NotInKernel
 
 -- where a name leads, by the places of the source's own names and of the kernel's
-abbrev pub target_of : (own kernel : List ℕ → Option ℕ) → Kind → List ℕ → Target
+abbrev pub target_of : (own kernel : List ℕ → Option ℕ) → Owner → List ℕ → Target
 target_of own kernel Own name = own_target (own name)
 target_of own kernel Kernel name = kernel_target (kernel name)
 

@@ -10,10 +10,10 @@ abbrev pub HasOwn : List Link → ℕ → Type 0
 HasOwn row place = Any (λ link. link.target ≡ targets.Own place) row
 
 -- one procedure uses another, where each has a row of its uses
-abbrev pub Goes : List (List Link) → ℕ → ℕ → Type 0
-Goes rows user place = HasOwn (slice_index_or rows user []) place
+abbrev pub UsesProcedure : List (List Link) → ℕ → ℕ → Type 0
+UsesProcedure rows user place = HasOwn (slice_index_or rows user []) place
 
 -- each procedure has a row of those that use it
 pub record AreUsers (rows : List (List Link)) (users : List (List ℕ)) : Type 0 where
   pub count : length users ≡ length rows
-  pub edges : (place user : ℕ) → Edge users place user ↔ Goes rows user place
+  pub edges : (place user : ℕ) → Edge users place user ↔ UsesProcedure rows user place

@@ -1,7 +1,7 @@
 ghost use Rattle.std.specs.Prelude.{◌≡◌, ℕ, ◌<◌, ◌≤◌, true, false, nat_lt, nat_le, slice_index, slice_index_or, IfOk};
 ghost use Rattle.std.specs.List.{list_all};
 ghost use Rattle.graphs.specs.Graph.{rows_of, Edge, Leads};
-ghost use Rattle.masm_graph.specs.Users.{Goes, AreUsers};
+ghost use Rattle.masm_graph.specs.Users.{UsesProcedure, AreUsers};
 
 use crate::components::numbers_of;
 use crate::links::Link;
@@ -68,7 +68,7 @@ pub fn settled(
 ) -> Result<Vec<bool>, AllocError>
     requires { AreUsers (rows_of rows.now) (rows_of users.now) }
     ensures { IfOk result (λ settled. (user place : ℕ) → slice_index_or settled.items user false ≡ true
-        → Goes (rows_of rows.now) user place → ¬ (Leads (rows_of users.now) user place)) }
+        → UsesProcedure (rows_of rows.now) user place → ¬ (Leads (rows_of users.now) user place)) }
 {
     let graph = own_graph(alloc, rows)?;
     let graph = graph.as_slice();

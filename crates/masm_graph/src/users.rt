@@ -1,6 +1,6 @@
 ghost use Rattle.std.specs.Prelude.{◌≡◌, ℕ, ◌<◌, [], length, replicate, ◌⊎◌, ◌↔◌, IfOk, OnOk};
 ghost use Rattle.graphs.specs.Graph.{rows_of, Edge};
-ghost use Rattle.masm_graph.specs.Users.{HasOwn, Goes, AreUsers};
+ghost use Rattle.masm_graph.specs.Users.{HasOwn, UsesProcedure, AreUsers};
 
 use crate::links::{Link, Target};
 use std::alloc::{AllocError, Global};
@@ -44,7 +44,7 @@ fn add_uses(users: &mut Vec<Vec<usize>>, user: usize, row: &[Link]) -> Result<()
 
 /// For each procedure those that use it.
 pub fn users_of(alloc: Global, rows: &[Vec<Link>]) -> Result<Vec<Vec<usize>>, AllocError>
-    requires within { (user place : ℕ) → Goes (rows_of rows.now) user place → place < length rows.now }
+    requires within { (user place : ℕ) → UsesProcedure (rows_of rows.now) user place → place < length rows.now }
     ensures { IfOk result (λ users. AreUsers (rows_of rows.now) (rows_of users.items)) }
 {
     let mut users = empty_rows(alloc, rows.len())?;

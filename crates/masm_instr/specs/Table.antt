@@ -8,12 +8,12 @@ use Rattle.masm_instr.specs.declared.name.Name.{Name}
 use Rattle.masm_instr.specs.declared.name.Name.TheVariants as names
 use Rattle.masm_instr.specs.declared.form.Form.{Form}
 
-pub record Row : Type 0 where
+pub record InstrRow : Type 0 where
   pub text : List ℕ
   pub form : Form
   pub last : List Op
 
-abbrev pub row : List ℕ → Form → List Op → Row
+abbrev pub row : List ℕ → Form → List Op → InstrRow
 row text form last = record { text = text; form = form; last = last }
 
 -- at least and at most how many numbers, whether constants may stand for them, and the least and the greatest that each
@@ -48,7 +48,7 @@ less_than =
     ∷ ops.Drop ∷ ops.MovDn2 ∷ ops.Dup1 ∷ ops.Dup1 ∷ ops.Eq ∷ ops.MovUp3 ∷ ops.And ∷ ops.MovDn2 ∷ ops.Swap ∷ ops.U32Sub
     ∷ ops.Swap ∷ ops.Drop ∷ ops.Or ∷ []
 
-abbrev pub row_of : Name → Row
+abbrev pub row_of : Name → InstrRow
 row_of names.Add = row (codes "add") one_element (ops.Add ∷ [])
 row_of names.Sub = row (codes "sub") one_element (ops.Neg ∷ ops.Add ∷ [])
 row_of names.Mul = row (codes "mul") one_element (ops.Mul ∷ [])

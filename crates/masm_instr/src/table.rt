@@ -7,7 +7,7 @@ use vm_ops::Op;
 
 /// What the table says of an instruction.
 #[derive(Clone, Copy)]
-pub(crate) struct Row {
+pub(crate) struct InstrRow {
     /// How the name is written in a source.
     pub text: &'static [u8],
     /// The numbers that the instruction takes.
@@ -16,7 +16,7 @@ pub(crate) struct Row {
     pub last: &'static [Op],
 }
 
-// The table: a row is a name, and what `Row` says of it. It is written once, and handed to each
+// The table: a row is a name, and what `InstrRow` says of it. It is written once, and handed to each
 // macro that reads it, since the list of the names and the match on a name both come of it.
 macro_rules! instructions {
     ($reader:ident $($of:ident)?) => {
@@ -153,7 +153,7 @@ macro_rules! list_names {
 macro_rules! find_row {
     ($of:ident; $($name:ident => $text:literal, $form:expr, $last:tt;)*) => {
         match $of {
-            $(Name::$name => Row { text: $text, form: $form, last: operations!($last) },)*
+            $(Name::$name => InstrRow { text: $text, form: $form, last: operations!($last) },)*
         }
     };
 }
@@ -164,7 +164,7 @@ pub(crate) const EVERY: [Name; 92] = instructions!(list_names);
 /// The row of a name.
 // A caller that reads one part of it makes no row, where this is inlined.
 #[inline(always)]
-pub(crate) fn row_of(name: Name) -> Row
+pub(crate) fn row_of(name: Name) -> InstrRow
     ensures text { result.text.now ≡ (row_of name).text }
     ensures form { result.form ≡ (row_of name).form }
     ensures last { result.last.now ≡ (row_of name).last }

@@ -10,14 +10,14 @@ Ascends Before [] = Unit {0}
 Ascends Before (x ∷ xs) = AllByRecursion (Before x) xs × Ascends Before xs
 
 -- a line and a column stand before others: on an earlier line, or on the same line in an earlier column
-pub record IsEarlier (line column other_line other_column : ℕ) : Type 0 where
+pub record IsPlaceBefore (line column other_line other_column : ℕ) : Type 0 where
   pub lines : line ≤ other_line
   pub columns : line ≡ other_line → column < other_column
 
 -- a token ends before another begins, and its place stands before the other's
 pub record Precedes (token other : Token) : Type 0 where
   pub bytes : token.end < other.start
-  pub place : IsEarlier token.line token.column other.line other.column
+  pub place : IsPlaceBefore token.line token.column other.line other.column
 
 -- the tokens of a source stand in its order
 abbrev pub TokensAscend : Type 0

@@ -57,6 +57,11 @@ abbrev pub first_bad : Cursor → List ℕ → Option Cursor
 first_bad p [] = None
 first_bad p (b ∷ bs) = if is_blank b || is_word b then first_bad (next p b) bs else Some p
 
+-- what an error says of the source: its refusal, if it is one
+abbrev pub refusal_in : LexError → Option LexError
+refusal_in (Bad line column) = Some (Bad line column)
+refusal_in Memory = None
+
 -- the tokens where no byte is refused
 abbrev pub unless_refused : Option Cursor → List Token → Result (List Token) LexError
 unless_refused None tokens = Ok tokens
@@ -80,9 +85,3 @@ TokensAreParts = (source : List ℕ) (tokens : List Token) → lexed source ≡ 
 -- the bytes of a token
 abbrev pub text_of : List ℕ → Token → List ℕ
 text_of source token = slice_range source token.start token.end
-
--- An answer of the lexer is that of the definition, or the want of memory.
-abbrev pub Gives : Result (List Token) LexError → Result (List Token) LexError → Type 0
-Gives (Ok tokens) defined = defined ≡ Ok tokens
-Gives (Err Memory) defined = Unit {0}
-Gives (Err refusal) defined = defined ≡ Err refusal

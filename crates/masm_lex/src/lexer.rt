@@ -1,5 +1,6 @@
 ghost use Rattle.std.specs.Prelude.{◌≡◌, ◌<◌, ◌≤◌, ◌++◌, length, OnOk, OnErr};
-ghost use Rattle.masm_lex.specs.Tokens.{is_blank, is_word, lexed, Gives};
+ghost use Rattle.answers.specs.Gives.{Gives};
+ghost use Rattle.masm_lex.specs.Tokens.{is_blank, is_word, lexed, refusal_in};
 ghost use Rattle.masm_lex.specs.Lexer.{spot_after, ended};
 
 use crate::MAX_SOURCE;
@@ -69,7 +70,7 @@ fn add_ended(tokens: &mut Tokens, spot: Spot, now: Spot, here: Cursor) -> Result
 #[tactic(auto, using(crate::proofs::Lexing::lexing))]
 pub fn lex(alloc: Global, source: &[u8]) -> Result<Tokens, LexError>
     requires { length source.now ≤ MAX_SOURCE }
-    ensures { Gives result (lexed source.now) }
+    ensures { Gives (λ x. x) refusal_in result (lexed source.now) }
 {
     let mut tokens = Tokens::new(alloc);
     let mut here = Cursor::FIRST;

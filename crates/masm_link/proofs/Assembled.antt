@@ -8,9 +8,9 @@ use Rattle.block_tree.specs.declared.program.Program.{Program}
 use Rattle.block_tree.specs.declared.tree.Tree.{Tree}
 use Rattle.block_tree.specs.Trees.{tree_digest}
 use Rattle.block_tree.specs.TreeView.{tree_of}
-use Rattle.masm_tree.specs.Trees.{Procedure, Source}
+use Rattle.masm_tree.specs.Trees.{Procedure, Source, position_of}
 use Rattle.masm_names.specs.declared.refusal.LinkCause.TheVariants as causes
-use Rattle.masm_names.specs.Naming.{one_export_more, at_procedure, exported_of}
+use Rattle.masm_names.specs.Naming.{one_export_more, exported_of}
 use Rattle.masm_blocks.specs.declared.kernel.KernelProc.{KernelProc}
 use Rattle.masm_blocks.specs.Blocks.{Block, seen_as, as_tree}
 use Rattle.masm_blocks.specs.Lists.{Exported}
@@ -101,7 +101,7 @@ few_linked _ _ (of_kernel text exports links) =
     elim (cases_lt 255 (length (exported_of procs))) [
       | inl more ↦
           let found = export_at procs 255 more in
-          absurd (links.links.clean (at_procedure found.1) causes.TooManyExports
+          absurd (links.links.clean (position_of found.1) causes.TooManyExports
           (double (one_export_more found.0 found.1 found.2 found.3 found.4 found.5)))
       | inr few ↦ omega arith
     ]

@@ -11,18 +11,18 @@ use Rattle.block_tree.specs.TreeView.{tree_of}
 use Rattle.masm_tree.specs.declared.tree.Position.{Position}
 use Rattle.masm_tree.specs.declared.tree.Ast.{Ast}
 use Rattle.masm_tree.specs.declared.tree.Proc.{Proc}
-use Rattle.masm_tree.specs.Trees.{Procedure, Source}
+use Rattle.masm_tree.specs.Trees.{Procedure, Source, position_of}
 use Rattle.masm_tree.specs.Views.{body_of, procedure_of, source_of}
 use Rattle.masm_names.specs.declared.refusal.LinkCause.{LinkCause}
 use Rattle.masm_names.specs.declared.refusal.LinkCause.TheVariants as causes
 use Rattle.masm_names.specs.declared.refusal.Refusal.{Refusal}
 use Rattle.masm_names.specs.Among.{Among}
 use Rattle.masm_names.specs.Earlier.{earlier}
-use Rattle.masm_names.specs.Least.{IsLeast, Answers}
+use Rattle.masm_names.specs.Least.{IsLeast, FindsLeast}
 use Rattle.masm_uses.specs.Plans.{IsWanted}
 use Rattle.masm_uses.specs.Plans as plans
-use Rattle.masm_names.specs.Naming.{Dangles, Doubles, IsClosed, at_procedure, exported_of}
-use Rattle.masm_names.proofs.LeastLemmas.{Either, Answers-same, Answers-earlier}
+use Rattle.masm_names.specs.Naming.{Dangles, Doubles, IsClosed, exported_of}
+use Rattle.masm_names.proofs.LeastLemmas.{Either, FindsLeast-same, FindsLeast-earlier}
 use Rattle.masm_uses.proofs.UsedLemmas.{unmapped, mapped, contains_at}
 use Rattle.masm_blocks.specs.declared.kernel.KernelProc.{KernelProc}
 use Rattle.masm_pieces.specs.declared.piece.Piece as piece
@@ -40,7 +40,7 @@ use Rattle.masm_link.specs.declared.linking.Linked.{Linked}
 use Rattle.masm_link.specs.declared.linking.Measured.{Measured}
 use Rattle.masm_tables.specs.Building.{AreBuilt, none, exported, inner}
 use Rattle.masm_tables.specs.Kernels.{IsExport, AreExports, names_in, names_of}
-use Rattle.masm_tables.specs.Limits.{IsOver}
+use Rattle.masm_tables.specs.Limits.{ExceedsLimit}
 use Rattle.masm_link.specs.Measures.{IsMeasured, AreReady, IsLinked}
 use Rattle.masm_link.specs.Refusals.{IsTooLarge, too_many_operations, Oversized, RefusesAt, double, dangling, oversized}
 use Rattle.masm_tables.specs.Tables.{AreLists}
@@ -48,31 +48,31 @@ use Rattle.masm_tables.proofs.Closed.{Behind, uses_main, uses_wanted}
 use Rattle.masm_tables.proofs.Exist.{list_of_procedure, list_of_main}
 use Rattle.masm_tables.proofs.Finding.{names_same}
 use Rattle.masm_tables.proofs.Known.{has_operations, sizes_fit, listed}
-use Rattle.masm_link.proofs.Over.{Answers-fewer, extents_agree, some_operation, the_block_is, over_large, large_over, Answers-oversized}
+use Rattle.masm_link.proofs.Over.{FindsLeast-fewer, extents_agree, some_operation, the_block_is, over_large, large_over, FindsLeast-oversized}
 
 abbrev no_block : Option Block
 no_block = None
 
 module _ (source : Source) (exports : List Exported) where
   -- where a use leads nowhere or back
-  pub refused_use : (doubled : Option Refusal) (u first : Refusal) → Answers (Doubles source) doubled
-      → Answers (Dangles source (names_of exports)) (Some u)
+  pub refused_use : (doubled : Option Refusal) (u first : Refusal) → FindsLeast (Doubles source) doubled
+      → FindsLeast (Dangles source (names_of exports)) (Some u)
       → Some first ≡ earlier doubled (Some u) → IsLeast (RefusesAt source exports) first.at first.cause
   refused_use doubled u first p q is =
-      Answers-same (Either (Doubles source) (Dangles source (names_of exports))) (RefusesAt source exports) (Some first)
+      FindsLeast-same (Either (Doubles source) (Dangles source (names_of exports))) (RefusesAt source exports) (Some first)
       (λ at cause h. elim h [ inl d ↦ double d | inr d ↦ dangling d ])
       (λ at cause h. elim h [ double d ↦ inl d | dangling d ↦ inr d | oversized closed o ↦ absurd (closed u.at u.cause q.stands) ])
-      (subst (Answers (Either (Doubles source) (Dangles source (names_of exports)))) (sym is)
-      (Answers-earlier (Doubles source) (Dangles source (names_of exports)) doubled (Some u) p q))
+      (subst (FindsLeast (Either (Doubles source) (Dangles source (names_of exports)))) (sym is)
+      (FindsLeast-earlier (Doubles source) (Dangles source (names_of exports)) doubled (Some u) p q))
 
   -- where none does
-  pub refused_size : IsClosed source (names_of exports) → (doubled large : Option Refusal) → Answers (Doubles source) doubled
-      → Answers (Oversized source exports) large → Answers (RefusesAt source exports) (earlier doubled large)
+  pub refused_size : IsClosed source (names_of exports) → (doubled large : Option Refusal) → FindsLeast (Doubles source) doubled
+      → FindsLeast (Oversized source exports) large → FindsLeast (RefusesAt source exports) (earlier doubled large)
   refused_size closed doubled large p q =
-      Answers-same (Either (Doubles source) (Oversized source exports)) (RefusesAt source exports) (earlier doubled large)
+      FindsLeast-same (Either (Doubles source) (Oversized source exports)) (RefusesAt source exports) (earlier doubled large)
       (λ at cause h. elim h [ inl d ↦ double d | inr o ↦ oversized closed o ])
       (λ at cause h. elim h [ double d ↦ inl d | dangling d ↦ absurd (closed at cause d) | oversized closed' o ↦ inr o ])
-      (Answers-earlier (Doubles source) (Oversized source exports) doubled large p q)
+      (FindsLeast-earlier (Doubles source) (Oversized source exports) doubled large p q)
 
   pub closed_names : (kernel : List KernelProc) → AreExports exports kernel → IsClosed source (names_in kernel) → IsClosed source (names_of exports)
   closed_names kernel are closed = subst (IsClosed source) (names_same exports kernel are) closed
@@ -172,10 +172,10 @@ module _ (ast : Ast) (kernel : List KernelProc) (m : Measured) (is : IsMeasured 
       (uses_main source (names_in kernel) is.closed m.order.items is.order p main))
 
   large_procs : (first : Option Refusal)
-      → Answers (Among (λ place p. IsOver (at_procedure (procedure_of p)) (extent_of (size_at m.sizes.items (Some place)))) ast.procs.items) first
-      → Answers (Among (λ place p at cause. IsTooLarge source.procs exports p at cause) source.procs) first
+      → FindsLeast (Among (λ place p. ExceedsLimit (position_of (procedure_of p)) (extent_of (size_at m.sizes.items (Some place)))) ast.procs.items) first
+      → FindsLeast (Among (λ place p at cause. IsTooLarge source.procs exports p at cause) source.procs) first
   large_procs first =
-      Answers-fewer (Among (λ place p. IsOver (at_procedure (procedure_of p)) (extent_of (size_at m.sizes.items (Some place)))) ast.procs.items)
+      FindsLeast-fewer (Among (λ place p. ExceedsLimit (position_of (procedure_of p)) (extent_of (size_at m.sizes.items (Some place)))) ast.procs.items)
       (Among (λ place p at cause. IsTooLarge source.procs exports p at cause) source.procs) first
       (λ at cause h.
       let p = procedure_of h.1.0 in
@@ -186,7 +186,7 @@ module _ (ast : Ast) (kernel : List KernelProc) (m : Measured) (is : IsMeasured 
           p,
           here,
           over_large source.procs exports (has_operations source exports kernel are m.names is.names) p list.0 list.1 at cause
-              (subst (λ e. IsOver (at_procedure p) e at cause) (extent_is h.0 p here) h.1.2),
+              (subst (λ e. ExceedsLimit (position_of p) e at cause) (extent_is h.0 p here) h.1.2),
         ),
       ))
       (λ at cause h.
@@ -196,43 +196,43 @@ module _ (ast : Ast) (kernel : List KernelProc) (m : Measured) (is : IsMeasured 
       let list = list_at_place h.0 p here in
       let over = large_over source.procs exports (has_operations source exports kernel are m.names is.names) p list.0 list.1 at cause
       (subst (λ q. IsTooLarge source.procs exports q at cause) found.2 h.1.2) in
-      (over.0, (h.0, (found.0, found.1, subst (λ e. IsOver (at_procedure p) e at over.0) (sym (extent_is h.0 p here)) over.1)), over.2))
+      (over.0, (h.0, (found.0, found.1, subst (λ e. ExceedsLimit (position_of p) e at over.0) (sym (extent_is h.0 p here)) over.1)), over.2))
 
   abbrev LargeMain : Position → LinkCause → Type 0
   LargeMain at cause = (p : Procedure) × (source.main ≡ Some p) × IsTooLarge source.procs exports p at cause
 
   large_main : (main : Option Proc) → ast.main ≡ main → (first : Option Refusal)
-      → MatchOption main (first ≡ None) (λ p. Answers (IsOver (at_procedure (procedure_of p)) (extent_of (procedure_size
+      → MatchOption main (first ≡ None) (λ p. FindsLeast (ExceedsLimit (position_of (procedure_of p)) (extent_of (procedure_size
       (sizes_known m.names m.sizes.items kernel) p.locals (body_of p.body.items)))) first)
-      → Answers LargeMain first
+      → FindsLeast LargeMain first
   large_main None same first e =
-      subst (Answers LargeMain) (sym e) (λ at cause h. let other = ap (option_map procedure_of) same in let is_main = h.1 in cc)
+      subst (FindsLeast LargeMain) (sym e) (λ at cause h. let other = ap (option_map procedure_of) same in let is_main = h.1 in cc)
   large_main (Some q) same first a =
       let p = procedure_of q in
       let main : source.main ≡ Some p = ap (option_map procedure_of) same in
       let list = list_of_body p main in
-      Answers-fewer (IsOver (at_procedure p) (extent_of (procedure_size (sizes_known m.names m.sizes.items kernel) p.locals p.body))) LargeMain first
+      FindsLeast-fewer (ExceedsLimit (position_of p) (extent_of (procedure_size (sizes_known m.names m.sizes.items kernel) p.locals p.body))) LargeMain first
       (λ at cause h. (
         p,
         main,
         over_large source.procs exports (has_operations source exports kernel are m.names is.names) p list.0 list.1 at cause
-            (subst (λ e. IsOver (at_procedure p) e at cause) (main_extent p main) h),
+            (subst (λ e. ExceedsLimit (position_of p) e at cause) (main_extent p main) h),
       ))
       (λ at cause h.
       let over = large_over source.procs exports (has_operations source exports kernel are m.names is.names) p list.0 list.1 at cause
       (subst (λ r. IsTooLarge source.procs exports r at cause) (same_some h.0 p (sym h.1 ∙ main)) h.2) in
-      (over.0, subst (λ e. IsOver (at_procedure p) e at over.0) (sym (main_extent p main)) over.1, over.2))
+      (over.0, subst (λ e. ExceedsLimit (position_of p) e at over.0) (sym (main_extent p main)) over.1, over.2))
       a
     where
       same_some : (a b : Procedure) → Some a ≡ Some b → a ≡ b
       same_some a b e = cc
 
-  pub Answers-large : (procs main : Option Refusal)
-      → Answers (Among (λ place p. IsOver (at_procedure (procedure_of p)) (extent_of (size_at m.sizes.items (Some place)))) ast.procs.items) procs
-      → MatchOption ast.main (main ≡ None) (λ p. Answers (IsOver (at_procedure (procedure_of p)) (extent_of (procedure_size
+  pub FindsLeast-large : (procs main : Option Refusal)
+      → FindsLeast (Among (λ place p. ExceedsLimit (position_of (procedure_of p)) (extent_of (size_at m.sizes.items (Some place)))) ast.procs.items) procs
+      → MatchOption ast.main (main ≡ None) (λ p. FindsLeast (ExceedsLimit (position_of (procedure_of p)) (extent_of (procedure_size
       (sizes_known m.names m.sizes.items kernel) p.locals (body_of p.body.items)))) main)
-      → Answers (Oversized source exports) (earlier procs main)
-  Answers-large procs main p q = Answers-oversized source exports procs main (large_procs procs p) (large_main ast.main refl main q)
+      → FindsLeast (Oversized source exports) (earlier procs main)
+  FindsLeast-large procs main p q = FindsLeast-oversized source exports procs main (large_procs procs p) (large_main ast.main refl main q)
 
   -- the tables tell each procedure's block, where not_so tree is too large
   module _ (clean : (at : Position) (cause : LinkCause) → ¬ (RefusesAt source exports at cause)) (lists : List (Vec piece.Piece Global))
@@ -269,8 +269,8 @@ module _ (ast : Ast) (kernel : List KernelProc) (m : Measured) (is : IsMeasured 
             let block = block_of (with_locals p.locals list.0) in
             let counted = operations-block block in
             let few : seen_as as_operations block ≤ 524288 = elim (cases_lt 524288 (seen_as as_operations block)) [
-              | inl more ↦ absurd (clean (at_procedure p) causes.TooManyOps (oversized (closed_names source exports kernel are is.closed)
-                  (in_bodies place p here (at_procedure p) causes.TooManyOps (too_many_operations block
+              | inl more ↦ absurd (clean (position_of p) causes.TooManyOps (oversized (closed_names source exports kernel are is.closed)
+                  (in_bodies place p here (position_of p) causes.TooManyOps (too_many_operations block
                   (the_block_is source.procs exports some p list.0 list.1) more))))
               | inr few ↦ few
             ] in

@@ -6,16 +6,15 @@ use Rattle.std.proofs.lemmas.List.Elements.{Contains-append_left, Contains-appen
 use Rattle.std.specs.List.{Contains}
 use Rattle.std.specs.Option.{option_to_list}
 use Rattle.masm_tree.specs.declared.tree.Position.{Position}
-use Rattle.masm_tree.specs.Trees.{Procedure, Source}
+use Rattle.masm_tree.specs.Trees.{Procedure, Source, position_of}
 use Rattle.masm_names.specs.declared.refusal.LinkCause.{LinkCause}
 use Rattle.masm_names.specs.declared.refusal.LinkCause.TheVariants as causes
 use Rattle.masm_names.specs.declared.refusal.Refusal.{Refusal}
 use Rattle.masm_names.specs.Among.{Among}
 use Rattle.masm_names.specs.Causes.{order}
 use Rattle.masm_names.specs.Earlier.{earlier}
-use Rattle.masm_names.specs.Least.{Answers}
-use Rattle.masm_names.specs.Naming.{at_procedure}
-use Rattle.masm_names.proofs.LeastLemmas.{Either, Answers-same, Answers-earlier, no_later-trans}
+use Rattle.masm_names.specs.Least.{FindsLeast}
+use Rattle.masm_names.proofs.LeastLemmas.{Either, FindsLeast-same, FindsLeast-earlier, no_later-trans}
 use Rattle.masm_uses.proofs.UsedLemmas.{contains_at, at_contains}
 use Rattle.masm_names.proofs.DoubleLemmas.{cons_here}
 use Rattle.masm_blocks.specs.declared.extent.Extent.{Extent}
@@ -26,14 +25,14 @@ use Rattle.masm_blocks.proofs.Flattened.{seen-block}
 use Rattle.masm_blocks.proofs.Once.{list_once}
 use Rattle.masm_size.proofs.Sized.{HasOperations, list-solid, solid-locals, some-whole, operations-block, height-block}
 use Rattle.masm_size.proofs.SizeLaws.{Agree, extent-whole}
-use Rattle.masm_tables.specs.Limits.{size_cause, IsOver}
+use Rattle.masm_tables.specs.Limits.{size_cause, ExceedsLimit}
 use Rattle.masm_link.specs.Refusals.{IsTooLarge, too_many_operations, too_deep, Oversized}
 
 -- fewer refusals, where each of the others stands behind one of them at the same place
-pub Answers-fewer : (P Q : Position → LinkCause → Type 0) (r : Option Refusal) → ((at : Position) (cause : LinkCause) → P at cause → Q at cause)
-    → ((at : Position) (cause : LinkCause) → Q at cause → (first : LinkCause) × P at first × (order first ≤ order cause)) → Answers P r → Answers Q r
-Answers-fewer P Q None to from none = λ at cause q. let p = from at cause q in none at p.0 p.1
-Answers-fewer P Q (Some r) to from least = record {
+pub FindsLeast-fewer : (P Q : Position → LinkCause → Type 0) (r : Option Refusal) → ((at : Position) (cause : LinkCause) → P at cause → Q at cause)
+    → ((at : Position) (cause : LinkCause) → Q at cause → (first : LinkCause) × P at first × (order first ≤ order cause)) → FindsLeast P r → FindsLeast Q r
+FindsLeast-fewer P Q None to from none = λ at cause q. let p = from at cause q in none at p.0 p.1
+FindsLeast-fewer P Q (Some r) to from least = record {
   stands = to r.at r.cause least.stands;
   first = λ other why q.
       let p = from other why q in
@@ -92,7 +91,7 @@ module _ (procs : List Procedure) (exports : List Exported) (some : HasOperation
       let is = height-block the_block in
       (λ h. omega arith, λ h. omega arith)
 
-  pub over_large : (at : Position) (cause : LinkCause) → IsOver (at_procedure p) the_extent at cause → IsTooLarge procs exports p at cause
+  pub over_large : (at : Position) (cause : LinkCause) → ExceedsLimit (position_of p) the_extent at cause → IsTooLarge procs exports p at cause
   over_large at cause over = elim (cases_lt 524288 the_extent.operations) [
     | inl more ↦
         moved causes.TooManyOps (same_cause _ _ _ (over_operations the_extent more) over.1)
@@ -105,11 +104,11 @@ module _ (procs : List Procedure) (exports : List Exported) (some : HasOperation
     ]
   ]
     where
-      moved : (why : LinkCause) → cause ≡ why → IsTooLarge procs exports p (at_procedure p) why → IsTooLarge procs exports p at cause
-      moved why is h = subst (λ a. IsTooLarge procs exports p a cause) (sym over.0) (subst (IsTooLarge procs exports p (at_procedure p)) (sym is) h)
+      moved : (why : LinkCause) → cause ≡ why → IsTooLarge procs exports p (position_of p) why → IsTooLarge procs exports p at cause
+      moved why is h = subst (λ a. IsTooLarge procs exports p a cause) (sym over.0) (subst (IsTooLarge procs exports p (position_of p)) (sym is) h)
 
   pub large_over : (at : Position) (cause : LinkCause) → IsTooLarge procs exports p at cause
-      → (first : LinkCause) × IsOver (at_procedure p) the_extent at first × (order first ≤ order cause)
+      → (first : LinkCause) × ExceedsLimit (position_of p) the_extent at first × (order first ≤ order cause)
   large_over at cause (too_many_operations block is more) = (
     causes.TooManyOps,
     (
@@ -169,6 +168,6 @@ module _ (source : Source) (exports : List Exported) where
     | inr main ↦ inr (h.1, in_main source.main h.1 main, h.4)
   ]
 
-  pub Answers-oversized : (a b : Option Refusal) → Answers LargeProcs a → Answers LargeMain b → Answers (Oversized source exports) (earlier a b)
-  Answers-oversized a b p q = Answers-same (Either LargeProcs LargeMain) (Oversized source exports) (earlier a b) large_either either_large
-      (Answers-earlier LargeProcs LargeMain a b p q)
+  pub FindsLeast-oversized : (a b : Option Refusal) → FindsLeast LargeProcs a → FindsLeast LargeMain b → FindsLeast (Oversized source exports) (earlier a b)
+  FindsLeast-oversized a b p q = FindsLeast-same (Either LargeProcs LargeMain) (Oversized source exports) (earlier a b) large_either either_large
+      (FindsLeast-earlier LargeProcs LargeMain a b p q)

@@ -8,10 +8,9 @@ use Rattle.std.specs.Option.{option_to_list}
 use Rattle.block_tree.specs.Trees.{Tree, tree_height}
 use Rattle.block_tree.specs.TreeView.{tree_of}
 use Rattle.masm_tree.specs.declared.tree.Position.{Position}
-use Rattle.masm_tree.specs.Trees.{Procedure, Source}
+use Rattle.masm_tree.specs.Trees.{Procedure, Source, position_of}
 use Rattle.masm_names.specs.declared.refusal.LinkCause.{LinkCause}
 use Rattle.masm_names.specs.declared.refusal.LinkCause.TheVariants as causes
-use Rattle.masm_names.specs.Naming.{at_procedure}
 use Rattle.masm_names.proofs.DoubleLemmas.{cons_here}
 use Rattle.masm_blocks.specs.Blocks.{Block, Span, Join, Split, Loop, Call, Syscall, seen_as, as_tree, as_operations, as_height}
 use Rattle.masm_blocks.specs.Lists.{Exported, IsBlockOf}
@@ -55,13 +54,13 @@ module _ (source : Source) (exports own : List Exported) (block : Block) (links 
 
   few_operations : seen_as as_operations block ≤ 524288
   few_operations = elim (cases_lt 524288 (seen_as as_operations block)) [
-    | inl more ↦ absurd (not_large (at_procedure found.0) causes.TooManyOps (too_many_operations block found.2 more))
+    | inl more ↦ absurd (not_large (position_of found.0) causes.TooManyOps (too_many_operations block found.2 more))
     | inr few ↦ few
   ]
 
   low : seen_as as_height block ≤ 1024
   low = elim (cases_lt 1024 (seen_as as_height block)) [
-    | inl more ↦ absurd (not_large (at_procedure found.0) causes.TooDeep (too_deep block found.2 more))
+    | inl more ↦ absurd (not_large (position_of found.0) causes.TooDeep (too_deep block found.2 more))
     | inr few ↦ few
   ]
 

@@ -39,8 +39,8 @@ pub record IsMeasured (source : Source) (kernel : List KernelProc) (m : Measured
   pub sizes : (exports : List Exported) → AreExports exports kernel → AreSizes source.procs exports m.order.items m.sizes.items
 
 -- nothing is refused, whatever the kernel's exports in memory are
-abbrev pub IsClean : Source → List KernelProc → Type 0
-IsClean source kernel =
+abbrev pub IsNeverRefused : Source → List KernelProc → Type 0
+IsNeverRefused source kernel =
     (exports : List Exported) → AreExports exports kernel → (at : Position) (cause : LinkCause) → ¬ (RefusesAt source exports at cause)
 
 abbrev pub IsFirstRefused : Source → List KernelProc → Refusal → Type 0
@@ -49,7 +49,7 @@ IsFirstRefused source kernel refusal =
 
 -- the sizes where nothing is refused, and else the least refusal
 abbrev pub Measures : Source → List KernelProc → Result Measured Stop → Type 0
-Measures source kernel (Ok m) = IsMeasured source kernel m × IsClean source kernel
+Measures source kernel (Ok m) = IsMeasured source kernel m × IsNeverRefused source kernel
 Measures source kernel (Err (Refused refusal)) = IsFirstRefused source kernel refusal
 Measures source kernel (Err Memory) = Unit {0}
 

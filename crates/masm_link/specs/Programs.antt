@@ -1,25 +1,23 @@
 -- What the parts of the assembler say of their answers in memory.
-use Rattle.std.specs.Prelude.{◌≡◌, ℕ, Bool, true, List, [], Option, Some, Result, Ok, Err, Vec, ◌⊎◌}
+use Rattle.std.specs.Prelude.{◌≡◌, ℕ, Bool, true, List, [], Option, Some, None, Result, Ok, Err, Vec, ◌⊎◌}
 use Rattle.std.specs.Global.{Global}
 use Rattle.block_tree.specs.declared.exports.Export.{Export}
 use Rattle.block_tree.specs.Trees.{tree_digest}
 use Rattle.block_tree.specs.TreeView.{tree_of}
 use Rattle.masm_blocks.specs.declared.kernel.KernelProc.{KernelProc}
 use Rattle.masm_blocks.specs.Lists.{Exported}
-use Rattle.masm_tree.specs.declared.tree.Ast.{Ast}
 use Rattle.masm_tree.specs.Trees.{Source}
-use Rattle.masm_tree.specs.Views.{source_of}
 use Rattle.masm_link.specs.declared.linking.Linked.{Linked}
 use Rattle.masm_link.specs.declared.refusal.AsmError.{AsmError}
-use Rattle.masm_link.specs.declared.refusal.AsmError.TheVariants.{Memory}
+use Rattle.masm_link.specs.declared.refusal.AsmError.TheVariants.{Bad, Memory}
 use Rattle.masm_link.specs.Assembling.{reads, Refuses, KernelExports}
 use Rattle.masm_tables.specs.Kernels.{AreExports}
 use Rattle.masm_link.specs.Measures.{IsLinked}
 
--- an answer of the reader is that of the definition, or the want of memory
-abbrev pub Gives : Result Ast AsmError → Result Source AsmError → Type 0
-Gives (Ok ast) defined = defined ≡ Ok (source_of ast)
-Gives (Err refusal) defined = (refusal ≡ Memory) ⊎ (defined ≡ Err refusal)
+-- what an error says of the sources: its refusal, if it is one
+abbrev pub refusal_in : AsmError → Option AsmError
+refusal_in (Bad in_kernel line column cause) = Some (Bad in_kernel line column cause)
+refusal_in Memory = None
 
 -- what a source links to with a kernel's exports in memory, or its first refusal, or the want of memory
 abbrev pub LinksIn : Bool → List ℕ → List KernelProc → Result Linked AsmError → Type 0

@@ -1,6 +1,7 @@
 -- What is refused once a source is read, and what a source that is not refused links to (docs/ASSEMBLY.md).
-pub use Rattle.masm_names.specs.Least.{IsBefore, IsLeast, Answers}
-pub use Rattle.masm_names.specs.Naming.{at_constant, at_procedure, exported_of, Dangles, IsClosed, Doubles}
+pub use Rattle.masm_names.specs.Least.{ComesBefore, IsLeast, FindsLeast}
+pub use Rattle.masm_tree.specs.Trees.{position_of}
+pub use Rattle.masm_names.specs.Naming.{at_constant, exported_of, Dangles, IsClosed, Doubles}
 use Rattle.std.specs.Prelude.{◌≡◌, ◌<◌, List, Option, Some, None, MatchOption}
 use Rattle.std.specs.List.{AllZip, Any}
 use Rattle.masm_tree.specs.declared.tree.Position.{Position}
@@ -15,9 +16,9 @@ use Rattle.masm_tables.specs.Kernels.{names_of}
 -- a procedure whose tree is too large
 pub data IsTooLarge (procs : List Procedure) (kernel : List Exported) (p : Procedure) : Position → LinkCause → Type 0 where
   too_many_operations : (block : Block) → IsBlockOf procs kernel p block → 524288 < seen_as as_operations block
-      → IsTooLarge procs kernel p (at_procedure p) causes.TooManyOps
+      → IsTooLarge procs kernel p (position_of p) causes.TooManyOps
   too_deep : (block : Block) → IsBlockOf procs kernel p block → 1024 < seen_as as_height block
-      → IsTooLarge procs kernel p (at_procedure p) causes.TooDeep
+      → IsTooLarge procs kernel p (position_of p) causes.TooDeep
 
 abbrev pub Oversized : Source → List Exported → Position → LinkCause → Type 0
 Oversized source kernel at cause = Any (λ p. IsTooLarge source.procs kernel p at cause) (bodies_of source)

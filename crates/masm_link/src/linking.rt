@@ -2,12 +2,12 @@ ghost use Rattle.std.specs.Prelude.{◌≡◌, ℕ, List, Some, is_some, IfOk};
 ghost use Rattle.masm_blocks.specs.Lists.{Exported};
 ghost use Rattle.masm_link.specs.declared.linking.Stop.TheVariants as stops;
 ghost use Rattle.masm_tables.specs.Kernels.{AreExports, names_in};
-ghost use Rattle.masm_link.specs.Measures.{IsMeasured, IsClean, Measures, IsLinked, LinksTo};
+ghost use Rattle.masm_link.specs.Measures.{IsMeasured, IsNeverRefused, Measures, IsLinked, LinksTo};
 ghost use Rattle.masm_link.specs.Refusals.{Oversized};
 ghost use Rattle.masm_tree.specs.Locals.{SourceFits};
 ghost use Rattle.masm_tree.specs.Views.{source_of};
 ghost use Rattle.masm_names.specs.Earlier.{earlier};
-ghost use Rattle.masm_names.specs.Least.{Answers};
+ghost use Rattle.masm_names.specs.Least.{FindsLeast};
 ghost use Rattle.masm_names.specs.Names.{place_at};
 ghost use Rattle.masm_names.specs.Naming.{IsClosed};
 ghost use Rattle.masm_names.specs.Uses.{first_place};
@@ -106,7 +106,7 @@ fn first_oversized(
     requires fits { SourceFits (source_of ast.now) }
     requires measured { IsMeasured (source_of ast.now) kernel.now.procs.now measured.now }
     ensures { IfOk result (λ first. (exports : List Exported) → AreExports exports kernel.now.procs.now
-        → Answers (Oversized (source_of ast.now) exports) first) }
+        → FindsLeast (Oversized (source_of ast.now) exports) first) }
 {
     let procs = first_too_large(&ast.procs, &measured.sizes);
     let main = main_too_large(alloc, &measured.names, kernel, &ast.main, &measured.sizes)?;
@@ -151,7 +151,7 @@ fn built(
 ) -> Result<Linked, Memory>
     requires fits { SourceFits (source_of ast.now) }
     requires measured { IsMeasured (source_of ast.now) kernel.now.procs.now measured.now }
-    requires clean { IsClean (source_of ast.now) kernel.now.procs.now }
+    requires clean { IsNeverRefused (source_of ast.now) kernel.now.procs.now }
     ensures linked { IfOk result (λ linked. (exports : List Exported) → AreExports exports kernel.now.procs.now
         → IsLinked (source_of ast.now) exports linked) }
     ensures main { IfOk result (λ linked. is_some linked.main ≡ is_some ast.now.main) }

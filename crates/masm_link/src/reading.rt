@@ -1,6 +1,7 @@
 ghost use Rattle.std.specs.Prelude.{◌≡◌, ◌≤◌, length, not, is_some, IfOk};
+ghost use Rattle.answers.specs.Gives.{Gives};
 ghost use Rattle.masm_link.specs.Assembling.{reads};
-ghost use Rattle.masm_link.specs.Programs.{Gives};
+ghost use Rattle.masm_link.specs.Programs.{refusal_in};
 ghost use Rattle.masm_tree.specs.Locals.{SourceFits};
 ghost use Rattle.masm_tree.specs.Views.{source_of};
 
@@ -14,7 +15,7 @@ use std::alloc::Global;
 #[tactic(auto, unfolding(crate::specs::Assembling::reads))]
 pub(crate) fn read(alloc: Global, text: &[u8], is_kernel: bool) -> Result<Ast, AsmError>
     requires { length text.now ≤ MAX_SOURCE }
-    ensures reads { Gives result (reads is_kernel text.now) }
+    ensures reads { Gives source_of refusal_in result (reads is_kernel text.now) }
     ensures fits { IfOk result (λ ast. SourceFits (source_of ast)) }
     ensures main { IfOk result (λ ast. is_some ast.main ≡ not is_kernel) }
 {

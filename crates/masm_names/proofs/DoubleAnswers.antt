@@ -6,7 +6,7 @@ use Rattle.std.specs.List.{filter}
 use Rattle.instr_reading.specs.declared.constant.Const.{Const}
 use Rattle.masm_tree.specs.declared.tree.Position.{Position}
 use Rattle.masm_tree.specs.declared.tree.Proc.{Proc}
-use Rattle.masm_tree.specs.Trees.{Procedure, Source}
+use Rattle.masm_tree.specs.Trees.{Procedure, Source, position_of}
 use Rattle.masm_tree.specs.Views.{procedure_of}
 use Rattle.masm_names.specs.declared.refusal.LinkCause.{LinkCause}
 use Rattle.masm_names.specs.declared.refusal.LinkCause.TheVariants as causes
@@ -14,12 +14,12 @@ use Rattle.masm_names.specs.declared.refusal.Refusal.{Refusal}
 use Rattle.masm_names.specs.Among.{Among}
 use Rattle.masm_names.specs.Earlier.{earlier}
 use Rattle.masm_names.specs.Extras.{exports_in, Extras}
-use Rattle.masm_names.specs.Least.{Answers}
-use Rattle.masm_names.specs.Naming.{at_constant, at_procedure, exported_of, Doubles, second_constant, second_procedure, one_export_more}
-use Rattle.masm_names.specs.Repeats.{IsRepeat, Repeats}
+use Rattle.masm_names.specs.Least.{FindsLeast}
+use Rattle.masm_names.specs.Naming.{at_constant, exported_of, Doubles, second_constant, second_procedure, one_export_more}
+use Rattle.masm_names.specs.Repeats.{IsDoubled, Repeats}
 use Rattle.masm_names.specs.Uses.{place_in}
 use Rattle.masm_names.proofs.DoubleLemmas.{slice_get-split, split_at, Among-mapped, Among-unmapped, split_repeats, repeats_split}
-use Rattle.masm_names.proofs.LeastLemmas.{Either, Answers-same, Answers-earlier}
+use Rattle.masm_names.proofs.LeastLemmas.{Either, FindsLeast-same, FindsLeast-earlier}
 
 -- a procedure's name, and the place of its token
 abbrev name_of : Proc → List ℕ
@@ -29,24 +29,24 @@ abbrev place_of : Proc → Position
 place_of p = record { line = p.line; column = p.column }
 
 abbrev Repeated : List Procedure → Position → LinkCause → Type 0
-Repeated procs = Repeats (λ p. p.name) at_procedure procs
+Repeated procs = Repeats (λ p. p.name) position_of procs
 
 -- the procedures of the tree, and those of the source
 repeated_to : (procs : List Proc) (at : Position) (cause : LinkCause) → Repeats name_of place_of procs at cause
     → Repeated (map procedure_of procs) at cause
 repeated_to procs at cause h =
-    Among-mapped procedure_of (λ place p. IsRepeat (place_in (map (λ q. q.name) (map procedure_of procs))) p.name (at_procedure p)
+    Among-mapped procedure_of (λ place p. IsDoubled (place_in (map (λ q. q.name) (map procedure_of procs))) p.name (position_of p)
     place) procs at cause
-    (subst (λ names. Among (λ place x. IsRepeat (place_in names) x.name (place_of x) place) procs at cause)
+    (subst (λ names. Among (λ place x. IsDoubled (place_in names) x.name (place_of x) place) procs at cause)
     (sym (map-map (λ (q : Procedure). q.name) procedure_of procs)) h)
 
 repeated_from : (procs : List Proc) (at : Position) (cause : LinkCause) → Repeated (map procedure_of procs) at cause
     → Repeats name_of place_of procs at cause
 repeated_from procs at cause h =
-    subst (λ names. Among (λ place x. IsRepeat (place_in names) x.name (place_of x) place) procs at cause)
+    subst (λ names. Among (λ place x. IsDoubled (place_in names) x.name (place_of x) place) procs at cause)
     (map-map (λ (q : Procedure). q.name) procedure_of procs)
-    (Among-unmapped procedure_of (λ place p. IsRepeat (place_in (map (λ q. q.name) (map procedure_of procs))) p.name
-    (at_procedure p) place) procs at cause h)
+    (Among-unmapped procedure_of (λ place p. IsDoubled (place_in (map (λ q. q.name) (map procedure_of procs))) p.name
+    (position_of p) place) procs at cause h)
 
 exported-map : (procs : List Proc) → length (exported_of (map procedure_of procs)) ≡ exports_in procs
 exported-map [] = refl
@@ -63,7 +63,7 @@ exported-take procs i = ap (λ ps. length (exported_of ps)) (take-map procedure_
 
 abbrev ExtraBy : List Procedure → ℕ → Procedure → Position → LinkCause → Type 0
 ExtraBy procs place p at cause =
-    (p.exported ≡ true) × (length (exported_of (take place procs)) ≡ 255) × (at ≡ at_procedure p) × (cause ≡ causes.TooManyExports)
+    (p.exported ≡ true) × (length (exported_of (take place procs)) ≡ 255) × (at ≡ position_of p) × (cause ≡ causes.TooManyExports)
 
 abbrev Extra : List Procedure → Position → LinkCause → Type 0
 Extra procs = Among (ExtraBy procs) procs
@@ -122,14 +122,14 @@ module _ (source : Source) where
       (split_at source.procs k p e).0 exported count)
 
 -- the least refusal of the constants, of the procedures and of the exports
-pub Answers-doubles : (consts : List Const) (procs : List Proc) (main : Option Procedure) (a b c : Option Refusal)
-    → Answers (Repeats (λ d. d.name) at_constant consts) a → Answers (Repeats name_of place_of procs) b → Answers (Extras procs) c
-    → Answers (Doubles (record { consts = consts; procs = map procedure_of procs; main = main })) (earlier (earlier a b) c)
-Answers-doubles consts procs main a b c p q r =
+pub FindsLeast-doubles : (consts : List Const) (procs : List Proc) (main : Option Procedure) (a b c : Option Refusal)
+    → FindsLeast (Repeats (λ d. d.name) at_constant consts) a → FindsLeast (Repeats name_of place_of procs) b → FindsLeast (Extras procs) c
+    → FindsLeast (Doubles (record { consts = consts; procs = map procedure_of procs; main = main })) (earlier (earlier a b) c)
+FindsLeast-doubles consts procs main a b c p q r =
     let source : Source = record { consts = consts; procs = map procedure_of procs; main = main } in
-    let mid = Answers-same (Repeats name_of place_of procs) (Repeated (map procedure_of procs)) b (repeated_to procs) (repeated_from procs) q in
-    let last = Answers-same (Extras procs) (Extra (map procedure_of procs)) c (extra_to procs) (extra_from procs) r in
-    Answers-same (Found source) (Doubles source) (earlier (earlier a b) c) (from_found source) (to_found source)
-    (Answers-earlier (Either (Repeats (λ d. d.name) at_constant consts) (Repeated (map procedure_of procs)))
+    let mid = FindsLeast-same (Repeats name_of place_of procs) (Repeated (map procedure_of procs)) b (repeated_to procs) (repeated_from procs) q in
+    let last = FindsLeast-same (Extras procs) (Extra (map procedure_of procs)) c (extra_to procs) (extra_from procs) r in
+    FindsLeast-same (Found source) (Doubles source) (earlier (earlier a b) c) (from_found source) (to_found source)
+    (FindsLeast-earlier (Either (Repeats (λ d. d.name) at_constant consts) (Repeated (map procedure_of procs)))
     (Extra (map procedure_of procs)) (earlier a b) c
-    (Answers-earlier (Repeats (λ d. d.name) at_constant consts) (Repeated (map procedure_of procs)) a b p mid) last)
+    (FindsLeast-earlier (Repeats (λ d. d.name) at_constant consts) (Repeated (map procedure_of procs)) a b p mid) last)

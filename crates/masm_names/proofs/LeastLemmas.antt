@@ -9,16 +9,16 @@ use Rattle.masm_names.specs.declared.refusal.Refusal.{Refusal}
 use Rattle.masm_names.specs.Among.{AmongFirst, Among}
 use Rattle.masm_names.specs.Causes.{order}
 use Rattle.masm_names.specs.Earlier.{is_no_later, earlier}
-use Rattle.masm_names.specs.Least.{IsBefore, IsLeast, Answers}
+use Rattle.masm_names.specs.Least.{ComesBefore, IsLeast, FindsLeast}
 
 -- one refusal is not behind another
 abbrev pub IsNoLater : Position → LinkCause → Position → LinkCause → Type 0
-IsNoLater at cause other why = IsBefore at other ⊎ ((at ≡ other) × (order cause ≤ order why))
+IsNoLater at cause other why = ComesBefore at other ⊎ ((at ≡ other) × (order cause ≤ order why))
 
 same_at : (a b : Position) → a.line ≡ b.line → a.column ≡ b.column → a ≡ b
 same_at a b l c = ap₂ (λ line column. record { line = line; column = column }) l c
 
-before-trans : (a b c : Position) → IsBefore a b → IsBefore b c → IsBefore a c
+before-trans : (a b c : Position) → ComesBefore a b → ComesBefore b c → ComesBefore a c
 before-trans a b c (inl p) (inl q) = inl (omega arith)
 before-trans a b c (inl p) (inr q) = inl (let e = q.0 in omega arith)
 before-trans a b c (inr p) (inl q) = inl (let e = p.0 in omega arith)
@@ -27,8 +27,8 @@ before-trans a b c (inr p) (inr q) = inr (p.0 ∙ q.0, let d = p.1 in let e = q.
 pub no_later-trans : (a : Position) (x : LinkCause) (b : Position) (y : LinkCause) (c : Position) (z : LinkCause)
     → IsNoLater a x b y → IsNoLater b y c z → IsNoLater a x c z
 no_later-trans a x b y c z (inl p) (inl q) = inl (before-trans a b c p q)
-no_later-trans a x b y c z (inl p) (inr q) = inl (subst (IsBefore a) q.0 p)
-no_later-trans a x b y c z (inr p) (inl q) = inl (subst (λ d. IsBefore d c) (sym p.0) q)
+no_later-trans a x b y c z (inl p) (inr q) = inl (subst (ComesBefore a) q.0 p)
+no_later-trans a x b y c z (inr p) (inl q) = inl (subst (λ d. ComesBefore d c) (sym p.0) q)
 no_later-trans a x b y c z (inr p) (inr q) = inr (p.0 ∙ q.0, let d = p.1 in let e = q.1 in omega arith)
 
 -- the comparison of two numbers
@@ -69,23 +69,23 @@ is_no_later-tells a b = elim (tells a.at.line b.at.line) [
 abbrev pub Either : (P Q : Position → LinkCause → Type 0) → Position → LinkCause → Type 0
 Either P Q at cause = P at cause ⊎ Q at cause
 
-pub Answers-same : (P Q : Position → LinkCause → Type 0) (r : Option Refusal) → ((at : Position) (cause : LinkCause) → P at cause → Q at cause)
-    → ((at : Position) (cause : LinkCause) → Q at cause → P at cause) → Answers P r → Answers Q r
-Answers-same P Q None to from none = λ at cause q. none at cause (from at cause q)
-Answers-same P Q (Some r) to from least =
+pub FindsLeast-same : (P Q : Position → LinkCause → Type 0) (r : Option Refusal) → ((at : Position) (cause : LinkCause) → P at cause → Q at cause)
+    → ((at : Position) (cause : LinkCause) → Q at cause → P at cause) → FindsLeast P r → FindsLeast Q r
+FindsLeast-same P Q None to from none = λ at cause q. none at cause (from at cause q)
+FindsLeast-same P Q (Some r) to from least =
     record { stands = to r.at r.cause least.stands; first = λ other why q. least.first other why (from other why q) }
 
 least-either : (P Q : Position → LinkCause → Type 0) (a b : Refusal) → IsLeast P a.at a.cause → IsLeast Q b.at b.cause → (c : Option Refusal)
-    → (c ≡ cond (is_no_later a b) (Some a) (Some b)) → Answers (Either P Q) c
+    → (c ≡ cond (is_no_later a b) (Some a) (Some b)) → FindsLeast (Either P Q) c
 least-either P Q a b p q c e = elim (is_no_later-tells a b) [
-  | inl ahead ↦ subst (Answers (Either P Q)) (sym (e ∙ ap (λ t. cond t (Some a) (Some b)) ahead.0)) (record {
+  | inl ahead ↦ subst (FindsLeast (Either P Q)) (sym (e ∙ ap (λ t. cond t (Some a) (Some b)) ahead.0)) (record {
     stands = inl p.stands;
     first = λ other why has. elim has [
       | inl in_p ↦ p.first other why in_p
       | inr in_q ↦ no_later-trans a.at a.cause b.at b.cause other why ahead.1 (q.first other why in_q)
     ];
   })
-  | inr behind ↦ subst (Answers (Either P Q)) (sym (e ∙ ap (λ t. cond t (Some a) (Some b)) behind.0)) (record {
+  | inr behind ↦ subst (FindsLeast (Either P Q)) (sym (e ∙ ap (λ t. cond t (Some a) (Some b)) behind.0)) (record {
     stands = inr q.stands;
     first = λ other why has. elim has [
       | inl in_p ↦ no_later-trans b.at b.cause a.at a.cause other why behind.1 (p.first other why in_p)
@@ -95,23 +95,23 @@ least-either P Q a b p q c e = elim (is_no_later-tells a b) [
 ]
 
 -- the earlier of two least refusals is the least of both kinds
-pub Answers-earlier : (P Q : Position → LinkCause → Type 0) (a b : Option Refusal) → Answers P a → Answers Q b → Answers (Either P Q) (earlier a b)
-Answers-earlier P Q None b p q =
-    Answers-same Q (Either P Q) b (λ at cause h. inr h)
+pub FindsLeast-earlier : (P Q : Position → LinkCause → Type 0) (a b : Option Refusal) → FindsLeast P a → FindsLeast Q b → FindsLeast (Either P Q) (earlier a b)
+FindsLeast-earlier P Q None b p q =
+    FindsLeast-same Q (Either P Q) b (λ at cause h. inr h)
     (λ at cause h. elim h [ inl in_p ↦ absurd (p at cause in_p) | inr in_q ↦ in_q ]) q
-Answers-earlier P Q (Some a) None p q =
-    Answers-same P (Either P Q) (Some a) (λ at cause h. inl h) (λ at cause h. elim h [ inl in_p ↦ in_p | inr in_q ↦ absurd (q at cause in_q) ]) p
-Answers-earlier P Q (Some a) (Some b) p q = least-either P Q a b p q _ refl
+FindsLeast-earlier P Q (Some a) None p q =
+    FindsLeast-same P (Either P Q) (Some a) (λ at cause h. inl h) (λ at cause h. elim h [ inl in_p ↦ in_p | inr in_q ↦ absurd (q at cause in_q) ]) p
+FindsLeast-earlier P Q (Some a) (Some b) p q = least-either P Q a b p q _ refl
 
 -- the least refusal of one kind, with those of another kind that are found later
-pub Answers-with : (P Q : Position → LinkCause → Type 0) (first now : Option Refusal) → Answers P first
-    → Answers (λ at cause. (first ≡ Some (record { at = at; cause = cause })) ⊎ Q at cause) now → Answers (Either P Q) now
-Answers-with P Q None now p q =
-    Answers-same (λ at cause. (None ≡ Some (record { at = at; cause = cause })) ⊎ Q at cause) (Either P Q) now
+pub FindsLeast-with : (P Q : Position → LinkCause → Type 0) (first now : Option Refusal) → FindsLeast P first
+    → FindsLeast (λ at cause. (first ≡ Some (record { at = at; cause = cause })) ⊎ Q at cause) now → FindsLeast (Either P Q) now
+FindsLeast-with P Q None now p q =
+    FindsLeast-same (λ at cause. (None ≡ Some (record { at = at; cause = cause })) ⊎ Q at cause) (Either P Q) now
     (λ at cause h. elim h [ inl e ↦ absurd cc | inr has ↦ inr has ])
     (λ at cause h. elim h [ inl has ↦ absurd (p at cause has) | inr has ↦ inr has ]) q
-Answers-with P Q (Some r) None p q = absurd (q r.at r.cause (inl refl))
-Answers-with P Q (Some r) (Some s) p q =
+FindsLeast-with P Q (Some r) None p q = absurd (q r.at r.cause (inl refl))
+FindsLeast-with P Q (Some r) (Some s) p q =
     record {
       stands = elim q.stands [ inl e ↦ inl (subst (λ o. P (unwrap_or o r).at (unwrap_or o r).cause) e p.stands) | inr has ↦ inr has ];
       first = λ other why h. elim h [
@@ -120,20 +120,20 @@ Answers-with P Q (Some r) (Some s) p q =
       ];
     }
 
-pub Answers-itself : (first : Option Refusal) → Answers (λ at cause. first ≡ Some (record { at = at; cause = cause })) first
-Answers-itself None = λ at cause e. absurd cc
-Answers-itself (Some r) =
+pub FindsLeast-itself : (first : Option Refusal) → FindsLeast (λ at cause. first ≡ Some (record { at = at; cause = cause })) first
+FindsLeast-itself None = λ at cause e. absurd cc
+FindsLeast-itself (Some r) =
     record {
       stands = refl;
       first = λ other why e. inr (ap (λ o. (unwrap_or o r).at) e, (let same = ap (λ o. order (unwrap_or o r).cause) e in omega arith));
     }
 
 -- what is found later stands behind the first refusal
-pub Answers-stays : (Q : Position → LinkCause → Type 0) (first : Option Refusal)
+pub FindsLeast-stays : (Q : Position → LinkCause → Type 0) (first : Option Refusal)
     → ((at : Position) (cause : LinkCause) → Q at cause → (r : Refusal) × (first ≡ Some r) × IsNoLater r.at r.cause at cause)
-    → Answers (λ at cause. (first ≡ Some (record { at = at; cause = cause })) ⊎ Q at cause) first
-Answers-stays Q None behind = λ at cause h. elim h [ inl e ↦ absurd cc | inr has ↦ absurd (let e = (behind at cause has).1 in cc) ]
-Answers-stays Q (Some r) behind =
+    → FindsLeast (λ at cause. (first ≡ Some (record { at = at; cause = cause })) ⊎ Q at cause) first
+FindsLeast-stays Q None behind = λ at cause h. elim h [ inl e ↦ absurd cc | inr has ↦ absurd (let e = (behind at cause has).1 in cc) ]
+FindsLeast-stays Q (Some r) behind =
     record {
       stands = inl refl;
       first = λ other why h. elim h [
@@ -144,9 +144,9 @@ Answers-stays Q (Some r) behind =
     }
 
 -- one refusal alone
-pub Answers-one : (P : Position → LinkCause → Type 0) (at : Position) (cause : LinkCause) → P at cause
-    → ((other : Position) (why : LinkCause) → P other why → (other ≡ at) × (why ≡ cause)) → Answers P (Some (record { at = at; cause = cause }))
-Answers-one P at cause stands alone =
+pub FindsLeast-one : (P : Position → LinkCause → Type 0) (at : Position) (cause : LinkCause) → P at cause
+    → ((other : Position) (why : LinkCause) → P other why → (other ≡ at) × (why ≡ cause)) → FindsLeast P (Some (record { at = at; cause = cause }))
+FindsLeast-one P at cause stands alone =
     record {
       stands = stands;
       first = λ other why has. inr
@@ -155,15 +155,15 @@ Answers-one P at cause stands alone =
 
 -- The least refusal of a list's elements, as they are tested in order.
 module _ {X : Type 0} (P : ℕ → X → Position → LinkCause → Type 0) (items : List X) where
-  pub Among-start : Answers (AmongFirst P items 0) None
+  pub Among-start : FindsLeast (AmongFirst P items 0) None
   Among-start = λ at cause h. absurd (omega (arith, h.1))
 
   pub Among-either : (i : ℕ) (x : X) (r : Option Refusal) → i < length items → x ≡ get_or items i x
-      → Answers (Either (AmongFirst P items i) (P i x)) r
-      → Answers (AmongFirst P items (i + 1)) r
+      → FindsLeast (Either (AmongFirst P items i) (P i x)) r
+      → FindsLeast (AmongFirst P items (i + 1)) r
   Among-either i x r within is p =
       let here : slice_get items i ≡ Some x = slice_get_read items (length items) i x refl within is in
-      Answers-same (Either (AmongFirst P items i) (P i x)) (AmongFirst P items (i + 1)) r
+      FindsLeast-same (Either (AmongFirst P items i) (P i x)) (AmongFirst P items (i + 1)) r
       (λ at cause h. elim h [ inl below ↦ (below.0, (let l = below.1 in omega arith), below.2) | inr this ↦ (i, omega arith, (x, here, this)) ])
       (λ at cause h. elim (eqb_tells h.0 i) [
         | inl same ↦ inr (moved at cause h.0 h.2.0 x same.1 h.2.1 here h.2.2)
@@ -178,11 +178,11 @@ module _ {X : Type 0} (P : ℕ → X → Position → LinkCause → Type 0) (ite
           subst (λ w. P i w at cause) is_z (subst (λ j. P j y at cause) same has)
 
   pub Among-more : (i : ℕ) (x : X) (a b : Option Refusal) → i < length items → x ≡ get_or items i x
-      → Answers (AmongFirst P items i) a → Answers (P i x) b
-      → Answers (AmongFirst P items (i + 1)) (earlier a b)
-  Among-more i x a b within is p q = Among-either i x (earlier a b) within is (Answers-earlier (AmongFirst P items i) (P i x) a b p q)
+      → FindsLeast (AmongFirst P items i) a → FindsLeast (P i x) b
+      → FindsLeast (AmongFirst P items (i + 1)) (earlier a b)
+  Among-more i x a b within is p q = Among-either i x (earlier a b) within is (FindsLeast-earlier (AmongFirst P items i) (P i x) a b p q)
 
-  pub Among-end : (n : ℕ) (r : Option Refusal) → length items ≤ n → Answers (AmongFirst P items n) r → Answers (Among P items) r
+  pub Among-end : (n : ℕ) (r : Option Refusal) → length items ≤ n → FindsLeast (AmongFirst P items n) r → FindsLeast (Among P items) r
   Among-end n r ended p =
-      Answers-same (AmongFirst P items n) (Among P items) r (λ at cause h. (h.0, h.2))
+      FindsLeast-same (AmongFirst P items n) (Among P items) r (λ at cause h. (h.0, h.2))
       (λ at cause h. (h.0, (let within = slice_get_within items h.0 h.1.0 h.1.1 in omega arith), h.1)) p

@@ -3,16 +3,13 @@ use Rattle.std.specs.Prelude.{◌≡◌, ℕ, true, List, ◌∷◌, ◌++◌, l
 use Rattle.std.specs.List.{filter, Any, Contains}
 use Rattle.instr_reading.specs.declared.constant.Const.{Const}
 use Rattle.masm_tree.specs.declared.tree.Position.{Position}
-use Rattle.masm_tree.specs.Trees.{Procedure, Source}
+use Rattle.masm_tree.specs.Trees.{Procedure, Source, position_of}
 use Rattle.masm_names.specs.declared.refusal.LinkCause.{LinkCause}
 use Rattle.masm_names.specs.declared.refusal.LinkCause.TheVariants as causes
 use Rattle.masm_names.specs.Uses.{Use, Own, Kernel, all_uses, first_place, UsedIn, Reaches}
 
 abbrev pub at_constant : Const → Position
 at_constant c = record { line = c.line; column = c.column }
-
-abbrev pub at_procedure : Procedure → Position
-at_procedure p = record { line = p.line; column = p.column }
 
 abbrev pub exported_of : List Procedure → List Procedure
 exported_of procs = filter (λ p. p.exported) procs
@@ -34,6 +31,6 @@ pub data Doubles (source : Source) : Position → LinkCause → Type 0 where
   second_constant : (before : List Const) (c : Const) (behind : List Const) → source.consts ≡ before ++ c ∷ behind
       → Any (λ d. d.name ≡ c.name) before → Doubles source (at_constant c) causes.Duplicate
   second_procedure : (before : List Procedure) (p : Procedure) (behind : List Procedure) → source.procs ≡ before ++ p ∷ behind
-      → Any (λ q. q.name ≡ p.name) before → Doubles source (at_procedure p) causes.Duplicate
+      → Any (λ q. q.name ≡ p.name) before → Doubles source (position_of p) causes.Duplicate
   one_export_more : (before : List Procedure) (p : Procedure) (behind : List Procedure) → source.procs ≡ before ++ p ∷ behind
-      → p.exported ≡ true → length (exported_of before) ≡ 255 → Doubles source (at_procedure p) causes.TooManyExports
+      → p.exported ≡ true → length (exported_of before) ≡ 255 → Doubles source (position_of p) causes.TooManyExports

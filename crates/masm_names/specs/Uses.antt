@@ -7,17 +7,17 @@ use Rattle.masm_tree.specs.declared.tree.Position.{Position}
 use Rattle.masm_tree.specs.Trees.{Body, Empty, Leaf_then, If_then, While_then, Repeat_then, Procedure, Source}
 
 -- whether the procedure is one of the source's own or one of the kernel's
-pub data Kind : Type 0 where
-  Own : Kind
-  Kernel : Kind
+pub data Owner : Type 0 where
+  Own : Owner
+  Kernel : Owner
 
 -- an exec, call or syscall, with the place of its token
 pub record Use : Type 0 where
   pub at : Position
-  pub kind : Kind
+  pub kind : Owner
   pub name : List ℕ
 
-abbrev pub use_at : Position → Kind → List ℕ → Use
+abbrev pub use_at : Position → Owner → List ℕ → Use
 use_at at kind name = record { at = at; kind = kind; name = name }
 
 -- the uses in a body, in order

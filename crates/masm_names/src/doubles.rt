@@ -1,9 +1,9 @@
 ghost use Rattle.std.specs.Prelude.{◌≡◌, IfOk};
 ghost use Rattle.masm_tree.specs.Views.{source_of};
-ghost use Rattle.masm_names.specs.Least.{Answers};
+ghost use Rattle.masm_names.specs.Least.{FindsLeast};
 ghost use Rattle.masm_names.specs.Names.{place_at};
 ghost use Rattle.masm_names.specs.Naming.{Doubles};
-ghost use Rattle.masm_names.specs.Repeats.{IsRepeat, Repeats};
+ghost use Rattle.masm_names.specs.Repeats.{IsDoubled, Repeats};
 
 use crate::exports::first_extra_export;
 use crate::names::{Defined, Names};
@@ -14,7 +14,7 @@ use vm_field::Memory;
 
 // The refusal of a definition, if its name stands at another place.
 fn repeat_at<T: Defined>(names: &Names, place: usize, item: &T) -> Option<Refusal>
-    ensures { Answers (IsRepeat (place_at names.now) (T.name item.now) (T.at item.now) place) result }
+    ensures { FindsLeast (IsDoubled (place_at names.now) (T.name item.now) (T.at item.now) place) result }
 {
     if names.place(item.name()) == Some(place) {
         return None;
@@ -27,7 +27,7 @@ fn repeat_at<T: Defined>(names: &Names, place: usize, item: &T) -> Option<Refusa
 
 // The first definition of a name that was defined before.
 pub fn first_repeat<T: Defined>(alloc: Global, items: &[T]) -> Result<Option<Refusal>, Memory>
-    ensures { IfOk result (λ first. Answers (Repeats T.name T.at items.now) first) }
+    ensures { IfOk result (λ first. FindsLeast (Repeats T.name T.at items.now) first) }
 {
     let names = Names::of(alloc, items)?;
     let mut first = None;
@@ -39,7 +39,7 @@ pub fn first_repeat<T: Defined>(alloc: Global, items: &[T]) -> Result<Option<Ref
 
 /// The first definition of a name that was defined before, or export that is one too many.
 pub fn first_double(alloc: Global, ast: &Ast) -> Result<Option<Refusal>, Memory>
-    ensures { IfOk result (λ first. Answers (Doubles (source_of ast.now)) first) }
+    ensures { IfOk result (λ first. FindsLeast (Doubles (source_of ast.now)) first) }
 {
     let constant = first_repeat(alloc, ast.consts.as_slice())?;
     let procedure = first_repeat(alloc, &ast.procs)?;

@@ -1,5 +1,5 @@
 ghost use Rattle.masm_names.specs.Extras.{IsExtra, Extras};
-ghost use Rattle.masm_names.specs.Least.{Answers};
+ghost use Rattle.masm_names.specs.Least.{FindsLeast};
 
 use crate::names::Defined;
 use crate::refusal::{LinkCause, Refusal, earlier};
@@ -10,7 +10,7 @@ const MAX_EXPORTS: usize = 255;
 
 // The refusal of a procedure behind so many exports.
 fn extra_export(exports: usize, procedure: &Proc) -> Option<Refusal>
-    ensures { Answers (IsExtra exports procedure.now) result }
+    ensures { FindsLeast (IsExtra exports procedure.now) result }
 {
     if !procedure.exported || exports != MAX_EXPORTS {
         return None;
@@ -23,7 +23,7 @@ fn extra_export(exports: usize, procedure: &Proc) -> Option<Refusal>
 
 // The first export that is one too many.
 pub(crate) fn first_extra_export(procs: &[Proc]) -> Option<Refusal>
-    ensures { Answers (Extras procs.now) result }
+    ensures { FindsLeast (Extras procs.now) result }
 {
     let mut exports: usize = 0;
     let mut first = None;

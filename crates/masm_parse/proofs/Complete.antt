@@ -7,9 +7,9 @@ use Rattle.masm_tree.specs.declared.terminal.Header.{Header}
 use Rattle.masm_tree.specs.declared.terminal.Terminal.{Terminal}
 use Rattle.masm_tree.specs.declared.terminal.Terminal.TheVariants as terminals
 use Rattle.masm_tree.specs.Trees.{Body, Empty, Leaf_then, If_then, While_then, Repeat_then, Procedure, append}
-use Rattle.masm_parse.specs.Machine.{Open, In_if, In_else, In_while, In_repeat, Configuration, Top, Inside, Behind, procedure, closed, shift}
+use Rattle.masm_parse.specs.Machine.{OpenStatement, In_if, In_else, In_while, In_repeat, Configuration, Top, Inside, Behind, procedure, closed, shift}
 use Rattle.masm_tree.specs.Terminals.{may_begin}
-use Rattle.masm_parse.specs.Grammar.{Spells, nothing, leaf, if_only, if_else, while, repeated, is_item, SpellsProcs, none, constant, item, SpellsMain, IsWhole}
+use Rattle.masm_parse.specs.Grammar.{Spells, nothing, leaf, if_only, if_else, while, repeated, is_item, SpellsProcs, none, constant, item, SpellsMain, SpellsParts}
 
 -- the configuration behind tokens, where each fits
 abbrev pub run : Bool → Option Configuration → List Terminal → Option Configuration
@@ -40,7 +40,7 @@ append-empty (Repeat_then at n x a) = ap (Repeat_then at n x) (append-empty a)
 
 -- a spelled body is read behind the statements so far
 pub complete : {b : Body} {us : List Terminal} → Spells b us
-    → (k : Bool) (ps : List Procedure) (h : Header) (os : List Open) (a : Body) (rest : List Terminal)
+    → (k : Bool) (ps : List Procedure) (h : Header) (os : List OpenStatement) (a : Body) (rest : List Terminal)
     → run k (Some (Inside ps h os a)) (us ++ rest) ≡ run k (Some (Inside ps h os (append a b))) rest
 complete nothing k ps h os a rest = sym (ap (λ x. run k (Some (Inside ps h os x)) rest) (append-empty a))
 complete (leaf at l {b = b} {ts = ts} d) k ps h os a rest =
@@ -111,7 +111,7 @@ abbrev pub last_configuration : List Procedure → Option Procedure → Configur
 last_configuration procs None = Top procs
 last_configuration procs (Some main) = Behind procs main
 
-pub whole_runs : (k : Bool) (procs : List Procedure) (main : Option Procedure) (ts : List Terminal) → IsWhole k procs main ts
+pub whole_runs : (k : Bool) (procs : List Procedure) (main : Option Procedure) (ts : List Terminal) → SpellsParts k procs main ts
     → run k (Some (Top [])) ts ≡ Some (last_configuration procs main)
 whole_runs true procs None ts d = procs_complete true d
 whole_runs true procs (Some main) ts d = absurd d
@@ -123,7 +123,7 @@ some_none x e = cc
 
 -- a token without a shift begins no source behind the ones before it
 pub dies : (k : Bool) (before more : List Terminal) (s : Configuration) (t : Terminal) (procs : List Procedure) (main : Option Procedure)
-    → run k (Some (Top [])) before ≡ Some s → shift k s t ≡ None → IsWhole k procs main (before ++ t ∷ more) → ⊥
+    → run k (Some (Top [])) before ≡ Some s → shift k s t ≡ None → SpellsParts k procs main (before ++ t ∷ more) → ⊥
 dies k before more s t procs main so misfit whole =
     some_none (last_configuration procs main)
     (sym (whole_runs k procs main (before ++ t ∷ more) whole)

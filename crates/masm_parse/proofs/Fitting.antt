@@ -20,7 +20,7 @@ use Rattle.masm_tree.specs.Trees.{Body, Empty, Leaf_then, If_then, While_then, R
 use Rattle.masm_tree.proofs.TerminalLocals.{TerminalFits, SymbolFits, fits-symbol}
 use Rattle.masm_parse.specs.declared.refusal.ParseError.{ParseError}
 use Rattle.masm_parse.specs.declared.refusal.ParseError.TheVariants.{Bad}
-use Rattle.masm_parse.specs.Machine.{Open, In_if, In_else, In_while, In_repeat, Configuration, Top, Inside, Behind, Parse, start, reduce, closed, procedure, shift, settled, moved, at_of, step, ended, parse_from, parsed}
+use Rattle.masm_parse.specs.Machine.{OpenStatement, In_if, In_else, In_while, In_repeat, Configuration, Top, Inside, Behind, Parse, start, reduce, closed, procedure, shift, settled, moved, at_of, step, ended, parse_from, parsed}
 
 fits-append : (locals : ℕ) (b c : Body) → HasLocals locals b → HasLocals locals c → HasLocals locals (append b c)
 fits-append locals Empty c h k = k
@@ -29,13 +29,13 @@ fits-append locals (If_then at first second rest) c h k = (h.0, h.1, fits-append
 fits-append locals (While_then at body rest) c h k = (h.0, fits-append locals rest c h.1 k)
 fits-append locals (Repeat_then at times body rest) c h k = (h.0, fits-append locals rest c h.1 k)
 
-abbrev pub OpenFits : ℕ → Open → Type 0
+abbrev pub OpenFits : ℕ → OpenStatement → Type 0
 OpenFits locals (In_if at before) = HasLocals locals before
 OpenFits locals (In_else at before first) = HasLocals locals before × HasLocals locals first
 OpenFits locals (In_while at before) = HasLocals locals before
 OpenFits locals (In_repeat at times before) = HasLocals locals before
 
-fits-reduce : (locals : ℕ) (o : Open) (b : Body) → OpenFits locals o → HasLocals locals b → HasLocals locals (reduce o b)
+fits-reduce : (locals : ℕ) (o : OpenStatement) (b : Body) → OpenFits locals o → HasLocals locals b → HasLocals locals (reduce o b)
 fits-reduce locals (In_if at before) b h k = fits-append locals before (If_then at b Empty Empty) h (k, tt, tt)
 fits-reduce locals (In_else at before first) b h k = fits-append locals before (If_then at first b Empty) h.0 (h.1, k, tt)
 fits-reduce locals (In_while at before) b h k = fits-append locals before (While_then at b Empty) h (k, tt)

@@ -21,7 +21,7 @@ use Rattle.masm_tree.proofs.TerminalForms.{TerminalIsInForm, form-classified}
 use Rattle.masm_parse.specs.declared.refusal.ParseError.{ParseError}
 use Rattle.masm_parse.specs.declared.refusal.ParseError.TheVariants.{Bad}
 use Rattle.masm_parse.specs.Laws.{TreesAreInForm}
-use Rattle.masm_parse.specs.Machine.{Open, In_if, In_else, In_while, In_repeat, Configuration, Top, Inside, Behind, Parse, start, reduce, closed, procedure, shift, settled, moved, at_of, step, ended, parse_from, parsed}
+use Rattle.masm_parse.specs.Machine.{OpenStatement, In_if, In_else, In_while, In_repeat, Configuration, Top, Inside, Behind, Parse, start, reduce, closed, procedure, shift, settled, moved, at_of, step, ended, parse_from, parsed}
 use Rattle.masm_parse.proofs.Fitting.{same_tree}
 
 form-append : (b c : Body) → BodyIsInForm b → BodyIsInForm c → BodyIsInForm (append b c)
@@ -31,13 +31,13 @@ form-append (If_then at first second rest) c h k = (h.0, h.1, form-append rest c
 form-append (While_then at body rest) c h k = (h.0, form-append rest c h.1 k)
 form-append (Repeat_then at times body rest) c h k = (h.0, form-append rest c h.1 k)
 
-abbrev OpenIsInForm : Open → Type 0
+abbrev OpenIsInForm : OpenStatement → Type 0
 OpenIsInForm (In_if at before) = BodyIsInForm before
 OpenIsInForm (In_else at before first) = BodyIsInForm before × BodyIsInForm first
 OpenIsInForm (In_while at before) = BodyIsInForm before
 OpenIsInForm (In_repeat at times before) = BodyIsInForm before
 
-form-reduce : (o : Open) (b : Body) → OpenIsInForm o → BodyIsInForm b → BodyIsInForm (reduce o b)
+form-reduce : (o : OpenStatement) (b : Body) → OpenIsInForm o → BodyIsInForm b → BodyIsInForm (reduce o b)
 form-reduce (In_if at before) b h k = form-append before (If_then at b Empty Empty) h (k, tt, tt)
 form-reduce (In_else at before first) b h k = form-append before (If_then at first b Empty) h.0 (h.1, k, tt)
 form-reduce (In_while at before) b h k = form-append before (While_then at b Empty) h (k, tt)

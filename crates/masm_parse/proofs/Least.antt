@@ -18,9 +18,9 @@ use Rattle.masm_tree.specs.Causes.{order}
 use Rattle.masm_tree.specs.Classify.{Context, known_after, classify}
 use Rattle.masm_tree.specs.Trees.{Procedure, Source}
 use Rattle.masm_parse.specs.Machine.{Configuration, Top, Inside, Behind, Parse, shift, is_too_deep, advance, moved, step, at_of, ended, parse_from, start, parsed}
-use Rattle.masm_parse.specs.Grammar.{none, IsWhole, IsSource}
+use Rattle.masm_parse.specs.Grammar.{none, SpellsParts, IsSource}
 use Rattle.masm_tree.specs.Terminals.{constants}
-use Rattle.masm_parse.specs.Refusals.{symbols_of, terminals_of, source_symbols, Fits, IsTooDeep, Stands, RefusesAt, Parses, at_first, Answers, LeastRefusal, ParsesOnce}
+use Rattle.masm_parse.specs.Refusals.{symbols_of, terminals_of, source_symbols, FitsAfter, IsTooDeep, HasCause, RefusesToken, Parses, at_first, IsParseAnswer, LeastRefusal, ParsesOnce}
 use Rattle.masm_parse.proofs.Complete.{run, run-append, last_configuration, whole_runs, dies}
 use Rattle.masm_parse.proofs.Standing.{Standing, StandingIf, kept, Finishes, finish, finished_source, fits}
 use Rattle.masm_parse.proofs.Depth.{Counts, CountsIf, counts_kept, deep_stands, deep_found}
@@ -72,40 +72,40 @@ length_snoc : (before : List Symbol) (w : Symbol) → length (before ++ w ∷ []
 length_snoc before w = length-append before (w ∷ []) ∙ omega arith
 
 -- a refused token is one of the tokens
-past : (k : Bool) (ws : List Symbol) (i : ℕ) (c : Cause) → RefusesAt k ws i c → i < length ws
+past : (k : Bool) (ws : List Symbol) (i : ℕ) (c : Cause) → RefusesToken k ws i c → i < length ws
 past k ws i c x =
     let count : length ws ≡ length x.before + length (x.symbol ∷ x.more) = ap length x.split ∙ length-append x.before (x.symbol ∷ x.more) in
     omega (arith, count, x.place)
 
 -- a refusal at the place of a token is one of that token
 stands_here : (k : Bool) (ws before more : List Symbol) (w : Symbol) (i : ℕ) (c : Cause) → ws ≡ before ++ w ∷ more → i ≡ length before
-    → RefusesAt k ws i c → Stands k (terminals_of before) w c
+    → RefusesToken k ws i c → HasCause k (terminals_of before) w c
 stands_here k ws before more w i c split place x =
     let same : (x.before ≡ before) × (x.symbol ≡ w) =
     same_split x.before before x.symbol w x.more more (sym x.split ∙ split) (x.place ∙ place) in
-    subst (λ z. Stands k (terminals_of before) z c) same.1 (subst (λ z. Stands k (terminals_of z) x.symbol c) same.0 x.stands)
+    subst (λ z. HasCause k (terminals_of before) z c) same.1 (subst (λ z. HasCause k (terminals_of z) x.symbol c) same.0 x.stands)
 
 -- the last configuration of a source is the one that its tokens lead to
 is_last : (k : Bool) (s : Configuration) (procs : List Procedure) (main : Option Procedure) (ts : List Terminal) → run k (Some (Top [])) ts ≡ Some s
-    → IsWhole k procs main ts → s ≡ last_configuration procs main
+    → SpellsParts k procs main ts → s ≡ last_configuration procs main
 is_last k s procs main ts so whole = some_same s (last_configuration procs main) (sym so ∙ whole_runs k procs main ts whole)
 
 early_kernel : (s : Configuration) (procs : List Procedure) (main : Option Procedure) (ts : List Terminal) → ((ps : List Procedure) → s ≡ Top ps → ⊥)
-    → run true (Some (Top [])) ts ≡ Some s → IsWhole true procs main ts → ⊥
+    → run true (Some (Top [])) ts ≡ Some s → SpellsParts true procs main ts → ⊥
 early_kernel s procs None ts never so whole = never procs (is_last true s procs None ts so whole)
 early_kernel s procs (Some main) ts never so whole = whole
 
 early_program : (s : Configuration) (procs : List Procedure) (main : Option Procedure) (ts : List Terminal)
     → ((ps : List Procedure) (m : Procedure) → s ≡ Behind ps m → ⊥)
-    → run false (Some (Top [])) ts ≡ Some s → IsWhole false procs main ts → ⊥
+    → run false (Some (Top [])) ts ≡ Some s → SpellsParts false procs main ts → ⊥
 early_program s procs None ts never so whole = whole
 early_program s procs (Some main) ts never so whole = never procs main (is_last false s procs (Some main) ts so whole)
 
 -- the source ends early
 early : (k : Bool) (end : Cursor) (all : List Token) (before : List Symbol) (s : Configuration)
-    → ((procs : List Procedure) (main : Option Procedure) → IsWhole k procs main (terminals_of before) → ⊥)
-    → Standing k s (terminals_of before) → ((i : ℕ) (c : Cause) → RefusesAt k before i c → length before ≤ i) → drop (length before) all ≡ []
-    → Answers k end all before (Err (Bad end.line end.column causes.Syntax))
+    → ((procs : List Procedure) (main : Option Procedure) → SpellsParts k procs main (terminals_of before) → ⊥)
+    → Standing k s (terminals_of before) → ((i : ℕ) (c : Cause) → RefusesToken k before i c → length before ≤ i) → drop (length before) all ≡ []
+    → IsParseAnswer k end all before (Err (Bad end.line end.column causes.Syntax))
 early k end all before s never standing clear over =
     let finishes : Finishes k (terminals_of before) = finish k s (terminals_of before) standing in (
       length before,
@@ -128,8 +128,8 @@ early k end all before s never standing clear over =
 
 at_end : (k : Bool) (end : Cursor) (all : List Token) (before : List Symbol) (s : Configuration) (cs : List Const)
     → run k (Some (Top [])) (terminals_of before) ≡ Some s → Standing k s (terminals_of before) → constants (terminals_of before) ≡ cs
-    → ((i : ℕ) (c : Cause) → RefusesAt k before i c → length before ≤ i) → drop (length before) all ≡ []
-    → Answers k end all before (ended k end cs s)
+    → ((i : ℕ) (c : Cause) → RefusesToken k before i c → length before ≤ i) → drop (length before) all ≡ []
+    → IsParseAnswer k end all before (ended k end cs s)
 at_end true end all before (Top ps) cs so standing consts clear over =
     record {
       spelled = record { consts = sym consts; whole = standing };
@@ -157,10 +157,10 @@ at_end false end all before (Inside ps h os b) cs so standing consts clear over 
 settles : (k : Bool) (r : Parse) (before : List Terminal) (w : Symbol) → run k (Some (Top [])) before ≡ Some r.configuration
     → Standing k r.configuration before
     → Counts r.configuration before
-    → Settles w.fault (Fits k before w.terminal → ⊥) (IsTooDeep before w.terminal) (advance k r w.terminal) (moved k r w)
+    → Settles w.fault (FitsAfter k before w.terminal → ⊥) (IsTooDeep before w.terminal) (advance k r w.terminal) (moved k r w)
 unfolding moved
 settles k r before w so standing counts =
-    settle_least w.fault (is_too_deep r.configuration w.terminal) (advance k r w.terminal) (Fits k before w.terminal → ⊥)
+    settle_least w.fault (is_too_deep r.configuration w.terminal) (advance k r w.terminal) (FitsAfter k before w.terminal → ⊥)
     (IsTooDeep before w.terminal)
     (λ e f. dies k before f.more r.configuration w.terminal f.source.procs f.source.main so
     (mapped_none _ (shift k r.configuration w.terminal) e) f.spelled.whole)
@@ -174,9 +174,9 @@ settles k r before w so standing counts =
 
 -- no refusal stands before the next token
 still_clear : (k : Bool) (ws before more : List Symbol) (w : Symbol) → ws ≡ before ++ w ∷ more
-    → ((c : Cause) → Stands k (terminals_of before) w c → ⊥)
-    → ((i : ℕ) (c : Cause) → RefusesAt k ws i c → length before ≤ i)
-    → (i : ℕ) (c : Cause) → RefusesAt k ws i c → length (before ++ w ∷ []) ≤ i
+    → ((c : Cause) → HasCause k (terminals_of before) w c → ⊥)
+    → ((i : ℕ) (c : Cause) → RefusesToken k ws i c → length before ≤ i)
+    → (i : ℕ) (c : Cause) → RefusesToken k ws i c → length (before ++ w ∷ []) ≤ i
 still_clear k ws before more w split none_here clear i c x =
     elim (leb_tells (length before + 1) i) [
       | inl later ↦ omega (arith, length_snoc before w, later.1)
@@ -193,13 +193,13 @@ pub record Going (k : Bool) (source : List ℕ) (all : List Token) (ws : List Sy
   pub standing : Standing k r.configuration (terminals_of before)
   pub counts : Counts r.configuration (terminals_of before)
   pub consts : constants (terminals_of before) ≡ r.context.consts
-  pub clear : (i : ℕ) (c : Cause) → RefusesAt k ws i c → length before ≤ i
+  pub clear : (i : ℕ) (c : Cause) → RefusesToken k ws i c → length before ≤ i
   pub left : drop (length before) all ≡ ts
 
 further : (k : Bool) (source : List ℕ) (all : List Token) (ws : List Symbol) (t : Token) (ts : List Token) (before : List Symbol)
     (r : Parse) (w : Symbol) (s : Configuration)
     → w ≡ classify k r.context (at_of t) (text_of source t)
-    → Going k source all ws (t ∷ ts) before r → shift k r.configuration w.terminal ≡ Some s → ((c : Cause) → Stands k (terminals_of before) w c → ⊥)
+    → Going k source all ws (t ∷ ts) before r → shift k r.configuration w.terminal ≡ Some s → ((c : Cause) → HasCause k (terminals_of before) w c → ⊥)
     → Going k source all ws ts (before ++ w ∷ []) (record { context = known_after r.context w.terminal; configuration = s })
 further k source all ws t ts before r w s is g e none_here =
     let split : ws ≡ before ++ w ∷ symbols_of k source (known_after r.context w.terminal) ts =
@@ -225,13 +225,13 @@ further k source all ws t ts before r w s is g e none_here =
       left = ap (λ n. drop n all) (length_snoc before w) ∙ drop_next (length before) all t ts g.left;
     }
 
-abbrev pub Leads : Bool → List ℕ → List Token → List Symbol → Token → List Token → Result Parse Cause → Type 0
-Leads k source all ws t ts (Ok now) = Answers k (place_after source) all ws (parse_from k source now ts)
-Leads k source all ws t ts (Err cause) = Answers k (place_after source) all ws (Err (Bad t.line t.column cause))
+abbrev pub LeadsOn : Bool → List ℕ → List Token → List Symbol → Token → List Token → Result Parse Cause → Type 0
+LeadsOn k source all ws t ts (Ok now) = IsParseAnswer k (place_after source) all ws (parse_from k source now ts)
+LeadsOn k source all ws t ts (Err cause) = IsParseAnswer k (place_after source) all ws (Err (Bad t.line t.column cause))
 
 led : (k : Bool) (source : List ℕ) (all : List Token) (ws : List Symbol) (t : Token) (ts : List Token) (res : Result Parse Cause)
-    → Leads k source all ws t ts res
-    → Answers k (place_after source) all ws (elim res [ Ok now ↦ parse_from k source now ts | Err cause ↦ Err (Bad t.line t.column cause) ])
+    → LeadsOn k source all ws t ts res
+    → IsParseAnswer k (place_after source) all ws (elim res [ Ok now ↦ parse_from k source now ts | Err cause ↦ Err (Bad t.line t.column cause) ])
 led k source all ws t ts (Ok now) x = x
 led k source all ws t ts (Err cause) x = x
 
@@ -239,9 +239,9 @@ led k source all ws t ts (Err cause) x = x
 refused : (k : Bool) (source : List ℕ) (all : List Token) (ws : List Symbol) (t : Token) (ts : List Token) (before : List Symbol)
     (r : Parse) (w : Symbol) (cause : Cause)
     → w ≡ classify k r.context (at_of t) (text_of source t)
-    → Going k source all ws (t ∷ ts) before r → Stands k (terminals_of before) w cause
-    → ((c : Cause) → Stands k (terminals_of before) w c → order cause ≤ order c)
-    → Answers k (place_after source) all ws (Err (Bad t.line t.column cause))
+    → Going k source all ws (t ∷ ts) before r → HasCause k (terminals_of before) w cause
+    → ((c : Cause) → HasCause k (terminals_of before) w c → order cause ≤ order c)
+    → IsParseAnswer k (place_after source) all ws (Err (Bad t.line t.column cause))
 refused k source all ws t ts before r w cause is g stands least =
     let split : ws ≡ before ++ w ∷ symbols_of k source (known_after r.context w.terminal) ts =
     g.split ∙ ap (λ x. before ++ x ∷ symbols_of k source (known_after r.context x.terminal) ts) (sym is) in (
@@ -268,28 +268,28 @@ chosen : (k : Bool) (source : List ℕ) (all : List Token) (ws : List Symbol) (t
     (r : Parse) (w : Symbol)
     → w ≡ classify k r.context (at_of t) (text_of source t)
     → Going k source all ws (t ∷ ts) before r
-    → ((later : List Symbol) (now : Parse) → Going k source all ws ts later now → Answers k (place_after source) all ws (parse_from k source now ts))
+    → ((later : List Symbol) (now : Parse) → Going k source all ws ts later now → IsParseAnswer k (place_after source) all ws (parse_from k source now ts))
     → (res : Result Parse Cause)
-    → Settles w.fault (Fits k (terminals_of before) w.terminal → ⊥) (IsTooDeep (terminals_of before) w.terminal) (advance k r w.terminal) res
-    → Leads k source all ws t ts res
+    → Settles w.fault (FitsAfter k (terminals_of before) w.terminal → ⊥) (IsTooDeep (terminals_of before) w.terminal) (advance k r w.terminal) res
+    → LeadsOn k source all ws t ts res
 chosen k source all ws t ts before r w is g more (Ok now) (e, none_here) =
     let some : (s : Configuration) × (shift k r.configuration w.terminal ≡ Some s)
     × (record { context = known_after r.context w.terminal; configuration = s } ≡ now) = mapped_some _
     (shift k r.configuration w.terminal) now e in
-    subst (λ x. Answers k (place_after source) all ws (parse_from k source x ts)) some.2
+    subst (λ x. IsParseAnswer k (place_after source) all ws (parse_from k source x ts)) some.2
     (more (before ++ w ∷ []) (record { context = known_after r.context w.terminal; configuration = some.0 })
     (further k source all ws t ts before r w some.0 is g some.1 none_here))
 chosen k source all ws t ts before r w is g more (Err cause) (stands, least) =
     refused k source all ws t ts before r w cause is g stands least
 
 goes : (k : Bool) (source : List ℕ) (all : List Token) (ws : List Symbol) (ts : List Token) (before : List Symbol) (r : Parse)
-    → Going k source all ws ts before r → Answers k (place_after source) all ws (parse_from k source r ts)
+    → Going k source all ws ts before r → IsParseAnswer k (place_after source) all ws (parse_from k source r ts)
 unfolding step
 goes k source all ws [] before r g =
     let same : ws ≡ before = g.split ∙ append-nil before in
-    subst (λ x. Answers k (place_after source) all x (ended k (place_after source) r.context.consts r.configuration)) (sym same)
+    subst (λ x. IsParseAnswer k (place_after source) all x (ended k (place_after source) r.context.consts r.configuration)) (sym same)
     (at_end k (place_after source) all before r.configuration r.context.consts g.so g.standing g.consts
-    (subst (λ x. (i : ℕ) (c : Cause) → RefusesAt k x i c → length before ≤ i) same g.clear) g.left)
+    (subst (λ x. (i : ℕ) (c : Cause) → RefusesToken k x i c → length before ≤ i) same g.clear) g.left)
 goes k source all ws (t ∷ ts) before r g =
     led k source all ws t ts (step k source r t)
     (chosen k source all ws t ts before r (classify k r.context (at_of t) (text_of source t)) refl g
@@ -328,7 +328,7 @@ same_source k ts a b x y =
     λ i. record { consts = consts i; procs = parts.0 i; main = parts.1 i }
 
 once : (k : Bool) (end : Cursor) (all : List Token) (ws : List Symbol) (tree : Source) (res : Result Source ParseError)
-    → Answers k end all ws res → Parses k ws tree → res ≡ Ok tree
+    → IsParseAnswer k end all ws res → Parses k ws tree → res ≡ Ok tree
 once k end all ws tree (Ok other) a x = ap Ok (same_source k (terminals_of ws) other tree a.spelled x.spelled)
 once k end all ws tree (Err Memory) a x = absurd a
 once k end all ws tree (Err (Bad line column cause)) (i, least, place) x =

@@ -3,6 +3,7 @@ use Rattle.std.proofs.Common.{◌≡◌, ℕ, Bool, true, false, List, [], ◌�
 use Rattle.std.proofs.lemmas.List.{map-append}
 use Rattle.std.specs.List.{AllByRecursion}
 use Rattle.std.specs.Option.{option_map}
+use Rattle.answers.specs.Gives.{Gives}
 use Rattle.masm_lex.specs.declared.cursor.Cursor.{Cursor}
 use Rattle.masm_lex.specs.declared.list.Token.{Token}
 use Rattle.masm_lex.specs.Tokens.{place_after, text_of, lexed}
@@ -18,10 +19,10 @@ use Rattle.masm_tree.specs.declared.tree.Position.{Position}
 use Rattle.masm_tree.specs.declared.tree.Ast.{Ast}
 use Rattle.masm_tree.specs.Terminals.{constants, const_positions, terminal_positions}
 use Rattle.masm_parse.specs.Machine.{Configuration, Top, Inside, Behind, Parse, start, shift, settled, moved, at_of, step, ended, parse_from, parsed}
-use Rattle.masm_parse.specs.Order.{IsBefore, body_positions, position_of, procedure_positions, main_positions, IsInOrder, TreesAreInOrder, ProceduresAscend}
-use Rattle.masm_tree.specs.Trees.{Procedure, Source}
+use Rattle.masm_parse.specs.Order.{StandsBefore, body_positions, procedure_positions, main_positions, IsInOrder, TreesAreInOrder, ProceduresAscend}
+use Rattle.masm_tree.specs.Trees.{Procedure, Source, position_of}
 use Rattle.masm_tree.specs.Views.{source_of}
-use Rattle.masm_parse.specs.Views.{Gives}
+use Rattle.masm_parse.specs.Views.{refusal_in}
 use Rattle.masm_tree.specs.Classify.{Context, known_after, classify}
 use Rattle.masm_parse.proofs.Fitting.{same_tree}
 use Rattle.masm_parse.proofs.Positions.{procs_positions, configuration_positions, HasPositions, positions_shifted}
@@ -32,24 +33,24 @@ each_less : (P : Position → Type 0) (xs ys : List Position) (y : Position) →
 each_less P [] ys y h = h.1
 each_less P (x ∷ xs) ys y h = (h.0, each_less P xs ys y h.1)
 
-ascends_less : (xs ys : List Position) (y : Position) → Ascends IsBefore (xs ++ y ∷ ys) → Ascends IsBefore (xs ++ ys)
+ascends_less : (xs ys : List Position) (y : Position) → Ascends StandsBefore (xs ++ y ∷ ys) → Ascends StandsBefore (xs ++ ys)
 ascends_less [] ys y h = h.1
-ascends_less (x ∷ xs) ys y h = (each_less (IsBefore x) xs ys y h.0, ascends_less xs ys y h.1)
+ascends_less (x ∷ xs) ys y h = (each_less (StandsBefore x) xs ys y h.0, ascends_less xs ys y h.1)
 
 -- the places so far, and what a token adds to them
-goes_on : (xs ps ys : List Position) (at : Position) → AreAt at ps → Ascends IsBefore (xs ++ at ∷ ys) → Ascends IsBefore ((xs ++ ps) ++ ys)
+goes_on : (xs ps ys : List Position) (at : Position) → AreAt at ps → Ascends StandsBefore (xs ++ at ∷ ys) → Ascends StandsBefore ((xs ++ ps) ++ ys)
 goes_on xs ps ys at (inl none) h =
-    subst (λ zs. Ascends IsBefore (zs ++ ys)) (sym (ap (λ qs. xs ++ qs) none ∙ append-nil xs)) (ascends_less xs ys at h)
+    subst (λ zs. Ascends StandsBefore (zs ++ ys)) (sym (ap (λ qs. xs ++ qs) none ∙ append-nil xs)) (ascends_less xs ys at h)
 goes_on xs ps ys at (inr one) h =
-    subst (Ascends IsBefore) (sym (ap (λ qs. (xs ++ qs) ++ ys) one ∙ append_assoc xs (at ∷ []) ys)) h
+    subst (Ascends StandsBefore) (sym (ap (λ qs. (xs ++ qs) ++ ys) one ∙ append_assoc xs (at ∷ []) ys)) h
 
 abbrev pub positions_of : List Token → List Position
 positions_of tokens = map at_of tokens
 
 -- what the parser holds, and the tokens that are left
 pub record Going (r : Parse) (tokens : List Token) : Type 0 where
-  pub consts : Ascends IsBefore (const_positions r.context.consts ++ positions_of tokens)
-  pub procs : Ascends IsBefore (configuration_positions r.configuration ++ positions_of tokens)
+  pub consts : Ascends StandsBefore (const_positions r.context.consts ++ positions_of tokens)
+  pub procs : Ascends StandsBefore (configuration_positions r.configuration ++ positions_of tokens)
 
 const_positions_after : (context : Context) (terminal : Terminal)
     → const_positions (known_after context terminal).consts ≡ const_positions context.consts ++ const_positions (constants (terminal ∷ []))
@@ -70,11 +71,11 @@ advanced : (r : Parse) (token : Token) (tokens : List Token) (terminal : Termina
 advanced r token tokens terminal None at places h = tt
 advanced r token tokens terminal (Some s) at places h = record {
   consts =
-      subst (λ zs. Ascends IsBefore (zs ++ positions_of tokens)) (sym (const_positions_after r.context terminal))
+      subst (λ zs. Ascends StandsBefore (zs ++ positions_of tokens)) (sym (const_positions_after r.context terminal))
       (goes_on (const_positions r.context.consts) (const_positions (constants (terminal ∷ []))) (positions_of tokens) (at_of token)
       at.consts h.consts);
   procs =
-      subst (λ zs. Ascends IsBefore (zs ++ positions_of tokens)) (sym places)
+      subst (λ zs. Ascends StandsBefore (zs ++ positions_of tokens)) (sym places)
       (goes_on (configuration_positions r.configuration) (terminal_positions terminal) (positions_of tokens) (at_of token) at.procs h.procs);
 }
 
@@ -106,11 +107,11 @@ ordered_end : (kernel : Bool) (context : Context) (configuration : Configuration
     → ended kernel end context.consts configuration ≡ Ok source → IsInOrder source
 ordered_end true context (Top procs) end source h e =
     subst IsInOrder (same_tree _ source e)
-    (record { consts = subst (Ascends IsBefore) (append-nil (const_positions context.consts)) h.consts; procs = h.procs })
+    (record { consts = subst (Ascends StandsBefore) (append-nil (const_positions context.consts)) h.consts; procs = h.procs })
 ordered_end false context (Behind procs main) end source h e =
     subst IsInOrder (same_tree _ source e) (record {
-      consts = subst (Ascends IsBefore) (append-nil (const_positions context.consts)) h.consts;
-      procs = subst (Ascends IsBefore) (append-nil (procs_positions procs ++ procedure_positions main)) h.procs;
+      consts = subst (Ascends StandsBefore) (append-nil (const_positions context.consts)) h.consts;
+      procs = subst (Ascends StandsBefore) (append-nil (procs_positions procs ++ procedure_positions main)) h.procs;
     })
 ordered_end true context (Inside procs header opens body) end source h e = cc
 ordered_end true context (Behind procs main) end source h e = cc
@@ -134,22 +135,22 @@ ordered kernel text r (token ∷ tokens) source h e =
 
 -- the places of tokens ascend
 each_position : (token : Token) (tokens : List Token) → AllByRecursion (Precedes token) tokens
-    → AllByRecursion (IsBefore (at_of token)) (positions_of tokens)
+    → AllByRecursion (StandsBefore (at_of token)) (positions_of tokens)
 each_position token [] h = tt
 each_position token (t ∷ tokens) h = (h.0.place, each_position token tokens h.1)
 
-positions_ascend : (tokens : List Token) → Ascends Precedes tokens → Ascends IsBefore (positions_of tokens)
+positions_ascend : (tokens : List Token) → Ascends Precedes tokens → Ascends StandsBefore (positions_of tokens)
 positions_ascend [] h = tt
 positions_ascend (token ∷ tokens) h = (each_position token tokens h.0, positions_ascend tokens h.1)
 
 pub trees_are_in_order : TreesAreInOrder
 unfolding parsed
 trees_are_in_order kernel text tokens source read is =
-    let ascend : Ascends IsBefore (positions_of tokens) = positions_ascend tokens (tokens_ascend text tokens read) in
+    let ascend : Ascends StandsBefore (positions_of tokens) = positions_ascend tokens (tokens_ascend text tokens read) in
     ordered kernel text start tokens source (record { consts = ascend; procs = ascend }) is
 
 pub given_in_order : (kernel : Bool) (text : List ℕ) (tokens : List Token) (answer : Result Ast ParseError) → lexed text ≡ Ok tokens
-    → Gives answer (parsed kernel text tokens) → IfOk answer (λ ast. IsInOrder (source_of ast))
+    → Gives source_of refusal_in answer (parsed kernel text tokens) → IfOk answer (λ ast. IsInOrder (source_of ast))
 given_in_order kernel text tokens (Ok ast) read is = trees_are_in_order kernel text tokens (source_of ast) read is
 given_in_order kernel text tokens (Err error) read is = tt
 
@@ -158,7 +159,7 @@ each_behind : (P : Position → Type 0) (xs ys : List Position) → AllByRecursi
 each_behind P [] ys h = h
 each_behind P (x ∷ xs) ys h = each_behind P xs ys h.1
 
-ascends_behind : (xs ys : List Position) → Ascends IsBefore (xs ++ ys) → Ascends IsBefore ys
+ascends_behind : (xs ys : List Position) → Ascends StandsBefore (xs ++ ys) → Ascends StandsBefore ys
 ascends_behind [] ys h = h
 ascends_behind (x ∷ xs) ys h = ascends_behind xs ys h.1
 
@@ -167,9 +168,9 @@ each_before : (P : Position → Type 0) (xs ys : List Position) → AllByRecursi
 each_before P [] ys h = tt
 each_before P (x ∷ xs) ys h = (h.0, each_before P xs ys h.1)
 
-ascends_before : (xs ys : List Position) → Ascends IsBefore (xs ++ ys) → Ascends IsBefore xs
+ascends_before : (xs ys : List Position) → Ascends StandsBefore (xs ++ ys) → Ascends StandsBefore xs
 ascends_before [] ys h = tt
-ascends_before (x ∷ xs) ys h = (each_before (IsBefore x) xs ys h.0, ascends_before xs ys h.1)
+ascends_before (x ∷ xs) ys h = (each_before (StandsBefore x) xs ys h.0, ascends_before xs ys h.1)
 
 -- the places of procedures without those of their statements
 each_procedure : (P : Position → Type 0) (procs : List Procedure) → AllByRecursion P (procs_positions procs)
@@ -177,10 +178,10 @@ each_procedure : (P : Position → Type 0) (procs : List Procedure) → AllByRec
 each_procedure P [] h = tt
 each_procedure P (p ∷ procs) h = (h.0, each_procedure P procs (each_behind P (body_positions p.body) (procs_positions procs) h.1))
 
-procedures_ascend_in : (procs : List Procedure) → Ascends IsBefore (procs_positions procs) → Ascends IsBefore (map position_of procs)
+procedures_ascend_in : (procs : List Procedure) → Ascends StandsBefore (procs_positions procs) → Ascends StandsBefore (map position_of procs)
 procedures_ascend_in [] h = tt
 procedures_ascend_in (p ∷ procs) h = (
-  each_procedure (IsBefore (position_of p)) procs (each_behind (IsBefore (position_of p)) (body_positions p.body) (procs_positions procs) h.0),
+  each_procedure (StandsBefore (position_of p)) procs (each_behind (StandsBefore (position_of p)) (body_positions p.body) (procs_positions procs) h.0),
   procedures_ascend_in procs (ascends_behind (body_positions p.body) (procs_positions procs) h.1),
 )
 

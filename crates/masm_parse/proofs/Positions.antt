@@ -8,18 +8,18 @@ use Rattle.masm_tree.specs.declared.terminal.Header.{Header}
 use Rattle.masm_tree.specs.declared.terminal.Terminal.{Terminal}
 use Rattle.masm_tree.specs.declared.terminal.Terminal.TheVariants as terminals
 use Rattle.masm_tree.specs.Trees.{Body, Empty, Leaf_then, If_then, While_then, Repeat_then, Procedure, append}
-use Rattle.masm_parse.specs.Machine.{Open, In_if, In_else, In_while, In_repeat, Configuration, Top, Inside, Behind, procedure, reduce, closed, shift}
+use Rattle.masm_parse.specs.Machine.{OpenStatement, In_if, In_else, In_while, In_repeat, Configuration, Top, Inside, Behind, procedure, reduce, closed, shift}
 use Rattle.masm_tree.specs.Terminals.{may_begin, terminal_positions}
 use Rattle.masm_parse.specs.Order.{body_positions, procedure_positions}
 
-abbrev pub open_positions : Open → List Position
+abbrev pub open_positions : OpenStatement → List Position
 open_positions (In_if at before) = body_positions before ++ at ∷ []
 open_positions (In_else at before first) = body_positions before ++ at ∷ body_positions first
 open_positions (In_while at before) = body_positions before ++ at ∷ []
 open_positions (In_repeat at times before) = body_positions before ++ at ∷ []
 
 -- those of all open statements, of which the innermost is the first
-abbrev pub opens_positions : List Open → List Position
+abbrev pub opens_positions : List OpenStatement → List Position
 opens_positions [] = []
 opens_positions (o ∷ opens) = opens_positions opens ++ open_positions o
 
@@ -45,7 +45,7 @@ positions_append (Repeat_then at times body rest) c =
     ap (λ ps. at ∷ (body_positions body ++ ps)) (positions_append rest c)
     ∙ ap (λ ps. at ∷ ps) (sym (append_assoc (body_positions body) (body_positions rest) (body_positions c)))
 
-positions_reduced : (o : Open) (b : Body) → body_positions (reduce o b) ≡ open_positions o ++ body_positions b
+positions_reduced : (o : OpenStatement) (b : Body) → body_positions (reduce o b) ≡ open_positions o ++ body_positions b
 positions_reduced (In_if at before) b = positions_append before (If_then at b Empty Empty) ∙ simp (append_assoc, append-nil)
 positions_reduced (In_else at before first) b = positions_append before (If_then at first b Empty) ∙ simp (append_assoc, append-nil)
 positions_reduced (In_while at before) b = positions_append before (While_then at b Empty) ∙ simp (append_assoc, append-nil)

@@ -7,51 +7,51 @@ use Rattle.masm_tree.specs.declared.terminal.Header.{Header}
 use Rattle.masm_tree.specs.declared.terminal.Terminal.{Terminal}
 use Rattle.masm_tree.specs.declared.terminal.Terminal.TheVariants as terminals
 use Rattle.masm_tree.specs.Trees.{Body, Empty, Leaf_then, If_then, While_then, Repeat_then, Procedure, append}
-use Rattle.masm_parse.specs.Machine.{Open, In_if, In_else, In_while, In_repeat, Configuration, Top, Inside, Behind, procedure, reduce, closed, shift}
+use Rattle.masm_parse.specs.Machine.{OpenStatement, In_if, In_else, In_while, In_repeat, Configuration, Top, Inside, Behind, procedure, reduce, closed, shift}
 use Rattle.masm_tree.specs.Terminals.{may_begin, constants}
-use Rattle.masm_parse.specs.Grammar.{Spells, nothing, leaf, if_only, if_else, while, repeated, is_item, SpellsProcs, constant, item, SpellsMain, IsWhole, IsSource}
-use Rattle.masm_parse.specs.Refusals.{Fits}
+use Rattle.masm_parse.specs.Grammar.{Spells, nothing, leaf, if_only, if_else, while, repeated, is_item, SpellsProcs, constant, item, SpellsMain, SpellsParts, IsSource}
+use Rattle.masm_parse.specs.Refusals.{FitsAfter}
 use Rattle.masm_parse.proofs.Complete.{spells_append}
 
 -- the tokens of an open statement, from its first on
-pub data Part : Open → Body → List Terminal → Type 0 where
-  part_if : (at : Position) (before : Body) {b : Body} {us : List Terminal} → Spells b us → Part (In_if at before) b (terminals.If at ∷ us)
+pub data OpenPart : OpenStatement → Body → List Terminal → Type 0 where
+  part_if : (at : Position) (before : Body) {b : Body} {us : List Terminal} → Spells b us → OpenPart (In_if at before) b (terminals.If at ∷ us)
   part_else : (at : Position) (before : Body) {first b : Body} {us vs : List Terminal} → Spells first us → Spells b vs
-      → Part (In_else at before first) b (terminals.If at ∷ (us ++ terminals.Else ∷ vs))
-  part_while : (at : Position) (before : Body) {b : Body} {us : List Terminal} → Spells b us → Part (In_while at before) b (terminals.While at ∷ us)
+      → OpenPart (In_else at before first) b (terminals.If at ∷ (us ++ terminals.Else ∷ vs))
+  part_while : (at : Position) (before : Body) {b : Body} {us : List Terminal} → Spells b us → OpenPart (In_while at before) b (terminals.While at ∷ us)
   part_repeat : (at : Position) (n : ℕ) (before : Body) {b : Body} {us : List Terminal} → Spells b us
-      → Part (In_repeat at n before) b (terminals.Repeat at n ∷ us)
+      → OpenPart (In_repeat at n before) b (terminals.Repeat at n ∷ us)
 
 -- the statements before an open one
-abbrev pub before_of : Open → Body
+abbrev pub before_of : OpenStatement → Body
 before_of (In_if at before) = before
 before_of (In_else at before first) = before
 before_of (In_while at before) = before
 before_of (In_repeat at n before) = before
 
 -- the open one with its last body
-abbrev pub last_of : Open → Body → Body
+abbrev pub last_of : OpenStatement → Body → Body
 last_of (In_if at before) b = If_then at b Empty Empty
 last_of (In_else at before first) b = If_then at first b Empty
 last_of (In_while at before) b = While_then at b Empty
 last_of (In_repeat at n before) b = Repeat_then at n b Empty
 
-reduce_is : (o : Open) (b : Body) → append (before_of o) (last_of o b) ≡ reduce o b
+reduce_is : (o : OpenStatement) (b : Body) → append (before_of o) (last_of o b) ≡ reduce o b
 reduce_is (In_if at before) b = refl
 reduce_is (In_else at before first) b = refl
 reduce_is (In_while at before) b = refl
 reduce_is (In_repeat at n before) b = refl
 
-extend_part : {o : Open} {b : Body} {us : List Terminal} → Part o b us → (c : Body) (vs : List Terminal) → Spells c vs
-    → Part o (append b c) (us ++ vs)
+extend_part : {o : OpenStatement} {b : Body} {us : List Terminal} → OpenPart o b us → (c : Body) (vs : List Terminal) → Spells c vs
+    → OpenPart o (append b c) (us ++ vs)
 extend_part (part_if at before d) c vs e = part_if at before (spells_append d c vs e)
 extend_part (part_else at before {first = first} {b = b} {us = us} {vs = ws} f d) c vs e =
-    subst (λ z. Part (In_else at before first) (append b c) (terminals.If at ∷ z)) (sym (append_assoc us (terminals.Else ∷ ws) vs))
+    subst (λ z. OpenPart (In_else at before first) (append b c) (terminals.If at ∷ z)) (sym (append_assoc us (terminals.Else ∷ ws) vs))
     (part_else at before {first = first} {b = append b c} {us = us} {vs = ws ++ vs} f (spells_append d c vs e))
 extend_part (part_while at before d) c vs e = part_while at before (spells_append d c vs e)
 extend_part (part_repeat at n before d) c vs e = part_repeat at n before (spells_append d c vs e)
 
-close_part : {o : Open} {b : Body} {us : List Terminal} → Part o b us → Spells (last_of o b) (us ++ terminals.End ∷ [])
+close_part : {o : OpenStatement} {b : Body} {us : List Terminal} → OpenPart o b us → Spells (last_of o b) (us ++ terminals.End ∷ [])
 close_part (part_if at before d) = if_only at d nothing
 close_part (part_else at before {first = first} {b = b} {us = us} {vs = vs} f d) =
     subst (λ z. Spells (If_then at first b Empty) (terminals.If at ∷ z)) (sym (append_assoc us (terminals.Else ∷ vs) (terminals.End ∷ [])))
@@ -59,22 +59,22 @@ close_part (part_else at before {first = first} {b = b} {us = us} {vs = vs} f d)
 close_part (part_while at before d) = while at d nothing
 close_part (part_repeat at n before d) = repeated at n d nothing
 
-else_part : {at : Position} {before b : Body} {us : List Terminal} → Part (In_if at before) b us
-    → Part (In_else at before b) Empty (us ++ terminals.Else ∷ [])
+else_part : {at : Position} {before b : Body} {us : List Terminal} → OpenPart (In_if at before) b us
+    → OpenPart (In_else at before b) Empty (us ++ terminals.Else ∷ [])
 else_part (part_if at before d) = part_else at before d nothing
 
 -- the tokens of a body, with statements open in it
-abbrev pub Holds : List Open → Body → List Terminal → Type 0
+abbrev pub Holds : List OpenStatement → Body → List Terminal → Type 0
 Holds [] b ts = Spells b ts
-Holds (o ∷ os) b ts = (f : List Terminal) × (us : List Terminal) × (ts ≡ f ++ us) × Holds os (before_of o) f × Part o b us
+Holds (o ∷ os) b ts = (f : List Terminal) × (us : List Terminal) × (ts ≡ f ++ us) × Holds os (before_of o) f × OpenPart o b us
 
-extend : (os : List Open) (b : Body) (ts : List Terminal) → Holds os b ts → (c : Body) (vs : List Terminal) → Spells c vs
+extend : (os : List OpenStatement) (b : Body) (ts : List Terminal) → Holds os b ts → (c : Body) (vs : List Terminal) → Spells c vs
     → Holds os (append b c) (ts ++ vs)
 extend [] b ts h c vs d = spells_append h c vs d
 extend (o ∷ os) b ts (f, us, e, h, p) c vs d =
     (f, us ++ vs, ap (λ x. x ++ vs) e ∙ append_assoc f us vs, h, extend_part p c vs d)
 
-reduce_holds : (o : Open) (os : List Open) (b : Body) (ts : List Terminal) → Holds (o ∷ os) b ts
+reduce_holds : (o : OpenStatement) (os : List OpenStatement) (b : Body) (ts : List Terminal) → Holds (o ∷ os) b ts
     → Holds os (reduce o b) (ts ++ terminals.End ∷ [])
 reduce_holds o os b ts (f, us, e, h, p) =
     subst (λ x. Holds os x (ts ++ terminals.End ∷ [])) (reduce_is o b)
@@ -82,7 +82,7 @@ reduce_holds o os b ts (f, us, e, h, p) =
     (sym (ap (λ x. x ++ terminals.End ∷ []) e ∙ append_assoc f us (terminals.End ∷ [])))
     (extend os (before_of o) f h (last_of o b) (us ++ terminals.End ∷ []) (close_part p)))
 
-else_holds : (at : Position) (before : Body) (os : List Open) (b : Body) (ts : List Terminal) → Holds (In_if at before ∷ os) b ts
+else_holds : (at : Position) (before : Body) (os : List OpenStatement) (b : Body) (ts : List Terminal) → Holds (In_if at before ∷ os) b ts
     → Holds (In_else at before b ∷ os) Empty (ts ++ terminals.Else ∷ [])
 else_holds at before os b ts (f, us, e, h, p) =
     (f, us ++ terminals.Else ∷ [], ap (λ x. x ++ terminals.Else ∷ []) e ∙ append_assoc f us (terminals.Else ∷ []), h, else_part p)
@@ -177,7 +177,7 @@ kept k s t ts d = tt
 
 -- the tokens with some more are a source
 abbrev pub Finishes : Bool → List Terminal → Type 0
-Finishes k ts = (procs : List Procedure) × (main : Option Procedure) × (more : List Terminal) × IsWhole k procs main (ts ++ more)
+Finishes k ts = (procs : List Procedure) × (main : Option Procedure) × (more : List Terminal) × SpellsParts k procs main (ts ++ more)
 
 finish_top : (k : Bool) (ps : List Procedure) (ts : List Terminal) → SpellsProcs k ps ts → Finishes k ts
 finish_top true ps ts d = (ps, None, [], subst (λ x. SpellsProcs true ps x) (sym (append-nil ts)) d)
@@ -210,9 +210,9 @@ finish_closed k roles.Main ps p ts d = finish_behind k ps p ts d.0 d.1
 
 one_more : (k : Bool) (t : Terminal) (ts : List Terminal) → Finishes k (ts ++ t ∷ []) → Finishes k ts
 one_more k t ts (procs, main, more, whole) =
-    (procs, main, t ∷ more, subst (λ x. IsWhole k procs main x) (append_assoc ts (t ∷ []) more) whole)
+    (procs, main, t ∷ more, subst (λ x. SpellsParts k procs main x) (append_assoc ts (t ∷ []) more) whole)
 
-finish_inside : (k : Bool) (ps : List Procedure) (h : Header) (os : List Open) (b : Body) (ts : List Terminal)
+finish_inside : (k : Bool) (ps : List Procedure) (h : Header) (os : List OpenStatement) (b : Body) (ts : List Terminal)
     → Standing k (Inside ps h os b) ts → Finishes k ts
 finish_inside k ps h [] b ts d =
     one_more k terminals.End ts
@@ -231,10 +231,10 @@ pub finished_source : (k : Bool) (ts : List Terminal) (x : Finishes k ts)
     → IsSource k (record { consts = constants (ts ++ x.2); procs = x.0; main = x.1 }) (ts ++ x.2)
 finished_source k ts x = record { consts = refl; whole = x.3 }
 
-pub fits : (k : Bool) (t : Terminal) (ts : List Terminal) → Finishes k (ts ++ t ∷ []) → Fits k ts t
+pub fits : (k : Bool) (t : Terminal) (ts : List Terminal) → Finishes k (ts ++ t ∷ []) → FitsAfter k ts t
 fits k t ts (procs, main, more, whole) =
     record {
       source = record { consts = constants (ts ++ t ∷ more); procs = procs; main = main };
       more = more;
-      spelled = record { consts = refl; whole = subst (λ x. IsWhole k procs main x) (append_assoc ts (t ∷ []) more) whole };
+      spelled = record { consts = refl; whole = subst (λ x. SpellsParts k procs main x) (append_assoc ts (t ∷ []) more) whole };
     }

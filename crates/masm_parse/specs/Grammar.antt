@@ -53,13 +53,13 @@ pub record SpellsMain (procs : List Procedure) (main : Procedure) (ts : List Ter
   pub whole : ts ≡ front ++ terminals.Header header ∷ (inner ++ terminals.End ∷ [])
 
 -- procedures alone in a kernel; procedures and begin in a program
-abbrev pub IsWhole : Bool → List Procedure → Option Procedure → List Terminal → Type 0
-IsWhole true procs None ts = SpellsProcs true procs ts
-IsWhole true procs (Some main) ts = ⊥
-IsWhole false procs None ts = ⊥
-IsWhole false procs (Some main) ts = SpellsMain procs main ts
+abbrev pub SpellsParts : Bool → List Procedure → Option Procedure → List Terminal → Type 0
+SpellsParts true procs None ts = SpellsProcs true procs ts
+SpellsParts true procs (Some main) ts = ⊥
+SpellsParts false procs None ts = ⊥
+SpellsParts false procs (Some main) ts = SpellsMain procs main ts
 
 -- these tokens spell this source, a kernel or a program
 pub record IsSource (kernel : Bool) (source : Source) (ts : List Terminal) : Type 0 where
   pub consts : source.consts ≡ constants ts
-  pub whole : IsWhole kernel source.procs source.main ts
+  pub whole : SpellsParts kernel source.procs source.main ts

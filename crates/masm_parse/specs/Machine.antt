@@ -22,17 +22,17 @@ use Rattle.masm_tree.specs.Terminals.{may_begin, is_opening}
 use Rattle.masm_tree.specs.Trees.{Body, Empty, Leaf_then, If_then, While_then, Repeat_then, Procedure, Source, append}
 
 -- a statement that is open: the statements before it, and for an else its first body
-pub data Open : Type 0 where
-  In_if : (at : Position) (before : Body) → Open
-  In_else : (at : Position) (before first : Body) → Open
-  In_while : (at : Position) (before : Body) → Open
-  In_repeat : (at : Position) (times : ℕ) (before : Body) → Open
+pub data OpenStatement : Type 0 where
+  In_if : (at : Position) (before : Body) → OpenStatement
+  In_else : (at : Position) (before first : Body) → OpenStatement
+  In_while : (at : Position) (before : Body) → OpenStatement
+  In_repeat : (at : Position) (times : ℕ) (before : Body) → OpenStatement
 
 -- What the machine holds: the procedures so far; the header of an open one, what is open in it, the innermost first, and
 -- the statements of the innermost body; the body of begin where that has ended.
 pub data Configuration : Type 0 where
   Top : (procs : List Procedure) → Configuration
-  Inside : (procs : List Procedure) (header : Header) (opens : List Open) (body : Body) → Configuration
+  Inside : (procs : List Procedure) (header : Header) (opens : List OpenStatement) (body : Body) → Configuration
   Behind : (procs : List Procedure) (main : Procedure) → Configuration
 
 abbrev pub is_export : Role → Bool
@@ -52,7 +52,7 @@ procedure header body =
     }
 
 -- the statements behind the end of what was open
-abbrev pub reduce : Open → Body → Body
+abbrev pub reduce : OpenStatement → Body → Body
 reduce (In_if at before) body = append before (If_then at body Empty Empty)
 reduce (In_else at before first) body = append before (If_then at first body Empty)
 reduce (In_while at before) body = append before (While_then at body Empty)
@@ -65,18 +65,18 @@ closed procs roles.Export done = Top (procs ++ done ∷ [])
 closed procs roles.Main done = Behind procs done
 
 -- a token inside a procedure
-abbrev pub shift_else : List Procedure → Header → List Open → Body → Option Configuration
+abbrev pub shift_else : List Procedure → Header → List OpenStatement → Body → Option Configuration
 shift_else procs header (In_if at before ∷ opens) body = Some (Inside procs header (In_else at before body ∷ opens) Empty)
 shift_else procs header [] body = None
 shift_else procs header (In_else at before first ∷ opens) body = None
 shift_else procs header (In_while at before ∷ opens) body = None
 shift_else procs header (In_repeat at times before ∷ opens) body = None
 
-abbrev pub shift_end : List Procedure → Header → List Open → Body → Option Configuration
+abbrev pub shift_end : List Procedure → Header → List OpenStatement → Body → Option Configuration
 shift_end procs header [] body = Some (closed procs header.role (procedure header body))
 shift_end procs header (o ∷ opens) body = Some (Inside procs header opens (reduce o body))
 
-abbrev pub shift_inside : List Procedure → Header → List Open → Body → Terminal → Option Configuration
+abbrev pub shift_inside : List Procedure → Header → List OpenStatement → Body → Terminal → Option Configuration
 shift_inside procs header opens body (terminals.Const c) = None
 shift_inside procs header opens body (terminals.Header other) = None
 shift_inside procs header opens body (terminals.Leaf at leaf) = Some (Inside procs header opens (append body (Leaf_then at leaf Empty)))

@@ -3,14 +3,14 @@ use Rattle.std.specs.Prelude.{◌≡◌, ℕ, Bool, List, [], ◌∷◌, ◌++�
 use Rattle.std.specs.List.{flat_map}
 use Rattle.masm_lex.specs.declared.list.Token.{Token}
 use Rattle.masm_lex.specs.Tokens.{lexed}
-use Rattle.masm_lex.specs.Order.{Ascends, IsEarlier}
+use Rattle.masm_lex.specs.Order.{Ascends, IsPlaceBefore}
 use Rattle.masm_tree.specs.declared.tree.Position.{Position}
 use Rattle.masm_parse.specs.Machine.{parsed}
 use Rattle.masm_tree.specs.Terminals.{const_positions}
-use Rattle.masm_tree.specs.Trees.{Body, Empty, Leaf_then, If_then, While_then, Repeat_then, Procedure, Source}
+use Rattle.masm_tree.specs.Trees.{Body, Empty, Leaf_then, If_then, While_then, Repeat_then, Procedure, Source, position_of}
 
-abbrev pub IsBefore : Position → Position → Type 0
-IsBefore place other = IsEarlier place.line place.column other.line other.column
+abbrev pub StandsBefore : Position → Position → Type 0
+StandsBefore place other = IsPlaceBefore place.line place.column other.line other.column
 
 -- the places of a body's statements, each in front of those inside it
 abbrev pub body_positions : Body → List Position
@@ -19,9 +19,6 @@ body_positions (Leaf_then at leaf rest) = at ∷ body_positions rest
 body_positions (If_then at first second rest) = at ∷ (body_positions first ++ (body_positions second ++ body_positions rest))
 body_positions (While_then at body rest) = at ∷ (body_positions body ++ body_positions rest)
 body_positions (Repeat_then at times body rest) = at ∷ (body_positions body ++ body_positions rest)
-
-abbrev pub position_of : Procedure → Position
-position_of p = record { line = p.line; column = p.column }
 
 -- the place of a procedure, and those of its statements
 abbrev pub procedure_positions : Procedure → List Position
@@ -37,8 +34,8 @@ source_positions source = flat_map procedure_positions source.procs ++ main_posi
 -- The constants of a tree stand in it in the order of its source, and so do its procedures, with begin behind them, and
 -- all their statements.
 pub record IsInOrder (source : Source) : Type 0 where
-  pub consts : Ascends IsBefore (const_positions source.consts)
-  pub procs : Ascends IsBefore (source_positions source)
+  pub consts : Ascends StandsBefore (const_positions source.consts)
+  pub procs : Ascends StandsBefore (source_positions source)
 
 -- each tree is in the order of its source
 abbrev pub TreesAreInOrder : Type 0
@@ -48,4 +45,4 @@ TreesAreInOrder =
 
 -- so its procedures alone ascend
 abbrev pub ProceduresAscend : Type 0
-ProceduresAscend = (source : Source) → IsInOrder source → Ascends IsBefore (map position_of source.procs)
+ProceduresAscend = (source : Source) → IsInOrder source → Ascends StandsBefore (map position_of source.procs)

@@ -29,7 +29,7 @@ abbrev pub terminals_of : List Symbol → List Terminal
 terminals_of symbols = map (λ symbol. symbol.terminal) symbols
 
 -- A token fits where the tokens before it, followed by it, begin some list of tokens of the grammar.
-pub record Fits (kernel : Bool) (before : List Terminal) (terminal : Terminal) : Type 0 where
+pub record FitsAfter (kernel : Bool) (before : List Terminal) (terminal : Terminal) : Type 0 where
   pub source : Source
   pub more : List Terminal
   pub spelled : IsSource kernel source (before ++ terminal ∷ more)
@@ -74,17 +74,17 @@ abbrev pub IsTooDeep : List Terminal → Terminal → Type 0
 IsTooDeep before terminal = (is_opening terminal ≡ true) × (257 + done before ≤ begun before)
 
 -- the cause stands of the token behind these terminals
-abbrev pub Stands : Bool → List Terminal → Symbol → Cause → Type 0
-Stands kernel before symbol cause = Has symbol.fault (Fits kernel before symbol.terminal → ⊥) (IsTooDeep before symbol.terminal) cause
+abbrev pub HasCause : Bool → List Terminal → Symbol → Cause → Type 0
+HasCause kernel before symbol cause = Has symbol.fault (FitsAfter kernel before symbol.terminal → ⊥) (IsTooDeep before symbol.terminal) cause
 
 -- the i-th token is refused for the cause
-pub record RefusesAt (kernel : Bool) (symbols : List Symbol) (i : ℕ) (cause : Cause) : Type 0 where
+pub record RefusesToken (kernel : Bool) (symbols : List Symbol) (i : ℕ) (cause : Cause) : Type 0 where
   pub before : List Symbol
   pub symbol : Symbol
   pub more : List Symbol
   pub split : symbols ≡ before ++ symbol ∷ more
   pub place : length before ≡ i
-  pub stands : Stands kernel (terminals_of before) symbol cause
+  pub stands : HasCause kernel (terminals_of before) symbol cause
 
 -- the tokens begin a source, and are none
 pub record EndsEarly (kernel : Bool) (symbols : List Symbol) : Type 0 where
@@ -94,15 +94,15 @@ pub record EndsEarly (kernel : Bool) (symbols : List Symbol) : Type 0 where
   pub is_none : (other : Source) → IsSource kernel other (terminals_of symbols) → ⊥
 
 -- the first place with a refusal, and the first cause there; the early end comes behind all tokens
-pub record IsLeast (kernel : Bool) (symbols : List Symbol) (i : ℕ) (cause : Cause) : Type 0 where
-  pub there : RefusesAt kernel symbols i cause ⊎ ((i ≡ length symbols) × (cause ≡ causes.Syntax) × EndsEarly kernel symbols)
-  pub first_place : (k : ℕ) (other : Cause) → RefusesAt kernel symbols k other → i ≤ k
-  pub first_cause : (other : Cause) → RefusesAt kernel symbols i other → order cause ≤ order other
+pub record IsFirstRefusal (kernel : Bool) (symbols : List Symbol) (i : ℕ) (cause : Cause) : Type 0 where
+  pub there : RefusesToken kernel symbols i cause ⊎ ((i ≡ length symbols) × (cause ≡ causes.Syntax) × EndsEarly kernel symbols)
+  pub first_place : (k : ℕ) (other : Cause) → RefusesToken kernel symbols k other → i ≤ k
+  pub first_cause : (other : Cause) → RefusesToken kernel symbols i other → order cause ≤ order other
 
 -- the tokens spell the tree, and none is refused
 pub record Parses (kernel : Bool) (symbols : List Symbol) (tree : Source) : Type 0 where
   pub spelled : IsSource kernel tree (terminals_of symbols)
-  pub is_clear : (k : ℕ) (cause : Cause) → RefusesAt kernel symbols k cause → ⊥
+  pub is_clear : (k : ℕ) (cause : Cause) → RefusesToken kernel symbols k cause → ⊥
 
 -- the place of the first of these tokens, or one past the source's last byte
 abbrev pub at_first : List Token → Cursor → Position
@@ -114,17 +114,17 @@ abbrev pub source_symbols : Bool → List ℕ → List Token → List Symbol
 source_symbols kernel source tokens = symbols_of kernel source no_context tokens
 
 -- What an answer says of tokens and their symbols, in a source that ends at the place.
-abbrev pub Answers : Bool → Cursor → List Token → List Symbol → Result Source ParseError → Type 0
-Answers kernel end tokens symbols (Ok tree) = Parses kernel symbols tree
-Answers kernel end tokens symbols (Err Memory) = ⊥
-Answers kernel end tokens symbols (Err (Bad line column cause)) =
-    (i : ℕ) × IsLeast kernel symbols i cause × (at_first (drop i tokens) end ≡ record { line = line; column = column })
+abbrev pub IsParseAnswer : Bool → Cursor → List Token → List Symbol → Result Source ParseError → Type 0
+IsParseAnswer kernel end tokens symbols (Ok tree) = Parses kernel symbols tree
+IsParseAnswer kernel end tokens symbols (Err Memory) = ⊥
+IsParseAnswer kernel end tokens symbols (Err (Bad line column cause)) =
+    (i : ℕ) × IsFirstRefusal kernel symbols i cause × (at_first (drop i tokens) end ≡ record { line = line; column = column })
 
 -- The machine's answer is the tree that the tokens spell where none is refused, and else the least refusal.
 abbrev pub LeastRefusal : Type 0
 LeastRefusal =
     (kernel : Bool) (source : List ℕ) (tokens : List Token)
-    → Answers kernel (place_after source) tokens (source_symbols kernel source tokens) (parsed kernel source tokens)
+    → IsParseAnswer kernel (place_after source) tokens (source_symbols kernel source tokens) (parsed kernel source tokens)
 
 -- A source whose tokens spell a tree, with none refused, has this tree and no other.
 abbrev pub ParsesOnce : Type 0

@@ -1,7 +1,9 @@
 ghost use Rattle.std.specs.Prelude.{◌≡◌, ◌≤◌, length, IfOk};
+ghost use Rattle.answers.specs.Gives.{Gives};
 ghost use Rattle.masm_lex.specs.Tokens.{IsPart, place_after};
 ghost use Rattle.masm_parse.specs.Machine.{Parse, start, advance, settled, moved, step, ended};
-ghost use Rattle.masm_parse.specs.Views.{parser_view, kept, StepGives, Gives};
+ghost use Rattle.masm_parse.specs.Views.{parser_view, kept, refusal_in, GivesStep};
+ghost use Rattle.masm_tree.specs.Views.{source_of};
 
 use crate::configuration::Configuration;
 use crate::refusal::ParseError;
@@ -25,7 +27,7 @@ pub(crate) struct Parser {
 
 // The first cause that stands, where the token fits or does not.
 fn settle(fault: Option<Cause>, is_deep: bool, fits: bool) -> Result<(), Stop>
-    ensures { (now : Parse) → StepGives result now (settled fault is_deep (kept fits now)) }
+    ensures { (now : Parse) → GivesStep result now (settled fault is_deep (kept fits now)) }
 {
     match fault {
         Some(cause) if fits || cause.is_early() => Err(Stop::Refused(cause)),
@@ -66,7 +68,7 @@ impl Parser {
 
     #[tactic(auto, unfolding(crate::specs::Machine::moved))]
     fn take(&mut self, alloc: Global, kernel: bool, symbol: Symbol) -> Result<(), Stop>
-        ensures { StepGives result (parser_view self.new) (moved kernel (parser_view self.old) symbol) }
+        ensures { GivesStep result (parser_view self.new) (moved kernel (parser_view self.old) symbol) }
     {
         let Symbol { terminal, fault } = symbol;
         let is_deep = terminal.is_opening() && self.configuration.depth() >= MOST_OPEN;
@@ -86,7 +88,7 @@ impl Parser {
         parts: &mut Vec<&'a [u8]>,
     ) -> Result<(), Stop>
         requires { IsPart source.now token }
-        ensures { StepGives result (parser_view self.new) (step kernel source.entry.now (parser_view self.old) token) }
+        ensures { GivesStep result (parser_view self.new) (step kernel source.entry.now (parser_view self.old) token) }
     {
         let at = Position {
             line: token.line,
@@ -107,7 +109,7 @@ impl Parser {
     // The tree, where the source may end here.
     pub(crate) fn finish(self, kernel: bool, source: &[u8]) -> Result<Ast, ParseError>
         requires { length source.now ≤ MAX_SOURCE }
-        ensures { Gives result (ended kernel (place_after source.now) self.consts (parser_view self).configuration) }
+        ensures { Gives source_of refusal_in result (ended kernel (place_after source.now) self.consts (parser_view self).configuration) }
     {
         let Parser {
             consts,

@@ -1,9 +1,10 @@
 ghost use Rattle.std.specs.Prelude.{◌≡◌, ◌≤◌, length, Ok, IfOk};
+ghost use Rattle.answers.specs.Gives.{Gives};
 ghost use Rattle.masm_lex.specs.Tokens.{lexed};
 ghost use Rattle.masm_parse.specs.Machine.{parsed};
 ghost use Rattle.masm_parse.specs.Order.{IsInOrder};
 ghost use Rattle.masm_tree.specs.Views.{source_of};
-ghost use Rattle.masm_parse.specs.Views.{Gives};
+ghost use Rattle.masm_parse.specs.Views.{refusal_in};
 
 use crate::parser::Parser;
 use crate::refusal::ParseError;
@@ -21,7 +22,7 @@ fn read_tokens(
 ) -> Result<Ast, ParseError>
     requires size { length source.now ≤ MAX_SOURCE }
     requires tokens { lexed source.now ≡ Ok tokens.now }
-    ensures { Gives result (parsed kernel source.now tokens.now) }
+    ensures { Gives source_of refusal_in result (parsed kernel source.now tokens.now) }
 {
     let mut parser = Parser::new(alloc);
     let mut parts = Vec::new(alloc);
@@ -47,7 +48,7 @@ fn read_tokens(
 pub fn parse(alloc: Global, source: &[u8], tokens: &Tokens, kernel: bool) -> Result<Ast, ParseError>
     requires size { length source.now ≤ MAX_SOURCE }
     requires tokens { lexed source.now ≡ Ok tokens.now }
-    ensures tree { Gives result (parsed kernel source.now tokens.now) }
+    ensures tree { Gives source_of refusal_in result (parsed kernel source.now tokens.now) }
     ensures order { IfOk result (λ ast. IsInOrder (source_of ast)) }
 {
     read_tokens(alloc, source, tokens, kernel)

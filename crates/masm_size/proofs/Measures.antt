@@ -4,7 +4,7 @@ use Rattle.std.specs.Prelude.{slice_get}
 use Rattle.std.proofs.lemmas.Bool.Decides.{nat_tests}
 use Rattle.std.proofs.lemmas.List.{take_more}
 use Rattle.masm_size.specs.declared.shape.Rise.{Rise}
-use Rattle.masm_size.specs.Sizes.{Row, Size, limited, run_of, nothing, one_run, capped, top_of, top_after, rises_behind, offset_of, starts_with, row_behind, row_times, times_size}
+use Rattle.masm_size.specs.Sizes.{ShapeRow, Size, limited, run_of, nothing, one_run, capped, top_of, top_after, rises_behind, offset_of, starts_with, row_behind, row_times, times_size}
 
 -- the last part that is higher than all before it
 top_any : (below : ℕ) (rise : Rise) (rises : List Rise)
@@ -29,10 +29,10 @@ pub behind_more : (offset below : ℕ) (rises : List Rise) (i : ℕ) (rise : Ris
 behind_more offset below rises i rise within =
     ap (rises_behind offset below) (take_more rises i rise within) ∙ behind-append offset below (take i rises) (get_or rises i rise ∷ [])
 
-pub behind_none : (a b : Row) (rises : List Rise) → rises ≡ [] → row_behind a b rises ≡ a
+pub behind_none : (a b : ShapeRow) (rises : List Rise) → rises ≡ [] → row_behind a b rises ≡ a
 behind_none a b rises none = ap (row_behind a b) none
 
-pub behind_some : (a b : Row) (rises : List Rise) → rises ≢ [] → row_behind a b rises ≡ record {
+pub behind_some : (a b : ShapeRow) (rises : List Rise) → rises ≢ [] → row_behind a b rises ≡ record {
   whole = capped (offset_of a b.starts + b.whole);
   starts = starts_with a b.starts a.rises;
   ends = b.ends;
@@ -41,10 +41,10 @@ pub behind_some : (a b : Row) (rises : List Rise) → rises ≢ [] → row_behin
 behind_some a b [] some = absurd (some refl)
 behind_some a b (rise ∷ rises) some = refl
 
-pub starts_none : (a : Row) (b : Bool) (rises : List Rise) → rises ≡ [] → starts_with a b rises ≡ b
+pub starts_none : (a : ShapeRow) (b : Bool) (rises : List Rise) → rises ≡ [] → starts_with a b rises ≡ b
 starts_none a b rises none = ap (starts_with a b) none
 
-pub starts_some : (a : Row) (b : Bool) (rises : List Rise) → rises ≢ [] → starts_with a b rises ≡ a.starts
+pub starts_some : (a : ShapeRow) (b : Bool) (rises : List Rise) → rises ≢ [] → starts_with a b rises ≡ a.starts
 starts_some a b [] some = absurd (some refl)
 starts_some a b (rise ∷ rises) some = refl
 

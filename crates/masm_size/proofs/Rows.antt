@@ -6,7 +6,7 @@ use Rattle.std.proofs.lemmas.Bool.Decides.{nat_tests}
 use Rattle.std.proofs.lemmas.List.{length-map}
 use Rattle.masm_size.specs.declared.shape.Rise.{Rise}
 use Rattle.masm_blocks.specs.Blocks.{paired, joined, all_joined}
-use Rattle.masm_size.specs.Sizes.{Shape, Row, one_if, capped, rises_from, row_of, ends_in_run, height_of, one_high, join_heights, height_joined, is_joined, height_next, height_within, height_among, highest, row_height}
+use Rattle.masm_size.specs.Sizes.{Shape, ShapeRow, one_if, capped, rises_from, row_of, ends_in_run, height_of, one_high, join_heights, height_joined, is_joined, height_next, height_within, height_among, highest, row_height}
 
 -- levels
 
@@ -196,11 +196,11 @@ one_if-le : (b : Bool) → one_if b ≤ 1
 one_if-le true = omega arith
 one_if-le false = omega arith
 
-pub row_height-some : (row : Row) (rises : List Rise) → rises ≢ [] → row_height row rises ≡ highest (capped (row.whole + one_if row.ends)) rises
+pub row_height-some : (row : ShapeRow) (rises : List Rise) → rises ≢ [] → row_height row rises ≡ highest (capped (row.whole + one_if row.ends)) rises
 row_height-some row [] some = absurd (some refl)
 row_height-some row (rise ∷ rises) some = refl
 
-pub row_height-none : (row : Row) (rises : List Rise) → rises ≡ [] → row_height row rises ≡ 1
+pub row_height-none : (row : ShapeRow) (rises : List Rise) → rises ≡ [] → row_height row rises ≡ 1
 row_height-none row rises none = ap (row_height row) none
 
 pub ruleset row_heights = (row_height-some, row_height-none)

@@ -9,7 +9,7 @@ use Rattle.masm_blocks.specs.declared.extent.Extent.{Extent}
 use Rattle.masm_size.specs.declared.shape.Rise.{Rise}
 use Rattle.masm_blocks.specs.Blocks.{Piece, Operation, Whole, blocks_behind, paired, joined, all_joined, whole_of, whole}
 use Rattle.masm_blocks.specs.Lists.{times}
-use Rattle.masm_size.specs.Sizes.{as_extent, Shape, Run, High, Row, Size, put, shape_of, shapes_of, total, limited, size_of, run_of, no_row, one_if, capped, starts_in_run, ends_in_run, rises_from, row_of, top_of, rises_behind, offset_of, starts_with, row_behind, row_both, row_times, both, times_size, one_block, height_of, one_high, join_heights, height_joined, extent_of, block_size}
+use Rattle.masm_size.specs.Sizes.{as_extent, Shape, Run, High, ShapeRow, Size, put, shape_of, shapes_of, total, limited, size_of, run_of, no_row, one_if, capped, starts_in_run, ends_in_run, rises_from, row_of, top_of, rises_behind, offset_of, starts_with, row_behind, row_both, row_times, both, times_size, one_block, height_of, one_high, join_heights, height_joined, extent_of, block_size}
 use Rattle.masm_blocks.proofs.Levels.{length-paired}
 use Rattle.masm_size.proofs.Rows.{rise-taken, rise-left, AreLow, height-row}
 use Rattle.masm_blocks.proofs.Seen.{seen-joined}
@@ -145,12 +145,12 @@ starts-append [] ys = refl
 starts-append (Run ∷ xs) ys = refl
 starts-append (High h ∷ xs) ys = refl
 
-starts-with : (xs : List Shape) (row : Row) (b : Bool) → row.starts ≡ starts_in_run xs
+starts-with : (xs : List Shape) (row : ShapeRow) (b : Bool) → row.starts ≡ starts_in_run xs
     → starts_with row b (rises_from 0 0 (map height_of xs)) ≡ cond (is_none xs) b (starts_in_run xs)
 starts-with [] row b same = refl
 starts-with (x ∷ xs) row b same = ap (starts_with row b) (rise-taken 0 0 (height_of x) (map height_of xs) (omega arith)) ∙ same
 
-abbrev joined_row : Row → Row → List Rise → Row
+abbrev joined_row : ShapeRow → ShapeRow → List Rise → ShapeRow
 joined_row a b rs = record {
   whole = capped (offset_of a b.starts + b.whole);
   starts = starts_with a b.starts a.rises;
@@ -158,15 +158,15 @@ joined_row a b rs = record {
   rises = a.rises ++ rises_behind (offset_of a b.starts) (top_of 0 a.rises) rs;
 }
 
-row-behind : (a b : Row) (y : Shape) (ys : List Shape) → b.rises ≡ rises_from 0 0 (map height_of (y ∷ ys)) → row_both a b ≡ joined_row a b b.rises
+row-behind : (a b : ShapeRow) (y : Shape) (ys : List Shape) → b.rises ≡ rises_from 0 0 (map height_of (y ∷ ys)) → row_both a b ≡ joined_row a b b.rises
 unfolding row_both
 row-behind a b y ys is =
     let some = is ∙ rise-taken 0 0 (height_of y) (map height_of ys) (omega arith) in
     ap (row_behind a b) some ∙ ap (joined_row a b) (sym some)
 
 row_same : (w w' : ℕ) (s s' e e' : Bool) (r r' : List Rise) → w ≡ w' → s ≡ s' → e ≡ e' → r ≡ r'
-    → (let row : Row = record { whole = w; starts = s; ends = e; rises = r } in row)
-    ≡ (let row : Row = record { whole = w'; starts = s'; ends = e'; rises = r' } in row)
+    → (let row : ShapeRow = record { whole = w; starts = s; ends = e; rises = r } in row)
+    ≡ (let row : ShapeRow = record { whole = w'; starts = s'; ends = e'; rises = r' } in row)
 row_same w w' s s' e e' r r' p q t u = λ i. record { whole = p i; starts = q i; ends = t i; rises = u i }
 
 -- where two runs do not meet
@@ -282,13 +282,13 @@ total-append [] ys = omega arith
 total-append (Operation item ∷ xs) ys = omega (arith, total-append xs ys)
 total-append (Whole e ∷ xs) ys = omega (arith, total-append xs ys)
 
-limited-small : (n : ℕ) (row : Row) → n ≤ 524288 → limited n row ≡ record { operations = n; row = row }
+limited-small : (n : ℕ) (row : ShapeRow) → n ≤ 524288 → limited n row ≡ record { operations = n; row = row }
 limited-small n row h = grind (arith, nat_tests)
 
-limited-large : (n : ℕ) (row : Row) → 524288 < n → limited n row ≡ record { operations = 524289; row = no_row }
+limited-large : (n : ℕ) (row : ShapeRow) → 524288 < n → limited n row ≡ record { operations = 524289; row = no_row }
 limited-large n row h = grind (arith, nat_tests)
 
-both-limited : (m n : ℕ) (s t : Row) → both (limited m s) (limited n t) ≡ limited (m + n) (row_both s t)
+both-limited : (m n : ℕ) (s t : ShapeRow) → both (limited m s) (limited n t) ≡ limited (m + n) (row_both s t)
 unfolding both
 both-limited m n s t =
     ⊎_elim
@@ -332,7 +332,7 @@ size-run (item ∷ items) =
 
 -- a list so many times
 
-row_times-none : (row : Row) → row.whole ≤ 4294967295 → row_times 0 row ≡ row
+row_times-none : (row : ShapeRow) → row.whole ≤ 4294967295 → row_times 0 row ≡ row
 unfolding row_times
 row_times-none row low = row_same _ _ _ _ _ _ _ _ (no_times row.whole (offset_of row row.starts) low) refl refl refl
   where
@@ -359,7 +359,7 @@ row_times-more n (x ∷ xs) =
     grown : (o w n : ℕ) → capped (o + capped (w + n * o)) ≡ capped (w + suc n * o)
     grown o w n = omega arith
 
-times-limited : (n m : ℕ) (row : Row) → times_size (suc n) (limited m row) ≡ limited (suc n * m) (row_times n row)
+times-limited : (n m : ℕ) (row : ShapeRow) → times_size (suc n) (limited m row) ≡ limited (suc n * m) (row_times n row)
 times-limited n m row = elim (cases_lt 524288 m) [
   | inl large ↦
       ap (times_size (suc n)) (limited-large m row large)

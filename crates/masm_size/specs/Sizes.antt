@@ -82,13 +82,13 @@ rises_from index below (h ∷ hs) =
 -- What counts of the parts of a list: how many there are before a run that stands last, whether a run stands first and
 -- last, and the parts that are higher than all before them. No other part can make the blocks higher once they are joined,
 -- since none stands deeper than those before it.
-pub record Row : Type 0 where
+pub record ShapeRow : Type 0 where
   pub whole : ℕ
   pub starts : Bool
   pub ends : Bool
   pub rises : List Rise
 
-abbrev pub row_of : List Shape → Row
+abbrev pub row_of : List Shape → ShapeRow
 row_of xs = record {
   whole = capped (length xs - one_if (ends_in_run xs));
   starts = starts_in_run xs;
@@ -96,15 +96,15 @@ row_of xs = record {
   rises = rises_from 0 0 (map height_of xs);
 }
 
-abbrev pub no_row : Row
+abbrev pub no_row : ShapeRow
 no_row = record { whole = 0; starts = false; ends = false; rises = [] }
 
 pub record Size : Type 0 where
   pub operations : ℕ
-  pub row : Row
+  pub row : ShapeRow
 
 -- lists in memory
-abbrev pub row_view : Outline → List Rise → Row
+abbrev pub row_view : Outline → List Rise → ShapeRow
 row_view outline rises = record { whole = outline.whole; starts = outline.starts_in_run; ends = outline.ends_in_run; rises = rises }
 
 abbrev pub size_view : code.Size → Size
@@ -114,7 +114,7 @@ abbrev pub part_view : Part → Size
 part_view part = record { operations = part.operations; row = row_view part.outline part.rises.now }
 
 -- above the limit no parts are kept
-abbrev pub limited : ℕ → Row → Size
+abbrev pub limited : ℕ → ShapeRow → Size
 limited operations row =
     if nat_le operations 524288 then record { operations = operations; row = row } else record { operations = 524289; row = no_row }
 
@@ -125,10 +125,10 @@ size_of pieces = limited (total pieces) (row_of (shapes_of pieces))
 abbrev pub nothing : Size
 nothing = record { operations = 0; row = no_row }
 
-abbrev pub one_run : Row
+abbrev pub one_run : ShapeRow
 one_run = record { whole = 0; starts = true; ends = true; rises = record { index = 0; height = 1 } ∷ [] }
 
-abbrev pub one_block : ℕ → Row
+abbrev pub one_block : ℕ → ShapeRow
 one_block height = record { whole = 1; starts = false; ends = false; rises = record { index = 0; height = height } ∷ [] }
 
 -- the size of so many operations
@@ -153,14 +153,14 @@ rises_behind offset below (rise ∷ rises) =
     else rises_behind offset below rises
 
 -- how many parts stand before those of a list that stands behind another; two runs that meet are one part
-abbrev pub offset_of : Row → Bool → ℕ
+abbrev pub offset_of : ShapeRow → Bool → ℕ
 offset_of before starts = capped (before.whole + one_if (before.ends && not starts))
 
-abbrev pub starts_with : Row → Bool → List Rise → Bool
+abbrev pub starts_with : ShapeRow → Bool → List Rise → Bool
 starts_with before starts [] = starts
 starts_with before starts (rise ∷ rises) = before.starts
 
-abbrev pub row_behind : Row → Row → List Rise → Row
+abbrev pub row_behind : ShapeRow → ShapeRow → List Rise → ShapeRow
 row_behind before more [] = before
 row_behind before more (rise ∷ rises) = record {
   whole = capped (offset_of before more.starts + more.whole);
@@ -170,14 +170,14 @@ row_behind before more (rise ∷ rises) = record {
 }
 
 -- the parts of two lists, one behind the other
-unfoldable pub row_both : Row → Row → Row
+unfoldable pub row_both : ShapeRow → ShapeRow → ShapeRow
 row_both before more = row_behind before more more.rises
 
 unfoldable pub both : Size → Size → Size
 both a b = limited (a.operations + b.operations) (row_both a.row b.row)
 
 -- the parts of a list and of so many more behind it
-unfoldable pub row_times : ℕ → Row → Row
+unfoldable pub row_times : ℕ → ShapeRow → ShapeRow
 row_times more row = record row { whole = capped (row.whole + more * offset_of row row.starts) }
 
 -- a list so many times
@@ -217,7 +217,7 @@ highest count [] = 0
 highest count (rise ∷ rises) = max (height_among count rise.index rise.height) (highest count rises)
 
 -- no block at all is a span of one NOOP
-abbrev pub row_height : Row → List Rise → ℕ
+abbrev pub row_height : ShapeRow → List Rise → ℕ
 row_height row [] = 1
 row_height row (rise ∷ rises) = highest (capped (row.whole + one_if row.ends)) (rise ∷ rises)
 

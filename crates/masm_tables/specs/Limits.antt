@@ -12,5 +12,5 @@ size_cause e =
     else (if nat_lt 1024 e.height then Some causes.TooDeep else None)
 
 -- the procedure at this place is refused for the extent of its tree
-abbrev pub IsOver : Position → Extent → Position → LinkCause → Type 0
-IsOver place e at cause = (at ≡ place) × (size_cause e ≡ Some cause)
+abbrev pub ExceedsLimit : Position → Extent → Position → LinkCause → Type 0
+ExceedsLimit place e at cause = (at ≡ place) × (size_cause e ≡ Some cause)

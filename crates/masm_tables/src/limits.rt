@@ -5,9 +5,9 @@ ghost use Rattle.masm_size.specs.Sizes.{extent_of, procedure_size};
 ghost use Rattle.masm_tree.specs.Locals.{MainFits};
 ghost use Rattle.masm_tree.specs.Views.{body_of, procedure_of};
 ghost use Rattle.masm_names.specs.Among.{Among};
-ghost use Rattle.masm_names.specs.Least.{Answers};
-ghost use Rattle.masm_names.specs.Naming.{at_procedure};
-ghost use Rattle.masm_tables.specs.Limits.{size_cause, IsOver};
+ghost use Rattle.masm_names.specs.Least.{FindsLeast};
+ghost use Rattle.masm_tree.specs.Trees.{position_of};
+ghost use Rattle.masm_tables.specs.Limits.{size_cause, ExceedsLimit};
 
 use masm_blocks::{Extent, Kernel};
 use masm_names::{Defined, LinkCause, Names, Refusal, earlier};
@@ -36,7 +36,7 @@ fn size_cause(extent: Extent) -> Option<LinkCause>
 
 // The refusal of a procedure at this place whose tree has this extent.
 fn too_large(at: Position, extent: Extent) -> Option<Refusal>
-    ensures { Answers (IsOver at extent) result }
+    ensures { FindsLeast (ExceedsLimit at extent) result }
 {
     match size_cause(extent) {
         Some(cause) => Some(Refusal { at, cause }),
@@ -47,8 +47,8 @@ fn too_large(at: Position, extent: Extent) -> Option<Refusal>
 /// The first procedure whose tree is too large.
 pub fn first_too_large(procs: &[Proc], sizes: &[Size]) -> Option<Refusal>
     requires { length sizes.now ≡ length procs.now }
-    ensures { Answers (Among (λ place p.
-        IsOver (at_procedure (procedure_of p)) (extent_of (size_at sizes.now (Some place)))) procs.now) result }
+    ensures { FindsLeast (Among (λ place p.
+        ExceedsLimit (position_of (procedure_of p)) (extent_of (size_at sizes.now (Some place)))) procs.now) result }
 {
     let mut first = None;
     for (place, procedure) in procs.iter().enumerate() {
@@ -68,7 +68,7 @@ pub fn main_too_large(
 ) -> Result<Option<Refusal>, Memory>
     requires { MainFits (option_map procedure_of main.now) }
     ensures { IfOk result (λ first. MatchOption main.now (first ≡ None)
-        (λ p. Answers (IsOver (at_procedure (procedure_of p))
+        (λ p. FindsLeast (ExceedsLimit (position_of (procedure_of p))
         (extent_of (procedure_size (sizes_known names.now sizes.now kernel.now.procs.now) p.locals (body_of p.body.items)))) first)) }
 {
     let Some(procedure) = main else {

@@ -1,5 +1,5 @@
 -- The causes for which a token is refused, and their order.
-use Rattle.std.specs.Prelude.{ℕ, Bool, nat_lt, List, codes}
+use Rattle.std.specs.Prelude.{ℕ, Bool, nat_lt, List, codes, Option, Some, None}
 use Rattle.instr_reading.specs.declared.refusal.InstrError.{InstrError}
 use Rattle.instr_reading.specs.declared.refusal.InstrError.TheVariants as errors
 use Rattle.masm_tree.specs.declared.refusal.Cause.{Cause}
@@ -48,3 +48,8 @@ stop_of errors.UnknownInstruction = stops.Refused causes.UnknownInstruction
 stop_of errors.Syntax = stops.Refused causes.Syntax
 stop_of errors.NumberRange = stops.Refused causes.NumberRange
 stop_of errors.Memory = stops.Memory
+
+-- what a stop says of the token: the cause of its refusal, if it is one
+abbrev pub cause_in : Stop → Option Cause
+cause_in (stops.Refused cause) = Some cause
+cause_in stops.Memory = None

@@ -1,7 +1,8 @@
 -- What each token is: its terminal to the grammar, and the first cause for which it is refused by itself. Both depend on the
 -- constants defined before it and on the locals of the procedure that began last, and on nothing else of the source.
-use Rattle.std.specs.Prelude.{◌≡◌, ℕ, Bool, true, false, ◌==◌, ◌&&◌, ◌||◌, nat_lt, nat_le, if◌then◌else◌, List, [], ◌∷◌, ◌++◌, length, slice_index, Option, Some, None, Result, Ok, Err, bytes_eq, codes}
+use Rattle.std.specs.Prelude.{ℕ, Bool, true, false, ◌==◌, ◌&&◌, ◌||◌, nat_lt, nat_le, if◌then◌else◌, List, [], ◌∷◌, ◌++◌, length, slice_index, Option, Some, None, Result, Ok, Err, bytes_eq, codes}
 use Rattle.std.specs.List.{list_all, slice_split}
+use Rattle.answers.specs.Gives.{Gives}
 use Rattle.vm_field.specs.Field.{prime}
 use Rattle.instr_reading.specs.declared.constant.Const.{Const}
 use Rattle.instr_reading.specs.declared.refusal.InstrError.{InstrError}
@@ -11,7 +12,6 @@ use Rattle.instr_reading.specs.Reading.{parameter_of, parts_of, read}
 use Rattle.masm_tree.specs.declared.refusal.Cause.{Cause}
 use Rattle.masm_tree.specs.declared.refusal.Cause.TheVariants as causes
 use Rattle.masm_tree.specs.declared.refusal.Stop.{Stop}
-use Rattle.masm_tree.specs.declared.refusal.Stop.TheVariants as stops
 use Rattle.masm_tree.specs.declared.keyword.Keyword.{Keyword}
 use Rattle.masm_tree.specs.declared.keyword.Keyword.TheVariants as keywords
 use Rattle.masm_tree.specs.declared.parts.Case.{Case}
@@ -26,7 +26,7 @@ use Rattle.masm_tree.specs.declared.terminal.Leaf.TheVariants as leaves
 use Rattle.masm_tree.specs.declared.terminal.Terminal.{Terminal}
 use Rattle.masm_tree.specs.declared.terminal.Terminal.TheVariants as terminals
 use Rattle.masm_tree.specs.declared.terminal.Symbol.{Symbol}
-use Rattle.masm_tree.specs.Causes.{cause_of}
+use Rattle.masm_tree.specs.Causes.{cause_in, cause_of}
 use Rattle.masm_tree.specs.Keywords.{keyword_of, is_kept_from_kernels}
 
 -- what the tokens so far say of the next ones: the constants, and the count of locals
@@ -198,8 +198,6 @@ classify_parts kernel context at text (first ∷ parts) = classify_known kernel 
 unfoldable pub classify : Bool → Context → Position → List ℕ → Symbol
 classify kernel context at text = classify_parts kernel context at text (parts_of text)
 
--- An answer of the reader is that of the definition, or the want of memory.
-abbrev pub Gives : Result Terminal Stop → Result Terminal Cause → Type 0
-Gives (Ok terminal) defined = defined ≡ Ok terminal
-Gives (Err stops.Memory) defined = Unit {0}
-Gives (Err (stops.Refused cause)) defined = defined ≡ Err cause
+-- a reader's answer is the terminal of the definition, or the cause for which it has none
+abbrev pub GivesTerminal : Result Terminal Stop → Result Terminal Cause → Type 0
+GivesTerminal answer defined = Gives (λ x. x) cause_in answer defined

@@ -19,6 +19,10 @@ pub record Procedure : Type 0 where
   pub line : ℕ
   pub column : ℕ
 
+-- where a procedure begins
+abbrev pub position_of : Procedure → Position
+position_of p = record { line = p.line; column = p.column }
+
 pub record Source : Type 0 where
   pub consts : List Const
   pub procs : List Procedure

@@ -2,7 +2,7 @@ ghost use Rattle.std.specs.Prelude.{◌≡◌, ℕ, IfOk, map, Result};
 ghost use Rattle.instr_reading.specs.Reading.{parts_of};
 ghost use Rattle.masm_tree.specs.declared.terminal.Terminal.{Terminal};
 ghost use Rattle.masm_tree.specs.declared.refusal.Cause.{Cause};
-ghost use Rattle.masm_tree.specs.Classify.{constant, definition, locals_of, header, main, alone, on_true, repetition, usage, phrase, instruction, nameless, blank, blank_of, symbol_with, classify_keyword, classify_instruction, classify, Gives};
+ghost use Rattle.masm_tree.specs.Classify.{constant, definition, locals_of, header, main, alone, on_true, repetition, usage, phrase, instruction, nameless, blank, blank_of, symbol_with, classify_keyword, classify_instruction, classify, GivesTerminal};
 
 use crate::keyword::{Keyword, keyword_of};
 use crate::parts::{Case, is_name};
@@ -17,7 +17,7 @@ const SYNTAX: Stop = Stop::Refused(Cause::Syntax);
 
 // A definition of a constant, by the two parts beside its `=`.
 fn read_definition(alloc: Global, at: Position, parts: &[&[u8]]) -> Result<Terminal, Stop>
-    ensures { Gives result (definition at (map (λ part. part.now) parts.now)) }
+    ensures { GivesTerminal result (definition at (map (λ part. part.now) parts.now)) }
 {
     let [name, value] = parts else {
         return Err(SYNTAX);
@@ -45,7 +45,7 @@ fn read_definition(alloc: Global, at: Position, parts: &[&[u8]]) -> Result<Termi
 // const.NAME=v
 #[tactic(auto, unfolding(crate::specs::Classify::constant))]
 fn read_constant(alloc: Global, at: Position, parts: &[&[u8]]) -> Result<Terminal, Stop>
-    ensures { Gives result (constant at (map (λ part. part.now) parts.now)) }
+    ensures { GivesTerminal result (constant at (map (λ part. part.now) parts.now)) }
 {
     let [part] = parts else {
         return Err(SYNTAX);
@@ -72,7 +72,7 @@ fn read_locals(parts: &[&[u8]]) -> Result<u32, Cause>
 // proc.name, proc.name.n, and the same with export
 #[tactic(auto, unfolding(crate::specs::Classify::header))]
 fn read_header(alloc: Global, role: Role, at: Position, parts: &[&[u8]]) -> Result<Terminal, Stop>
-    ensures { Gives result (header role at (map (λ part. part.now) parts.now)) }
+    ensures { GivesTerminal result (header role at (map (λ part. part.now) parts.now)) }
 {
     let Some((name, more)) = parts.split_first() else {
         return Err(SYNTAX);
@@ -92,7 +92,7 @@ fn read_header(alloc: Global, role: Role, at: Position, parts: &[&[u8]]) -> Resu
 }
 
 fn read_begin(alloc: Global, at: Position, parts: &[&[u8]]) -> Result<Terminal, Stop>
-    ensures { Gives result (alone (main at) (map (λ part. part.now) parts.now)) }
+    ensures { GivesTerminal result (alone (main at) (map (λ part. part.now) parts.now)) }
 {
     if !parts.is_empty() {
         return Err(SYNTAX);
@@ -107,7 +107,7 @@ fn read_begin(alloc: Global, at: Position, parts: &[&[u8]]) -> Result<Terminal, 
 
 // A token of one part.
 fn read_alone(terminal: Terminal, parts: &[&[u8]]) -> Result<Terminal, Stop>
-    ensures { Gives result (alone terminal (map (λ part. part.now) parts.now)) }
+    ensures { GivesTerminal result (alone terminal (map (λ part. part.now) parts.now)) }
 {
     if parts.is_empty() {
         Ok(terminal)
@@ -118,7 +118,7 @@ fn read_alone(terminal: Terminal, parts: &[&[u8]]) -> Result<Terminal, Stop>
 
 // A token with the second part `true`.
 fn read_on_true(terminal: Terminal, parts: &[&[u8]]) -> Result<Terminal, Stop>
-    ensures { Gives result (on_true terminal (map (λ part. part.now) parts.now)) }
+    ensures { GivesTerminal result (on_true terminal (map (λ part. part.now) parts.now)) }
 {
     match parts {
         [part] if *part == b"true".as_slice() => Ok(terminal),
@@ -129,7 +129,7 @@ fn read_on_true(terminal: Terminal, parts: &[&[u8]]) -> Result<Terminal, Stop>
 // repeat.n
 #[tactic(auto, unfolding(crate::specs::Classify::repetition))]
 fn read_repetition(consts: &Consts, at: Position, parts: &[&[u8]]) -> Result<Terminal, Stop>
-    ensures { Gives result (repetition consts.now at (map (λ part. part.now) parts.now)) }
+    ensures { GivesTerminal result (repetition consts.now at (map (λ part. part.now) parts.now)) }
 {
     let [part] = parts else {
         return Err(SYNTAX);
@@ -144,7 +144,7 @@ fn read_repetition(consts: &Consts, at: Position, parts: &[&[u8]]) -> Result<Ter
 // exec.name, call.name, syscall.name
 #[tactic(auto, unfolding(crate::specs::Classify::usage))]
 fn read_usage(alloc: Global, use_of: Use, at: Position, parts: &[&[u8]]) -> Result<Terminal, Stop>
-    ensures { Gives result (usage use_of at (map (λ part. part.now) parts.now)) }
+    ensures { GivesTerminal result (usage use_of at (map (λ part. part.now) parts.now)) }
 {
     let [name] = parts else {
         return Err(SYNTAX);
@@ -170,7 +170,8 @@ fn read_phrase(
     parts: &[&[u8]],
     keyword: Keyword,
 ) -> Result<Terminal, Stop>
-    ensures { (locals : ℕ) → Gives result (phrase (record { consts = consts.now; locals = locals }) at (map (λ part. part.now) parts.now) keyword) }
+    ensures { (locals : ℕ) → GivesTerminal result
+        (phrase (record { consts = consts.now; locals = locals }) at (map (λ part. part.now) parts.now) keyword) }
 {
     match keyword {
         Keyword::Const => read_constant(alloc, at, parts),
@@ -199,7 +200,7 @@ fn read_instruction(
     parts: &[&[u8]],
 ) -> Result<Terminal, Stop>
     requires { map (λ part. part.now) parts.now ≡ parts_of text.now }
-    ensures { Gives result (instruction (record { consts = consts.now; locals = locals }) at text.now) }
+    ensures { GivesTerminal result (instruction (record { consts = consts.now; locals = locals }) at text.now) }
 {
     let instr = read_parts(alloc, text, parts, consts)?;
     if instr.name().names_local()
@@ -254,7 +255,7 @@ fn blank_of(alloc: Global, at: Position, keyword: Keyword) -> Terminal
 }
 
 fn symbol_with(refused: Terminal, read: Result<Terminal, Stop>) -> Result<Symbol, AllocError>
-    ensures { (defined : Result Terminal Cause) → Gives read defined → IfOk result (λ symbol. symbol ≡ symbol_with refused defined) }
+    ensures { (defined : Result Terminal Cause) → GivesTerminal read defined → IfOk result (λ symbol. symbol ≡ symbol_with refused defined) }
 {
     match read {
         Ok(terminal) => Ok(Symbol {

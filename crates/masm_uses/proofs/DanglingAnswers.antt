@@ -13,14 +13,14 @@ use Rattle.masm_names.specs.declared.refusal.LinkCause.{LinkCause}
 use Rattle.masm_names.specs.declared.refusal.LinkCause.TheVariants as causes
 use Rattle.masm_names.specs.declared.refusal.Refusal.{Refusal}
 use Rattle.masm_names.specs.Among.{Among}
-use Rattle.masm_uses.specs.Dangling.{IsMissing, Missing, Recursions}
+use Rattle.masm_uses.specs.Dangling.{LeadsNowhere, Missing, Recursions}
 use Rattle.masm_names.specs.Earlier.{earlier}
-use Rattle.masm_names.specs.Least.{Answers}
+use Rattle.masm_names.specs.Least.{FindsLeast}
 use Rattle.masm_graph.specs.Links.{link_of, links_in, main_links_in}
 use Rattle.masm_names.specs.Naming.{Dangles, unknown, not_in_kernel, recursive}
 use Rattle.masm_graph.specs.Users.{AreUsers}
 use Rattle.masm_names.specs.Uses.{Use, uses_of, all_uses, place_in, first_place}
-use Rattle.masm_names.proofs.LeastLemmas.{Either, Answers-same, Answers-earlier}
+use Rattle.masm_names.proofs.LeastLemmas.{Either, FindsLeast-same, FindsLeast-earlier}
 use Rattle.masm_uses.proofs.UsedLemmas.{contains_at, at_contains, in_all, all_in, unmapped, mapped, place_none, none_place, missing_by, missing_own, missing_kernel, used, used_by, leads_reaches, reaches_leads}
 
 abbrev uses_in : Procedure → List Use
@@ -28,27 +28,27 @@ uses_in p = uses_of p.body
 
 module _ (own kernel : List ℕ → Option ℕ) where
   missing_row : (p : Proc) (at : Position) (cause : LinkCause) (u : Use) → Contains (uses_in (procedure_of p)) u
-      → IsMissing (link_of own kernel u) at cause
+      → LeadsNowhere (link_of own kernel u) at cause
       → Missing (links_in own kernel p) at cause
   missing_row p at cause u has missing =
       let there = at_contains (uses_in (procedure_of p)) u has in
       (there.0, (link_of own kernel u, mapped (link_of own kernel) (uses_in (procedure_of p)) there.0 u there.1, missing))
 
   row_missing : (p : Proc) (at : Position) (cause : LinkCause) → Missing (links_in own kernel p) at cause
-      → (u : Use) × Contains (uses_in (procedure_of p)) u × IsMissing (link_of own kernel u) at cause
+      → (u : Use) × Contains (uses_in (procedure_of p)) u × LeadsNowhere (link_of own kernel u) at cause
   row_missing p at cause h =
       let found = unmapped (link_of own kernel) (uses_in (procedure_of p)) h.0 h.1.0 h.1.1 in
-      (found.0, contains_at (uses_in (procedure_of p)) h.0 found.0 found.1, subst (λ l. IsMissing l at cause) found.2 h.1.2)
+      (found.0, contains_at (uses_in (procedure_of p)) h.0 found.0 found.1, subst (λ l. LeadsNowhere l at cause) found.2 h.1.2)
 
   missing_main : (main : Option Proc) (at : Position) (cause : LinkCause) (u : Use)
       → Contains (flat_map uses_in (option_to_list (option_map procedure_of main))) u
-      → IsMissing (link_of own kernel u) at cause → Missing (main_links_in own kernel main) at cause
+      → LeadsNowhere (link_of own kernel u) at cause → Missing (main_links_in own kernel main) at cause
   missing_main None at cause u has missing = absurd (omega (arith, has.1))
   missing_main (Some p) at cause u has missing =
       missing_row p at cause u (subst (λ us. Contains us u) (append-nil (uses_in (procedure_of p))) has) missing
 
   main_missing : (main : Option Proc) (at : Position) (cause : LinkCause) → Missing (main_links_in own kernel main) at cause
-      → (u : Use) × Contains (flat_map uses_in (option_to_list (option_map procedure_of main))) u × IsMissing (link_of own kernel u) at cause
+      → (u : Use) × Contains (flat_map uses_in (option_to_list (option_map procedure_of main))) u × LeadsNowhere (link_of own kernel u) at cause
   main_missing None at cause h = let none = h.1.1 in cc
   main_missing (Some p) at cause h =
       let found = row_missing p at cause h in (found.0, Contains-append_left (uses_in (procedure_of p)) [] found.0 found.1, found.2)
@@ -61,7 +61,7 @@ module _ (own kernel : List ℕ → Option ℕ) where
     Lost = Either (Among (λ place row. Missing row) (map (links_in own kernel) procs)) (Missing (main_links_in own kernel main))
 
     lost : (at : Position) (cause : LinkCause) (u : Use) → Contains (all_uses the_source) u
-        → IsMissing (link_of own kernel u) at cause → Lost at cause
+        → LeadsNowhere (link_of own kernel u) at cause → Lost at cause
     lost at cause u has missing =
         elim (Contains-append_cases (flat_map uses_in (map procedure_of procs)) (flat_map uses_in (option_to_list (option_map procedure_of main))) u
         (subst (λ us. Contains us u) (flat_map-append uses_in (map procedure_of procs) (option_to_list (option_map procedure_of main))) has)) [
@@ -80,7 +80,7 @@ module _ (own kernel : List ℕ → Option ℕ) where
         ]
 
     from_lost : (at : Position) (cause : LinkCause) → Lost at cause
-        → (u : Use) × Contains (all_uses the_source) u × IsMissing (link_of own kernel u) at cause
+        → (u : Use) × Contains (all_uses the_source) u × LeadsNowhere (link_of own kernel u) at cause
     from_lost at cause (inl (i, (row, e, missing))) =
         let p = unmapped (links_in own kernel) procs i row e in
         let found = row_missing p.0 at cause (subst (λ r. Missing r at cause) p.2 missing) in
@@ -151,10 +151,10 @@ module _ (own kernel : List ℕ → Option ℕ) where
           (recursive i u.0 j is (leads_reaches own kernel procs places users are i j leads))
 
       -- the least refusal of the uses that lead nowhere, in procedures and in the main body, and of those that lead back
-      pub Answers-dangling : (a b c : Option Refusal) → Answers (Among (λ place row. Missing row) (map (links_in own kernel) procs)) a
-          → Answers (Missing (main_links_in own kernel main)) b → Answers (Recursions users (map (links_in own kernel) procs)) c
-          → Answers (Dangles the_source names) (earlier (earlier a b) c)
-      Answers-dangling a b c p q r =
-          Answers-same Found (Dangles the_source names) (earlier (earlier a b) c) from_found to_found
-          (Answers-earlier Lost (Recursions users (map (links_in own kernel) procs)) (earlier a b) c
-          (Answers-earlier (Among (λ place row. Missing row) (map (links_in own kernel) procs)) (Missing (main_links_in own kernel main)) a b p q) r)
+      pub FindsLeast-dangling : (a b c : Option Refusal) → FindsLeast (Among (λ place row. Missing row) (map (links_in own kernel) procs)) a
+          → FindsLeast (Missing (main_links_in own kernel main)) b → FindsLeast (Recursions users (map (links_in own kernel) procs)) c
+          → FindsLeast (Dangles the_source names) (earlier (earlier a b) c)
+      FindsLeast-dangling a b c p q r =
+          FindsLeast-same Found (Dangles the_source names) (earlier (earlier a b) c) from_found to_found
+          (FindsLeast-earlier Lost (Recursions users (map (links_in own kernel) procs)) (earlier a b) c
+          (FindsLeast-earlier (Among (λ place row. Missing row) (map (links_in own kernel) procs)) (Missing (main_links_in own kernel main)) a b p q) r)

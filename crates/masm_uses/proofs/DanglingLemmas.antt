@@ -10,14 +10,14 @@ use Rattle.masm_names.specs.declared.refusal.LinkCause.{LinkCause}
 use Rattle.masm_names.specs.declared.refusal.LinkCause.TheVariants as causes
 use Rattle.masm_names.specs.declared.refusal.Refusal.{Refusal}
 use Rattle.masm_uses.specs.Dangling.{Returns, is_own, comes_first, waits}
-use Rattle.masm_names.specs.Least.{Answers}
+use Rattle.masm_names.specs.Least.{FindsLeast}
 use Rattle.masm_graph.specs.Users.{HasOwn}
-use Rattle.masm_names.proofs.LeastLemmas.{IsNoLater, is_no_later-tells, Answers-same}
+use Rattle.masm_names.proofs.LeastLemmas.{IsNoLater, is_no_later-tells, FindsLeast-same}
 
 pub Returns-same : (Back Other : ℕ → Type 0) (row : List Link) (r : Option Refusal) → ((place : ℕ) → Back place ↔ Other place)
-    → Answers (Returns Back row) r → Answers (Returns Other row) r
+    → FindsLeast (Returns Back row) r → FindsLeast (Returns Other row) r
 Returns-same Back Other row r same =
-    Answers-same (Returns Back row) (Returns Other row) r
+    FindsLeast-same (Returns Back row) (Returns Other row) r
     (λ at cause h. let is = h.1.2 in (h.0, (h.1.0, h.1.1, (is.0, is.1, (is.2.0, is.2.1, (same is.2.0).0 is.2.2)))))
     (λ at cause h. let is = h.1.2 in (h.0, (h.1.0, h.1.1, (is.0, is.1, (is.2.0, is.2.1, (same is.2.0).1 is.2.2)))))
 

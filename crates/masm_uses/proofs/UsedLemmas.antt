@@ -16,9 +16,9 @@ use Rattle.masm_names.specs.declared.refusal.LinkCause.TheVariants as causes
 use Rattle.masm_uses.specs.Dangling.{missing_cause}
 use Rattle.graphs.specs.Graph.{Leads, itself, through}
 use Rattle.masm_graph.specs.Links.{own_target, kernel_target, target_of, link_of, links_in}
-use Rattle.masm_graph.specs.Users.{Goes, AreUsers}
+use Rattle.masm_graph.specs.Users.{UsesProcedure, AreUsers}
 use Rattle.masm_names.specs.Uses as uses
-use Rattle.masm_names.specs.Uses.{Kind, Own, Kernel, Use, uses_of, place_in, first_place, UsedIn, Reaches}
+use Rattle.masm_names.specs.Uses.{Owner, Own, Kernel, Use, uses_of, place_in, first_place, UsedIn, Reaches}
 use Rattle.masm_names.proofs.DoubleLemmas.{cons_cases}
 use Rattle.masm_graph.proofs.UserLemmas.{user_within}
 use Rattle.graphs.proofs.WalkLemmas.{Leads-push}
@@ -113,25 +113,25 @@ kernel_leads None j e = cc
 kernel_leads (Some k) j e = cc
 
 module _ (own kernel : List ℕ → Option ℕ) where
-  pub missing_by : (kind : Kind) (name : List ℕ) (cause : LinkCause) → missing_cause (target_of own kernel kind name) ≡ Some cause
+  pub missing_by : (kind : Owner) (name : List ℕ) (cause : LinkCause) → missing_cause (target_of own kernel kind name) ≡ Some cause
       → ((kind ≡ Own) × (own name ≡ None) × (cause ≡ causes.UnknownProcedure))
       ⊎ ((kind ≡ Kernel) × (kernel name ≡ None) × (cause ≡ causes.NotInKernel))
   missing_by Own name cause e = let m = own_missing (own name) cause e in inl (refl, m.0, m.1)
   missing_by Kernel name cause e = let m = kernel_missing (kernel name) cause e in inr (refl, m.0, m.1)
 
-  pub missing_own : (kind : Kind) (name : List ℕ) → kind ≡ Own → own name ≡ None
+  pub missing_own : (kind : Owner) (name : List ℕ) → kind ≡ Own → own name ≡ None
       → missing_cause (target_of own kernel kind name) ≡ Some causes.UnknownProcedure
   missing_own kind name is none = ap (λ k. missing_cause (target_of own kernel k name)) is ∙ ap (λ o. missing_cause (own_target o)) none
 
-  pub missing_kernel : (kind : Kind) (name : List ℕ) → kind ≡ Kernel → kernel name ≡ None
+  pub missing_kernel : (kind : Owner) (name : List ℕ) → kind ≡ Kernel → kernel name ≡ None
       → missing_cause (target_of own kernel kind name) ≡ Some causes.NotInKernel
   missing_kernel kind name is none = ap (λ k. missing_cause (target_of own kernel k name)) is ∙ ap (λ o. missing_cause (kernel_target o)) none
 
-  pub leads_by : (kind : Kind) (name : List ℕ) (j : ℕ) → target_of own kernel kind name ≡ targets.Own j → (kind ≡ Own) × (own name ≡ Some j)
+  pub leads_by : (kind : Owner) (name : List ℕ) (j : ℕ) → target_of own kernel kind name ≡ targets.Own j → (kind ≡ Own) × (own name ≡ Some j)
   leads_by Own name j e = (refl, own_leads (own name) j e)
   leads_by Kernel name j e = absurd (kernel_leads (kernel name) j e)
 
-  pub leads_own : (kind : Kind) (name : List ℕ) (j : ℕ) → kind ≡ Own → own name ≡ Some j → target_of own kernel kind name ≡ targets.Own j
+  pub leads_own : (kind : Owner) (name : List ℕ) (j : ℕ) → kind ≡ Own → own name ≡ Some j → target_of own kernel kind name ≡ targets.Own j
   leads_own kind name j is some = ap (λ k. target_of own kernel k name) is ∙ ap own_target some
 
 -- The uses of the source's own procedures, where a name's place is the first one.
@@ -152,14 +152,14 @@ module _ (own kernel : List ℕ → Option ℕ) (procs : List Proc) (places : (n
         leads_own own kernel u.kind u.name j is.own (places u.name ∙ is.target),
       )
 
-  pub goes_used : (i j : ℕ) → Goes (map (links_in own kernel) procs) i j → (u : Use) × UsedIn (map procedure_of procs) i u j
+  pub goes_used : (i j : ℕ) → UsesProcedure (map (links_in own kernel) procs) i j → (u : Use) × UsedIn (map procedure_of procs) i u j
   goes_used i j goes =
       elim (slice_get_cases (map (links_in own kernel) procs) i).1 [
         | inl row ↦
             let found = unmapped (links_in own kernel) procs i row.0 row.2 in
             let p = found.0 in
             let same = row.3 ∙ found.2 in
-            let has = subst (λ r. Goes r i j) refl goes in
+            let has = subst (λ r. UsesProcedure r i j) refl goes in
             let k = has.0 in
             let link = has.1 in
             let at_k : slice_get (get_or (map (links_in own kernel) procs) i []) k ≡ Some link = slice_get-get_or _ k link has.2 ∙ ap Some has.3 in
@@ -169,7 +169,7 @@ module _ (own kernel : List ℕ → Option ℕ) (procs : List Proc) (places : (n
         | inr past ↦ absurd (let within = user_within _ i j goes in let l = past.0 in omega arith)
       ]
 
-  pub goes_within : (i j : ℕ) → Goes (map (links_in own kernel) procs) i j → j < length procs
+  pub goes_within : (i j : ℕ) → UsesProcedure (map (links_in own kernel) procs) i j → j < length procs
   goes_within i j goes =
       let found = goes_used i j goes in
       let below = place_within (map (λ (q : Procedure). q.name) (map procedure_of procs)) found.0.name j found.1.target in
@@ -177,7 +177,7 @@ module _ (own kernel : List ℕ → Option ℕ) (procs : List Proc) (places : (n
       let count = length-map procs procedure_of in
       omega arith
 
-  pub used_goes : (i : ℕ) (u : Use) (j : ℕ) → UsedIn (map procedure_of procs) i u j → Goes (map (links_in own kernel) procs) i j
+  pub used_goes : (i : ℕ) (u : Use) (j : ℕ) → UsedIn (map procedure_of procs) i u j → UsesProcedure (map (links_in own kernel) procs) i j
   used_goes i u j is =
       let by = used_by i u j is in
       let p = by.0 in

@@ -18,11 +18,11 @@ missing_cause targets.Unknown = Some causes.UnknownProcedure
 missing_cause targets.NotInKernel = Some causes.NotInKernel
 
 -- the use leads nowhere
-abbrev pub IsMissing : Link → Position → LinkCause → Type 0
-IsMissing link at cause = (at ≡ link.at) × (missing_cause link.target ≡ Some cause)
+abbrev pub LeadsNowhere : Link → Position → LinkCause → Type 0
+LeadsNowhere link at cause = (at ≡ link.at) × (missing_cause link.target ≡ Some cause)
 
 abbrev pub Missing : List Link → Position → LinkCause → Type 0
-Missing row = Among (λ place link. IsMissing link) row
+Missing row = Among (λ place link. LeadsNowhere link) row
 
 -- the use leads to one of these places
 abbrev pub IsReturn : (ℕ → Type 0) → Link → Position → LinkCause → Type 0

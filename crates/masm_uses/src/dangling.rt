@@ -1,6 +1,6 @@
 ghost use Rattle.std.specs.Prelude.{◌≡◌, ℕ, List, IfOk};
 ghost use Rattle.masm_tree.specs.Views.{source_of};
-ghost use Rattle.masm_names.specs.Least.{Answers};
+ghost use Rattle.masm_names.specs.Least.{FindsLeast};
 ghost use Rattle.masm_names.specs.Names.{place_at};
 ghost use Rattle.masm_names.specs.Naming.{Dangles};
 ghost use Rattle.masm_names.specs.Uses.{first_place};
@@ -21,7 +21,7 @@ pub fn first_dangling(
     kernel: &[Bytes],
 ) -> Result<Option<Refusal>, Memory>
     requires names { (name : List ℕ) → place_at names.now name ≡ first_place (source_of ast.now).procs name }
-    ensures { IfOk result (λ first. Answers (Dangles (source_of ast.now) kernel.now) first) }
+    ensures { IfOk result (λ first. FindsLeast (Dangles (source_of ast.now) kernel.now) first) }
 {
     let exports = Names::of(alloc, kernel)?;
     let rows = all_links(alloc, names, &exports, &ast.procs)?;

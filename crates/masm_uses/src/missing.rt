@@ -1,14 +1,14 @@
 ghost use Rattle.masm_names.specs.Among.{Among};
-ghost use Rattle.masm_uses.specs.Dangling.{IsMissing, Missing};
+ghost use Rattle.masm_uses.specs.Dangling.{LeadsNowhere, Missing};
 ghost use Rattle.graphs.specs.Graph.{rows_of};
-ghost use Rattle.masm_names.specs.Least.{Answers};
+ghost use Rattle.masm_names.specs.Least.{FindsLeast};
 
 use masm_graph::{Link, Target};
 use masm_names::{LinkCause, Refusal, earlier};
 
 // The refusal of a use that leads nowhere.
 fn missing(link: Link) -> Option<Refusal>
-    ensures { Answers (IsMissing link) result }
+    ensures { FindsLeast (LeadsNowhere link) result }
 {
     let cause = match link.target {
         Target::Unknown => LinkCause::UnknownProcedure,
@@ -20,7 +20,7 @@ fn missing(link: Link) -> Option<Refusal>
 
 // The first of these uses that leads nowhere.
 pub(crate) fn first_missing(row: &[Link]) -> Option<Refusal>
-    ensures { Answers (Missing row.now) result }
+    ensures { FindsLeast (Missing row.now) result }
 {
     let mut first = None;
     for link in row {
@@ -31,7 +31,7 @@ pub(crate) fn first_missing(row: &[Link]) -> Option<Refusal>
 
 // The first use in these rows that leads nowhere.
 pub(crate) fn first_missing_of(rows: &[Vec<Link>]) -> Option<Refusal>
-    ensures { Answers (Among (λ place row. Missing row) (rows_of rows.now)) result }
+    ensures { FindsLeast (Among (λ place row. Missing row) (rows_of rows.now)) result }
 {
     let mut first = None;
     for row in rows {

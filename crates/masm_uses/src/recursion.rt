@@ -2,7 +2,7 @@ ghost use Rattle.std.specs.Prelude.{◌≡◌, ℕ, ◌<◌, Bool, true, false, 
 ghost use Rattle.std.specs.List.{list_any};
 ghost use Rattle.masm_uses.specs.Dangling.{IsReturn, Returns, Recursions, waits};
 ghost use Rattle.graphs.specs.Graph.{rows_of, IsGraph, Leads};
-ghost use Rattle.masm_names.specs.Least.{Answers};
+ghost use Rattle.masm_names.specs.Least.{FindsLeast};
 ghost use Rattle.masm_graph.specs.Users.{HasOwn, AreUsers};
 
 use graphs::{is_marked, reached};
@@ -12,7 +12,7 @@ use std::alloc::{AllocError, Global};
 
 // The refusal of a use that leads to one of the places that are marked.
 fn returning(marks: &[bool], link: Link) -> Option<Refusal>
-    ensures { Answers (IsReturn (λ place. slice_index_or marks.now place false ≡ true) link) result }
+    ensures { FindsLeast (IsReturn (λ place. slice_index_or marks.now place false ≡ true) link) result }
 {
     let Target::Own(place) = link.target else {
         return None;
@@ -28,7 +28,7 @@ fn returning(marks: &[bool], link: Link) -> Option<Refusal>
 
 // The first of these uses that leads to one of the places that are marked.
 fn first_return(marks: &[bool], row: &[Link]) -> Option<Refusal>
-    ensures { Answers (Returns (λ place. slice_index_or marks.now place false ≡ true) row.now) result }
+    ensures { FindsLeast (Returns (λ place. slice_index_or marks.now place false ≡ true) row.now) result }
 {
     let mut first = None;
     for link in row {
@@ -74,7 +74,7 @@ fn with_row(
     requires user { user < length users.now }
     requires settled { is_settled ≡ true → (place : ℕ) → HasOwn row.now place
         → ¬ (Leads (rows_of users.now) user place) }
-    ensures { IfOk result (λ now. Answers (λ at cause. (first ≡ Some (record { at = at; cause = cause }))
+    ensures { IfOk result (λ now. FindsLeast (λ at cause. (first ≡ Some (record { at = at; cause = cause }))
         ⊎ Returns (Leads (rows_of users.now) user) row.now at cause) now) }
 {
     if is_settled {
@@ -94,7 +94,7 @@ pub(crate) fn first_recursion(
     rows: &[Vec<Link>],
 ) -> Result<Option<Refusal>, AllocError>
     requires { AreUsers (rows_of rows.now) (rows_of users.now) }
-    ensures { IfOk result (λ first. Answers (Recursions (rows_of users.now) (rows_of rows.now)) first) }
+    ensures { IfOk result (λ first. FindsLeast (Recursions (rows_of users.now) (rows_of rows.now)) first) }
 {
     let settled = settled(alloc, rows, users)?;
     let mut first = None;

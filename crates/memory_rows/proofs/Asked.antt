@@ -1,10 +1,11 @@
 -- From how often tuples count: each row's access is asked, and each one asked has a row.
-use Rattle.std.proofs.Common.{◌≡◌, ℕ, zero, suc, ◌+◌, ◌<◌, ◌⊎◌, inl, inr, ⊎_elim, true, cond, nat_eq, List, [], ◌∷◌, length, Option, Some, None, refl, sym, ap, subst, ◌∙◌, arith}
-use Rattle.std.proofs.lemmas.Bool.{cases_Bool, eq-eqb}
+use Rattle.std.proofs.Common.{◌≡◌, ℕ, zero, suc, ◌+◌, ◌<◌, ◌⊎◌, inl, inr, ⊎_elim, cond, nat_eq, List, [], ◌∷◌, length, Option, Some, None, refl, sym, ap, subst, ◌∙◌, arith}
+use Rattle.std.proofs.lemmas.Bool.{cases_Bool}
 use Rattle.std.specs.Cmp.Lexicographic.{same_text}
 use lib.Pointwise.{pointwise}
 use Rattle.buses.specs.Counts.{counted, hits, once, over_first, over_rows, total}
 use Rattle.buses.specs.declared.bus.Bus.TheVariants as bus
+use Rattle.buses.proofs.Counting.{tuple-same}
 use Rattle.air_kit.specs.declared.requests.Access.{Access}
 use Rattle.air_kit.specs.declared.trace.TableName.TheVariants as table
 use Rattle.air_kit.specs.ChipTuples.{chip_given, memory_given}
@@ -44,13 +45,9 @@ term_of (suc n) f i h p =
 
 -- ---- tuples
 
-same_self : (t : List ℕ) → pointwise nat_eq t t ≡ true
-same_self [] = refl
-same_self (x ∷ t) = rw (eq-eqb x x refl) (same_self t)
-
 one_counts : (t : List ℕ) → 0 < counted (once t ∷ []) t
 unfolding counted
-one_counts t = let e : hits t 1 t ≡ 1 = ap (λ b. cond b 1 0) (same_self t) in omega (arith, e)
+one_counts t = let e : hits t 1 t ≡ 1 = ap (λ b. cond b 1 0) (tuple-same t) in omega (arith, e)
 
 one_is : (t u : List ℕ) → 0 < counted (once t ∷ []) u → t ≡ u
 unfolding counted

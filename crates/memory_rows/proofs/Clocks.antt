@@ -7,7 +7,7 @@ use Rattle.std.proofs.lemmas.List.{get_or_default}
 use Rattle.std.proofs.lemmas.List.Sorted.{sum_by-IsPermutation}
 use Rattle.std.proofs.lemmas.List.Sums.{get_or-le-sum_by, sum_by-cons}
 use Rattle.air_kit.specs.declared.requests.Access.{Access}
-use Rattle.memory_rows.specs.MemoryTables.{Fit}
+use Rattle.memory_rows.specs.MemoryTables.{AccessesFit}
 
 -- 1 for an access at this clock
 abbrev pub at_clock : ℕ → Access → ℕ
@@ -29,7 +29,7 @@ clock_self a = ap (λ b. cond b 1 0) (eq-eqb a.clk a.clk refl)
 abbrev pub Apart : List Access → Type 0
 Apart accesses = (i j : ℕ) (d : Access) → i < j → j < length accesses → (slice_index_or accesses i d).clk ≡ (slice_index_or accesses j d).clk → ⊥
 
-pub fit_apart : (accesses : List Access) → Fit accesses → Apart accesses
+pub fit_apart : (accesses : List Access) → AccessesFit accesses → Apart accesses
 fit_apart accesses f i j d less h same =
     let hi : i < length accesses = omega (arith, less, h) in
     let e : i ≡ j =

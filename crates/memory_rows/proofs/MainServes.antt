@@ -12,7 +12,8 @@ use Rattle.air_kit.specs.MainTuples.{accesses_of, memory_asked}
 use Rattle.air_kit.specs.RowStates.{memory_at, memory_behind as row_behind, written_by}
 use Rattle.memory_rows.specs.Accesses.{Keeps}
 use Rattle.memory_rows.specs.MainAccesses.{GivesMain, HasMainRow, IsClocked, PairsMain, ServesMain, access_by}
-use Rattle.memory_rows.specs.MemoryTables.{HaveLimbs, IsZero, access_at, row_at}
+use Rattle.vm_table.specs.Layout.{row_at}
+use Rattle.memory_rows.specs.MemoryTables.{HaveLimbs, MemoryIsZero, access_at}
 use Rattle.memory_rows.specs.Serving.{AreAsks, ArePaired, AreServed, GivesAsks, asked_of, memory_before, memory_behind}
 use Rattle.memory_rows.proofs.TableServes.{pairs, serves}
 
@@ -105,7 +106,7 @@ memory_same main (suc i) h =
     memory_is (op_of (row_at main i)) (row_at main i) (row_at main (suc i)) (memory_at main i)
     ∙ ap₂ memory_behind (sym (row_asks main i (row_at main (suc i)) next)) (memory_same main i (omega (arith, h)))
 
-pub main_serves : (main rows : List (List ℕ)) → IsClocked main → IsZero rows → HaveLimbs rows → GivesMain main rows → ServesMain main
+pub main_serves : (main rows : List (List ℕ)) → IsClocked main → MemoryIsZero rows → HaveLimbs rows → GivesMain main rows → ServesMain main
 main_serves main rows c z limbs alike i y a next is =
     let after : suc i < length main = slice_get_within main (suc i) y next in
     let inside : i < length main = omega (arith, after) in
@@ -130,7 +131,7 @@ main_row main a is =
     let made = row_makes (row_at main a.clk) (slice_get main (suc a.clk)) a is in
     record { behind = made.0; next = made.1; accesses = made.2 }
 
-pub pairs_main : (main rows : List (List ℕ)) → IsClocked main → IsZero rows → HaveLimbs rows → GivesMain main rows → PairsMain main rows
+pub pairs_main : (main rows : List (List ℕ)) → IsClocked main → MemoryIsZero rows → HaveLimbs rows → GivesMain main rows → PairsMain main rows
 pairs_main main rows c z limbs alike = record {
   shown = λ i y a next is.
       (let after : suc i < length main = slice_get_within main (suc i) y next in

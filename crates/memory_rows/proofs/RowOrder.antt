@@ -7,7 +7,7 @@ use Rattle.chip_columns.specs.MemoryColumns.{ctx, addr, clk, v, n0, n1}
 use Rattle.air_kit.specs.declared.requests.Access.{Access}
 use Rattle.memory_rows.specs.Accesses.{access_of, is_at, key_of, word_behind}
 use Rattle.memory_rows.proofs.Numbers.{Moves, by_context, by_address, by_clock, limit}
-use Rattle.memory_rows.proofs.RowZeros.{CellsBelow}
+use Rattle.memory_rows.proofs.RowZeros.{CellsBelow, four}
 
 -- ---- keys
 
@@ -44,10 +44,6 @@ once_times x h = omega arith
 -- four products by one factor
 abbrev products : ℕ → List ℕ → List ℕ
 products g x = felt_mul g (v x 0) ∷ felt_mul g (v x 1) ∷ felt_mul g (v x 2) ∷ felt_mul g (v x 3) ∷ []
-
-four : (a b c d a' b' c' d' : ℕ) → a ≡ a' → b ≡ b' → c ≡ c' → d ≡ d'
-    → ◌≡◌ {A = List ℕ} (a ∷ b ∷ c ∷ d ∷ []) (a' ∷ b' ∷ c' ∷ d' ∷ [])
-four a b c d a' b' c' d' ea eb ec ed = cc
 
 no_products : (x : List ℕ) → products 0 x ≡ zero_word
 no_products x = four _ _ _ _ _ _ _ _ (none_times (v x 0)) (none_times (v x 1)) (none_times (v x 2)) (none_times (v x 3))

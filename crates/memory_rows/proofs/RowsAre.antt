@@ -1,19 +1,18 @@
 -- A table whose entries are 0 is the rows of its accesses.
-use Rattle.std.proofs.Common.{◌≡◌, ℕ, zero, suc, ◌+◌, ◌-◌, ◌*◌, ◌/◌, ◌%◌, ◌^◌, ◌<◌, ◌==◌, Bool, true, false, cond, List, [], ◌∷◌, length, slice_index, slice_get, Option, Some, refl, sym, ap, ap₂, subst, ◌∙◌, arith}
+use Rattle.std.proofs.Common.{◌≡◌, ℕ, zero, suc, ◌+◌, ◌-◌, ◌*◌, ◌/◌, ◌%◌, ◌<◌, ◌==◌, true, false, cond, List, [], ◌∷◌, length, slice_index, slice_get, Option, Some, refl, sym, ap, ap₂, subst, ◌∙◌, arith}
 use Rattle.std.proofs.lemmas.Bool.{eq-eqb, ne_eqb}
 use Rattle.std.proofs.lemmas.List.{ext_get_or}
 use Rattle.std.proofs.lemmas.Option.{slice_get-get_or}
-use Rattle.vm_field.specs.Field.{prime, felt_add, felt_sub, felt_mul}
+use Rattle.vm_field.specs.Field.{prime, felt_add, felt_mul}
 use Rattle.chip_columns.specs.MemoryColumns.{kind, ctx, addr, clk, v, n0, n1, d0, d1, a0, a1}
 use Rattle.air_kit.specs.declared.requests.Access.{Access}
-use Rattle.air_kit.specs.MemoryValues.{access_values, entry_1, entry_5, goes_on_here, memory_values, order_step, step_of, word_values}
-use Rattle.air_kit.specs.Traces.{spot_of}
-use Rattle.memory_rows.specs.Accesses.{access_of}
+use Rattle.air_kit.specs.MemoryValues.{access_values, entry_1, entry_5, goes_on_here, memory_values, order_step, step_of}
 use Rattle.memory_rows.specs.AccessRows.{new_address, new_context, row_behind, step_behind}
-use Rattle.memory_rows.specs.MemoryTables.{AreSmall, HasLimbs, HaveLimbs, IsZero, access_at, row_at}
-use Rattle.memory_rows.specs.TableRows.{AreRows, first_row}
+use Rattle.vm_table.specs.Layout.{row_at}
+use Rattle.memory_rows.specs.MemoryTables.{AreSmall, HasLimbs, HaveLimbs, MemoryIsZero, access_at}
+use Rattle.memory_rows.specs.TableRows.{AreAccessRows, first_row}
 use Rattle.memory_rows.proofs.Numbers.{Moves, address_from, by_address, by_clock, by_context, by_flags, first_alone, limit, over, over_below, second_alone, step_from, third_alone}
-use Rattle.memory_rows.proofs.RowZeros.{AllZero, CellsBelow, FirstSays, NextSays, RowSays}
+use Rattle.memory_rows.proofs.RowZeros.{AllZero, CellsBelow, FirstSays, RowSays}
 use Rattle.memory_rows.proofs.ZerosOrder.{cells_below, says, says_first, says_next, spot_zero}
 
 -- ---- a row's cells
@@ -128,7 +127,7 @@ none_by_one m h e = omega (arith, h, e)
 none_else : (n m : ℕ) → n ≡ 1 → m < 2 → felt_mul n m ≡ 0 → m ≡ 0
 none_else n m e h z = none_by_one m h (ap (λ k. felt_mul k m) (sym e) ∙ z)
 
-module _ (rows : List (List ℕ)) (z : IsZero rows) (limbs : HaveLimbs rows) (small : AreSmall rows) where
+module _ (rows : List (List ℕ)) (z : MemoryIsZero rows) (limbs : HaveLimbs rows) (small : AreSmall rows) where
   address_at : (i : ℕ) → i < length rows → addr (row_at rows i) ≡ a0 (row_at rows i) + 65536 * a1 (row_at rows i)
   address_at i h = address_is i (row_at rows i) (slice_get rows (suc i)) (cells_below rows z i) (limbs i h) (spot_zero rows z i h)
 
@@ -185,5 +184,5 @@ module _ (rows : List (List ℕ)) (z : IsZero rows) (limbs : HaveLimbs rows) (sm
       whole : step_behind (Some (access_at rows i)) (access_at rows (suc i)) ≡ d0 y + 65536 * d1 y
       whole = sym f.step_is ∙ joined (d0 y) (d1 y) l.d0_small l.d1_small
 
-pub zeros_are_rows : (rows : List (List ℕ)) → IsZero rows → HaveLimbs rows → AreSmall rows → AreRows rows
+pub zeros_are_rows : (rows : List (List ℕ)) → MemoryIsZero rows → HaveLimbs rows → AreSmall rows → AreAccessRows rows
 zeros_are_rows rows z limbs small = record { first = first_is rows z limbs small; later = later_is rows z limbs small }

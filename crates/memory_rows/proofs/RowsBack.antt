@@ -1,18 +1,17 @@
 -- The rows of accesses in order have entries 0.
-use Rattle.std.proofs.Common.{◌≡◌, ℕ, zero, suc, ◌+◌, ◌*◌, ◌<◌, ◌≤◌, ◌⊎◌, inl, inr, List, [], length, slice_get, Option, Some, None, option_map, refl, sym, ap, subst, ◌∙◌, arith}
+use Rattle.std.proofs.Common.{◌≡◌, ℕ, zero, suc, ◌<◌, ◌≤◌, ◌⊎◌, inl, inr, List, [], length, slice_get, Option, Some, None, option_map, refl, sym, ap, subst, ◌∙◌, arith}
 use Rattle.std.proofs.lemmas.Bool.{cases_lt}
 use Rattle.std.proofs.lemmas.Option.{slice_get-get_or, slice_get_past}
 use Rattle.vm_field.proofs.Elements.{word-of}
-use Rattle.vm_table.specs.Layout.{IsTable}
+use Rattle.vm_table.specs.Layout.{IsTable, row_at}
 use Rattle.chip_columns.specs.MemoryColumns.{d0, d1}
 use Rattle.air_kit.specs.Places.{family}
 use Rattle.air_kit.specs.MemoryValues.{access_values, entry_1, entry_5, goes_on_here, memory_values, order_step, step_of, word_values}
 use Rattle.air_kit.specs.Traces.{spot_of}
 use Rattle.air_kit.specs.declared.requests.Access.{Access}
-use Rattle.memory_rows.specs.Accesses.{key_of}
 use Rattle.memory_rows.specs.AccessRows.{row_behind}
-use Rattle.memory_rows.specs.MemoryTables.{AreOrdered, AreSmall, IsZero, access_at, access_before, row_at}
-use Rattle.memory_rows.specs.TableRows.{AreRows, first_row}
+use Rattle.memory_rows.specs.MemoryTables.{AreOrdered, AreSmall, MemoryIsZero, access_at, access_before}
+use Rattle.memory_rows.specs.TableRows.{AreAccessRows, first_row}
 use Rattle.memory_rows.proofs.BehindZero.{NextFits, row_zero}
 use Rattle.memory_rows.proofs.Fitting.{FitsBehind, Follows, IsShown}
 use Rattle.memory_rows.proofs.RowZeros.{AllZero}
@@ -26,7 +25,7 @@ first_values : (a : Access) (low high : ℕ) (next : Option (List ℕ))
 unfolding memory_values access_values word_values entry_1 entry_5 order_step step_of goes_on_here family row_behind first_row
 first_values a low high next = refl
 
-module _ (rows : List (List ℕ)) (table : IsTable 14 rows) (small : AreSmall rows) (o : AreOrdered rows) (are : AreRows rows) where
+module _ (rows : List (List ℕ)) (table : IsTable 14 rows) (small : AreSmall rows) (o : AreOrdered rows) (are : AreAccessRows rows) where
   shown : (i : ℕ) → i < length rows → IsShown (access_at rows i)
   shown i h = record {
     kind = o.kinds i h;
@@ -75,7 +74,7 @@ module _ (rows : List (List ℕ)) (table : IsTable 14 rows) (small : AreSmall ro
       (sym n.1 ∙ is)
       (row_zero (suc i) (Some (access_at rows i)) (access_at rows (suc i)) n.0 (fits (suc i) h) (λ e. absurd (omega (arith, e))) n.2)))
 
-pub rows_are_zero : (rows : List (List ℕ)) → IsTable 14 rows → AreSmall rows → AreOrdered rows → AreRows rows → IsZero rows
+pub rows_are_zero : (rows : List (List ℕ)) → IsTable 14 rows → AreSmall rows → AreOrdered rows → AreAccessRows rows → MemoryIsZero rows
 rows_are_zero rows table small o are = record {
   table = table;
   zero = λ i number h. zero_number (memory_values (spot_of rows i)) number (spot_zeros rows table small o are i h);

@@ -1,5 +1,5 @@
 -- The rows of accesses give these, and so do those of the same accesses in another order.
-use Rattle.std.proofs.Common.{◌≡◌, ℕ, zero, suc, ◌+◌, List, [], ◌∷◌, map, length, Option, Some, None, refl, sym, ap, ap₂, ◌∙◌, arith}
+use Rattle.std.proofs.Common.{◌≡◌, ℕ, ◌+◌, List, [], ◌∷◌, map, length, Option, Some, None, refl, sym, ap, ap₂, ◌∙◌, arith}
 use Rattle.std.specs.List.{sum_by}
 use Rattle.std.specs.List.Sorted.{IsPermutation}
 use Rattle.std.proofs.lemmas.List.Sorted.{sum_by-IsPermutation}
@@ -8,6 +8,7 @@ use Rattle.vm_field.specs.Machine.{IsWord}
 use Rattle.vm_field.proofs.Elements.{word-again}
 use Rattle.buses.specs.Counts.{counted, hits, over_rows, total}
 use Rattle.buses.specs.declared.bus.Bus.TheVariants as bus
+use Rattle.buses.proofs.Counting.{total-front}
 use Rattle.air_kit.specs.declared.requests.Access.{Access}
 use Rattle.air_kit.specs.declared.trace.TableName.TheVariants as table
 use Rattle.air_kit.specs.ChipTuples.{chip_given}
@@ -17,11 +18,6 @@ use Rattle.memory_rows.specs.AccessRows.{row_behind, rows_behind}
 use Rattle.memory_rows.specs.MemoryTables.{access_at}
 use Rattle.memory_rows.proofs.Asked.{given_is, rows_give, same_fields, tuple_of}
 use Rattle.memory_rows.proofs.RowsZero.{Linked}
-
-total_front : (n : ℕ) (f : ℕ → ℕ) → total (suc n) f ≡ f 0 + total n (λ i. f (suc i))
-unfolding total
-total_front zero f = omega arith
-total_front (suc n) f = let e = total_front n f in omega (arith, e)
 
 -- the row of an access shows it
 access_again : (before : Option Access) (a : Access) → IsWord a.word → access_of (row_behind before a) ≡ a
@@ -38,7 +34,7 @@ linked_give : (before : Option Access) (accesses : List Access) (u : List ℕ) �
 unfolding rows_behind Linked total counted
 linked_give before [] u l = refl
 linked_give before (a ∷ accesses) u l =
-    total_front (length (rows_behind (Some a) accesses))
+    total-front (length (rows_behind (Some a) accesses))
     (λ q. counted (access_given (access_at (row_behind before a ∷ rows_behind (Some a) accesses) q) ∷ []) u)
     ∙ ap₂ (λ m n. m + n) (ap (λ b. counted (access_given b ∷ []) u) (access_again before a l.0.shown.word)) (linked_give (Some a) accesses u l.1)
     ∙ sym (counts_more a accesses u)

@@ -5,12 +5,12 @@ use Rattle.std.proofs.lemmas.List.Sorted.{length_permutation}
 use Rattle.air_kit.specs.declared.requests.Access.{Access}
 use Rattle.memory_rows.specs.Accesses.{key_of}
 use Rattle.memory_rows.specs.AccessRows.{rows_of}
-use Rattle.memory_rows.specs.MemoryTables.{Fit, ShowsAccesses}
+use Rattle.memory_rows.specs.MemoryTables.{AccessesFit, ShowsAccesses}
 use Rattle.memory_rows.proofs.RowsGive.{sorted_give}
 use Rattle.memory_rows.proofs.RowsZero.{Linked, rows_limbs, rows_size, rows_zero}
 use Rattle.memory_rows.proofs.SortedFit.{sorted_linked}
 
-pub rows_show : (accesses sorted : List Access) → Fit accesses → IsPermutation accesses sorted → IsNonDecreasingBy key_of sorted
+pub rows_show : (accesses sorted : List Access) → AccessesFit accesses → IsPermutation accesses sorted → IsNonDecreasingBy key_of sorted
     → ShowsAccesses accesses (rows_of sorted)
 rows_show accesses sorted f p n = record {
   size = rows_size None sorted ∙ length_permutation accesses sorted p;

@@ -8,7 +8,7 @@ use Rattle.air_kit.specs.Places.{at_number}
 use Rattle.air_kit.specs.MemoryValues.{memory_values}
 use Rattle.air_kit.specs.declared.requests.Access.{Access}
 use Rattle.memory_rows.specs.AccessRows.{new_address, new_context, row_behind, rows_behind, step_behind}
-use Rattle.memory_rows.specs.MemoryTables.{HasLimbs, HaveLimbs, IsZero}
+use Rattle.memory_rows.specs.MemoryTables.{HasLimbs, HaveLimbs, MemoryIsZero}
 use Rattle.memory_rows.proofs.BehindZero.{NextFits, flags_zero, row_zero}
 use Rattle.memory_rows.proofs.Entries.{high_small, low_small}
 use Rattle.memory_rows.proofs.Fitting.{FitsBehind}
@@ -128,7 +128,7 @@ unfolding at_number
 zero_number values zero zeros = refl
 zero_number values (suc n) zeros = zeros n
 
-pub rows_zero : (accesses : List Access) → Linked None accesses → IsZero (rows_behind None accesses)
+pub rows_zero : (accesses : List Access) → Linked None accesses → MemoryIsZero (rows_behind None accesses)
 rows_zero accesses l = record {
   table = is_table (rows_behind None accesses) (rows_are None accesses l);
   zero = λ i number h.

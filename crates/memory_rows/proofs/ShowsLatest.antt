@@ -6,7 +6,7 @@ use Rattle.vm_field.specs.Machine.{zero_word}
 use Rattle.air_kit.specs.declared.requests.Access.{Access}
 use Rattle.air_kit.specs.Requests.{IsEarlier, IsWordBefore, last, never}
 use Rattle.memory_rows.specs.Accesses.{Keeps, access_of, is_at, key_of, word_behind}
-use Rattle.memory_rows.specs.MemoryTables.{AreOrdered, AreSmall, HaveLimbs, IsZero, ShowLatest, access_at}
+use Rattle.memory_rows.specs.MemoryTables.{AreOrdered, AreSmall, HaveLimbs, MemoryIsZero, ShowLatest, access_at}
 use Rattle.memory_rows.proofs.InOrder.{rows_from_keys}
 use Rattle.memory_rows.proofs.Keys.{between, key_of_place, rise_to}
 use Rattle.memory_rows.proofs.Latest.{place_is}
@@ -117,5 +117,5 @@ shows_at : (rows : List (List ℕ)) → AreOrdered rows → AreSmall rows → Sh
 shows_at rows o small zero h = first_shows rows o h
 shows_at rows o small (suc q) h = next_shows rows o small q h
 
-pub shows_latest : (rows : List (List ℕ)) → IsZero rows → HaveLimbs rows → AreSmall rows → ShowLatest rows
+pub shows_latest : (rows : List (List ℕ)) → MemoryIsZero rows → HaveLimbs rows → AreSmall rows → ShowLatest rows
 shows_latest rows z limbs small = shows_at rows (zeros_are_ordered rows z limbs small) small

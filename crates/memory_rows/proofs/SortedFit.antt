@@ -6,7 +6,7 @@ use Rattle.vm_field.specs.Machine.{zero_word}
 use Rattle.air_kit.specs.declared.requests.Access.{Access}
 use Rattle.air_kit.specs.Requests.{FitsMemory}
 use Rattle.memory_rows.specs.Accesses.{Keeps, is_at, key_of, word_behind}
-use Rattle.memory_rows.specs.MemoryTables.{Fit}
+use Rattle.memory_rows.specs.MemoryTables.{AccessesFit}
 use Rattle.memory_rows.proofs.Fitting.{FitsBehind, Follows}
 use Rattle.memory_rows.proofs.RowsZero.{Linked}
 use Rattle.memory_rows.proofs.SortedKeys.{IsInOrder, fits_at, follows_from, shown_at, strict}
@@ -57,7 +57,7 @@ linked_from before [] first later = tt
 linked_from before (a ∷ accesses) first later =
     (first a (omega arith), linked_from (Some a) accesses (λ d h. later 0 d (omega (arith, h))) (λ q d h. later (suc q) d (omega (arith, h))))
 
-pub sorted_linked : (accesses sorted : List Access) → Fit accesses → IsPermutation accesses sorted → IsNonDecreasingBy key_of sorted
+pub sorted_linked : (accesses sorted : List Access) → AccessesFit accesses → IsPermutation accesses sorted → IsNonDecreasingBy key_of sorted
     → Linked None sorted
 sorted_linked accesses sorted f p n =
     let o : IsInOrder accesses sorted = record { fit = f; moved = p; order = n } in

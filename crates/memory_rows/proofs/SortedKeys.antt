@@ -6,7 +6,7 @@ use Rattle.std.proofs.lemmas.List.Sorted.{All-permutation}
 use Rattle.air_kit.specs.declared.requests.Access.{Access}
 use Rattle.air_kit.specs.Requests.{FitsMemory}
 use Rattle.memory_rows.specs.Accesses.{key_of}
-use Rattle.memory_rows.specs.MemoryTables.{Fit, IsSmall}
+use Rattle.memory_rows.specs.MemoryTables.{AccessesFit, IsSmallAccess}
 use Rattle.memory_rows.proofs.Clocks.{fit_apart, sorted_apart}
 use Rattle.memory_rows.proofs.Fitting.{Follows, IsShown, address, clock, context}
 use Rattle.memory_rows.proofs.Keys.{Rises}
@@ -14,7 +14,7 @@ use Rattle.memory_rows.proofs.Numbers.{limit}
 
 -- accesses that fit, and the same in order
 pub record IsInOrder (accesses sorted : List Access) : Type 0 where
-  pub fit : Fit accesses
+  pub fit : AccessesFit accesses
   pub moved : IsPermutation accesses sorted
   pub order : IsNonDecreasingBy key_of sorted
 
@@ -23,7 +23,7 @@ pub record IsInOrder (accesses sorted : List Access) : Type 0 where
 clock_small : (k : ℕ) → k < 2 ^ 19 → k < limit
 clock_small k h = omega arith
 
-shown_from : (accesses : List Access) (a : Access) → IsSmall a → FitsMemory accesses a → IsShown a
+shown_from : (accesses : List Access) (a : Access) → IsSmallAccess a → FitsMemory accesses a → IsShown a
 shown_from accesses a s f = record {
   kind = f.kind;
   limits = record { c_small = s.ctx; a_small = s.addr; k_small = clock_small a.clk f.clk };
@@ -37,7 +37,7 @@ fits_at accesses sorted o q d h = All-permutation (FitsMemory accesses) accesses
 pub shown_at : (accesses sorted : List Access) → IsInOrder accesses sorted → (q : ℕ) (d : Access) → q < length sorted
     → IsShown (slice_index_or sorted q d)
 shown_at accesses sorted o q d h =
-    shown_from accesses (slice_index_or sorted q d) (All-permutation IsSmall accesses sorted o.moved o.fit.small q d h)
+    shown_from accesses (slice_index_or sorted q d) (All-permutation IsSmallAccess accesses sorted o.moved o.fit.small q d h)
     (fits_at accesses sorted o q d h)
 
 -- ---- keys

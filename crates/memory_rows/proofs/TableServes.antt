@@ -3,14 +3,14 @@ use Rattle.std.proofs.Common.{◌≡◌, ℕ, ◌<◌, ◌^◌, List, length, Op
 use Rattle.std.proofs.lemmas.Bool.{cases_lt}
 use Rattle.air_kit.specs.declared.requests.Access.{Access}
 use Rattle.memory_rows.specs.Accesses.{Keeps, key_of}
-use Rattle.memory_rows.specs.MemoryTables.{AreOrdered, AreSmall, HaveLimbs, IsZero, access_at}
+use Rattle.memory_rows.specs.MemoryTables.{AreOrdered, AreSmall, HaveLimbs, MemoryIsZero, access_at}
 use Rattle.memory_rows.specs.Serving.{AreAsks, ArePaired, AreServed, GivesAsks, HasRow}
 use Rattle.memory_rows.proofs.Asked.{are_asked, rows_small}
 use Rattle.memory_rows.proofs.InOrder.{InTable, keep_latest, keys_rise}
 use Rattle.memory_rows.proofs.Latest.{memory_latest}
 use Rattle.memory_rows.proofs.ZerosOrder.{zeros_are_ordered}
 
-pub serves : (asks : ℕ → Option Access) (m : ℕ) (rows : List (List ℕ)) → AreAsks asks m → IsZero rows → HaveLimbs rows
+pub serves : (asks : ℕ → Option Access) (m : ℕ) (rows : List (List ℕ)) → AreAsks asks m → MemoryIsZero rows → HaveLimbs rows
     → GivesAsks asks m rows → AreServed asks m
 serves asks m rows are z limbs gives = record {
   keeps = λ i a h is.
@@ -41,7 +41,7 @@ same_row rows o q r hq hr same = elim (cases_lt q r) [
       ]
 ]
 
-pub pairs : (asks : ℕ → Option Access) (m : ℕ) (rows : List (List ℕ)) → AreAsks asks m → IsZero rows → HaveLimbs rows
+pub pairs : (asks : ℕ → Option Access) (m : ℕ) (rows : List (List ℕ)) → AreAsks asks m → MemoryIsZero rows → HaveLimbs rows
     → GivesAsks asks m rows → ArePaired asks m rows
 pairs asks m rows are z limbs gives = record {
   asked = are_asked asks m rows are gives;

@@ -5,7 +5,8 @@ use Rattle.air_kit.specs.Places.{at_number}
 use Rattle.air_kit.specs.MemoryValues.{memory_values}
 use Rattle.air_kit.specs.Traces.{spot_of}
 use Rattle.memory_rows.specs.Accesses.{Keeps, word_behind}
-use Rattle.memory_rows.specs.MemoryTables.{AreOrdered, AreSmall, HaveLimbs, IsZero, access_at, access_before, row_at}
+use Rattle.vm_table.specs.Layout.{row_at}
+use Rattle.memory_rows.specs.MemoryTables.{AreOrdered, AreSmall, HaveLimbs, MemoryIsZero, access_at, access_before}
 use Rattle.memory_rows.proofs.RowZeros.{AllZero, CellsBelow, FirstSays, NextSays, RowSays, first_says, next_says, row_says}
 use Rattle.memory_rows.proofs.RowOrder.{rows_grow, word_is}
 
@@ -13,20 +14,20 @@ numbers_zero : (values : List ℕ) → ((number : ℕ) → at_number values numb
 unfolding at_number
 numbers_zero values zeros n = zeros (suc n)
 
-pub spot_zero : (rows : List (List ℕ)) → IsZero rows → (i : ℕ) → i < length rows → AllZero (memory_values (spot_of rows i))
+pub spot_zero : (rows : List (List ℕ)) → MemoryIsZero rows → (i : ℕ) → i < length rows → AllZero (memory_values (spot_of rows i))
 spot_zero rows z i h = numbers_zero (memory_values (spot_of rows i)) (λ number. z.zero i number h)
 
-pub cells_below : (rows : List (List ℕ)) → IsZero rows → (i : ℕ) → CellsBelow (row_at rows i)
+pub cells_below : (rows : List (List ℕ)) → MemoryIsZero rows → (i : ℕ) → CellsBelow (row_at rows i)
 cells_below rows z i k = z.table.below i k
 
-pub says : (rows : List (List ℕ)) → IsZero rows → HaveLimbs rows → (i : ℕ) → i < length rows → RowSays (row_at rows i)
+pub says : (rows : List (List ℕ)) → MemoryIsZero rows → HaveLimbs rows → (i : ℕ) → i < length rows → RowSays (row_at rows i)
 says rows z limbs i h = row_says i (row_at rows i) (slice_get rows (suc i)) (cells_below rows z i) (limbs i h) (spot_zero rows z i h)
 
-pub says_first : (rows : List (List ℕ)) → IsZero rows → HaveLimbs rows → 0 < length rows → FirstSays (row_at rows 0)
+pub says_first : (rows : List (List ℕ)) → MemoryIsZero rows → HaveLimbs rows → 0 < length rows → FirstSays (row_at rows 0)
 says_first rows z limbs h =
     first_says (row_at rows 0) (slice_get rows 1) (cells_below rows z 0) (says rows z limbs 0 h).n0_bit (spot_zero rows z 0 h)
 
-pub says_next : (rows : List (List ℕ)) → IsZero rows → HaveLimbs rows → AreSmall rows → (i : ℕ) → suc i < length rows
+pub says_next : (rows : List (List ℕ)) → MemoryIsZero rows → HaveLimbs rows → AreSmall rows → (i : ℕ) → suc i < length rows
     → NextSays (row_at rows i) (row_at rows (suc i))
 says_next rows z limbs small i h =
     next_says i (row_at rows i) (row_at rows (suc i)) (cells_below rows z (suc i)) (limbs (suc i) h) (says rows z limbs i before)
@@ -37,7 +38,7 @@ says_next rows z limbs small i h =
     before : i < length rows
     before = omega (arith, h)
 
-pub zeros_are_ordered : (rows : List (List ℕ)) → IsZero rows → HaveLimbs rows → AreSmall rows → AreOrdered rows
+pub zeros_are_ordered : (rows : List (List ℕ)) → MemoryIsZero rows → HaveLimbs rows → AreSmall rows → AreOrdered rows
 zeros_are_ordered rows z limbs small = record {
   kinds = λ i h. (says rows z limbs i h).kind_small;
   addresses = λ i h. (says rows z limbs i h).address;

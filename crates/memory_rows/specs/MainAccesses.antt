@@ -13,7 +13,8 @@ use Rattle.air_kit.specs.Flags.{op_of}
 use Rattle.air_kit.specs.MainTuples.{memory_asked}
 use Rattle.air_kit.specs.RowStates.{memory_at}
 use Rattle.memory_rows.specs.Accesses.{Keeps}
-use Rattle.memory_rows.specs.MemoryTables.{access_at, row_at}
+use Rattle.vm_table.specs.Layout.{row_at}
+use Rattle.memory_rows.specs.MemoryTables.{access_at}
 use Rattle.memory_rows.specs.Serving.{HasRow}
 
 -- an access of the word at the top of the stack, at the row's clock and in its context

@@ -1,7 +1,7 @@
 -- Tables of memory whose entries are 0, and what they show.
-use Rattle.std.specs.Prelude.{◌≡◌, ℕ, zero, suc, ◌^◌, ◌<◌, ◌≤◌, List, [], length, map, All, Option, Some, None, slice_index_or}
+use Rattle.std.specs.Prelude.{◌≡◌, ℕ, zero, suc, ◌^◌, ◌<◌, ◌≤◌, List, length, map, All, Option, Some, None, slice_index_or}
 use Rattle.vm_field.specs.Machine.{IsWord}
-use Rattle.vm_table.specs.Layout.{IsTable}
+use Rattle.vm_table.specs.Layout.{IsTable, row_at}
 use Rattle.buses.specs.Counts.{counted, over_rows}
 use Rattle.buses.specs.declared.bus.Bus.TheVariants as bus
 use Rattle.chip_columns.specs.MemoryColumns.{ctx, clk, d0, d1, a0, a1}
@@ -14,11 +14,8 @@ use Rattle.air_kit.specs.ChipTuples.{chip_given}
 use Rattle.air_kit.specs.Requests.{FitsMemory, IsWordBefore, access_given}
 use Rattle.memory_rows.specs.Accesses.{Keeps, access_of, key_of, word_behind}
 
-abbrev pub row_at : List (List ℕ) → ℕ → List ℕ
-row_at rows i = slice_index_or rows i []
-
 -- each entry is 0 in each row
-pub record IsZero (rows : List (List ℕ)) : Type 0 where
+pub record MemoryIsZero (rows : List (List ℕ)) : Type 0 where
   pub table : IsTable 14 rows
   pub zero : (i number : ℕ) → i < length rows → at_number (memory_values (spot_of rows i)) number ≡ 0
 
@@ -59,14 +56,14 @@ ShowLatest rows =
     → (before : List ℕ) × IsWordBefore (map access_of rows) (access_at rows i) before × Keeps (access_at rows i) before
 
 -- an access that a row can show
-pub record IsSmall (a : Access) : Type 0 where
+pub record IsSmallAccess (a : Access) : Type 0 where
   pub ctx : a.ctx < 2 ^ 32
   pub addr : a.addr < 2 ^ 32
   pub word : IsWord a.word
 
 -- accesses at clocks of their own, each of which shows what those before it leave
-pub record Fit (accesses : List Access) : Type 0 where
-  pub small : All IsSmall accesses
+pub record AccessesFit (accesses : List Access) : Type 0 where
+  pub small : All IsSmallAccess accesses
   pub fits : All (FitsMemory accesses) accesses
   pub apart : (i j : ℕ) (a b : Access) → slice_index_or accesses i a ≡ a → slice_index_or accesses j b ≡ b → a.clk ≡ b.clk
       → i < length accesses → j < length accesses → i ≡ j
@@ -74,6 +71,6 @@ pub record Fit (accesses : List Access) : Type 0 where
 -- rows that give these accesses and no more, whose entries are 0, and whose limbs have 16 bits
 pub record ShowsAccesses (accesses : List Access) (rows : List (List ℕ)) : Type 0 where
   pub size : length rows ≡ length accesses
-  pub zero : IsZero rows
+  pub zero : MemoryIsZero rows
   pub limbs : HaveLimbs rows
   pub given : (u : List ℕ) → over_rows (chip_given bus.Memory table.Memory) rows u ≡ counted (map access_given accesses) u

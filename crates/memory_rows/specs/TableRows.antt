@@ -3,7 +3,8 @@ use Rattle.std.specs.Prelude.{◌≡◌, ℕ, suc, ◌/◌, ◌%◌, ◌^◌, �
 use Rattle.air_kit.specs.declared.requests.Access.{Access}
 use Rattle.chip_columns.specs.MemoryColumns.{d0, d1}
 use Rattle.memory_rows.specs.AccessRows.{row_behind}
-use Rattle.memory_rows.specs.MemoryTables.{access_at, row_at}
+use Rattle.vm_table.specs.Layout.{row_at}
+use Rattle.memory_rows.specs.MemoryTables.{access_at}
 
 -- the row of the first access, which may have any step
 unfoldable pub first_row : Access → ℕ → ℕ → List ℕ
@@ -12,6 +13,6 @@ first_row a low high =
     ∷ 1 ∷ 0 ∷ low ∷ high ∷ a.addr % 2 ^ 16 ∷ a.addr / 2 ^ 16 ∷ []
 
 -- each row is that of its access behind the access before
-pub record AreRows (rows : List (List ℕ)) : Type 0 where
+pub record AreAccessRows (rows : List (List ℕ)) : Type 0 where
   pub first : 0 < length rows → row_at rows 0 ≡ first_row (access_at rows 0) (d0 (row_at rows 0)) (d1 (row_at rows 0))
   pub later : (i : ℕ) → suc i < length rows → row_at rows (suc i) ≡ row_behind (Some (access_at rows i)) (access_at rows (suc i))

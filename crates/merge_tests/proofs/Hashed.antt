@@ -6,7 +6,7 @@ use Rattle.vm_field.specs.Sponge.{digest_of_input}
 use Rattle.vm_ops.specs.declared.op.Op.TheVariants as op
 use Rattle.block_tree.specs.Trees.{input_of_batches, input_of_one, input_of_two}
 use Rattle.air_kit.specs.Hashes.{blocks_from, computation_at}
-use Rattle.tree_merge.specs.Placed.{Placed}
+use Rattle.tree_merge.specs.Placed.{PlacedTree}
 use Rattle.tree_merge.specs.Merging.{Good, Mergeable, opaque, span, split, loop}
 use Rattle.merge_tests.specs.Hashes.{AreZeros, hasher_rows, zeros}
 use Rattle.merge_tests.specs.Trees.{one_batch, two_batches, first_ran, second_ran, not_entered, entered}
@@ -28,7 +28,7 @@ unfolding blocks_from
 at_41 = refl
 
 -- trees that are those, by the rows that are those
-pub mergeable-by : (constants : List ℕ) (rows : List (List ℕ)) (x y u v : Placed) → rows ≡ hasher_rows → x ≡ u → y ≡ v
+pub mergeable-by : (constants : List ℕ) (rows : List (List ℕ)) (x y u v : PlacedTree) → rows ≡ hasher_rows → x ≡ u → y ≡ v
     → Mergeable constants (computation_at hasher_rows) u v → Mergeable constants (computation_at rows) x y
 mergeable-by constants rows x y u v r e f m =
     subst (λ rs. Mergeable constants (computation_at rs) x y) (sym r)

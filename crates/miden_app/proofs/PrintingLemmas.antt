@@ -6,17 +6,17 @@ use Rattle.commands.specs.declared.status.Status.{Status}
 use Rattle.commands.specs.declared.answer.Answer.{Answer}
 use Rattle.command_ends.specs.declared.outcome.Outcome.{Outcome}
 use Rattle.command_ends.specs.declared.outcome.Outcome.TheVariants as outcome
-use Rattle.commands.specs.Statuses.{Kind, planned, no_command, failed_read, failed_write, failed_print, no_memory, kind_of}
+use Rattle.commands.specs.Statuses.{StatusKind, planned, no_command, failed_read, failed_write, failed_print, no_memory, kind_of}
 use Rattle.commands.specs.Steps.{Steps}
-use Rattle.commands.specs.Serving.{Leads, Works, GivesUp, Prints, Answers}
+use Rattle.commands.specs.Serving.{ComesWhere, Works, GivesUp, Prints, ServesAs}
 use Rattle.command_ends.specs.Outcomes.{EndsIn, PrintStep, printed, refused, given_up}
 
 weaker : (told : Option Files) (steps : Steps) (P Q : Steps → Option Files → Type 0) → ((left : Steps) (now : Option Files) → P left now → Q left now)
-    → Leads steps P told → Leads steps Q told
+    → ComesWhere steps P told → ComesWhere steps Q told
 weaker told steps P Q from h = record { left = h.left; now = h.now; passes = h.passes; there = from h.left h.now h.there }
 
 -- With the work done and no memory to print with, what was read and written stands.
-works_left : (steps : Option Steps) (kind : Kind) (a : Answer) (old new : ShelfState) → Works steps kind a old new → GivesUp steps old new
+works_left : (steps : Option Steps) (kind : StatusKind) (a : Answer) (old new : ShelfState) → Works steps kind a old new → GivesUp steps old new
 works_left None no_command a old new h = h.1
 works_left None kind a old new h = absurd h
 works_left (Some steps) planned a old new h =
@@ -30,8 +30,8 @@ outcome_left steps (outcome.Ends a) old new h = works_left steps (kind_of a.stat
 outcome_left steps outcome.Memory old new h = h
 
 -- no work answers that its line was not printed
-prints : (kind : Kind) (steps : Option Steps) (a : Answer) (s : Status) (old new : ShelfState) (before now : SinkState) → Works steps kind a old new
-    → Prints steps s old new before now → Answers kind steps s old new before now
+prints : (kind : StatusKind) (steps : Option Steps) (a : Answer) (s : Status) (old new : ShelfState) (before now : SinkState) → Works steps kind a old new
+    → Prints steps s old new before now → ServesAs kind steps s old new before now
 prints failed_print None a s old new before now works h = absurd works
 prints failed_print (Some steps) a s old new before now works h = absurd works
 prints no_memory None a s old new before now works h = absurd works
@@ -44,7 +44,7 @@ prints failed_write steps a s old new before now works h = h
 -- A command's work and then its printing.
 pub serves_steps : (steps : Option Steps) (o : Outcome) (s : Status) (old new : ShelfState) (before now : SinkState) → EndsIn steps o old new
     → PrintStep o s before now
-    → Answers (kind_of s) steps s old new before now
+    → ServesAs (kind_of s) steps s old new before now
 serves_steps steps o s old new before now h (printed a taken) =
     prints (kind_of a.status) steps a a.status old new before now h (record { line = a.line; works = h; taken = taken })
 serves_steps steps o s old new before now h (refused a failed) = record { answer = a; works = h; failed = failed }

@@ -14,13 +14,13 @@ asks (command.Run params source inputs outputs kernel limit) =
 asks (command.Check params table statement evidence) = check params.now table.now statement.now evidence.now
 
 -- its names are those of files
-abbrev pub IsNamed : Command → Type 0
-IsNamed command.Nothing = Unit {0}
-IsNamed (command.Hash params numbers) = (length params.now ≤ 200) × (length numbers.now ≤ 200)
-IsNamed (command.Assemble params source kernel) =
+abbrev pub NamesFiles : Command → Type 0
+NamesFiles command.Nothing = Unit {0}
+NamesFiles (command.Hash params numbers) = (length params.now ≤ 200) × (length numbers.now ≤ 200)
+NamesFiles (command.Assemble params source kernel) =
     (length params.now ≤ 200) × (length source.now ≤ 200) × IfSome kernel (λ k. length k.now ≤ 200)
-IsNamed (command.Run params source inputs outputs kernel limit) =
+NamesFiles (command.Run params source inputs outputs kernel limit) =
     (length params.now ≤ 200) × (length source.now ≤ 200) × (length inputs.now ≤ 200) × AreNamed outputs
     × IfSome kernel (λ k. length k.now ≤ 200) × (limit ≤ 524287)
-IsNamed (command.Check params table statement evidence) =
+NamesFiles (command.Check params table statement evidence) =
     (length params.now ≤ 200) × (length table.now ≤ 200) × (length statement.now ≤ 200) × (length evidence.now ≤ 200)

@@ -2,7 +2,7 @@
 ghost use Rattle.std.specs.Prelude.{◌≡◌, ◌≤◌, length, IfOk, Some};
 ghost use Rattle.rpo_hash.specs.Constants.{constants_of};
 ghost use Rattle.commands.specs.Commands.{hash_steps, numbers_steps};
-ghost use Rattle.command_ends.specs.Outcomes.{ComesTo, EndsIn, Says};
+ghost use Rattle.command_ends.specs.Outcomes.{ComesTo, EndsIn, SaysStatus};
 ghost use Rattle.number_files.specs.Grammar.{numbers_of};
 ghost use Rattle.commands.specs.HashEnds.{hash_end, digest_line};
 

@@ -2,7 +2,7 @@ ghost use Rattle.std.specs.Prelude.{codes};
 ghost use Rattle.commands.specs.Asked.{asked};
 ghost use Rattle.command_words.specs.Words.{texts};
 ghost use Rattle.commands.specs.Commands.{steps_of};
-ghost use Rattle.command_ends.specs.Outcomes.{EndsIn, PrintStep, Says};
+ghost use Rattle.command_ends.specs.Outcomes.{EndsIn, PrintStep, SaysStatus};
 ghost use Rattle.commands.specs.Serving.{Serves};
 
 use crate::hash::hash_files;
@@ -95,7 +95,7 @@ fn obey<F: Shelf, G: Gate>(alloc: Global, words: &[Vec<u8>], shelf: &mut F, gate
 }
 
 fn usage(alloc: Global) -> Outcome
-    ensures { Says result Status.Usage (codes "usage\n") }
+    ensures { SaysStatus result Status.Usage (codes "usage\n") }
 {
     answered(Status::Usage, Bytes::copied(alloc, b"usage\n"))
 }

@@ -5,7 +5,7 @@ ghost use Rattle.std.specs.Str.{bytes_eq};
 ghost use Rattle.command_words.specs.Words.{texts};
 ghost use Rattle.commands.specs.Asked.{nothing, hash, assemble, check, check_words, check_of_names, is_apart, hash_words, hash_of_names, assemble_words, assemble_of_names, run, run_words, run_of_names, run_apart, given_name, outputs_in, limit_in, asked};
 ghost use Rattle.run_command.specs.Naming.{AreNamed, outputs_from};
-ghost use Rattle.miden_app.specs.Asking.{asks, IsNamed};
+ghost use Rattle.miden_app.specs.Asking.{asks, NamesFiles};
 
 use command_words::{is_form, name_at, optional_name, optional_number};
 use run_command::Outputs;
@@ -50,7 +50,7 @@ const MOST_CYCLES: u32 = 524_287;
 #[tactic(auto, unfolding(commands::specs::Asked::asked))]
 pub fn command_of(words: &[Vec<u8>]) -> Command<'_>
     ensures asks { asks result ≡ asked (texts words.now) }
-    ensures named { IsNamed result }
+    ensures named { NamesFiles result }
 {
     match words {
         [command, rest @ ..] if command.as_slice() == b"check".as_slice() => check_of(rest),
@@ -63,7 +63,7 @@ pub fn command_of(words: &[Vec<u8>]) -> Command<'_>
 
 fn check_of(words: &[Vec<u8>]) -> Command<'_>
     ensures asks { asks result ≡ check_words (texts words.entry.now) }
-    ensures named { IsNamed result }
+    ensures named { NamesFiles result }
 {
     if !is_form(3, &["--evidence"], words) {
         return Command::Nothing;
@@ -96,7 +96,7 @@ fn check_with<'a>(
     requires evidence { length evidence.now ≤ 200 }
     ensures asks { asks result ≡ check_of_names (Some params.entry.now) (Some table.entry.now) (Some statement.entry.now)
         (Some (Some evidence.entry.now)) }
-    ensures named { IsNamed result }
+    ensures named { NamesFiles result }
 {
     if evidence == params || evidence == table || evidence == statement {
         return Command::Nothing;
@@ -111,7 +111,7 @@ fn check_with<'a>(
 
 fn hash_of(words: &[Vec<u8>]) -> Command<'_>
     ensures asks { asks result ≡ hash_words (texts words.entry.now) }
-    ensures named { IsNamed result }
+    ensures named { NamesFiles result }
 {
     if !is_form(2, &[], words) {
         return Command::Nothing;
@@ -124,7 +124,7 @@ fn hash_of(words: &[Vec<u8>]) -> Command<'_>
 
 fn assemble_of(words: &[Vec<u8>]) -> Command<'_>
     ensures asks { asks result ≡ assemble_words (texts words.entry.now) }
-    ensures named { IsNamed result }
+    ensures named { NamesFiles result }
 {
     if !is_form(2, &["--kernel"], words) {
         return Command::Nothing;
@@ -147,7 +147,7 @@ fn assemble_of(words: &[Vec<u8>]) -> Command<'_>
 
 fn run_of(words: &[Vec<u8>]) -> Command<'_>
     ensures asks { asks result ≡ run_words (texts words.entry.now) }
-    ensures named { IsNamed result }
+    ensures named { NamesFiles result }
 {
     if !is_form(3, &["--out", "--statement", "--kernel", "--limit"], words) {
         return Command::Nothing;
@@ -201,7 +201,7 @@ fn run_with<'a>(
     requires limit { limit ≤ 524287 }
     ensures asks { asks result ≡ run_apart params.entry.now source.entry.now inputs.entry.now (outputs_from outputs.entry)
         (option_map (λ k. k.now) kernel.entry) limit }
-    ensures named { IsNamed result }
+    ensures named { NamesFiles result }
 {
     let Outputs { table, statement } = outputs;
     if table == statement || is_read(table, params, source, inputs, kernel) {

@@ -2,7 +2,7 @@ ghost use Rattle.std.specs.Prelude.{◌≡◌, ◌≤◌, ◌<◌, ◌+◌, ◌-
 ghost use Rattle.rpo_hash.specs.ParamText.{one_element};
 ghost use Rattle.number_files.specs.Causes.{text_of_cause};
 ghost use Rattle.number_files.specs.Grammar.{elements_from, is_good_count, numbers_of};
-ghost use Rattle.number_files.specs.Reads.{Gives};
+ghost use Rattle.number_files.specs.Reads.{GivesNumbers};
 
 use rpo_hash::next_line;
 use std::alloc::{AllocFailed, Global};
@@ -59,7 +59,7 @@ impl<T: Drop> From<AllocFailed<T>> for NumbersStop {
 /// The elements that a file of numbers writes, or its first line that is wrong.
 pub fn read_numbers(alloc: Global, bytes: &[u8]) -> Result<Vec<Felt>, NumbersStop>
     requires { length bytes.now ≤ 262144 }
-    ensures { Gives result (numbers_of bytes.now) }
+    ensures { GivesNumbers result (numbers_of bytes.now) }
 {
     let elements = read_elements(alloc, bytes)?;
     let count = elements.len();
@@ -78,7 +78,7 @@ fn is_count(count: usize) -> bool
 
 fn read_elements(alloc: Global, bytes: &[u8]) -> Result<Vec<Felt>, NumbersStop>
     requires { length bytes.now ≤ 262144 }
-    ensures gives { Gives result (elements_from (length bytes.now) 1 bytes.now) }
+    ensures gives { GivesNumbers result (elements_from (length bytes.now) 1 bytes.now) }
     ensures few { IfOk result (λ elements. length elements.items ≤ length bytes.now) }
 {
     let mut elements = Vec::new(alloc);

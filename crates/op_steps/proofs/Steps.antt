@@ -1,9 +1,10 @@
 -- The machine's step, from the cells that the operation leaves or its trap.
-use Rattle.std.proofs.Common.{◌≡◌, ℕ, ◌+◌, ◌^◌, ◌<◌, ◌≤◌, Bool, true, false, cond, List, [], ◌∷◌, ◌++◌, length, take, drop, refl, ap, sym, ◌∙◌, nat_lt, slice_index, map, arith}
+use Rattle.std.proofs.Common.{◌≡◌, ℕ, ◌+◌, ◌^◌, ◌<◌, ◌≤◌, ◌⊎◌, inl, inr, Bool, true, false, cond, List, [], ◌∷◌, ◌++◌, length, take, drop, refl, ap, sym, subst, ◌∙◌, nat_lt, slice_index, map, arith}
+use Rattle.std.proofs.lemmas.Bool.{ltb-true, ltb-false}
 use Rattle.std.proofs.lemmas.Bool.Decides.{nat_tests}
 use Rattle.std.specs.FinMap.{insert}
 use Rattle.std.specs.Prelude.{Option, Some, None, Result, Ok, Err}
-use Rattle.vm_field.specs.Machine.{Core, State, filled_up, word_at}
+use Rattle.vm_field.specs.Machine.{State, filled_up, word_at}
 use Rattle.vm_ops.specs.declared.cause.Cause.{Cause}
 use Rattle.vm_ops.specs.declared.cause.Cause.TheVariants.{AdviceEmpty, AddressRange}
 use Rattle.vm_ops.specs.declared.item.Item.{Item}
@@ -12,39 +13,40 @@ use Rattle.vm_ops.specs.declared.op.Op.TheVariants as ops
 use Rattle.vm_ops.specs.declared.op.Shift.TheVariants.{Right}
 use Rattle.vm_ops.specs.Codes.{writes_memory}
 use Rattle.vm_ops.specs.Moves.{takes_of, leaves_of, shift_of, sources_of}
-use Rattle.vm_ops.specs.Step.{performed, unless_trapped, act, ticked, cycle_taking, step, left_cells, stack_after, seen}
+use Rattle.vm_ops.specs.Step.{performed, step, left_cells, stack_after, seen}
 use Rattle.vm_ops.specs.Stepping.{seen_at}
 use Rattle.vm_ops.specs.Values.{Seen, advice_of, trap_of, written, fmp_after, computed, is_u32, unless}
 use Rattle.vm_ops.proofs.FrameLemmas.{written-none}
+use Rattle.vm_ops.proofs.StepLemmas.{step-goes, step-traps}
 use Rattle.op_steps.proofs.Places.{placed, grown}
 use Rattle.op_steps.specs.Outcomes.{cells_unless, outcome, outcome_at, is_single, is_move}
 use Rattle.op_steps.specs.Places.{shifted}
 use Rattle.op_steps.specs.Steps.{IsQuiet}
 
-abbrev later : ℕ → List ℕ → Core → State
-later n tape c = record { core = record c { clock = c.clock + 1 }; tape = drop n tape }
+-- what an outcome says of the two tests of a step, where the tape has so many elements and the operation takes so many
+abbrev Told : ℕ → ℕ → Option Cause → List ℕ → Result (List ℕ) Cause → Type 0
+Told have n trap cells (Ok left) = (n ≤ have) × (trap ≡ None) × (cells ≡ left)
+Told have n trap cells (Err cause) = ((have < n) × (cause ≡ AdviceEmpty)) ⊎ ((n ≤ have) × (trap ≡ Some cause))
 
-trapped_by : (short : Bool) (trap : Option Cause) (n : ℕ) (tape cells : List ℕ) (c : Core) (cause : Cause)
-    → cond short (Err AdviceEmpty) (cells_unless trap cells) ≡ Err cause
-    → cond short (Err AdviceEmpty) (ticked n tape (unless_trapped trap c)) ≡ Err cause
-trapped_by true trap n tape cells c cause e = cc
-trapped_by false None n tape cells c cause e = cc
-trapped_by false (Some own) n tape cells c cause e = cc
+told_by : (short : Bool) (have n : ℕ) (trap : Option Cause) (cells : List ℕ) → nat_lt have n ≡ short
+    → Told have n trap cells (cond short (Err AdviceEmpty) (cells_unless trap cells))
+told_by true have n trap cells e = inl (ltb-true have n e, refl)
+told_by false have n None cells e = (ltb-false have n e, refl, refl)
+told_by false have n (Some cause) cells e = inr (ltb-false have n e, refl)
+
+abbrev ToldAt : List ℕ → Item → State → Result (List ℕ) Cause → Type 0
+ToldAt constants item s r =
+    Told (length s.tape) (advice_of item.op) (trap_of item.op (seen_at constants item s)) (left_cells item.op (seen_at constants item s)) r
+
+told : (constants : List ℕ) (item : Item) (s : State) → ToldAt constants item s (outcome_at constants item s)
+unfolding outcome_at outcome
+told constants item s = told_by (nat_lt (length s.tape) (advice_of item.op)) (length s.tape) (advice_of item.op) _ _ refl
 
 -- the operation's trap is the step's
 pub trapped : (constants : List ℕ) (item : Item) (s : State) (cause : Cause) → outcome_at constants item s ≡ Err cause
     → step constants item s ≡ Err cause
-unfolding outcome_at outcome cycle_taking act
 trapped constants item s cause e =
-    trapped_by (nat_lt (length s.tape) (advice_of item.op)) (trap_of item.op (seen_at constants item s)) (advice_of item.op) s.tape
-    (left_cells item.op (seen_at constants item s)) (performed item.op (seen_at constants item s) s.core) cause e
-
-performed_by : (short : Bool) (trap : Option Cause) (n : ℕ) (tape cells left : List ℕ) (c : Core)
-    → cond short (Err AdviceEmpty) (cells_unless trap cells) ≡ Ok left
-    → (cond short (Err AdviceEmpty) (ticked n tape (unless_trapped trap c)) ≡ Ok (later n tape c)) × (cells ≡ left)
-performed_by true trap n tape cells left c e = cc
-performed_by false None n tape cells left c e = (refl, cc)
-performed_by false (Some own) n tape cells left c e = cc
+    step-traps constants item s cause (record { why = subst (ToldAt constants item s) e (told constants item s) })
 
 -- the state behind a step, where the operation leaves these cells
 abbrev settled : List ℕ → Item → List ℕ → List ℕ → State → State
@@ -55,11 +57,14 @@ settled constants item left stack s = record {
 
 stepped : (constants : List ℕ) (item : Item) (s : State) (left : List ℕ) → outcome_at constants item s ≡ Ok left
     → step constants item s ≡ Ok (settled constants item left (filled_up (left ++ drop (takes_of item.op) s.core.stack)) s)
-unfolding outcome_at outcome cycle_taking act stack_after
+unfolding stack_after
 stepped constants item s left e =
-    let done = performed_by (nat_lt (length s.tape) (advice_of item.op)) (trap_of item.op (seen_at constants item s)) (advice_of item.op) s.tape
-    (left_cells item.op (seen_at constants item s)) left (performed item.op (seen_at constants item s) s.core) e in
-    done.0 ∙ ap (λ cells. Ok (settled constants item left (filled_up (cells ++ drop (takes_of item.op) s.core.stack)) s)) done.1
+    let goes : ToldAt constants item s (Ok left) = subst (ToldAt constants item s) e (told constants item s) in
+    step-goes constants item s _ (record {
+      enough = goes.0;
+      free = goes.1;
+      is = sym (ap (λ cells. settled constants item left (filled_up (cells ++ drop (takes_of item.op) s.core.stack)) s) goes.2);
+    })
 
 writes_nothing : (op : Op) (s : Seen) → shift_of op ≡ Right → (written op s ≡ None) × (fmp_after op s ≡ s.fmp)
 writes_nothing ops.MStore s e = cc
@@ -212,24 +217,16 @@ moved_quietly constants item s move quiet enough left is count =
     stepped_quietly constants item s left s.core.fmp quiet (without_advice constants item s keeps.0 ∙ keeps.1 ∙ ap (λ cells. Ok cells) (sym is))
     (count ∙ sym keeps.3) enough (sym keeps.2)
 
-outside_by : (short test : Bool) (n : ℕ) (tape : List ℕ) (c : Core) → short ≡ false → test ≡ false
-    → cond short (Err AdviceEmpty) (ticked n tape (unless_trapped (unless test AddressRange) c)) ≡ Err AddressRange
-outside_by true test n tape c e f = cc
-outside_by false true n tape c e f = cc
-outside_by false false n tape c e f = refl
-
-inside_by : (short test : Bool) (n : ℕ) (tape : List ℕ) (c : Core) → short ≡ false → test ≡ true
-    → cond short (Err AdviceEmpty) (ticked n tape (unless_trapped (unless test AddressRange) c)) ≡ Ok (later n tape c)
-inside_by true test n tape c e f = cc
-inside_by false true n tape c e f = refl
-inside_by false false n tape c e f = cc
-
 outside_at : (op : Op) (imm : Option ℕ) (constants : List ℕ) (s : State) → writes_memory op ≡ true
     → is_u32 (slice_index (take 16 s.core.stack) 0) ≡ false
     → step constants (record { op = op; imm = imm }) s ≡ Err AddressRange
-unfolding cycle_taking act trap_of
-outside_at ops.MStore imm constants s writes outside = outside_by (nat_lt (length s.tape) 0) _ 0 s.tape _ (not_short (length s.tape)) outside
-outside_at ops.MStoreW imm constants s writes outside = outside_by (nat_lt (length s.tape) 0) _ 0 s.tape _ (not_short (length s.tape)) outside
+unfolding trap_of
+outside_at ops.MStore imm constants s writes outside =
+    step-traps constants (record { op = ops.MStore; imm = imm }) s AddressRange
+    (record { why = inr (omega arith, ap (λ test. unless test AddressRange) outside) })
+outside_at ops.MStoreW imm constants s writes outside =
+    step-traps constants (record { op = ops.MStoreW; imm = imm }) s AddressRange
+    (record { why = inr (omega arith, ap (λ test. unless test AddressRange) outside) })
 outside_at ops.Noop imm constants s writes outside = cc
 outside_at _ imm constants s writes outside = cc
 
@@ -254,14 +251,16 @@ inside_at : (op : Op) (imm : Option ℕ) (constants : List ℕ) (s : State) → 
     → is_u32 (slice_index (take 16 s.core.stack) 0) ≡ true
     → (word : List ℕ) → written op (seen constants (record { op = op; imm = imm }) [] s.core) ≡ Some word
     → step constants (record { op = op; imm = imm }) s ≡ Ok (stored_state word s)
-unfolding cycle_taking act trap_of stack_after left_cells computed
+unfolding trap_of stack_after left_cells computed
 inside_at ops.MStore imm constants s writes inside word is =
     let e : word ≡ slice_index (take 16 s.core.stack) 1 ∷ drop 1 (word_at s.core.memory s.core.context (slice_index s.core.stack 0)) = cc in
-    rw e (inside_by (nat_lt (length s.tape) 0) _ 0 s.tape _ (not_short (length s.tape)) inside)
+    step-goes constants (record { op = ops.MStore; imm = imm }) s (stored_state word s)
+    (record { enough = omega arith; free = ap (λ test. unless test AddressRange) inside; is = rw e refl })
 inside_at ops.MStoreW imm constants s writes inside word is =
     let e : word ≡ slice_index (take 16 s.core.stack) 4 ∷ slice_index (take 16 s.core.stack) 3 ∷ slice_index (take 16 s.core.stack)
     2 ∷ slice_index (take 16 s.core.stack) 1 ∷ [] = cc in
-    rw e (inside_by (nat_lt (length s.tape) 0) _ 0 s.tape _ (not_short (length s.tape)) inside)
+    step-goes constants (record { op = ops.MStoreW; imm = imm }) s (stored_state word s)
+    (record { enough = omega arith; free = ap (λ test. unless test AddressRange) inside; is = rw e refl })
 inside_at ops.Noop imm constants s writes inside word is = cc
 inside_at _ imm constants s writes inside word is = cc
 

@@ -16,12 +16,12 @@ pub record IsQuiet (op : Op) : Type 0 where
 
 -- The machine's step came out as the call answered: the state behind it, or the cause of its trap with the state as before.
 -- Where memory was refused the state is as before, and nothing is said of the step.
-abbrev pub Stepped : Result State Cause → Result (Unit {0}) StepStop → State → State → Type 0
-Stepped outcome (Ok _) before after = outcome ≡ Ok after
-Stepped outcome (Err (Trap cause)) before after = (outcome ≡ Err cause) × (after ≡ before)
-Stepped outcome (Err Memory) before after = after ≡ before
+abbrev pub AnswersStep : Result State Cause → Result (Unit {0}) StepStop → State → State → Type 0
+AnswersStep outcome (Ok _) before after = outcome ≡ Ok after
+AnswersStep outcome (Err (Trap cause)) before after = (outcome ≡ Err cause) × (after ≡ before)
+AnswersStep outcome (Err Memory) before after = after ≡ before
 
 -- the same of a step that takes no memory
-abbrev pub SteppedQuietly : Result State Cause → Result (Unit {0}) Cause → State → State → Type 0
-SteppedQuietly outcome (Ok _) before after = outcome ≡ Ok after
-SteppedQuietly outcome (Err cause) before after = (outcome ≡ Err cause) × (after ≡ before)
+abbrev pub AnswersQuietStep : Result State Cause → Result (Unit {0}) Cause → State → State → Type 0
+AnswersQuietStep outcome (Ok _) before after = outcome ≡ Ok after
+AnswersQuietStep outcome (Err cause) before after = (outcome ≡ Err cause) × (after ≡ before)

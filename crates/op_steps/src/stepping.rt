@@ -6,7 +6,7 @@ ghost use Rattle.vm_ops.specs.Step.{seen, step};
 ghost use Rattle.vm_ops.specs.Values.{fmp_after};
 ghost use Rattle.vm_ops.specs.declared.item.Item.{Item};
 ghost use Rattle.vm_state.specs.Views.{core_of, state_of};
-ghost use Rattle.op_steps.specs.Steps.{IsQuiet, Stepped, SteppedQuietly};
+ghost use Rattle.op_steps.specs.Steps.{IsQuiet, AnswersStep, AnswersQuietStep};
 
 use crate::left::left_cells;
 use crate::moves::{is_move, moved};
@@ -25,7 +25,7 @@ use vm_state::State;
 pub fn step(alloc: Global, params: &Params, item: &Item, state: &mut State) -> Result<(), StepStop>
     requires item { IsOrdinaryItem item.now }
     requires clock { state.old.clock ≤ 524287 }
-    ensures { Stepped (step (constants_of params.now) item.now (state_of state.old)) result (state_of state.old) (state_of state.new) }
+    ensures { AnswersStep (step (constants_of params.now) item.now (state_of state.old)) result (state_of state.old) (state_of state.new) }
 {
     if shift(item.op) == Shift::Right {
         step_growing(params, item, state)
@@ -50,7 +50,7 @@ pub fn step_quiet(params: &Params, item: &Item, state: &mut State) -> Result<(),
     requires item { IsOrdinaryItem item.now }
     requires clock { state.old.clock ≤ 524287 }
     requires quiet { IsQuiet item.now.op }
-    ensures { SteppedQuietly (step (constants_of params.now) item.now (state_of state.old)) result (state_of state.old) (state_of state.new) }
+    ensures { AnswersQuietStep (step (constants_of params.now) item.now (state_of state.old)) result (state_of state.old) (state_of state.new) }
 {
     if let Some(cell) = single(item, state) {
         settle(item.op, &[cell], state);
@@ -69,7 +69,7 @@ pub fn step_quiet(params: &Params, item: &Item, state: &mut State) -> Result<(),
 fn step_computing(params: &Params, item: &Item, state: &mut State) -> Result<(), Cause>
     requires clock { state.old.clock ≤ 524287 }
     requires quiet { IsQuiet item.now.op }
-    ensures { SteppedQuietly (step (constants_of params.now) item.now (state_of state.old)) result (state_of state.old) (state_of state.new) }
+    ensures { AnswersQuietStep (step (constants_of params.now) item.now (state_of state.old)) result (state_of state.old) (state_of state.new) }
 {
     let left = left_cells(params, item, state)?;
     let fmp = pointer_after(item.op, state);
@@ -93,7 +93,7 @@ fn pointer_after(op: Op, state: &State) -> Felt
 fn step_growing(params: &Params, item: &Item, state: &mut State) -> Result<(), StepStop>
     requires clock { state.old.clock ≤ 524287 }
     requires grows { shift_of item.now.op ≡ Shift.Right }
-    ensures { Stepped (step (constants_of params.now) item.now (state_of state.old)) result (state_of state.old) (state_of state.new) }
+    ensures { AnswersStep (step (constants_of params.now) item.now (state_of state.old)) result (state_of state.old) (state_of state.new) }
 {
     let Some(cell) = single(item, state) else {
         return step_wider(params, item, state);
@@ -108,7 +108,7 @@ fn step_growing(params: &Params, item: &Item, state: &mut State) -> Result<(), S
 fn step_wider(params: &Params, item: &Item, state: &mut State) -> Result<(), StepStop>
     requires clock { state.old.clock ≤ 524287 }
     requires grows { shift_of item.now.op ≡ Shift.Right }
-    ensures { Stepped (step (constants_of params.now) item.now (state_of state.old)) result (state_of state.old) (state_of state.new) }
+    ensures { AnswersStep (step (constants_of params.now) item.now (state_of state.old)) result (state_of state.old) (state_of state.new) }
 {
     let left = left_cells(params, item, state)?;
     state.push(Felt::ZERO)?;

@@ -4,7 +4,7 @@ ghost use Rattle.vm_ops.specs.Step.{seen, step};
 ghost use Rattle.vm_ops.specs.Values.{written};
 ghost use Rattle.vm_ops.specs.declared.item.Item.{Item};
 ghost use Rattle.vm_state.specs.Views.{core_of, state_of};
-ghost use Rattle.op_steps.specs.Steps.{Stepped};
+ghost use Rattle.op_steps.specs.Steps.{AnswersStep};
 
 use crate::left::address;
 use crate::refusal::StepStop;
@@ -17,7 +17,7 @@ use vm_state::State;
 pub(crate) fn step_storing(item: &Item, state: &mut State) -> Result<(), StepStop>
     requires clock { state.old.clock ≤ 524287 }
     requires writes { writes_memory item.now.op ≡ true }
-    ensures { (constants : List ℕ) → Stepped (step constants item.now (state_of state.old)) result (state_of state.old) (state_of state.new) }
+    ensures { (constants : List ℕ) → AnswersStep (step constants item.now (state_of state.old)) result (state_of state.old) (state_of state.new) }
 {
     let address = address(state)?;
     let word = word_behind(item.op, state, address);

@@ -8,7 +8,8 @@ use Rattle.vm_ops.proofs.CodeLemmas.{code_of-different}
 use Rattle.air_kit.specs.Flags.{is_op}
 use Rattle.air_kit.specs.MainTuples.{is_call_op}
 use Rattle.air_kit.specs.RowStates.{row_returns}
-use Rattle.row_facts.specs.MainRows.{row_at, op_in}
+use Rattle.vm_table.specs.Layout.{row_at}
+use Rattle.row_facts.specs.MainRows.{op_in}
 use Rattle.bus_facts.specs.Blocks.{Closes}
 use Rattle.block_rows.specs.Frames.{FrameFacts, IsBlock, open_at}
 use Rattle.overflow_rows.specs.Lists.{below_at}

@@ -1,10 +1,11 @@
 -- What a chain has in front, and that its cells are elements.
-use Rattle.std.proofs.Common.{◌≡◌, ℕ, suc, ◌<◌, false, List, [], ◌∷◌, length, sym, ap, subst, ◌∙◌, arith}
+use Rattle.std.proofs.Common.{◌≡◌, ℕ, suc, ◌<◌, false, List, ◌∷◌, length, sym, ap, subst, ◌∙◌, arith}
 use Rattle.vm_field.specs.Field.{prime, AreElements}
 use Rattle.vm_field.proofs.Elements.{elements-cons, elements-none}
 use Rattle.vm_table.specs.MainColumns.{s}
 use Rattle.air_kit.specs.Flags.{is_right}
-use Rattle.row_facts.specs.MainRows.{row_at, op_in}
+use Rattle.vm_table.specs.Layout.{row_at}
+use Rattle.row_facts.specs.MainRows.{op_in}
 use Rattle.row_facts.proofs.Says.{off}
 use Rattle.bus_facts.specs.Overflow.{IsPushed}
 use Rattle.overflow_rows.specs.Chains.{Chain, none, some}

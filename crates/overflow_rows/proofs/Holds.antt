@@ -7,7 +7,8 @@ use Rattle.air_kit.specs.Flags.{is_right}
 use Rattle.air_kit.specs.MainTuples.{is_call_op, row_shifts_left}
 use Rattle.air_kit.specs.Places.{Claim}
 use Rattle.air_kit.specs.RowStates.{Overflow, overflow_at, row_returns}
-use Rattle.row_facts.specs.MainRows.{ShowsRows, row_at, op_in}
+use Rattle.vm_table.specs.Layout.{row_at}
+use Rattle.row_facts.specs.MainRows.{ShowsRows, op_in}
 use Rattle.row_facts.specs.Stack.{MovesDepth}
 use Rattle.row_facts.proofs.RunFacts.{clock_is, shifts_left_is}
 use Rattle.row_facts.proofs.Says.{off}
@@ -16,7 +17,7 @@ use Rattle.block_rows.specs.Frames.{FrameFacts, IsBlock}
 use Rattle.overflow_rows.specs.Lists.{below_at}
 use Rattle.overflow_rows.specs.Chains.{Chain, none, some}
 use Rattle.overflow_rows.proofs.Chains.{Front, front_of}
-use Rattle.overflow_rows.proofs.RowKinds.{Kind, right, flat, deeper, calls, returns, keeps, kind_of, behind_right, behind_flat, behind_deeper, behind_call, behind_same, returns_ends, start_apart}
+use Rattle.overflow_rows.proofs.RowKinds.{Movement, right, flat, deeper, calls, returns, keeps, kind_of, behind_right, behind_flat, behind_deeper, behind_call, behind_same, returns_ends, start_apart}
 use Rattle.overflow_rows.proofs.Asides.{block_of, returns_is}
 use Rattle.overflow_rows.proofs.Returns.{next_is, return_back, aside_is}
 
@@ -117,7 +118,7 @@ holds_return {rows = rows} known i j within t block there =
     call = sym (returns_is rows j i block.closes) ∙ t
 
 step : {rows left_rows : List (List ℕ)} {outputs : List ℕ} → Known rows left_rows outputs → (i : ℕ) → suc i < length rows
-    → ((j : ℕ) → j ≤ i → Holds rows j) → Kind (row_at rows i) → Holds rows (suc i)
+    → ((j : ℕ) → j ≤ i → Holds rows j) → Movement (row_at rows i) → Holds rows (suc i)
 step {rows = rows} known i within earlier (right r) =
     let here = earlier i (omega arith) in
     let moves = (moves_at known i within).right r in

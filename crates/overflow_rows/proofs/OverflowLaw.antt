@@ -9,7 +9,8 @@ use Rattle.air_kit.specs.Traces.{claim_of}
 use Rattle.air_kit.specs.declared.trace.Public.{Public}
 use Rattle.air_kit.specs.declared.trace.Trace.{Trace}
 use Rattle.row_facts.specs.Bounds.{IsLastRow}
-use Rattle.row_facts.specs.MainRows.{row_at, op_in}
+use Rattle.vm_table.specs.Layout.{row_at}
+use Rattle.row_facts.specs.MainRows.{op_in}
 use Rattle.bus_facts.specs.Blocks.{Closes}
 use Rattle.bus_facts.specs.BusFacts.{Granted}
 use Rattle.block_rows.specs.Frames.{FrameFacts}

@@ -7,12 +7,13 @@ use Rattle.air_kit.specs.MainTuples.{is_call_op, row_shifts_left}
 use Rattle.air_kit.specs.Places.{Claim}
 use Rattle.air_kit.specs.RowStates.{Overflow, overflow_at, overflow_behind, brought_back}
 use Rattle.row_facts.specs.Blocks.{IsEndRow}
-use Rattle.row_facts.specs.MainRows.{ShowsRows, row_at, op_in}
+use Rattle.vm_table.specs.Layout.{row_at}
+use Rattle.row_facts.specs.MainRows.{ShowsRows, op_in}
 use Rattle.bus_facts.specs.Blocks.{Closes}
 use Rattle.block_rows.specs.Frames.{FrameFacts, IsBlock, open_at}
 use Rattle.overflow_rows.specs.Lists.{below_at}
 use Rattle.overflow_rows.proofs.Asides.{asides, asides-call, asides-none, open_start, open_end, returns_is, block_of, asides_same}
-use Rattle.overflow_rows.proofs.RowKinds.{Kind, right, flat, deeper, calls, returns, keeps, kind_of, behind_right, behind_flat, behind_deeper, behind_call, behind_return, behind_same, right_apart, end_apart, call_starts, call_no_loop, no_end_returns, returns_ends, left_stays}
+use Rattle.overflow_rows.proofs.RowKinds.{Movement, right, flat, deeper, calls, returns, keeps, kind_of, behind_right, behind_flat, behind_deeper, behind_call, behind_return, behind_same, right_apart, end_apart, call_starts, call_no_loop, no_end_returns, returns_ends, left_stays}
 
 pub next_is : (rows : List (List ℕ)) (i : ℕ) → overflow_at rows (suc i) ≡ overflow_behind (row_at rows i) (overflow_at rows i)
 unfolding overflow_at
@@ -48,7 +49,7 @@ return_back rows j e block call here =
 
 aside_step : (rows : List (List ℕ)) → FrameFacts rows → (i : ℕ) → suc i < length rows
     → (is_op (op_in rows i) ops.End ≡ true → IsEndRow (row_at rows i))
-    → IsAside rows i → Kind (row_at rows i) → IsAside rows (suc i)
+    → IsAside rows i → Movement (row_at rows i) → IsAside rows (suc i)
 aside_step rows frames i within end here (right r) =
     ap (λ (o : Overflow). o.aside) (next_is rows i ∙ behind_right (row_at rows i) (overflow_at rows i) r) ∙ here
     ∙ sym (asides_same rows frames i within (right_apart (op_in rows i) r).0 (no_end_returns (row_at rows i) (right_apart (op_in rows i) r).1))

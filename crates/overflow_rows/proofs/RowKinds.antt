@@ -15,18 +15,18 @@ use Rattle.air_kit.specs.RowStates.{Overflow, overflow_behind, brought_back, row
 use Rattle.row_facts.specs.Blocks.{IsEndRow}
 use Rattle.row_facts.proofs.Says.{off}
 
-pub data Kind (x : List ℕ) : Type 0 where
-  right : is_right (op_of x) ≡ true → Kind x
-  flat : is_right (op_of x) ≡ false → row_shifts_left x ≡ true → depth x ≡ 16 → Kind x
-  deeper : is_right (op_of x) ≡ false → row_shifts_left x ≡ true → depth x ≢ 16 → Kind x
-  calls : is_right (op_of x) ≡ false → row_shifts_left x ≡ false → is_call_op (op_of x) ≡ true → Kind x
-  returns : is_right (op_of x) ≡ false → row_shifts_left x ≡ false → is_call_op (op_of x) ≡ false → row_returns x ≡ true → Kind x
-  keeps : is_right (op_of x) ≡ false → row_shifts_left x ≡ false → is_call_op (op_of x) ≡ false → row_returns x ≡ false → Kind x
+pub data Movement (x : List ℕ) : Type 0 where
+  right : is_right (op_of x) ≡ true → Movement x
+  flat : is_right (op_of x) ≡ false → row_shifts_left x ≡ true → depth x ≡ 16 → Movement x
+  deeper : is_right (op_of x) ≡ false → row_shifts_left x ≡ true → depth x ≢ 16 → Movement x
+  calls : is_right (op_of x) ≡ false → row_shifts_left x ≡ false → is_call_op (op_of x) ≡ true → Movement x
+  returns : is_right (op_of x) ≡ false → row_shifts_left x ≡ false → is_call_op (op_of x) ≡ false → row_returns x ≡ true → Movement x
+  keeps : is_right (op_of x) ≡ false → row_shifts_left x ≡ false → is_call_op (op_of x) ≡ false → row_returns x ≡ false → Movement x
 
 same_or_not : (i k : ℕ) → (i ≡ k) ⊎ (i ≢ k)
 same_or_not i k = grind arith
 
-pub kind_of : (x : List ℕ) → Kind x
+pub kind_of : (x : List ℕ) → Movement x
 kind_of x = elim (cases_Bool (is_right (op_of x))) [
   | inl r ↦ right r
   | inr nr ↦ elim (cases_Bool (row_shifts_left x)) [

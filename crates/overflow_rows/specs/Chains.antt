@@ -4,7 +4,7 @@ use Rattle.vm_table.specs.MainColumns.{key}
 use Rattle.chip_columns.specs.LeftColumns as left
 use Rattle.air_kit.specs.declared.trace.Public.{Public}
 use Rattle.air_kit.specs.declared.trace.Trace.{Trace}
-use Rattle.row_facts.specs.MainRows.{row_at}
+use Rattle.vm_table.specs.Layout.{row_at}
 use Rattle.bus_facts.specs.BusFacts.{Granted}
 use Rattle.bus_facts.specs.Overflow.{IsPushed}
 use Rattle.block_rows.specs.Frames.{FrameFacts}

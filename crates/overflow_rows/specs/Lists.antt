@@ -7,7 +7,8 @@ use Rattle.air_kit.specs.RowStates.{overflow_at}
 use Rattle.air_kit.specs.StackValues.{cells}
 use Rattle.air_kit.specs.declared.trace.Public.{Public}
 use Rattle.air_kit.specs.declared.trace.Trace.{Trace}
-use Rattle.row_facts.specs.MainRows.{row_at, op_in}
+use Rattle.vm_table.specs.Layout.{row_at}
+use Rattle.row_facts.specs.MainRows.{op_in}
 use Rattle.bus_facts.specs.Blocks.{Closes}
 use Rattle.bus_facts.specs.BusFacts.{Granted}
 use Rattle.block_rows.specs.Frames.{FrameFacts}

@@ -38,8 +38,8 @@ pub record WasExecuted (params : Params) (program : Program) (answer : Run) : Ty
   pub ran : IsRunOf params program inputs limit answer
 
 -- An answer is the run, or the trap with its clock, or that the cycles were used up, as the definition has it, or the want of memory.
-abbrev pub Gives : Result Run Stop → Params → Program → Inputs → ℕ → Type 0
-Gives (Ok r) params program inputs limit = IsRunOf params program inputs limit r
-Gives (Err (Trap clock cause)) params program inputs limit = outcome_of params program inputs limit ≡ run.Trap clock cause
-Gives (Err OutOfCycles) params program inputs limit = outcome_of params program inputs limit ≡ run.OutOfCycles
-Gives (Err Memory) params program inputs limit = Unit {0}
+abbrev pub Executes : Result Run Stop → Params → Program → Inputs → ℕ → Type 0
+Executes (Ok r) params program inputs limit = IsRunOf params program inputs limit r
+Executes (Err (Trap clock cause)) params program inputs limit = outcome_of params program inputs limit ≡ run.Trap clock cause
+Executes (Err OutOfCycles) params program inputs limit = outcome_of params program inputs limit ≡ run.OutOfCycles
+Executes (Err Memory) params program inputs limit = Unit {0}

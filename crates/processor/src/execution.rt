@@ -1,5 +1,5 @@
 ghost use Rattle.std.specs.Prelude.{◌≤◌, IfOk};
-ghost use Rattle.processor.specs.Executed.{Gives, WasExecuted};
+ghost use Rattle.processor.specs.Executed.{Executes, WasExecuted};
 
 use crate::blocks::block;
 use crate::run::Run;
@@ -28,7 +28,7 @@ pub fn execute(
     limit: u32,
 ) -> Result<Run, Stop>
     requires limit { limit ≤ 524287 }
-    ensures is { Gives result params.now program.now inputs.now limit }
+    ensures is { Executes result params.now program.now inputs.now limit }
     ensures was { IfOk result (WasExecuted params.now program.now) }
 {
     let permutations = Permutations::new(alloc, params);

@@ -4,7 +4,8 @@ use Rattle.vm_ops.specs.declared.op.Op.{Op}
 use Rattle.vm_ops.specs.declared.op.Op.TheVariants as ops
 use Rattle.vm_table.specs.MainColumns.{s}
 use Rattle.bit_rows.specs.BitTables.{IsBitwise}
-use Rattle.row_facts.specs.MainRows.{op_in, row_at}
+use Rattle.vm_table.specs.Layout.{row_at}
+use Rattle.row_facts.specs.MainRows.{op_in}
 use Rattle.row_facts.proofs.Says.{off}
 use Rattle.row_steps.specs.Lookups.{LooksUpBits}
 use Rattle.row_cycles.proofs.Premises.{Known}

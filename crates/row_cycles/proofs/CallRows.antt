@@ -13,7 +13,8 @@ use Rattle.air_kit.specs.StackValues.{function_digest}
 use Rattle.block_tree.specs.Cycles.{EndCall, EndSyscall, StartCall, StartSyscall, frame_of}
 use Rattle.block_tree.specs.Execution.{cycle}
 use Rattle.row_facts.specs.Blocks.{EntersCall, EntersSyscall, KeepsBlock, keeps_digest}
-use Rattle.row_facts.specs.MainRows.{op_in, row_at}
+use Rattle.vm_table.specs.Layout.{row_at}
+use Rattle.row_facts.specs.MainRows.{op_in}
 use Rattle.row_facts.specs.Stack.{mover}
 use Rattle.bus_facts.specs.Blocks.{Closes, IsAt, Starts}
 use Rattle.row_trees.specs.Running.{Goes}

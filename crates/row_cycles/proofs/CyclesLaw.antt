@@ -12,7 +12,7 @@ use Rattle.block_tree.specs.Execution.{cycle}
 use Rattle.bus_facts.specs.BusFacts.{Granted}
 use Rattle.block_rows.proofs.FrameLaw.{frames_granted}
 use Rattle.overflow_rows.proofs.OverflowLaw.{overflow_law}
-use Rattle.row_trees.specs.Running.{Goes, ShowRun, Shows, span, join, split, loop, call, syscall, respan, repeat, operation, span_end, join_end, split_end, skipped_end, entered_end, call_end, syscall_end}
+use Rattle.row_trees.specs.Running.{Goes, ShowRun, ShowsMark, span, join, split, loop, call, syscall, respan, repeat, operation, span_end, join_end, split_end, skipped_end, entered_end, call_end, syscall_end}
 use Rattle.row_cycles.specs.Cycles.{GrantedCycles}
 use Rattle.row_cycles.specs.Ends.{GrantedEnds}
 use Rattle.row_cycles.proofs.CallRows.{call_end_goes, call_goes, syscall_end_goes, syscall_goes}
@@ -42,7 +42,7 @@ known_of p t count granted = record {
 }
 
 module _ {constants outputs : List ℕ} {kernel rows : List (List ℕ)} (known : Known constants kernel outputs rows) where
-  row_goes : (i : ℕ) (mark : Mark) → Shows rows (state_at rows) i mark
+  row_goes : (i : ℕ) (mark : Mark) → ShowsMark rows (state_at rows) i mark
       → Goes (state_at rows) (cycle constants kernel (length rows - 1) mark (state_at rows i)) (suc i)
   row_goes i mark (span at) = span_goes known i at
   row_goes i mark (join at) = join_goes known i at

@@ -10,7 +10,8 @@ use Rattle.air_kit.specs.RowStates.{state_at}
 use Rattle.air_kit.specs.StackValues.{cells}
 use Rattle.block_tree.specs.Cycles.{End, EndLoop, EndSpan}
 use Rattle.block_tree.specs.Execution.{cycle}
-use Rattle.row_facts.specs.MainRows.{op_in, row_at}
+use Rattle.vm_table.specs.Layout.{row_at}
+use Rattle.row_facts.specs.MainRows.{op_in}
 use Rattle.row_facts.specs.Stack.{mover}
 use Rattle.bus_facts.specs.Blocks.{Closes, IsAt}
 use Rattle.overflow_rows.specs.Lists.{below_at}

@@ -9,7 +9,8 @@ use Rattle.air_kit.specs.Places.{Claim}
 use Rattle.air_kit.specs.RowStates.{memory_at, overflow_at, state_at, tape_of}
 use Rattle.air_kit.specs.StackValues.{cells, function_digest}
 use Rattle.row_facts.specs.Bounds.{IsFirstRow}
-use Rattle.row_facts.specs.MainRows.{op_in, row_at}
+use Rattle.vm_table.specs.Layout.{row_at}
+use Rattle.row_facts.specs.MainRows.{op_in}
 use Rattle.row_steps.proofs.Seeing.{cells_index, length_cells}
 use Rattle.row_cycles.specs.Ends.{EndFacts}
 use Rattle.row_cycles.proofs.Going.{same_state}

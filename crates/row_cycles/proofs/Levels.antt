@@ -4,7 +4,8 @@ use Rattle.vm_ops.specs.Codes.{is_start_op}
 use Rattle.vm_ops.specs.declared.op.Op.TheVariants as ops
 use Rattle.vm_table.specs.MainColumns.{lv}
 use Rattle.air_kit.specs.Flags.{is_op}
-use Rattle.row_facts.specs.MainRows.{op_in, row_at}
+use Rattle.vm_table.specs.Layout.{row_at}
+use Rattle.row_facts.specs.MainRows.{op_in}
 use Rattle.bus_facts.specs.Blocks.{IsAt, Starts}
 use Rattle.block_rows.specs.Frames.{FrameFacts, open_at}
 use Rattle.block_rows.proofs.OpenBlocks.{open_at-end, open_at-keep, open_at-start}

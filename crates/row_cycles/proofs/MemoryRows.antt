@@ -11,7 +11,8 @@ use Rattle.vm_table.specs.MainColumns.{ctx, s, t}
 use Rattle.air_kit.specs.declared.requests.Access.{Access}
 use Rattle.air_kit.specs.RowStates.{elsewhere_at, memory_at, memory_behind, written_by}
 use Rattle.memory_rows.specs.MainAccesses.{ServesRow, access_by}
-use Rattle.row_facts.specs.MainRows.{op_in, row_at}
+use Rattle.vm_table.specs.Layout.{row_at}
+use Rattle.row_facts.specs.MainRows.{op_in}
 use Rattle.row_facts.proofs.Says.{off}
 use Rattle.row_steps.specs.Lookups.{LooksUpWord}
 use Rattle.row_cycles.proofs.Premises.{Known, before}

@@ -10,7 +10,8 @@ use Rattle.air_kit.specs.RowStates.{elsewhere_at, state_at}
 use Rattle.block_tree.specs.Cycles.{Do}
 use Rattle.block_tree.specs.Execution.{cycle, event_of}
 use Rattle.block_tree.proofs.Parts.{taking-ok}
-use Rattle.row_facts.specs.MainRows.{op_in, row_at}
+use Rattle.vm_table.specs.Layout.{row_at}
+use Rattle.row_facts.specs.MainRows.{op_in}
 use Rattle.row_facts.proofs.RunFacts.{shifts_left_is}
 use Rattle.block_rows.proofs.Operations.{op_named}
 use Rattle.overflow_rows.specs.Lists.{below_at}

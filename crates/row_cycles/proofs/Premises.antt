@@ -7,7 +7,8 @@ use Rattle.vm_table.specs.MainColumns.{clk, ctx}
 use Rattle.air_kit.specs.MainTuples.{twelve}
 use Rattle.air_kit.specs.Places.{Claim}
 use Rattle.memory_rows.specs.MainAccesses.{ServesMain}
-use Rattle.row_facts.specs.MainRows.{ShowsRows, row_at}
+use Rattle.vm_table.specs.Layout.{row_at}
+use Rattle.row_facts.specs.MainRows.{ShowsRows}
 use Rattle.row_facts.proofs.RunFacts.{clock_is}
 use Rattle.bus_facts.specs.Batches.{GroupFacts}
 use Rattle.bus_facts.specs.Blocks.{IsAt}

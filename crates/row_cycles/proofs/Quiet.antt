@@ -8,7 +8,7 @@ use Rattle.air_kit.specs.MainTuples.{is_call_op}
 use Rattle.air_kit.specs.RowStates.{memory_at, memory_behind, taken_by, tape_of, written_by}
 use Rattle.air_kit.specs.StackValues.{function_digest}
 use Rattle.row_facts.specs.Blocks.{KeepsBlock, ends_call}
-use Rattle.row_facts.specs.MainRows.{row_at}
+use Rattle.vm_table.specs.Layout.{row_at}
 use Rattle.row_steps.proofs.Places.{tape_goes}
 use Rattle.bus_facts.specs.Blocks.{IsAt}
 

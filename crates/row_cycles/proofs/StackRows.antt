@@ -8,7 +8,8 @@ use Rattle.air_kit.specs.Flags.{is_left, is_right}
 use Rattle.air_kit.specs.MainTuples.{is_call_op, row_shifts_left}
 use Rattle.air_kit.specs.RowStates.{Overflow, overflow_at, row_returns}
 use Rattle.air_kit.specs.StackValues.{cells}
-use Rattle.row_facts.specs.MainRows.{op_in, row_at}
+use Rattle.vm_table.specs.Layout.{row_at}
+use Rattle.row_facts.specs.MainRows.{op_in}
 use Rattle.row_facts.specs.Stack.{ShiftsCells, mover}
 use Rattle.row_facts.proofs.RunFacts.{shifts_left_is}
 use Rattle.bus_facts.specs.Blocks.{Closes}

@@ -13,7 +13,7 @@ use Rattle.block_tree.specs.Behind.{HasReading}
 use Rattle.block_tree.specs.Cycles.{StartJoin, StartLoop, StartSpan, StartSplit, top}
 use Rattle.block_tree.specs.Execution.{cycle}
 use Rattle.row_facts.specs.Blocks.{ends_call}
-use Rattle.row_facts.specs.MainRows.{row_at}
+use Rattle.vm_table.specs.Layout.{row_at}
 use Rattle.row_facts.specs.Stack.{mover}
 use Rattle.bus_facts.specs.Batches.{Begins}
 use Rattle.bus_facts.specs.Blocks.{IsAt, Starts}

@@ -10,7 +10,8 @@ use Rattle.air_kit.specs.RowStates.{state_at}
 use Rattle.air_kit.specs.StackValues.{cells}
 use Rattle.block_tree.specs.Cycles.{top}
 use Rattle.row_facts.specs.Blocks.{ends_call}
-use Rattle.row_facts.specs.MainRows.{op_in, row_at}
+use Rattle.vm_table.specs.Layout.{row_at}
+use Rattle.row_facts.specs.MainRows.{op_in}
 use Rattle.bus_facts.specs.Blocks.{IsAt}
 use Rattle.overflow_rows.specs.Lists.{below_at}
 use Rattle.row_steps.proofs.Seeing.{top_index}

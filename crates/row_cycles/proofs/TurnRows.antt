@@ -11,7 +11,7 @@ use Rattle.air_kit.specs.StackValues.{cells}
 use Rattle.block_tree.specs.Cycles.{Repeat, Respan}
 use Rattle.block_tree.specs.Execution.{cycle}
 use Rattle.row_facts.specs.Blocks.{ends_call}
-use Rattle.row_facts.specs.MainRows.{row_at}
+use Rattle.vm_table.specs.Layout.{row_at}
 use Rattle.row_facts.specs.Stack.{mover}
 use Rattle.bus_facts.specs.Blocks.{IsAt}
 use Rattle.overflow_rows.specs.Lists.{below_at}

@@ -12,7 +12,8 @@ use Rattle.air_kit.specs.SpanValues.{rest_flag}
 use Rattle.air_kit.proofs.FlagLemmas.{has_op-op_of}
 use Rattle.row_facts.specs.Follows.{may_follow}
 use Rattle.row_facts.specs.Groups.{IsGroupRow}
-use Rattle.row_facts.specs.MainRows.{ShowsRows, op_in, row_at}
+use Rattle.vm_table.specs.Layout.{row_at}
+use Rattle.row_facts.specs.MainRows.{ShowsRows, op_in}
 use Rattle.row_facts.specs.RowFacts.{ReadsAs}
 use Rattle.row_facts.specs.Stack.{mover}
 use Rattle.row_facts.proofs.DepthFacts.{mover_left}

@@ -3,7 +3,7 @@ use Rattle.std.proofs.Common.{◌≡◌, ℕ, zero, suc, ◌<◌, ◌⊎◌, inl
 use Rattle.std.proofs.lemmas.Option.{slice_get_within, slice_get-get_or, slice_get_past, get_or_from_slice_get}
 use Rattle.std.specs.List.{slice_get}
 use Rattle.vm_ops.specs.declared.op.Op.{Op}
-use Rattle.vm_table.specs.Layout.{IsTable}
+use Rattle.vm_table.specs.Layout.{IsTable, row_at}
 use Rattle.air_kit.specs.Flags.{op_of}
 use Rattle.air_kit.specs.MainValues.{main_values, decoder_values}
 use Rattle.air_kit.specs.Places.{Claim, Spot, at_number}
@@ -12,7 +12,7 @@ use Rattle.air_kit.specs.Traces.{spot_of}
 use Rattle.air_kit.specs.U32Values.{u32_values}
 use Rattle.row_facts.specs.Bounds.{IsLowClaim, IsFirstRow}
 use Rattle.row_facts.specs.Limbs.{ShowsLimbs}
-use Rattle.row_facts.specs.MainRows.{IsZero, ShowsPair, ShowsRow, ShowsRows, op_in, row_at}
+use Rattle.row_facts.specs.MainRows.{MainIsZero, ShowsPair, ShowsRow, ShowsRows, op_in}
 use Rattle.row_facts.specs.RowFacts.{IsAtSpot, HasOps, ReadsAs}
 use Rattle.row_facts.specs.Stack.{ShowsStack}
 use Rattle.row_facts.specs.Zero.{AllZero}
@@ -54,11 +54,11 @@ reads_behind rows reads i h = record { here = reads i h; behind = next }
 
 -- ---- from zeros
 
-spot_zero : (k : Claim) (rows : List (List ℕ)) → IsZero k rows → (i : ℕ) → i < length rows
+spot_zero : (k : Claim) (rows : List (List ℕ)) → MainIsZero k rows → (i : ℕ) → i < length rows
     → AllZero (decoder_values k (spot_of rows i)) × AllZero (stack_values (spot_of rows i)) × AllZero (u32_values (spot_of rows i))
 spot_zero k rows z i h = parts_shown k (spot_of rows i) (numbers_zero (main_values k (spot_of rows i)) (λ number. z.zero i number h))
 
-reads_in : (k : Claim) (rows : List (List ℕ)) → IsZero k rows → (i : ℕ) → i < length rows → ReadsAs (op_in rows i) (row_at rows i)
+reads_in : (k : Claim) (rows : List (List ℕ)) → MainIsZero k rows → (i : ℕ) → i < length rows → ReadsAs (op_in rows i) (row_at rows i)
 reads_in k rows z i h = reads_shown k (spot_of rows i) (z.table.below i) (spot_zero k rows z i h).0
 
 -- the facts at a place
@@ -67,7 +67,7 @@ record AtPlace (k : Claim) (op : Op) (p : Spot) : Type 0 where
   stack : ShowsStack op p
   limbs : ShowsLimbs op p
 
-at_place : (k : Claim) (rows : List (List ℕ)) → IsLowClaim k → IsZero k rows → (i : ℕ) → i < length rows → AtPlace k (op_in rows i) (spot_of rows i)
+at_place : (k : Claim) (rows : List (List ℕ)) → IsLowClaim k → MainIsZero k rows → (i : ℕ) → i < length rows → AtPlace k (op_in rows i) (spot_of rows i)
 at_place k rows few z i h =
     let zeros = spot_zero k rows z i h in
     let p : Spot = spot_of rows i in
@@ -75,7 +75,7 @@ at_place k rows few z i h =
     let spot : IsAtSpot k (op_in rows i) p = spot_shown k (op_in rows i) p few r zeros.0 in
     record { spot = spot; stack = stack_shown (op_in rows i) p r spot.row.block zeros.1; limbs = limbs_shown (op_in rows i) p r zeros.2 }
 
-pub rows_shown : (k : Claim) (rows : List (List ℕ)) → IsLowClaim k → IsZero k rows → ShowsRows k rows
+pub rows_shown : (k : Claim) (rows : List (List ℕ)) → IsLowClaim k → MainIsZero k rows → ShowsRows k rows
 rows_shown k rows few z = record {
   row_is = λ i h.
       (let a : AtPlace k (op_in rows i) (spot_of rows i) = at_place k rows few z i h in
@@ -126,7 +126,7 @@ place_zero k rows few shows i h =
     (stack_zeros (op_in rows i) (spot_of rows i) r x.row.block (record { row = x.stack; pair = λ y e. (pair_behind k rows shows i y e).stack }))
     (limbs_zeros (op_in rows i) (spot_of rows i) r (record { row = x.limbs; pair = λ y e. (pair_behind k rows shows i y e).limbs }))
 
-pub rows_zero : (k : Claim) (rows : List (List ℕ)) → IsLowClaim k → IsTable 65 rows → ShowsRows k rows → IsZero k rows
+pub rows_zero : (k : Claim) (rows : List (List ℕ)) → IsLowClaim k → IsTable 65 rows → ShowsRows k rows → MainIsZero k rows
 rows_zero k rows few table shows = record {
   table = table;
   zero = λ i number h. number_zero (main_values k (spot_of rows i)) (place_zero k rows few shows i h) number;

@@ -1,7 +1,7 @@
 -- The rows of a main table, and what they show.
-use Rattle.std.specs.Prelude.{◌≡◌, ℕ, suc, ◌<◌, List, [], length, slice_index_or}
+use Rattle.std.specs.Prelude.{◌≡◌, ℕ, suc, ◌<◌, List, length}
 use Rattle.vm_ops.specs.declared.op.Op.{Op}
-use Rattle.vm_table.specs.Layout.{IsTable}
+use Rattle.vm_table.specs.Layout.{IsTable, row_at}
 use Rattle.air_kit.specs.Flags.{op_of}
 use Rattle.air_kit.specs.MainValues.{main_values}
 use Rattle.air_kit.specs.Places.{Claim, at_number}
@@ -11,15 +11,12 @@ use Rattle.row_facts.specs.Limbs.{IsLimbRow, MovesLimbs}
 use Rattle.row_facts.specs.RowFacts.{ReadsAs, IsRow, IsPair}
 use Rattle.row_facts.specs.Stack.{IsStackRow, MovesStack}
 
--- row i, and its operation
-abbrev pub row_at : List (List ℕ) → ℕ → List ℕ
-row_at rows i = slice_index_or rows i []
-
+-- the operation of row i
 abbrev pub op_in : List (List ℕ) → ℕ → Op
 op_in rows i = op_of (row_at rows i)
 
 -- each entry is 0 in each row
-pub record IsZero (k : Claim) (rows : List (List ℕ)) : Type 0 where
+pub record MainIsZero (k : Claim) (rows : List (List ℕ)) : Type 0 where
   pub table : IsTable 65 rows
   pub zero : (i number : ℕ) → i < length rows → at_number (main_values k (spot_of rows i)) number ≡ 0
 

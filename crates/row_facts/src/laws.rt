@@ -3,7 +3,7 @@ ghost use Rattle.vm_field.specs.Field.{prime};
 ghost use Rattle.vm_ops.specs.Codes.{code_of};
 ghost use Rattle.vm_ops.specs.declared.op.Op.{Op};
 ghost use Rattle.vm_ops.specs.declared.op.Op.TheVariants as ops;
-ghost use Rattle.vm_table.specs.Layout.{IsTable};
+ghost use Rattle.vm_table.specs.Layout.{IsTable, row_at};
 ghost use Rattle.vm_table.specs.MainColumns.{b, clk, h};
 ghost use Rattle.air_kit.specs.Acceptance.{AreZero};
 ghost use Rattle.air_kit.specs.Flags.{HasOp, is_left, is_op, op_of};
@@ -21,7 +21,7 @@ ghost use Rattle.row_facts.specs.Blocks.{IsBlockRow};
 ghost use Rattle.row_facts.specs.Bounds.{IsLowClaim};
 ghost use Rattle.row_facts.specs.Groups.{IsGroupRow};
 ghost use Rattle.row_facts.specs.Limbs.{ShowsLimbs};
-ghost use Rattle.row_facts.specs.MainRows.{IsZero, ShowsRows, op_in, row_at};
+ghost use Rattle.row_facts.specs.MainRows.{MainIsZero, ShowsRows, op_in};
 ghost use Rattle.row_facts.specs.RowFacts.{IsAtSpot, HasOps, ReadsAs};
 ghost use Rattle.row_facts.specs.Stack.{ShowsStack, mover};
 ghost use Rattle.row_facts.specs.Zero.{AllZero};
@@ -81,8 +81,8 @@ pub fn part_laws()
 /// The law of tables: the rows of a main table of which all entries are 0 show these facts, each row and each two rows, the first row
 /// and the last one; and a table whose rows show them has entries 0.
 pub fn table_laws()
-    ensures shows { (k : Claim) (rows : List (List ℕ)) → IsLowClaim k → IsZero k rows → ShowsRows k rows }
-    ensures zeros { (k : Claim) (rows : List (List ℕ)) → IsLowClaim k → IsTable 65 rows → ShowsRows k rows → IsZero k rows }
+    ensures shows { (k : Claim) (rows : List (List ℕ)) → IsLowClaim k → MainIsZero k rows → ShowsRows k rows }
+    ensures zeros { (k : Claim) (rows : List (List ℕ)) → IsLowClaim k → IsTable 65 rows → ShowsRows k rows → MainIsZero k rows }
 {}
 
 /// What follows for a main table by itself: its clocks count the rows from 0, and HALT stands in the last row alone.

@@ -8,7 +8,7 @@ use Rattle.air_kit.specs.Flags.{is_op}
 use Rattle.air_kit.specs.U32Values.{limbs, two_left}
 use Rattle.row_facts.proofs.Says.{off}
 use Rattle.row_facts.specs.Limbs.{IsLimbRow, MovesLimbs}
-use Rattle.row_steps.specs.Lookups.{HasLimbs}
+use Rattle.row_steps.specs.Lookups.{LooksUpLimbs}
 use Rattle.row_steps.specs.Numbers.{AreWords, ShowsNumbers}
 use Rattle.row_steps.proofs.Numbers.{sum_is, sum_three_is, whole_below, whole_is}
 use Rattle.row_steps.proofs.Products.{Divided, divided_from, divided_whole, divisor_is, product_is, product_sum_is}
@@ -34,7 +34,7 @@ less b r l e = omega (arith, e)
 
 -- ---- what each operation leaves
 
-splits_at : (op : Op) (x y : List ℕ) → HasLimbs op x → MovesLimbs op x y → is_op op ops.U32Split ≡ true → s x 0 < prime → AreWords (s x 0) y
+splits_at : (op : Op) (x y : List ℕ) → LooksUpLimbs op x → MovesLimbs op x y → is_op op ops.U32Split ≡ true → s x 0 < prime → AreWords (s x 0) y
 unfolding two_left
 splits_at ops.U32Split x y has m is low =
     let k = m.splits refl in
@@ -45,7 +45,7 @@ splits_at ops.U32Split x y has m is low =
 splits_at ops.Noop x y has m is low = off is
 splits_at op x y has m is low = off is
 
-adds_at : (op : Op) (x y : List ℕ) → HasLimbs op x → IsLimbRow op x → MovesLimbs op x y → is_op op ops.U32Add ≡ true
+adds_at : (op : Op) (x y : List ℕ) → LooksUpLimbs op x → IsLimbRow op x → MovesLimbs op x y → is_op op ops.U32Add ≡ true
     → (s x 1 + s x 0 ≤ 2 * (2 ^ 32 - 1)) × AreWords (s x 1 + s x 0) y
 unfolding two_left
 adds_at ops.U32Add x y has row m is =
@@ -60,7 +60,7 @@ adds_at ops.U32Add x y has row m is =
 adds_at ops.Noop x y has row m is = off is
 adds_at op x y has row m is = off is
 
-adds_three_at : (op : Op) (x y : List ℕ) → HasLimbs op x → IsLimbRow op x → MovesLimbs op x y → is_op op ops.U32Add3 ≡ true
+adds_three_at : (op : Op) (x y : List ℕ) → LooksUpLimbs op x → IsLimbRow op x → MovesLimbs op x y → is_op op ops.U32Add3 ≡ true
     → (s x 2 + s x 1 + s x 0 ≤ 3 * (2 ^ 32 - 1)) × AreWords (s x 2 + s x 1 + s x 0) y
 unfolding two_left
 adds_three_at ops.U32Add3 x y has row m is =
@@ -76,7 +76,7 @@ adds_three_at ops.U32Add3 x y has row m is =
 adds_three_at ops.Noop x y has row m is = off is
 adds_three_at op x y has row m is = off is
 
-multiplies_at : (op : Op) (x y : List ℕ) → HasLimbs op x → IsLimbRow op x → MovesLimbs op x y → is_op op ops.U32Mul ≡ true
+multiplies_at : (op : Op) (x y : List ℕ) → LooksUpLimbs op x → IsLimbRow op x → MovesLimbs op x y → is_op op ops.U32Mul ≡ true
     → AreWords (s x 1 * s x 0) y
 unfolding two_left
 multiplies_at ops.U32Mul x y has row m is =
@@ -90,7 +90,7 @@ multiplies_at ops.U32Mul x y has row m is =
 multiplies_at ops.Noop x y has row m is = off is
 multiplies_at op x y has row m is = off is
 
-multiplies_and_adds_at : (op : Op) (x y : List ℕ) → HasLimbs op x → IsLimbRow op x → MovesLimbs op x y → is_op op ops.U32MAdd ≡ true
+multiplies_and_adds_at : (op : Op) (x y : List ℕ) → LooksUpLimbs op x → IsLimbRow op x → MovesLimbs op x y → is_op op ops.U32MAdd ≡ true
     → AreWords (s x 1 * s x 0 + s x 2) y
 unfolding two_left
 multiplies_and_adds_at ops.U32MAdd x y has row m is =
@@ -105,7 +105,7 @@ multiplies_and_adds_at ops.U32MAdd x y has row m is =
 multiplies_and_adds_at ops.Noop x y has row m is = off is
 multiplies_and_adds_at op x y has row m is = off is
 
-divides_at : (op : Op) (x y : List ℕ) → HasLimbs op x → IsLimbRow op x → MovesLimbs op x y → is_op op ops.U32Div ≡ true
+divides_at : (op : Op) (x y : List ℕ) → LooksUpLimbs op x → IsLimbRow op x → MovesLimbs op x y → is_op op ops.U32Div ≡ true
     → (s x 1 ≡ s y 1 * s x 0 + s y 0) × (s y 0 < s x 0)
 divides_at ops.U32Div x y has row m is =
     let k = m.divides refl in
@@ -122,7 +122,7 @@ divides_at ops.U32Div x y has row m is =
 divides_at ops.Noop x y has row m is = off is
 divides_at op x y has row m is = off is
 
-pub numbers_shown : (op : Op) (x y : List ℕ) → IsLimbRow op x → MovesLimbs op x y → HasLimbs op x → ShowsNumbers op x y
+pub numbers_shown : (op : Op) (x y : List ℕ) → IsLimbRow op x → MovesLimbs op x y → LooksUpLimbs op x → ShowsNumbers op x y
 numbers_shown op x y row m has = record {
   first = first_word op x has row;
   second = second_word op x has row;

@@ -13,7 +13,8 @@ use Rattle.air_kit.specs.MainTuples.{is_call_op, row_shifts_left}
 use Rattle.air_kit.specs.Places.{Claim}
 use Rattle.air_kit.specs.RowStates.{Overflow, overflow_behind, overflow_at, brought_back, row_returns, memory_at, tape_of, taken_by, elsewhere_at}
 use Rattle.row_facts.proofs.Says.{either_or}
-use Rattle.row_facts.specs.MainRows.{ShowsRows, op_in, row_at}
+use Rattle.vm_table.specs.Layout.{row_at}
+use Rattle.row_facts.specs.MainRows.{ShowsRows, op_in}
 use Rattle.row_facts.specs.Stack.{ShiftsCells}
 use Rattle.row_steps.specs.Joined.{GoesOnBy}
 use Rattle.row_steps.specs.Showing.{ShowsStep, IsPlace}

@@ -8,7 +8,7 @@ use Rattle.air_kit.specs.Flags.{is_op}
 use Rattle.row_facts.proofs.Says.{off}
 use Rattle.row_facts.specs.Limbs.{has_second}
 use Rattle.row_steps.specs.Filling.{limbs_filled, halves}
-use Rattle.row_steps.specs.Lookups.{HasLimbs, LooksUpBits, is_bitwise}
+use Rattle.row_steps.specs.Lookups.{LooksUpLimbs, LooksUpBits, is_bitwise}
 use Rattle.row_steps.proofs.Numbers.{word_low, word_high, half_low, half_high, carry_low}
 use Rattle.row_steps.proofs.WordValues.{left_and, left_xor}
 use Rattle.row_steps.proofs.WordMade.{Made, below_sum, below_sum_three, split_is, add_is, add_three_is, mul_is, mul_add_is, sub_is, mul_below, mul_add_below, rest_below, quotient_below, remainder_below, distance_below}
@@ -84,7 +84,7 @@ limbs_small op x y m = no_limbs
 below_by : (a b n : ℕ) → a ≡ b → b < n → a < n
 below_by a b n e h = omega (arith, e, h)
 
-pub limbs_filled_low : (op : Op) (x y : List ℕ) → Made op x y → HasLimbs op x
+pub limbs_filled_low : (op : Op) (x y : List ℕ) → Made op x y → LooksUpLimbs op x
 limbs_filled_low op x y m j few = below_by (t x j) (slice_index (limbs_filled op x y) j) (2 ^ 16) (m.limb j few) ((limbs_small op x y m).each j)
 
 -- ---- bits

@@ -12,7 +12,7 @@ use Rattle.air_kit.specs.U32Values.{limbs, two_left}
 use Rattle.row_facts.proofs.BlockFacts.{Low}
 use Rattle.row_facts.proofs.Says.{off, never}
 use Rattle.row_facts.specs.Limbs.{IsLimbRow, MovesLimbs}
-use Rattle.row_steps.specs.Lookups.{HasLimbs, LooksUpBits}
+use Rattle.row_steps.specs.Lookups.{LooksUpLimbs, LooksUpBits}
 use Rattle.row_steps.proofs.Numbers.{Words, words_of, whole_below, whole_is, sum_is, sum_three_is, Borrows, borrows_from}
 use Rattle.row_steps.proofs.Traps.{Runs}
 use Rattle.row_steps.proofs.Products.{product_is, product_sum_is, divisor_is, Divided, divided_from}
@@ -32,7 +32,7 @@ two_words : (op : Op) (x y : List ℕ) (n : ℕ) → (left_value op 0 x ≡ n / 
     → (j : ℕ) → j < 2 → s y j ≡ left_value op j x
 two_words op x y n left v = by_two (λ j. s y j ≡ left_value op j x) (v.high ∙ sym left.0) (v.low ∙ sym left.1)
 
-split_words : (x y : List ℕ) → Low x → HasLimbs ops.U32Split x → MovesLimbs ops.U32Split x y → Words (s x 0) (s y 1) (s y 0)
+split_words : (x y : List ℕ) → Low x → LooksUpLimbs ops.U32Split x → MovesLimbs ops.U32Split x y → Words (s x 0) (s y 1) (s y 0)
 unfolding two_left
 split_words x y low has m =
     let k = m.splits refl in
@@ -41,7 +41,7 @@ split_words x y low has m =
     words_of (s x 0) (s y 1) (s y 0) ll
     (whole_is (s x 0) (s y 1) (s y 0) (low 30) (whole_below (s y 1) (s y 0) (w x 0) ll lh (m.one_way refl)) k.whole)
 
-add_words : (x y : List ℕ) → HasLimbs ops.U32Add x → MovesLimbs ops.U32Add x y → Runs ops.U32Add x → Words (s x 1 + s x 0) (s y 1) (s y 0)
+add_words : (x y : List ℕ) → LooksUpLimbs ops.U32Add x → MovesLimbs ops.U32Add x y → Runs ops.U32Add x → Words (s x 1 + s x 0) (s y 1) (s y 0)
 unfolding two_left
 add_words x y has m r =
     let k = m.adds refl in
@@ -49,7 +49,7 @@ add_words x y has m r =
     let lh = below_by (s y 0) (t x 6) (2 ^ 16) k.high (has 6 (lit< tt)) in
     words_of (s x 1 + s x 0) (s y 1) (s y 0) ll (sum_is (s x 0) (s x 1) (s y 1) (s y 0) (r.first refl) (r.second refl) ll lh k.whole)
 
-add_three_words : (x y : List ℕ) → HasLimbs ops.U32Add3 x → MovesLimbs ops.U32Add3 x y → Runs ops.U32Add3 x
+add_three_words : (x y : List ℕ) → LooksUpLimbs ops.U32Add3 x → MovesLimbs ops.U32Add3 x y → Runs ops.U32Add3 x
     → Words (s x 2 + s x 1 + s x 0) (s y 1) (s y 0)
 unfolding two_left
 add_three_words x y has m r =
@@ -59,7 +59,7 @@ add_three_words x y has m r =
     words_of (s x 2 + s x 1 + s x 0) (s y 1) (s y 0) ll
     (sum_three_is (s x 0) (s x 1) (s x 2) (s y 1) (s y 0) (r.first refl) (r.second refl) (r.third refl) ll lh k.whole)
 
-mul_words : (x y : List ℕ) → HasLimbs ops.U32Mul x → MovesLimbs ops.U32Mul x y → Runs ops.U32Mul x → Words (s x 1 * s x 0) (s y 1) (s y 0)
+mul_words : (x y : List ℕ) → LooksUpLimbs ops.U32Mul x → MovesLimbs ops.U32Mul x y → Runs ops.U32Mul x → Words (s x 1 * s x 0) (s y 1) (s y 0)
 unfolding two_left
 mul_words x y has m r =
     let k = m.multiplies refl in
@@ -68,7 +68,7 @@ mul_words x y has m r =
     words_of (s x 1 * s x 0) (s y 1) (s y 0) ll
     (product_is (s x 0) (s x 1) (s y 1) (s y 0) (r.first refl) (r.second refl) (whole_below (s y 1) (s y 0) (w x 0) ll lh (m.one_way refl)) k.whole)
 
-mul_add_words : (x y : List ℕ) → HasLimbs ops.U32MAdd x → MovesLimbs ops.U32MAdd x y → Runs ops.U32MAdd x
+mul_add_words : (x y : List ℕ) → LooksUpLimbs ops.U32MAdd x → MovesLimbs ops.U32MAdd x y → Runs ops.U32MAdd x
     → Words (s x 1 * s x 0 + s x 2) (s y 1) (s y 0)
 unfolding two_left
 mul_add_words x y has m r =
@@ -79,13 +79,13 @@ mul_add_words x y has m r =
     (product_sum_is (s x 0) (s x 1) (s x 2) (s y 1) (s y 0) (r.first refl) (r.second refl) (r.third refl)
     (whole_below (s y 1) (s y 0) (w x 0) ll lh (m.one_way refl)) k.whole)
 
-sub_words : (x y : List ℕ) → HasLimbs ops.U32Sub x → MovesLimbs ops.U32Sub x y → Runs ops.U32Sub x → Borrows (s x 1) (s x 0) (s y 0) (s y 1)
+sub_words : (x y : List ℕ) → LooksUpLimbs ops.U32Sub x → MovesLimbs ops.U32Sub x y → Runs ops.U32Sub x → Borrows (s x 1) (s x 0) (s y 0) (s y 1)
 sub_words x y has m r =
     let k = m.subtracts refl in
     let ll = below_by (s y 1) (limbs 4 x) (2 ^ 32) k.low (limb_word ops.U32Sub x 4 has (lit< tt)) in
     borrows_from (s x 1) (s x 0) (s y 0) (s y 1) (r.second refl) (r.first refl) ll k.borrow k.whole
 
-div_words : (x y : List ℕ) → HasLimbs ops.U32Div x → IsLimbRow ops.U32Div x → MovesLimbs ops.U32Div x y → Runs ops.U32Div x
+div_words : (x y : List ℕ) → LooksUpLimbs ops.U32Div x → IsLimbRow ops.U32Div x → MovesLimbs ops.U32Div x y → Runs ops.U32Div x
     → Divided (s x 1) (s x 0) (s y 0) (s y 1)
 div_words x y has row m r =
     let k = m.divides refl in
@@ -99,7 +99,7 @@ div_words x y has row m r =
     small : (n : ℕ) → n < 2 ^ 32 → n < prime
     small n h = omega (arith, h)
 
-pub word_leaves : (op : Op) (x y : List ℕ) → is_free op ≡ true → reads_elsewhere op ≡ false → Low x → HasLimbs op x → IsLimbRow op x
+pub word_leaves : (op : Op) (x y : List ℕ) → is_free op ≡ true → reads_elsewhere op ≡ false → Low x → LooksUpLimbs op x → IsLimbRow op x
     → MovesLimbs op x y → LooksUpBits op x y → Runs op x → (j : ℕ) → j < leaves_of op → s y j ≡ left_value op j x
 word_leaves ops.Push x y free quiet low has row m looks r = never quiet
 word_leaves ops.AdvPop x y free quiet low has row m looks r = never quiet

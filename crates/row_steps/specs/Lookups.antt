@@ -11,8 +11,8 @@ use Rattle.air_kit.specs.MainTuples.{limbs_of, twelve}
 use Rattle.air_kit.specs.RowStates.{Elsewhere}
 
 -- the range bus: limbs have 16 bits
-abbrev pub HasLimbs : Op → List ℕ → Type 0
-HasLimbs op x = (j : ℕ) → j < limbs_of op → t x j < 2 ^ 16
+abbrev pub LooksUpLimbs : Op → List ℕ → Type 0
+LooksUpLimbs op x = (j : ℕ) → j < limbs_of op → t x j < 2 ^ 16
 
 -- the bitwise bus: the operands have 32 bits, and the result is that of their bits
 abbrev pub is_bitwise : Op → Bool
@@ -36,7 +36,7 @@ pub record LooksUpWord (op : Op) (x y : List ℕ) (e : Elsewhere) : Type 0 where
 
 -- all of them; the hasher's bus grants the permutation
 pub record Lookups (constants : List ℕ) (op : Op) (x y : List ℕ) (e : Elsewhere) : Type 0 where
-  pub ranges : HasLimbs op x
+  pub ranges : LooksUpLimbs op x
   pub bits : LooksUpBits op x y
   pub memory : LooksUpWord op x y e
   pub permutes : is_op op ops.HPerm ≡ true → twelve y ≡ permuted constants (twelve x)

@@ -7,7 +7,8 @@ use Rattle.vm_ops.specs.declared.op.Op.{Op}
 use Rattle.vm_table.specs.MainColumns.{s, depth}
 use Rattle.air_kit.specs.Flags.{is_left}
 use Rattle.air_kit.specs.RowStates.{Elsewhere, elsewhere_at, state_of}
-use Rattle.row_facts.specs.MainRows.{op_in, row_at}
+use Rattle.vm_table.specs.Layout.{row_at}
+use Rattle.row_facts.specs.MainRows.{op_in}
 use Rattle.row_steps.specs.Joined.{IsRowOf, item_of}
 use Rattle.row_steps.specs.Lookups.{Lookups}
 

@@ -8,10 +8,11 @@ ghost use Rattle.vm_ops.specs.declared.op.Op.{Op};
 ghost use Rattle.air_kit.specs.Places.{Claim};
 ghost use Rattle.air_kit.specs.RowStates.{Elsewhere, elsewhere_at};
 ghost use Rattle.row_facts.specs.Limbs.{IsLimbRow, MovesLimbs};
-ghost use Rattle.row_facts.specs.MainRows.{ShowsPair, ShowsRow, ShowsRows, op_in, row_at};
+ghost use Rattle.vm_table.specs.Layout.{row_at};
+ghost use Rattle.row_facts.specs.MainRows.{ShowsPair, ShowsRow, ShowsRows, op_in};
 ghost use Rattle.row_steps.specs.Filling.{FilledBy, FillsRows, ShowsState, elsewhere_of};
 ghost use Rattle.row_steps.specs.Joined.{GoesOnBy, IsRowOf};
-ghost use Rattle.row_steps.specs.Lookups.{HasLimbs, Lookups};
+ghost use Rattle.row_steps.specs.Lookups.{LooksUpLimbs, Lookups};
 ghost use Rattle.row_steps.specs.Numbers.{ShowsNumbers};
 ghost use Rattle.row_steps.specs.Showing.{IsPlace, ShowsStep};
 
@@ -31,7 +32,7 @@ pub fn step_laws()
 /// the number itself, which is below the modulus: a sum of two or of three numbers is at most two or three times 2^32 - 1. The
 /// remainder of a division is below its divisor.
 pub fn number_laws()
-    ensures numbers { (op : Op) (x y : List ℕ) → IsLimbRow op x → MovesLimbs op x y → HasLimbs op x → ShowsNumbers op x y }
+    ensures numbers { (op : Op) (x y : List ℕ) → IsLimbRow op x → MovesLimbs op x y → LooksUpLimbs op x → ShowsNumbers op x y }
 {}
 
 /// The law of fillings: where a step of an ordinary item leads from one state to another, the two rows that show these states, with the

@@ -3,11 +3,11 @@ use Rattle.std.proofs.Common.{◌≡◌, ℕ, suc, List, ◌∷◌, refl, sym, a
 use Rattle.vm_ops.specs.declared.item.Item.{Item}
 use Rattle.vm_ops.specs.declared.op.Op.TheVariants as ops
 use Rattle.air_kit.specs.MainTuples.{eight}
-use Rattle.row_facts.specs.MainRows.{row_at}
+use Rattle.vm_table.specs.Layout.{row_at}
 use Rattle.row_facts.proofs.Says.{never}
 use Rattle.bus_facts.specs.Blocks.{IsAt}
 use Rattle.span_rows.specs.Items.{AreItems}
-use Rattle.span_rows.specs.Spans.{AreBatches, IsBatch}
+use Rattle.span_rows.specs.Spans.{AreBatches, HasBatchRows}
 
 module _ (rows : List (List ℕ)) where
   items_end : (r e f : ℕ) (xs ys : List Item) → AreItems rows r e xs → AreItems rows r f ys → e ≡ f
@@ -25,7 +25,7 @@ module _ (rows : List (List ℕ)) where
     pub end : e ≡ f
     pub batches : xs ≡ ys
 
-  batch_end : (i e f : ℕ) → IsBatch rows i e → IsBatch rows i f → e ≡ f
+  batch_end : (i e f : ℕ) → HasBatchRows rows i e → HasBatchRows rows i f → e ≡ f
   batch_end i e f one other = items_end (suc i) e f one.items other.items one.are other.are
 
   pub same_batches : (i e f : ℕ) (xs ys : List (List ℕ)) → AreBatches rows i e xs → AreBatches rows i f ys → SameBatches e f xs ys

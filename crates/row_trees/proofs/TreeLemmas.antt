@@ -11,11 +11,12 @@ use Rattle.block_tree.proofs.Refinement.{refines-digest}
 use Rattle.air_kit.specs.Flags.{is_op}
 use Rattle.air_kit.specs.Hashes.{computation_at}
 use Rattle.air_kit.specs.MainTuples.{back, domain_of, eight, front, is_call_op}
-use Rattle.row_facts.specs.MainRows.{row_at, op_in}
+use Rattle.vm_table.specs.Layout.{row_at}
+use Rattle.row_facts.specs.MainRows.{op_in}
 use Rattle.row_facts.proofs.Says.{never}
 use Rattle.bus_facts.specs.Blocks.{Closes, IsAt, own}
-use Rattle.span_rows.specs.Spans.{AreBatches, IsHashed}
-use Rattle.tree_merge.specs.Placed.{Placed, placed_digest}
+use Rattle.span_rows.specs.Spans.{AreBatches, IsHashedAt}
+use Rattle.tree_merge.specs.Placed.{PlacedTree, placed_digest}
 use Rattle.tree_merge.specs.Merging.{Good}
 use Rattle.row_trees.specs.Built.{Built, Turns}
 use Rattle.row_trees.specs.TreeFacts.{TreeDigest, TreeFacts, TreeGood}
@@ -33,10 +34,10 @@ word_size : (digest : List ℕ) (x : List ℕ) → digest ≡ front x → length
 word_size digest x is = ap length is
 
 module _ (constants : List ℕ) (hasher rows : List (List ℕ)) (root : List ℕ) (facts : TreeFacts constants hasher rows root) where
-  abbrev has_tree : ℕ → ℕ → Placed → Type 0
+  abbrev has_tree : ℕ → ℕ → PlacedTree → Type 0
   has_tree j e x = Built constants (computation_at hasher) rows j e x
 
-  abbrev has_turns : ℕ → ℕ → ℕ → Placed → Type 0
+  abbrev has_turns : ℕ → ℕ → ℕ → PlacedTree → Type 0
   has_turns j a e x = Turns constants (computation_at hasher) rows j a e x
 
   -- what is hashed at the block's address, and its digest
@@ -75,7 +76,7 @@ module _ (constants : List ℕ) (hasher rows : List (List ℕ)) (root : List ℕ
   span_hashed j e batches here are = go (facts.spans.span j here)
     where
       go : (f : ℕ) × (others : List (List ℕ)) × AreBatches rows j f others × Closes rows j f
-          × IsHashed constants hasher rows j f (input_of_batches others) → IsHashedAs j e (input_of_batches batches)
+          × IsHashedAt constants hasher rows j f (input_of_batches others) → IsHashedAs j e (input_of_batches batches)
       go (f, others, same_are, closes, hashed) =
           let same = same_batches rows j f e others batches same_are are in
           record {
@@ -85,7 +86,7 @@ module _ (constants : List ℕ) (hasher rows : List (List ℕ)) (root : List ℕ
           }
 
   mutual
-    pub built_digest : {j e : ℕ} {x : Placed} → has_tree j e x → placed_digest constants x ≡ front (row_at rows e)
+    pub built_digest : {j e : ℕ} {x : PlacedTree} → has_tree j e x → placed_digest constants x ≡ front (row_at rows e)
     built_digest (Built.span {j} {e} {batches} here closes are) = (span_hashed j e batches here are).digest
     built_digest (Built.join {j} {a} {b} {x} {y} here closes one other is_one is_other) =
         (two_hashed j (suc b) ops.Join (placed_digest constants x) (placed_digest constants y) refl refl here closes
@@ -105,19 +106,19 @@ module _ (constants : List ℕ) (hasher rows : List (List ℕ)) (root : List ℕ
     built_digest (Built.syscall {j} {a} {x} here closes child is) =
         (one_hashed j (suc a) ops.Syscall (placed_digest constants x) refl refl refl here closes (built_digest child ∙ is)).digest
 
-    pub turns_digest : {j a e : ℕ} {x : Placed} → has_turns j a e x → placed_digest constants x ≡ front (row_at rows j)
+    pub turns_digest : {j a e : ℕ} {x : PlacedTree} → has_turns j a e x → placed_digest constants x ≡ front (row_at rows j)
     turns_digest (Turns.last {j} {a} {b} {x} {y} turn refines is closes) = refines-digest constants refines ∙ built_digest turn ∙ is
     turns_digest (Turns.more {j} {a} {b} {e} {x} {y} turn refines is again rest) = refines-digest constants refines ∙ built_digest turn ∙ is
 
   -- ---- its addresses
 
-  digest_size : (j e : ℕ) (x : Placed) → has_tree j e x → length (placed_digest constants x) ≡ 4
+  digest_size : (j e : ℕ) (x : PlacedTree) → has_tree j e x → length (placed_digest constants x) ≡ 4
   digest_size j e x tree = ap length (built_digest tree)
 
-  turns_size : (j a e : ℕ) (x : Placed) → has_turns j a e x → length (placed_digest constants x) ≡ 4
+  turns_size : (j a e : ℕ) (x : PlacedTree) → has_turns j a e x → length (placed_digest constants x) ≡ 4
   turns_size j a e x turns = ap length (turns_digest turns)
 
-  pub built_good : {j e : ℕ} {x : Placed} → has_tree j e x → Good constants (computation_at hasher) x
+  pub built_good : {j e : ℕ} {x : PlacedTree} → has_tree j e x → Good constants (computation_at hasher) x
   built_good (Built.span {j} {e} {batches} here closes are) = Good.span (span_hashed j e batches here are).computation
   built_good (Built.join {j} {a} {b} {x} {y} here closes one other is_one is_other) =
       Good.join

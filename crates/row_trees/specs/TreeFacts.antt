@@ -6,12 +6,13 @@ use Rattle.air_kit.specs.MainTuples.{front}
 use Rattle.air_kit.specs.Places.{Claim}
 use Rattle.air_kit.specs.declared.trace.Public.{Public}
 use Rattle.air_kit.specs.declared.trace.Trace.{Trace}
-use Rattle.row_facts.specs.MainRows.{ShowsRows, row_at}
+use Rattle.vm_table.specs.Layout.{row_at}
+use Rattle.row_facts.specs.MainRows.{ShowsRows}
 use Rattle.bus_facts.specs.BusFacts.{Granted}
 use Rattle.block_rows.specs.Frames.{FrameFacts}
 use Rattle.block_rows.specs.Nesting.{NestingFacts}
 use Rattle.span_rows.specs.Spans.{SpanFacts}
-use Rattle.tree_merge.specs.Placed.{Placed, placed_digest}
+use Rattle.tree_merge.specs.Placed.{PlacedTree, placed_digest}
 use Rattle.tree_merge.specs.Merging.{Good}
 use Rattle.row_trees.specs.Built.{Built}
 
@@ -25,7 +26,7 @@ pub record TreeFacts (constants : List ℕ) (hasher rows : List (List ℕ)) (roo
 
 module _ (constants : List ℕ) (hasher rows : List (List ℕ)) where
   -- the block has this tree
-  abbrev pub HasTree : ℕ → ℕ → Placed → Type 0
+  abbrev pub HasTree : ℕ → ℕ → PlacedTree → Type 0
   HasTree j e x = Built constants (computation_at hasher) rows j e x
 
 -- granted rows have these facts, where their spans have theirs
@@ -36,9 +37,9 @@ GrantedTrees = (p : Public) (t : Trace) → 1 ≤ length t.main → Granted p t 
 -- the tree has the digest that the block's END shows
 abbrev pub TreeDigest : Type 0
 TreeDigest = (constants : List ℕ) (hasher rows : List (List ℕ)) (root : List ℕ) → TreeFacts constants hasher rows root
-    → (j e : ℕ) (x : Placed) → HasTree constants hasher rows j e x → placed_digest constants x ≡ front (row_at rows e)
+    → (j e : ℕ) (x : PlacedTree) → HasTree constants hasher rows j e x → placed_digest constants x ≡ front (row_at rows e)
 
 -- and its addresses are those of its hashes
 abbrev pub TreeGood : Type 0
 TreeGood = (constants : List ℕ) (hasher rows : List (List ℕ)) (root : List ℕ) → TreeFacts constants hasher rows root
-    → (j e : ℕ) (x : Placed) → HasTree constants hasher rows j e x → Good constants (computation_at hasher) x
+    → (j e : ℕ) (x : PlacedTree) → HasTree constants hasher rows j e x → Good constants (computation_at hasher) x

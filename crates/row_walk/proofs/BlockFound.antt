@@ -10,7 +10,8 @@ use Rattle.air_kit.specs.MainTuples.{back, front}
 use Rattle.air_kit.specs.RowStates.{taken_by}
 use Rattle.air_kit.specs.declared.trace.Public.{Public}
 use Rattle.air_kit.specs.declared.trace.Trace.{Trace}
-use Rattle.row_facts.specs.MainRows.{op_in, row_at}
+use Rattle.vm_table.specs.Layout.{row_at}
+use Rattle.row_facts.specs.MainRows.{op_in}
 use Rattle.row_facts.proofs.Says.{never}
 use Rattle.bus_facts.specs.Blocks.{Closes, IsAt, Starts, own}
 use Rattle.block_rows.specs.Nesting.{IsOnlyChild, StartsInside}
@@ -19,9 +20,9 @@ use Rattle.row_trees.specs.TreeFacts.{HasTree}
 use Rattle.row_trees.proofs.TreeRuns.{built_closes}
 use Rattle.tree_merge.specs.AddrView.{placed_of}
 use Rattle.tree_merge.specs.Placed as placed
-use Rattle.tree_merge.specs.Placed.{Placed}
+use Rattle.tree_merge.specs.Placed.{PlacedTree}
 use Rattle.tree_merge.specs.declared.addr_tree.AddrTree.{AddrTree}
-use Rattle.row_walk.specs.Walking.{IsFound, IsReadable, Takes}
+use Rattle.row_walk.specs.Walking.{IsFound, IsWalkable, Takes}
 use Rattle.row_walk.specs.declared.found.Found.{Found}
 use Rattle.row_walk.proofs.ReadRows.{own_small}
 use Rattle.row_walk.proofs.Takings.{joined, row_rests}
@@ -39,13 +40,13 @@ top_other n cell answer same is no_one = grind arith
 bit_is : (n : ℕ) → n < 2 → n ≢ 1 → n ≡ 0
 bit_is n low other = omega (arith, low, other)
 
-module _ (p : Public) (t : Trace) (readable : IsReadable p t) where
-  abbrev has_tree : ℕ → ℕ → Placed → Type 0
+module _ (p : Public) (t : Trace) (readable : IsWalkable p t) where
+  abbrev has_tree : ℕ → ℕ → PlacedTree → Type 0
   has_tree i e x = HasTree (constants_of p.params) t.hasher t.main i e x
 
-  pub as_found : (i e : ℕ) (x : Placed) (found : Found) → found.end ≡ e → placed_of found.tree ≡ x → has_tree i e x → IsFound p t i found
+  pub as_found : (i e : ℕ) (x : PlacedTree) (found : Found) → found.end ≡ e → placed_of found.tree ≡ x → has_tree i e x → IsFound p t i found
   as_found i e x found end_is tree_is tree =
-      record { tree = subst₂ (λ (m : ℕ) (y : Placed). HasTree (constants_of p.params) t.hasher t.main i m y) (sym end_is) (sym tree_is) tree }
+      record { tree = subst₂ (λ (m : ℕ) (y : PlacedTree). HasTree (constants_of p.params) t.hasher t.main i m y) (sym end_is) (sym tree_is) tree }
 
   pub found_closes : (i : ℕ) (found : Found) → IsFound p t i found → Closes t.main i found.end
   found_closes i found f = built_closes (constants_of p.params) t.hasher t.main i found.end (placed_of found.tree) f.tree

@@ -5,10 +5,10 @@ use Rattle.vm_ops.specs.declared.op.Op.{Op}
 use Rattle.vm_ops.specs.declared.op.Op.TheVariants as ops
 use Rattle.vm_ops.proofs.CodeLemmas.{code_of-op_at}
 use Rattle.vm_table.specs.MainColumns.{b}
-use Rattle.air_kit.specs.Flags.{is_op, op_of, spelled}
+use Rattle.air_kit.specs.Flags.{is_op, op_of, spelled, HasBits}
 use Rattle.air_kit.specs.RowStates.{taken_by}
 use Rattle.row_facts.proofs.Says.{off}
-use Rattle.row_walk.specs.Walking.{HasBits, marked_of}
+use Rattle.row_walk.specs.Walking.{marked_of}
 
 pub marked_end : (op : Op) → is_op (marked_of op) ops.End ≡ is_op op ops.End
 marked_end ops.End = refl

@@ -4,21 +4,22 @@ use Rattle.vm_field.specs.Sponge.{HashInput}
 use Rattle.vm_ops.specs.declared.op.Op.TheVariants as ops
 use Rattle.block_tree.specs.Trees.{input_of_batches}
 use Rattle.rpo_hash.specs.Constants.{constants_of}
-use Rattle.air_kit.specs.Flags.{is_op}
+use Rattle.air_kit.specs.Flags.{is_op, HasBits}
 use Rattle.air_kit.specs.Hashes.{computation_at}
 use Rattle.air_kit.specs.declared.trace.Public.{Public}
 use Rattle.air_kit.specs.declared.trace.TableName.TheVariants as table
 use Rattle.air_kit.specs.declared.trace.Trace.{Trace}
-use Rattle.row_facts.specs.MainRows.{op_in, row_at}
+use Rattle.vm_table.specs.Layout.{row_at}
+use Rattle.row_facts.specs.MainRows.{op_in}
 use Rattle.row_facts.proofs.Says.{never}
 use Rattle.bus_facts.specs.Blocks.{Closes, own}
 use Rattle.block_rows.proofs.Operations.{op_named, true_or_false}
-use Rattle.span_rows.specs.Spans.{AreBatches, IsHashed}
+use Rattle.span_rows.specs.Spans.{AreBatches, IsHashedAt}
 use Rattle.tree_merge.specs.FirstBlocks.{HasBlock, HasFirst}
 use Rattle.tree_merge.proofs.FirstBlockLemmas.{stands}
-use Rattle.row_walk.specs.Walking.{CountsAreReadable, HasBits, IsReadable}
+use Rattle.row_walk.specs.Walking.{CountsAreReadable, IsWalkable}
 
-pub bits_at : (p : Public) (t : Trace) → IsReadable p t → (i : ℕ) → i < length t.main → HasBits (row_at t.main i)
+pub bits_at : (p : Public) (t : Trace) → IsWalkable p t → (i : ℕ) → i < length t.main → HasBits (row_at t.main i)
 bits_at p t readable i within = (readable.facts.shows.row_is i within).reads.has.bits
 
 within_table : (hasher : List (List ℕ)) (address : ℕ) (input : HashInput) → HasFirst input.blocks
@@ -34,11 +35,11 @@ has_first rows i e batches (AreBatches.last q p batch ends) = tt
 has_first rows i e batches (AreBatches.more q r p later batch respan rest) = tt
 
 -- a block's address is that of a row of the hasher's table
-pub own_small : (p : Public) (t : Trace) → IsReadable p t → (j e : ℕ) → Closes t.main j e → own t.main j < 2 ^ 32
+pub own_small : (p : Public) (t : Trace) → IsWalkable p t → (j e : ℕ) → Closes t.main j e → own t.main j < 2 ^ 32
 own_small p t readable j e closes = by_op (true_or_false (is_op (op_in t.main j) ops.Span))
   where
     of_span : (f : ℕ) × (batches : List (List ℕ)) × AreBatches t.main j f batches × Closes t.main j f
-        × IsHashed (constants_of p.params) t.hasher t.main j f (input_of_batches batches) → own t.main j < 2 ^ 32
+        × IsHashedAt (constants_of p.params) t.hasher t.main j f (input_of_batches batches) → own t.main j < 2 ^ 32
     of_span (f, batches, are, closed, hashed) =
         within_table t.hasher (own t.main j) (input_of_batches batches) (has_first t.main j f batches are) hashed.computation readable.hashes
 

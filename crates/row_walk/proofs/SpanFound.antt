@@ -9,19 +9,20 @@ use Rattle.air_kit.specs.MainTuples.{eight}
 use Rattle.air_kit.specs.RowStates.{taken_by}
 use Rattle.air_kit.specs.declared.trace.Public.{Public}
 use Rattle.air_kit.specs.declared.trace.Trace.{Trace}
-use Rattle.row_facts.specs.MainRows.{op_in, row_at}
+use Rattle.vm_table.specs.Layout.{row_at}
+use Rattle.row_facts.specs.MainRows.{op_in}
 use Rattle.bus_facts.specs.Blocks.{IsAt, own}
 use Rattle.block_rows.proofs.Operations.{op_named}
 use Rattle.row_trees.specs.Built.{Built}
 use Rattle.tree_merge.specs.Placed as placed
 use Rattle.tree_merge.specs.declared.addr_tree.AddrTree.TheVariants as tree
-use Rattle.row_walk.specs.Walking.{IsFound, IsReadable, Takes, marked_of}
+use Rattle.row_walk.specs.Walking.{IsFound, IsWalkable, Takes, marked_of}
 use Rattle.row_walk.proofs.Marks.{marked_end, marked_respan, marked_takes}
 use Rattle.row_walk.proofs.ReadRows.{own_small}
 use Rattle.row_walk.proofs.Spanning.{Spanned, Spanning, span_begins, span_ends, span_goes_on, stands_in_table}
 use Rattle.row_walk.proofs.Takings.{row_takes}
 
-module _ (p : Public) (t : Trace) (readable : IsReadable p t) where
+module _ (p : Public) (t : Trace) (readable : IsWalkable p t) where
   pub first_batch : (i : ℕ) → IsAt t.main i ops.Span → (batch : List ℕ) (begun : List (List ℕ)) → begun ≡ batch ∷ [] → batch ≡ eight (row_at t.main i)
       → Spanning t.main i (i + 1) begun
   first_batch i here batch begun is is_batch =

@@ -8,11 +8,12 @@ use Rattle.vm_ops.specs.declared.op.Op.TheVariants as ops
 use Rattle.block_tree.specs.Trees.{input_of_batches}
 use Rattle.air_kit.specs.Flags.{is_op}
 use Rattle.air_kit.specs.MainTuples.{eight}
-use Rattle.row_facts.specs.MainRows.{op_in, row_at}
+use Rattle.vm_table.specs.Layout.{row_at}
+use Rattle.row_facts.specs.MainRows.{op_in}
 use Rattle.row_facts.proofs.Says.{never, off}
 use Rattle.bus_facts.specs.Blocks.{Closes, IsAt}
 use Rattle.span_rows.specs.Items.{AreItems}
-use Rattle.span_rows.specs.Spans.{AreBatches, IsHashed, SpanFacts}
+use Rattle.span_rows.specs.Spans.{AreBatches, IsHashedAt, SpanFacts}
 
 -- row r stands behind a batch: it is the END in row e, or RESPAN with the batches that are left
 pub data Behind (rows : List (List ℕ)) (r e : ℕ) (left : List (List ℕ)) : Type 0 where
@@ -59,7 +60,7 @@ pub span_begins : (constants : List ℕ) (hasher rows : List (List ℕ)) → Spa
 span_begins constants hasher rows spans i here = go (spans.span i here)
   where
     go : (e : ℕ) × (batches : List (List ℕ)) × AreBatches rows i e batches × Closes rows i e
-        × IsHashed constants hasher rows i e (input_of_batches batches) → Spanning rows i (i + 1) (eight (row_at rows i) ∷ [])
+        × IsHashedAt constants hasher rows i e (input_of_batches batches) → Spanning rows i (i + 1) (eight (row_at rows i) ∷ [])
     go (e, batches, are, closes, hashed) =
         let b = begun_by rows i e batches are in
         record { end = e; batches = batches; closes = closes; are = are; left = b.left; batches_are = b.batches_are; stands = b.stands }

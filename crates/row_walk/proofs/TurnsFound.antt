@@ -6,12 +6,13 @@ use Rattle.vm_table.specs.MainColumns.{s}
 use Rattle.std.proofs.Math.Path.{subst₂}
 use Rattle.block_tree.proofs.Refinement.{refines-digest, refines-trans}
 use Rattle.rpo_hash.specs.Constants.{constants_of}
-use Rattle.air_kit.specs.Flags.{is_op}
+use Rattle.air_kit.specs.Flags.{is_op, HasBits}
 use Rattle.air_kit.specs.Hashes.{computation_at}
 use Rattle.air_kit.specs.MainTuples.{front}
 use Rattle.air_kit.specs.declared.trace.Public.{Public}
 use Rattle.air_kit.specs.declared.trace.Trace.{Trace}
-use Rattle.row_facts.specs.MainRows.{op_in, row_at}
+use Rattle.vm_table.specs.Layout.{row_at}
+use Rattle.row_facts.specs.MainRows.{op_in}
 use Rattle.row_facts.proofs.Says.{never}
 use Rattle.bus_facts.specs.Blocks.{Closes, IsAt, own}
 use Rattle.block_rows.specs.Nesting.{StartsInside, TurnsAgain}
@@ -20,9 +21,9 @@ use Rattle.row_trees.proofs.TreeLemmas.{built_digest, built_good}
 use Rattle.tree_merge.specs.AddrView.{placed_of}
 use Rattle.tree_merge.specs.Merging.{Good, Merged, Mergeable}
 use Rattle.tree_merge.specs.Placed as placed
-use Rattle.tree_merge.specs.Placed.{Placed, placed_digest, plain}
+use Rattle.tree_merge.specs.Placed.{PlacedTree, placed_digest}
 use Rattle.tree_merge.specs.declared.addr_tree.AddrTree.{AddrTree}
-use Rattle.row_walk.specs.Walking.{HasBits, IsFound, IsReadable, IsWhole, Takes}
+use Rattle.row_walk.specs.Walking.{IsFound, IsWalkable, IsWholeTree, Takes}
 use Rattle.row_walk.specs.declared.found.Found.{Found}
 use Rattle.row_walk.proofs.BlockFound.{as_found, found_closes}
 use Rattle.row_walk.proofs.ReadRows.{bits_at, own_small}
@@ -35,8 +36,8 @@ add-two n = omega arith
 suc-one : (n : ℕ) → suc n + 1 ≡ n + 2
 suc-one n = omega arith
 
-module _ (p : Public) (t : Trace) (readable : IsReadable p t) where
-  pub first_turn : (i : ℕ) → IsAt t.main i ops.Loop → s (row_at t.main i) 0 ≡ 1 → (body : Placed) (digest : List ℕ) → body ≡ placed.Opaque digest
+module _ (p : Public) (t : Trace) (readable : IsWalkable p t) where
+  pub first_turn : (i : ℕ) → IsAt t.main i ops.Loop → s (row_at t.main i) 0 ≡ 1 → (body : PlacedTree) (digest : List ℕ) → body ≡ placed.Opaque digest
       → digest ≡ front (row_at t.main i) → Turning p t i (i + 1) body
   first_turn i here top body digest body_is digest_is =
       subst (λ x. Turning p t i (i + 1) x) (sym (body_is ∙ ap (λ d. placed.Opaque d) digest_is)) (rw add-one (record {
@@ -51,7 +52,7 @@ module _ (p : Public) (t : Trace) (readable : IsReadable p t) where
       inside : StartsInside t.main i
       inside = readable.facts.nesting.loop_enters i here top
 
-  module _ (i a : ℕ) (body : Placed) (turn : Found) (here : IsAt t.main i ops.Loop) (turning : Turning p t i a body) (f : IsFound p t a turn) where
+  module _ (i a : ℕ) (body : PlacedTree) (turn : Found) (here : IsAt t.main i ops.Loop) (turning : Turning p t i a body) (f : IsFound p t a turn) where
     -- the turn has the digest that the loop names, and its END stands before the loop's own or before REPEAT
     behind : (front (row_at t.main turn.end) ≡ front (row_at t.main i)) × (Closes t.main i (suc turn.end) ⊎ TurnsAgain t.main i (suc turn.end))
     behind = readable.facts.nesting.after_turn i a turn.end here turning.inside (found_closes p t readable a turn f)
@@ -118,7 +119,7 @@ module _ (p : Public) (t : Trace) (readable : IsReadable p t) where
         (turning.rest (placed_of m) (suc turn.end) merged.first (Turns.last f.tree merged.second behind.0 closes)))
 
     pub next_turn : (op : Op) (answer : Bool) → op ≡ op_in t.main (turn.end + 1) → answer ≡ is_op op ops.End → answer ≡ false
-        → (m : Placed) → Merged (constants_of p.params) (computation_at t.hasher) body (placed_of turn.tree) m → Turning p t i (turn.end + 2) m
+        → (m : PlacedTree) → Merged (constants_of p.params) (computation_at t.hasher) body (placed_of turn.tree) m → Turning p t i (turn.end + 2) m
     next_turn op answer same is no_end m merged =
         subst (λ (n : ℕ). Turning p t i n m) (sym (add-two turn.end)) (record {
           starts = again.starts;
@@ -143,7 +144,7 @@ module _ (p : Public) (t : Trace) (readable : IsReadable p t) where
         (subst₂ (λ (m n : ℕ). Takes t.main m n grown grown) (sym (add-one turn.end)) (suc-one turn.end)
         (row_rests t.main (suc turn.end) ops.Repeat grown (again_by (next_op op answer same is ∙ no_end) behind.1).repeats refl)))
 
-  pub whole_found : (found : Found) → IsFound p t 0 found → IsWhole p t found
+  pub whole_found : (found : Found) → IsFound p t 0 found → IsWholeTree p t found
   whole_found found f =
       let root = readable.facts.nesting.after_root found.end (found_closes p t readable 0 found f) in
       record {

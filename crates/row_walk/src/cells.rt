@@ -1,9 +1,11 @@
 ghost use Rattle.std.specs.Prelude.{◌≡◌, suc, ◌^◌, ◌<◌, length};
 ghost use Rattle.air_kit.specs.MainTuples.{back, eight, front};
 ghost use Rattle.bus_facts.specs.Blocks.{own};
-ghost use Rattle.row_facts.specs.MainRows.{op_in, row_at};
+ghost use Rattle.vm_table.specs.Layout.{row_at};
+ghost use Rattle.row_facts.specs.MainRows.{op_in};
 ghost use Rattle.vm_table.specs.MainColumns.{s};
-ghost use Rattle.row_walk.specs.Walking.{HasBits, marked_of};
+ghost use Rattle.air_kit.specs.Flags.{HasBits};
+ghost use Rattle.row_walk.specs.Walking.{marked_of};
 
 use crate::decode::{marked_in, operation_of};
 use air_kit::Trace;

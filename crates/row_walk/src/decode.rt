@@ -1,7 +1,7 @@
 ghost use Rattle.std.specs.Prelude.{◌≡◌, ◌<◌};
-ghost use Rattle.air_kit.specs.Flags.{op_of, spelled};
+ghost use Rattle.air_kit.specs.Flags.{op_of, spelled, HasBits};
 ghost use Rattle.vm_table.specs.MainColumns.{b};
-ghost use Rattle.row_walk.specs.Walking.{HasBits, marked_of};
+ghost use Rattle.row_walk.specs.Walking.{marked_of};
 
 use vm_field::Felt;
 use vm_ops::{Op, from_opcode};

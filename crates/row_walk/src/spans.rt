@@ -4,8 +4,8 @@ ghost use Rattle.air_kit.specs.Flags.{is_op};
 ghost use Rattle.air_kit.specs.MainTuples.{eight};
 ghost use Rattle.air_kit.specs.RowStates.{taken_by};
 ghost use Rattle.bus_facts.specs.Blocks.{IsAt};
-ghost use Rattle.row_facts.specs.MainRows.{row_at};
-ghost use Rattle.row_walk.specs.Walking.{IsFound, IsReadable, Takes};
+ghost use Rattle.vm_table.specs.Layout.{row_at};
+ghost use Rattle.row_walk.specs.Walking.{IsFound, IsWalkable, Takes};
 ghost use Rattle.tree_merge.specs.Merges.{IsStop};
 
 use crate::cells::{address, batch, marked};
@@ -26,7 +26,7 @@ pub(crate) fn span(
     i: usize,
     tape: &mut Felts,
 ) -> Result<Found, MergeStop>
-    requires readable { IsReadable public.now trace.now }
+    requires readable { IsWalkable public.now trace.now }
     requires is { IsAt trace.now.main i ops.Span }
     ensures ok { IfOk result (λ found. IsFound public.now trace.now i found) }
     ensures tape { IfOk result (λ found. Takes trace.now.main i (found.end + 1) tape.old tape.new) }

@@ -1,6 +1,6 @@
 ghost use Rattle.std.specs.Prelude.{◌≡◌, ◌++◌, ◌∷◌, suc, ◌<◌, [], length, OnOk};
 ghost use Rattle.air_kit.specs.RowStates.{taken_by};
-ghost use Rattle.row_facts.specs.MainRows.{row_at};
+ghost use Rattle.vm_table.specs.Layout.{row_at};
 
 use air_kit::Trace;
 use vm_field::{Felt, Felts, Memory};

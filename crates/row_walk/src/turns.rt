@@ -1,9 +1,9 @@
 ghost use Rattle.std.specs.Prelude.{◌≡◌, ◌+◌, IfOk, IfErr};
 ghost use Rattle.vm_ops.specs.declared.op.Op.TheVariants as ops;
 ghost use Rattle.bus_facts.specs.Blocks.{IsAt};
-ghost use Rattle.row_facts.specs.MainRows.{row_at};
+ghost use Rattle.vm_table.specs.Layout.{row_at};
 ghost use Rattle.vm_table.specs.MainColumns.{s};
-ghost use Rattle.row_walk.specs.Walking.{IsFound, IsReadable, Takes};
+ghost use Rattle.row_walk.specs.Walking.{IsFound, IsWalkable, Takes};
 ghost use Rattle.tree_merge.specs.Merges.{IsStop};
 
 use crate::cells::{address, first_digest, operation};
@@ -25,7 +25,7 @@ pub(crate) fn turns(
     i: usize,
     tape: &mut Felts,
 ) -> Result<Found, MergeStop>
-    requires readable { IsReadable public.now trace.now }
+    requires readable { IsWalkable public.now trace.now }
     requires is { IsAt trace.now.main i ops.Loop }
     requires entered { s (row_at trace.now.main i) 0 ≡ 1 }
     ensures ok { IfOk result (λ found. IsFound public.now trace.now i found) }

@@ -2,7 +2,7 @@ ghost use Rattle.std.specs.Prelude.{◌≡◌, suc, ◌+◌, ◌<◌, length, If
 ghost use Rattle.vm_ops.specs.declared.op.Op.TheVariants as ops;
 ghost use Rattle.air_kit.specs.RowStates.{tape_of};
 ghost use Rattle.bus_facts.specs.Blocks.{IsAt, Starts};
-ghost use Rattle.row_walk.specs.Walking.{IsFound, IsReadable, IsWhole, Takes};
+ghost use Rattle.row_walk.specs.Walking.{IsFound, IsWalkable, IsWholeTree, Takes};
 ghost use Rattle.tree_merge.specs.Merges.{IsStop};
 
 use crate::cells::{address, first_digest, operation, second_digest, top};
@@ -17,8 +17,8 @@ use vm_ops::Op;
 
 /// The tree of the whole trace: it has the statement's digest. Or two hashes of different inputs and one digest.
 pub fn whole(alloc: Global, public: &Public, trace: &Trace) -> Result<Found, MergeStop>
-    requires { IsReadable public.now trace.now }
-    ensures ok { IfOk result (λ found. IsWhole public.now trace.now found) }
+    requires { IsWalkable public.now trace.now }
+    ensures ok { IfOk result (λ found. IsWholeTree public.now trace.now found) }
     ensures err { IfErr result (λ stop. IsStop public.now.params trace.now stop) }
 {
     let walked = whole_with_tape(alloc, public, trace)?;
@@ -27,8 +27,8 @@ pub fn whole(alloc: Global, public: &Public, trace: &Trace) -> Result<Found, Mer
 
 /// The same, with what its rows take from the tape.
 pub fn whole_with_tape(alloc: Global, public: &Public, trace: &Trace) -> Result<Walked, MergeStop>
-    requires { IsReadable public.now trace.now }
-    ensures ok { IfOk result (λ walked. IsWhole public.now trace.now walked.found) }
+    requires { IsWalkable public.now trace.now }
+    ensures ok { IfOk result (λ walked. IsWholeTree public.now trace.now walked.found) }
     ensures tape { IfOk result (λ walked. walked.tape ≡ tape_of trace.now.main) }
     ensures err { IfErr result (λ stop. IsStop public.now.params trace.now stop) }
 {
@@ -47,7 +47,7 @@ pub(crate) fn block(
     i: usize,
     tape: &mut Felts,
 ) -> Result<Found, MergeStop>
-    requires readable { IsReadable public.now trace.now }
+    requires readable { IsWalkable public.now trace.now }
     requires starts { Starts trace.now.main i }
     ensures ok { IfOk result (λ found. IsFound public.now trace.now i found) }
     ensures tape { IfOk result (λ found. Takes trace.now.main i (found.end + 1) tape.old tape.new) }
@@ -73,7 +73,7 @@ fn join(
     i: usize,
     tape: &mut Felts,
 ) -> Result<Found, MergeStop>
-    requires readable { IsReadable public.now trace.now }
+    requires readable { IsWalkable public.now trace.now }
     requires is { IsAt trace.now.main i ops.Join }
     ensures ok { IfOk result (λ found. IsFound public.now trace.now i found) }
     ensures tape { IfOk result (λ found. Takes trace.now.main i (found.end + 1) tape.old tape.new) }
@@ -98,7 +98,7 @@ fn split(
     i: usize,
     tape: &mut Felts,
 ) -> Result<Found, MergeStop>
-    requires readable { IsReadable public.now trace.now }
+    requires readable { IsWalkable public.now trace.now }
     requires is { IsAt trace.now.main i ops.Split }
     ensures ok { IfOk result (λ found. IsFound public.now trace.now i found) }
     ensures tape { IfOk result (λ found. Takes trace.now.main i (found.end + 1) tape.old tape.new) }
@@ -131,7 +131,7 @@ fn looped(
     i: usize,
     tape: &mut Felts,
 ) -> Result<Found, MergeStop>
-    requires readable { IsReadable public.now trace.now }
+    requires readable { IsWalkable public.now trace.now }
     requires is { IsAt trace.now.main i ops.Loop }
     ensures ok { IfOk result (λ found. IsFound public.now trace.now i found) }
     ensures tape { IfOk result (λ found. Takes trace.now.main i (found.end + 1) tape.old tape.new) }
@@ -156,7 +156,7 @@ fn call(
     i: usize,
     tape: &mut Felts,
 ) -> Result<Found, MergeStop>
-    requires readable { IsReadable public.now trace.now }
+    requires readable { IsWalkable public.now trace.now }
     requires is { IsAt trace.now.main i ops.Call }
     ensures ok { IfOk result (λ found. IsFound public.now trace.now i found) }
     ensures tape { IfOk result (λ found. Takes trace.now.main i (found.end + 1) tape.old tape.new) }
@@ -179,7 +179,7 @@ fn syscall(
     i: usize,
     tape: &mut Felts,
 ) -> Result<Found, MergeStop>
-    requires readable { IsReadable public.now trace.now }
+    requires readable { IsWalkable public.now trace.now }
     requires is { IsAt trace.now.main i ops.Syscall }
     ensures ok { IfOk result (λ found. IsFound public.now trace.now i found) }
     ensures tape { IfOk result (λ found. Takes trace.now.main i (found.end + 1) tape.old tape.new) }

@@ -13,7 +13,7 @@ use Rattle.air_kit.specs.Traces.{claim_of}
 use Rattle.air_kit.specs.declared.requests.Requests.{Requests}
 use Rattle.air_kit.specs.declared.trace.Public.{Public}
 use Rattle.air_kit.specs.declared.trace.Trace.{Trace}
-use Rattle.run_rows.specs.BlockRows.{IsRun, events_of, filled}
+use Rattle.run_rows.specs.BlockRows.{IsWholeRun, events_of, filled}
 use Rattle.run_requests.specs.Asked.{requests}
 use Rattle.run_acceptance.specs.Acceptance.{IsStatementOf, IsTraceOf}
 use Rattle.run_acceptance.proofs.BlockBuses.{blocks_alike, children_alike, groups_alike, loops_alike}
@@ -43,7 +43,7 @@ module _ (k : Claim) (constants digest : List ℕ) (kernel : List (List ℕ)) (r
   alike bus.Kernel v = kernel_alike k constants digest r t main.asks v (a.given bus.Kernel v (other bus.Kernel (omega arith)))
 
 pub run_accepted : (constants : List ℕ) (kernel : List (List ℕ)) (limit : ℕ) (tree : Tree) (inputs tape : List ℕ) (u : State) (log : List run.Event)
-    → IsRun constants kernel limit tree inputs tape u log → (p : Public) (t : Trace)
+    → IsWholeRun constants kernel limit tree inputs tape u log → (p : Public) (t : Trace)
     → IsStatementOf constants kernel tree inputs u p → IsTraceOf constants kernel u log t → IsAccepted p t
 run_accepted constants kernel limit tree inputs tape u log r p t is trace = record {
   zero = trace_zero constants kernel limit tree inputs tape u log r p t is trace;

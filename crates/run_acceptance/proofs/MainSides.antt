@@ -8,7 +8,7 @@ use Rattle.buses.specs.declared.bus.Bus.TheVariants as bus
 use Rattle.air_kit.specs.Acceptance.{statement_given}
 use Rattle.air_kit.specs.MainTuples.{blocks_asked, blocks_given, children_asked, children_given, groups_asked, groups_given, loops_asked, loops_given}
 use Rattle.air_kit.specs.declared.requests.Requests.{Requests}
-use Rattle.run_rows.specs.BlockRows.{IsRun, events_of, filled}
+use Rattle.run_rows.specs.BlockRows.{IsWholeRun, events_of, filled}
 use Rattle.run_buses.proofs.BlockLaw.{blocks_even}
 use Rattle.run_buses.proofs.ChildLaw.{children_even}
 use Rattle.run_buses.proofs.GroupLaw.{groups_even}
@@ -28,7 +28,7 @@ pub record AreSides (constants digest : List ℕ) (r : Requests) (u : State) (ro
   pub overflow : OverflowIsEven rows r.keys u
 
 pub run_sides : (constants : List ℕ) (kernel : List (List ℕ)) (limit : ℕ) (tree : Tree) (inputs tape : List ℕ) (u : State) (log : List run.Event)
-    → IsRun constants kernel limit tree inputs tape u log
+    → IsWholeRun constants kernel limit tree inputs tape u log
     → AreSides constants (tree_digest constants tree) (requests constants kernel u log) u (filled constants kernel u log)
 run_sides constants kernel limit tree inputs tape u log r = record {
   blocks = blocks_even constants kernel limit tree inputs tape u log r;

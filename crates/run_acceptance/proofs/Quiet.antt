@@ -7,7 +7,7 @@ use Rattle.buses.proofs.Counting.{counted-none}
 use Rattle.air_kit.specs.Acceptance.{over_chips}
 use Rattle.air_kit.specs.ChipTuples.{chip_given}
 use Rattle.air_kit.specs.declared.trace.Trace.{Trace}
-use Rattle.row_facts.specs.MainRows.{row_at}
+use Rattle.vm_table.specs.Layout.{row_at}
 
 total_none : (n : ℕ) (f : ℕ → ℕ) → ((i : ℕ) → f i ≡ 0) → total n f ≡ 0
 unfolding total

@@ -12,9 +12,9 @@ use Rattle.air_kit.specs.declared.trace.TableName.TheVariants as table
 use Rattle.air_kit.specs.declared.trace.Trace.{Trace}
 use Rattle.air_kit.specs.Tables.{table_number}
 use Rattle.chip_columns.specs.LeftColumns.{key}
-use Rattle.row_facts.specs.MainRows.{IsZero}
+use Rattle.row_facts.specs.MainRows.{MainIsZero}
 use Rattle.row_facts.proofs.ClaimFacts.{claim_low}
-use Rattle.run_rows.specs.BlockRows.{ClaimsRun, IsRun, events_of, keys_of}
+use Rattle.run_rows.specs.BlockRows.{ClaimsRun, IsWholeRun, events_of, keys_of}
 use Rattle.run_rows.specs.Decoder.{key_of}
 use Rattle.run_stacks.proofs.TableStacks.{has_zeros}
 use Rattle.run_acceptance.specs.Acceptance.{IsStatementOf, IsTraceOf}
@@ -24,7 +24,7 @@ first_key [] = refl
 first_key (x ∷ rows) = refl
 
 module _ (constants : List ℕ) (kernel : List (List ℕ)) (limit : ℕ) (tree : Tree) (inputs tape : List ℕ) (u : State) (log : List run.Event)
-    (r : IsRun constants kernel limit tree inputs tape u log) (p : Public) (t : Trace)
+    (r : IsWholeRun constants kernel limit tree inputs tape u log) (p : Public) (t : Trace)
     (is : IsStatementOf constants kernel tree inputs u p) (trace : IsTraceOf constants kernel u log t) where
   claims : ClaimsRun (claim_of p t) inputs (keys_of constants kernel log) u
   claims = record {
@@ -35,9 +35,9 @@ module _ (constants : List ℕ) (kernel : List (List ℕ)) (limit : ℕ) (tree :
     left_key_is = first_key t.left ∙ ap key_of trace.answers.keys;
   }
 
-  main_zero : IsZero (claim_of p t) t.main
+  main_zero : MainIsZero (claim_of p t) t.main
   main_zero =
-      subst (IsZero (claim_of p t)) (sym trace.main_is)
+      subst (MainIsZero (claim_of p t)) (sym trace.main_is)
       (has_zeros constants kernel limit tree inputs tape u log r (claim_of p t) claims (claim_low p t trace.answers.counts trace.left))
 
   chips_zero : (name : TableName) → name ≢ table.Main → (row number : ℕ) → row < length (rows_of t name)

@@ -10,7 +10,7 @@ use Rattle.air_kit.specs.Requests.{Answers}
 use Rattle.air_kit.specs.declared.trace.Public.{Public}
 use Rattle.air_kit.specs.declared.trace.Trace.{Trace}
 use Rattle.cycle_events.specs.Events.{visible_of}
-use Rattle.run_rows.specs.BlockRows.{IsRun, events_of, filled}
+use Rattle.run_rows.specs.BlockRows.{IsWholeRun, events_of, filled}
 use Rattle.run_rows.specs.RunRequests.{requests_of}
 
 -- the statement of a run, under these constants: its program with the kernel, what it starts with, and its stack at the end
@@ -30,5 +30,5 @@ pub record IsTraceOf (constants : List ℕ) (kernel : List (List ℕ)) (u : Stat
 -- the trace of a run is accepted for its statement
 abbrev pub RunIsAccepted : Type 0
 RunIsAccepted = (constants : List ℕ) (kernel : List (List ℕ)) (limit : ℕ) (tree : Tree) (inputs tape : List ℕ) (u : State) (log : List run.Event)
-    → IsRun constants kernel limit tree inputs tape u log → (p : Public) (t : Trace)
+    → IsWholeRun constants kernel limit tree inputs tape u log → (p : Public) (t : Trace)
     → IsStatementOf constants kernel tree inputs u p → IsTraceOf constants kernel u log t → IsAccepted p t

@@ -7,14 +7,14 @@ use Rattle.block_tree.specs.Execution as run
 use Rattle.block_tree.specs.Rows.{behind}
 use Rattle.block_tree.specs.Trees.{Tree}
 use Rattle.air_kit.specs.MainTuples.{blocks_asked, blocks_given}
-use Rattle.run_rows.specs.BlockRows.{IsRun, events_of, filled}
+use Rattle.run_rows.specs.BlockRows.{IsWholeRun, events_of, filled}
 use Rattle.run_rows.proofs.ChainLemmas.{balanced, over_rows_pairs}
 use Rattle.run_rows.proofs.TableLemmas.{is_linked}
 use Rattle.run_buses.proofs.BlockBus.{blocks_pair, owed_blocks}
 use Rattle.run_buses.proofs.PairShown.{pair_of}
 
 pub blocks_even : (constants : List ℕ) (kernel : List (List ℕ)) (limit : ℕ) (tree : Tree) (inputs tape : List ℕ) (u : State) (log : List run.Event)
-    → IsRun constants kernel limit tree inputs tape u log → (tuple : List ℕ)
+    → IsWholeRun constants kernel limit tree inputs tape u log → (tuple : List ℕ)
     → over_rows (with_next blocks_given) (filled constants kernel u log) tuple
     ≡ over_rows (with_next blocks_asked) (filled constants kernel u log) tuple
 unfolding owed_blocks

@@ -9,7 +9,7 @@ use Rattle.block_tree.specs.Rows.{behind}
 use Rattle.block_tree.specs.Trees.{Tree, tree_digest}
 use Rattle.air_kit.specs.Acceptance.{statement_given}
 use Rattle.air_kit.specs.MainTuples.{children_asked, children_given}
-use Rattle.run_rows.specs.BlockRows.{IsRun, events_of, filled}
+use Rattle.run_rows.specs.BlockRows.{IsWholeRun, events_of, filled}
 use Rattle.run_rows.proofs.ChainLemmas.{balanced, over_rows_pairs}
 use Rattle.run_rows.proofs.MomentFacts.{place_comes}
 use Rattle.run_rows.proofs.TableLemmas.{is_linked}
@@ -19,7 +19,7 @@ use Rattle.run_buses.proofs.Hits.{one_count}
 use Rattle.run_buses.proofs.PairShown.{pair_of}
 
 pub children_even : (constants : List ℕ) (kernel : List (List ℕ)) (limit : ℕ) (tree : Tree) (inputs tape : List ℕ) (u : State) (log : List run.Event)
-    → IsRun constants kernel limit tree inputs tape u log → (tuple : List ℕ)
+    → IsWholeRun constants kernel limit tree inputs tape u log → (tuple : List ℕ)
     → counted (statement_given bus.Children (tree_digest constants tree)) tuple
     + over_rows (with_next children_given) (filled constants kernel u log) tuple
     ≡ over_rows (with_next children_asked) (filled constants kernel u log) tuple

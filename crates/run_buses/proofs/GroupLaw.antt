@@ -12,7 +12,7 @@ use Rattle.block_tree.specs.Steps.{Task}
 use Rattle.block_tree.specs.Trees.{Tree}
 use Rattle.air_kit.specs.Flags as flags
 use Rattle.air_kit.specs.MainTuples.{groups_asked, groups_given}
-use Rattle.run_rows.specs.BlockRows.{IsRun, events_of, filled}
+use Rattle.run_rows.specs.BlockRows.{IsWholeRun, events_of, filled}
 use Rattle.run_rows.specs.Decoder.{Decoder, at_start, decoder_after}
 use Rattle.run_rows.specs.Filling.{line_of}
 use Rattle.run_rows.specs.Moments.{IsMoment, IsRowAt}
@@ -41,7 +41,7 @@ shown_of constants kernel limit x y within m = record {
 }
 
 pub groups_even : (constants : List ℕ) (kernel : List (List ℕ)) (limit : ℕ) (tree : Tree) (inputs tape : List ℕ) (u : State) (log : List run.Event)
-    → IsRun constants kernel limit tree inputs tape u log → (tuple : List ℕ)
+    → IsWholeRun constants kernel limit tree inputs tape u log → (tuple : List ℕ)
     → over_rows (with_next groups_given) (filled constants kernel u log) tuple
     ≡ over_rows (with_next groups_asked) (filled constants kernel u log) tuple
 unfolding positions_given

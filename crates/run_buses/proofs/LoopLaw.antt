@@ -9,7 +9,7 @@ use Rattle.block_tree.specs.Rows.{behind, op_of}
 use Rattle.block_tree.specs.Trees.{Tree}
 use Rattle.air_kit.specs.MainTuples.{loops_asked, loops_given}
 use Rattle.cycle_events.specs.Events.{visible_of}
-use Rattle.run_rows.specs.BlockRows.{IsRun, events_of, filled}
+use Rattle.run_rows.specs.BlockRows.{IsWholeRun, events_of, filled}
 use Rattle.run_rows.specs.Filling.{witnesses_by}
 use Rattle.run_rows.specs.Kinds as kinds
 use Rattle.run_rows.specs.Kinds.{kind_of}
@@ -30,7 +30,7 @@ shows_turns constants kernel limit x y m is =
     ∙ ap (λ k. slice_index (witnesses_by k m.d (event_at constants kernel m.mark m.s) (visible_of m.t.core) m.later) 0) is
 
 pub loops_even : (constants : List ℕ) (kernel : List (List ℕ)) (limit : ℕ) (tree : Tree) (inputs tape : List ℕ) (u : State) (log : List run.Event)
-    → IsRun constants kernel limit tree inputs tape u log → (tuple : List ℕ)
+    → IsWholeRun constants kernel limit tree inputs tape u log → (tuple : List ℕ)
     → over_rows (with_next loops_given) (filled constants kernel u log) tuple
     ≡ over_rows (with_next loops_asked) (filled constants kernel u log) tuple
 unfolding owed_loops

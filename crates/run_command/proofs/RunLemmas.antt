@@ -18,7 +18,7 @@ use Rattle.commands.specs.Asked.{Outputs}
 use Rattle.commands.specs.Commands.{IsRight, course_steps, running_steps}
 use Rattle.source_runs.specs.Courses.{Came, Stopped}
 use Rattle.run_command.specs.Saves.{EndsRun, SavesBoth, SavesLast}
-use Rattle.command_ends.specs.Outcomes.{EndsIn, GoesOn, Says}
+use Rattle.command_ends.specs.Outcomes.{EndsIn, Continues, SaysStatus}
 use Rattle.commands.specs.RunEnds.{ended, run_lines}
 use Rattle.commands.specs.Steps.{Right, SourceFile, Steps, course, ending, ran, statement_of, stop, stopped, tables_of, writing}
 use Rattle.command_ends.proofs.ServingLemmas.{goes_past_finding, same_again, says_comes, work_ends}
@@ -73,7 +73,7 @@ unsaved_ends outputs params program answer given s log events = same_again _ s
 
 -- the last file was written, and the line is told
 pub last_saved : (name statement line : List ℕ) (o : Outcome) (old mid : ShelfState)
-    → ((right : Right) (next : List ℕ → Steps) → IsRight right statement → GoesOn (writing name right next) (next statement) old mid)
-    → Says o status.Ok line → SavesLast name statement line o old mid
+    → ((right : Right) (next : List ℕ → Steps) → IsRight right statement → Continues (writing name right next) (next statement) old mid)
+    → SaysStatus o status.Ok line → SavesLast name statement line o old mid
 last_saved name statement line o old mid goes says right fit =
     goes right (λ _. ending (stop status.Ok line)) fit o mid (work_ends (stop status.Ok line) o mid (says_comes status.Ok line o refl says))

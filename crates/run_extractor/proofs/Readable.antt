@@ -13,7 +13,7 @@ use Rattle.block_rows.proofs.FrameLaw.{frames_granted}
 use Rattle.block_rows.proofs.NestingLaw.{nesting_granted}
 use Rattle.span_rows.proofs.SpanLaw.{span_law}
 use Rattle.row_trees.specs.TreeFacts.{TreeFacts}
-use Rattle.row_walk.specs.Walking.{IsReadable}
+use Rattle.row_walk.specs.Walking.{IsWalkable}
 use Rattle.run_extractor.specs.Known.{IsKnown}
 
 pub known_of : (p : Public) (t : Trace) → length (constants_of p.params) ≡ 168 → HasCounts t → IsTable 65 t.main → IsTable 2 t.range
@@ -46,7 +46,7 @@ tree_facts p t k = record {
   spans = span_law p t k.constants (granted p t k);
 }
 
-pub readable : (p : Public) (t : Trace) → IsKnown p t → IsReadable p t
+pub readable : (p : Public) (t : Trace) → IsKnown p t → IsWalkable p t
 readable p t k = record {
   facts = tree_facts p t k;
   rows = k.whole.counts.most table.Main;

@@ -14,7 +14,7 @@ use Rattle.row_trees.specs.Running.{Goes, ShowRun}
 use Rattle.row_trees.proofs.TreeRuns.{trees_run}
 use Rattle.row_cycles.specs.Ends.{EndFacts}
 use Rattle.row_cycles.proofs.CyclesLaw.{cycles_law, ends_law}
-use Rattle.row_walk.specs.Walking.{IsWhole}
+use Rattle.row_walk.specs.Walking.{IsWholeTree}
 use Rattle.row_walk.specs.declared.found.Found.{Found}
 use Rattle.tree_merge.specs.AddrView.{placed_of}
 use Rattle.tree_merge.specs.Evidences.{IsEvidence, IsRun}
@@ -33,7 +33,7 @@ ends : (p : Public) (t : Trace) → IsKnown p t → EndFacts p.statement.inputs 
 ends p t k = ends_law p t k.constants p.statement.inputs_few k.whole (granted p t k)
 
 -- the tree goes from the first row to the last one
-goes : (p : Public) (t : Trace) (k : IsKnown p t) (found : Found) → IsWhole p t found
+goes : (p : Public) (t : Trace) (k : IsKnown p t) (found : Found) → IsWholeTree p t found
     → Goes (states t) (execution (constants_of p.params) p.statement.kernel (length t.main - 1) (plain (placed_of found.tree))
     (states t 0)) (suc found.end)
 goes p t k found w =
@@ -47,7 +47,7 @@ behind_end n end is = omega arith
 one_more : (n : ℕ) → 1 ≤ n → suc (n - 1) ≡ n
 one_more n some = omega arith
 
-run : (p : Public) (t : Trace) (k : IsKnown p t) (found : Found) → IsWhole p t found
+run : (p : Public) (t : Trace) (k : IsKnown p t) (found : Found) → IsWholeTree p t found
     → IsRun p t (length t.main - 1) (plain (placed_of found.tree)) (tape_of t.main)
 run p t k found w = record {
   rows = one_more (length t.main) k.whole.counts.main;
@@ -64,7 +64,7 @@ run p t k found w = record {
 }
 
 -- with the tree without its addresses
-pub is_run : (p : Public) (t : Trace) (found : Found) (cycles : ℕ) (tree : held.Tree) (tape : List ℕ) → IsKnown p t → IsWhole p t found
+pub is_run : (p : Public) (t : Trace) (found : Found) (cycles : ℕ) (tree : held.Tree) (tape : List ℕ) → IsKnown p t → IsWholeTree p t found
     → cycles ≡ length t.main - 1 → tree_of tree ≡ plain (placed_of found.tree) → tape ≡ tape_of t.main → IsEvidence p t (Run cycles tree tape)
 is_run p t found cycles tree tape k w counted same taken =
     subst (λ c. IsRun p t c (tree_of tree) tape) (sym counted)

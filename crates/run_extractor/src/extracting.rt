@@ -2,7 +2,7 @@ ghost use Rattle.std.specs.Prelude.{◌≡◌, IfOk};
 ghost use Rattle.air_kit.specs.Acceptance.{IsAccepted};
 ghost use Rattle.air_kit.specs.RowStates.{tape_of};
 ghost use Rattle.air_kit.specs.Traces.{HasCounts};
-ghost use Rattle.row_walk.specs.Walking.{IsReadable, IsWhole};
+ghost use Rattle.row_walk.specs.Walking.{IsWalkable, IsWholeTree};
 ghost use Rattle.tree_merge.specs.Evidences.{IsEvidence};
 ghost use Rattle.run_extractor.specs.Known.{IsKnown};
 
@@ -53,14 +53,14 @@ fn known_trace(public: &Public, trace: &Trace)
 #[tactic(auto, using(crate::proofs::Readable::readable))]
 fn readable_trace(_public: &Public, _trace: &Trace)
     requires { IsKnown _public.now _trace.now }
-    ensures { IsReadable _public.now _trace.now }
+    ensures { IsWalkable _public.now _trace.now }
 {}
 
 // The run whose tree and tape were found.
 #[tactic(auto, using(crate::proofs::Runs::is_run))]
 fn run_of(alloc: Global, public: &Public, trace: &Trace, walked: Walked) -> Result<Evidence, Memory>
     requires known { IsKnown public.now trace.now }
-    requires whole { IsWhole public.now trace.now walked.found }
+    requires whole { IsWholeTree public.now trace.now walked.found }
     requires tape { walked.tape ≡ tape_of trace.now.main }
     ensures { IfOk result (IsEvidence public.now trace.now) }
 {

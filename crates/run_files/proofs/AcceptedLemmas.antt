@@ -4,10 +4,10 @@ use Rattle.vm_field.specs.Machine.{State}
 use Rattle.rpo_hash.specs.Constants.{constants_of}
 use Rattle.block_tree.specs.Execution as run
 use Rattle.block_tree.specs.Trees.{Tree}
-use Rattle.statement.specs.Statements.{Claim, claim_of}
+use Rattle.statement.specs.Statements.{Stated, claim_of}
 use Rattle.air_kit.specs.Acceptance.{IsAccepted}
 use Rattle.air_kit.specs.declared.trace.Public.{Public}
-use Rattle.run_rows.specs.BlockRows.{IsRun}
+use Rattle.run_rows.specs.BlockRows.{IsWholeRun}
 use Rattle.run_acceptance.specs.Acceptance.{IsStatementOf}
 use Rattle.run_acceptance.proofs.AcceptedLaw.{run_accepted}
 use Rattle.run_files.specs.RunFiles.{IsTableFileOf, claim_of_run}
@@ -17,14 +17,14 @@ states : (constants : List ℕ) (kernel : List (List ℕ)) (tree : Tree) (inputs
     → claim_of p.statement ≡ claim_of_run constants tree kernel inputs u.core.stack → IsStatementOf constants kernel tree inputs u p
 states constants kernel tree inputs u p params is = record {
   constants_are = params;
-  kernel_is = ap (λ (c : Claim). c.kernel) is;
-  inputs_are = ap (λ (c : Claim). c.inputs) is;
-  digest_is = ap (λ (c : Claim). c.digest) is;
-  outputs_are = ap (λ (c : Claim). c.outputs) is;
+  kernel_is = ap (λ (c : Stated). c.kernel) is;
+  inputs_are = ap (λ (c : Stated). c.inputs) is;
+  digest_is = ap (λ (c : Stated). c.digest) is;
+  outputs_are = ap (λ (c : Stated). c.outputs) is;
 }
 
 pub files_accepted : (constants : List ℕ) (kernel : List (List ℕ)) (limit : ℕ) (tree : Tree) (inputs tape : List ℕ) (u : State) (log : List run.Event)
-    → IsRun constants kernel limit tree inputs tape u log
+    → IsWholeRun constants kernel limit tree inputs tape u log
     → (p : Public) → constants_of p.params ≡ constants → claim_of p.statement ≡ claim_of_run constants tree kernel inputs u.core.stack
     → (bytes : List ℕ) → (file : IsTableFileOf constants kernel u log bytes) → IsAccepted p file.trace
 files_accepted constants kernel limit tree inputs tape u log r p params is bytes file =

@@ -20,7 +20,7 @@ use Rattle.processor.specs.Executed.{WasExecuted}
 use Rattle.processor.specs.declared.run.Run.{Run}
 use Rattle.air_kit.specs.Requests.{Fits}
 use Rattle.air_kit.specs.declared.requests.Requests.{Requests}
-use Rattle.run_rows.specs.BlockRows.{IsRun, events_of, filled}
+use Rattle.run_rows.specs.BlockRows.{IsWholeRun, events_of, filled}
 use Rattle.run_rows.specs.Filling.{rows_of}
 use Rattle.run_rows.specs.RunRequests.{requests_of}
 use Rattle.run_rows.proofs.MomentLemmas.{steps_within}
@@ -33,7 +33,7 @@ use Rattle.fill_chips.specs.declared.chips.Chips.{Chips}
 use Rattle.run_files.specs.Inside.{HasFew, IsShort}
 
 module _ (constants : List ℕ) (kernel : List (List ℕ)) (limit : ℕ) (tree : Tree) (inputs tape : List ℕ) (u : State) (log : List run.Event)
-    (r : IsRun constants kernel limit tree inputs tape u log) where
+    (r : IsWholeRun constants kernel limit tree inputs tape u log) where
   steps : Steps constants kernel limit (Block tree ∷ []) (start inputs tape) log u
   steps = run-steps constants kernel limit tree (start inputs tape) u log r.whole r.done
 
@@ -64,7 +64,7 @@ module _ (params : Params) (program : Program) (answer : Run) (size : length (co
   abbrev u : State
   u = state_of answer.state
 
-  is_run : IsRun constants program.kernel was.limit (tree_of program.tree) was.inputs.stack was.inputs.advice u was.ran.log
+  is_run : IsWholeRun constants program.kernel was.limit (tree_of program.tree) was.inputs.stack was.inputs.advice u was.ran.log
   is_run = record {
     constants_are = size;
     within = was.below;

@@ -8,7 +8,7 @@ use Rattle.vm_field.specs.Machine.{IsWord}
 use Rattle.vm_field.specs.WordText.{word_hex}
 use Rattle.vm_field.proofs.HexLaws.{length-word_hex}
 use Rattle.json_values.specs.ToJson.{listed}
-use Rattle.statement.specs.Statements.{Claim, statement_text, words_listed}
+use Rattle.statement.specs.Statements.{Stated, statement_text, words_listed}
 use Rattle.run_files.specs.RunFiles.{most_statement_bytes}
 
 -- twenty digits and a comma for each element at most
@@ -41,7 +41,7 @@ words_size (w ∷ v ∷ ws) are =
 joined : (a b : List ℕ) (x y : ℕ) → length a ≤ x → length b ≤ y → length (a ++ b) ≤ x + y
 joined a b x y first second = omega (arith, first, second, length-append a b)
 
-pub short_text : (claim : Claim) → IsWord claim.digest → All IsWord claim.kernel → AreElements claim.inputs → AreElements claim.outputs
+pub short_text : (claim : Stated) → IsWord claim.digest → All IsWord claim.kernel → AreElements claim.inputs → AreElements claim.outputs
     → length claim.inputs ≤ 16 → length claim.kernel ≤ 255 → length claim.outputs ≤ 524303 → length (statement_text claim) ≤ most_statement_bytes
 unfolding statement_text
 short_text claim digest kernel inputs outputs few words deep =

@@ -1,7 +1,8 @@
 ghost use Rattle.std.specs.Prelude.{◌≡◌, ◌<◌, All, IfOk, OnOk, Ok};
 ghost use Rattle.serde_json.specs.View.{view};
 ghost use Rattle.vm_field.specs.Field.{prime};
-ghost use Rattle.json_values.specs.Causes.{Gives};
+ghost use Rattle.answers.specs.Gives.{Gives};
+ghost use Rattle.json_values.specs.Causes.{cause_in};
 ghost use Rattle.run_inputs.specs.Inputs.{given_by, given_of, inputs_of, inputs_text};
 ghost use Rattle.run_inputs.specs.ToJson.{inputs_data};
 
@@ -16,14 +17,14 @@ use vm_state::Inputs;
 /// most 16 elements, the advice at most 1,048,576. A key that comes twice has its last value. A
 /// refusal names the first cause that the text has.
 pub fn read_inputs(alloc: Global, bytes: &[u8]) -> Result<Inputs, TextError>
-    ensures { Gives given_of result (inputs_of bytes.now) }
+    ensures { Gives given_of cause_in result (inputs_of bytes.now) }
 {
     let value = value_of(alloc, bytes)?;
     inputs_from(alloc, &value)
 }
 
 fn inputs_from(alloc: Global, value: &Value) -> Result<Inputs, TextError>
-    ensures { Gives given_of result (given_by (view value.now)) }
+    ensures { Gives given_of cause_in result (given_by (view value.now)) }
 {
     if !has_keys(value, 2) {
         return Err(TextError::Bad(TextCause::Shape));

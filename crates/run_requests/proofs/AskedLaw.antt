@@ -3,7 +3,7 @@ use Rattle.std.proofs.Common.{ℕ, List}
 use Rattle.vm_field.specs.Machine.{State}
 use Rattle.block_tree.specs.Execution as run
 use Rattle.block_tree.specs.Trees.{Tree}
-use Rattle.run_rows.specs.BlockRows.{IsRun, events_of, filled}
+use Rattle.run_rows.specs.BlockRows.{IsWholeRun, events_of, filled}
 use Rattle.run_rows.proofs.TableLemmas.{is_linked}
 use Rattle.run_requests.specs.Asked.{RowsAsk, requests}
 use Rattle.run_requests.proofs.HasherLaw.{hashes_asked}
@@ -12,7 +12,7 @@ use Rattle.run_requests.proofs.OtherLaws.{accesses_asked, bits_asked}
 use Rattle.run_requests.proofs.RangeLaw.{ranges_asked}
 
 pub run_asks : (constants : List ℕ) (kernel : List (List ℕ)) (limit : ℕ) (tree : Tree) (inputs tape : List ℕ) (u : State) (log : List run.Event)
-    → IsRun constants kernel limit tree inputs tape u log
+    → IsWholeRun constants kernel limit tree inputs tape u log
     → RowsAsk constants (filled constants kernel u log) (requests constants kernel u log)
 run_asks constants kernel limit tree inputs tape u log r =
     let linked = is_linked constants kernel limit tree inputs tape u log r in

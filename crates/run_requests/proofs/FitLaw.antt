@@ -3,7 +3,7 @@ use Rattle.std.proofs.Common.{ℕ, ◌≤◌, List, [], length, arith}
 use Rattle.vm_field.specs.Machine.{State}
 use Rattle.block_tree.specs.Execution as run
 use Rattle.block_tree.specs.Trees.{Tree}
-use Rattle.run_rows.specs.BlockRows.{IsRun, events_of, filled}
+use Rattle.run_rows.specs.BlockRows.{IsWholeRun, events_of, filled}
 use Rattle.run_rows.proofs.TableLemmas.{is_linked}
 use Rattle.run_requests.specs.Asked.{requests}
 use Rattle.run_requests.specs.Fitting.{FitsRows}
@@ -14,7 +14,7 @@ use Rattle.run_requests.proofs.MemoryFit.{accesses_fit}
 use Rattle.run_requests.proofs.Sizes.{events_few, keys_few, requests_few, rows_are}
 
 pub run_fits : (constants : List ℕ) (kernel : List (List ℕ)) (limit : ℕ) (tree : Tree) (inputs tape : List ℕ) (u : State) (log : List run.Event)
-    → IsRun constants kernel limit tree inputs tape u log → length kernel ≤ 255
+    → IsWholeRun constants kernel limit tree inputs tape u log → length kernel ≤ 255
     → FitsRows constants kernel (requests constants kernel u log) (filled constants kernel u log)
 run_fits constants kernel limit tree inputs tape u log r words =
     let linked = is_linked constants kernel limit tree inputs tape u log r in

@@ -11,7 +11,7 @@ use Rattle.block_tree.specs.Steps.{Task, Block, Within, Turned, Closing, Returni
 use Rattle.buses.specs.Counts.{Counted, counted, over_rows, with_next}
 use Rattle.cycle_events.specs.Events.{visible_of}
 use Rattle.cycle_events.specs.declared.event.Event.{Event}
-use Rattle.run_rows.specs.Bounds.{IsSmall}
+use Rattle.run_rows.specs.Bounds.{IsSmallCore}
 use Rattle.run_rows.specs.Chains as chains
 use Rattle.run_rows.specs.Chains.{AreLinked, over_pairs}
 use Rattle.run_rows.specs.Decoder.{Decoder, advance, decoder_after}
@@ -96,7 +96,7 @@ module _ (constants : List ℕ) (kernel : List (List ℕ)) (limit : ℕ) (u : St
   seen_is (chains.goes m later) = refl
 
   pub small_is : {todo : List Task} {d : Decoder} {s : State} {events : List Event} {rows : List (List ℕ)}
-      → AreLinked constants kernel limit u todo d s events rows → IsSmall s.core
+      → AreLinked constants kernel limit u todo d s events rows → IsSmallCore s.core
   small_is (chains.ends e) = e.small
   small_is (chains.goes m later) = m.small
 

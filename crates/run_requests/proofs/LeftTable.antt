@@ -4,7 +4,8 @@ use Rattle.std.proofs.lemmas.List.{drop-drop, get_or-drop}
 use Rattle.std.specs.List.{slice_get}
 use Rattle.buses.specs.Counts.{counted, over_first, over_rows, total}
 use Rattle.buses.specs.declared.bus.Bus.TheVariants as bus
-use Rattle.hash_rows.proofs.Totals.{total-front, total-same}
+use Rattle.buses.proofs.Counting.{total-front}
+use Rattle.hash_rows.proofs.Totals.{total-same}
 use Rattle.air_kit.specs.ChipTuples.{chip_asked, left_asked, next_key}
 use Rattle.air_kit.specs.Places.{Claim}
 use Rattle.air_kit.specs.declared.trace.TableName.TheVariants as table

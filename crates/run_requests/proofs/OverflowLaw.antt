@@ -12,7 +12,7 @@ use Rattle.vm_ops.proofs.FrameLemmas.{step-below}
 use Rattle.air_kit.specs.MainTuples.{overflow_asked, overflow_given}
 use Rattle.chip_columns.specs.LeftColumns as left
 use Rattle.cycle_events.specs.declared.event.Event.{Event}
-use Rattle.run_rows.specs.BlockRows.{IsRun, events_of, filled, keys_of}
+use Rattle.run_rows.specs.BlockRows.{IsWholeRun, events_of, filled, keys_of}
 use Rattle.run_rows.specs.Chains.{AreLinked}
 use Rattle.run_rows.specs.Decoder.{advance, at_start, decoder_after}
 use Rattle.run_rows.specs.Moments.{IsMoment, event_at}
@@ -68,7 +68,7 @@ module _ (constants : List ℕ) (len : length constants ≡ 168) (kernel : List 
 
 pub overflow_is_even : (constants : List ℕ) (kernel : List (List ℕ)) (limit : ℕ) (tree : Tree) (inputs tape : List ℕ) (u : State)
     (log : List run.Event)
-    → IsRun constants kernel limit tree inputs tape u log
+    → IsWholeRun constants kernel limit tree inputs tape u log
     → OverflowIsEven (filled constants kernel u log) (keys_of constants kernel log) u
 overflow_is_even constants kernel limit tree inputs tape u log r =
     let even = rows_even constants r.constants_are kernel limit r.within u (is_linked constants kernel limit tree inputs tape u log r) in

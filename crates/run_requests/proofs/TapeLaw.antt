@@ -9,7 +9,7 @@ use Rattle.block_tree.specs.Trees.{Tree}
 use Rattle.air_kit.specs.Flags as flags
 use Rattle.air_kit.specs.RowStates.{tape_of, taken_by}
 use Rattle.cycle_events.specs.declared.event.Event.{Event}
-use Rattle.run_rows.specs.BlockRows.{IsRun, events_of, filled}
+use Rattle.run_rows.specs.BlockRows.{IsWholeRun, events_of, filled}
 use Rattle.run_rows.specs.Chains as chains
 use Rattle.run_rows.specs.Chains.{AreLinked}
 use Rattle.run_rows.specs.Decoder.{Decoder}
@@ -36,7 +36,7 @@ module _ (constants : List ℕ) (len : length constants ≡ 168) (kernel : List 
       ∙ sym (append_assoc (taken_by (flags.op_of x) y) (tape_of (y ∷ rows)) u.tape)
 
 pub run_takes : (constants : List ℕ) (kernel : List (List ℕ)) (limit : ℕ) (tree : Tree) (inputs tape : List ℕ) (u : State) (log : List run.Event)
-    → IsRun constants kernel limit tree inputs tape u log
+    → IsWholeRun constants kernel limit tree inputs tape u log
     → tape ≡ tape_of (filled constants kernel u log) ++ u.tape
 unfolding start
 run_takes constants kernel limit tree inputs tape u log r =

@@ -8,7 +8,7 @@ use Rattle.air_kit.specs.MainTuples.{bitwise_asked, hasher_asked, kernel_asked, 
 use Rattle.air_kit.specs.Requests.{access_given, bit_given, perms_given}
 use Rattle.air_kit.specs.declared.requests.Requests.{Requests}
 use Rattle.cycle_events.specs.Events.{visible_of}
-use Rattle.run_rows.specs.BlockRows.{IsRun, events_of, filled}
+use Rattle.run_rows.specs.BlockRows.{IsWholeRun, events_of, filled}
 use Rattle.run_rows.specs.RunRequests.{requests_of}
 
 -- rows that ask these requests, each tuple as often as they have it
@@ -25,5 +25,5 @@ requests constants kernel u log = requests_of constants (visible_of u.core) (eve
 
 abbrev pub RunAsks : Type 0
 RunAsks = (constants : List ℕ) (kernel : List (List ℕ)) (limit : ℕ) (tree : Tree) (inputs tape : List ℕ) (u : State) (log : List run.Event)
-    → IsRun constants kernel limit tree inputs tape u log
+    → IsWholeRun constants kernel limit tree inputs tape u log
     → RowsAsk constants (filled constants kernel u log) (requests constants kernel u log)

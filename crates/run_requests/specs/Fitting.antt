@@ -5,7 +5,7 @@ use Rattle.block_tree.specs.Execution as run
 use Rattle.block_tree.specs.Trees.{Tree}
 use Rattle.air_kit.specs.Requests.{Fits}
 use Rattle.air_kit.specs.declared.requests.Requests.{Requests}
-use Rattle.run_rows.specs.BlockRows.{IsRun, events_of, filled}
+use Rattle.run_rows.specs.BlockRows.{IsWholeRun, events_of, filled}
 use Rattle.run_requests.specs.Asked.{requests}
 
 -- requests that fit, and that are fewer than so many rows
@@ -16,5 +16,5 @@ pub record FitsRows (constants : List ℕ) (kernel : List (List ℕ)) (r : Reque
 -- under a kernel's list that a table can hold
 abbrev pub RunFits : Type 0
 RunFits = (constants : List ℕ) (kernel : List (List ℕ)) (limit : ℕ) (tree : Tree) (inputs tape : List ℕ) (u : State) (log : List run.Event)
-    → IsRun constants kernel limit tree inputs tape u log → length kernel ≤ 255
+    → IsWholeRun constants kernel limit tree inputs tape u log → length kernel ≤ 255
     → FitsRows constants kernel (requests constants kernel u log) (filled constants kernel u log)

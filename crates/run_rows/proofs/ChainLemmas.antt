@@ -1,19 +1,15 @@
 -- Sums over the pairs of a run's rows, by potentials: what is owed before a cycle and what its pair gives is what its pair asks and what
 -- is owed behind it.
-use Rattle.std.proofs.Common.{◌≡◌, ℕ, zero, suc, ◌+◌, List, [], ◌∷◌, ◌++◌, length, refl, ap, ◌∙◌, arith}
+use Rattle.std.proofs.Common.{◌≡◌, ℕ, ◌+◌, List, [], ◌∷◌, ◌++◌, length, refl, ap, ◌∙◌, arith}
 use Rattle.vm_field.specs.Machine.{State}
 use Rattle.block_tree.specs.Steps.{Task}
 use Rattle.buses.specs.Counts.{Counted, at_row, counted, over_first, over_rows, total, with_next}
+use Rattle.buses.proofs.Counting.{total-front}
 use Rattle.cycle_events.specs.declared.event.Event.{Event}
 use Rattle.run_rows.specs.Chains as chains
 use Rattle.run_rows.specs.Chains.{AreLinked, over_pairs}
 use Rattle.run_rows.specs.Decoder.{Decoder, advance, decoder_after}
 use Rattle.run_rows.specs.Moments.{IsMoment, event_at}
-
-total_front : (n : ℕ) (f : ℕ → ℕ) → total (suc n) f ≡ f 0 + total n (λ i. f (suc i))
-unfolding total
-total_front zero f = omega arith
-total_front (suc n) f = let h = total_front n f in omega (arith, h)
 
 -- a bus's count over the rows is the sum over their pairs
 pub over_rows_pairs : (tuples : List ℕ → List ℕ → List Counted) (u : List ℕ) (rows : List (List ℕ))
@@ -22,7 +18,7 @@ unfolding over_first over_pairs total counted
 over_rows_pairs tuples u [] = refl
 over_rows_pairs tuples u (x ∷ []) = refl
 over_rows_pairs tuples u (x ∷ y ∷ rows) =
-    total_front (length (y ∷ rows)) (λ i. counted (at_row (with_next tuples) (x ∷ y ∷ rows) i) u)
+    total-front (length (y ∷ rows)) (λ i. counted (at_row (with_next tuples) (x ∷ y ∷ rows) i) u)
     ∙ ap (λ n. counted (tuples x y) u + n) (over_rows_pairs tuples u (y ∷ rows))
 
 module _ (constants : List ℕ) (kernel : List (List ℕ)) (limit : ℕ) where

@@ -13,7 +13,7 @@ use Rattle.cycle_events.specs.Events.{visible_of}
 use Rattle.cycle_events.specs.declared.event.Event.{Event}
 use Rattle.cycle_events.specs.declared.event.Visible.{Visible}
 use Rattle.run_rows.specs.Agreement.{IsLowUnread}
-use Rattle.run_rows.specs.Bounds.{IsBounded, IsLowBlock, IsSmall}
+use Rattle.run_rows.specs.Bounds.{IsBounded, IsLowBlock, IsSmallCore}
 use Rattle.run_rows.specs.Decoder.{Open, Decoder, address_of}
 use Rattle.run_rows.specs.Filling.{hash_by, line_of, witnesses_by}
 use Rattle.run_rows.specs.Kinds as kinds
@@ -222,7 +222,7 @@ low_address (block ∷ blocks) h = (All-head IsLowBlock block blocks h).address
 pub record LowParts (d : Decoder) (e : Event) (v : Visible) (c : Core) (later : List Event) : Type 0 where
   pub before : e.before ≡ visible_of c
   pub formed : IsWellFormedCore c
-  pub small : IsSmall c
+  pub small : IsSmallCore c
   pub unread : IsLowUnread d.unread
   pub next : d.next ≤ 1 + 8 * 524287
   pub ha : d.ha ≤ 1 + 8 * 524287

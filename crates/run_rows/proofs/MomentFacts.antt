@@ -21,7 +21,7 @@ use Rattle.run_rows.specs.Filling.{halted, hash_by, line_of, row_of, witnesses_b
 use Rattle.run_rows.specs.Kinds.{kind_of}
 use Rattle.run_rows.specs.Limbs.{limbs_of}
 use Rattle.run_rows.specs.Lines.{Line, laid_out}
-use Rattle.run_rows.specs.Moments.{Comes, IsEndRow, IsMoment, IsRowAt, event_at}
+use Rattle.run_rows.specs.Moments.{Comes, IsLastMoment, IsMoment, IsRowAt, event_at}
 use Rattle.run_rows.specs.Shows.{Shows}
 use Rattle.run_rows.proofs.ColumnLemmas.{col_b, col_h, col_t, col_w}
 use Rattle.run_rows.proofs.LineLemmas.{ha_low, low_line, next_low}
@@ -160,10 +160,10 @@ module _ (constants : List ℕ) (kernel : List (List ℕ)) (limit : ℕ) where
 
 -- ---- the row of HALT
 
-pub end_op : {d : Decoder} {u : State} {x : List ℕ} → IsEndRow d u x → flags.op_of x ≡ ops.Halt
+pub end_op : {d : Decoder} {u : State} {x : List ℕ} → IsLastMoment d u x → flags.op_of x ≡ ops.Halt
 end_op {d = d} {u = u} e = ap flags.op_of e.row ∙ line_op (line_of d (halted (visible_of u.core)) (visible_of u.core) [])
 
-pub end_reads : {d : Decoder} {u : State} {x : List ℕ} → IsEndRow d u x → ReadsAs (flags.op_of x) x
+pub end_reads : {d : Decoder} {u : State} {x : List ℕ} → IsLastMoment d u x → ReadsAs (flags.op_of x) x
 end_reads {d = d} {u = u} {x = x} e =
     let reads : ReadsAs ops.Halt (row_of d (halted (visible_of u.core)) (visible_of u.core) [])
     = line_reads (line_of d (halted (visible_of u.core)) (visible_of u.core) [])
@@ -184,11 +184,11 @@ end_reads {d = d} {u = u} {x = x} e =
     })) in
     subst (λ op. ReadsAs op x) (sym (end_op e)) (subst (ReadsAs ops.Halt) (sym e.row) reads)
 
-pub end_row_shown : {d : Decoder} {u : State} {x : List ℕ} → IsEndRow d u x → IsRow (flags.op_of x) x
+pub end_row_shown : {d : Decoder} {u : State} {x : List ℕ} → IsLastMoment d u x → IsRow (flags.op_of x) x
 end_row_shown {d = d} {u = u} {x = x} e =
     subst (λ op. IsRow op x) (sym (end_op e)) (subst (IsRow ops.Halt) (sym e.row) (halt_row d (visible_of u.core) u.core e.agrees))
 
-pub end_shows : {d : Decoder} {u : State} {x : List ℕ} → IsEndRow d u x → Shows (flags.op_of x) d u.core x
+pub end_shows : {d : Decoder} {u : State} {x : List ℕ} → IsLastMoment d u x → Shows (flags.op_of x) d u.core x
 end_shows {d = d} {u = u} {x = x} e =
     subst (λ op. Shows op d u.core x) (sym (end_op e))
     (subst (Shows ops.Halt d u.core) (sym e.row) (shows_row d (halted (visible_of u.core)) (visible_of u.core) [] u.core refl))

@@ -1,5 +1,5 @@
 -- The rows of a run are those of its cycles, one behind the other, and of HALT.
-use Rattle.std.proofs.Common.{All, ◌≡◌, ℕ, zero, suc, ◌+◌, ◌<◌, ◌≤◌, true, List, [], ◌∷◌, length, map, refl, sym, ap, subst, arith}
+use Rattle.std.proofs.Common.{All, ◌≡◌, ℕ, zero, suc, ◌+◌, ◌<◌, ◌≤◌, List, [], ◌∷◌, length, map, refl, sym, ap, subst, arith}
 use Rattle.std.proofs.lemmas.List.Elements.{All-head, All-tail}
 use Rattle.vm_field.specs.Machine.{State, IsWellFormed}
 use Rattle.block_tree.specs.Cycles.{advice_taken}
@@ -12,16 +12,16 @@ use Rattle.block_tree.proofs.TaskLemmas.{AreWholeTasks, next-whole, whole-append
 use Rattle.cycle_events.specs.Events.{shown, visible_of}
 use Rattle.cycle_events.specs.declared.event.Event.{Event}
 use Rattle.run_rows.specs.Agreement.{Agrees}
-use Rattle.run_rows.specs.Bounds.{IsBounded, IsSmall}
+use Rattle.run_rows.specs.Bounds.{IsBounded, IsSmallCore}
 use Rattle.run_rows.specs.Chains as chains
 use Rattle.run_rows.specs.Chains.{AreLinked}
 use Rattle.run_rows.specs.Decoder.{Decoder, advance, decoder_after}
 use Rattle.run_rows.specs.Filling.{fill, halted, row_of, seen_behind}
 use Rattle.run_rows.specs.Moments as moments
-use Rattle.run_rows.specs.Moments.{AreMoments, IsEndRow, IsMoment, IsRowAt, event_at}
+use Rattle.run_rows.specs.Moments.{AreMoments, IsLastMoment, IsMoment, IsRowAt, event_at}
 use Rattle.run_rows.proofs.AgreeNext.{agrees_next}
 use Rattle.run_rows.proofs.BoundLemmas.{bounded_next}
-use Rattle.row_facts.specs.MainRows.{row_at}
+use Rattle.vm_table.specs.Layout.{row_at}
 
 -- the first of some rows shows a place, and all of them are those of the run from there on
 pub record Filled (constants : List ℕ) (kernel : List (List ℕ)) (limit : ℕ) (todo : List Task) (d : Decoder) (s u : State) (events : List Event)
@@ -54,7 +54,7 @@ module _ (constants : List ℕ) (kernel : List (List ℕ)) (limit : ℕ) where
 
   pub along : length constants ≡ 168 → {todo : List Task} {s u : State} {log : List run.Event} → Steps constants kernel limit todo s log u
       → AreWholeTasks todo → IsWellFormed s → (d : Decoder) → Agrees todo d s.core → IsBounded d s.core.clock (seen log)
-      → All (λ e. IsSmall e.core) log → IsSmall u.core
+      → All (λ e. IsSmallCore e.core) log → IsSmallCore u.core
       → Filled constants kernel limit todo d s u (seen log) (fill (visible_of u.core) d (seen log))
   unfolding fill
   along len (ended {s = s}) w h d agrees bounded small last = record {
@@ -74,7 +74,7 @@ module _ (constants : List ℕ) (kernel : List (List ℕ)) (limit : ℕ) where
       let next_bounded = bounded_next d (event_at constants kernel mark s) (seen log) s.core.clock bounded refl in
       let r = along len later (whole-append rest todo n.1 w.1) kept (advance d (event_at constants kernel mark s) (seen log)) next_agrees
       (subst (λ k. IsBounded (advance d (event_at constants kernel mark s) (seen log)) k (seen log)) (sym clock) next_bounded)
-      (All-tail (λ x. IsSmall x.core) (event_of mark (advice_taken mark) s) log small) last in
+      (All-tail (λ x. IsSmallCore x.core) (event_of mark (advice_taken mark) s) log small) last in
       record {
         x = row_of d (event_at constants kernel mark s) (seen_behind (visible_of u.core) (seen log)) (seen log);
         others = r.x ∷ r.others;
@@ -103,7 +103,7 @@ module _ (constants : List ℕ) (kernel : List (List ℕ)) (limit : ℕ) where
           behind = kept;
           agrees = agrees;
           agrees_behind = next_agrees;
-          small = All-head (λ x. IsSmall x.core) (event_of mark (advice_taken mark) s) log small;
+          small = All-head (λ x. IsSmallCore x.core) (event_of mark (advice_taken mark) s) log small;
           bounded = bounded;
           row = ap (λ v. row_of d (event_at constants kernel mark s) v (seen log)) (behind_is later);
           next = r.at;
@@ -127,7 +127,7 @@ module _ (constants : List ℕ) (kernel : List (List ℕ)) (limit : ℕ) where
   moment_at d u (x ∷ y ∷ rows) (moments.goes m later) (suc i) h = moment_at d u (y ∷ rows) later i (omega (arith, h))
 
   pub end_at : (d : Decoder) (u : State) (rows : List (List ℕ)) → AreMoments constants kernel limit d u rows → (i : ℕ) → suc i ≡ length rows
-      → IsEndRow d u (row_at rows i)
+      → IsLastMoment d u (row_at rows i)
   end_at d u [] none i h = elim none [ ]
   end_at d u (x ∷ []) (moments.ends e) zero h = e
   end_at d u (x ∷ []) (moments.ends e) (suc i) h = absurd (omega (arith, h))

@@ -26,7 +26,7 @@ use Rattle.row_facts.specs.Follows.{may_follow}
 use Rattle.row_facts.specs.RowFacts.{IsPair}
 use Rattle.row_facts.proofs.Says.{never, off}
 use Rattle.run_rows.specs.Agreement.{Agrees}
-use Rattle.run_rows.specs.Bounds.{IsSmall}
+use Rattle.run_rows.specs.Bounds.{IsSmallCore}
 use Rattle.run_rows.specs.Decoder.{Decoder, advance, advance_by}
 use Rattle.run_rows.specs.Filling.{line_of, row_of}
 use Rattle.run_rows.specs.Groups.{batch_begun}
@@ -50,7 +50,7 @@ pub record Known (constants : List ℕ) (kernel : List (List ℕ)) (mark : Mark)
   pub allowed : IsAllowed constants kernel mark advice c
   pub whole : IsWholeMark mark
   pub formed : IsWellFormedCore c
-  pub small : IsSmall c
+  pub small : IsSmallCore c
   pub early : c.clock < 524287
   pub ha : d.ha ≤ 1 + 8 * c.clock
 

@@ -20,16 +20,17 @@ use Rattle.cycle_events.specs.Events.{shown, visible_of}
 use Rattle.cycle_events.specs.declared.event.Event.{Event}
 use Rattle.cycle_events.specs.declared.event.Visible.{Visible}
 use Rattle.row_facts.specs.Bounds.{IsFirstRow, IsLastRow}
-use Rattle.row_facts.specs.MainRows.{op_in, row_at}
+use Rattle.vm_table.specs.Layout.{row_at}
+use Rattle.row_facts.specs.MainRows.{op_in}
 use Rattle.row_facts.specs.RowFacts.{ReadsAs, IsRow}
 use Rattle.run_rows.specs.Agreement.{Agrees}
-use Rattle.run_rows.specs.BlockRows.{ClaimsRun, IsRun, ShowsBlocks, events_of, filled, keys_of}
-use Rattle.run_rows.specs.Bounds.{IsSmall}
+use Rattle.run_rows.specs.BlockRows.{ClaimsRun, IsWholeRun, ShowsBlocks, events_of, filled, keys_of}
+use Rattle.run_rows.specs.Bounds.{IsSmallCore}
 use Rattle.run_rows.specs.Chains.{AreLinked}
 use Rattle.run_rows.specs.Decoder.{Decoder, advance, at_start, decoder_after}
 use Rattle.run_rows.specs.Filling.{fill, rows_of}
 use Rattle.run_rows.specs.Lines.{Line, laid_out}
-use Rattle.run_rows.specs.Moments.{AreMoments, IsEndRow, IsRowAt}
+use Rattle.run_rows.specs.Moments.{AreMoments, IsLastMoment, IsRowAt}
 use Rattle.run_rows.specs.Shows.{Shows}
 use Rattle.run_rows.proofs.AgreeLemmas.{low_nothing}
 use Rattle.run_rows.proofs.BoundLemmas.{bounded_start}
@@ -56,13 +57,13 @@ agrees_start tree inputs tape few = record {
 -- ---- a run
 
 module _ (constants : List ℕ) (kernel : List (List ℕ)) (limit : ℕ) where
-  steps_of : (tree : Tree) (inputs tape : List ℕ) (u : State) (log : List run.Event) → IsRun constants kernel limit tree inputs tape u log
+  steps_of : (tree : Tree) (inputs tape : List ℕ) (u : State) (log : List run.Event) → IsWholeRun constants kernel limit tree inputs tape u log
       → Steps constants kernel limit (Block tree ∷ []) (start inputs tape) log u
   steps_of tree inputs tape u log r = run-steps constants kernel limit tree (start inputs tape) u log r.whole r.done
 
   -- the states of a run are small
-  small : (tree : Tree) (inputs tape : List ℕ) (u : State) (log : List run.Event) → IsRun constants kernel limit tree inputs tape u log
-      → All (λ e. IsSmall e.core) log × IsSmall u.core
+  small : (tree : Tree) (inputs tape : List ℕ) (u : State) (log : List run.Event) → IsWholeRun constants kernel limit tree inputs tape u log
+      → All (λ e. IsSmallCore e.core) log × IsSmallCore u.core
   unfolding start
   small tree inputs tape u log r =
       let steps = steps_of tree inputs tape u log r in
@@ -79,7 +80,7 @@ module _ (constants : List ℕ) (kernel : List (List ℕ)) (limit : ℕ) where
         record { nesting = nested.1; depth = (let deep = shallow.1 in omega (arith, deep)); context = reached.1 },
       )
 
-  pub filled_run : (tree : Tree) (inputs tape : List ℕ) (u : State) (log : List run.Event) → IsRun constants kernel limit tree inputs tape u log
+  pub filled_run : (tree : Tree) (inputs tape : List ℕ) (u : State) (log : List run.Event) → IsWholeRun constants kernel limit tree inputs tape u log
       → Filled constants kernel limit (Block tree ∷ []) at_start (start inputs tape) u (events_of constants kernel log)
       (filled constants kernel u log)
   unfolding rows_of start
@@ -142,7 +143,7 @@ module _ (constants : List ℕ) (kernel : List (List ℕ)) (limit : ℕ) (within
   last_shown : (k : Claim) (inputs : List ℕ) → ClaimsRun k inputs d.keys u → (i : ℕ) → suc i ≡ length rows
       → IsLastRow k (op_in rows i) (row_at rows i)
   last_shown k inputs claims i e =
-      let end : IsEndRow d u (row_at rows i) = end_at constants kernel limit d u rows moments i e in
+      let end : IsLastMoment d u (row_at rows i) = end_at constants kernel limit d u rows moments i e in
       let shows : Shows (op_in rows i) d u.core (row_at rows i) = end_shows end in
       record {
         halts = ap (λ op. flags.is_op op ops.Halt) (end_op end);
@@ -198,7 +199,7 @@ last_keyed constants kernel limit d u rows moments some =
     (end_at constants kernel limit d u rows moments (length rows - 1) place).agrees.keyed
 
 pub is_linked : (constants : List ℕ) (kernel : List (List ℕ)) (limit : ℕ) (tree : Tree) (inputs tape : List ℕ) (u : State) (log : List run.Event)
-    → IsRun constants kernel limit tree inputs tape u log
+    → IsWholeRun constants kernel limit tree inputs tape u log
     → AreLinked constants kernel limit u (Block tree ∷ []) at_start (start inputs tape) (events_of constants kernel log)
     (filled constants kernel u log)
 is_linked constants kernel limit tree inputs tape u log r =
@@ -206,7 +207,7 @@ is_linked constants kernel limit tree inputs tape u log r =
     subst (AreLinked constants kernel limit u (Block tree ∷ []) at_start (start inputs tape) (events_of constants kernel log)) (sym f.are) f.linked
 
 pub has_moments : (constants : List ℕ) (kernel : List (List ℕ)) (limit : ℕ) (tree : Tree) (inputs tape : List ℕ) (u : State) (log : List run.Event)
-    → IsRun constants kernel limit tree inputs tape u log
+    → IsWholeRun constants kernel limit tree inputs tape u log
     → AreMoments constants kernel limit (decoder_after at_start (events_of constants kernel log)) u (filled constants kernel u log)
     × IsRowAt constants (Block tree ∷ []) at_start (start inputs tape).core (row_at (filled constants kernel u log) 0)
 has_moments constants kernel limit tree inputs tape u log r =
@@ -216,7 +217,7 @@ has_moments constants kernel limit tree inputs tape u log r =
     )
 
 pub shows_blocks : (constants : List ℕ) (kernel : List (List ℕ)) (limit : ℕ) (tree : Tree) (inputs tape : List ℕ) (u : State) (log : List run.Event)
-    → IsRun constants kernel limit tree inputs tape u log
+    → IsWholeRun constants kernel limit tree inputs tape u log
     → (k : Claim) → ClaimsRun k inputs (keys_of constants kernel log) u → ShowsBlocks k (filled constants kernel u log)
 shows_blocks constants kernel limit tree inputs tape u log r k claims =
     let m = has_moments constants kernel limit tree inputs tape u log r in

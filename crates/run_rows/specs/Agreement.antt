@@ -23,17 +23,17 @@ ReadsTask (Returning digest frame) u = u ≡ nothing_unread
 ReadsTask (Leaving digest frame) u = u ≡ nothing_unread
 
 -- no span is open
-abbrev pub IsOutside : Task → Type 0
-IsOutside (Block tree) = Unit {0}
-IsOutside (Within items later digest) = ⊥
-IsOutside (Turned body) = Unit {0}
-IsOutside (Closing digest) = Unit {0}
-IsOutside (Returning digest frame) = Unit {0}
-IsOutside (Leaving digest frame) = Unit {0}
+abbrev pub IsOutsideSpan : Task → Type 0
+IsOutsideSpan (Block tree) = Unit {0}
+IsOutsideSpan (Within items later digest) = ⊥
+IsOutsideSpan (Turned body) = Unit {0}
+IsOutsideSpan (Closing digest) = Unit {0}
+IsOutsideSpan (Returning digest frame) = Unit {0}
+IsOutsideSpan (Leaving digest frame) = Unit {0}
 
 abbrev pub AreOutside : List Task → Type 0
 AreOutside [] = Unit {0}
-AreOutside (task ∷ todo) = IsOutside task × AreOutside todo
+AreOutside (task ∷ todo) = IsOutsideSpan task × AreOutside todo
 
 abbrev pub ReadsFirst : List Task → Unread → Type 0
 ReadsFirst [] u = u ≡ nothing_unread

@@ -2,7 +2,7 @@
 use Rattle.std.specs.Prelude.{◌≡◌, ℕ, suc, ◌+◌, ◌<◌, ◌≤◌, List, [], ◌∷◌, length, map}
 use Rattle.vm_field.specs.Field.{AreElements}
 use Rattle.vm_field.specs.Machine.{State, start}
-use Rattle.vm_table.specs.Layout.{IsTable}
+use Rattle.vm_table.specs.Layout.{IsTable, row_at}
 use Rattle.block_tree.specs.Execution as run
 use Rattle.block_tree.specs.Execution.{Done, execution}
 use Rattle.block_tree.specs.Steps.{Block}
@@ -13,14 +13,14 @@ use Rattle.air_kit.specs.declared.trace.TableName.TheVariants as table
 use Rattle.cycle_events.specs.Events.{shown, visible_of}
 use Rattle.cycle_events.specs.declared.event.Event.{Event}
 use Rattle.row_facts.specs.Bounds.{IsFirstRow, IsLastRow}
-use Rattle.row_facts.specs.MainRows.{op_in, row_at}
+use Rattle.row_facts.specs.MainRows.{op_in}
 use Rattle.row_facts.specs.RowFacts.{ReadsAs, IsRow, IsPair}
 use Rattle.run_rows.specs.Decoder.{at_start, decoder_after, key_of}
 use Rattle.run_rows.specs.Filling.{rows_of}
 use Rattle.run_rows.specs.Moments.{AreMoments, IsRowAt}
 
 -- a run of a whole tree from the start to its end, within the longest limit
-pub record IsRun (constants : List ℕ) (kernel : List (List ℕ)) (limit : ℕ) (tree : Tree) (inputs tape : List ℕ) (u : State) (log : List run.Event)
+pub record IsWholeRun (constants : List ℕ) (kernel : List (List ℕ)) (limit : ℕ) (tree : Tree) (inputs tape : List ℕ) (u : State) (log : List run.Event)
     : Type 0 where
   pub constants_are : length constants ≡ 168
   pub within : limit ≤ 524287
@@ -60,13 +60,13 @@ pub record ShowsBlocks (k : Claim) (rows : List (List ℕ)) : Type 0 where
 -- the rows of a run show them
 abbrev pub RunShowsBlocks : Type 0
 RunShowsBlocks = (constants : List ℕ) (kernel : List (List ℕ)) (limit : ℕ) (tree : Tree) (inputs tape : List ℕ) (u : State) (log : List run.Event)
-    → IsRun constants kernel limit tree inputs tape u log
+    → IsWholeRun constants kernel limit tree inputs tape u log
     → (k : Claim) → ClaimsRun k inputs (keys_of constants kernel log) u → ShowsBlocks k (filled constants kernel u log)
 
 -- each row of a run is that of a cycle, and the last one HALT's
 abbrev pub RunHasMoments : Type 0
 RunHasMoments = (constants : List ℕ) (kernel : List (List ℕ)) (limit : ℕ) (tree : Tree) (inputs tape : List ℕ) (u : State) (log : List run.Event)
-    → IsRun constants kernel limit tree inputs tape u log
+    → IsWholeRun constants kernel limit tree inputs tape u log
     → AreMoments constants kernel limit (decoder_after at_start (events_of constants kernel log)) u (filled constants kernel u log)
     × IsRowAt constants (Block tree ∷ []) at_start (start inputs tape).core (row_at (filled constants kernel u log) 0)
 

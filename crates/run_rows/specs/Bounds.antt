@@ -19,7 +19,7 @@ pub record IsBounded (d : Decoder) (clock : ℕ) (events : List Event) : Type 0 
   pub whole : clock + length events ≤ 524287
 
 -- a state of a run from the start
-pub record IsSmall (c : Core) : Type 0 where
+pub record IsSmallCore (c : Core) : Type 0 where
   pub nesting : c.nesting ≤ 1024
   pub depth : length c.stack ≤ 16 + c.clock
   pub context : c.context ≤ c.clock

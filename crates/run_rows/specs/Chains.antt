@@ -5,14 +5,14 @@ use Rattle.block_tree.specs.Execution as run
 use Rattle.block_tree.specs.Steps.{Task, Block}
 use Rattle.block_tree.specs.Trees.{Tree}
 use Rattle.cycle_events.specs.declared.event.Event.{Event}
-use Rattle.run_rows.specs.BlockRows.{IsRun, events_of, filled}
+use Rattle.run_rows.specs.BlockRows.{IsWholeRun, events_of, filled}
 use Rattle.run_rows.specs.Decoder.{Decoder, advance, at_start}
-use Rattle.run_rows.specs.Moments.{IsEndRow, IsMoment, event_at}
+use Rattle.run_rows.specs.Moments.{IsLastMoment, IsMoment, event_at}
 
 -- from these tasks, this decoder, this state and these events on, to the end of the run in a state
 pub data AreLinked (constants : List ℕ) (kernel : List (List ℕ)) (limit : ℕ) (u : State)
     : List Task → Decoder → State → List Event → List (List ℕ) → Type 0 where
-  ends : {d : Decoder} {x : List ℕ} → IsEndRow d u x → AreLinked constants kernel limit u [] d u [] (x ∷ [])
+  ends : {d : Decoder} {x : List ℕ} → IsLastMoment d u x → AreLinked constants kernel limit u [] d u [] (x ∷ [])
   goes : {x y : List ℕ} {rows : List (List ℕ)} (m : IsMoment constants kernel limit x y)
       → AreLinked constants kernel limit u (m.rest ++ m.todo) (advance m.d (event_at constants kernel m.mark m.s) m.later) m.t m.later (y ∷ rows)
       → AreLinked constants kernel limit u (m.task ∷ m.todo) m.d m.s (event_at constants kernel m.mark m.s ∷ m.later) (x ∷ y ∷ rows)
@@ -26,6 +26,6 @@ over_pairs count (x ∷ y ∷ rows) = count x y + over_pairs count (y ∷ rows)
 -- the rows of a run are such a chain
 abbrev pub RunIsLinked : Type 0
 RunIsLinked = (constants : List ℕ) (kernel : List (List ℕ)) (limit : ℕ) (tree : Tree) (inputs tape : List ℕ) (u : State) (log : List run.Event)
-    → IsRun constants kernel limit tree inputs tape u log
+    → IsWholeRun constants kernel limit tree inputs tape u log
     → AreLinked constants kernel limit u (Block tree ∷ []) at_start (start inputs tape) (events_of constants kernel log)
     (filled constants kernel u log)

@@ -12,7 +12,7 @@ use Rattle.cycle_events.specs.Events.{shown, visible_of}
 use Rattle.cycle_events.specs.declared.event.Event.{Event}
 use Rattle.cycle_events.specs.declared.event.Visible.{Visible}
 use Rattle.run_rows.specs.Agreement.{Agrees}
-use Rattle.run_rows.specs.Bounds.{IsBounded, IsSmall}
+use Rattle.run_rows.specs.Bounds.{IsBounded, IsSmallCore}
 use Rattle.run_rows.specs.Decoder.{Decoder, advance}
 use Rattle.run_rows.specs.Filling.{halted, row_of}
 
@@ -52,21 +52,21 @@ pub record IsMoment (constants : List ℕ) (kernel : List (List ℕ)) (limit : �
   pub behind : IsWellFormed t
   pub agrees : Agrees (task ∷ todo) d s.core
   pub agrees_behind : Agrees (rest ++ todo) (advance d (event_at constants kernel mark s) later) t.core
-  pub small : IsSmall s.core
+  pub small : IsSmallCore s.core
   pub bounded : IsBounded d s.core.clock (event_at constants kernel mark s ∷ later)
   pub row : x ≡ row_of d (event_at constants kernel mark s) (visible_of t.core) later
   pub next : IsRowAt constants (rest ++ todo) (advance d (event_at constants kernel mark s) later) t.core y
 
 -- the row of HALT, behind all events
-pub record IsEndRow (d : Decoder) (s : State) (x : List ℕ) : Type 0 where
+pub record IsLastMoment (d : Decoder) (s : State) (x : List ℕ) : Type 0 where
   pub agrees : Agrees [] d s.core
   pub bounded : IsBounded d s.core.clock []
   pub whole : IsWellFormed s
-  pub small : IsSmall s.core
+  pub small : IsSmallCore s.core
   pub row : x ≡ row_of d (halted (visible_of s.core)) (visible_of s.core) []
 
 -- all rows from one on, to the HALT with which the run ends in this state
 pub data AreMoments (constants : List ℕ) (kernel : List (List ℕ)) (limit : ℕ) (d : Decoder) (u : State) : List (List ℕ) → Type 0 where
-  ends : {x : List ℕ} → IsEndRow d u x → AreMoments constants kernel limit d u (x ∷ [])
+  ends : {x : List ℕ} → IsLastMoment d u x → AreMoments constants kernel limit d u (x ∷ [])
   goes : {x y : List ℕ} {rows : List (List ℕ)} → IsMoment constants kernel limit x y → AreMoments constants kernel limit d u (y ∷ rows)
       → AreMoments constants kernel limit d u (x ∷ y ∷ rows)

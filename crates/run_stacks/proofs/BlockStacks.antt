@@ -17,7 +17,7 @@ use Rattle.row_facts.proofs.Says.{never, off}
 use Rattle.row_facts.specs.Blocks.{ends_call}
 use Rattle.row_facts.specs.Limbs.{IsLimbRow, MovesLimbs}
 use Rattle.row_facts.specs.Stack.{IsStackRow, MovesStack, mover}
-use Rattle.row_steps.specs.Lookups.{HasLimbs, LooksUpBits}
+use Rattle.row_steps.specs.Lookups.{LooksUpLimbs, LooksUpBits}
 use Rattle.run_rows.specs.Decoder.{Decoder, advance, hidden_of, key_of, keys_behind}
 use Rattle.run_rows.specs.Filling.{halted, line_of, row_of}
 use Rattle.run_rows.specs.Shows.{Shows}
@@ -35,7 +35,7 @@ pub record StackFacts (op : Op) (x y : List ℕ) : Type 0 where
   pub limb_row : IsLimbRow op x
   pub stack_pair : MovesStack op x y
   pub limb_pair : MovesLimbs op x y
-  pub ranges : HasLimbs op x
+  pub ranges : LooksUpLimbs op x
   pub bits : LooksUpBits op x y
 
 -- the flags of an END

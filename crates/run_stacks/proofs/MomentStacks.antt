@@ -17,7 +17,7 @@ use Rattle.row_facts.specs.Stack.{IsStackRow}
 use Rattle.row_steps.specs.Filling.{FillsRows, elsewhere_of}
 use Rattle.run_rows.specs.Decoder.{Decoder, advance}
 use Rattle.run_rows.specs.Filling.{line_of, row_of}
-use Rattle.run_rows.specs.Moments.{IsEndRow, IsMoment, event_at}
+use Rattle.run_rows.specs.Moments.{IsLastMoment, IsMoment, event_at}
 use Rattle.run_rows.specs.Shows.{Shows}
 use Rattle.run_rows.proofs.MomentFacts.{core_after, end_op, end_shows, known, line_op, place_shows}
 use Rattle.run_rows.proofs.PairLemmas.{Known, ticked}
@@ -122,12 +122,12 @@ module _ (constants : List ℕ) (kernel : List (List ℕ)) (limit : ℕ) where
       let few = m.small.nesting in
       omega (arith, level, few)
 
-pub end_level : {d : Decoder} {u : State} {x : List ℕ} → IsEndRow d u x → lv x ≤ 1024
+pub end_level : {d : Decoder} {u : State} {x : List ℕ} → IsLastMoment d u x → lv x ≤ 1024
 end_level {u = u} {x = x} e =
     let level : lv x ≡ u.core.nesting = (end_shows e).level in let few = e.small.nesting in omega (arith, level, few)
 
 -- the row of HALT
-pub end_facts : {d : Decoder} {u : State} {x : List ℕ} → IsEndRow d u x → IsStackRow (flags.op_of x) x × IsLimbRow (flags.op_of x) x
+pub end_facts : {d : Decoder} {u : State} {x : List ℕ} → IsLastMoment d u x → IsStackRow (flags.op_of x) x × IsLimbRow (flags.op_of x) x
 end_facts {d = d} {u = u} {x = x} e =
     let whole = e.bounded.whole in
     let few = e.small.depth in

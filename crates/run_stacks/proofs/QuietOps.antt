@@ -10,7 +10,7 @@ use Rattle.air_kit.specs.MainTuples.{limbs_of}
 use Rattle.row_facts.specs.Limbs.{IsLimbRow, MovesLimbs, has_high_word, has_second, has_third}
 use Rattle.row_facts.specs.Stack.{LeavesCells, tests_top, tests_two}
 use Rattle.row_facts.proofs.Says.{never}
-use Rattle.row_steps.specs.Lookups.{HasLimbs, LooksUpBits, is_bitwise}
+use Rattle.row_steps.specs.Lookups.{LooksUpLimbs, LooksUpBits, is_bitwise}
 
 gate : (t a : Bool) → not t && a ≡ false → t ≡ false → a ≡ false
 gate true a e is = never is
@@ -110,7 +110,7 @@ limb_pair op x y is = record {
   one_way = quiet op (has_high_word op) (no_high op) is;
 }
 
-pub ranges : (op : Op) (x : List ℕ) → is_ordinary_op op ≡ false → HasLimbs op x
+pub ranges : (op : Op) (x : List ℕ) → is_ordinary_op op ≡ false → LooksUpLimbs op x
 ranges op x is j low = (let none = limbs_none op is in absurd (omega (arith, none, low)))
 
 pub bits : (op : Op) (x y : List ℕ) → is_ordinary_op op ≡ false → LooksUpBits op x y

@@ -23,7 +23,7 @@ use Rattle.air_kit.specs.MainTuples as tuples
 use Rattle.cycle_events.specs.Events.{shown, visible_of}
 use Rattle.cycle_events.specs.declared.event.Event.{Event}
 use Rattle.cycle_events.specs.declared.event.Visible.{Visible}
-use Rattle.run_rows.specs.BlockRows.{IsRun, events_of}
+use Rattle.run_rows.specs.BlockRows.{IsWholeRun, events_of}
 use Rattle.run_rows.specs.Decoder.{Decoder, advance}
 use Rattle.run_rows.specs.Filling.{halted, line_of, row_of, seen_behind}
 use Rattle.run_rows.specs.Groups.{nothing_unread}
@@ -127,7 +127,7 @@ module _ (constants : List ℕ) (kernel : List (List ℕ)) (limit : ℕ) where
       (along later len within (whole-append rest todo n.1 w.1) kept
       (All-tail (λ e. length e.core.stack ≤ 16 + e.core.clock) (event_of mark (advice_taken mark) s) log shallow))
 
-  pub ranges_are_low : (tree : Tree) (inputs tape : List ℕ) (u : State) (log : List run.Event) → IsRun constants kernel limit tree inputs tape u log
+  pub ranges_are_low : (tree : Tree) (inputs tape : List ℕ) (u : State) (log : List run.Event) → IsWholeRun constants kernel limit tree inputs tape u log
       → All Is16 (ranges_of (visible_of u.core) (events_of constants kernel log))
   unfolding start
   ranges_are_low tree inputs tape u log r =

@@ -8,10 +8,11 @@ use Rattle.air_kit.specs.Places.{Claim}
 use Rattle.vm_table.specs.MainColumns.{lv}
 use Rattle.row_facts.specs.Bounds.{IsLowClaim}
 use Rattle.row_facts.specs.Limbs.{IsLimbRow}
-use Rattle.row_facts.specs.MainRows.{IsZero, ShowsRows, op_in, row_at}
+use Rattle.vm_table.specs.Layout.{row_at}
+use Rattle.row_facts.specs.MainRows.{MainIsZero, ShowsRows, op_in}
 use Rattle.row_facts.specs.Stack.{IsStackRow}
 use Rattle.row_facts.proofs.TableFacts.{rows_zero}
-use Rattle.run_rows.specs.BlockRows.{ClaimsRun, IsRun, ShowsBlocks, events_of, filled, keys_of}
+use Rattle.run_rows.specs.BlockRows.{ClaimsRun, IsWholeRun, ShowsBlocks, events_of, filled, keys_of}
 use Rattle.run_rows.specs.Decoder.{Decoder, at_start, decoder_after}
 use Rattle.run_rows.specs.Moments.{AreMoments}
 use Rattle.run_rows.proofs.MomentLemmas.{end_at, moment_at}
@@ -31,7 +32,7 @@ module _ (constants : List ℕ) (kernel : List (List ℕ)) (limit : ℕ) where
           let f = moment_facts constants kernel limit len within (moment_at constants kernel limit d u rows moments i (omega (arith, low, apart))) in
           (f.stack_row, f.limb_row)
 
-  pub shows_rows : (tree : Tree) (inputs tape : List ℕ) (u : State) (log : List run.Event) → IsRun constants kernel limit tree inputs tape u log
+  pub shows_rows : (tree : Tree) (inputs tape : List ℕ) (u : State) (log : List run.Event) → IsWholeRun constants kernel limit tree inputs tape u log
       → (k : Claim) → ClaimsRun k inputs (keys_of constants kernel log) u
       → ShowsRows k (filled constants kernel u log)
   shows_rows tree inputs tape u log r k claims =
@@ -52,9 +53,9 @@ module _ (constants : List ℕ) (kernel : List (List ℕ)) (limit : ℕ) where
         last = b.last;
       }
 
-  pub has_zeros : (tree : Tree) (inputs tape : List ℕ) (u : State) (log : List run.Event) → IsRun constants kernel limit tree inputs tape u log
+  pub has_zeros : (tree : Tree) (inputs tape : List ℕ) (u : State) (log : List run.Event) → IsWholeRun constants kernel limit tree inputs tape u log
       → (k : Claim) → ClaimsRun k inputs (keys_of constants kernel log) u → IsLowClaim k
-      → IsZero k (filled constants kernel u log)
+      → MainIsZero k (filled constants kernel u log)
   has_zeros tree inputs tape u log r k claims low =
       rows_zero k (filled constants kernel u log) low (shows_blocks constants kernel limit tree inputs tape u log r k claims).table
       (shows_rows tree inputs tape u log r k claims)
@@ -67,7 +68,7 @@ module _ (constants : List ℕ) (kernel : List (List ℕ)) (limit : ℕ) where
       go (inl e) = end_level (end_at constants kernel limit d u rows moments i e)
       go (inr apart) = moment_level constants kernel limit (moment_at constants kernel limit d u rows moments i (omega (arith, low, apart)))
 
-  pub look_up : (tree : Tree) (inputs tape : List ℕ) (u : State) (log : List run.Event) → IsRun constants kernel limit tree inputs tape u log
+  pub look_up : (tree : Tree) (inputs tape : List ℕ) (u : State) (log : List run.Event) → IsWholeRun constants kernel limit tree inputs tape u log
       → (i : ℕ) → suc i < length (filled constants kernel u log) → LooksUp (filled constants kernel u log) i
   look_up tree inputs tape u log r i low =
       let m = has_moments constants kernel limit tree inputs tape u log r in

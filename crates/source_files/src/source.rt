@@ -1,7 +1,7 @@
 // Sources, assembled or refused.
 ghost use Rattle.std.specs.Prelude.{◌≡◌, ◌≤◌, length, option_map, IfSome, IfOk};
 ghost use Rattle.rpo_hash.specs.Constants.{constants_of};
-ghost use Rattle.command_ends.specs.Outcomes.{Says};
+ghost use Rattle.command_ends.specs.Outcomes.{SaysStatus};
 ghost use Rattle.source_files.specs.Sources.{file_of};
 ghost use Rattle.commands.specs.SourceEnds.{AssemblesFiles, name_of_place as name_by_place, source_line};
 
@@ -54,7 +54,7 @@ pub fn name_of_place<'a>(
 /// The answer to a source that is refused.
 #[tactic(auto, using(command_ends::proofs::OutcomeLemmas::says_line))]
 pub fn refused_source(alloc: Global, name: &str, line: u32, column: u32, cause: AsmCause) -> Outcome
-    ensures { Says result Status.Source (source_line name.now line column cause) }
+    ensures { SaysStatus result Status.Source (source_line name.now line column cause) }
 {
     answered(
         Status::Source,

@@ -7,7 +7,7 @@ use Rattle.command_ends.specs.declared.outcome.Outcome.{Outcome}
 use Rattle.command_ends.specs.declared.outcome.Outcome.TheVariants as outcome
 use Rattle.commands.specs.declared.status.Status.TheVariants as status
 use Rattle.source_runs.specs.Courses.{Halts, Stopped}
-use Rattle.command_ends.specs.Outcomes.{Says}
+use Rattle.command_ends.specs.Outcomes.{SaysStatus}
 use Rattle.masm_link.specs.declared.refusal.AsmCause.{AsmCause}
 use Rattle.masm_link.specs.declared.refusal.AsmError.TheVariants.{Bad}
 use Rattle.commands.specs.declared.status.Status.{Status}
@@ -33,7 +33,7 @@ halts_stop constants source kernel given limit program outcome.Memory is h = tt
 pub refused_stop : (constants : List ℕ) (source : SourceFile) (kernel : Option SourceFile) (given : Given) (limit : ℕ)
     (in_kernel : Bool) (line column : ℕ) (cause : AsmCause) (o : Outcome)
     → AssemblesFiles constants source kernel (Err (Bad in_kernel line column cause))
-    → Says o status.Source (source_line (name_of_place in_kernel source kernel) line column cause) → Stopped constants source kernel given limit o
+    → SaysStatus o status.Source (source_line (name_of_place in_kernel source kernel) line column cause) → Stopped constants source kernel given limit o
 refused_stop constants source kernel given limit in_kernel line column cause (outcome.Ends a) is says =
     subst (λ (b : Answer). IsCourse constants source kernel given limit (stopped b) × (kind_of b.status ≡ planned)) (sym says)
     (ends.refused in_kernel line column cause is, refl)
@@ -41,7 +41,7 @@ refused_stop constants source kernel given limit in_kernel line column cause out
 
 -- what is said of a program that halts
 pub halt_says : (constants : List ℕ) (program : Program) (given : Given) (limit : ℕ) (s : Status) (line : List ℕ) (o : Outcome)
-    → IsHalt constants program given limit (ends_with s line) → Says o s line → Halts constants program given limit o
+    → IsHalt constants program given limit (ends_with s line) → SaysStatus o s line → Halts constants program given limit o
 halt_says constants program given limit s line (outcome.Ends a) is says = subst (IsHalt constants program given limit) (sym says) is
 halt_says constants program given limit s line outcome.Memory is says = tt
 

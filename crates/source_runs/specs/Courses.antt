@@ -9,7 +9,7 @@ use Rattle.vm_state.specs.Views.{state_of}
 use Rattle.run_inputs.specs.Inputs.{Given}
 use Rattle.processor.specs.Executed.{WasExecuted}
 use Rattle.processor.specs.declared.run.Run.{Run}
-use Rattle.run_rows.specs.BlockRows.{IsRun, events_of}
+use Rattle.run_rows.specs.BlockRows.{IsWholeRun, events_of}
 use Rattle.source_runs.specs.declared.course.Course as held
 use Rattle.command_ends.specs.declared.outcome.Outcome.{Outcome}
 use Rattle.command_ends.specs.declared.outcome.Outcome.TheVariants as outcome
@@ -23,7 +23,7 @@ pub record HasRun (params : Params) (program : Program) (given : Given) (limit :
   pub executed : WasExecuted params program answer
   pub log : List run.Event
   pub events : answer.events ≡ events_of (constants_of params) program.kernel log
-  pub is_run : IsRun (constants_of params) program.kernel limit (tree_of program.tree) given.stack given.advice (state_of answer.state) log
+  pub is_run : IsWholeRun (constants_of params) program.kernel limit (tree_of program.tree) given.stack given.advice (state_of answer.state) log
 
 -- a source's program and its run
 pub record Came (params : Params) (source : SourceFile) (kernel : Option SourceFile) (given : Given) (limit : ℕ) (course : held.Course) : Type 0 where

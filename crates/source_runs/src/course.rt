@@ -3,7 +3,7 @@ ghost use Rattle.std.specs.Prelude.{◌≡◌, ◌≤◌, length, option_map, If
 ghost use Rattle.rpo_hash.specs.Constants.{constants_of};
 ghost use Rattle.run_inputs.specs.Inputs.{given_of};
 ghost use Rattle.source_runs.specs.Courses.{Came, Halts, HasRun, Stopped};
-ghost use Rattle.command_ends.specs.Outcomes.{Says};
+ghost use Rattle.command_ends.specs.Outcomes.{SaysStatus};
 ghost use Rattle.source_files.specs.Sources.{file_of};
 ghost use Rattle.commands.specs.RunEnds.{limit_line, trap_line};
 
@@ -85,14 +85,14 @@ fn run_of(
 
 #[tactic(auto, using(command_ends::proofs::OutcomeLemmas::says_line))]
 fn trapped(alloc: Global, clock: u32, cause: Cause) -> Outcome
-    ensures { Says result Status.Trap (trap_line clock cause) }
+    ensures { SaysStatus result Status.Trap (trap_line clock cause) }
 {
     answered(Status::Trap, trap_text(alloc, clock, cause))
 }
 
 #[tactic(auto, using(command_ends::proofs::OutcomeLemmas::says_line))]
 fn out_of_cycles(alloc: Global, limit: u32) -> Outcome
-    ensures { Says result Status.OutOfCycles (limit_line limit) }
+    ensures { SaysStatus result Status.OutOfCycles (limit_line limit) }
 {
     answered(Status::OutOfCycles, limit_text(alloc, limit))
 }

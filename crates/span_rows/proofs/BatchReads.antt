@@ -8,10 +8,11 @@ use Rattle.air_kit.specs.Flags.{is_op}
 use Rattle.air_kit.specs.MainTuples.{eight, positions}
 use Rattle.air_kit.specs.Places.{Claim}
 use Rattle.row_facts.specs.Batches.{ShowsBatch, OpensBatch}
-use Rattle.row_facts.specs.MainRows.{ShowsRows, row_at, op_in}
+use Rattle.vm_table.specs.Layout.{row_at}
+use Rattle.row_facts.specs.MainRows.{ShowsRows, op_in}
 use Rattle.row_facts.specs.RowFacts.{IsPair}
 use Rattle.bus_facts.specs.Batches.{Begins, GroupFacts, batch_at}
-use Rattle.span_rows.specs.Spans.{IsBatch}
+use Rattle.span_rows.specs.Spans.{HasBatchRows}
 use Rattle.span_rows.proofs.Tests.{behind_start, ordinary_goes}
 use Rattle.span_rows.proofs.InUse.{in_use_is, left_of}
 use Rattle.span_rows.proofs.BatchRows.{IsRead, Runs, not_last, one_before}
@@ -36,7 +37,7 @@ runs {rows = rows} {i = i} c (suc n) r e h ordinary same left =
 -- a batch, the row behind it, and that its rows come behind its start
 pub record HasBatch (rows : List (List ℕ)) (i : ℕ) : Type 0 where
   pub end : ℕ
-  pub is : IsBatch rows i end
+  pub is : HasBatchRows rows i end
   pub stops : is_op (op_in rows end) ops.End || is_op (op_in rows end) ops.Respan ≡ true
   pub within : suc end < length rows
   pub behind : i < end

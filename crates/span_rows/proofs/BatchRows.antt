@@ -9,7 +9,8 @@ use Rattle.vm_table.specs.MainColumns.{addr, h, gc, ox, ha, s}
 use Rattle.air_kit.specs.Flags.{is_op}
 use Rattle.air_kit.specs.MainTuples.{positions}
 use Rattle.air_kit.specs.Places.{Claim}
-use Rattle.row_facts.specs.MainRows.{ShowsRows, row_at, op_in}
+use Rattle.vm_table.specs.Layout.{row_at}
+use Rattle.row_facts.specs.MainRows.{ShowsRows, op_in}
 use Rattle.row_facts.proofs.RunFacts.{halts_last}
 use Rattle.bus_facts.specs.Batches.{Begins, GroupFacts, IsTaken, batch_at}
 use Rattle.span_rows.specs.Items.{AreItems, item_at}

@@ -10,7 +10,8 @@ use Rattle.vm_table.specs.MainColumns.{h, gc, ox, s, sp}
 use Rattle.air_kit.specs.Flags.{is_op}
 use Rattle.air_kit.specs.MainTuples.{opens_group, positions}
 use Rattle.row_facts.specs.Groups.{GoesOn, stays, pushes, opens, ends}
-use Rattle.row_facts.specs.MainRows.{ShowsRow, row_at, op_in}
+use Rattle.vm_table.specs.Layout.{row_at}
+use Rattle.row_facts.specs.MainRows.{ShowsRow, op_in}
 use Rattle.row_facts.specs.RowFacts.{IsPair}
 use Rattle.row_facts.proofs.RunFacts.{nothing_left}
 use Rattle.span_rows.specs.Items.{over, next, item_at}

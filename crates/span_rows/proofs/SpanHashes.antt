@@ -9,19 +9,20 @@ use Rattle.air_kit.specs.Flags.{is_op}
 use Rattle.air_kit.specs.MainTuples.{domain_of, eight, front, hash_end}
 use Rattle.air_kit.specs.Places.{Claim}
 use Rattle.hash_rows.specs.HashMeaning.{GivesOn}
-use Rattle.row_facts.specs.MainRows.{ShowsRows, row_at, op_in}
+use Rattle.vm_table.specs.Layout.{row_at}
+use Rattle.row_facts.specs.MainRows.{ShowsRows, op_in}
 use Rattle.bus_facts.specs.Blocks.{Starts, Closes, own}
 use Rattle.bus_facts.specs.Lookups.{HashFacts, hasher_gives}
-use Rattle.span_rows.specs.Spans.{IsHashed}
+use Rattle.span_rows.specs.Spans.{IsHashedAt}
 use Rattle.span_rows.proofs.Tests.{op_same}
 use Rattle.span_rows.proofs.Addresses.{address_of_block, last_row}
 
-abbrev Gives : List (List ℕ) → ℕ → ℕ → List ℕ → Type 0
-Gives hasher tag address xs = 0 < hasher_gives hasher (tag ∷ address ∷ xs)
+abbrev GivesEnd : List (List ℕ) → ℕ → ℕ → List ℕ → Type 0
+GivesEnd hasher tag address xs = 0 < hasher_gives hasher (tag ∷ address ∷ xs)
 
 pub gives_at : (hasher : List (List ℕ)) (tag a b : ℕ) (xs : List ℕ) → a ≡ b → 0 < hasher_gives hasher (tag ∷ a ∷ xs)
     → 0 < hasher_gives hasher (tag ∷ b ∷ xs)
-gives_at hasher tag a b xs e h = subst (λ n. Gives hasher tag n xs) e h
+gives_at hasher tag a b xs e h = subst (λ n. GivesEnd hasher tag n xs) e h
 
 pub end_of_span : (x : List ℕ) → h x 5 ≡ 1 → hash_end x ≡ ha x ⊞ 7
 end_of_span x flag = ap (λ n. n ⊞ 7) (cond-true (eqb (h x 5) 1) (ha x) (addr x) (eq-eqb (h x 5) 1 flag))
@@ -50,7 +51,7 @@ address_is constants rows hasher hashes j starts =
 
 pub hashed_at : (constants : List ℕ) (rows hasher : List (List ℕ)) → HashFacts constants rows hasher → (j e : ℕ) → Starts rows j → (domain : ℕ)
     → domain_of (op_in rows j) ≡ domain → (blocks : List (List ℕ)) → GivesOn (hasher_gives hasher) (own rows j) blocks (front (row_at rows e))
-    → IsHashed constants hasher rows j e (record { domain = domain; blocks = eight (row_at rows j) ∷ blocks })
+    → IsHashedAt constants hasher rows j e (record { domain = domain; blocks = eight (row_at rows j) ∷ blocks })
 hashed_at constants rows hasher hashes j e starts domain is blocks given =
     let opens = subst (λ (n : ℕ). 0 < hasher_gives hasher (1 ∷ own rows j ∷ n ∷ eight (row_at rows j))) is (hashes.starts j starts) in
     let hash = hashes.table.hashes (own rows j) domain (eight (row_at rows j)) blocks (front (row_at rows e)) opens given in
@@ -65,7 +66,7 @@ flag_off op n other e = elim (cases_Bool (is_op op ops.Span)) [
 -- a block that is no span
 pub block_hashed : (constants : List ℕ) (k : Claim) (rows hasher : List (List ℕ)) → ShowsRows k rows → HashFacts constants rows hasher
     → (j e : ℕ) → Closes rows j e → op_in rows j ≢ ops.Span
-    → IsHashed constants hasher rows j e (record { domain = domain_of (op_in rows j); blocks = eight (row_at rows j) ∷ [] })
+    → IsHashedAt constants hasher rows j e (record { domain = domain_of (op_in rows j); blocks = eight (row_at rows j) ∷ [] })
 block_hashed constants k rows hasher shows hashes j e closes other =
     hashed_at constants rows hasher hashes j e closes.starts (domain_of (op_in rows j)) refl []
     (gives_digest hasher (own rows j) (front (row_at rows e)) (gives_at hasher 3 _ _ (front (row_at rows e)) end (hashes.ends e closes.ends)))

@@ -10,10 +10,10 @@ use Rattle.air_kit.specs.MainTuples.{domain_of, eight, front, is_batch_op}
 use Rattle.air_kit.specs.Traces.{claim_of}
 use Rattle.hash_rows.specs.HashMeaning.{GivesOn}
 use Rattle.bus_facts.specs.Lookups.{hasher_gives}
-use Rattle.row_facts.specs.MainRows.{row_at}
+use Rattle.vm_table.specs.Layout.{row_at}
 use Rattle.bus_facts.specs.Batches.{batch_at}
 use Rattle.bus_facts.specs.Blocks.{IsAt, Starts, Closes, own}
-use Rattle.span_rows.specs.Spans.{AreBatches, IsHashed, GrantedSpans}
+use Rattle.span_rows.specs.Spans.{AreBatches, IsHashedAt, GrantedSpans}
 use Rattle.span_rows.proofs.SpanRows.{Known, HasBatches, batches}
 use Rattle.span_rows.proofs.SpanHashes.{address_is, hashed_at, block_hashed}
 
@@ -29,7 +29,7 @@ closed_by {rows = rows} known j e starts ends inside =
 
 span_at : {constants : List ℕ} {hasher rows : List (List ℕ)} → Known constants hasher rows → (j : ℕ) → IsAt rows j ops.Span
     → (e : ℕ) × (batches : List (List ℕ)) × AreBatches rows j e batches × Closes rows j e
-    × IsHashed constants hasher rows j e (input_of_batches batches)
+    × IsHashedAt constants hasher rows j e (input_of_batches batches)
 span_at {constants = constants} {hasher = hasher} {rows = rows} known j at = (
   b.end,
   eight (row_at rows j) ∷ b.later,

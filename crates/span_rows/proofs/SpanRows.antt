@@ -8,7 +8,8 @@ use Rattle.air_kit.specs.MainTuples.{eight, front, hash_end, is_batch_op}
 use Rattle.air_kit.specs.Places.{Claim}
 use Rattle.hash_rows.specs.HashMeaning.{GivesOn}
 use Rattle.row_facts.specs.Blocks.{keeps_block}
-use Rattle.row_facts.specs.MainRows.{ShowsRows, row_at}
+use Rattle.vm_table.specs.Layout.{row_at}
+use Rattle.row_facts.specs.MainRows.{ShowsRows}
 use Rattle.bus_facts.specs.Batches.{Begins, GroupFacts, batch_at}
 use Rattle.bus_facts.specs.Blocks.{BlockFacts, IsAt}
 use Rattle.bus_facts.specs.Lookups.{HashFacts, hasher_gives}

@@ -5,7 +5,8 @@ use Rattle.vm_ops.specs.declared.item.Item.{Item}
 use Rattle.vm_ops.specs.declared.op.Op.TheVariants as ops
 use Rattle.vm_table.specs.MainColumns.{s}
 use Rattle.air_kit.specs.Flags.{is_op}
-use Rattle.row_facts.specs.MainRows.{row_at, op_in}
+use Rattle.vm_table.specs.Layout.{row_at}
+use Rattle.row_facts.specs.MainRows.{op_in}
 
 -- the item of row i: its operation, and for PUSH the cell that the row behind it has on top
 abbrev pub item_at : List (List ℕ) → ℕ → Item

@@ -11,14 +11,15 @@ use Rattle.air_kit.specs.Hashes.{computation_at}
 use Rattle.air_kit.specs.MainTuples.{domain_of, eight, front}
 use Rattle.air_kit.specs.declared.trace.Public.{Public}
 use Rattle.air_kit.specs.declared.trace.Trace.{Trace}
-use Rattle.row_facts.specs.MainRows.{row_at, op_in}
+use Rattle.vm_table.specs.Layout.{row_at}
+use Rattle.row_facts.specs.MainRows.{op_in}
 use Rattle.bus_facts.specs.Batches.{Begins, batch_at}
 use Rattle.bus_facts.specs.Blocks.{IsAt, Closes, own}
 use Rattle.bus_facts.specs.BusFacts.{Granted}
 use Rattle.span_rows.specs.Items.{AreItems}
 
 -- the rows behind row i are those of the batch that begins there, up to row e
-pub record IsBatch (rows : List (List ℕ)) (i e : ℕ) : Type 0 where
+pub record HasBatchRows (rows : List (List ℕ)) (i e : ℕ) : Type 0 where
   pub begins : Begins rows i
   pub items : List Item
   pub reads : reading (eight (row_at rows i)) ≡ Some items
@@ -28,13 +29,13 @@ pub record IsBatch (rows : List (List ℕ)) (i e : ℕ) : Type 0 where
 
 -- the rows from row i, which begins a batch, to row e: these batches, one behind the other, and the END of their span
 pub data AreBatches (rows : List (List ℕ)) : ℕ → ℕ → List (List ℕ) → Type 0 where
-  last : (i e : ℕ) → IsBatch rows i e → IsAt rows e ops.End → AreBatches rows i e (eight (row_at rows i) ∷ [])
-  more : (i r e : ℕ) (batches : List (List ℕ)) → IsBatch rows i r → IsAt rows r ops.Respan → AreBatches rows r e batches
+  last : (i e : ℕ) → HasBatchRows rows i e → IsAt rows e ops.End → AreBatches rows i e (eight (row_at rows i) ∷ [])
+  more : (i r e : ℕ) (batches : List (List ℕ)) → HasBatchRows rows i r → IsAt rows r ops.Respan → AreBatches rows r e batches
       → AreBatches rows i e (eight (row_at rows i) ∷ batches)
 
 -- The block that starts in row j and ends in row e is hashed in the file: at its address this hash input is computed, and its END has the
 -- digest.
-pub record IsHashed (constants : List ℕ) (hasher rows : List (List ℕ)) (j e : ℕ) (input : HashInput) : Type 0 where
+pub record IsHashedAt (constants : List ℕ) (hasher rows : List (List ℕ)) (j e : ℕ) (input : HashInput) : Type 0 where
   pub computation : computation_at hasher (own rows j) ≡ Some input
   pub digest : front (row_at rows e) ≡ digest_of_input constants input
 
@@ -43,9 +44,9 @@ pub record IsHashed (constants : List ℕ) (hasher rows : List (List ℕ)) (j e 
 pub record SpanFacts (constants : List ℕ) (hasher rows : List (List ℕ)) : Type 0 where
   pub span : (j : ℕ) → IsAt rows j ops.Span
       → (e : ℕ) × (batches : List (List ℕ)) × AreBatches rows j e batches × Closes rows j e
-      × IsHashed constants hasher rows j e (input_of_batches batches)
+      × IsHashedAt constants hasher rows j e (input_of_batches batches)
   pub block : (j e : ℕ) → Closes rows j e → op_in rows j ≢ ops.Span
-      → IsHashed constants hasher rows j e (record { domain = domain_of (op_in rows j); blocks = eight (row_at rows j) ∷ [] })
+      → IsHashedAt constants hasher rows j e (record { domain = domain_of (op_in rows j); blocks = eight (row_at rows j) ∷ [] })
 
 abbrev pub GrantedSpans : Type 0
 GrantedSpans = (p : Public) (t : Trace) → length (constants_of p.params) ≡ 168 → Granted p t → SpanFacts (constants_of p.params) t.hasher t.main

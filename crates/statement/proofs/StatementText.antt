@@ -19,7 +19,7 @@ use Rattle.block_tree.specs.Kernels.{AreDistinct}
 use Rattle.json_values.specs.Values.{are_texts, words_of}
 use Rattle.json_values.specs.ToJson.{texts_of, listed}
 use Rattle.json_values.proofs.Written.{items_have_float-numbers_of, items_depth-numbers_of, items_text-numbers_of, are_numbers-numbers_of, elements_of-numbers_of}
-use Rattle.statement.specs.Statements.{Claim, claim_by, statement_of, statement_text, words_listed}
+use Rattle.statement.specs.Statements.{Stated, claim_by, statement_of, statement_text, words_listed}
 use Rattle.statement.specs.ToJson.{statement_data}
 use Rattle.statement.proofs.Distinct.{passes}
 
@@ -27,7 +27,7 @@ items_have_float-texts_of : (ws : List (List ℕ)) → items_have_float (texts_o
 items_have_float-texts_of [] = refl
 items_have_float-texts_of (w ∷ ws) = items_have_float-texts_of ws
 
-pub has_float-statement_data : (claim : Claim) → has_float (statement_data claim) ≡ false
+pub has_float-statement_data : (claim : Stated) → has_float (statement_data claim) ≡ false
 has_float-statement_data claim =
     rw (items_have_float-numbers_of claim.inputs, items_have_float-texts_of claim.kernel, items_have_float-numbers_of claim.outputs) refl
 
@@ -35,7 +35,7 @@ items_depth-texts_of : (ws : List (List ℕ)) → items_depth (texts_of ws) ≡ 
 items_depth-texts_of [] = refl
 items_depth-texts_of (w ∷ ws) = rw (items_depth-texts_of ws) refl
 
-pub depth-statement_data : (claim : Claim) → depth (statement_data claim) ≤ 127
+pub depth-statement_data : (claim : Stated) → depth (statement_data claim) ≤ 127
 depth-statement_data claim =
     rw (items_depth-numbers_of claim.inputs, items_depth-texts_of claim.kernel, items_depth-numbers_of claim.outputs) (omega arith)
 
@@ -91,7 +91,7 @@ closed xs rest = append_assoc (listed xs) (93 ∷ []) rest
 closed_words : (ws : List (List ℕ)) (rest : List ℕ) → (words_listed ws ++ 93 ∷ []) ++ rest ≡ words_listed ws ++ 93 ∷ rest
 closed_words ws rest = append_assoc (words_listed ws) (93 ∷ []) rest
 
-pub compact_text-statement_data : (claim : Claim) → compact_text (statement_data claim) ≡ statement_text claim
+pub compact_text-statement_data : (claim : Stated) → compact_text (statement_data claim) ≡ statement_text claim
 unfolding statement_text serde_json_on_literals
 compact_text-statement_data claim =
     rw (
@@ -120,7 +120,7 @@ words_of-texts_of (w ∷ ws) h =
     rw (read_back w (h 0 w (omega arith)), words_of-texts_of ws (λ k d within. h (suc k) d (omega arith))) refl
 
 -- a claim that a statement makes
-pub record IsGood (claim : Claim) : Type 0 where
+pub record IsGood (claim : Stated) : Type 0 where
   pub digest : IsWord claim.digest
   pub inputs : AreElements claim.inputs
   pub kernel : All IsWord claim.kernel
@@ -131,7 +131,7 @@ pub record IsGood (claim : Claim) : Type 0 where
   pub outputs_few : length claim.outputs ≤ 524303
   pub distinct : AreDistinct claim.kernel
 
-pub claim_by-statement_data : (claim : Claim) → IsGood claim → claim_by (statement_data claim) ≡ Ok claim
+pub claim_by-statement_data : (claim : Stated) → IsGood claim → claim_by (statement_data claim) ≡ Ok claim
 unfolding serde_json_on_literals
 claim_by-statement_data claim good =
     rw (
@@ -146,7 +146,7 @@ claim_by-statement_data claim good =
     )
     (grind (arith, nat_tests, good.inputs_few, good.kernel_few, good.outputs_full, good.outputs_few))
 
-pub statement_of-read : (bytes : List ℕ) (d : Data) (claim : Claim) → IsUtf8 bytes → read bytes ≡ Some d → claim_by d ≡ Ok claim
+pub statement_of-read : (bytes : List ℕ) (d : Data) (claim : Stated) → IsUtf8 bytes → read bytes ≡ Some d → claim_by d ≡ Ok claim
     → statement_of bytes ≡ Ok claim
 unfolding statement_of
 statement_of-read bytes d claim text e by = rw (is_utf8-from_IsUtf8 bytes text, e) by

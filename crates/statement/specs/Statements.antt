@@ -13,7 +13,7 @@ use Rattle.json_values.specs.Values.{value_of, has_keys, numbers_at, elements_of
 use lib.Pointwise.{pointwise}
 
 -- what is said to be proved of a run
-pub record Claim : Type 0 where
+pub record Stated : Type 0 where
   pub digest : List ℕ
   pub inputs : List ℕ  -- top first
   pub kernel : List (List ℕ)
@@ -39,17 +39,17 @@ abbrev pub are_distinct : List (List ℕ) → Bool
 are_distinct [] = true
 are_distinct (word ∷ words) = not (list_any (pointwise nat_eq word) words) && are_distinct words
 
-abbrev pub has_counts : Claim → Bool
+abbrev pub has_counts : Stated → Bool
 has_counts claim =
     nat_le (length claim.inputs) 16 && nat_le (length claim.kernel) 255
     && nat_le 16 (length claim.outputs) && nat_le (length claim.outputs) 524303
 
 -- the claim, where its lists have good lengths, and none of its kernel's words comes twice
-abbrev pub counted : Claim → Result Claim TextCause
+abbrev pub counted : Stated → Result Stated TextCause
 counted claim = if has_counts claim then (if are_distinct claim.kernel then Ok claim else Err Repeated) else Err Count
 
 -- what the parts say, or the first cause that they have
-abbrev pub claim_from : Parts → Result Claim TextCause
+abbrev pub claim_from : Parts → Result Stated TextCause
 claim_from parts =
     and_then (ok_or (elements_of parts.inputs) Element) (λ inputs.
     and_then (ok_or (elements_of parts.outputs) Element) (λ outputs.
@@ -58,11 +58,11 @@ claim_from parts =
     counted (record { digest = digest; inputs = inputs; kernel = kernel; outputs = outputs })))))
 
 -- what a value says, or the first cause that it has
-abbrev pub claim_by : Data → Result Claim TextCause
+abbrev pub claim_by : Data → Result Stated TextCause
 claim_by value = and_then (ok_or (parts_of value) Shape) claim_from
 
 -- what a text says, or the first cause that it has
-unfoldable pub statement_of : List ℕ → Result Claim TextCause
+unfoldable pub statement_of : List ℕ → Result Stated TextCause
 statement_of bytes = and_then (ok_or (value_of bytes) NotJson) claim_by
 
 -- words' texts in quotation marks, with commas between
@@ -72,10 +72,10 @@ words_listed (w ∷ []) = 34 ∷ word_hex w ++ 34 ∷ []
 words_listed (w ∷ v ∷ ws) = 34 ∷ word_hex w ++ 34 ∷ 44 ∷ words_listed (v ∷ ws)
 
 -- the one text that is written
-unfoldable pub statement_text : Claim → List ℕ
+unfoldable pub statement_text : Stated → List ℕ
 statement_text claim =
     codes "{\"digest\":\"" ++ word_hex claim.digest ++ codes "\",\"inputs\":[" ++ listed claim.inputs ++ codes "],\"kernel\":["
     ++ words_listed claim.kernel ++ codes "],\"outputs\":[" ++ listed claim.outputs ++ codes "]}"
 
-abbrev pub claim_of : Statement → Claim
+abbrev pub claim_of : Statement → Stated
 claim_of s = record { digest = s.digest; inputs = s.inputs; kernel = s.kernel; outputs = s.outputs }

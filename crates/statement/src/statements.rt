@@ -1,7 +1,8 @@
 ghost use Rattle.std.specs.Prelude.{◌≡◌, IfOk, IsTrue, Ok};
 ghost use Rattle.block_tree.specs.Kernels.{AreDistinct};
 ghost use Rattle.serde_json.specs.View.{view, items_view};
-ghost use Rattle.json_values.specs.Causes.{Gives};
+ghost use Rattle.answers.specs.Gives.{Gives};
+ghost use Rattle.json_values.specs.Causes.{cause_in};
 ghost use Rattle.statement.specs.Statements as statements;
 ghost use Rattle.statement.specs.Statements.{claim_by, claim_from, claim_of, statement_of, statement_text};
 ghost use Rattle.statement.specs.ToJson.{statement_data};
@@ -22,14 +23,14 @@ use vm_state::{Inputs, Statement};
 /// whole numbers below 2^64 - 2^32 + 1, top first, at most 16 and 16 to 524,303. A key that comes
 /// twice has its last value. A refusal names the first cause that the text has.
 pub fn read_statement(alloc: Global, bytes: &[u8]) -> Result<Statement, TextError>
-    ensures { Gives claim_of result (statement_of bytes.now) }
+    ensures { Gives claim_of cause_in result (statement_of bytes.now) }
 {
     let value = value_of(alloc, bytes)?;
     statement_by(alloc, &value)
 }
 
 fn statement_by(alloc: Global, value: &Value) -> Result<Statement, TextError>
-    ensures { Gives claim_of result (claim_by (view value.now)) }
+    ensures { Gives claim_of cause_in result (claim_by (view value.now)) }
 {
     if !has_keys(value, 4) {
         return Err(TextError::Bad(TextCause::Shape));
@@ -57,7 +58,7 @@ fn statement_from(
     kernel: &[Value],
     outputs: &[Value],
 ) -> Result<Statement, TextError>
-    ensures { Gives claim_of result (claim_from (record {
+    ensures { Gives claim_of cause_in result (claim_from (record {
       digest = digest.now;
       inputs = items_view inputs.now;
       kernel = items_view kernel.now;

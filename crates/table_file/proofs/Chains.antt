@@ -2,14 +2,14 @@
 use Rattle.std.proofs.Common.{◌≡◌, Result, Ok, Err, refl, ap}
 use Rattle.table_file.specs.declared.cause.FileError.{FileError}
 use Rattle.table_file.specs.declared.cause.FileError.TheVariants.{Bad, Memory}
-use Rattle.table_file.specs.Fields.{behind, Gives}
+use Rattle.table_file.specs.Fields.{behind, GivesRead}
 
 -- a good field leaves what follows it
 pub goes_past : {A B : Type 0} (r : Result A FileError) (x : A) (next : A → Result B FileError) → r ≡ Ok x → behind r next ≡ next x
 goes_past r x next is = ap (λ o. behind o next) is
 
 -- a bad field is an answer
-pub bad-read : {A : Type 0} (r : Result A FileError) (e : FileError) → r ≡ Err e → Gives (Err e) r
+pub bad-read : {A : Type 0} (r : Result A FileError) (e : FileError) → r ≡ Err e → GivesRead (Err e) r
 bad-read r (Bad offset why) is = is
 bad-read r Memory is = tt
 

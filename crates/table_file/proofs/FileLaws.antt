@@ -2,8 +2,7 @@
 use Rattle.std.proofs.Common.{◌≡◌, ℕ, ◌≤◌, Bool, true, false, cond, nat_lt, List, [], ◌++◌, length, drop, Result, Ok, Err, refl, sym, ap, ap₂, subst, ◌∙◌, arith, append-nil}
 use Rattle.std.proofs.lemmas.Bool.{ltb-false, le-ltb}
 use Rattle.std.proofs.lemmas.List.{drop_all, length-drop}
-use Rattle.air_kit.specs.Traces.{HasCounts, most_rows, rows_of}
-use Rattle.air_kit.specs.declared.trace.TableName.{TableName}
+use Rattle.air_kit.specs.Traces.{HasCounts}
 use Rattle.air_kit.specs.declared.trace.TableName.TheVariants as table
 use Rattle.air_kit.specs.declared.trace.Trace.{Trace}
 use Rattle.table_file.specs.declared.cause.FileCause.TheVariants as cause
@@ -12,9 +11,11 @@ use Rattle.table_file.specs.declared.cause.FileError.TheVariants.{Bad}
 use Rattle.table_file.specs.declared.counts.RowCounts.{RowCounts}
 use Rattle.table_file.specs.Fields.{rows_at, table_bytes}
 use Rattle.table_file.specs.Files.{AreTables, bytes_of, counts_in, end_place, bitwise_place, hasher_place, kernel_place, left_place, memory_place, range_place, ended_at, head_bytes, head_of, tables_of, trace_of}
+use Rattle.row_counts.specs.Counts.{EachMayHave}
+use Rattle.row_counts.proofs.CountLaws.{counts_law}
 use Rattle.table_file.proofs.Chains.{chain}
 use Rattle.table_file.proofs.NumberLaws.{AreBytes}
-use Rattle.table_file.proofs.HeadLaws.{HeadSays, MayStand, head-says, head-written, head-read, count-fits, may-have-if}
+use Rattle.table_file.proofs.HeadLaws.{HeadSays, MayStand, head-says, head-written, head-read, count-fits}
 use Rattle.table_file.proofs.TableLaws.{rows-count, rows-table, rows-written, rows-read}
 
 ends : (past : Bool) (e : FileError) (r : Result Trace FileError) (x t : Trace) → r ≡ Ok x → cond past (Err e) r ≡ Ok t → (past ≡ false) × (x ≡ t)
@@ -100,28 +101,19 @@ module _ (bytes : List ℕ) where
   pub tables-shaped : (t : Trace) → trace_of bytes ≡ Ok t → AreTables t
   tables-shaped t e = let h = trace-says t e in shaped t h.0 h.2
 
-  few : (t : Trace) → HeadSays bytes (counts_in t) → (name : TableName) → length (rows_of t name) ≤ most_rows name
-  few t says table.Main = (count-fits bytes table.Main 8 (length t.main) says.main).1
-  few t says table.Range = (count-fits bytes table.Range 12 (length t.range) says.range).1
-  few t says table.Hasher = (count-fits bytes table.Hasher 16 (length t.hasher) says.hasher).1
-  few t says table.Bitwise = (count-fits bytes table.Bitwise 20 (length t.bitwise) says.bitwise).1
-  few t says table.Memory = (count-fits bytes table.Memory 24 (length t.memory) says.memory).1
-  few t says table.Kernel = (count-fits bytes table.Kernel 28 (length t.kernel) says.kernel).1
-  few t says table.Left = (count-fits bytes table.Left 32 (length t.left) says.left).1
-
-  counts-fit : (t : Trace) → HeadSays bytes (counts_in t) → HasCounts t
-  counts-fit t says = record {
-    most = few t says;
-    main = (count-fits bytes table.Main 8 (length t.main) says.main).0;
-    range = (count-fits bytes table.Range 12 (length t.range) says.range).0;
-    hasher = (count-fits bytes table.Hasher 16 (length t.hasher) says.hasher).2;
-    bitwise = (count-fits bytes table.Bitwise 20 (length t.bitwise) says.bitwise).2;
-  }
+  counts-fit : (t : Trace) → HeadSays bytes (counts_in t) → EachMayHave t
+  counts-fit t says table.Main = count-fits bytes table.Main 8 (length t.main) says.main
+  counts-fit t says table.Range = count-fits bytes table.Range 12 (length t.range) says.range
+  counts-fit t says table.Hasher = count-fits bytes table.Hasher 16 (length t.hasher) says.hasher
+  counts-fit t says table.Bitwise = count-fits bytes table.Bitwise 20 (length t.bitwise) says.bitwise
+  counts-fit t says table.Memory = count-fits bytes table.Memory 24 (length t.memory) says.memory
+  counts-fit t says table.Kernel = count-fits bytes table.Kernel 28 (length t.kernel) says.kernel
+  counts-fit t says table.Left = count-fits bytes table.Left 32 (length t.left) says.left
 
   pub counts-may : (t : Trace) → trace_of bytes ≡ Ok t → HasCounts t
   counts-may t e =
       let h = trace-says t e in
-      counts-fit t (subst (HeadSays bytes) (sym (counts-same h.0 t h.2)) h.1)
+      (counts_law t).1 (counts-fit t (subst (HeadSays bytes) (sym (counts-same h.0 t h.2)) h.1))
 
   -- a table in front of what follows it
   joined : (part more : List ℕ) (at next : ℕ) → part ++ drop next bytes ≡ drop at bytes → more ≡ drop next bytes → part ++ more ≡ drop at bytes
@@ -158,15 +150,17 @@ module _ (bytes : List ℕ) where
       sym (head-written bytes low c h.1) ∙ ap₂ (λ (k : RowCounts) (bs : List ℕ). head_bytes k ++ bs) (sym (counts-same c t say)) (sym tables)
 
 may-stand : (bytes : List ℕ) (t : Trace) → HasCounts t → MayStand bytes (counts_in t)
-may-stand bytes t has = record {
-  main = may-have-if table.Main (length t.main) has.main (has.most table.Main) (omega arith);
-  range = may-have-if table.Range (length t.range) has.range (has.most table.Range) (omega arith);
-  hasher = may-have-if table.Hasher (length t.hasher) (omega arith) (has.most table.Hasher) has.hasher;
-  bitwise = may-have-if table.Bitwise (length t.bitwise) (omega arith) (has.most table.Bitwise) has.bitwise;
-  memory = may-have-if table.Memory (length t.memory) (omega arith) (has.most table.Memory) (omega arith);
-  kernel = may-have-if table.Kernel (length t.kernel) (omega arith) (has.most table.Kernel) (omega arith);
-  left = may-have-if table.Left (length t.left) (omega arith) (has.most table.Left) (omega arith);
-}
+may-stand bytes t has =
+    let each = (counts_law t).0 has in
+    record {
+      main = each table.Main;
+      range = each table.Range;
+      hasher = each table.Hasher;
+      bitwise = each table.Bitwise;
+      memory = each table.Memory;
+      kernel = each table.Kernel;
+      left = each table.Left;
+    }
 
 -- a file whose head and tables are those of a trace reads as it
 read-parts : (bytes : List ℕ) (t : Trace) → HasCounts t → AreTables t → bytes ≡ bytes_of t → trace_of bytes ≡ Ok t

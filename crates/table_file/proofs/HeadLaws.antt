@@ -1,6 +1,6 @@
 -- Laws of the head of a table file.
-use Rattle.std.proofs.Common.{◌≡◌, ℕ, ◌+◌, ◌%◌, ◌^◌, ◌<◌, ◌≤◌, Bool, true, false, ◌==◌, ◌&&◌, nat_le, List, ◌++◌, drop, codes, Result, Ok, refl, sym, ap, ◌∙◌, arith, append_assoc, eq-eqb}
-use Rattle.std.proofs.lemmas.Bool.{leb-true, le-leb, eqb-true}
+use Rattle.std.proofs.Common.{◌≡◌, ℕ, ◌+◌, ◌^◌, ◌<◌, ◌≤◌, Bool, true, ◌==◌, List, ◌++◌, drop, codes, Result, Ok, refl, sym, ap, ◌∙◌, arith, append_assoc}
+use Rattle.std.proofs.lemmas.Bool.{eqb-true}
 use Rattle.byteorder.specs.Endian.{little_bytes}
 use Rattle.byteorder.specs.Numbers.{length-bytes_low_first}
 use Rattle.air_kit.specs.Traces.{most_rows}
@@ -11,32 +11,12 @@ use Rattle.table_file.specs.declared.cause.FileCause.TheVariants as cause
 use Rattle.table_file.specs.declared.cause.FileError.{FileError}
 use Rattle.table_file.specs.declared.counts.RowCounts.{RowCounts}
 use Rattle.table_file.specs.Fields.{number_at}
-use Rattle.table_file.specs.Files.{may_have, least_rows, rows_at_once, magic, count_at, count_bytes, counts_of, head_of, head_bytes}
+use Rattle.table_file.specs.Files.{magic, count_at, count_bytes, counts_of, head_of, head_bytes}
+use Rattle.row_counts.specs.Counts.{may_have}
+use Rattle.row_counts.proofs.CountLaws.{may-have}
 use Rattle.table_file.proofs.Chains.{chain}
 use Rattle.table_file.proofs.NumberLaws.{AreBytes, number-tested, number-written, number-reads}
 use Rattle.table_file.proofs.PartLaws.{behind_part}
-
-all-three : (a b c : Bool) → (a && b && c) ≡ true → (a ≡ true) × (b ≡ true) × (c ≡ true)
-all-three true true true h = (refl, refl, refl)
-all-three true true false h = cc
-all-three true false true h = cc
-all-three true false false h = cc
-all-three false true true h = cc
-all-three false true false h = cc
-all-three false false true h = cc
-all-three false false false h = cc
-
--- what a count that a table may have is
-pub may-have : (name : TableName) (n : ℕ) → may_have name n ≡ true → (least_rows name ≤ n) × (n ≤ most_rows name) × (n % rows_at_once name ≡ 0)
-unfolding may_have
-may-have name n h =
-    let all = all-three (nat_le (least_rows name) n) (nat_le n (most_rows name)) (n % rows_at_once name == 0) h in
-    (leb-true (least_rows name) n all.0, leb-true n (most_rows name) all.1, eqb-true (n % rows_at_once name) 0 all.2)
-
-pub may-have-if : (name : TableName) (n : ℕ) → least_rows name ≤ n → n ≤ most_rows name → n % rows_at_once name ≡ 0 → may_have name n ≡ true
-unfolding may_have
-may-have-if name n least most whole =
-    rw (le-leb (least_rows name) n least, le-leb n (most_rows name) most, eq-eqb (n % rows_at_once name) 0 whole) refl
 
 module _ (bytes : List ℕ) where
   -- the fields of a head that reads as these counts
@@ -95,9 +75,8 @@ module _ (bytes : List ℕ) where
         left = left.1 ∙ ap (λ (k : RowCounts). Ok k.left) is;
       }
 
-  pub count-fits : (name : TableName) (at n : ℕ) → count_at bytes name at ≡ Ok n
-      → (least_rows name ≤ n) × (n ≤ most_rows name) × (n % rows_at_once name ≡ 0)
-  count-fits name at n is = may-have name n (number-tested bytes 4 cause.Count (may_have name) at n is)
+  pub count-fits : (name : TableName) (at n : ℕ) → count_at bytes name at ≡ Ok n → may_have name n ≡ true
+  count-fits name at n is = number-tested bytes 4 cause.Count (may_have name) at n is
 
   -- a field in front of what follows it
   joined : (part more rest : List ℕ) (at next : ℕ) → part ++ drop next bytes ≡ drop at bytes → more ++ rest ≡ drop next bytes

@@ -124,3 +124,6 @@ module _ (t : Trace) (k : RowCounts) where
         none t.kernel k.kernel kernel,
         none t.left k.left left,
       ) refl
+
+-- what is left to be written behind a row of each table, and behind the last one
+pub ruleset goes_behind = (main_goes, range_goes, hasher_goes, bitwise_goes, memory_goes, kernel_goes, left_goes, none_left)

@@ -8,9 +8,9 @@ use Rattle.table_file.specs.declared.cause.FileError.{FileError}
 use Rattle.table_file.specs.declared.cause.FileError.TheVariants.{Bad, Memory}
 use Rattle.table_file.specs.declared.counts.RowCounts.{RowCounts}
 use Rattle.table_file.specs.declared.part_trace.PartTrace.{PartTrace}
-use Rattle.table_file.specs.Fields.{Gives, behind, parts_at, row_at, rows_at}
+use Rattle.table_file.specs.Fields.{GivesRead, behind, parts_at, row_at, rows_at}
 use Rattle.table_file.specs.Files.{ended_at, tables_of}
-use Rattle.table_file.specs.Reading.{Advances, IsSmall, ReadsRows, StandsAt, from_bitwise, from_hasher, from_kernel, from_left, from_main, from_memory, from_range, next_row, rest_of}
+use Rattle.table_file.specs.Reading.{Advances, PlacesAreSmall, ReadsRows, StandsAt, from_bitwise, from_hasher, from_kernel, from_left, from_main, from_memory, from_range, next_row, rest_of}
 use Rattle.table_file.proofs.Chains.{bad-read}
 use Rattle.table_file.proofs.Going.{parts_stop}
 
@@ -25,7 +25,8 @@ unfolding tables_of from_main from_range from_hasher from_bitwise from_memory fr
 begins all c t main range hasher bitwise memory kernel left = rw (main, range, hasher, bitwise, memory, kernel, left) refl
 
 -- a refusal stays one, whatever was to follow
-refused : {A B : Type 0} (e : FileError) (r : Result A FileError) (next : A → Result B FileError) → Gives (Err e) r → Gives (Err e) (behind r next)
+refused : {A B : Type 0} (e : FileError) (r : Result A FileError) (next : A → Result B FileError) → GivesRead (Err e) r
+    → GivesRead (Err e) (behind r next)
 refused (Bad at why) r next is = ap (λ o. behind o next) is
 refused Memory r next is = tt
 
@@ -138,7 +139,7 @@ module _ (all : List ℕ) (at : ℕ) (c : RowCounts) (t : Trace) where
       → from_main all at c t ≡ ended_at all at t
   to_end main range hasher bitwise memory kernel left = to_left main range hasher bitwise memory kernel ∙ skip_left left
 
-module _ (p : PartTrace) (bytes : List ℕ) (after : ℕ) (new : Rows) (count : ℕ) (small : IsSmall p) where
+module _ (p : PartTrace) (bytes : List ℕ) (after : ℕ) (new : Rows) (count : ℕ) (small : PlacesAreSmall p) where
   pub main_reads : ReadsRows 65 p.at bytes p.left.main after p.trace.main new count → 8 * 65 ≤ count
       → Advances p (record p { at = p.at + count; left = record p.left { main = after }; trace = record p.trace { main = new } })
       bytes count
@@ -298,69 +299,69 @@ module _ (p : PartTrace) (bytes : List ℕ) (after : ℕ) (new : Rows) (count : 
       }
 
 module _ (p : PartTrace) (bytes : List ℕ) (e : FileError) where
-  pub main_stops : ((all : List ℕ) → StandsAt all p.at bytes → Gives (Err e) (rows_at all 65 p.left.main p.at)) → (all : List ℕ)
+  pub main_stops : ((all : List ℕ) → StandsAt all p.at bytes → GivesRead (Err e) (rows_at all 65 p.left.main p.at)) → (all : List ℕ)
       → StandsAt all p.at bytes
-      → Gives (Err e) (rest_of all p)
+      → GivesRead (Err e) (rest_of all p)
   unfolding from_main
   main_stops is all stands = refused e (rows_at all 65 p.left.main p.at) _ (is all stands)
 
-  pub range_stops : p.left.main ≤ 0 → ((all : List ℕ) → StandsAt all p.at bytes → Gives (Err e) (rows_at all 2 p.left.range p.at))
+  pub range_stops : p.left.main ≤ 0 → ((all : List ℕ) → StandsAt all p.at bytes → GivesRead (Err e) (rows_at all 2 p.left.range p.at))
       → (all : List ℕ) → StandsAt all p.at bytes
-      → Gives (Err e) (rest_of all p)
+      → GivesRead (Err e) (rest_of all p)
   unfolding from_range
   range_stops main is all stands =
-      subst (Gives (Err e)) (sym (to_range all p.at p.left p.trace main))
+      subst (GivesRead (Err e)) (sym (to_range all p.at p.left p.trace main))
       (refused e (rows_at all 2 p.left.range p.at) _ (is all stands))
 
   pub hasher_stops : p.left.main ≤ 0 → p.left.range ≤ 0
-      → ((all : List ℕ) → StandsAt all p.at bytes → Gives (Err e) (rows_at all 15 p.left.hasher p.at)) → (all : List ℕ)
+      → ((all : List ℕ) → StandsAt all p.at bytes → GivesRead (Err e) (rows_at all 15 p.left.hasher p.at)) → (all : List ℕ)
       → StandsAt all p.at bytes
-      → Gives (Err e) (rest_of all p)
+      → GivesRead (Err e) (rest_of all p)
   unfolding from_hasher
   hasher_stops main range is all stands =
-      subst (Gives (Err e)) (sym (to_hasher all p.at p.left p.trace main range))
+      subst (GivesRead (Err e)) (sym (to_hasher all p.at p.left p.trace main range))
       (refused e (rows_at all 15 p.left.hasher p.at) _ (is all stands))
 
   pub bitwise_stops : p.left.main ≤ 0 → p.left.range ≤ 0 → p.left.hasher ≤ 0
-      → ((all : List ℕ) → StandsAt all p.at bytes → Gives (Err e) (rows_at all 12 p.left.bitwise p.at)) → (all : List ℕ)
+      → ((all : List ℕ) → StandsAt all p.at bytes → GivesRead (Err e) (rows_at all 12 p.left.bitwise p.at)) → (all : List ℕ)
       → StandsAt all p.at bytes
-      → Gives (Err e) (rest_of all p)
+      → GivesRead (Err e) (rest_of all p)
   unfolding from_bitwise
   bitwise_stops main range hasher is all stands =
-      subst (Gives (Err e)) (sym (to_bitwise all p.at p.left p.trace main range hasher))
+      subst (GivesRead (Err e)) (sym (to_bitwise all p.at p.left p.trace main range hasher))
       (refused e (rows_at all 12 p.left.bitwise p.at) _ (is all stands))
 
   pub memory_stops : p.left.main ≤ 0 → p.left.range ≤ 0 → p.left.hasher ≤ 0 → p.left.bitwise ≤ 0
-      → ((all : List ℕ) → StandsAt all p.at bytes → Gives (Err e) (rows_at all 14 p.left.memory p.at)) → (all : List ℕ)
+      → ((all : List ℕ) → StandsAt all p.at bytes → GivesRead (Err e) (rows_at all 14 p.left.memory p.at)) → (all : List ℕ)
       → StandsAt all p.at bytes
-      → Gives (Err e) (rest_of all p)
+      → GivesRead (Err e) (rest_of all p)
   unfolding from_memory
   memory_stops main range hasher bitwise is all stands =
-      subst (Gives (Err e)) (sym (to_memory all p.at p.left p.trace main range hasher bitwise))
+      subst (GivesRead (Err e)) (sym (to_memory all p.at p.left p.trace main range hasher bitwise))
       (refused e (rows_at all 14 p.left.memory p.at) _ (is all stands))
 
   pub kernel_stops : p.left.main ≤ 0 → p.left.range ≤ 0 → p.left.hasher ≤ 0 → p.left.bitwise ≤ 0 → p.left.memory ≤ 0
-      → ((all : List ℕ) → StandsAt all p.at bytes → Gives (Err e) (rows_at all 5 p.left.kernel p.at)) → (all : List ℕ)
+      → ((all : List ℕ) → StandsAt all p.at bytes → GivesRead (Err e) (rows_at all 5 p.left.kernel p.at)) → (all : List ℕ)
       → StandsAt all p.at bytes
-      → Gives (Err e) (rest_of all p)
+      → GivesRead (Err e) (rest_of all p)
   unfolding from_kernel
   kernel_stops main range hasher bitwise memory is all stands =
-      subst (Gives (Err e)) (sym (to_kernel all p.at p.left p.trace main range hasher bitwise memory))
+      subst (GivesRead (Err e)) (sym (to_kernel all p.at p.left p.trace main range hasher bitwise memory))
       (refused e (rows_at all 5 p.left.kernel p.at) _ (is all stands))
 
   pub left_stops : p.left.main ≤ 0 → p.left.range ≤ 0 → p.left.hasher ≤ 0 → p.left.bitwise ≤ 0 → p.left.memory ≤ 0
-      → p.left.kernel ≤ 0 → ((all : List ℕ) → StandsAt all p.at bytes → Gives (Err e) (rows_at all 1 p.left.left p.at))
+      → p.left.kernel ≤ 0 → ((all : List ℕ) → StandsAt all p.at bytes → GivesRead (Err e) (rows_at all 1 p.left.left p.at))
       → (all : List ℕ) → StandsAt all p.at bytes
-      → Gives (Err e) (rest_of all p)
+      → GivesRead (Err e) (rest_of all p)
   unfolding from_left
   left_stops main range hasher bitwise memory kernel is all stands =
-      subst (Gives (Err e)) (sym (to_left all p.at p.left p.trace main range hasher bitwise memory kernel))
+      subst (GivesRead (Err e)) (sym (to_left all p.at p.left p.trace main range hasher bitwise memory kernel))
       (refused e (rows_at all 1 p.left.left p.at) _ (is all stands))
 
 -- bytes stand behind the last row
 pub extra : (p : PartTrace) (bytes : List ℕ) → p.left.main ≤ 0 → p.left.range ≤ 0 → p.left.hasher ≤ 0 → p.left.bitwise ≤ 0
     → p.left.memory ≤ 0 → p.left.kernel ≤ 0 → p.left.left ≤ 0 → 1 ≤ length bytes → (all : List ℕ) → StandsAt all p.at bytes
-    → Gives (Err (Bad p.at cause.Extra)) (rest_of all p)
+    → GivesRead (Err (Bad p.at cause.Extra)) (rest_of all p)
 unfolding ended_at
 extra p bytes main range hasher bitwise memory kernel left some all stands =
     let whole = ap length stands.1 ∙ length-append bytes stands.0 in
@@ -390,7 +391,7 @@ seen_some false w v later h = inr (refl, h)
 
 -- the file ends behind its last row
 pub ended : (p : PartTrace) (rest : List ℕ) → next_row p.left ≡ None → length rest < 1 → (all : List ℕ) → drop p.at all ≡ rest
-    → Gives (Ok p.trace) (rest_of all p)
+    → GivesRead (Ok p.trace) (rest_of all p)
 unfolding ended_at
 ended p rest none short all is =
     let main = seen_none (nat_lt 0 p.left.main) (8 * 65) _ none in
@@ -507,5 +508,10 @@ module _ (p : PartTrace) (rest all : List ℕ) (e : FileError) (is : drop p.at a
 -- the file ends within a row
 pub cut : (p : PartTrace) (rest : List ℕ) (e : FileError) (w : ℕ) → next_row p.left ≡ Some w → length rest < w
     → ((all : List ℕ) (width : ℕ) → drop p.at all ≡ rest → length rest < 8 * width → row_at all width p.at ≡ Err e)
-    → (all : List ℕ) → drop p.at all ≡ rest → Gives (Err e) (rest_of all p)
+    → (all : List ℕ) → drop p.at all ≡ rest → GivesRead (Err e) (rest_of all p)
 cut p rest e w found short none all is = bad-read (rest_of all p) e (cut_main p rest all e is (λ width. none all width is) w found short)
+
+-- what is read where a row of each table comes next, and where its reading stops or nothing should come
+pub ruleset row_reads = (main_reads, range_reads, hasher_reads, bitwise_reads, memory_reads, kernel_reads, left_reads)
+
+pub ruleset row_stops = (main_stops, range_stops, hasher_stops, bitwise_stops, memory_stops, kernel_stops, left_stops, extra)

@@ -12,9 +12,10 @@ use Rattle.table_file.specs.declared.cause.FileCause.TheVariants as cause
 use Rattle.table_file.specs.declared.cause.FileError.{FileError}
 use Rattle.table_file.specs.declared.counts.RowCounts.{RowCounts}
 use Rattle.table_file.specs.declared.part_trace.PartTrace.{PartTrace}
-use Rattle.table_file.specs.Fields.{Gives, behind, number_at}
-use Rattle.table_file.specs.Files.{counts_of, head_of, magic, may_have, tables_of, trace_of}
-use Rattle.table_file.specs.Reading.{Advances, GoesFurther, GoesOn, HasRead, HasTaken, IsMissing, IsSmall, Reader, StandsAt, rest_of}
+use Rattle.table_file.specs.Fields.{GivesRead, behind, number_at}
+use Rattle.table_file.specs.Files.{counts_of, head_of, magic, tables_of, trace_of}
+use Rattle.table_file.specs.Reading.{Advances, GoesFurther, ReadsBehind, HasRead, HasTaken, IsMissing, PlacesAreSmall, Reader, StandsAt, rest_of}
+use Rattle.row_counts.specs.Counts.{may_have}
 use Rattle.table_file.proofs.Chains.{bad-read, goes_past}
 use Rattle.table_file.proofs.HeadLaws.{head-says}
 use Rattle.table_file.proofs.NumberLaws.{number-says}
@@ -55,7 +56,7 @@ head_whole bytes c is =
     (number-says bytes 4 cause.Count (may_have table.Left) 32 c.left left).0
 
 -- a bad head is the file's answer
-pub head_bad : (bytes : List ℕ) (e : FileError) → Err e ≡ head_of bytes → Gives {A = Trace} (Err e) (trace_of bytes)
+pub head_bad : (bytes : List ℕ) (e : FileError) → Err e ≡ head_of bytes → GivesRead {A = Trace} (Err e) (trace_of bytes)
 unfolding trace_of
 head_bad bytes e is = bad-read (trace_of bytes) e (ap (λ (r : Result RowCounts FileError). behind r (tables_of bytes)) (sym is))
 
@@ -66,26 +67,26 @@ module _ (bytes : List ℕ) (whole : 36 ≤ length bytes) where
   head_long : length head ≡ 36
   head_long = length-take-le 36 bytes whole
 
-  pub head_goes : (c : RowCounts) (p : PartTrace) → Ok c ≡ head_of head → p.at ≡ 36 → IsSmall p → ((all : List ℕ) → tables_of all c ≡ rest_of all p)
+  pub head_goes : (c : RowCounts) (p : PartTrace) → Ok c ≡ head_of head → p.at ≡ 36 → PlacesAreSmall p → ((all : List ℕ) → tables_of all c ≡ rest_of all p)
       → GoesFurther None (Some p) bytes 36
   unfolding trace_of
   head_goes c p is at small begins = record {
     some = omega arith;
     within = whole;
     small = small;
-    goes = λ done none. subst (λ (d : List ℕ). GoesOn (Some p) (d ++ head)) (sym none) (
+    goes = λ done none. subst (λ (d : List ℕ). ReadsBehind (Some p) (d ++ head)) (sym none) (
       head_long ∙ sym at,
       λ more. goes_past (head_of (head ++ more)) c (tables_of (head ++ more))
           (head_front head more (omega (arith, head_long)) ∙ sym is) ∙ begins (head ++ more),
     );
   }
 
-  pub head_stops : (e : FileError) → Err e ≡ head_of head → (done more : List ℕ) → GoesOn None done
-      → Gives {A = Trace} (Err e) (trace_of (done ++ (bytes ++ more)))
+  pub head_stops : (e : FileError) → Err e ≡ head_of head → (done more : List ℕ) → ReadsBehind None done
+      → GivesRead {A = Trace} (Err e) (trace_of (done ++ (bytes ++ more)))
   head_stops e is done more none =
       let parts : bytes ++ more ≡ head ++ (drop 36 bytes ++ more)
       = ap (λ (bs : List ℕ). bs ++ more) (sym (take-append-drop 36 bytes)) ∙ append_assoc head (drop 36 bytes) more in
-      subst (λ (d : List ℕ). Gives {A = Trace} (Err e) (trace_of (d ++ (bytes ++ more)))) (sym none)
+      subst (λ (d : List ℕ). GivesRead {A = Trace} (Err e) (trace_of (d ++ (bytes ++ more)))) (sym none)
       (head_bad (bytes ++ more) e (is ∙ sym (ap head_of parts ∙ head_front head (drop 36 bytes ++ more) (omega (arith, head_long)))))
 
 pub rows_go : (p q : PartTrace) (bytes : List ℕ) (count : ℕ) → Advances p q bytes count → GoesFurther (Some p) (Some q) bytes count
@@ -104,31 +105,32 @@ rows_go p q bytes count a = record {
       );
 }
 
-pub rows_stop : (p : PartTrace) (bytes : List ℕ) (e : FileError) → ((all : List ℕ) → StandsAt all p.at bytes → Gives (Err e) (rest_of all p))
-    → (done more : List ℕ) → GoesOn (Some p) done → Gives {A = Trace} (Err e) (trace_of (done ++ (bytes ++ more)))
+pub rows_stop : (p : PartTrace) (bytes : List ℕ) (e : FileError)
+    → ((all : List ℕ) → StandsAt all p.at bytes → GivesRead (Err e) (rest_of all p)) → (done more : List ℕ)
+    → ReadsBehind (Some p) done → GivesRead {A = Trace} (Err e) (trace_of (done ++ (bytes ++ more)))
 rows_stop p bytes e stops done more on =
-    subst (Gives (Err e)) (sym (on.1 (bytes ++ more))) (stops (done ++ (bytes ++ more)) (stands_behind done bytes more p.at on.0))
+    subst (GivesRead (Err e)) (sym (on.1 (bytes ++ more))) (stops (done ++ (bytes ++ more)) (stands_behind done bytes more p.at on.0))
 
 -- the reading stops within these bytes
 pub stopped : (bytes done : List ℕ) (e : FileError) (part : Option PartTrace)
-    → ((more : List ℕ) → Gives {A = Trace} (Err e) (trace_of (done ++ (bytes ++ more))))
+    → ((more : List ℕ) → GivesRead {A = Trace} (Err e) (trace_of (done ++ (bytes ++ more))))
     → HasRead (Some e) part (done ++ take (length bytes) bytes)
 stopped bytes done e part stops more =
     let all : (done ++ take (length bytes) bytes) ++ more ≡ done ++ (bytes ++ more)
     = append_assoc done (take (length bytes) bytes) more ∙ ap (λ (bs : List ℕ). done ++ (bs ++ more)) (take_all (length bytes) bytes (omega arith)) in
-    subst (λ (bs : List ℕ). Gives {A = Trace} (Err e) (trace_of bs)) (sym all) (stops more)
+    subst (λ (bs : List ℕ). GivesRead {A = Trace} (Err e) (trace_of bs)) (sym all) (stops more)
 
 -- where the reading has stopped, more bytes change nothing
 pub stays : (stop : Option FileError) (part : Option PartTrace) (bytes more : List ℕ) → is_some stop ≡ true
     → HasRead stop part bytes → HasRead stop part (bytes ++ more)
 stays (Some e) part bytes more is read =
-    λ later. subst (λ (bs : List ℕ). Gives {A = Trace} (Err e) (trace_of bs)) (sym (append_assoc bytes more later)) (read (more ++ later))
+    λ later. subst (λ (bs : List ℕ). GivesRead {A = Trace} (Err e) (trace_of bs)) (sym (append_assoc bytes more later)) (read (more ++ later))
 stays None part bytes more is read = absurd (none_some is)
   where
     none_some : false ≡ true → ⊥
     none_some h = cc
 
-going_on : (stop : Option FileError) (part : Option PartTrace) (bytes : List ℕ) → is_some stop ≡ false → HasRead stop part bytes → GoesOn part bytes
+going_on : (stop : Option FileError) (part : Option PartTrace) (bytes : List ℕ) → is_some stop ≡ false → HasRead stop part bytes → ReadsBehind part bytes
 going_on None part bytes is read = read
 going_on (Some e) part bytes is read = absurd (some_none is)
   where
@@ -149,18 +151,18 @@ taken_so_far r bytes empty read = record {
 
 -- the head or the row that was carried is whole, and read
 pub completed : (old new : Reader) (front : List ℕ) (count : ℕ) → old.stop ≡ None → new.carried ≡ [] → length (old.carried ++ front) ≤ count
-    → ((done : List ℕ) → GoesOn old.part done → HasRead new.stop new.part (done ++ take count (old.carried ++ front)))
+    → ((done : List ℕ) → ReadsBehind old.part done → HasRead new.stop new.part (done ++ take count (old.carried ++ front)))
     → (before : List ℕ) → HasTaken old before → HasTaken new (before ++ front)
 completed old new front count going empty whole reads before taken =
     let all : taken.done ++ take count (old.carried ++ front) ≡ before ++ front
     = ap (λ (bs : List ℕ). taken.done ++ bs) (take_all count (old.carried ++ front) whole) ∙ sym (append_assoc taken.done old.carried front)
     ∙ ap (λ (bs : List ℕ). bs ++ front) (sym taken.parts) in
-    let on : GoesOn old.part taken.done = subst (λ (stop : Option FileError). HasRead stop old.part taken.done) going taken.read in
+    let on : ReadsBehind old.part taken.done = subst (λ (stop : Option FileError). HasRead stop old.part taken.done) going taken.read in
     taken_so_far new (before ++ front) empty (subst (HasRead new.stop new.part) all (reads taken.done on))
 
 -- a further part of a piece was read
 pub read_further : (stopped stop : Option FileError) (old new : Option PartTrace) (before piece : List ℕ) (at count : ℕ) → is_some stopped ≡ false
-    → HasRead stopped old (before ++ take at piece) → ((done : List ℕ) → GoesOn old done → HasRead stop new (done ++ take count (drop at piece)))
+    → HasRead stopped old (before ++ take at piece) → ((done : List ℕ) → ReadsBehind old done → HasRead stop new (done ++ take count (drop at piece)))
     → HasRead stop new (before ++ take (at + count) piece)
 read_further stopped stop old new before piece at count going so_far reads =
     subst (HasRead stop new)
@@ -191,28 +193,29 @@ taken_stopped old new piece is same same_part empty before taken =
     (subst (HasRead new.stop new.part) all (rw (same, same_part) (stays old.stop old.part taken.done (old.carried ++ piece) is taken.read)))
 
 -- the answer, where the reading has stopped
-pub answer_stopped : (r : Reader) (e : FileError) (bytes : List ℕ) → r.stop ≡ Some e → HasTaken r bytes → Gives {A = Trace} (Err e) (trace_of bytes)
+pub answer_stopped : (r : Reader) (e : FileError) (bytes : List ℕ) → r.stop ≡ Some e → HasTaken r bytes
+    → GivesRead {A = Trace} (Err e) (trace_of bytes)
 answer_stopped r e bytes is taken =
     let read : HasRead (Some e) r.part taken.done = subst (λ (stop : Option FileError). HasRead stop r.part taken.done) is taken.read in
-    subst (λ (bs : List ℕ). Gives {A = Trace} (Err e) (trace_of bs)) (sym taken.parts) (read r.carried)
+    subst (λ (bs : List ℕ). GivesRead {A = Trace} (Err e) (trace_of bs)) (sym taken.parts) (read r.carried)
 
 -- what was taken, where no head was whole
 pub carried_all : (r : Reader) (bytes : List ℕ) → r.stop ≡ None → r.part ≡ None → HasTaken r bytes → bytes ≡ r.carried
 carried_all r bytes going none taken =
-    let empty : GoesOn None taken.done =
-    subst (λ (part : Option PartTrace). GoesOn part taken.done) none
+    let empty : ReadsBehind None taken.done =
+    subst (λ (part : Option PartTrace). ReadsBehind part taken.done) none
     (subst (λ (stop : Option FileError). HasRead stop r.part taken.done) going taken.read) in
     taken.parts ∙ ap (λ (bs : List ℕ). bs ++ r.carried) empty
 
 -- the answer behind the last bytes
 pub answer_of : (r : Reader) (p : PartTrace) (result : Result Trace FileError) → r.stop ≡ None → r.part ≡ Some p
-    → ((all : List ℕ) → drop p.at all ≡ r.carried → Gives result (rest_of all p)) → (bytes : List ℕ) → HasTaken r bytes
-    → Gives result (trace_of bytes)
+    → ((all : List ℕ) → drop p.at all ≡ r.carried → GivesRead result (rest_of all p)) → (bytes : List ℕ) → HasTaken r bytes
+    → GivesRead result (trace_of bytes)
 answer_of r p result going some reads bytes taken =
-    let on : GoesOn (Some p) taken.done =
-    subst (λ (part : Option PartTrace). GoesOn part taken.done) some
+    let on : ReadsBehind (Some p) taken.done =
+    subst (λ (part : Option PartTrace). ReadsBehind part taken.done) some
     (subst (λ (stop : Option FileError). HasRead stop r.part taken.done) going taken.read) in
     let rest : drop p.at (taken.done ++ r.carried) ≡ r.carried
     = ap (λ (n : ℕ). drop n (taken.done ++ r.carried)) (sym on.0) ∙ drop-append_seam taken.done r.carried in
-    subst (λ (bs : List ℕ). Gives result (trace_of bs)) (sym taken.parts)
-    (subst (Gives result) (sym (on.1 r.carried)) (reads (taken.done ++ r.carried) rest))
+    subst (λ (bs : List ℕ). GivesRead result (trace_of bs)) (sym taken.parts)
+    (subst (GivesRead result) (sym (on.1 r.carried)) (reads (taken.done ++ r.carried) rest))

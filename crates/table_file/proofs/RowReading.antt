@@ -7,7 +7,7 @@ use Rattle.std.proofs.lemmas.List.{length-take-le, take-append-drop}
 use Rattle.table_file.specs.declared.cause.FileCause.TheVariants as cause
 use Rattle.table_file.specs.declared.cause.FileError.{FileError}
 use Rattle.table_file.specs.declared.cause.FileError.TheVariants.{Bad}
-use Rattle.table_file.specs.Fields.{Gives, behind, element_at, number_at, row_at, rows_at}
+use Rattle.table_file.specs.Fields.{GivesRead, behind, element_at, number_at, row_at, rows_at}
 use Rattle.table_file.specs.Reading.{ReadsRows, StandsAt}
 use Rattle.table_file.proofs.Chains.{bad-read}
 use Rattle.table_file.proofs.Going.{goes_behind, parts_stop}
@@ -63,7 +63,7 @@ module _ (w at : ℕ) (bytes : List ℕ) (before : ℕ) (old : List (List ℕ)) 
     -- the next row is refused
     pub reads_stop : (e : FileError) → used + 8 * w ≤ length bytes
         → ((all : List ℕ) → StandsAt all (at + used) (take (8 * w) (drop used bytes)) → row_at all w (at + used) ≡ Err e)
-        → (all : List ℕ) → StandsAt all at bytes → Gives (Err e) (rows_at all w before at)
+        → (all : List ℕ) → StandsAt all at bytes → GivesRead (Err e) (rows_at all w before at)
     reads_stop e within reads all stands =
         let behind_used = drop used bytes in
         let parts = subst (StandsAt all at) (sym (take-append-drop used bytes)) stands in

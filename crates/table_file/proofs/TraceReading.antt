@@ -3,14 +3,14 @@ use Rattle.std.proofs.Common.{List, ℕ, Result, Ok, Err, IfOk}
 use Rattle.air_kit.specs.Traces.{HasCounts}
 use Rattle.air_kit.specs.declared.trace.Trace.{Trace}
 use Rattle.table_file.specs.declared.cause.FileError.{FileError}
-use Rattle.table_file.specs.Fields.{Gives}
+use Rattle.table_file.specs.Fields.{GivesRead}
 use Rattle.table_file.specs.Files.{AreTables, trace_of}
 use Rattle.table_file.proofs.FileLaws.{counts-may, tables-shaped}
 
-pub read-counts : (bytes : List ℕ) (r : Result Trace FileError) → Gives r (trace_of bytes) → IfOk r HasCounts
+pub read-counts : (bytes : List ℕ) (r : Result Trace FileError) → GivesRead r (trace_of bytes) → IfOk r HasCounts
 read-counts bytes (Ok t) is = counts-may bytes t is
 read-counts bytes (Err e) is = tt
 
-pub read-shaped : (bytes : List ℕ) (r : Result Trace FileError) → Gives r (trace_of bytes) → IfOk r AreTables
+pub read-shaped : (bytes : List ℕ) (r : Result Trace FileError) → GivesRead r (trace_of bytes) → IfOk r AreTables
 read-shaped bytes (Ok t) is = tables-shaped bytes t is
 read-shaped bytes (Err e) is = tt

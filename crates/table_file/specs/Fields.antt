@@ -1,5 +1,6 @@
 -- The fields of a table file (docs/FORMATS.md), read in order: each field's value, or the place and the cause of the first bad one.
-use Rattle.std.specs.Prelude.{◌≡◌, ℕ, zero, suc, ◌+◌, ◌*◌, Bool, nat_lt, if◌then◌else◌, List, [], ◌∷◌, ◌++◌, drop, length, Result, Ok, Err}
+use Rattle.std.specs.Prelude.{ℕ, zero, suc, ◌+◌, ◌*◌, Bool, nat_lt, if◌then◌else◌, List, [], ◌∷◌, ◌++◌, drop, length, Option, Some, None, Result, Ok, Err}
+use Rattle.answers.specs.Gives.{Gives}
 use Rattle.byteorder.specs.Endian.{little_number, little_bytes}
 use Rattle.vm_field.specs.Field.{prime}
 use Rattle.table_file.specs.declared.cause.FileCause.{FileCause}
@@ -12,11 +13,14 @@ abbrev pub behind : {A B : Type 0} → Result A FileError → (A → Result B Fi
 behind (Ok x) next = next x
 behind (Err e) next = Err e
 
--- a function's answer is what the bytes read as; want of memory says nothing
-abbrev pub Gives : {A : Type 0} → Result A FileError → Result A FileError → Type 0
-Gives (Ok x) r = r ≡ Ok x
-Gives (Err (Bad offset why)) r = r ≡ Err (Bad offset why)
-Gives (Err Memory) r = Unit {0}
+-- what an error says of the file: its bad field, if it tells one
+abbrev pub bad_field : FileError → Option FileError
+bad_field (Bad offset why) = Some (Bad offset why)
+bad_field Memory = None
+
+-- an answer is what the bytes read as
+abbrev pub GivesRead : {A : Type 0} → Result A FileError → Result A FileError → Type 0
+GivesRead answer read = Gives (λ x. x) bad_field answer read
 
 -- the number in so many bytes from a place on, lowest first, which has to pass a test
 unfoldable pub number_at : List ℕ → ℕ → FileCause → (ℕ → Bool) → ℕ → Result ℕ FileError

@@ -1,11 +1,12 @@
 -- Table files (docs/FORMATS.md): the trace that bytes read as, and the bytes of a trace.
-use Rattle.std.specs.Prelude.{ℕ, ◌+◌, ◌*◌, ◌%◌, ◌^◌, ◌≤◌, Bool, ◌==◌, ◌&&◌, nat_le, nat_lt, if◌then◌else◌, List, ◌++◌, length, codes, Result, Ok, Err}
+use Rattle.std.specs.Prelude.{ℕ, ◌+◌, ◌*◌, ◌^◌, ◌≤◌, ◌==◌, nat_lt, if◌then◌else◌, List, ◌++◌, length, codes, Result, Ok, Err}
 use Rattle.byteorder.specs.Endian.{little_number, little_bytes}
 use Rattle.vm_table.specs.Layout.{IsTable}
-use Rattle.air_kit.specs.Traces.{rows_of, most_rows}
+use Rattle.air_kit.specs.Traces.{rows_of}
 use Rattle.air_kit.specs.declared.trace.TableName.{TableName}
 use Rattle.air_kit.specs.declared.trace.TableName.TheVariants as table
 use Rattle.air_kit.specs.declared.trace.Trace.{Trace}
+use Rattle.row_counts.specs.Counts.{may_have}
 use Rattle.table_file.specs.declared.cause.FileCause.TheVariants as cause
 use Rattle.table_file.specs.declared.cause.FileError.{FileError}
 use Rattle.table_file.specs.declared.cause.FileError.TheVariants.{Bad}
@@ -25,30 +26,6 @@ columns table.Left = 1
 -- the rows of each table have its columns, and are made of elements
 abbrev pub AreTables : Trace → Type 0
 AreTables t = (name : TableName) → IsTable (columns name) (rows_of t name)
-
--- how many rows a table has at least
-abbrev pub least_rows : TableName → ℕ
-least_rows table.Main = 1
-least_rows table.Range = 1
-least_rows table.Hasher = 0
-least_rows table.Bitwise = 0
-least_rows table.Memory = 0
-least_rows table.Kernel = 0
-least_rows table.Left = 0
-
--- by how many rows a table grows at once
-abbrev pub rows_at_once : TableName → ℕ
-rows_at_once table.Main = 1
-rows_at_once table.Range = 1
-rows_at_once table.Hasher = 8
-rows_at_once table.Bitwise = 8
-rows_at_once table.Memory = 1
-rows_at_once table.Kernel = 1
-rows_at_once table.Left = 1
-
--- a table may have so many rows
-unfoldable pub may_have : TableName → ℕ → Bool
-may_have name count = nat_le (least_rows name) count && nat_le count (most_rows name) && (count % rows_at_once name == 0)
 
 -- the bytes `MDTB`, as a number
 abbrev pub magic : ℕ

@@ -5,7 +5,7 @@ use Rattle.air_kit.specs.declared.trace.Trace.{Trace}
 use Rattle.table_file.specs.declared.cause.FileError.{FileError}
 use Rattle.table_file.specs.declared.counts.RowCounts.{RowCounts}
 use Rattle.table_file.specs.declared.part_trace.PartTrace.{PartTrace}
-use Rattle.table_file.specs.Fields.{Gives, behind, rows_at}
+use Rattle.table_file.specs.Fields.{GivesRead, behind, rows_at}
 use Rattle.table_file.specs.Files.{columns, ended_at, trace_of}
 
 -- these bytes stand at a place
@@ -61,8 +61,8 @@ next_row c =
     else if nat_lt 0 c.left then Some (8 * columns table.Left) else None
 
 -- places stay small
-abbrev pub IsSmall : PartTrace → Type 0
-IsSmall p =
+abbrev pub PlacesAreSmall : PartTrace → Type 0
+PlacesAreSmall p =
     p.at + 8 * columns table.Main * p.left.main + 8 * columns table.Range * p.left.range + 8 * columns table.Hasher * p.left.hasher
     + 8 * columns table.Bitwise * p.left.bitwise + 8 * columns table.Memory * p.left.memory + 8 * columns table.Kernel * p.left.kernel
     + 8 * columns table.Left * p.left.left ≤ 2 ^ 35
@@ -82,7 +82,7 @@ pub record Advances (old new : PartTrace) (bytes : List ℕ) (count : ℕ) : Typ
   pub some : unwrap_or (next_row old.left) 1 ≤ count
   pub within : count ≤ length bytes
   pub place : new.at ≡ old.at + count
-  pub small : IsSmall new
+  pub small : PlacesAreSmall new
   pub goes : (all : List ℕ) → StandsAt all old.at (take count bytes) → rest_of all old ≡ rest_of all new
 
 -- a reader of a table file
@@ -97,21 +97,21 @@ wanted None = 36
 wanted (Some p) = unwrap_or (next_row p.left) 1
 
 -- these bytes were read, and the file's reading goes on behind them
-abbrev pub GoesOn : Option PartTrace → List ℕ → Type 0
-GoesOn None done = done ≡ []
-GoesOn (Some p) done = (length done ≡ p.at) × ((more : List ℕ) → trace_of (done ++ more) ≡ rest_of (done ++ more) p)
+abbrev pub ReadsBehind : Option PartTrace → List ℕ → Type 0
+ReadsBehind None done = done ≡ []
+ReadsBehind (Some p) done = (length done ≡ p.at) × ((more : List ℕ) → trace_of (done ++ more) ≡ rest_of (done ++ more) p)
 
 -- From a front of bytes the head or rows were read: so many bytes were used.
 pub record GoesFurther (old new : Option PartTrace) (bytes : List ℕ) (count : ℕ) : Type 0 where
   pub some : wanted old ≤ count
   pub within : count ≤ length bytes
-  pub small : IfSome new IsSmall
-  pub goes : (done : List ℕ) → GoesOn old done → GoesOn new (done ++ take count bytes)
+  pub small : IfSome new PlacesAreSmall
+  pub goes : (done : List ℕ) → ReadsBehind old done → ReadsBehind new (done ++ take count bytes)
 
 -- these bytes were read, and the file's reading goes on behind them or has stopped within them
 abbrev pub HasRead : Option FileError → Option PartTrace → List ℕ → Type 0
-HasRead None part done = GoesOn part done
-HasRead (Some e) part done = (more : List ℕ) → Gives {A = Trace} (Err e) (trace_of (done ++ more))
+HasRead None part done = ReadsBehind part done
+HasRead (Some e) part done = (more : List ℕ) → GivesRead {A = Trace} (Err e) (trace_of (done ++ more))
 
 -- a reader that took these bytes
 pub record HasTaken (r : Reader) (bytes : List ℕ) : Type 0 where

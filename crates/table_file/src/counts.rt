@@ -1,10 +1,11 @@
-ghost use Rattle.std.specs.Prelude.{◌≡◌, ◌≤◌, ◌%◌, ◌==◌, IfOk};
+ghost use Rattle.std.specs.Prelude.{◌≡◌, ◌≤◌, IfOk};
 ghost use Rattle.air_kit.specs.Traces.{HasCounts, most_rows};
-ghost use Rattle.table_file.specs.Files.{AreFew, count_at, counts_in, counts_of, end_place, least_rows, may_have, rows_at_once};
+ghost use Rattle.table_file.specs.Files.{AreFew, count_at, counts_in, counts_of, end_place};
 
 use crate::cause::{FileCause, FileError, bad};
 use crate::head::read_u32;
 use air_kit::{TableName, Trace};
+use row_counts::may_have;
 
 /// How many rows each table has.
 #[derive(Clone, Copy)]
@@ -29,44 +30,7 @@ pub(crate) const NO_ROWS: RowCounts = RowCounts {
     left: 0,
 };
 
-fn least_rows(table: TableName) -> usize
-    ensures { result ≡ least_rows table }
-{
-    match table {
-        TableName::Main | TableName::Range => 1,
-        _ => 0,
-    }
-}
-
-fn most_rows(table: TableName) -> usize
-    ensures { result ≡ most_rows table }
-{
-    match table {
-        TableName::Main | TableName::Memory | TableName::Left => 1 << 19,
-        TableName::Range => 1 << 17,
-        TableName::Hasher | TableName::Bitwise => 1 << 22,
-        TableName::Kernel => 255,
-    }
-}
-
-// A permutation and a bitwise operation have eight rows each.
-fn is_whole(table: TableName, count: usize) -> bool
-    ensures { result ≡ count % rows_at_once table == 0 }
-{
-    match table {
-        TableName::Hasher | TableName::Bitwise => count % 8 == 0,
-        _ => true,
-    }
-}
-
-#[tactic(auto, unfolding(crate::specs::Files::may_have))]
-fn may_have(table: TableName, count: usize) -> bool
-    ensures { result ≡ may_have table count }
-{
-    least_rows(table) <= count && count <= most_rows(table) && is_whole(table, count)
-}
-
-#[tactic(auto, unfolding(crate::specs::Fields::number_at, crate::specs::Files::may_have))]
+#[tactic(auto, unfolding(crate::specs::Fields::number_at, row_counts::specs::Counts::may_have))]
 fn read_count(bytes: &[u8], table: TableName, at: usize) -> Result<usize, FileError>
     requires { at ≤ 100 }
     ensures is { result ≡ count_at bytes.now table at }

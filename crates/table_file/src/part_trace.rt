@@ -1,7 +1,7 @@
 ghost use Rattle.std.specs.Prelude.{◌≡◌, ◌<◌, ◌≤◌, ℕ, List, drop, length, unwrap_or, Err, IfOk, IfErr};
-ghost use Rattle.table_file.specs.Fields.{Gives};
+ghost use Rattle.table_file.specs.Fields.{GivesRead};
 ghost use Rattle.table_file.specs.Files.{AreFew, tables_of};
-ghost use Rattle.table_file.specs.Reading.{Advances, IsSmall, StandsAt, next_row, rest_of};
+ghost use Rattle.table_file.specs.Reading.{Advances, PlacesAreSmall, StandsAt, next_row, rest_of};
 
 use crate::cause::{FileCause, FileError, bad};
 use crate::counts::RowCounts;
@@ -28,7 +28,7 @@ impl PartTrace {
     pub(crate) fn new(alloc: Global, counts: RowCounts) -> PartTrace
         requires { AreFew counts }
         ensures place { result.at ≡ 36 }
-        ensures small { IsSmall result }
+        ensures small { PlacesAreSmall result }
         ensures begins { (all : List ℕ) → tables_of all counts ≡ rest_of all result }
     {
         PartTrace {
@@ -72,12 +72,13 @@ impl PartTrace {
 
     /// Reads rows of the first table of which some are still to come, as many as stand whole in the bytes, and answers how many
     /// bytes they have.
-    #[tactic(auto, using(crate::proofs::PartTraces::main_reads, crate::proofs::PartTraces::range_reads, crate::proofs::PartTraces::hasher_reads, crate::proofs::PartTraces::bitwise_reads, crate::proofs::PartTraces::memory_reads, crate::proofs::PartTraces::kernel_reads, crate::proofs::PartTraces::left_reads, crate::proofs::PartTraces::main_stops, crate::proofs::PartTraces::range_stops, crate::proofs::PartTraces::hasher_stops, crate::proofs::PartTraces::bitwise_stops, crate::proofs::PartTraces::memory_stops, crate::proofs::PartTraces::kernel_stops, crate::proofs::PartTraces::left_stops, crate::proofs::PartTraces::extra))]
+    #[tactic(auto, using(crate::proofs::PartTraces::row_reads, crate::proofs::PartTraces::row_stops))]
     pub(crate) fn take_rows(&mut self, bytes: &[u8]) -> Result<usize, FileError>
-        requires small { IsSmall self.old }
+        requires small { PlacesAreSmall self.old }
         requires enough { unwrap_or (next_row self.old.left) 1 ≤ length bytes.now }
         ensures ok { IfOk result (λ count. Advances self.old self.new bytes.now count) }
-        ensures err { IfErr result (λ error. (all : List ℕ) → StandsAt all self.old.at bytes.now → Gives (Err error) (rest_of all self.old)) }
+        ensures err { IfErr result (λ error. (all : List ℕ) → StandsAt all self.old.at bytes.now
+            → GivesRead (Err error) (rest_of all self.old)) }
     {
         let at = self.at;
         let (trace, left) = (&mut self.trace, &mut self.left);
@@ -110,9 +111,9 @@ impl PartTrace {
     /// The trace of a file that ends behind these bytes, which are fewer than a row has.
     #[tactic(auto, using(crate::proofs::PartTraces::ended, crate::proofs::PartTraces::cut))]
     pub(crate) fn finish(self, rest: &[u8]) -> Result<Trace, FileError>
-        requires small { IsSmall self }
+        requires small { PlacesAreSmall self }
         requires short { length rest.now < unwrap_or (next_row self.left) 1 }
-        ensures { (all : List ℕ) → drop self.at all ≡ rest.now → Gives result (rest_of all self) }
+        ensures { (all : List ℕ) → drop self.at all ≡ rest.now → GivesRead result (rest_of all self) }
     {
         match self.next_row() {
             None => Ok(self.trace),

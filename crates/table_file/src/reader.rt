@@ -1,8 +1,8 @@
 ghost use Rattle.std.specs.Prelude.{◌≡◌, ◌+◌, ◌<◌, ◌≤◌, ◌++◌, ℕ, List, [], None, length, take, Err, IfOk, IfErr, IfSome};
 ghost use Rattle.air_kit.specs.Traces.{HasCounts};
-ghost use Rattle.table_file.specs.Fields.{Gives};
+ghost use Rattle.table_file.specs.Fields.{GivesRead};
 ghost use Rattle.table_file.specs.Files.{AreTables, trace_of};
-ghost use Rattle.table_file.specs.Reading.{GoesFurther, GoesOn, HasRead, HasTaken, IsMissing, IsSmall, wanted};
+ghost use Rattle.table_file.specs.Reading.{GoesFurther, ReadsBehind, HasRead, HasTaken, IsMissing, PlacesAreSmall, wanted};
 
 use crate::cause::FileError;
 use crate::head::{HEAD_BYTES, read_head};
@@ -15,7 +15,7 @@ use vm_io::Taker;
 
 /// The trace that bytes read as. The first bad field decides; `Memory` comes only where memory is refused.
 pub fn decode(alloc: Global, bytes: &[u8]) -> Result<Trace, FileError>
-    ensures reads { Gives result (trace_of bytes.now) }
+    ensures reads { GivesRead result (trace_of bytes.now) }
     ensures counts { IfOk result HasCounts }
     ensures tables { IfOk result AreTables }
 {
@@ -39,13 +39,13 @@ pub struct TableReader {
 
 impl Model for TableReader {
     ghost use Rattle.std.specs.Prelude.{◌<◌, length, IfSome};
-    ghost use Rattle.table_file.specs.Reading.{IsSmall, Reader, wanted};
+    ghost use Rattle.table_file.specs.Reading.{PlacesAreSmall, Reader, wanted};
 
     ghost Value = { Reader };
 
     ghost view = { λ a. record { carried = a.carried.items; part = a.part; stop = a.stop } };
 
-    ghost invariant = { λ a. IfSome a.part IsSmall × (length a.carried.items < wanted a.part) };
+    ghost invariant = { λ a. IfSome a.part PlacesAreSmall × (length a.carried.items < wanted a.part) };
 }
 
 impl TableReader {
@@ -63,7 +63,7 @@ impl TableReader {
 
     /// The trace that the bytes read as, where no more come. The first bad field decides; `Memory` comes only where memory is refused.
     pub fn finish(self) -> Result<Trace, FileError>
-        ensures reads { (bytes : List ℕ) → HasTaken self bytes → Gives result (trace_of bytes) }
+        ensures reads { (bytes : List ℕ) → HasTaken self bytes → GivesRead result (trace_of bytes) }
         ensures counts { (bytes : List ℕ) → HasTaken self bytes → IfOk result HasCounts }
         ensures tables { (bytes : List ℕ) → HasTaken self bytes → IfOk result AreTables }
     {
@@ -74,7 +74,7 @@ impl TableReader {
 impl TableReader {
     // The trace, or why none comes.
     fn answer(self) -> Result<Trace, FileError>
-        ensures { (bytes : List ℕ) → HasTaken self bytes → Gives result (trace_of bytes) }
+        ensures { (bytes : List ℕ) → HasTaken self bytes → GivesRead result (trace_of bytes) }
     {
         let TableReader {
             alloc: _,
@@ -168,13 +168,13 @@ fn go_on(
     bytes: &[u8],
 ) -> usize
     requires going { stop.old ≡ None }
-    requires small { IfSome part.old IsSmall }
+    requires small { IfSome part.old PlacesAreSmall }
     requires enough { wanted part.old ≤ length bytes.now }
-    ensures small { IfSome part.new IsSmall }
+    ensures small { IfSome part.new PlacesAreSmall }
     ensures some { 1 ≤ result }
     ensures whole { wanted part.old ≤ result }
     ensures within { result ≤ length bytes.now }
-    ensures read { (done : List ℕ) → GoesOn part.old done → HasRead stop.new part.new (done ++ take result bytes.now) }
+    ensures read { (done : List ℕ) → ReadsBehind part.old done → HasRead stop.new part.new (done ++ take result bytes.now) }
 {
     match advance(alloc, part, bytes) {
         Ok(count) => count,
@@ -189,11 +189,11 @@ fn go_on(
 // Reads the head, or rows of one table, and answers how many bytes they have.
 #[tactic(auto, using(crate::proofs::Readers::rows_go, crate::proofs::Readers::rows_stop))]
 fn advance(alloc: Global, part: &mut Option<PartTrace>, bytes: &[u8]) -> Result<usize, FileError>
-    requires small { IfSome part.old IsSmall }
+    requires small { IfSome part.old PlacesAreSmall }
     requires enough { wanted part.old ≤ length bytes.now }
     ensures ok { IfOk result (λ count. GoesFurther part.old part.new bytes.now count) }
-    ensures err { IfErr result (λ error. (done more : List ℕ) → GoesOn part.old done
-        → Gives (Err error) (trace_of (done ++ (bytes.now ++ more)))) }
+    ensures err { IfErr result (λ error. (done more : List ℕ) → ReadsBehind part.old done
+        → GivesRead (Err error) (trace_of (done ++ (bytes.now ++ more)))) }
 {
     match part {
         Some(part) => part.take_rows(bytes),
@@ -207,8 +207,8 @@ fn begin(alloc: Global, part: &mut Option<PartTrace>, bytes: &[u8]) -> Result<us
     requires none { part.old ≡ None }
     requires enough { 36 ≤ length bytes.now }
     ensures ok { IfOk result (λ count. GoesFurther part.old part.new bytes.now count) }
-    ensures err { IfErr result (λ error. (done more : List ℕ) → GoesOn part.old done
-        → Gives (Err error) (trace_of (done ++ (bytes.now ++ more)))) }
+    ensures err { IfErr result (λ error. (done more : List ℕ) → ReadsBehind part.old done
+        → GivesRead (Err error) (trace_of (done ++ (bytes.now ++ more)))) }
 {
     match read_head(&bytes[..HEAD_BYTES]) {
         Ok(counts) => {

@@ -1,5 +1,5 @@
 ghost use Rattle.std.specs.Prelude.{◌≡◌, ◌+◌, ◌*◌, ◌^◌, ◌<◌, ◌≤◌, ℕ, List, drop, length, Ok, Err, IfOk, OnOk, IfErr};
-ghost use Rattle.table_file.specs.Fields.{Gives, element_at, row_at, rows_at};
+ghost use Rattle.table_file.specs.Fields.{GivesRead, element_at, row_at, rows_at};
 ghost use Rattle.table_file.specs.Reading.{ReadsRows, StandsAt};
 
 use crate::cause::{FileCause, FileError, bad};
@@ -25,7 +25,7 @@ pub(crate) fn take_rows<const W: usize>(
     requires enough { 8 * W ≤ length bytes.now }
     ensures ok { IfOk result (λ count. ReadsRows W at bytes.now left.old left.new table.old table.new count) }
     ensures some { IfOk result (λ count. 8 * W ≤ count) }
-    ensures err { IfErr result (λ error. (all : List ℕ) → StandsAt all at bytes.now → Gives (Err error) (rows_at all W left.old at)) }
+    ensures err { IfErr result (λ error. (all : List ℕ) → StandsAt all at bytes.now → GivesRead (Err error) (rows_at all W left.old at)) }
 {
     if table.rows() == 0 {
         table.reserve(*left)?;

@@ -110,7 +110,7 @@ fn add_u32(room: &mut Piece, number: u32)
 }
 
 // Adds the next rows of the first table of which some are left.
-#[tactic(auto, using(crate::proofs::LeftLemmas::main_goes, crate::proofs::LeftLemmas::range_goes, crate::proofs::LeftLemmas::hasher_goes, crate::proofs::LeftLemmas::bitwise_goes, crate::proofs::LeftLemmas::memory_goes, crate::proofs::LeftLemmas::kernel_goes, crate::proofs::LeftLemmas::left_goes, crate::proofs::LeftLemmas::none_left))]
+#[tactic(auto, using(crate::proofs::LeftLemmas::goes_behind))]
 fn add_rows(room: &mut Piece, trace: &Trace, given: &mut RowCounts)
     requires { room.old.items ≡ [] }
     ensures given { left_of trace.now true given.old ≡ room.new.items ++ left_of trace.now true given.new }

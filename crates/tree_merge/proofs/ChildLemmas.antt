@@ -5,7 +5,7 @@ use Rattle.std.proofs.lemmas.List.{append_cancel_left, append_cancel_right}
 use Rattle.vm_field.specs.Machine.{zero_word}
 use Rattle.vm_field.specs.Sponge.{HashInput}
 use Rattle.block_tree.specs.Trees.{input_of_one, input_of_two}
-use Rattle.tree_merge.specs.Placed.{Placed, placed_digest}
+use Rattle.tree_merge.specs.Placed.{PlacedTree, placed_digest}
 use Rattle.tree_merge.specs.Merging.{Mergeable}
 use Rattle.tree_merge.specs.Children.{AreTwos, AreOnes}
 use Rattle.tree_merge.specs.FirstBlocks.{HasBlock, first_of, first_block_of}
@@ -25,7 +25,7 @@ module _ (constants : List ℕ) (comp : ℕ → Option HashInput) (p q : ℕ) wh
   pub blocks-differ : (one other : HashInput) → comp p ≡ Some one → comp q ≡ Some other → (Agree → ⊥) → one ≡ other → ⊥
   blocks-differ one other e f not same = not (ap first_block_of e ∙ ap (λ input. first_of input.blocks) same ∙ sym (ap first_block_of f))
 
-  module _ (a b c d : Placed) where
+  module _ (a b c d : PlacedTree) where
     pub twos-first_block : AreTwos constants comp p q a b c d → HasBlock (comp p)
     twos-first_block t = subst HasBlock (sym t.one) tt
 
@@ -62,7 +62,7 @@ module _ (constants : List ℕ) (comp : ℕ → Option HashInput) (p q : ℕ) wh
           (t.size ∙ sym t.other_size) (twos-same t e);
     }
 
-  module _ (a c : Placed) where
+  module _ (a c : PlacedTree) where
     pub ones-first_block : AreOnes constants comp p q a c → HasBlock (comp p)
     ones-first_block t = subst HasBlock (sym t.one) tt
 

@@ -27,7 +27,7 @@ begins-rows [] h = absurd h
 begins-rows (row ∷ rows) h = begun (begins_hash row) row rows _ h
 
 -- at an address where a hash begins there is a row, which has the first block
-pub record Stands (rows : List (List ℕ)) (address : ℕ) : Type 0 where
+pub record HasFirstBlock (rows : List (List ℕ)) (address : ℕ) : Type 0 where
   pub some : 1 ≤ address
   pub within : address - 1 < length rows
   pub block : first_block_of (computation_at rows address) ≡ absorbed_part (get_or rows (address - 1) [])
@@ -37,7 +37,7 @@ placed true found h = refl
 placed false found h = absurd h
 
 there : (rows : List (List ℕ)) (address : ℕ) → 1 ≤ address → Begins (drop (address - 1) rows) (computation_from (drop (address - 1) rows))
-    → computation_at rows address ≡ computation_from (drop (address - 1) rows) → Stands rows address
+    → computation_at rows address ≡ computation_from (drop (address - 1) rows) → HasFirstBlock rows address
 there rows address le b e = record {
   some = le;
   within = let l = length-drop (address - 1) rows in let s = b.some in omega (arith, l, s);
@@ -48,7 +48,7 @@ there rows address le b e = record {
     add-zero : (n : ℕ) → n + 0 ≡ n
     add-zero n = omega arith
 
-pub stands : (rows : List (List ℕ)) (address : ℕ) → HasBlock (computation_at rows address) → Stands rows address
+pub stands : (rows : List (List ℕ)) (address : ℕ) → HasBlock (computation_at rows address) → HasFirstBlock rows address
 stands rows address h =
     let is : (address % 8 == 1) ≡ true = placed (address % 8 == 1) (computation_from (drop (address - 1) rows)) h in
     let e : computation_at rows address ≡ computation_from (drop (address - 1) rows)

@@ -4,14 +4,14 @@ use Rattle.vm_field.specs.Sponge.{HashInput, digest_of_input}
 use Rattle.block_tree.specs.Trees as blocks
 use Rattle.block_tree.specs.Trees.{Refines, input_of_batches}
 use Rattle.block_tree.proofs.Refinement.{refines-refl}
-use Rattle.tree_merge.specs.Placed.{Placed, Opaque, Span, Join, Split, Loop, Call, Syscall, placed_digest, plain, at_of, kind_of}
+use Rattle.tree_merge.specs.Placed.{PlacedTree, Opaque, Span, Join, Split, Loop, Call, Syscall, placed_digest, plain, at_of, kind_of}
 use Rattle.tree_merge.specs.Merging.{Good, Mergeable, Merged, opaque, span, join, split, loop, call, syscall}
 use Rattle.tree_merge.specs.Pairs.{Differs}
 
 module _ (constants : List ℕ) (comp : ℕ → Option HashInput) where
   -- ---- one of the two is opaque
 
-  refines-opaque : (a b : Placed) → kind_of a ≡ 0 → placed_digest constants a ≡ placed_digest constants b → Refines constants (plain b) (plain a)
+  refines-opaque : (a b : PlacedTree) → kind_of a ≡ 0 → placed_digest constants a ≡ placed_digest constants b → Refines constants (plain b) (plain a)
   refines-opaque (Opaque digest) b k e = blocks.opaque (sym e)
   refines-opaque (Span at batches) b k e = absurd (omega (arith, k))
   refines-opaque (Join at x y) b k e = absurd (omega (arith, k))
@@ -20,14 +20,14 @@ module _ (constants : List ℕ) (comp : ℕ → Option HashInput) where
   refines-opaque (Call at x) b k e = absurd (omega (arith, k))
   refines-opaque (Syscall at x) b k e = absurd (omega (arith, k))
 
-  pub opaque-first : (a b : Placed) → Mergeable constants comp a b → kind_of a ≡ 0 → Merged constants comp a b b
+  pub opaque-first : (a b : PlacedTree) → Mergeable constants comp a b → kind_of a ≡ 0 → Merged constants comp a b b
   opaque-first a b m k = record {
     first = refines-opaque a b k m.digest;
     second = refines-refl constants (plain b);
     good = m.second;
   }
 
-  pub opaque-second : (a b : Placed) → Mergeable constants comp a b → kind_of b ≡ 0 → Merged constants comp a b a
+  pub opaque-second : (a b : PlacedTree) → Mergeable constants comp a b → kind_of b ≡ 0 → Merged constants comp a b a
   opaque-second a b m k = record {
     first = refines-refl constants (plain a);
     second = refines-opaque b a k (sym m.digest);
@@ -37,13 +37,13 @@ module _ (constants : List ℕ) (comp : ℕ → Option HashInput) where
   -- ---- two kinds
 
   -- a root that is not opaque has an input, by its kind
-  record HasInput (x : Placed) : Type 0 where
+  record HasInput (x : PlacedTree) : Type 0 where
     input : HashInput
     at : comp (at_of x) ≡ Some input
     kind : 1 + input.domain ≡ kind_of x
     digest : placed_digest constants x ≡ digest_of_input constants input
 
-  has-input : {x : Placed} → Good constants comp x → (kind_of x ≡ 0 → ⊥) → HasInput x
+  has-input : {x : PlacedTree} → Good constants comp x → (kind_of x ≡ 0 → ⊥) → HasInput x
   has-input opaque k = absurd (k refl)
   has-input (span e) k = record { input = _; at = e; kind = refl; digest = refl }
   has-input (join e l g h) k = record { input = _; at = e; kind = refl; digest = refl }
@@ -52,7 +52,7 @@ module _ (constants : List ℕ) (comp : ℕ → Option HashInput) where
   has-input (call e l g) k = record { input = _; at = e; kind = refl; digest = refl }
   has-input (syscall e l g) k = record { input = _; at = e; kind = refl; digest = refl }
 
-  pub unlike-differ : (a b : Placed) → Mergeable constants comp a b → (kind_of a ≡ 0 → ⊥) → (kind_of b ≡ 0 → ⊥)
+  pub unlike-differ : (a b : PlacedTree) → Mergeable constants comp a b → (kind_of a ≡ 0 → ⊥) → (kind_of b ≡ 0 → ⊥)
       → (kind_of a ≡ kind_of b → ⊥) → Differs constants comp (at_of a) (at_of b)
   unlike-differ a b m k l ne =
       let i = has-input m.first k in

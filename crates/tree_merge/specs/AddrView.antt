@@ -1,10 +1,10 @@
 -- What a tree with addresses in memory is as a tree with addresses.
 use Rattle.tree_merge.specs.Placed as placed
-use Rattle.tree_merge.specs.Placed.{Placed}
+use Rattle.tree_merge.specs.Placed.{PlacedTree}
 use Rattle.tree_merge.specs.declared.addr_tree.AddrTree.{AddrTree}
 use Rattle.tree_merge.specs.declared.addr_tree.AddrTree.TheVariants.{Opaque, Span, Join', Split', Loop', Call', Syscall'}
 
-abbrev pub placed_of : AddrTree → Placed
+abbrev pub placed_of : AddrTree → PlacedTree
 placed_of (Opaque digest) = placed.Opaque digest
 placed_of (Span at batches) = placed.Span at batches
 placed_of (Join' at p first q second) = placed.Join at (placed_of first) (placed_of second)

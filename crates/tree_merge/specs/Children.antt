@@ -3,12 +3,12 @@ use Rattle.std.specs.Prelude.{◌≡◌, ℕ, List, length, Option, Some}
 use Rattle.vm_field.specs.Sponge.{HashInput, digest_of_input}
 use Rattle.vm_ops.specs.declared.op.Op.{Op}
 use Rattle.block_tree.specs.Trees.{input_of_one, input_of_two}
-use Rattle.tree_merge.specs.Placed.{Placed, placed_digest}
+use Rattle.tree_merge.specs.Placed.{PlacedTree, placed_digest}
 use Rattle.tree_merge.specs.Merging.{Good}
 
 module _ (constants : List ℕ) (comp : ℕ → Option HashInput) where
   -- blocks with two children, a and b the one, c and d the other
-  pub record AreTwos (p q : ℕ) (a b c d : Placed) : Type 0 where
+  pub record AreTwos (p q : ℕ) (a b c d : PlacedTree) : Type 0 where
     pub start : Op
     pub one : comp p ≡ Some (input_of_two start (placed_digest constants a) (placed_digest constants b))
     pub other : comp q ≡ Some (input_of_two start (placed_digest constants c) (placed_digest constants d))
@@ -22,7 +22,7 @@ module _ (constants : List ℕ) (comp : ℕ → Option HashInput) where
     pub good_d : Good constants comp d
 
   -- blocks with one child each
-  pub record AreOnes (p q : ℕ) (a c : Placed) : Type 0 where
+  pub record AreOnes (p q : ℕ) (a c : PlacedTree) : Type 0 where
     pub start : Op
     pub one : comp p ≡ Some (input_of_one start (placed_digest constants a))
     pub other : comp q ≡ Some (input_of_one start (placed_digest constants c))

@@ -4,32 +4,32 @@ use Rattle.std.specs.Prelude.{◌≡◌, ℕ, List, length, Option, Some}
 use Rattle.vm_field.specs.Sponge.{HashInput}
 use Rattle.vm_ops.specs.declared.op.Op.TheVariants as op
 use Rattle.block_tree.specs.Trees.{Refines, input_of_batches, input_of_one, input_of_two}
-use Rattle.tree_merge.specs.Placed.{Placed, Opaque, Span, Join, Split, Loop, Call, Syscall, placed_digest, plain}
+use Rattle.tree_merge.specs.Placed.{PlacedTree, Opaque, Span, Join, Split, Loop, Call, Syscall, placed_digest, plain}
 
 module _ (constants : List ℕ) (comp : ℕ → Option HashInput) where
   -- at each address is hashed what the block there is hashed by, and the digests of children are words
-  pub data Good : Placed → Type 0 where
+  pub data Good : PlacedTree → Type 0 where
     opaque : {digest : List ℕ} → Good (Opaque digest)
     span : {at : ℕ} {batches : List (List ℕ)} → comp at ≡ Some (input_of_batches batches) → Good (Span at batches)
-    join : {at : ℕ} {a b : Placed} → comp at ≡ Some (input_of_two op.Join (placed_digest constants a) (placed_digest constants b))
+    join : {at : ℕ} {a b : PlacedTree} → comp at ≡ Some (input_of_two op.Join (placed_digest constants a) (placed_digest constants b))
         → length (placed_digest constants a) ≡ 4 → Good a → Good b → Good (Join at a b)
-    split : {at : ℕ} {a b : Placed} → comp at ≡ Some (input_of_two op.Split (placed_digest constants a) (placed_digest constants b))
+    split : {at : ℕ} {a b : PlacedTree} → comp at ≡ Some (input_of_two op.Split (placed_digest constants a) (placed_digest constants b))
         → length (placed_digest constants a) ≡ 4 → Good a → Good b → Good (Split at a b)
-    loop : {at : ℕ} {a : Placed} → comp at ≡ Some (input_of_one op.Loop (placed_digest constants a))
+    loop : {at : ℕ} {a : PlacedTree} → comp at ≡ Some (input_of_one op.Loop (placed_digest constants a))
         → length (placed_digest constants a) ≡ 4 → Good a → Good (Loop at a)
-    call : {at : ℕ} {a : Placed} → comp at ≡ Some (input_of_one op.Call (placed_digest constants a))
+    call : {at : ℕ} {a : PlacedTree} → comp at ≡ Some (input_of_one op.Call (placed_digest constants a))
         → length (placed_digest constants a) ≡ 4 → Good a → Good (Call at a)
-    syscall : {at : ℕ} {a : Placed} → comp at ≡ Some (input_of_one op.Syscall (placed_digest constants a))
+    syscall : {at : ℕ} {a : PlacedTree} → comp at ≡ Some (input_of_one op.Syscall (placed_digest constants a))
         → length (placed_digest constants a) ≡ 4 → Good a → Good (Syscall at a)
 
   -- two such trees of one digest
-  pub record Mergeable (a b : Placed) : Type 0 where
+  pub record Mergeable (a b : PlacedTree) : Type 0 where
     pub first : Good a
     pub second : Good b
     pub digest : placed_digest constants a ≡ placed_digest constants b
 
   -- such a tree that refines both
-  pub record Merged (a b m : Placed) : Type 0 where
+  pub record Merged (a b m : PlacedTree) : Type 0 where
     pub first : Refines constants (plain m) (plain a)
     pub second : Refines constants (plain m) (plain b)
     pub good : Good m

@@ -5,17 +5,17 @@ use Rattle.vm_ops.specs.Codes.{code_of}
 use Rattle.block_tree.specs.Trees as blocks
 use Rattle.block_tree.specs.Trees.{Tree, tree_digest}
 
-pub data Placed : Type 0 where
-  Opaque : (digest : List ℕ) → Placed  -- a block of which only the digest is known
-  Span : (at : ℕ) (batches : List (List ℕ)) → Placed
-  Join : (at : ℕ) (first second : Placed) → Placed
-  Split : (at : ℕ) (on_one on_zero : Placed) → Placed
-  Loop : (at : ℕ) (body : Placed) → Placed
-  Call : (at : ℕ) (callee : Placed) → Placed
-  Syscall : (at : ℕ) (callee : Placed) → Placed
+pub data PlacedTree : Type 0 where
+  Opaque : (digest : List ℕ) → PlacedTree  -- a block of which only the digest is known
+  Span : (at : ℕ) (batches : List (List ℕ)) → PlacedTree
+  Join : (at : ℕ) (first second : PlacedTree) → PlacedTree
+  Split : (at : ℕ) (on_one on_zero : PlacedTree) → PlacedTree
+  Loop : (at : ℕ) (body : PlacedTree) → PlacedTree
+  Call : (at : ℕ) (callee : PlacedTree) → PlacedTree
+  Syscall : (at : ℕ) (callee : PlacedTree) → PlacedTree
 
 -- the tree without the addresses
-abbrev pub plain : Placed → Tree
+abbrev pub plain : PlacedTree → Tree
 plain (Opaque digest) = blocks.Opaque digest
 plain (Span at batches) = blocks.Span batches
 plain (Join at first second) = blocks.Join (plain first) (plain second)
@@ -25,11 +25,11 @@ plain (Call at callee) = blocks.Call (plain callee)
 plain (Syscall at callee) = blocks.Syscall (plain callee)
 
 -- the digest of a tree, under the permutation's constants
-abbrev pub placed_digest : List ℕ → Placed → List ℕ
+abbrev pub placed_digest : List ℕ → PlacedTree → List ℕ
 placed_digest constants x = tree_digest constants (plain x)
 
 -- the address of the root's hash, and 0 where only the root's digest is known
-abbrev pub at_of : Placed → ℕ
+abbrev pub at_of : PlacedTree → ℕ
 at_of (Opaque digest) = 0
 at_of (Span at batches) = at
 at_of (Join at first second) = at
@@ -39,7 +39,7 @@ at_of (Call at callee) = at
 at_of (Syscall at callee) = at
 
 -- the kind of the root: 0 where only its digest is known, and else one more than the domain that it is hashed with
-abbrev pub kind_of : Placed → ℕ
+abbrev pub kind_of : PlacedTree → ℕ
 kind_of (Opaque digest) = 0
 kind_of (Span at batches) = 1
 kind_of (Join at first second) = 1 + code_of op.Join

@@ -48,9 +48,13 @@ impl WordMemory {
     #[tactic(auto, using(crate::proofs::MemoryLemmas::memory_steps))]
     pub fn word_at(&self, context: u32, address: u32) -> [Felt; 4]
         ensures word { result ≡ word_at self.now context address }
+        ensures below { IsWord result }
     {
         match self.words.get(&(context, address)) {
-            Some(word) => word.elements(),
+            Some(word) => {
+                word.known();
+                word.elements()
+            }
             None => Word::ZERO.elements(),
         }
     }

@@ -79,7 +79,8 @@ impl Stack {
 
     // The visible cells.
     pub fn visible(&self) -> &[Felt; 16]
-        ensures { result.now ≡ take 16 self.now }
+        ensures is { result.now ≡ take 16 self.now }
+        ensures below { AreElements result.now }
     {
         &self.top
     }

@@ -1,7 +1,7 @@
-ghost use Rattle.std.specs.Prelude.{◌≡◌, ◌<◌, ◌≤◌, [], ◌∷◌, ◌++◌, drop, length, take, slice_index, slice_set, Some, None, OnOk, OnErr, IfOk};
+ghost use Rattle.std.specs.Prelude.{◌≡◌, ◌<◌, ◌≤◌, [], ◌∷◌, ◌++◌, drop, length, take, slice_index, slice_set, Some, None, OnOk, OnErr, IfOk, IfSome};
 ghost use Rattle.std.specs.FinMap as map;
-ghost use Rattle.vm_field.specs.Field.{prime};
-ghost use Rattle.vm_field.specs.Machine.{IsWellFormed, filled_up, start, word_at};
+ghost use Rattle.vm_field.specs.Field.{AreElements, prime};
+ghost use Rattle.vm_field.specs.Machine.{IsWellFormed, IsWord, filled_up, start, word_at};
 ghost use Rattle.vm_state.specs.Views.{state_of};
 ghost use Rattle.vm_state.specs.Tapes.{Taken};
 
@@ -87,7 +87,8 @@ impl State {
 
     /// The sixteen cells that operations see, top first.
     pub fn visible(&self) -> &[Felt; 16]
-        ensures { result.now ≡ take 16 self.now.stack }
+        ensures is { result.now ≡ take 16 self.now.stack }
+        ensures below { AreElements result.now }
     {
         self.stack.visible()
     }
@@ -152,7 +153,8 @@ impl State {
 
     /// The word of memory at an address of a context, which is zero where none was stored.
     pub fn word_at(&self, context: u32, address: u32) -> [Felt; 4]
-        ensures { result ≡ word_at self.now.memory context address }
+        ensures is { result ≡ word_at self.now.memory context address }
+        ensures below { IsWord result }
     {
         self.memory.word_at(context, address)
     }
@@ -177,6 +179,7 @@ impl State {
     /// Takes the next element of the tape, or answers `None` exactly where the tape is empty.
     pub fn next_advice(&mut self) -> Option<Felt>
         ensures taken { Taken self.old.tape result self.new.tape }
+        ensures below { IfSome result (λ element. element < prime) }
         ensures rest { self.new ≡ record self.old { tape = self.new.tape } }
     {
         self.tape.next()

@@ -1,4 +1,4 @@
-ghost use Rattle.std.specs.Prelude.{◌≡◌, ◌<◌, length, slice_index, IfOk};
+ghost use Rattle.std.specs.Prelude.{◌≡◌, ◌<◌, length, slice_index, IfOk, IfSome};
 ghost use Rattle.vm_field.specs.Field.{AreElements, prime};
 ghost use Rattle.vm_state.specs.Tapes.{Taken};
 
@@ -46,8 +46,11 @@ impl Tape {
     // Takes the next element.
     pub fn next(&mut self) -> Option<Felt>
         ensures taken { Taken self.old result self.new }
+        ensures below { IfSome result (λ element. element < prime) }
     {
-        self.elements.pop()
+        let element = self.elements.pop()?;
+        let _ = element.value();
+        Some(element)
     }
 
     // The element that is taken after so many others.

@@ -2,7 +2,7 @@ use Rattle.std.proofs.Common.{[], ◌∷◌, ◌++◌, false, get_or, take, sym,
 use Rattle.std.proofs.lemmas.List.{take_more}
 use Rattle.std.proofs.lemmas.List.Elements.{All-append, All-cons, All-nil}
 use Rattle.bit_rows.specs.BitRows.{rows_before, rows_of}
-use Rattle.bit_rows.specs.BitTables.{AreWords, HasWords}
+use Rattle.bit_rows.specs.BitTables.{HaveWords, HasWords}
 use Rattle.fill_chips.proofs.BitLemmas.{rows-none, rows-push}
 use Rattle.fill_chips.proofs.bitwise.bitwise_table.Goals as goal
 
@@ -20,7 +20,7 @@ loop-op-preserved c =
           c.in_ok-push_operation.ensures.rows ∙ ap (λ table. table ++ rows_before op []) c.loop-op.invariant.rows
           ∙ sym (rows-push (take i ops) op) ∙ ap rows_of (sym more);
       words =
-          subst AreWords (sym more)
+          subst HaveWords (sym more)
           (All-append HasWords (take i ops) (op ∷ []) c.loop-op.invariant.words
           (All-cons HasWords op [] c.push_operation.ensures.words (All-nil HasWords)));
     }

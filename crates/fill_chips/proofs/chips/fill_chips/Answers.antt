@@ -3,7 +3,7 @@ use Rattle.rpo_hash.specs.States.{IsState}
 use Rattle.vm_field.specs.Machine.{IsWord}
 use Rattle.hash_rows.specs.PermRows.{rows_of}
 use Rattle.bit_rows.specs.BitRows.{rows_of as bit_rows}
-use Rattle.bit_rows.specs.BitTables.{AreWords}
+use Rattle.bit_rows.specs.BitTables.{HaveWords}
 use Rattle.memory_rows.specs.MemoryTables.{ShowsAccesses}
 use Rattle.fill_chips.specs.KernelRows.{kernel_rows, times_called}
 use Rattle.fill_chips.specs.MemoryLimbs.{limbs_in}
@@ -43,7 +43,7 @@ returns-clause-answers c =
     rw (range_is, hasher_is, bitwise_is, c.memory.view_is, kernel_is, left_is)
     (filled-answers constants kernel r memory c.hasher_table.ensures.constants c.requires.fit
     (subst (All (λ p. IsState p.start)) c.as_slice-3.ensures.items c.in_ok-hasher_table.ensures.states)
-    (subst AreWords c.as_slice-4.ensures.items c.in_ok-bitwise_table.ensures.words) shown
+    (subst HaveWords c.as_slice-4.ensures.items c.in_ok-bitwise_table.ensures.words) shown
     (subst (All IsWord) c.as_slice-5.ensures.items c.as_slice-5.ensures.words)
     (subst (All (λ v. v < 65536)) c.as_slice-2.ensures.items c.range_table.ensures.small))
 
@@ -67,4 +67,4 @@ returns-clause-sizes c =
     let left_is : c.in_ok-left_table.field-0 ≡ map (λ key. key ∷ []) r.keys =
     c.in_ok-left_table.ensures.rows ∙ ap (map (λ (key : ℕ). key ∷ [])) c.as_slice-7.ensures.items in
     rw (range_is, hasher_is, bitwise_is, c.memory.view_is, kernel_is, left_is)
-    (filled-sizes constants kernel r memory (subst AreWords c.as_slice-4.ensures.items c.in_ok-bitwise_table.ensures.words) shown)
+    (filled-sizes constants kernel r memory (subst HaveWords c.as_slice-4.ensures.items c.in_ok-bitwise_table.ensures.words) shown)

@@ -1,6 +1,6 @@
 use Rattle.std.proofs.Common.{All, subst}
 use Rattle.std.proofs.lemmas.List.Sorted.{All-permutation, IsPermutation-sym}
-use Rattle.memory_rows.specs.MemoryTables.{IsSmall}
+use Rattle.memory_rows.specs.MemoryTables.{IsSmallAccess}
 use Rattle.fill_chips.proofs.AccessLemmas.{if_ok_then}
 use Rattle.fill_chips.proofs.memory.memory_table.Goals as goal
 
@@ -9,5 +9,5 @@ returns-clause-small c =
     let accesses = c.args.accesses.now in
     let sorted = c.in_ok-sorted.sorted.items in
     if_ok_then c.table_of.result (λ table small.
-    All-permutation IsSmall sorted accesses (IsPermutation-sym accesses sorted c.in_ok-sorted.ensures.same)
-    (subst (All IsSmall) c.as_slice.ensures.value small)) c.table_of.ensures.small
+    All-permutation IsSmallAccess sorted accesses (IsPermutation-sym accesses sorted c.in_ok-sorted.ensures.same)
+    (subst (All IsSmallAccess) c.as_slice.ensures.value small)) c.table_of.ensures.small

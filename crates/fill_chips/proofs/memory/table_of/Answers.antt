@@ -2,14 +2,14 @@ use Rattle.std.proofs.Common.{◌≡◌, ◌+◌, [], ◌∷◌, ◌++◌, take,
 use Rattle.std.proofs.lemmas.List.{take_more}
 use Rattle.std.proofs.lemmas.List.Elements.{All-append, All-cons, All-nil}
 use Rattle.memory_rows.specs.AccessRows.{rows_behind}
-use Rattle.memory_rows.specs.MemoryTables.{IsSmall}
+use Rattle.memory_rows.specs.MemoryTables.{IsSmallAccess}
 use Rattle.fill_chips.proofs.AccessLemmas.{rows-done, rows-step}
 use Rattle.fill_chips.proofs.memory.table_of.Goals as goal
 
 pub loop-access-init : goal.loop-access-init
 loop-access-init c = record {
   rows = ap (λ table. table ++ rows_behind None c.args.sorted.now) (c.reserve.ensures ∙ c.new-table.ensures.empty);
-  small = All-nil IsSmall;
+  small = All-nil IsSmallAccess;
 }
 
 pub loop-access-preserved : goal.loop-access-preserved
@@ -26,9 +26,9 @@ loop-access-preserved c =
           c.in_ok-push_row.ensures.ok c.row_behind.ensures.row
           ∙ c.loop-access.invariant.rows;
       small =
-          subst (All IsSmall) (sym more)
-          (All-append IsSmall (take i sorted) (access ∷ []) c.loop-access.invariant.small
-          (All-cons IsSmall access [] c.row_behind.ensures.small (All-nil IsSmall)));
+          subst (All IsSmallAccess) (sym more)
+          (All-append IsSmallAccess (take i sorted) (access ∷ []) c.loop-access.invariant.small
+          (All-cons IsSmallAccess access [] c.row_behind.ensures.small (All-nil IsSmallAccess)));
     }
 
 pub returns-clause-rows : goal.returns-clause-rows

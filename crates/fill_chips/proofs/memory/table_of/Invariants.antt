@@ -1,10 +1,10 @@
 use Rattle.std.proofs.Common.{◌≡◌, ◌++◌, take, drop, All}
 use Rattle.memory_rows.specs.AccessRows.{rows_behind, rows_of}
-use Rattle.memory_rows.specs.MemoryTables.{IsSmall}
+use Rattle.memory_rows.specs.MemoryTables.{IsSmallAccess}
 use Rattle.fill_chips.proofs.memory.table_of.Given as goal
 
 abbrev pub invariant-loop-access : goal.invariant-loop-access
 invariant-loop-access l = record {
   rows : l.table ++ rows_behind l.before (drop l.access-index l.sorted) ≡ rows_of l.sorted;
-  small : All IsSmall (take l.access-index l.sorted);
+  small : All IsSmallAccess (take l.access-index l.sorted);
 }

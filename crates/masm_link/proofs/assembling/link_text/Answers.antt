@@ -1,12 +1,24 @@
-use Rattle.std.proofs.Common.{◌≡◌, Err, inl, inr, sym, subst}
+use Rattle.std.proofs.Common.{◌≡◌, ℕ, Bool, List, Err, inl, inr, refl, sym, subst}
+use Rattle.answers.specs.Gives.{Gives}
+use Rattle.masm_blocks.specs.declared.kernel.KernelProc.{KernelProc}
 use Rattle.masm_tree.specs.Views.{source_of}
 use Rattle.masm_link.specs.declared.linking.Stop.TheVariants as stops
-use Rattle.masm_link.specs.Assembling.{Refuses, unread, unlinked}
+use Rattle.masm_link.specs.declared.refusal.AsmError.{AsmError}
+use Rattle.masm_link.specs.declared.refusal.AsmError.TheVariants.{Bad, Memory}
+use Rattle.masm_link.specs.Assembling.{reads, Refuses, unread, unlinked}
 use Rattle.masm_link.specs.Measures.{IsFirstRefused, LinksTo}
+use Rattle.masm_link.specs.Programs.{LinksIn, refusal_in}
 use Rattle.masm_link.proofs.assembling.link_text.Goals as goal
 
+-- a source that is not read is refused, or memory was
+not_read : (is_kernel : Bool) (text : List ℕ) (kernel : List KernelProc) (error : AsmError)
+    → Gives source_of refusal_in (Err error) (reads is_kernel text) → LinksIn is_kernel text kernel (Err error)
+not_read is_kernel text kernel (Bad in_kernel line column cause) is = inr (λ exports are. unread (Bad in_kernel line column cause) is)
+not_read is_kernel text kernel Memory is = inl refl
+
 pub returns-in-Err-clause-links : goal.returns-in-Err-clause-links
-returns-in-Err-clause-links c = elim c.in-Err.ensures.reads [ inl memory ↦ inl memory | inr is ↦ inr (λ exports are. unread c.in-Err.error is) ]
+returns-in-Err-clause-links c =
+    not_read c.args.is_kernel c.args.text.now c.args.kernel.now c.in-Err.error c.in-Err.ensures.reads
 
 pub returns-in-Err-Refused-clause-links : goal.returns-in-Err-Refused-clause-links
 returns-in-Err-Refused-clause-links c =

@@ -3,11 +3,11 @@ use Rattle.masm_size.specs.KnownSizes.{size_at, sizes_known}
 use Rattle.masm_size.specs.Sizes.{extent_of, procedure_size}
 use Rattle.masm_tree.specs.Views.{body_of, procedure_of, source_of}
 use Rattle.masm_names.specs.Among.{Among}
-use Rattle.masm_names.specs.Least.{Answers}
-use Rattle.masm_names.specs.Naming.{at_procedure}
-use Rattle.masm_tables.specs.Limits.{IsOver}
+use Rattle.masm_names.specs.Least.{FindsLeast}
+use Rattle.masm_tree.specs.Trees.{position_of}
+use Rattle.masm_tables.specs.Limits.{ExceedsLimit}
 use Rattle.masm_link.specs.Refusals.{Oversized}
-use Rattle.masm_link.proofs.Linked.{Answers-large}
+use Rattle.masm_link.proofs.Linked.{FindsLeast-large}
 use Rattle.masm_link.proofs.linking.first_oversized.Goals as goal
 
 pub returns : goal.returns
@@ -16,15 +16,15 @@ returns c = λ exports are.
     let m = c.args.measured.now in
     let kernel = c.args.kernel.now.procs.now in
     let procs =
-    subst (λ ss. Answers (Among (λ place p. IsOver (at_procedure (procedure_of p)) (extent_of (size_at ss
+    subst (λ ss. FindsLeast (Among (λ place p. ExceedsLimit (position_of (procedure_of p)) (extent_of (size_at ss
     (Some place)))) ast.procs.items) c.first_too_large-procs.result) c.deref-2.ensures.value
-    (subst (λ ps. Answers (Among (λ place p. IsOver (at_procedure (procedure_of p)) (extent_of (size_at c.deref-2.result.now
+    (subst (λ ps. FindsLeast (Among (λ place p. ExceedsLimit (position_of (procedure_of p)) (extent_of (size_at c.deref-2.result.now
     (Some place)))) ps) c.first_too_large-procs.result) c.deref.ensures.value
     c.first_too_large-procs.ensures) in
     let main =
     subst (λ ss. MatchOption ast.main (c.in_ok-main.main ≡ None)
-    (λ p. Answers (IsOver (at_procedure (procedure_of p)) (extent_of (procedure_size (sizes_known m.names ss kernel) p.locals
+    (λ p. FindsLeast (ExceedsLimit (position_of (procedure_of p)) (extent_of (procedure_size (sizes_known m.names ss kernel) p.locals
     (body_of p.body.items)))) c.in_ok-main.main))
     c.deref-3.ensures.value c.in_ok-main.ensures in
-    subst (Answers (Oversized (source_of ast) exports)) (sym c.earlier.ensures) (Answers-large ast kernel m c.requires.measured exports are
+    subst (FindsLeast (Oversized (source_of ast) exports)) (sym c.earlier.ensures) (FindsLeast-large ast kernel m c.requires.measured exports are
     c.first_too_large-procs.result c.in_ok-main.main procs main)

@@ -1,6 +1,6 @@
 use Rattle.std.proofs.Common.{sym, subst, ◌∙◌}
 use Rattle.masm_tree.specs.Views.{source_of}
-use Rattle.masm_names.specs.Least.{Answers}
+use Rattle.masm_names.specs.Least.{FindsLeast}
 use Rattle.masm_names.specs.Naming.{Dangles}
 use Rattle.masm_tables.specs.Kernels.{names_of}
 use Rattle.masm_link.specs.Refusals.{RefusesAt}
@@ -13,7 +13,7 @@ returns-in-Some c = λ exports are.
     let source = source_of c.args.ast.now in
     let names = c.deref.ensures.value ∙ c.in_ok-exported.ensures ∙ names_same exports c.args.kernel.now.procs.now are in
     let dangling =
-    subst (Answers (Dangles source (names_of exports))) c.in-Some.is (subst (λ ns. Answers
+    subst (FindsLeast (Dangles source (names_of exports))) c.in-Some.is (subst (λ ns. FindsLeast
     (Dangles source ns) c.in_ok-refusal.field-0) names c.in_ok-refusal.ensures) in
     refused_use source exports c.in_ok-double.double c.in-Some.refusal c.first_of.result c.in_ok-double.ensures dangling c.first_of.ensures
 
@@ -21,7 +21,7 @@ pub returns-in-Some-earlier : goal.returns-in-Some-earlier
 returns-in-Some-earlier c = λ exports are.
     let source = source_of c.args.ast.now in
     let closed = closed_names source exports c.args.kernel.now.procs.now are c.in_ok-measured.ensures.closed in
-    subst (Answers (RefusesAt source exports)) (sym c.earlier.ensures ∙ c.in-Some-earlier.is)
+    subst (FindsLeast (RefusesAt source exports)) (sym c.earlier.ensures ∙ c.in-Some-earlier.is)
     (refused_size source exports closed c.in_ok-double.double c.in_ok-oversized.oversized c.in_ok-double.ensures
     (c.in_ok-oversized.ensures exports are))
 
@@ -31,7 +31,7 @@ returns c = (
   λ exports are.
       let source = source_of c.args.ast.now in
       let closed = closed_names source exports c.args.kernel.now.procs.now are c.in_ok-measured.ensures.closed in
-      subst (Answers (RefusesAt source exports)) (sym c.earlier.ensures ∙ c.in-None.is)
+      subst (FindsLeast (RefusesAt source exports)) (sym c.earlier.ensures ∙ c.in-None.is)
       (refused_size source exports closed c.in_ok-double.double c.in_ok-oversized.oversized c.in_ok-double.ensures
       (c.in_ok-oversized.ensures exports are)),
 )

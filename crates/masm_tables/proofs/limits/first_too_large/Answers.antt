@@ -7,9 +7,9 @@ use Rattle.masm_tree.specs.declared.tree.Position.{Position}
 use Rattle.masm_tree.specs.declared.tree.Proc.{Proc}
 use Rattle.masm_tree.specs.Views.{procedure_of}
 use Rattle.masm_names.specs.declared.refusal.LinkCause.{LinkCause}
-use Rattle.masm_names.specs.Naming.{at_procedure}
+use Rattle.masm_tree.specs.Trees.{position_of}
 use Rattle.masm_names.proofs.LeastLemmas.{Among-more, Among-end}
-use Rattle.masm_tables.specs.Limits.{IsOver}
+use Rattle.masm_tables.specs.Limits.{ExceedsLimit}
 use Rattle.masm_tables.proofs.Over.{over_same}
 use Rattle.masm_tables.proofs.limits.first_too_large.Goals as goal
 
@@ -18,7 +18,7 @@ loop-place-preserved c =
     let i = c.loop-place.place in
     let sizes = c.args.sizes.now in
     let size = c.index-sizes-place.result in
-    let f : ℕ → Proc → Position → LinkCause → Type 0 = λ place p. IsOver (at_procedure (procedure_of p)) (extent_of (size_at sizes (Some place))) in
+    let f : ℕ → Proc → Position → LinkCause → Type 0 = λ place p. ExceedsLimit (position_of (procedure_of p)) (extent_of (size_at sizes (Some place))) in
     let within : i < length sizes = let t = c.loop-place-test.true in let count = c.requires in omega arith in
     let there : size_at sizes (Some i) ≡ size_view size = ap (λ o. unwrap_or (option_map size_view o) nothing) (slice_get_read sizes
     (length sizes) i size refl within c.index-sizes-place.is) in
@@ -31,6 +31,6 @@ pub returns : goal.returns
 returns c =
     let procs = c.args.procs.now in
     let f : ℕ → Proc → Position → LinkCause → Type 0 =
-    λ place p. IsOver (at_procedure (procedure_of p)) (extent_of (size_at c.args.sizes.now (Some place))) in
+    λ place p. ExceedsLimit (position_of (procedure_of p)) (extent_of (size_at c.args.sizes.now (Some place))) in
     let ended : length procs ≤ c.loop-place.place = search rules in
     Among-end f procs _ c.loop-place.first ended c.loop-place.invariant

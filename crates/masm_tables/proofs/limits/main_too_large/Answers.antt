@@ -2,9 +2,9 @@ use Rattle.std.proofs.Common.{◌≡◌, None, MatchOption, sym, ap, subst, ◌�
 use Rattle.masm_size.specs.KnownSizes.{sizes_known}
 use Rattle.masm_size.specs.Sizes.{extent_of, procedure_size}
 use Rattle.masm_tree.specs.Views.{body_of, procedure_of}
-use Rattle.masm_names.specs.Least.{Answers}
-use Rattle.masm_names.specs.Naming.{at_procedure}
-use Rattle.masm_tables.specs.Limits.{IsOver}
+use Rattle.masm_names.specs.Least.{FindsLeast}
+use Rattle.masm_tree.specs.Trees.{position_of}
+use Rattle.masm_tables.specs.Limits.{ExceedsLimit}
 use Rattle.masm_tables.proofs.Over.{over_same}
 use Rattle.masm_tables.proofs.limits.main_too_large.Goals as goal
 
@@ -12,7 +12,7 @@ pub returns : goal.returns
 returns c =
     let extent = c.extent_of.ensures ∙ ap extent_of (c.part.ensures ∙ c.in_ok-size.ensures) in
     subst (λ o. MatchOption o (c.too_large.result ≡ None)
-    (λ p. Answers (IsOver (at_procedure (procedure_of p))
+    (λ p. FindsLeast (ExceedsLimit (position_of (procedure_of p))
     (extent_of (procedure_size (sizes_known c.args.names.now c.args.sizes.now c.args.kernel.now.procs.now)
     p.locals (body_of p.body.items)))) c.too_large.result))
     (sym c.in-Some.is) (over_same _ _ _ _ c.too_large.result c.at.ensures extent c.too_large.ensures)

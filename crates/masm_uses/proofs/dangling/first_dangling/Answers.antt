@@ -6,12 +6,12 @@ use Rattle.masm_graph.specs.declared.links.Link.{Link}
 use Rattle.masm_names.specs.Among.{Among}
 use Rattle.masm_uses.specs.Dangling.{Missing, Recursions}
 use Rattle.graphs.specs.Graph.{rows_of}
-use Rattle.masm_names.specs.Least.{Answers}
+use Rattle.masm_names.specs.Least.{FindsLeast}
 use Rattle.masm_graph.specs.Links.{links_in}
 use Rattle.masm_names.specs.Names.{place_at}
-use Rattle.masm_graph.specs.Users.{Goes, AreUsers}
+use Rattle.masm_graph.specs.Users.{UsesProcedure, AreUsers}
 use Rattle.masm_names.specs.Uses.{place_in, first_place}
-use Rattle.masm_uses.proofs.DanglingAnswers.{Answers-dangling}
+use Rattle.masm_uses.proofs.DanglingAnswers.{FindsLeast-dangling}
 use Rattle.masm_uses.proofs.UsedLemmas.{goes_within}
 use Rattle.masm_uses.proofs.dangling.first_dangling.Goals as goal
 
@@ -22,9 +22,9 @@ rows_are own kernel procs lent rows lent_rows same same_rows e = ap rows_of same
 
 leads_within : (own kernel : List ℕ → Option ℕ) (procs : List Proc) (rows : List (Vec Link Global))
     → ((name : List ℕ) → own name ≡ first_place (map procedure_of procs) name)
-    → rows_of rows ≡ map (links_in own kernel) procs → (i j : ℕ) → Goes (rows_of rows) i j → j < length rows
+    → rows_of rows ≡ map (links_in own kernel) procs → (i j : ℕ) → UsesProcedure (rows_of rows) i j → j < length rows
 leads_within own kernel procs rows places is i j goes =
-    let below = goes_within own kernel procs places i j (subst (λ r. Goes r i j) is goes) in
+    let below = goes_within own kernel procs places i j (subst (λ r. UsesProcedure r i j) is goes) in
     let count = length-map rows (λ (v : Vec Link Global). v.items) in
     let same = ap length is in
     let counts = length-map procs (links_in own kernel) in
@@ -55,14 +55,14 @@ returns c =
     λ name. c.in_ok-exports.ensures name ∙ ap (λ names. place_in names name) (map-id c.args.kernel.now) in
     let are : AreUsers (map (links_in own kernel) ast.procs.items) (rows_of c.in_ok-users.users.items) =
     subst (λ r. AreUsers r (rows_of c.in_ok-users.users.items)) (ap rows_of c.deref-2.ensures.value ∙ rows) c.in_ok-users.ensures in
-    let a = subst (λ r. Answers (Among (λ place row. Missing row) r) c.first_missing_of.result)
+    let a = subst (λ r. FindsLeast (Among (λ place row. Missing row) r) c.first_missing_of.result)
     (ap rows_of c.deref-3.ensures.value ∙ rows) c.first_missing_of.ensures in
-    let b = subst (λ r. Answers (Missing r) c.first_missing.result) (c.deref-4.ensures.value ∙ c.in_ok-main.ensures) c.first_missing.ensures in
-    let d = subst (λ r. Answers (Recursions (rows_of c.in_ok-users.users.items) r) c.in_ok-first_recursion.field-0)
+    let b = subst (λ r. FindsLeast (Missing r) c.first_missing.result) (c.deref-4.ensures.value ∙ c.in_ok-main.ensures) c.first_missing.ensures in
+    let d = subst (λ r. FindsLeast (Recursions (rows_of c.in_ok-users.users.items) r) c.in_ok-first_recursion.field-0)
     (ap rows_of c.deref-6.ensures.value ∙ rows)
-    (subst (λ us. Answers (Recursions (rows_of us) (rows_of c.deref-6.result.now)) c.in_ok-first_recursion.field-0)
+    (subst (λ us. FindsLeast (Recursions (rows_of us) (rows_of c.deref-6.result.now)) c.in_ok-first_recursion.field-0)
     c.deref-5.ensures.value c.in_ok-first_recursion.ensures) in
     rw (c.earlier.ensures, c.earlier-missing.ensures)
-    (Answers-dangling own kernel ast.consts ast.procs.items ast.main c.args.kernel.now (rows_of c.in_ok-users.users.items)
+    (FindsLeast-dangling own kernel ast.consts ast.procs.items ast.main c.args.kernel.now (rows_of c.in_ok-users.users.items)
     c.requires.names exports are
     c.first_missing_of.result c.first_missing.result c.in_ok-first_recursion.field-0 a b d)

@@ -1,8 +1,8 @@
 use Rattle.masm_names.specs.Among.{AmongFirst}
 use Rattle.masm_uses.specs.Dangling.{Missing}
 use Rattle.graphs.specs.Graph.{rows_of}
-use Rattle.masm_names.specs.Least.{Answers}
+use Rattle.masm_names.specs.Least.{FindsLeast}
 use Rattle.masm_uses.proofs.missing.first_missing_of.Given as goal
 
 abbrev pub invariant-loop-row : goal.invariant-loop-row
-invariant-loop-row l = Answers (AmongFirst (λ place row. Missing row) (rows_of l.rows) l.row-index) l.first
+invariant-loop-row l = FindsLeast (AmongFirst (λ place row. Missing row) (rows_of l.rows) l.row-index) l.first

@@ -5,7 +5,7 @@ use Rattle.masm_names.specs.Among.{AmongFirst}
 use Rattle.masm_uses.specs.Dangling.{Returns}
 use Rattle.graphs.specs.Graph.{rows_of, Leads}
 use Rattle.masm_graph.specs.Users.{HasOwn}
-use Rattle.masm_names.proofs.LeastLemmas.{Answers-with, Among-either, Among-end}
+use Rattle.masm_names.proofs.LeastLemmas.{FindsLeast-with, Among-either, Among-end}
 use Rattle.masm_graph.proofs.UserLemmas.{row_read, row_itself, AreUsers-graph}
 use Rattle.masm_uses.proofs.recursion.first_recursion.Goals as goal
 
@@ -31,7 +31,7 @@ loop-user-preserved c =
     c.loop-user-test.true in omega arith in
     let is = c.deref-in-loop-user.ensures.value ∙ row_read c.args.rows.now i c.index-rows-user.result c.loop-user-test.true c.index-rows-user.is in
     Among-either (λ user row. Returns (Leads users user) row) rows i row c.in_ok-first.first within (row_itself rows i row within is)
-    (Answers-with (AmongFirst (λ user row. Returns (Leads users user) row) rows i) (Returns (Leads users i) row) c.loop-user.first c.in_ok-first.first
+    (FindsLeast-with (AmongFirst (λ user row. Returns (Leads users user) row) rows i) (Returns (Leads users i) row) c.loop-user.first c.in_ok-first.first
     c.loop-user.invariant c.in_ok-first.ensures)
 
 pub returns : goal.returns

@@ -1,8 +1,8 @@
 use Rattle.masm_names.specs.Among.{AmongFirst}
 use Rattle.masm_uses.specs.Dangling.{Returns}
 use Rattle.graphs.specs.Graph.{rows_of, Leads}
-use Rattle.masm_names.specs.Least.{Answers}
+use Rattle.masm_names.specs.Least.{FindsLeast}
 use Rattle.masm_uses.proofs.recursion.first_recursion.Given as goal
 
 abbrev pub invariant-loop-user : goal.invariant-loop-user
-invariant-loop-user l = Answers (AmongFirst (λ user row. Returns (Leads (rows_of l.users) user) row) (rows_of l.rows) l.user) l.first
+invariant-loop-user l = FindsLeast (AmongFirst (λ user row. Returns (Leads (rows_of l.users) user) row) (rows_of l.rows) l.user) l.first

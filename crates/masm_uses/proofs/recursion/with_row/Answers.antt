@@ -3,18 +3,18 @@ use Rattle.std.specs.List.{list_any}
 use Rattle.masm_uses.specs.Dangling.{Returns, waits}
 use Rattle.graphs.specs.Graph.{rows_of, Leads}
 use Rattle.masm_uses.proofs.DanglingLemmas.{Returns-same, none_back, none_waits}
-use Rattle.masm_names.proofs.LeastLemmas.{Answers-earlier, Answers-itself, Answers-stays}
+use Rattle.masm_names.proofs.LeastLemmas.{FindsLeast-earlier, FindsLeast-itself, FindsLeast-stays}
 use Rattle.masm_uses.proofs.recursion.with_row.Goals as goal
 
 pub returns-then-is_settled : goal.returns-then-is_settled
 returns-then-is_settled c =
-    Answers-stays (Returns (Leads (rows_of c.args.users.now) c.args.user) c.args.row.now) c.args.first
+    FindsLeast-stays (Returns (Leads (rows_of c.args.users.now) c.args.user) c.args.row.now) c.args.first
     (none_back c.args.first c.args.row.now (Leads (rows_of c.args.users.now) c.args.user) (c.requires.settled c.if-is_settled.true))
 
 pub returns-then-not-some_waits : goal.returns-then-not-some_waits
 returns-then-not-some_waits c =
     let none : list_any (waits c.args.first) c.args.row.now ≡ false = search rules in
-    Answers-stays (Returns (Leads (rows_of c.args.users.now) c.args.user) c.args.row.now) c.args.first
+    FindsLeast-stays (Returns (Leads (rows_of c.args.users.now) c.args.user) c.args.row.now) c.args.first
     (none_waits c.args.first c.args.row.now (Leads (rows_of c.args.users.now) c.args.user) none)
 
 pub returns : goal.returns
@@ -22,6 +22,6 @@ returns c =
     let row = c.args.row.now in
     let Back : ℕ → Type 0 = Leads (rows_of c.args.users.now) c.args.user in
     let marked = rw c.deref.ensures.value at c.first_return.ensures in
-    rw c.earlier.ensures (Answers-earlier (λ at cause. c.args.first ≡ Some (record { at = at; cause = cause })) (Returns Back row)
-    c.args.first _ (Answers-itself c.args.first)
+    rw c.earlier.ensures (FindsLeast-earlier (λ at cause. c.args.first ≡ Some (record { at = at; cause = cause })) (Returns Back row)
+    c.args.first _ (FindsLeast-itself c.args.first)
     (Returns-same (λ q. slice_index_or c.in_ok-marks.marks.items q false ≡ true) Back row _ c.in_ok-marks.ensures marked))

@@ -3,7 +3,7 @@ use Rattle.std.proofs.Math.Path.{subst₂}
 use Rattle.vm_field.specs.Sponge.{HashInput}
 use Rattle.tree_merge.specs.AddrView.{placed_of}
 use Rattle.block_tree.specs.Trees.{tree_height}
-use Rattle.tree_merge.specs.Placed.{Placed, plain}
+use Rattle.tree_merge.specs.Placed.{PlacedTree, plain}
 use Rattle.tree_merge.specs.declared.addr_tree.AddrTree.{AddrTree}
 use Rattle.tree_merge.specs.Merging.{Mergeable, Merged}
 use Rattle.tree_merge.specs.Pairs.{Differs}
@@ -13,11 +13,11 @@ use Rattle.tree_merge.proofs.MergeLemmas.{join-twos, split-twos, loop-ones, call
 use Rattle.tree_merge.proofs.merging.+merging.Goals as goal
 
 -- what is known of two trees is known of what they were found to be, and the other way round
-found : (constants : List ℕ) (comp : ℕ → Option HashInput) (a b x y : Placed) → a ≡ x → b ≡ y → Mergeable constants comp a b
+found : (constants : List ℕ) (comp : ℕ → Option HashInput) (a b x y : PlacedTree) → a ≡ x → b ≡ y → Mergeable constants comp a b
     → Mergeable constants comp x y
 found constants comp a b x y e f m = subst₂ (λ u v. Mergeable constants comp u v) e f m
 
-made : (constants : List ℕ) (comp : ℕ → Option HashInput) (a b x y m : Placed) → a ≡ x → b ≡ y → Merged constants comp x y m
+made : (constants : List ℕ) (comp : ℕ → Option HashInput) (a b x y m : PlacedTree) → a ≡ x → b ≡ y → Merged constants comp x y m
     → Merged constants comp a b m
 made constants comp a b x y m e f h = subst₂ (λ u v. Merged constants comp u v m) (sym e) (sym f) h
 

@@ -1,6 +1,6 @@
 use Rattle.std.proofs.Common.{false, sym, ◌∙◌}
 use Rattle.std.proofs.lemmas.List.{get_or_read}
-use Rattle.graphs.proofs.WalkLemmas.{AreMarks-visit, Adds-push}
+use Rattle.graphs.proofs.WalkLemmas.{AreMarks-visit, AddsPlaces-push}
 use Rattle.graphs.proofs.reach.Walk.visit.Goals as goal
 
 pub returns-clause-marks : goal.returns-clause-marks
@@ -9,4 +9,4 @@ returns-clause-marks c =
     (sym (get_or_read c.args.self.now.marks.items c.args.place _ c.requires.within c.index.ensures false) ∙ c.if-index.false))
 
 pub returns-clause-adds : goal.returns-clause-adds
-returns-clause-adds c = rw c.in_ok-push.ensures.items (Adds-push _ _)
+returns-clause-adds c = rw c.in_ok-push.ensures.items (AddsPlaces-push _ _)

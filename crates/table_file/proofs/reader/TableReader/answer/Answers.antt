@@ -1,7 +1,7 @@
 use Rattle.std.proofs.Common.{◌<◌, List, ℕ, Option, Err, length, sym, ap, subst, ◌∙◌, arith}
 use Rattle.air_kit.specs.declared.trace.Trace.{Trace}
 use Rattle.table_file.specs.declared.part_trace.PartTrace.{PartTrace}
-use Rattle.table_file.specs.Fields.{Gives}
+use Rattle.table_file.specs.Fields.{GivesRead}
 use Rattle.table_file.specs.Files.{trace_of}
 use Rattle.table_file.specs.Reading.{Reader, wanted}
 use Rattle.table_file.proofs.Readers.{answer_of, carried_all, head_bad, head_whole}
@@ -25,5 +25,5 @@ returns-in-Err c = λ bytes taken.
     carried_all c.args.self bytes (ap (λ (r : Reader). r.stop) (sym c.self.view_is) ∙ c.in-None-None.is-0)
     (ap (λ (r : Reader). r.part) (sym c.self.view_is) ∙ c.in-None-None.is-1) taken
     ∙ ap (λ (r : Reader). r.carried) (sym c.self.view_is) ∙ sym c.as_slice-in-None-None.ensures.value in
-    subst (λ (bs : List ℕ). Gives {A = Trace} (Err c.in-Err.error) (trace_of bs)) (sym all)
+    subst (λ (bs : List ℕ). GivesRead {A = Trace} (Err c.in-Err.error) (trace_of bs)) (sym all)
     (head_bad c.as_slice-in-None-None.result.now c.in-Err.error (sym c.in-Err.is ∙ c.read_head.ensures.is))

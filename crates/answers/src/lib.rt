@@ -1,0 +1,2 @@
+//! What the answers of calls have in common whose results a definition names. The definition stands in `specs/`; no code.
+#![tactic(auto)]
