@@ -15,10 +15,11 @@ use air_kit::{Public, Trace};
 use block_tree::Evidence;
 use checker::{Refused, Valid, check};
 use command_ends::{
-    MOST_PARAMS_BYTES, MOST_STATEMENT_BYTES, MOST_TABLE_BYTES, Outcome, answered, append_number,
-    load, load_pieces, malformed_params, malformed_table, malformed_text, save,
+    MOST_PARAMS_BYTES, MOST_STATEMENT_BYTES, MOST_TABLE_BYTES, Outcome, answered, load,
+    load_pieces, malformed_params, malformed_table, malformed_text, save,
 };
 use commands::Status;
+use decimal_text::append_number;
 use evidence_text::write_evidence;
 use json_values::TextError;
 use refusal_lines::refused_line;

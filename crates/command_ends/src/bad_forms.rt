@@ -4,9 +4,9 @@ ghost use Rattle.rpo_hash.specs.CauseText.{cause_text as param_cause_text};
 ghost use Rattle.command_ends.specs.Outcomes.{SaysStatus};
 ghost use Rattle.commands.specs.Malformed.{malformed_line, malformed_table_line, malformed_text_line};
 
-use crate::lines::append_number;
 use crate::outcome::{Outcome, answered};
 use commands::Status;
+use decimal_text::append_number;
 use json_values::{TextCause, cause_text};
 use rpo_hash::{ParamCause, ParamError};
 use std::alloc::Global;
@@ -31,11 +31,10 @@ pub fn malformed_params(alloc: Global, name: &str, error: ParamError) -> Outcome
 fn malformed_line(alloc: Global, name: &str, line: u32, cause: &str) -> Result<Bytes, Memory>
     ensures { IfOk result (λ text. text ≡ malformed_line name.now line cause.now) }
 {
-    let mut buffer = itoa::Buffer::new();
     let mut text = Bytes::copied(alloc, b"malformed ")?;
     text.append(name.as_bytes())?;
     text.append(b" line ")?;
-    text.append(buffer.format(line).as_bytes())?;
+    append_number(&mut text, u64::from(line))?;
     text.append(b" ")?;
     text.append(cause.as_bytes())?;
     text.append(b"\n")?;

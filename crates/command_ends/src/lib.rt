@@ -9,7 +9,7 @@ mod saving;
 mod saving_pieces;
 
 pub use bad_forms::{malformed, malformed_params, malformed_table, malformed_text};
-pub use lines::{append_number, append_word};
+pub use lines::append_word;
 pub use loading::{
     MOST_INPUTS_BYTES, MOST_PARAMS_BYTES, MOST_SOURCE_BYTES, MOST_STATEMENT_BYTES,
     MOST_TABLE_BYTES, load, load_pieces,

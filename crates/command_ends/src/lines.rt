@@ -1,17 +1,9 @@
-// The parts of printed lines.
-ghost use Rattle.std.specs.Prelude.{◌≡◌, ◌++◌, decimal, OnOk};
+// A digest in a printed line.
+ghost use Rattle.std.specs.Prelude.{◌≡◌, ◌++◌, OnOk};
 ghost use Rattle.vm_field.specs.WordText.{word_hex};
 
 use std::alloc::Global;
 use vm_field::{Bytes, Memory, Word};
-
-/// Adds a number in decimal.
-pub fn append_number(line: &mut Bytes, number: u64) -> Result<(), Memory>
-    ensures { OnOk result (line.new ≡ line.old ++ decimal number) }
-{
-    let mut buffer = itoa::Buffer::new();
-    line.append(buffer.format(number).as_bytes())
-}
 
 /// Adds the 64 digits of a digest.
 pub fn append_word(alloc: Global, line: &mut Bytes, word: &Word) -> Result<(), Memory>

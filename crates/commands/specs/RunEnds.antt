@@ -1,7 +1,8 @@
 -- The ends of `run` (docs/FORMATS.md).
-use Rattle.std.specs.Prelude.{◌≡◌, ℕ, Bool, true, false, List, ◌∷◌, ◌++◌, codes, decimal, Option, Ok, Err}
+use Rattle.std.specs.Prelude.{◌≡◌, ℕ, Bool, true, false, List, ◌++◌, codes, decimal, Option, Ok, Err}
 use Rattle.std.specs.List.{flat_map}
 use Rattle.vm_field.specs.Machine.{State, start}
+use Rattle.decimal_text.specs.Decimals.{element_text}
 use Rattle.vm_ops.specs.declared.cause.Cause.{Cause}
 use Rattle.vm_ops.specs.Causes.{text_of_cause}
 use Rattle.block_tree.specs.declared.program.Program.{Program}
@@ -22,12 +23,9 @@ abbrev pub outcome_of : List ℕ → Program → Given → ℕ → Outcome
 outcome_of constants program given limit =
     execution constants program.kernel limit (tree_of program.tree) (start given.stack given.advice)
 
-abbrev pub output_text : ℕ → List ℕ
-output_text cell = 32 ∷ decimal cell
-
 -- the clock of the last state, and then its whole stack
 abbrev pub run_lines : State → List ℕ
-run_lines s = codes "cycles " ++ decimal s.core.clock ++ codes "\noutputs" ++ flat_map output_text s.core.stack ++ codes "\n"
+run_lines s = codes "cycles " ++ decimal s.core.clock ++ codes "\noutputs" ++ flat_map element_text s.core.stack ++ codes "\n"
 
 abbrev pub trap_line : ℕ → Cause → List ℕ
 trap_line clock cause = codes "trap " ++ decimal clock ++ codes " " ++ text_of_cause cause ++ codes "\n"

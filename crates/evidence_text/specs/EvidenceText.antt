@@ -2,6 +2,7 @@
 use Rattle.std.specs.Prelude.{ℕ, List, [], ◌∷◌, ◌++◌, length, codes, decimal}
 use Rattle.std.specs.List.{flat_map}
 use Rattle.vm_field.specs.WordText.{word_hex}
+use Rattle.decimal_text.specs.Decimals.{element_text}
 use Rattle.block_tree.specs.Trees.{Tree, Opaque, Span, Join, Split, Loop, Call, Syscall}
 use Rattle.block_tree.specs.TreeView.{tree_of}
 use Rattle.block_tree.specs.declared.evidence.Evidence.{Evidence}
@@ -10,10 +11,6 @@ use Rattle.block_tree.specs.declared.evidence.Evidence.TheVariants.{Run, Pair}
 -- a text and the line feed behind it
 abbrev pub line : List ℕ → List ℕ
 line text = text ++ 10 ∷ []
-
--- a space, and the element in decimal
-abbrev pub element_text : ℕ → List ℕ
-element_text x = 32 ∷ decimal x
 
 abbrev pub batch_text : List ℕ → List ℕ
 batch_text batch = line (codes "batch" ++ flat_map element_text batch)

@@ -1,9 +1,9 @@
-ghost use Rattle.std.specs.Prelude.{◌≡◌, ◌++◌, IfOk, OnOk, decimal};
-ghost use Rattle.std.specs.List.{flat_map};
+ghost use Rattle.std.specs.Prelude.{◌≡◌, ◌++◌, IfOk, OnOk};
 ghost use Rattle.block_tree.specs.TreeView.{tree_of};
-ghost use Rattle.evidence_text.specs.EvidenceText.{batch_text, cycles_text, element_text, evidence_text, opaque_text, pair_text, span_text, tape_text, tree_text};
+ghost use Rattle.evidence_text.specs.EvidenceText.{batch_text, cycles_text, evidence_text, opaque_text, pair_text, span_text, tape_text, tree_text};
 
 use block_tree::{Evidence, Tree};
+use decimal_text::{append_elements, append_number};
 use std::alloc::Global;
 use vm_field::{Bytes, Felt, Memory, Word};
 
@@ -110,28 +110,4 @@ fn append_batch(text: &mut Bytes, batch: &[Felt; 8]) -> Result<(), Memory>
     text.append(b"batch")?;
     append_elements(text, batch)?;
     text.push(b'\n')
-}
-
-// Each element with a space before it.
-fn append_elements(text: &mut Bytes, elements: &[Felt]) -> Result<(), Memory>
-    ensures { OnOk result (text.new ≡ text.old ++ flat_map element_text elements.now) }
-{
-    for x in elements {
-        append_element(text, *x)?;
-    }
-    Ok(())
-}
-
-fn append_element(text: &mut Bytes, x: Felt) -> Result<(), Memory>
-    ensures { OnOk result (text.new ≡ text.old ++ element_text x) }
-{
-    text.push(b' ')?;
-    append_number(text, x.value())
-}
-
-fn append_number(text: &mut Bytes, number: u64) -> Result<(), Memory>
-    ensures { OnOk result (text.new ≡ text.old ++ decimal number) }
-{
-    let mut buffer = itoa::Buffer::new();
-    text.append(buffer.format(number).as_bytes())
 }

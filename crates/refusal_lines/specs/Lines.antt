@@ -1,9 +1,10 @@
 -- The line that is printed of a trace that is refused (docs/FORMATS.md, "Checks").
-use Rattle.std.specs.Prelude.{ℕ, List, [], ◌∷◌, ◌++◌, codes, decimal}
+use Rattle.std.specs.Prelude.{ℕ, List, [], ◌++◌, codes, decimal}
 use Rattle.std.specs.List.{flat_map}
 use Rattle.air_kit.specs.Tables.{text_of_table}
 use Rattle.air_kit.specs.declared.fault.Fault.{Fault}
 use Rattle.buses.specs.Names.{text_of_bus}
+use Rattle.decimal_text.specs.Decimals.{element_text}
 use Rattle.buses.specs.declared.bus.Bus.{Bus}
 use Rattle.checker.specs.declared.refusal.Refused.{Refused}
 use Rattle.checker.specs.declared.refusal.Refused.TheVariants as refused
@@ -13,10 +14,6 @@ abbrev pub fault_line : Fault → List ℕ
 fault_line f =
     codes "refused " ++ text_of_table f.table ++ codes " row " ++ decimal f.row ++ codes " constraint " ++ decimal f.number
     ++ codes " value " ++ decimal f.value ++ codes "\n"
-
--- a space, and the element in decimal
-abbrev pub element_text : ℕ → List ℕ
-element_text x = 32 ∷ decimal x
 
 -- the bus, the tuple that is not asked as often as given, and both counts
 abbrev pub bus_line : Bus → List ℕ → ℕ → ℕ → List ℕ

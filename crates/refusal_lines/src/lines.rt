@@ -1,10 +1,10 @@
 ghost use Rattle.std.specs.Prelude.{◌≡◌, ◌++◌, IfOk, OnOk, decimal};
-ghost use Rattle.std.specs.List.{flat_map};
-ghost use Rattle.refusal_lines.specs.Lines.{bus_line, element_text, fault_line, refused_line};
+ghost use Rattle.refusal_lines.specs.Lines.{bus_line, fault_line, refused_line};
 
 use air_kit::{Fault, table_text};
 use buses::Bus;
 use checker::Refused;
+use decimal_text::{append_elements, append_number};
 use std::alloc::Global;
 use vm_field::{Bytes, Felt, Memory};
 
@@ -35,11 +35,11 @@ fn fault_line(alloc: Global, fault: &Fault) -> Result<Bytes, Memory>
     let mut line = Bytes::copied(alloc, b"refused ")?;
     line.append(table_text(fault.table).as_bytes())?;
     line.append(b" row ")?;
-    append_number(&mut line, u128::from(fault.row))?;
+    append_number(&mut line, u64::from(fault.row))?;
     line.append(b" constraint ")?;
-    append_number(&mut line, u128::from(fault.number))?;
+    append_number(&mut line, u64::from(fault.number))?;
     line.append(b" value ")?;
-    append_number(&mut line, u128::from(fault.value.value()))?;
+    append_number(&mut line, fault.value.value())?;
     line.append(b"\n")?;
     Ok(line)
 }
@@ -57,32 +57,17 @@ fn bus_line(
     let mut line = Bytes::copied(alloc, name.as_bytes())?;
     append_elements(&mut line, tuple)?;
     line.append(b" asked ")?;
-    append_number(&mut line, asked)?;
+    append_count(&mut line, asked)?;
     line.append(b" given ")?;
-    append_number(&mut line, given)?;
+    append_count(&mut line, given)?;
     line.append(b"\n")?;
     Ok(line)
 }
 
-fn append_elements(line: &mut Bytes, elements: &[Felt]) -> Result<(), Memory>
-    ensures { OnOk result (line.new ≡ line.old ++ flat_map element_text elements.now) }
-{
-    for element in elements {
-        append_element(line, *element)?;
-    }
-    Ok(())
-}
-
-fn append_element(line: &mut Bytes, element: Felt) -> Result<(), Memory>
-    ensures { OnOk result (line.new ≡ line.old ++ element_text element) }
-{
-    line.push(b' ')?;
-    append_number(line, u128::from(element.value()))
-}
-
-fn append_number(line: &mut Bytes, number: u128) -> Result<(), Memory>
-    ensures { OnOk result (line.new ≡ line.old ++ decimal number) }
+// A count of tuples is a number of 128 bits.
+fn append_count(line: &mut Bytes, count: u128) -> Result<(), Memory>
+    ensures { OnOk result (line.new ≡ line.old ++ decimal count) }
 {
     let mut buffer = itoa::Buffer::new();
-    line.append(buffer.format(number).as_bytes())
+    line.append(buffer.format(count).as_bytes())
 }

@@ -2,9 +2,10 @@
 ghost use Rattle.std.specs.Prelude.{◌≡◌, ◌++◌, IfOk, OnOk};
 ghost use Rattle.std.specs.List.{flat_map};
 ghost use Rattle.vm_state.specs.Views.{state_of};
-ghost use Rattle.commands.specs.RunEnds.{output_text, run_lines};
+ghost use Rattle.commands.specs.RunEnds.{run_lines};
+ghost use Rattle.decimal_text.specs.Decimals.{element_text};
 
-use command_ends::append_number;
+use decimal_text::{append_element, append_number};
 use std::alloc::Global;
 use vm_field::{Bytes, Memory};
 use vm_state::State;
@@ -22,17 +23,10 @@ pub(crate) fn run_text(alloc: Global, state: &State) -> Result<Bytes, Memory>
 }
 
 fn append_outputs(text: &mut Bytes, state: &State) -> Result<(), Memory>
-    ensures { OnOk result (text.new ≡ text.old ++ flat_map output_text state.now.stack) }
+    ensures { OnOk result (text.new ≡ text.old ++ flat_map element_text state.now.stack) }
 {
     for cell in 0..state.depth() {
-        append_output(text, state.peek(cell).value())?;
+        append_element(text, state.peek(cell))?;
     }
     Ok(())
-}
-
-fn append_output(text: &mut Bytes, cell: u64) -> Result<(), Memory>
-    ensures { OnOk result (text.new ≡ text.old ++ output_text cell) }
-{
-    text.push(b' ')?;
-    append_number(text, cell)
 }

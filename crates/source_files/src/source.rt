@@ -6,8 +6,9 @@ ghost use Rattle.source_files.specs.Sources.{file_of};
 ghost use Rattle.commands.specs.SourceEnds.{AssemblesFiles, name_of_place as name_by_place, source_line};
 
 use block_tree::Program;
-use command_ends::{Outcome, answered, append_number};
+use command_ends::{Outcome, answered};
 use commands::Status;
+use decimal_text::append_number;
 use masm_link::{AsmCause, AsmError, assemble, cause_text};
 use rpo_hash::Params;
 use std::alloc::Global;

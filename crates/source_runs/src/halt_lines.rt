@@ -2,7 +2,7 @@
 ghost use Rattle.std.specs.Prelude.{◌≡◌, IfOk};
 ghost use Rattle.commands.specs.RunEnds.{limit_line, trap_line};
 
-use command_ends::append_number;
+use decimal_text::append_number;
 use std::alloc::Global;
 use vm_field::{Bytes, Memory};
 use vm_ops::{Cause, cause_text};
