@@ -10,7 +10,7 @@ work=$(mktemp -d)
 trap 'rm -rf "$work"' EXIT
 # shellcheck source=bench/crates.sh
 . "$top/bench/crates.sh"
-libraries='processor cycle_events block_tree op_pack perm_memo rpo_hash vm_state vm_ops vm_field'
+libraries='processor machine_cycles block_tree op_pack perm_memo rpo_hash vm_state vm_ops vm_field'
 # shellcheck disable=SC2086
 copy_crates $libraries
 mkdir -p "$work/crates/bench_execute/src"

@@ -20,8 +20,8 @@ rustc --edition 2021 -O -o "$work/plain" "$top/bench/check.rs"
 rustc --edition 2021 -O -o "$work/fill" "$top/bench/fill.rs"
 
 make_program() {
-    local libraries='run_files run_extractor checker table_file air_kit masm_link masm_lex processor cycle_events evidence_text statement
-        run_inputs block_tree rpo_hash host_io vm_io vm_state vm_table vm_field'
+    local libraries='fill_files sound_evidence checker table_file air_kit masm_link masm_lex processor machine_cycles statement
+        block_tree rpo_hash host_io vm_io vm_state vm_table vm_field'
     # shellcheck disable=SC2086
     copy_crates $libraries
     mkdir -p "$work/crates/bench_parts/src"
@@ -35,16 +35,14 @@ ghost use Rattle.std.specs.Prelude.{◌≤◌, length, IfSome};
 
 use air_kit::Public;
 use checker::{check, check_rows};
-use evidence_text::write_evidence;
+use fill_files::{statement_file_of_run, trace_of_run};
 use host_io::FolderShelf;
 use masm_lex::MAX_SOURCE;
 use masm_link::assemble;
 use processor::execute;
 use rpo_hash::Params;
-use run_extractor::extract;
-use run_files::{statement_file_of_run, trace_of_run};
-use run_inputs::read_inputs;
-use statement::read_statement;
+use sound_evidence::extract;
+use statement::{read_inputs, read_statement, write_evidence};
 use std::time::Instant;
 use std::{env, fs};
 use table_file::{TablePieces, TableReader, decode};

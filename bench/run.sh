@@ -42,7 +42,7 @@ if [ "$1" != crates ]; then
 fi
 # shellcheck source=bench/crates.sh
 . "$top/bench/crates.sh"
-libraries='masm_link masm_lex processor cycle_events block_tree perm_memo rpo_hash host_io vm_io vm_state vm_field'
+libraries='masm_link masm_lex processor machine_cycles block_tree perm_memo rpo_hash host_io vm_io vm_state vm_field'
 # shellcheck disable=SC2086
 copy_crates $libraries
 mkdir -p "$work/crates/bench_run/src"

@@ -2,3 +2,4 @@ pub mod FlagLemmas
 pub mod DecodeLemmas
 pub mod FaultLemmas
 pub mod ZeroLemmas
+pub mod CountLaws

@@ -24,3 +24,4 @@ pub mod Acceptance
 pub mod Hashes
 pub mod Requests
 pub mod RowStates
+pub mod Counts

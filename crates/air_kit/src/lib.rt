@@ -4,8 +4,10 @@
 
 mod chips;
 mod compare;
+mod counts;
 mod fault;
 mod flags;
+mod laws;
 mod place;
 mod requests;
 mod seen;
@@ -14,7 +16,9 @@ mod trace;
 
 pub use chips::{bit_value, in_last, only};
 pub use compare::{are_same, is_one, is_zero};
+pub use counts::{has_counts, may_have};
 pub use fault::{Fault, first_nonzero, or_next};
+pub use laws::count_laws;
 pub use place::Place;
 pub use requests::{Access, BitOp, Perm, Requests};
 pub use seen::Seen;

@@ -1,1 +1,3 @@
+pub mod KernelLemmas
+pub mod LookupLemmas
 pub mod StepLemmas

@@ -17,8 +17,8 @@ use Rattle.bus_blocks.specs.Space.{HasSpace}
 use Rattle.bus_main.specs.RowTuples.{HaveSpace, main_asked_at, main_given_at}
 use Rattle.bus_blocks.proofs.BlockLemmas.{no_block, no_child, no_loop}
 use Rattle.bus_blocks.proofs.TwoLemmas.{given_first}
-use Rattle.bus_lookups.proofs.KernelLemmas.{no_call}
-use Rattle.bus_lookups.proofs.LookupLemmas.{no_access, none_combined}
+use Rattle.bus_main.proofs.KernelLemmas.{no_call}
+use Rattle.bus_main.proofs.LookupLemmas.{no_access, none_combined}
 
 -- an ordinary operation is none of those of blocks
 record IsOutside (op : Op) : Type 0 where

@@ -5,11 +5,15 @@ ghost use Rattle.air_kit.specs.MainTuples.{is_batch_op, main_asked, main_given, 
 ghost use Rattle.bus_kit.specs.ByBus.{AreCounted};
 ghost use Rattle.bus_main.specs.RowTuples.{HaveSpace, IsReadable};
 
+use crate::bitwise::tuples_bitwise;
+use crate::hasher::tuples_hasher;
+use crate::kernel::tuples_kernel;
+use crate::memory::tuples_memory;
+use crate::range::tuples_range;
 use bus_blocks::{
     op_in, tuples_blocks, tuples_children, tuples_groups, tuples_loops, tuples_overflow,
 };
 use bus_kit::Tallies;
-use bus_lookups::{tuples_bitwise, tuples_hasher, tuples_kernel, tuples_memory, tuples_range};
 use vm_field::Memory;
 use vm_ops::{Op, is_ordinary};
 use vm_table::MainView;

@@ -17,9 +17,9 @@ use Rattle.buses.proofs.Counting.{counted-append}
 use Rattle.bus_kit.specs.ByBus.{AreCounted, HaveRoom, asked_by, given_by}
 use Rattle.bus_kit.specs.declared.tallies.Tallies.{Tallies}
 use Rattle.bus_main.specs.RowTuples.{main_given_at}
-use Rattle.row_facts.proofs.BatchFacts.{batch_row}
-use Rattle.row_facts.proofs.OpcodeFacts.{main_parts, opcode_bits}
-use Rattle.row_facts.proofs.Zeros.{numbers_zero}
+use Rattle.facts_main.proofs.BatchFacts.{batch_row}
+use Rattle.facts_main.proofs.OpcodeFacts.{main_parts, opcode_bits}
+use Rattle.facts_main.proofs.Zeros.{numbers_zero}
 use Rattle.vm_table.specs.Layout.{IsTable}
 use Rattle.checker.specs.Counting.{AreReadable, AreRowsCounted, AreWithin, IsRowCounted, IsTableCounted, IsTraceCounted, asked_of, given_of, room_before, room_behind}
 

@@ -1,2 +1,4 @@
+pub mod Settings
+pub mod Answers
 pub mod Counting
 pub mod Refusals

@@ -5,8 +5,9 @@ ghost use Rattle.checker.specs.Refusals.{IsBusesAnswer, IsRefusal};
 
 use crate::counting::count_all;
 use crate::refusal::{Refused, first_apart};
+use crate::rows::check_rows;
+use crate::setting::Setting;
 use air_kit::{Public, Trace};
-use row_checks::{Setting, check_rows};
 use std::alloc::Global;
 use vm_io::Gate;
 

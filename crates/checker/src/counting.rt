@@ -2,14 +2,15 @@ ghost use Rattle.std.specs.Prelude.{◌≡◌, ℕ, ◌^◌, ◌<◌, List, leng
 ghost use Rattle.air_kit.specs.Traces.{HasCounts, rows_of};
 ghost use Rattle.bus_kit.specs.ByBus.{HaveRoom};
 ghost use Rattle.checker.specs.Counting.{AreReadable, AreWithin, IsRowCounted, IsTableCounted, IsTraceCounted, room_before, room_behind};
-ghost use Rattle.row_checks.specs.Settings.{claim_in};
+ghost use Rattle.checker.specs.Settings.{claim_in};
 
+use crate::rows::rows_in;
+use crate::setting::Setting;
 use air_kit::{TableName, Trace};
 use bus_chips::{
     tuples_bitwise, tuples_hasher, tuples_kernel, tuples_left, tuples_memory, tuples_range,
 };
 use bus_kit::Tallies;
-use row_checks::{Setting, rows_in};
 use std::alloc::Global;
 
 /// What the rows of all tables and the statement ask and give on each bus; none where memory was refused.

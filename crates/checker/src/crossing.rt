@@ -1,4 +1,5 @@
-use crate::{Refused, Valid};
+use crate::checking::Valid;
+use crate::refusal::Refused;
 
 fn crosses<T: Send + Sync>() {}
 

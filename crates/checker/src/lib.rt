@@ -1,13 +1,16 @@
-//! A trace is checked: it is accepted, or refused at its first fault or at the first bus that is apart (docs/CONSTRAINTS.md).
+//! A trace is checked: it is accepted, or refused at its first fault, by table, row and number, or at the first bus that is apart
+//! (docs/CONSTRAINTS.md).
 #![tactic(auto)]
 
 mod checking;
 mod counting;
 mod crossing;
 mod refusal;
+mod rows;
+mod setting;
 
+pub use air_kit::has_counts;
 pub use checking::{Valid, check};
 pub use crossing::types_cross;
 pub use refusal::Refused;
-pub use row_checks::check_rows;
-pub use row_counts::has_counts;
+pub use rows::check_rows;

@@ -5,9 +5,9 @@ use Rattle.std.specs.List.Sorted.{IsPermutation}
 use Rattle.air_kit.specs.declared.requests.Access.{Access}
 use Rattle.air_kit.specs.declared.requests.Requests.{Requests}
 use Rattle.air_kit.specs.Requests.{Fits}
-use Rattle.memory_rows.specs.AccessRows.{new_address, new_context, row_behind, rows_behind, step_behind}
-use Rattle.memory_rows.specs.MemoryTables.{AccessesFit, IsSmallAccess, ShowsAccesses}
-use Rattle.memory_rows.proofs.RowsShow.{rows_show}
+use Rattle.facts_memory.specs.AccessRows.{new_address, new_context, row_behind, rows_behind, step_behind}
+use Rattle.facts_memory.specs.MemoryTables.{AccessesFit, IsSmallAccess, ShowsAccesses}
+use Rattle.facts_memory.proofs.RowsShow.{rows_show}
 use Rattle.fill_chips.specs.MemoryLimbs.{AreRowsOf}
 
 -- a row by its cells

@@ -3,10 +3,10 @@ use Rattle.std.proofs.Common.{◌≡◌, ◌≢◌, ℕ, zero, suc, ◌+◌, ◌
 use Rattle.std.proofs.lemmas.List.{length-map}
 use Rattle.std.proofs.lemmas.List.Elements.{All-append}
 use Rattle.vm_field.specs.Machine.{IsWord}
-use Rattle.hash_rows.specs.PermRows.{rows_of as perm_rows}
-use Rattle.bit_rows.specs.BitRows.{rows_of as bit_rows}
-use Rattle.bit_rows.proofs.Given.{rows_give as bits_give}
-use Rattle.bit_rows.proofs.TableLaws.{rows_show as bits_show}
+use Rattle.facts_hasher.specs.PermRows.{rows_of as perm_rows}
+use Rattle.facts_bitwise.specs.BitRows.{rows_of as bit_rows}
+use Rattle.facts_bitwise.proofs.Given.{rows_give as bits_give}
+use Rattle.facts_bitwise.proofs.TableLaws.{rows_show as bits_show}
 use Rattle.buses.specs.Counts.{counted, once, over_rows}
 use Rattle.buses.specs.declared.bus.Bus.{Bus}
 use Rattle.buses.specs.declared.bus.Bus.TheVariants as bus
@@ -23,12 +23,12 @@ use Rattle.air_kit.specs.ChipTuples.{chip_given}
 use Rattle.air_kit.specs.Places.{Claim, at_number}
 use Rattle.air_kit.specs.Requests.{Fits, answers_on}
 use Rattle.air_kit.specs.Traces.{HasCounts, most_rows, rows_of, value_at}
-use Rattle.hash_rows.specs.HashTables.{PermsFit, HasherIsZero}
-use Rattle.hash_rows.proofs.GivenLemmas.{rows_give}
-use Rattle.hash_rows.proofs.RowsAreZero.{rows_of-size}
-use Rattle.hash_rows.proofs.TableLaws.{rows_show}
-use Rattle.bit_rows.specs.BitTables.{HaveWords, ShowsOps}
-use Rattle.memory_rows.specs.MemoryTables.{ShowsAccesses}
+use Rattle.facts_hasher.specs.HashTables.{PermsFit, HasherIsZero}
+use Rattle.facts_hasher.proofs.GivenLemmas.{rows_give}
+use Rattle.facts_hasher.proofs.RowsAreZero.{rows_of-size}
+use Rattle.facts_hasher.proofs.TableLaws.{rows_show}
+use Rattle.facts_bitwise.specs.BitTables.{HaveWords, ShowsOps}
+use Rattle.facts_memory.specs.MemoryTables.{ShowsAccesses}
 use Rattle.fill_chips.specs.declared.chips.Chips.{Chips}
 use Rattle.fill_chips.specs.Beside.{AnswersBeside, HasSizes, beside}
 use Rattle.fill_chips.specs.KernelRows.{kernel_rows, times_called}

@@ -6,7 +6,7 @@ use Rattle.buses.specs.Counts.{counted, once, over_rows}
 use Rattle.buses.proofs.Counting.{counted-none, counted-append}
 use Rattle.chip_columns.specs.MemoryColumns.{d0, d1, a0, a1}
 use Rattle.air_kit.specs.ChipTuples.{memory_ranges}
-use Rattle.memory_rows.specs.MemoryTables.{HasLimbs, HaveLimbs}
+use Rattle.facts_memory.specs.MemoryTables.{HasLimbs, HaveLimbs}
 use Rattle.fill_chips.specs.MemoryLimbs.{limbs_in, limbs_of}
 use Rattle.fill_chips.proofs.GivenLemmas.{over-cons, over-none}
 

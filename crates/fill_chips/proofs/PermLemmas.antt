@@ -3,7 +3,7 @@ use Rattle.std.proofs.Common.{◌≡◌, ℕ, zero, suc, Bool, false, List, [], 
 use Rattle.vm_ops.specs.Values.{bit_of}
 use Rattle.vm_field.specs.Permutation.{rounds}
 use Rattle.air_kit.specs.declared.requests.Perm.{Perm}
-use Rattle.hash_rows.specs.PermRows.{perm_row, rows_before, rows_of}
+use Rattle.facts_hasher.specs.PermRows.{perm_row, rows_before, rows_of}
 
 before-append : (constants : List ℕ) (p : Perm) (rows more : List (List ℕ))
     → rows_before constants p (rows ++ more) ≡ rows_before constants p rows ++ more

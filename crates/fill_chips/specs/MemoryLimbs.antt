@@ -3,8 +3,8 @@ use Rattle.std.specs.Prelude.{◌≡◌, ℕ, List, [], ◌∷◌, ◌++◌}
 use Rattle.std.specs.List.Sorted.{IsNonDecreasingBy, IsPermutation}
 use Rattle.chip_columns.specs.MemoryColumns.{d0, d1, a0, a1}
 use Rattle.air_kit.specs.declared.requests.Access.{Access}
-use Rattle.memory_rows.specs.Accesses.{key_of}
-use Rattle.memory_rows.specs.AccessRows.{rows_of}
+use Rattle.facts_memory.specs.Accesses.{key_of}
+use Rattle.facts_memory.specs.AccessRows.{rows_of}
 
 -- the rows are those of these accesses, put in order
 pub record AreRowsOf (accesses : List Access) (rows : List (List ℕ)) : Type 0 where

@@ -1,6 +1,6 @@
 ghost use Rattle.std.specs.Prelude.{◌≡◌, ◌*◌, ◌^◌, ◌<◌, ◌≤◌, [], ◌++◌, length, IfOk, OnOk};
-ghost use Rattle.bit_rows.specs.BitRows.{bit_row, bitwise, row_without, rows_before, rows_of};
-ghost use Rattle.bit_rows.specs.BitTables.{HaveWords, HasWords};
+ghost use Rattle.facts_bitwise.specs.BitRows.{bit_row, bitwise, row_without, rows_before, rows_of};
+ghost use Rattle.facts_bitwise.specs.BitTables.{HaveWords, HasWords};
 
 use crate::hasher::bit_of;
 use air_kit::BitOp;

@@ -1,7 +1,7 @@
 ghost use Rattle.std.specs.Prelude.{◌≡◌, ◌*◌, ◌^◌, ◌≤◌, [], ◌∷◌, ◌++◌, length, All, IfOk, OnOk};
 ghost use Rattle.rpo_hash.specs.States.{IsState};
 ghost use Rattle.vm_ops.specs.Values.{bit_of};
-ghost use Rattle.hash_rows.specs.PermRows.{rows_before, rows_of};
+ghost use Rattle.facts_hasher.specs.PermRows.{rows_before, rows_of};
 
 use air_kit::Perm;
 use perm_memo::Permutations;

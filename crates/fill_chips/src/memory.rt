@@ -1,10 +1,10 @@
 ghost use Rattle.std.specs.Prelude.{◌≡◌, ◌+◌, ◌*◌, ◌-◌, ◌^◌, ◌<◌, length, All, IfOk};
 ghost use Rattle.vm_ops.specs.Values.{bit_of};
 ghost use Rattle.std.specs.List.Sorted.{IsNonDecreasingBy, IsPermutation};
-ghost use Rattle.memory_rows.specs.Accesses.{key_of};
-ghost use Rattle.memory_rows.specs.AccessRows.{new_address, new_context, row_behind, rows_of, step_behind};
+ghost use Rattle.facts_memory.specs.Accesses.{key_of};
+ghost use Rattle.facts_memory.specs.AccessRows.{new_address, new_context, row_behind, rows_of, step_behind};
 ghost use Rattle.vm_table.specs.Layout.{row_at};
-ghost use Rattle.memory_rows.specs.MemoryTables.{HasLimbs, IsSmallAccess};
+ghost use Rattle.facts_memory.specs.MemoryTables.{HasLimbs, IsSmallAccess};
 ghost use Rattle.fill_chips.specs.MemoryLimbs.{AreRowsOf, limbs_of};
 
 use crate::hasher::bit_of;

@@ -1,6 +1,6 @@
 ghost use Rattle.std.specs.Prelude.{◌≡◌, ℕ, ◌+◌, ◌*◌, ◌-◌, ◌<◌, ◌≤◌, [], ◌∷◌, ◌++◌, length, slice_index, All, IfOk};
 ghost use Rattle.vm_field.specs.Field.{prime};
-ghost use Rattle.memory_rows.specs.MemoryTables.{HaveLimbs};
+ghost use Rattle.facts_memory.specs.MemoryTables.{HaveLimbs};
 ghost use Rattle.fill_chips.specs.MemoryLimbs.{limbs_in};
 ghost use Rattle.fill_chips.specs.RangeRows.{AreTimes, allowed_steps, range_rows, step_within, times_asked};
 

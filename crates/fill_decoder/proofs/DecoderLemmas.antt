@@ -1,12 +1,12 @@
 -- The decoder behind an event, and its newest block.
 use Rattle.std.proofs.Common.{◌≡◌, ℕ, ◌+◌, List, [], ◌∷◌, Option, None, Some, length, slice_get, refl, ap, ◌∙◌, add-one}
-use Rattle.cycle_events.specs.declared.event.Event.{Event}
-use Rattle.run_rows.specs.Decoder as rows
-use Rattle.run_rows.specs.Decoder.{address_of, advance, advance_by, hidden_of, opened}
-use Rattle.run_rows.specs.Groups.{batch_begun}
-use Rattle.run_rows.specs.Kinds as kinds
-use Rattle.run_rows.specs.Kinds.{Kind, kind_of}
-use Rattle.run_rows.specs.Turns.{respans}
+use Rattle.machine_cycles.specs.declared.event.Event.{Event}
+use Rattle.complete_rows.specs.Decoder as rows
+use Rattle.complete_rows.specs.Decoder.{address_of, advance, advance_by, hidden_of, opened}
+use Rattle.complete_rows.specs.Groups.{batch_begun}
+use Rattle.complete_rows.specs.Kinds as kinds
+use Rattle.complete_rows.specs.Kinds.{Kind, kind_of}
+use Rattle.complete_rows.specs.Turns.{respans}
 use Rattle.fill_decoder.specs.Views.{advance_as}
 
 as_known : (kind : Kind) (d : rows.Decoder) (e : Event) (batches : ℕ) (later : List Event)

@@ -1,6 +1,6 @@
 -- A group that goes on, and the newest block.
 use Rattle.std.proofs.Common.{◌≡◌, ◌≢◌, ℕ, zero, suc, ◌+◌, false, List, [], ◌∷◌, refl, slice_get, slice_index, unwrap_or, drop, arith}
-use Rattle.run_rows.specs.Groups.{group_after}
+use Rattle.complete_rows.specs.Groups.{group_after}
 
 pub goes_on : (number place : ℕ) (positions : List ℕ) → number ≢ 0
     → group_after false number place positions ≡ record { number = number; place = place + 1; positions = positions }

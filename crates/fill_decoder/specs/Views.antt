@@ -3,13 +3,13 @@ use Rattle.std.specs.Prelude.{ℕ, ◌+◌}
 use Rattle.vm_ops.specs.Moves.{shift_of}
 use Rattle.vm_ops.specs.declared.op.Op.TheVariants as ops
 use Rattle.air_kit.specs.Flags.{is_op}
-use Rattle.cycle_events.specs.declared.event.Event.{Event}
-use Rattle.run_rows.specs.Decoder as rows
-use Rattle.run_rows.specs.Decoder.{called, closed, keys_after, next_after, opened, popped}
-use Rattle.run_rows.specs.Groups as groups
-use Rattle.run_rows.specs.Groups.{batch_begun, taken_from}
-use Rattle.run_rows.specs.Kinds as kinds
-use Rattle.run_rows.specs.Kinds.{Kind}
+use Rattle.machine_cycles.specs.declared.event.Event.{Event}
+use Rattle.complete_rows.specs.Decoder as rows
+use Rattle.complete_rows.specs.Decoder.{called, closed, keys_after, next_after, opened, popped}
+use Rattle.complete_rows.specs.Groups as groups
+use Rattle.complete_rows.specs.Groups.{batch_begun, taken_from}
+use Rattle.complete_rows.specs.Kinds as kinds
+use Rattle.complete_rows.specs.Kinds.{Kind}
 use Rattle.fill_decoder.specs.declared.decoder.Decoder.{Decoder}
 
 abbrev pub unread_in : Decoder → groups.Unread

@@ -1,16 +1,16 @@
 ghost use Rattle.std.specs.Prelude.{◌≡◌, ℕ, ◌*◌, drop, slice_get, slice_index, length, List, IfOk, OnOk};
-ghost use Rattle.run_rows.specs.Decoder.{address_of, at_start, called, closed, key_of, keys_after, next_after, opened, popped};
-ghost use Rattle.run_rows.specs.Groups.{batch_begun, taken_from};
-ghost use Rattle.run_rows.specs.Kinds as kinds;
+ghost use Rattle.complete_rows.specs.Decoder.{address_of, at_start, called, closed, key_of, keys_after, next_after, opened, popped};
+ghost use Rattle.complete_rows.specs.Groups.{batch_begun, taken_from};
+ghost use Rattle.complete_rows.specs.Kinds as kinds;
 ghost use Rattle.vm_ops.specs.Moves.{shift_of};
-ghost use Rattle.event_kinds.specs.Kinds.{kind_in};
+ghost use Rattle.fill_requests.specs.Kinds.{kind_in};
 ghost use Rattle.fill_decoder.specs.Views.{advance_as, decoder_in, unread_in};
 
 use crate::numbers::{sum_of, times_eight};
 use crate::positions::positions_of;
 use crate::stack::Stack;
-use cycle_events::Event;
-use event_kinds::{Kind, is_op};
+use fill_requests::{Kind, is_op};
+use machine_cycles::Event;
 use std::alloc::Global;
 use std::marker::Model;
 use std::mem;
@@ -26,7 +26,7 @@ pub struct Open {
 }
 
 impl Model for Open {
-    ghost use Rattle.run_rows.specs.Decoder as rows;
+    ghost use Rattle.complete_rows.specs.Decoder as rows;
 
     ghost Value = { rows.Open };
 

@@ -1,14 +1,14 @@
 -- The rows of events, one by one.
 use Rattle.std.proofs.Common.{◌≡◌, ℕ, ◌+◌, ◌<◌, ◌≤◌, List, [], ◌∷◌, ◌++◌, length, get_or, drop, slice_get, slice_index, unwrap_or, sym, refl, ap, ◌∙◌, append_assoc}
 use Rattle.std.proofs.lemmas.List.{drop_all}
-use Rattle.cycle_events.specs.declared.event.Event.{Event}
-use Rattle.cycle_events.specs.declared.event.Visible.{Visible}
-use Rattle.run_rows.specs.Decoder.{Decoder, advance, at_start, decoder_after}
-use Rattle.run_rows.specs.Filling.{fill, halted, row_of, rows_of, seen_behind}
-use Rattle.run_rows.specs.Kinds.{kind_of}
-use Rattle.run_rows.specs.Turns.{repeats, repeats_by}
+use Rattle.machine_cycles.specs.declared.event.Event.{Event}
+use Rattle.machine_cycles.specs.declared.event.Visible.{Visible}
+use Rattle.complete_rows.specs.Decoder.{Decoder, advance, at_start, decoder_after}
+use Rattle.complete_rows.specs.Filling.{fill, halted, row_of, rows_of, seen_behind}
+use Rattle.complete_rows.specs.Kinds.{kind_of}
+use Rattle.complete_rows.specs.Turns.{repeats, repeats_by}
 use Rattle.fill_main.specs.Turns.{turns_of}
-use Rattle.event_kinds.proofs.LoopLemmas.{suffix}
+use Rattle.fill_requests.proofs.LoopLemmas.{suffix}
 
 fill-more : (last : Visible) (d : Decoder) (e : Event) (later : List Event)
     → fill last d (e ∷ later) ≡ row_of d e (seen_behind last later) later ∷ fill last (advance d e later) later

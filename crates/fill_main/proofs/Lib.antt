@@ -1,1 +1,3 @@
+pub mod InverseLemmas
+pub mod RowLemmas
 pub mod FillLemmas

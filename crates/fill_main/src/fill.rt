@@ -1,18 +1,17 @@
 ghost use Rattle.std.specs.Prelude.{◌≡◌, ℕ, drop, IfOk};
-ghost use Rattle.run_rows.specs.Filling.{halted, rows_of};
-ghost use Rattle.run_rows.specs.Kinds as kinds;
-ghost use Rattle.run_rows.specs.RunRequests.{requests_of};
-ghost use Rattle.run_rows.specs.Turns.{respans};
-ghost use Rattle.event_kinds.specs.Kinds.{kind_in};
+ghost use Rattle.complete_rows.specs.Filling.{halted, rows_of};
+ghost use Rattle.complete_rows.specs.Kinds as kinds;
+ghost use Rattle.complete_rows.specs.RunRequests.{requests_of};
+ghost use Rattle.complete_rows.specs.Turns.{respans};
+ghost use Rattle.fill_requests.specs.Kinds.{kind_in};
 
+use crate::inverses::Inverses;
+use crate::row::write_row;
 use crate::turns::turns_of;
 use air_kit::Requests;
-use cycle_events::{Event, Events, Visible};
-use event_kinds::{Kind, kind_of, respans, seen_behind};
 use fill_decoder::{Decoder, into_elements};
-use fill_requests::{no_requests, push_requests};
-use fill_rows::write_row;
-use inverse_memo::Inverses;
+use fill_requests::{Kind, kind_of, no_requests, push_requests, respans, seen_behind};
+use machine_cycles::{Event, Events, Visible};
 use perm_memo::Permutations;
 use std::alloc::Global;
 use vm_field::{Felt, Memory, Sequence, Word};

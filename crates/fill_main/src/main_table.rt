@@ -1,12 +1,12 @@
 ghost use Rattle.std.specs.Prelude.{◌≡◌, IfOk};
 ghost use Rattle.vm_state.specs.Views.{core_of};
-ghost use Rattle.cycle_events.specs.Events.{visible_of};
-ghost use Rattle.run_rows.specs.Filling.{rows_of};
-ghost use Rattle.run_rows.specs.RunRequests.{requests_of};
+ghost use Rattle.machine_cycles.specs.Events.{visible_of};
+ghost use Rattle.complete_rows.specs.Filling.{rows_of};
+ghost use Rattle.complete_rows.specs.RunRequests.{requests_of};
 
 use crate::fill::fill;
 use air_kit::Requests;
-use cycle_events::{Events, Visible};
+use machine_cycles::{Events, Visible};
 use perm_memo::Permutations;
 use std::alloc::Global;
 use vm_field::Memory;

@@ -1,11 +1,11 @@
 ghost use Rattle.std.specs.Prelude.{◌≡◌, slice_index, OnOk, IfOk};
-ghost use Rattle.run_rows.specs.Turns.{repeats_by};
-ghost use Rattle.event_kinds.specs.Kinds.{kind_in};
+ghost use Rattle.complete_rows.specs.Turns.{repeats_by};
+ghost use Rattle.fill_requests.specs.Kinds.{kind_in};
 ghost use Rattle.fill_main.specs.Turns.{turns_of};
 
-use cycle_events::Events;
-use event_kinds::{Kind, kind_of};
 use fill_decoder::{Stack, sum_of};
+use fill_requests::{Kind, kind_of};
+use machine_cycles::Events;
 use std::alloc::Global;
 use vm_field::Memory;
 

@@ -4,8 +4,8 @@ use Rattle.std.proofs.lemmas.List.{drop_all}
 use Rattle.vm_field.specs.Permutation.{permuted}
 use Rattle.vm_field.specs.Sponge.{absorbed, begun}
 use Rattle.air_kit.specs.declared.requests.Perm.{Perm}
-use Rattle.run_rows.specs.RunRequests.{chain, hash_perms}
-use Rattle.event_kinds.proofs.LoopLemmas.{suffix}
+use Rattle.complete_rows.specs.RunRequests.{chain, hash_perms}
+use Rattle.fill_requests.proofs.LoopLemmas.{suffix}
 
 chain-more : (constants state block next : List ℕ) (going : Bool) (rest : List (List ℕ)) → chain constants state going (block ∷ next ∷ rest)
     ≡ record { mode = false; cont = going; more = true; start = take 4 state ++ block }

@@ -1,6 +1,6 @@
 -- Lists by their places.
 use Rattle.std.proofs.Common.{◌≡◌, ◌++◌, ℕ, List, [], ◌∷◌, length, get_or, reverse, take, slice_index, refl, arith, ap₂}
-use Rattle.event_kinds.specs.Parts.{four_of}
+use Rattle.fill_requests.specs.Parts.{four_of}
 
 pub first_four : (xs : List ℕ) → length xs ≡ 8 → take 4 xs ≡ four_of xs
 first_four (x0 ∷ x1 ∷ x2 ∷ x3 ∷ x4 ∷ x5 ∷ x6 ∷ x7 ∷ []) len = refl

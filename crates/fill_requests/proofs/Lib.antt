@@ -1,3 +1,5 @@
+pub mod LoopLemmas
+pub mod SpanLemmas
 pub mod Elements
 pub mod ChainLemmas
 pub mod RequestLemmas

@@ -6,15 +6,15 @@ use Rattle.air_kit.specs.declared.requests.Access.{Access}
 use Rattle.air_kit.specs.declared.requests.BitOp.{BitOp}
 use Rattle.air_kit.specs.declared.requests.Perm.{Perm}
 use Rattle.air_kit.specs.declared.requests.Requests.{Requests}
-use Rattle.cycle_events.specs.declared.event.Event.{Event}
-use Rattle.cycle_events.specs.declared.event.Visible.{Visible}
-use Rattle.run_rows.specs.Filling.{seen_behind}
-use Rattle.run_rows.specs.Kinds as kinds
-use Rattle.run_rows.specs.Kinds.{Kind, kind_of}
-use Rattle.run_rows.specs.RunRequests.{accesses_by, accesses_of, bits_by, bits_of, calls_of, hash_perms, perms_by, perms_of, ranges_by, ranges_of}
-use Rattle.run_rows.specs.Turns.{respans}
+use Rattle.machine_cycles.specs.declared.event.Event.{Event}
+use Rattle.machine_cycles.specs.declared.event.Visible.{Visible}
+use Rattle.complete_rows.specs.Filling.{seen_behind}
+use Rattle.complete_rows.specs.Kinds as kinds
+use Rattle.complete_rows.specs.Kinds.{Kind, kind_of}
+use Rattle.complete_rows.specs.RunRequests.{accesses_by, accesses_of, bits_by, bits_of, calls_of, hash_perms, perms_by, perms_of, ranges_by, ranges_of}
+use Rattle.complete_rows.specs.Turns.{respans}
 use Rattle.fill_requests.specs.Asked.{perms_as}
-use Rattle.event_kinds.proofs.LoopLemmas.{ended, step}
+use Rattle.fill_requests.proofs.LoopLemmas.{ended, step}
 
 pub bits-step : (events : List Event) (i : ℕ) (e : Event) (done more : List BitOp) → i < length events → e ≡ get_or events i e
     → more ≡ done ++ bits_by e.op e.before → more ++ bits_of (drop (i + 1) events) ≡ done ++ bits_of (drop i events)

@@ -3,10 +3,10 @@ use Rattle.std.specs.Prelude.{ℕ, List, [], ◌∷◌}
 use Rattle.vm_ops.specs.Codes.{code_of}
 use Rattle.vm_ops.specs.declared.op.Op.TheVariants as ops
 use Rattle.air_kit.specs.declared.requests.Perm.{Perm}
-use Rattle.cycle_events.specs.declared.event.Event.{Event}
-use Rattle.run_rows.specs.Kinds as kinds
-use Rattle.run_rows.specs.Kinds.{Kind}
-use Rattle.run_rows.specs.RunRequests.{hash_perms, perms_by_op}
+use Rattle.machine_cycles.specs.declared.event.Event.{Event}
+use Rattle.complete_rows.specs.Kinds as kinds
+use Rattle.complete_rows.specs.Kinds.{Kind}
+use Rattle.complete_rows.specs.RunRequests.{hash_perms, perms_by_op}
 
 abbrev pub perms_as : Kind → List ℕ → Event → List (List ℕ) → List Perm
 perms_as kinds.Ordinary constants e batches = perms_by_op e.op e.before

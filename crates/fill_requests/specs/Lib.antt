@@ -1,1 +1,4 @@
+pub mod Kinds
+pub mod Parts
+pub mod Spans
 pub mod Asked

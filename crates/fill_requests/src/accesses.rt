@@ -1,9 +1,9 @@
 ghost use Rattle.std.specs.Prelude.{◌≡◌, ◌++◌, OnOk};
-ghost use Rattle.run_rows.specs.RunRequests.{access, accesses_by};
+ghost use Rattle.complete_rows.specs.RunRequests.{access, accesses_by};
 
 use crate::numbers::u32_of;
 use air_kit::Access;
-use cycle_events::Event;
+use machine_cycles::Event;
 use vm_field::{Memory, Sequence};
 use vm_ops::Op;
 

@@ -1,10 +1,10 @@
 ghost use Rattle.std.specs.Prelude.{◌≡◌, ◌++◌, IfOk, OnOk};
-ghost use Rattle.run_rows.specs.Limbs.{cell};
-ghost use Rattle.run_rows.specs.RunRequests.{bits_by};
+ghost use Rattle.complete_rows.specs.Limbs.{cell};
+ghost use Rattle.complete_rows.specs.RunRequests.{bits_by};
 
 use crate::numbers::u32_of;
 use air_kit::BitOp;
-use cycle_events::{Event, Visible};
+use machine_cycles::{Event, Visible};
 use vm_field::{Memory, Sequence};
 use vm_ops::Op;
 

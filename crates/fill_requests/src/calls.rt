@@ -2,8 +2,8 @@ ghost use Rattle.std.specs.Prelude.{◌≡◌, ◌++◌, [], ◌∷◌, take, if
 ghost use Rattle.vm_ops.specs.declared.op.Op.TheVariants as ops;
 ghost use Rattle.air_kit.specs.Flags.{is_op};
 
-use cycle_events::Event;
-use event_kinds::is_op;
+use crate::kind::is_op;
+use machine_cycles::Event;
 use vm_field::{Felt, Memory, Word, Words};
 use vm_ops::Op;
 

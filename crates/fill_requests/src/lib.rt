@@ -1,12 +1,20 @@
-//! What the rows of a run's main table ask of the small tables.
+//! What the events of a run are, the limbs that their rows show, and what these rows ask of the small tables.
 #![tactic(auto)]
 
 mod accesses;
+mod behind;
 mod bits;
 mod calls;
+mod kind;
+mod limbs;
 mod numbers;
 mod perms;
 mod ranges;
 mod requests;
+mod spans;
 
+pub use behind::seen_behind;
+pub use kind::{Kind, is_op, kind_of};
+pub use limbs::{Limbs, limbs_of};
 pub use requests::{no_requests, push_requests};
+pub use spans::respans;

@@ -1,13 +1,13 @@
 ghost use Rattle.std.specs.Prelude.{◌≡◌, ◌++◌, [], ◌∷◌, false, reverse, take, OnOk};
 ghost use Rattle.vm_field.specs.Sponge.{begun};
 ghost use Rattle.vm_ops.specs.Codes.{code_of};
-ghost use Rattle.event_kinds.specs.Kinds.{kind_in};
-ghost use Rattle.run_rows.specs.RunRequests.{hash_perms, perms_by_op};
+ghost use Rattle.fill_requests.specs.Kinds.{kind_in};
+ghost use Rattle.complete_rows.specs.RunRequests.{hash_perms, perms_by_op};
 ghost use Rattle.fill_requests.specs.Asked.{perms_as};
 
+use crate::kind::Kind;
 use air_kit::Perm;
-use cycle_events::Event;
-use event_kinds::Kind;
+use machine_cycles::Event;
 use perm_memo::Permutations;
 use vm_field::{Felt, Memory, Sequence};
 use vm_ops::{Op, opcode};

@@ -1,9 +1,9 @@
 ghost use Rattle.std.specs.Prelude.{◌≡◌, ◌++◌, OnOk};
-ghost use Rattle.run_rows.specs.RunRequests.{ranges_by};
+ghost use Rattle.complete_rows.specs.RunRequests.{ranges_by};
 
+use crate::limbs::limbs_of;
 use crate::numbers::u16_of;
-use cycle_events::{Event, Visible};
-use event_kinds::limbs_of;
+use machine_cycles::{Event, Visible};
 use vm_field::{Felt, Memory, Sequence};
 use vm_ops::is_start;
 

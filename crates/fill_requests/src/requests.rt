@@ -1,18 +1,18 @@
 ghost use Rattle.std.specs.Prelude.{◌≡◌, ◌++◌, [], ◌∷◌, take, if◌then◌else◌, OnOk};
 ghost use Rattle.vm_ops.specs.declared.op.Op.TheVariants as ops;
 ghost use Rattle.air_kit.specs.Flags.{is_op};
-ghost use Rattle.event_kinds.specs.Kinds.{kind_in};
-ghost use Rattle.run_rows.specs.RunRequests.{accesses_by, bits_by, ranges_by};
+ghost use Rattle.fill_requests.specs.Kinds.{kind_in};
+ghost use Rattle.complete_rows.specs.RunRequests.{accesses_by, bits_by, ranges_by};
 ghost use Rattle.fill_requests.specs.Asked.{perms_as};
 
 use crate::accesses::push_accesses;
 use crate::bits::push_bits;
 use crate::calls::push_call;
+use crate::kind::Kind;
 use crate::perms::push_perms;
 use crate::ranges::push_ranges;
 use air_kit::Requests;
-use cycle_events::{Event, Visible};
-use event_kinds::Kind;
+use machine_cycles::{Event, Visible};
 use perm_memo::Permutations;
 use std::alloc::Global;
 use vm_field::{Felt, Felts, Memory, Sequence, Words};

@@ -4,8 +4,8 @@ use Rattle.vm_field.specs.Field.{prime}
 use Rattle.vm_ops.specs.declared.op.Op.TheVariants.{FmpUpdate}
 use Rattle.vm_ops.specs.Items.{plain_item}
 use Rattle.masm_expand.specs.Expansion.{lit}
-use Rattle.masm_blocks.specs.Blocks.{Piece, Operation}
-use Rattle.masm_blocks.specs.Lists.{with_locals}
+use Rattle.masm_flat.specs.Blocks.{Piece, Operation}
+use Rattle.masm_flat.specs.Lists.{with_locals}
 
 pub with_none : {A : Type 0} (n : ℕ) (pieces : List (Piece A)) → n ≡ 0 → with_locals n pieces ≡ pieces
 with_none zero pieces h = refl

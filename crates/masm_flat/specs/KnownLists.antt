@@ -6,12 +6,12 @@ use Rattle.std.specs.Option.{option_map}
 use Rattle.vm_field.specs.Machine.{zero_word}
 use Rattle.block_tree.specs.Trees.{Tree, Opaque}
 use Rattle.block_tree.specs.TreeView.{tree_of}
-use Rattle.masm_blocks.specs.declared.kernel.KernelProc.{KernelProc}
+use Rattle.masm_flat.specs.declared.kernel.KernelProc.{KernelProc}
 use Rattle.masm_flat.specs.declared.known.Lists.{Lists}
-use Rattle.masm_pieces.specs.declared.piece.Piece as code
-use Rattle.masm_blocks.specs.Blocks.{Piece}
-use Rattle.masm_blocks.specs.Flattening.{Known}
-use Rattle.masm_pieces.specs.Views.{pieces_of}
+use Rattle.masm_flat.specs.declared.piece.Piece as code
+use Rattle.masm_flat.specs.Blocks.{Piece}
+use Rattle.masm_flat.specs.Flattening.{Known}
+use Rattle.masm_flat.specs.Views.{pieces_of}
 use Rattle.masm_names.specs.declared.names.Names.{Names}
 use Rattle.masm_names.specs.Names.{place_at}
 

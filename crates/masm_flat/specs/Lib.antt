@@ -1,1 +1,5 @@
+pub mod Blocks
+pub mod Flattening
+pub mod Lists
+pub mod Views
 pub mod KnownLists

@@ -2,14 +2,14 @@ ghost use Rattle.std.specs.Prelude.{◌≡◌, [], ◌∷◌, ◌++◌, map, IfO
 ghost use Rattle.block_tree.specs.TreeView.{tree_of};
 ghost use Rattle.masm_instr.specs.Instructions.{HasLocal};
 ghost use Rattle.masm_expand.specs.Expansion.{expansion};
-ghost use Rattle.masm_blocks.specs.Blocks as lists;
-ghost use Rattle.masm_blocks.specs.Lists.{times};
-ghost use Rattle.masm_pieces.specs.Views.{piece_of, pieces_of};
+ghost use Rattle.masm_flat.specs.Blocks as lists;
+ghost use Rattle.masm_flat.specs.Lists.{times};
+ghost use Rattle.masm_flat.specs.Views.{piece_of, pieces_of};
 
+use crate::piece::Piece;
 use block_tree::{Tree, copy};
 use masm_expand::expand;
 use masm_instr::Instr;
-use masm_pieces::Piece;
 use std::alloc::Global;
 use vm_field::Memory;
 use vm_ops::Item;

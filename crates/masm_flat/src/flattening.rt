@@ -3,16 +3,17 @@ ghost use Rattle.block_tree.specs.Trees as trees;
 ghost use Rattle.block_tree.specs.TreeView.{tree_of};
 ghost use Rattle.masm_tree.specs.Trees.{Empty};
 ghost use Rattle.masm_tree.specs.Views.{stmt_view, body_of};
-ghost use Rattle.masm_blocks.specs.Blocks.{as_tree, whole};
-ghost use Rattle.masm_blocks.specs.Flattening.{flat_with};
+ghost use Rattle.masm_flat.specs.Blocks.{as_tree, whole};
+ghost use Rattle.masm_flat.specs.Flattening.{flat_with};
 ghost use Rattle.masm_tree.specs.Locals.{HasLocals};
 ghost use Rattle.masm_flat.specs.KnownLists.{known_of};
-ghost use Rattle.masm_pieces.specs.Views.{pieces_of};
+ghost use Rattle.masm_flat.specs.Views.{pieces_of};
 
 use crate::appending::{add_copies, add_instr, add_times, add_tree};
+use crate::joining::tree_of_list;
 use crate::known::Lists;
+use crate::piece::Piece;
 use block_tree::Tree;
-use masm_pieces::{Piece, tree_of_list};
 use masm_tree::Stmt;
 use std::alloc::Global;
 use vm_field::{Bytes, Memory};
@@ -70,7 +71,7 @@ pub fn flatten(
 
 // The list of one statement.
 #[cycle(flattening)]
-#[tactic(auto, using(masm_blocks::proofs::Statements::lists))]
+#[tactic(auto, using(crate::proofs::Statements::lists))]
 fn add_statement(
     alloc: Global,
     lists: &Lists,

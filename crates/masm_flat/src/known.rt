@@ -1,12 +1,12 @@
 ghost use Rattle.std.specs.Prelude.{◌≡◌, IfOk};
 ghost use Rattle.block_tree.specs.TreeView.{tree_of};
 ghost use Rattle.masm_flat.specs.KnownLists.{list_at, known_of};
-ghost use Rattle.masm_pieces.specs.Views.{pieces_of};
+ghost use Rattle.masm_flat.specs.Views.{pieces_of};
 
+use crate::kernel::Kernel;
+use crate::piece::Piece;
 use block_tree::{Tree, copy};
-use masm_blocks::Kernel;
 use masm_names::Names;
-use masm_pieces::Piece;
 use std::alloc::Global;
 use vm_field::{Bytes, Memory, Word};
 

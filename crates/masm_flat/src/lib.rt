@@ -1,11 +1,20 @@
-//! The lists of operations and blocks that procedures are flattened to (docs/ASSEMBLY.md).
+//! What procedures are flattened to (docs/ASSEMBLY.md, "Blocks"): the lists of operations and blocks, the tree of such a list, and
+//! the procedures that a kernel exports.
 #![tactic(auto)]
 
 mod appending;
+mod extent;
 mod flattening;
+mod joining;
+mod kernel;
 mod known;
+mod piece;
 mod procedure;
 
 pub use appending::add_copies;
+pub use extent::Extent;
+pub use joining::tree_of_list;
+pub use kernel::{Kernel, KernelProc};
 pub use known::Lists;
+pub use piece::Piece;
 pub use procedure::list_of_procedure;

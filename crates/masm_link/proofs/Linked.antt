@@ -24,17 +24,17 @@ use Rattle.masm_uses.specs.Plans as plans
 use Rattle.masm_names.specs.Naming.{Dangles, Doubles, IsClosed, exported_of}
 use Rattle.masm_names.proofs.LeastLemmas.{Either, FindsLeast-same, FindsLeast-earlier}
 use Rattle.masm_uses.proofs.UsedLemmas.{unmapped, mapped, contains_at}
-use Rattle.masm_blocks.specs.declared.kernel.KernelProc.{KernelProc}
-use Rattle.masm_pieces.specs.declared.piece.Piece as piece
-use Rattle.masm_blocks.specs.declared.extent.Extent.{Extent}
+use Rattle.masm_flat.specs.declared.kernel.KernelProc.{KernelProc}
+use Rattle.masm_flat.specs.declared.piece.Piece as piece
+use Rattle.masm_flat.specs.declared.extent.Extent.{Extent}
 use Rattle.masm_size.specs.declared.shape.Size as shape
-use Rattle.masm_blocks.specs.Blocks.{Block, Piece, seen_as, seen_pieces, block_of, as_tree, as_operations, whole}
-use Rattle.masm_blocks.specs.Flattening.{flat_with}
+use Rattle.masm_flat.specs.Blocks.{Block, Piece, seen_as, seen_pieces, block_of, as_tree, as_operations, whole}
+use Rattle.masm_flat.specs.Flattening.{flat_with}
 use Rattle.masm_flat.specs.KnownLists.{list_at, lists_known}
 use Rattle.masm_size.specs.KnownSizes.{size_at, sizes_known}
-use Rattle.masm_blocks.specs.Lists.{Exported, IsList, IsBlockOf, with_locals}
+use Rattle.masm_flat.specs.Lists.{Exported, IsList, IsBlockOf, with_locals}
 use Rattle.masm_size.specs.Sizes.{as_extent, extent_of, size_of, procedure_size}
-use Rattle.masm_blocks.proofs.Flattened.{seen-block}
+use Rattle.masm_flat.proofs.Flattened.{seen-block}
 use Rattle.masm_size.proofs.Sized.{operations-block, procedure-sized}
 use Rattle.masm_link.specs.declared.linking.Linked.{Linked}
 use Rattle.masm_link.specs.declared.linking.Measured.{Measured}

@@ -3,9 +3,9 @@ use Rattle.std.proofs.Common.{◌≡◌, ℕ, Bool, false, List, [], ◌∷◌, 
 use Rattle.std.specs.List.{AllZip}
 use Rattle.masm_tree.specs.Trees.{Procedure, Source}
 use Rattle.masm_names.specs.Naming.{exported_of}
-use Rattle.masm_blocks.specs.Blocks.{Block, block_of, seen_as, as_tree}
-use Rattle.masm_blocks.specs.Lists.{Exported, IsBlockOf, with_locals}
-use Rattle.masm_blocks.proofs.Once.{list_once}
+use Rattle.masm_flat.specs.Blocks.{Block, block_of, seen_as, as_tree}
+use Rattle.masm_flat.specs.Lists.{Exported, IsBlockOf, with_locals}
+use Rattle.masm_flat.proofs.Once.{list_once}
 use Rattle.masm_link.specs.declared.refusal.AsmError.{AsmError}
 use Rattle.masm_link.specs.Assembling.{reads, LinksText, Refuses, unread, unlinked, KernelExports, no_kernel, of_kernel, export_of, export_digest, without_repeats, assembled, kernel_refused, refused, no_memory}
 use Rattle.masm_link.specs.Refusals.{Links}

@@ -17,12 +17,12 @@ use Rattle.masm_names.specs.Least.{FindsLeast}
 use Rattle.masm_names.proofs.LeastLemmas.{Either, FindsLeast-same, FindsLeast-earlier, no_later-trans}
 use Rattle.masm_uses.proofs.UsedLemmas.{contains_at, at_contains}
 use Rattle.masm_names.proofs.DoubleLemmas.{cons_here}
-use Rattle.masm_blocks.specs.declared.extent.Extent.{Extent}
-use Rattle.masm_blocks.specs.Blocks.{Block, Piece, seen_as, seen_pieces, block_of, as_operations, as_height}
-use Rattle.masm_blocks.specs.Lists.{Exported, IsList, IsBlockOf, with_locals}
+use Rattle.masm_flat.specs.declared.extent.Extent.{Extent}
+use Rattle.masm_flat.specs.Blocks.{Block, Piece, seen_as, seen_pieces, block_of, as_operations, as_height}
+use Rattle.masm_flat.specs.Lists.{Exported, IsList, IsBlockOf, with_locals}
 use Rattle.masm_size.specs.Sizes.{as_extent, extent_of, size_of}
-use Rattle.masm_blocks.proofs.Flattened.{seen-block}
-use Rattle.masm_blocks.proofs.Once.{list_once}
+use Rattle.masm_flat.proofs.Flattened.{seen-block}
+use Rattle.masm_flat.proofs.Once.{list_once}
 use Rattle.masm_size.proofs.Sized.{HasOperations, list-solid, solid-locals, some-whole, operations-block, height-block}
 use Rattle.masm_size.proofs.SizeLaws.{Agree, extent-whole}
 use Rattle.masm_tables.specs.Limits.{size_cause, ExceedsLimit}

@@ -12,8 +12,8 @@ use Rattle.masm_tree.specs.Trees.{Procedure, Source, position_of}
 use Rattle.masm_names.specs.declared.refusal.LinkCause.{LinkCause}
 use Rattle.masm_names.specs.declared.refusal.LinkCause.TheVariants as causes
 use Rattle.masm_names.proofs.DoubleLemmas.{cons_here}
-use Rattle.masm_blocks.specs.Blocks.{Block, Span, Join, Split, Loop, Call, Syscall, seen_as, as_tree, as_operations, as_height}
-use Rattle.masm_blocks.specs.Lists.{Exported, IsBlockOf}
+use Rattle.masm_flat.specs.Blocks.{Block, Span, Join, Split, Loop, Call, Syscall, seen_as, as_tree, as_operations, as_height}
+use Rattle.masm_flat.specs.Lists.{Exported, IsBlockOf}
 use Rattle.masm_link.specs.Assembling.{assembled}
 use Rattle.masm_link.specs.Laws.{HasNoOpaque, IsWithinLimits, AssembledTrees}
 use Rattle.masm_link.specs.Refusals.{IsTooLarge, too_many_operations, too_deep, dangling, oversized, Links}

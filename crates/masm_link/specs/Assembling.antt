@@ -14,8 +14,8 @@ use Rattle.masm_parse.specs.declared.refusal.ParseError.TheVariants as parsing
 use Rattle.masm_tree.specs.declared.tree.Position.{Position}
 use Rattle.masm_parse.specs.Machine.{parsed}
 use Rattle.masm_tree.specs.Trees.{Source}
-use Rattle.masm_blocks.specs.Blocks.{Block, seen_as, as_tree}
-use Rattle.masm_blocks.specs.Lists.{Exported}
+use Rattle.masm_flat.specs.Blocks.{Block, seen_as, as_tree}
+use Rattle.masm_flat.specs.Lists.{Exported}
 use Rattle.masm_names.specs.declared.refusal.LinkCause.{LinkCause}
 use Rattle.masm_names.specs.Least.{IsLeast}
 use Rattle.masm_link.specs.declared.refusal.AsmCause.TheVariants.{Lexical}

@@ -3,7 +3,7 @@ use Rattle.std.specs.Prelude.{◌≡◌, ℕ, ◌≤◌, List, Option, Result, O
 use Rattle.block_tree.specs.declared.program.Program.{Program}
 use Rattle.block_tree.specs.Trees.{Tree, Opaque, Span, Join, Split, Loop, Call, Syscall, tree_height}
 use Rattle.block_tree.specs.TreeView.{tree_of}
-use Rattle.masm_blocks.specs.Blocks.{Block, seen_as, as_tree, as_operations}
+use Rattle.masm_flat.specs.Blocks.{Block, seen_as, as_tree, as_operations}
 use Rattle.masm_link.specs.declared.refusal.AsmError.{AsmError}
 use Rattle.masm_link.specs.declared.refusal.AsmError.TheVariants.{Memory}
 use Rattle.masm_link.specs.Assembling.{Assembles}

@@ -5,13 +5,13 @@ use Rattle.std.specs.Option.{option_map}
 use Rattle.block_tree.specs.TreeView.{tree_of}
 use Rattle.masm_tree.specs.declared.tree.Position.{Position}
 use Rattle.masm_tree.specs.Trees.{Procedure, Source}
-use Rattle.masm_blocks.specs.declared.kernel.KernelProc.{KernelProc}
-use Rattle.masm_pieces.specs.declared.piece.Piece as piece
+use Rattle.masm_flat.specs.declared.kernel.KernelProc.{KernelProc}
+use Rattle.masm_flat.specs.declared.piece.Piece as piece
 use Rattle.masm_size.specs.declared.shape.Size as shape
-use Rattle.masm_blocks.specs.Blocks.{Block, seen_as, as_tree, as_operations, whole}
+use Rattle.masm_flat.specs.Blocks.{Block, seen_as, as_tree, as_operations, whole}
 use Rattle.masm_flat.specs.KnownLists.{list_at}
 use Rattle.masm_size.specs.KnownSizes.{size_at}
-use Rattle.masm_blocks.specs.Lists.{Exported, IsBlockOf}
+use Rattle.masm_flat.specs.Lists.{Exported, IsBlockOf}
 use Rattle.masm_size.specs.Sizes.{as_extent, extent_of}
 use Rattle.masm_names.specs.declared.refusal.LinkCause.{LinkCause}
 use Rattle.masm_names.specs.declared.refusal.Refusal.{Refusal}

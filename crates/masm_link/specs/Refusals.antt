@@ -8,8 +8,8 @@ use Rattle.masm_tree.specs.declared.tree.Position.{Position}
 use Rattle.masm_tree.specs.Trees.{Procedure, Source}
 use Rattle.masm_names.specs.declared.refusal.LinkCause.{LinkCause}
 use Rattle.masm_names.specs.declared.refusal.LinkCause.TheVariants as causes
-use Rattle.masm_blocks.specs.Blocks.{Block, seen_as, as_operations, as_height}
-use Rattle.masm_blocks.specs.Lists.{Exported, IsBlockOf}
+use Rattle.masm_flat.specs.Blocks.{Block, seen_as, as_operations, as_height}
+use Rattle.masm_flat.specs.Lists.{Exported, IsBlockOf}
 use Rattle.masm_names.specs.Uses.{bodies_of}
 use Rattle.masm_tables.specs.Kernels.{names_of}
 

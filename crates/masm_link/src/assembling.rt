@@ -9,7 +9,7 @@ use crate::program::program_of;
 use crate::reading::read;
 use crate::refusal::{AsmError, link_refusal};
 use block_tree::Program;
-use masm_blocks::KernelProc;
+use masm_flat::KernelProc;
 use masm_lex::MAX_SOURCE;
 use rpo_hash::Params;
 use std::alloc::Global;

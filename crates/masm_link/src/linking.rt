@@ -1,5 +1,5 @@
 ghost use Rattle.std.specs.Prelude.{◌≡◌, ℕ, List, Some, is_some, IfOk};
-ghost use Rattle.masm_blocks.specs.Lists.{Exported};
+ghost use Rattle.masm_flat.specs.Lists.{Exported};
 ghost use Rattle.masm_link.specs.declared.linking.Stop.TheVariants as stops;
 ghost use Rattle.masm_tables.specs.Kernels.{AreExports, names_in};
 ghost use Rattle.masm_link.specs.Measures.{IsMeasured, IsNeverRefused, Measures, IsLinked, LinksTo};
@@ -13,7 +13,7 @@ ghost use Rattle.masm_names.specs.Naming.{IsClosed};
 ghost use Rattle.masm_names.specs.Uses.{first_place};
 
 use block_tree::Tree;
-use masm_blocks::{Kernel, KernelProc};
+use masm_flat::{Kernel, KernelProc};
 use masm_names::{Names, Refusal, earlier, first_double, procedure_names};
 use masm_size::Size;
 use masm_tables::{

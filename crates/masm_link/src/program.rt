@@ -5,7 +5,7 @@ ghost use Rattle.masm_link.specs.Assembling.{add_word, without_repeats};
 ghost use Rattle.masm_link.specs.Programs.{digest_in, export_in};
 
 use block_tree::{Export, Exports, Program, Tree};
-use masm_blocks::KernelProc;
+use masm_flat::KernelProc;
 use perm_memo::Permutations;
 use rpo_hash::Params;
 use std::alloc::Global;

@@ -1,7 +1,7 @@
 -- What is refused of the names and the uses of a source (docs/ASSEMBLY.md, "What is refused").
 use Rattle.std.specs.Prelude.{◌≡◌, ℕ, true, List, ◌∷◌, ◌++◌, length, None}
 use Rattle.std.specs.List.{filter, Any, Contains}
-use Rattle.instr_reading.specs.declared.constant.Const.{Const}
+use Rattle.masm_reading.specs.declared.constant.Const.{Const}
 use Rattle.masm_tree.specs.declared.tree.Position.{Position}
 use Rattle.masm_tree.specs.Trees.{Procedure, Source, position_of}
 use Rattle.masm_names.specs.declared.refusal.LinkCause.{LinkCause}

@@ -5,7 +5,7 @@ ghost use Rattle.masm_names.specs.Names.{place_at};
 ghost use Rattle.masm_names.specs.Uses.{place_in, first_place};
 
 use indexmap::IndexMap;
-use instr_reading::Const;
+use masm_reading::Const;
 use masm_tree::{Ast, Position, Proc};
 use std::alloc::Global;
 use vm_field::{Bytes, Memory};

@@ -3,7 +3,7 @@ use Rattle.std.proofs.Common.{◌≡◌, ℕ, zero, suc, Bool, true, false, ◌+
 use Rattle.std.proofs.lemmas.Bool.Decides.{leb_tells}
 use Rattle.std.proofs.lemmas.List.{map-append}
 use Rattle.std.specs.Option.{option_map}
-use Rattle.instr_reading.specs.declared.constant.Const.{Const}
+use Rattle.masm_reading.specs.declared.constant.Const.{Const}
 use Rattle.masm_lex.specs.declared.cursor.Cursor.{Cursor}
 use Rattle.masm_lex.specs.declared.list.Token.{Token}
 use Rattle.masm_lex.specs.Tokens.{place_after, text_of}

@@ -1,7 +1,7 @@
 -- The parser as a machine that reads one token at a time.
 use Rattle.std.specs.Prelude.{ℕ, Bool, true, false, ◌&&◌, nat_le, if◌then◌else◌, List, [], ◌∷◌, ◌++◌, length, Option, Some, None, Result, Ok, Err}
 use Rattle.std.specs.Option.{option_map}
-use Rattle.instr_reading.specs.declared.constant.Const.{Const}
+use Rattle.masm_reading.specs.declared.constant.Const.{Const}
 use Rattle.masm_lex.specs.declared.cursor.Cursor.{Cursor}
 use Rattle.masm_lex.specs.declared.list.Token.{Token}
 use Rattle.masm_lex.specs.Tokens.{place_after, text_of}

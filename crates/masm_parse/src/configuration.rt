@@ -1,6 +1,6 @@
 ghost use Rattle.std.specs.Prelude.{◌≡◌, ◌∷◌, Bool, map, IfOk, OnOk};
 ghost use Rattle.std.specs.Option.{option_map};
-ghost use Rattle.instr_reading.specs.declared.constant.Const.{Const};
+ghost use Rattle.masm_reading.specs.declared.constant.Const.{Const};
 ghost use Rattle.masm_tree.specs.declared.terminal.Terminal.TheVariants as terminals;
 ghost use Rattle.masm_tree.specs.Trees.{Empty, Leaf_then, append};
 ghost use Rattle.masm_parse.specs.Machine.{procedure, reduce, closed, Inside, shift, shift_statement, shift_else, shift_end, shift_inside, depth_of};

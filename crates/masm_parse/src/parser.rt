@@ -7,8 +7,8 @@ ghost use Rattle.masm_tree.specs.Views.{source_of};
 
 use crate::configuration::Configuration;
 use crate::refusal::ParseError;
-use instr_reading::Consts;
 use masm_lex::{MAX_SOURCE, Token, end_place};
+use masm_reading::Consts;
 use masm_tree::{Ast, Cause, Position, Stop, Symbol, Terminal, classify};
 use std::alloc::Global;
 use vm_field::Memory;

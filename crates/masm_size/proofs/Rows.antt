@@ -5,7 +5,7 @@ use Rattle.std.proofs.lemmas.Bool.{cases_lt}
 use Rattle.std.proofs.lemmas.Bool.Decides.{nat_tests}
 use Rattle.std.proofs.lemmas.List.{length-map}
 use Rattle.masm_size.specs.declared.shape.Rise.{Rise}
-use Rattle.masm_blocks.specs.Blocks.{paired, joined, all_joined}
+use Rattle.masm_flat.specs.Blocks.{paired, joined, all_joined}
 use Rattle.masm_size.specs.Sizes.{Shape, ShapeRow, one_if, capped, rises_from, row_of, ends_in_run, height_of, one_high, join_heights, height_joined, is_joined, height_next, height_within, height_among, highest, row_height}
 
 -- levels

@@ -5,14 +5,14 @@ use Rattle.std.proofs.lemmas.List.{length-map, map-append}
 use Rattle.std.proofs.lemmas.Bool.{cases_lt}
 use Rattle.std.proofs.lemmas.Bool.Decides.{nat_tests}
 use Rattle.vm_ops.specs.declared.item.Item.{Item}
-use Rattle.masm_blocks.specs.declared.extent.Extent.{Extent}
+use Rattle.masm_flat.specs.declared.extent.Extent.{Extent}
 use Rattle.masm_size.specs.declared.shape.Rise.{Rise}
-use Rattle.masm_blocks.specs.Blocks.{Piece, Operation, Whole, blocks_behind, paired, joined, all_joined, whole_of, whole}
-use Rattle.masm_blocks.specs.Lists.{times}
+use Rattle.masm_flat.specs.Blocks.{Piece, Operation, Whole, blocks_behind, paired, joined, all_joined, whole_of, whole}
+use Rattle.masm_flat.specs.Lists.{times}
 use Rattle.masm_size.specs.Sizes.{as_extent, Shape, Run, High, ShapeRow, Size, put, shape_of, shapes_of, total, limited, size_of, run_of, no_row, one_if, capped, starts_in_run, ends_in_run, rises_from, row_of, top_of, rises_behind, offset_of, starts_with, row_behind, row_both, row_times, both, times_size, one_block, height_of, one_high, join_heights, height_joined, extent_of, block_size}
-use Rattle.masm_blocks.proofs.Levels.{length-paired}
+use Rattle.masm_flat.proofs.Levels.{length-paired}
 use Rattle.masm_size.proofs.Rows.{rise-taken, rise-left, AreLow, height-row}
-use Rattle.masm_blocks.proofs.Seen.{seen-joined}
+use Rattle.masm_flat.proofs.Seen.{seen-joined}
 
 -- the parts of two lists, one behind the other; two runs that meet are one part
 abbrev without_run : List Shape → List Shape

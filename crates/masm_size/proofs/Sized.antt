@@ -7,11 +7,11 @@ use Rattle.vm_ops.specs.declared.op.Op.TheVariants.{FmpUpdate}
 use Rattle.vm_ops.specs.Items.{plain_item}
 use Rattle.masm_expand.specs.Expansion.{lit, expansion}
 use Rattle.masm_tree.specs.Trees.{Body, Procedure}
-use Rattle.masm_blocks.specs.declared.extent.Extent.{Extent}
-use Rattle.masm_blocks.specs.Blocks.{Block, Span, Join, Split, Loop, Call, Syscall, Piece, Operation, Whole, seen_as, seen_pieces, block_of, as_operations, as_height}
-use Rattle.masm_blocks.specs.Lists.{Exported, IsList, nothing, instr, exec, call, syscall, branches, loops, repeated, first_procedure, first_export, times, with_locals}
+use Rattle.masm_flat.specs.declared.extent.Extent.{Extent}
+use Rattle.masm_flat.specs.Blocks.{Block, Span, Join, Split, Loop, Call, Syscall, Piece, Operation, Whole, seen_as, seen_pieces, block_of, as_operations, as_height}
+use Rattle.masm_flat.specs.Lists.{Exported, IsList, nothing, instr, exec, call, syscall, branches, loops, repeated, first_procedure, first_export, times, with_locals}
 use Rattle.masm_size.specs.Sizes.{as_extent, size_of, run_of, both, times_size, extent_of, block_size, Known_sizes, size_onto, procedure_size}
-use Rattle.masm_blocks.proofs.Flattened.{seen-block, seen-append, seen-operations, seen-times}
+use Rattle.masm_flat.proofs.Flattened.{seen-block, seen-append, seen-operations, seen-times}
 use Rattle.masm_names.proofs.UsesOnly.{UsesOnly}
 use Rattle.masm_size.proofs.SizeLaws.{size-append, size-block, size-run, size-times, IsSolid, IsSome_size, operations-whole, Agree, extent-whole, block-over, block-over_two}
 

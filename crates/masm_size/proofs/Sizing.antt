@@ -10,7 +10,7 @@ use Rattle.masm_tree.specs.Trees.{Body, Empty}
 use Rattle.masm_tree.specs.Views.{add_step, stmt_view, body_of}
 use Rattle.masm_tree.proofs.Mirror.{view-Instr, view-If, view-While, view-Repeat, view-Exec, view-Call, view-Syscall}
 use Rattle.masm_size.specs.Sizes.{Size, Known_sizes, as_extent, run_of, nothing, both, times_size, extent_of, block_size, size_onto, procedure_size}
-use Rattle.masm_blocks.proofs.Statements.{each}
+use Rattle.masm_flat.proofs.Statements.{each}
 
 module _ (known : Known_sizes) (locals : ℕ) where
   onto-step : (f : Stmt-F (Body → Body)) (rest : Body) (before : Size)

@@ -2,9 +2,9 @@
 use Rattle.std.specs.Prelude.{ℕ, List, Option, unwrap_or, option_and_then, bytes_eq, slice_get}
 use Rattle.std.specs.List.{find}
 use Rattle.std.specs.Option.{option_map}
-use Rattle.masm_blocks.specs.declared.kernel.KernelProc.{KernelProc}
+use Rattle.masm_flat.specs.declared.kernel.KernelProc.{KernelProc}
 use Rattle.masm_size.specs.declared.known_sizes.Sizes as known
-use Rattle.masm_blocks.specs.declared.extent.Extent.{Extent}
+use Rattle.masm_flat.specs.declared.extent.Extent.{Extent}
 use Rattle.masm_size.specs.declared.shape.Size as code
 use Rattle.masm_names.specs.declared.names.Names.{Names}
 use Rattle.masm_names.specs.Names.{place_at}

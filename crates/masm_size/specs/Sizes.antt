@@ -5,12 +5,12 @@ use Rattle.vm_ops.specs.declared.item.Item.{Item}
 use Rattle.masm_expand.specs.Expansion.{expansion}
 use Rattle.masm_tree.specs.declared.terminal.Leaf.TheVariants as leaves
 use Rattle.masm_tree.specs.Trees.{Body, Empty, Leaf_then, If_then, While_then, Repeat_then}
-use Rattle.masm_blocks.specs.declared.extent.Extent.{Extent}
+use Rattle.masm_flat.specs.declared.extent.Extent.{Extent}
 use Rattle.masm_size.specs.declared.shape.Outline.{Outline}
 use Rattle.masm_size.specs.declared.shape.Part.{Part}
 use Rattle.masm_size.specs.declared.shape.Rise.{Rise}
 use Rattle.masm_size.specs.declared.shape.Size as code
-use Rattle.masm_blocks.specs.Blocks.{View, Piece, Operation, Whole, all_joined}
+use Rattle.masm_flat.specs.Blocks.{View, Piece, Operation, Whole, all_joined}
 
 abbrev pub extent : ℕ → ℕ → Extent
 extent operations height = record { operations = min operations 524289; height = min height 1025 }

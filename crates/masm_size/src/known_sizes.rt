@@ -4,7 +4,7 @@ ghost use Rattle.masm_size.specs.Sizes.{part_view};
 
 use crate::shape::{Part, Size};
 use crate::size::NO_PARTS;
-use masm_blocks::{Extent, Kernel};
+use masm_flat::{Extent, Kernel};
 use masm_names::Names;
 use vm_field::Bytes;
 

@@ -8,7 +8,7 @@ ghost use Rattle.masm_size.specs.Sizes.{size_view, nothing, extent_of, size_onto
 use crate::known_sizes::Sizes;
 use crate::shape::Size;
 use crate::size::{both, extent_of, over, over_two, times, with_block, with_instr, with_run};
-use masm_blocks::Extent;
+use masm_flat::Extent;
 use masm_tree::{Proc, Stmt};
 use std::alloc::Global;
 use vm_field::Memory;

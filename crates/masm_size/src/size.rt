@@ -5,8 +5,8 @@ ghost use Rattle.masm_size.specs.Sizes.{as_extent, size_view, part_view, row_vie
 
 use crate::heights::row_height;
 use crate::shape::{Outline, Part, Rise, Size};
-use masm_blocks::Extent;
 use masm_expand::expand;
+use masm_flat::Extent;
 use masm_instr::Instr;
 use std::alloc::Global;
 use vm_field::Memory;

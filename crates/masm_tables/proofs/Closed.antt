@@ -13,8 +13,8 @@ use Rattle.masm_uses.specs.UseOrders.{IsUseOrder}
 use Rattle.masm_names.specs.Uses.{Use, Own, Kernel, uses_of, all_uses, first_place}
 use Rattle.masm_uses.proofs.UsedLemmas.{in_all, place_within}
 use Rattle.masm_names.proofs.UsesOnly.{UsesOnly, SyscallsOnly, uses_only, syscalls_only}
-use Rattle.masm_blocks.specs.Blocks.{Block}
-use Rattle.masm_blocks.specs.Lists.{Exported, first_export}
+use Rattle.masm_flat.specs.Blocks.{Block}
+use Rattle.masm_flat.specs.Lists.{Exported, first_export}
 use Rattle.masm_tables.specs.Kernels.{names_of}
 use Rattle.masm_tables.proofs.Finding.{export_none}
 

@@ -6,9 +6,9 @@ use Rattle.std.specs.List.{Contains}
 use Rattle.masm_tree.specs.Trees.{Procedure, Source}
 use Rattle.masm_names.specs.Naming.{IsClosed}
 use Rattle.masm_uses.specs.UseOrders.{IsUseOrder}
-use Rattle.masm_blocks.specs.Blocks.{Block, Piece}
-use Rattle.masm_blocks.specs.Lists.{Exported, IsList}
-use Rattle.masm_blocks.proofs.HasList.{has_list}
+use Rattle.masm_flat.specs.Blocks.{Block, Piece}
+use Rattle.masm_flat.specs.Lists.{Exported, IsList}
+use Rattle.masm_flat.proofs.HasList.{has_list}
 use Rattle.masm_tables.specs.Kernels.{names_of}
 use Rattle.masm_tables.proofs.Closed.{Behind, IsExportName, uses_behind, uses_main, syscalls_procs, syscalls_main}
 use Rattle.masm_tables.proofs.Finding.{procedure_found}

@@ -23,17 +23,17 @@ use Rattle.masm_names.specs.Naming.{IsClosed}
 use Rattle.masm_uses.specs.Plans.{NeedsIn}
 use Rattle.masm_uses.specs.UseOrders.{IsUseOrder}
 use Rattle.masm_names.specs.Uses.{first_place}
-use Rattle.masm_blocks.specs.declared.kernel.KernelProc.{KernelProc}
-use Rattle.masm_pieces.specs.declared.piece.Piece as piece
+use Rattle.masm_flat.specs.declared.kernel.KernelProc.{KernelProc}
+use Rattle.masm_flat.specs.declared.piece.Piece as piece
 use Rattle.masm_size.specs.declared.shape.Size as shape
-use Rattle.masm_blocks.specs.Blocks.{Block, Piece, Operation, seen_as, seen_pieces, as_tree}
-use Rattle.masm_blocks.specs.Flattening.{flat_with}
+use Rattle.masm_flat.specs.Blocks.{Block, Piece, Operation, seen_as, seen_pieces, as_tree}
+use Rattle.masm_flat.specs.Flattening.{flat_with}
 use Rattle.masm_flat.specs.KnownLists.{list_at, lists_known}
 use Rattle.masm_size.specs.KnownSizes.{size_at, sizes_known}
-use Rattle.masm_blocks.specs.Lists.{Exported, IsList, with_locals}
+use Rattle.masm_flat.specs.Lists.{Exported, IsList, with_locals}
 use Rattle.masm_size.specs.Sizes.{as_extent, size_of, extent, nothing, size_view, procedure_size}
-use Rattle.masm_pieces.specs.Views.{pieces_of}
-use Rattle.masm_blocks.proofs.Flattened.{Fits, flat-is, seen-append}
+use Rattle.masm_flat.specs.Views.{pieces_of}
+use Rattle.masm_flat.proofs.Flattened.{Fits, flat-is, seen-append}
 use Rattle.masm_size.proofs.Sized.{SizesFit, HasOperations, procedure-sized}
 use Rattle.masm_names.proofs.UsesOnly.{UsesOnly}
 use Rattle.masm_tables.specs.Kernels.{AreExports}

@@ -3,7 +3,7 @@ use Rattle.std.proofs.Common.{◌≡◌, Option, subst}
 use Rattle.masm_tree.specs.declared.tree.Position.{Position}
 use Rattle.masm_names.specs.declared.refusal.Refusal.{Refusal}
 use Rattle.masm_names.specs.Least.{FindsLeast}
-use Rattle.masm_blocks.specs.declared.extent.Extent.{Extent}
+use Rattle.masm_flat.specs.declared.extent.Extent.{Extent}
 use Rattle.masm_tables.specs.Limits.{ExceedsLimit}
 
 pub over_same : (a b : Position) (e f : Extent) (r : Option Refusal) → a ≡ b → e ≡ f → FindsLeast (ExceedsLimit a e) r → FindsLeast (ExceedsLimit b f) r

@@ -6,8 +6,8 @@ use Rattle.masm_tree.specs.Trees.{Source}
 use Rattle.masm_uses.specs.declared.planning.Step.{Step}
 use Rattle.masm_uses.specs.Plans.{HeldBehind, Builds, IsPlan, IsWanted, NeedsIn}
 use Rattle.masm_uses.proofs.PlanLemmas.{builds-more}
-use Rattle.masm_pieces.specs.declared.piece.Piece as piece
-use Rattle.masm_blocks.specs.Lists.{Exported}
+use Rattle.masm_flat.specs.declared.piece.Piece as piece
+use Rattle.masm_flat.specs.Lists.{Exported}
 use Rattle.masm_tables.specs.Tables.{IsListAt, AreLists}
 
 -- the places of steps, which are those of procedures

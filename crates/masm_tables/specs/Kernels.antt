@@ -2,9 +2,9 @@
 use Rattle.std.specs.Prelude.{◌≡◌, ℕ, ◌≤◌, List, map}
 use Rattle.std.specs.List.{AllZip}
 use Rattle.block_tree.specs.TreeView.{tree_of}
-use Rattle.masm_blocks.specs.declared.kernel.KernelProc.{KernelProc}
-use Rattle.masm_blocks.specs.Blocks.{seen_as, as_tree, as_operations}
-use Rattle.masm_blocks.specs.Lists.{Exported}
+use Rattle.masm_flat.specs.declared.kernel.KernelProc.{KernelProc}
+use Rattle.masm_flat.specs.Blocks.{seen_as, as_tree, as_operations}
+use Rattle.masm_flat.specs.Lists.{Exported}
 use Rattle.masm_size.specs.Sizes.{as_extent}
 
 -- an export with its tree, which has an operation, and how large that is

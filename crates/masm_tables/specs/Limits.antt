@@ -3,7 +3,7 @@ use Rattle.std.specs.Prelude.{◌≡◌, nat_lt, if◌then◌else◌, Option, So
 use Rattle.masm_tree.specs.declared.tree.Position.{Position}
 use Rattle.masm_names.specs.declared.refusal.LinkCause.{LinkCause}
 use Rattle.masm_names.specs.declared.refusal.LinkCause.TheVariants as causes
-use Rattle.masm_blocks.specs.declared.extent.Extent.{Extent}
+use Rattle.masm_flat.specs.declared.extent.Extent.{Extent}
 
 -- the first cause for which a tree of this extent is refused
 abbrev pub size_cause : Extent → Option LinkCause

@@ -4,12 +4,12 @@ use Rattle.std.specs.Global.{Global}
 use Rattle.std.specs.List.{Contains}
 use Rattle.masm_tree.specs.Trees.{Procedure, Source}
 use Rattle.masm_uses.specs.Plans.{IsWanted}
-use Rattle.masm_pieces.specs.declared.piece.Piece as piece
+use Rattle.masm_flat.specs.declared.piece.Piece as piece
 use Rattle.masm_size.specs.declared.shape.Size as shape
-use Rattle.masm_blocks.specs.Blocks.{Block, Piece, seen_as, seen_pieces, as_tree}
+use Rattle.masm_flat.specs.Blocks.{Block, Piece, seen_as, seen_pieces, as_tree}
 use Rattle.masm_flat.specs.KnownLists.{list_at}
 use Rattle.masm_size.specs.KnownSizes.{size_at}
-use Rattle.masm_blocks.specs.Lists.{Exported, IsList, with_locals}
+use Rattle.masm_flat.specs.Lists.{Exported, IsList, with_locals}
 use Rattle.masm_size.specs.Sizes.{as_extent, size_of}
 
 -- at these places stand the values of the procedures' lists

@@ -1,21 +1,19 @@
 ghost use Rattle.std.specs.Prelude.{◌≡◌, length, IfOk};
 ghost use Rattle.std.specs.Option.{option_map};
 ghost use Rattle.block_tree.specs.TreeView.{tree_of};
-ghost use Rattle.masm_blocks.specs.Blocks.{as_tree, whole};
-ghost use Rattle.masm_blocks.specs.Flattening.{flat_with};
+ghost use Rattle.masm_flat.specs.Blocks.{as_tree, whole};
+ghost use Rattle.masm_flat.specs.Flattening.{flat_with};
 ghost use Rattle.masm_flat.specs.KnownLists.{lists_known};
-ghost use Rattle.masm_blocks.specs.Lists.{with_locals};
+ghost use Rattle.masm_flat.specs.Lists.{with_locals};
 ghost use Rattle.masm_size.specs.Sizes.{extent_of, size_view};
-ghost use Rattle.masm_pieces.specs.Views.{pieces_of};
+ghost use Rattle.masm_flat.specs.Views.{pieces_of};
 ghost use Rattle.masm_tree.specs.Locals.{MainFits};
 ghost use Rattle.masm_tree.specs.Views.{body_of, procedure_of};
 ghost use Rattle.masm_tables.specs.Building.{AreBuilt};
 
 use block_tree::Tree;
-use masm_blocks::{Kernel, KernelProc};
-use masm_flat::{Lists, add_copies, list_of_procedure};
+use masm_flat::{Kernel, KernelProc, Lists, Piece, add_copies, list_of_procedure, tree_of_list};
 use masm_names::Names;
-use masm_pieces::{Piece, tree_of_list};
 use masm_size::{Size, extent_of};
 use masm_tree::Proc;
 use std::alloc::Global;

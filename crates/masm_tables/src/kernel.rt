@@ -1,7 +1,7 @@
 ghost use Rattle.std.specs.Prelude.{◌≡◌, IfOk};
 ghost use Rattle.masm_tables.specs.Kernels.{names_in};
 
-use masm_blocks::KernelProc;
+use masm_flat::KernelProc;
 use std::alloc::Global;
 use vm_field::{Bytes, Memory};
 

@@ -9,7 +9,7 @@ ghost use Rattle.masm_names.specs.Least.{FindsLeast};
 ghost use Rattle.masm_tree.specs.Trees.{position_of};
 ghost use Rattle.masm_tables.specs.Limits.{size_cause, ExceedsLimit};
 
-use masm_blocks::{Extent, Kernel};
+use masm_flat::{Extent, Kernel};
 use masm_names::{Defined, LinkCause, Names, Refusal, earlier};
 use masm_size::{Size, Sizes, extent_of, size_of_procedure};
 use masm_tree::{Position, Proc};

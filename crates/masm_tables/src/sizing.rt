@@ -1,7 +1,7 @@
 ghost use Rattle.std.specs.Prelude.{◌≡◌, ℕ, ◌<◌, List, length, slice_set, IfOk, OnOk};
 ghost use Rattle.masm_size.specs.declared.shape.Size.{Size};
 ghost use Rattle.masm_size.specs.KnownSizes.{sizes_known};
-ghost use Rattle.masm_blocks.specs.Lists.{Exported};
+ghost use Rattle.masm_flat.specs.Lists.{Exported};
 ghost use Rattle.masm_size.specs.Sizes.{size_view, procedure_size};
 ghost use Rattle.masm_tree.specs.Locals.{HasLocals, SourceFits};
 ghost use Rattle.masm_tree.specs.Views.{body_of, source_of};
@@ -12,7 +12,7 @@ ghost use Rattle.masm_names.specs.Uses.{first_place};
 ghost use Rattle.masm_tables.specs.Kernels.{AreExports, names_in};
 ghost use Rattle.masm_tables.specs.Tables.{AreSizes};
 
-use masm_blocks::Kernel;
+use masm_flat::Kernel;
 use masm_names::Names;
 use masm_size::{Size, Sizes, size_of_procedure};
 use masm_tree::{Ast, Proc};

@@ -2,11 +2,11 @@
 use Rattle.std.proofs.Common.{◌≡◌, ℕ, Bool, true, false, ◌&&◌, cond, List, [], ◌∷◌, Option, Some, None, Result, Ok, Err, refl, ◌⊎◌, inl, inr, nat_le, nat_lt, bytes_eq, codes, ◌==◌}
 use Rattle.std.specs.List.{slice_split}
 use Rattle.vm_field.specs.Field.{prime}
-use Rattle.instr_reading.specs.declared.constant.Const.{Const}
-use Rattle.instr_reading.specs.declared.refusal.InstrError.{InstrError}
+use Rattle.masm_reading.specs.declared.constant.Const.{Const}
+use Rattle.masm_reading.specs.declared.refusal.InstrError.{InstrError}
 use Rattle.masm_instr.specs.Instructions.{Instruction}
-use Rattle.instr_reading.specs.Numbers.{number}
-use Rattle.instr_reading.specs.Reading.{read, parts_of, parameter_of}
+use Rattle.masm_reading.specs.Numbers.{number}
+use Rattle.masm_reading.specs.Reading.{read, parts_of, parameter_of}
 use Rattle.masm_tree.specs.declared.parts.Case.TheVariants.{Upper, Lower}
 use Rattle.masm_tree.specs.declared.keyword.Keyword.{Keyword}
 use Rattle.masm_tree.specs.declared.keyword.Keyword.TheVariants as keywords

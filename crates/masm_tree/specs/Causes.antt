@@ -1,7 +1,7 @@
 -- The causes for which a token is refused, and their order.
 use Rattle.std.specs.Prelude.{ℕ, Bool, nat_lt, List, codes, Option, Some, None}
-use Rattle.instr_reading.specs.declared.refusal.InstrError.{InstrError}
-use Rattle.instr_reading.specs.declared.refusal.InstrError.TheVariants as errors
+use Rattle.masm_reading.specs.declared.refusal.InstrError.{InstrError}
+use Rattle.masm_reading.specs.declared.refusal.InstrError.TheVariants as errors
 use Rattle.masm_tree.specs.declared.refusal.Cause.{Cause}
 use Rattle.masm_tree.specs.declared.refusal.Cause.TheVariants as causes
 use Rattle.masm_tree.specs.declared.refusal.Stop.{Stop}

@@ -4,11 +4,11 @@ use Rattle.std.specs.Prelude.{ℕ, Bool, true, false, ◌==◌, ◌&&◌, ◌||�
 use Rattle.std.specs.List.{list_all, slice_split}
 use Rattle.answers.specs.Gives.{Gives}
 use Rattle.vm_field.specs.Field.{prime}
-use Rattle.instr_reading.specs.declared.constant.Const.{Const}
-use Rattle.instr_reading.specs.declared.refusal.InstrError.{InstrError}
+use Rattle.masm_reading.specs.declared.constant.Const.{Const}
+use Rattle.masm_reading.specs.declared.refusal.InstrError.{InstrError}
 use Rattle.masm_instr.specs.Instructions.{Instruction, names_local}
-use Rattle.instr_reading.specs.Numbers.{number}
-use Rattle.instr_reading.specs.Reading.{parameter_of, parts_of, read}
+use Rattle.masm_reading.specs.Numbers.{number}
+use Rattle.masm_reading.specs.Reading.{parameter_of, parts_of, read}
 use Rattle.masm_tree.specs.declared.refusal.Cause.{Cause}
 use Rattle.masm_tree.specs.declared.refusal.Cause.TheVariants as causes
 use Rattle.masm_tree.specs.declared.refusal.Stop.{Stop}

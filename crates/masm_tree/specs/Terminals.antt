@@ -1,6 +1,6 @@
 -- What a terminal says by itself.
 use Rattle.std.specs.Prelude.{Bool, true, false, List, [], ◌∷◌, map}
-use Rattle.instr_reading.specs.declared.constant.Const.{Const}
+use Rattle.masm_reading.specs.declared.constant.Const.{Const}
 use Rattle.masm_tree.specs.declared.tree.Position.{Position}
 use Rattle.masm_tree.specs.declared.terminal.Role.{Role}
 use Rattle.masm_tree.specs.declared.terminal.Role.TheVariants as roles

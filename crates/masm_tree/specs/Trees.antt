@@ -1,6 +1,6 @@
 -- Syntax trees. A body is told as its first statement and the statements behind it.
 use Rattle.std.specs.Prelude.{ℕ, Bool, List, Option}
-use Rattle.instr_reading.specs.declared.constant.Const.{Const}
+use Rattle.masm_reading.specs.declared.constant.Const.{Const}
 use Rattle.masm_tree.specs.declared.tree.Position.{Position}
 use Rattle.masm_tree.specs.declared.terminal.Leaf.{Leaf}
 

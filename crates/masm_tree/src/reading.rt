@@ -1,5 +1,5 @@
 ghost use Rattle.std.specs.Prelude.{◌≡◌, ℕ, IfOk, map, Result};
-ghost use Rattle.instr_reading.specs.Reading.{parts_of};
+ghost use Rattle.masm_reading.specs.Reading.{parts_of};
 ghost use Rattle.masm_tree.specs.declared.terminal.Terminal.{Terminal};
 ghost use Rattle.masm_tree.specs.declared.refusal.Cause.{Cause};
 ghost use Rattle.masm_tree.specs.Classify.{constant, definition, locals_of, header, main, alone, on_true, repetition, usage, phrase, instruction, nameless, blank, blank_of, symbol_with, classify_keyword, classify_instruction, classify, GivesTerminal};
@@ -9,7 +9,7 @@ use crate::parts::{Case, is_name};
 use crate::refusal::{Cause, Stop};
 use crate::terminal::{Header, Leaf, Role, Symbol, Terminal, Use};
 use crate::tree::Position;
-use instr_reading::{Const, Consts, read_number, read_parameter, read_parts, split, split_into};
+use masm_reading::{Const, Consts, read_number, read_parameter, read_parts, split, split_into};
 use std::alloc::{AllocError, Global};
 use vm_field::{Bytes, Felt, Memory};
 
@@ -190,7 +190,7 @@ fn read_phrase(
 }
 
 // Another token, which is an instruction.
-#[tactic(auto, unfolding(crate::specs::Classify::instruction, instr_reading::specs::Reading::read))]
+#[tactic(auto, unfolding(crate::specs::Classify::instruction, masm_reading::specs::Reading::read))]
 fn read_instruction(
     alloc: Global,
     consts: &Consts,

@@ -2,7 +2,7 @@ ghost use Rattle.std.specs.Prelude.{◌≡◌};
 ghost use Rattle.masm_tree.specs.declared.refusal.Stop.TheVariants as stops;
 ghost use Rattle.masm_tree.specs.Causes.{text_of_cause, is_early, stop_of};
 
-use instr_reading::InstrError;
+use masm_reading::InstrError;
 use std::alloc::{AllocError, AllocFailed};
 use std::fmt;
 use thiserror::Error;

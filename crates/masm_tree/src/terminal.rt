@@ -3,8 +3,8 @@ ghost use Rattle.masm_tree.specs.Terminals.{may_begin, is_opening};
 
 use crate::refusal::Cause;
 use crate::tree::Position;
-use instr_reading::Const;
 use masm_instr::Instr;
+use masm_reading::Const;
 use vm_field::Bytes;
 
 /// What a header begins.

@@ -1,5 +1,5 @@
-use instr_reading::Consts;
 use masm_instr::Instr;
+use masm_reading::Consts;
 use vm_field::Bytes;
 
 /// The place of a token.

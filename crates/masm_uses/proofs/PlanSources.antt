@@ -6,7 +6,7 @@ use Rattle.std.proofs.lemmas.List.Elements.{Contains-get_or}
 use Rattle.std.proofs.lemmas.Option.{get_or_from_slice_get, slice_get-get_or}
 use Rattle.std.specs.List.{All, Contains}
 use Rattle.std.specs.Option.{option_map}
-use Rattle.instr_reading.specs.declared.constant.Const.{Const}
+use Rattle.masm_reading.specs.declared.constant.Const.{Const}
 use Rattle.masm_tree.specs.declared.tree.Proc.{Proc}
 use Rattle.masm_tree.specs.Trees.{Procedure, Source}
 use Rattle.masm_tree.specs.Views.{procedure_of, body_of}

@@ -1,7 +1,7 @@
 -- Words of the form of `check` ask for what their names do.
 use Rattle.std.proofs.Common.{◌≡◌, [], ◌∷◌, ℕ, true, List, codes, Option, Some}
-use Rattle.command_words.specs.Words.{is_form, name_at, optional_name}
-use Rattle.commands.specs.Asked.{Asked, nothing, check_of_names, check_words}
+use Rattle.cmd_words.specs.Words.{is_form, name_at, optional_name}
+use Rattle.cmd_kit.specs.Asked.{Asked, nothing, check_of_names, check_words}
 use Rattle.miden_app.proofs.RunWords.{chosen}
 
 of_names : (a : Asked) (p q t u s v : Option (List ℕ)) (e f : Option (Option (List ℕ))) → p ≡ q → t ≡ u → s ≡ v → e ≡ f → a ≡ check_of_names p t s e

@@ -2,14 +2,14 @@
 use Rattle.std.proofs.Common.{Option, Some, None, inl, inr}
 use Rattle.vm_io.specs.Shelf.{Files, ShelfState}
 use Rattle.vm_io.specs.Sink.{SinkState}
-use Rattle.commands.specs.declared.status.Status.{Status}
-use Rattle.commands.specs.declared.answer.Answer.{Answer}
-use Rattle.command_ends.specs.declared.outcome.Outcome.{Outcome}
-use Rattle.command_ends.specs.declared.outcome.Outcome.TheVariants as outcome
-use Rattle.commands.specs.Statuses.{StatusKind, planned, no_command, failed_read, failed_write, failed_print, no_memory, kind_of}
-use Rattle.commands.specs.Steps.{Steps}
-use Rattle.commands.specs.Serving.{ComesWhere, Works, GivesUp, Prints, ServesAs}
-use Rattle.command_ends.specs.Outcomes.{EndsIn, PrintStep, printed, refused, given_up}
+use Rattle.cmd_kit.specs.declared.status.Status.{Status}
+use Rattle.cmd_kit.specs.declared.answer.Answer.{Answer}
+use Rattle.cmd_kit.specs.declared.outcome.Outcome.{Outcome}
+use Rattle.cmd_kit.specs.declared.outcome.Outcome.TheVariants as outcome
+use Rattle.cmd_kit.specs.Statuses.{StatusKind, planned, no_command, failed_read, failed_write, failed_print, no_memory, kind_of}
+use Rattle.cmd_kit.specs.Steps.{Steps}
+use Rattle.cmd_kit.specs.Serving.{ComesWhere, Works, GivesUp, Prints, ServesAs}
+use Rattle.cmd_kit.specs.Outcomes.{EndsIn, PrintStep, printed, refused, given_up}
 
 weaker : (told : Option Files) (steps : Steps) (P Q : Steps → Option Files → Type 0) → ((left : Steps) (now : Option Files) → P left now → Q left now)
     → ComesWhere steps P told → ComesWhere steps Q told

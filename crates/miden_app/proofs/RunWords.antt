@@ -1,8 +1,8 @@
 -- Words of the form of `run` ask for what their names do.
 use Rattle.std.proofs.Common.{◌≡◌, [], ◌∷◌, ℕ, Bool, true, false, List, codes, Option, Some, refl, subst, sym}
 use Rattle.std.specs.Bool.{if◌then◌else◌}
-use Rattle.command_words.specs.Words.{is_form, name_at, optional_name}
-use Rattle.commands.specs.Asked.{Asked, Outputs, nothing, limit_in, outputs_in, run_apart, run_of_names, run_words}
+use Rattle.cmd_words.specs.Words.{is_form, name_at, optional_name}
+use Rattle.cmd_kit.specs.Asked.{Asked, Outputs, nothing, limit_in, outputs_in, run_apart, run_of_names, run_words}
 
 pub chosen : (b : Bool) (x y a : Asked) → b ≡ true → a ≡ x → a ≡ (if b then x else y)
 chosen b x y a is same = subst (λ c. a ≡ (if c then x else y)) (sym is) same

@@ -1,9 +1,9 @@
 -- What a read command asks for.
 use Rattle.std.specs.Prelude.{◌≤◌, length, option_map, IfSome}
-use Rattle.run_command.specs.Naming.{AreNamed, outputs_from}
+use Rattle.cmd_run.specs.Naming.{AreNamed, outputs_from}
 use Rattle.miden_app.specs.declared.words.Command.{Command}
 use Rattle.miden_app.specs.declared.words.Command.TheVariants as command
-use Rattle.commands.specs.Asked.{Asked, nothing, hash, assemble, run, check}
+use Rattle.cmd_kit.specs.Asked.{Asked, nothing, hash, assemble, run, check}
 
 abbrev pub asks : Command → Asked
 asks command.Nothing = nothing

@@ -1,15 +1,14 @@
 // `hash`: the digest of a file of numbers.
 ghost use Rattle.std.specs.Prelude.{◌≡◌, ◌≤◌, length, IfOk, Some};
 ghost use Rattle.rpo_hash.specs.Constants.{constants_of};
-ghost use Rattle.commands.specs.Commands.{hash_steps, numbers_steps};
-ghost use Rattle.command_ends.specs.Outcomes.{ComesTo, EndsIn, SaysStatus};
+ghost use Rattle.cmd_kit.specs.Commands.{hash_steps, numbers_steps};
+ghost use Rattle.cmd_kit.specs.Outcomes.{ComesTo, EndsIn, SaysStatus};
 ghost use Rattle.number_files.specs.Grammar.{numbers_of};
-ghost use Rattle.commands.specs.HashEnds.{hash_end, digest_line};
+ghost use Rattle.cmd_kit.specs.HashEnds.{hash_end, digest_line};
 
-use command_ends::{
-    MOST_PARAMS_BYTES, Outcome, answered, append_word, load, malformed, malformed_params,
+use cmd_kit::{
+    MOST_PARAMS_BYTES, Outcome, Status, answered, append_word, load, malformed, malformed_params,
 };
-use commands::Status;
 use number_files::{NumbersStop, cause_text, digest_of_elements, read_numbers};
 use rpo_hash::Params;
 use std::alloc::Global;
@@ -21,7 +20,7 @@ const MOST_NUMBERS_BYTES: u64 = 262144;
 
 /// `hash`: reads the parameters, then the numbers, and hashes these, eight to a block, with
 /// domain 0.
-#[tactic(auto, using(command_ends::proofs::ServingLemmas::work_ends, command_ends::proofs::ServingLemmas::says_comes))]
+#[tactic(auto, using(cmd_kit::proofs::ServingLemmas::work_ends, cmd_kit::proofs::ServingLemmas::says_comes))]
 pub fn hash_files<F: Shelf>(alloc: Global, shelf: &mut F, params: &str, numbers: &str) -> Outcome
     requires params { length params.now ≤ 200 }
     requires numbers { length numbers.now ≤ 200 }
@@ -37,7 +36,7 @@ pub fn hash_files<F: Shelf>(alloc: Global, shelf: &mut F, params: &str, numbers:
 }
 
 // Reads and hashes the numbers.
-#[tactic(auto, using(command_ends::proofs::ServingLemmas::work_ends))]
+#[tactic(auto, using(cmd_kit::proofs::ServingLemmas::work_ends))]
 fn hash_file<F: Shelf>(alloc: Global, shelf: &mut F, constants: &Params, name: &str) -> Outcome
     requires { length name.now ≤ 200 }
     ensures { EndsIn (Some (numbers_steps name.now (constants_of constants.now))) result (F.state shelf.old) (F.state shelf.new) }

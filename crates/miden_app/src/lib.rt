@@ -5,7 +5,7 @@ mod hash;
 mod serving;
 mod words;
 
-pub use commands::{
+pub use cmd_kit::{
     Status, accepted_has_evidence, good_files_are_served, other_files_stay,
     usage_is_for_no_command, written_run_is_accepted,
 };

@@ -1,17 +1,16 @@
 ghost use Rattle.std.specs.Prelude.{codes};
-ghost use Rattle.commands.specs.Asked.{asked};
-ghost use Rattle.command_words.specs.Words.{texts};
-ghost use Rattle.commands.specs.Commands.{steps_of};
-ghost use Rattle.command_ends.specs.Outcomes.{EndsIn, PrintStep, SaysStatus};
-ghost use Rattle.commands.specs.Serving.{Serves};
+ghost use Rattle.cmd_kit.specs.Asked.{asked};
+ghost use Rattle.cmd_words.specs.Words.{texts};
+ghost use Rattle.cmd_kit.specs.Commands.{steps_of};
+ghost use Rattle.cmd_kit.specs.Outcomes.{EndsIn, PrintStep, SaysStatus};
+ghost use Rattle.cmd_kit.specs.Serving.{Serves};
 
 use crate::hash::hash_files;
 use crate::words::{Command, command_of};
-use assemble_command::assemble_files;
-use check_command::{CheckNames, check_files};
-use command_ends::{Outcome, answered};
-use commands::Status;
-use run_command::{RunOptions, run_source_files};
+use cmd_assemble::assemble_files;
+use cmd_check::{CheckNames, check_files};
+use cmd_kit::{Outcome, Status, answered};
+use cmd_run::{RunOptions, run_source_files};
 use std::alloc::Global;
 use vm_field::Bytes;
 use vm_io::{Gate, Shelf, Sink, SinkStop};
@@ -44,7 +43,7 @@ pub fn serve<F: Shelf, K: Sink, G: Gate>(
 }
 
 // Does the work of the command, and leaves its line to be printed.
-#[tactic(auto, using(command_ends::proofs::ServingLemmas::usage_ends))]
+#[tactic(auto, using(cmd_kit::proofs::ServingLemmas::usage_ends))]
 fn obey<F: Shelf, G: Gate>(alloc: Global, words: &[Vec<u8>], shelf: &mut F, gate: &G) -> Outcome
     ensures { EndsIn (steps_of (asked (texts words.now))) result (F.state shelf.old) (F.state shelf.new) }
 {

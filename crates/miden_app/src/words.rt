@@ -2,13 +2,13 @@
 ghost use Rattle.std.specs.Prelude.{◌≡◌, ◌≤◌, ◌∷◌, length, option_map, Some, IfSome};
 ghost use Rattle.std.specs.List.{list_any};
 ghost use Rattle.std.specs.Str.{bytes_eq};
-ghost use Rattle.command_words.specs.Words.{texts};
-ghost use Rattle.commands.specs.Asked.{nothing, hash, assemble, check, check_words, check_of_names, is_apart, hash_words, hash_of_names, assemble_words, assemble_of_names, run, run_words, run_of_names, run_apart, given_name, outputs_in, limit_in, asked};
-ghost use Rattle.run_command.specs.Naming.{AreNamed, outputs_from};
+ghost use Rattle.cmd_words.specs.Words.{texts};
+ghost use Rattle.cmd_kit.specs.Asked.{nothing, hash, assemble, check, check_words, check_of_names, is_apart, hash_words, hash_of_names, assemble_words, assemble_of_names, run, run_words, run_of_names, run_apart, given_name, outputs_in, limit_in, asked};
+ghost use Rattle.cmd_run.specs.Naming.{AreNamed, outputs_from};
 ghost use Rattle.miden_app.specs.Asking.{asks, NamesFiles};
 
-use command_words::{is_form, name_at, optional_name, optional_number};
-use run_command::Outputs;
+use cmd_run::Outputs;
+use cmd_words::{is_form, name_at, optional_name, optional_number};
 
 /// What the words after the program's name ask for.
 pub enum Command<'a> {
@@ -47,7 +47,7 @@ pub enum Command<'a> {
 const MOST_CYCLES: u32 = 524_287;
 
 /// Reads the words.
-#[tactic(auto, unfolding(commands::specs::Asked::asked))]
+#[tactic(auto, unfolding(cmd_kit::specs::Asked::asked))]
 pub fn command_of(words: &[Vec<u8>]) -> Command<'_>
     ensures asks { asks result ≡ asked (texts words.now) }
     ensures named { NamesFiles result }

@@ -11,13 +11,13 @@ use Rattle.block_tree.proofs.Keeping.{cycle-ticks}
 use Rattle.block_tree.proofs.Limits.{execution-again, execution-late}
 use Rattle.block_tree.proofs.Parts.{done-not_late, seq-late, taking-inv}
 use Rattle.vm_state.specs.Views.{core_of, state_of}
-use Rattle.cycle_events.specs.Running.{Ran}
-use Rattle.cycle_effects.specs.Settings.{constants_in, cycle_in}
+use Rattle.machine_cycles.specs.Running.{Ran}
+use Rattle.machine_cycles.specs.Settings.{constants_in, cycle_in}
 use Rattle.processor.specs.Parts.{digest_of, execution_in, turns_in}
-use Rattle.cycle_events.specs.declared.cycling.Runner.{Runner}
-use Rattle.cycle_events.specs.declared.event.Event.{Event}
-use Rattle.cycle_effects.specs.declared.refusal.Stop.{Stop}
-use Rattle.cycle_effects.specs.declared.setting.Setting.{Setting}
+use Rattle.machine_cycles.specs.declared.cycling.Runner.{Runner}
+use Rattle.machine_cycles.specs.declared.event.Event.{Event}
+use Rattle.machine_cycles.specs.declared.refusal.Stop.{Stop}
+use Rattle.machine_cycles.specs.declared.setting.Setting.{Setting}
 use Rattle.processor.proofs.RunLemmas.{Left, left-along, left-fail, left-next, left-start, ran-along}
 
 pub at_bit-zero : (n : ℕ) (f g : Part) → n ≡ 0 → at_bit n f g ≡ f

@@ -13,12 +13,12 @@ use Rattle.block_tree.proofs.Tapes.{fed-execution}
 use Rattle.vm_state.specs.Views.{state_of}
 use Rattle.vm_state.specs.declared.inputs.Inputs.{Inputs}
 use Rattle.processor.specs.Executed.{IsRunOf}
-use Rattle.cycle_events.specs.Running.{Ran, shown_in}
-use Rattle.cycle_effects.specs.Settings.{constants_in}
+use Rattle.machine_cycles.specs.Running.{Ran, shown_in}
+use Rattle.machine_cycles.specs.Settings.{constants_in}
 use Rattle.processor.specs.Parts.{execution_in}
-use Rattle.cycle_events.specs.declared.cycling.Runner.{Runner}
-use Rattle.cycle_events.specs.declared.event.Event.{Event}
-use Rattle.cycle_effects.specs.declared.setting.Setting.{Setting}
+use Rattle.machine_cycles.specs.declared.cycling.Runner.{Runner}
+use Rattle.machine_cycles.specs.declared.event.Event.{Event}
+use Rattle.machine_cycles.specs.declared.setting.Setting.{Setting}
 
 start-tape : (stack advice : List ℕ) (s : machine.State) → s ≡ start stack advice → s.tape ≡ advice
 unfolding start

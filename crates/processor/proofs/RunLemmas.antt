@@ -5,12 +5,12 @@ use Rattle.vm_field.specs.Machine as machine
 use Rattle.block_tree.specs.Execution.{Outcome, Part, seq, skip}
 use Rattle.block_tree.proofs.Parts.{seq-done, seq-late, seq-late_second, seq-trap, seq-trap_second, skip-done}
 use Rattle.vm_state.specs.Views.{state_of}
-use Rattle.cycle_events.specs.Running.{IsDone, Ran, RanAs, shown_in}
-use Rattle.cycle_events.specs.declared.cycling.Runner.{Runner}
-use Rattle.cycle_events.specs.declared.event.Event.{Event}
-use Rattle.cycle_effects.specs.declared.refusal.Stop.{Stop}
-use Rattle.cycle_effects.specs.declared.refusal.Stop.TheVariants.{Trap, OutOfCycles, Memory}
-use Rattle.cycle_effects.specs.declared.setting.Setting.{Setting}
+use Rattle.machine_cycles.specs.Running.{IsDone, Ran, RanAs, shown_in}
+use Rattle.machine_cycles.specs.declared.cycling.Runner.{Runner}
+use Rattle.machine_cycles.specs.declared.event.Event.{Event}
+use Rattle.machine_cycles.specs.declared.refusal.Stop.{Stop}
+use Rattle.machine_cycles.specs.declared.refusal.Stop.TheVariants.{Trap, OutOfCycles, Memory}
+use Rattle.machine_cycles.specs.declared.setting.Setting.{Setting}
 
 then-as : (f g : Part) (setting : Setting) (s : machine.State) (log : List Event) (mid after : Runner) (r : Result (Unit {0}) Stop)
     → IsDone setting (f s) log mid → RanAs setting (g (state_of mid.state)) mid.log r after → RanAs setting (seq f g s) log r after

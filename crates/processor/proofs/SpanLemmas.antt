@@ -9,12 +9,12 @@ use Rattle.block_tree.specs.Execution.{Part, seq}
 use Rattle.block_tree.specs.Trees.{Span}
 use Rattle.vm_state.specs.Views.{state_of}
 use Rattle.tree_hash.specs.Nodes.{elements_of}
-use Rattle.cycle_events.specs.Running.{Ran}
-use Rattle.cycle_effects.specs.Settings.{cycle_in}
+use Rattle.machine_cycles.specs.Running.{Ran}
+use Rattle.machine_cycles.specs.Settings.{cycle_in}
 use Rattle.processor.specs.Parts.{batches_in, digest_of, execution_in, operations_in, read_operations_in}
 use Rattle.tree_hash.specs.declared.batch.ReadBatch.{ReadBatch}
-use Rattle.cycle_events.specs.declared.cycling.Runner.{Runner}
-use Rattle.cycle_effects.specs.declared.setting.Setting.{Setting}
+use Rattle.machine_cycles.specs.declared.cycling.Runner.{Runner}
+use Rattle.machine_cycles.specs.declared.setting.Setting.{Setting}
 use Rattle.processor.proofs.RunLemmas.{Left, left-along, ran-along, ran-skip}
 
 -- the list from a place on, where something stands there

@@ -10,10 +10,10 @@ use Rattle.block_tree.specs.TreeView.{tree_of}
 use Rattle.block_tree.specs.declared.program.Program.{Program}
 use Rattle.vm_state.specs.Views.{state_of}
 use Rattle.vm_state.specs.declared.inputs.Inputs.{Inputs}
-use Rattle.cycle_events.specs.Events.{shown}
+use Rattle.machine_cycles.specs.Events.{shown}
 use Rattle.processor.specs.declared.run.Run.{Run}
-use Rattle.cycle_effects.specs.declared.refusal.Stop.{Stop}
-use Rattle.cycle_effects.specs.declared.refusal.Stop.TheVariants.{Trap, OutOfCycles, Memory}
+use Rattle.machine_cycles.specs.declared.refusal.Stop.{Stop}
+use Rattle.machine_cycles.specs.declared.refusal.Stop.TheVariants.{Trap, OutOfCycles, Memory}
 
 -- how a program comes out from its inputs within a limit of cycles
 abbrev pub outcome_of : Params → Program → Inputs → ℕ → Outcome

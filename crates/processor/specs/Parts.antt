@@ -4,8 +4,8 @@ use Rattle.vm_ops.specs.declared.item.Item.{Item}
 use Rattle.block_tree.specs.Cycles.{Mark}
 use Rattle.block_tree.specs.Trees.{Tree, tree_digest}
 use Rattle.block_tree.specs.Execution.{Part, batches_from, execution, operations, read_operations, turns}
-use Rattle.cycle_effects.specs.Settings.{constants_in}
-use Rattle.cycle_effects.specs.declared.setting.Setting.{Setting}
+use Rattle.machine_cycles.specs.Settings.{constants_in}
+use Rattle.machine_cycles.specs.declared.setting.Setting.{Setting}
 
 abbrev pub digest_of : Setting → Tree → List ℕ
 digest_of s tree = tree_digest (constants_in s) tree

@@ -6,12 +6,11 @@ ghost use Rattle.op_pack.specs.Reading.{reading};
 ghost use Rattle.vm_ops.specs.Items.{IsOrdinaryItem};
 ghost use Rattle.vm_state.specs.Views.{state_of};
 ghost use Rattle.tree_hash.specs.Nodes.{IsHashed, elements_of, node_tree};
-ghost use Rattle.cycle_events.specs.Running.{Ran};
-ghost use Rattle.cycle_effects.specs.Settings.{constants_in};
+ghost use Rattle.machine_cycles.specs.Running.{Ran};
+ghost use Rattle.machine_cycles.specs.Settings.{constants_in};
 ghost use Rattle.processor.specs.Parts.{batches_in, digest_of, execution_in, operations_in, read_operations_in, turns_in};
 
-use cycle_effects::{Mark, Setting, Stop, top_of};
-use cycle_events::{Runner, cycle, enter, operation};
+use machine_cycles::{Mark, Runner, Setting, Stop, cycle, enter, operation, top_of};
 use tree_hash::{Node, ReadBatch};
 use vm_field::{Felt, Word};
 use vm_ops::Item;

@@ -1,4 +1,4 @@
-use cycle_events::Events;
+use machine_cycles::Events;
 use perm_memo::Permutations;
 use vm_field::{Felts, Word};
 use vm_state::State;

@@ -1,2 +1,5 @@
+pub mod Steps
+pub mod Written
+pub mod InputsText
 pub mod Distinct
 pub mod StatementText

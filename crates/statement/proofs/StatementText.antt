@@ -16,11 +16,11 @@ use Rattle.vm_field.specs.Machine.{IsWord}
 use Rattle.vm_field.specs.WordText.{hex_digits, word_hex, word_of_hex}
 use Rattle.vm_field.proofs.HexLaws.{word_of_hex-word_hex}
 use Rattle.block_tree.specs.Kernels.{AreDistinct}
-use Rattle.json_values.specs.Values.{are_texts, words_of}
-use Rattle.json_values.specs.ToJson.{texts_of, listed}
-use Rattle.json_values.proofs.Written.{items_have_float-numbers_of, items_depth-numbers_of, items_text-numbers_of, are_numbers-numbers_of, elements_of-numbers_of}
+use Rattle.statement.specs.Values.{are_texts, words_of}
+use Rattle.statement.specs.ToJson.{texts_of, listed}
+use Rattle.statement.proofs.Written.{items_have_float-numbers_of, items_depth-numbers_of, items_text-numbers_of, are_numbers-numbers_of, elements_of-numbers_of}
 use Rattle.statement.specs.Statements.{Stated, claim_by, statement_of, statement_text, words_listed}
-use Rattle.statement.specs.ToJson.{statement_data}
+use Rattle.statement.specs.StatementJson.{statement_data}
 use Rattle.statement.proofs.Distinct.{passes}
 
 items_have_float-texts_of : (ws : List (List ℕ)) → items_have_float (texts_of ws) ≡ false

@@ -1,2 +1,8 @@
-pub mod Statements
+pub mod Values
+pub mod Causes
 pub mod ToJson
+pub mod Inputs
+pub mod InputsJson
+pub mod Statements
+pub mod StatementJson
+pub mod EvidenceText

@@ -5,11 +5,11 @@ use Rattle.std.specs.Option.{ok_or}
 use Rattle.serde_json.specs.Data.{Data, Items}
 use Rattle.vm_field.specs.WordText.{word_hex, word_of_hex}
 use Rattle.vm_state.specs.declared.statement.Statement.{Statement}
-use Rattle.json_values.specs.declared.refusal.TextCause.{TextCause}
-use Rattle.json_values.specs.declared.refusal.TextCause.TheVariants.{NotJson, Shape, Element, Digest, Count, Repeated}
-use Rattle.json_values.specs.Causes.{and_then}
-use Rattle.json_values.specs.ToJson.{listed}
-use Rattle.json_values.specs.Values.{value_of, has_keys, numbers_at, elements_of, text_at, texts_at, words_of}
+use Rattle.statement.specs.declared.refusal.TextCause.{TextCause}
+use Rattle.statement.specs.declared.refusal.TextCause.TheVariants.{NotJson, Shape, Element, Digest, Count, Repeated}
+use Rattle.statement.specs.Causes.{and_then}
+use Rattle.statement.specs.ToJson.{listed}
+use Rattle.statement.specs.Values.{value_of, has_keys, numbers_at, elements_of, text_at, texts_at, words_of}
 use lib.Pointwise.{pointwise}
 
 -- what is said to be proved of a run

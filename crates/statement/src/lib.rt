@@ -1,6 +1,14 @@
-//! The text of a statement: JSON, read by its grammar and written in one spelling.
+//! The texts that stand beside a table file: inputs and statements as JSON, read by their grammar and written in one spelling, and
+//! evidence as it is written (docs/FORMATS.md).
 #![tactic(auto)]
 
+mod evidence;
+mod inputs;
+mod refusal;
 mod statements;
+mod values;
 
+pub use evidence::write_evidence;
+pub use inputs::{read_inputs, write_inputs};
+pub use refusal::{TextCause, TextError, cause_text};
 pub use statements::{read_statement, write_statement};

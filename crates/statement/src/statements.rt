@@ -2,16 +2,17 @@ ghost use Rattle.std.specs.Prelude.{◌≡◌, IfOk, IsTrue, Ok};
 ghost use Rattle.block_tree.specs.Kernels.{AreDistinct};
 ghost use Rattle.serde_json.specs.View.{view, items_view};
 ghost use Rattle.answers.specs.Gives.{Gives};
-ghost use Rattle.json_values.specs.Causes.{cause_in};
+ghost use Rattle.statement.specs.Causes.{cause_in};
 ghost use Rattle.statement.specs.Statements as statements;
 ghost use Rattle.statement.specs.Statements.{claim_by, claim_from, claim_of, statement_of, statement_text};
-ghost use Rattle.statement.specs.ToJson.{statement_data};
+ghost use Rattle.statement.specs.StatementJson.{statement_data};
 
-use block_tree::are_distinct;
-use json_values::{
-    TextCause, TextError, array_of, elements_of, has_keys, numbers_at, text_at, text_of, texts_at,
-    texts_from, value_of, words_of,
+use crate::refusal::{TextCause, TextError};
+use crate::values::{
+    array_of, elements_of, has_keys, numbers_at, text_at, text_of, texts_at, texts_from, value_of,
+    words_of,
 };
+use block_tree::are_distinct;
 use serde_json::{Map, Value, put};
 use std::alloc::Global;
 use vm_field::{Bytes, Memory, Word, Words};

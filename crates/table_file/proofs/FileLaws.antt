@@ -11,8 +11,8 @@ use Rattle.table_file.specs.declared.cause.FileError.TheVariants.{Bad}
 use Rattle.table_file.specs.declared.counts.RowCounts.{RowCounts}
 use Rattle.table_file.specs.Fields.{rows_at, table_bytes}
 use Rattle.table_file.specs.Files.{AreTables, bytes_of, counts_in, end_place, bitwise_place, hasher_place, kernel_place, left_place, memory_place, range_place, ended_at, head_bytes, head_of, tables_of, trace_of}
-use Rattle.row_counts.specs.Counts.{EachMayHave}
-use Rattle.row_counts.proofs.CountLaws.{counts_law}
+use Rattle.air_kit.specs.Counts.{EachMayHave}
+use Rattle.air_kit.proofs.CountLaws.{counts_law}
 use Rattle.table_file.proofs.Chains.{chain}
 use Rattle.table_file.proofs.NumberLaws.{AreBytes}
 use Rattle.table_file.proofs.HeadLaws.{HeadSays, MayStand, head-says, head-written, head-read, count-fits}

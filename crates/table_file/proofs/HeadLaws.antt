@@ -12,8 +12,8 @@ use Rattle.table_file.specs.declared.cause.FileError.{FileError}
 use Rattle.table_file.specs.declared.counts.RowCounts.{RowCounts}
 use Rattle.table_file.specs.Fields.{number_at}
 use Rattle.table_file.specs.Files.{magic, count_at, count_bytes, counts_of, head_of, head_bytes}
-use Rattle.row_counts.specs.Counts.{may_have}
-use Rattle.row_counts.proofs.CountLaws.{may-have}
+use Rattle.air_kit.specs.Counts.{may_have}
+use Rattle.air_kit.proofs.CountLaws.{may-have}
 use Rattle.table_file.proofs.Chains.{chain}
 use Rattle.table_file.proofs.NumberLaws.{AreBytes, number-tested, number-written, number-reads}
 use Rattle.table_file.proofs.PartLaws.{behind_part}

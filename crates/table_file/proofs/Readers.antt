@@ -15,7 +15,7 @@ use Rattle.table_file.specs.declared.part_trace.PartTrace.{PartTrace}
 use Rattle.table_file.specs.Fields.{GivesRead, behind, number_at}
 use Rattle.table_file.specs.Files.{counts_of, head_of, magic, tables_of, trace_of}
 use Rattle.table_file.specs.Reading.{Advances, GoesFurther, ReadsBehind, HasRead, HasTaken, IsMissing, PlacesAreSmall, Reader, StandsAt, rest_of}
-use Rattle.row_counts.specs.Counts.{may_have}
+use Rattle.air_kit.specs.Counts.{may_have}
 use Rattle.table_file.proofs.Chains.{bad-read, goes_past}
 use Rattle.table_file.proofs.HeadLaws.{head-says}
 use Rattle.table_file.proofs.NumberLaws.{number-says}

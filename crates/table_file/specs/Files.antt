@@ -6,7 +6,7 @@ use Rattle.air_kit.specs.Traces.{rows_of}
 use Rattle.air_kit.specs.declared.trace.TableName.{TableName}
 use Rattle.air_kit.specs.declared.trace.TableName.TheVariants as table
 use Rattle.air_kit.specs.declared.trace.Trace.{Trace}
-use Rattle.row_counts.specs.Counts.{may_have}
+use Rattle.air_kit.specs.Counts.{may_have}
 use Rattle.table_file.specs.declared.cause.FileCause.TheVariants as cause
 use Rattle.table_file.specs.declared.cause.FileError.{FileError}
 use Rattle.table_file.specs.declared.cause.FileError.TheVariants.{Bad}

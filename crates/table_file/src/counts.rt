@@ -4,8 +4,7 @@ ghost use Rattle.table_file.specs.Files.{AreFew, count_at, counts_in, counts_of,
 
 use crate::cause::{FileCause, FileError, bad};
 use crate::head::read_u32;
-use air_kit::{TableName, Trace};
-use row_counts::may_have;
+use air_kit::{TableName, Trace, may_have};
 
 /// How many rows each table has.
 #[derive(Clone, Copy)]
@@ -30,7 +29,7 @@ pub(crate) const NO_ROWS: RowCounts = RowCounts {
     left: 0,
 };
 
-#[tactic(auto, unfolding(crate::specs::Fields::number_at, row_counts::specs::Counts::may_have))]
+#[tactic(auto, unfolding(crate::specs::Fields::number_at, air_kit::specs::Counts::may_have))]
 fn read_count(bytes: &[u8], table: TableName, at: usize) -> Result<usize, FileError>
     requires { at ≤ 100 }
     ensures is { result ≡ count_at bytes.now table at }

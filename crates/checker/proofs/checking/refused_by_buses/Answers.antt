@@ -1,6 +1,6 @@
 -- From the counts of all rows to what is answered of the buses.
 use Rattle.std.proofs.Common.{ap}
-use Rattle.row_checks.specs.Settings.{claim_in}
+use Rattle.checker.specs.Settings.{claim_in}
 use Rattle.checker.proofs.ApartLemmas.{accepted, refused_at, refused_with}
 use Rattle.checker.proofs.CountingLemmas.{all_readable}
 use Rattle.checker.proofs.checking.refused_by_buses.Goals as goal

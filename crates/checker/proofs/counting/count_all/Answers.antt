@@ -1,5 +1,5 @@
 -- All tables, one after another.
-use Rattle.row_checks.specs.Settings.{claim_in}
+use Rattle.checker.specs.Settings.{claim_in}
 use Rattle.checker.proofs.CountingLemmas.{trace_counted}
 use Rattle.checker.proofs.counting.count_all.Goals as goal
 

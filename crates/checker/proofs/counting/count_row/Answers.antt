@@ -5,7 +5,7 @@ use Rattle.air_kit.specs.Rows.{claim_at, spot_at}
 use Rattle.air_kit.specs.Traces.{spot_of}
 use Rattle.air_kit.specs.declared.trace.TableName.TheVariants as table
 use Rattle.bus_main.specs.RowTuples.{main_asked_at, main_given_at}
-use Rattle.row_checks.specs.Settings.{claim_in}
+use Rattle.checker.specs.Settings.{claim_in}
 use Rattle.checker.proofs.CountingLemmas.{row_counted, row_named}
 use Rattle.vm_table.specs.Rows.{row_cells}
 use Rattle.checker.proofs.counting.count_row.Goals as goal

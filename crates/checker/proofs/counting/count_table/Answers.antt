@@ -1,6 +1,6 @@
 -- One row after another.
 use Rattle.std.proofs.Common.{arith}
-use Rattle.row_checks.specs.Settings.{claim_in}
+use Rattle.checker.specs.Settings.{claim_in}
 use Rattle.checker.proofs.CountingLemmas.{none_counted, one_more_counted, room_for_row}
 use Rattle.checker.proofs.counting.count_table.Goals as goal
 

@@ -1,5 +1,5 @@
 use Rattle.checker.specs.Counting.{AreRowsCounted}
-use Rattle.row_checks.specs.Settings.{claim_in}
+use Rattle.checker.specs.Settings.{claim_in}
 use Rattle.checker.proofs.counting.count_table.Given as goal
 
 abbrev pub invariant-loop-row : goal.invariant-loop-row

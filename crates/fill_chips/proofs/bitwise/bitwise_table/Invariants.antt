@@ -1,6 +1,6 @@
 use Rattle.std.proofs.Common.{◌≡◌, take}
-use Rattle.bit_rows.specs.BitRows.{rows_of}
-use Rattle.bit_rows.specs.BitTables.{HaveWords}
+use Rattle.facts_bitwise.specs.BitRows.{rows_of}
+use Rattle.facts_bitwise.specs.BitTables.{HaveWords}
 use Rattle.fill_chips.proofs.bitwise.bitwise_table.Given as goal
 
 abbrev pub invariant-loop-op : goal.invariant-loop-op

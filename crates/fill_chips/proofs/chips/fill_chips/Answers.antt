@@ -1,10 +1,10 @@
 use Rattle.std.proofs.Common.{◌≡◌, ◌∷◌, [], ◌++◌, List, ℕ, ◌<◌, map, All, ap, ap₂, subst, ◌∙◌, arith}
 use Rattle.rpo_hash.specs.States.{IsState}
 use Rattle.vm_field.specs.Machine.{IsWord}
-use Rattle.hash_rows.specs.PermRows.{rows_of}
-use Rattle.bit_rows.specs.BitRows.{rows_of as bit_rows}
-use Rattle.bit_rows.specs.BitTables.{HaveWords}
-use Rattle.memory_rows.specs.MemoryTables.{ShowsAccesses}
+use Rattle.facts_hasher.specs.PermRows.{rows_of}
+use Rattle.facts_bitwise.specs.BitRows.{rows_of as bit_rows}
+use Rattle.facts_bitwise.specs.BitTables.{HaveWords}
+use Rattle.facts_memory.specs.MemoryTables.{ShowsAccesses}
 use Rattle.fill_chips.specs.KernelRows.{kernel_rows, times_called}
 use Rattle.fill_chips.specs.MemoryLimbs.{limbs_in}
 use Rattle.fill_chips.specs.RangeRows.{range_rows}

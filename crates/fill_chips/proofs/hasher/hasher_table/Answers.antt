@@ -2,7 +2,7 @@ use Rattle.std.proofs.Common.{◌≡◌, ◌+◌, [], ◌∷◌, ◌++◌, take,
 use Rattle.std.proofs.lemmas.List.{take_more}
 use Rattle.std.proofs.lemmas.List.Elements.{All-append, All-cons, All-nil}
 use Rattle.rpo_hash.specs.States.{IsState}
-use Rattle.hash_rows.specs.PermRows.{rows_before, rows_of}
+use Rattle.facts_hasher.specs.PermRows.{rows_before, rows_of}
 use Rattle.fill_chips.proofs.PermLemmas.{rows-none, rows-push}
 use Rattle.fill_chips.proofs.hasher.hasher_table.Goals as goal
 

@@ -1,6 +1,6 @@
 use Rattle.std.proofs.Common.{◌≡◌, All, take}
 use Rattle.rpo_hash.specs.States.{IsState}
-use Rattle.hash_rows.specs.PermRows.{rows_of}
+use Rattle.facts_hasher.specs.PermRows.{rows_of}
 use Rattle.fill_chips.proofs.hasher.hasher_table.Given as goal
 
 abbrev pub invariant-loop-perm : goal.invariant-loop-perm

@@ -1,6 +1,6 @@
 use Rattle.std.proofs.Common.{All, subst}
 use Rattle.std.proofs.lemmas.List.Sorted.{All-permutation, IsPermutation-sym}
-use Rattle.memory_rows.specs.MemoryTables.{IsSmallAccess}
+use Rattle.facts_memory.specs.MemoryTables.{IsSmallAccess}
 use Rattle.fill_chips.proofs.AccessLemmas.{if_ok_then}
 use Rattle.fill_chips.proofs.memory.memory_table.Goals as goal
 

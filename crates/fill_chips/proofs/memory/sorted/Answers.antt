@@ -1,6 +1,6 @@
 use Rattle.std.proofs.Common.{rules}
 use Rattle.std.proofs.lemmas.List.Sorted.{IsNonDecreasingBy-from_sort_by_key}
-use Rattle.memory_rows.specs.Accesses.{key_of}
+use Rattle.facts_memory.specs.Accesses.{key_of}
 use Rattle.fill_chips.proofs.memory.sorted.Goals as goal
 
 pub returns-clause-in_order : goal.returns-clause-in_order

@@ -1,8 +1,8 @@
 use Rattle.std.proofs.Common.{◌≡◌, ◌+◌, [], ◌∷◌, ◌++◌, take, All, None, sym, subst, ap, ◌∙◌}
 use Rattle.std.proofs.lemmas.List.{take_more}
 use Rattle.std.proofs.lemmas.List.Elements.{All-append, All-cons, All-nil}
-use Rattle.memory_rows.specs.AccessRows.{rows_behind}
-use Rattle.memory_rows.specs.MemoryTables.{IsSmallAccess}
+use Rattle.facts_memory.specs.AccessRows.{rows_behind}
+use Rattle.facts_memory.specs.MemoryTables.{IsSmallAccess}
 use Rattle.fill_chips.proofs.AccessLemmas.{rows-done, rows-step}
 use Rattle.fill_chips.proofs.memory.table_of.Goals as goal
 

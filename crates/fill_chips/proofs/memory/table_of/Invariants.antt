@@ -1,6 +1,6 @@
 use Rattle.std.proofs.Common.{◌≡◌, ◌++◌, take, drop, All}
-use Rattle.memory_rows.specs.AccessRows.{rows_behind, rows_of}
-use Rattle.memory_rows.specs.MemoryTables.{IsSmallAccess}
+use Rattle.facts_memory.specs.AccessRows.{rows_behind, rows_of}
+use Rattle.facts_memory.specs.MemoryTables.{IsSmallAccess}
 use Rattle.fill_chips.proofs.memory.table_of.Given as goal
 
 abbrev pub invariant-loop-access : goal.invariant-loop-access

@@ -1,6 +1,6 @@
 use Rattle.std.proofs.Common.{◌≡◌, ℕ, ◌+◌, ◌-◌, ◌<◌, List, ◌∷◌, drop, length, sym, ap, ◌∙◌, arith}
 use Rattle.std.proofs.lemmas.List.{drop_all}
-use Rattle.event_kinds.proofs.LoopLemmas.{suffix}
+use Rattle.fill_requests.proofs.LoopLemmas.{suffix}
 use Rattle.fill_decoder.proofs.positions.stacked.Goals as goal
 
 pub loop-i-init : goal.loop-i-init

@@ -1,13 +1,13 @@
 use Rattle.std.proofs.Common.{◌≡◌, ℕ, ◌+◌, List, ◌++◌, [], drop, length, refl, sym, ap, ◌∙◌, arith, slice_index, subst, get_or, unwrap_or}
 use Rattle.air_kit.specs.declared.requests.Perm.{Perm}
 use Rattle.air_kit.specs.declared.requests.Requests.{Requests}
-use Rattle.cycle_events.specs.declared.event.Event.{Event}
-use Rattle.cycle_events.specs.declared.event.Visible.{Visible}
-use Rattle.run_rows.specs.Decoder.{Decoder, decoder_after}
-use Rattle.run_rows.specs.Filling.{fill, row_of}
-use Rattle.run_rows.specs.RunRequests.{accesses_of, bits_of, calls_of, perms_of, ranges_by, ranges_of}
-use Rattle.run_rows.specs.Turns.{repeats}
-use Rattle.event_kinds.specs.Kinds.{kind_in}
+use Rattle.machine_cycles.specs.declared.event.Event.{Event}
+use Rattle.machine_cycles.specs.declared.event.Visible.{Visible}
+use Rattle.complete_rows.specs.Decoder.{Decoder, decoder_after}
+use Rattle.complete_rows.specs.Filling.{fill, row_of}
+use Rattle.complete_rows.specs.RunRequests.{accesses_of, bits_of, calls_of, perms_of, ranges_by, ranges_of}
+use Rattle.complete_rows.specs.Turns.{repeats}
+use Rattle.fill_requests.specs.Kinds.{kind_in}
 use Rattle.fill_requests.proofs.RequestLemmas as ask
 use Rattle.fill_decoder.specs.Views.{decoder_in}
 use Rattle.fill_decoder.proofs.DecoderLemmas.{known}

@@ -1,7 +1,7 @@
 use Rattle.std.proofs.Common.{◌≡◌, ◌++◌, drop}
-use Rattle.run_rows.specs.Decoder.{at_start, decoder_after}
-use Rattle.run_rows.specs.Filling.{fill}
-use Rattle.run_rows.specs.RunRequests.{accesses_of, bits_of, calls_of, perms_of, ranges_of}
+use Rattle.complete_rows.specs.Decoder.{at_start, decoder_after}
+use Rattle.complete_rows.specs.Filling.{fill}
+use Rattle.complete_rows.specs.RunRequests.{accesses_of, bits_of, calls_of, perms_of, ranges_of}
 use Rattle.fill_main.specs.Turns.{turns_of}
 use Rattle.fill_decoder.specs.Views.{decoder_in}
 use Rattle.fill_main.proofs.fill.fill.Given as goal

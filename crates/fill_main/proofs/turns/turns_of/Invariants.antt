@@ -1,5 +1,5 @@
 use Rattle.std.proofs.Common.{◌≡◌, drop}
-use Rattle.run_rows.specs.Turns.{repeats}
+use Rattle.complete_rows.specs.Turns.{repeats}
 use Rattle.fill_main.specs.Turns.{turns_of}
 use Rattle.fill_main.proofs.turns.turns_of.Given as goal
 

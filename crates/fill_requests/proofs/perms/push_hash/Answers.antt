@@ -1,6 +1,6 @@
 use Rattle.std.proofs.Common.{◌++◌, ◌∷◌, false, refl, ap, ◌∙◌, arith}
 use Rattle.vm_field.specs.Permutation.{permuted}
-use Rattle.run_rows.specs.RunRequests.{chain}
+use Rattle.complete_rows.specs.RunRequests.{chain}
 use Rattle.fill_requests.proofs.ChainLemmas.{chain-end, chain-step}
 use Rattle.fill_requests.proofs.perms.push_hash.Goals as goal
 

@@ -1,5 +1,5 @@
 use Rattle.std.proofs.Common.{◌≡◌, ◌∷◌, ◌++◌, drop}
-use Rattle.run_rows.specs.RunRequests.{chain, hash_perms}
+use Rattle.complete_rows.specs.RunRequests.{chain, hash_perms}
 use Rattle.fill_requests.proofs.perms.push_hash.Given as goal
 
 abbrev pub invariant-loop-i : goal.invariant-loop-i

@@ -1,5 +1,5 @@
 use Rattle.std.proofs.Common.{ℕ, List, [], ◌∷◌, ◌++◌, refl, sym, ap, ◌∙◌, arith}
-use Rattle.event_kinds.proofs.LoopLemmas.{ended, step}
+use Rattle.fill_requests.proofs.LoopLemmas.{ended, step}
 use Rattle.fill_requests.proofs.ranges.push_limbs.Goals as goal
 
 pub loop-i-init : goal.loop-i-init

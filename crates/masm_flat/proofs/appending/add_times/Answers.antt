@@ -1,8 +1,8 @@
 use Rattle.std.proofs.Common.{arith, ◌++◌, append_assoc, ap, sym, ◌∙◌}
 use Rattle.std.proofs.lemmas.Bool.Decides.{nat_tests}
 use Rattle.std.proofs.lemmas.List.{nil_from_length}
-use Rattle.masm_blocks.specs.Lists.{times}
-use Rattle.masm_pieces.specs.Views.{pieces_of}
+use Rattle.masm_flat.specs.Lists.{times}
+use Rattle.masm_flat.specs.Views.{pieces_of}
 use Rattle.masm_flat.proofs.Times.{times_more, times_of_none}
 use Rattle.masm_flat.proofs.appending.add_times.Goals as goal
 

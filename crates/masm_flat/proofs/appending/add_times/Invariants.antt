@@ -1,6 +1,6 @@
 use Rattle.std.proofs.Common.{◌≡◌, ◌++◌}
-use Rattle.masm_blocks.specs.Lists.{times}
-use Rattle.masm_pieces.specs.Views.{pieces_of}
+use Rattle.masm_flat.specs.Lists.{times}
+use Rattle.masm_flat.specs.Views.{pieces_of}
 use Rattle.masm_flat.proofs.appending.add_times.Given as goal
 
 abbrev pub invariant-loop-turn : goal.invariant-loop-turn

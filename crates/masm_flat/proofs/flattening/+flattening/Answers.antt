@@ -3,12 +3,12 @@ use Rattle.std.proofs.lemmas.List.{drop_more, at_drop_all}
 use Rattle.masm_tree.specs.Trees.{Empty}
 use Rattle.masm_tree.specs.Views.{stmt_view, body_of}
 use Rattle.masm_tree.proofs.Mirror.{body_of_nil}
-use Rattle.masm_blocks.specs.Blocks.{as_tree}
-use Rattle.masm_blocks.specs.Flattening.{flat_with}
+use Rattle.masm_flat.specs.Blocks.{as_tree}
+use Rattle.masm_flat.specs.Flattening.{flat_with}
 use Rattle.masm_tree.specs.Locals.{HasLocals}
 use Rattle.masm_flat.specs.KnownLists.{known_of}
-use Rattle.masm_pieces.specs.Views.{pieces_of}
-use Rattle.masm_blocks.proofs.Statements.{body_of_more, flat-first, locals-first, go_on, locals-Instr, locals-If, locals-While, locals-Repeat, weight, weight-first, weight-If, weight-While, weight-Repeat}
+use Rattle.masm_flat.specs.Views.{pieces_of}
+use Rattle.masm_flat.proofs.Statements.{body_of_more, flat-first, locals-first, go_on, locals-Instr, locals-If, locals-While, locals-Repeat, weight, weight-first, weight-If, weight-While, weight-Repeat}
 use Rattle.masm_flat.proofs.flattening.+flattening.Goals as goal
 
 pub add_statement-add_instr-requires : goal.add_statement-add_instr-requires

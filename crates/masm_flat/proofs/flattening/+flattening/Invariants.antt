@@ -1,12 +1,12 @@
 use Rattle.std.proofs.Common.{◌≡◌, ◌+◌, ◌*◌, ◌≤◌, ◌++◌, drop}
 use Rattle.masm_tree.specs.Trees.{Empty}
 use Rattle.masm_tree.specs.Views.{stmt_view, body_of}
-use Rattle.masm_blocks.specs.Blocks.{as_tree}
-use Rattle.masm_blocks.specs.Flattening.{flat_with}
+use Rattle.masm_flat.specs.Blocks.{as_tree}
+use Rattle.masm_flat.specs.Flattening.{flat_with}
 use Rattle.masm_tree.specs.Locals.{HasLocals}
 use Rattle.masm_flat.specs.KnownLists.{known_of}
-use Rattle.masm_pieces.specs.Views.{pieces_of}
-use Rattle.masm_blocks.proofs.Statements.{weight}
+use Rattle.masm_flat.specs.Views.{pieces_of}
+use Rattle.masm_flat.proofs.Statements.{weight}
 use Rattle.masm_flat.proofs.flattening.+flattening.Given as goal
 
 abbrev pub invariant-flatten-loop-stmt : goal.invariant-flatten-loop-stmt

@@ -1,9 +1,9 @@
 use Rattle.std.proofs.Common.{subst}
 use Rattle.block_tree.specs.TreeView.{tree_of}
-use Rattle.masm_blocks.specs.Blocks.{as_tree, whole}
-use Rattle.masm_blocks.specs.Flattening.{flat_with}
+use Rattle.masm_flat.specs.Blocks.{as_tree, whole}
+use Rattle.masm_flat.specs.Flattening.{flat_with}
 use Rattle.masm_flat.specs.KnownLists.{lists_known}
-use Rattle.masm_blocks.specs.Lists.{with_locals}
+use Rattle.masm_flat.specs.Lists.{with_locals}
 use Rattle.masm_tree.specs.Views.{body_of, source_of}
 use Rattle.masm_tables.specs.Building.{AreBuilt}
 use Rattle.masm_tables.specs.Tables.{AreLists}

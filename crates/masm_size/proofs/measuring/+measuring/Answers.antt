@@ -7,7 +7,7 @@ use Rattle.masm_tree.specs.Locals.{HasLocals}
 use Rattle.masm_size.specs.KnownSizes.{known_sizes_of}
 use Rattle.masm_size.specs.Sizes.{size_view, size_onto}
 use Rattle.masm_size.proofs.Sizing.{onto-first}
-use Rattle.masm_blocks.proofs.Statements.{body_of_more, locals-first, locals-Instr, locals-If, locals-While, locals-Repeat, weight, weight-first, weight-If, weight-While, weight-Repeat}
+use Rattle.masm_flat.proofs.Statements.{body_of_more, locals-first, locals-Instr, locals-If, locals-While, locals-Repeat, weight, weight-first, weight-If, weight-While, weight-Repeat}
 use Rattle.masm_size.proofs.measuring.+measuring.Goals as goal
 
 pub with_statement-with_instr-requires : goal.with_statement-with_instr-requires

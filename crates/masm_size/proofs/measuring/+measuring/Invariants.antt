@@ -4,7 +4,7 @@ use Rattle.masm_tree.specs.Views.{stmt_view, body_of}
 use Rattle.masm_tree.specs.Locals.{HasLocals}
 use Rattle.masm_size.specs.KnownSizes.{known_sizes_of}
 use Rattle.masm_size.specs.Sizes.{size_view, size_onto}
-use Rattle.masm_blocks.proofs.Statements.{weight}
+use Rattle.masm_flat.proofs.Statements.{weight}
 use Rattle.masm_size.proofs.measuring.+measuring.Given as goal
 
 abbrev pub invariant-size_onto-loop-stmt : goal.invariant-size_onto-loop-stmt

@@ -4,11 +4,11 @@ use Rattle.block_tree.specs.Trees.{Tree}
 use Rattle.masm_tree.specs.declared.tree.Proc.{Proc}
 use Rattle.masm_tree.specs.Views.{body_of}
 use Rattle.masm_names.specs.declared.names.Names.{Names}
-use Rattle.masm_blocks.specs.declared.kernel.KernelProc.{KernelProc}
-use Rattle.masm_blocks.specs.Blocks.{Piece, as_tree, whole}
-use Rattle.masm_blocks.specs.Flattening.{flat_with}
-use Rattle.masm_blocks.specs.Lists.{with_locals}
-use Rattle.masm_pieces.specs.declared.piece.Piece as piece
+use Rattle.masm_flat.specs.declared.kernel.KernelProc.{KernelProc}
+use Rattle.masm_flat.specs.Blocks.{Piece, as_tree, whole}
+use Rattle.masm_flat.specs.Flattening.{flat_with}
+use Rattle.masm_flat.specs.Lists.{with_locals}
+use Rattle.masm_flat.specs.declared.piece.Piece as piece
 use Rattle.masm_flat.specs.KnownLists.{lists_known}
 use Rattle.masm_tables.proofs.building.main_tree.Goals as goal
 

@@ -1,9 +1,9 @@
 use Rattle.std.proofs.Common.{refl, ap, ◌∙◌}
-use Rattle.masm_blocks.specs.Blocks.{as_tree}
-use Rattle.masm_blocks.specs.Flattening.{flat_with}
+use Rattle.masm_flat.specs.Blocks.{as_tree}
+use Rattle.masm_flat.specs.Flattening.{flat_with}
 use Rattle.masm_flat.specs.KnownLists.{lists_known}
-use Rattle.masm_blocks.specs.Lists.{with_locals}
-use Rattle.masm_pieces.specs.Views.{pieces_of}
+use Rattle.masm_flat.specs.Lists.{with_locals}
+use Rattle.masm_flat.specs.Views.{pieces_of}
 use Rattle.masm_tree.specs.Views.{body_of}
 use Rattle.masm_tables.proofs.listing.add_list.Goals as goal
 

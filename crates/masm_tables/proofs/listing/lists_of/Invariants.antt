@@ -1,6 +1,6 @@
 use Rattle.std.proofs.Common.{◌≡◌, List, length, take}
 use Rattle.std.specs.Prelude.{reverse}
-use Rattle.masm_blocks.specs.Lists.{Exported}
+use Rattle.masm_flat.specs.Lists.{Exported}
 use Rattle.masm_tree.specs.Views.{source_of}
 use Rattle.masm_uses.specs.Plans.{Builds, IsWanted, NeedsIn}
 use Rattle.masm_tables.specs.Kernels.{AreExports}

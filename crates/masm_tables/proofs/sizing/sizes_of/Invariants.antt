@@ -1,5 +1,5 @@
 use Rattle.std.proofs.Common.{◌≡◌, List, length, take}
-use Rattle.masm_blocks.specs.Lists.{Exported}
+use Rattle.masm_flat.specs.Lists.{Exported}
 use Rattle.masm_tree.specs.Views.{source_of}
 use Rattle.masm_tables.specs.Kernels.{AreExports}
 use Rattle.masm_tables.specs.Tables.{AreSizes}

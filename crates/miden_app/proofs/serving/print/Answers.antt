@@ -1,5 +1,5 @@
 use Rattle.std.proofs.Common.{refl}
-use Rattle.command_ends.specs.Outcomes.{printed, refused, given_up}
+use Rattle.cmd_kit.specs.Outcomes.{printed, refused, given_up}
 use Rattle.miden_app.proofs.serving.print.Goals as goal
 
 pub returns-in-Ok : goal.returns-in-Ok

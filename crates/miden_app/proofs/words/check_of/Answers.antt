@@ -1,5 +1,5 @@
 use Rattle.std.proofs.Common.{rules}
-use Rattle.command_words.specs.Words.{texts}
+use Rattle.cmd_words.specs.Words.{texts}
 use Rattle.miden_app.proofs.CheckWords.{asks_check}
 use Rattle.miden_app.proofs.words.check_of.Goals as goal
 

@@ -1,5 +1,5 @@
 use Rattle.std.proofs.Common.{sym, ◌∙◌}
-use Rattle.command_words.specs.Words.{texts}
+use Rattle.cmd_words.specs.Words.{texts}
 use Rattle.miden_app.proofs.RunWords.{asks_nothing, asks_run}
 use Rattle.miden_app.proofs.words.run_of.Goals as goal
 

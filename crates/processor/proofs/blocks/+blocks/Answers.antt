@@ -2,9 +2,9 @@ use Rattle.std.proofs.Common.{rules, ◌+◌, ◌-◌, ◌≡◌, ◌<◌, arith
 use Rattle.block_tree.specs.Cycles.{Repeat, StartLoop, frame_of}
 use Rattle.block_tree.specs.Execution.{Part}
 use Rattle.vm_state.specs.Views.{core_of, state_of}
-use Rattle.cycle_effects.specs.Marks.{frame_in}
+use Rattle.machine_cycles.specs.Marks.{frame_in}
 use Rattle.tree_hash.specs.Nodes.{node_tree}
-use Rattle.cycle_effects.specs.Settings.{constants_in}
+use Rattle.machine_cycles.specs.Settings.{constants_in}
 use Rattle.processor.proofs.RunLemmas.{ran-along, ran-fail, ran-then}
 use Rattle.processor.proofs.BlockLemmas.{at_bit-zero, at_bit-one, join-as, split-as, loop-as, call-as, syscall-as, block-ticks, ran-ticks, turns-end, turns-fail, turns-more, turns-repeat_fail, turns-start}
 use Rattle.processor.proofs.blocks.+blocks.Goals as goal

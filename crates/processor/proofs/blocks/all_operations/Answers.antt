@@ -1,6 +1,6 @@
 use Rattle.std.proofs.Common.{rules, ◌+◌, drop, Ok}
 use Rattle.block_tree.specs.Cycles.{Do}
-use Rattle.cycle_effects.specs.Settings.{cycle_in}
+use Rattle.machine_cycles.specs.Settings.{cycle_in}
 use Rattle.processor.specs.Parts.{operations_in}
 use Rattle.processor.proofs.RunLemmas.{left-fail, left-next}
 use Rattle.processor.proofs.SpanLemmas.{left-operation, no_operations}

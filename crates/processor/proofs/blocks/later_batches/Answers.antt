@@ -3,7 +3,7 @@ use Rattle.block_tree.specs.Cycles.{Respan}
 use Rattle.block_tree.specs.Execution.{seq}
 use Rattle.op_pack.specs.Reading.{reading}
 use Rattle.tree_hash.specs.Nodes.{elements_of}
-use Rattle.cycle_effects.specs.Settings.{cycle_in}
+use Rattle.machine_cycles.specs.Settings.{cycle_in}
 use Rattle.processor.specs.Parts.{batches_in, read_operations_in}
 use Rattle.processor.proofs.RunLemmas.{left-fail, left-next}
 use Rattle.processor.proofs.SpanLemmas.{left-batch, no_batches}

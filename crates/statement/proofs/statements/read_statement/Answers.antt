@@ -1,7 +1,7 @@
 use Rattle.std.proofs.lemmas.Result.{err_from_is_err_and}
 use Rattle.serde_json.specs.View.{view}
 use Rattle.statement.specs.Statements.{claim_by, claim_of, statement_of}
-use Rattle.json_values.proofs.Steps.{stops}
+use Rattle.statement.proofs.Steps.{stops}
 use Rattle.statement.proofs.statements.read_statement.Goals as goal
 
 pub returns-in_err-value : goal.returns-in_err-value

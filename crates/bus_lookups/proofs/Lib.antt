@@ -1,2 +1,0 @@
-pub mod KernelLemmas
-pub mod LookupLemmas

@@ -1,0 +1,162 @@
+-- From the first fault of a row's list of values to what is answered of the row, its table and the trace.
+use Rattle.std.proofs.Common.{◌≡◌, ℕ, zero, suc, ◌<◌, ◌≤◌, List, ◌++◌, length, slice_index, Option, Some, None, refl, sym, ap, subst, ◌∙◌, arith, lit<}
+use Rattle.std.proofs.Common.{inl, inr, ltb}
+use Rattle.std.proofs.lemmas.Bool.{cases_Bool, ltb-true, ltb-false}
+use Rattle.air_kit.specs.declared.fault.Fault.{Fault}
+use Rattle.air_kit.specs.declared.trace.TableName.{TableName}
+use Rattle.air_kit.specs.declared.trace.TableName.TheVariants as table
+use Rattle.air_kit.specs.declared.trace.Trace.{Trace}
+use Rattle.air_kit.specs.Acceptance.{IsBefore, by_table, by_row, by_number, IsFirstFault, IsRowsAnswer}
+use Rattle.air_kit.specs.Places.{Claim, Spot, family, first_fault_of, at_number, or_next}
+use Rattle.air_kit.specs.Tables.{table_number}
+use Rattle.air_kit.specs.Traces.{rows_of, value_at, values_at}
+use Rattle.air_kit.specs.OpcodeValues.{opcode_values}
+use Rattle.air_kit.specs.BoundaryValues.{boundary_values, start_values, inputs_values, end_values, outputs_values}
+use Rattle.air_kit.specs.BlockValues.{block_values, follow_values, shown_values, kept_values}
+use Rattle.air_kit.specs.SpanValues.{span_values, batch_values, group_values}
+use Rattle.air_kit.specs.StackValues.{stack_values, depth_values, cell_values, operand_values}
+use Rattle.air_kit.specs.U32Values.{u32_values}
+use Rattle.air_kit.specs.MainValues.{decoder_values, main_values}
+use Rattle.air_kit.proofs.FaultLemmas.{first_append, first_none, first_some}
+use Rattle.checker.specs.Answers.{IsRowAnswer, IsZeroTable, IsTableFault, IsTableAnswer, AreZeroBelow, IsAnswerBelow}
+
+numbers_zero : (values : List ℕ) → ((k : ℕ) → slice_index values k ≡ 0) → (number : ℕ) → at_number values number ≡ 0
+unfolding at_number
+numbers_zero values zeros zero = refl
+numbers_zero values zeros (suc k) = zeros k
+
+below_place : (values : List ℕ) (place : ℕ) → ((k : ℕ) → k < place → slice_index values k ≡ 0) → (number : ℕ) → number < suc place
+    → at_number values number ≡ 0
+unfolding at_number
+below_place values place zeros zero h = refl
+below_place values place zeros (suc k) h = zeros k (omega (arith, h))
+
+at_suc : (values : List ℕ) (place : ℕ) → at_number values (suc place) ≡ slice_index values place
+unfolding at_number
+at_suc values place = refl
+
+-- the first fault of a row's values is the row's answer
+pub row_answer : (c : Claim) (t : Trace) (name : TableName) (row : ℕ) (r : Option (ℕ × ℕ))
+    → r ≡ first_fault_of 1 (values_at c t name row) → IsRowAnswer c t name row r
+row_answer c t name row None e = numbers_zero (values_at c t name row) (first_none 1 (values_at c t name row) (sym e))
+row_answer c t name row (Some f) e =
+    let first = first_some 1 (values_at c t name row) f (sym e) in
+    let number : f.0 ≡ suc first.place = let h = first.number_is in omega (arith, h) in
+    record {
+      value_is = first.value_is ∙ sym (ap (at_number (values_at c t name row)) number ∙ at_suc (values_at c t name row) first.place);
+      nonzero = first.nonzero;
+      first = λ k h. below_place (values_at c t name row) first.place first.earlier k (subst (λ n. k < n) number h);
+    }
+
+decoder_length : (c : Claim) (p : Spot) → length (decoder_values c p) ≡ 114
+unfolding decoder_values opcode_values boundary_values start_values inputs_values end_values outputs_values block_values
+    follow_values shown_values kept_values span_values batch_values group_values family
+decoder_length c p = refl
+
+stack_length : (p : Spot) → length (stack_values p) ≡ 25
+unfolding stack_values depth_values cell_values operand_values family
+stack_length p = refl
+
+-- the faults of the three parts of a main row, one behind the other
+pub main_joined : (c : Claim) (p : Spot)
+    → or_next (first_fault_of 1 (decoder_values c p))
+    (or_next (first_fault_of 115 (stack_values p)) (first_fault_of 140 (u32_values p))) ≡ first_fault_of 1 (main_values c p)
+unfolding main_values
+main_joined c p =
+    ap (or_next (first_fault_of 1 (decoder_values c p)))
+    (ap (λ n. or_next (first_fault_of 115 (stack_values p)) (first_fault_of n (u32_values p))) (let h = stack_length p in omega (arith, h))
+    ∙ sym (first_append 115 (stack_values p) (u32_values p))
+    ∙ ap (λ n. first_fault_of n (stack_values p ++ u32_values p)) (let h = decoder_length c p in omega (arith, h)))
+    ∙ sym (first_append 1 (decoder_values c p) (stack_values p ++ u32_values p))
+
+-- the same for what three functions answer
+pub main_of_parts : (c : Claim) (p : Spot) (decoder stack u32 whole : Option (ℕ × ℕ))
+    → decoder ≡ first_fault_of 1 (decoder_values c p) → stack ≡ first_fault_of 115 (stack_values p) → u32 ≡ first_fault_of 140 (u32_values p)
+    → whole ≡ or_next decoder (or_next stack u32) → whole ≡ first_fault_of 1 (main_values c p)
+main_of_parts c p decoder stack u32 whole d s u w = w ∙ rw (d, s, u) (main_joined c p)
+
+table_at : ℕ → TableName
+table_at zero = table.Main
+table_at (suc zero) = table.Range
+table_at (suc (suc zero)) = table.Hasher
+table_at (suc (suc (suc zero))) = table.Bitwise
+table_at (suc (suc (suc (suc zero)))) = table.Memory
+table_at (suc (suc (suc (suc (suc zero))))) = table.Kernel
+table_at (suc (suc (suc (suc (suc (suc n)))))) = table.Left
+
+at_own_number : (name : TableName) → table_at (table_number name) ≡ name
+unfolding table_at
+at_own_number table.Main = refl
+at_own_number table.Range = refl
+at_own_number table.Hasher = refl
+at_own_number table.Bitwise = refl
+at_own_number table.Memory = refl
+at_own_number table.Kernel = refl
+at_own_number table.Left = refl
+
+same_table : (a b : TableName) → table_number a ≡ table_number b → a ≡ b
+same_table a b e = sym (at_own_number a) ∙ ap table_at e ∙ at_own_number b
+
+table_below : (name : TableName) → table_number name < 7
+table_below table.Main = lit< tt
+table_below table.Range = lit< tt
+table_below table.Hasher = lit< tt
+table_below table.Bitwise = lit< tt
+table_below table.Memory = lit< tt
+table_below table.Kernel = lit< tt
+table_below table.Left = lit< tt
+
+-- one table more is 0
+zero_below_next : (c : Claim) (t : Trace) (name : TableName) → AreZeroBelow c t (table_number name) → IsZeroTable c t name
+    → AreZeroBelow c t (suc (table_number name))
+zero_below_next c t name below zeros other h =
+    elim (cases_Bool (ltb (table_number other) (table_number name))) [
+      | inl lower ↦ below other (ltb-true (table_number other) (table_number name) lower)
+      | inr not ↦
+          let high : table_number name ≤ table_number other = ltb-false (table_number other) (table_number name) not in
+          subst (IsZeroTable c t) (sym (same_table other name (omega (arith, h, high)))) zeros
+    ]
+
+first_of : (c : Claim) (t : Trace) (f : Fault) → IsTableFault c t f → AreZeroBelow c t (table_number f.table)
+    → (name : TableName) (row number : ℕ) → row < length (rows_of t name) → IsBefore name row number f
+    → value_at c t name row number ≡ 0
+first_of c t f fault below name row number h (by_table lower) = below name lower row h number
+first_of c t f fault below name row number h (by_row same lower) =
+    subst (λ x. value_at c t x row number ≡ 0) (sym same) (fault.earlier row lower number)
+first_of c t f fault below name row number h (by_number same at lower) =
+    subst (λ x. value_at c t x row number ≡ 0) (sym same) (subst (λ r. value_at c t f.table r number ≡ 0) (sym at) (fault.row.first number lower))
+
+-- the first fault of a table behind tables that are 0 is that of the trace
+first_from_table : (c : Claim) (t : Trace) (f : Fault) → IsTableFault c t f → AreZeroBelow c t (table_number f.table) → IsFirstFault c t f
+first_from_table c t f fault below = record {
+  within = fault.within;
+  value_is = fault.row.value_is;
+  nonzero = fault.row.nonzero;
+  first = first_of c t f fault below;
+}
+
+-- one table more
+pub answer_next : (c : Claim) (t : Trace) (name : TableName) (r : Option Fault) → AreZeroBelow c t (table_number name)
+    → IsTableAnswer c t name r → IsAnswerBelow c t (suc (table_number name)) r
+answer_next c t name None below zeros = zero_below_next c t name below zeros
+answer_next c t name (Some f) below fault = first_from_table c t f fault.1 (subst (λ x. AreZeroBelow c t (table_number x)) (sym fault.0) below)
+
+-- all tables
+pub answer_all : (c : Claim) (t : Trace) (r : Option Fault) → IsAnswerBelow c t 7 r → IsRowsAnswer c t r
+answer_all c t None zeros = λ name row number h. zeros name (table_below name) row h number
+answer_all c t (Some f) first = first
+
+-- before the first table
+pub none_below : (c : Claim) (t : Trace) → AreZeroBelow c t 0
+none_below c t name h = absurd (omega (arith, h))
+
+-- the table of cells left has no entries
+pub left_zero : (c : Claim) (t : Trace) (row number : ℕ) → value_at c t table.Left row number ≡ 0
+unfolding at_number
+left_zero c t row zero = refl
+left_zero c t row (suc number) = refl
+
+-- what is answered of a row of a table that has another name, too
+pub row_renamed : (c : Claim) (t : Trace) (name other : TableName) (row : ℕ) (r : Option (ℕ × ℕ)) → name ≡ other
+    → IsRowAnswer c t other row r → IsRowAnswer c t name row r
+row_renamed c t name other row r same answer = subst (λ n. IsRowAnswer c t n row r) (sym same) answer

@@ -1,7 +1,0 @@
-use Rattle.std.specs.List.{IsDistinct}
-use Rattle.chip_tests.proofs.making.public.Goals as goal
-
--- no word stands twice in no words
-pub new-statement-requires-clause-distinct : goal.new-statement-requires-clause-distinct
-unfolding IsDistinct
-new-statement-requires-clause-distinct c = rw c.new.ensures.empty tt

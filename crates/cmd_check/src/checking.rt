@@ -1,0 +1,201 @@
+// `check` of a table file: evidence is written where it is accepted, and else its refusal is told.
+ghost use Rattle.std.specs.Prelude.{◌≡◌, ◌≤◌, ◌∷◌, ◌++◌, length, codes, decimal, IfOk, Some};
+ghost use Rattle.rpo_hash.specs.Constants.{constants_of};
+ghost use Rattle.statement.specs.Statements.{claim_of};
+ghost use Rattle.air_kit.specs.Traces.{HasCounts};
+ghost use Rattle.cmd_kit.specs.CheckEnds.{accepted_line};
+ghost use Rattle.cmd_kit.specs.Commands.{check_steps, found_steps, judging_steps, statement_steps, table_steps};
+ghost use Rattle.checker.specs.declared.refusal.Refused.TheVariants as why;
+ghost use Rattle.cmd_kit.specs.RefusalLines.{refused_line};
+ghost use Rattle.cmd_kit.specs.declared.outcome.Outcome.TheVariants as outcome;
+ghost use Rattle.cmd_kit.specs.Outcomes.{EndsIn, SaysStatus};
+ghost use Rattle.cmd_kit.specs.Steps.{accepted};
+
+use air_kit::{Public, Trace};
+use block_tree::Evidence;
+use checker::{Refused, Valid, check};
+use cmd_kit::{
+    MOST_PARAMS_BYTES, MOST_STATEMENT_BYTES, MOST_TABLE_BYTES, Outcome, Status, answered, load,
+    load_pieces, malformed_params, malformed_table, malformed_text, refused_line, save,
+};
+use decimal_text::append_number;
+use rpo_hash::Params;
+use sound_evidence::extract;
+use statement::{TextError, read_statement, write_evidence};
+use std::alloc::Global;
+use table_file::{FileError, TableReader};
+use vm_field::{Bytes, Memory};
+use vm_io::{Gate, Shelf};
+
+/// The files of `check` behind the parameters.
+#[derive(Clone, Copy)]
+pub struct CheckNames<'a> {
+    pub table: &'a str,
+    pub statement: &'a str,
+    /// The file that is written.
+    pub evidence: &'a str,
+}
+
+/// `check`: reads the parameters, the table file and the statement, and judges the trace.
+#[tactic(auto, using(cmd_kit::proofs::ServingLemmas::work_ends, cmd_kit::proofs::ServingLemmas::says_comes))]
+pub fn check_files<F: Shelf, G: Gate>(
+    alloc: Global,
+    shelf: &mut F,
+    gate: &G,
+    params: &str,
+    names: CheckNames<'_>,
+) -> Outcome
+    requires params { length params.now ≤ 200 }
+    requires table { length names.table.now ≤ 200 }
+    requires statement { length names.statement.now ≤ 200 }
+    requires evidence { length names.evidence.now ≤ 200 }
+    ensures { EndsIn (Some (check_steps params.now names.entry.table.now names.entry.statement.now names.entry.evidence.now)) result
+        (F.state shelf.old) (F.state shelf.new) }
+{
+    match load(alloc, shelf, params, MOST_PARAMS_BYTES) {
+        Ok(bytes) => match Params::read(bytes.as_slice()) {
+            Ok(constants) => check_table(alloc, shelf, gate, constants, names),
+            Err(error) => malformed_params(alloc, params, error),
+        },
+        Err(end) => end,
+    }
+}
+
+// Reads the table file as its bytes come, so that they never stand beside the trace.
+#[tactic(auto, using(cmd_kit::proofs::ServingLemmas::work_ends, cmd_kit::proofs::ServingLemmas::says_comes))]
+fn check_table<F: Shelf, G: Gate>(
+    alloc: Global,
+    shelf: &mut F,
+    gate: &G,
+    params: Params,
+    names: CheckNames<'_>,
+) -> Outcome
+    requires table { length names.table.now ≤ 200 }
+    requires statement { length names.statement.now ≤ 200 }
+    requires evidence { length names.evidence.now ≤ 200 }
+    ensures { EndsIn (Some (table_steps names.entry.table.now names.entry.statement.now names.entry.evidence.now (constants_of params))) result
+        (F.state shelf.old) (F.state shelf.new) }
+{
+    let mut reader = TableReader::new(alloc);
+    match load_pieces(alloc, shelf, names.table, MOST_TABLE_BYTES, &mut reader) {
+        Ok(()) => match reader.finish() {
+            Ok(trace) => check_statement(alloc, shelf, gate, params, trace, names),
+            Err(FileError::Bad { offset, cause }) => malformed_table(
+                alloc,
+                names.table,
+                offset,
+                cause,
+            ),
+            Err(FileError::Memory) => Outcome::Memory,
+        },
+        Err(end) => end,
+    }
+}
+
+// Reads the statement.
+#[tactic(auto, using(cmd_kit::proofs::ServingLemmas::work_ends, cmd_kit::proofs::ServingLemmas::says_comes))]
+fn check_statement<F: Shelf, G: Gate>(
+    alloc: Global,
+    shelf: &mut F,
+    gate: &G,
+    params: Params,
+    trace: Trace,
+    names: CheckNames<'_>,
+) -> Outcome
+    requires counts { HasCounts trace }
+    requires statement { length names.statement.now ≤ 200 }
+    requires evidence { length names.evidence.now ≤ 200 }
+    ensures { EndsIn (Some (statement_steps names.entry.statement.now names.entry.evidence.now (constants_of params) trace)) result
+        (F.state shelf.old) (F.state shelf.new) }
+{
+    match load(alloc, shelf, names.statement, MOST_STATEMENT_BYTES) {
+        Ok(bytes) => match read_statement(alloc, bytes.as_slice()) {
+            Ok(statement) => judge(
+                alloc,
+                shelf,
+                gate,
+                Public { params, statement },
+                trace,
+                names.evidence,
+            ),
+            Err(TextError::Bad(cause)) => malformed_text(alloc, names.statement, cause),
+            Err(TextError::Memory) => Outcome::Memory,
+        },
+        Err(end) => end,
+    }
+}
+
+// Checks the trace: its evidence is written and told, or its refusal is told.
+fn judge<F: Shelf, G: Gate>(
+    alloc: Global,
+    shelf: &mut F,
+    gate: &G,
+    public: Public,
+    trace: Trace,
+    evidence: &str,
+) -> Outcome
+    requires counts { HasCounts trace }
+    requires evidence { length evidence.now ≤ 200 }
+    ensures { EndsIn (Some (judging_steps evidence.now (constants_of public.params) trace (claim_of public.statement))) result
+        (F.state shelf.old) (F.state shelf.new) }
+{
+    match check(alloc, trace, public, 1, gate) {
+        Ok(valid) => accept(alloc, shelf, &valid, evidence),
+        Err(refused) => refuse(alloc, &refused),
+    }
+}
+
+// Tells why a trace is refused.
+#[tactic(auto, using(cmd_kit::proofs::OutcomeLemmas::says_line))]
+fn refuse(alloc: Global, refused: &Refused) -> Outcome
+    ensures says { SaysStatus result Status.Refused (refused_line refused.now) }
+    ensures memory { refused.now ≡ why.Memory → result ≡ outcome.Memory }
+{
+    match refused {
+        Refused::Memory => Outcome::Memory,
+        Refused::Fault(_) | Refused::Bus { .. } => {
+            answered(Status::Refused, refused_line(alloc, refused))
+        }
+    }
+}
+
+// Writes the evidence of a trace that is accepted, and tells which it is.
+#[tactic(auto, using(crate::proofs::CheckLemmas::evidence_is_right, cmd_kit::proofs::ServingLemmas::same_again))]
+fn accept<F: Shelf>(alloc: Global, shelf: &mut F, valid: &Valid, name: &str) -> Outcome
+    requires name { length name.now ≤ 200 }
+    ensures { EndsIn (Some (found_steps name.now (constants_of valid.now.public.params) (claim_of valid.now.public.statement)
+        valid.now.trace accepted)) result
+        (F.state shelf.old) (F.state shelf.new) }
+{
+    let Ok(evidence) = extract(alloc, valid) else {
+        return Outcome::Memory;
+    };
+    let Ok(text) = write_evidence(alloc, &evidence) else {
+        return Outcome::Memory;
+    };
+    match save(alloc, shelf, name, text.as_slice()) {
+        Ok(()) => answered(Status::Ok, accepted_text(alloc, &evidence)),
+        Err(end) => end,
+    }
+}
+
+// `accepted run`, or `accepted pair A B`
+fn accepted_text(alloc: Global, evidence: &Evidence) -> Result<Bytes, Memory>
+    ensures { IfOk result (λ line. line ≡ accepted_line evidence.now) }
+{
+    match evidence {
+        Evidence::Run { .. } => Bytes::copied(alloc, b"accepted run\n"),
+        Evidence::Pair { first, second } => pair_text(alloc, *first, *second),
+    }
+}
+
+fn pair_text(alloc: Global, first: u32, second: u32) -> Result<Bytes, Memory>
+    ensures { IfOk result (λ line. line ≡ codes "accepted pair " ++ decimal first ++ 32 ∷ decimal second ++ codes "\n") }
+{
+    let mut line = Bytes::copied(alloc, b"accepted pair ")?;
+    append_number(&mut line, u64::from(first))?;
+    line.append(b" ")?;
+    append_number(&mut line, u64::from(second))?;
+    line.append(b"\n")?;
+    Ok(line)
+}

@@ -1,0 +1,122 @@
+-- The words of `run` give its outputs names that no other file of it has.
+use Rattle.std.proofs.Common.{if◌then◌else◌, ◌≡◌, ◌≢◌, ℕ, Bool, true, false, not, ◌||◌, codes, List, [], ◌∷◌, Option, Some, None, refl, sym, subst}
+use Rattle.std.specs.List.{list_any}
+use Rattle.std.specs.Str.{bytes_eq}
+use Rattle.std.proofs.lemmas.Bool.{false≢true, and_parts}
+use Rattle.std.proofs.lemmas.Slice.Eq.{bytes_eq-Decides}
+use Rattle.cmd_words.specs.Words.{is_form, name_at, optional_name}
+use Rattle.cmd_kit.specs.Asked.{Asked, Outputs, nothing, hash, assemble, run, check, asked, are_apart, is_apart, given_name, check_words, hash_words, assemble_words, run_words, run_of_names, outputs_in, limit_in, check_of_names, hash_of_names, assemble_of_names}
+
+-- what is asked has outputs apart
+abbrev AreOutputsApart : Asked → Type 0
+AreOutputsApart nothing = Unit {0}
+AreOutputsApart (hash params numbers) = Unit {0}
+AreOutputsApart (assemble params source kernel) = Unit {0}
+AreOutputsApart (run params source inputs outputs kernel limit) = are_apart outputs (params ∷ source ∷ inputs ∷ given_name kernel) ≡ true
+AreOutputsApart (check params table statement evidence) = Unit {0}
+
+if_either : (b : Bool) (x y : Asked) → (b ≡ true → AreOutputsApart x) → AreOutputsApart y → AreOutputsApart (if b then x else y)
+if_either true x y then_it otherwise = then_it refl
+if_either false x y then_it otherwise = otherwise
+
+of_hash : (params numbers : Option (List ℕ)) → AreOutputsApart (hash_of_names params numbers)
+of_hash (Some params) (Some numbers) = tt
+of_hash (Some params) None = tt
+of_hash None numbers = tt
+
+of_assemble : (params source : Option (List ℕ)) (kernel : Option (Option (List ℕ))) → AreOutputsApart (assemble_of_names params source kernel)
+of_assemble (Some params) (Some source) (Some kernel) = tt
+of_assemble (Some params) (Some source) None = tt
+of_assemble (Some params) None kernel = tt
+of_assemble None source kernel = tt
+
+of_check : (params table statement : Option (List ℕ)) (evidence : Option (Option (List ℕ)))
+    → AreOutputsApart (check_of_names params table statement evidence)
+of_check (Some params) (Some table) (Some statement) (Some (Some evidence)) =
+    if_either (is_apart evidence (params ∷ table ∷ statement ∷ [])) (check params table statement evidence) nothing (λ apart. tt) tt
+of_check (Some params) (Some table) (Some statement) (Some None) = tt
+of_check (Some params) (Some table) (Some statement) None = tt
+of_check (Some params) (Some table) None evidence = tt
+of_check (Some params) None statement evidence = tt
+of_check None table statement evidence = tt
+
+of_run : (params source inputs : Option (List ℕ)) (outputs : Option Outputs) (kernel : Option (Option (List ℕ))) (limit : Option ℕ)
+    → AreOutputsApart (run_of_names params source inputs outputs kernel limit)
+of_run (Some params) (Some source) (Some inputs) (Some outputs) (Some kernel) (Some limit) =
+    if_either (are_apart outputs (params ∷ source ∷ inputs ∷ given_name kernel)) (run params source inputs outputs kernel limit)
+    nothing (λ apart. apart) tt
+of_run (Some params) (Some source) (Some inputs) (Some outputs) (Some kernel) None = tt
+of_run (Some params) (Some source) (Some inputs) (Some outputs) None limit = tt
+of_run (Some params) (Some source) (Some inputs) None kernel limit = tt
+of_run (Some params) (Some source) None outputs kernel limit = tt
+of_run (Some params) None inputs outputs kernel limit = tt
+of_run None source inputs outputs kernel limit = tt
+
+behind_form : (b : Bool) (x : Asked) → AreOutputsApart x → AreOutputsApart (if b then x else nothing)
+behind_form b x h = if_either b x nothing (λ is. h) tt
+
+all_apart : (words : List (List ℕ)) → AreOutputsApart (asked words)
+unfolding asked
+all_apart [] = tt
+all_apart (command ∷ words) =
+    if_either (bytes_eq command (codes "check")) (check_words words) _ (λ is. of_check_words)
+    (if_either (bytes_eq command (codes "hash")) (hash_words words) _ (λ is. of_hash_words)
+    (if_either (bytes_eq command (codes "assemble")) (assemble_words words) _ (λ is. of_assemble_words)
+    (behind_form (bytes_eq command (codes "run")) (run_words words) of_run_words)))
+  where
+    kernel : Option (Option (List ℕ))
+    kernel = optional_name (codes "--kernel") words
+
+    of_check_words : AreOutputsApart (check_words words)
+    of_check_words =
+        behind_form (is_form 3 (codes "--evidence" ∷ []) words)
+        (check_of_names (name_at 0 words) (name_at 1 words) (name_at 2 words) (optional_name (codes "--evidence") words))
+        (of_check (name_at 0 words) (name_at 1 words) (name_at 2 words) (optional_name (codes "--evidence") words))
+
+    of_hash_words : AreOutputsApart (hash_words words)
+    of_hash_words = behind_form (is_form 2 [] words) (hash_of_names (name_at 0 words) (name_at 1 words)) (of_hash (name_at 0 words) (name_at 1 words))
+
+    of_assemble_words : AreOutputsApart (assemble_words words)
+    of_assemble_words =
+        behind_form (is_form 2 (codes "--kernel" ∷ []) words) (assemble_of_names (name_at 0 words) (name_at 1 words) kernel)
+        (of_assemble (name_at 0 words) (name_at 1 words) kernel)
+
+    of_run_words : AreOutputsApart (run_words words)
+    of_run_words =
+        behind_form (is_form 3 (codes "--out" ∷ codes "--statement" ∷ codes "--kernel" ∷ codes "--limit" ∷ []) words)
+        (run_of_names (name_at 0 words) (name_at 1 words) (name_at 2 words) (outputs_in words) kernel (limit_in words))
+        (of_run (name_at 0 words) (name_at 1 words) (name_at 2 words) (outputs_in words) kernel (limit_in words))
+
+-- a name that is none of these is not the first of them, nor one behind it
+not_first : (output name : List ℕ) (names : List (List ℕ)) → is_apart output (name ∷ names) ≡ true → name ≢ output
+not_first output name names apart same =
+    differ (bytes_eq output name) (list_any (bytes_eq output) names) ((bytes_eq-Decides output name).1 (sym same)) apart
+  where
+    differ : (b rest : Bool) → b ≡ true → not (b || rest) ≡ true → ⊥
+    differ true rest is none = false≢true none
+    differ false rest is none = false≢true is
+
+not_behind : (output name : List ℕ) (names : List (List ℕ)) → is_apart output (name ∷ names) ≡ true → is_apart output names ≡ true
+not_behind output name names apart = less (bytes_eq output name) (list_any (bytes_eq output) names) apart
+  where
+    less : (b rest : Bool) → not (b || rest) ≡ true → not rest ≡ true
+    less true rest none = absurd (false≢true none)
+    less false rest none = none
+
+pub record AreApart (params : List ℕ) (outputs : Outputs) : Type 0 where
+  pub params_table : params ≢ outputs.table
+  pub params_statement : params ≢ outputs.statement
+  pub table_statement : outputs.table ≢ outputs.statement
+
+-- so no output of a run is its file of parameters, or the other output
+pub run_apart_names : (words : List (List ℕ)) (params source inputs : List ℕ) (outputs : Outputs) (kernel : Option (List ℕ)) (limit : ℕ)
+    → asked words ≡ run params source inputs outputs kernel limit → AreApart params outputs
+run_apart_names words params source inputs outputs kernel limit is =
+    let others = source ∷ inputs ∷ given_name kernel in
+    let apart = and_parts (is_apart outputs.table (outputs.statement ∷ params ∷ others)) (is_apart outputs.statement (params ∷ others))
+    (subst AreOutputsApart is (all_apart words)) in
+    record {
+      params_table = not_first outputs.table params others (not_behind outputs.table outputs.statement (params ∷ others) apart.0);
+      params_statement = not_first outputs.statement params others apart.1;
+      table_statement = λ same. not_first outputs.table outputs.statement (params ∷ others) apart.0 (sym same);
+    }

@@ -1,0 +1,215 @@
+-- Commands over good files, walked step by step to their ends.
+use Rattle.std.proofs.Common.{◌≡◌, ◌⊎◌, ℕ, Bool, List, Option, Some, None, Ok, Err, refl, sym, ap, ap₂, subst, inl, inr, ◌∙◌}
+use Rattle.std.specs.FinMap.{insert}
+use Rattle.std.specs.Option.{option_map}
+use Rattle.fill_files.specs.RunFiles.{most_table_bytes, most_statement_bytes}
+use Rattle.vm_field.specs.Machine.{State, start}
+use Rattle.rpo_hash.specs.Constants.{constants_of}
+use Rattle.rpo_hash.specs.ParamText.{parameters_of}
+use Rattle.block_tree.specs.Execution as execution
+use Rattle.block_tree.specs.Execution.{Done, Outcome}
+use Rattle.block_tree.specs.declared.program.Program.{Program}
+use Rattle.number_files.specs.Grammar.{numbers_of}
+use Rattle.masm_link.specs.declared.refusal.AsmCause.{AsmCause}
+use Rattle.masm_link.specs.declared.refusal.AsmError.TheVariants.{Bad, Memory}
+use Rattle.masm_link.proofs.OneAnswer.{one_program}
+use Rattle.statement.specs.Inputs.{Given, inputs_of}
+use Rattle.statement.specs.Statements as statements
+use Rattle.statement.specs.Statements.{Stated}
+use Rattle.air_kit.specs.Acceptance.{AreZero, IsAccepted, asked_on, given_on}
+use Rattle.buses.specs.Counts.{AreAlike}
+use Rattle.air_kit.specs.Traces as traces
+use Rattle.air_kit.specs.declared.trace.Public.{Public}
+use Rattle.air_kit.specs.declared.trace.Trace.{Trace}
+use Rattle.table_file.specs.Files.{trace_of}
+use Rattle.vm_io.specs.Shelf.{Files, ShelfState}
+use Rattle.vm_io.specs.Sink.{SinkState}
+use Rattle.cmd_kit.specs.declared.status.Status.{Status}
+use Rattle.cmd_kit.specs.declared.status.Status.TheVariants as status
+use Rattle.cmd_kit.specs.declared.answer.Answer.{Answer}
+use Rattle.cmd_kit.specs.Statuses.{StatusKind, planned, no_command, failed_read, failed_write, failed_print, no_memory, kind_of}
+use Rattle.cmd_kit.specs.Asked.{Asked, Outputs, asked}
+use Rattle.cmd_kit.specs.Steps.{SourceFile, Steps, Verdict, accepted, refused, Course, course, checked, telling, assembly, reading, ending, ends_with}
+use Rattle.cmd_kit.specs.SourceEnds.{AssemblesFiles}
+use Rattle.cmd_kit.specs.AssembleEnds as assembling
+use Rattle.cmd_kit.specs.AssembleEnds.{AnswersAssembly, assembled}
+use Rattle.cmd_kit.specs.HashEnds.{hash_end}
+use Rattle.cmd_kit.specs.CheckEnds.{IsVerdictFor}
+use Rattle.cmd_kit.specs.RunEnds as ends
+use Rattle.cmd_kit.specs.RunEnds.{IsCourse, halted, trapped, unended, outcome_of}
+use Rattle.cmd_kit.specs.Commands.{EndsAs, steps_of, with_params, with_inputs, with_kernel, with_trace, with_statement, most_params_bytes, most_numbers_bytes, most_inputs_bytes, hash_steps, numbers_steps, assemble_steps, assembly_steps, run_steps, run_source_steps, kernel_steps, running_steps, course_steps, check_steps, table_steps, statement_steps, judging_steps, found_steps}
+use Rattle.cmd_kit.specs.Serving.{ComesWhere, ServesAs, Works, Ends}
+use Rattle.cmd_kit.specs.Completeness.{FileSays, HoldsSource, HoldsKernel, IsGood, hashes, assembles, runs, checks, IsFault, GoodIsOk}
+use Rattle.cmd_kit.proofs.CompleteLaw.{not_both}
+use Rattle.cmd_kit.proofs.Walks as walks
+use Rattle.cmd_kit.proofs.Walks.{ended, read_on, was_found, was_written}
+
+-- what an assembled source comes to once more
+bad_or_program : (constants : List ℕ) (source : SourceFile) (kernel : Option SourceFile) (program : Program) (in_kernel : Bool) (line column : ℕ)
+    (cause : AsmCause) → AssemblesFiles constants source kernel (Ok program)
+    → AssemblesFiles constants source kernel (Err (Bad in_kernel line column cause)) → ⊥
+bad_or_program constants source kernel program in_kernel line column cause is bad =
+    apart (one_program constants source.text (option_map (λ k. k.text) kernel) program (Err (Bad in_kernel line column cause)) is bad)
+  where
+    apart : Bad in_kernel line column cause ≡ Memory → ⊥
+    apart eq = cc
+
+same_outcome : (constants : List ℕ) (source : SourceFile) (kernel : Option SourceFile) (p q : Program) (given : Given) (limit : ℕ)
+    → AssemblesFiles constants source kernel (Ok p) → AssemblesFiles constants source kernel (Ok q)
+    → outcome_of constants q given limit ≡ outcome_of constants p given limit
+same_outcome constants source kernel p q given limit one other =
+    let same = one_program constants source.text (option_map (λ k. k.text) kernel) p (Ok q) one other in
+    ap₂ (λ words tree. execution.execution constants words limit tree (start given.stack given.advice)) same.2 same.0
+
+-- a trace that is accepted for what is claimed is accepted however the claim lies in memory
+same_accepted : (p q : Public) (t : Trace) → constants_of p.params ≡ constants_of q.params
+    → statements.claim_of p.statement ≡ statements.claim_of q.statement → IsAccepted p t → IsAccepted q t
+same_accepted p q t params claims is =
+    let digest : p.statement.digest ≡ q.statement.digest = ap (λ (c : Stated). c.digest) claims in
+    let kernel : p.statement.kernel ≡ q.statement.kernel = ap (λ (c : Stated). c.kernel) claims in
+    let inputs : p.statement.inputs ≡ q.statement.inputs = ap (λ (c : Stated). c.inputs) claims in
+    let outputs : p.statement.outputs ≡ q.statement.outputs = ap (λ (c : Stated). c.outputs) claims in
+    let same : traces.claim_of p t ≡ traces.claim_of q t = rw (params, kernel, inputs, outputs) refl in
+    record {
+      zero = subst (λ c. AreZero c t) same is.zero;
+      buses = λ bus. subst (λ c. AreAlike (asked_on c t bus) (given_on q.statement.digest t bus)) same
+          (subst (λ d. AreAlike (asked_on (traces.claim_of p t) t bus) (given_on d t bus)) digest (is.buses bus));
+    }
+
+-- steps over these files that ended with an answer
+module _ (a : Answer) (new : Option Files) (m : Files) where
+  abbrev Goes : Steps → Type 0
+  Goes steps = ComesWhere steps (walks.Done a new) (Some m)
+
+  params_read : (name : List ℕ) (next : List ℕ → Steps) (constants : List ℕ) → FileSays m name most_params_bytes parameters_of constants
+      → Goes (reading name most_params_bytes (λ bytes. with_params name next (parameters_of bytes))) → Goes (next constants)
+  params_read name next constants h goes =
+      subst (λ r. Goes (with_params name next r)) h.says (read_on a new name most_params_bytes _ m h.bytes h.stands h.short goes)
+
+  kernel_read : (name : Option (List ℕ)) (kernel : Option SourceFile) (next : Option SourceFile → Steps) → HoldsKernel m name kernel
+      → Goes (with_kernel name next) → Goes (next kernel)
+  kernel_read None kernel next is goes = subst (λ k. Goes (next k)) (sym is) goes
+  kernel_read (Some name) kernel next is goes = subst (λ k. Goes (next k)) (sym is.2) (read_on a new name _ _ m is.0 is.1.stands is.1.short goes)
+
+  hashed : (params numbers constants elements : List ℕ) → FileSays m params most_params_bytes parameters_of constants
+      → FileSays m numbers most_numbers_bytes numbers_of elements → Goes (hash_steps params numbers) → a.status ≡ status.Ok
+  hashed params numbers constants elements p n goes =
+      let first = params_read params (numbers_steps numbers) constants p goes in
+      let second = read_on a new numbers _ _ m n.bytes n.stands n.short first in
+      let end = (ended a new (hash_end constants numbers (numbers_of n.bytes)) m second).0 in
+      ap (λ (b : Answer). b.status) (subst (λ r. EndsAs (hash_end constants numbers r) a) n.says end)
+
+  assembled_ok : (constants : List ℕ) (source : SourceFile) (kernel : Option SourceFile) (program : Program) (b : Answer)
+      → AssemblesFiles constants source kernel (Ok program) → AnswersAssembly constants source kernel b → b.status ≡ status.Ok
+  assembled_ok constants source kernel program b is (assembled other h) = refl
+  assembled_ok constants source kernel program b is (assembling.refused in_kernel line column cause bad) =
+      absurd (bad_or_program constants source kernel program in_kernel line column cause is bad)
+
+  assembled_well : (params constants : List ℕ) (source : SourceFile) (name : Option (List ℕ)) (kernel : Option SourceFile) (program : Program)
+      → FileSays m params most_params_bytes parameters_of constants → HoldsSource m source → HoldsKernel m name kernel
+      → AssemblesFiles constants source kernel (Ok program) → Goes (assemble_steps params source.name name) → a.status ≡ status.Ok
+  assembled_well params constants source name kernel program p s k is goes =
+      let first = params_read params (assembly_steps source.name name) constants p goes in
+      let second = read_on a new source.name _ _ m source.text s.stands s.short first in
+      let third = kernel_read name kernel (λ k. ending (assembly constants source k)) k second in
+      assembled_ok constants source kernel program a is (ended a new (assembly constants source kernel) m third).0
+
+  course_ok : (constants : List ℕ) (source : SourceFile) (kernel : Option SourceFile) (outputs : Outputs) (given : Given) (limit : ℕ)
+      (program : Program) (last : State) (log : List execution.Event) (c : Course)
+      → AssemblesFiles constants source kernel (Ok program) → outcome_of constants program given limit ≡ Done last log
+      → IsCourse constants source kernel given limit c → Goes (course_steps outputs constants given c) → a.status ≡ status.Ok
+  course_ok constants source kernel outputs given limit program last log c is done (ends.refused in_kernel line column cause bad) goes =
+      absurd (bad_or_program constants source kernel program in_kernel line column cause is bad)
+  course_ok constants source kernel outputs given limit program last log c is done (halted other made b (trapped clock cause traps)) goes =
+      absurd (let eq = sym traps ∙ same_outcome constants source kernel program other given limit is made ∙ done in cc)
+  course_ok constants source kernel outputs given limit program last log c is done (halted other made b (unended out)) goes =
+      absurd (let eq = sym out ∙ same_outcome constants source kernel program other given limit is made ∙ done in cc)
+  course_ok constants source kernel outputs given limit program last log c is done (ends.ended other made end events r) goes =
+      let tables = was_written a new outputs.table _ _ m goes in
+      let claims = was_written a new outputs.statement _ _ (insert m outputs.table tables.0) tables.2 in
+      ap (λ (b : Answer). b.status) (ended a new _ (insert (insert m outputs.table tables.0) outputs.statement claims.0) claims.2).0
+
+  ran_well : (params constants inputs : List ℕ) (source : SourceFile) (name : Option (List ℕ)) (kernel : Option SourceFile) (outputs : Outputs)
+      (limit : ℕ) (given : Given) (program : Program) (last : State) (log : List execution.Event)
+      → FileSays m params most_params_bytes parameters_of constants → HoldsSource m source → FileSays m inputs most_inputs_bytes inputs_of given
+      → HoldsKernel m name kernel → AssemblesFiles constants source kernel (Ok program)
+      → outcome_of constants program given limit ≡ Done last log → Goes (run_steps params source.name inputs outputs name limit)
+      → a.status ≡ status.Ok
+  ran_well params constants inputs source name kernel outputs limit given program last log p s i k is done goes =
+      let first = params_read params (run_source_steps outputs source.name inputs name limit) constants p goes in
+      let second = read_on a new source.name _ _ m source.text s.stands s.short first in
+      let third = read_on a new inputs _ _ m i.bytes i.stands i.short second in
+      let fourth = subst (λ r. Goes (with_inputs inputs (kernel_steps outputs constants source name limit) r)) i.says third in
+      let fifth = kernel_read name kernel (running_steps outputs constants source given limit) k fourth in
+      let found = was_found a new (course constants source kernel given limit) (course_steps outputs constants given) m fifth in
+      course_ok constants source kernel outputs given limit program last log found.0 is done found.1 found.2
+
+  verdict_ok : (evidence constants : List ℕ) (claim : Stated) (t : Trace) (v : Verdict) → IsVerdictFor constants claim t accepted
+      → IsVerdictFor constants claim t v → Goes (found_steps evidence constants claim t v) → a.status ≡ status.Ok
+  verdict_ok evidence constants claim t accepted is found goes =
+      let written = was_written a new evidence _ _ m goes in
+      let told = ended a new (telling constants claim t written.0) (insert m evidence written.0) written.2 in
+      ap (λ (b : Answer). b.status) told.0.is
+  verdict_ok evidence constants claim t (refused r) is found goes =
+      absurd (not_both found.against t r
+      (same_accepted is.against found.against t (is.is_public.params ∙ sym found.is_public.params)
+      (is.is_public.statement ∙ sym found.is_public.statement) is.found) found.found)
+
+  checked_well : (params table statement evidence constants : List ℕ) (trace : Trace) (claim : Stated)
+      → FileSays m params most_params_bytes parameters_of constants → FileSays m table most_table_bytes trace_of trace
+      → FileSays m statement most_statement_bytes statements.statement_of claim → IsVerdictFor constants claim trace accepted
+      → Goes (check_steps params table statement evidence) → a.status ≡ status.Ok
+  checked_well params table statement evidence constants trace claim p t s is goes =
+      let first = params_read params (table_steps table statement evidence) constants p goes in
+      let second = read_on a new table _ _ m t.bytes t.stands t.short first in
+      let third = subst (λ r. Goes (with_trace table (statement_steps statement evidence constants) r)) t.says second in
+      let fourth = read_on a new statement _ _ m s.bytes s.stands s.short third in
+      let fifth = subst (λ r. Goes (with_statement statement (judging_steps evidence constants trace) r)) s.says fourth in
+      let found = was_found a new (checked constants claim trace) (found_steps evidence constants claim trace) m fifth in
+      verdict_ok evidence constants claim trace found.0 is found.1 found.2
+
+-- a command over good files that went to its end
+good_ends : (c : Asked) (s : Status) (line : List ℕ) (old new : ShelfState) (m : Files) (steps : Steps) → steps_of c ≡ Some steps
+    → old.files ≡ Some m → IsGood m c → Ends steps (ends_with s line) old new → s ≡ status.Ok
+good_ends c s line old new m steps are is good h =
+    of good are (subst (ComesWhere steps (walks.Done (ends_with s line) new.files)) is h.files)
+  where
+    of : {c : Asked} → IsGood m c → steps_of c ≡ Some steps → ComesWhere steps (walks.Done (ends_with s line) new.files) (Some m) → s ≡ status.Ok
+    of (hashes params numbers constants elements p n) are goes =
+        hashed (ends_with s line) new.files m params numbers constants elements p n
+        (subst (λ x. ComesWhere x (walks.Done (ends_with s line) new.files) (Some m)) (let e = are in cc) goes)
+    of (assembles params constants source name kernel program p f k made) are goes =
+        assembled_well (ends_with s line) new.files m params constants source name kernel program p f k made
+        (subst (λ x. ComesWhere x (walks.Done (ends_with s line) new.files) (Some m)) (let e = are in cc) goes)
+    of (runs params constants inputs source name kernel outputs limit given program last log p f i k made done) are goes =
+        ran_well (ends_with s line) new.files m params constants inputs source name kernel outputs limit given program last log p f i k made done
+        (subst (λ x. ComesWhere x (walks.Done (ends_with s line) new.files) (Some m)) (let e = are in cc) goes)
+    of (checks params table statement evidence constants trace claim p t f found) are goes =
+        checked_well (ends_with s line) new.files m params table statement evidence constants trace claim p t f found
+        (subst (λ x. ComesWhere x (walks.Done (ends_with s line) new.files) (Some m)) (let e = are in cc) goes)
+
+-- and has steps
+good_steps : (m : Files) (c : Asked) → IsGood m c → (steps : Steps) × (steps_of c ≡ Some steps)
+good_steps m c (hashes params numbers constants elements p n) = (_, refl)
+good_steps m c (assembles params constants source name kernel program p f k made) = (_, refl)
+good_steps m c (runs params constants inputs source name kernel outputs limit given program last log p f i k made done) = (_, refl)
+good_steps m c (checks params table statement evidence constants trace claim p t f found) = (_, refl)
+
+-- whatever is answered
+good_answers : (kind : StatusKind) (c : Asked) (s : Status) (old new : ShelfState) (before now : SinkState) (m : Files) (steps : Steps)
+    → steps_of c ≡ Some steps → old.files ≡ Some m → IsGood m c → kind ≡ kind_of s → ServesAs kind (Some steps) s old new before now
+    → (s ≡ status.Ok) ⊎ IsFault kind
+good_answers planned c s old new before now m steps are is good of h =
+    inl (good_ends c s h.line old new m steps are is good (subst (λ k. Works (Some steps) k (ends_with s h.line) old new) (sym of) h.works))
+good_answers no_command c s old new before now m steps are is good of h =
+    absurd (subst (λ k. Works (Some steps) k (ends_with s h.line) old new) (sym of) h.works)
+good_answers failed_read c s old new before now m steps are is good of h = inr tt
+good_answers failed_write c s old new before now m steps are is good of h = inr tt
+good_answers failed_print c s old new before now m steps are is good of h = inr tt
+good_answers no_memory c s old new before now m steps are is good of h = inr tt
+
+pub good_is_ok : GoodIsOk
+good_is_ok words s old new before now m is good h =
+    let steps = good_steps m (asked words) good in
+    good_answers (kind_of s) (asked words) s old new before now m steps.0 steps.1 is good refl
+    (subst (λ x. ServesAs (kind_of s) x s old new before now) steps.1 h)

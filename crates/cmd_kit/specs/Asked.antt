@@ -1,0 +1,100 @@
+-- What the words behind the program's name ask for (docs/FORMATS.md).
+use Rattle.std.specs.Prelude.{ℕ, Bool, not, ◌&&◌, if◌then◌else◌, List, [], ◌∷◌, codes, Option, Some, None, option_map, unwrap_or}
+use Rattle.std.specs.List.{list_any}
+use Rattle.std.specs.Str.{bytes_eq}
+use Rattle.cmd_words.specs.Words.{is_form, name_at, optional_name, optional_number}
+
+-- the names of the files that `run` writes
+pub record Outputs : Type 0 where
+  pub table : List ℕ
+  pub statement : List ℕ
+
+pub data Asked : Type 0 where
+  nothing : Asked  -- the words are of no command
+  hash : (params numbers : List ℕ) → Asked
+  assemble : (params source : List ℕ) (kernel : Option (List ℕ)) → Asked
+  run : (params source inputs : List ℕ) (outputs : Outputs) (kernel : Option (List ℕ)) (limit : ℕ) → Asked
+  check : (params table statement evidence : List ℕ) → Asked
+
+abbrev pub hash_of_names : Option (List ℕ) → Option (List ℕ) → Asked
+hash_of_names (Some params) (Some numbers) = hash params numbers
+hash_of_names params numbers = nothing
+
+-- `hash` and the names of the parameters and of the numbers
+abbrev pub hash_words : List (List ℕ) → Asked
+hash_words words = if is_form 2 [] words then hash_of_names (name_at 0 words) (name_at 1 words) else nothing
+
+abbrev pub assemble_of_names : Option (List ℕ) → Option (List ℕ) → Option (Option (List ℕ)) → Asked
+assemble_of_names (Some params) (Some source) (Some kernel) = assemble params source kernel
+assemble_of_names params source kernel = nothing
+
+-- `assemble`, the names of the parameters and of the source, and a kernel's where it is given
+abbrev pub assemble_words : List (List ℕ) → Asked
+assemble_words words =
+    if is_form 2 (codes "--kernel" ∷ []) words
+    then assemble_of_names (name_at 0 words) (name_at 1 words) (optional_name (codes "--kernel") words) else nothing
+
+-- the most cycles of a run, and how many it may have where no limit is given
+abbrev pub most_cycles : ℕ
+most_cycles = 524287
+
+-- the limit of cycles that the words give, the most where they give none
+abbrev pub limit_in : List (List ℕ) → Option ℕ
+limit_in words = option_map (λ limit. unwrap_or limit most_cycles) (optional_number 1 most_cycles (codes "--limit") words)
+
+-- no other name is that of an output
+abbrev pub is_apart : List ℕ → List (List ℕ) → Bool
+is_apart output names = not (list_any (bytes_eq output) names)
+
+abbrev pub given_name : Option (List ℕ) → List (List ℕ)
+given_name None = []
+given_name (Some name) = name ∷ []
+
+-- no output has the name of the other one or of a file that is read
+abbrev pub are_apart : Outputs → List (List ℕ) → Bool
+are_apart outputs names = is_apart outputs.table (outputs.statement ∷ names) && is_apart outputs.statement names
+
+abbrev pub outputs_named : Option (Option (List ℕ)) → Option (Option (List ℕ)) → Option Outputs
+outputs_named (Some (Some table)) (Some (Some statement)) = Some (record { table = table; statement = statement })
+outputs_named table statement = None
+
+-- the outputs that the words name
+abbrev pub outputs_in : List (List ℕ) → Option Outputs
+outputs_in words = outputs_named (optional_name (codes "--out") words) (optional_name (codes "--statement") words)
+
+abbrev pub run_apart : List ℕ → List ℕ → List ℕ → Outputs → Option (List ℕ) → ℕ → Asked
+run_apart params source inputs outputs kernel limit =
+    if are_apart outputs (params ∷ source ∷ inputs ∷ given_name kernel) then run params source inputs outputs kernel limit else nothing
+
+abbrev pub run_of_names : Option (List ℕ) → Option (List ℕ) → Option (List ℕ) → Option Outputs → Option (Option (List ℕ)) → Option ℕ → Asked
+run_of_names (Some params) (Some source) (Some inputs) (Some outputs) (Some kernel) (Some limit) = run_apart params source inputs outputs kernel limit
+run_of_names params source inputs outputs kernel limit = nothing
+
+-- `run`, the names of the parameters, the source and the inputs, those of the table file and the statement, which no other name is,
+-- a kernel's where it is given, and a limit of cycles
+abbrev pub run_words : List (List ℕ) → Asked
+run_words words =
+    if is_form 3 (codes "--out" ∷ codes "--statement" ∷ codes "--kernel" ∷ codes "--limit" ∷ []) words
+    then run_of_names (name_at 0 words) (name_at 1 words) (name_at 2 words) (outputs_in words)
+    (optional_name (codes "--kernel") words) (limit_in words)
+    else nothing
+
+abbrev pub check_of_names : Option (List ℕ) → Option (List ℕ) → Option (List ℕ) → Option (Option (List ℕ)) → Asked
+check_of_names (Some params) (Some table) (Some statement) (Some (Some evidence)) =
+    if is_apart evidence (params ∷ table ∷ statement ∷ []) then check params table statement evidence else nothing
+check_of_names params table statement evidence = nothing
+
+-- `check`, the names of the parameters, the table file and the statement, and that of the evidence, which no other name is
+abbrev pub check_words : List (List ℕ) → Asked
+check_words words =
+    if is_form 3 (codes "--evidence" ∷ []) words
+    then check_of_names (name_at 0 words) (name_at 1 words) (name_at 2 words) (optional_name (codes "--evidence") words) else nothing
+
+unfoldable pub asked : List (List ℕ) → Asked
+asked [] = nothing
+asked (command ∷ words) =
+    if bytes_eq command (codes "check") then check_words words
+    else if bytes_eq command (codes "hash") then hash_words words
+    else if bytes_eq command (codes "assemble") then assemble_words words
+    else if bytes_eq command (codes "run") then run_words words
+    else nothing

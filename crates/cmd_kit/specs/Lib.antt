@@ -1,0 +1,16 @@
+pub mod RefusalLines
+pub mod Asked
+pub mod AssembleEnds
+pub mod CheckEnds
+pub mod Commands
+pub mod Completeness
+pub mod HashEnds
+pub mod Laws
+pub mod Malformed
+pub mod RunEnds
+pub mod Serving
+pub mod SourceEnds
+pub mod Statuses
+pub mod Steps
+pub mod Outcomes
+pub mod Sources

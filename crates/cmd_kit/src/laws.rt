@@ -1,0 +1,43 @@
+ghost use Rattle.cmd_kit.specs.Completeness.{GoodIsOk};
+ghost use Rattle.cmd_kit.specs.Laws.{OtherFilesStay, CommandsWrite, UsageMeansNothing, NothingGivesUsage, AcceptedHasEvidence, WrittenRunIsAccepted};
+
+/// Which files `serve` may change, over a shelf that tells its files: whatever the answer, those
+/// that the command writes and no others: `run` its tables and its statement, `check` its evidence,
+/// and no other command a file.
+pub fn other_files_stay()
+    ensures stay { OtherFilesStay }
+    ensures write { CommandsWrite }
+{}
+
+/// `Usage` comes exactly at words of no command, unless printing fails or memory is refused. They
+/// leave every shelf untouched.
+#[tactic(auto, using(crate::proofs::LawLemmas::usage_laws))]
+pub fn usage_is_for_no_command()
+    ensures only { UsageMeansNothing }
+    ensures always { NothingGivesUsage }
+{}
+
+/// What `check` vouches for, over a shelf that tells its files: where it answers `Ok`, the table file is
+/// accepted for the statement under the parameters, and what stands under the evidence's name is the text of
+/// evidence: a run of a tree of the statement's digest, from its inputs to its outputs, or two hashes of the
+/// file that have different inputs and one digest.
+pub fn accepted_has_evidence()
+    ensures { AcceptedHasEvidence }
+{}
+
+/// What `run` vouches for, over a shelf that tells its files: where it answers `Ok`, `check` of the two files
+/// that it wrote, under the same parameters, is answered `Ok` and not refused, unless a read, a write, the
+/// sink or memory fails.
+#[tactic(auto, using(crate::proofs::CompleteLaw::written_run_is_accepted))]
+pub fn written_run_is_accepted()
+    ensures { WrittenRunIsAccepted }
+{}
+
+/// No command is refused what it can do, over a shelf that tells its files. Where its files are there,
+/// within their lengths and of their forms, and where the source of `assemble` has a program, that of `run`
+/// one that ends within the limit, and the trace of `check` is accepted, it is answered `Ok`, unless a
+/// read, a write, the sink or memory fails.
+#[tactic(auto, using(crate::proofs::Completeness::good_is_ok))]
+pub fn good_files_are_served()
+    ensures { GoodIsOk }
+{}

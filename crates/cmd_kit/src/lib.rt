@@ -1,0 +1,33 @@
+//! What each command does: its steps over files, how it ends, and the laws of these; and the steps that commands share: files
+//! that are loaded, saved, assembled, refused or malformed (docs/FORMATS.md).
+#![tactic(auto)]
+
+mod answer;
+mod bad_forms;
+mod laws;
+mod lines;
+mod loading;
+mod outcome;
+mod refusals;
+mod saving;
+mod saving_pieces;
+mod source;
+mod status;
+
+pub use answer::Answer;
+pub use bad_forms::{malformed, malformed_params, malformed_table, malformed_text};
+pub use laws::{
+    accepted_has_evidence, good_files_are_served, other_files_stay, usage_is_for_no_command,
+    written_run_is_accepted,
+};
+pub use lines::append_word;
+pub use loading::{
+    MOST_INPUTS_BYTES, MOST_PARAMS_BYTES, MOST_SOURCE_BYTES, MOST_STATEMENT_BYTES,
+    MOST_TABLE_BYTES, load, load_pieces,
+};
+pub use outcome::{Outcome, answered, named_answer};
+pub use refusals::refused_line;
+pub use saving::save;
+pub use saving_pieces::save_pieces;
+pub use source::{SourceFile, assemble_sources, name_of_place, refused_source};
+pub use status::Status;

@@ -1,6 +1,0 @@
-pub mod ApartNames
-pub mod CompleteLaw
-pub mod Completeness
-pub mod EvidenceLaw
-pub mod LawLemmas
-pub mod Walks

@@ -1,8 +1,0 @@
-use Rattle.commands.proofs.LawLemmas.{other_files_stay, commands_write}
-use Rattle.commands.proofs.laws.other_files_stay.Goals as goal
-
-pub returns-clause-stay : goal.returns-clause-stay
-returns-clause-stay c = other_files_stay
-
-pub returns-clause-write : goal.returns-clause-write
-returns-clause-write c = commands_write

@@ -1,5 +1,0 @@
-use Rattle.commands.proofs.CompleteLaw.{written_run_is_accepted}
-use Rattle.commands.proofs.laws.written_run_is_accepted.Goals as goal
-
-pub returns : goal.returns
-returns c = written_run_is_accepted

@@ -1,0 +1,132 @@
+-- What follows along the chain of a run's rows, and sums over its pairs.
+use Rattle.std.proofs.Common.{◌≡◌, ℕ, ◌+◌, List, [], ◌∷◌, ◌++◌, map, All, refl, ap, ◌∙◌, arith}
+use Rattle.std.proofs.lemmas.List.Elements.{All-cons, All-nil}
+use Rattle.vm_field.specs.Machine.{Core, State}
+use Rattle.op_pack.specs.Reading.{IsBatch}
+use Rattle.block_tree.specs.Cycles.{Mark, Do}
+use Rattle.block_tree.specs.Marks.{IsWholeMark}
+use Rattle.block_tree.specs.Rows.{hash_of, op_of}
+use Rattle.block_tree.proofs.RowLemmas.{hash-batch}
+use Rattle.block_tree.specs.Steps.{Task, Block, Within, Turned, Closing, Returning, Leaving, Next, span, join, split_1, split_0, loop_1, loop_0, call, syscall, operation, respan, span_ends, repeats, loop_ends, closes, returns, leaves}
+use Rattle.buses.specs.Counts.{Counted, counted, over_rows, with_next}
+use Rattle.machine_cycles.specs.Events.{visible_of}
+use Rattle.machine_cycles.specs.declared.event.Event.{Event}
+use Rattle.complete_rows.specs.Bounds.{IsSmallCore}
+use Rattle.complete_rows.specs.Chains as chains
+use Rattle.complete_rows.specs.Chains.{AreLinked, over_pairs}
+use Rattle.complete_rows.specs.Decoder.{Decoder, advance, decoder_after}
+use Rattle.complete_rows.specs.Filling.{seen_behind}
+use Rattle.complete_rows.specs.Kinds as kinds
+use Rattle.complete_rows.specs.Kinds.{Kind, kind_of}
+use Rattle.complete_rows.specs.Moments.{IsMoment, event_at}
+use Rattle.complete_rows.specs.Turns.{respans, respans_by}
+use Rattle.complete_rows.proofs.AgreeLemmas.{kind_is}
+use Rattle.complete_rows.proofs.ChainLemmas.{over_rows_pairs}
+
+-- the batches of the span that is open
+abbrev pub coming : List Task → List (List ℕ)
+coming [] = []
+coming (Block tree ∷ todo) = []
+coming (Within items later digest ∷ todo) = later
+coming (Turned body ∷ todo) = []
+coming (Closing digest ∷ todo) = []
+coming (Returning digest frame ∷ todo) = []
+coming (Leaving digest frame ∷ todo) = []
+
+coming_step : (constants : List ℕ) {task : Task} {c : Core} {mark : Mark} {rest : List Task} → Next constants task c mark rest → IsWholeMark mark
+    → (todo : List Task) (more : List (List ℕ)) → more ≡ coming (rest ++ todo)
+    → respans_by (kind_of (op_of mark)) (hash_of mark) more ≡ coming (task ∷ todo)
+coming_step constants (span read) w todo more e = refl
+coming_step constants join w todo more e = refl
+coming_step constants (split_1 bit) w todo more e = refl
+coming_step constants (split_0 bit) w todo more e = refl
+coming_step constants (loop_1 bit) w todo more e = refl
+coming_step constants (loop_0 bit) w todo more e = refl
+coming_step constants call w todo more e = refl
+coming_step constants syscall w todo more e = refl
+coming_step constants (operation {item = item}) w todo more e =
+    ap (λ k. respans_by k (hash_of (Do item)) more) (kind_is item.op w.ordinary) ∙ e
+coming_step constants (respan {batch = batch} read) w todo more e = ap (λ l. batch ∷ l) e
+coming_step constants span_ends w todo more e = refl
+coming_step constants (repeats bit) w todo more e = refl
+coming_step constants (loop_ends bit) w todo more e = refl
+coming_step constants closes w todo more e = refl
+coming_step constants returns w todo more e = refl
+coming_step constants leaves w todo more e = refl
+
+respans_whole : (k : Kind) (batch : List ℕ) (later : List (List ℕ)) → IsBatch batch → All IsBatch later → All IsBatch (respans_by k batch later)
+respans_whole kinds.Ordinary batch later h all = all
+respans_whole kinds.Join batch later h all = All-nil IsBatch
+respans_whole kinds.Split batch later h all = All-nil IsBatch
+respans_whole kinds.Loop batch later h all = All-nil IsBatch
+respans_whole kinds.Span batch later h all = All-nil IsBatch
+respans_whole kinds.Call batch later h all = All-nil IsBatch
+respans_whole kinds.Syscall batch later h all = All-nil IsBatch
+respans_whole kinds.End batch later h all = All-nil IsBatch
+respans_whole kinds.Repeat batch later h all = All-nil IsBatch
+respans_whole kinds.Respan batch later h all = All-cons IsBatch batch later h all
+respans_whole kinds.Halt batch later h all = All-nil IsBatch
+
+-- counts of lists that are joined
+pub map_counts : {A : Type 0} (f : A → Counted) (xs ys : List A) (v : List ℕ)
+    → counted (map f (xs ++ ys)) v ≡ counted (map f xs) v + counted (map f ys) v
+unfolding counted
+map_counts f [] ys v = omega arith
+map_counts f (x ∷ xs) ys v = let later = map_counts f xs ys v in omega (arith, later)
+
+module _ (constants : List ℕ) (kernel : List (List ℕ)) (limit : ℕ) (u : State) where
+  -- the RESPANs that come are those of the batches that the span still has
+  pub coming_are : {todo : List Task} {d : Decoder} {s : State} {events : List Event} {rows : List (List ℕ)}
+      → AreLinked constants kernel limit u todo d s events rows → respans events ≡ coming todo
+  unfolding respans
+  coming_are (chains.ends e) = refl
+  coming_are (chains.goes m later) = coming_step constants m.first m.whole m.todo (respans m.later) (coming_are later)
+
+  pub coming_whole : {todo : List Task} {d : Decoder} {s : State} {events : List Event} {rows : List (List ℕ)}
+      → AreLinked constants kernel limit u todo d s events rows → All IsBatch (respans events)
+  unfolding respans
+  coming_whole (chains.ends e) = All-nil IsBatch
+  coming_whole (chains.goes m later) =
+      respans_whole (kind_of (op_of m.mark)) (hash_of m.mark) (respans m.later) (hash-batch m.mark m.whole) (coming_whole later)
+
+  -- the state behind an event is the one before the next
+  pub seen_is : {todo : List Task} {d : Decoder} {s : State} {events : List Event} {rows : List (List ℕ)}
+      → AreLinked constants kernel limit u todo d s events rows → seen_behind (visible_of u.core) events ≡ visible_of s.core
+  seen_is (chains.ends e) = refl
+  seen_is (chains.goes m later) = refl
+
+  pub small_is : {todo : List Task} {d : Decoder} {s : State} {events : List Event} {rows : List (List ℕ)}
+      → AreLinked constants kernel limit u todo d s events rows → IsSmallCore s.core
+  small_is (chains.ends e) = e.small
+  small_is (chains.goes m later) = m.small
+
+  -- what is owed is what is asked over a run, and what is owed at its end
+  pub asked_over : (tuples : List ℕ → List ℕ → List Counted) (v : List ℕ) (owed : List Task → Decoder → List Event → ℕ)
+      → ((x y : List ℕ) (rows : List (List ℕ)) (m : IsMoment constants kernel limit x y)
+      → AreLinked constants kernel limit u (m.rest ++ m.todo) (advance m.d (event_at constants kernel m.mark m.s) m.later) m.t m.later (y ∷ rows)
+      → owed (m.task ∷ m.todo) m.d (event_at constants kernel m.mark m.s ∷ m.later)
+      ≡ counted (tuples x y) v + owed (m.rest ++ m.todo) (advance m.d (event_at constants kernel m.mark m.s) m.later) m.later)
+      → {todo : List Task} {d : Decoder} {s : State} {events : List Event} {rows : List (List ℕ)}
+      → AreLinked constants kernel limit u todo d s events rows
+      → owed todo d events ≡ over_pairs (λ x y. counted (tuples x y) v) rows + owed [] (decoder_after d events) []
+  unfolding over_pairs decoder_after
+  asked_over tuples v owed pair (chains.ends e) = omega arith
+  asked_over tuples v owed pair (chains.goes {x = x} {y = y} {rows = rows} m later) =
+      let here = pair x y rows m later in
+      let behind = asked_over tuples v owed pair later in
+      omega (arith, here, behind)
+
+  pub rows_ask : (tuples : List ℕ → List ℕ → List Counted) (v : List ℕ) (owed : List Task → Decoder → List Event → ℕ)
+      → ((x y : List ℕ) (rows : List (List ℕ)) (m : IsMoment constants kernel limit x y)
+      → AreLinked constants kernel limit u (m.rest ++ m.todo) (advance m.d (event_at constants kernel m.mark m.s) m.later) m.t m.later (y ∷ rows)
+      → owed (m.task ∷ m.todo) m.d (event_at constants kernel m.mark m.s ∷ m.later)
+      ≡ counted (tuples x y) v + owed (m.rest ++ m.todo) (advance m.d (event_at constants kernel m.mark m.s) m.later) m.later)
+      → ((d : Decoder) → owed [] d [] ≡ 0)
+      → {todo : List Task} {d : Decoder} {s : State} {events : List Event} {rows : List (List ℕ)}
+      → AreLinked constants kernel limit u todo d s events rows
+      → over_rows (with_next tuples) rows v ≡ owed todo d events
+  rows_ask tuples v owed pair none {d = d} {events = events} {rows = rows} linked =
+      let whole = asked_over tuples v owed pair linked in
+      let sum = over_rows_pairs tuples v rows in
+      let end = none (decoder_after d events) in
+      omega (arith, whole, sum, end)

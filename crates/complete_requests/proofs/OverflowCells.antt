@@ -1,0 +1,92 @@
+-- How the cells below the sixteenth and their keys move.
+use Rattle.std.proofs.Common.{if◌then◌else◌, ◌≡◌, ℕ, ◌+◌, ◌-◌, ◌≤◌, false, cond, eqb, ◌||◌, ◌&&◌, ◌==◌, List, [], ◌∷◌, length, drop, slice_index, refl, sym, ap, ◌∙◌, arith}
+use Rattle.std.proofs.lemmas.Bool.{ne_eqb}
+use Rattle.std.proofs.lemmas.List.{drop-drop, get_or-drop}
+use Rattle.vm_field.specs.Machine.{filled_up}
+use Rattle.vm_ops.specs.declared.op.Op.{Op}
+use Rattle.vm_ops.specs.declared.op.Op.TheVariants as ops
+use Rattle.vm_ops.proofs.FrameLemmas.{drop-filled_up, index-filled_up}
+use Rattle.vm_table.specs.MainColumns.{clk, depth, h, key, s}
+use Rattle.buses.specs.Counts.{Counted, counted, once}
+use Rattle.buses.proofs.Counting.{counted-none, counted-append}
+use Rattle.air_kit.specs.Flags as flags
+use Rattle.air_kit.specs.Flags.{is_left, is_op, is_right}
+use Rattle.air_kit.specs.MainTuples.{overflow_asked, overflow_given}
+use Rattle.complete_rows.specs.Decoder.{key_of}
+use Rattle.complete_requests.specs.Overflow.{entries}
+use Rattle.complete_requests.proofs.Chains.{hit}
+
+-- ---- entries
+
+pub entries_none : (cells v : List ℕ) → counted (entries [] cells) v ≡ 0
+unfolding entries
+entries_none cells v = counted-none v
+
+pub entries_more : (k : ℕ) (keys cells v : List ℕ)
+    → counted (entries (k ∷ keys) cells) v ≡ hit (k ∷ slice_index cells 0 ∷ key_of keys ∷ []) v + counted (entries keys (drop 1 cells)) v
+unfolding entries
+entries_more k keys cells v = counted-append (once (k ∷ slice_index cells 0 ∷ key_of keys ∷ []) ∷ []) (entries keys (drop 1 cells)) v
+
+pub no_keys : (keys stack : List ℕ) → length keys + 16 ≡ length stack → length stack ≤ 16 → keys ≡ []
+no_keys [] stack keyed flat = refl
+no_keys (k ∷ keys) stack keyed flat = absurd (omega (arith, keyed, flat))
+
+-- ---- what rows give and ask
+
+pub given_by : (op : Op) (x y v : List ℕ) → flags.op_of x ≡ op
+    → counted (overflow_given x y) v ≡ counted (cond (is_right op) (once (clk x ∷ s x 15 ∷ key x ∷ []) ∷ []) []) v
+unfolding overflow_given
+given_by op x y v is = ap (λ o. counted (cond (is_right o) (once (clk x ∷ s x 15 ∷ key x ∷ []) ∷ []) []) v) is
+
+-- the tuple of a row with one cell fewer behind it
+abbrev pub taken_cell : ℕ → ℕ → ℕ → ℕ → List Counted
+taken_cell deep k cell below = if deep == 16 then [] else once (k ∷ cell ∷ below ∷ []) ∷ []
+
+pub asked_by : (op : Op) (x y v : List ℕ) → flags.op_of x ≡ op
+    → counted (overflow_asked x y) v
+    ≡ counted (cond (is_left op || (is_op op ops.End && eqb (h x 4) 1)) (taken_cell (depth x) (key x) (s y 15) (key y)) []) v
+unfolding overflow_asked
+asked_by op x y v is =
+    ap (λ o. counted (cond (is_left o || (is_op o ops.End && eqb (h x 4) 1)) (taken_cell (depth x) (key x) (s y 15) (key y)) []) v) is
+
+-- ---- the stack
+
+-- one cell fewer: what stood below it moves up
+pub record IsPopped (stack after : List ℕ) : Type 0 where
+  pub below : drop 16 after ≡ drop 1 (drop 16 stack)
+  pub last : slice_index after 15 ≡ slice_index (drop 16 stack) 0
+
+pub popped_cells : (stack after : List ℕ) → after ≡ filled_up (drop 1 stack) → IsPopped stack after
+popped_cells stack after is = record {
+  below = ap (drop 16) is ∙ drop-filled_up (drop 1 stack) ∙ drop-drop 16 1 stack ∙ sym (drop-drop 1 16 stack);
+  last = ap (λ l. slice_index l 15) is ∙ index-filled_up (drop 1 stack) 15 ∙ get_or-drop 1 stack 15 0 ∙ sym (get_or-drop 16 stack 0 0);
+}
+
+-- the keys move up with the cells
+pub pops : (keys stack after : List ℕ) (deep k cell below : ℕ) (v : List ℕ) → length keys + 16 ≡ length stack → IsPopped stack after
+    → deep ≡ length stack → k ≡ key_of keys → cell ≡ slice_index after 15 → below ≡ key_of (drop 1 keys)
+    → counted (entries keys (drop 16 stack)) v
+    ≡ counted (taken_cell deep k cell below) v + counted (entries (drop 1 keys) (drop 16 after)) v
+pops [] stack after deep k cell below v keyed p is key_is cell_is below_is =
+    let flat : deep ≡ 16 = omega (arith, is, keyed) in
+    let asked : counted (taken_cell deep k cell below) v ≡ counted [] v = rw flat refl in
+    let none = counted-none v in
+    let before = entries_none (drop 16 stack) v in
+    let behind = entries_none (drop 16 after) v in
+    omega (arith, asked, none, before, behind)
+pops (first ∷ keys) stack after deep k cell below v keyed p is key_is cell_is below_is =
+    let other : eqb deep 16 ≡ false = ne_eqb deep 16 (λ z. omega (arith, z, is, keyed)) in
+    let tuple : counted (taken_cell deep k cell below) v ≡ hit (first ∷ slice_index (drop 16 stack) 0 ∷ key_of keys ∷ []) v
+    = rw (other, key_is, cell_is, p.last, below_is) refl in
+    let before = entries_more first keys (drop 16 stack) v in
+    let behind : counted (entries keys (drop 16 after)) v ≡ counted (entries keys (drop 1 (drop 16 stack))) v
+    = ap (λ l. counted (entries keys l) v) p.below in
+    omega (arith, tuple, before, behind)
+
+-- one cell more
+pub pushes : (keys stack after : List ℕ) (clock k cell : ℕ) (v : List ℕ) → drop 16 after ≡ slice_index stack 15 ∷ drop 16 stack
+    → k ≡ key_of keys → cell ≡ slice_index stack 15
+    → counted (entries (clock ∷ keys) (drop 16 after)) v ≡ hit (clock ∷ cell ∷ k ∷ []) v + counted (entries keys (drop 16 stack)) v
+pushes keys stack after clock k cell v moved key_is cell_is =
+    ap (λ l. counted (entries (clock ∷ keys) l) v) moved ∙ entries_more clock keys (slice_index stack 15 ∷ drop 16 stack) v
+    ∙ rw (key_is, cell_is) refl

@@ -1,0 +1,83 @@
+-- What the rows of a run give of overflow is what they and the cells that are left ask.
+use Rattle.std.proofs.Common.{◌≡◌, ℕ, ◌+◌, ◌≤◌, List, [], ◌∷◌, ◌++◌, length, map, take, drop, refl, sym, ap, ◌∙◌, subst, arith, lit<}
+use Rattle.vm_field.specs.Machine.{State}
+use Rattle.block_tree.specs.Cycles.{advice_taken, effect_of}
+use Rattle.block_tree.specs.Execution as run
+use Rattle.block_tree.specs.Rows.{behind}
+use Rattle.block_tree.specs.Steps.{Block, IsCycle}
+use Rattle.block_tree.specs.Trees.{Tree}
+use Rattle.block_tree.proofs.KeptLemmas.{cycle-step}
+use Rattle.buses.specs.Counts.{counted, over_rows, with_next}
+use Rattle.vm_ops.proofs.FrameLemmas.{step-below}
+use Rattle.air_kit.specs.MainTuples.{overflow_asked, overflow_given}
+use Rattle.chip_columns.specs.LeftColumns as left
+use Rattle.machine_cycles.specs.declared.event.Event.{Event}
+use Rattle.complete_rows.specs.BlockRows.{IsWholeRun, events_of, filled, keys_of}
+use Rattle.complete_rows.specs.Chains.{AreLinked}
+use Rattle.complete_rows.specs.Decoder.{advance, at_start, decoder_after}
+use Rattle.complete_rows.specs.Moments.{IsMoment, event_at}
+use Rattle.complete_rows.proofs.ChainLemmas.{balanced, over_rows_pairs}
+use Rattle.complete_rows.proofs.MomentFacts.{core_after, known, moment_op, moment_shows, place_shows}
+use Rattle.complete_rows.proofs.TableLemmas.{is_linked}
+use Rattle.complete_requests.specs.Overflow.{OverflowIsEven, entries}
+use Rattle.complete_requests.proofs.LeftTable.{table_asks}
+use Rattle.complete_requests.proofs.MomentCells.{moment_eight}
+use Rattle.complete_requests.proofs.OverflowBus.{overflow_step}
+use Rattle.complete_requests.proofs.OverflowCells.{entries_none}
+use Rattle.complete_requests.proofs.OverflowSteps.{StackCells, owed_cells}
+
+module _ (constants : List ℕ) (len : length constants ≡ 168) (kernel : List (List ℕ)) (limit : ℕ) (within : limit ≤ 524287) where
+  stack_cells : {x y : List ℕ} (m : IsMoment constants kernel limit x y)
+      → StackCells m.mark m.s.core m.t.core.stack m.d (advance m.d (event_at constants kernel m.mark m.s) m.later) x y
+  stack_cells m =
+      let here = moment_shows constants kernel limit m in
+      let there = place_shows constants m.next in
+      record {
+        op = moment_op constants kernel limit m;
+        clock = here.clock;
+        last = here.cells 15 (lit< tt);
+        deep = here.deep;
+        key_is = here.key_is;
+        behind = there.cells 15 (lit< tt);
+        key_behind = there.key_is;
+        eight = moment_eight constants kernel limit m;
+      }
+
+  moment_even : (v x y : List ℕ) (m : IsMoment constants kernel limit x y)
+      → counted (overflow_given x y) v + owed_cells v (m.task ∷ m.todo) m.d m.s.core.stack
+      ≡ counted (overflow_asked x y) v + owed_cells v (m.rest ++ m.todo) (advance m.d (event_at constants kernel m.mark m.s) m.later) m.t.core.stack
+  moment_even v x y m =
+      overflow_step constants kernel (take (advice_taken m.mark) m.s.tape) x y v m.first m.d m.later m.todo
+      (behind (effect_of constants kernel m.mark (take (advice_taken m.mark) m.s.tape) m.s.core) m.s.core) m.t.core.stack m.whole
+      (known constants kernel limit within m).allowed (ap (λ c. c.stack) (core_after constants kernel limit m.mark m.s m.t m.cycle))
+      (λ item is. step-below constants item m.s m.t len m.before
+      (cycle-step constants kernel limit item m.s m.t (subst (λ mark. IsCycle constants kernel limit mark m.s m.t) is m.cycle)))
+      m.agrees.keyed (stack_cells m)
+
+  rows_even : (u : State) {tree : Tree} {s : State} {events : List Event} {rows : List (List ℕ)}
+      → AreLinked constants kernel limit u (Block tree ∷ []) at_start s events rows → (v : List ℕ)
+      → over_rows (with_next overflow_given) rows v
+      ≡ over_rows (with_next overflow_asked) rows v + counted (entries (decoder_after at_start events).keys (drop 16 u.core.stack)) v
+  rows_even u {s = s} {events = events} {rows = rows} linked v =
+      let whole = balanced constants kernel limit (λ x y. counted (overflow_given x y) v) (λ x y. counted (overflow_asked x y) v)
+      (λ todo d t later. owed_cells v todo d t.core.stack) (λ x y m. moment_even v x y m) linked in
+      let given = over_rows_pairs overflow_given v rows in
+      let asked = over_rows_pairs overflow_asked v rows in
+      let none = entries_none (drop 16 s.core.stack) v in
+      omega (arith, whole, given, asked, none)
+
+pub overflow_is_even : (constants : List ℕ) (kernel : List (List ℕ)) (limit : ℕ) (tree : Tree) (inputs tape : List ℕ) (u : State)
+    (log : List run.Event)
+    → IsWholeRun constants kernel limit tree inputs tape u log
+    → OverflowIsEven (filled constants kernel u log) (keys_of constants kernel log) u
+overflow_is_even constants kernel limit tree inputs tape u log r =
+    let even = rows_even constants r.constants_are kernel limit r.within u (is_linked constants kernel limit tree inputs tape u log r) in
+    record {
+      cells = even;
+      table = λ k others outputs keys v.
+          let asked = table_asks k others v in
+          let same : counted (entries (map left.key others) (drop 16 k.outputs)) v
+          ≡ counted (entries (keys_of constants kernel log) (drop 16 u.core.stack)) v
+          = rw (keys, outputs) refl in
+          even v ∙ ap (λ n. over_rows (with_next overflow_asked) (filled constants kernel u log) v + n) (sym (asked ∙ same));
+    }

@@ -1,0 +1,126 @@
+-- The rows of a run ask on the range's bus its limbs, and how many more blocks may nest in each block that starts.
+use Rattle.std.proofs.Common.{◌≡◌, ℕ, suc, ◌+◌, ◌-◌, ◌<◌, ◌≤◌, Bool, true, false, cond, List, [], ◌∷◌, ◌++◌, length, map, slice_index, refl, sym, ap, ◌∙◌, arith}
+use Rattle.std.proofs.lemmas.List.{get_or_append_left}
+use Rattle.vm_field.specs.Machine.{State}
+use Rattle.vm_field.specs.Signs.{◌⊟◌}
+use Rattle.vm_ops.specs.Codes.{is_start_op}
+use Rattle.vm_ops.specs.declared.op.Op.{Op}
+use Rattle.vm_ops.specs.declared.op.Op.TheVariants as ops
+use Rattle.vm_table.specs.MainColumns.{lv, t}
+use Rattle.block_tree.specs.Rows.{op_of}
+use Rattle.block_tree.specs.Steps.{Task}
+use Rattle.buses.specs.Counts.{Counted, counted, once, over_rows, with_next}
+use Rattle.buses.proofs.Counting.{counted-none}
+use Rattle.air_kit.specs.Flags as flags
+use Rattle.air_kit.specs.MainTuples.{limbs_from, range_asked}
+use Rattle.air_kit.specs.MainTuples as tuples
+use Rattle.machine_cycles.specs.Events.{visible_of}
+use Rattle.machine_cycles.specs.declared.event.Event.{Event}
+use Rattle.machine_cycles.specs.declared.event.Visible.{Visible}
+use Rattle.complete_rows.specs.Chains.{AreLinked}
+use Rattle.complete_rows.specs.Decoder.{Decoder, advance}
+use Rattle.complete_rows.specs.Filling.{seen_behind}
+use Rattle.complete_rows.specs.Limbs.{limbs_by, limbs_of, word_rest}
+use Rattle.complete_rows.specs.Moments.{IsMoment, event_at}
+use Rattle.complete_rows.specs.RunRequests.{ranges_by, ranges_of}
+use Rattle.complete_rows.proofs.MomentFacts.{moment_limb, place_shows}
+use Rattle.complete_requests.proofs.Following.{map_counts, rows_ask, seen_is, small_is}
+use Rattle.complete_requests.proofs.MomentCells.{moment_cells}
+
+abbrev in_range : ℕ → Counted
+in_range n = once (n ∷ [])
+
+-- limbs from one on, as a list
+limbs_are : (x : List ℕ) (xs : List ℕ) (j : ℕ) → ((i k : ℕ) → i < length xs → k ≡ j + i → t x k ≡ slice_index xs i)
+    → limbs_from x j (length xs) ≡ map in_range xs
+unfolding limbs_from
+limbs_are x [] j cells = refl
+limbs_are x (n ∷ xs) j cells =
+    let here : t x j ≡ n = cells 0 j (omega arith) (omega arith) in
+    let later : limbs_from x (suc j) (length xs) ≡ map in_range xs
+    = limbs_are x xs (suc j) (λ i k low at. cells (suc i) k (omega (arith, low)) (omega (arith, at))) in
+    rw (here, later) refl
+
+-- an operation has as many limbs as its row shows
+count_limbs : (op : Op) (x y : Visible) → length (limbs_by op x y) ≡ tuples.limbs_of op
+count_limbs ops.U32Split x y = refl
+count_limbs ops.U32Assert2 x y = refl
+count_limbs ops.U32Sub x y = refl
+count_limbs ops.U32Add x y = refl
+count_limbs ops.U32Mul x y = refl
+count_limbs ops.U32Add3 x y = refl
+count_limbs ops.U32MAdd x y = refl
+count_limbs ops.U32Div x y = refl
+count_limbs op x y = refl
+
+few_limbs : (op : Op) → tuples.limbs_of op ≤ 10
+few_limbs ops.U32Split = omega arith
+few_limbs ops.U32Assert2 = omega arith
+few_limbs ops.U32Sub = omega arith
+few_limbs ops.U32Add = omega arith
+few_limbs ops.U32Mul = omega arith
+few_limbs ops.U32Add3 = omega arith
+few_limbs ops.U32MAdd = omega arith
+few_limbs ops.U32Div = omega arith
+few_limbs op = omega arith
+
+operation_limbs : (e : Event) (next : Visible) (x : List ℕ) → ((j : ℕ) → j < 10 → t x j ≡ slice_index (limbs_of e next) j)
+    → limbs_from x 0 (tuples.limbs_of e.op) ≡ map in_range (limbs_by e.op e.before next)
+unfolding limbs_of
+operation_limbs e next x cells =
+    let size = count_limbs e.op e.before next in
+    let few = few_limbs e.op in
+    ap (λ n. limbs_from x 0 n) (sym size)
+    ∙ limbs_are x (limbs_by e.op e.before next) 0 (λ i k low at.
+    let same : k ≡ i = omega (arith, at) in
+    ap (t x) same ∙ cells i (omega (arith, low, size, few)) ∙ get_or_append_left (limbs_by e.op e.before next) (word_rest e.op e.word) 0 i low)
+
+-- how many more blocks may nest
+room_left : (n : ℕ) → n ≤ 1024 → 1024 ⊟ n ≡ 1024 - n
+room_left n few = omega (arith, few)
+
+asked_ranges : (b : Bool) (level room : ℕ) (limbs : List Counted) (ns : List ℕ) (v : List ℕ) → level ≡ room → limbs ≡ map in_range ns
+    → counted (cond b (once (level ∷ []) ∷ []) limbs) v ≡ counted (map in_range (cond b (room ∷ []) ns)) v
+asked_ranges true level room limbs ns v is are = ap (λ n. counted (once (n ∷ []) ∷ []) v) is
+asked_ranges false level room limbs ns v is are = ap (λ l. counted l v) are
+
+module _ (constants : List ℕ) (kernel : List (List ℕ)) (limit : ℕ) (u : State) (v : List ℕ) where
+  abbrev owed : List Task → Decoder → List Event → ℕ
+  owed todo d events = counted (map in_range (ranges_of (visible_of u.core) events)) v
+
+  row_ranges : {x y : List ℕ} (m : IsMoment constants kernel limit x y) → m.t.core.nesting ≤ 1024
+      → counted (range_asked x y) v ≡ counted (map in_range (ranges_by (event_at constants kernel m.mark m.s) (visible_of m.t.core))) v
+  unfolding range_asked
+  row_ranges {x = x} {y = y} m few =
+      let op : flags.op_of x ≡ op_of m.mark = (moment_cells constants kernel limit m).op in
+      let level : lv y ≡ m.t.core.nesting = (place_shows constants m.next).level in
+      ap (λ o. counted (cond (is_start_op o) (once ((1024 ⊟ lv y) ∷ []) ∷ []) (limbs_from x 0 (tuples.limbs_of o))) v) op
+      ∙ asked_ranges (is_start_op (op_of m.mark)) (1024 ⊟ lv y) (1024 - m.t.core.nesting) (limbs_from x 0 (tuples.limbs_of (op_of m.mark)))
+      (limbs_by (op_of m.mark) (visible_of m.s.core) (visible_of m.t.core)) v (ap (λ n. 1024 ⊟ n) level ∙ room_left m.t.core.nesting few)
+      (operation_limbs (event_at constants kernel m.mark m.s) (visible_of m.t.core) x (moment_limb constants kernel limit m))
+
+  moment_asks : (x y : List ℕ) (rows : List (List ℕ)) (m : IsMoment constants kernel limit x y)
+      → AreLinked constants kernel limit u (m.rest ++ m.todo) (advance m.d (event_at constants kernel m.mark m.s) m.later) m.t m.later (y ∷ rows)
+      → owed (m.task ∷ m.todo) m.d (event_at constants kernel m.mark m.s ∷ m.later)
+      ≡ counted (range_asked x y) v + owed (m.rest ++ m.todo) (advance m.d (event_at constants kernel m.mark m.s) m.later) m.later
+  unfolding ranges_of
+  moment_asks x y rows m later =
+      let here = row_ranges m (small_is constants kernel limit u later).nesting in
+      let both =
+      map_counts in_range (ranges_by (event_at constants kernel m.mark m.s) (visible_of m.t.core))
+      (ranges_of (visible_of u.core) m.later) v in
+      let seen : counted (map in_range (ranges_by (event_at constants kernel m.mark m.s) (seen_behind (visible_of u.core) m.later)
+      ++ ranges_of (visible_of u.core) m.later)) v
+      ≡ counted (map in_range (ranges_by (event_at constants kernel m.mark m.s) (visible_of m.t.core) ++ ranges_of (visible_of u.core) m.later)) v
+      = ap (λ n. counted (map in_range (ranges_by (event_at constants kernel m.mark m.s) n ++ ranges_of (visible_of u.core) m.later)) v)
+      (seen_is constants kernel limit u later) in
+      omega (arith, here, both, seen)
+
+  none : (d : Decoder) → owed [] d [] ≡ 0
+  unfolding ranges_of
+  none d = counted-none v
+
+  pub ranges_asked : {todo : List Task} {d : Decoder} {s : State} {events : List Event} {rows : List (List ℕ)}
+      → AreLinked constants kernel limit u todo d s events rows
+      → over_rows (with_next range_asked) rows v ≡ counted (map in_range (ranges_of (visible_of u.core) events)) v
+  ranges_asked linked = rows_ask constants kernel limit u range_asked v owed moment_asks none linked

@@ -1,0 +1,95 @@
+-- How many requests a run has: each cycle asks for one permutation, bitwise operation or access at most, where a span's further batches
+-- are asked for by their RESPANs.
+use Rattle.std.proofs.Common.{◌≡◌, ℕ, ◌+◌, ◌≤◌, false, List, [], ◌∷◌, length, arith, length-append}
+use Rattle.vm_field.specs.Machine.{State}
+use Rattle.vm_field.specs.Sponge.{begun}
+use Rattle.vm_ops.specs.Codes.{code_of}
+use Rattle.vm_ops.specs.declared.op.Op.{Op}
+use Rattle.vm_ops.specs.declared.op.Op.TheVariants as ops
+use Rattle.block_tree.specs.Steps.{Task}
+use Rattle.machine_cycles.specs.declared.event.Event.{Event}
+use Rattle.machine_cycles.specs.declared.event.Visible.{Visible}
+use Rattle.complete_rows.specs.Chains as chains
+use Rattle.complete_rows.specs.Chains.{AreLinked}
+use Rattle.complete_rows.specs.Decoder.{Decoder, decoder_after}
+use Rattle.complete_rows.specs.Kinds as kinds
+use Rattle.complete_rows.specs.Kinds.{Kind, kind_of}
+use Rattle.complete_rows.specs.RunRequests.{accesses_by, accesses_of, bits_by, bits_of, hash_perms, perms_by, perms_by_op, perms_of}
+use Rattle.complete_rows.specs.Turns.{respans, respans_by}
+use Rattle.complete_requests.proofs.Chains.{length_chain}
+
+-- a cycle's own permutations
+abbrev own : Kind → ℕ → ℕ
+own kinds.Ordinary n = n
+own kinds.Join n = 1
+own kinds.Split n = 1
+own kinds.Loop n = 1
+own kinds.Span n = 1
+own kinds.Call n = 1
+own kinds.Syscall n = 1
+own kinds.End n = 1
+own kinds.Repeat n = 1
+own kinds.Respan n = 1
+own kinds.Halt n = 1
+
+few_by : (op : Op) (seen : Visible) (e : Event)
+    → own (kind_of op) (length (perms_by_op op seen)) + length (bits_by op seen) + length (accesses_by op e) ≤ 1
+few_by ops.HPerm seen e = omega arith
+few_by ops.U32And seen e = omega arith
+few_by ops.U32Xor seen e = omega arith
+few_by ops.MLoad seen e = omega arith
+few_by ops.MLoadW seen e = omega arith
+few_by ops.MStore seen e = omega arith
+few_by ops.MStoreW seen e = omega arith
+few_by op seen e = omega arith
+
+one_chain : (constants : List ℕ) (domain : ℕ) (block : List ℕ) (n : ℕ)
+    → length (hash_perms constants domain (block ∷ [])) + 0 ≤ n + 1
+one_chain constants domain block n = let size = length_chain constants (begun domain) false (block ∷ []) in omega (arith, size)
+
+perms_few : (constants : List ℕ) (k : Kind) (e : Event) (later : List Event)
+    → length (perms_by k constants e later) + length (respans_by k e.hash (respans later))
+    ≤ length (respans later) + own k (length (perms_by_op e.op e.before))
+perms_few constants kinds.Ordinary e later = omega arith
+perms_few constants kinds.Join e later = one_chain constants (code_of ops.Join) e.hash (length (respans later))
+perms_few constants kinds.Split e later = one_chain constants (code_of ops.Split) e.hash (length (respans later))
+perms_few constants kinds.Loop e later = one_chain constants (code_of ops.Loop) e.hash (length (respans later))
+perms_few constants kinds.Span e later =
+    let size = length_chain constants (begun 0) false (e.hash ∷ respans later) in omega (arith, size)
+perms_few constants kinds.Call e later = one_chain constants (code_of ops.Call) e.hash (length (respans later))
+perms_few constants kinds.Syscall e later = one_chain constants (code_of ops.Syscall) e.hash (length (respans later))
+perms_few constants kinds.End e later = omega arith
+perms_few constants kinds.Repeat e later = omega arith
+perms_few constants kinds.Respan e later = omega arith
+perms_few constants kinds.Halt e later = omega arith
+
+pub requests_few : (constants : List ℕ) (events : List Event)
+    → length (perms_of constants events) + length (bits_of events) + length (accesses_of events) + length (respans events) ≤ length events
+unfolding perms_of bits_of accesses_of respans
+requests_few constants [] = omega arith
+requests_few constants (e ∷ later) =
+    let rest = requests_few constants later in
+    let few = few_by e.op e.before e in
+    let perms = perms_few constants (kind_of e.op) e later in
+    let a = length-append (perms_by (kind_of e.op) constants e later) (perms_of constants later) in
+    let b = length-append (bits_by e.op e.before) (bits_of later) in
+    let c = length-append (accesses_by e.op e) (accesses_of later) in
+    omega (arith, rest, few, perms, a, b, c)
+
+module _ (constants : List ℕ) (kernel : List (List ℕ)) (limit : ℕ) (u : State) where
+  pub rows_are : {todo : List Task} {d : Decoder} {s : State} {events : List Event} {rows : List (List ℕ)}
+      → AreLinked constants kernel limit u todo d s events rows → length rows ≡ length events + 1
+  rows_are (chains.ends e) = omega arith
+  rows_are (chains.goes m later) = let size = rows_are later in omega (arith, size)
+
+  pub events_few : {todo : List Task} {d : Decoder} {s : State} {events : List Event} {rows : List (List ℕ)}
+      → AreLinked constants kernel limit u todo d s events rows → length events ≤ 524287
+  events_few (chains.ends e) = omega arith
+  events_few (chains.goes m later) = let whole = m.bounded.whole in omega (arith, whole)
+
+  pub keys_few : {todo : List Task} {d : Decoder} {s : State} {events : List Event} {rows : List (List ℕ)}
+      → AreLinked constants kernel limit u todo d s events rows → length (decoder_after d events).keys ≤ 524287
+  unfolding decoder_after
+  keys_few (chains.ends e) =
+      let keyed = e.agrees.keyed in let depth = e.small.depth in let whole = e.bounded.whole in omega (arith, keyed, depth, whole)
+  keys_few (chains.goes m later) = keys_few later

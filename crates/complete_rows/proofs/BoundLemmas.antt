@@ -1,0 +1,166 @@
+-- Addresses and keys stay within their bounds from cycle to cycle.
+use Rattle.std.proofs.Common.{All, ◌≡◌, ℕ, suc, ◌+◌, ◌*◌, ◌<◌, ◌≤◌, Bool, true, false, cond, List, [], ◌∷◌, length, drop, arith}
+use Rattle.std.proofs.lemmas.List.Elements.{All-cons, All-drop, All-head, All-nil}
+use Rattle.vm_field.specs.Field.{prime, AreElements}
+use Rattle.vm_field.proofs.Elements.{elements-cons, elements-drop, elements-none}
+use Rattle.vm_ops.specs.Moves.{shift_of}
+use Rattle.vm_ops.specs.declared.op.Op.TheVariants as ops
+use Rattle.vm_ops.specs.declared.op.Shift.{Shift}
+use Rattle.vm_ops.specs.declared.op.Shift.TheVariants.{Left, Stay, Right}
+use Rattle.air_kit.specs.Flags.{is_op}
+use Rattle.machine_cycles.specs.declared.event.Event.{Event}
+use Rattle.complete_rows.specs.Bounds.{IsBounded, IsLowBlock}
+use Rattle.complete_rows.specs.Decoder.{Open, Decoder, advance, advance_by, at_start, ends_call, ends_loop, hidden_of, keys_after}
+use Rattle.complete_rows.specs.Kinds as kinds
+use Rattle.complete_rows.specs.Kinds.{Kind, kind_of}
+use Rattle.complete_rows.specs.Turns.{respans, respans_by}
+
+keys_low : (shift : Shift) (clock : ℕ) (keys : List ℕ) → clock < prime → AreElements keys → AreElements (keys_after shift clock keys)
+keys_low Left clock keys low h = elements-drop 1 keys h
+keys_low Stay clock keys low h = h
+keys_low Right clock keys low h = elements-cons clock keys low h
+
+next_few : (b : Bool) (next most : ℕ) → next ≤ 1 + 8 * most → cond b (next + 8) next ≤ 1 + 8 * (most + 1)
+next_few true next most h = omega (arith, h)
+next_few false next most h = omega (arith, h)
+
+hidden_low : (blocks : List Open) → All IsLowBlock blocks → AreElements (hidden_of blocks)
+hidden_low [] h = elements-none
+hidden_low (block ∷ blocks) h = (All-head IsLowBlock block blocks h).hidden
+
+keys_back : (a b : Bool) (first second third : List ℕ) → AreElements first → AreElements second → AreElements third
+    → AreElements (cond a first (cond b second third))
+keys_back true b first second third h g k = h
+keys_back false true first second third h g k = g
+keys_back false false first second third h g k = k
+
+opened_low : (address : ℕ) (hidden : List ℕ) (blocks : List Open) → address < prime → AreElements hidden → All IsLowBlock blocks
+    → All IsLowBlock (record { address = address; hidden = hidden } ∷ blocks)
+opened_low address hidden blocks low h g =
+    All-cons IsLowBlock (record { address = address; hidden = hidden }) blocks (record { address = low; hidden = h }) g
+
+-- the parts of such bounds before an event of a kind
+record Before (k : Kind) (d : Decoder) (e : Event) (later : List Event) (clock : ℕ) : Type 0 where
+  next : d.next ≤ 1 + 8 * (clock + length (respans_by k e.hash (respans later)))
+  ha : d.ha ≤ 1 + 8 * clock
+  blocks : All IsLowBlock d.blocks
+  keys : AreElements d.keys
+  start : e.before.clock < prime
+  whole : clock + suc (length later) ≤ 524287
+
+by_kind : (k : Kind) (d : Decoder) (e : Event) (later : List Event) (clock : ℕ) → Before k d e later clock
+    → IsBounded (advance_by k d e later) (clock + 1) later
+by_kind kinds.Ordinary d e later clock b =
+    let n = next_few (is_op e.op ops.HPerm) d.next (clock + length (respans later)) b.next in
+    record {
+      next = omega (arith, n);
+      ha = omega (arith, b.ha);
+      blocks = b.blocks;
+      keys = keys_low (shift_of e.op) e.before.clock d.keys b.start b.keys;
+      whole = omega (arith, b.whole);
+    }
+by_kind kinds.Join d e later clock b = record {
+  next = omega (arith, b.next);
+  ha = omega (arith, b.ha);
+  blocks = opened_low d.next [] d.blocks (omega (arith, b.next, b.whole)) (elements-none) b.blocks;
+  keys = b.keys;
+  whole = omega (arith, b.whole);
+}
+by_kind kinds.Split d e later clock b = record {
+  next = omega (arith, b.next);
+  ha = omega (arith, b.ha);
+  blocks = opened_low d.next [] d.blocks (omega (arith, b.next, b.whole)) (elements-none) b.blocks;
+  keys = elements-drop 1 d.keys b.keys;
+  whole = omega (arith, b.whole);
+}
+by_kind kinds.Loop d e later clock b = record {
+  next = omega (arith, b.next);
+  ha = omega (arith, b.ha);
+  blocks = opened_low d.next [] d.blocks (omega (arith, b.next, b.whole)) (elements-none) b.blocks;
+  keys = elements-drop 1 d.keys b.keys;
+  whole = omega (arith, b.whole);
+}
+by_kind kinds.Span d e later clock b = record {
+  next = omega (arith, b.next);
+  ha = omega (arith, b.next);
+  blocks = opened_low d.next [] d.blocks (omega (arith, b.next, b.whole)) (elements-none) b.blocks;
+  keys = b.keys;
+  whole = omega (arith, b.whole);
+}
+by_kind kinds.Call d e later clock b = record {
+  next = omega (arith, b.next);
+  ha = omega (arith, b.ha);
+  blocks = opened_low d.next d.keys d.blocks (omega (arith, b.next, b.whole)) b.keys b.blocks;
+  keys = elements-none;
+  whole = omega (arith, b.whole);
+}
+by_kind kinds.Syscall d e later clock b = record {
+  next = omega (arith, b.next);
+  ha = omega (arith, b.ha);
+  blocks = opened_low d.next d.keys d.blocks (omega (arith, b.next, b.whole)) b.keys b.blocks;
+  keys = elements-none;
+  whole = omega (arith, b.whole);
+}
+by_kind kinds.End d e later clock b = record {
+  next = omega (arith, b.next);
+  ha = omega arith;
+  blocks = All-drop IsLowBlock 1 d.blocks b.blocks;
+  keys = keys_back (ends_loop e.hash) (ends_call e.hash) (drop 1 d.keys) (hidden_of d.blocks) d.keys (elements-drop 1 d.keys b.keys)
+      (hidden_low d.blocks b.blocks) b.keys;
+  whole = omega (arith, b.whole);
+}
+by_kind kinds.Repeat d e later clock b = record {
+  next = omega (arith, b.next);
+  ha = omega (arith, b.ha);
+  blocks = b.blocks;
+  keys = elements-drop 1 d.keys b.keys;
+  whole = omega (arith, b.whole);
+}
+by_kind kinds.Respan d e later clock b = record {
+  next = omega (arith, b.next);
+  ha = omega (arith, b.ha);
+  blocks = b.blocks;
+  keys = b.keys;
+  whole = omega (arith, b.whole);
+}
+by_kind kinds.Halt d e later clock b = record {
+  next = omega (arith, b.next);
+  ha = omega (arith, b.ha);
+  blocks = b.blocks;
+  keys = b.keys;
+  whole = omega (arith, b.whole);
+}
+
+pub bounded_next : (d : Decoder) (e : Event) (later : List Event) (clock : ℕ) → IsBounded d clock (e ∷ later) → e.before.clock ≡ clock
+    → IsBounded (advance d e later) (clock + 1) later
+unfolding respans
+bounded_next d e later clock b is =
+    by_kind (kind_of e.op) d e later clock (record {
+      next = b.next;
+      ha = b.ha;
+      blocks = b.blocks;
+      keys = b.keys;
+      start = omega (arith, is, b.whole);
+      whole = b.whole;
+    })
+
+pub bounded_start : (events : List Event) → length events ≤ 524287 → IsBounded at_start 0 events
+bounded_start events few = record {
+  next = omega arith;
+  ha = omega arith;
+  blocks = All-nil IsLowBlock;
+  keys = elements-none;
+  whole = omega (arith, few);
+}
+
+-- a RESPAN is an event
+by_respans : (k : Kind) (batch : List ℕ) (later : List (List ℕ)) (n : ℕ) → length later ≤ n → length (respans_by k batch later) ≤ suc n
+by_respans kinds.Ordinary batch later n h = omega (arith, h)
+by_respans kinds.Respan batch later n h = omega (arith, h)
+by_respans kinds.Halt batch later n h = omega arith
+by_respans k batch later n h = omega arith
+
+pub few_respans : (events : List Event) → length (respans events) ≤ length events
+unfolding respans
+few_respans [] = omega arith
+few_respans (e ∷ later) = by_respans (kind_of e.op) e.hash (respans later) (length later) (few_respans later)

@@ -1,0 +1,38 @@
+-- Sums over the pairs of a run's rows, by potentials: what is owed before a cycle and what its pair gives is what its pair asks and what
+-- is owed behind it.
+use Rattle.std.proofs.Common.{◌≡◌, ℕ, ◌+◌, List, [], ◌∷◌, ◌++◌, length, refl, ap, ◌∙◌, arith}
+use Rattle.vm_field.specs.Machine.{State}
+use Rattle.block_tree.specs.Steps.{Task}
+use Rattle.buses.specs.Counts.{Counted, at_row, counted, over_first, over_rows, total, with_next}
+use Rattle.buses.proofs.Counting.{total-front}
+use Rattle.machine_cycles.specs.declared.event.Event.{Event}
+use Rattle.complete_rows.specs.Chains as chains
+use Rattle.complete_rows.specs.Chains.{AreLinked, over_pairs}
+use Rattle.complete_rows.specs.Decoder.{Decoder, advance, decoder_after}
+use Rattle.complete_rows.specs.Moments.{IsMoment, event_at}
+
+-- a bus's count over the rows is the sum over their pairs
+pub over_rows_pairs : (tuples : List ℕ → List ℕ → List Counted) (u : List ℕ) (rows : List (List ℕ))
+    → over_rows (with_next tuples) rows u ≡ over_pairs (λ x y. counted (tuples x y) u) rows
+unfolding over_first over_pairs total counted
+over_rows_pairs tuples u [] = refl
+over_rows_pairs tuples u (x ∷ []) = refl
+over_rows_pairs tuples u (x ∷ y ∷ rows) =
+    total-front (length (y ∷ rows)) (λ i. counted (at_row (with_next tuples) (x ∷ y ∷ rows) i) u)
+    ∙ ap (λ n. counted (tuples x y) u + n) (over_rows_pairs tuples u (y ∷ rows))
+
+module _ (constants : List ℕ) (kernel : List (List ℕ)) (limit : ℕ) where
+  -- what is given over a run and owed at its start is what is asked and owed at its end
+  pub balanced : (given asked : List ℕ → List ℕ → ℕ) (owed : List Task → Decoder → State → List Event → ℕ)
+      → ((x y : List ℕ) (m : IsMoment constants kernel limit x y)
+      → given x y + owed (m.task ∷ m.todo) m.d m.s (event_at constants kernel m.mark m.s ∷ m.later)
+      ≡ asked x y + owed (m.rest ++ m.todo) (advance m.d (event_at constants kernel m.mark m.s) m.later) m.t m.later)
+      → {u : State} {todo : List Task} {d : Decoder} {s : State} {events : List Event} {rows : List (List ℕ)}
+      → AreLinked constants kernel limit u todo d s events rows
+      → over_pairs given rows + owed todo d s events ≡ over_pairs asked rows + owed [] (decoder_after d events) u []
+  unfolding over_pairs decoder_after
+  balanced given asked owed pair (chains.ends e) = refl
+  balanced given asked owed pair (chains.goes {x = x} {y = y} m later) =
+      let here = pair x y m in
+      let behind = balanced given asked owed pair later in
+      omega (arith, here, behind)

@@ -1,0 +1,94 @@
+-- Which operation comes where which task is the first.
+use Rattle.std.proofs.Common.{◌≡◌, ℕ, true, false, ◌||◌, Bool, List, [], ◌∷◌, refl, sym, ap, subst, ◌∙◌}
+use Rattle.vm_field.specs.Machine.{Core}
+use Rattle.vm_ops.specs.Codes.{is_ordinary_op, is_start_op}
+use Rattle.vm_ops.specs.declared.item.Item.{Item}
+use Rattle.vm_ops.specs.declared.op.Op.{Op}
+use Rattle.vm_ops.specs.declared.op.Op.TheVariants as ops
+use Rattle.block_tree.specs.Cycles.{Mark, Frame}
+use Rattle.block_tree.specs.Marks.{IsWholeMark}
+use Rattle.block_tree.specs.Rows.{op_of}
+use Rattle.block_tree.specs.Steps.{Task, Block, Within, Turned, Closing, Returning, Leaving, Next, span, join, split_1, split_0, loop_1, loop_0, call, syscall, operation, respan, span_ends, repeats, loop_ends, closes, returns, leaves}
+use Rattle.block_tree.specs.Trees.{Tree}
+use Rattle.air_kit.specs.Flags.{is_op}
+use Rattle.complete_rows.specs.Agreement.{AreOutside}
+use Rattle.complete_rows.specs.Moments.{Comes}
+
+module _ (constants : List ℕ) where
+  block_starts : {tree : Tree} {c : Core} {mark : Mark} {rest : List Task} → Next constants (Block tree) c mark rest
+      → is_start_op (op_of mark) ≡ true
+  block_starts (span read) = refl
+  block_starts join = refl
+  block_starts (split_1 bit) = refl
+  block_starts (split_0 bit) = refl
+  block_starts (loop_1 bit) = refl
+  block_starts (loop_0 bit) = refl
+  block_starts call = refl
+  block_starts syscall = refl
+
+  pub starts_block : (tree : Tree) (todo : List Task) (c : Core) (op : Op) → Comes constants (Block tree ∷ todo) c op → is_start_op op ≡ true
+  starts_block tree todo c op h = ap is_start_op h.4 ∙ block_starts h.2
+
+  -- in a batch that is not read to its end comes an operation
+  item_goes : {item : Item} {items : List Item} {later : List (List ℕ)} {digest : List ℕ} {c : Core} {mark : Mark} {rest : List Task}
+      → Next constants (Within (item ∷ items) later digest) c mark rest → IsWholeMark mark → is_ordinary_op (op_of mark) ≡ true
+  item_goes operation w = w.ordinary
+
+  pub goes_within : (item : Item) (items : List Item) (later : List (List ℕ)) (digest : List ℕ) (todo : List Task) (c : Core) (op : Op)
+      → Comes constants (Within (item ∷ items) later digest ∷ todo) c op → is_ordinary_op op ≡ true
+  goes_within item items later digest todo c op h = ap is_ordinary_op h.4 ∙ item_goes h.2 h.3
+
+  -- behind the last one comes END or RESPAN
+  abbrev pub Closes : Op → Type 0
+  Closes op = (is_ordinary_op op ≡ false) × (is_op op ops.End || is_op op ops.Respan ≡ true)
+
+  batch_closes : {later : List (List ℕ)} {digest : List ℕ} {c : Core} {mark : Mark} {rest : List Task}
+      → Next constants (Within [] later digest) c mark rest → Closes (op_of mark)
+  batch_closes (respan read) = (refl, refl)
+  batch_closes span_ends = (refl, refl)
+
+  pub closes_batch : (later : List (List ℕ)) (digest : List ℕ) (todo : List Task) (c : Core) (op : Op)
+      → Comes constants (Within [] later digest ∷ todo) c op → Closes op
+  closes_batch later digest todo c op h = subst Closes (sym h.4) (batch_closes h.2)
+
+  close_ends : {digest : List ℕ} {c : Core} {mark : Mark} {rest : List Task} → Next constants (Closing digest) c mark rest
+      → is_op (op_of mark) ops.End ≡ true
+  close_ends closes = refl
+
+  -- a loop that is not entered ends at once
+  pub ends_block : (digest : List ℕ) (todo : List Task) (c : Core) (op : Op) → Comes constants (Closing digest ∷ todo) c op
+      → is_op op ops.End ≡ true
+  ends_block digest todo c op h = ap (λ o. is_op o ops.End) h.4 ∙ close_ends h.2
+
+  -- what may come behind the END of a block
+  abbrev pub comes_behind : Op → Bool
+  comes_behind op = is_start_op op || is_op op ops.End || is_op op ops.Repeat || is_op op ops.Halt
+
+  starts_behind : (op : Op) → is_start_op op ≡ true → comes_behind op ≡ true
+  starts_behind op is = rw is refl
+
+  turn_behind : {body : Tree} {c : Core} {mark : Mark} {rest : List Task} → Next constants (Turned body) c mark rest
+      → comes_behind (op_of mark) ≡ true
+  turn_behind (repeats bit) = refl
+  turn_behind (loop_ends bit) = refl
+
+  close_behind : {digest : List ℕ} {c : Core} {mark : Mark} {rest : List Task} → Next constants (Closing digest) c mark rest
+      → comes_behind (op_of mark) ≡ true
+  close_behind closes = refl
+
+  return_behind : {digest : List ℕ} {frame : Frame} {c : Core} {mark : Mark} {rest : List Task} → Next constants (Returning digest frame) c mark rest
+      → comes_behind (op_of mark) ≡ true
+  return_behind returns = refl
+
+  leave_behind : {digest : List ℕ} {frame : Frame} {c : Core} {mark : Mark} {rest : List Task} → Next constants (Leaving digest frame) c mark rest
+      → comes_behind (op_of mark) ≡ true
+  leave_behind leaves = refl
+
+  pub behind_block : (todo : List Task) (c : Core) (op : Op) → AreOutside todo → Comes constants todo c op → comes_behind op ≡ true
+  behind_block [] c op out h = ap comes_behind h
+  behind_block (Block tree ∷ todo) c op out h = starts_behind op (starts_block tree todo c op h)
+  behind_block (Within items later digest ∷ todo) c op out h = absurd out.0
+  behind_block (Turned body ∷ todo) c op out h = ap comes_behind h.4 ∙ turn_behind h.2
+  behind_block (Closing digest ∷ todo) c op out h = ap comes_behind h.4 ∙ close_behind h.2
+  behind_block (Returning digest frame ∷ todo) c op out h = ap comes_behind h.4 ∙ return_behind h.2
+  behind_block (Leaving digest frame ∷ todo) c op out h = ap comes_behind h.4 ∙ leave_behind h.2

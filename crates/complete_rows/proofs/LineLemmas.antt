@@ -1,0 +1,262 @@
+-- The parts of the rows of a run are elements.
+use Rattle.std.proofs.Common.{◌≡◌, ℕ, suc, ◌+◌, ◌-◌, ◌*◌, ◌/◌, ◌%◌, ◌<◌, ◌≤◌, All, Bool, true, false, cond, eqb, List, [], ◌∷◌, length, drop, slice_index, arith, lit<}
+use Rattle.std.proofs.lemmas.List.Elements.{All-cons, All-drop, All-from_recursion, All-head, All-nil, All-tail, All-weaker}
+use Rattle.vm_field.specs.Field.{prime, AreElements, felt_inv}
+use Rattle.vm_field.specs.Machine.{Core, IsWellFormedCore}
+use Rattle.vm_field.specs.Signs.{◌⊟◌}
+use Rattle.vm_field.proofs.Elements.{elements-append, elements-cons, elements-drop, elements-index, elements-none, elements-one, elements-take}
+use Rattle.vm_ops.specs.Codes.{code_of}
+use Rattle.vm_ops.specs.declared.op.Op.{Op}
+use Rattle.vm_ops.specs.declared.op.Op.TheVariants as ops
+use Rattle.op_pack.specs.Reading.{positions_in_use}
+use Rattle.machine_cycles.specs.Events.{visible_of}
+use Rattle.machine_cycles.specs.declared.event.Event.{Event}
+use Rattle.machine_cycles.specs.declared.event.Visible.{Visible}
+use Rattle.complete_rows.specs.Agreement.{IsLowUnread}
+use Rattle.complete_rows.specs.Bounds.{IsBounded, IsLowBlock, IsSmallCore}
+use Rattle.complete_rows.specs.Decoder.{Open, Decoder, address_of}
+use Rattle.complete_rows.specs.Filling.{hash_by, line_of, witnesses_by}
+use Rattle.complete_rows.specs.Kinds as kinds
+use Rattle.complete_rows.specs.Kinds.{Kind, kind_of}
+use Rattle.complete_rows.specs.Limbs.{cell, limbs_by, limbs_of, word_rest}
+use Rattle.complete_rows.specs.Turns.{repeats, repeats_by}
+use Rattle.complete_rows.specs.Witnesses.{batch_witnesses, difference, first_inverse, first_witness, operation_witnesses, upper_half}
+use Rattle.complete_rows.proofs.BoundLemmas.{few_respans}
+use Rattle.complete_rows.proofs.LowLemmas.{◌▸◌, IsLowLine, inverse_low, sub_low}
+
+-- ---- limbs
+
+low_limb : (n : ℕ) → n % 65536 < prime
+low_limb n = omega arith
+
+high_limb : (n : ℕ) → n < prime → n / 65536 < prime
+high_limb n low = omega (arith, low)
+
+low_limbs : (op : Op) (x y : Visible) → AreElements x.cells → AreElements y.cells → AreElements (limbs_by op x y)
+low_limbs ops.U32Split x y h g =
+    let b : (j : ℕ) → cell y j < prime = λ j. elements-index y.cells j g in
+    All-from_recursion (λ e. e < prime) (limbs_by ops.U32Split x y)
+    (low_limb (cell y 1) ▸ high_limb (cell y 1) (b 1)
+    ▸ low_limb (cell y 0) ▸ high_limb (cell y 0) (b 0) ▸ tt)
+low_limbs ops.U32Assert2 x y h g =
+    let a : (j : ℕ) → cell x j < prime = λ j. elements-index x.cells j h in
+    All-from_recursion (λ e. e < prime) (limbs_by ops.U32Assert2 x y)
+    (low_limb (cell x 0) ▸ high_limb (cell x 0) (a 0)
+    ▸ low_limb (cell x 1) ▸ high_limb (cell x 1) (a 1) ▸ tt)
+low_limbs ops.U32Sub x y h g =
+    let a : (j : ℕ) → cell x j < prime = λ j. elements-index x.cells j h in
+    let b : (j : ℕ) → cell y j < prime = λ j. elements-index y.cells j g in
+    All-from_recursion (λ e. e < prime) (limbs_by ops.U32Sub x y)
+    (low_limb (cell x 0) ▸ high_limb (cell x 0) (a 0)
+    ▸ low_limb (cell x 1) ▸ high_limb (cell x 1) (a 1)
+    ▸ low_limb (cell y 1) ▸ high_limb (cell y 1) (b 1) ▸ tt)
+low_limbs ops.U32Add x y h g =
+    let a : (j : ℕ) → cell x j < prime = λ j. elements-index x.cells j h in
+    let b : (j : ℕ) → cell y j < prime = λ j. elements-index y.cells j g in
+    All-from_recursion (λ e. e < prime) (limbs_by ops.U32Add x y)
+    (low_limb (cell x 0) ▸ high_limb (cell x 0) (a 0)
+    ▸ low_limb (cell x 1) ▸ high_limb (cell x 1) (a 1)
+    ▸ low_limb (cell y 1) ▸ high_limb (cell y 1) (b 1)
+    ▸ b 0 ▸ tt)
+low_limbs ops.U32Mul x y h g =
+    let a : (j : ℕ) → cell x j < prime = λ j. elements-index x.cells j h in
+    let b : (j : ℕ) → cell y j < prime = λ j. elements-index y.cells j g in
+    All-from_recursion (λ e. e < prime) (limbs_by ops.U32Mul x y)
+    (low_limb (cell x 0) ▸ high_limb (cell x 0) (a 0)
+    ▸ low_limb (cell x 1) ▸ high_limb (cell x 1) (a 1)
+    ▸ low_limb (cell y 1) ▸ high_limb (cell y 1) (b 1)
+    ▸ low_limb (cell y 0) ▸ high_limb (cell y 0) (b 0) ▸ tt)
+low_limbs ops.U32Add3 x y h g =
+    let a : (j : ℕ) → cell x j < prime = λ j. elements-index x.cells j h in
+    let b : (j : ℕ) → cell y j < prime = λ j. elements-index y.cells j g in
+    All-from_recursion (λ e. e < prime) (limbs_by ops.U32Add3 x y)
+    (low_limb (cell x 0) ▸ high_limb (cell x 0) (a 0)
+    ▸ low_limb (cell x 1) ▸ high_limb (cell x 1) (a 1)
+    ▸ low_limb (cell x 2) ▸ high_limb (cell x 2) (a 2)
+    ▸ low_limb (cell y 1) ▸ high_limb (cell y 1) (b 1)
+    ▸ b 0 ▸ tt)
+low_limbs ops.U32MAdd x y h g =
+    let a : (j : ℕ) → cell x j < prime = λ j. elements-index x.cells j h in
+    let b : (j : ℕ) → cell y j < prime = λ j. elements-index y.cells j g in
+    All-from_recursion (λ e. e < prime) (limbs_by ops.U32MAdd x y)
+    (low_limb (cell x 0) ▸ high_limb (cell x 0) (a 0)
+    ▸ low_limb (cell x 1) ▸ high_limb (cell x 1) (a 1)
+    ▸ low_limb (cell x 2) ▸ high_limb (cell x 2) (a 2)
+    ▸ low_limb (cell y 1) ▸ high_limb (cell y 1) (b 1)
+    ▸ low_limb (cell y 0) ▸ high_limb (cell y 0) (b 0) ▸ tt)
+low_limbs ops.U32Div x y h g =
+    let a : (j : ℕ) → cell x j < prime = λ j. elements-index x.cells j h in
+    let b : (j : ℕ) → cell y j < prime = λ j. elements-index y.cells j g in
+    let rest : cell x 0 - cell y 0 - 1 < prime = let low = a 0 in omega (arith, low) in
+    All-from_recursion (λ e. e < prime) (limbs_by ops.U32Div x y)
+    (low_limb (cell x 0) ▸ high_limb (cell x 0) (a 0)
+    ▸ low_limb (cell x 1) ▸ high_limb (cell x 1) (a 1)
+    ▸ low_limb (cell y 1) ▸ high_limb (cell y 1) (b 1)
+    ▸ low_limb (cell y 0) ▸ high_limb (cell y 0) (b 0)
+    ▸ low_limb (cell x 0 - cell y 0 - 1) ▸ high_limb (cell x 0 - cell y 0 - 1) rest ▸ tt)
+low_limbs op x y h g = elements-none
+
+low_rest : (op : Op) (word : List ℕ) → AreElements word → AreElements (word_rest op word)
+low_rest ops.MLoad word h = elements-drop 1 word h
+low_rest ops.MStore word h = elements-drop 1 word h
+low_rest op word h = elements-none
+
+low_row_limbs : (e : Event) (v : Visible) → AreElements e.before.cells → AreElements v.cells → AreElements e.word → AreElements (limbs_of e v)
+unfolding limbs_of
+low_row_limbs e v h g k =
+    elements-append (limbs_by e.op e.before v) (word_rest e.op e.word) (low_limbs e.op e.before v h g) (low_rest e.op e.word k)
+
+-- ---- witnesses
+
+low_difference : (op : Op) (x y : Visible) → AreElements x.cells → difference op x y < prime
+low_difference ops.Eqz x y h = elements-index x.cells 0 h
+low_difference ops.Eq x y h = sub_low (cell x 0) (cell x 1)
+low_difference ops.U32Split x y h = sub_low 4294967295 (cell y 0)
+low_difference ops.U32Mul x y h = sub_low 4294967295 (cell y 0)
+low_difference ops.U32MAdd x y h = sub_low 4294967295 (cell y 0)
+low_difference op x y h = lit< tt
+
+low_first : (op : Op) (address : ℕ) (x y : Visible) → address < prime → AreElements x.cells → first_witness op address x y < prime
+low_first ops.HPerm address x y low h = low
+low_first op address x y low h = inverse_low (difference op x y) (low_difference op x y h)
+
+zero_low : 0 < prime
+zero_low = lit< tt
+
+low_operation : (op : Op) (address number : ℕ) (x y : Visible) → address < prime → AreElements x.cells
+    → AreElements (operation_witnesses op address number x y)
+unfolding operation_witnesses
+low_operation op address number x y low h =
+    All-from_recursion (λ e. e < prime) (operation_witnesses op address number x y)
+    (low_first op address x y low h ▸ zero_low ▸ zero_low ▸ inverse_low (number ⊟ code_of op) (sub_low number (code_of op)) ▸ tt)
+
+low_inverse : (xs : List ℕ) → AreElements xs → AreElements (first_inverse xs)
+low_inverse [] h = elements-none
+low_inverse (x ∷ xs) h = go (low_inverse xs (All-tail (λ e. e < prime) x xs h)) (eqb x 0)
+  where
+    go : AreElements (first_inverse xs) → (b : Bool) → AreElements (cond b (0 ∷ first_inverse xs) (felt_inv x ∷ []))
+    go rest true = elements-cons 0 (first_inverse xs) (lit< tt) rest
+    go rest false = elements-one (felt_inv x) (inverse_low x (All-head (λ e. e < prime) x xs h))
+
+low_batch : (batch : List ℕ) → AreElements batch → AreElements (batch_witnesses batch)
+low_batch batch h =
+    low_inverse (upper_half batch) (elements-take (positions_in_use batch / 2) (drop (positions_in_use batch / 2) batch)
+    (elements-drop (positions_in_use batch / 2) batch h))
+
+-- ---- how often loops repeat
+
+counts_by : (k : Kind) (counts : List ℕ) (n : ℕ) → All (λ c. c ≤ n) counts → All (λ c. c ≤ suc n) (repeats_by k counts)
+counts_by k counts n h = by k
+  where
+    more : All (λ c. c ≤ suc n) counts
+    more = All-weaker (λ c. c ≤ n) (λ c. c ≤ suc n) (λ c low. omega (arith, low)) counts h
+
+    closed : All (λ c. c ≤ suc n) (drop 1 counts)
+    closed = All-drop (λ c. c ≤ suc n) 1 counts more
+
+    first_low : (cs : List ℕ) → All (λ c. c ≤ n) cs → slice_index cs 0 ≤ n
+    first_low [] g = omega arith
+    first_low (c ∷ cs) g = All-head (λ c. c ≤ n) c cs g
+
+    by : (kind : Kind) → All (λ c. c ≤ suc n) (repeats_by kind counts)
+    by kinds.Ordinary = more
+    by kinds.Join = closed
+    by kinds.Split = closed
+    by kinds.Loop = closed
+    by kinds.Span = closed
+    by kinds.Call = closed
+    by kinds.Syscall = closed
+    by kinds.End = All-cons (λ c. c ≤ suc n) 0 counts (omega arith) more
+    by kinds.Repeat = All-cons (λ c. c ≤ suc n) (suc (slice_index counts 0)) (drop 1 counts)
+        (let low : slice_index counts 0 ≤ n = first_low counts h in omega (arith, low)) closed
+    by kinds.Respan = more
+    by kinds.Halt = more
+
+counts_low : (events : List Event) → All (λ c. c ≤ length events) (repeats events)
+unfolding repeats
+counts_low [] = All-nil (λ c. c ≤ 0)
+counts_low (e ∷ later) = counts_by (kind_of e.op) (repeats later) (length later) (counts_low later)
+
+pub few_repeats : (events : List Event) → slice_index (repeats events) 0 ≤ length events
+few_repeats events = go (repeats events) (counts_low events)
+  where
+    go : (cs : List ℕ) → All (λ c. c ≤ length events) cs → slice_index cs 0 ≤ length events
+    go [] h = omega arith
+    go (c ∷ cs) h = All-head (λ n. n ≤ length events) c cs h
+
+-- ---- the line
+
+low_witnesses : (k : Kind) (d : Decoder) (e : Event) (v : Visible) (later : List Event) → d.next < prime → AreElements e.before.cells
+    → AreElements e.hash → length later ≤ 524287 → AreElements (witnesses_by k d e v later)
+low_witnesses kinds.Ordinary d e v later next cells hash few = low_operation e.op d.next d.unread.number e.before v next cells
+low_witnesses kinds.Loop d e v later next cells hash few =
+    elements-one (slice_index (repeats later) 0) (let low = few_repeats later in omega (arith, low, few))
+low_witnesses kinds.Span d e v later next cells hash few = low_batch e.hash hash
+low_witnesses kinds.Respan d e v later next cells hash few = low_batch e.hash hash
+low_witnesses kinds.Join d e v later next cells hash few = elements-none
+low_witnesses kinds.Split d e v later next cells hash few = elements-none
+low_witnesses kinds.Call d e v later next cells hash few = elements-none
+low_witnesses kinds.Syscall d e v later next cells hash few = elements-none
+low_witnesses kinds.End d e v later next cells hash few = elements-none
+low_witnesses kinds.Repeat d e v later next cells hash few = elements-none
+low_witnesses kinds.Halt d e v later next cells hash few = elements-none
+
+low_hash : (k : Kind) (d : Decoder) (e : Event) → d.unread.number < prime → AreElements e.hash → AreElements (hash_by k d e)
+low_hash kinds.Ordinary d e number hash = elements-one d.unread.number number
+low_hash kinds.Join d e number hash = hash
+low_hash kinds.Split d e number hash = hash
+low_hash kinds.Loop d e number hash = hash
+low_hash kinds.Span d e number hash = hash
+low_hash kinds.Call d e number hash = hash
+low_hash kinds.Syscall d e number hash = hash
+low_hash kinds.End d e number hash = hash
+low_hash kinds.Repeat d e number hash = hash
+low_hash kinds.Respan d e number hash = hash
+low_hash kinds.Halt d e number hash = elements-none
+
+low_address : (blocks : List Open) → All IsLowBlock blocks → address_of blocks < prime
+low_address [] h = lit< tt
+low_address (block ∷ blocks) h = (All-head IsLowBlock block blocks h).address
+
+-- what is known of the event, of the state behind it and of the decoder
+pub record LowParts (d : Decoder) (e : Event) (v : Visible) (c : Core) (later : List Event) : Type 0 where
+  pub before : e.before ≡ visible_of c
+  pub formed : IsWellFormedCore c
+  pub small : IsSmallCore c
+  pub unread : IsLowUnread d.unread
+  pub next : d.next ≤ 1 + 8 * 524287
+  pub ha : d.ha ≤ 1 + 8 * 524287
+  pub blocks : All IsLowBlock d.blocks
+  pub keys : AreElements d.keys
+  pub hash : AreElements e.hash
+  pub word : AreElements e.word
+  pub behind : AreElements v.cells
+  pub clock : c.clock ≤ 524287
+  pub few : length later ≤ 524287
+
+pub low_line : (d : Decoder) (e : Event) (v : Visible) (c : Core) (later : List Event) → LowParts d e v c later → IsLowLine (line_of d e v later)
+low_line d e v c later p =
+    let cells : AreElements e.before.cells = rw p.before (elements-take 16 c.stack p.formed.cells) in
+    record {
+      clock = rw p.before (omega (arith, p.clock));
+      fmp = rw p.before p.formed.fmp;
+      context = rw p.before (omega (arith, p.clock, p.small.context));
+      digest = rw p.before p.formed.digest.below;
+      address = low_address d.blocks p.blocks;
+      hash = low_hash (kind_of e.op) d e p.unread.number p.hash;
+      left = omega (arith, p.unread.few);
+      place = omega (arith, p.unread.place);
+      cells = cells;
+      depth = rw p.before (omega (arith, p.clock, p.small.depth));
+      key = elements-index d.keys 0 p.keys;
+      ha = omega (arith, p.ha);
+      nesting = rw p.before (omega (arith, p.small.nesting));
+      witnesses = low_witnesses (kind_of e.op) d e v later (omega (arith, p.next)) cells p.hash p.few;
+      limbs = low_row_limbs e v cells p.behind p.word;
+    }
+
+pub next_low : (d : Decoder) (clock : ℕ) (events : List Event) → IsBounded d clock events → d.next ≤ 1 + 8 * 524287
+next_low d clock events b = omega (arith, b.next, b.whole, few_respans events)
+
+pub ha_low : (d : Decoder) (clock : ℕ) (events : List Event) → IsBounded d clock events → d.ha ≤ 1 + 8 * 524287
+ha_low d clock events b = omega (arith, b.ha, b.whole)

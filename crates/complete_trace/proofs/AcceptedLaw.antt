@@ -1,0 +1,59 @@
+-- The trace of a run is accepted: bus by bus each tuple is asked as often as it is given.
+use Rattle.std.proofs.Common.{◌≡◌, ◌≢◌, ℕ, List, sym, ap, subst, arith}
+use Rattle.vm_field.specs.Machine.{State}
+use Rattle.block_tree.specs.Execution as run
+use Rattle.block_tree.specs.Trees.{Tree}
+use Rattle.buses.specs.Names.{bus_number}
+use Rattle.buses.specs.declared.bus.Bus.{Bus}
+use Rattle.buses.specs.declared.bus.Bus.TheVariants as bus
+use Rattle.air_kit.specs.Acceptance.{IsAccepted, asked_on, given_on}
+use Rattle.air_kit.specs.Places.{Claim}
+use Rattle.air_kit.specs.Requests.{Answers}
+use Rattle.air_kit.specs.Traces.{claim_of}
+use Rattle.air_kit.specs.declared.requests.Requests.{Requests}
+use Rattle.air_kit.specs.declared.trace.Public.{Public}
+use Rattle.air_kit.specs.declared.trace.Trace.{Trace}
+use Rattle.complete_rows.specs.BlockRows.{IsWholeRun, events_of, filled}
+use Rattle.complete_requests.specs.Asked.{requests}
+use Rattle.complete_trace.specs.Acceptance.{IsStatementOf, IsTraceOf}
+use Rattle.complete_trace.proofs.BlockBuses.{blocks_alike, children_alike, groups_alike, loops_alike}
+use Rattle.complete_trace.proofs.MainSides.{AreSides, run_sides}
+use Rattle.complete_trace.proofs.OverflowBus.{overflow_alike}
+use Rattle.complete_trace.proofs.RangeBus.{range_alike}
+use Rattle.complete_trace.proofs.TableBuses.{bitwise_alike, hasher_alike, kernel_alike, memory_alike}
+use Rattle.complete_trace.proofs.TraceClaim.{trace_zero}
+
+-- a bus of another number than that of ranges
+other : (on : Bus) → bus_number on ≢ bus_number bus.Range → on ≢ bus.Range
+other on apart e = apart (ap bus_number e)
+
+module _ (k : Claim) (constants digest : List ℕ) (kernel : List (List ℕ)) (r : Requests) (u : State) (t : Trace)
+    (main : AreSides constants digest r u t.main) (a : Answers constants kernel r t) (outputs : k.outputs ≡ u.core.stack) where
+  alike : (on : Bus) (v : List ℕ) → asked_on k t on v ≡ given_on digest t on v
+  alike bus.Blocks v = blocks_alike k digest t v (main.blocks v) (a.given bus.Blocks v (other bus.Blocks (omega arith)))
+  alike bus.Children v = children_alike k digest t v (main.children v) (a.given bus.Children v (other bus.Children (omega arith)))
+  alike bus.Loops v = loops_alike k digest t v (main.loops v) (a.given bus.Loops v (other bus.Loops (omega arith)))
+  alike bus.Groups v = groups_alike k digest t v (main.groups v) (a.given bus.Groups v (other bus.Groups (omega arith)))
+  alike bus.Overflow v =
+      overflow_alike k digest t v (main.overflow.table k t.left outputs a.keys v) (a.given bus.Overflow v (other bus.Overflow (omega arith)))
+  alike bus.Hasher v = hasher_alike k constants digest r t main.asks v (a.given bus.Hasher v (other bus.Hasher (omega arith)))
+  alike bus.Bitwise v = bitwise_alike k constants digest r t main.asks v (a.given bus.Bitwise v (other bus.Bitwise (omega arith)))
+  alike bus.Memory v = memory_alike k constants digest r t main.asks v (a.given bus.Memory v (other bus.Memory (omega arith)))
+  alike bus.Range v = range_alike k digest r.ranges t v (main.asks.range v) (a.ranges v)
+  alike bus.Kernel v = kernel_alike k constants digest r t main.asks v (a.given bus.Kernel v (other bus.Kernel (omega arith)))
+
+pub run_accepted : (constants : List ℕ) (kernel : List (List ℕ)) (limit : ℕ) (tree : Tree) (inputs tape : List ℕ) (u : State) (log : List run.Event)
+    → IsWholeRun constants kernel limit tree inputs tape u log → (p : Public) (t : Trace)
+    → IsStatementOf constants kernel tree inputs u p → IsTraceOf constants kernel u log t → IsAccepted p t
+run_accepted constants kernel limit tree inputs tape u log r p t is trace = record {
+  zero = trace_zero constants kernel limit tree inputs tape u log r p t is trace;
+  buses = alike (claim_of p t) constants p.statement.digest kernel (requests constants kernel u log) u t main trace.answers is.outputs_are;
+}
+  where
+    named : AreSides constants p.statement.digest (requests constants kernel u log) u (filled constants kernel u log)
+    named =
+        subst (λ digest. AreSides constants digest (requests constants kernel u log) u (filled constants kernel u log)) (sym is.digest_is)
+        (run_sides constants kernel limit tree inputs tape u log r)
+
+    main : AreSides constants p.statement.digest (requests constants kernel u log) u t.main
+    main = subst (AreSides constants p.statement.digest (requests constants kernel u log) u) (sym trace.main_is) named

@@ -1,0 +1,191 @@
+-- How the rows of blocks move the stack: it is kept, the condition on top is taken off, or a call hides or brings back the cells
+-- below the sixteenth.
+use Rattle.std.proofs.Common.{◌≡◌, ◌≢◌, ℕ, ◌+◌, ◌-◌, ◌^◌, ◌<◌, ◌≤◌, max, min, Bool, true, false, not, ◌&&◌, ◌||◌, eqb, List, [], ◌∷◌, ◌++◌, length, take, drop, slice_index, refl, sym, ap, ◌∙◌, subst, arith, lit<}
+use Rattle.std.proofs.lemmas.Grind.{get_or_after_one}
+use Rattle.std.proofs.lemmas.List.{get_or_append_left, get_or_past, get_or-take, length-drop, length-take}
+use Rattle.vm_field.proofs.Elements.{length-filled_up}
+use Rattle.vm_field.proofs.Inverses.{felt_mul-felt_inv}
+use Rattle.vm_field.specs.Field.{prime, felt_inv}
+use Rattle.vm_field.specs.Machine.{Core, filled_up}
+use Rattle.vm_field.specs.Signs.{◌⊟◌, ◌⊠◌}
+use Rattle.vm_ops.proofs.FrameLemmas.{index-filled_up}
+use Rattle.vm_ops.specs.Codes.{is_ordinary_op}
+use Rattle.vm_ops.specs.Moves.{takes_of, leaves_of}
+use Rattle.vm_ops.specs.declared.op.Op.{Op}
+use Rattle.vm_ops.specs.declared.op.Op.TheVariants as ops
+use Rattle.vm_table.specs.MainColumns.{depth, inv, s}
+use Rattle.air_kit.specs.Flags.{is_left, is_right}
+use Rattle.air_kit.specs.MainTuples.{is_call_op}
+use Rattle.facts_main.proofs.Says.{never, off}
+use Rattle.facts_main.specs.Blocks.{ends_call}
+use Rattle.facts_main.specs.Stack.{IsStackRow, MovesStack, ShiftsCells, keeps_stack, mover}
+use Rattle.complete_rows.specs.Decoder.{Decoder, key_of}
+use Rattle.complete_rows.specs.Shows.{Shows}
+use Rattle.complete_trace.proofs.QuietOps.{apart, leaves_cells, right_off, top_off, two_off}
+
+-- ---- a row by itself
+
+depth_some : (n : ℕ) → 16 ≤ n → n < 2 ^ 20 → n ≢ 16 → n ⊟ 16 ≢ 0
+depth_some n deep few other z = other (omega (arith, deep, few, z))
+
+depth_low : (n : ℕ) → n ⊟ 16 < prime
+depth_low n = omega arith
+
+inverse_shows : (n v : ℕ) → 16 ≤ n → n < 2 ^ 20 → v ≡ felt_inv (n ⊟ 16) → n ≢ 16 → (n ⊟ 16) ⊠ v ≡ 1
+inverse_shows n v deep few e other =
+    let some = depth_some n deep few other in
+    ap (λ m. (n ⊟ 16) ⊠ m) e ∙ felt_mul-felt_inv (n ⊟ 16) (omega (arith, some)) (depth_low n)
+
+pub stack_row : (op : Op) (x : List ℕ) → is_ordinary_op op ≡ false → 16 ≤ depth x → depth x < 2 ^ 20 → inv x ≡ felt_inv (depth x ⊟ 16)
+    → (ends_call op x ≡ true → depth x ≡ 16) → IsStackRow op x
+stack_row op x is deep few inverse returns = record {
+  witness = inverse_shows (depth x) (inv x) deep few inverse;
+  returns = returns;
+  top = top_off op is;
+  second = two_off op is;
+  asserted = λ e. apart op ops.Assert is refl e;
+}
+
+-- ---- two rows that show the states around a cycle
+
+pub record Around (op next : Op) (x y : List ℕ) (d after : Decoder) (c b : Core) : Type 0 where
+  pub here : Shows op d c x
+  pub behind : Shows next after b y
+
+-- a cell that stays
+stays : {op next : Op} {x y : List ℕ} {d after : Decoder} {c b : Core} → Around op next x y d after c b → (j k : ℕ) → j < 16 → k < 16
+    → slice_index b.stack j ≡ slice_index c.stack k → s y j ≡ s x k
+stays a j k low high e = a.behind.cells j low ∙ e ∙ sym (a.here.cells k high)
+
+-- the cells stay in their places
+pub cells_stay : (op : Op) (x y : List ℕ) → takes_of op ≡ 0 → leaves_of op ≡ 0 → is_left op ≡ false → ((j : ℕ) → j < 16 → s y j ≡ s x j)
+    → ShiftsCells op x y
+cells_stay op x y takes leaves still same = record {
+  brings = λ j from low flag. (
+      let place : j ≡ j + takes_of op - leaves_of op = omega (arith, takes, leaves) in
+      same j low ∙ ap (λ n. s x n) place
+      );
+  last = λ is flat. never (sym is ∙ still);
+}
+
+-- the stack is kept
+pub kept : (op next : Op) (x y : List ℕ) (d after : Decoder) (c b : Core) → Around op next x y d after c b → is_ordinary_op op ≡ false
+    → mover op x ≡ op → is_left op ≡ false → is_call_op op ≡ false → takes_of op ≡ 0 → leaves_of op ≡ 0
+    → b.stack ≡ c.stack → key_of after.keys ≡ key_of d.keys → MovesStack op x y
+kept op next x y d after c b a is moves still no_call takes leaves stack keys = record {
+  depth_moves = record {
+    right = λ e. never (sym e ∙ right_off op is);
+    left_flat = λ e flat. never (sym e ∙ ap is_left moves ∙ still);
+    left_deep = λ e more. never (sym e ∙ ap is_left moves ∙ still);
+    call = λ e. never (sym e ∙ no_call);
+    same = λ e. (a.behind.deep ∙ ap length stack ∙ sym a.here.deep, a.behind.key_is ∙ keys ∙ sym a.here.key_is);
+  };
+  shifts = subst (λ m. ShiftsCells m x y) (sym moves) (cells_stay op x y takes leaves still
+      (λ j low. stays a j j low low (ap (λ v. slice_index v j) stack)));
+  leaves = leaves_cells op x y is;
+}
+
+-- ---- the condition on top is taken off
+
+flat_key : (keys : List ℕ) (n : ℕ) → length keys + 16 ≡ n → n ≡ 16 → key_of (drop 1 keys) ≡ key_of keys
+flat_key [] n count flat = refl
+flat_key (k ∷ keys) n count flat = absurd (omega (arith, count, flat))
+
+not_last : (t : Bool) (j : ℕ) → t ≡ true → t && eqb j 15 ≡ false → j < 16 → j < 15
+not_last t j left flag low = go (λ e. never (sym (rw (left, e) refl) ∙ flag))
+  where
+    go : j ≢ 15 → j < 15
+    go other = omega (arith, low, other)
+
+keeps_not : (op m : Op) (x : List ℕ) → is_ordinary_op op ≡ false → mover op x ≡ m → is_left m ≡ true → keeps_stack op x ≡ false
+keeps_not op m x is moves left =
+    ap (λ t. not (t || is_left (mover op x) || is_call_op op || ends_call op x)) (right_off op is)
+    ∙ ap (λ t. not (false || t || is_call_op op || ends_call op x)) (ap is_left moves ∙ left)
+
+popped_index : (cells : List ℕ) (j : ℕ) → slice_index (filled_up (drop 1 cells)) j ≡ slice_index cells (1 + j)
+popped_index cells j = index-filled_up (drop 1 cells) j ∙ get_or_after_one cells j 0
+
+pub popped : (op next m : Op) (x y : List ℕ) (d after : Decoder) (c b : Core) → Around op next x y d after c b → is_ordinary_op op ≡ false
+    → mover op x ≡ m → is_left m ≡ true → is_call_op op ≡ false → takes_of m ≡ 1 → leaves_of m ≡ 0
+    → b.stack ≡ filled_up (drop 1 c.stack) → after.keys ≡ drop 1 d.keys → length d.keys + 16 ≡ length c.stack → length c.stack < 2 ^ 20
+    → MovesStack op x y
+popped op next m x y d after c b a is moves left no_call takes leaves stack keys keyed few =
+    let count : length b.stack ≡ max 16 (length (drop 1 c.stack)) = ap length stack ∙ length-filled_up (drop 1 c.stack) in
+    let less : length (drop 1 c.stack) ≡ length c.stack - 1 = length-drop 1 c.stack in
+    let deep : depth x ≡ length c.stack = a.here.deep in
+    let deep_behind : depth y ≡ length b.stack = a.behind.deep in
+    record {
+      depth_moves = record {
+        right = λ e. never (sym e ∙ right_off op is);
+        left_flat = λ e flat. (
+          omega (arith, count, less, deep, deep_behind, flat),
+          a.behind.key_is ∙ ap key_of keys ∙ flat_key d.keys (depth x) (keyed ∙ sym deep) flat ∙ sym a.here.key_is,
+        );
+        left_deep = λ e more. omega (arith, count, less, deep, deep_behind, keyed, few, more);
+        call = λ e. never (sym e ∙ no_call);
+        same = λ e. never (sym e ∙ keeps_not op m x is moves left);
+      };
+      shifts = subst (λ o. ShiftsCells o x y) (sym moves) (record {
+        brings = λ j from low flag. (
+            let early : j < 15 = not_last (is_left m) j left flag low in
+            let place : 1 + j ≡ j + takes_of m - leaves_of m = omega (arith, takes, leaves) in
+            stays a j (1 + j) low (omega (arith, early)) (ap (λ v. slice_index v j) stack ∙ popped_index c.stack j) ∙ ap (λ n. s x n) place
+            );
+        last = λ e flat. a.behind.cells 15 (lit< tt) ∙ ap (λ v. slice_index v 15) stack ∙ popped_index c.stack 15
+            ∙ get_or_past c.stack 16 0 (omega (arith, deep, flat));
+      });
+      leaves = leaves_cells op x y is;
+    }
+
+-- ---- calls
+
+keeps_no_call : (op : Op) (x : List ℕ) → is_call_op op ≡ true → keeps_stack op x ≡ false
+keeps_no_call op x call = go (is_right op || is_left (mover op x)) (is_call_op op) (ends_call op x) call
+  where
+    go : (t u v : Bool) → u ≡ true → not (t || u || v) ≡ false
+    go true u v e = refl
+    go false true v e = refl
+    go false false v e = off e
+
+pub called : (op next : Op) (x y : List ℕ) (d after : Decoder) (c b : Core) → Around op next x y d after c b → is_ordinary_op op ≡ false
+    → mover op x ≡ op → is_left op ≡ false → is_call_op op ≡ true → takes_of op ≡ 0 → leaves_of op ≡ 0
+    → b.stack ≡ take 16 c.stack → after.keys ≡ [] → 16 ≤ length c.stack → MovesStack op x y
+called op next x y d after c b a is moves still call takes leaves stack keys deep =
+    let count : length b.stack ≡ min 16 (length c.stack) = ap length stack ∙ length-take 16 c.stack in
+    let deep_behind : depth y ≡ length b.stack = a.behind.deep in
+    record {
+      depth_moves = record {
+        right = λ e. never (sym e ∙ right_off op is);
+        left_flat = λ e flat. never (sym e ∙ ap is_left moves ∙ still);
+        left_deep = λ e more. never (sym e ∙ ap is_left moves ∙ still);
+        call = λ e. (omega (arith, count, deep, deep_behind), a.behind.key_is ∙ ap key_of keys);
+        same = λ e. never (sym e ∙ keeps_no_call op x call);
+      };
+      shifts = subst (λ m. ShiftsCells m x y) (sym moves) (cells_stay op x y takes leaves still
+          (λ j low. stays a j j low low (ap (λ v. slice_index v j) stack ∙ get_or-take 16 c.stack j 0 low)));
+      leaves = leaves_cells op x y is;
+    }
+
+-- the END of a call
+pub returned : (next : Op) (x y : List ℕ) (d after : Decoder) (c b : Core) (hidden : List ℕ) → Around ops.End next x y d after c b
+    → mover ops.End x ≡ ops.End → ends_call ops.End x ≡ true → b.stack ≡ c.stack ++ hidden → 16 ≤ length c.stack → MovesStack ops.End x y
+returned next x y d after c b hidden a moves ends stack deep = record {
+  depth_moves = record {
+    right = λ e. off e;
+    left_flat = λ e flat. off (sym (ap is_left moves) ∙ e);
+    left_deep = λ e more. off (sym (ap is_left moves) ∙ e);
+    call = λ e. off e;
+    same = λ e. never (sym e ∙ keeps_not_end ends);
+  };
+  shifts = subst (λ m. ShiftsCells m x y) (sym moves) (cells_stay ops.End x y refl refl refl
+      (λ j low. stays a j j low low (ap (λ v. slice_index v j) stack ∙ get_or_append_left c.stack hidden 0 j (omega (arith, low, deep)))));
+  leaves = leaves_cells ops.End x y refl;
+}
+  where
+    keeps_not_end : ends_call ops.End x ≡ true → keeps_stack ops.End x ≡ false
+    keeps_not_end e = go (is_left (mover ops.End x)) (ends_call ops.End x) e
+      where
+        go : (t u : Bool) → u ≡ true → not (false || t || false || u) ≡ false
+        go true u e = refl
+        go false true e = refl
+        go false false e = off e

@@ -1,0 +1,17 @@
+pub mod QuietOps
+pub mod BlockMoves
+pub mod BlockStacks
+pub mod Showing
+pub mod Witnessed
+pub mod Fillings
+pub mod MomentStacks
+pub mod TableStacks
+pub mod RangeLemmas
+pub mod Quiet
+pub mod MainSides
+pub mod BlockBuses
+pub mod TableBuses
+pub mod RangeBus
+pub mod OverflowBus
+pub mod TraceClaim
+pub mod AcceptedLaw

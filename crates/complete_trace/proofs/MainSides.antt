@@ -1,0 +1,40 @@
+-- What the rows of a run give and ask: the buses of blocks by themselves, the others against requests and the cells that are left.
+use Rattle.std.proofs.Common.{◌≡◌, ℕ, ◌+◌, List}
+use Rattle.vm_field.specs.Machine.{State}
+use Rattle.block_tree.specs.Execution as run
+use Rattle.block_tree.specs.Trees.{Tree, tree_digest}
+use Rattle.buses.specs.Counts.{counted, over_rows, with_next}
+use Rattle.buses.specs.declared.bus.Bus.TheVariants as bus
+use Rattle.air_kit.specs.Acceptance.{statement_given}
+use Rattle.air_kit.specs.MainTuples.{blocks_asked, blocks_given, children_asked, children_given, groups_asked, groups_given, loops_asked, loops_given}
+use Rattle.air_kit.specs.declared.requests.Requests.{Requests}
+use Rattle.complete_rows.specs.BlockRows.{IsWholeRun, events_of, filled}
+use Rattle.complete_buses.proofs.BlockLaw.{blocks_even}
+use Rattle.complete_buses.proofs.ChildLaw.{children_even}
+use Rattle.complete_buses.proofs.GroupLaw.{groups_even}
+use Rattle.complete_buses.proofs.LoopLaw.{loops_even}
+use Rattle.complete_requests.specs.Asked.{RowsAsk, requests}
+use Rattle.complete_requests.specs.Overflow.{OverflowIsEven}
+use Rattle.complete_requests.proofs.AskedLaw.{run_asks}
+use Rattle.complete_requests.proofs.OverflowLaw.{overflow_is_even}
+
+pub record AreSides (constants digest : List ℕ) (r : Requests) (u : State) (rows : List (List ℕ)) : Type 0 where
+  pub blocks : (v : List ℕ) → over_rows (with_next blocks_given) rows v ≡ over_rows (with_next blocks_asked) rows v
+  pub children : (v : List ℕ)
+      → counted (statement_given bus.Children digest) v + over_rows (with_next children_given) rows v ≡ over_rows (with_next children_asked) rows v
+  pub loops : (v : List ℕ) → over_rows (with_next loops_given) rows v ≡ over_rows (with_next loops_asked) rows v
+  pub groups : (v : List ℕ) → over_rows (with_next groups_given) rows v ≡ over_rows (with_next groups_asked) rows v
+  pub asks : RowsAsk constants rows r
+  pub overflow : OverflowIsEven rows r.keys u
+
+pub run_sides : (constants : List ℕ) (kernel : List (List ℕ)) (limit : ℕ) (tree : Tree) (inputs tape : List ℕ) (u : State) (log : List run.Event)
+    → IsWholeRun constants kernel limit tree inputs tape u log
+    → AreSides constants (tree_digest constants tree) (requests constants kernel u log) u (filled constants kernel u log)
+run_sides constants kernel limit tree inputs tape u log r = record {
+  blocks = blocks_even constants kernel limit tree inputs tape u log r;
+  children = children_even constants kernel limit tree inputs tape u log r;
+  loops = loops_even constants kernel limit tree inputs tape u log r;
+  groups = groups_even constants kernel limit tree inputs tape u log r;
+  asks = run_asks constants kernel limit tree inputs tape u log r;
+  overflow = overflow_is_even constants kernel limit tree inputs tape u log r;
+}

@@ -1,0 +1,78 @@
+-- The rows of a run show all facts, and their entries are 0.
+use Rattle.std.proofs.Common.{◌≡◌, ◌⊎◌, inl, inr, ℕ, suc, ◌<◌, ◌≤◌, List, length, arith}
+use Rattle.std.proofs.lemmas.Bool.{cases_eq}
+use Rattle.vm_field.specs.Machine.{State}
+use Rattle.block_tree.specs.Execution as run
+use Rattle.block_tree.specs.Trees.{Tree}
+use Rattle.air_kit.specs.Places.{Claim}
+use Rattle.vm_table.specs.MainColumns.{lv}
+use Rattle.facts_main.specs.Bounds.{IsLowClaim}
+use Rattle.facts_main.specs.Limbs.{IsLimbRow}
+use Rattle.vm_table.specs.Layout.{row_at}
+use Rattle.facts_main.specs.MainRows.{MainIsZero, ShowsRows, op_in}
+use Rattle.facts_main.specs.Stack.{IsStackRow}
+use Rattle.facts_main.proofs.TableFacts.{rows_zero}
+use Rattle.complete_rows.specs.BlockRows.{ClaimsRun, IsWholeRun, ShowsBlocks, events_of, filled, keys_of}
+use Rattle.complete_rows.specs.Decoder.{Decoder, at_start, decoder_after}
+use Rattle.complete_rows.specs.Moments.{AreMoments}
+use Rattle.complete_rows.proofs.MomentLemmas.{end_at, moment_at}
+use Rattle.complete_rows.proofs.TableLemmas.{has_moments, shows_blocks}
+use Rattle.complete_trace.specs.StackRows.{LooksUp}
+use Rattle.complete_trace.proofs.MomentStacks.{end_facts, end_level, moment_facts, moment_level}
+
+module _ (constants : List ℕ) (kernel : List (List ℕ)) (limit : ℕ) where
+  -- of a row, the last one or not
+  row_facts : length constants ≡ 168 → limit ≤ 524287 → (d : Decoder) (u : State) (rows : List (List ℕ)) → AreMoments constants kernel limit d u rows
+      → (i : ℕ) → i < length rows → IsStackRow (op_in rows i) (row_at rows i) × IsLimbRow (op_in rows i) (row_at rows i)
+  row_facts len within d u rows moments i low = go (cases_eq (suc i) (length rows))
+    where
+      go : (suc i ≡ length rows) ⊎ (suc i ≡ length rows → ⊥) → IsStackRow (op_in rows i) (row_at rows i) × IsLimbRow (op_in rows i) (row_at rows i)
+      go (inl e) = end_facts (end_at constants kernel limit d u rows moments i e)
+      go (inr apart) =
+          let f = moment_facts constants kernel limit len within (moment_at constants kernel limit d u rows moments i (omega (arith, low, apart))) in
+          (f.stack_row, f.limb_row)
+
+  pub shows_rows : (tree : Tree) (inputs tape : List ℕ) (u : State) (log : List run.Event) → IsWholeRun constants kernel limit tree inputs tape u log
+      → (k : Claim) → ClaimsRun k inputs (keys_of constants kernel log) u
+      → ShowsRows k (filled constants kernel u log)
+  shows_rows tree inputs tape u log r k claims =
+      let b : ShowsBlocks k (filled constants kernel u log) = shows_blocks constants kernel limit tree inputs tape u log r k claims in
+      let m = has_moments constants kernel limit tree inputs tape u log r in
+      let d : Decoder = decoder_after at_start (events_of constants kernel log) in
+      let rows : List (List ℕ) = filled constants kernel u log in
+      record {
+        row_is = λ i low. (
+            let f = row_facts r.constants_are r.within d u rows m.0 i low in
+            record { reads = b.reads i low; row = b.row_is i low; stack = f.0; limbs = f.1 }
+            );
+        pair_is = λ i low. (
+            let f = moment_facts constants kernel limit r.constants_are r.within (moment_at constants kernel limit d u rows m.0 i low) in
+            record { pair = b.pair_is i low; stack = f.stack_pair; limbs = f.limb_pair }
+            );
+        first = b.first;
+        last = b.last;
+      }
+
+  pub has_zeros : (tree : Tree) (inputs tape : List ℕ) (u : State) (log : List run.Event) → IsWholeRun constants kernel limit tree inputs tape u log
+      → (k : Claim) → ClaimsRun k inputs (keys_of constants kernel log) u → IsLowClaim k
+      → MainIsZero k (filled constants kernel u log)
+  has_zeros tree inputs tape u log r k claims low =
+      rows_zero k (filled constants kernel u log) low (shows_blocks constants kernel limit tree inputs tape u log r k claims).table
+      (shows_rows tree inputs tape u log r k claims)
+
+  level_low : (d : Decoder) (u : State) (rows : List (List ℕ)) → AreMoments constants kernel limit d u rows → (i : ℕ) → i < length rows
+      → lv (row_at rows i) ≤ 1024
+  level_low d u rows moments i low = go (cases_eq (suc i) (length rows))
+    where
+      go : (suc i ≡ length rows) ⊎ (suc i ≡ length rows → ⊥) → lv (row_at rows i) ≤ 1024
+      go (inl e) = end_level (end_at constants kernel limit d u rows moments i e)
+      go (inr apart) = moment_level constants kernel limit (moment_at constants kernel limit d u rows moments i (omega (arith, low, apart)))
+
+  pub look_up : (tree : Tree) (inputs tape : List ℕ) (u : State) (log : List run.Event) → IsWholeRun constants kernel limit tree inputs tape u log
+      → (i : ℕ) → suc i < length (filled constants kernel u log) → LooksUp (filled constants kernel u log) i
+  look_up tree inputs tape u log r i low =
+      let m = has_moments constants kernel limit tree inputs tape u log r in
+      let d : Decoder = decoder_after at_start (events_of constants kernel log) in
+      let rows : List (List ℕ) = filled constants kernel u log in
+      let f = moment_facts constants kernel limit r.constants_are r.within (moment_at constants kernel limit d u rows m.0 i low) in
+      record { ranges = f.ranges; bits = f.bits; level = level_low d u rows m.0 (suc i) low }

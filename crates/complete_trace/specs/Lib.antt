@@ -1,0 +1,2 @@
+pub mod StackRows
+pub mod Acceptance

@@ -1,4 +1,0 @@
-pub mod Effects
-pub mod Marks
-pub mod Settings
-pub mod Stops

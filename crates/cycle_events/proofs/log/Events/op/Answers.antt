@@ -1,8 +1,0 @@
-use Rattle.std.proofs.Common.{refl}
-use Rattle.cycle_events.proofs.KeptLemmas.{shows}
-use Rattle.cycle_events.proofs.log.Events.op.Goals as goal
-
-pub returns : goal.returns
-returns c =
-    shows c.self.inside.functions.items c.self.inside.uses.items c.self.inside.items.items c.args.self.now c.args.place
-    c.index.result.now c.self.view_is c.requires.within c.index.ensures refl

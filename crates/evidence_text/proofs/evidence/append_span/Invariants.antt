@@ -1,8 +1,0 @@
-use Rattle.std.proofs.Common.{◌≡◌, ◌++◌, take}
-use Rattle.std.specs.List.{flat_map}
-use Rattle.evidence_text.specs.EvidenceText.{batch_text}
-use Rattle.evidence_text.proofs.evidence.append_span.Given as goal
-
--- the batches so far stand behind the first line
-abbrev pub invariant-loop-batch : goal.invariant-loop-batch
-invariant-loop-batch l = l.text ≡ l.initial.text ++ flat_map batch_text (take l.batch-index l.batches)

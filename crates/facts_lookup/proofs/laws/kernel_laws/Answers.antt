@@ -1,0 +1,8 @@
+use Rattle.facts_lookup.proofs.KernelLaw.{shows, zeros_of}
+use Rattle.facts_lookup.proofs.laws.kernel_laws.Goals as goal
+
+pub returns-clause-shows : goal.returns-clause-shows
+returns-clause-shows c = shows
+
+pub returns-clause-zeros : goal.returns-clause-zeros
+returns-clause-zeros c = zeros_of

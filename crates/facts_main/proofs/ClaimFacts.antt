@@ -1,0 +1,66 @@
+-- What stands beside the rows of a trace is in the range of elements.
+use Rattle.std.proofs.Common.{ℕ, ◌<◌, ◌≤◌, ◌^◌, length, slice_index, arith}
+use Rattle.vm_field.specs.Field.{prime}
+use Rattle.vm_field.proofs.Elements.{elements-index}
+use Rattle.vm_table.specs.Layout.{IsTable}
+use Rattle.air_kit.specs.declared.trace.Public.{Public}
+use Rattle.air_kit.specs.declared.trace.TableName.TheVariants as table
+use Rattle.air_kit.specs.declared.trace.Trace.{Trace}
+use Rattle.air_kit.specs.Acceptance.{AreZero}
+use Rattle.air_kit.specs.Traces.{HasCounts, claim_of, lengths_of}
+use Rattle.facts_main.specs.Bounds.{IsLowClaim}
+use Rattle.facts_main.specs.MainRows.{ShowsRows}
+use Rattle.facts_main.proofs.TableFacts.{rows_shown}
+use Rattle.facts_main.proofs.CellFacts.{EachLow, elements_each}
+
+few_rows : (n : ℕ) → n ≤ 2 ^ 22 → n < prime
+few_rows n h = omega (arith, h)
+
+lengths_low : (t : Trace) → HasCounts t → (j : ℕ) → slice_index (lengths_of t) j < prime
+lengths_low t counts j = elements-index (lengths_of t) j (elements_each (lengths_of t) each)
+  where
+    each : EachLow (lengths_of t)
+    each = (
+      few_rows (length t.main) (let h = counts.most table.Main in omega (arith, h)),
+      (
+        few_rows (length t.range) (let h = counts.most table.Range in omega (arith, h)),
+        (
+          few_rows (length t.hasher) (let h = counts.most table.Hasher in omega (arith, h)),
+          (
+            few_rows (length t.bitwise) (let h = counts.most table.Bitwise in omega (arith, h)),
+            (
+              few_rows (length t.memory) (let h = counts.most table.Memory in omega (arith, h)),
+              (
+                few_rows (length t.kernel) (let h = counts.most table.Kernel in omega (arith, h)),
+                (
+                  few_rows (length t.left) (let h = counts.most table.Left in omega (arith, h)),
+                  tt,
+                ),
+              ),
+            ),
+          ),
+        ),
+      ),
+    )
+
+few_outputs : (n : ℕ) → n ≤ 524303 → n < prime
+few_outputs n h = omega (arith, h)
+
+few_digests : (n : ℕ) → n ≤ 255 → n < prime
+few_digests n h = omega (arith, h)
+
+pub claim_low : (public : Public) (trace : Trace) → HasCounts trace → IsTable 1 trace.left → IsLowClaim (claim_of public trace)
+claim_low public trace counts left = record {
+  inputs = λ j. elements-index public.statement.inputs j public.statement.inputs_below;
+  outputs = λ j. elements-index public.statement.outputs j public.statement.outputs_below;
+  lengths = lengths_low trace counts;
+  kernel = few_digests (length public.statement.kernel) public.statement.few;
+  deep = public.statement.outputs_full;
+  few = few_outputs (length public.statement.outputs) public.statement.outputs_few;
+  key = left.below 0 0;
+}
+
+pub trace_shown : (public : Public) (trace : Trace) → HasCounts trace → IsTable 65 trace.main → IsTable 1 trace.left
+    → AreZero (claim_of public trace) trace → ShowsRows (claim_of public trace) trace.main
+trace_shown public trace counts main left zero =
+    rows_shown (claim_of public trace) trace.main (claim_low public trace counts left) (record { table = main; zero = zero table.Main })

@@ -1,0 +1,23 @@
+-- The three parts of the entries of the main table.
+use Rattle.std.proofs.Common.{◌++◌}
+use Rattle.air_kit.specs.MainValues.{decoder_values, main_values}
+use Rattle.air_kit.specs.Places.{Claim, Spot}
+use Rattle.air_kit.specs.StackValues.{stack_values}
+use Rattle.air_kit.specs.U32Values.{u32_values}
+use Rattle.facts_main.specs.Zero.{AllZero}
+use Rattle.facts_main.proofs.Zeros.{zero_back, zero_both, zero_front}
+
+pub parts_shown : (k : Claim) (p : Spot) → AllZero (main_values k p)
+    → AllZero (decoder_values k p) × AllZero (stack_values p) × AllZero (u32_values p)
+unfolding main_values
+parts_shown k p zeros =
+    let rest = zero_back (decoder_values k p) (stack_values p ++ u32_values p) zeros in (
+      zero_front (decoder_values k p) (stack_values p ++ u32_values p) zeros,
+      zero_front (stack_values p) (u32_values p) rest,
+      zero_back (stack_values p) (u32_values p) rest,
+    )
+
+pub whole_zero : (k : Claim) (p : Spot) → AllZero (decoder_values k p) → AllZero (stack_values p) → AllZero (u32_values p) → AllZero (main_values k p)
+unfolding main_values
+whole_zero k p decoder stack u32 =
+    zero_both (decoder_values k p) (stack_values p ++ u32_values p) decoder (zero_both (stack_values p) (u32_values p) stack u32)

@@ -1,0 +1,45 @@
+-- Lists of values that are all 0, taken apart.
+use Rattle.std.proofs.Common.{◌≡◌, ℕ, zero, suc, ◌<◌, List, [], ◌∷◌, ◌++◌, refl, sym, ◌∙◌, arith}
+use Rattle.air_kit.specs.Places.{at_number, family}
+use Rattle.air_kit.proofs.FaultLemmas.{family_at}
+use Rattle.facts_main.specs.Zero.{AllZero}
+
+-- each value of the numbers is 0
+pub numbers_zero : (values : List ℕ) → ((number : ℕ) → at_number values number ≡ 0) → AllZero values
+unfolding at_number
+numbers_zero values zeros k = zeros (suc k)
+
+pub zero_back : (xs ys : List ℕ) → AllZero (xs ++ ys) → AllZero ys
+zero_back [] ys zeros = zeros
+zero_back (x ∷ xs) ys zeros = zero_back xs ys (λ k. zeros (suc k))
+
+pub zero_front : (xs ys : List ℕ) → AllZero (xs ++ ys) → AllZero xs
+zero_front [] ys zeros k = refl
+zero_front (x ∷ xs) ys zeros zero = zeros zero
+zero_front (x ∷ xs) ys zeros (suc k) = zero_front xs ys (λ j. zeros (suc j)) k
+
+pub zero_family : (n : ℕ) (value : ℕ → ℕ) → AllZero (family n value) → (j : ℕ) → j < n → value j ≡ 0
+zero_family n value zeros j h = sym (family_at n value j h) ∙ zeros j
+
+-- ---- put together
+
+pub zero_both : (xs ys : List ℕ) → AllZero xs → AllZero ys → AllZero (xs ++ ys)
+zero_both [] ys front back k = back k
+zero_both (x ∷ xs) ys front back zero = front zero
+zero_both (x ∷ xs) ys front back (suc k) = zero_both xs ys (λ j. front (suc j)) back k
+
+pub zero_of_family : (n : ℕ) (value : ℕ → ℕ) → ((j : ℕ) → j < n → value j ≡ 0) → AllZero (family n value)
+unfolding family
+zero_of_family zero value each k = refl
+zero_of_family (suc n) value each zero = each 0 (omega arith)
+zero_of_family (suc n) value each (suc k) = zero_of_family n (λ j. value (suc j)) (λ j h. each (suc j) (omega (arith, h))) k
+
+-- each value of a list is 0, one by one
+abbrev pub Each : List ℕ → Type 0
+Each [] = Unit {0}
+Each (v ∷ vs) = (v ≡ 0) × Each vs
+
+pub each_zero : (values : List ℕ) → Each values → AllZero values
+each_zero [] each k = refl
+each_zero (v ∷ vs) each zero = each.0
+each_zero (v ∷ vs) each (suc k) = each_zero vs each.1 k

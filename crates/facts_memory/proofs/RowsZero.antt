@@ -1,0 +1,143 @@
+-- The rows of accesses of which each fits behind the one before: a table whose values are 0 and whose limbs have 16 bits.
+use Rattle.std.proofs.Common.{◌≡◌, ℕ, zero, suc, ◌/◌, ◌%◌, ◌<◌, ◌≤◌, List, [], ◌∷◌, All, length, slice_get, slice_index, slice_index_or, Option, Some, None, option_map, refl, sym, ap, subst, arith, lit<}
+use Rattle.std.proofs.lemmas.List.Elements.{All-cons, All-nil}
+use Rattle.vm_field.specs.Field.{prime}
+use Rattle.vm_field.proofs.Elements.{elements-index}
+use Rattle.vm_table.specs.Layout.{IsTable}
+use Rattle.air_kit.specs.Places.{at_number}
+use Rattle.air_kit.specs.MemoryValues.{memory_values}
+use Rattle.air_kit.specs.declared.requests.Access.{Access}
+use Rattle.facts_memory.specs.AccessRows.{new_address, new_context, row_behind, rows_behind, step_behind}
+use Rattle.facts_memory.specs.MemoryTables.{HasLimbs, HaveLimbs, MemoryIsZero}
+use Rattle.facts_memory.proofs.BehindZero.{NextFits, flags_zero, row_zero}
+use Rattle.facts_memory.proofs.Entries.{high_small, low_small}
+use Rattle.facts_memory.proofs.Fitting.{FitsBehind}
+use Rattle.facts_memory.proofs.Numbers.{limit}
+use Rattle.facts_memory.proofs.RowZeros.{AllZero, CellsBelow}
+
+-- each access fits behind the one before
+unfoldable pub Linked : Option Access → List Access → Type 0
+Linked before [] = Unit {0}
+Linked before (a ∷ accesses) = FitsBehind before a × Linked (Some a) accesses
+
+pub rows_size : (before : Option Access) (accesses : List Access) → length (rows_behind before accesses) ≡ length accesses
+unfolding rows_behind
+rows_size before [] = refl
+rows_size before (a ∷ accesses) = ap suc (rows_size (Some a) accesses)
+
+-- ---- a row's cells
+
+pub record RowIs (row : List ℕ) : Type 0 where
+  pub wide : length row ≡ 14
+  pub below : CellsBelow row
+  pub limbs : HasLimbs row
+
+within : (n m : ℕ) → n ≤ m → m < prime → n < prime
+within n m le h = omega (arith, le, h)
+
+small : (n : ℕ) → n < limit → n < prime
+small n h = omega arith
+
+limb : (n : ℕ) → n < 65536 → n < prime
+limb n h = omega arith
+
+row_below : (before : Option Access) (a : Access) → FitsBehind before a → CellsBelow (row_behind before a)
+unfolding row_behind
+row_below before a f zero = within a.kind 2 f.shown.kind (lit< tt)
+row_below before a f (suc zero) = small a.ctx f.shown.limits.c_small
+row_below before a f (suc (suc zero)) = small a.addr f.shown.limits.a_small
+row_below before a f (suc (suc (suc zero))) = small a.clk f.shown.limits.k_small
+row_below before a f (suc (suc (suc (suc zero)))) = elements-index a.word 0 f.shown.word.below
+row_below before a f (suc (suc (suc (suc (suc zero))))) = elements-index a.word 1 f.shown.word.below
+row_below before a f (suc (suc (suc (suc (suc (suc zero)))))) = elements-index a.word 2 f.shown.word.below
+row_below before a f (suc (suc (suc (suc (suc (suc (suc zero))))))) = elements-index a.word 3 f.shown.word.below
+row_below before a f (suc (suc (suc (suc (suc (suc (suc (suc zero)))))))) =
+    let b = (flags_zero before a f).first_bit in small (new_context before a) (omega (arith, b))
+row_below before a f (suc (suc (suc (suc (suc (suc (suc (suc (suc zero))))))))) =
+    let b = (flags_zero before a f).second_bit in small (new_address before a) (omega (arith, b))
+row_below before a f (suc (suc (suc (suc (suc (suc (suc (suc (suc (suc zero)))))))))) =
+    limb (step_behind before a % 65536) (low_small (step_behind before a))
+row_below before a f (suc (suc (suc (suc (suc (suc (suc (suc (suc (suc (suc zero))))))))))) =
+    limb (step_behind before a / 65536) (high_small (step_behind before a) (flags_zero before a f).step_small)
+row_below before a f (suc (suc (suc (suc (suc (suc (suc (suc (suc (suc (suc (suc zero)))))))))))) =
+    limb (a.addr % 65536) (low_small a.addr)
+row_below before a f (suc (suc (suc (suc (suc (suc (suc (suc (suc (suc (suc (suc (suc zero))))))))))))) =
+    limb (a.addr / 65536) (high_small a.addr f.shown.limits.a_small)
+row_below before a f (suc (suc (suc (suc (suc (suc (suc (suc (suc (suc (suc (suc (suc (suc k)))))))))))))) = lit< tt
+
+row_is : (before : Option Access) (a : Access) → FitsBehind before a → RowIs (row_behind before a)
+unfolding row_behind
+row_is before a f = record {
+  wide = refl;
+  below = row_below before a f;
+  limbs = record {
+    d0_small = low_small (step_behind before a);
+    d1_small = high_small (step_behind before a) (flags_zero before a f).step_small;
+    a0_small = low_small a.addr;
+    a1_small = high_small a.addr f.shown.limits.a_small;
+  };
+}
+
+rows_are : (before : Option Access) (accesses : List Access) → Linked before accesses → All RowIs (rows_behind before accesses)
+unfolding rows_behind Linked
+rows_are before [] l = All-nil RowIs
+rows_are before (a ∷ accesses) l =
+    All-cons RowIs (row_behind before a) (rows_behind (Some a) accesses) (row_is before a l.0) (rows_are (Some a) accesses l.1)
+
+-- ---- the table
+
+below_at : (rows : List (List ℕ)) → All RowIs rows → (i k : ℕ) → slice_index (slice_index_or rows i []) k < prime
+below_at [] are i k = lit< tt
+below_at (r ∷ rows) are zero k = (are 0 [] (omega arith)).below k
+below_at (r ∷ rows) are (suc i) k = below_at rows (λ j d h. are (suc j) d (omega (arith, h))) i k
+
+is_table : (rows : List (List ℕ)) → All RowIs rows → IsTable 14 rows
+is_table rows are = record { wide = λ i h. (are i [] h).wide; below = below_at rows are }
+
+next_row : (a : Access) (accesses : List Access) → Linked (Some a) accesses
+    → (o : Option Access) × (slice_get (rows_behind (Some a) accesses) 0 ≡ option_map (λ b. row_behind (Some a) b) o) × NextFits a o
+unfolding rows_behind Linked
+next_row a [] l = (None, refl, tt)
+next_row a (b ∷ accesses) l = (Some b, refl, l.0)
+
+-- a row that is the first of all stands at the front, behind none
+abbrev FrontOnly : ℕ → ℕ → Option Access → Type 0
+FrontOnly r k before = r ≡ 0 → (k ≡ 0) × (before ≡ None)
+
+later_front : (r k : ℕ) (before : Option Access) (a : Access) → FrontOnly r (suc k) before → FrontOnly r k (Some a)
+later_front r k before a front is = let e = (front is).0 in absurd (omega (arith, e))
+
+values_zero : (before : Option Access) (accesses : List Access) → Linked before accesses → (k r : ℕ) → k < length accesses
+    → FrontOnly r k before
+    → AllZero (memory_values (record {
+      row = r;
+      cur = slice_index_or (rows_behind before accesses) k [];
+      next = slice_get (rows_behind before accesses) (suc k);
+    }))
+unfolding rows_behind Linked
+values_zero before [] l k r h front = absurd (omega (arith, h))
+values_zero before (a ∷ accesses) l zero r h front =
+    let n = next_row a accesses l.1 in
+    subst (λ next. AllZero (memory_values (record { row = r; cur = row_behind before a; next = next }))) (sym n.1)
+    (row_zero r before a n.0 l.0 (λ is. (front is).1) n.2)
+values_zero before (a ∷ accesses) l (suc k) r h front =
+    values_zero (Some a) accesses l.1 k r (omega (arith, h)) (later_front r k before a front)
+
+pub zero_number : (values : List ℕ) (number : ℕ) → AllZero values → at_number values number ≡ 0
+unfolding at_number
+zero_number values zero zeros = refl
+zero_number values (suc n) zeros = zeros n
+
+pub rows_zero : (accesses : List Access) → Linked None accesses → MemoryIsZero (rows_behind None accesses)
+rows_zero accesses l = record {
+  table = is_table (rows_behind None accesses) (rows_are None accesses l);
+  zero = λ i number h.
+      zero_number (memory_values (record {
+        row = i;
+        cur = slice_index_or (rows_behind None accesses) i [];
+        next = slice_get (rows_behind None accesses) (suc i);
+      })) number (values_zero None accesses l i i (let e = rows_size None accesses in omega (arith, e, h)) (λ is. (is, refl)));
+}
+
+pub rows_limbs : (accesses : List Access) → Linked None accesses → HaveLimbs (rows_behind None accesses)
+rows_limbs accesses l i h = (rows_are None accesses l i [] h).limbs

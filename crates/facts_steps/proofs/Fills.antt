@@ -1,0 +1,161 @@
+-- A step fills rows whose facts hold.
+use Rattle.std.proofs.Common.{◌≡◌, ℕ, ◌+◌, ◌^◌, ◌<◌, ◌≤◌, Bool, true, false, eqb, List, ◌++◌, drop, length, slice_index, Ok, ap, ap₂, sym, subst, ◌∙◌, arith, lit<}
+use Rattle.std.proofs.lemmas.List.{take-append-drop, length-drop}
+use Rattle.vm_field.proofs.Elements.{elements-index}
+use Rattle.vm_field.specs.Field.{prime, felt_add}
+use Rattle.vm_field.specs.Machine.{State, IsWellFormed}
+use Rattle.vm_ops.proofs.FrameLemmas.{step-same_call}
+use Rattle.vm_ops.proofs.ShownLemmas.{trap_of-shown}
+use Rattle.vm_ops.proofs.StepLemmas.{stepped, step-depth}
+use Rattle.vm_ops.specs.Codes.{is_ordinary_op, reads_elsewhere}
+use Rattle.vm_ops.specs.Items.{IsOrdinaryItem}
+use Rattle.vm_ops.specs.Moves.{leaves_of}
+use Rattle.vm_ops.specs.Sizes.{IsSeenBy}
+use Rattle.vm_ops.specs.Step.{memory_with, step}
+use Rattle.vm_ops.specs.Stepping.{Stepped}
+use Rattle.vm_ops.specs.Values.{Seen, bit_of}
+use Rattle.vm_ops.specs.declared.item.Item.{Item}
+use Rattle.vm_ops.specs.declared.op.Op.{Op}
+use Rattle.vm_table.specs.MainColumns.{clk, ctx, sys, s, depth}
+use Rattle.air_kit.specs.RowStates.{Elsewhere, state_of, taken_by, written_by}
+use Rattle.air_kit.specs.StackValues.{cells, seen_of, left_value}
+use Rattle.facts_main.specs.Stack.{ShiftsCells}
+use Rattle.facts_steps.specs.Filling.{ShowsState, FilledBy, FillsRows, elsewhere_of}
+use Rattle.facts_steps.proofs.Depths.{depth_filled}
+use Rattle.facts_steps.proofs.Frames.{frame_filled, written_is, memory_is}
+use Rattle.facts_steps.proofs.Ordinary.{ordinary, ordinary_row, mover_is}
+use Rattle.facts_steps.proofs.OutsideFills.{tape_filled, item_filled, memory_filled, permutes_filled}
+use Rattle.facts_steps.proofs.Seeing.{seen_by, shows_same, sized, top_index}
+use Rattle.facts_steps.proofs.Shifts.{Moved, stack_moved, shifts_from, below_from}
+use Rattle.facts_steps.proofs.StackFills.{stack_row_filled, leaves_filled}
+use Rattle.facts_steps.proofs.Tops.{leaves_list, value_is}
+use Rattle.facts_steps.proofs.FreeRuns.{free_runs}
+use Rattle.facts_steps.proofs.Traps.{Runs}
+use Rattle.facts_steps.proofs.WordLimbs.{limbs_filled_low, bits_filled}
+use Rattle.facts_steps.proofs.WordMade.{Made}
+use Rattle.facts_steps.proofs.WordRows.{limb_row_filled, limb_pair_filled}
+
+-- ---- the state of a row that shows it
+
+in_syscall_is : (b : Bool) (n : ℕ) → n ≡ bit_of b → eqb n 1 ≡ b
+in_syscall_is true n e = ap (λ m. eqb m 1) e
+in_syscall_is false n e = ap (λ m. eqb m 1) e
+
+pub shown_state : (x : List ℕ) (s : State) → ShowsState x s → state_of x (elsewhere_of s) ≡ s
+shown_state x s h =
+    let flag = in_syscall_is s.core.in_syscall (sys x) h.syscall in
+    let stack : cells x ++ drop 16 s.core.stack ≡ s.core.stack =
+    ap (λ (u : List ℕ). u ++ drop 16 s.core.stack) h.stack ∙ take-append-drop 16 s.core.stack in
+    λ i. record {
+      core = record {
+        clock = h.clock i;
+        context = h.context i;
+        fmp = h.frame i;
+        in_syscall = flag i;
+        digest = h.digest i;
+        nesting = h.nesting i;
+        stack = stack i;
+        memory = s.core.memory;
+      };
+      tape = s.tape;
+    }
+
+pub shown_depth : (x : List ℕ) (s : State) → ShowsState x s → 16 ≤ length s.core.stack → depth x ≡ 16 + length (elsewhere_of s).below
+shown_depth x s h deep = let count = length-drop 16 s.core.stack in omega (arith, h.depth_is, deep, count)
+
+-- ---- the facts, from a step that goes on between states of rows
+
+record Behaved (item : Item) (x y : List ℕ) (e f : Elsewhere) (sn : Seen) : Type 0 where
+  runs : Runs item.op x
+  moved : Moved item.op sn x y e.below f.below
+  tops : reads_elsewhere item.op ≡ false → (j : ℕ) → j < leaves_of item.op → s y j ≡ left_value item.op j x
+  made : Made item.op x y
+
+behaved : (constants : List ℕ) (item : Item) (x y : List ℕ) (e f : Elsewhere) → IsSeenBy item.op (seen_by constants item x e)
+    → depth x ≡ 16 + length e.below → s x 0 < prime → Stepped constants item (state_of x e) (state_of y f) → FilledBy item.op x y e
+    → Behaved item x y e f (seen_by constants item x e)
+behaved constants item x y e f h deep low done filled =
+    let sn : Seen = seen_by constants item x e in
+    let runs = free_runs item.op x (sym (trap_of-shown item.op sn (seen_of x) (shows_same constants item x e deep)) ∙ done.free) in
+    let moved = stack_moved item.op sn x y e.below f.below h (sym (ap (λ (u : State). u.core.stack) done.is)) in
+    let tops : reads_elsewhere item.op ≡ false → (j : ℕ) → j < leaves_of item.op → s y j ≡ left_value item.op j x =
+    λ quiet j few. moved.tops j few ∙ sym (value_is constants item item.op x e deep quiet j) in
+    record {
+      runs = runs;
+      moved = moved;
+      tops = tops;
+      made = record { runs = runs; low = low; tops = tops; limb = filled.limb; not_highest = filled.not_highest };
+    }
+
+clock_next : (n m : ℕ) → m ≡ n + 1 → n < 2 ^ 19 → m ≡ felt_add n 1
+clock_next n m e few = omega (arith, e, few)
+
+fills_between : (constants : List ℕ) (item : Item) (x y : List ℕ) (e f : Elsewhere) → IsOrdinaryItem item → is_ordinary_op item.op ≡ true
+    → IsWellFormed (state_of x e) → length constants ≡ 168 → clk x < 2 ^ 19 → depth x ≡ 16 + length e.below → depth x < 2 ^ 20
+    → depth y ≡ 16 + length f.below → sys y ≡ sys x → Stepped constants item (state_of x e) (state_of y f) → FilledBy item.op x y e
+    → FillsRows constants item x y e f
+fills_between constants item x y e f ordinary_item is well count early deep shallow deep_next flag done filled =
+    let o = ordinary item.op is in
+    let sn : Seen = seen_by constants item x e in
+    let h : IsSeenBy item.op sn = sized constants item x e count well.core.words done.enough in
+    let first : slice_index (cells x ++ e.below) 0 ≡ s x 0 = top_index x e.below 0 (lit< tt) in
+    let second : slice_index (cells x ++ e.below) 1 ≡ s x 1 = top_index x e.below 1 (lit< tt) in
+    let low : s x 0 < prime = subst (λ n. n < prime) first (elements-index (cells x ++ e.below) 0 well.core.cells) in
+    let low_second : s x 1 < prime = subst (λ n. n < prime) second (elements-index (cells x ++ e.below) 1 well.core.cells) in
+    let b = behaved constants item x y e f h deep low done filled in
+    let listed = leaves_list item.op sn y h b.moved.tops in
+    let tape = ap (λ (u : State). u.tape) done.is in
+    let looked = memory_filled constants item item.op x y e (well.core.words (ctx x) (s x 0)).size listed filled.word b.runs.address in
+    record {
+      item_is = item_filled constants item x y e ordinary_item listed;
+      clock = clock_next (clk x) (clk y) (ap (λ (u : State). u.core.clock) done.is) early;
+      block_row = ordinary_row item.op x is b.runs.inside;
+      block_pair = frame_filled constants item item.op x y e o filled.block (record {
+        context = ap (λ (u : State). u.core.context) done.is;
+        syscall = flag;
+        digest = ap (λ (u : State). u.core.digest) done.is;
+        frame = ap (λ (u : State). u.core.fmp) done.is;
+        nesting = ap (λ (u : State). u.core.nesting) done.is;
+      });
+      stack_row = stack_row_filled item.op x e.below o deep shallow filled.deeper b.runs;
+      stack_pair = record {
+        depth_moves = depth_filled item.op x y e.below f.below e o deep shallow deep_next filled b.moved.behind;
+        shifts = subst (λ (m : Op). ShiftsCells m x y) (sym (mover_is item.op x o)) (shifts_from item.op sn x y e.below f.below deep b.moved);
+        leaves = leaves_filled item.op x y low low_second b.tops filled.not_zero filled.not_same b.runs;
+      };
+      limb_row = limb_row_filled item.op x y b.made;
+      limb_pair = limb_pair_filled item.op x y b.made;
+      goes = record {
+        below = below_from item.op x y e.below f.below deep b.moved.behind;
+        memory =
+            ap (λ (u : State). u.core.memory) done.is
+            ∙ ap₂ (λ (p : ℕ) u. memory_with e.memory (ctx x) p u) first (written_is constants item item.op x e looked.kept)
+            ∙ memory_is x e.memory (written_by item.op x);
+        tape = tape_filled constants item x y e listed ∙ ap (λ (u : List ℕ). taken_by item.op y ++ u) (sym tape);
+      };
+      looks = record {
+        ranges = limbs_filled_low item.op x y b.made;
+        bits = bits_filled item.op x y b.made;
+        memory = looked;
+        permutes = permutes_filled constants item item.op x y e listed;
+      };
+    }
+
+-- ---- of a step
+
+pub step_fills : (constants : List ℕ) (item : Item) (s t : State) (x y : List ℕ) → length constants ≡ 168 → IsOrdinaryItem item → IsWellFormed s
+    → s.core.clock < 2 ^ 19 → length s.core.stack < 2 ^ 20 → step constants item s ≡ Ok t → ShowsState x s → ShowsState y t
+    → FilledBy item.op x y (elsewhere_of s) → FillsRows constants item x y (elsewhere_of s) (elsewhere_of t)
+step_fills constants item s t x y count o well early shallow goes here next filled =
+    let from : state_of x (elsewhere_of s) ≡ s = shown_state x s here in
+    let to : state_of y (elsewhere_of t) ≡ t = shown_state y t next in
+    let after = step-depth constants item s t count well goes in
+    let deep_after : 16 ≤ length t.core.stack = omega (arith, after) in
+    let same = step-same_call constants item s t goes in
+    fills_between constants item x y (elsewhere_of s) (elsewhere_of t) o o.ordinary
+    (subst IsWellFormed (sym from) well) count (subst (λ n. n < 2 ^ 19) (sym here.clock) early) (shown_depth x s here well.core.deep)
+    (subst (λ n. n < 2 ^ 20) (sym here.depth_is) shallow) (shown_depth y t next deep_after)
+    (next.syscall ∙ ap bit_of same.in_syscall ∙ sym here.syscall)
+    (stepped constants item (state_of x (elsewhere_of s)) (state_of y (elsewhere_of t))
+    (ap (step constants item) from ∙ goes ∙ ap (λ (u : State). Ok u) (sym to)))
+    filled

@@ -1,0 +1,128 @@
+-- What the rows of a table do not show, from one row to the next.
+use Rattle.std.proofs.Common.{◌≡◌, ◌≢◌, ℕ, zero, suc, ◌+◌, ◌<◌, Bool, true, false, ◌&&◌, ◌||◌, cond, eqb, List, [], ◌∷◌, ◌++◌, drop, length, slice_index, refl, ap, sym, subst, ◌∙◌, ⊎_elim, arith}
+use Rattle.std.proofs.lemmas.Bool.Decides.{nat_tests}
+use Rattle.std.proofs.lemmas.List.{nil_from_length}
+use Rattle.vm_ops.specs.Moves.{shift_of}
+use Rattle.vm_ops.specs.declared.op.Op.{Op}
+use Rattle.vm_ops.specs.declared.op.Shift.{Shift}
+use Rattle.vm_ops.specs.declared.op.Shift.TheVariants.{Left, Stay, Right}
+use Rattle.vm_table.specs.MainColumns.{h, s, depth}
+use Rattle.vm_field.specs.Field.{felt_add}
+use Rattle.air_kit.specs.Flags.{is_left, is_right, is_shift, op_of}
+use Rattle.air_kit.specs.MainTuples.{is_call_op, row_shifts_left}
+use Rattle.air_kit.specs.Places.{Claim}
+use Rattle.air_kit.specs.RowStates.{Overflow, overflow_behind, overflow_at, brought_back, row_returns, memory_at, tape_of, taken_by, elsewhere_at}
+use Rattle.facts_main.proofs.Says.{either_or}
+use Rattle.vm_table.specs.Layout.{row_at}
+use Rattle.facts_main.specs.MainRows.{ShowsRows, op_in}
+use Rattle.facts_main.specs.Stack.{ShiftsCells}
+use Rattle.facts_steps.specs.Joined.{GoesOnBy}
+use Rattle.facts_steps.specs.Showing.{ShowsStep, IsPlace}
+use Rattle.facts_steps.proofs.Ordinary.{IsOrdinary, ordinary, mover_is}
+use Rattle.facts_steps.proofs.Shifts.{Behind, below_from}
+use Rattle.facts_steps.proofs.Steps.{rows_show}
+
+-- ---- the cells below the sixteenth
+
+-- by the tests of the row
+abbrev below_by : Bool → Bool → Bool → Bool → Bool → List ℕ → Overflow → Overflow
+below_by right left flat call returns x o =
+    cond right (record o { below = s x 15 ∷ o.below })
+    (cond left (cond flat o (record o { below = drop 1 o.below }))
+    (cond call (record { below = []; aside = o.below ∷ o.aside }) (cond returns (brought_back o.aside) o)))
+
+is_same : (i n : ℕ) → i ≡ n → eqb i n ≡ true
+is_same i n e = grind (arith, nat_tests)
+
+is_other : (i n : ℕ) → i ≢ n → eqb i n ≡ false
+is_other i n e = grind (arith, nat_tests)
+
+tests_same : (r l c e r1 l1 c1 e1 : Bool) (x : List ℕ) (o : Overflow) → r ≡ r1 → l ≡ l1 → c ≡ c1 → e ≡ e1
+    → below_by r l (eqb (depth x) 16) c e x o ≡ below_by r1 l1 (eqb (depth x) 16) c1 e1 x o
+tests_same r l c e r1 l1 c1 e1 x o er el ec ee =
+    ap (λ u. below_by u l (eqb (depth x) 16) c e x o) er ∙ ap (λ u. below_by r1 u (eqb (depth x) 16) c e x o) el
+    ∙ ap (λ u. below_by r1 l1 (eqb (depth x) 16) u e x o) ec ∙ ap (λ u. below_by r1 l1 (eqb (depth x) 16) c1 u x o) ee
+
+or_false : (t : Bool) → t || false ≡ t
+or_false true = refl
+or_false false = refl
+
+pub overflow_goes : (x y : List ℕ) (o : Overflow) → IsOrdinary (op_of x) → depth x ≡ 16 + length o.below
+    → (is_left (op_of x) ≡ true → depth x ≢ 16 → s y 15 ≡ slice_index o.below 0) → (is_left (op_of x) ≡ true → depth x ≡ 16 → s y 15 ≡ 0)
+    → Behind (shift_of (op_of x)) (s x 15) (s y 15) o.below (overflow_behind x o).below
+overflow_goes x y o k deep finds flat_is = go (shift_of (op_of x)) refl
+  where
+    lefts : row_shifts_left x ≡ is_left (op_of x)
+    lefts = ap (λ u. is_left (op_of x) || (u && eqb (h x 4) 1)) k.not_end ∙ or_false (is_left (op_of x))
+
+    returns : row_returns x ≡ false
+    returns = ap (λ u. u && eqb (felt_add (h x 6) (h x 7)) 1) k.not_end
+
+    by : (shift : Shift) → shift_of (op_of x) ≡ shift
+        → (overflow_behind x o).below ≡ (below_by (is_shift Right shift) (is_shift Left shift) (eqb (depth x) 16) false false x o).below
+    by shift e =
+        ap (λ (u : Overflow). u.below)
+        (tests_same (is_right (op_of x)) (row_shifts_left x) (is_call_op (op_of x)) (row_returns x) (is_shift Right shift)
+        (is_shift Left shift) false false x o
+        (ap (is_shift Right) e) (lefts ∙ ap (is_shift Left) e) k.not_call returns)
+
+    flat : depth x ≡ 16 → (overflow_behind x o).below ≡ (below_by false true (eqb (depth x) 16) false false x o).below
+        → (overflow_behind x o).below ≡ drop 1 o.below
+    flat at e =
+        let none : o.below ≡ [] = nil_from_length o.below (omega (arith, deep, at)) in
+        e ∙ ap (λ u. (below_by false true u false false x o).below) (is_same (depth x) 16 at) ∙ none ∙ ap (drop 1) (sym none)
+
+    more : depth x ≢ 16 → (overflow_behind x o).below ≡ (below_by false true (eqb (depth x) 16) false false x o).below
+        → (overflow_behind x o).below ≡ drop 1 o.below
+    more at e = e ∙ ap (λ u. (below_by false true u false false x o).below) (is_other (depth x) 16 at)
+
+    go : (shift : Shift) → shift_of (op_of x) ≡ shift → Behind shift (s x 15) (s y 15) o.below (overflow_behind x o).below
+    go Right e = by Right e
+    go Stay e = by Stay e
+    go Left e =
+        let left : is_left (op_of x) ≡ true = ap (is_shift Left) e in
+        ⊎_elim
+        (λ at.
+        let none : o.below ≡ [] = nil_from_length o.below (omega (arith, deep, at)) in
+        (flat at (by Left e), flat_is left at ∙ ap (λ (u : List ℕ). slice_index u 0) (sym none)))
+        (λ at. (more at (by Left e), finds left at)) (either_or (depth x) 16)
+
+-- ---- the tape
+
+pub tape_goes : (rows : List (List ℕ)) (i : ℕ) → suc i < length rows
+    → tape_of (drop i rows) ≡ taken_by (op_of (row_at rows i)) (row_at rows (suc i)) ++ tape_of (drop (suc i) rows)
+unfolding tape_of
+tape_goes [] i few = absurd (omega (arith, few))
+tape_goes (x ∷ []) i few = absurd (omega (arith, few))
+tape_goes (x ∷ (y ∷ rows)) zero few = refl
+tape_goes (x ∷ (y ∷ rows)) (suc i) few = tape_goes (y ∷ rows) i (omega (arith, few))
+
+-- ---- all of it
+
+pub place_goes : (constants : List ℕ) (k : Claim) (rows : List (List ℕ)) (i : ℕ) → ShowsRows k rows → IsPlace constants rows i
+    → GoesOnBy (op_in rows i) (row_at rows i) (row_at rows (suc i)) (elsewhere_at rows i) (elsewhere_at rows (suc i))
+unfolding overflow_at memory_at
+place_goes constants k rows i shows p =
+    let x : List ℕ = row_at rows i in
+    let y : List ℕ = row_at rows (suc i) in
+    let o = ordinary (op_of x) p.ordinary in
+    let pair = shows.pair_is i p.within in
+    let last : is_left (op_of x) ≡ true → depth x ≡ 16 → s y 15 ≡ 0 =
+    (subst (λ (m : Op). ShiftsCells m x y) (mover_is (op_of x) x o) pair.stack.shifts).last in
+    record {
+      below = below_from (op_of x) x y (overflow_at rows i).below (overflow_behind x (overflow_at rows i)).below p.here.depth_is
+          (overflow_goes x y (overflow_at rows i) o p.here.depth_is p.finds last);
+      memory = refl;
+      tape = tape_goes rows i p.within;
+    }
+
+pub place_shows : (constants : List ℕ) (k : Claim) (rows : List (List ℕ)) (i : ℕ) → length constants ≡ 168 → ShowsRows k rows
+    → IsPlace constants rows i
+    → ShowsStep constants (op_in rows i) (row_at rows i) (row_at rows (suc i)) (elsewhere_at rows i) (elsewhere_at rows (suc i))
+place_shows constants k rows i count shows p =
+    rows_show constants (op_in rows i) (op_in rows (suc i)) (row_at rows i) (row_at rows (suc i)) (elsewhere_at rows i) (elsewhere_at rows (suc i))
+    count p.ordinary
+    p.here (shows.row_is i (below_next i (length rows) p.within)) (shows.pair_is i p.within) (place_goes constants k rows i shows p) p.looks
+  where
+    below_next : (n m : ℕ) → suc n < m → n < m
+    below_next n m h = omega (arith, h)

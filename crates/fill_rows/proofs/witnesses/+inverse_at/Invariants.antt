@@ -1,4 +1,0 @@
-use Rattle.fill_rows.proofs.witnesses.+inverse_at.Given as goal
-
-abbrev pub decreases-inverse_at : goal.decreases-inverse_at
-decreases-inverse_at l = l.place

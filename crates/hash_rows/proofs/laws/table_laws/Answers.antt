@@ -1,6 +1,0 @@
-use Rattle.hash_rows.proofs.TableLaws.{rows_show, zeros_are_rows}
-use Rattle.hash_rows.proofs.TableMeaning.{table_gives}
-use Rattle.hash_rows.proofs.laws.table_laws.Goals as goal
-
-pub returns : goal.returns
-returns c = record { zeros_are_rows = zeros_are_rows; rows_show = rows_show; gives = table_gives }

@@ -1,5 +1,0 @@
-use Rattle.instr_reading.proofs.Digits.{Going}
-use Rattle.instr_reading.proofs.number.digits_value.Given as goal
-
-abbrev pub invariant-loop-byte : goal.invariant-loop-byte
-invariant-loop-byte l = Going l.base l.value l.digits l.byte-index

@@ -1,5 +1,0 @@
-use Rattle.std.proofs.Common.{◌≡◌, map}
-use Rattle.instr_reading.proofs.reading.split_into.Given as goal
-
-abbrev pub invariant-loop-part : goal.invariant-loop-part
-invariant-loop-part l = map (λ part. part.now) l.parts.items ≡ map (λ part. part.now) l.yielded

@@ -1,5 +1,0 @@
-use Rattle.instr_spans.proofs.SpanLemmas.{operations-agree, operations-within, operations-effect}
-use Rattle.instr_spans.proofs.span_laws.Goals as goal
-
-pub returns : goal.returns
-returns c = record { agree = operations-agree; within = operations-within; effects = operations-effect }

@@ -1,0 +1,150 @@
+-- The first statement of a body, and those behind it.
+use Rattle.std.proofs.Common.{◌≡◌, ℕ, ◌+◌, List, [], ◌∷◌, ◌++◌, map, refl, sym, ap, subst, ◌∙◌, append_assoc, arith, Vec, Global}
+use Rattle.std.proofs.lemmas.List.{append-nil}
+use Rattle.masm_tree.specs.declared.tree.Stmt.{Stmt}
+use Rattle.masm_tree.specs.declared.tree.Stmt.TheOpen.{Stmt-F}
+use Rattle.masm_tree.specs.declared.tree.Stmt.TheFolds.{fold_out-Stmt}
+use Rattle.masm_tree.specs.declared.tree.Position.{Position}
+use Rattle.masm_tree.specs.declared.tree.Stmt.TheVariants.{Instr, If, While, Repeat, Exec, Call, Syscall}
+use Rattle.masm_tree.specs.Trees.{Body, Empty, Leaf_then, If_then, While_then, Repeat_then}
+use Rattle.masm_tree.proofs.Mirror.{body_of_nil, view-Instr, view-If, view-While, view-Repeat, view-Exec, view-Call, view-Syscall}
+use Rattle.masm_instr.specs.Instructions.{Instruction, HasLocal}
+use Rattle.masm_expand.specs.Expansion.{expansion}
+use Rattle.masm_tree.specs.Views.{joined, add_step, stmt_view, body_of}
+use Rattle.masm_flat.specs.Blocks.{View, Piece, Operation, Whole, whole}
+use Rattle.masm_flat.specs.Flattening.{Known, flat_with}
+use Rattle.masm_tree.specs.Locals.{HasLocals}
+use Rattle.masm_flat.specs.Lists.{times}
+
+pub body_of_more : (s : Stmt) (ss : List Stmt) → body_of (s ∷ ss) ≡ stmt_view s (body_of ss)
+unfolding body_of
+body_of_more s ss = refl
+
+-- what holds of each kind of statement holds of each statement
+pub each : (P : (Body → Body) → Type 0) → ((f : Stmt-F (Body → Body)) → P (add_step f)) → (s : Stmt) → P (stmt_view s)
+unfolding stmt_view
+each P h s = subst P (sym (fold_out-Stmt (Body → Body) add_step s)) (h _)
+
+module _ {A : Type 0} (v : View A) (known : Known A) (locals : ℕ) where
+  padded : (xs ys : List (Piece A)) → xs ++ ys ≡ (xs ++ []) ++ ys
+  padded xs ys = ap (λ zs. zs ++ ys) (sym (append-nil xs))
+
+  flat-step : (f : Stmt-F (Body → Body)) (rest : Body)
+      → flat_with v known locals (add_step f rest) ≡ flat_with v known locals (add_step f Empty) ++ flat_with v known locals rest
+  flat-step (Stmt-F.Instr at instr) rest = padded (map Operation (expansion instr.name instr.numbers locals)) (flat_with v known locals rest)
+  flat-step (Stmt-F.If at first second) rest = refl
+  flat-step (Stmt-F.While at turn) rest = refl
+  flat-step (Stmt-F.Repeat at n turn) rest = padded (times n (flat_with v known locals (joined turn.items))) (flat_with v known locals rest)
+  flat-step (Stmt-F.Exec at name) rest = padded (known.list name) (flat_with v known locals rest)
+  flat-step (Stmt-F.Call at name) rest = refl
+  flat-step (Stmt-F.Syscall at name) rest = refl
+
+  pub flat-first : (s : Stmt) (rest : Body)
+      → flat_with v known locals (stmt_view s rest) ≡ flat_with v known locals (stmt_view s Empty) ++ flat_with v known locals rest
+  flat-first s rest =
+      each (λ g. (rest : Body) → flat_with v known locals (g rest)
+      ≡ flat_with v known locals (g Empty) ++ flat_with v known locals rest) flat-step s rest
+
+  -- the list of one statement
+  pub flat-Instr : (at : Position) (i : Instruction)
+      → flat_with v known locals (stmt_view (Instr at i) Empty) ≡ map Operation (expansion i.name i.numbers locals)
+  flat-Instr at i = ap (flat_with v known locals) (view-Instr at i Empty) ∙ append-nil _
+
+  pub flat-Exec : (at : Position) (name : List ℕ) → flat_with v known locals (stmt_view (Exec at name) Empty) ≡ known.list name
+  flat-Exec at name = ap (flat_with v known locals) (view-Exec at name Empty) ∙ append-nil _
+
+  pub flat-Call : (at : Position) (name : List ℕ)
+      → flat_with v known locals (stmt_view (Call at name) Empty) ≡ Whole (v.call (whole v (known.list name))) ∷ []
+  flat-Call at name = ap (flat_with v known locals) (view-Call at name Empty)
+
+  pub flat-Syscall : (at : Position) (name : List ℕ)
+      → flat_with v known locals (stmt_view (Syscall at name) Empty) ≡ Whole (v.syscall (known.exported name)) ∷ []
+  flat-Syscall at name = ap (flat_with v known locals) (view-Syscall at name Empty)
+
+  pub flat-If : (at : Position) (xs ys : Vec Stmt Global) → flat_with v known locals (stmt_view (If at xs ys) Empty)
+      ≡ Whole (v.split (whole v (flat_with v known locals (body_of xs.items))) (whole v (flat_with v known locals (body_of ys.items)))) ∷ []
+  flat-If at xs ys = ap (flat_with v known locals) (view-If at xs ys Empty)
+
+  pub flat-While : (at : Position) (xs : Vec Stmt Global) → flat_with v known locals (stmt_view (While at xs) Empty)
+      ≡ Whole (v.loop (whole v (flat_with v known locals (body_of xs.items)))) ∷ []
+  flat-While at xs = ap (flat_with v known locals) (view-While at xs Empty)
+
+  pub flat-Repeat : (at : Position) (n : ℕ) (xs : Vec Stmt Global) → flat_with v known locals (stmt_view (Repeat at n xs) Empty)
+      ≡ times n (flat_with v known locals (body_of xs.items))
+  flat-Repeat at n xs = ap (flat_with v known locals) (view-Repeat at n xs Empty) ∙ append-nil _
+
+pub ruleset lists = (flat-Instr, flat-Exec, flat-Call, flat-Syscall, flat-If, flat-While, flat-Repeat)
+
+-- what is done, and then what is left, is the whole
+pub go_on : {A : Type 0} (old new xs more rest total : List A) → new ≡ old ++ more → xs ≡ more ++ rest → old ++ xs ≡ total → new ++ rest ≡ total
+go_on old new xs more rest total e f g = ap (λ n. n ++ rest) e ∙ append_assoc old more rest ∙ ap (λ r. old ++ r) (sym f) ∙ g
+
+locals-step : (locals : ℕ) (f : Stmt-F (Body → Body)) (rest : Body) → HasLocals locals (add_step f rest)
+    → HasLocals locals (add_step f Empty) × HasLocals locals rest
+locals-step locals (Stmt-F.Instr at instr) rest h = ((h.0, tt), h.1)
+locals-step locals (Stmt-F.If at first second) rest h = ((h.0, h.1, tt), h.2)
+locals-step locals (Stmt-F.While at turn) rest h = ((h.0, tt), h.1)
+locals-step locals (Stmt-F.Repeat at times turn) rest h = ((h.0, tt), h.1)
+locals-step locals (Stmt-F.Exec at name) rest h = ((tt, tt), h.1)
+locals-step locals (Stmt-F.Call at name) rest h = ((tt, tt), h.1)
+locals-step locals (Stmt-F.Syscall at name) rest h = ((tt, tt), h.1)
+
+pub locals-first : (locals : ℕ) (s : Stmt) (rest : Body) → HasLocals locals (stmt_view s rest)
+    → HasLocals locals (stmt_view s Empty) × HasLocals locals rest
+locals-first locals s rest =
+    each (λ g. (rest : Body) → HasLocals locals (g rest) → HasLocals locals (g Empty) × HasLocals locals rest) (locals-step locals) s rest
+
+pub no_locals : (locals : ℕ) (ss : List Stmt) → ss ≡ [] → HasLocals locals (body_of ss)
+no_locals locals ss e = subst (λ ss. HasLocals locals (body_of ss)) (sym e) (subst (HasLocals locals) (sym body_of_nil) tt)
+
+module _ (locals : ℕ) (s : Stmt) (named : HasLocals locals (stmt_view s Empty)) where
+  pub locals-Instr : (at : Position) (i : Instruction) → s ≡ Instr at i → HasLocal i locals
+  locals-Instr at i e =
+      let h : HasLocal i locals × Unit {0} = subst (HasLocals locals) (ap (λ s. stmt_view s Empty) e ∙ view-Instr at i Empty) named in h.0
+
+  pub locals-If : (at : Position) (xs ys : Vec Stmt Global) → s ≡ If at xs ys
+      → HasLocals locals (body_of xs.items) × HasLocals locals (body_of ys.items)
+  locals-If at xs ys e =
+      let h : HasLocals locals (body_of xs.items) × HasLocals locals (body_of ys.items) × Unit {0} =
+      subst (HasLocals locals) (ap (λ s. stmt_view s Empty) e ∙ view-If at xs ys Empty) named in (h.0, h.1)
+
+  pub locals-While : (at : Position) (xs : Vec Stmt Global) → s ≡ While at xs → HasLocals locals (body_of xs.items)
+  locals-While at xs e =
+      let h : HasLocals locals (body_of xs.items) × Unit {0} =
+      subst (HasLocals locals) (ap (λ s. stmt_view s Empty) e ∙ view-While at xs Empty) named in h.0
+
+  pub locals-Repeat : (at : Position) (n : ℕ) (xs : Vec Stmt Global) → s ≡ Repeat at n xs → HasLocals locals (body_of xs.items)
+  locals-Repeat at n xs e =
+      let h : HasLocals locals (body_of xs.items) × Unit {0} =
+      subst (HasLocals locals) (ap (λ s. stmt_view s Empty) e ∙ view-Repeat at n xs Empty) named in h.0
+
+-- how many statements there are, those inside others too
+abbrev pub weight : Body → ℕ
+weight Empty = 0
+weight (Leaf_then at leaf rest) = 1 + weight rest
+weight (If_then at first second rest) = 1 + weight first + weight second + weight rest
+weight (While_then at turn rest) = 1 + weight turn + weight rest
+weight (Repeat_then at n turn rest) = 1 + weight turn + weight rest
+
+weight-step : (f : Stmt-F (Body → Body)) (rest : Body) → weight (add_step f rest) ≡ weight (add_step f Empty) + weight rest
+weight-step (Stmt-F.Instr at instr) rest = omega arith
+weight-step (Stmt-F.If at first second) rest = omega arith
+weight-step (Stmt-F.While at turn) rest = omega arith
+weight-step (Stmt-F.Repeat at times turn) rest = omega arith
+weight-step (Stmt-F.Exec at name) rest = omega arith
+weight-step (Stmt-F.Call at name) rest = omega arith
+weight-step (Stmt-F.Syscall at name) rest = omega arith
+
+pub weight-first : (s : Stmt) (rest : Body) → weight (stmt_view s rest) ≡ weight (stmt_view s Empty) + weight rest
+weight-first s rest = each (λ g. (rest : Body) → weight (g rest) ≡ weight (g Empty) + weight rest) weight-step s rest
+
+module _ (s : Stmt) where
+  pub weight-If : (at : Position) (xs ys : Vec Stmt Global) → s ≡ If at xs ys
+      → weight (stmt_view s Empty) ≡ 1 + weight (body_of xs.items) + weight (body_of ys.items)
+  weight-If at xs ys e = omega (arith, ap weight (ap (λ s. stmt_view s Empty) e ∙ view-If at xs ys Empty))
+
+  pub weight-While : (at : Position) (xs : Vec Stmt Global) → s ≡ While at xs → weight (stmt_view s Empty) ≡ 1 + weight (body_of xs.items)
+  weight-While at xs e = omega (arith, ap weight (ap (λ s. stmt_view s Empty) e ∙ view-While at xs Empty))
+
+  pub weight-Repeat : (at : Position) (n : ℕ) (xs : Vec Stmt Global) → s ≡ Repeat at n xs → weight (stmt_view s Empty) ≡ 1 + weight (body_of xs.items)
+  weight-Repeat at n xs e = omega (arith, ap weight (ap (λ s. stmt_view s Empty) e ∙ view-Repeat at n xs Empty))

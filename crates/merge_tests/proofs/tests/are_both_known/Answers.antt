@@ -1,5 +1,0 @@
-use Rattle.merge_tests.proofs.Hashed.{mergeable-by, splits-mergeable}
-use Rattle.merge_tests.proofs.tests.are_both_known.Goals as goal
-
-pub merge-requires : goal.merge-requires
-merge-requires c = mergeable-by _ _ _ _ _ _ c.requires.hasher c.in_ok-a.ensures c.in_ok-b.ensures (splits-mergeable _ c.requires.zeros)

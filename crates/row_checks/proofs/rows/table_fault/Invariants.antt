@@ -1,7 +1,0 @@
-use Rattle.std.proofs.Common.{ℕ, ◌<◌}
-use Rattle.row_checks.specs.Answers.{IsZeroRow}
-use Rattle.row_checks.specs.Settings.{claim_in}
-use Rattle.row_checks.proofs.rows.table_fault.Given as goal
-
-abbrev pub invariant-loop-row : goal.invariant-loop-row
-invariant-loop-row l = (row : ℕ) → row < l.row → IsZeroRow (claim_in l.setting) l.trace l.name row

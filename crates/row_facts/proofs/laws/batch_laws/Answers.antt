@@ -1,5 +1,0 @@
-use Rattle.row_facts.proofs.BatchFacts.{batch_row, half_used}
-use Rattle.row_facts.proofs.laws.batch_laws.Goals as goal
-
-pub returns : goal.returns
-returns c = record { room = batch_row; needed = half_used }

@@ -1,5 +1,0 @@
-use Rattle.row_facts.proofs.LimbSpots.{limbs_shown, limbs_zeros}
-use Rattle.row_facts.proofs.laws.limb_laws.Goals as goal
-
-pub returns : goal.returns
-returns c = record { shows = limbs_shown; zeros = limbs_zeros }

@@ -1,5 +1,0 @@
-use Rattle.row_facts.proofs.PartFacts.{parts_shown, whole_zero}
-use Rattle.row_facts.proofs.laws.part_laws.Goals as goal
-
-pub returns : goal.returns
-returns c = record { parts = parts_shown; whole = whole_zero }

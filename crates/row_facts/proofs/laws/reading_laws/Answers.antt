@@ -1,5 +1,0 @@
-use Rattle.row_facts.proofs.RunFacts.{nothing_left, op_is, shifts_left_is}
-use Rattle.row_facts.proofs.laws.reading_laws.Goals as goal
-
-pub returns : goal.returns
-returns c = record { operation = op_is; group = nothing_left; left = shifts_left_is }

@@ -1,5 +1,0 @@
-use Rattle.row_facts.proofs.StackFacts.{stack_shown, stack_zeros}
-use Rattle.row_facts.proofs.laws.stack_laws.Goals as goal
-
-pub returns : goal.returns
-returns c = record { shows = stack_shown; zeros = stack_zeros }

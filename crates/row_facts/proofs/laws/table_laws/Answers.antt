@@ -1,5 +1,0 @@
-use Rattle.row_facts.proofs.TableFacts.{rows_shown, rows_zero}
-use Rattle.row_facts.proofs.laws.table_laws.Goals as goal
-
-pub returns : goal.returns
-returns c = record { shows = rows_shown; zeros = rows_zero }

@@ -1,5 +1,0 @@
-use Rattle.row_steps.proofs.Fills.{step_fills}
-use Rattle.row_steps.proofs.laws.fill_laws.Goals as goal
-
-pub returns : goal.returns
-returns c = record { fills = step_fills }

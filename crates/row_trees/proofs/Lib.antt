@@ -1,5 +1,0 @@
-pub mod Batches
-pub mod TreeLemmas
-pub mod SpanRuns
-pub mod TreeRuns
-pub mod GrantedTrees

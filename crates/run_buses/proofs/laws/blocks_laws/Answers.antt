@@ -1,5 +1,0 @@
-use Rattle.run_buses.proofs.BlockLaw.{blocks_even}
-use Rattle.run_buses.proofs.laws.blocks_laws.Goals as goal
-
-pub returns : goal.returns
-returns c = record { blocks = blocks_even }

@@ -1,5 +1,0 @@
-use Rattle.run_buses.proofs.ChildLaw.{children_even}
-use Rattle.run_buses.proofs.laws.children_laws.Goals as goal
-
-pub returns : goal.returns
-returns c = record { children = children_even }

@@ -1,5 +1,0 @@
-use Rattle.run_buses.proofs.GroupLaw.{groups_even}
-use Rattle.run_buses.proofs.laws.groups_laws.Goals as goal
-
-pub returns : goal.returns
-returns c = record { groups = groups_even }

@@ -1,5 +1,0 @@
-use Rattle.run_buses.proofs.LoopLaw.{loops_even}
-use Rattle.run_buses.proofs.laws.loops_laws.Goals as goal
-
-pub returns : goal.returns
-returns c = record { loops = loops_even }

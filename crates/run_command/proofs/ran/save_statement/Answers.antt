@@ -1,6 +1,0 @@
-use Rattle.run_command.proofs.RunLemmas.{last_saved}
-use Rattle.run_command.proofs.ran.save_statement.Goals as goal
-
-pub returns-in-Ok : goal.returns-in-Ok
-returns-in-Ok g c =
-    last_saved c.args.name.now c.args.statement c.args.line _ _ _ (rw c.as_slice.ensures.items at c.in-Ok.ensures.written) c.answered.ensures

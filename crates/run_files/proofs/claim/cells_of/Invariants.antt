@@ -1,6 +1,0 @@
-use Rattle.std.proofs.Common.{◌≡◌, take}
-use Rattle.run_files.proofs.claim.cells_of.Given as goal
-
--- the cells so far, from the top
-abbrev pub invariant-loop-cell : goal.invariant-loop-cell
-invariant-loop-cell l = l.cells ≡ take l.cell l.state.stack

@@ -1,5 +1,0 @@
-use Rattle.run_files.proofs.AcceptedLemmas.{files_accepted}
-use Rattle.run_files.proofs.laws.file_laws.Goals as goal
-
-pub returns : goal.returns
-returns c = record { accepted = files_accepted }

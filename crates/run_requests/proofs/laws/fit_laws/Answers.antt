@@ -1,5 +1,0 @@
-use Rattle.run_requests.proofs.FitLaw.{run_fits}
-use Rattle.run_requests.proofs.laws.fit_laws.Goals as goal
-
-pub returns : goal.returns
-returns c = record { fits = run_fits }

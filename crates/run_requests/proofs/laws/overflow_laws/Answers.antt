@@ -1,5 +1,0 @@
-use Rattle.run_requests.proofs.OverflowLaw.{overflow_is_even}
-use Rattle.run_requests.proofs.laws.overflow_laws.Goals as goal
-
-pub returns : goal.returns
-returns c = record { overflow = overflow_is_even }

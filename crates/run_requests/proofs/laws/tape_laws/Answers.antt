@@ -1,5 +1,0 @@
-use Rattle.run_requests.proofs.TapeLaw.{run_takes}
-use Rattle.run_requests.proofs.laws.tape_laws.Goals as goal
-
-pub returns : goal.returns
-returns c = record { takes = run_takes }

@@ -1,9 +1,0 @@
-pub mod QuietOps
-pub mod BlockMoves
-pub mod BlockStacks
-pub mod Showing
-pub mod Witnessed
-pub mod Fillings
-pub mod MomentStacks
-pub mod TableStacks
-pub mod RangeLemmas

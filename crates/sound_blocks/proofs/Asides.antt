@@ -1,0 +1,77 @@
+-- The cells that open calls have set aside: those of their starts.
+use Rattle.std.proofs.Common.{◌≡◌, inl, inr, ℕ, suc, ◌<◌, Bool, true, false, ◌&&◌, if◌then◌else◌, eqb, List, [], ◌∷◌, length, drop, refl, sym, ap, ap₂, ◌∙◌}
+use Rattle.std.proofs.lemmas.Bool.{cases_Bool, eqb-true, cond-true, cond-false}
+use Rattle.vm_field.specs.Signs.{◌⊞◌}
+use Rattle.vm_ops.specs.Codes.{code_of, is_start_op}
+use Rattle.vm_ops.specs.declared.op.Op.TheVariants as ops
+use Rattle.vm_ops.proofs.CodeLemmas.{code_of-different}
+use Rattle.air_kit.specs.Flags.{is_op}
+use Rattle.air_kit.specs.MainTuples.{is_call_op}
+use Rattle.air_kit.specs.RowStates.{row_returns}
+use Rattle.vm_table.specs.Layout.{row_at}
+use Rattle.facts_main.specs.MainRows.{op_in}
+use Rattle.sound_buses.specs.Blocks.{Closes}
+use Rattle.sound_blocks.specs.Frames.{FrameFacts, IsBlock, open_at}
+use Rattle.sound_blocks.specs.Lists.{below_at}
+use Rattle.sound_blocks.proofs.RowKinds.{call_flags}
+
+-- the cells of the starts of the calls among these blocks
+unfoldable pub asides : List (List ℕ) → List ℕ → List (List ℕ)
+asides rows [] = []
+asides rows (j ∷ js) = if is_call_op (op_in rows j) then below_at rows j ∷ asides rows js else asides rows js
+
+pub asides-call : (rows : List (List ℕ)) (j : ℕ) (js : List ℕ) → is_call_op (op_in rows j) ≡ true
+    → asides rows (j ∷ js) ≡ below_at rows j ∷ asides rows js
+unfolding asides
+asides-call rows j js is = cond-true (is_call_op (op_in rows j)) _ _ is
+
+pub asides-other : (rows : List (List ℕ)) (j : ℕ) (js : List ℕ) → is_call_op (op_in rows j) ≡ false → asides rows (j ∷ js) ≡ asides rows js
+unfolding asides
+asides-other rows j js other = cond-false (is_call_op (op_in rows j)) _ _ other
+
+pub asides-none : (rows : List (List ℕ)) → asides rows [] ≡ []
+unfolding asides
+asides-none rows = refl
+
+-- ---- the blocks that are open behind a row
+
+pub open_start : (rows : List (List ℕ)) (i : ℕ) → is_start_op (op_in rows i) ≡ true → open_at rows (suc i) ≡ i ∷ open_at rows i
+unfolding open_at
+open_start rows i is = cond-true (is_start_op (op_in rows i)) _ _ is
+
+pub open_end : (rows : List (List ℕ)) (i : ℕ) → is_start_op (op_in rows i) ≡ false → is_op (op_in rows i) ops.End ≡ true
+    → open_at rows (suc i) ≡ drop 1 (open_at rows i)
+unfolding open_at
+open_end rows i other is = cond-false (is_start_op (op_in rows i)) _ _ other ∙ cond-true (is_op (op_in rows i) ops.End) _ _ is
+
+open_same : (rows : List (List ℕ)) (i : ℕ) → is_start_op (op_in rows i) ≡ false → is_op (op_in rows i) ops.End ≡ false
+    → open_at rows (suc i) ≡ open_at rows i
+unfolding open_at
+open_same rows i other apart = cond-false (is_start_op (op_in rows i)) _ _ other ∙ cond-false (is_op (op_in rows i) ops.End) _ _ apart
+
+-- the END of a call is that of a block which a call starts
+pub returns_is : (rows : List (List ℕ)) (j e : ℕ) → Closes rows j e → row_returns (row_at rows e) ≡ is_call_op (op_in rows j)
+returns_is rows j e closes =
+    ap₂ (λ (t : Bool) n. t && eqb n 1) (ap (λ o. is_op o ops.End) closes.ends.is) (ap₂ (λ n m. n ⊞ m) closes.flags.call closes.flags.syscall)
+    ∙ call_flags (op_in rows j)
+
+-- the block whose END a row is
+pub block_of : (rows : List (List ℕ)) → FrameFacts rows → (e : ℕ) → suc e < length rows → is_op (op_in rows e) ops.End ≡ true
+    → (j : ℕ) × IsBlock rows j e
+block_of rows frames e within is =
+    frames.ends e (record { within = within; is = code_of-different (op_in rows e) ops.End (eqb-true (code_of (op_in rows e)) (code_of ops.End) is) })
+
+-- a row that does not call and does not return leaves them
+pub asides_same : (rows : List (List ℕ)) → FrameFacts rows → (i : ℕ) → suc i < length rows → is_call_op (op_in rows i) ≡ false
+    → row_returns (row_at rows i) ≡ false → asides rows (open_at rows (suc i)) ≡ asides rows (open_at rows i)
+asides_same rows frames i within nc nt = elim (cases_Bool (is_start_op (op_in rows i))) [
+  | inl is ↦ ap (asides rows) (open_start rows i is) ∙ asides-other rows i (open_at rows i) nc
+  | inr other ↦ elim (cases_Bool (is_op (op_in rows i) ops.End)) [
+    | inl is ↦
+        let b = block_of rows frames i within is in
+        let top : open_at rows i ≡ b.0 ∷ open_at rows b.0 = b.1.newest in
+        ap (asides rows) (open_end rows i other is ∙ ap (λ js. drop 1 js) top)
+        ∙ sym (ap (asides rows) top ∙ asides-other rows b.0 (open_at rows b.0) (sym (returns_is rows b.0 i b.1.closes) ∙ nt))
+    | inr apart ↦ ap (asides rows) (open_same rows i other apart)
+  ]
+]

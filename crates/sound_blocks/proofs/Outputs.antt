@@ -1,0 +1,105 @@
+-- The cells that the last row has below the sixteenth are the outputs behind the sixteenth, along the table of cells left.
+use Rattle.std.proofs.Common.{◌≡◌, ℕ, zero, suc, ◌+◌, ◌<◌, false, List, [], ◌∷◌, ◌++◌, length, drop, slice_index, slice_index_or, slice_get, get_or, sym, ap, subst, ◌∙◌, arith, lit<}
+use Rattle.std.proofs.lemmas.List.{ext_get_or, get_or-drop}
+use Rattle.std.proofs.lemmas.Option.{slice_get-get_or}
+use Rattle.std.proofs.Math.Seq.{drop-cons}
+use Rattle.vm_table.specs.MainColumns.{s}
+use Rattle.chip_columns.specs.LeftColumns as left
+use Rattle.air_kit.specs.ChipTuples.{next_key}
+use Rattle.air_kit.specs.Flags.{is_right}
+use Rattle.air_kit.specs.StackValues.{cells}
+use Rattle.facts_main.specs.MainRows.{op_in}
+use Rattle.sound_buses.specs.Overflow.{OverflowFacts}
+use Rattle.sound_blocks.specs.Chains.{Chain}
+use Rattle.sound_blocks.proofs.Chains.{Front, front_of}
+
+-- the key of a row of the table of cells left
+abbrev key_left : List (List ℕ) → ℕ → ℕ
+key_left left_rows q = left.key (slice_index_or left_rows q [])
+
+-- what is left, and the first key of it
+pub record Leaves (rows left_rows : List (List ℕ)) (outputs below : List ℕ) : Type 0 where
+  pub goes : is_right (op_in rows 0) ≡ false
+  pub overflow : OverflowFacts rows left_rows outputs
+  pub chain : 0 < length left_rows → Chain rows (key_left left_rows 0) below
+  pub size : length below ≡ length left_rows
+
+next_key_is : (left_rows : List (List ℕ)) (q : ℕ) → q < length left_rows → next_key (slice_get left_rows q) ≡ key_left left_rows q
+next_key_is left_rows q h = ap next_key (slice_get-get_or left_rows q [] h)
+
+front_left : {rows left_rows : List (List ℕ)} {outputs below : List ℕ} → Leaves rows left_rows outputs below → (q : ℕ) → q < length left_rows
+    → Chain rows (key_left left_rows q) (drop q below)
+    → Front rows (key_left left_rows q) (slice_index outputs (16 + q)) (next_key (slice_get left_rows (suc q))) (drop q below)
+front_left {rows = rows} {left_rows = left_rows} {outputs = outputs} {below = below} l q h chain =
+    front_of rows l.goes (key_left left_rows q) (drop q below) chain (slice_index outputs (16 + q)) (next_key (slice_get left_rows (suc q)))
+    (l.overflow.stays q h)
+
+one_on : (xs : List ℕ) (q cell : ℕ) (later : List ℕ) → q < length xs → drop q xs ≡ cell ∷ later → later ≡ drop (suc q) xs
+one_on xs q cell later h e = let f = drop-cons xs q 0 h in cc
+
+before : (q l : ℕ) → suc q < l → q < l
+before q l h = omega (arith, h)
+
+pub walk : {rows left_rows : List (List ℕ)} {outputs below : List ℕ} → Leaves rows left_rows outputs below → (q : ℕ) → q < length left_rows
+    → Chain rows (key_left left_rows q) (drop q below)
+walk l zero h = l.chain h
+walk {rows = rows} {left_rows = left_rows} {below = below} l (suc q) h =
+    let f = front_left l q (before q (length left_rows) h) (walk l q (before q (length left_rows) h)) in
+    let size = l.size in
+    subst (λ (n : ℕ). Chain rows n (drop (suc q) below)) (next_key_is left_rows (suc q) h)
+    (subst (λ (xs : List ℕ). Chain rows (next_key (slice_get left_rows (suc q))) xs)
+    (one_on below q _ f.later (let few : q < length below = omega (arith, size, h) in few) f.is) f.chain)
+
+same_place : (q : ℕ) → q + 0 ≡ q
+same_place q = omega arith
+
+cell_left : {rows left_rows : List (List ℕ)} {outputs below : List ℕ} → Leaves rows left_rows outputs below → (q : ℕ) → q < length left_rows
+    → get_or below q 0 ≡ slice_index outputs (16 + q)
+cell_left {below = below} l q h =
+    let f = front_left l q h (walk l q h) in
+    ap (λ n. get_or below n 0) (sym (same_place q)) ∙ sym (get_or-drop q below 0 0) ∙ ap (λ (xs : List ℕ). get_or xs 0 0) f.is
+
+-- ---- the whole stack
+
+sixteen : (k : ℕ) → 16 + k ≡ suc (suc (suc (suc (suc (suc (suc (suc (suc (suc (suc (suc (suc (suc (suc (suc k)))))))))))))))
+sixteen k = omega arith
+
+all_size : (x below : List ℕ) → length (cells x ++ below) ≡ 16 + length below
+unfolding cells
+all_size x below = sym (sixteen (length below))
+
+place_below : (k n : ℕ) → suc (suc (suc (suc (suc (suc (suc (suc (suc (suc (suc (suc (suc (suc (suc (suc k))))))))))))))) < 16 + n → k < n
+place_below k n h = omega (arith, h)
+
+each_is : (x below outputs : List ℕ) → ((j : ℕ) → j < 16 → s x j ≡ slice_index outputs j)
+    → ((q : ℕ) → q < length below → get_or below q 0 ≡ slice_index outputs (16 + q))
+    → (i : ℕ) → i < 16 + length below → get_or (cells x ++ below) i 0 ≡ get_or outputs i 0
+unfolding cells
+each_is x below outputs top rest zero h = top 0 (lit< tt)
+each_is x below outputs top rest (suc zero) h = top 1 (lit< tt)
+each_is x below outputs top rest (suc (suc zero)) h = top 2 (lit< tt)
+each_is x below outputs top rest (suc (suc (suc zero))) h = top 3 (lit< tt)
+each_is x below outputs top rest (suc (suc (suc (suc zero)))) h = top 4 (lit< tt)
+each_is x below outputs top rest (suc (suc (suc (suc (suc zero))))) h = top 5 (lit< tt)
+each_is x below outputs top rest (suc (suc (suc (suc (suc (suc zero)))))) h = top 6 (lit< tt)
+each_is x below outputs top rest (suc (suc (suc (suc (suc (suc (suc zero))))))) h = top 7 (lit< tt)
+each_is x below outputs top rest (suc (suc (suc (suc (suc (suc (suc (suc zero)))))))) h = top 8 (lit< tt)
+each_is x below outputs top rest (suc (suc (suc (suc (suc (suc (suc (suc (suc zero))))))))) h = top 9 (lit< tt)
+each_is x below outputs top rest (suc (suc (suc (suc (suc (suc (suc (suc (suc (suc zero)))))))))) h = top 10 (lit< tt)
+each_is x below outputs top rest (suc (suc (suc (suc (suc (suc (suc (suc (suc (suc (suc zero))))))))))) h = top 11 (lit< tt)
+each_is x below outputs top rest (suc (suc (suc (suc (suc (suc (suc (suc (suc (suc (suc (suc zero)))))))))))) h = top 12 (lit< tt)
+each_is x below outputs top rest (suc (suc (suc (suc (suc (suc (suc (suc (suc (suc (suc (suc (suc zero))))))))))))) h = top 13 (lit< tt)
+each_is x below outputs top rest (suc (suc (suc (suc (suc (suc (suc (suc (suc (suc (suc (suc (suc (suc zero)))))))))))))) h = top 14 (lit< tt)
+each_is x below outputs top rest (suc (suc (suc (suc (suc (suc (suc (suc (suc (suc (suc (suc (suc (suc (suc zero))))))))))))))) h = top 15 (lit< tt)
+each_is x below outputs top rest (suc (suc (suc (suc (suc (suc (suc (suc (suc (suc (suc (suc (suc (suc (suc (suc k)))))))))))))))) h =
+    rest k (place_below k (length below) h) ∙ ap (slice_index outputs) (sixteen k)
+
+pub stack_is : {rows left_rows : List (List ℕ)} {outputs below : List ℕ} → Leaves rows left_rows outputs below → (x : List ℕ)
+    → ((j : ℕ) → j < 16 → s x j ≡ slice_index outputs j) → length left_rows + 16 ≡ length outputs → cells x ++ below ≡ outputs
+stack_is {left_rows = left_rows} {outputs = outputs} {below = below} l x top count =
+    ext_get_or 0 (cells x ++ below) outputs (all_size x below ∙ whole (length below) (length left_rows) (length outputs) l.size count)
+    (λ i h. each_is x below outputs top (λ q few. cell_left l q (subst (λ (n : ℕ). q < n) l.size few)) i
+    (subst (λ (n : ℕ). i < n) (all_size x below) h))
+  where
+    whole : (n m o : ℕ) → n ≡ m → m + 16 ≡ o → 16 + n ≡ o
+    whole n m o e f = omega (arith, e, f)

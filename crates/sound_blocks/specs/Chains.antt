@@ -1,0 +1,29 @@
+-- The keys of the cells below the sixteenth.
+use Rattle.std.specs.Prelude.{◌≡◌, ℕ, suc, ◌<◌, List, [], ◌∷◌, drop, length, slice_index_or}
+use Rattle.vm_table.specs.MainColumns.{key}
+use Rattle.chip_columns.specs.LeftColumns as left
+use Rattle.air_kit.specs.declared.trace.Public.{Public}
+use Rattle.air_kit.specs.declared.trace.Trace.{Trace}
+use Rattle.vm_table.specs.Layout.{row_at}
+use Rattle.sound_buses.specs.BusFacts.{Granted}
+use Rattle.sound_buses.specs.Overflow.{IsPushed}
+use Rattle.sound_blocks.specs.Frames.{FrameFacts}
+use Rattle.sound_blocks.specs.Lists.{below_at}
+
+-- The cells under a key: the one that the row of this clock pushed, then those under the key that this row had. Keys fall along a
+-- chain, so none stands there twice, and none is 0, under which no cell is.
+pub data Chain (rows : List (List ℕ)) : ℕ → List ℕ → Type 0 where
+  none : Chain rows 0 []
+  some : (at cell below : ℕ) (cells : List ℕ) → IsPushed rows at cell below → below < at → Chain rows below cells
+      → Chain rows at (cell ∷ cells)
+
+-- The cells below the sixteenth of a row are those under its key. At the end the table of cells left has a key for each of them, under
+-- which it and those below it are.
+pub record OverflowChains (rows left_rows : List (List ℕ)) : Type 0 where
+  pub chain : (i : ℕ) → i < length rows → Chain rows (key (row_at rows i)) (below_at rows i)
+  pub left_size : (i : ℕ) → suc i ≡ length rows → length left_rows ≡ length (below_at rows i)
+  pub left_keys : (i : ℕ) → suc i ≡ length rows → (q : ℕ) → q < length left_rows
+      → Chain rows (left.key (slice_index_or left_rows q [])) (drop q (below_at rows i))
+
+abbrev pub GrantedChains : Type 0
+GrantedChains = (p : Public) (t : Trace) → Granted p t → FrameFacts t.main → OverflowChains t.main t.left

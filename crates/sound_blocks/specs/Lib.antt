@@ -1,0 +1,6 @@
+pub mod Frames
+pub mod Nesting
+pub mod Items
+pub mod Spans
+pub mod Lists
+pub mod Chains

@@ -1,0 +1,10 @@
+pub mod ReadRows
+pub mod Marks
+pub mod Takings
+pub mod Spanning
+pub mod SpanFound
+pub mod Turning
+pub mod BlockFound
+pub mod TurnsFound
+pub mod Readable
+pub mod Runs

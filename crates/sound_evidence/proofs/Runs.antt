@@ -1,0 +1,72 @@
+-- The tree that was found is that of the run that the rows show.
+use Rattle.std.proofs.Common.{◌≡◌, ℕ, suc, ◌-◌, ◌≤◌, arith, List, length, refl, sym, subst}
+use Rattle.vm_field.specs.Machine.{State}
+use Rattle.rpo_hash.specs.Constants.{constants_of}
+use Rattle.block_tree.specs.Execution.{Done, execution}
+use Rattle.block_tree.specs.TreeView.{tree_of}
+use Rattle.block_tree.specs.declared.tree.Tree as held
+use Rattle.block_tree.specs.declared.evidence.Evidence.TheVariants.{Run}
+use Rattle.block_tree.proofs.Refinement.{refines-refl}
+use Rattle.air_kit.specs.RowStates.{state_at, tape_of}
+use Rattle.air_kit.specs.declared.trace.Public.{Public}
+use Rattle.air_kit.specs.declared.trace.Trace.{Trace}
+use Rattle.sound_runs.specs.Running.{Goes, ShowRun}
+use Rattle.sound_runs.proofs.TreeRuns.{trees_run}
+use Rattle.sound_runs.specs.Ends.{EndFacts}
+use Rattle.sound_runs.proofs.CyclesLaw.{cycles_law, ends_law}
+use Rattle.sound_evidence.specs.Walking.{IsWholeTree}
+use Rattle.sound_evidence.specs.declared.found.Found.{Found}
+use Rattle.tree_merge.specs.AddrView.{placed_of}
+use Rattle.tree_merge.specs.Evidences.{IsEvidence, IsRun}
+use Rattle.tree_merge.specs.Placed.{plain}
+use Rattle.sound_evidence.specs.Known.{IsKnown}
+use Rattle.sound_evidence.proofs.Readable.{granted, tree_facts}
+
+-- the states along the rows
+abbrev states : Trace → ℕ → State
+states t = state_at t.main
+
+shows : (p : Public) (t : Trace) → IsKnown p t → ShowRun (constants_of p.params) p.statement.kernel (length t.main - 1) t.main (states t)
+shows p t k = cycles_law p t k.constants k.whole (granted p t k)
+
+ends : (p : Public) (t : Trace) → IsKnown p t → EndFacts p.statement.inputs p.statement.outputs t.main
+ends p t k = ends_law p t k.constants p.statement.inputs_few k.whole (granted p t k)
+
+-- the tree goes from the first row to the last one
+goes : (p : Public) (t : Trace) (k : IsKnown p t) (found : Found) → IsWholeTree p t found
+    → Goes (states t) (execution (constants_of p.params) p.statement.kernel (length t.main - 1) (plain (placed_of found.tree))
+    (states t 0)) (suc found.end)
+goes p t k found w =
+    trees_run (constants_of p.params) p.statement.kernel (length t.main - 1) t.hasher t.main p.statement.digest (states t)
+    (tree_facts p t k) (shows p t k)
+    0 found.end (placed_of found.tree) w.tree (plain (placed_of found.tree)) (refines-refl (constants_of p.params) (plain (placed_of found.tree)))
+
+behind_end : (n end : ℕ) → suc (suc end) ≡ n → suc end ≡ n - 1
+behind_end n end is = omega arith
+
+one_more : (n : ℕ) → 1 ≤ n → suc (n - 1) ≡ n
+one_more n some = omega arith
+
+run : (p : Public) (t : Trace) (k : IsKnown p t) (found : Found) → IsWholeTree p t found
+    → IsRun p t (length t.main - 1) (plain (placed_of found.tree)) (tape_of t.main)
+run p t k found w = record {
+  rows = one_more (length t.main) k.whole.counts.main;
+  digest = w.digest;
+  tape_is = refl;
+  state = states t (length t.main - 1);
+  events = (goes p t k found w).events;
+  done = subst (λ s. execution (constants_of p.params) p.statement.kernel (length t.main - 1) (plain (placed_of found.tree)) s
+      ≡ Done (states t (length t.main - 1)) (goes p t k found w).events) (ends p t k).starts
+      (subst (λ m. execution (constants_of p.params) p.statement.kernel (length t.main - 1) (plain (placed_of found.tree)) (states t 0)
+      ≡ Done (states t m) (goes p t k found w).events) (behind_end (length t.main) found.end w.last) (goes p t k found w).done);
+  clock = (ends p t k).clock;
+  stands = (ends p t k).stands;
+}
+
+-- with the tree without its addresses
+pub is_run : (p : Public) (t : Trace) (found : Found) (cycles : ℕ) (tree : held.Tree) (tape : List ℕ) → IsKnown p t → IsWholeTree p t found
+    → cycles ≡ length t.main - 1 → tree_of tree ≡ plain (placed_of found.tree) → tape ≡ tape_of t.main → IsEvidence p t (Run cycles tree tape)
+is_run p t found cycles tree tape k w counted same taken =
+    subst (λ c. IsRun p t c (tree_of tree) tape) (sym counted)
+    (subst (λ x. IsRun p t (length t.main - 1) x tape) (sym same)
+    (subst (IsRun p t (length t.main - 1) (plain (placed_of found.tree))) (sym taken) (run p t k found w)))

@@ -1,0 +1,78 @@
+-- The laws of cycles and of ends.
+use Rattle.std.proofs.Common.{◌≡◌, ℕ, suc, ◌-◌, cond, eqb, List, length, refl, ap, ◌∙◌}
+use Rattle.vm_ops.specs.declared.op.Op.TheVariants as ops
+use Rattle.rpo_hash.specs.Constants.{constants_of}
+use Rattle.air_kit.specs.MainTuples.{is_call_op}
+use Rattle.air_kit.specs.RowStates.{state_at}
+use Rattle.air_kit.specs.Traces.{claim_of}
+use Rattle.air_kit.specs.declared.trace.Public.{Public}
+use Rattle.air_kit.specs.declared.trace.Trace.{Trace}
+use Rattle.block_tree.specs.Cycles.{Mark}
+use Rattle.block_tree.specs.Execution.{cycle}
+use Rattle.sound_buses.specs.BusFacts.{Granted}
+use Rattle.sound_blocks.proofs.FrameLaw.{frames_granted}
+use Rattle.sound_blocks.proofs.OverflowLaw.{overflow_law}
+use Rattle.sound_runs.specs.Running.{Goes, ShowRun, ShowsMark, span, join, split, loop, call, syscall, respan, repeat, operation, span_end, join_end, split_end, skipped_end, entered_end, call_end, syscall_end}
+use Rattle.sound_runs.specs.Cycles.{GrantedCycles}
+use Rattle.sound_runs.specs.Ends.{GrantedEnds}
+use Rattle.sound_runs.proofs.CallRows.{call_end_goes, call_goes, syscall_end_goes, syscall_goes}
+use Rattle.sound_runs.proofs.EndRows.{end_goes, flag_of, loop_end_goes, span_end_goes}
+use Rattle.sound_runs.proofs.FirstAndLast.{end_facts}
+use Rattle.sound_runs.proofs.OperationRows.{operation_goes}
+use Rattle.sound_runs.proofs.Premises.{Known, below_limit, clock_at, low_contexts}
+use Rattle.sound_runs.proofs.StartRows.{join_goes, loop_goes, span_goes, split_goes}
+use Rattle.sound_runs.proofs.StateRows.{top_at}
+use Rattle.sound_runs.proofs.TurnRows.{repeat_goes, respan_goes}
+
+known_of : (p : Public) (t : Trace) → length (constants_of p.params) ≡ 168 → Granted p t
+    → Known (constants_of p.params) p.statement.kernel p.statement.outputs t.main
+known_of p t count granted = record {
+  count = count;
+  claim = claim_of p t;
+  shows = granted.rows;
+  few = granted.few;
+  groups = granted.groups;
+  ranges = granted.ranges;
+  permutes = granted.hashes.permutes;
+  bits = granted.bits;
+  memory = granted.memory (low_contexts (claim_of p t) t.main granted.rows granted.few (frames_granted p t granted));
+  kernel_is = granted.kernel;
+  frames = frames_granted p t granted;
+  lists = overflow_law p t granted (frames_granted p t granted);
+}
+
+module _ {constants outputs : List ℕ} {kernel rows : List (List ℕ)} (known : Known constants kernel outputs rows) where
+  row_goes : (i : ℕ) (mark : Mark) → ShowsMark rows (state_at rows) i mark
+      → Goes (state_at rows) (cycle constants kernel (length rows - 1) mark (state_at rows i)) (suc i)
+  row_goes i mark (span at) = span_goes known i at
+  row_goes i mark (join at) = join_goes known i at
+  row_goes i mark (split at) = split_goes known i at
+  row_goes i mark (loop at) = loop_goes known i at
+  row_goes i mark (call at) = call_goes known i at
+  row_goes i mark (syscall at) = syscall_goes known i at
+  row_goes i mark (respan at) = respan_goes known i at
+  row_goes i mark (repeat at) = repeat_goes known i at
+  row_goes i mark (operation within is) = operation_goes known i within is
+  row_goes i mark (span_end {j = j} at closes) = span_end_goes known j i at closes
+  row_goes i mark (join_end {j = j} at closes) = end_goes known j i closes (ap is_call_op at.is) (flag_of rows j i ops.Join at closes)
+  row_goes i mark (split_end {j = j} at closes) = end_goes known j i closes (ap is_call_op at.is) (flag_of rows j i ops.Split at closes)
+  row_goes i mark (skipped_end {j = j} at top closes) =
+      end_goes known j i closes (ap is_call_op at.is) (flag_of rows j i ops.Loop at closes ∙ ap (λ n. cond (eqb n 1) 1 0) top)
+  row_goes i mark (entered_end {j = j} at top closes) = loop_end_goes known j i at top closes
+  row_goes i mark (call_end {j = j} at closes) = call_end_goes known j i at closes
+  row_goes i mark (syscall_end {j = j} at closes) = syscall_end_goes known j i at closes
+
+  show_run : ShowRun constants kernel (length rows - 1) rows (state_at rows)
+  show_run = record {
+    goes = row_goes;
+    top_is = λ i h. top_at rows i;
+    clock = λ i h. clock_at known i h;
+    below = λ i within. below_limit i i (length rows) refl within;
+  }
+
+pub cycles_law : GrantedCycles
+cycles_law p t count whole granted = show_run (known_of p t count granted)
+
+pub ends_law : GrantedEnds
+unfolding known_of
+ends_law p t count few whole granted = end_facts (known_of p t count granted) whole.counts.main few

@@ -1,0 +1,68 @@
+-- What rows look up in memory as the rows before them leave it, which is made of words.
+use Rattle.std.proofs.Common.{◌≡◌, ℕ, zero, suc, ◌<◌, List, [], length, slice_index, Some, refl, sym}
+use Rattle.std.proofs.lemmas.Option.{slice_get-get_or}
+use Rattle.vm_field.specs.Field.{prime}
+use Rattle.vm_field.specs.Machine.{IsWord, WordMap, word_at}
+use Rattle.vm_field.proofs.Places.{words-empty, words-insert}
+use Rattle.vm_field.proofs.Elements.{word-of}
+use Rattle.vm_ops.specs.declared.op.Op.{Op}
+use Rattle.vm_ops.specs.declared.op.Op.TheVariants as ops
+use Rattle.vm_table.specs.MainColumns.{ctx, s, t}
+use Rattle.air_kit.specs.declared.requests.Access.{Access}
+use Rattle.air_kit.specs.RowStates.{elsewhere_at, memory_at, memory_behind, written_by}
+use Rattle.facts_memory.specs.MainAccesses.{ServesRow, access_by}
+use Rattle.vm_table.specs.Layout.{row_at}
+use Rattle.facts_main.specs.MainRows.{op_in}
+use Rattle.facts_main.proofs.Says.{off}
+use Rattle.facts_steps.specs.Lookups.{LooksUpWord}
+use Rattle.sound_runs.proofs.Premises.{Known, before}
+
+-- ---- what is looked up
+
+-- the access of row i, by its operation and the row behind it
+abbrev Serves : List (List ℕ) → ℕ → Op → List ℕ → List ℕ → Type 0
+Serves rows i op x y = (a : Access) → access_by op x y ≡ Some a → ServesRow rows i a
+
+looks_up_word : (rows : List (List ℕ)) (i : ℕ) (op : Op) (x y : List ℕ) → Serves rows i op x y → LooksUpWord op x y (elsewhere_at rows i)
+looks_up_word rows i ops.MLoad x y serves =
+    let r = serves _ refl in
+    record { address = λ is. r.address; element = λ is. sym (r.keeps.reads refl); word = λ is. off is; kept = λ is. off is }
+looks_up_word rows i ops.MLoadW x y serves =
+    let r = serves _ refl in
+    record { address = λ is. r.address; element = λ is. off is; word = λ is. sym (r.keeps.reads refl); kept = λ is. off is }
+looks_up_word rows i ops.MStore x y serves =
+    let r = serves _ refl in
+    record { address = λ is. r.address; element = λ is. off is; word = λ is. off is; kept = λ is. sym (r.keeps.keeps refl) }
+looks_up_word rows i ops.MStoreW x y serves =
+    let r = serves _ refl in record { address = λ is. r.address; element = λ is. off is; word = λ is. off is; kept = λ is. off is }
+looks_up_word rows i op x y serves =
+    record { address = λ is. off is; element = λ is. off is; word = λ is. off is; kept = λ is. off is }
+
+-- ---- memory is made of words
+
+abbrev pub MadeOfWords : WordMap → Type 0
+MadeOfWords memory = (context place : ℕ) → IsWord (word_at memory context place)
+
+stays_words : (op : Op) (x : List ℕ) (memory : WordMap) → ((k : ℕ) → slice_index x k < prime)
+    → MadeOfWords memory → MadeOfWords (memory_behind x (written_by op x) memory)
+stays_words ops.MStore x memory low words =
+    words-insert memory (ctx x, s x 0) _ (word-of (s x 1) (t x 0) (t x 1) (t x 2) (low 31) (low 55) (low 56) (low 57))
+    words
+stays_words ops.MStoreW x memory low words =
+    words-insert memory (ctx x, s x 0) _ (word-of (s x 4) (s x 3) (s x 2) (s x 1) (low 34) (low 33) (low 32) (low 31))
+    words
+stays_words op x memory low words = words
+
+module _ {constants outputs : List ℕ} {kernel rows : List (List ℕ)} (known : Known constants kernel outputs rows) where
+  pub word_looked_up : (i : ℕ) → suc i < length rows
+      → LooksUpWord (op_in rows i) (row_at rows i) (row_at rows (suc i)) (elsewhere_at rows i)
+  word_looked_up i within =
+      looks_up_word rows i (op_in rows i) (row_at rows i) (row_at rows (suc i))
+      (λ a is. known.memory i (row_at rows (suc i)) a (slice_get-get_or rows (suc i) [] within) is)
+
+  pub words_at : (i : ℕ) → i < length rows → MadeOfWords (memory_at rows i)
+  unfolding memory_at
+  words_at zero h = words-empty
+  words_at (suc i) h =
+      stays_words (op_in rows i) (row_at rows i) (memory_at rows i) (known.shows.row_is i (before i (length rows) h)).reads.low
+      (words_at i (before i (length rows) h))

@@ -1,0 +1,53 @@
+-- What the rows of an accepted main table show, as all that follows takes it.
+use Rattle.std.proofs.Common.{◌≡◌, ℕ, suc, ◌-◌, ◌<◌, ◌≤◌, ◌^◌, List, length, arith}
+use Rattle.vm_field.specs.Field.{prime}
+use Rattle.vm_field.specs.Permutation.{permuted}
+use Rattle.vm_ops.specs.declared.op.Op.TheVariants as ops
+use Rattle.vm_table.specs.MainColumns.{clk, ctx}
+use Rattle.air_kit.specs.MainTuples.{twelve}
+use Rattle.air_kit.specs.Places.{Claim}
+use Rattle.facts_memory.specs.MainAccesses.{ServesMain}
+use Rattle.vm_table.specs.Layout.{row_at}
+use Rattle.facts_main.specs.MainRows.{ShowsRows}
+use Rattle.facts_main.proofs.RunFacts.{clock_is}
+use Rattle.sound_buses.specs.Batches.{GroupFacts}
+use Rattle.sound_buses.specs.Blocks.{IsAt}
+use Rattle.sound_buses.specs.Lookups.{BitFacts, KernelFacts, RangeFacts}
+use Rattle.sound_blocks.specs.Frames.{FrameFacts}
+use Rattle.sound_blocks.specs.Lists.{OverflowLists}
+
+pub record Known (constants : List ℕ) (kernel : List (List ℕ)) (outputs : List ℕ) (rows : List (List ℕ)) : Type 0 where
+  pub count : length constants ≡ 168
+  pub claim : Claim
+  pub shows : ShowsRows claim rows
+  pub few : length rows ≤ 2 ^ 19
+  pub groups : GroupFacts rows
+  pub ranges : RangeFacts rows
+  pub permutes : (i : ℕ) → IsAt rows i ops.HPerm → twelve (row_at rows (suc i)) ≡ permuted constants (twelve (row_at rows i))
+  pub bits : BitFacts rows
+  pub memory : ServesMain rows
+  pub kernel_is : KernelFacts kernel rows
+  pub frames : FrameFacts rows
+  pub lists : OverflowLists rows outputs
+
+pub before : (i l : ℕ) → suc i < l → i < l
+before i l h = omega (arith, h)
+
+low_rows : (l : ℕ) → l ≤ 2 ^ 19 → l < prime
+low_rows l h = omega (arith, h)
+
+-- clocks count the rows
+pub clock_at : {constants outputs : List ℕ} {kernel rows : List (List ℕ)} → Known constants kernel outputs rows → (i : ℕ) → i < length rows
+    → clk (row_at rows i) ≡ i
+clock_at {rows = rows} known i h = clock_is known.claim rows known.shows (low_rows (length rows) known.few) i h
+
+-- contexts have 32 bits
+pub low_contexts : (claim : Claim) (rows : List (List ℕ)) → ShowsRows claim rows → length rows ≤ 2 ^ 19 → FrameFacts rows → (i : ℕ)
+    → i < length rows → ctx (row_at rows i) < 2 ^ 32
+low_contexts claim rows shows few frames i h =
+    let most = frames.context i h in
+    let clock = clock_is claim rows shows (low_rows (length rows) few) i h in omega (arith, most, clock, h, few)
+
+-- so the clock of a row with a row behind it is below the limit
+pub below_limit : (c i l : ℕ) → c ≡ i → suc i < l → c < l - 1
+below_limit c i l e h = omega (arith, e, h)

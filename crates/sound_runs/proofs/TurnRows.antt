@@ -1,0 +1,54 @@
+-- The rows of the next batch of a span and of a further turn of a loop.
+use Rattle.std.proofs.Common.{◌≡◌, ℕ, suc, ◌-◌, ◌<◌, List, ◌++◌, drop, length, refl, ap, sym, subst, ◌∙◌, lit<}
+use Rattle.vm_field.specs.Machine.{filled_up}
+use Rattle.vm_ops.specs.Codes.{is_start_op}
+use Rattle.vm_ops.specs.declared.op.Op.TheVariants as ops
+use Rattle.vm_table.specs.MainColumns.{lv, s}
+use Rattle.air_kit.specs.Flags.{is_op, is_right}
+use Rattle.air_kit.specs.MainTuples.{eight, front, is_batch_op, is_call_op}
+use Rattle.air_kit.specs.RowStates.{state_at}
+use Rattle.air_kit.specs.StackValues.{cells}
+use Rattle.block_tree.specs.Cycles.{Repeat, Respan}
+use Rattle.block_tree.specs.Execution.{cycle}
+use Rattle.facts_main.specs.Blocks.{ends_call}
+use Rattle.vm_table.specs.Layout.{row_at}
+use Rattle.facts_main.specs.Stack.{mover}
+use Rattle.sound_buses.specs.Blocks.{IsAt}
+use Rattle.sound_blocks.specs.Lists.{below_at}
+use Rattle.sound_runs.specs.Running.{Goes}
+use Rattle.sound_runs.proofs.Going.{goes_on}
+use Rattle.sound_runs.proofs.Levels.{level_stays}
+use Rattle.sound_runs.proofs.Premises.{Known, before}
+use Rattle.sound_runs.proofs.StackRows.{stack_pops, stack_stays}
+use Rattle.sound_runs.proofs.StartRows.{early_at, none_taken, reading_at}
+use Rattle.sound_runs.proofs.StateRows.{state_next, top_at}
+
+module _ {constants outputs : List ℕ} {kernel rows : List (List ℕ)} (known : Known constants kernel outputs rows) where
+  pub respan_goes : (i : ℕ) → IsAt rows i ops.Respan
+      → Goes (state_at rows) (cycle constants kernel (length rows - 1) (Respan (eight (row_at rows i))) (state_at rows i)) (suc i)
+  respan_goes i at =
+      goes_on constants kernel (length rows - 1) (Respan (eight (row_at rows i))) (state_at rows) i (suc i) (early_at known i at.within)
+      (none_taken (length (state_at rows i).tape)) (reading_at known i (record { within = at.within; is = ap is_batch_op at.is }))
+      (state_next known i ops.Respan at (record { right = refl; writes = λ x. refl; takes = λ y. refl; update = refl })
+      (ap is_call_op at.is) (ap (λ o. ends_call o (row_at rows i)) at.is)
+      (lv (row_at rows i)) (cells (row_at rows i) ++ below_at rows i)
+      (level_stays rows i known.frames at.within (ap is_start_op at.is) (ap (λ o. is_op o ops.End) at.is))
+      (stack_stays known i ops.Respan
+      (record { within = at.within; right = ap is_right at.is; mover_is = ap (λ o. mover o (row_at rows i)) at.is })
+      (record { takes = refl; leaves = refl; left = refl }) (ap is_call_op at.is) (ap (λ o. ends_call o (row_at rows i)) at.is)))
+
+  pub repeat_goes : (i : ℕ) → IsAt rows i ops.Repeat
+      → Goes (state_at rows) (cycle constants kernel (length rows - 1) (Repeat (front (row_at rows i))) (state_at rows i)) (suc i)
+  repeat_goes i at =
+      goes_on constants kernel (length rows - 1) (Repeat (front (row_at rows i))) (state_at rows) i (suc i) (early_at known i at.within)
+      (none_taken (length (state_at rows i).tape)) (subst (λ (n : ℕ). n < 2) (sym (top_at rows i ∙ one)) (lit< tt))
+      (state_next known i ops.Repeat at (record { right = refl; writes = λ x. refl; takes = λ y. refl; update = refl })
+      (ap is_call_op at.is) (ap (λ o. ends_call o (row_at rows i)) at.is)
+      (lv (row_at rows i)) (filled_up (drop 1 (cells (row_at rows i) ++ below_at rows i)))
+      (level_stays rows i known.frames at.within (ap is_start_op at.is) (ap (λ o. is_op o ops.End) at.is))
+      (stack_pops known i ops.Repeat
+      (record { within = at.within; right = ap is_right at.is; mover_is = ap (λ o. mover o (row_at rows i)) at.is })
+      (record { takes = refl; leaves = refl; left = refl })))
+    where
+      one : s (row_at rows i) 0 ≡ 1
+      one = (known.shows.row_is i (before i (length rows) at.within)).row.block.again (ap (λ o. is_op o ops.Repeat) at.is)

@@ -1,0 +1,19 @@
+-- The states of the first row and of the last one.
+use Rattle.std.specs.Prelude.{◌≡◌, ℕ, ◌-◌, ◌≤◌, List, length}
+use Rattle.vm_field.specs.Machine.{Stands, start}
+use Rattle.air_kit.specs.RowStates.{state_at, tape_of}
+use Rattle.air_kit.specs.declared.trace.Public.{Public}
+use Rattle.air_kit.specs.declared.trace.Trace.{Trace}
+use Rattle.rpo_hash.specs.Constants.{constants_of}
+use Rattle.sound_buses.specs.BusFacts.{Granted, HasTables}
+
+-- The first row shows the state at the start, with the inputs and the trace's tape; the last one shows the end, with the outputs, after
+-- as many cycles as rows have one behind them.
+pub record EndFacts (inputs outputs : List ℕ) (rows : List (List ℕ)) : Type 0 where
+  pub starts : state_at rows 0 ≡ start inputs (tape_of rows)
+  pub stands : Stands (state_at rows (length rows - 1)) outputs
+  pub clock : (state_at rows (length rows - 1)).core.clock ≡ length rows - 1
+
+abbrev pub GrantedEnds : Type 0
+GrantedEnds = (p : Public) (t : Trace) → length (constants_of p.params) ≡ 168 → length p.statement.inputs ≤ 16 → HasTables t → Granted p t
+    → EndFacts p.statement.inputs p.statement.outputs t.main

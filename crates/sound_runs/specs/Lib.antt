@@ -1,0 +1,5 @@
+pub mod Built
+pub mod TreeFacts
+pub mod Running
+pub mod Cycles
+pub mod Ends

@@ -1,6 +1,0 @@
--- Files of source as the code holds them.
-use Rattle.commands.specs.Steps.{SourceFile}
-use Rattle.source_files.specs.declared.source.SourceFile as held
-
-abbrev pub file_of : held.SourceFile → SourceFile
-file_of f = record { name = f.name.now; text = f.text.now }
