@@ -1,1 +1,2 @@
+pub mod AssemblyReads
 pub mod SourceLemmas

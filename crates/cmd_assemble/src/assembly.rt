@@ -3,15 +3,15 @@ ghost use Rattle.std.specs.Prelude.{◌≡◌, ◌≤◌, ◌++◌, length, opti
 ghost use Rattle.std.specs.List.{flat_map};
 ghost use Rattle.rpo_hash.specs.Constants.{constants_of};
 ghost use Rattle.cmd_kit.specs.AssembleEnds.{export_line, program_lines};
-ghost use Rattle.cmd_kit.specs.Commands.{assemble_steps, assembly_steps, with_kernel};
-ghost use Rattle.cmd_kit.specs.Outcomes.{ComesTo, EndsIn, SaysStatus};
+ghost use Rattle.cmd_kit.specs.AssembleSteps.{assemble_steps};
+ghost use Rattle.cmd_kit.specs.Outcomes.{ComesTo, EndsIn, SaysStatus, either};
 ghost use Rattle.cmd_kit.specs.Sources.{file_of};
-ghost use Rattle.cmd_kit.specs.Steps.{assembly, ending};
+ghost use Rattle.cmd_kit.specs.Steps.{assembly};
 
 use block_tree::{Export, Program};
 use cmd_kit::{
-    MOST_PARAMS_BYTES, MOST_SOURCE_BYTES, Outcome, SourceFile, Status, answered, append_word,
-    assemble_sources, load, malformed_params, name_of_place, refused_source,
+    Outcome, SourceFile, Status, answered, append_word, assemble_sources, load_kernel, load_params,
+    load_source, name_of_place, refused_source,
 };
 use masm_link::AsmError;
 use perm_memo::Permutations;
@@ -23,7 +23,6 @@ use vm_io::Shelf;
 
 /// `assemble`: reads the parameters, the source and the kernel, if one is named, and prints the
 /// digest of the program and the kernel's exports.
-#[tactic(auto, using(cmd_kit::proofs::ServingLemmas::work_ends, cmd_kit::proofs::ServingLemmas::says_comes))]
 pub fn assemble_files<F: Shelf>(
     alloc: Global,
     shelf: &mut F,
@@ -37,75 +36,41 @@ pub fn assemble_files<F: Shelf>(
     ensures { EndsIn (Some (assemble_steps params.now source.now (option_map (λ k. k.now) kernel.entry))) result
         (F.state shelf.old) (F.state shelf.new) }
 {
-    match load(alloc, shelf, params, MOST_PARAMS_BYTES) {
-        Ok(bytes) => match Params::read(bytes.as_slice()) {
-            Ok(constants) => assemble_file(alloc, shelf, &constants, source, kernel),
-            Err(error) => malformed_params(alloc, params, error),
-        },
-        Err(end) => end,
+    match read_and_assemble(alloc, shelf, params, source, kernel) {
+        Ok(end) | Err(end) => end,
     }
 }
 
-// Reads the source, and then the kernel.
-fn assemble_file<F: Shelf>(
+// Reads the files, one after another, and assembles them.
+fn read_and_assemble<F: Shelf>(
     alloc: Global,
     shelf: &mut F,
-    constants: &Params,
-    name: &str,
+    params: &str,
+    source: &str,
     kernel: Option<&str>,
-) -> Outcome
-    requires name { length name.now ≤ 200 }
+) -> Result<Outcome, Outcome>
+    requires params { length params.now ≤ 200 }
+    requires source { length source.now ≤ 200 }
     requires kernel { IfSome kernel (λ k. length k.now ≤ 200) }
-    ensures { EndsIn (Some (assembly_steps name.now (option_map (λ k. k.now) kernel.entry) (constants_of constants.now))) result
+    ensures { EndsIn (Some (assemble_steps params.now source.now (option_map (λ k. k.now) kernel.entry))) (either result)
         (F.state shelf.old) (F.state shelf.new) }
 {
-    match load(alloc, shelf, name, MOST_SOURCE_BYTES) {
-        Ok(bytes) => {
-            let text = bytes.as_slice();
-            assemble_with_kernel(alloc, shelf, constants, SourceFile { name, text }, kernel)
-        }
-        Err(end) => end,
-    }
-}
-
-// Reads the kernel, if one is named.
-#[tactic(auto, using(cmd_kit::proofs::ServingLemmas::work_ends))]
-fn assemble_with_kernel<F: Shelf>(
-    alloc: Global,
-    shelf: &mut F,
-    constants: &Params,
-    source: SourceFile<'_>,
-    kernel: Option<&str>,
-) -> Outcome
-    requires source { length source.text.now ≤ 1048576 }
-    requires kernel { IfSome kernel (λ k. length k.now ≤ 200) }
-    ensures { EndsIn (Some (with_kernel (option_map (λ k. k.now) kernel.entry)
-        (λ k. ending (assembly (constants_of constants.now) (file_of source.entry) k)))) result
-        (F.state shelf.old) (F.state shelf.new) }
-{
-    match kernel {
-        Some(name) => match load(alloc, shelf, name, MOST_SOURCE_BYTES) {
-            Ok(bytes) => {
-                let text = bytes.as_slice();
-                let kernel = Some(SourceFile { name, text });
-                answer(alloc, constants, source, kernel)
-            }
-            Err(end) => end,
-        },
-        None => answer(alloc, constants, source, None),
-    }
+    let constants = load_params(alloc, shelf, params)?;
+    let source = load_source(alloc, shelf, source)?;
+    let kernel = load_kernel(alloc, shelf, kernel)?;
+    Ok(answer(alloc, &constants, &source, kernel.as_ref()))
 }
 
 // Assembles, and prints the program or the refusal.
 fn answer(
     alloc: Global,
     constants: &Params,
-    source: SourceFile<'_>,
-    kernel: Option<SourceFile<'_>>,
+    source: &SourceFile<'_>,
+    kernel: Option<&SourceFile<'_>>,
 ) -> Outcome
-    requires source { length source.text.now ≤ 1048576 }
-    requires kernel { IfSome kernel (λ k. length k.text.now ≤ 1048576) }
-    ensures { ComesTo (assembly (constants_of constants.now) (file_of source.entry) (option_map file_of kernel.entry)) result }
+    requires source { length source.now.text ≤ 1048576 }
+    requires kernel { IfSome kernel (λ k. length k.now.text ≤ 1048576) }
+    ensures { ComesTo (assembly (constants_of constants.now) (file_of source.now) (option_map (λ k. file_of k.now) kernel.entry)) result }
 {
     match assemble_sources(alloc, constants, source, kernel) {
         Ok(program) => assembled(alloc, constants, &program),

@@ -1,4 +1,4 @@
-//! The command `assemble`.
+//! The command `assemble`: a program's digest and its kernel's exports, or the first refusal.
 #![tactic(auto)]
 
 mod assembly;

@@ -17,7 +17,8 @@ use Rattle.cmd_kit.specs.declared.outcome.Outcome.{Outcome}
 use Rattle.cmd_kit.specs.declared.outcome.Outcome.TheVariants as outcome
 use Rattle.cmd_kit.specs.declared.status.Status.TheVariants as status
 use Rattle.cmd_kit.specs.CheckEnds.{IsEvidenceFor, IsWhy, accepted_line, refusal}
-use Rattle.cmd_kit.specs.Commands.{IsRight, found_steps, judging_steps}
+use Rattle.cmd_kit.specs.Commands.{IsRight}
+use Rattle.cmd_kit.specs.CheckSteps.{found_steps, judging_steps}
 use Rattle.cmd_kit.specs.Outcomes.{EndsIn, SaysStatus}
 use Rattle.cmd_kit.specs.Steps.{Steps, accepted, refused, checked, ending, evidence_for, telling}
 use Rattle.cmd_kit.proofs.ServingLemmas.{goes_past_finding, same_again, says_comes, says_ends, work_ends}

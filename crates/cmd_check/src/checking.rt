@@ -4,26 +4,23 @@ ghost use Rattle.rpo_hash.specs.Constants.{constants_of};
 ghost use Rattle.statement.specs.Statements.{claim_of};
 ghost use Rattle.air_kit.specs.Traces.{HasCounts};
 ghost use Rattle.cmd_kit.specs.CheckEnds.{accepted_line};
-ghost use Rattle.cmd_kit.specs.Commands.{check_steps, found_steps, judging_steps, statement_steps, table_steps};
+ghost use Rattle.cmd_kit.specs.CheckSteps.{check_steps, found_steps, judging_steps};
 ghost use Rattle.checker.specs.declared.refusal.Refused.TheVariants as why;
 ghost use Rattle.cmd_kit.specs.RefusalLines.{refused_line};
 ghost use Rattle.cmd_kit.specs.declared.outcome.Outcome.TheVariants as outcome;
-ghost use Rattle.cmd_kit.specs.Outcomes.{EndsIn, SaysStatus};
+ghost use Rattle.cmd_kit.specs.Outcomes.{EndsIn, SaysStatus, either};
 ghost use Rattle.cmd_kit.specs.Steps.{accepted};
 
 use air_kit::{Public, Trace};
 use block_tree::Evidence;
 use checker::{Refused, Valid, check};
 use cmd_kit::{
-    MOST_PARAMS_BYTES, MOST_STATEMENT_BYTES, MOST_TABLE_BYTES, Outcome, Status, answered, load,
-    load_pieces, malformed_params, malformed_table, malformed_text, refused_line, save,
+    Outcome, Status, answered, load_params, load_statement, load_trace, refused_line, save,
 };
 use decimal_text::append_number;
-use rpo_hash::Params;
 use sound_evidence::extract;
-use statement::{TextError, read_statement, write_evidence};
+use statement::write_evidence;
 use std::alloc::Global;
-use table_file::{FileError, TableReader};
 use vm_field::{Bytes, Memory};
 use vm_io::{Gate, Shelf};
 
@@ -37,7 +34,6 @@ pub struct CheckNames<'a> {
 }
 
 /// `check`: reads the parameters, the table file and the statement, and judges the trace.
-#[tactic(auto, using(cmd_kit::proofs::ServingLemmas::work_ends, cmd_kit::proofs::ServingLemmas::says_comes))]
 pub fn check_files<F: Shelf, G: Gate>(
     alloc: Global,
     shelf: &mut F,
@@ -52,77 +48,31 @@ pub fn check_files<F: Shelf, G: Gate>(
     ensures { EndsIn (Some (check_steps params.now names.entry.table.now names.entry.statement.now names.entry.evidence.now)) result
         (F.state shelf.old) (F.state shelf.new) }
 {
-    match load(alloc, shelf, params, MOST_PARAMS_BYTES) {
-        Ok(bytes) => match Params::read(bytes.as_slice()) {
-            Ok(constants) => check_table(alloc, shelf, gate, constants, names),
-            Err(error) => malformed_params(alloc, params, error),
-        },
-        Err(end) => end,
+    match read_and_judge(alloc, shelf, gate, params, names) {
+        Ok(end) | Err(end) => end,
     }
 }
 
-// Reads the table file as its bytes come, so that they never stand beside the trace.
-#[tactic(auto, using(cmd_kit::proofs::ServingLemmas::work_ends, cmd_kit::proofs::ServingLemmas::says_comes))]
-fn check_table<F: Shelf, G: Gate>(
+// Reads the files, one after another, and judges the trace.
+fn read_and_judge<F: Shelf, G: Gate>(
     alloc: Global,
     shelf: &mut F,
     gate: &G,
-    params: Params,
+    params: &str,
     names: CheckNames<'_>,
-) -> Outcome
+) -> Result<Outcome, Outcome>
+    requires params { length params.now ≤ 200 }
     requires table { length names.table.now ≤ 200 }
     requires statement { length names.statement.now ≤ 200 }
     requires evidence { length names.evidence.now ≤ 200 }
-    ensures { EndsIn (Some (table_steps names.entry.table.now names.entry.statement.now names.entry.evidence.now (constants_of params))) result
+    ensures { EndsIn (Some (check_steps params.now names.entry.table.now names.entry.statement.now names.entry.evidence.now)) (either result)
         (F.state shelf.old) (F.state shelf.new) }
 {
-    let mut reader = TableReader::new(alloc);
-    match load_pieces(alloc, shelf, names.table, MOST_TABLE_BYTES, &mut reader) {
-        Ok(()) => match reader.finish() {
-            Ok(trace) => check_statement(alloc, shelf, gate, params, trace, names),
-            Err(FileError::Bad { offset, cause }) => malformed_table(
-                alloc,
-                names.table,
-                offset,
-                cause,
-            ),
-            Err(FileError::Memory) => Outcome::Memory,
-        },
-        Err(end) => end,
-    }
-}
-
-// Reads the statement.
-#[tactic(auto, using(cmd_kit::proofs::ServingLemmas::work_ends, cmd_kit::proofs::ServingLemmas::says_comes))]
-fn check_statement<F: Shelf, G: Gate>(
-    alloc: Global,
-    shelf: &mut F,
-    gate: &G,
-    params: Params,
-    trace: Trace,
-    names: CheckNames<'_>,
-) -> Outcome
-    requires counts { HasCounts trace }
-    requires statement { length names.statement.now ≤ 200 }
-    requires evidence { length names.evidence.now ≤ 200 }
-    ensures { EndsIn (Some (statement_steps names.entry.statement.now names.entry.evidence.now (constants_of params) trace)) result
-        (F.state shelf.old) (F.state shelf.new) }
-{
-    match load(alloc, shelf, names.statement, MOST_STATEMENT_BYTES) {
-        Ok(bytes) => match read_statement(alloc, bytes.as_slice()) {
-            Ok(statement) => judge(
-                alloc,
-                shelf,
-                gate,
-                Public { params, statement },
-                trace,
-                names.evidence,
-            ),
-            Err(TextError::Bad(cause)) => malformed_text(alloc, names.statement, cause),
-            Err(TextError::Memory) => Outcome::Memory,
-        },
-        Err(end) => end,
-    }
+    let params = load_params(alloc, shelf, params)?;
+    let trace = load_trace(alloc, shelf, names.table)?;
+    let statement = load_statement(alloc, shelf, names.statement)?;
+    let public = Public { params, statement };
+    Ok(judge(alloc, shelf, gate, public, trace, names.evidence))
 }
 
 // Checks the trace: its evidence is written and told, or its refusal is told.

@@ -1,4 +1,4 @@
-//! The command `check`.
+//! The command `check`: a trace is tested against a statement; its evidence is written, or its refusal told.
 #![tactic(auto)]
 
 mod checking;

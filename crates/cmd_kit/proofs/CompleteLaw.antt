@@ -30,7 +30,10 @@ use Rattle.cmd_kit.specs.Steps.{SourceFile, Steps, Verdict, accepted, refused, C
 use Rattle.cmd_kit.specs.CheckEnds.{IsVerdictFor, IsWhy}
 use Rattle.cmd_kit.specs.RunEnds as ends
 use Rattle.cmd_kit.specs.RunEnds.{IsCourse, halted, trapped, unended}
-use Rattle.cmd_kit.specs.Commands.{steps_of, with_params, with_inputs, with_kernel, with_trace, with_statement, most_params_bytes, check_steps, table_steps, statement_steps, judging_steps, found_steps, run_steps, run_source_steps, kernel_steps, running_steps, course_steps}
+use Rattle.cmd_kit.specs.Commands.{steps_of}
+use Rattle.cmd_kit.specs.Starts.{most_params_bytes, with_params, with_inputs, with_trace, with_statement, source_steps, inputs_steps, kernel_steps, trace_steps, statement_steps}
+use Rattle.cmd_kit.specs.RunSteps.{run_steps, running_steps, course_steps}
+use Rattle.cmd_kit.specs.CheckSteps.{check_steps, judging_steps, found_steps}
 use Rattle.cmd_kit.specs.Serving.{ComesWhere, ServesAs, Ends, Works}
 use Rattle.cmd_kit.specs.Laws.{WrittenRunIsAccepted}
 use Rattle.cmd_kit.proofs.ApartNames.{AreApart, run_apart_names}
@@ -77,7 +80,7 @@ module _ (line : List ℕ) (new : Option Files) where
   inputs_said name next (Ok given) m h = (given, h)
   inputs_said name next (Err cause) m h = absurd (not_ok status.Malformed line _ (λ same. cc) (ended (ends_with status.Ok line) new _ m h).0)
 
-  kernel_said : (kernel : Option (List ℕ)) (next : Option SourceFile → Steps) (m : Files) → Went (with_kernel kernel next) m
+  kernel_said : (kernel : Option (List ℕ)) (next : Option SourceFile → Steps) (m : Files) → Went (kernel_steps kernel next) m
       → (k : Option SourceFile) × Went (next k) m
   kernel_said None next m h = (None, h)
   kernel_said (Some name) next m h = let read = was_read line new name _ _ m h in (Some (record { name = name; text = read.0 }), read.3)
@@ -113,11 +116,14 @@ module _ (line : List ℕ) (new : Option Files) where
       → Went (run_steps params source inputs outputs kernel limit) m → Left params outputs m new
   run_left params source inputs outputs kernel limit m h =
       let text = was_read line new params _ _ m h in
-      let constants = params_said line new params (run_source_steps outputs source inputs kernel limit) (parameters_of text.0) m text.3 in
+      let with_constants : List ℕ → Steps = λ constants. source_steps source (λ file. inputs_steps inputs (λ given.
+      kernel_steps kernel (running_steps outputs constants file given limit))) in
+      let constants = params_said line new params with_constants (parameters_of text.0) m text.3 in
       let code = was_read line new source _ _ m constants.2 in
       let file : SourceFile = record { name = source; text = code.0 } in
       let numbers = was_read line new inputs _ _ m code.3 in
-      let given = inputs_said inputs (kernel_steps outputs constants.0 file kernel limit) (inputs_of numbers.0) m numbers.3 in
+      let with_given : Given → Steps = λ given. kernel_steps kernel (running_steps outputs constants.0 file given limit) in
+      let given = inputs_said inputs with_given (inputs_of numbers.0) m numbers.3 in
       let k = kernel_said kernel (running_steps outputs constants.0 file given.0 limit) m given.1 in
       let found =
       was_found (ends_with status.Ok line) new (course constants.0 file k.0 given.0 limit)
@@ -168,12 +174,12 @@ module _ (a : Answer) (new : Option Files) where
       let trace = left.shows.trace in
       let first = read_on a new params _ _ n left.text text_stands left.short h in
       let second =
-      subst (λ r. ComesWhere (with_params params (table_steps outputs.table outputs.statement evidence) r) (Done a new) (Some n))
-      left.says first in
+      subst (λ r. ComesWhere (with_params params (λ constants. trace_steps outputs.table (λ t.
+      statement_steps outputs.statement (judging_steps evidence constants t))) r) (Done a new) (Some n)) left.says first in
       let third = read_on a new outputs.table _ _ n left.table table_stands left.shows.short second in
       let fourth =
-      subst (λ r. ComesWhere (with_trace outputs.table (statement_steps outputs.statement evidence left.constants) r) (Done a new)
-      (Some n)) left.shows.reads third in
+      subst (λ r. ComesWhere (with_trace outputs.table (λ t. statement_steps outputs.statement (judging_steps evidence left.constants t)) r)
+      (Done a new) (Some n)) left.shows.reads third in
       let fifth = read_on a new outputs.statement _ _ n left.claimed claimed_stands left.claims.short fourth in
       let sixth =
       subst (λ r. ComesWhere (with_statement outputs.statement (judging_steps evidence left.constants trace) r) (Done a new)

@@ -28,7 +28,7 @@ use Rattle.cmd_kit.specs.declared.status.Status.{Status}
 use Rattle.cmd_kit.specs.declared.status.Status.TheVariants as status
 use Rattle.cmd_kit.specs.declared.answer.Answer.{Answer}
 use Rattle.cmd_kit.specs.Statuses.{StatusKind, planned, no_command, failed_read, failed_write, failed_print, no_memory, kind_of}
-use Rattle.cmd_kit.specs.Asked.{Asked, Outputs, asked}
+use Rattle.cmd_kit.specs.Asked.{Asked, Outputs, nothing, hash, assemble, run, check, asked}
 use Rattle.cmd_kit.specs.Steps.{SourceFile, Steps, Verdict, accepted, refused, Course, course, checked, telling, assembly, reading, ending, ends_with}
 use Rattle.cmd_kit.specs.SourceEnds.{AssemblesFiles}
 use Rattle.cmd_kit.specs.AssembleEnds as assembling
@@ -37,9 +37,14 @@ use Rattle.cmd_kit.specs.HashEnds.{hash_end}
 use Rattle.cmd_kit.specs.CheckEnds.{IsVerdictFor}
 use Rattle.cmd_kit.specs.RunEnds as ends
 use Rattle.cmd_kit.specs.RunEnds.{IsCourse, halted, trapped, unended, outcome_of}
-use Rattle.cmd_kit.specs.Commands.{EndsAs, steps_of, with_params, with_inputs, with_kernel, with_trace, with_statement, most_params_bytes, most_numbers_bytes, most_inputs_bytes, hash_steps, numbers_steps, assemble_steps, assembly_steps, run_steps, run_source_steps, kernel_steps, running_steps, course_steps, check_steps, table_steps, statement_steps, judging_steps, found_steps}
+use Rattle.cmd_kit.specs.Commands.{EndsAs, steps_of}
+use Rattle.cmd_kit.specs.Starts.{most_params_bytes, most_inputs_bytes, with_params, with_inputs, with_trace, with_statement, params_steps, source_steps, kernel_steps, inputs_steps, trace_steps, statement_steps}
+use Rattle.cmd_kit.specs.HashSteps.{hash_steps, numbers_steps}
+use Rattle.cmd_kit.specs.AssembleSteps.{assemble_steps}
+use Rattle.cmd_kit.specs.RunSteps.{run_steps, running_steps, course_steps}
+use Rattle.cmd_kit.specs.CheckSteps.{check_steps, judging_steps, found_steps}
 use Rattle.cmd_kit.specs.Serving.{ComesWhere, ServesAs, Works, Ends}
-use Rattle.cmd_kit.specs.Completeness.{FileSays, HoldsSource, HoldsKernel, IsGood, hashes, assembles, runs, checks, IsFault, GoodIsOk}
+use Rattle.cmd_kit.specs.Completeness.{FileSays, HoldsSource, HoldsKernel, IsGood, IsGoodHash, IsGoodAssembly, IsGoodRun, IsGoodCheck, IsFault, GoodIsOk}
 use Rattle.cmd_kit.proofs.CompleteLaw.{not_both}
 use Rattle.cmd_kit.proofs.Walks as walks
 use Rattle.cmd_kit.proofs.Walks.{ended, read_on, was_found, was_written}
@@ -82,22 +87,22 @@ module _ (a : Answer) (new : Option Files) (m : Files) where
   Goes steps = ComesWhere steps (walks.Done a new) (Some m)
 
   params_read : (name : List ℕ) (next : List ℕ → Steps) (constants : List ℕ) → FileSays m name most_params_bytes parameters_of constants
-      → Goes (reading name most_params_bytes (λ bytes. with_params name next (parameters_of bytes))) → Goes (next constants)
+      → Goes (params_steps name next) → Goes (next constants)
   params_read name next constants h goes =
       subst (λ r. Goes (with_params name next r)) h.says (read_on a new name most_params_bytes _ m h.bytes h.stands h.short goes)
 
   kernel_read : (name : Option (List ℕ)) (kernel : Option SourceFile) (next : Option SourceFile → Steps) → HoldsKernel m name kernel
-      → Goes (with_kernel name next) → Goes (next kernel)
+      → Goes (kernel_steps name next) → Goes (next kernel)
   kernel_read None kernel next is goes = subst (λ k. Goes (next k)) (sym is) goes
   kernel_read (Some name) kernel next is goes = subst (λ k. Goes (next k)) (sym is.2) (read_on a new name _ _ m is.0 is.1.stands is.1.short goes)
 
-  hashed : (params numbers constants elements : List ℕ) → FileSays m params most_params_bytes parameters_of constants
-      → FileSays m numbers most_numbers_bytes numbers_of elements → Goes (hash_steps params numbers) → a.status ≡ status.Ok
-  hashed params numbers constants elements p n goes =
-      let first = params_read params (numbers_steps numbers) constants p goes in
+  hashed : (params numbers : List ℕ) → IsGoodHash m params numbers → Goes (hash_steps params numbers) → a.status ≡ status.Ok
+  hashed params numbers h goes =
+      let n = h.numbers_say in
+      let first = params_read params (numbers_steps numbers) h.constants h.params_say goes in
       let second = read_on a new numbers _ _ m n.bytes n.stands n.short first in
-      let end = (ended a new (hash_end constants numbers (numbers_of n.bytes)) m second).0 in
-      ap (λ (b : Answer). b.status) (subst (λ r. EndsAs (hash_end constants numbers r) a) n.says end)
+      let end = (ended a new (hash_end h.constants numbers (numbers_of n.bytes)) m second).0 in
+      ap (λ (b : Answer). b.status) (subst (λ r. EndsAs (hash_end h.constants numbers r) a) n.says end)
 
   assembled_ok : (constants : List ℕ) (source : SourceFile) (kernel : Option SourceFile) (program : Program) (b : Answer)
       → AssemblesFiles constants source kernel (Ok program) → AnswersAssembly constants source kernel b → b.status ≡ status.Ok
@@ -105,14 +110,16 @@ module _ (a : Answer) (new : Option Files) (m : Files) where
   assembled_ok constants source kernel program b is (assembling.refused in_kernel line column cause bad) =
       absurd (bad_or_program constants source kernel program in_kernel line column cause is bad)
 
-  assembled_well : (params constants : List ℕ) (source : SourceFile) (name : Option (List ℕ)) (kernel : Option SourceFile) (program : Program)
-      → FileSays m params most_params_bytes parameters_of constants → HoldsSource m source → HoldsKernel m name kernel
-      → AssemblesFiles constants source kernel (Ok program) → Goes (assemble_steps params source.name name) → a.status ≡ status.Ok
-  assembled_well params constants source name kernel program p s k is goes =
-      let first = params_read params (assembly_steps source.name name) constants p goes in
-      let second = read_on a new source.name _ _ m source.text s.stands s.short first in
-      let third = kernel_read name kernel (λ k. ending (assembly constants source k)) k second in
-      assembled_ok constants source kernel program a is (ended a new (assembly constants source kernel) m third).0
+  assembled_well : (params source : List ℕ) (name : Option (List ℕ)) → IsGoodAssembly m params source name
+      → Goes (assemble_steps params source name) → a.status ≡ status.Ok
+  assembled_well params source name h goes =
+      let file : SourceFile = record { name = source; text = h.text } in
+      let first =
+      params_read params (λ constants. source_steps source (λ text. kernel_steps name (λ k. ending (assembly constants text k))))
+      h.constants h.params_say goes in
+      let second = read_on a new source _ _ m h.text h.source_stands.stands h.source_stands.short first in
+      let third = kernel_read name h.kernel (λ k. ending (assembly h.constants file k)) h.kernel_stands second in
+      assembled_ok h.constants file h.kernel h.program a h.assembled (ended a new (assembly h.constants file h.kernel) m third).0
 
   course_ok : (constants : List ℕ) (source : SourceFile) (kernel : Option SourceFile) (outputs : Outputs) (given : Given) (limit : ℕ)
       (program : Program) (last : State) (log : List execution.Event) (c : Course)
@@ -129,20 +136,21 @@ module _ (a : Answer) (new : Option Files) (m : Files) where
       let claims = was_written a new outputs.statement _ _ (insert m outputs.table tables.0) tables.2 in
       ap (λ (b : Answer). b.status) (ended a new _ (insert (insert m outputs.table tables.0) outputs.statement claims.0) claims.2).0
 
-  ran_well : (params constants inputs : List ℕ) (source : SourceFile) (name : Option (List ℕ)) (kernel : Option SourceFile) (outputs : Outputs)
-      (limit : ℕ) (given : Given) (program : Program) (last : State) (log : List execution.Event)
-      → FileSays m params most_params_bytes parameters_of constants → HoldsSource m source → FileSays m inputs most_inputs_bytes inputs_of given
-      → HoldsKernel m name kernel → AssemblesFiles constants source kernel (Ok program)
-      → outcome_of constants program given limit ≡ Done last log → Goes (run_steps params source.name inputs outputs name limit)
-      → a.status ≡ status.Ok
-  ran_well params constants inputs source name kernel outputs limit given program last log p s i k is done goes =
-      let first = params_read params (run_source_steps outputs source.name inputs name limit) constants p goes in
-      let second = read_on a new source.name _ _ m source.text s.stands s.short first in
+  ran_well : (params source inputs : List ℕ) (outputs : Outputs) (name : Option (List ℕ)) (limit : ℕ) → IsGoodRun m params source inputs name limit
+      → Goes (run_steps params source inputs outputs name limit) → a.status ≡ status.Ok
+  ran_well params source inputs outputs name limit h goes =
+      let file : SourceFile = record { name = source; text = h.text } in
+      let i = h.inputs_say in
+      let first =
+      params_read params (λ constants. source_steps source (λ text. inputs_steps inputs (λ given.
+      kernel_steps name (running_steps outputs constants text given limit)))) h.constants h.params_say goes in
+      let second = read_on a new source _ _ m h.text h.source_stands.stands h.source_stands.short first in
       let third = read_on a new inputs _ _ m i.bytes i.stands i.short second in
-      let fourth = subst (λ r. Goes (with_inputs inputs (kernel_steps outputs constants source name limit) r)) i.says third in
-      let fifth = kernel_read name kernel (running_steps outputs constants source given limit) k fourth in
-      let found = was_found a new (course constants source kernel given limit) (course_steps outputs constants given) m fifth in
-      course_ok constants source kernel outputs given limit program last log found.0 is done found.1 found.2
+      let fourth =
+      subst (λ r. Goes (with_inputs inputs (λ given. kernel_steps name (running_steps outputs h.constants file given limit)) r)) i.says third in
+      let fifth = kernel_read name h.kernel (running_steps outputs h.constants file h.given limit) h.kernel_stands fourth in
+      let found = was_found a new (course h.constants file h.kernel h.given limit) (course_steps outputs h.constants h.given) m fifth in
+      course_ok h.constants file h.kernel outputs h.given limit h.program h.last h.log found.0 h.assembled h.done found.1 found.2
 
   verdict_ok : (evidence constants : List ℕ) (claim : Stated) (t : Trace) (v : Verdict) → IsVerdictFor constants claim t accepted
       → IsVerdictFor constants claim t v → Goes (found_steps evidence constants claim t v) → a.status ≡ status.Ok
@@ -155,45 +163,48 @@ module _ (a : Answer) (new : Option Files) (m : Files) where
       (same_accepted is.against found.against t (is.is_public.params ∙ sym found.is_public.params)
       (is.is_public.statement ∙ sym found.is_public.statement) is.found) found.found)
 
-  checked_well : (params table statement evidence constants : List ℕ) (trace : Trace) (claim : Stated)
-      → FileSays m params most_params_bytes parameters_of constants → FileSays m table most_table_bytes trace_of trace
-      → FileSays m statement most_statement_bytes statements.statement_of claim → IsVerdictFor constants claim trace accepted
+  checked_well : (params table statement evidence : List ℕ) → IsGoodCheck m params table statement
       → Goes (check_steps params table statement evidence) → a.status ≡ status.Ok
-  checked_well params table statement evidence constants trace claim p t s is goes =
-      let first = params_read params (table_steps table statement evidence) constants p goes in
+  checked_well params table statement evidence h goes =
+      let t = h.table_says in
+      let s = h.statement_says in
+      let with_table : List ℕ → Trace → Steps = λ constants trace. statement_steps statement (judging_steps evidence constants trace) in
+      let first = params_read params (λ constants. trace_steps table (with_table constants)) h.constants h.params_say goes in
       let second = read_on a new table _ _ m t.bytes t.stands t.short first in
-      let third = subst (λ r. Goes (with_trace table (statement_steps statement evidence constants) r)) t.says second in
+      let third = subst (λ r. Goes (with_trace table (with_table h.constants) r)) t.says second in
       let fourth = read_on a new statement _ _ m s.bytes s.stands s.short third in
-      let fifth = subst (λ r. Goes (with_statement statement (judging_steps evidence constants trace) r)) s.says fourth in
-      let found = was_found a new (checked constants claim trace) (found_steps evidence constants claim trace) m fifth in
-      verdict_ok evidence constants claim trace found.0 is found.1 found.2
+      let fifth = subst (λ r. Goes (with_statement statement (judging_steps evidence h.constants h.trace) r)) s.says fourth in
+      let found = was_found a new (checked h.constants h.claim h.trace) (found_steps evidence h.constants h.claim h.trace) m fifth in
+      verdict_ok evidence h.constants h.claim h.trace found.0 h.found found.1 found.2
 
 -- a command over good files that went to its end
+module _ (s : Status) (line : List ℕ) (new : Option Files) (m : Files) where
+  abbrev Went : Steps → Type 0
+  Went steps = ComesWhere steps (walks.Done (ends_with s line) new) (Some m)
+
+  good_goes : (c : Asked) (steps : Steps) → IsGood m c → steps_of c ≡ Some steps → Went steps → s ≡ status.Ok
+  good_goes nothing steps good are went = absurd good
+  good_goes (hash params numbers) steps good are went =
+      hashed (ends_with s line) new m params numbers good (subst Went (let e = are in cc) went)
+  good_goes (assemble params source kernel) steps good are went =
+      assembled_well (ends_with s line) new m params source kernel good (subst Went (let e = are in cc) went)
+  good_goes (run params source inputs outputs kernel limit) steps good are went =
+      ran_well (ends_with s line) new m params source inputs outputs kernel limit good (subst Went (let e = are in cc) went)
+  good_goes (check params table statement evidence) steps good are went =
+      checked_well (ends_with s line) new m params table statement evidence good (subst Went (let e = are in cc) went)
+
 good_ends : (c : Asked) (s : Status) (line : List ℕ) (old new : ShelfState) (m : Files) (steps : Steps) → steps_of c ≡ Some steps
     → old.files ≡ Some m → IsGood m c → Ends steps (ends_with s line) old new → s ≡ status.Ok
 good_ends c s line old new m steps are is good h =
-    of good are (subst (ComesWhere steps (walks.Done (ends_with s line) new.files)) is h.files)
-  where
-    of : {c : Asked} → IsGood m c → steps_of c ≡ Some steps → ComesWhere steps (walks.Done (ends_with s line) new.files) (Some m) → s ≡ status.Ok
-    of (hashes params numbers constants elements p n) are goes =
-        hashed (ends_with s line) new.files m params numbers constants elements p n
-        (subst (λ x. ComesWhere x (walks.Done (ends_with s line) new.files) (Some m)) (let e = are in cc) goes)
-    of (assembles params constants source name kernel program p f k made) are goes =
-        assembled_well (ends_with s line) new.files m params constants source name kernel program p f k made
-        (subst (λ x. ComesWhere x (walks.Done (ends_with s line) new.files) (Some m)) (let e = are in cc) goes)
-    of (runs params constants inputs source name kernel outputs limit given program last log p f i k made done) are goes =
-        ran_well (ends_with s line) new.files m params constants inputs source name kernel outputs limit given program last log p f i k made done
-        (subst (λ x. ComesWhere x (walks.Done (ends_with s line) new.files) (Some m)) (let e = are in cc) goes)
-    of (checks params table statement evidence constants trace claim p t f found) are goes =
-        checked_well (ends_with s line) new.files m params table statement evidence constants trace claim p t f found
-        (subst (λ x. ComesWhere x (walks.Done (ends_with s line) new.files) (Some m)) (let e = are in cc) goes)
+    good_goes s line new.files m c steps good are (subst (ComesWhere steps (walks.Done (ends_with s line) new.files)) is h.files)
 
 -- and has steps
 good_steps : (m : Files) (c : Asked) → IsGood m c → (steps : Steps) × (steps_of c ≡ Some steps)
-good_steps m c (hashes params numbers constants elements p n) = (_, refl)
-good_steps m c (assembles params constants source name kernel program p f k made) = (_, refl)
-good_steps m c (runs params constants inputs source name kernel outputs limit given program last log p f i k made done) = (_, refl)
-good_steps m c (checks params table statement evidence constants trace claim p t f found) = (_, refl)
+good_steps m nothing good = absurd good
+good_steps m (hash params numbers) good = (_, refl)
+good_steps m (assemble params source kernel) good = (_, refl)
+good_steps m (run params source inputs outputs kernel limit) good = (_, refl)
+good_steps m (check params table statement evidence) good = (_, refl)
 
 -- whatever is answered
 good_answers : (kind : StatusKind) (c : Asked) (s : Status) (old new : ShelfState) (before now : SinkState) (m : Files) (steps : Steps)

@@ -19,7 +19,9 @@ use Rattle.cmd_kit.specs.declared.answer.Answer.{Answer}
 use Rattle.cmd_kit.specs.Asked.{check}
 use Rattle.cmd_kit.specs.Steps.{telling, evidence_for, Question, checked, Verdict, accepted, refused, Steps, ending, ends_with}
 use Rattle.cmd_kit.specs.CheckEnds.{accepted_line}
-use Rattle.cmd_kit.specs.Commands.{Finds, most_params_bytes, steps_of, with_params, with_trace, with_statement, check_steps, table_steps, statement_steps, judging_steps, found_steps}
+use Rattle.cmd_kit.specs.Commands.{Finds, steps_of}
+use Rattle.cmd_kit.specs.Starts.{most_params_bytes, with_params, with_trace, with_statement, trace_steps, statement_steps}
+use Rattle.cmd_kit.specs.CheckSteps.{check_steps, judging_steps, found_steps}
 use Rattle.cmd_kit.specs.Serving.{ComesWhere, Prints}
 use Rattle.cmd_kit.specs.Laws.{AreAccepted, EvidenceStands, AcceptedHasEvidence}
 use Rattle.cmd_kit.proofs.Walks as walks
@@ -109,7 +111,8 @@ module _ (params table statement output line : List ℕ) (m : Files) (new : Shel
       }) a.1
 
   from_trace : (constants : List ℕ) (trace : Trace) → IsSomeAnd (get m params) (λ bytes. parameters_of bytes ≡ Ok constants)
-      → IsSomeAnd (get m table) (λ bytes. trace_of bytes ≡ Ok trace) → Left (statement_steps statement output constants trace) m → Stands
+      → IsSomeAnd (get m table) (λ bytes. trace_of bytes ≡ Ok trace) → Left (statement_steps statement (judging_steps output constants trace)) m
+      → Stands
   from_trace constants trace params_say table_says h =
       let next = judging_steps output constants trace in
       let b = walks.was_read line new.files statement most_statement_bytes (λ bytes. with_statement statement next (statement_of bytes)) m h in
@@ -117,16 +120,16 @@ module _ (params table statement output line : List ℕ) (m : Files) (new : Shel
       from_claim constants trace c.0 params_say table_says (some_and (get m statement) b.0 (λ bytes. statement_of bytes ≡ Ok c.0) b.1 c.1) c.2
 
   from_constants : (constants : List ℕ) → IsSomeAnd (get m params) (λ bytes. parameters_of bytes ≡ Ok constants)
-      → Left (table_steps table statement output constants) m → Stands
+      → Left (trace_steps table (λ trace. statement_steps statement (judging_steps output constants trace))) m → Stands
   from_constants constants params_say h =
-      let next = statement_steps statement output constants in
+      let next : Trace → Steps = λ trace. statement_steps statement (judging_steps output constants trace) in
       let b = walks.was_read line new.files table most_table_bytes (λ bytes. with_trace table next (trace_of bytes)) m h in
       let t = trace_said line new.files table next (trace_of b.0) m b.3 in
       from_trace constants t.0 params_say (some_and (get m table) b.0 (λ bytes. trace_of bytes ≡ Ok t.0) b.1 t.1) t.2
 
   stands : Left (check_steps params table statement output) m → Stands
   stands h =
-      let next = table_steps table statement output in
+      let next : List ℕ → Steps = λ constants. trace_steps table (λ trace. statement_steps statement (judging_steps output constants trace)) in
       let b = walks.was_read line new.files params most_params_bytes (λ bytes. with_params params next (parameters_of bytes)) m h in
       let c = walks.params_said line new.files params next (parameters_of b.0) m b.3 in
       from_constants c.0 (some_and (get m params) b.0 (λ bytes. parameters_of bytes ≡ Ok c.0) b.1 c.1) c.2

@@ -19,8 +19,13 @@ use Rattle.cmd_kit.specs.declared.status.Status.TheVariants as status
 use Rattle.cmd_kit.specs.declared.answer.Answer.{Answer}
 use Rattle.cmd_kit.specs.Statuses.{StatusKind, planned, no_command, failed_read, failed_write, failed_print, no_memory, kind_of}
 use Rattle.cmd_kit.specs.Asked.{Asked, Outputs, nothing, hash, assemble, run, check, asked}
-use Rattle.cmd_kit.specs.Steps.{Course, Verdict, SourceFile, Steps, reading, writing, asking, ending, accepted, refused, ran, stopped}
-use Rattle.cmd_kit.specs.Commands.{steps_of, with_params, with_kernel, with_inputs, with_statement, with_trace, numbers_steps, assembly_steps, run_source_steps, kernel_steps, running_steps, course_steps, table_steps, statement_steps, judging_steps, found_steps}
+use Rattle.cmd_kit.specs.Steps.{Course, Verdict, SourceFile, assembly, Steps, reading, writing, asking, ending, accepted, refused, ran, stopped}
+use Rattle.cmd_kit.specs.Commands.{steps_of}
+use Rattle.cmd_kit.specs.Starts.{with_params, with_inputs, with_trace, with_statement, params_steps, source_steps, kernel_steps, inputs_steps, trace_steps, statement_steps}
+use Rattle.cmd_kit.specs.HashSteps.{hash_steps, numbers_steps}
+use Rattle.cmd_kit.specs.AssembleSteps.{assemble_steps}
+use Rattle.cmd_kit.specs.RunSteps.{run_steps, running_steps, course_steps}
+use Rattle.cmd_kit.specs.CheckSteps.{check_steps, judging_steps, found_steps}
 use Rattle.cmd_kit.specs.Serving.{Passes, none_yet, past_read, past_write, past_finding, ComesWhere, IsWriting, FrontWritten, Works, GivesUp, Prints, ServesAs}
 use Rattle.cmd_kit.specs.Laws.{WritesOnly, StayBeside, OtherFilesStay, CommandsWrite, UsageMeansNothing, NothingGivesUsage}
 
@@ -102,31 +107,45 @@ other_files_stay words s old new before now steps outputs m serves command only 
 some_steps : (a b : Steps) → Some a ≡ Some b → a ≡ b
 some_steps a b same = cc
 
-only_behind_params : (outputs : List (List ℕ)) (name : List ℕ) (next : List ℕ → Steps) → ((constants : List ℕ) → WritesOnly outputs (next constants))
-    → (read : Result (List ℕ) ParamError) → WritesOnly outputs (with_params name next read)
-only_behind_params outputs name next only (Ok constants) = only constants
-only_behind_params outputs name next only (Err e) = tt
+-- Steps that begin with a file write what those behind it do.
+module _ (outputs : List (List ℕ)) where
+  only_behind_params : (name : List ℕ) (next : List ℕ → Steps) → ((constants : List ℕ) → WritesOnly outputs (next constants))
+      → WritesOnly outputs (params_steps name next)
+  only_behind_params name next only bytes = by (parameters_of bytes)
+    where
+      by : (read : Result (List ℕ) ParamError) → WritesOnly outputs (with_params name next read)
+      by (Ok constants) = only constants
+      by (Err e) = tt
 
-only_behind_kernel : (outputs : List (List ℕ)) (kernel : Option (List ℕ)) (next : Option SourceFile → Steps)
-    → ((k : Option SourceFile) → WritesOnly outputs (next k)) → WritesOnly outputs (with_kernel kernel next)
-only_behind_kernel outputs None next only = only None
-only_behind_kernel outputs (Some name) next only = λ text. only (Some (record { name = name; text = text }))
+  only_behind_kernel : (kernel : Option (List ℕ)) (next : Option SourceFile → Steps) → ((k : Option SourceFile) → WritesOnly outputs (next k))
+      → WritesOnly outputs (kernel_steps kernel next)
+  only_behind_kernel None next only = only None
+  only_behind_kernel (Some name) next only = λ text. only (Some (record { name = name; text = text }))
 
-only_behind_inputs : (outputs : List (List ℕ)) (name : List ℕ) (next : Given → Steps) → ((given : Given) → WritesOnly outputs (next given))
-    → (read : Result Given TextCause) → WritesOnly outputs (with_inputs name next read)
-only_behind_inputs outputs name next only (Ok given) = only given
-only_behind_inputs outputs name next only (Err cause) = tt
+  only_behind_inputs : (name : List ℕ) (next : Given → Steps) → ((given : Given) → WritesOnly outputs (next given))
+      → WritesOnly outputs (inputs_steps name next)
+  only_behind_inputs name next only bytes = by (inputs_of bytes)
+    where
+      by : (read : Result Given TextCause) → WritesOnly outputs (with_inputs name next read)
+      by (Ok given) = only given
+      by (Err cause) = tt
 
-only_behind_trace : (outputs : List (List ℕ)) (name : List ℕ) (next : Trace → Steps) → ((t : Trace) → WritesOnly outputs (next t))
-    → (read : Result Trace FileError) → WritesOnly outputs (with_trace name next read)
-only_behind_trace outputs name next only (Ok t) = only t
-only_behind_trace outputs name next only (Err (Bad offset cause)) = tt
-only_behind_trace outputs name next only (Err file_error.Memory) = tt
+  only_behind_trace : (name : List ℕ) (next : Trace → Steps) → ((t : Trace) → WritesOnly outputs (next t))
+      → WritesOnly outputs (trace_steps name next)
+  only_behind_trace name next only bytes = by (trace_of bytes)
+    where
+      by : (read : Result Trace FileError) → WritesOnly outputs (with_trace name next read)
+      by (Ok t) = only t
+      by (Err (Bad offset cause)) = tt
+      by (Err file_error.Memory) = tt
 
-only_behind_statement : (outputs : List (List ℕ)) (name : List ℕ) (next : Stated → Steps) → ((claim : Stated) → WritesOnly outputs (next claim))
-    → (read : Result Stated TextCause) → WritesOnly outputs (with_statement name next read)
-only_behind_statement outputs name next only (Ok claim) = only claim
-only_behind_statement outputs name next only (Err cause) = tt
+  only_behind_statement : (name : List ℕ) (next : Stated → Steps) → ((claim : Stated) → WritesOnly outputs (next claim))
+      → WritesOnly outputs (statement_steps name next)
+  only_behind_statement name next only bytes = by (statement_of bytes)
+    where
+      by : (read : Result Stated TextCause) → WritesOnly outputs (with_statement name next read)
+      by (Ok claim) = only claim
+      by (Err cause) = tt
 
 -- what is found of a trace decides whether evidence is written
 only_evidence : (name constants : List ℕ) (claim : Stated) (t : Trace) (finding : Verdict)
@@ -141,28 +160,45 @@ only_of_run outputs constants given (ran program last log) =
     ((0, omega arith, refl), λ _. ((1, omega arith, refl), λ _. tt))
 only_of_run outputs constants given (stopped a) = tt
 
+hash_writes : (params numbers : List ℕ) → WritesOnly [] (hash_steps params numbers)
+hash_writes params numbers = only_behind_params [] params (numbers_steps numbers) (λ constants text. tt)
+
+assemble_writes : (params source : List ℕ) (kernel : Option (List ℕ)) → WritesOnly [] (assemble_steps params source kernel)
+assemble_writes params source kernel =
+    only_behind_params [] params (λ constants. source_steps source (λ text. kernel_steps kernel (λ k. ending (assembly constants text k))))
+    (λ constants text. only_behind_kernel [] kernel (λ k. ending (assembly constants (record { name = source; text = text }) k)) (λ k. tt))
+
+run_writes : (params source inputs : List ℕ) (outputs : Outputs) (kernel : Option (List ℕ)) (limit : ℕ)
+    → WritesOnly (outputs.table ∷ outputs.statement ∷ []) (run_steps params source inputs outputs kernel limit)
+run_writes params source inputs outputs kernel limit =
+    only_behind_params names params (λ constants. source_steps source (λ text. inputs_steps inputs (with_given constants text)))
+    (λ constants text. only_behind_inputs names inputs (with_given constants (record { name = source; text = text })) (λ given.
+    only_behind_kernel names kernel (running_steps outputs constants (record { name = source; text = text }) given limit)
+    (λ k course. only_of_run outputs constants given course)))
+  where
+    names : List (List ℕ)
+    names = outputs.table ∷ outputs.statement ∷ []
+
+    with_given : List ℕ → SourceFile → Given → Steps
+    with_given constants text given = kernel_steps kernel (running_steps outputs constants text given limit)
+
+check_writes : (params table statement evidence : List ℕ) → WritesOnly (evidence ∷ []) (check_steps params table statement evidence)
+check_writes params table statement evidence =
+    only_behind_params (evidence ∷ []) params (λ constants. trace_steps table (with_table constants)) (λ constants.
+    only_behind_trace (evidence ∷ []) table (with_table constants) (λ t.
+    only_behind_statement (evidence ∷ []) statement (judging_steps evidence constants t) (λ claim. only_evidence evidence constants claim t)))
+  where
+    with_table : List ℕ → Trace → Steps
+    with_table constants trace = statement_steps statement (judging_steps evidence constants trace)
+
 pub commands_write : CommandsWrite
 commands_write nothing steps is = absurd (cc)
-commands_write (hash params numbers) steps is =
-    subst (WritesOnly []) (some_steps _ _ is)
-    (λ bytes. only_behind_params [] params (numbers_steps numbers) (λ constants text. tt) (parameters_of bytes))
-commands_write (assemble params source kernel) steps is =
-    subst (WritesOnly []) (some_steps _ _ is)
-    (λ bytes. only_behind_params [] params (assembly_steps source kernel)
-    (λ constants text. only_behind_kernel [] kernel _ (λ k. tt)) (parameters_of bytes))
+commands_write (hash params numbers) steps is = subst (WritesOnly []) (some_steps _ _ is) (hash_writes params numbers)
+commands_write (assemble params source kernel) steps is = subst (WritesOnly []) (some_steps _ _ is) (assemble_writes params source kernel)
 commands_write (run params source inputs outputs kernel limit) steps is =
-    let names = outputs.table ∷ outputs.statement ∷ [] in
-    subst (WritesOnly names) (some_steps _ _ is)
-    (λ bytes. only_behind_params names params (run_source_steps outputs source inputs kernel limit) (λ constants text more.
-    only_behind_inputs names inputs (kernel_steps outputs constants (record { name = source; text = text }) kernel limit) (λ given.
-    only_behind_kernel names kernel (running_steps outputs constants (record { name = source; text = text }) given limit)
-    (λ k course. only_of_run outputs constants given course)) (inputs_of more)) (parameters_of bytes))
+    subst (WritesOnly (outputs.table ∷ outputs.statement ∷ [])) (some_steps _ _ is) (run_writes params source inputs outputs kernel limit)
 commands_write (check params table statement evidence) steps is =
-    subst (WritesOnly (evidence ∷ [])) (some_steps _ _ is)
-    (λ bytes. only_behind_params (evidence ∷ []) params (table_steps table statement evidence) (λ constants text.
-    only_behind_trace (evidence ∷ []) table (statement_steps statement evidence constants) (λ t said.
-    only_behind_statement (evidence ∷ []) statement (judging_steps evidence constants t) (λ claim. only_evidence evidence constants claim t)
-    (statement_of said)) (trace_of text)) (parameters_of bytes))
+    subst (WritesOnly (evidence ∷ [])) (some_steps _ _ is) (check_writes params table statement evidence)
 
 are_steps : (steps : Steps) → Some steps ≡ None → ⊥
 are_steps steps none = cc

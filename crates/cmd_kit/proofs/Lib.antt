@@ -3,6 +3,7 @@ pub mod CompleteLaw
 pub mod Completeness
 pub mod EvidenceLaw
 pub mod LawLemmas
-pub mod Walks
+pub mod LentFiles
 pub mod OutcomeLemmas
 pub mod ServingLemmas
+pub mod Walks

@@ -7,7 +7,8 @@ use Rattle.cmd_kit.specs.declared.status.Status.TheVariants as status
 use Rattle.cmd_kit.specs.declared.answer.Answer.{Answer}
 use Rattle.cmd_kit.specs.Steps.{End, Right, Question, Finding, Steps, reading, writing, asking, ending, ends_with}
 use Rattle.rpo_hash.specs.declared.params.ParamError.{ParamError}
-use Rattle.cmd_kit.specs.Commands.{EndsAs, Finds, IsRight, with_params}
+use Rattle.cmd_kit.specs.Commands.{EndsAs, Finds, IsRight}
+use Rattle.cmd_kit.specs.Starts.{with_params}
 use Rattle.cmd_kit.specs.Serving.{Holds, Passes, none_yet, past_read, past_write, past_finding, ComesWhere, Concludes, RefusesFile}
 
 -- one step was taken, and the rest lead on

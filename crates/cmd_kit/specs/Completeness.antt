@@ -17,12 +17,13 @@ use Rattle.vm_io.specs.Sink.{SinkState}
 use Rattle.cmd_kit.specs.declared.status.Status.{Status}
 use Rattle.cmd_kit.specs.declared.status.Status.TheVariants as status
 use Rattle.cmd_kit.specs.Statuses.{StatusKind, planned, no_command, failed_read, failed_write, failed_print, no_memory, kind_of}
-use Rattle.cmd_kit.specs.Asked.{Asked, Outputs, hash, assemble, run, check, asked}
+use Rattle.cmd_kit.specs.Asked.{Asked, nothing, hash, assemble, run, check, asked}
 use Rattle.cmd_kit.specs.Steps.{SourceFile, accepted}
 use Rattle.cmd_kit.specs.SourceEnds.{AssemblesFiles}
 use Rattle.cmd_kit.specs.RunEnds.{outcome_of}
 use Rattle.cmd_kit.specs.CheckEnds.{IsVerdictFor}
-use Rattle.cmd_kit.specs.Commands.{most_params_bytes, most_numbers_bytes, most_source_bytes, most_inputs_bytes}
+use Rattle.cmd_kit.specs.Starts.{most_params_bytes, most_source_bytes, most_inputs_bytes}
+use Rattle.cmd_kit.specs.HashSteps.{most_numbers_bytes}
 use Rattle.cmd_kit.specs.Serving.{Serves}
 
 -- a file stands under the name, is not too long, and reads as this
@@ -43,23 +44,56 @@ HoldsKernel m None kernel = kernel ≡ None
 HoldsKernel m (Some name) kernel =
     (text : List ℕ) × HoldsSource m (record { name = name; text = text }) × (kernel ≡ Some (record { name = name; text = text }))
 
--- The files of a command are there, not too long and of their forms, and what they say has an answer: the source has a program, its
--- run ends within the limit, the trace is accepted.
-pub data IsGood (m : Files) : Asked → Type 0 where
-  hashes : (params numbers constants elements : List ℕ) → FileSays m params most_params_bytes parameters_of constants
-      → FileSays m numbers most_numbers_bytes numbers_of elements → IsGood m (hash params numbers)
-  assembles : (params constants : List ℕ) (source : SourceFile) (name : Option (List ℕ)) (kernel : Option SourceFile) (program : Program)
-      → FileSays m params most_params_bytes parameters_of constants → HoldsSource m source → HoldsKernel m name kernel
-      → AssemblesFiles constants source kernel (Ok program) → IsGood m (assemble params source.name name)
-  runs : (params constants inputs : List ℕ) (source : SourceFile) (name : Option (List ℕ)) (kernel : Option SourceFile) (outputs : Outputs)
-      (limit : ℕ) (given : Given) (program : Program) (last : State) (log : List execution.Event)
-      → FileSays m params most_params_bytes parameters_of constants → HoldsSource m source → FileSays m inputs most_inputs_bytes inputs_of given
-      → HoldsKernel m name kernel → AssemblesFiles constants source kernel (Ok program)
-      → outcome_of constants program given limit ≡ Done last log → IsGood m (run params source.name inputs outputs name limit)
-  checks : (params table statement evidence constants : List ℕ) (trace : Trace) (claim : Stated)
-      → FileSays m params most_params_bytes parameters_of constants → FileSays m table most_table_bytes trace_of trace
-      → FileSays m statement most_statement_bytes statement_of claim → IsVerdictFor constants claim trace accepted
-      → IsGood m (check params table statement evidence)
+-- The files of a command are there, not too long and of their forms, and what they say has an answer.
+pub record IsGoodHash (m : Files) (params numbers : List ℕ) : Type 0 where
+  pub constants : List ℕ
+  pub elements : List ℕ
+  pub params_say : FileSays m params most_params_bytes parameters_of constants
+  pub numbers_say : FileSays m numbers most_numbers_bytes numbers_of elements
+
+-- the source has a program
+pub record IsGoodAssembly (m : Files) (params source : List ℕ) (name : Option (List ℕ)) : Type 0 where
+  pub constants : List ℕ
+  pub text : List ℕ
+  pub kernel : Option SourceFile
+  pub program : Program
+  pub params_say : FileSays m params most_params_bytes parameters_of constants
+  pub source_stands : HoldsSource m (record { name = source; text = text })
+  pub kernel_stands : HoldsKernel m name kernel
+  pub assembled : AssemblesFiles constants (record { name = source; text = text }) kernel (Ok program)
+
+-- its run ends within the limit
+pub record IsGoodRun (m : Files) (params source inputs : List ℕ) (name : Option (List ℕ)) (limit : ℕ) : Type 0 where
+  pub constants : List ℕ
+  pub text : List ℕ
+  pub given : Given
+  pub kernel : Option SourceFile
+  pub program : Program
+  pub last : State
+  pub log : List execution.Event
+  pub params_say : FileSays m params most_params_bytes parameters_of constants
+  pub source_stands : HoldsSource m (record { name = source; text = text })
+  pub inputs_say : FileSays m inputs most_inputs_bytes inputs_of given
+  pub kernel_stands : HoldsKernel m name kernel
+  pub assembled : AssemblesFiles constants (record { name = source; text = text }) kernel (Ok program)
+  pub done : outcome_of constants program given limit ≡ Done last log
+
+-- the trace is accepted
+pub record IsGoodCheck (m : Files) (params table statement : List ℕ) : Type 0 where
+  pub constants : List ℕ
+  pub trace : Trace
+  pub claim : Stated
+  pub params_say : FileSays m params most_params_bytes parameters_of constants
+  pub table_says : FileSays m table most_table_bytes trace_of trace
+  pub statement_says : FileSays m statement most_statement_bytes statement_of claim
+  pub found : IsVerdictFor constants claim trace accepted
+
+abbrev pub IsGood : Files → Asked → Type 0
+IsGood m nothing = ⊥
+IsGood m (hash params numbers) = IsGoodHash m params numbers
+IsGood m (assemble params source kernel) = IsGoodAssembly m params source kernel
+IsGood m (run params source inputs outputs kernel limit) = IsGoodRun m params source inputs kernel limit
+IsGood m (check params table statement evidence) = IsGoodCheck m params table statement
 
 -- a read, a write or a print failed, or memory was refused
 abbrev pub IsFault : StatusKind → Type 0

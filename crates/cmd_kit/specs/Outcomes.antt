@@ -32,6 +32,19 @@ EndsIn steps outcome.Memory old new = GivesUp steps old new
 abbrev pub Continues : Steps → Steps → ShelfState → ShelfState → Type 0
 Continues steps rest old mid = (end : Outcome) (new : ShelfState) → EndsIn (Some rest) end mid new → EndsIn (Some steps) end old new
 
+-- Steps that begin with what a file says go on with this value, whatever they are.
+abbrev pub Loads : {A : Type 0} → ((A → Steps) → Steps) → A → ShelfState → ShelfState → Type 0
+Loads {A} steps value old mid = (next : A → Steps) → Continues (steps next) (next value) old mid
+
+-- Steps that begin with what a file says ended there, whatever was to come.
+abbrev pub EndsThere : {A : Type 0} → ((A → Steps) → Steps) → Outcome → ShelfState → ShelfState → Type 0
+EndsThere {A} steps end old new = (next : A → Steps) → EndsIn (Some (steps next)) end old new
+
+-- what a command ended with, early or behind its last step
+abbrev pub either : Result Outcome Outcome → Outcome
+either (Ok end) = end
+either (Err end) = end
+
 -- an answer that is this status with this line, unless memory is refused
 abbrev pub SaysStatus : Outcome → Status → List ℕ → Type 0
 SaysStatus (outcome.Ends a) s line = a ≡ ends_with s line

@@ -3,4 +3,4 @@ use Rattle.cmd_kit.specs.Steps.{SourceFile}
 use Rattle.cmd_kit.specs.declared.source.SourceFile as held
 
 abbrev pub file_of : held.SourceFile → SourceFile
-file_of f = record { name = f.name.now; text = f.text.now }
+file_of f = record { name = f.name.now; text = f.text }

@@ -26,6 +26,8 @@ pub data End : Type 0 where
 
 -- Which bytes are right for a file that is written. There may be several.
 pub data Right : Type 0 where
+  -- these and no others
+  exactly : (bytes : List ℕ) → Right
   -- the tables of a run that ended in a state with this log, under these constants and with this kernel
   tables_of : (constants : List ℕ) (kernel : List (List ℕ)) (last : State) (log : List run.Event) → Right
   -- the text of what is claimed

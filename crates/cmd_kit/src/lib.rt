@@ -12,22 +12,21 @@ mod refusals;
 mod saving;
 mod saving_pieces;
 mod source;
+mod starts;
 mod status;
 
 pub use answer::Answer;
-pub use bad_forms::{malformed, malformed_params, malformed_table, malformed_text};
+pub use bad_forms::malformed;
 pub use laws::{
     accepted_has_evidence, good_files_are_served, other_files_stay, usage_is_for_no_command,
     written_run_is_accepted,
 };
 pub use lines::append_word;
-pub use loading::{
-    MOST_INPUTS_BYTES, MOST_PARAMS_BYTES, MOST_SOURCE_BYTES, MOST_STATEMENT_BYTES,
-    MOST_TABLE_BYTES, load, load_pieces,
-};
+pub use loading::load;
 pub use outcome::{Outcome, answered, named_answer};
 pub use refusals::refused_line;
 pub use saving::save;
 pub use saving_pieces::save_pieces;
 pub use source::{SourceFile, assemble_sources, name_of_place, refused_source};
+pub use starts::{load_inputs, load_kernel, load_params, load_source, load_statement, load_trace};
 pub use status::Status;

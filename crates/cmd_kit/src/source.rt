@@ -14,37 +14,38 @@ use rpo_hash::Params;
 use std::alloc::Global;
 use vm_field::{Bytes, Memory};
 
-/// A file of source.
-#[derive(Clone, Copy)]
+/// A file of source: its name, and its bytes.
+#[derive(Drop)]
 pub struct SourceFile<'a> {
     pub name: &'a str,
-    pub text: &'a [u8],
+    pub text: Bytes,
 }
 
 /// The program of a source with a kernel, or with none.
 pub fn assemble_sources(
     alloc: Global,
     constants: &Params,
-    source: SourceFile<'_>,
-    kernel: Option<SourceFile<'_>>,
+    source: &SourceFile<'_>,
+    kernel: Option<&SourceFile<'_>>,
 ) -> Result<Program, AsmError>
-    requires source { length source.text.now ≤ 1048576 }
-    requires kernel { IfSome kernel (λ k. length k.text.now ≤ 1048576) }
-    ensures { AssemblesFiles (constants_of constants.now) (file_of source.entry) (option_map file_of kernel.entry) result }
+    requires source { length source.now.text ≤ 1048576 }
+    requires kernel { IfSome kernel (λ k. length k.now.text ≤ 1048576) }
+    ensures { AssemblesFiles (constants_of constants.now) (file_of source.now) (option_map (λ k. file_of k.now) kernel.entry) result }
 {
+    let text = source.text.as_slice();
     match kernel {
-        Some(kernel) => assemble(alloc, constants, source.text, Some(kernel.text)),
-        None => assemble(alloc, constants, source.text, None),
+        Some(kernel) => assemble(alloc, constants, text, Some(kernel.text.as_slice())),
+        None => assemble(alloc, constants, text, None),
     }
 }
 
 /// The name of the file in which a place lies.
 pub fn name_of_place<'a>(
     in_kernel: bool,
-    source: SourceFile<'a>,
-    kernel: Option<SourceFile<'a>>,
+    source: &SourceFile<'a>,
+    kernel: Option<&SourceFile<'a>>,
 ) -> &'a str
-    ensures { result.now ≡ name_by_place in_kernel (file_of source.entry) (option_map file_of kernel.entry) }
+    ensures { result.now ≡ name_by_place in_kernel (file_of source.now) (option_map (λ k. file_of k.now) kernel.entry) }
 {
     match kernel {
         Some(kernel) if in_kernel => kernel.name,

@@ -1,2 +1,3 @@
 pub mod CourseLemmas
 pub mod RunLemmas
+pub mod RunReads

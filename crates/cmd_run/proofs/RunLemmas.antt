@@ -15,7 +15,8 @@ use Rattle.cmd_kit.specs.declared.outcome.Outcome.{Outcome}
 use Rattle.cmd_kit.specs.declared.outcome.Outcome.TheVariants as outcome
 use Rattle.cmd_kit.specs.declared.status.Status.TheVariants as status
 use Rattle.cmd_kit.specs.Asked.{Outputs}
-use Rattle.cmd_kit.specs.Commands.{IsRight, course_steps, running_steps}
+use Rattle.cmd_kit.specs.Commands.{IsRight}
+use Rattle.cmd_kit.specs.RunSteps.{course_steps, running_steps}
 use Rattle.cmd_run.specs.Courses.{Came, Stopped}
 use Rattle.cmd_run.specs.Saves.{EndsRun, SavesBoth, SavesLast}
 use Rattle.cmd_kit.specs.Outcomes.{EndsIn, Continues, SaysStatus}

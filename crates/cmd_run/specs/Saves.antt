@@ -12,7 +12,8 @@ use Rattle.vm_io.specs.Shelf.{ShelfState}
 use Rattle.cmd_kit.specs.declared.outcome.Outcome.{Outcome}
 use Rattle.cmd_kit.specs.declared.status.Status.TheVariants as status
 use Rattle.cmd_kit.specs.Asked.{Outputs}
-use Rattle.cmd_kit.specs.Commands.{IsRight, ran_steps}
+use Rattle.cmd_kit.specs.Commands.{IsRight}
+use Rattle.cmd_kit.specs.RunSteps.{ran_steps}
 use Rattle.cmd_kit.specs.Outcomes.{EndsIn}
 use Rattle.cmd_kit.specs.Steps.{Right, stop, writing, ending}
 

@@ -33,17 +33,17 @@ pub(crate) struct Course {
 pub(crate) fn course_of(
     alloc: Global,
     constants: &Params,
-    source: SourceFile<'_>,
-    kernel: Option<SourceFile<'_>>,
+    source: &SourceFile<'_>,
+    kernel: Option<&SourceFile<'_>>,
     inputs: &Inputs,
     limit: u32,
 ) -> Result<Course, Outcome>
-    requires source { length source.text.now ≤ 1048576 }
-    requires kernel { IfSome kernel (λ k. length k.text.now ≤ 1048576) }
+    requires source { length source.now.text ≤ 1048576 }
+    requires kernel { IfSome kernel (λ k. length k.now.text ≤ 1048576) }
     requires limit { limit ≤ 524287 }
-    ensures came { IfOk result (Came constants.now (file_of source.entry) (option_map file_of kernel.entry) (given_of inputs.now) limit) }
-    ensures stopped { IfErr result (Stopped (constants_of constants.now) (file_of source.entry)
-        (option_map file_of kernel.entry) (given_of inputs.now) limit) }
+    ensures came { IfOk result (Came constants.now (file_of source.now) (option_map (λ k. file_of k.now) kernel.entry) (given_of inputs.now) limit) }
+    ensures stopped { IfErr result (Stopped (constants_of constants.now) (file_of source.now)
+        (option_map (λ k. file_of k.now) kernel.entry) (given_of inputs.now) limit) }
 {
     match assemble_sources(alloc, constants, source, kernel) {
         Ok(program) => run_of(alloc, constants, program, inputs, limit),

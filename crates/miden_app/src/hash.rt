@@ -1,14 +1,12 @@
 // `hash`: the digest of a file of numbers.
 ghost use Rattle.std.specs.Prelude.{◌≡◌, ◌≤◌, length, IfOk, Some};
 ghost use Rattle.rpo_hash.specs.Constants.{constants_of};
-ghost use Rattle.cmd_kit.specs.Commands.{hash_steps, numbers_steps};
+ghost use Rattle.cmd_kit.specs.HashSteps.{hash_steps, numbers_steps};
 ghost use Rattle.cmd_kit.specs.Outcomes.{ComesTo, EndsIn, SaysStatus};
 ghost use Rattle.number_files.specs.Grammar.{numbers_of};
 ghost use Rattle.cmd_kit.specs.HashEnds.{hash_end, digest_line};
 
-use cmd_kit::{
-    MOST_PARAMS_BYTES, Outcome, Status, answered, append_word, load, malformed, malformed_params,
-};
+use cmd_kit::{Outcome, Status, answered, append_word, load, load_params, malformed};
 use number_files::{NumbersStop, cause_text, digest_of_elements, read_numbers};
 use rpo_hash::Params;
 use std::alloc::Global;
@@ -20,17 +18,13 @@ const MOST_NUMBERS_BYTES: u64 = 262144;
 
 /// `hash`: reads the parameters, then the numbers, and hashes these, eight to a block, with
 /// domain 0.
-#[tactic(auto, using(cmd_kit::proofs::ServingLemmas::work_ends, cmd_kit::proofs::ServingLemmas::says_comes))]
 pub fn hash_files<F: Shelf>(alloc: Global, shelf: &mut F, params: &str, numbers: &str) -> Outcome
     requires params { length params.now ≤ 200 }
     requires numbers { length numbers.now ≤ 200 }
     ensures { EndsIn (Some (hash_steps params.now numbers.now)) result (F.state shelf.old) (F.state shelf.new) }
 {
-    match load(alloc, shelf, params, MOST_PARAMS_BYTES) {
-        Ok(bytes) => match Params::read(bytes.as_slice()) {
-            Ok(constants) => hash_file(alloc, shelf, &constants, numbers),
-            Err(error) => malformed_params(alloc, params, error),
-        },
+    match load_params(alloc, shelf, params) {
+        Ok(constants) => hash_file(alloc, shelf, &constants, numbers),
         Err(end) => end,
     }
 }

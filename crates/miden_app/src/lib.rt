@@ -1,4 +1,4 @@
-//! The commands of the program, over a shelf of files and a sink for what is printed.
+//! What the words ask for, done over a shelf of files and printed to a sink; and the command `hash`.
 #![tactic(auto)]
 
 mod hash;
