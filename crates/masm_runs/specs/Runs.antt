@@ -3,7 +3,7 @@ use Rattle.std.specs.Prelude.{◌≡◌, ◌≢◌, ℕ, ◌≤◌, List, [], Op
 use Rattle.std.specs.List.{AllByRecursion}
 use Rattle.vm_field.specs.Machine.{State}
 use Rattle.vm_ops.specs.declared.cause.Cause.{Cause}
-use Rattle.vm_ops.specs.declared.cause.Cause.TheVariants.{OpaqueBlock, BadBatch, NestedTooDeep}
+use Rattle.vm_ops.specs.declared.cause.Cause.TheVariants as cause
 use Rattle.block_tree.specs.declared.program.Program.{Program}
 use Rattle.block_tree.specs.Behind.{HasReading}
 use Rattle.block_tree.specs.Execution.{Outcome, Done, Trap, OutOfCycles, execution}
@@ -23,10 +23,20 @@ IsReady (Syscall callee) = IsReady callee
 
 -- a cause that comes of the values of the run, and not of the form of the tree
 abbrev pub IsOfValues : Cause → Type 0
-IsOfValues OpaqueBlock = ⊥
-IsOfValues BadBatch = ⊥
-IsOfValues NestedTooDeep = ⊥
-IsOfValues cause = Unit {0}
+IsOfValues cause.NestedTooDeep = ⊥
+IsOfValues cause.OpaqueBlock = ⊥
+IsOfValues cause.BadBatch = ⊥
+IsOfValues cause.NotBinary = Unit {0}
+IsOfValues cause.CallInSyscall = Unit {0}
+IsOfValues cause.NotInKernel = Unit {0}
+IsOfValues cause.DepthAtReturn = Unit {0}
+IsOfValues cause.ZeroInverse = Unit {0}
+IsOfValues cause.AddressRange = Unit {0}
+IsOfValues cause.NotInSyscall = Unit {0}
+IsOfValues cause.AdviceEmpty = Unit {0}
+IsOfValues cause.NotU32 = Unit {0}
+IsOfValues cause.DivideByZero = Unit {0}
+IsOfValues cause.AssertFailed = Unit {0}
 
 -- where the run traps, it is for such a cause
 abbrev pub TrapsForValues : Outcome → Type 0

@@ -1,5 +1,5 @@
 -- The first parts of tokens that the grammar knows.
-use Rattle.std.specs.Prelude.{ℕ, ◌+◌, ◌%◌, Bool, true, false, if◌then◌else◌, List, [], ◌∷◌, length, slice_index, Option, Some, None, bytes_eq, codes}
+use Rattle.std.specs.Prelude.{ℕ, ◌+◌, ◌*◌, ◌%◌, Bool, true, false, if◌then◌else◌, List, [], ◌∷◌, length, slice_index, Option, Some, None, bytes_eq, codes}
 use Rattle.masm_tree.specs.declared.keyword.Keyword.{Keyword}
 use Rattle.masm_tree.specs.declared.keyword.Keyword.TheVariants as keywords
 
@@ -35,7 +35,7 @@ keyword_of text = first_keyword every_keyword text
 
 -- How the keyword of a text is looked up: by a number below 32 that no two keywords share.
 unfoldable pub slot : List ℕ → ℕ
-slot text = (slice_index text 1 + length text % 32) % 32
+slot text = (slice_index text 0 + slice_index text 1 + 4 * (length text % 32)) % 32
 
 -- whether no kernel may have it
 abbrev pub is_kept_from_kernels : Keyword → Bool

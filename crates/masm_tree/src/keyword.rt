@@ -1,4 +1,4 @@
-ghost use Rattle.std.specs.Prelude.{◌≡◌, ◌<◌, Some, slice_get};
+ghost use Rattle.std.specs.Prelude.{◌≡◌, ◌<◌, Some, slice_get, slice_index};
 ghost use Rattle.masm_tree.specs.Keywords.{text_of_keyword, keyword_of, slot, is_kept_from_kernels};
 
 // A first part of a token that the grammar knows.
@@ -63,21 +63,28 @@ impl Keyword {
 
 // For each slot the place in `KEYWORDS` of the one keyword that may have it; 0 where there is none.
 const SLOTS: [u8; 32] = [
-    10, 0, 0, 0, 0, 9, 0, 0, 4, 0, 3, 7, 0, 6, 0, 0, 5, 11, 0, 0, 0, 0, 1, 0, 0, 0, 0, 0, 8, 0, 2,
-    0,
+    0, 5, 0, 0, 0, 0, 0, 0, 10, 0, 0, 0, 0, 8, 0, 7, 0, 0, 1, 6, 9, 2, 0, 4, 0, 0, 0, 3, 0, 0, 0,
+    11,
 ];
 
-// The slot of a text, by its length and its second byte. Those of the keywords are all different.
+// The byte at a place, and 0 behind the end.
+fn byte_at(text: &[u8], place: usize) -> usize
+    ensures byte { result ≡ slice_index text.now place }
+    ensures bound { result < 256 }
+{
+    match text.get(place) {
+        Some(byte) => usize::from(*byte),
+        None => 0,
+    }
+}
+
+// The slot of a text, by its length and its first two bytes. Those of the keywords are all different.
 #[tactic(auto, unfolding(crate::specs::Keywords::slot))]
 fn slot(text: &[u8]) -> usize
     ensures slot { result ≡ slot text.now }
     ensures bound { result < 32 }
 {
-    let second = match text.get(1) {
-        Some(byte) => usize::from(*byte),
-        None => 0,
-    };
-    (second + text.len() % 32) % 32
+    (byte_at(text, 0) + byte_at(text, 1) + 4 * (text.len() % 32)) % 32
 }
 
 fn keyword_at(keywords: &[Keyword], place: usize) -> Option<Keyword>
