@@ -1,10 +1,11 @@
-ghost use Rattle.std.specs.Prelude.{◌≡◌, true, IfSome};
+ghost use Rattle.std.specs.Prelude.{◌≡◌, length, true, IfOk, IfSome};
 ghost use Rattle.air_kit.specs.Flags.{HasBits};
+ghost use Rattle.bus_kit.specs.ByBus.{HaveRoom};
 ghost use Rattle.bus_main.specs.RowTuples.{IsReadable};
 
 use air_kit::{Place, Public};
 use bus_blocks::positions;
-use bus_kit::{Tallies, Tuple};
+use bus_kit::{Tallies, Tuple, Unequal};
 use bus_main::tuples;
 use buses::Bus;
 use rpo_hash::Params;
@@ -13,7 +14,7 @@ use std::test::Fail;
 use vm_field::{Felt, Felts, Memory, Word, Words};
 use vm_ops::{Op, opcode};
 use vm_state::Statement;
-use vm_table::{MainView, Table};
+use vm_table::{MainView, Row, Table};
 
 /// A row with its operation and cells, the row behind it, and the least tuple of one bus that is asked
 /// and given unequally often.
@@ -180,7 +181,12 @@ fn cells_of(op: Op, changes: &[(usize, u32)]) -> [Felt; 65] {
 }
 
 fn public(alloc: Global) -> Result<Public, Memory> {
-    let digest = Word([11, 12, 13, 14].map(Felt::from_u32));
+    let digest = Word([
+        Felt::from_u32(11),
+        Felt::from_u32(12),
+        Felt::from_u32(13),
+        Felt::from_u32(14),
+    ]);
     let outputs = Felts::copied(alloc, &[Felt::ZERO; 16])?;
     Ok(Public {
         params: Params {
@@ -220,25 +226,42 @@ fn may_follow<V: MainView>(next: &Option<V>) -> bool
     }
 }
 
-// The tallies behind a row, with or without the row behind it.
-fn tallied(alloc: Global, case: &Case, ends: bool) -> Result<Tallies, Memory> {
-    let mut table = Table::<65>::new(alloc);
-    table.push_row(&cells_of(case.op, case.cells))?;
-    table.push_row(&cells_of(Op::Noop, case.next))?;
+// A case's two rows: the one that is counted and the one behind it.
+fn rows(alloc: Global, case: &Case) -> Result<Table<65>, Memory>
+    ensures { IfOk result (λ rows. length rows ≡ 2) }
+{
+    let mut rows = Table::<65>::new(alloc);
+    rows.push_row(&cells_of(case.op, case.cells))?;
+    rows.push_row(&cells_of(Op::Noop, case.next))?;
+    Ok(rows)
+}
+
+// Counts what the row of this place gives and asks, and says whether it could be read.
+fn count_place(place: &Place<'_, Row<'_, 65>>, tallies: &mut Tallies) -> Result<bool, Memory>
+    requires { HaveRoom tallies.old }
+{
+    if is_readable(&place.cur) && may_follow(&place.next) {
+        tuples(place, tallies).and(Ok(true))
+    } else {
+        Ok(false)
+    }
+}
+
+// Counts a case's row, with or without the row behind it.
+fn count(alloc: Global, case: &Case, ends: bool, tallies: &mut Tallies) -> Result<bool, Memory>
+    requires { HaveRoom tallies.old }
+{
     let public = public(alloc)?;
+    let rows = rows(alloc, case)?;
     let place = Place {
-        cur: table.row(0),
-        next: if ends { None } else { Some(table.row(1)) },
+        cur: rows.row(0),
+        next: if ends { None } else { Some(rows.row(1)) },
         row: case.number,
         lengths: [0; 7],
         left_key: Felt::ZERO,
         public: &public,
     };
-    let mut tallies = Tallies::new(alloc);
-    if is_readable(&place.cur) && may_follow(&place.next) {
-        tuples(&place, &mut tallies)?;
-    }
-    Ok(tallies)
+    count_place(&place, tallies)
 }
 
 fn is_of(tuple: &Tuple, numbers: &[u64]) -> bool {
@@ -246,51 +269,47 @@ fn is_of(tuple: &Tuple, numbers: &[u64]) -> bool {
     if elements.len() != numbers.len() {
         return false;
     }
-    for (element, number) in elements.iter().zip(numbers) {
-        if element.value() != *number {
+    for i in 0..elements.len() {
+        if elements[i].value() != numbers[i] {
             return false;
         }
     }
     true
 }
 
-fn counts(alloc: Global, case: &Case) -> Result<bool, Memory> {
-    let tallies = tallied(alloc, case, false)?;
-    match tallies.of(case.bus).unequal() {
+// Whether this is apart behind the case's row. The first row gives the digest even where it is the last; another last row
+// gives nothing.
+fn is_apart(found: &Option<Unequal>, case: &Case, ends: bool) -> bool {
+    match found {
+        Some(_) if ends => case.number == 0,
         Some(apart) => {
-            Ok(
-                is_of(&apart.tuple, case.tuple)
-                    && apart.asked == case.asked
-                    && apart.given == case.given,
-            )
+            is_of(&apart.tuple, case.tuple)
+                && apart.asked == case.asked
+                && apart.given == case.given
         }
-        None => Ok(false),
+        None => ends && case.number != 0,
     }
 }
 
-fn counts_all(alloc: Global, cases: &[Case]) -> Result<bool, Memory> {
-    for case in cases {
-        if !counts(alloc, case)? {
-            return Ok(false);
-        }
-    }
-    Ok(true)
+// Whether a row's tallies are as its case says. Nothing returns before the end: the proof pays for the tallies at each return.
+fn is_counted(alloc: Global, case: &Case, ends: bool) -> Result<bool, Memory> {
+    let mut tallies = Tallies::new(alloc);
+    let done = count(alloc, case, ends, &mut tallies);
+    let is_right = is_apart(&tallies.of(case.bus).unequal(), case, ends);
+    done.map(|is_read| is_read && is_right)
 }
 
-// The first row gives the digest even where it is the last; another last row gives nothing.
-fn last_rows_count(alloc: Global, cases: &[Case]) -> Result<bool, Memory> {
+fn are_counted(alloc: Global, cases: &[Case]) -> Result<bool, Memory> {
+    let mut all = true;
     for case in cases {
-        let tallies = tallied(alloc, case, true)?;
-        if tallies.of(case.bus).unequal().is_some() != (case.number == 0) {
-            return Ok(false);
-        }
+        all = is_counted(alloc, case, false)? && all;
+        all = is_counted(alloc, case, true)? && all;
     }
-    Ok(true)
+    Ok(all)
 }
 
 #[test]
 fn counts_on_each_bus(rt: HostRuntime) -> Result<(), Fail> {
-    assert!(rt; counts_all(rt.alloc(), &CASES)?);
-    assert!(rt; last_rows_count(rt.alloc(), &CASES)?);
+    assert!(rt; are_counted(rt.alloc(), &CASES)?);
     Ok(())
 }

@@ -10,8 +10,8 @@ use vm_field::{Felt, Felts, Memory, Word, Words};
 use vm_state::Statement;
 use vm_table::Table;
 
-/// Constants that are all 0.
-pub const NO_CONSTANTS: Params = Params {
+// Constants that are all 0.
+const NO_CONSTANTS: Params = Params {
     first: [[Felt::ZERO; 12]; 7],
     second: [[Felt::ZERO; 12]; 7],
 };
@@ -25,6 +25,9 @@ pub struct Run {
     /// The main table's cells, and how many rows it has.
     pub main: &'static [Cell],
     pub rows: usize,
+    /// The value below 2^16 that is asked, once, if there is one, and how many rows the range table has.
+    pub asked: Option<u32>,
+    pub range_rows: usize,
     /// The hasher's.
     pub hasher: &'static [Cell],
     pub hasher_rows: usize,
@@ -37,8 +40,11 @@ pub struct Run {
     pub outputs: &'static [u64],
 }
 
-// A read of a word that nothing was written to.
-static READ: [Cell; 1] = [(0, 8, 1)];
+// Reads of a word that nothing was written to, in cycles 0 and 1.
+static READS: [Cell; 2] = [(0, 8, 1), (1, 3, 1)];
+
+// The steps between the values of the range table.
+static STEPS: [u32; 8] = [2187, 729, 243, 81, 27, 9, 3, 1];
 
 /// What a case changes: a cell of a table.
 pub struct Change {
@@ -66,72 +72,78 @@ fn write<const W: usize>(cells: &mut [Felt; W], row: usize, cell: &Cell) {
     }
 }
 
-// The table of these cells, but for those that are changed.
-fn table<const W: usize>(
-    alloc: Global,
+// Adds a row, but for its cells that are changed.
+fn push_row<const W: usize>(
+    table: &mut Table<W>,
+    name: TableName,
+    cells: &mut [Felt; W],
+    changes: &[Change],
+) -> Result<(), Memory> {
+    let row = table.rows();
+    for change in changes {
+        if change.table == name {
+            write(cells, row, &change.cell);
+        }
+    }
+    table.push_row(cells)
+}
+
+// Adds the rows of these cells, but for those that are changed.
+fn fill<const W: usize>(
+    table: &mut Table<W>,
     name: TableName,
     rows: usize,
     cells: &[Cell],
     changes: &[Change],
-) -> Result<Table<W>, Memory>
+) -> Result<(), Memory>
     requires { W ≤ 65 }
 {
-    let mut table = Table::new(alloc);
     for row in 0..rows {
         let mut written = [Felt::ZERO; W];
         for cell in cells {
             write(&mut written, row, cell);
         }
-        for change in changes {
-            if change.table == name {
-                write(&mut written, row, &change.cell);
-            }
-        }
-        table.push_row(&written)?;
+        push_row(table, name, &mut written, changes)?;
     }
-    Ok(table)
+    Ok(())
 }
 
-// From 0 to 65535, each asked value with its count, by the greatest steps between; here 1023 alone is asked, once.
-fn range_table(alloc: Global, changes: &[Change]) -> Result<Table<2>, Memory> {
-    let mut table = Table::new(alloc);
+// The value behind this one: by the greatest step that passes neither the value that is asked nor 65535.
+fn next_value(value: u32, asked: Option<u32>) -> u32 {
+    let end = match asked {
+        Some(asked) if value < asked => asked,
+        _ => 65535,
+    };
+    let rest = end.saturating_sub(value);
+    for step in &STEPS {
+        if *step <= rest {
+            return value.saturating_add(*step);
+        }
+    }
+    value
+}
+
+// Adds the values from 0 to 65535, each with how often it is asked.
+fn fill_range(table: &mut Table<2>, run: &Run, changes: &[Change]) -> Result<(), Memory> {
     let mut value = 0u32;
-    for row in 0..42usize {
-        let count = if value == 1023 { Felt::ONE } else { Felt::ZERO };
-        let mut written = [count, Felt::from_u32(value)];
-        for change in changes {
-            if change.table == TableName::Range {
-                write(&mut written, row, &change.cell);
-            }
-        }
-        table.push_row(&written)?;
-        let end = if value < 1023 { 1023u32 } else { 65535 };
-        let rest = end.saturating_sub(value);
-        let step = [2187, 729, 243, 81, 27, 9, 3, 1]
-            .iter()
-            .copied()
-            .find(|step| *step <= rest);
-        value = value.saturating_add(step.unwrap_or(0));
+    for _ in 0..run.range_rows {
+        let count = u32::from(run.asked == Some(value));
+        let mut written = [Felt::from_u32(count), Felt::from_u32(value)];
+        push_row(table, TableName::Range, &mut written, changes)?;
+        value = next_value(value, run.asked);
     }
-    Ok(table)
+    Ok(())
 }
 
-fn left_table(alloc: Global, keys: &[u64], changes: &[Change]) -> Result<Table<1>, Memory> {
-    let mut table = Table::new(alloc);
-    for (row, key) in keys.iter().enumerate() {
-        let mut written = [element(*key)];
-        for change in changes {
-            if change.table == TableName::Left {
-                write(&mut written, row, &change.cell);
-            }
-        }
-        table.push_row(&written)?;
+fn fill_left(table: &mut Table<1>, keys: &[u64], changes: &[Change]) -> Result<(), Memory> {
+    for key in keys {
+        push_row(table, TableName::Left, &mut [element(*key)], changes)?;
     }
-    Ok(table)
+    Ok(())
 }
 
-/// Whether a change is one of a cell that the trace has.
-pub fn is_within(trace: &Trace, change: &Change) -> bool {
+// Whether a change is one of a cell that the trace has.
+fn is_within(trace: &Trace, change: &Change) -> bool {
     let (row, column, _) = change.cell;
     match change.table {
         TableName::Main => row < trace.main.rows() && column < 65,
@@ -144,29 +156,81 @@ pub fn is_within(trace: &Trace, change: &Change) -> bool {
     }
 }
 
-/// The trace of a run with some cells changed, and a row of the kernel's table where there is a kernel.
+/// Whether each change is one of a cell that the trace has.
+pub fn are_within(trace: &Trace, changes: &[Change]) -> bool {
+    let mut all = true;
+    for change in changes {
+        all = all && is_within(trace, change);
+    }
+    all
+}
+
+// Fills the tables of a trace, and gives the kernel's a row where there is a kernel.
+fn fill_all(
+    trace: &mut Trace,
+    run: &Run,
+    has_kernel: bool,
+    changes: &[Change],
+) -> Result<(), Memory> {
+    let kernel_rows = usize::from(has_kernel);
+    fill(
+        &mut trace.main,
+        TableName::Main,
+        run.rows,
+        run.main,
+        changes,
+    )?;
+    fill_range(&mut trace.range, run, changes)?;
+    fill(
+        &mut trace.hasher,
+        TableName::Hasher,
+        run.hasher_rows,
+        run.hasher,
+        changes,
+    )?;
+    fill(
+        &mut trace.bitwise,
+        TableName::Bitwise,
+        run.bitwise_rows,
+        &[],
+        changes,
+    )?;
+    fill(
+        &mut trace.memory,
+        TableName::Memory,
+        run.memory_rows,
+        &READS,
+        changes,
+    )?;
+    fill(
+        &mut trace.kernel,
+        TableName::Kernel,
+        kernel_rows,
+        &[],
+        changes,
+    )?;
+    fill_left(&mut trace.left, run.left, changes)
+}
+
+/// The trace of a run with some cells changed. Its tables are filled where they stand: the proof pays for what a function owns
+/// at each of its returns.
 pub fn trace(
     alloc: Global,
     run: &Run,
     has_kernel: bool,
     changes: &[Change],
 ) -> Result<Trace, Memory> {
-    let kernel_rows = usize::from(has_kernel);
-    Ok(Trace {
-        main: table(alloc, TableName::Main, run.rows, run.main, changes)?,
-        range: range_table(alloc, changes)?,
-        hasher: table(
-            alloc,
-            TableName::Hasher,
-            run.hasher_rows,
-            run.hasher,
-            changes,
-        )?,
-        bitwise: table(alloc, TableName::Bitwise, run.bitwise_rows, &[], changes)?,
-        memory: table(alloc, TableName::Memory, run.memory_rows, &READ, changes)?,
-        kernel: table(alloc, TableName::Kernel, kernel_rows, &[], changes)?,
-        left: left_table(alloc, run.left, changes)?,
-    })
+    let mut trace = Trace {
+        main: Table::new(alloc),
+        range: Table::new(alloc),
+        hasher: Table::new(alloc),
+        bitwise: Table::new(alloc),
+        memory: Table::new(alloc),
+        kernel: Table::new(alloc),
+        left: Table::new(alloc),
+    };
+    fill_all(&mut trace, run, has_kernel, changes)?;
+    Ok(trace)
 }
 
 // A word of zeros as the kernel, or none.

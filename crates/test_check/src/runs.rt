@@ -20,6 +20,8 @@ pub enum Named {
     BitwiseMore,
     /// The same with an access of memory more.
     AccessMore,
+    /// The same with a bitwise operation and two accesses of memory more, and with no value that is asked.
+    NothingAsked,
     /// push.2 push.3 add push.7.
     Pushes,
     /// The same with another key of the second cell that is left.
@@ -48,6 +50,7 @@ impl Named {
             Named::TwoHashes => empty(0, &[], &ZEROS, 16),
             Named::BitwiseMore => empty_beside(8, 0),
             Named::AccessMore => empty_beside(0, 1),
+            Named::NothingAsked => nothing_asked(),
             Named::Pushes => pushes(&[4, 1]),
             Named::OtherKey => pushes(&[4, 2]),
             Named::Push => push(),
@@ -64,6 +67,8 @@ fn empty(digest: u64, inputs: &'static [u64], outputs: &'static [u64], hasher_ro
     Run {
         main: &EMPTY,
         rows: 4,
+        asked: Some(1023),
+        range_rows: 42,
         hasher: &[],
         hasher_rows,
         bitwise_rows: 0,
@@ -82,10 +87,19 @@ fn empty_beside(bitwise_rows: usize, memory_rows: usize) -> Run {
     run
 }
 
+fn nothing_asked() -> Run {
+    let mut run = empty_beside(8, 2);
+    run.asked = None;
+    run.range_rows = 38;
+    run
+}
+
 fn pushes(left: &'static [u64]) -> Run {
     Run {
         main: &PUSHES,
         rows: 8,
+        asked: Some(1023),
+        range_rows: 42,
         hasher: &PUSHES_HASH,
         hasher_rows: 8,
         bitwise_rows: 0,
@@ -106,6 +120,8 @@ fn push() -> Run {
     Run {
         main: &PUSH,
         rows: 5,
+        asked: Some(1023),
+        range_rows: 42,
         hasher: &[],
         hasher_rows: 8,
         bitwise_rows: 0,

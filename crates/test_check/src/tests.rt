@@ -1,6 +1,6 @@
 use crate::cases::{ACCEPTED, APART, Answer, Case, FAULTS};
-use crate::making::{is_within, public, trace};
-use air_kit::Fault;
+use crate::making::{are_within, public, trace};
+use air_kit::{Fault, Public, Trace};
 use bus_kit::Tuple;
 use checker::{Refused, Valid, check, has_counts};
 use std::alloc::Global;
@@ -10,11 +10,15 @@ use vm_io::OpenGate;
 
 fn is_tuple(tuple: &Tuple, elements: &[u64]) -> bool {
     let found = tuple.as_slice();
-    found.len() == elements.len()
-        && found
-            .iter()
-            .zip(elements)
-            .all(|(element, value)| element.value() == *value)
+    if found.len() != elements.len() {
+        return false;
+    }
+    for i in 0..found.len() {
+        if found[i].value() != elements[i] {
+            return false;
+        }
+    }
+    true
 }
 
 fn is_fault(found: &Fault, answer: &Answer) -> bool {
@@ -46,20 +50,26 @@ fn is_answer(found: &Result<Valid, Refused>, answer: &Answer) -> bool {
     }
 }
 
-// Whether each trace is answered as its case says.
+// Whether a case's trace has the cells that are changed, and is answered as the case says.
+fn is_answered(alloc: Global, trace: Trace, public: Public, case: &Case) -> bool {
+    if !are_within(&trace, case.changes) || !has_counts(&trace) {
+        return false;
+    }
+    is_answer(&check(alloc, trace, public, 1, &OpenGate), &case.answer)
+}
+
+fn answers(alloc: Global, case: &Case) -> Result<bool, Memory> {
+    let run = case.run.run();
+    let has_kernel = case.run.has_kernel();
+    let public = public(alloc, &run, has_kernel)?;
+    let trace = trace(alloc, &run, has_kernel, case.changes)?;
+    Ok(is_answered(alloc, trace, public, case))
+}
+
 fn answers_all(alloc: Global, cases: &[Case]) -> Result<bool, Memory> {
     let mut all = true;
     for case in cases {
-        let run = case.run.run();
-        let has_kernel = case.run.has_kernel();
-        let trace = trace(alloc, &run, has_kernel, case.changes)?;
-        let public = public(alloc, &run, has_kernel)?;
-        let all_within = case.changes.iter().all(|change| is_within(&trace, change));
-        if !all_within || !has_counts(&trace) {
-            return Ok(false);
-        }
-        let found = check(alloc, trace, public, 1, &OpenGate);
-        all = all && is_answer(&found, &case.answer);
+        all = answers(alloc, case)? && all;
     }
     Ok(all)
 }

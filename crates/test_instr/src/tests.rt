@@ -3,6 +3,7 @@ ghost use Rattle.vm_ops.specs.Codes.{is_ordinary_op};
 ghost use Rattle.vm_ops.specs.Items.{IsOrdinaryItem};
 
 use masm_expand::expand;
+use masm_instr::Instr;
 use masm_reading::{Consts, read_instr};
 use op_steps::{StepStop, step};
 use rpo_hash::Params;
@@ -14,7 +15,10 @@ use vm_state::{Inputs, State};
 
 mod rows;
 
-use rows::{BITS, CELLS, DIGEST, FIELD, Gives, Left, Row, STORES, TRUTHS, UNTOUCHED, WORDS};
+use rows::{
+    BITS, CARRIES, CELLS, DIGEST, FIELD, Gives, ORDER, RANGES, Row, STATES, STORES, SWAPS, TRUTHS,
+    UNTOUCHED, WORD_ORDER, WORDS,
+};
 
 fn felt(number: u64) -> Felt {
     Felt::reduced(u128::from(number))
@@ -25,14 +29,6 @@ fn word(numbers: &[u64; 4]) -> [Felt; 4] {
     [felt(a), felt(b), felt(c), felt(d)]
 }
 
-fn felts(alloc: Global, numbers: &[u64]) -> Result<Felts, Memory> {
-    let mut felts = Felts::new(alloc);
-    for number in numbers {
-        felts.push(felt(*number))?;
-    }
-    Ok(felts)
-}
-
 // The permutation with no constants.
 fn params() -> Params {
     Params {
@@ -41,36 +37,78 @@ fn params() -> Params {
     }
 }
 
-// The state before the row's instruction.
-fn started(alloc: Global, row: &Row) -> Result<State, Memory> {
-    let above = row.stack.len().saturating_sub(16);
-    let stack = felts(alloc, &row.stack[above..])?;
-    let advice = felts(alloc, row.tape)?;
+// The cell of the stack before the row's instruction, and a zero below them all.
+fn cell_before(row: &Row, place: usize) -> u64 {
+    match row.top.get(place) {
+        Some(cell) => *cell,
+        None if place < row.depth => row.base.wrapping_add(place as u64),
+        None => 0,
+    }
+}
+
+// The sixteen cells that the stack starts with.
+fn lowest(alloc: Global, row: &Row) -> Result<Felts, Memory> {
+    let mut felts = Felts::new(alloc);
+    for place in row.depth.saturating_sub(16)..row.depth {
+        felts.push(felt(cell_before(row, place)))?;
+    }
+    Ok(felts)
+}
+
+fn tape(alloc: Global, row: &Row) -> Result<Felts, Memory> {
+    let mut felts = Felts::new(alloc);
+    for element in row.tape.unwrap_or(&[]) {
+        felts.push(felt(*element))?;
+    }
+    Ok(felts)
+}
+
+fn inputs(alloc: Global, row: &Row) -> Result<Inputs, Memory> {
+    let stack = lowest(alloc, row)?;
+    let advice = tape(alloc, row)?;
     if stack.len() > 16 || advice.len() > 16 {
         return Err(Memory::Memory);
     }
-    let mut state = State::start(alloc, &Inputs::new(stack, advice))?;
-    for cell in row.stack[..above].iter().rev() {
-        state.push(felt(*cell))?;
+    Ok(Inputs::new(stack, advice))
+}
+
+fn started(alloc: Global, row: &Row) -> Result<State, Memory> {
+    State::start(alloc, &inputs(alloc, row)?)
+}
+
+// Pushes the cells that stand above the sixteen of the start.
+fn raise(state: &mut State, row: &Row) -> Result<(), Memory> {
+    for below in 16..row.depth {
+        let place = row.depth - 1 - below;
+        state.push(felt(cell_before(row, place)))?;
     }
+    Ok(())
+}
+
+// Makes a state that starts the one before the row's instruction.
+fn prepare(state: &mut State, row: &Row) -> Result<(), Memory> {
+    raise(state, row)?;
     state.clock = 9;
     state.context = 3;
     state.fmp = felt(7);
     state.in_syscall = row.in_syscall;
     state.digest = Word(word(&DIGEST));
-    state.store(3, 5, word(&UNTOUCHED))?;
-    Ok(state)
+    state.store(3, 5, word(&UNTOUCHED))
 }
 
-// The operations of a token in a procedure of two locals; none where it is refused.
-fn operations(alloc: Global, token: &[u8]) -> Option<Items> {
-    let Ok(instr) = read_instr(alloc, token, &Consts::new(alloc)) else {
-        return None;
-    };
-    if instr.name().names_local() && instr.numbers().first().is_none_or(|local| *local >= 2) {
+// The operations of an instruction in a procedure of two locals; none where it is refused.
+fn expanded(alloc: Global, instr: &Instr) -> Option<Items> {
+    if instr.name().names_local() && instr.numbers().first().copied().unwrap_or(2) >= 2 {
         return None;
     }
-    expand(alloc, &instr, 2).ok()
+    expand(alloc, instr, 2).ok()
+}
+
+fn operations(alloc: Global, token: &[u8]) -> Option<Items> {
+    match read_instr(alloc, token, &Consts::new(alloc)) {
+        Ok(instr) => expanded(alloc, &instr),
+        Err(_) => None,
+    }
 }
 
 fn same(item: &Item) -> Item
@@ -103,31 +141,29 @@ fn perform(
 }
 
 // The cell that stands behind the instruction.
-fn told(row: &Row, left: &Left, cell: usize) -> u64 {
-    match left.cells.get(cell) {
-        Some(number) => *number,
-        None => {
-            let kept = row.stack.get(left.gone..).unwrap_or(&[]);
-            *kept.get(cell - left.cells.len()).unwrap_or(&0)
-        }
+fn cell_behind(row: &Row, cells: &[u64], place: usize) -> u64 {
+    match cells.get(place) {
+        Some(cell) => *cell,
+        None => cell_before(row, (place - cells.len()).wrapping_add(row.gone)),
     }
 }
 
-fn has_cells(row: &Row, left: &Left, state: &State) -> bool {
-    let below = row.stack.len().saturating_sub(left.gone);
-    if state.depth() != left.cells.len().saturating_add(below).max(16) {
+fn has_cells(row: &Row, cells: &[u64], state: &State) -> bool {
+    let below = row.depth.saturating_sub(row.gone);
+    if state.depth() != cells.len().saturating_add(below).max(16) {
         return false;
     }
-    for j in 0..state.depth() {
-        if state.peek(j).value() != told(row, left, j) {
+    for place in 0..state.depth() {
+        if state.peek(place).value() != cell_behind(row, cells, place) {
             return false;
         }
     }
     true
 }
 
-fn has_tape(row: &Row, left: &Left, state: &State) -> bool {
-    let rest = row.tape.get(left.taken..).unwrap_or(&[]);
+fn has_tape(row: &Row, state: &State) -> bool {
+    let tape = row.tape.unwrap_or(&[]);
+    let rest = tape.get(row.taken..).unwrap_or(&[]);
     if state.advice_left() != rest.len() {
         return false;
     }
@@ -140,64 +176,117 @@ fn has_tape(row: &Row, left: &Left, state: &State) -> bool {
 }
 
 // The state is what the row leaves, so many operations later.
-fn is_left(row: &Row, left: &Left, state: &State, operations: usize) -> bool {
+fn is_left(row: &Row, cells: &[u64], state: &State, operations: usize) -> bool {
     (state.clock as usize).checked_sub(9) == Some(operations)
         && (state.context, state.fmp, state.in_syscall) == (3, felt(7), row.in_syscall)
         && state.digest == Word(word(&DIGEST))
-        && state.word_at(3, 5) == word(&left.word)
-        && has_cells(row, left, state)
-        && has_tape(row, left, state)
+        && state.word_at(3, 5) == word(&row.word)
+        && has_cells(row, cells, state)
+        && has_tape(row, state)
 }
 
-fn is_right(alloc: Global, params: &Params, row: &Row) -> Result<bool, Memory> {
-    let Some(items) = operations(alloc, row.token) else {
-        return Ok(false);
-    };
-    let mut state = started(alloc, row)?;
-    let done = perform(alloc, params, items.as_slice(), &mut state);
-    Ok(match (&row.gives, done) {
-        (Gives::Left(left), Ok(())) => is_left(row, left, &state, items.len()),
+fn ends_as(row: &Row, done: Result<(), StepStop>, state: &State, operations: usize) -> bool {
+    match (&row.gives, done) {
+        (Gives::Left(cells), Ok(())) => is_left(row, cells, state, operations),
         (Gives::Trap(cause), Err(StepStop::Trap(found))) => *cause == found,
         _ => false,
-    })
-}
-
-// Each row's instruction gives what was computed outside.
-fn check(rt: &impl Abort, alloc: Global, rows: &[Row]) -> Result<(), Memory> {
-    let params = params();
-    for row in rows {
-        let token = row.token;
-        assert!(rt; is_right(alloc, &params, row)?, "at {token:?}");
     }
-    Ok(())
+}
+
+fn turns(alloc: Global, params: &Params, row: &Row, items: &[Item], state: &mut State) -> bool {
+    prepare(state, row).is_ok()
+        && {
+            let done = perform(alloc, params, items, state);
+            ends_as(row, done, state, items.len())
+        }
+}
+
+fn runs(alloc: Global, params: &Params, row: &Row, items: &[Item]) -> bool {
+    match started(alloc, row) {
+        Ok(mut state) => turns(alloc, params, row, items, &mut state),
+        Err(_) => false,
+    }
+}
+
+// The row's instruction gives what was computed outside.
+fn is_met(alloc: Global, params: &Params, row: &Row) -> bool {
+    match operations(alloc, row.token) {
+        Some(items) => runs(alloc, params, row, items.as_slice()),
+        None => false,
+    }
+}
+
+// How many rows come before the first that is not met.
+fn met(alloc: Global, rows: &[Row]) -> usize {
+    let params = params();
+    for place in 0..rows.len() {
+        if !is_met(alloc, &params, &rows[place]) {
+            return place;
+        }
+    }
+    rows.len()
+}
+
+fn check(rt: &impl Abort, alloc: Global, rows: &[Row]) {
+    assert_eq!(rt; met(alloc, rows), rows.len());
 }
 
 #[test]
-fn computes_in_the_field(rt: HostRuntime) -> Result<(), Memory> {
-    check(&rt, rt.alloc(), &FIELD)
+fn computes_in_the_field(rt: HostRuntime) {
+    check(&rt, rt.alloc(), &FIELD);
 }
 
 #[test]
-fn decides_truth_values(rt: HostRuntime) -> Result<(), Memory> {
-    check(&rt, rt.alloc(), &TRUTHS)
+fn orders_elements(rt: HostRuntime) {
+    check(&rt, rt.alloc(), &ORDER);
 }
 
 #[test]
-fn computes_with_words(rt: HostRuntime) -> Result<(), Memory> {
-    check(&rt, rt.alloc(), &WORDS)
+fn decides_truth_values(rt: HostRuntime) {
+    check(&rt, rt.alloc(), &TRUTHS);
 }
 
 #[test]
-fn turns_bits(rt: HostRuntime) -> Result<(), Memory> {
-    check(&rt, rt.alloc(), &BITS)
+fn tests_ranges(rt: HostRuntime) {
+    check(&rt, rt.alloc(), &RANGES);
 }
 
 #[test]
-fn moves_cells(rt: HostRuntime) -> Result<(), Memory> {
-    check(&rt, rt.alloc(), &CELLS)
+fn computes_with_words(rt: HostRuntime) {
+    check(&rt, rt.alloc(), &WORDS);
 }
 
 #[test]
-fn reads_and_writes(rt: HostRuntime) -> Result<(), Memory> {
-    check(&rt, rt.alloc(), &STORES)
+fn carries_and_divides(rt: HostRuntime) {
+    check(&rt, rt.alloc(), &CARRIES);
+}
+
+#[test]
+fn turns_bits(rt: HostRuntime) {
+    check(&rt, rt.alloc(), &BITS);
+}
+
+#[test]
+fn orders_words(rt: HostRuntime) {
+    check(&rt, rt.alloc(), &WORD_ORDER);
+}
+
+#[test]
+fn moves_cells(rt: HostRuntime) {
+    check(&rt, rt.alloc(), &CELLS);
+}
+
+#[test]
+fn swaps_cells(rt: HostRuntime) {
+    check(&rt, rt.alloc(), &SWAPS);
+}
+
+#[test]
+fn reads_states(rt: HostRuntime) {
+    check(&rt, rt.alloc(), &STATES);
+}
+
+#[test]
+fn reads_and_writes(rt: HostRuntime) {
+    check(&rt, rt.alloc(), &STORES);
 }

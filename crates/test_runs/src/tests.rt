@@ -1,5 +1,5 @@
 use block_tree::{Exports, Program, Tree, are_distinct, digest};
-use machine_cycles::{Event, Stop};
+use machine_cycles::{Event, Events, Stop};
 use op_pack::Batches;
 use processor::{Run, execute};
 use rpo_hash::Params;
@@ -13,20 +13,28 @@ mod logs;
 mod parts;
 mod rows;
 
-use logs::{BEFORE, Before, Hash, JOINED, Line, Log, NO_TURN, SERVED, STORED, TURNS};
+use logs::{BEFORE, Before, Hash, JOINED, Line, Log, NO_TURN, SERVED, STORED, Shown, TURNS};
 use parts::Part;
 use rows::{
     BLOCK_TRAPS, BRANCHES, CALLING, CALLS, CUT_OFF, ENDLESS, End, Ends, LAST_CYCLE, LOOPS,
     NO_CYCLE, OPERATION_TRAPS, Row, SERVES, SYSCALL_TRAPS, SYSCALLS,
 };
 
-const NO_CONSTANTS: Params = Params {
-    first: [[Felt::ZERO; 12]; 7],
-    second: [[Felt::ZERO; 12]; 7],
-};
+// The permutation with no constants.
+fn params() -> Params {
+    Params {
+        first: [[Felt::ZERO; 12]; 7],
+        second: [[Felt::ZERO; 12]; 7],
+    }
+}
 
 fn felt(number: u64) -> Felt {
     Felt::reduced(u128::from(number))
+}
+
+fn word(numbers: &[u64; 4]) -> [Felt; 4] {
+    let [a, b, c, d] = *numbers;
+    [felt(a), felt(b), felt(c), felt(d)]
 }
 
 fn felts(alloc: Global, numbers: &[u64]) -> Result<Felts, Memory> {
@@ -37,17 +45,22 @@ fn felts(alloc: Global, numbers: &[u64]) -> Result<Felts, Memory> {
     Ok(felts)
 }
 
-// The batch of one group, and the immediates behind it.
-fn batch(ops: &[Op], immediates: &[u64]) -> [Felt; 8] {
+// The element that holds the operations, the first in the lowest bits.
+fn packed(ops: &[Op]) -> Felt {
     let mut number: u64 = 0;
     for op in ops.iter().rev() {
         number = number
             .wrapping_mul(128)
             .wrapping_add(u64::from(opcode(*op)));
     }
-    let mut batch = [felt(number); 8];
-    for i in 0..7 {
-        batch[1 + i] = felt(immediates.get(i).copied().unwrap_or(0));
+    felt(number)
+}
+
+// The batch of one group, and the immediates behind it.
+fn batch(ops: &[Op], immediates: &[u64]) -> [Felt; 8] {
+    let mut batch = [packed(ops); 8];
+    for i in 1..8 {
+        batch[i] = felt(immediates.get(i - 1).copied().unwrap_or(0));
     }
     batch
 }
@@ -80,25 +93,36 @@ fn deep(alloc: Global, tree: Tree, joins: usize) -> Result<Tree, Memory> {
     Ok(tree)
 }
 
+// The tree of one part round the latest one.
+fn of_one(alloc: Global, trees: &mut Vec<Tree>, part: &Part) -> Result<Tree, Memory> {
+    let child = boxed(alloc, trees)?;
+    Ok(match part {
+        Part::Loop => Tree::Loop(child),
+        Part::Call => Tree::Call(child),
+        _ => Tree::Syscall(child),
+    })
+}
+
+// The tree of one part round the latest two.
+fn of_two(alloc: Global, trees: &mut Vec<Tree>, part: &Part) -> Result<Tree, Memory> {
+    let second = boxed(alloc, trees)?;
+    let first = boxed(alloc, trees)?;
+    Ok(match part {
+        Part::Join => Tree::Join(first, second),
+        _ => Tree::Split(first, second),
+    })
+}
+
 // The tree of one part and those that it takes.
 fn made(alloc: Global, trees: &mut Vec<Tree>, part: &Part) -> Result<Tree, Memory> {
-    Ok(match part {
-        Part::Span(ops, numbers) => Tree::Span(Batches::of(alloc, batch(ops, numbers))?),
-        Part::Batch(ops) => with_batch(latest(trees)?, ops)?,
-        Part::Opaque => Tree::Opaque(Word::ZERO),
-        Part::Join => {
-            let second = boxed(alloc, trees)?;
-            Tree::Join(boxed(alloc, trees)?, second)
-        }
-        Part::Split => {
-            let on_zero = boxed(alloc, trees)?;
-            Tree::Split(boxed(alloc, trees)?, on_zero)
-        }
-        Part::Loop => Tree::Loop(boxed(alloc, trees)?),
-        Part::Call => Tree::Call(boxed(alloc, trees)?),
-        Part::Syscall => Tree::Syscall(boxed(alloc, trees)?),
-        Part::Deep(joins) => deep(alloc, latest(trees)?, *joins)?,
-    })
+    match part {
+        Part::Span(ops, numbers) => Ok(Tree::Span(Batches::of(alloc, batch(ops, numbers))?)),
+        Part::Batch(ops) => with_batch(latest(trees)?, ops),
+        Part::Opaque => Ok(Tree::Opaque(Word::ZERO)),
+        Part::Join | Part::Split => of_two(alloc, trees, part),
+        Part::Loop | Part::Call | Part::Syscall => of_one(alloc, trees, part),
+        Part::Deep(joins) => deep(alloc, latest(trees)?, *joins),
+    }
 }
 
 fn tree(alloc: Global, parts: &[Part]) -> Result<Tree, Memory> {
@@ -110,19 +134,26 @@ fn tree(alloc: Global, parts: &[Part]) -> Result<Tree, Memory> {
     latest(&mut trees)
 }
 
-fn digest_of(alloc: Global, parts: &[Part]) -> Result<Word, Memory> {
-    Ok(digest(&NO_CONSTANTS, &tree(alloc, parts)?))
+fn digests(alloc: Global, params: &Params, trees: &[&[Part]]) -> Result<Words, Memory> {
+    let mut digests = Words::new(alloc);
+    for parts in trees {
+        let tree = tree(alloc, parts)?;
+        digests.push(digest(params, &tree))?;
+    }
+    Ok(digests)
 }
 
-fn program(alloc: Global, parts: &[Part], kernel: &[&[Part]]) -> Result<Program, Memory> {
-    let mut words = Words::new(alloc);
-    for parts in kernel {
-        words.push(digest_of(alloc, parts)?)?;
-    }
-    if words.len() > 255 || !are_distinct(words.as_slice()) {
+fn program(
+    alloc: Global,
+    params: &Params,
+    parts: &[Part],
+    kernel: &[&[Part]],
+) -> Result<Program, Memory> {
+    let kernel = digests(alloc, params, kernel)?;
+    if kernel.len() > 255 || !are_distinct(kernel.as_slice()) {
         return Err(Memory::Memory);
     }
-    Ok(Program::new(tree(alloc, parts)?, words, Exports::new(alloc)))
+    Ok(Program::new(tree(alloc, parts)?, kernel, Exports::new(alloc)))
 }
 
 fn inputs(alloc: Global, stack: &[u64], advice: &[u64]) -> Result<Inputs, Memory> {
@@ -134,13 +165,15 @@ fn inputs(alloc: Global, stack: &[u64], advice: &[u64]) -> Result<Inputs, Memory
     Ok(Inputs::new(stack, advice))
 }
 
-fn ran(alloc: Global, row: &Row, kernel: &[&[Part]], limit: u32) -> Result<Run, Stop> {
-    let program = program(alloc, row.parts, kernel)?;
+fn ran(
+    alloc: Global,
+    params: &Params,
+    row: &Row,
+    program: &Program,
+    limit: u16,
+) -> Result<Run, Stop> {
     let inputs = inputs(alloc, row.stack, row.advice)?;
-    if limit > 524287 {
-        return Err(Stop::Memory);
-    }
-    execute(alloc, &NO_CONSTANTS, &program, &inputs, limit)
+    execute(alloc, params, program, &inputs, u32::from(limit))
 }
 
 fn has_cells(state: &State, cells: &[u64]) -> bool {
@@ -152,20 +185,21 @@ fn has_cells(state: &State, cells: &[u64]) -> bool {
     true
 }
 
+// The elements are these numbers, with zeros behind them.
 fn are_numbers(elements: &[Felt], numbers: &[u64]) -> bool {
     for i in 0..elements.len() {
-        if numbers.get(i) != Some(&elements[i].value()) {
+        if elements[i].value() != numbers.get(i).copied().unwrap_or(0) {
             return false;
         }
     }
-    elements.len() == numbers.len()
+    true
 }
 
 // The run took the tape's elements but for so many.
 fn took(run: &Run, advice: &[u64], left: usize) -> bool {
-    let taken = advice.len().saturating_sub(left);
     run.state.advice_left() == left
-        && are_numbers(run.tape.as_slice(), advice.get(..taken).unwrap_or(&[]))
+        && run.tape.len().checked_add(left) == Some(advice.len())
+        && are_numbers(run.tape.as_slice(), advice)
 }
 
 fn has_ended(run: &Run, row: &Row, ends: &Ends) -> bool {
@@ -185,25 +219,42 @@ fn has_stopped(stop: Stop, end: &End) -> bool {
     }
 }
 
-// The row's program ends so.
-fn is_met(alloc: Global, row: &Row, kernel: &[&[Part]], limit: u32) -> bool {
-    match ran(alloc, row, kernel, limit) {
-        Err(stop) => has_stopped(stop, &row.end),
-        Ok(run) => match &row.end {
-            End::Ends(ends) => has_ended(&run, row, ends),
-            _ => false,
-        },
+fn is_run(alloc: Global, params: &Params, row: &Row, run: &Run) -> bool {
+    match &row.end {
+        End::Ends(ends) => has_ended(run, row, ends),
+        End::Shows(log, shown) => is_shown(alloc, params, run, log, *shown),
+        _ => false,
     }
 }
 
-// The number of the first row that is not met.
-fn first_unmet(alloc: Global, rows: &[Row], kernel: &[&[Part]], limit: u32) -> Option<usize> {
-    rows.iter()
-        .position(|row| !is_met(alloc, row, kernel, limit))
+// The program ends as the row says.
+fn ends(alloc: Global, params: &Params, row: &Row, program: &Program, limit: u16) -> bool {
+    match ran(alloc, params, row, program, limit) {
+        Ok(run) => is_run(alloc, params, row, &run),
+        Err(stop) => has_stopped(stop, &row.end),
+    }
 }
 
-fn check(rt: &impl Abort, alloc: Global, rows: &[Row], kernel: &[&[Part]], limit: u32) {
-    assert_eq!(rt; first_unmet(alloc, rows, kernel, limit), None);
+fn is_met(alloc: Global, params: &Params, row: &Row, kernel: &[&[Part]], limit: u16) -> bool {
+    match program(alloc, params, row.parts, kernel) {
+        Ok(program) => ends(alloc, params, row, &program, limit),
+        Err(_) => false,
+    }
+}
+
+// How many rows come before the first that is not met.
+fn met(alloc: Global, rows: &[Row], kernel: &[&[Part]], limit: u16) -> usize {
+    let params = params();
+    for place in 0..rows.len() {
+        if !is_met(alloc, &params, &rows[place], kernel, limit) {
+            return place;
+        }
+    }
+    rows.len()
+}
+
+fn check(rt: &impl Abort, alloc: Global, rows: &[Row], kernel: &[&[Part]], limit: u16) {
+    assert_eq!(rt; met(alloc, rows, kernel, limit), rows.len());
 }
 
 #[test]
@@ -263,10 +314,6 @@ fn stops_endless_loops(rt: HostRuntime) {
     check(&rt, rt.alloc(), &ENDLESS, &[], 500);
 }
 
-fn numbers(felts: [Felt; 4]) -> [u64; 4] {
-    felts.map(|x| x.value())
-}
-
 // A digest, and what stands behind it.
 fn behind(digest: Word, last: [Felt; 4]) -> [Felt; 8] {
     let [a, b, c, d] = digest.elements();
@@ -280,102 +327,43 @@ fn flag(place: usize) -> [Felt; 4] {
     flags
 }
 
-fn digest_at(alloc: Global, log: &Log, tree: usize) -> Result<Word, Memory> {
-    digest_of(alloc, log.trees.get(tree).copied().unwrap_or(&[]))
+fn digest_at(digests: &[Word], tree: usize) -> Word {
+    digests.get(tree).copied().unwrap_or(Word::ZERO)
 }
 
-fn hash_of(alloc: Global, log: &Log, hash: &Hash) -> Result<[Felt; 8], Memory> {
-    Ok(match hash {
+fn hash_of(digests: &[Word], hash: &Hash) -> [Felt; 8] {
+    match hash {
         Hash::Nothing => [Felt::ZERO; 8],
         Hash::Batch(ops, numbers) => batch(ops, numbers),
         Hash::Both(first, second) => behind(
-            digest_at(alloc, log, *first)?,
-            digest_at(alloc, log, *second)?.elements(),
+            digest_at(digests, *first),
+            digest_at(digests, *second).elements(),
         ),
-        Hash::One(tree) => behind(digest_at(alloc, log, *tree)?, [Felt::ZERO; 4]),
-        Hash::Flagged(tree, place) => behind(digest_at(alloc, log, *tree)?, flag(*place)),
-    })
+        Hash::One(tree) => behind(digest_at(digests, *tree), [Felt::ZERO; 4]),
+        Hash::Flagged(tree, place) => behind(digest_at(digests, *tree), flag(*place)),
+    }
 }
 
-fn shows(alloc: Global, log: &Log, event: &Event, line: &Line) -> Result<bool, Memory> {
+fn shows(digests: &[Word], event: &Event, line: &Line) -> bool {
     let Line(op, hash, result) = line;
-    Ok(
-        event.op == *op
-            && event.result.value() == *result
-            && event.hash == hash_of(alloc, log, hash)?,
-    )
-}
-
-fn run_of(alloc: Global, log: &Log) -> Result<Run, Stop> {
-    let row = Row {
-        parts: log.trees.first().copied().unwrap_or(&[]),
-        stack: log.stack,
-        advice: log.advice,
-        end: End::OutOfCycles,
-    };
-    ran(alloc, &row, log.kernel, 10000)
+    event.op == *op && event.result.value() == *result && event.hash == hash_of(digests, hash)
 }
 
 // Each line is shown by the cycle of its number, and there are no other cycles.
-fn is_shown(alloc: Global, log: &Log) -> Result<bool, Stop> {
-    let run = run_of(alloc, log)?;
-    let events = &run.events;
-    for (place, line) in log.lines.iter().enumerate() {
-        if place >= events.len() {
-            return Ok(false);
-        }
-        if !shows(alloc, log, &events.event(place), line)? {
-            return Ok(false);
-        }
+fn shows_lines(digests: &[Word], events: &Events, lines: &[Line]) -> bool {
+    let mut shown = events.len() == lines.len();
+    for place in 0..lines.len().min(events.len()) {
+        shown = shown && shows(digests, &events.event(place), &lines[place]);
     }
-    Ok(events.len() == log.lines.len())
+    shown
 }
 
-#[test]
-fn logs_spans_and_joins(rt: HostRuntime) {
-    assert_eq!(rt; is_shown(rt.alloc(), &JOINED), Ok(true));
-}
-
-#[test]
-fn logs_loops_of_splits(rt: HostRuntime) {
-    assert_eq!(rt; is_shown(rt.alloc(), &TURNS), Ok(true));
-    assert_eq!(rt; is_shown(rt.alloc(), &NO_TURN), Ok(true));
-}
-
-#[test]
-fn logs_syscalls(rt: HostRuntime) {
-    assert_eq!(rt; is_shown(rt.alloc(), &SERVED), Ok(true));
-}
-
-#[test]
-fn logs_calls(rt: HostRuntime) {
-    assert_eq!(rt; is_shown(rt.alloc(), &STORED), Ok(true));
-}
-
-fn holds_digest(alloc: Global, log: &Log) -> Result<bool, Stop> {
-    let run = run_of(alloc, log)?;
-    Ok(run.digest == digest_at(alloc, log, 0)?)
-}
-
-#[test]
-fn holds_the_digest(rt: HostRuntime) {
-    assert_eq!(rt; holds_digest(rt.alloc(), &SERVED), Ok(true));
-}
-
-// The cells before the cycle are these, with zeros behind them.
-fn cells_are(event: &Event, cells: &[u64]) -> bool {
-    for i in 0..16 {
-        if event.before.cells[i].value() != cells.get(i).copied().unwrap_or(0) {
-            return false;
-        }
+fn takes_imm(event: &Event, imm: Option<u64>) -> bool {
+    match (event.imm, imm) {
+        (Some(element), Some(number)) => element.value() == number,
+        (None, None) => true,
+        _ => false,
     }
-    true
-}
-
-fn takes(event: &Event, before: &Before) -> bool {
-    event.imm.map(|x| x.value()) == before.imm
-        && numbers(event.tape) == before.tape
-        && numbers(event.word) == before.word
 }
 
 // The event stands at this clock, and shows this before its cycle.
@@ -386,48 +374,93 @@ fn stands(event: &Event, clock: usize, before: &Before, digest: Word) -> bool {
             == (before.context, before.nesting, before.depth)
         && (visible.fmp.value(), visible.in_syscall) == (1073741824, false)
         && visible.digest == digest
-        && cells_are(event, before.cells)
-        && takes(event, before)
+        && are_numbers(&visible.cells, before.cells)
+        && takes_imm(event, before.imm)
+        && event.tape == word(&before.tape)
+        && event.word == word(&before.word)
 }
 
-// Each cycle of `STORED` shows its state, where the callee has its digest.
-fn are_visible(alloc: Global) -> Result<bool, Stop> {
-    let run = run_of(alloc, &STORED)?;
-    let callee = digest_at(alloc, &STORED, 1)?;
-    let events = &run.events;
-    for (clock, before) in BEFORE.iter().enumerate() {
-        if clock >= events.len() {
-            return Ok(false);
-        }
+// Each cycle shows its state, where the callee has its digest.
+fn shows_before(callee: Word, events: &Events, states: &[Before]) -> bool {
+    let mut shown = events.len() == states.len();
+    for clock in 0..states.len().min(events.len()) {
+        let before = &states[clock];
         let digest = if before.context == 0 {
             Word::ZERO
         } else {
             callee
         };
-        if !stands(&events.event(clock), clock, before, digest) {
-            return Ok(false);
-        }
+        shown = shown && stands(&events.event(clock), clock, before, digest);
     }
-    Ok(events.len() == BEFORE.len())
+    shown
+}
+
+// The word stands in the callee's memory alone.
+fn keeps_word(run: &Run) -> bool {
+    run.state.context == 0
+        && run.state.word_at(1, 40) == word(&[11, 12, 13, 14])
+        && run.state.word_at(0, 40) == [Felt::ZERO; 4]
+        && run.tape.len() == 4
+}
+
+fn is_shown_by(digests: &[Word], run: &Run, log: &Log, shown: Shown) -> bool {
+    match shown {
+        Shown::Lines => shows_lines(digests, &run.events, log.lines),
+        Shown::Digest => run.digest == digest_at(digests, 0),
+        Shown::Before => shows_before(digest_at(digests, 1), &run.events, &BEFORE),
+        Shown::Word => keeps_word(run),
+    }
+}
+
+fn is_shown(alloc: Global, params: &Params, run: &Run, log: &Log, shown: Shown) -> bool {
+    match digests(alloc, params, log.trees) {
+        Ok(digests) => is_shown_by(digests.as_slice(), run, log, shown),
+        Err(_) => false,
+    }
+}
+
+fn check_log(rt: &impl Abort, alloc: Global, log: &'static Log, shown: Shown) {
+    let row = Row {
+        parts: log.trees.first().copied().unwrap_or(&[]),
+        stack: log.stack,
+        advice: log.advice,
+        end: End::Shows(log, shown),
+    };
+    check(rt, alloc, &[row], log.kernel, 10000);
+}
+
+#[test]
+fn logs_spans_and_joins(rt: HostRuntime) {
+    check_log(&rt, rt.alloc(), &JOINED, Shown::Lines);
+}
+
+#[test]
+fn logs_loops_of_splits(rt: HostRuntime) {
+    check_log(&rt, rt.alloc(), &TURNS, Shown::Lines);
+    check_log(&rt, rt.alloc(), &NO_TURN, Shown::Lines);
+}
+
+#[test]
+fn logs_syscalls(rt: HostRuntime) {
+    check_log(&rt, rt.alloc(), &SERVED, Shown::Lines);
+}
+
+#[test]
+fn logs_calls(rt: HostRuntime) {
+    check_log(&rt, rt.alloc(), &STORED, Shown::Lines);
+}
+
+#[test]
+fn holds_the_digest(rt: HostRuntime) {
+    check_log(&rt, rt.alloc(), &SERVED, Shown::Digest);
 }
 
 #[test]
 fn logs_each_cycle(rt: HostRuntime) {
-    assert_eq!(rt; are_visible(rt.alloc()), Ok(true));
-}
-
-// The word stands in the callee's memory alone.
-fn is_kept(alloc: Global) -> Result<bool, Stop> {
-    let run = run_of(alloc, &STORED)?;
-    Ok(
-        run.state.context == 0
-            && numbers(run.state.word_at(1, 40)) == [11, 12, 13, 14]
-            && numbers(run.state.word_at(0, 40)) == [0; 4]
-            && run.tape.len() == 4,
-    )
+    check_log(&rt, rt.alloc(), &STORED, Shown::Before);
 }
 
 #[test]
 fn keeps_words_in_contexts(rt: HostRuntime) {
-    assert_eq!(rt; is_kept(rt.alloc()), Ok(true));
+    check_log(&rt, rt.alloc(), &STORED, Shown::Word);
 }

@@ -13,8 +13,8 @@ use vm_state::{Inputs, State};
 mod rows;
 
 use rows::{
-    BITS, Besides, FIELD, Gives, INSIDE, MEMORY, MOVES, NINETEEN, NO_TAPE, OUTSIDE, PERMUTATION,
-    Row, SIXTEEN, THREE_LEFT, WORDS,
+    BITS, Besides, COPIES, FIELD, Gives, INSIDE, MEMORY, MOVES, NINETEEN, NO_TAPE, OUTSIDE,
+    PERMUTATION, Row, SIXTEEN, THREE_LEFT, WORDS,
 };
 
 /// Where a row's operation starts: so many cells on the stack and elements of the tape.
@@ -104,20 +104,23 @@ fn inputs(alloc: Global, row: &Row, at: &At) -> Result<Inputs, Memory> {
     Ok(Inputs::new(stack, advice))
 }
 
-// The state before the row's operation.
-fn started(alloc: Global, row: &Row, at: &At) -> Result<State, Memory> {
-    let mut state = State::start(alloc, &inputs(alloc, row, at)?)?;
+fn raise(state: &mut State, row: &Row, at: &At) -> Result<(), Memory> {
     for above in 16..at.depth {
         let cell = at.depth - 1 - above;
         state.push(felt(cell_before(row, at, cell)))?;
     }
+    Ok(())
+}
+
+// Makes a state that starts the one before the row's operation.
+fn prepare(state: &mut State, row: &Row, at: &At) -> Result<(), Memory> {
+    raise(state, row, at)?;
     state.clock = 468771;
     state.context = CONTEXT;
     state.fmp = felt(1073741831);
     state.in_syscall = at.in_syscall;
     state.digest = Word(word_from(21));
-    state.store(CONTEXT, 5, word_from(11))?;
-    Ok(state)
+    state.store(CONTEXT, 5, word_from(11))
 }
 
 fn item(op: Op) -> Item
@@ -187,124 +190,160 @@ fn has_rest(state: &State, besides: &Besides, at: &At) -> bool {
         && state.word_at(0, 5) == [Felt::ZERO; 4]
 }
 
-// The row's operation gives what was computed outside.
-fn is_met(alloc: Global, params: &Params, row: &Row, at: &At) -> Result<bool, Memory> {
-    let mut state = started(alloc, row, at)?;
-    if !is_ordinary(row.op) || state.clock > 524287 {
-        return Ok(false);
+fn perform(alloc: Global, params: &Params, op: Op, state: &mut State) -> Result<(), StepStop> {
+    if !is_ordinary(op) || state.clock > 524287 {
+        return Err(StepStop::Memory);
     }
-    let done = step(alloc, params, &item(row.op), &mut state);
-    let (wanted, clock, cells) = match row.gives {
-        Gives::Left(cells) => (Ok(()), 468772, cells),
-        Gives::Trap(cause) => (Err(StepStop::Trap(cause)), 468771, row.top),
-    };
-    Ok(
-        done == wanted
-            && state.clock == clock
-            && has_stack(&state, cells, row.top.len(), at)
-            && has_rest(&state, &row.besides, at),
-    )
+    step(alloc, params, &item(op), state)
 }
 
-// The first row that is not met there.
-fn first_unmet(alloc: Global, rows: &[Row], at: &At) -> Result<Option<Op>, Memory> {
-    let params = Params {
+fn ends_as(gives: &Gives, done: Result<(), StepStop>) -> bool {
+    match (gives, done) {
+        (Gives::Left(_), Ok(())) => true,
+        (Gives::Trap(cause), Err(StepStop::Trap(found))) => *cause == found,
+        _ => false,
+    }
+}
+
+// The state is what the row leaves.
+fn is_left(row: &Row, at: &At, state: &State) -> bool {
+    let (clock, cells) = match row.gives {
+        Gives::Left(cells) => (468772, cells),
+        Gives::Trap(_) => (468771, row.top),
+    };
+    state.clock == clock
+        && has_stack(state, cells, row.top.len(), at)
+        && has_rest(state, &row.besides, at)
+}
+
+fn turns(alloc: Global, params: &Params, row: &Row, at: &At, state: &mut State) -> bool {
+    prepare(state, row, at).is_ok()
+        && ends_as(&row.gives, perform(alloc, params, row.op, state))
+        && is_left(row, at, state)
+}
+
+fn started(alloc: Global, row: &Row, at: &At) -> Result<State, Memory> {
+    State::start(alloc, &inputs(alloc, row, at)?)
+}
+
+// The row's operation gives what was computed outside.
+fn is_met(alloc: Global, params: &Params, row: &Row, at: &At) -> bool {
+    match started(alloc, row, at) {
+        Ok(mut state) => turns(alloc, params, row, at, &mut state),
+        Err(_) => false,
+    }
+}
+
+fn params() -> Params {
+    Params {
         first: constants(1),
         second: constants(7),
-    };
-    for row in rows {
-        if !is_met(alloc, &params, row, at)? {
-            return Ok(Some(row.op));
+    }
+}
+
+// How many rows come before the first that is not met there.
+fn met(alloc: Global, rows: &[Row], at: &At) -> usize {
+    let params = params();
+    for place in 0..rows.len() {
+        if !is_met(alloc, &params, &rows[place], at) {
+            return place;
         }
     }
-    Ok(None)
+    rows.len()
 }
 
-fn check(rt: &impl Abort, alloc: Global, rows: &[Row], at: &At) -> Result<(), Memory> {
-    assert_eq!(rt; first_unmet(alloc, rows, at)?, None);
-    Ok(())
+fn check(rt: &impl Abort, alloc: Global, rows: &[Row], at: &At) {
+    assert_eq!(rt; met(alloc, rows, at), rows.len());
 }
 
-fn check_both(rt: &impl Abort, alloc: Global, rows: &[Row]) -> Result<(), Memory> {
-    check(rt, alloc, rows, &SHALLOW)?;
-    check(rt, alloc, rows, &DEEP)
-}
-
-#[test]
-fn steps_of_field(rt: HostRuntime) -> Result<(), Memory> {
-    check_both(&rt, rt.alloc(), &FIELD)
+fn check_both(rt: &impl Abort, alloc: Global, rows: &[Row]) {
+    check(rt, alloc, rows, &SHALLOW);
+    check(rt, alloc, rows, &DEEP);
 }
 
 #[test]
-fn steps_of_bits(rt: HostRuntime) -> Result<(), Memory> {
-    check_both(&rt, rt.alloc(), &BITS)
+fn steps_of_field(rt: HostRuntime) {
+    check_both(&rt, rt.alloc(), &FIELD);
 }
 
 #[test]
-fn steps_of_words(rt: HostRuntime) -> Result<(), Memory> {
-    check_both(&rt, rt.alloc(), &WORDS)
+fn steps_of_bits(rt: HostRuntime) {
+    check_both(&rt, rt.alloc(), &BITS);
 }
 
 #[test]
-fn steps_of_moves(rt: HostRuntime) -> Result<(), Memory> {
-    check_both(&rt, rt.alloc(), &MOVES)
+fn steps_of_words(rt: HostRuntime) {
+    check_both(&rt, rt.alloc(), &WORDS);
 }
 
 #[test]
-fn steps_of_memory(rt: HostRuntime) -> Result<(), Memory> {
-    check_both(&rt, rt.alloc(), &MEMORY)
+fn steps_of_copies(rt: HostRuntime) {
+    check_both(&rt, rt.alloc(), &COPIES);
 }
 
 #[test]
-fn steps_of_permutation(rt: HostRuntime) -> Result<(), Memory> {
-    check_both(&rt, rt.alloc(), &PERMUTATION)
+fn steps_of_moves(rt: HostRuntime) {
+    check_both(&rt, rt.alloc(), &MOVES);
 }
 
 #[test]
-fn steps_in_syscalls(rt: HostRuntime) -> Result<(), Memory> {
-    check(&rt, rt.alloc(), &INSIDE, &SHALLOW)
+fn steps_of_memory(rt: HostRuntime) {
+    check_both(&rt, rt.alloc(), &MEMORY);
 }
 
 #[test]
-fn steps_outside_syscalls(rt: HostRuntime) -> Result<(), Memory> {
-    check(&rt, rt.alloc(), &OUTSIDE, &DEEP)
+fn steps_of_permutation(rt: HostRuntime) {
+    check_both(&rt, rt.alloc(), &PERMUTATION);
 }
 
 #[test]
-fn steps_of_depth(rt: HostRuntime) -> Result<(), Memory> {
-    check(&rt, rt.alloc(), &SIXTEEN, &SHALLOW)?;
-    check(&rt, rt.alloc(), &NINETEEN, &DEEP)
+fn steps_in_syscalls(rt: HostRuntime) {
+    check(&rt, rt.alloc(), &INSIDE, &SHALLOW);
 }
 
 #[test]
-fn steps_on_short_tapes(rt: HostRuntime) -> Result<(), Memory> {
-    check(&rt, rt.alloc(), &NO_TAPE, &At { tape: 0, ..SHALLOW })?;
-    check(&rt, rt.alloc(), &THREE_LEFT, &At { tape: 3, ..DEEP })
+fn steps_outside_syscalls(rt: HostRuntime) {
+    check(&rt, rt.alloc(), &OUTSIDE, &DEEP);
 }
 
-// A quiet operation on the state at the start of a run, and then the clock and the cell on top.
-fn quietly(alloc: Global, op: Op) -> Result<(Result<(), Cause>, u32, u64), Memory> {
-    let params = Params {
-        first: constants(1),
-        second: constants(7),
-    };
-    let inputs = Inputs::new(Felts::new(alloc), Felts::new(alloc));
-    let mut state = State::start(alloc, &inputs)?;
+#[test]
+fn steps_of_depth(rt: HostRuntime) {
+    check(&rt, rt.alloc(), &SIXTEEN, &SHALLOW);
+    check(&rt, rt.alloc(), &NINETEEN, &DEEP);
+}
+
+#[test]
+fn steps_on_short_tapes(rt: HostRuntime) {
+    check(&rt, rt.alloc(), &NO_TAPE, &At { tape: 0, ..SHALLOW });
+    check(&rt, rt.alloc(), &THREE_LEFT, &At { tape: 3, ..DEEP });
+}
+
+// The operation's end, and then the clock and the cell on top.
+fn quietly(params: &Params, op: Op, state: &mut State) -> Option<(Result<(), Cause>, u32, u64)> {
     if !is_ordinary(op) || !is_quiet(op) || state.clock > 524287 {
-        return Err(Memory::Memory);
+        return None;
     }
-    let done = step_quiet(&params, &item(op), &mut state);
-    Ok((done, state.clock, state.visible()[0].value()))
+    let done = step_quiet(params, &item(op), state);
+    Some((done, state.clock, state.visible()[0].value()))
+}
+
+fn at_start(alloc: Global) -> Result<State, Memory> {
+    State::start(alloc, &Inputs::new(Felts::new(alloc), Felts::new(alloc)))
+}
+
+// A quiet operation on the state at the start of a run.
+fn quietly_first(alloc: Global, op: Op) -> Option<(Result<(), Cause>, u32, u64)> {
+    match at_start(alloc) {
+        Ok(mut state) => quietly(&params(), op, &mut state),
+        Err(_) => None,
+    }
 }
 
 #[test]
-fn quiet_steps(rt: HostRuntime) -> Result<(), Memory> {
-    assert_eq!(&rt;
-        quietly(rt.alloc(), Op::Inv)?,
-        (Err(Cause::ZeroInverse), 0, 0)
-    );
-    assert_eq!(&rt; quietly(rt.alloc(), Op::Incr)?, (Ok(()), 1, 1));
-    Ok(())
+fn quiet_steps(rt: HostRuntime) {
+    let inverse = quietly_first(rt.alloc(), Op::Inv);
+    assert!(rt; inverse == Some((Err(Cause::ZeroInverse), 0, 0)));
+    assert!(rt; quietly_first(rt.alloc(), Op::Incr) == Some((Ok(()), 1, 1)));
 }
 
 #[test]

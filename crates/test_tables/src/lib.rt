@@ -1,4 +1,4 @@
-//! Tests of table files, of the small tables of an empty program, and of counts of tuples.
+//! Tests of table files, of small tables that are filled, and of counts of tuples.
 #![tactic(auto)]
 
 #[cfg(test)]

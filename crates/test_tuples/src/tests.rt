@@ -1,6 +1,8 @@
+ghost use Rattle.bus_kit.specs.ByBus.{HaveRoom};
+
 use air_kit::{Place, Public};
 use bus_chips::{tuples_bitwise, tuples_memory};
-use bus_kit::{Tallies, Tuple};
+use bus_kit::{Tallies, Tuple, Unequal};
 use buses::Bus;
 use rpo_hash::Params;
 use std::alloc::Global;
@@ -14,6 +16,68 @@ static COMBINED: [u32; 12] = [1, 5, 6, 1, 0, 1, 0, 0, 1, 1, 0, 3];
 
 // Element 0 of the word at address 458759 of context 4 is written at clock 3; all four limbs are 7.
 static STORED: [u32; 14] = [2, 4, 458759, 3, 6, 8, 9, 10, 0, 1, 7, 7, 7, 7];
+
+// The row that is counted.
+enum Counted {
+    // The bitwise operation, as the row of this number.
+    Combined(u32),
+    // The access of memory, as row 0.
+    Stored,
+}
+
+// The one tuple of a bus that is asked and given unequally often.
+struct Apart {
+    tuple: &'static [u64],
+    asked: u128,
+    given: u128,
+}
+
+// A row, and what is apart on a bus behind it.
+struct Case {
+    counted: Counted,
+    bus: Bus,
+    apart: Option<Apart>,
+}
+
+// The last row of eight gives the operation, and one before it nothing.
+static BITWISE_CASES: [Case; 2] = [
+    Case {
+        counted: Counted::Combined(7),
+        bus: Bus::Bitwise,
+        apart: Some(Apart {
+            tuple: &[1, 5, 6, 3],
+            asked: 0,
+            given: 1,
+        }),
+    },
+    Case {
+        counted: Counted::Combined(14),
+        bus: Bus::Bitwise,
+        apart: None,
+    },
+];
+
+// A row of memory gives its access and asks its limbs.
+static MEMORY_CASES: [Case; 2] = [
+    Case {
+        counted: Counted::Stored,
+        bus: Bus::Memory,
+        apart: Some(Apart {
+            tuple: &[2, 4, 458759, 3, 6, 8, 9, 10],
+            asked: 0,
+            given: 1,
+        }),
+    },
+    Case {
+        counted: Counted::Stored,
+        bus: Bus::Range,
+        apart: Some(Apart {
+            tuple: &[7],
+            asked: 4,
+            given: 0,
+        }),
+    },
+];
 
 fn public(alloc: Global) -> Result<Public, Memory> {
     let digest = Word([11, 12, 13, 14].map(Felt::from_u32));
@@ -32,24 +96,34 @@ fn is_of(tuple: &Tuple, numbers: &[u64]) -> bool {
     if elements.len() != numbers.len() {
         return false;
     }
-    for (element, number) in elements.iter().zip(numbers) {
-        if element.value() != *number {
+    for i in 0..elements.len() {
+        if elements[i].value() != numbers[i] {
             return false;
         }
     }
     true
 }
 
-// Whether this is the one tuple of a bus that is asked and given unequally often.
-fn is_apart(tallies: &Tallies, bus: Bus, tuple: &[u64], asked: u128, given: u128) -> bool {
-    match tallies.of(bus).unequal() {
-        Some(apart) => is_of(&apart.tuple, tuple) && apart.asked == asked && apart.given == given,
-        None => false,
+fn is_apart(found: &Option<Unequal>, apart: &Option<Apart>) -> bool {
+    match (found, apart) {
+        (Some(found), Some(apart)) => {
+            is_of(&found.tuple, apart.tuple)
+                && found.asked == apart.asked
+                && found.given == apart.given
+        }
+        (None, None) => true,
+        _ => false,
     }
 }
 
-// The tallies behind the row of a bitwise operation, as the row of this number.
-fn combined(alloc: Global, row: u32) -> Result<Tallies, Memory> {
+fn count_combined(
+    alloc: Global,
+    public: &Public,
+    row: u32,
+    tallies: &mut Tallies,
+) -> Result<(), Memory>
+    requires { HaveRoom tallies.old }
+{
     let mut table = Table::<12>::new(alloc);
     table.push_row(&COMBINED.map(Felt::from_u32))?;
     let place = Place {
@@ -58,14 +132,14 @@ fn combined(alloc: Global, row: u32) -> Result<Tallies, Memory> {
         row,
         lengths: [0; 7],
         left_key: Felt::ZERO,
-        public: &public(alloc)?,
+        public,
     };
-    let mut tallies = Tallies::new(alloc);
-    tuples_bitwise(&place, &mut tallies)?;
-    Ok(tallies)
+    tuples_bitwise(&place, tallies)
 }
 
-fn stored(alloc: Global) -> Result<Tallies, Memory> {
+fn count_stored(alloc: Global, public: &Public, tallies: &mut Tallies) -> Result<(), Memory>
+    requires { HaveRoom tallies.old }
+{
     let mut table = Table::<14>::new(alloc);
     table.push_row(&STORED.map(Felt::from_u32))?;
     let place = Place {
@@ -74,31 +148,45 @@ fn stored(alloc: Global) -> Result<Tallies, Memory> {
         row: 0,
         lengths: [0; 7],
         left_key: Felt::ZERO,
-        public: &public(alloc)?,
+        public,
     };
-    let mut tallies = Tallies::new(alloc);
-    tuples_memory(&place, &mut tallies)?;
-    Ok(tallies)
+    tuples_memory(&place, tallies)
 }
 
-// The last row of eight gives the operation, and one before it nothing.
+fn count(alloc: Global, counted: &Counted, tallies: &mut Tallies) -> Result<(), Memory>
+    requires { HaveRoom tallies.old }
+{
+    let public = public(alloc)?;
+    match counted {
+        Counted::Combined(row) => count_combined(alloc, &public, *row, tallies),
+        Counted::Stored => count_stored(alloc, &public, tallies),
+    }
+}
+
+// Whether a row's tallies are as its case says. Nothing returns before the end: the proof pays for the tallies at each return.
+fn is_counted(alloc: Global, case: &Case) -> Result<bool, Memory> {
+    let mut tallies = Tallies::new(alloc);
+    let done = count(alloc, &case.counted, &mut tallies);
+    let is_right = is_apart(&tallies.of(case.bus).unequal(), &case.apart);
+    done.and(Ok(is_right))
+}
+
+fn are_counted(alloc: Global, cases: &[Case]) -> Result<bool, Memory> {
+    let mut all = true;
+    for case in cases {
+        all = is_counted(alloc, case)? && all;
+    }
+    Ok(all)
+}
+
 #[test]
 fn bitwise_rows_give(rt: HostRuntime) -> Result<(), Fail> {
-    assert!(rt; is_apart(&combined(rt.alloc(), 7)?, Bus::Bitwise, &[1, 5, 6, 3], 0, 1));
-    assert!(rt;
-        combined(rt.alloc(), 14)?
-            .of(Bus::Bitwise)
-            .unequal()
-            .is_none()
-    );
+    assert!(rt; are_counted(rt.alloc(), &BITWISE_CASES)?);
     Ok(())
 }
 
-// A row of memory gives its access and asks its limbs.
 #[test]
 fn memory_rows_give_and_ask(rt: HostRuntime) -> Result<(), Fail> {
-    let tallies = stored(rt.alloc())?;
-    assert!(rt; is_apart(&tallies, Bus::Memory, &[2, 4, 458759, 3, 6, 8, 9, 10], 0, 1));
-    assert!(rt; is_apart(&tallies, Bus::Range, &[7], 4, 0));
+    assert!(rt; are_counted(rt.alloc(), &MEMORY_CASES)?);
     Ok(())
 }

@@ -15,6 +15,19 @@ pub struct Log {
     pub lines: &'static [Line],
 }
 
+/// What is asked of a log's run.
+#[derive(Clone, Copy)]
+pub enum Shown {
+    /// The log's lines.
+    Lines,
+    /// The digest of the tree that is run.
+    Digest,
+    /// What is visible before each cycle of `STORED`.
+    Before,
+    /// The word that `STORED` stores.
+    Word,
+}
+
 /// A cycle's operation, what it shows of hashes, and the cell on top behind it.
 #[derive(Clone, Copy)]
 pub struct Line(pub Op, pub Hash, pub u64);

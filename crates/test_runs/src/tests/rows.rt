@@ -1,5 +1,6 @@
 //! How programs end.
 
+use crate::tests::logs::{Log, Shown};
 use crate::tests::parts::{Part, part, parts};
 use vm_ops::{Cause, Op};
 
@@ -19,6 +20,7 @@ pub enum End {
     /// The clock of the cycle that traps.
     Trap(u32, Cause),
     OutOfCycles,
+    Shows(&'static Log, Shown),
 }
 
 /// The cycles, the stack's first cells with zeros behind them, its depth, and what is left of the

@@ -133,7 +133,7 @@ pub static WORDS: [Row; 24] = rows! {
     U32Xor [2439219217 18446744069414584320] => NotU32;
 };
 
-pub static MOVES: [Row; 34] = rows! {
+pub static COPIES: [Row; 15] = rows! {
     Noop [] => [];
     Drop [823268245] => [];
     Pad [] => [0];
@@ -149,6 +149,9 @@ pub static MOVES: [Row; 34] = rows! {
     Dup11 [] => [12];
     Dup13 [] => [14];
     Dup15 [] => [16];
+};
+
+pub static MOVES: [Row; 19] = rows! {
     Swap [2366121833 1008274267] => [1008274267 2366121833];
     MovUp2 [1 2 3] => [3 1 2];
     MovDn2 [1 2 3] => [2 3 1];
