@@ -1,5 +1,5 @@
-//! What the constraints speak of: the trace, the place of a row, faults, and, in `specs/`, each entry, each bus and what an
-//! accepted trace is (docs/CONSTRAINTS.md).
+//! What the constraints speak of: the trace, how many rows its tables may have, the place of a row, faults, and, in `specs/`,
+//! each entry, each bus and what an accepted trace is (docs/CONSTRAINTS.md).
 #![tactic(auto)]
 
 mod chips;

@@ -1,2 +1,2 @@
-//! What the answers of calls have in common whose results a definition names. The definition stands in `specs/`; no code.
+//! What a call answers whose result a definition names: that result, or that memory was refused. A definition; no code.
 #![tactic(auto)]

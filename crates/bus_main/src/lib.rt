@@ -1,4 +1,5 @@
-//! What the rows of the main table give and ask on the buses, those of the small tables among them.
+//! What a row of the main table gives and asks on all buses: with `bus_blocks`, what it asks of the small tables
+//! (docs/CONSTRAINTS.md).
 #![tactic(auto)]
 
 mod bitwise;

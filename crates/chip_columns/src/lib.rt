@@ -1,4 +1,4 @@
-//! The columns of the tables beside the main one, by name, and rows of these tables that are read by them.
+//! The columns of the six small tables by name, and views that read their rows by them.
 #![tactic(auto)]
 
 mod bitwise;

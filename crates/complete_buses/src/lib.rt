@@ -1,4 +1,4 @@
-//! That the buses of blocks, children, loops and groups are even over the filled rows of a run (docs/CONSTRAINTS.md).
+//! The buses of blocks, children, loops and groups are even over the filled rows of a run (docs/CONSTRAINTS.md). Laws; no code.
 #![tactic(auto)]
 
 mod laws;

@@ -1,5 +1,5 @@
-//! The range table goes from 0 to 65535 and the kernel's table is the list of the statement's digests: their entries are 0 exactly
-//! where that is so (docs/CONSTRAINTS.md).
+//! The range table goes from 0 to 65535 and the kernel's table is the list of the statement's digests: their entries are 0
+//! exactly where that is so (docs/CONSTRAINTS.md). Laws; no code.
 #![tactic(auto)]
 
 mod laws;

@@ -1,4 +1,5 @@
-//! What the entries of a row say where they are 0.
+//! What the main table's entries say where they are 0, in words and both ways: of a row, of the row behind it, of a whole table
+//! (docs/CONSTRAINTS.md). Laws; no code.
 #![tactic(auto)]
 
 mod laws;

@@ -1,4 +1,4 @@
-//! What the events of a run are, the limbs that their rows show, and what these rows ask of the small tables.
+//! Of each event of a run its kind, the limbs that its row shows, and what the row asks of the small tables.
 #![tactic(auto)]
 
 mod accesses;

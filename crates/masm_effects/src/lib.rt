@@ -1,4 +1,4 @@
-//! Each instruction's list of operations does what the instruction means, by itself and in a span of a tree.
+//! Each instruction's list of operations does what the instruction means, by itself and in a span of a tree. Laws; no code.
 #![tactic(auto)]
 
 mod instructions;

@@ -1,4 +1,4 @@
-//! Runs of assembled programs.
+//! No run of an assembled program traps for the form of its tree. Laws; no code.
 #![tactic(auto)]
 
 ghost use Rattle.masm_runs.specs.Runs.{AssembledIsReady, AssembledRuns, ReadyRuns};

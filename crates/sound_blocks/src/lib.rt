@@ -1,5 +1,5 @@
 //! How the blocks of an accepted trace nest, what the rows of its spans read, and which cells lie below the sixteenth
-//! (docs/CONSTRAINTS.md).
+//! (docs/CONSTRAINTS.md). Laws; no code.
 #![tactic(auto)]
 
 mod laws;
