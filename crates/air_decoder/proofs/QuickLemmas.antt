@@ -1,14 +1,14 @@
 -- A row of a span whose tests pass has no fault: most entries are 0 because of its operation alone.
 use Rattle.std.proofs.Common.{◌≡◌, ◌≢◌, ℕ, zero, suc, ◌+◌, ◌*◌, ◌<◌, ◌≤◌, true, false, cond, eqb, List, ◌++◌, length, Option, Some, None, refl, sym, ap, subst, ◌∙◌, inl, inr, arith, zero-mul}
 use Rattle.std.proofs.Math.Nat.{mul-zero}
-use Rattle.std.proofs.lemmas.Bool.{cases_Bool, eqb-true}
+use Rattle.std.proofs.lemmas.Bool.{cases_Bool, eqb-true, lt-ltb}
 use Rattle.std.proofs.lemmas.Bool.Decides.{nat_tests}
 use Rattle.vm_field.specs.Field.{felt_add, felt_sub, felt_mul}
 use Rattle.vm_field.proofs.Algebra.{felt_mul-zero_first, felt_mul-zero_second}
-use Rattle.vm_ops.specs.Codes.{code_of, every_op, is_ordinary_op, is_start_op}
+use Rattle.vm_ops.specs.Codes.{code_of, every_op, is_ordinary_op, is_start_op, kind_of}
 use Rattle.vm_ops.specs.declared.op.Op.{Op}
 use Rattle.vm_ops.specs.declared.op.Op.TheVariants as ops
-use Rattle.vm_ops.proofs.CodeLemmas.{code_of-different}
+use Rattle.vm_ops.proofs.CodeLemmas.{code_of-different, ordinary-below, ordinary-starts-none}
 use Rattle.vm_table.specs.MainColumns.{b, clk, f, h, sp, ox, c, s, w}
 use Rattle.air_kit.specs.Flags.{Flags, flag, flag_by, flags_of, spelled, sum_of, HasOp}
 use Rattle.air_kit.specs.Places.{Claim, Spot, first_fault_of, family}
@@ -65,11 +65,11 @@ quiet_flags x op has other =
       update = flag_apart x op ops.FmpUpdate has (λ e. o.9 (sym e));
     }
 
-start_off : (op : Op) → code_of op < 70 → is_start_op op ≡ false
-start_off op low = grind (arith, nat_tests)
-
 ordinary_on : (op : Op) → code_of op < 70 → is_ordinary_op op ≡ true
-ordinary_on op low = grind (arith, nat_tests)
+ordinary_on op low = ordinary-below op ∙ lt-ltb (code_of op) 70 low
+
+start_off : (op : Op) → code_of op < 70 → is_start_op op ≡ false
+start_off op low = ordinary-starts-none (kind_of op) (ordinary_on op low)
 
 plain_flags : (x : List ℕ) (op : Op) → HasOp x op → IsPlain op → RowFlags (flag x) 0 0 1
 plain_flags x op has p =

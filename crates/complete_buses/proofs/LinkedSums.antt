@@ -9,8 +9,8 @@ use Rattle.complete_rows.specs.Agreement.{Agrees}
 use Rattle.complete_rows.specs.Chains as chains
 use Rattle.complete_rows.specs.Chains.{AreLinked, over_pairs}
 use Rattle.complete_rows.specs.Decoder.{Decoder, advance, decoder_after}
-use Rattle.complete_rows.specs.Kinds as kinds
-use Rattle.complete_rows.specs.Kinds.{kind_of}
+use Rattle.vm_ops.specs.declared.kind.Kind.TheVariants as kinds
+use Rattle.vm_ops.specs.Codes.{kind_of}
 use Rattle.complete_rows.specs.Moments.{IsMoment, event_at}
 use Rattle.complete_rows.specs.Turns.{repeats, repeats_by}
 

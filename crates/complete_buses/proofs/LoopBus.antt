@@ -13,8 +13,8 @@ use Rattle.air_kit.specs.MainTuples.{loops_asked, loops_given}
 use Rattle.machine_cycles.specs.Events.{shown_between}
 use Rattle.machine_cycles.specs.declared.event.Event.{Event}
 use Rattle.complete_rows.specs.Decoder.{Decoder, Open, address_of, advance}
-use Rattle.complete_rows.specs.Kinds as kinds
-use Rattle.complete_rows.specs.Kinds.{kind_of}
+use Rattle.vm_ops.specs.declared.kind.Kind.TheVariants as kinds
+use Rattle.vm_ops.specs.Codes.{kind_of}
 use Rattle.complete_rows.specs.Turns.{repeats, repeats_by}
 use Rattle.complete_rows.proofs.AgreeLemmas.{kind_is, ordinary_advance}
 use Rattle.complete_rows.proofs.BlockLemmas.{no_block}

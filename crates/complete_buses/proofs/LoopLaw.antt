@@ -11,8 +11,8 @@ use Rattle.air_kit.specs.MainTuples.{loops_asked, loops_given}
 use Rattle.machine_cycles.specs.Events.{visible_of}
 use Rattle.complete_rows.specs.BlockRows.{IsWholeRun, events_of, filled}
 use Rattle.complete_rows.specs.Filling.{witnesses_by}
-use Rattle.complete_rows.specs.Kinds as kinds
-use Rattle.complete_rows.specs.Kinds.{kind_of}
+use Rattle.vm_ops.specs.declared.kind.Kind.TheVariants as kinds
+use Rattle.vm_ops.specs.Codes.{kind_of}
 use Rattle.complete_rows.specs.Moments.{IsMoment, event_at}
 use Rattle.complete_rows.specs.Turns.{repeats}
 use Rattle.complete_rows.proofs.ChainLemmas.{over_rows_pairs}

@@ -13,7 +13,7 @@ use Rattle.machine_cycles.specs.Events.{shown_between}
 use Rattle.machine_cycles.specs.declared.event.Event.{Event}
 use Rattle.complete_rows.specs.Decoder.{Decoder, advance}
 use Rattle.complete_rows.specs.Filling.{hash_by}
-use Rattle.complete_rows.specs.Kinds.{kind_of}
+use Rattle.vm_ops.specs.Codes.{kind_of}
 use Rattle.complete_rows.specs.Moments.{IsMoment}
 use Rattle.complete_rows.specs.Shows.{Shows}
 use Rattle.complete_rows.proofs.MomentFacts.{behind_shows, moment_hash, moment_op, moment_shows}

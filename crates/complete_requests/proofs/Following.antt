@@ -16,8 +16,9 @@ use Rattle.complete_rows.specs.Chains as chains
 use Rattle.complete_rows.specs.Chains.{AreLinked, over_pairs}
 use Rattle.complete_rows.specs.Decoder.{Decoder, advance, decoder_after}
 use Rattle.complete_rows.specs.Filling.{seen_behind}
-use Rattle.complete_rows.specs.Kinds as kinds
-use Rattle.complete_rows.specs.Kinds.{Kind, kind_of}
+use Rattle.vm_ops.specs.declared.kind.Kind.TheVariants as kinds
+use Rattle.vm_ops.specs.declared.kind.Kind.{Kind}
+use Rattle.vm_ops.specs.Codes.{kind_of}
 use Rattle.complete_rows.specs.Moments.{IsMoment, event_at}
 use Rattle.complete_rows.specs.Turns.{respans, respans_by}
 use Rattle.complete_rows.proofs.AgreeLemmas.{kind_is}

@@ -19,8 +19,9 @@ use Rattle.facts_main.proofs.Says.{never, off}
 use Rattle.complete_rows.specs.Chains as chains
 use Rattle.complete_rows.specs.Chains.{AreLinked}
 use Rattle.complete_rows.specs.Decoder.{Decoder}
-use Rattle.complete_rows.specs.Kinds as kinds
-use Rattle.complete_rows.specs.Kinds.{Kind, kind_of}
+use Rattle.vm_ops.specs.declared.kind.Kind.TheVariants as kinds
+use Rattle.vm_ops.specs.declared.kind.Kind.{Kind}
+use Rattle.vm_ops.specs.Codes.{kind_of}
 use Rattle.complete_rows.specs.Moments.{event_at}
 use Rattle.complete_rows.specs.RunRequests.{chain, hash_perms, perms_by, perms_by_op, perms_of}
 use Rattle.complete_rows.specs.Turns.{respans}

@@ -21,7 +21,7 @@ use Rattle.machine_cycles.specs.Events.{shown_between, visible_of}
 use Rattle.machine_cycles.specs.declared.event.Event.{Event}
 use Rattle.complete_rows.specs.Agreement.{AreOutside}
 use Rattle.complete_rows.specs.Decoder.{Decoder, address_of, advance, next_after}
-use Rattle.complete_rows.specs.Kinds.{kind_of}
+use Rattle.vm_ops.specs.Codes.{kind_of}
 use Rattle.complete_rows.specs.RunRequests.{hash_perms, perms_by, perms_by_op, perms_of}
 use Rattle.complete_rows.specs.Turns.{respans}
 use Rattle.complete_rows.proofs.AgreeLemmas.{kind_is, ordinary_advance}

@@ -30,7 +30,7 @@ use Rattle.machine_cycles.specs.declared.event.Visible.{Visible}
 use Rattle.facts_main.proofs.Says.{never, off}
 use Rattle.complete_rows.specs.Decoder.{Decoder, next_after}
 use Rattle.complete_rows.specs.Filling.{witnesses_by}
-use Rattle.complete_rows.specs.Kinds.{kind_of}
+use Rattle.vm_ops.specs.Codes.{kind_of}
 use Rattle.complete_rows.specs.Witnesses.{operation_witnesses}
 use Rattle.complete_rows.proofs.AgreeLemmas.{kind_is}
 use Rattle.complete_rows.proofs.BlockLemmas.{no_block}

@@ -13,7 +13,7 @@ use Rattle.machine_cycles.specs.Events.{shown_between}
 use Rattle.facts_main.proofs.Says.{never}
 use Rattle.complete_rows.specs.Decoder.{Decoder, advance}
 use Rattle.complete_rows.specs.Filling.{hash_by}
-use Rattle.complete_rows.specs.Kinds.{kind_of}
+use Rattle.vm_ops.specs.Codes.{kind_of}
 use Rattle.complete_rows.specs.Moments.{IsMoment, event_at}
 use Rattle.complete_rows.proofs.ColumnLemmas.{below_eight}
 use Rattle.complete_rows.proofs.LineLemmas.{ha_low, next_low}

@@ -12,8 +12,9 @@ use Rattle.machine_cycles.specs.declared.event.Visible.{Visible}
 use Rattle.complete_rows.specs.Chains as chains
 use Rattle.complete_rows.specs.Chains.{AreLinked}
 use Rattle.complete_rows.specs.Decoder.{Decoder, decoder_after}
-use Rattle.complete_rows.specs.Kinds as kinds
-use Rattle.complete_rows.specs.Kinds.{Kind, kind_of}
+use Rattle.vm_ops.specs.declared.kind.Kind.TheVariants as kinds
+use Rattle.vm_ops.specs.declared.kind.Kind.{Kind}
+use Rattle.vm_ops.specs.Codes.{kind_of}
 use Rattle.complete_rows.specs.RunRequests.{accesses_by, accesses_of, bits_by, bits_of, hash_perms, perms_by, perms_by_op, perms_of}
 use Rattle.complete_rows.specs.Turns.{respans, respans_by}
 use Rattle.complete_requests.proofs.Chains.{length_chain}

@@ -19,12 +19,13 @@ use Rattle.machine_cycles.specs.declared.event.Event.{Event}
 use Rattle.complete_rows.specs.Agreement.{ReadsOn, AreOutside, ReadsFirst, IsLowUnread}
 use Rattle.complete_rows.specs.Decoder.{Decoder, hidden_of, keys_after, keys_behind, advance, advance_by}
 use Rattle.complete_rows.specs.Groups.{Unread, nothing_unread, batch_begun, group_after, taken_from}
-use Rattle.complete_rows.specs.Kinds as kinds
-use Rattle.complete_rows.specs.Kinds.{kind_of, block_kind}
+use Rattle.vm_ops.specs.declared.kind.Kind.TheVariants as kinds
+use Rattle.vm_ops.specs.Codes.{kind_of}
+use Rattle.vm_ops.proofs.CodeLemmas.{ordinary-kind}
 use Rattle.complete_rows.proofs.ReadingLemmas.{Takes, pushes, goes, opens, ends, takes, reads_some, reads_room}
 
 pub kind_is : (op : Op) → is_ordinary_op op ≡ true → kind_of op ≡ kinds.Ordinary
-kind_is op e = ap (λ b. cond b kinds.Ordinary (block_kind op)) e
+kind_is op e = ordinary-kind (kind_of op) e
 
 pub ordinary_advance : (d : Decoder) (e : Event) (later : List Event) → is_ordinary_op e.op ≡ true
     → advance d e later ≡ advance_by kinds.Ordinary d e later

@@ -4,7 +4,7 @@ use Rattle.std.proofs.lemmas.Bool.{lt-leb, ltb-true, ne_eqb}
 use Rattle.std.proofs.lemmas.List.{get_or_append_left}
 use Rattle.vm_field.specs.Machine.{Core, zero_word}
 use Rattle.vm_field.specs.Signs.{◌⊞◌, ◌⊟◌}
-use Rattle.vm_ops.specs.Codes.{code_of, is_ordinary_op, is_start_op}
+use Rattle.vm_ops.specs.Codes.{code_of, is_ordinary_op, is_start_op, kind_of}
 use Rattle.vm_ops.specs.Values.{Seen, fmp_after, trap_of, unless, bit_of}
 use Rattle.vm_ops.specs.declared.cause.Cause.TheVariants.{NotInSyscall}
 use Rattle.vm_ops.specs.declared.op.Op.{Op}
@@ -18,15 +18,16 @@ use Rattle.complete_rows.specs.Decoder.{Decoder, address_of}
 use Rattle.complete_rows.specs.Shows.{Shows}
 use Rattle.complete_rows.proofs.AgreeLemmas.{HasFlags, has_flags}
 use Rattle.complete_rows.proofs.ColumnLemmas.{below_four}
+use Rattle.vm_ops.proofs.CodeLemmas.{ordinary-below, ordinary-starts-none}
 
 -- ---- an ordinary operation is none of blocks
 
 apart_from : (op other : Op) → is_ordinary_op op ≡ true → 70 ≤ code_of other → is_op op other ≡ false
 apart_from op other is high =
-    let low : code_of op < 70 = ltb-true (code_of op) 70 is in ne_eqb (code_of op) (code_of other) (λ e. omega (arith, low, high, e))
+    let low : code_of op < 70 = ltb-true (code_of op) 70 (sym (ordinary-below op) ∙ is) in ne_eqb (code_of op) (code_of other) (λ e. omega (arith, low, high, e))
 
 no_start : (op : Op) → is_ordinary_op op ≡ true → is_start_op op ≡ false
-no_start op is = rw (lt-leb 70 (code_of op) (ltb-true (code_of op) 70 is)) refl
+no_start op is = ordinary-starts-none (kind_of op) is
 
 pub record IsNoBlock (op : Op) : Type 0 where
   pub start : is_start_op op ≡ false

@@ -16,8 +16,9 @@ use Rattle.complete_rows.specs.Agreement.{IsLowUnread}
 use Rattle.complete_rows.specs.Bounds.{IsBounded, IsLowBlock, IsSmallCore}
 use Rattle.complete_rows.specs.Decoder.{Open, Decoder, address_of}
 use Rattle.complete_rows.specs.Filling.{hash_by, line_of, witnesses_by}
-use Rattle.complete_rows.specs.Kinds as kinds
-use Rattle.complete_rows.specs.Kinds.{Kind, kind_of}
+use Rattle.vm_ops.specs.declared.kind.Kind.TheVariants as kinds
+use Rattle.vm_ops.specs.declared.kind.Kind.{Kind}
+use Rattle.vm_ops.specs.Codes.{kind_of}
 use Rattle.complete_rows.specs.Limbs.{cell, limbs_by, limbs_of, word_rest}
 use Rattle.complete_rows.specs.Turns.{repeats, repeats_by}
 use Rattle.complete_rows.specs.Witnesses.{batch_witnesses, difference, first_inverse, first_witness, operation_witnesses, upper_half}

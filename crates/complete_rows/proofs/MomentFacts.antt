@@ -18,7 +18,7 @@ use Rattle.vm_table.specs.MainColumns.{b, h, t, w}
 use Rattle.facts_main.specs.RowFacts.{ReadsAs, IsRow, IsPair}
 use Rattle.complete_rows.specs.Decoder.{Decoder, advance}
 use Rattle.complete_rows.specs.Filling.{halted, hash_by, line_of, row_of, witnesses_by}
-use Rattle.complete_rows.specs.Kinds.{kind_of}
+use Rattle.vm_ops.specs.Codes.{kind_of}
 use Rattle.complete_rows.specs.Limbs.{limbs_of}
 use Rattle.complete_rows.specs.Lines.{Line, laid_out}
 use Rattle.complete_rows.specs.Moments.{Comes, IsLastMoment, IsMoment, IsRowAt, event_at}

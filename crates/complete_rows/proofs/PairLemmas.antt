@@ -30,7 +30,7 @@ use Rattle.complete_rows.specs.Bounds.{IsSmallCore}
 use Rattle.complete_rows.specs.Decoder.{Decoder, advance, advance_by}
 use Rattle.complete_rows.specs.Filling.{line_of, row_of}
 use Rattle.complete_rows.specs.Groups.{batch_begun}
-use Rattle.complete_rows.specs.Kinds as kinds
+use Rattle.vm_ops.specs.declared.kind.Kind.TheVariants as kinds
 use Rattle.complete_rows.specs.Moments.{Comes}
 use Rattle.complete_rows.specs.Shows.{Shows}
 use Rattle.complete_rows.proofs.AgreeLemmas.{ordinary_advance}

@@ -9,8 +9,9 @@ use Rattle.vm_ops.specs.declared.op.Shift.TheVariants.{Left, Stay, Right}
 use Rattle.air_kit.specs.Flags.{is_op}
 use Rattle.machine_cycles.specs.declared.event.Event.{Event}
 use Rattle.complete_rows.specs.Groups.{Unread, nothing_unread, batch_begun, taken_from}
-use Rattle.complete_rows.specs.Kinds as kinds
-use Rattle.complete_rows.specs.Kinds.{Kind, kind_of}
+use Rattle.vm_ops.specs.declared.kind.Kind.TheVariants as kinds
+use Rattle.vm_ops.specs.declared.kind.Kind.{Kind}
+use Rattle.vm_ops.specs.Codes.{kind_of}
 use Rattle.complete_rows.specs.Turns.{respans}
 
 -- a block that was started and not ended: where its hash starts, and the keys of the cells that a call hides

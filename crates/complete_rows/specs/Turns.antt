@@ -1,8 +1,9 @@
 -- What a row takes from the cycles behind it: the later batches of its span, and how often its loop repeats.
 use Rattle.std.specs.Prelude.{ℕ, suc, List, [], ◌∷◌, drop, slice_index}
 use Rattle.machine_cycles.specs.declared.event.Event.{Event}
-use Rattle.complete_rows.specs.Kinds as kinds
-use Rattle.complete_rows.specs.Kinds.{Kind, kind_of}
+use Rattle.vm_ops.specs.declared.kind.Kind.TheVariants as kinds
+use Rattle.vm_ops.specs.declared.kind.Kind.{Kind}
+use Rattle.vm_ops.specs.Codes.{kind_of}
 
 -- A span's RESPANs come before its END, with nothing but ordinary operations between them.
 abbrev pub respans_by : Kind → List ℕ → List (List ℕ) → List (List ℕ)

@@ -28,7 +28,7 @@ use Rattle.facts_steps.specs.Filling.{FillsRows, elsewhere_of}
 use Rattle.facts_steps.proofs.Fills.{step_fills}
 use Rattle.complete_rows.specs.Decoder.{Decoder, advance, advance_by, key_of, keys_after}
 use Rattle.complete_rows.specs.Filling.{line_of, row_of}
-use Rattle.complete_rows.specs.Kinds as kinds
+use Rattle.vm_ops.specs.declared.kind.Kind.TheVariants as kinds
 use Rattle.complete_rows.specs.Limbs.{cell}
 use Rattle.complete_rows.specs.Moments.{event_at}
 use Rattle.complete_rows.specs.Shows.{Shows}

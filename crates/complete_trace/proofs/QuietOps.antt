@@ -11,6 +11,7 @@ use Rattle.facts_main.specs.Limbs.{IsLimbRow, MovesLimbs, has_high_word, has_sec
 use Rattle.facts_main.specs.Stack.{LeavesCells, tests_top, tests_two}
 use Rattle.facts_main.proofs.Says.{never}
 use Rattle.facts_steps.specs.Lookups.{LooksUpLimbs, LooksUpBits, is_bitwise}
+use Rattle.vm_ops.proofs.CodeLemmas.{ordinary-below}
 
 gate : (t a : Bool) → not t && a ≡ false → t ≡ false → a ≡ false
 gate true a e is = never is
@@ -23,7 +24,7 @@ quiet op test e is set = never (sym set ∙ gate (is_ordinary_op op) test e is)
 pub apart : {A : Type 0} (op other : Op) → is_ordinary_op op ≡ false → is_ordinary_op other ≡ true → is_op op other ≡ true → A
 apart op other is ordinary same =
     let code : code_of op ≡ code_of other = eqb-true (code_of op) (code_of other) same in
-    never (sym ordinary ∙ ap (λ n. ltb n 70) (sym code) ∙ is)
+    never (sym ordinary ∙ ordinary-below op ∙ ap (λ n. ltb n 70) code ∙ sym (ordinary-below other) ∙ is)
 
 no_right : (op : Op) → not (is_ordinary_op op) && is_right op ≡ false
 no_right ops.Noop = refl

@@ -4,8 +4,9 @@ use Rattle.machine_cycles.specs.declared.event.Event.{Event}
 use Rattle.complete_rows.specs.Decoder as rows
 use Rattle.complete_rows.specs.Decoder.{address_of, advance, advance_by, hidden_of, opened}
 use Rattle.complete_rows.specs.Groups.{batch_begun}
-use Rattle.complete_rows.specs.Kinds as kinds
-use Rattle.complete_rows.specs.Kinds.{Kind, kind_of}
+use Rattle.vm_ops.specs.declared.kind.Kind.TheVariants as kinds
+use Rattle.vm_ops.specs.declared.kind.Kind.{Kind}
+use Rattle.vm_ops.specs.Codes.{kind_of}
 use Rattle.complete_rows.specs.Turns.{respans}
 use Rattle.fill_decoder.specs.Views.{advance_as}
 

@@ -8,8 +8,8 @@ use Rattle.complete_rows.specs.Decoder as rows
 use Rattle.complete_rows.specs.Decoder.{called, closed, keys_after, next_after, opened, popped}
 use Rattle.complete_rows.specs.Groups as groups
 use Rattle.complete_rows.specs.Groups.{batch_begun, taken_from}
-use Rattle.complete_rows.specs.Kinds as kinds
-use Rattle.complete_rows.specs.Kinds.{Kind}
+use Rattle.vm_ops.specs.declared.kind.Kind.TheVariants as kinds
+use Rattle.vm_ops.specs.declared.kind.Kind.{Kind}
 use Rattle.fill_decoder.specs.declared.decoder.Decoder.{Decoder}
 
 abbrev pub unread_in : Decoder → groups.Unread

@@ -1,21 +1,20 @@
 ghost use Rattle.std.specs.Prelude.{◌≡◌, ℕ, ◌*◌, drop, slice_get, slice_index, length, List, IfOk, OnOk};
 ghost use Rattle.complete_rows.specs.Decoder.{address_of, at_start, called, closed, key_of, keys_after, next_after, opened, popped};
 ghost use Rattle.complete_rows.specs.Groups.{batch_begun, taken_from};
-ghost use Rattle.complete_rows.specs.Kinds as kinds;
+ghost use Rattle.vm_ops.specs.declared.kind.Kind.TheVariants as kinds;
 ghost use Rattle.vm_ops.specs.Moves.{shift_of};
-ghost use Rattle.fill_requests.specs.Kinds.{kind_in};
 ghost use Rattle.fill_decoder.specs.Views.{advance_as, decoder_in, unread_in};
 
 use crate::numbers::{sum_of, times_eight};
 use crate::positions::positions_of;
 use crate::stack::Stack;
-use fill_requests::{Kind, is_op};
+use fill_requests::is_op;
 use machine_cycles::Event;
 use std::alloc::Global;
 use std::marker::Model;
 use std::mem;
 use vm_field::{Felt, Memory};
-use vm_ops::{Op, Shift, shift};
+use vm_ops::{Kind, Op, Shift, shift};
 
 /// A block that was started and not ended: where its hash starts, and the keys of the cells that a
 /// call hides.
@@ -90,7 +89,7 @@ impl Decoder {
 
     /// Goes on behind an event of a kind, before so many later batches of its span.
     pub fn advance(&mut self, event: &Event, kind: Kind, batches: usize) -> Result<(), Memory>
-        ensures { OnOk result (decoder_in self.new ≡ advance_as (kind_in kind) (decoder_in self.old) event.now batches) }
+        ensures { OnOk result (decoder_in self.new ≡ advance_as kind (decoder_in self.old) event.now batches) }
     {
         match kind {
             Kind::Ordinary => self.take(event),

@@ -5,7 +5,7 @@ use Rattle.machine_cycles.specs.declared.event.Event.{Event}
 use Rattle.machine_cycles.specs.declared.event.Visible.{Visible}
 use Rattle.complete_rows.specs.Decoder.{Decoder, advance, at_start, decoder_after}
 use Rattle.complete_rows.specs.Filling.{fill, halted, row_of, rows_of, seen_behind}
-use Rattle.complete_rows.specs.Kinds.{kind_of}
+use Rattle.vm_ops.specs.Codes.{kind_of}
 use Rattle.complete_rows.specs.Turns.{repeats, repeats_by}
 use Rattle.fill_main.specs.Turns.{turns_of}
 use Rattle.fill_requests.proofs.LoopLemmas.{suffix}

@@ -1,21 +1,20 @@
 ghost use Rattle.std.specs.Prelude.{◌≡◌, ℕ, drop, IfOk};
 ghost use Rattle.complete_rows.specs.Filling.{halted, rows_of};
-ghost use Rattle.complete_rows.specs.Kinds as kinds;
+ghost use Rattle.vm_ops.specs.declared.kind.Kind.TheVariants as kinds;
 ghost use Rattle.complete_rows.specs.RunRequests.{requests_of};
 ghost use Rattle.complete_rows.specs.Turns.{respans};
-ghost use Rattle.fill_requests.specs.Kinds.{kind_in};
 
 use crate::inverses::Inverses;
 use crate::row::write_row;
 use crate::turns::turns_of;
 use air_kit::Requests;
 use fill_decoder::{Decoder, into_elements};
-use fill_requests::{Kind, kind_of, no_requests, push_requests, respans, seen_behind};
+use fill_requests::{no_requests, push_requests, respans, seen_behind};
 use machine_cycles::{Event, Events, Visible};
 use perm_memo::Permutations;
 use std::alloc::Global;
 use vm_field::{Felt, Memory, Sequence, Word};
-use vm_ops::Op;
+use vm_ops::{Kind, Op, kind_of};
 use vm_table::Table;
 
 // The rows of the events of a run that ends in a state, and what they ask. Each event is read for
@@ -70,7 +69,7 @@ fn batches_of(
     events: &Events,
     first: usize,
 ) -> Result<Sequence<[Felt; 8]>, Memory>
-    ensures { IfOk result (λ batches. kind_in kind ≡ kinds.Span → batches ≡ respans (drop first events.now)) }
+    ensures { IfOk result (λ batches. kind ≡ kinds.Span → batches ≡ respans (drop first events.now)) }
 {
     match kind {
         Kind::Span => respans(alloc, events, first),

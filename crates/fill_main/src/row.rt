@@ -9,7 +9,6 @@ ghost use Rattle.complete_rows.specs.Lines.{code_bit};
 ghost use Rattle.complete_rows.specs.Turns.{repeats};
 ghost use Rattle.complete_rows.specs.Witnesses.{operation_witnesses};
 ghost use Rattle.vm_ops.specs.Codes.{is_ordinary_op};
-ghost use Rattle.fill_requests.specs.Kinds.{kind_in};
 ghost use Rattle.fill_requests.specs.Parts.{eight_of, four_of, sixteen_of};
 ghost use Rattle.fill_decoder.specs.Views.{decoder_in};
 
@@ -17,10 +16,11 @@ use crate::cells::{block_cells, depth_cells, felt_of, group_cells, state_cells};
 use crate::inverses::Inverses;
 use crate::witnesses::{batch_witnesses, operation_witnesses};
 use fill_decoder::Decoder;
-use fill_requests::{Kind, kind_of, limbs_of};
+use fill_requests::limbs_of;
 use machine_cycles::{Event, Visible};
 use op_pack::in_use;
 use vm_field::{Felt, Memory};
+use vm_ops::{Kind, kind_of};
 
 // The columns at which the parts of a row begin (docs/CONSTRAINTS.md).
 const CLK: usize = 0;
@@ -123,7 +123,7 @@ fn key_cells(inverses: &mut Inverses, decoder: &Decoder, event: &Event) -> Resul
 
 // The columns of the hash. A row of an ordinary operation shows what is left of its group there.
 fn hash_cells(kind: Kind, decoder: &Decoder, event: &Event) -> [Felt; 8]
-    ensures { result ≡ eight_of (hash_by (kind_in kind) (decoder_in decoder.now) event.now) }
+    ensures { result ≡ eight_of (hash_by kind (decoder_in decoder.now) event.now) }
 {
     let zero = Felt::ZERO;
     match kind {
@@ -144,8 +144,8 @@ fn eight_cells(hash: &[Felt; 8]) -> [Felt; 8]
 // The columns of the group and of the batch.
 fn batch_cells(kind: Kind, decoder: &Decoder, event: &Event) -> Result<[Felt; 6], Memory>
     ensures { IfOk result (λ cells. cells ≡ bit_of (is_ordinary_op event.now.op) ∷ length decoder.now.positions ∷ decoder.now.place
-        ∷ bit_of (in_use_by (kind_in kind) event.now == 8) ∷ bit_of (in_use_by (kind_in kind) event.now == 4)
-        ∷ bit_of (in_use_by (kind_in kind) event.now == 2) ∷ []) }
+        ∷ bit_of (in_use_by kind event.now == 8) ∷ bit_of (in_use_by kind event.now == 4)
+        ∷ bit_of (in_use_by kind event.now == 2) ∷ []) }
 {
     let left = felt_of(decoder.positions.len() as u64)?;
     let place = felt_of(decoder.place)?;
@@ -154,7 +154,7 @@ fn batch_cells(kind: Kind, decoder: &Decoder, event: &Event) -> Result<[Felt; 6]
 
 // How many positions are in use of a batch that begins; 0 in other rows.
 fn positions_in_use(kind: Kind, event: &Event) -> usize
-    ensures { result ≡ in_use_by (kind_in kind) event.now }
+    ensures { result ≡ in_use_by kind event.now }
 {
     match kind {
         Kind::Span | Kind::Respan => in_use(&event.hash),
@@ -172,7 +172,7 @@ fn witness_cells(
     turns: u64,
 ) -> Result<[Felt; 4], Memory>
     ensures { (later : List shown.Event) → turns ≡ slice_index (repeats later) 0
-        → IfOk result (λ cells. cells ≡ four_of (witnesses_by (kind_in kind) (decoder_in decoder.now) event.now next.now later)) }
+        → IfOk result (λ cells. cells ≡ four_of (witnesses_by kind (decoder_in decoder.now) event.now next.now later)) }
 {
     let zero = Felt::ZERO;
     match kind {

@@ -1,13 +1,12 @@
 ghost use Rattle.std.specs.Prelude.{◌≡◌, slice_index, OnOk, IfOk};
 ghost use Rattle.complete_rows.specs.Turns.{repeats_by};
-ghost use Rattle.fill_requests.specs.Kinds.{kind_in};
 ghost use Rattle.fill_main.specs.Turns.{turns_of};
 
 use fill_decoder::{Stack, sum_of};
-use fill_requests::{Kind, kind_of};
 use machine_cycles::Events;
 use std::alloc::Global;
 use vm_field::Memory;
+use vm_ops::{Kind, kind_of};
 
 // Of each event, how often the body of its loop is repeated behind it.
 pub(crate) fn turns_of(alloc: Global, events: &Events) -> Result<Stack<u64>, Memory>
@@ -36,7 +35,7 @@ fn front(counts: &Stack<u64>) -> u64
 // Counts one event more, from the end on.
 #[tactic(auto, using(fill_decoder::proofs::GroupLemmas::first_number))]
 fn count(counts: &mut Stack<u64>, kind: Kind) -> Result<(), Memory>
-    ensures { OnOk result (counts.new ≡ repeats_by (kind_in kind) counts.old) }
+    ensures { OnOk result (counts.new ≡ repeats_by kind counts.old) }
 {
     match kind {
         Kind::Ordinary | Kind::Respan | Kind::Halt => Ok(()),

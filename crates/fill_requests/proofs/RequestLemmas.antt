@@ -9,8 +9,9 @@ use Rattle.air_kit.specs.declared.requests.Requests.{Requests}
 use Rattle.machine_cycles.specs.declared.event.Event.{Event}
 use Rattle.machine_cycles.specs.declared.event.Visible.{Visible}
 use Rattle.complete_rows.specs.Filling.{seen_behind}
-use Rattle.complete_rows.specs.Kinds as kinds
-use Rattle.complete_rows.specs.Kinds.{Kind, kind_of}
+use Rattle.vm_ops.specs.declared.kind.Kind.TheVariants as kinds
+use Rattle.vm_ops.specs.declared.kind.Kind.{Kind}
+use Rattle.vm_ops.specs.Codes.{kind_of}
 use Rattle.complete_rows.specs.RunRequests.{accesses_by, accesses_of, bits_by, bits_of, calls_of, hash_perms, perms_by, perms_of, ranges_by, ranges_of}
 use Rattle.complete_rows.specs.Turns.{respans}
 use Rattle.fill_requests.specs.Asked.{perms_as}

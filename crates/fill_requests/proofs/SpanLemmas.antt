@@ -5,8 +5,9 @@ use Rattle.std.proofs.lemmas.List.{append-nil, drop_all, get_or_default}
 use Rattle.vm_ops.specs.declared.op.Op.{Op}
 use Rattle.machine_cycles.specs.Log.{ShowsAt}
 use Rattle.machine_cycles.specs.declared.event.Event.{Event}
-use Rattle.complete_rows.specs.Kinds as kinds
-use Rattle.complete_rows.specs.Kinds.{Kind, kind_of}
+use Rattle.vm_ops.specs.declared.kind.Kind.TheVariants as kinds
+use Rattle.vm_ops.specs.declared.kind.Kind.{Kind}
+use Rattle.vm_ops.specs.Codes.{kind_of}
 use Rattle.complete_rows.specs.Turns.{respans, respans_by}
 use Rattle.fill_requests.specs.Spans.{batch_by, stays}
 use Rattle.fill_requests.proofs.LoopLemmas.{suffix}

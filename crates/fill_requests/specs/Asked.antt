@@ -4,8 +4,8 @@ use Rattle.vm_ops.specs.Codes.{code_of}
 use Rattle.vm_ops.specs.declared.op.Op.TheVariants as ops
 use Rattle.air_kit.specs.declared.requests.Perm.{Perm}
 use Rattle.machine_cycles.specs.declared.event.Event.{Event}
-use Rattle.complete_rows.specs.Kinds as kinds
-use Rattle.complete_rows.specs.Kinds.{Kind}
+use Rattle.vm_ops.specs.declared.kind.Kind.TheVariants as kinds
+use Rattle.vm_ops.specs.declared.kind.Kind.{Kind}
 use Rattle.complete_rows.specs.RunRequests.{hash_perms, perms_by_op}
 
 abbrev pub perms_as : Kind → List ℕ → Event → List (List ℕ) → List Perm

@@ -1,4 +1,3 @@
-pub mod Kinds
 pub mod Parts
 pub mod Spans
 pub mod Asked

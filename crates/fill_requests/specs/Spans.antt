@@ -1,7 +1,7 @@
 -- What the scan for the later batches of a span does at each event.
 use Rattle.std.specs.Prelude.{ℕ, Bool, true, false, List, [], ◌∷◌}
-use Rattle.complete_rows.specs.Kinds as kinds
-use Rattle.complete_rows.specs.Kinds.{Kind}
+use Rattle.vm_ops.specs.declared.kind.Kind.TheVariants as kinds
+use Rattle.vm_ops.specs.declared.kind.Kind.{Kind}
 
 -- the span is still open behind it
 abbrev pub stays : Kind → Bool

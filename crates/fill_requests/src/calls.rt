@@ -2,7 +2,7 @@ ghost use Rattle.std.specs.Prelude.{◌≡◌, ◌++◌, [], ◌∷◌, take, if
 ghost use Rattle.vm_ops.specs.declared.op.Op.TheVariants as ops;
 ghost use Rattle.air_kit.specs.Flags.{is_op};
 
-use crate::kind::is_op;
+use crate::same::is_op;
 use machine_cycles::Event;
 use vm_field::{Felt, Memory, Word, Words};
 use vm_ops::Op;

@@ -5,16 +5,16 @@ mod accesses;
 mod behind;
 mod bits;
 mod calls;
-mod kind;
 mod limbs;
 mod numbers;
 mod perms;
 mod ranges;
 mod requests;
+mod same;
 mod spans;
 
 pub use behind::seen_behind;
-pub use kind::{Kind, is_op, kind_of};
 pub use limbs::{Limbs, limbs_of};
 pub use requests::{no_requests, push_requests};
+pub use same::is_op;
 pub use spans::respans;

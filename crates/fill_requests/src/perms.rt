@@ -1,16 +1,14 @@
 ghost use Rattle.std.specs.Prelude.{◌≡◌, ◌++◌, [], ◌∷◌, false, reverse, take, OnOk};
 ghost use Rattle.vm_field.specs.Sponge.{begun};
 ghost use Rattle.vm_ops.specs.Codes.{code_of};
-ghost use Rattle.fill_requests.specs.Kinds.{kind_in};
 ghost use Rattle.complete_rows.specs.RunRequests.{hash_perms, perms_by_op};
 ghost use Rattle.fill_requests.specs.Asked.{perms_as};
 
-use crate::kind::Kind;
 use air_kit::Perm;
 use machine_cycles::Event;
 use perm_memo::Permutations;
 use vm_field::{Felt, Memory, Sequence};
-use vm_ops::{Op, opcode};
+use vm_ops::{Kind, Op, opcode};
 
 // Adds the permutations of an event of a kind, where its span has these later batches.
 #[tactic(auto, using(crate::proofs::ChainLemmas::one_block))]
@@ -21,7 +19,7 @@ pub(crate) fn push_perms(
     event: &Event,
     batches: &[[Felt; 8]],
 ) -> Result<(), Memory>
-    ensures perms { OnOk result (perms.new ≡ perms.old ++ perms_as (kind_in kind) permutations.old event.now batches.now) }
+    ensures perms { OnOk result (perms.new ≡ perms.old ++ perms_as kind permutations.old event.now batches.now) }
     ensures same { permutations.new ≡ permutations.old }
 {
     match kind {

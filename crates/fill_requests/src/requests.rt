@@ -1,14 +1,12 @@
 ghost use Rattle.std.specs.Prelude.{◌≡◌, ◌++◌, [], ◌∷◌, take, if◌then◌else◌, OnOk};
 ghost use Rattle.vm_ops.specs.declared.op.Op.TheVariants as ops;
 ghost use Rattle.air_kit.specs.Flags.{is_op};
-ghost use Rattle.fill_requests.specs.Kinds.{kind_in};
 ghost use Rattle.complete_rows.specs.RunRequests.{accesses_by, bits_by, ranges_by};
 ghost use Rattle.fill_requests.specs.Asked.{perms_as};
 
 use crate::accesses::push_accesses;
 use crate::bits::push_bits;
 use crate::calls::push_call;
-use crate::kind::Kind;
 use crate::perms::push_perms;
 use crate::ranges::push_ranges;
 use air_kit::Requests;
@@ -16,6 +14,7 @@ use machine_cycles::{Event, Visible};
 use perm_memo::Permutations;
 use std::alloc::Global;
 use vm_field::{Felt, Felts, Memory, Sequence, Words};
+use vm_ops::Kind;
 
 /// What no rows ask. It allocates nothing.
 pub fn no_requests(alloc: Global) -> Requests
@@ -41,7 +40,7 @@ pub fn push_requests(
     next: &Visible,
     batches: &[[Felt; 8]],
 ) -> Result<(), Memory>
-    ensures perms { OnOk result (requests.new.perms ≡ requests.old.perms ++ perms_as (kind_in kind) permutations.old event.now batches.now) }
+    ensures perms { OnOk result (requests.new.perms ≡ requests.old.perms ++ perms_as kind permutations.old event.now batches.now) }
     ensures bits { OnOk result (requests.new.bits ≡ requests.old.bits ++ bits_by event.now.op event.now.before) }
     ensures accesses { OnOk result (requests.new.accesses ≡ requests.old.accesses ++ accesses_by event.now.op event.now) }
     ensures ranges { OnOk result (requests.new.ranges ≡ requests.old.ranges ++ ranges_by event.now next.now) }

@@ -1,12 +1,11 @@
 ghost use Rattle.std.specs.Prelude.{◌≡◌, ◌++◌, drop, IfOk, OnOk};
 ghost use Rattle.complete_rows.specs.Turns.{respans};
-ghost use Rattle.fill_requests.specs.Kinds.{kind_in};
 ghost use Rattle.fill_requests.specs.Spans.{batch_by, stays};
 
-use crate::kind::{Kind, kind_of};
 use machine_cycles::Events;
 use std::alloc::Global;
 use vm_field::{Felt, Memory, Sequence};
+use vm_ops::{Kind, kind_of};
 
 /// The batches of the span that is open, from the next RESPAN on, among the events from a place on.
 /// The scan ends with the span.
@@ -26,7 +25,7 @@ pub fn respans(alloc: Global, events: &Events, first: usize) -> Result<Sequence<
 
 // Whether the span is still open behind an event of a kind.
 fn stays(kind: Kind) -> bool
-    ensures { result ≡ stays (kind_in kind) }
+    ensures { result ≡ stays kind }
 {
     match kind {
         Kind::Ordinary | Kind::Respan => true,
@@ -40,7 +39,7 @@ fn push_batch(
     kind: Kind,
     batch: &[Felt; 8],
 ) -> Result<(), Memory>
-    ensures { OnOk result (batches.new ≡ batches.old ++ batch_by (kind_in kind) batch.now) }
+    ensures { OnOk result (batches.new ≡ batches.old ++ batch_by kind batch.now) }
 {
     match kind {
         Kind::Respan => batches.push(*batch),

@@ -1,12 +1,12 @@
 -- A reading holds ordinary items, where the batch is made of elements.
-use Rattle.std.proofs.Common.{◌≡◌, ℕ, zero, suc, ◌/◌, ◌%◌, ◌<◌, ◌==◌, Bool, true, false, cond, nat_lt, List, [], ◌∷◌, take, drop, slice_index, Option, Some, None, refl, ap, arith, unwrap_or, lit<}
+use Rattle.std.proofs.Common.{◌≡◌, ℕ, zero, suc, ◌/◌, ◌%◌, ◌<◌, ◌==◌, Bool, true, false, cond, nat_lt, List, [], ◌∷◌, take, drop, slice_index, Option, Some, None, refl, ap, ◌∙◌, arith, unwrap_or, lit<}
 use Rattle.std.proofs.lemmas.Bool.{ltb-true, lt-ltb}
 use Rattle.std.proofs.lemmas.List.Elements.{All-cons, All-head, All-nil, All-tail}
 use Rattle.std.specs.List.{All}
 use Rattle.op_pack.specs.Reading.{IsBatch, positions_in_use, push_code, plain_digit, before, read_last, read_more, read_on, reading}
 use Rattle.vm_field.proofs.Elements.{elements-drop, elements-take}
 use Rattle.vm_field.specs.Field.{prime, AreElements}
-use Rattle.vm_ops.proofs.CodeLemmas.{code_of-op_at}
+use Rattle.vm_ops.proofs.CodeLemmas.{code_of-op_at, ordinary-below}
 use Rattle.vm_ops.specs.Codes.{code_of, op_at}
 use Rattle.vm_ops.specs.declared.item.Item.{Item}
 use Rattle.vm_ops.specs.declared.op.Op.{Op}
@@ -15,7 +15,7 @@ use Rattle.vm_ops.specs.Items.{plain_item, push_item, IsOrdinaryItem}
 
 plain-ordinary : (op : Op) → code_of op < 69 → IsOrdinaryItem (plain_item op)
 plain-ordinary op low = record {
-  ordinary = lt-ltb (code_of op) 70 (omega arith);
+  ordinary = ordinary-below op ∙ lt-ltb (code_of op) 70 (omega arith);
   immediate = λ e. (let push : code_of op ≡ 69 = ap code_of e in omega arith);
 }
 

@@ -8,7 +8,7 @@ use Rattle.op_pack.proofs.ReadLemmas.{read_on-plain, read_on-push}
 use Rattle.op_pack.specs.Digits.{go_on, next_group}
 use Rattle.op_pack.specs.Packing.{Placed, has_immediate, positions_of, with_immediate, fits, opens, put, new_group, full, placed, first_placed}
 use Rattle.op_pack.specs.Reading.{before, plain_digit, read_on}
-use Rattle.vm_ops.proofs.CodeLemmas.{code_of-different, op_at-code_of}
+use Rattle.vm_ops.proofs.CodeLemmas.{code_of-different, op_at-code_of, ordinary-below}
 use Rattle.vm_ops.specs.Codes.{code_of}
 use Rattle.vm_ops.specs.declared.item.Item.{Item}
 use Rattle.vm_ops.specs.declared.op.Op.{Op}
@@ -55,7 +55,7 @@ put_as : (op : Op) (imm : Option ℕ) (items rest : List Item) (room number : �
 put_as op None items rest room number positions h some reads =
     let item : Item = record { op = op; imm = None } in
     let n : ℕ = code_of op + 128 * number in
-    let ordinary : code_of op < 70 = ltb-true (code_of op) 70 h.ordinary.ordinary in
+    let ordinary : code_of op < 70 = ltb-true (code_of op) 70 (sym (ordinary-below op) ∙ h.ordinary.ordinary) in
     let other : code_of op ≢ 69 = λ e. h.ordinary.immediate (code_of-different op Push e) in
     let plain : code_of op < 69 = omega arith in
     let same : with_immediate item positions ≡ positions = cond-false (has_immediate item) _ _ (lt-leb 69 (code_of op) plain) in

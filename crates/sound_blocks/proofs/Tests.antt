@@ -4,7 +4,7 @@ use Rattle.std.proofs.lemmas.Bool.{cond-true, ltb-true, eqb-true, eq-eqb}
 use Rattle.vm_ops.specs.Codes.{code_of, is_ordinary_op}
 use Rattle.vm_ops.specs.declared.op.Op.{Op}
 use Rattle.vm_ops.specs.declared.op.Op.TheVariants as ops
-use Rattle.vm_ops.proofs.CodeLemmas.{code_of-different}
+use Rattle.vm_ops.proofs.CodeLemmas.{code_of-different, ordinary-below}
 use Rattle.air_kit.specs.Flags.{is_op}
 use Rattle.air_kit.specs.MainTuples.{is_batch_op}
 use Rattle.facts_main.specs.Blocks.{keeps_block}
@@ -22,7 +22,7 @@ op_apart a b other e = absurd (never (sym (is_same a b e) ∙ other))
 
 -- an ordinary operation that is no PUSH has a code below that of PUSH
 pub plain_code : (op : Op) → is_ordinary_op op ≡ true → is_op op ops.Push ≡ false → code_of op < 69
-plain_code op ordinary other = under (code_of op) (ltb-true (code_of op) 70 ordinary) (λ e. never (sym (eq-eqb (code_of op) 69 e) ∙ other))
+plain_code op ordinary other = under (code_of op) (ltb-true (code_of op) 70 (sym (ordinary-below op) ∙ ordinary)) (λ e. never (sym (eq-eqb (code_of op) 69 e) ∙ other))
   where
     under : (n : ℕ) → n < 70 → n ≢ 69 → n < 69
     under n h apart = omega (arith, h, apart)

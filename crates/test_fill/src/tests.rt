@@ -6,7 +6,6 @@ use op_pack::Batches;
 use processor::{Run, execute};
 use rpo_hash::Params;
 use std::alloc::Global;
-use std::test::Fail;
 use vm_field::{Felt, Felts, Memory, Words};
 use vm_ops::{Op, opcode};
 use vm_state::Inputs;
@@ -42,8 +41,8 @@ fn span(alloc: Global, ops: &[Op], numbers: &[u32]) -> Result<Tree, Memory> {
     Ok(Tree::Span(Batches::of(alloc, batch)?))
 }
 
-// The program of a tree, with no kernel.
-fn program(alloc: Global, tree: Tree) -> Result<Program, Memory> {
+/// The program of a tree, with no kernel.
+pub fn program(alloc: Global, tree: Tree) -> Result<Program, Memory> {
     let kernel = Words::new(alloc);
     if kernel.len() > 255 || !are_distinct(kernel.as_slice()) {
         return Err(Memory::Memory);
@@ -51,27 +50,57 @@ fn program(alloc: Global, tree: Tree) -> Result<Program, Memory> {
     Ok(Program::new(tree, kernel, Exports::new(alloc)))
 }
 
-// The run of a tree from a stack of ones.
-fn ran(alloc: Global, tree: Tree, ones: usize) -> Result<Run, Stop> {
+/// The inputs of a stack of so many ones, and of no advice.
+pub fn inputs_of_ones(alloc: Global, ones: usize) -> Result<Inputs, Memory> {
     let mut stack = Felts::new(alloc);
     for _ in 0..ones {
         stack.push(Felt::ONE)?;
     }
     if stack.len() > 16 {
-        return Err(Stop::Memory);
+        return Err(Memory::Memory);
     }
-    let inputs = Inputs::new(stack, Felts::new(alloc));
-    execute(alloc, &NO_CONSTANTS, &program(alloc, tree)?, &inputs, 100)
+    Ok(Inputs::new(stack, Felts::new(alloc)))
 }
 
-fn filled(alloc: Global, tree: Tree, ones: usize) -> Result<(Table<65>, Requests), Memory> {
-    match ran(alloc, tree, ones) {
-        Ok(run) => {
-            let mut permutations = run.permutations;
-            fill_main(alloc, &mut permutations, &run.state, &run.events)
-        }
-        Err(_) => Err(Memory::Memory),
+// A program whose main table is filled.
+#[derive(Clone, Copy)]
+enum Case {
+    NoOperation,
+    Pushes,
+    Loop,
+    Limbs,
+    Bits,
+    Accesses,
+}
+
+// A loop round a span of no operation.
+fn repeated(alloc: Global) -> Result<Tree, Memory> {
+    let body = span(alloc, &[Op::Noop], &[])?;
+    Ok(Tree::Loop(Box::new(alloc, body)?))
+}
+
+fn tree(alloc: Global, case: Case) -> Result<Tree, Memory> {
+    match case {
+        Case::NoOperation => span(alloc, &[Op::Noop], &[]),
+        Case::Pushes => span(alloc, &[Op::Push, Op::Push, Op::Add, Op::Push], &[2, 3, 7]),
+        Case::Loop => repeated(alloc),
+        Case::Limbs => span(alloc, &[Op::Push, Op::Push, Op::U32Sub], &[65541, 196610]),
+        Case::Bits => span(alloc, &[Op::Push, Op::Push, Op::U32And], &[12, 10]),
+        Case::Accesses => span(alloc, &[Op::Push, Op::Push, Op::MStore], &[7, 3]),
     }
+}
+
+// The loop is entered for the first one, and its body runs again for the second.
+fn ran(alloc: Global, case: Case) -> Result<Run, Stop> {
+    let ones = if let Case::Loop = case { 2 } else { 0 };
+    let inputs = inputs_of_ones(alloc, ones)?;
+    let program = program(alloc, tree(alloc, case)?)?;
+    execute(alloc, &NO_CONSTANTS, &program, &inputs, 100)
+}
+
+fn filled(alloc: Global, case: Case) -> Result<(Table<65>, Requests), Stop> {
+    let mut run = ran(alloc, case)?;
+    Ok(fill_main(alloc, &mut run.permutations, &run.state, &run.events)?)
 }
 
 // A row, a column and the cell there.
@@ -109,12 +138,11 @@ static PUSHED: [Cell; 12] = [
 ];
 
 fn shows(table: &Table<65>, cells: &[Cell]) -> bool {
+    let mut all = true;
     for (row, column, value) in cells {
-        if cell(table, *row, *column) != Some(*value) {
-            return false;
-        }
+        all = all && cell(table, *row, *column) == Some(*value);
     }
-    true
+    all
 }
 
 // A loop whose body runs twice: the turn behind the first one, the blocks that are open, their
@@ -147,62 +175,37 @@ static SUBTRACTED: [Cell; 7] = [
     (3, 61, 0),
 ];
 
-fn fills_no_operation(alloc: Global) -> Result<bool, Memory> {
-    let (table, requests) = filled(alloc, span(alloc, &[Op::Noop], &[])?, 0)?;
+fn fills_no_operation(table: &Table<65>, requests: &Requests) -> bool {
     let asked = requests.perms.len() == 1 && requests.ranges.as_slice() == [1023].as_slice();
-    Ok(table.rows() == 4 && asked && requests.keys.is_empty() && shows(&table, &EMPTY))
+    table.rows() == 4 && asked && requests.keys.is_empty() && shows(table, &EMPTY)
 }
 
-fn fills_pushes(alloc: Global) -> Result<bool, Memory> {
-    let ops = [Op::Push, Op::Push, Op::Add, Op::Push];
-    let (table, requests) = filled(alloc, span(alloc, &ops, &[2, 3, 7])?, 0)?;
+fn fills_pushes(table: &Table<65>, requests: &Requests) -> bool {
     let keys = requests.keys.as_slice() == [Felt::from_u32(4), Felt::ONE].as_slice();
-    Ok(table.rows() == 8 && keys && shows(&table, &PUSHED))
+    table.rows() == 8 && keys && shows(table, &PUSHED)
 }
 
-fn fills_loop(alloc: Global) -> Result<bool, Memory> {
-    let body = Box::new(alloc, span(alloc, &[Op::Noop], &[])?)?;
-    let (table, requests) = filled(alloc, Tree::Loop(body), 2)?;
+fn fills_loop(table: &Table<65>, requests: &Requests) -> bool {
     let ranges = requests.ranges.as_slice() == [1023, 1022, 1022].as_slice();
     let asked = ranges && requests.perms.len() == 3;
-    Ok(table.rows() == 10 && asked && shows(&table, &REPEATED))
+    table.rows() == 10 && asked && shows(table, &REPEATED)
 }
 
-fn fills_limbs(alloc: Global) -> Result<bool, Memory> {
-    let ops = [Op::Push, Op::Push, Op::U32Sub];
-    let (table, requests) = filled(alloc, span(alloc, &ops, &[65541, 196610])?, 0)?;
+fn fills_limbs(table: &Table<65>, requests: &Requests) -> bool {
     let ranges = requests.ranges.as_slice() == [1023, 2, 3, 5, 1, 3, 65534].as_slice();
-    Ok(ranges && shows(&table, &SUBTRACTED))
+    ranges && shows(table, &SUBTRACTED)
 }
 
-#[test]
-fn fills_rows(rt: HostRuntime) -> Result<(), Fail> {
-    assert!(rt; fills_no_operation(rt.alloc())?);
-    assert!(rt; fills_pushes(rt.alloc())?);
-    Ok(())
-}
-
-#[test]
-fn fills_turns_and_limbs(rt: HostRuntime) -> Result<(), Fail> {
-    assert!(rt; fills_loop(rt.alloc())?);
-    assert!(rt; fills_limbs(rt.alloc())?);
-    Ok(())
-}
-
-fn asks_bits(alloc: Global) -> Result<bool, Memory> {
-    let ops = [Op::Push, Op::Push, Op::U32And];
-    let (_, requests) = filled(alloc, span(alloc, &ops, &[12, 10])?, 0)?;
-    Ok(match requests.bits.as_slice() {
+fn asks_bits(requests: &Requests) -> bool {
+    match requests.bits.as_slice() {
         [op] => !op.xor && op.a == 10 && op.b == 12,
         _ => false,
-    })
+    }
 }
 
 // The number 7 is stored at the address 3, in the cycle at clock 3.
-fn asks_accesses(alloc: Global) -> Result<bool, Memory> {
-    let ops = [Op::Push, Op::Push, Op::MStore];
-    let (_, requests) = filled(alloc, span(alloc, &ops, &[7, 3])?, 0)?;
-    Ok(match requests.accesses.as_slice() {
+fn asks_accesses(requests: &Requests) -> bool {
+    match requests.accesses.as_slice() {
         [access] => {
             access.kind == 2
                 && access.addr == 3
@@ -210,12 +213,43 @@ fn asks_accesses(alloc: Global) -> Result<bool, Memory> {
                 && access.word == [Felt::from_u32(7), Felt::ZERO, Felt::ZERO, Felt::ZERO]
         }
         _ => false,
-    })
+    }
+}
+
+fn is_right(case: Case, table: &Table<65>, requests: &Requests) -> bool {
+    match case {
+        Case::NoOperation => fills_no_operation(table, requests),
+        Case::Pushes => fills_pushes(table, requests),
+        Case::Loop => fills_loop(table, requests),
+        Case::Limbs => fills_limbs(table, requests),
+        Case::Bits => asks_bits(requests),
+        Case::Accesses => asks_accesses(requests),
+    }
+}
+
+// Whether the main table of the case is filled right, and asks what it should. The tables and the
+// requests are owned here alone, since a proof pays for each owner.
+fn is_met(alloc: Global, case: Case) -> bool {
+    match filled(alloc, case) {
+        Ok((table, requests)) => is_right(case, &table, &requests),
+        Err(_) => false,
+    }
 }
 
 #[test]
-fn asks_small_tables(rt: HostRuntime) -> Result<(), Fail> {
-    assert!(rt; asks_bits(rt.alloc())?);
-    assert!(rt; asks_accesses(rt.alloc())?);
-    Ok(())
+fn fills_rows(rt: HostRuntime) {
+    assert!(rt; is_met(rt.alloc(), Case::NoOperation));
+    assert!(rt; is_met(rt.alloc(), Case::Pushes));
+}
+
+#[test]
+fn fills_turns_and_limbs(rt: HostRuntime) {
+    assert!(rt; is_met(rt.alloc(), Case::Loop));
+    assert!(rt; is_met(rt.alloc(), Case::Limbs));
+}
+
+#[test]
+fn asks_small_tables(rt: HostRuntime) {
+    assert!(rt; is_met(rt.alloc(), Case::Bits));
+    assert!(rt; is_met(rt.alloc(), Case::Accesses));
 }

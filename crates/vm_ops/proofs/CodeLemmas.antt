@@ -1,9 +1,11 @@
 -- The table of codes, both ways.
-use Rattle.std.proofs.Common.{◌≡◌, ℕ, zero, suc, ◌+◌, ◌<◌, ◌≤◌, ◌==◌, ◌&&◌, Bool, true, List, [], ◌∷◌, Some, None, length, refl, ap, sym, ◌∙◌, arith, lit<, ◌↔◌, inl, inr, add-zero}
+use Rattle.std.proofs.Common.{◌≡◌, ℕ, zero, suc, ◌+◌, ◌<◌, ◌≤◌, ◌==◌, ◌&&◌, nat_lt, nat_le, Bool, true, false, List, [], ◌∷◌, Some, None, length, refl, ap, sym, ◌∙◌, arith, lit<, ◌↔◌, inl, inr, add-zero}
 use Rattle.std.proofs.lemmas.Bool.{eqb-true, and_parts}
 use Rattle.std.specs.List.{slice_get}
 use Rattle.std.proofs.lemmas.Option.{slice_get_past, slice_get_cases}
-use Rattle.vm_ops.specs.Codes.{code_of, op_at, every_op}
+use Rattle.vm_ops.specs.Codes.{code_of, is_ordinary_kind, is_ordinary_op, is_start_kind, is_start_op, op_at, every_op}
+use Rattle.vm_ops.specs.declared.kind.Kind.{Kind}
+use Rattle.vm_ops.specs.declared.kind.Kind.TheVariants as kinds
 use Rattle.vm_ops.specs.declared.op.Op.{Op}
 use Rattle.vm_ops.specs.declared.op.Op.TheVariants.{Noop}
 
@@ -19,6 +21,33 @@ op_at-code_of _ = refl
 pub code_of-different : (a b : Op) → code_of a ≡ code_of b → a ≡ b
 code_of-different a b e =
     let same : Some a ≡ Some b = sym (op_at-code_of a) ∙ ap op_at e ∙ op_at-code_of b in cc
+
+-- the ordinary operations have the codes below 70
+pub ordinary-below : (op : Op) → is_ordinary_op op ≡ nat_lt (code_of op) 70
+ordinary-below Noop = refl
+ordinary-below _ = refl
+
+pub ordinary-kind : (kind : Kind) → is_ordinary_kind kind ≡ true → kind ≡ kinds.Ordinary
+ordinary-kind kinds.Ordinary is = refl
+ordinary-kind kinds.Join is = cc
+ordinary-kind kinds.Split is = cc
+ordinary-kind kinds.Loop is = cc
+ordinary-kind kinds.Span is = cc
+ordinary-kind kinds.Call is = cc
+ordinary-kind kinds.Syscall is = cc
+ordinary-kind kinds.End is = cc
+ordinary-kind kinds.Repeat is = cc
+ordinary-kind kinds.Respan is = cc
+ordinary-kind kinds.Halt is = cc
+
+-- what is ordinary starts no block
+pub ordinary-starts-none : (kind : Kind) → is_ordinary_kind kind ≡ true → is_start_kind kind ≡ false
+ordinary-starts-none kind is = rw (ordinary-kind kind is) refl
+
+-- those of the starts follow them
+pub start-between : (op : Op) → is_start_op op ≡ nat_le 70 (code_of op) && nat_lt (code_of op) 76
+start-between Noop = refl
+start-between _ = refl
 
 -- the codes of a list count up from n
 abbrev numbered : List Op → ℕ → Bool

@@ -1,7 +1,9 @@
 -- The operations' codes, names and classes.
-use Rattle.std.specs.Prelude.{ℕ, Bool, true, false, nat_lt, nat_le, ◌&&◌, List, [], ◌∷◌, slice_get, Option}
+use Rattle.std.specs.Prelude.{ℕ, Bool, true, false, nat_lt, List, [], ◌∷◌, slice_get, Option}
 use Rattle.vm_ops.specs.declared.op.Op.{Op}
 use Rattle.vm_ops.specs.declared.op.Op.TheVariants as ops
+use Rattle.vm_ops.specs.declared.kind.Kind.{Kind}
+use Rattle.vm_ops.specs.declared.kind.Kind.TheVariants as kinds
 use Rattle.vm_ops.specs.Table.{row_of}
 
 -- the code of an operation
@@ -30,13 +32,43 @@ every_op =
 unfoldable pub op_at : ℕ → Option Op
 op_at code = slice_get every_op code
 
+-- what the cycles of an operation are
+abbrev pub kind_of : Op → Kind
+kind_of op = (row_of op).kind
+
+abbrev pub is_ordinary_kind : Kind → Bool
+is_ordinary_kind kinds.Ordinary = true
+is_ordinary_kind kinds.Join = false
+is_ordinary_kind kinds.Split = false
+is_ordinary_kind kinds.Loop = false
+is_ordinary_kind kinds.Span = false
+is_ordinary_kind kinds.Call = false
+is_ordinary_kind kinds.Syscall = false
+is_ordinary_kind kinds.End = false
+is_ordinary_kind kinds.Repeat = false
+is_ordinary_kind kinds.Respan = false
+is_ordinary_kind kinds.Halt = false
+
+abbrev pub is_start_kind : Kind → Bool
+is_start_kind kinds.Ordinary = false
+is_start_kind kinds.Join = true
+is_start_kind kinds.Split = true
+is_start_kind kinds.Loop = true
+is_start_kind kinds.Span = true
+is_start_kind kinds.Call = true
+is_start_kind kinds.Syscall = true
+is_start_kind kinds.End = false
+is_start_kind kinds.Repeat = false
+is_start_kind kinds.Respan = false
+is_start_kind kinds.Halt = false
+
 -- the ordinary operations, which a batch holds
 abbrev pub is_ordinary_op : Op → Bool
-is_ordinary_op op = nat_lt (code_of op) 70
+is_ordinary_op op = is_ordinary_kind (kind_of op)
 
 -- the operations that start a block
 abbrev pub is_start_op : Op → Bool
-is_start_op op = nat_le 70 (code_of op) && nat_lt (code_of op) 76
+is_start_op op = is_start_kind (kind_of op)
 
 -- those that take elements from the tape
 abbrev pub takes_advice : Op → Bool

@@ -3,19 +3,28 @@
 use Rattle.std.specs.Prelude.{ℕ, List, [], ◌∷◌, codes}
 use Rattle.vm_ops.specs.declared.op.Op.{Op}
 use Rattle.vm_ops.specs.declared.op.Op.TheVariants as ops
+use Rattle.vm_ops.specs.declared.kind.Kind.{Kind}
+use Rattle.vm_ops.specs.declared.kind.Kind.TheVariants as kinds
 use Rattle.vm_ops.specs.declared.table.Row as declared
 
 pub record Row : Type 0 where
   pub code : ℕ
   pub text : List ℕ  -- the name, as it is printed
+  pub kind : Kind  -- what its cycles are
   pub takes : ℕ  -- cells taken from the top; END's are its block's: one where a loop ends that was entered, else none
   pub sources : List ℕ  -- the cells left as copies of cells, top first: all of a pure move, none where a value is computed
   pub computes : ℕ  -- values that are computed and left
   pub advice : ℕ  -- elements taken from the tape
 
+-- an ordinary operation
 abbrev pub row : ℕ → List ℕ → ℕ → List ℕ → ℕ → ℕ → Row
 row code text takes sources computes advice =
-    record { code = code; text = text; takes = takes; sources = sources; computes = computes; advice = advice }
+    record { code = code; text = text; kind = kinds.Ordinary; takes = takes; sources = sources; computes = computes; advice = advice }
+
+-- one of another kind, which leaves no cell
+abbrev pub of_kind : Kind → ℕ → List ℕ → ℕ → Row
+of_kind kind code text takes =
+    record { code = code; text = text; kind = kind; takes = takes; sources = []; computes = 0; advice = 0 }
 
 abbrev pub row_of : Op → Row
 row_of ops.Noop = row 0 (codes "NOOP") 0 [] 0 0
@@ -88,17 +97,26 @@ row_of ops.SDepth = row 66 (codes "SDEPTH") 0 [] 1 0
 row_of ops.Clk = row 67 (codes "CLK") 0 [] 1 0
 row_of ops.U32Split = row 68 (codes "U32SPLIT") 1 [] 2 0
 row_of ops.Push = row 69 (codes "PUSH") 0 [] 1 0
-row_of ops.Join = row 70 (codes "JOIN") 0 [] 0 0
-row_of ops.Split = row 71 (codes "SPLIT") 1 [] 0 0
-row_of ops.Loop = row 72 (codes "LOOP") 1 [] 0 0
-row_of ops.Span = row 73 (codes "SPAN") 0 [] 0 0
-row_of ops.Call = row 74 (codes "CALL") 0 [] 0 0
-row_of ops.Syscall = row 75 (codes "SYSCALL") 0 [] 0 0
-row_of ops.End = row 76 (codes "END") 0 [] 0 0
-row_of ops.Repeat = row 77 (codes "REPEAT") 1 [] 0 0
-row_of ops.Respan = row 78 (codes "RESPAN") 0 [] 0 0
-row_of ops.Halt = row 79 (codes "HALT") 0 [] 0 0
+row_of ops.Join = of_kind kinds.Join 70 (codes "JOIN") 0
+row_of ops.Split = of_kind kinds.Split 71 (codes "SPLIT") 1
+row_of ops.Loop = of_kind kinds.Loop 72 (codes "LOOP") 1
+row_of ops.Span = of_kind kinds.Span 73 (codes "SPAN") 0
+row_of ops.Call = of_kind kinds.Call 74 (codes "CALL") 0
+row_of ops.Syscall = of_kind kinds.Syscall 75 (codes "SYSCALL") 0
+row_of ops.End = of_kind kinds.End 76 (codes "END") 0
+row_of ops.Repeat = of_kind kinds.Repeat 77 (codes "REPEAT") 1
+row_of ops.Respan = of_kind kinds.Respan 78 (codes "RESPAN") 0
+row_of ops.Halt = of_kind kinds.Halt 79 (codes "HALT") 0
 
 -- a row of the code, as one of this table
 abbrev pub row_in : declared.Row → Row
-row_in r = row r.code r.text.now r.takes r.sources.now r.computes r.advice
+row_in r =
+    record {
+      code = r.code;
+      text = r.text.now;
+      kind = r.kind;
+      takes = r.takes;
+      sources = r.sources.now;
+      computes = r.computes;
+      advice = r.advice;
+    }

@@ -1,23 +1,33 @@
 ghost use Rattle.std.specs.Prelude.{◌≡◌};
-ghost use Rattle.vm_ops.specs.Codes.{accesses_memory, is_ordinary_op, is_start_op, takes_advice, writes_memory};
+ghost use Rattle.vm_ops.specs.Codes.{accesses_memory, is_ordinary_op, is_start_op, kind_of, takes_advice, writes_memory};
 
-use crate::code::opcode;
+use crate::kind::Kind;
 use crate::moves::advice;
 use crate::op::Op;
+use crate::table::row_of;
+
+/// What the operation's cycles are.
+pub fn kind_of(op: Op) -> Kind
+    ensures { result ≡ kind_of op }
+{
+    row_of(op).kind
+}
 
 /// Whether a batch may hold the operation.
 pub fn is_ordinary(op: Op) -> bool
     ensures { result ≡ is_ordinary_op op }
 {
-    opcode(op) < 70
+    matches!(kind_of(op), Kind::Ordinary)
 }
 
 /// Whether the operation starts a block.
 pub fn is_start(op: Op) -> bool
     ensures { result ≡ is_start_op op }
 {
-    let code = opcode(op);
-    70 <= code && code < 76
+    match kind_of(op) {
+        Kind::Join | Kind::Split | Kind::Loop | Kind::Span | Kind::Call | Kind::Syscall => true,
+        Kind::Ordinary | Kind::End | Kind::Repeat | Kind::Respan | Kind::Halt => false,
+    }
 }
 
 /// Whether the operation takes elements from the tape.

@@ -7,7 +7,6 @@ use Rattle.complete_rows.specs.Decoder.{Decoder, decoder_after}
 use Rattle.complete_rows.specs.Filling.{fill, row_of}
 use Rattle.complete_rows.specs.RunRequests.{accesses_of, bits_of, calls_of, perms_of, ranges_by, ranges_of}
 use Rattle.complete_rows.specs.Turns.{repeats}
-use Rattle.fill_requests.specs.Kinds.{kind_in}
 use Rattle.fill_requests.proofs.RequestLemmas as ask
 use Rattle.fill_decoder.specs.Views.{decoder_in}
 use Rattle.fill_decoder.proofs.DecoderLemmas.{known}
@@ -52,7 +51,7 @@ loop-i-preserved c =
     let here = invariant.turns ∙ turns-here events i e (omega arith) is in
     let turn : c.unwrap_or-turn.result ≡ slice_index (repeats later) 0
     = turn-first c.loop-i.turns _ _ c.unwrap_or-turn.result here (c.unwrap_or-turn.ensures ∙ ap (λ o. unwrap_or o 0) c.pop.ensures.item) in
-    let moved = c.in_ok-advance.ensures ∙ known e (kind_in c.kind_of-kind.result) d _ later c.kind_of-kind.ensures
+    let moved = c.in_ok-advance.ensures ∙ known e c.kind_of-kind.result d _ later c.kind_of-kind.ensures
     (λ starts. c.len.ensures.count ∙ ap (λ (xs : List (List ℕ)). length xs) (c.in_ok-batches.ensures (c.kind_of-kind.ensures ∙ starts))) in
     record {
       rows =
@@ -65,7 +64,7 @@ loop-i-preserved c =
       perms =
           ask.perms-step constants events i e asked.perms _ (omega arith) is
           (added.perms ∙ ap (λ (more : List Perm). asked.perms ++ more)
-          (ask.perms-known constants c.loop-i.permutations (kind_in c.kind_of-kind.result) e _ later invariant.same c.kind_of-kind.ensures
+          (ask.perms-known constants c.loop-i.permutations c.kind_of-kind.result e _ later invariant.same c.kind_of-kind.ensures
           (λ starts. c.as_slice.ensures.items ∙ c.in_ok-batches.ensures (c.kind_of-kind.ensures ∙ starts))))
           ∙ invariant.perms;
       bits = ask.bits-step events i e asked.bits _ (omega arith) is added.bits ∙ invariant.bits;

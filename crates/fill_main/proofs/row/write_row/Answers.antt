@@ -2,7 +2,7 @@ use Rattle.std.proofs.Common.{◌==◌, [], ◌∷◌, length, ap, ◌∙◌}
 use Rattle.vm_ops.specs.Codes.{is_ordinary_op}
 use Rattle.vm_ops.specs.Values.{bit_of}
 use Rattle.complete_rows.specs.Filling.{hash_by, in_use_by, line_of, witnesses_by}
-use Rattle.complete_rows.specs.Kinds.{Kind}
+use Rattle.vm_ops.specs.declared.kind.Kind.{Kind}
 use Rattle.fill_requests.specs.Parts.{eight_of, four_of}
 use Rattle.fill_decoder.specs.Views.{decoder_in}
 use Rattle.fill_main.proofs.RowLemmas.{row-laid}

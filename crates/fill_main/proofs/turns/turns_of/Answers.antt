@@ -1,5 +1,6 @@
 use Rattle.std.proofs.Common.{◌≡◌, ℕ, ◌+◌, ◌-◌, ◌<◌, List, ◌∷◌, drop, length, sym, ap, ap₂, ◌∙◌, arith, slice_index}
-use Rattle.complete_rows.specs.Kinds.{Kind, kind_of}
+use Rattle.vm_ops.specs.declared.kind.Kind.{Kind}
+use Rattle.vm_ops.specs.Codes.{kind_of}
 use Rattle.complete_rows.specs.Turns.{repeats, repeats_by}
 use Rattle.fill_main.specs.Turns.{turns_of}
 use Rattle.fill_main.proofs.FillLemmas.{none-behind, repeats-here, turns-here}
