@@ -1,5 +1,6 @@
 -- What a row of the main table gives and asks on each bus, by its operation, its cells and those of the row after it.
 use Rattle.std.specs.Prelude.{ℕ, zero, suc, ◌-◌, Bool, ◌==◌, ◌&&◌, ◌||◌, if◌then◌else◌, List, [], ◌∷◌, ◌++◌}
+use Rattle.vm_field.specs.Limits.{most_nesting}
 use Rattle.vm_field.specs.Signs.{◌⊞◌, ◌⊟◌, ◌⊠◌}
 use Rattle.vm_ops.specs.Codes.{code_of, is_ordinary_op, is_start_op}
 use Rattle.vm_ops.specs.declared.op.Op.{Op}
@@ -180,7 +181,7 @@ limbs_from x j (suc n) = once (t x j ∷ []) ∷ limbs_from x (suc j) n
 
 unfoldable pub range_asked : List ℕ → List ℕ → List Counted
 range_asked x y =
-    if is_start_op (op_of x) then once ((1024 ⊟ lv y) ∷ []) ∷ [] else limbs_from x 0 (limbs_of (op_of x))
+    if is_start_op (op_of x) then once ((most_nesting ⊟ lv y) ∷ []) ∷ [] else limbs_from x 0 (limbs_of (op_of x))
 
 -- Kernel: the digest that a syscall calls.
 unfoldable pub kernel_asked : List ℕ → List ℕ → List Counted

@@ -1,5 +1,6 @@
 -- A trace: the rows of its tables, how many each may have, and the values of all entries.
 use Rattle.std.specs.Prelude.{◌≡◌, ℕ, suc, ◌^◌, ◌≤◌, ◌%◌, List, [], ◌∷◌, length, slice_get, slice_index_or}
+use Rattle.vm_field.specs.Limits.{most_kernel}
 use Rattle.chip_columns.specs.LeftColumns.{key}
 use Rattle.rpo_hash.specs.Constants.{constants_of}
 use Rattle.air_kit.specs.declared.trace.Public.{Public}
@@ -37,7 +38,7 @@ most_rows table.Range = 2 ^ 17
 most_rows table.Hasher = 2 ^ 22
 most_rows table.Bitwise = 2 ^ 22
 most_rows table.Memory = 2 ^ 19
-most_rows table.Kernel = 255
+most_rows table.Kernel = most_kernel
 most_rows table.Left = 2 ^ 19
 
 -- each table has as many rows as it may, and whole operations

@@ -3,6 +3,7 @@ ghost use Rattle.air_kit.specs.Traces.{HasCounts, most_rows};
 ghost use Rattle.air_kit.specs.Counts.{all_may_have, least_rows, may_have, rows_at_once};
 
 use crate::trace::{TableName, Trace};
+use vm_field::MOST_KERNEL;
 
 // A table has from `least` to `most` rows, and grows by `step` of them at once.
 #[derive(Clone, Copy)]
@@ -33,7 +34,7 @@ fn limits_of(table: TableName) -> Limits
         TableName::Hasher => from_to(0, 1 << 22, 8),
         TableName::Bitwise => from_to(0, 1 << 22, 8),
         TableName::Memory => from_to(0, 1 << 19, 1),
-        TableName::Kernel => from_to(0, 255, 1),
+        TableName::Kernel => from_to(0, MOST_KERNEL, 1),
         TableName::Left => from_to(0, 1 << 19, 1),
     }
 }

@@ -2,6 +2,7 @@
 use Rattle.std.proofs.Common.{◌≡◌, ℕ, ◌+◌, ◌≤◌, List, [], ◌∷◌, ◌++◌, length, take, drop, refl, sym, ap, ◌∙◌, subst, arith, length-append, length-drop, All, Ok}
 use Rattle.std.proofs.lemmas.List.{length-take-le}
 use Rattle.std.proofs.lemmas.List.Elements.{All-nil, All-cons}
+use Rattle.vm_field.specs.Limits.{number_of_constants}
 use Rattle.vm_field.specs.Machine.{Core, State, IsWellFormed}
 use Rattle.vm_field.proofs.Elements.{length-filled_up}
 use Rattle.vm_ops.specs.declared.item.Item.{Item}
@@ -194,7 +195,7 @@ by-one Stay taken left h = omega arith
 by-one Right taken left h = omega arith
 
 -- an operation leaves at most one cell more
-step-grows : (constants : List ℕ) (item : Item) (s t : State) → length constants ≡ 168 → IsWellFormed s → step constants item s ≡ Ok t
+step-grows : (constants : List ℕ) (item : Item) (s t : State) → length constants ≡ number_of_constants → IsWellFormed s → step constants item s ≡ Ok t
     → length t.core.stack ≤ length s.core.stack + 1
 step-grows constants item s t len h e =
     let depth = step-depth constants item s t len h e in
@@ -251,13 +252,13 @@ module _ (constants : List ℕ) (kernel : List (List ℕ)) (limit : ℕ) where
   abbrev pub IsShallow : ℕ → ℕ → List Task → State → Type 0
   IsShallow n m todo s = (length s.core.stack + hidden_in todo + n ≤ m + s.core.clock) × AreWholeTasks todo × IsWellFormed s
 
-  behind-grows : (mark : Mark) (s t : State) → length constants ≡ 168 → IsCycle constants kernel limit mark s t → IsWellFormed s
+  behind-grows : (mark : Mark) (s t : State) → length constants ≡ number_of_constants → IsCycle constants kernel limit mark s t → IsWellFormed s
       → (item : Item) → mark ≡ Do item → length (behind constants kernel limit mark s).stack ≤ length s.core.stack + 1
   behind-grows mark s t len c h item is =
       subst (λ x. length x.stack ≤ length s.core.stack + 1) (behind-is constants kernel limit mark s t c)
       (step-grows constants item s t len h (cycle-step constants kernel limit item s t (subst (λ m. IsCycle constants kernel limit m s t) is c)))
 
-  shallow-step : length constants ≡ 168
+  shallow-step : length constants ≡ number_of_constants
       → (n m : ℕ) (task : Task) (rest todo : List Task) (mark : Mark) (s t : State) → Next constants task s.core mark rest
       → IsCycle constants kernel limit mark s t → IsShallow n m (task ∷ todo) s → IsShallow n m (rest ++ todo) t
   shallow-step len n m task rest todo mark s t first c h =
@@ -270,7 +271,7 @@ module _ (constants : List ℕ) (kernel : List (List ℕ)) (limit : ℕ) where
       let before = h.0 in
       (omega arith, whole-append rest todo w.1 h.1.1, cycle-kept constants kernel limit mark s t len c w.0 h.2)
 
-  pub steps-shallow : length constants ≡ 168
+  pub steps-shallow : length constants ≡ number_of_constants
       → {todo : List Task} {s t : State} {events : List Event} (n m : ℕ) → Steps constants kernel limit todo s events t → IsShallow n m todo s
       → All (λ e. length e.core.stack + n ≤ m + e.core.clock) events × (length t.core.stack + n ≤ m + t.core.clock)
   steps-shallow len n m steps h =

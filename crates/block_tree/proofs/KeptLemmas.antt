@@ -2,6 +2,7 @@
 use Rattle.std.proofs.Common.{◌≡◌, ℕ, ◌+◌, List, length, drop, Ok, refl, sym, ap, subst, arith, length-append}
 use Rattle.std.proofs.lemmas.Bool.{le-ltb}
 use Rattle.std.proofs.lemmas.List.{length-take-le}
+use Rattle.vm_field.specs.Limits.{number_of_constants}
 use Rattle.vm_field.specs.Machine.{Core, State, IsWord, IsWellFormedCore, IsWellFormed}
 use Rattle.vm_field.proofs.Elements.{elements-append, elements-take, elements-drop, elements-filled_up, length-filled_up}
 use Rattle.vm_ops.specs.declared.item.Item.{Item}
@@ -94,13 +95,13 @@ kept-core constants (EndSyscall digest frame) advice c w h item = kept-returned 
 unticked : (c : Core) (clock : ℕ) → IsWellFormedCore (record c { clock = clock }) → IsWellFormedCore c
 unticked c clock h = record { deep = h.deep; cells = h.cells; fmp = h.fmp; digest = h.digest; words = h.words }
 
-operation-kept : (constants : List ℕ) (kernel : List (List ℕ)) (limit : ℕ) (item : Item) (s t : State) → length constants ≡ 168
+operation-kept : (constants : List ℕ) (kernel : List (List ℕ)) (limit : ℕ) (item : Item) (s t : State) → length constants ≡ number_of_constants
     → IsCycle constants kernel limit (Do item) s t → IsOrdinaryItem item → IsWellFormed s → IsWellFormed t
 operation-kept constants kernel limit item s t len c w h =
     step-kept constants item s t len (immediate-below item w) h (cycle-step constants kernel limit item s t c)
 
 -- a whole cycle leads from one well-formed state to another
-pub cycle-kept : (constants : List ℕ) (kernel : List (List ℕ)) (limit : ℕ) (mark : Mark) (s t : State) → length constants ≡ 168
+pub cycle-kept : (constants : List ℕ) (kernel : List (List ℕ)) (limit : ℕ) (mark : Mark) (s t : State) → length constants ≡ number_of_constants
     → IsCycle constants kernel limit mark s t → IsWholeMark mark → IsWellFormed s → IsWellFormed t
 cycle-kept constants kernel limit mark s t len c w h =
     let behind = (behind-cycle constants kernel mark _ s.core c.core c.made).1 in

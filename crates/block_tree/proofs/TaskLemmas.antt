@@ -2,6 +2,7 @@
 use Rattle.std.proofs.Common.{◌≡◌, ℕ, List, [], ◌∷◌, ◌++◌, length, All}
 use Rattle.std.proofs.lemmas.List.{length-take-le}
 use Rattle.std.proofs.lemmas.List.Elements.{All-nil, All-cons, All-head, All-tail}
+use Rattle.vm_field.specs.Limits.{number_of_constants}
 use Rattle.vm_field.specs.Machine.{Core, State, IsWord, IsWellFormedCore, IsWellFormed}
 use Rattle.vm_field.proofs.Elements.{elements-take}
 use Rattle.vm_ops.specs.Items.{IsOrdinaryItem}
@@ -32,7 +33,7 @@ pub whole-append : (a b : List Task) → AreWholeTasks a → AreWholeTasks b →
 whole-append [] b h g = g
 whole-append (task ∷ tasks) b h g = (h.0, whole-append tasks b h.1 g)
 
-pub next-whole : (constants : List ℕ) → length constants ≡ 168
+pub next-whole : (constants : List ℕ) → length constants ≡ number_of_constants
     → {task : Task} {c : Core} {mark : Mark} {rest : List Task} → Next constants task c mark rest → IsWholeTask task → IsWellFormedCore c
     → IsWholeMark mark × AreWholeTasks rest
 next-whole constants len (span {batch = batch} {later = later} {items = items} read) w h =
@@ -77,7 +78,7 @@ module _ (constants : List ℕ) (kernel : List (List ℕ)) (limit : ℕ) where
     advice = elements-take (advice_taken mark) s.tape h.tape;
   }
 
-  pub steps-whole : length constants ≡ 168
+  pub steps-whole : length constants ≡ number_of_constants
       → {todo : List Task} {s t : State} {events : List Event} → Steps constants kernel limit todo s events t → AreWholeTasks todo → IsWellFormed s
       → All IsWholeEvent events × IsWellFormed t
   steps-whole len ended w h = (All-nil IsWholeEvent, h)

@@ -1,5 +1,6 @@
 -- When a cycle does not trap, and the state behind it (docs/MACHINE.md, "Cycles" and "Calls").
 use Rattle.std.specs.Prelude.{◌≡◌, ℕ, ◌+◌, ◌-◌, ◌^◌, ◌<◌, ◌≤◌, false, true, List, ◌++◌, length, take, drop, Some, None}
+use Rattle.vm_field.specs.Limits.{most_nesting}
 use Rattle.vm_field.specs.Machine.{Core, filled_up}
 use Rattle.vm_ops.specs.declared.item.Item.{Item}
 use Rattle.vm_ops.specs.Step.{performed, seen}
@@ -59,13 +60,13 @@ HasReading batch = (items : List Item) × (reading batch ≡ Some items)
 -- the cycle does not trap
 abbrev pub IsAllowed : List ℕ → List (List ℕ) → Mark → List ℕ → Core → Type 0
 IsAllowed constants kernel StartOpaque advice c = ⊥
-IsAllowed constants kernel (StartSpan batch) advice c = (c.nesting < 1024) × HasReading batch
-IsAllowed constants kernel (StartJoin first second) advice c = c.nesting < 1024
-IsAllowed constants kernel (StartSplit on_one on_zero) advice c = (c.nesting < 1024) × (top c < 2)
-IsAllowed constants kernel (StartLoop body) advice c = (c.nesting < 1024) × (top c < 2)
-IsAllowed constants kernel (StartCall callee) advice c = (c.nesting < 1024) × (c.in_syscall ≡ false)
+IsAllowed constants kernel (StartSpan batch) advice c = (c.nesting < most_nesting) × HasReading batch
+IsAllowed constants kernel (StartJoin first second) advice c = c.nesting < most_nesting
+IsAllowed constants kernel (StartSplit on_one on_zero) advice c = (c.nesting < most_nesting) × (top c < 2)
+IsAllowed constants kernel (StartLoop body) advice c = (c.nesting < most_nesting) × (top c < 2)
+IsAllowed constants kernel (StartCall callee) advice c = (c.nesting < most_nesting) × (c.in_syscall ≡ false)
 IsAllowed constants kernel (StartSyscall callee) advice c =
-    (c.nesting < 1024) × (c.in_syscall ≡ false) × (is_in_kernel kernel callee ≡ true)
+    (c.nesting < most_nesting) × (c.in_syscall ≡ false) × (is_in_kernel kernel callee ≡ true)
 IsAllowed constants kernel (Respan batch) advice c = HasReading batch
 IsAllowed constants kernel (Repeat body) advice c = top c < 2
 IsAllowed constants kernel (Do item) advice c = trap_of item.op (seen constants item advice c) ≡ None

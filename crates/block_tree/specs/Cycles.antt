@@ -2,6 +2,7 @@
 use Rattle.std.specs.Prelude.{ℕ, ◌+◌, ◌-◌, ◌^◌, Bool, true, nat_lt, nat_eq, if◌then◌else◌, List, ◌++◌, length, take, drop, slice_index, Result, Ok, Err, is_some}
 use Rattle.std.specs.List.{list_any}
 use lib.Pointwise.{pointwise}
+use Rattle.vm_field.specs.Limits.{most_nesting}
 use Rattle.vm_field.specs.Machine.{Core, filled_up}
 use Rattle.vm_ops.specs.declared.item.Item.{Item}
 use Rattle.vm_ops.specs.declared.cause.Cause.{Cause}
@@ -53,7 +54,7 @@ pops_bit c = if is_bit (top c) then Ok (record c { stack = filled_up (drop 1 c.s
 
 -- a block starts where fewer than 1,024 have started and not ended
 unfoldable pub opens : Cycle → Cycle
-opens effect c = if nat_lt c.nesting 1024 then effect (record c { nesting = c.nesting + 1 }) else Err NestedTooDeep
+opens effect c = if nat_lt c.nesting most_nesting then effect (record c { nesting = c.nesting + 1 }) else Err NestedTooDeep
 
 -- a block ends
 unfoldable pub closes : Cycle

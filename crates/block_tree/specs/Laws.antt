@@ -1,5 +1,6 @@
 -- The laws of digests, of refinement and of runs.
 use Rattle.std.specs.Prelude.{◌≡◌, ℕ, ◌<◌, ◌≤◌, List, [], ◌∷◌, ◌++◌, length, Some}
+use Rattle.vm_field.specs.Limits.{number_of_constants}
 use Rattle.vm_field.specs.Machine.{State, IsWord}
 use Rattle.vm_field.specs.Sponge.{HashInput, digest_of_input}
 use Rattle.block_tree.specs.Trees.{Tree, IsWhole, Refines, input_of, tree_digest}
@@ -21,7 +22,7 @@ DigestOfInput = (constants : List ℕ) (t : Tree) (input : HashInput)
 
 -- the digest of a whole tree is a word
 abbrev pub DigestIsWord : Type 0
-DigestIsWord = (constants : List ℕ) (t : Tree) → length constants ≡ 168 → IsWhole t → IsWord (tree_digest constants t)
+DigestIsWord = (constants : List ℕ) (t : Tree) → length constants ≡ number_of_constants → IsWhole t → IsWord (tree_digest constants t)
 
 -- each tree refines itself
 abbrev pub RefinesItself : Type 0

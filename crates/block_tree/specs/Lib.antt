@@ -12,4 +12,5 @@ pub mod Logs
 pub mod LogLaws
 pub mod Laws
 pub mod TreeView
+pub mod KnownTrees
 pub mod Kernels

@@ -1,5 +1,6 @@
 -- The laws of logs: what a run of a whole tree that is done shows of each cycle.
 use Rattle.std.specs.Prelude.{◌≡◌, ℕ, ◌+◌, ◌≤◌, List, length, All}
+use Rattle.vm_field.specs.Limits.{most_nesting, number_of_constants}
 use Rattle.vm_field.specs.Machine.{State, IsWellFormed}
 use Rattle.block_tree.specs.Execution.{Event, Done, execution}
 use Rattle.block_tree.specs.Logs.{IsLog, IsWholeEvent}
@@ -19,19 +20,19 @@ LogCounts = (constants : List ℕ) (kernel : List (List ℕ)) (limit : ℕ) (s t
 -- from a well-formed state each cycle is whole, and the last state is well-formed
 abbrev pub RunIsWhole : Type 0
 RunIsWhole = (constants : List ℕ) (kernel : List (List ℕ)) (limit : ℕ) (tree : Tree) (s t : State) (events : List Event)
-    → length constants ≡ 168 → IsWhole tree → IsWellFormed s → execution constants kernel limit tree s ≡ Done t events
+    → length constants ≡ number_of_constants → IsWhole tree → IsWellFormed s → execution constants kernel limit tree s ≡ Done t events
     → All IsWholeEvent events × IsWellFormed t
 
 -- no more than 1,024 blocks have started and not ended, and at the end as many as at the start
 abbrev pub RunNests : Type 0
 RunNests = (constants : List ℕ) (kernel : List (List ℕ)) (limit : ℕ) (tree : Tree) (s t : State) (events : List Event)
-    → IsWhole tree → s.core.nesting ≤ 1024 → execution constants kernel limit tree s ≡ Done t events
-    → All (λ e. e.core.nesting ≤ 1024) events × (t.core.nesting ≡ s.core.nesting)
+    → IsWhole tree → s.core.nesting ≤ most_nesting → execution constants kernel limit tree s ≡ Done t events
+    → All (λ e. e.core.nesting ≤ most_nesting) events × (t.core.nesting ≡ s.core.nesting)
 
 -- the stack has at most as many cells more as the clock has moved
 abbrev pub RunIsShallow : Type 0
 RunIsShallow = (constants : List ℕ) (kernel : List (List ℕ)) (limit : ℕ) (tree : Tree) (s t : State) (events : List Event)
-    → length constants ≡ 168 → IsWhole tree → IsWellFormed s → execution constants kernel limit tree s ≡ Done t events
+    → length constants ≡ number_of_constants → IsWhole tree → IsWellFormed s → execution constants kernel limit tree s ≡ Done t events
     → All (λ e. length e.core.stack + s.core.clock ≤ length s.core.stack + e.core.clock) events
     × (length t.core.stack + s.core.clock ≤ length s.core.stack + t.core.clock)
 

@@ -1,4 +1,5 @@
 ghost use Rattle.std.specs.Prelude.{◌≡◌, ◌≤◌, [], ◌∷◌, OnOk, take};
+ghost use Rattle.vm_field.specs.Limits.{most_nesting};
 ghost use Rattle.vm_field.specs.Signs.{◌⊟◌};
 ghost use Rattle.vm_table.specs.MainColumns.{lv, t};
 ghost use Rattle.air_kit.specs.Flags.{op_of};
@@ -7,7 +8,7 @@ ghost use Rattle.bus_kit.specs.Adding.{IsCounted};
 ghost use Rattle.bus_blocks.specs.Space.{HasSpace};
 
 use bus_kit::{Tally, ask, ask_values};
-use vm_field::{Felt, Memory};
+use vm_field::{Felt, MOST_NESTING, Memory};
 use vm_ops::{Op, is_start};
 use vm_table::MainView;
 
@@ -64,9 +65,9 @@ fn limbs_in<V: MainView>(x: &V) -> [Felt; 10]
 
 // How many blocks may be nested in the one that a row is the first of.
 fn nesting_left<V: MainView>(y: &V) -> [Felt; 1]
-    ensures { result ≡ (1024 ⊟ lv (V.cells y.now)) ∷ [] }
+    ensures { result ≡ (most_nesting ⊟ lv (V.cells y.now)) ∷ [] }
 {
-    [Felt::from_u32(1024) - y.lv()]
+    [Felt::from_u32(MOST_NESTING) - y.lv()]
 }
 
 // How many limbs an operation has.

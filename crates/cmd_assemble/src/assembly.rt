@@ -1,6 +1,7 @@
 // `assemble`: the digest of a program, and what its kernel exports.
 ghost use Rattle.std.specs.Prelude.{◌≡◌, ◌≤◌, ◌++◌, length, option_map, IfSome, IfOk, OnOk, Some};
 ghost use Rattle.std.specs.List.{flat_map};
+ghost use Rattle.vm_field.specs.Limits.{most_name_bytes, most_source_bytes};
 ghost use Rattle.rpo_hash.specs.Constants.{constants_of};
 ghost use Rattle.cmd_kit.specs.AssembleEnds.{export_line, program_lines};
 ghost use Rattle.cmd_kit.specs.AssembleSteps.{assemble_steps};
@@ -30,9 +31,9 @@ pub fn assemble_files<F: Shelf>(
     source: &str,
     kernel: Option<&str>,
 ) -> Outcome
-    requires params { length params.now ≤ 200 }
-    requires source { length source.now ≤ 200 }
-    requires kernel { IfSome kernel (λ k. length k.now ≤ 200) }
+    requires params { length params.now ≤ most_name_bytes }
+    requires source { length source.now ≤ most_name_bytes }
+    requires kernel { IfSome kernel (λ k. length k.now ≤ most_name_bytes) }
     ensures { EndsIn (Some (assemble_steps params.now source.now (option_map (λ k. k.now) kernel.entry))) result
         (F.state shelf.old) (F.state shelf.new) }
 {
@@ -49,9 +50,9 @@ fn read_and_assemble<F: Shelf>(
     source: &str,
     kernel: Option<&str>,
 ) -> Result<Outcome, Outcome>
-    requires params { length params.now ≤ 200 }
-    requires source { length source.now ≤ 200 }
-    requires kernel { IfSome kernel (λ k. length k.now ≤ 200) }
+    requires params { length params.now ≤ most_name_bytes }
+    requires source { length source.now ≤ most_name_bytes }
+    requires kernel { IfSome kernel (λ k. length k.now ≤ most_name_bytes) }
     ensures { EndsIn (Some (assemble_steps params.now source.now (option_map (λ k. k.now) kernel.entry))) (either result)
         (F.state shelf.old) (F.state shelf.new) }
 {
@@ -68,8 +69,8 @@ fn answer(
     source: &SourceFile<'_>,
     kernel: Option<&SourceFile<'_>>,
 ) -> Outcome
-    requires source { length source.now.text ≤ 1048576 }
-    requires kernel { IfSome kernel (λ k. length k.now.text ≤ 1048576) }
+    requires source { length source.now.text ≤ most_source_bytes }
+    requires kernel { IfSome kernel (λ k. length k.now.text ≤ most_source_bytes) }
     ensures { ComesTo (assembly (constants_of constants.now) (file_of source.now) (option_map (λ k. file_of k.now) kernel.entry)) result }
 {
     match assemble_sources(alloc, constants, source, kernel) {

@@ -1,5 +1,6 @@
 // `check` of a table file: evidence is written where it is accepted, and else its refusal is told.
 ghost use Rattle.std.specs.Prelude.{◌≡◌, ◌≤◌, ◌∷◌, ◌++◌, length, codes, decimal, IfOk, Some};
+ghost use Rattle.vm_field.specs.Limits.{most_name_bytes};
 ghost use Rattle.rpo_hash.specs.Constants.{constants_of};
 ghost use Rattle.statement.specs.Statements.{claim_of};
 ghost use Rattle.air_kit.specs.Traces.{HasCounts};
@@ -41,10 +42,10 @@ pub fn check_files<F: Shelf, G: Gate>(
     params: &str,
     names: CheckNames<'_>,
 ) -> Outcome
-    requires params { length params.now ≤ 200 }
-    requires table { length names.table.now ≤ 200 }
-    requires statement { length names.statement.now ≤ 200 }
-    requires evidence { length names.evidence.now ≤ 200 }
+    requires params { length params.now ≤ most_name_bytes }
+    requires table { length names.table.now ≤ most_name_bytes }
+    requires statement { length names.statement.now ≤ most_name_bytes }
+    requires evidence { length names.evidence.now ≤ most_name_bytes }
     ensures { EndsIn (Some (check_steps params.now names.entry.table.now names.entry.statement.now names.entry.evidence.now)) result
         (F.state shelf.old) (F.state shelf.new) }
 {
@@ -61,10 +62,10 @@ fn read_and_judge<F: Shelf, G: Gate>(
     params: &str,
     names: CheckNames<'_>,
 ) -> Result<Outcome, Outcome>
-    requires params { length params.now ≤ 200 }
-    requires table { length names.table.now ≤ 200 }
-    requires statement { length names.statement.now ≤ 200 }
-    requires evidence { length names.evidence.now ≤ 200 }
+    requires params { length params.now ≤ most_name_bytes }
+    requires table { length names.table.now ≤ most_name_bytes }
+    requires statement { length names.statement.now ≤ most_name_bytes }
+    requires evidence { length names.evidence.now ≤ most_name_bytes }
     ensures { EndsIn (Some (check_steps params.now names.entry.table.now names.entry.statement.now names.entry.evidence.now)) (either result)
         (F.state shelf.old) (F.state shelf.new) }
 {
@@ -85,7 +86,7 @@ fn judge<F: Shelf, G: Gate>(
     evidence: &str,
 ) -> Outcome
     requires counts { HasCounts trace }
-    requires evidence { length evidence.now ≤ 200 }
+    requires evidence { length evidence.now ≤ most_name_bytes }
     ensures { EndsIn (Some (judging_steps evidence.now (constants_of public.params) trace (claim_of public.statement))) result
         (F.state shelf.old) (F.state shelf.new) }
 {
@@ -112,7 +113,7 @@ fn refuse(alloc: Global, refused: &Refused) -> Outcome
 // Writes the evidence of a trace that is accepted, and tells which it is.
 #[tactic(auto, using(crate::proofs::CheckLemmas::evidence_is_right, cmd_kit::proofs::ServingLemmas::same_again))]
 fn accept<F: Shelf>(alloc: Global, shelf: &mut F, valid: &Valid, name: &str) -> Outcome
-    requires name { length name.now ≤ 200 }
+    requires name { length name.now ≤ most_name_bytes }
     ensures { EndsIn (Some (found_steps name.now (constants_of valid.now.public.params) (claim_of valid.now.public.statement)
         valid.now.trace accepted)) result
         (F.state shelf.old) (F.state shelf.new) }

@@ -3,6 +3,7 @@ use Rattle.std.proofs.Common.{◌≡◌, ℕ, ◌<◌, ◌≤◌, List, codes, l
 use Rattle.std.specs.Option.{IfSome, IsSomeAnd}
 use Rattle.std.proofs.lemmas.List.{length-replicate}
 use Rattle.std.specs.FinMap.{get}
+use Rattle.vm_field.specs.Limits.{most_name_bytes}
 use Rattle.vm_io.specs.Count.{Rose}
 use Rattle.vm_io.specs.Shelf.{Files, ShelfState, Told, Reads, ReadFails, WriteFails, with_failed_name, with_file}
 use Rattle.vm_io.proofs.ShelfLemmas.{kept_whole}
@@ -92,11 +93,11 @@ too_long_ends name most next o old new same long is = refused_file name most nex
     told None h = (Some (replicate (most + 1) 0), tt, (omega (arith, length-replicate {A = ℕ} (most + 1) 0), refl))
     told (Some m) h = file m (get m name) refl h
 
-named : (told new : Option (List ℕ)) (name : List ℕ) → length name ≤ 200 → new ≡ with_failed_name told name → IfSome new (λ failed. failed ≡ name)
+named : (told new : Option (List ℕ)) (name : List ℕ) → length name ≤ most_name_bytes → new ≡ with_failed_name told name → IfSome new (λ failed. failed ≡ name)
 named None new name short is = subst (λ o. IfSome o (λ failed. failed ≡ name)) (sym is) tt
 named (Some old) new name short is = subst (λ o. IfSome o (λ failed. failed ≡ name)) (sym is) (kept_whole name short)
 
-pub read_fault_ends : (name : List ℕ) (most : ℕ) (next : List ℕ → Steps) (o : Outcome) (old new : ShelfState) → length name ≤ 200
+pub read_fault_ends : (name : List ℕ) (most : ℕ) (next : List ℕ → Steps) (o : Outcome) (old new : ShelfState) → length name ≤ most_name_bytes
     → ReadFails old new name
     → SaysStatus o status.ReadFault (named_line (codes "read fault ") name) → EndsIn (Some (reading name most next)) o old new
 read_fault_ends name most next o old new short f is =
@@ -110,7 +111,7 @@ read_fault_ends name most next o old new short f is =
     }
 
 pub write_fault_ends : (name : List ℕ) (right : Right) (next : List ℕ → Steps) (bytes : List ℕ) (o : Outcome) (old new : ShelfState)
-    → length name ≤ 200
+    → length name ≤ most_name_bytes
     → IsRight right bytes → WriteFails old new name bytes
     → SaysStatus o status.WriteFault (named_line (codes "write fault ") name) → EndsIn (Some (writing name right next)) o old new
 write_fault_ends name right next bytes o old new short fit f is =

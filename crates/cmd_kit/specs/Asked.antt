@@ -2,6 +2,7 @@
 use Rattle.std.specs.Prelude.{ℕ, Bool, not, ◌&&◌, if◌then◌else◌, List, [], ◌∷◌, codes, Option, Some, None, option_map, unwrap_or}
 use Rattle.std.specs.List.{list_any}
 use Rattle.std.specs.Str.{bytes_eq}
+use Rattle.vm_field.specs.Limits.{most_cycles}
 use Rattle.cmd_words.specs.Words.{is_form, name_at, optional_name, optional_number}
 
 -- the names of the files that `run` writes
@@ -34,11 +35,7 @@ assemble_words words =
     if is_form 2 (codes "--kernel" ∷ []) words
     then assemble_of_names (name_at 0 words) (name_at 1 words) (optional_name (codes "--kernel") words) else nothing
 
--- the most cycles of a run, and how many it may have where no limit is given
-abbrev pub most_cycles : ℕ
-most_cycles = 524287
-
--- the limit of cycles that the words give, the most where they give none
+-- the limit of cycles that the words give, the most of a run where they give none
 abbrev pub limit_in : List (List ℕ) → Option ℕ
 limit_in words = option_map (λ limit. unwrap_or limit most_cycles) (optional_number 1 most_cycles (codes "--limit") words)
 

@@ -3,6 +3,7 @@ use Rattle.std.specs.Prelude.{◌≡◌, ◌⊎◌, ℕ, ◌≤◌, List, length
 use Rattle.std.specs.FinMap.{get}
 use Rattle.fill_files.specs.RunFiles.{most_table_bytes, most_statement_bytes}
 use Rattle.rpo_hash.specs.ParamText.{parameters_of}
+use Rattle.vm_field.specs.Limits.{most_source_bytes}
 use Rattle.vm_field.specs.Machine.{State}
 use Rattle.block_tree.specs.Execution as execution
 use Rattle.block_tree.specs.Execution.{Done}
@@ -22,7 +23,7 @@ use Rattle.cmd_kit.specs.Steps.{SourceFile, accepted}
 use Rattle.cmd_kit.specs.SourceEnds.{AssemblesFiles}
 use Rattle.cmd_kit.specs.RunEnds.{outcome_of}
 use Rattle.cmd_kit.specs.CheckEnds.{IsVerdictFor}
-use Rattle.cmd_kit.specs.Starts.{most_params_bytes, most_source_bytes, most_inputs_bytes}
+use Rattle.cmd_kit.specs.Starts.{most_params_bytes, most_inputs_bytes}
 use Rattle.cmd_kit.specs.HashSteps.{most_numbers_bytes}
 use Rattle.cmd_kit.specs.Serving.{Serves}
 

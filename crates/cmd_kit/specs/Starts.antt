@@ -1,5 +1,6 @@
 -- How the steps of a command begin: files that are read one after another, and what each says for the steps behind it.
 use Rattle.std.specs.Prelude.{ℕ, List, Option, Some, None, Result, Ok, Err}
+use Rattle.vm_field.specs.Limits.{most_source_bytes}
 use Rattle.rpo_hash.specs.declared.params.ParamError.{ParamError}
 use Rattle.rpo_hash.specs.ParamText.{parameters_of}
 use Rattle.statement.specs.Inputs.{Given, inputs_of}
@@ -15,10 +16,6 @@ use Rattle.cmd_kit.specs.Malformed.{bad_params, bad_inputs, bad_statement, bad_t
 -- the longest file of parameters
 abbrev pub most_params_bytes : ℕ
 most_params_bytes = 4096
-
--- the longest source, a kernel's too
-abbrev pub most_source_bytes : ℕ
-most_source_bytes = 1048576
 
 abbrev pub most_inputs_bytes : ℕ
 most_inputs_bytes = 33554432

@@ -1,4 +1,5 @@
 ghost use Rattle.std.specs.Prelude.{ℕ, List, [], Some, Err, ◌≤◌, length, IfOk, OnOk, IfErr};
+ghost use Rattle.vm_field.specs.Limits.{most_name_bytes};
 ghost use Rattle.vm_io.specs.Shelf.{ReadStep, ShelfState};
 ghost use Rattle.cmd_kit.specs.Outcomes.{EndsIn, Continues};
 ghost use Rattle.cmd_kit.specs.Steps.{Steps, reading};
@@ -28,7 +29,7 @@ pub const MOST_TABLE_BYTES: u64 = 1_073_741_824;
 /// next.
 #[tactic(auto, using(crate::proofs::ServingLemmas::goes_past_read))]
 pub fn load<F: Shelf>(alloc: Global, shelf: &mut F, name: &str, most: u64) -> Result<Bytes, Outcome>
-    requires { length name.now ≤ 200 }
+    requires { length name.now ≤ most_name_bytes }
     ensures found { IfOk result (λ bytes. (next : List ℕ → Steps)
         → Continues (reading name.now most next) (next bytes) (F.state shelf.old) (F.state shelf.new)) }
     ensures short { IfOk result (λ bytes. length bytes ≤ most) }
@@ -49,7 +50,7 @@ pub fn load_pieces<F: Shelf, T: Taker>(
     most: u64,
     taker: &mut T,
 ) -> Result<(), Outcome>
-    requires name { length name.now ≤ 200 }
+    requires name { length name.now ≤ most_name_bytes }
     requires fresh { T.took taker.old [] }
     ensures found { OnOk result ((bytes : List ℕ) × T.took taker.new bytes × ((next : List ℕ → Steps)
         → Continues (reading name.now most next) (next bytes) (F.state shelf.old) (F.state shelf.new))) }
@@ -65,7 +66,7 @@ pub fn load_pieces<F: Shelf, T: Taker>(
 // How a command ends at a file that was not read.
 #[tactic(auto, using(crate::proofs::ServingLemmas::gives_up_at))]
 fn unread(alloc: Global, name: &str, stop: ReadStop) -> Outcome
-    requires { length name.now ≤ 200 }
+    requires { length name.now ≤ most_name_bytes }
     ensures { (old new : ShelfState) (most : ℕ) (next : List ℕ → Steps) → ReadStep old new name.now most (Err stop)
         → EndsIn (Some (reading name.now most next)) result old new }
 {

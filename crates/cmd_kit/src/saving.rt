@@ -1,4 +1,5 @@
 ghost use Rattle.std.specs.Prelude.{ℕ, List, Some, ◌≤◌, length, OnOk, IfErr};
+ghost use Rattle.vm_field.specs.Limits.{most_name_bytes};
 ghost use Rattle.cmd_kit.specs.Commands.{IsRight};
 ghost use Rattle.cmd_kit.specs.Outcomes.{EndsIn, Continues};
 ghost use Rattle.cmd_kit.specs.Steps.{Right, Steps, writing};
@@ -12,7 +13,7 @@ use vm_io::{Shelf, WriteStop};
 /// come next.
 #[tactic(auto, using(crate::proofs::ServingLemmas::goes_past_write, crate::proofs::ServingLemmas::same_again))]
 pub fn save<F: Shelf>(alloc: Global, shelf: &mut F, name: &str, bytes: &[u8]) -> Result<(), Outcome>
-    requires { length name.now ≤ 200 }
+    requires { length name.now ≤ most_name_bytes }
     ensures written { OnOk result ((right : Right) (next : List ℕ → Steps) → IsRight right bytes.now
         → Continues (writing name.now right next) (next bytes.now) (F.state shelf.old) (F.state shelf.new)) }
     ensures stopped { IfErr result (λ end. (right : Right) (next : List ℕ → Steps) → IsRight right bytes.now

@@ -1,4 +1,5 @@
 ghost use Rattle.std.specs.Prelude.{ℕ, List, Some, ◌≤◌, length, OnOk, IfErr};
+ghost use Rattle.vm_field.specs.Limits.{most_name_bytes};
 ghost use Rattle.cmd_kit.specs.Commands.{IsRight};
 ghost use Rattle.cmd_kit.specs.Outcomes.{EndsIn, Continues};
 ghost use Rattle.cmd_kit.specs.Steps.{Right, Steps, writing};
@@ -16,7 +17,7 @@ pub fn save_pieces<F: Shelf, P: Pieces>(
     name: &str,
     pieces: &mut P,
 ) -> Result<(), Outcome>
-    requires { length name.now ≤ 200 }
+    requires { length name.now ≤ most_name_bytes }
     ensures written { OnOk result ((right : Right) (next : List ℕ → Steps) → IsRight right (P.rest pieces.old)
         → Continues (writing name.now right next) (next (P.rest pieces.old)) (F.state shelf.old) (F.state shelf.new)) }
     ensures stopped { IfErr result (λ end. (right : Right) (next : List ℕ → Steps) → IsRight right (P.rest pieces.old)

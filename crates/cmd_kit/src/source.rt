@@ -1,5 +1,6 @@
 // Sources, assembled or refused.
 ghost use Rattle.std.specs.Prelude.{◌≡◌, ◌≤◌, length, option_map, IfSome, IfOk};
+ghost use Rattle.vm_field.specs.Limits.{most_source_bytes};
 ghost use Rattle.rpo_hash.specs.Constants.{constants_of};
 ghost use Rattle.cmd_kit.specs.Outcomes.{SaysStatus};
 ghost use Rattle.cmd_kit.specs.Sources.{file_of};
@@ -28,8 +29,8 @@ pub fn assemble_sources(
     source: &SourceFile<'_>,
     kernel: Option<&SourceFile<'_>>,
 ) -> Result<Program, AsmError>
-    requires source { length source.now.text ≤ 1048576 }
-    requires kernel { IfSome kernel (λ k. length k.now.text ≤ 1048576) }
+    requires source { length source.now.text ≤ most_source_bytes }
+    requires kernel { IfSome kernel (λ k. length k.now.text ≤ most_source_bytes) }
     ensures { AssemblesFiles (constants_of constants.now) (file_of source.now) (option_map (λ k. file_of k.now) kernel.entry) result }
 {
     let text = source.text.as_slice();

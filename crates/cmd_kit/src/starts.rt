@@ -1,5 +1,6 @@
 // Files that commands begin with: each is read, and then read as what it says.
 ghost use Rattle.std.specs.Prelude.{◌≤◌, length, option_map, IfErr, IfOk, IfSome};
+ghost use Rattle.vm_field.specs.Limits.{most_name_bytes, most_source_bytes};
 ghost use Rattle.air_kit.specs.Traces.{HasCounts};
 ghost use Rattle.rpo_hash.specs.Constants.{constants_of};
 ghost use Rattle.statement.specs.Inputs.{given_of};
@@ -26,7 +27,7 @@ use vm_state::{Inputs, Statement};
 /// Reads a file of parameters. An `Err` is how the command ends, whatever was to come next; so it is of each of these calls.
 #[tactic(auto, using(crate::proofs::ServingLemmas::work_ends, crate::proofs::ServingLemmas::says_comes))]
 pub fn load_params<F: Shelf>(alloc: Global, shelf: &mut F, name: &str) -> Result<Params, Outcome>
-    requires { length name.now ≤ 200 }
+    requires { length name.now ≤ most_name_bytes }
     ensures loads { IfOk result (λ params. Loads (params_steps name.now) (constants_of params) (F.state shelf.old) (F.state shelf.new)) }
     ensures ends { IfErr result (λ end. EndsThere (params_steps name.now) end (F.state shelf.old) (F.state shelf.new)) }
 {
@@ -43,9 +44,9 @@ pub fn load_source<'a, F: Shelf>(
     shelf: &mut F,
     name: &'a str,
 ) -> Result<SourceFile<'a>, Outcome>
-    requires { length name.now ≤ 200 }
+    requires { length name.now ≤ most_name_bytes }
     ensures loads { IfOk result (λ file. Loads (source_steps name.now) (file_of file) (F.state shelf.old) (F.state shelf.new)) }
-    ensures short { IfOk result (λ file. length file.text ≤ 1048576) }
+    ensures short { IfOk result (λ file. length file.text ≤ most_source_bytes) }
     ensures ends { IfErr result (λ end. EndsThere (source_steps name.now) end (F.state shelf.old) (F.state shelf.new)) }
 {
     let text = load(alloc, shelf, name, MOST_SOURCE_BYTES)?;
@@ -58,10 +59,10 @@ pub fn load_kernel<'a, F: Shelf>(
     shelf: &mut F,
     name: Option<&'a str>,
 ) -> Result<Option<SourceFile<'a>>, Outcome>
-    requires { IfSome name (λ n. length n.now ≤ 200) }
+    requires { IfSome name (λ n. length n.now ≤ most_name_bytes) }
     ensures loads { IfOk result (λ kernel. Loads (kernel_steps (option_map (λ n. n.now) name.entry)) (option_map file_of kernel)
         (F.state shelf.old) (F.state shelf.new)) }
-    ensures short { IfOk result (λ kernel. IfSome kernel (λ file. length file.text ≤ 1048576)) }
+    ensures short { IfOk result (λ kernel. IfSome kernel (λ file. length file.text ≤ most_source_bytes)) }
     ensures ends { IfErr result (λ end. EndsThere (kernel_steps (option_map (λ n. n.now) name.entry)) end (F.state shelf.old) (F.state shelf.new)) }
 {
     match name {
@@ -73,7 +74,7 @@ pub fn load_kernel<'a, F: Shelf>(
 /// Reads a file of inputs.
 #[tactic(auto, using(crate::proofs::ServingLemmas::work_ends, crate::proofs::ServingLemmas::says_comes))]
 pub fn load_inputs<F: Shelf>(alloc: Global, shelf: &mut F, name: &str) -> Result<Inputs, Outcome>
-    requires { length name.now ≤ 200 }
+    requires { length name.now ≤ most_name_bytes }
     ensures loads { IfOk result (λ inputs. Loads (inputs_steps name.now) (given_of inputs) (F.state shelf.old) (F.state shelf.new)) }
     ensures ends { IfErr result (λ end. EndsThere (inputs_steps name.now) end (F.state shelf.old) (F.state shelf.new)) }
 {
@@ -92,7 +93,7 @@ pub fn load_statement<F: Shelf>(
     shelf: &mut F,
     name: &str,
 ) -> Result<Statement, Outcome>
-    requires { length name.now ≤ 200 }
+    requires { length name.now ≤ most_name_bytes }
     ensures loads { IfOk result (λ statement. Loads (statement_steps name.now) (claim_of statement) (F.state shelf.old) (F.state shelf.new)) }
     ensures ends { IfErr result (λ end. EndsThere (statement_steps name.now) end (F.state shelf.old) (F.state shelf.new)) }
 {
@@ -107,7 +108,7 @@ pub fn load_statement<F: Shelf>(
 /// Reads a table file as its bytes come, so that they never stand beside the trace.
 #[tactic(auto, using(crate::proofs::ServingLemmas::work_ends, crate::proofs::ServingLemmas::says_comes))]
 pub fn load_trace<F: Shelf>(alloc: Global, shelf: &mut F, name: &str) -> Result<Trace, Outcome>
-    requires { length name.now ≤ 200 }
+    requires { length name.now ≤ most_name_bytes }
     ensures loads { IfOk result (λ trace. Loads (trace_steps name.now) trace (F.state shelf.old) (F.state shelf.new)) }
     ensures counts { IfOk result HasCounts }
     ensures ends { IfErr result (λ end. EndsThere (trace_steps name.now) end (F.state shelf.old) (F.state shelf.new)) }

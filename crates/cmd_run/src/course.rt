@@ -1,5 +1,6 @@
 // How a source runs: its program and the run to its end, or the answer why there is none.
 ghost use Rattle.std.specs.Prelude.{◌≡◌, ◌≤◌, length, option_map, IfErr, IfOk, IfSome};
+ghost use Rattle.vm_field.specs.Limits.{most_cycles, most_source_bytes};
 ghost use Rattle.rpo_hash.specs.Constants.{constants_of};
 ghost use Rattle.statement.specs.Inputs.{given_of};
 ghost use Rattle.cmd_run.specs.Courses.{Came, Halts, HasRun, Stopped};
@@ -38,9 +39,9 @@ pub(crate) fn course_of(
     inputs: &Inputs,
     limit: u32,
 ) -> Result<Course, Outcome>
-    requires source { length source.now.text ≤ 1048576 }
-    requires kernel { IfSome kernel (λ k. length k.now.text ≤ 1048576) }
-    requires limit { limit ≤ 524287 }
+    requires source { length source.now.text ≤ most_source_bytes }
+    requires kernel { IfSome kernel (λ k. length k.now.text ≤ most_source_bytes) }
+    requires limit { limit ≤ most_cycles }
     ensures came { IfOk result (Came constants.now (file_of source.now) (option_map (λ k. file_of k.now) kernel.entry) (given_of inputs.now) limit) }
     ensures stopped { IfErr result (Stopped (constants_of constants.now) (file_of source.now)
         (option_map (λ k. file_of k.now) kernel.entry) (given_of inputs.now) limit) }
@@ -70,7 +71,7 @@ fn run_of(
     inputs: &Inputs,
     limit: u32,
 ) -> Result<Course, Outcome>
-    requires { limit ≤ 524287 }
+    requires { limit ≤ most_cycles }
     ensures came { IfOk result (λ course. (course.program ≡ program) × HasRun constants.now program (given_of inputs.now) limit course.run) }
     ensures stopped { IfErr result (Halts (constants_of constants.now) program (given_of inputs.now) limit) }
 {

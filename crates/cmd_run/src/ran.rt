@@ -1,5 +1,6 @@
 // The two files of a run, and what is told of it.
 ghost use Rattle.std.specs.Prelude.{◌≡◌, ◌≤◌, true, length, IfOk};
+ghost use Rattle.vm_field.specs.Limits.{most_name_bytes};
 ghost use Rattle.rpo_hash.specs.Constants.{constants_of};
 ghost use Rattle.air_kit.specs.Traces.{HasCounts};
 ghost use Rattle.block_tree.specs.TreeView.{tree_of};
@@ -100,7 +101,7 @@ fn save_statement<F: Shelf>(
     statement: Bytes,
     line: Bytes,
 ) -> Outcome
-    requires { length name.now ≤ 200 }
+    requires { length name.now ≤ most_name_bytes }
     ensures { SavesLast name.now statement line result (F.state shelf.old) (F.state shelf.new) }
 {
     match save(alloc, shelf, name, statement.as_slice()) {

@@ -1,5 +1,6 @@
 // `run`: the files that it reads, and then the run of the program, its two files and its outputs.
 ghost use Rattle.std.specs.Prelude.{◌≤◌, length, option_map, Some};
+ghost use Rattle.vm_field.specs.Limits.{most_name_bytes};
 ghost use Rattle.cmd_kit.specs.Outcomes.{EndsIn, either};
 ghost use Rattle.cmd_kit.specs.RunSteps.{run_steps};
 ghost use Rattle.cmd_run.specs.Naming.{AreOptions, outputs_from};
@@ -30,8 +31,8 @@ pub fn run_source_files<F: Shelf>(
     source: &str,
     options: RunOptions<'_>,
 ) -> Outcome
-    requires params { length params.now ≤ 200 }
-    requires source { length source.now ≤ 200 }
+    requires params { length params.now ≤ most_name_bytes }
+    requires source { length source.now ≤ most_name_bytes }
     requires options { AreOptions options }
     ensures { EndsIn (Some (run_steps params.now source.now options.entry.inputs.now (outputs_from options.entry.outputs)
         (option_map (λ k. k.now) options.entry.kernel) options.entry.limit)) result (F.state shelf.old) (F.state shelf.new) }
@@ -49,8 +50,8 @@ fn read_and_run<F: Shelf>(
     source: &str,
     options: RunOptions<'_>,
 ) -> Result<Outcome, Outcome>
-    requires params { length params.now ≤ 200 }
-    requires source { length source.now ≤ 200 }
+    requires params { length params.now ≤ most_name_bytes }
+    requires source { length source.now ≤ most_name_bytes }
     requires options { AreOptions options }
     ensures { EndsIn (Some (run_steps params.now source.now options.entry.inputs.now (outputs_from options.entry.outputs)
         (option_map (λ k. k.now) options.entry.kernel) options.entry.limit)) (either result) (F.state shelf.old) (F.state shelf.new) }

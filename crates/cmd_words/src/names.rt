@@ -1,14 +1,15 @@
 ghost use Rattle.std.specs.Prelude.{◌≡◌, ◌≤◌, length, option_map, IfSome};
 ghost use Rattle.std.specs.List.{list_all};
+ghost use Rattle.vm_field.specs.Limits.{most_name_bytes};
 ghost use Rattle.vm_field.specs.FileName.{is_file_name, is_name_byte as name_byte, begins_with_dash as first_is_dash};
 ghost use Rattle.cmd_words.specs.Words.{file_name_of, number_of_word};
 
-use vm_field::Felt;
+use vm_field::{Felt, MOST_NAME_BYTES};
 
 /// The word as a file name, if it is one.
 pub fn file_name(word: &[u8]) -> Option<&str>
     ensures name { option_map (λ n. n.now) result ≡ file_name_of word.entry.now }
-    ensures short { IfSome result (λ n. length n.now ≤ 200) }
+    ensures short { IfSome result (λ n. length n.now ≤ most_name_bytes) }
 {
     let Ok(name) = std::str::from_utf8(word) else {
         return None;
@@ -33,7 +34,7 @@ pub fn number_in(least: u64, most: u64, word: &[u8]) -> Option<u64>
 fn is_name(word: &[u8]) -> bool
     ensures { result ≡ is_file_name word.now }
 {
-    1 <= word.len() && word.len() <= 200 && has_name_bytes(word) && !begins_with_dash(word)
+    1 <= word.len() && word.len() <= MOST_NAME_BYTES && has_name_bytes(word) && !begins_with_dash(word)
 }
 
 fn has_name_bytes(word: &[u8]) -> bool

@@ -1,6 +1,7 @@
 ghost use Rattle.std.specs.Prelude.{ℕ, List, ◌≡◌, ◌≤◌, ◌==◌, length, map, option_map, IfSome, Some, None, codes};
 ghost use Rattle.std.specs.Str.{bytes_eq};
 ghost use Rattle.std.specs.List.{list_any};
+ghost use Rattle.vm_field.specs.Limits.{most_name_bytes};
 ghost use Rattle.cmd_words.specs.Words.{anything, parts_from, has_form as parts_have_form, is_form as words_are_form, name_at as name_in, begins_with_dashes as two_dashes, sign_in as place_of_sign, part_in as part_by, mode_behind as mode_after, positional_at as positional_in, value_of as value_in, value_in_part, option_part, optional_name as name_by_option, optional_number as number_by_option, texts};
 ghost use Rattle.cmd_words.specs.Parts.{part_of, mode_of};
 
@@ -39,7 +40,7 @@ pub fn is_form(count: usize, names: &[&str], words: &[Vec<u8>]) -> bool
 /// goes as deep as there are words.
 pub fn name_at(i: usize, words: &[Vec<u8>]) -> Option<&str>
     ensures name { option_map (λ n. n.now) result ≡ name_in i (texts words.entry.now) }
-    ensures short { IfSome result (λ n. length n.now ≤ 200) }
+    ensures short { IfSome result (λ n. length n.now ≤ most_name_bytes) }
 {
     match positional_at(i, WordMode::Anything, words) {
         Some(word) => file_name(word),
@@ -51,7 +52,7 @@ pub fn name_at(i: usize, words: &[Vec<u8>]) -> Option<&str>
 /// file name.
 pub fn optional_name<'a>(option: &str, words: &'a [Vec<u8>]) -> Option<Option<&'a str>>
     ensures name { option_map (λ o. option_map (λ n. n.now) o) result ≡ name_by_option option.now (texts words.entry.now) }
-    ensures short { IfSome result (λ o. IfSome o (λ n. length n.now ≤ 200)) }
+    ensures short { IfSome result (λ o. IfSome o (λ n. length n.now ≤ most_name_bytes)) }
 {
     match value_of(option.as_bytes(), WordMode::Anything, words) {
         Some(value) => match file_name(value) {

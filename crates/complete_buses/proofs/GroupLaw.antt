@@ -1,5 +1,6 @@
 -- The bus of groups over the rows of a run.
 use Rattle.std.proofs.Common.{◌≡◌, ℕ, ◌≤◌, cond, List, take, sym, ap, ◌∙◌, arith}
+use Rattle.vm_field.specs.Limits.{most_cycles}
 use Rattle.vm_field.specs.Machine.{Core, State}
 use Rattle.vm_ops.specs.Codes.{is_ordinary_op}
 use Rattle.vm_ops.specs.Values.{bit_of}
@@ -31,7 +32,7 @@ inside : (constants : List ℕ) {todo : List Task} {d : Decoder} {c : Core} {y :
 inside constants {d = d} at =
     ap sp at.row ∙ col_sp (line_of d at.event at.next at.later) ∙ ap (λ o. bit_of (is_ordinary_op o)) (sym (place_op constants at))
 
-shown_of : (constants : List ℕ) (kernel : List (List ℕ)) (limit : ℕ) (x y : List ℕ) → limit ≤ 524287
+shown_of : (constants : List ℕ) (kernel : List (List ℕ)) (limit : ℕ) (x y : List ℕ) → limit ≤ most_cycles
     → IsMoment constants kernel limit x y → GroupPair x y
 shown_of constants kernel limit x y within m = record {
   reads = moment_reads constants kernel limit m;

@@ -1,6 +1,7 @@
 -- A row asks on the bus of memory what its operation requests.
 use Rattle.std.proofs.Common.{◌≡◌, ℕ, ◌<◌, true, List, [], ◌∷◌, ◌++◌, length, map, drop, reverse, slice_index, unwrap_or, refl, sym, ap, ◌∙◌, subst, arith, lit<}
 use Rattle.std.proofs.lemmas.List.{get_or-drop, length-drop}
+use Rattle.vm_field.specs.Limits.{number_of_constants}
 use Rattle.vm_field.specs.Machine.{State}
 use Rattle.vm_field.proofs.Elements.{word-is}
 use Rattle.vm_ops.specs.Codes.{accesses_memory}
@@ -111,7 +112,7 @@ unfolding tuples.accesses_of
 mark_accesses constants (Do item) before e next x y shows = op_accesses (seen_at constants item before) e next x y item.op (shows item refl)
 mark_accesses constants mark before e next x y shows = refl
 
-module _ (constants : List ℕ) (len : length constants ≡ 168) (kernel : List (List ℕ)) (limit : ℕ) {x y : List ℕ}
+module _ (constants : List ℕ) (len : length constants ≡ number_of_constants) (kernel : List (List ℕ)) (limit : ℕ) {x y : List ℕ}
     (m : IsMoment constants kernel limit x y) where
   moment_access : (item : Item) → m.mark ≡ Do item
       → ShowsAccess item.op (seen_at constants item m.s) (event_at constants kernel m.mark m.s) (visible_of m.t.core) x y

@@ -1,6 +1,7 @@
 -- A row asks on the bus of bitwise operations what its operation requests.
 use Rattle.std.proofs.Common.{◌≡◌, ℕ, ◌<◌, if◌then◌else◌, List, [], ◌∷◌, length, map, bit_and, bit_xor, refl, ap, ◌∙◌, lit<}
 use Rattle.std.proofs.lemmas.Nat.{and_comm, xor_comm}
+use Rattle.vm_field.specs.Limits.{number_of_constants}
 use Rattle.vm_field.specs.Machine.{State}
 use Rattle.vm_ops.specs.Step.{left_cells}
 use Rattle.vm_ops.specs.Stepping.{seen_at}
@@ -56,7 +57,7 @@ mark_bits constants (Do item) before x y cells tops =
     op_bits item.op (seen_at constants item before) (visible_of before.core) x y refl (cells item) (tops item refl)
 mark_bits constants mark before x y cells tops = refl
 
-module _ (constants : List ℕ) (len : length constants ≡ 168) (kernel : List (List ℕ)) (limit : ℕ) {x y : List ℕ}
+module _ (constants : List ℕ) (len : length constants ≡ number_of_constants) (kernel : List (List ℕ)) (limit : ℕ) {x y : List ℕ}
     (m : IsMoment constants kernel limit x y) where
   pub row_bits : bitwise_asked x y ≡ map bit_given (bits_by (op_of m.mark) (visible_of m.s.core))
   row_bits =

@@ -1,6 +1,7 @@
 -- What the permutations of a hash give: its first block, its other blocks, and its digest.
 use Rattle.std.proofs.Common.{◌≡◌, ℕ, Bool, All, cond, suc, ◌+◌, ◌*◌, false, true, List, [], ◌∷◌, ◌++◌, length, take, drop, refl, ap, arith, length-append, length-take}
 use Rattle.std.proofs.lemmas.List.Elements.{All-head, All-nil, All-tail}
+use Rattle.vm_field.specs.Limits.{number_of_constants}
 use Rattle.vm_field.specs.Sponge.{absorbed, begun, hashed, sponge_after, squeezed}
 use Rattle.vm_field.proofs.PermutationLemmas.{length-permuted}
 use Rattle.op_pack.specs.Reading.{IsBatch}
@@ -52,7 +53,7 @@ drop_taken (a ∷ []) block size = absurd (omega (arith, size))
 drop_taken (a ∷ b ∷ []) block size = absurd (omega (arith, size))
 drop_taken (a ∷ b ∷ c ∷ []) block size = absurd (omega (arith, size))
 
-module _ (constants : List ℕ) (len : length constants ≡ 168) where
+module _ (constants : List ℕ) (len : length constants ≡ number_of_constants) where
   pub absorbed_twelve : (state block : List ℕ) → length state ≡ 12 → IsBatch block → length (absorbed constants state block) ≡ 12
   absorbed_twelve state block size h =
       length-permuted constants (take 4 state ++ block) len (omega (arith, size, h.size, length-append (take 4 state) block, length-take 4 state))

@@ -1,6 +1,7 @@
 -- The permutations of a run follow one another.
 use Rattle.std.proofs.Common.{◌≡◌, ℕ, All, true, false, List, [], ◌∷◌, ◌++◌, length, take, refl, arith}
 use Rattle.std.proofs.lemmas.List.Elements.{All-head, All-nil, All-tail}
+use Rattle.vm_field.specs.Limits.{number_of_constants}
 use Rattle.vm_field.specs.Machine.{State}
 use Rattle.vm_field.specs.Permutation.{permuted}
 use Rattle.vm_field.specs.Sponge.{absorbed, begun}
@@ -36,7 +37,7 @@ take_taken (a ∷ []) block size = absurd (omega (arith, size))
 take_taken (a ∷ b ∷ []) block size = absurd (omega (arith, size))
 take_taken (a ∷ b ∷ c ∷ []) block size = absurd (omega (arith, size))
 
-module _ (constants : List ℕ) (len : length constants ≡ 168) where
+module _ (constants : List ℕ) (len : length constants ≡ number_of_constants) where
   -- whatever comes before
   abbrev pub Follow : List Perm → Type 0
   Follow perms = (state : List ℕ) → FollowsOn constants false state perms

@@ -1,5 +1,6 @@
 -- Each cycle asks on the hasher's bus what its requests give and what is owed before it and not behind it.
 use Rattle.std.proofs.Common.{◌≡◌, ℕ, suc, ◌+◌, ◌*◌, ◌<◌, All, List, [], ◌∷◌, ◌++◌, length, drop, false, refl, sym, ap, ◌∙◌, arith}
+use Rattle.vm_field.specs.Limits.{number_of_constants}
 use Rattle.vm_field.specs.Field.{prime}
 use Rattle.vm_field.specs.Machine.{Core}
 use Rattle.vm_field.specs.Signs.{◌⊞◌}
@@ -34,7 +35,7 @@ pub record IsLow (d : Decoder) : Type 0 where
   pub next : d.next + 16 < prime
   pub ha : d.ha + 16 < prime
 
-module _ (constants : List ℕ) (len : length constants ≡ 168) (x y v advice : List ℕ) where
+module _ (constants : List ℕ) (len : length constants ≡ number_of_constants) (x y v advice : List ℕ) where
   pub hasher_step : {task : Task} {c : Core} {mark : Mark} {rest : List Task} → Next constants task c mark rest → (d : Decoder) (later : List Event)
       (todo : List Task) (b : Core) → IsWholeMark mark → All IsBatch (respans later) → respans later ≡ coming (rest ++ todo) → AreOutside todo
       → Cells mark d (advance d (shown_between mark advice c b) later) x y → IsLow d

@@ -1,5 +1,6 @@
 -- The rows of a run ask on the hasher's bus what its permutations give.
 use Rattle.std.proofs.Common.{◌≡◌, ℕ, ◌+◌, List, [], ◌∷◌, ◌++◌, length, take, refl, arith, lit<}
+use Rattle.vm_field.specs.Limits.{number_of_constants}
 use Rattle.vm_field.specs.Machine.{State}
 use Rattle.block_tree.specs.Cycles.{advice_taken, effect_of}
 use Rattle.block_tree.specs.Rows.{behind, op_of}
@@ -23,7 +24,7 @@ use Rattle.complete_requests.proofs.HpermRows.{operation_given, operation_moves}
 use Rattle.complete_requests.proofs.MomentCells.{moment_cells, moment_low}
 use Rattle.complete_requests.proofs.Tops.{moment_cell, moment_tops}
 
-module _ (constants : List ℕ) (len : length constants ≡ 168) (kernel : List (List ℕ)) (limit : ℕ) (u : State) (v : List ℕ) where
+module _ (constants : List ℕ) (len : length constants ≡ number_of_constants) (kernel : List (List ℕ)) (limit : ℕ) (u : State) (v : List ℕ) where
   operation_asks : {x y : List ℕ} (m : IsMoment constants kernel limit x y)
       → OperationAsks constants m.mark m.d.next (event_at constants kernel m.mark m.s) x y v
   operation_asks {x = x} {y = y} m = record {

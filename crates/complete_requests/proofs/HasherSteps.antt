@@ -1,5 +1,6 @@
 -- On the hasher's bus a cycle asks what its requests give, and what the hashes of open blocks still owe.
 use Rattle.std.proofs.Common.{◌≡◌, ℕ, ◌+◌, ◌*◌, ◌<◌, if◌then◌else◌, true, false, List, [], ◌∷◌, ◌++◌, length, take, drop, slice_index, refl, ap, ◌∙◌, arith}
+use Rattle.vm_field.specs.Limits.{number_of_constants}
 use Rattle.vm_field.specs.Field.{prime}
 use Rattle.vm_field.specs.Signs.{◌⊞◌}
 use Rattle.vm_field.specs.Sponge.{hashed}
@@ -94,7 +95,7 @@ ended (a ∷ b ∷ []) i j k l x size e = absurd (omega (arith, size))
 ended (a ∷ b ∷ c ∷ []) i j k l x size e = absurd (omega (arith, size))
 ended (a ∷ b ∷ c ∷ d ∷ f ∷ more) i j k l x size e = absurd (omega (arith, size))
 
-module _ (constants : List ℕ) (len : length constants ≡ 168) (x y v : List ℕ) where
+module _ (constants : List ℕ) (len : length constants ≡ number_of_constants) (x y v : List ℕ) where
   -- the start of a block of one permutation; n is owed beside it
   pub start_step : (op : Op) → is_start_op op ≡ true → flags.op_of x ≡ op
       → (address : ℕ) (block : List ℕ) (others : List Perm) (n : ℕ) → IsBatch block

@@ -1,6 +1,7 @@
 -- HPERM's row and the row behind it show its permutation; other operations ask the hasher for nothing.
 use Rattle.std.proofs.Common.{◌≡◌, ℕ, Bool, ◌+◌, ◌*◌, ◌<◌, ◌≤◌, true, false, List, [], length, take, reverse, slice_index, refl, sym, ap, ◌∙◌, subst, arith}
 use Rattle.std.proofs.lemmas.List.{append-nil, get_or-take, length-reverse, length-take-le, reverse-reverse}
+use Rattle.vm_field.specs.Limits.{number_of_constants}
 use Rattle.vm_field.specs.Field.{prime}
 use Rattle.std.proofs.lemmas.Bool.{eqb-true}
 use Rattle.vm_field.specs.Machine.{State}
@@ -47,7 +48,7 @@ hperm_before x cells size shows =
     twelve_are (take 12 cells) x (length-take-le 12 cells (omega (arith, size)))
     (λ j low. shows j (omega (arith, low)) ∙ sym (get_or-take 12 cells j 0 low))
 
-pub hperm_behind : (sn : Seen) (y : List ℕ) → length sn.constants ≡ 168 → length sn.cells ≡ 16 → ShowsTops ops.HPerm sn y
+pub hperm_behind : (sn : Seen) (y : List ℕ) → length sn.constants ≡ number_of_constants → length sn.cells ≡ 16 → ShowsTops ops.HPerm sn y
     → twelve y ≡ permuted sn.constants (reverse (take 12 sn.cells))
 unfolding left_cells computed
 hperm_behind sn y len size tops =
@@ -93,7 +94,7 @@ abbrev Asks : List ℕ → Mark → Decoder → State → List ℕ → List ℕ 
 Asks constants mark d s x y v =
     counted (perms_given constants d.next (perms_by_op (op_of mark) (visible_of s.core))) v ≡ counted (hasher_asked x y) v
 
-module _ (constants : List ℕ) (len : length constants ≡ 168) (x y v : List ℕ) where
+module _ (constants : List ℕ) (len : length constants ≡ number_of_constants) (x y v : List ℕ) where
   pub operation_given : (mark : Mark) (d : Decoder) (s : State) (e : Event) (n : Visible) (later : List Event) → e.op ≡ op_of mark
       → flags.op_of x ≡ op_of mark → d.next + 7 < prime → 16 ≤ length s.core.stack
       → ((j : ℕ) → j < 16 → columns.s x j ≡ slice_index (take 16 s.core.stack) j)

@@ -7,6 +7,7 @@ use Rattle.std.specs.List.{list_any}
 use Rattle.std.specs.Ordering.{is_eq, nat_cmp}
 use Rattle.std.proofs.lemmas.Map.Lookups.{exact_bytes}
 use lib.Pointwise.{pointwise}
+use Rattle.vm_field.specs.Limits.{most_cycles}
 use Rattle.vm_field.specs.Machine.{Core, State, zero_word}
 use Rattle.vm_ops.specs.declared.op.Op.TheVariants as ops
 use Rattle.block_tree.specs.Behind.{IsAllowed}
@@ -65,7 +66,7 @@ module _ (constants : List ℕ) (kernel : List (List ℕ)) where
   mark_calls (Do item) advice c allowed w words all = rw (no_block item.op w.ordinary).syscall all
   mark_calls mark advice c allowed w words all = all
 
-  pub calls_in : (limit : ℕ) (u : State) → limit ≤ 524287 → {todo : List Task} {d : Decoder} {s : State} {events : List Event} {rows : List (List ℕ)}
+  pub calls_in : (limit : ℕ) (u : State) → limit ≤ most_cycles → {todo : List Task} {d : Decoder} {s : State} {events : List Event} {rows : List (List ℕ)}
       → AreLinked constants kernel limit u todo d s events rows → All (IsWordOf kernel) (calls_of events)
   unfolding calls_of
   calls_in limit u within (chains.ends e) = All-nil (IsWordOf kernel)

@@ -1,5 +1,6 @@
 -- The rows of a run ask on the buses of bitwise operations and of memory what its requests are.
 use Rattle.std.proofs.Common.{◌≡◌, ℕ, ◌+◌, List, [], ◌∷◌, ◌++◌, length, map, ap, arith}
+use Rattle.vm_field.specs.Limits.{number_of_constants}
 use Rattle.vm_field.specs.Machine.{State}
 use Rattle.block_tree.specs.Rows.{op_of}
 use Rattle.block_tree.specs.Steps.{Task}
@@ -17,7 +18,7 @@ use Rattle.complete_requests.proofs.AccessRows.{row_accesses}
 use Rattle.complete_requests.proofs.BitRows.{row_bits}
 use Rattle.complete_requests.proofs.Following.{map_counts, rows_ask}
 
-module _ (constants : List ℕ) (len : length constants ≡ 168) (kernel : List (List ℕ)) (limit : ℕ) (u : State) (v : List ℕ) where
+module _ (constants : List ℕ) (len : length constants ≡ number_of_constants) (kernel : List (List ℕ)) (limit : ℕ) (u : State) (v : List ℕ) where
   abbrev owed_bits : List Task → Decoder → List Event → ℕ
   owed_bits todo d events = counted (map bit_given (bits_of events)) v
 

@@ -1,5 +1,6 @@
 -- What the rows of a run give of overflow is what they and the cells that are left ask.
 use Rattle.std.proofs.Common.{◌≡◌, ℕ, ◌+◌, ◌≤◌, List, [], ◌∷◌, ◌++◌, length, map, take, drop, refl, sym, ap, ◌∙◌, subst, arith, lit<}
+use Rattle.vm_field.specs.Limits.{most_cycles, number_of_constants}
 use Rattle.vm_field.specs.Machine.{State}
 use Rattle.block_tree.specs.Cycles.{advice_taken, effect_of}
 use Rattle.block_tree.specs.Execution as run
@@ -26,7 +27,7 @@ use Rattle.complete_requests.proofs.OverflowBus.{overflow_step}
 use Rattle.complete_requests.proofs.OverflowCells.{entries_none}
 use Rattle.complete_requests.proofs.OverflowSteps.{StackCells, owed_cells}
 
-module _ (constants : List ℕ) (len : length constants ≡ 168) (kernel : List (List ℕ)) (limit : ℕ) (within : limit ≤ 524287) where
+module _ (constants : List ℕ) (len : length constants ≡ number_of_constants) (kernel : List (List ℕ)) (limit : ℕ) (within : limit ≤ most_cycles) where
   stack_cells : {x y : List ℕ} (m : IsMoment constants kernel limit x y)
       → StackCells m.mark m.s.core m.t.core.stack m.d (advance m.d (event_at constants kernel m.mark m.s) m.later) x y
   stack_cells m =

@@ -1,6 +1,7 @@
 -- How many requests a run has: each cycle asks for one permutation, bitwise operation or access at most, where a span's further batches
 -- are asked for by their RESPANs.
 use Rattle.std.proofs.Common.{◌≡◌, ℕ, ◌+◌, ◌≤◌, false, List, [], ◌∷◌, length, arith, length-append}
+use Rattle.vm_field.specs.Limits.{most_cycles}
 use Rattle.vm_field.specs.Machine.{State}
 use Rattle.vm_field.specs.Sponge.{begun}
 use Rattle.vm_ops.specs.Codes.{code_of}
@@ -84,12 +85,12 @@ module _ (constants : List ℕ) (kernel : List (List ℕ)) (limit : ℕ) (u : St
   rows_are (chains.goes m later) = let size = rows_are later in omega (arith, size)
 
   pub events_few : {todo : List Task} {d : Decoder} {s : State} {events : List Event} {rows : List (List ℕ)}
-      → AreLinked constants kernel limit u todo d s events rows → length events ≤ 524287
+      → AreLinked constants kernel limit u todo d s events rows → length events ≤ most_cycles
   events_few (chains.ends e) = omega arith
   events_few (chains.goes m later) = let whole = m.bounded.whole in omega (arith, whole)
 
   pub keys_few : {todo : List Task} {d : Decoder} {s : State} {events : List Event} {rows : List (List ℕ)}
-      → AreLinked constants kernel limit u todo d s events rows → length (decoder_after d events).keys ≤ 524287
+      → AreLinked constants kernel limit u todo d s events rows → length (decoder_after d events).keys ≤ most_cycles
   unfolding decoder_after
   keys_few (chains.ends e) =
       let keyed = e.agrees.keyed in let depth = e.small.depth in let whole = e.bounded.whole in omega (arith, keyed, depth, whole)

@@ -1,6 +1,7 @@
 -- The rows of a run take of the tape what the run takes.
 use Rattle.std.proofs.Common.{◌≡◌, ℕ, List, ◌∷◌, ◌++◌, length, take, drop, refl, sym, ap, ◌∙◌}
 use Rattle.std.proofs.lemmas.List.{append_assoc, take-append-drop}
+use Rattle.vm_field.specs.Limits.{number_of_constants}
 use Rattle.vm_field.specs.Machine.{State, start}
 use Rattle.block_tree.specs.Cycles.{advice_taken}
 use Rattle.block_tree.specs.Execution as run
@@ -18,7 +19,7 @@ use Rattle.complete_rows.proofs.MomentFacts.{moment_op}
 use Rattle.complete_rows.proofs.TableLemmas.{is_linked}
 use Rattle.complete_requests.proofs.TapeRows.{row_takes}
 
-module _ (constants : List ℕ) (len : length constants ≡ 168) (kernel : List (List ℕ)) (limit : ℕ) (u : State) where
+module _ (constants : List ℕ) (len : length constants ≡ number_of_constants) (kernel : List (List ℕ)) (limit : ℕ) (u : State) where
   -- what is taken, and what is left
   moment_takes : {x y : List ℕ} (m : IsMoment constants kernel limit x y) → m.s.tape ≡ taken_by (flags.op_of x) y ++ m.t.tape
   moment_takes {x = x} {y = y} m =

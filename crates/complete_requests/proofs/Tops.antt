@@ -1,6 +1,7 @@
 -- The row behind an operation shows the cells that it leaves on top.
 use Rattle.std.proofs.Common.{◌≡◌, ℕ, ◌<◌, List, [], ◌∷◌, length, take, reverse, slice_index, sym, ap, ◌∙◌, subst, arith}
 use Rattle.std.proofs.lemmas.List.{ext_get_or, get_or-take}
+use Rattle.vm_field.specs.Limits.{number_of_constants}
 use Rattle.vm_ops.specs.Moves.{leaves_of}
 use Rattle.vm_ops.specs.Step.{left_cells}
 use Rattle.vm_ops.specs.Stepping.{seen_at}
@@ -23,7 +24,7 @@ use Rattle.complete_rows.proofs.MomentFacts.{moment_shows, place_shows}
 abbrev pub ShowsTops : Op → Seen → List ℕ → Type 0
 ShowsTops op sn y = (j : ℕ) → j < leaves_of op → s y j ≡ slice_index (left_cells op sn) j
 
-module _ (constants : List ℕ) (len : length constants ≡ 168) (kernel : List (List ℕ)) (limit : ℕ) {x y : List ℕ}
+module _ (constants : List ℕ) (len : length constants ≡ number_of_constants) (kernel : List (List ℕ)) (limit : ℕ) {x y : List ℕ}
     (m : IsMoment constants kernel limit x y) where
   pub moment_tops : (item : Item) → m.mark ≡ Do item → ShowsTops item.op (seen_at constants item m.s) y
   moment_tops item is j low =

@@ -1,5 +1,6 @@
 -- When the requests of a run can be answered.
 use Rattle.std.specs.Prelude.{ℕ, ◌+◌, ◌<◌, ◌≤◌, List, length}
+use Rattle.vm_field.specs.Limits.{most_kernel}
 use Rattle.vm_field.specs.Machine.{State}
 use Rattle.block_tree.specs.Execution as run
 use Rattle.block_tree.specs.Trees.{Tree}
@@ -16,5 +17,5 @@ pub record FitsRows (constants : List ℕ) (kernel : List (List ℕ)) (r : Reque
 -- under a kernel's list that a table can hold
 abbrev pub RunFits : Type 0
 RunFits = (constants : List ℕ) (kernel : List (List ℕ)) (limit : ℕ) (tree : Tree) (inputs tape : List ℕ) (u : State) (log : List run.Event)
-    → IsWholeRun constants kernel limit tree inputs tape u log → length kernel ≤ 255
+    → IsWholeRun constants kernel limit tree inputs tape u log → length kernel ≤ most_kernel
     → FitsRows constants kernel (requests constants kernel u log) (filled constants kernel u log)

@@ -1,5 +1,6 @@
 -- Behind each cycle the tasks, the decoder and the state agree as they do before it.
 use Rattle.std.proofs.Common.{◌≡◌, ℕ, ◌≤◌, List, [], ◌∷◌, ◌++◌, length, take, drop, refl, sym, ap, ◌∙◌, subst, arith, length-append, length-drop}
+use Rattle.vm_field.specs.Limits.{number_of_constants}
 use Rattle.vm_field.specs.Machine.{Core, State, IsWellFormed}
 use Rattle.vm_ops.specs.Moves.{takes_of, leaves_of, shift_of}
 use Rattle.vm_ops.specs.Sizes.{depth_after}
@@ -168,7 +169,7 @@ core_agrees constants advice kernel (leaves {c = c} {digest = digest} {frame = f
     }
 
 module _ (constants : List ℕ) (kernel : List (List ℕ)) (limit : ℕ) where
-  pub agrees_next : length constants ≡ 168 → {task : Task} {mark : Mark} {rest : List Task} {s t : State} → Next constants task s.core mark rest
+  pub agrees_next : length constants ≡ number_of_constants → {task : Task} {mark : Mark} {rest : List Task} {s t : State} → Next constants task s.core mark rest
       → IsCycle constants kernel limit mark s t → IsWholeMark mark → IsWellFormed s → (d : Decoder) (later : List Event) (todo : List Task)
       → Agrees (task ∷ todo) d s.core
       → Agrees (rest ++ todo) (advance d (shown constants kernel (event_of mark (advice_taken mark) s)) later) t.core

@@ -2,6 +2,7 @@
 use Rattle.std.proofs.Common.{◌≡◌, ℕ, ◌+◌, ◌-◌, ◌^◌, ◌<◌, ◌≤◌, Bool, true, false, not, ◌||◌, eqb, List, [], ◌∷◌, ◌++◌, length, slice_index, None, refl, sym, ap, ◌∙◌, arith, lit<}
 use Rattle.std.proofs.lemmas.Bool.{lt-leb, ltb-true, ne_eqb}
 use Rattle.std.proofs.lemmas.List.{get_or_append_left}
+use Rattle.vm_field.specs.Limits.{most_cycles}
 use Rattle.vm_field.specs.Machine.{Core, zero_word}
 use Rattle.vm_field.specs.Signs.{◌⊞◌, ◌⊟◌}
 use Rattle.vm_ops.specs.Codes.{code_of, is_ordinary_op, is_start_op, kind_of}
@@ -151,7 +152,7 @@ one_more n few = omega (arith, few)
 pub one_less : (n : ℕ) → 0 < n → n ≤ 1024 → n - 1 ≡ n ⊟ 1
 one_less n some few = omega (arith, some, few)
 
-pub tick : (clock : ℕ) → clock < 524287 → clock + 1 ≡ clock ⊞ 1
+pub tick : (clock : ℕ) → clock < most_cycles → clock + 1 ≡ clock ⊞ 1
 tick clock early = omega (arith, early)
 
 pub ordinary_level : (op : Op) (n : ℕ) → is_ordinary_op op ≡ true → n ≡ level_after op n
@@ -183,7 +184,7 @@ ended_call next x y d after c b sx sy flags nesting =
 
 -- the row behind a call
 pub entered_call : (callee : List ℕ) (next : Op) (x y : List ℕ) (d after : Decoder) (c b : Core) → Shows ops.Call d c x → Shows next after b y
-    → ((n : ℕ) → n < 8 → h x n ≡ slice_index (callee ++ zero_word) n) → length callee ≡ 4 → c.clock < 524287
+    → ((n : ℕ) → n < 8 → h x n ≡ slice_index (callee ++ zero_word) n) → length callee ≡ 4 → c.clock < most_cycles
     → b.context ≡ c.clock + 1 → b.fmp ≡ 2 ^ 30 → b.in_syscall ≡ false → b.digest ≡ callee → b.nesting ≡ level_after ops.Call c.nesting
     → KeepsBlock ops.Call x y
 entered_call callee next x y d after c b sx sy hash size early context frame syscall digest nesting = record {

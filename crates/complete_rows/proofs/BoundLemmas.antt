@@ -1,6 +1,7 @@
 -- Addresses and keys stay within their bounds from cycle to cycle.
 use Rattle.std.proofs.Common.{All, ◌≡◌, ℕ, suc, ◌+◌, ◌*◌, ◌<◌, ◌≤◌, Bool, true, false, cond, List, [], ◌∷◌, length, drop, arith}
 use Rattle.std.proofs.lemmas.List.Elements.{All-cons, All-drop, All-head, All-nil}
+use Rattle.vm_field.specs.Limits.{most_cycles}
 use Rattle.vm_field.specs.Field.{prime, AreElements}
 use Rattle.vm_field.proofs.Elements.{elements-cons, elements-drop, elements-none}
 use Rattle.vm_ops.specs.Moves.{shift_of}
@@ -47,7 +48,7 @@ record Before (k : Kind) (d : Decoder) (e : Event) (later : List Event) (clock :
   blocks : All IsLowBlock d.blocks
   keys : AreElements d.keys
   start : e.before.clock < prime
-  whole : clock + suc (length later) ≤ 524287
+  whole : clock + suc (length later) ≤ most_cycles
 
 by_kind : (k : Kind) (d : Decoder) (e : Event) (later : List Event) (clock : ℕ) → Before k d e later clock
     → IsBounded (advance_by k d e later) (clock + 1) later
@@ -145,7 +146,7 @@ bounded_next d e later clock b is =
       whole = b.whole;
     })
 
-pub bounded_start : (events : List Event) → length events ≤ 524287 → IsBounded at_start 0 events
+pub bounded_start : (events : List Event) → length events ≤ most_cycles → IsBounded at_start 0 events
 bounded_start events few = record {
   next = omega arith;
   ha = omega arith;

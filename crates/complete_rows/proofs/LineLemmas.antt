@@ -1,6 +1,7 @@
 -- The parts of the rows of a run are elements.
 use Rattle.std.proofs.Common.{◌≡◌, ℕ, suc, ◌+◌, ◌-◌, ◌*◌, ◌/◌, ◌%◌, ◌<◌, ◌≤◌, All, Bool, true, false, cond, eqb, List, [], ◌∷◌, length, drop, slice_index, arith, lit<}
 use Rattle.std.proofs.lemmas.List.Elements.{All-cons, All-drop, All-from_recursion, All-head, All-nil, All-tail, All-weaker}
+use Rattle.vm_field.specs.Limits.{most_cycles}
 use Rattle.vm_field.specs.Field.{prime, AreElements, felt_inv}
 use Rattle.vm_field.specs.Machine.{Core, IsWellFormedCore}
 use Rattle.vm_field.specs.Signs.{◌⊟◌}
@@ -188,7 +189,7 @@ few_repeats events = go (repeats events) (counts_low events)
 -- ---- the line
 
 low_witnesses : (k : Kind) (d : Decoder) (e : Event) (v : Visible) (later : List Event) → d.next < prime → AreElements e.before.cells
-    → AreElements e.hash → length later ≤ 524287 → AreElements (witnesses_by k d e v later)
+    → AreElements e.hash → length later ≤ most_cycles → AreElements (witnesses_by k d e v later)
 low_witnesses kinds.Ordinary d e v later next cells hash few = low_operation e.op d.next d.unread.number e.before v next cells
 low_witnesses kinds.Loop d e v later next cells hash few =
     elements-one (slice_index (repeats later) 0) (let low = few_repeats later in omega (arith, low, few))
@@ -225,15 +226,15 @@ pub record LowParts (d : Decoder) (e : Event) (v : Visible) (c : Core) (later : 
   pub formed : IsWellFormedCore c
   pub small : IsSmallCore c
   pub unread : IsLowUnread d.unread
-  pub next : d.next ≤ 1 + 8 * 524287
-  pub ha : d.ha ≤ 1 + 8 * 524287
+  pub next : d.next ≤ 1 + 8 * most_cycles
+  pub ha : d.ha ≤ 1 + 8 * most_cycles
   pub blocks : All IsLowBlock d.blocks
   pub keys : AreElements d.keys
   pub hash : AreElements e.hash
   pub word : AreElements e.word
   pub behind : AreElements v.cells
-  pub clock : c.clock ≤ 524287
-  pub few : length later ≤ 524287
+  pub clock : c.clock ≤ most_cycles
+  pub few : length later ≤ most_cycles
 
 pub low_line : (d : Decoder) (e : Event) (v : Visible) (c : Core) (later : List Event) → LowParts d e v c later → IsLowLine (line_of d e v later)
 low_line d e v c later p =
@@ -256,8 +257,8 @@ low_line d e v c later p =
       limbs = low_row_limbs e v cells p.behind p.word;
     }
 
-pub next_low : (d : Decoder) (clock : ℕ) (events : List Event) → IsBounded d clock events → d.next ≤ 1 + 8 * 524287
+pub next_low : (d : Decoder) (clock : ℕ) (events : List Event) → IsBounded d clock events → d.next ≤ 1 + 8 * most_cycles
 next_low d clock events b = omega (arith, b.next, b.whole, few_respans events)
 
-pub ha_low : (d : Decoder) (clock : ℕ) (events : List Event) → IsBounded d clock events → d.ha ≤ 1 + 8 * 524287
+pub ha_low : (d : Decoder) (clock : ℕ) (events : List Event) → IsBounded d clock events → d.ha ≤ 1 + 8 * most_cycles
 ha_low d clock events b = omega (arith, b.ha, b.whole)

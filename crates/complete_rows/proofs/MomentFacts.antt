@@ -1,5 +1,6 @@
 -- What the row of a moment of a run shows, by the operation that its bits spell, and what it and the row behind it show.
 use Rattle.std.proofs.Common.{◌≡◌, ℕ, ◌<◌, ◌≤◌, List, [], ◌∷◌, ◌++◌, slice_index, take, unwrap_or, refl, sym, ap, ◌∙◌, subst, arith}
+use Rattle.vm_field.specs.Limits.{most_cycles}
 use Rattle.vm_field.specs.Field.{AreElements}
 use Rattle.vm_field.specs.Machine.{Core, State}
 use Rattle.vm_field.proofs.Elements.{elements-replicate, elements-take, word-zero}
@@ -63,7 +64,7 @@ module _ (constants : List ℕ) (kernel : List (List ℕ)) (limit : ℕ) where
       let after = behind-cycle constants kernel mark (take (advice_taken mark) s.tape) s.core cycle.core cycle.made in
       ap (λ x. x.core) cycle.now ∙ ap ticked after.1
 
-  pub known : {x y : List ℕ} → limit ≤ 524287 → (m : IsMoment constants kernel limit x y)
+  pub known : {x y : List ℕ} → limit ≤ most_cycles → (m : IsMoment constants kernel limit x y)
       → Known constants kernel m.mark (take (advice_taken m.mark) m.s.tape) m.s.core m.d
   known within m = record {
     allowed = (behind-cycle constants kernel m.mark (take (advice_taken m.mark) m.s.tape) m.s.core m.cycle.core m.cycle.made).0;
@@ -100,7 +101,7 @@ module _ (constants : List ℕ) (kernel : List (List ℕ)) (limit : ℕ) where
       subst P (sym m.row) (subst (λ op. ReadsAs op (row_of m.d (event_at constants kernel m.mark m.s) (visible_of m.t.core) m.later))
       (sym (line_op (line_of m.d (event_at constants kernel m.mark m.s) (visible_of m.t.core) m.later))) reads)
 
-  pub moment_row : {x y : List ℕ} → limit ≤ 524287 → IsMoment constants kernel limit x y → IsRow (flags.op_of x) x
+  pub moment_row : {x y : List ℕ} → limit ≤ most_cycles → IsMoment constants kernel limit x y → IsRow (flags.op_of x) x
   moment_row within m =
       let row : IsRow (op_of m.mark) (row_of m.d (event_at constants kernel m.mark m.s) (visible_of m.t.core) m.later)
       = row_shown constants kernel (take (advice_taken m.mark) m.s.tape) m.first m.d m.later m.todo
@@ -143,7 +144,7 @@ module _ (constants : List ℕ) (kernel : List (List ℕ)) (limit : ℕ) where
       subst (λ c. Shows (flags.op_of y) (advance m.d (event_at constants kernel m.mark m.s) m.later) c y) (core_after m.mark m.s m.t m.cycle)
       (place_shows constants m.next)
 
-  pub moment_pair : {x y : List ℕ} → limit ≤ 524287 → IsMoment constants kernel limit x y → IsPair (flags.op_of x) (flags.op_of y) x y
+  pub moment_pair : {x y : List ℕ} → limit ≤ most_cycles → IsMoment constants kernel limit x y → IsPair (flags.op_of x) (flags.op_of y) x y
   moment_pair {x = x} {y = y} within m =
       let core : m.t.core ≡ ticked (core_behind constants m.mark (take (advice_taken m.mark) m.s.tape) m.s.core)
       = core_after m.mark m.s m.t m.cycle in

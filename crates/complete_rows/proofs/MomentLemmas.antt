@@ -1,6 +1,7 @@
 -- The rows of a run are those of its cycles, one behind the other, and of HALT.
 use Rattle.std.proofs.Common.{All, ◌≡◌, ℕ, zero, suc, ◌+◌, ◌<◌, ◌≤◌, List, [], ◌∷◌, length, map, refl, sym, ap, subst, arith}
 use Rattle.std.proofs.lemmas.List.Elements.{All-head, All-tail}
+use Rattle.vm_field.specs.Limits.{number_of_constants}
 use Rattle.vm_field.specs.Machine.{State, IsWellFormed}
 use Rattle.block_tree.specs.Cycles.{advice_taken}
 use Rattle.block_tree.specs.Execution as run
@@ -52,7 +53,7 @@ module _ (constants : List ℕ) (kernel : List (List ℕ)) (limit : ℕ) where
   behind_is ended = refl
   behind_is (goes first cycle later) = refl
 
-  pub along : length constants ≡ 168 → {todo : List Task} {s u : State} {log : List run.Event} → Steps constants kernel limit todo s log u
+  pub along : length constants ≡ number_of_constants → {todo : List Task} {s u : State} {log : List run.Event} → Steps constants kernel limit todo s log u
       → AreWholeTasks todo → IsWellFormed s → (d : Decoder) → Agrees todo d s.core → IsBounded d s.core.clock (seen log)
       → All (λ e. IsSmallCore e.core) log → IsSmallCore u.core
       → Filled constants kernel limit todo d s u (seen log) (fill (visible_of u.core) d (seen log))

@@ -1,6 +1,7 @@
 -- What the row of a cycle and the row behind it show of blocks, batches and groups.
 use Rattle.std.proofs.Common.{◌≡◌, ℕ, ◌+◌, ◌-◌, ◌*◌, ◌<◌, ◌≤◌, true, false, List, [], ◌∷◌, ◌++◌, length, take, drop, slice_index, refl, sym, ap, ◌∙◌, subst, arith, lit<, length-drop, length-take}
 use Rattle.std.proofs.lemmas.List.{get_or-take}
+use Rattle.vm_field.specs.Limits.{most_cycles}
 use Rattle.vm_field.specs.Machine.{Core, IsWellFormedCore, zero_word}
 use Rattle.vm_field.specs.Signs.{◌⊞◌}
 use Rattle.vm_ops.specs.Codes.{is_ordinary_op, is_start_op}
@@ -51,11 +52,11 @@ pub record Known (constants : List ℕ) (kernel : List (List ℕ)) (mark : Mark)
   pub whole : IsWholeMark mark
   pub formed : IsWellFormedCore c
   pub small : IsSmallCore c
-  pub early : c.clock < 524287
+  pub early : c.clock < most_cycles
   pub ha : d.ha ≤ 1 + 8 * c.clock
 
 clock_shown : (op next : Op) (x y : List ℕ) (d after : Decoder) (c b : Core) → Shows op d c x → Shows next after b y → b.clock ≡ c.clock + 1
-    → c.clock < 524287 → clk y ≡ clk x ⊞ 1
+    → c.clock < most_cycles → clk y ≡ clk x ⊞ 1
 clock_shown op next x y d after c b sx sy is early =
     sy.clock ∙ is ∙ tick c.clock early ∙ ap (λ n. n ⊞ 1) (sym sx.clock)
 
@@ -81,7 +82,7 @@ top_shown op d c x n sx e = sx.cells 0 (lit< tt) ∙ e
 left_count : (batch : List ℕ) (n : ℕ) → 1 ≤ n → n ≤ 8 → length batch ≡ 8 → length (drop 1 (take n batch)) + 1 ≡ n
 left_count batch n some few size = omega (arith, some, few, size, length-drop 1 (take n batch), length-take n batch)
 
-eight_more : (address clock : ℕ) → address ≤ 1 + 8 * clock → clock < 524287 → address + 8 ≡ address ⊞ 8
+eight_more : (address clock : ℕ) → address ≤ 1 + 8 * clock → clock < most_cycles → address + 8 ≡ address ⊞ 8
 eight_more address clock low early = omega (arith, low, early)
 
 pub no_batch : (op : Op) → is_ordinary_op op ≡ true → is_batch_op op ≡ false

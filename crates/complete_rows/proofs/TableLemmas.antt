@@ -2,6 +2,7 @@
 use Rattle.std.proofs.Common.{◌≡◌, ◌⊎◌, inl, inr, ℕ, suc, ◌+◌, ◌-◌, ◌<◌, ◌≤◌, All, List, [], ◌∷◌, length, slice_index, refl, sym, ap, ◌∙◌, subst, arith, lit<}
 use Rattle.std.proofs.lemmas.Bool.{cases_eq, cases_lt}
 use Rattle.std.proofs.lemmas.List.{get_or_past, length-map}
+use Rattle.vm_field.specs.Limits.{most_cycles}
 use Rattle.vm_field.specs.Field.{prime}
 use Rattle.vm_field.specs.Machine.{State, IsWellFormed, filled_up, start, zero_word}
 use Rattle.vm_field.proofs.Elements.{length-filled_up}
@@ -86,7 +87,7 @@ module _ (constants : List ℕ) (kernel : List (List ℕ)) (limit : ℕ) where
   unfolding rows_of start
   filled_run tree inputs tape u log r =
       let steps = steps_of tree inputs tape u log r in
-      let few : length (events_of constants kernel log) ≤ 524287
+      let few : length (events_of constants kernel log) ≤ most_cycles
       = let within = steps_within constants kernel limit steps (omega arith) in
       let limited = r.within in omega (arith, within, limited, length-map log (shown constants kernel)) in
       let states = small tree inputs tape u log r in
@@ -110,7 +111,7 @@ last_or rows i h = go (cases_eq (suc i) (length rows))
     go (inl e) = inl e
     go (inr apart) = inr (omega (arith, h, apart))
 
-module _ (constants : List ℕ) (kernel : List (List ℕ)) (limit : ℕ) (within : limit ≤ 524287) (d : Decoder) (u : State) (rows : List (List ℕ))
+module _ (constants : List ℕ) (kernel : List (List ℕ)) (limit : ℕ) (within : limit ≤ most_cycles) (d : Decoder) (u : State) (rows : List (List ℕ))
     (moments : AreMoments constants kernel limit d u rows) where
   pub all_read : (i : ℕ) → i < length rows → ReadsAs (op_in rows i) (row_at rows i)
   all_read i h = go (last_or rows i h)

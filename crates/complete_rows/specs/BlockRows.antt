@@ -1,5 +1,6 @@
 -- What the rows of a run show of blocks, batches, groups and boundaries, and the laws of runs that say so.
 use Rattle.std.specs.Prelude.{◌≡◌, ℕ, suc, ◌+◌, ◌<◌, ◌≤◌, List, [], ◌∷◌, length, map}
+use Rattle.vm_field.specs.Limits.{most_cycles, most_inputs, number_of_constants}
 use Rattle.vm_field.specs.Field.{AreElements}
 use Rattle.vm_field.specs.Machine.{State, start}
 use Rattle.vm_table.specs.Layout.{IsTable, row_at}
@@ -22,10 +23,10 @@ use Rattle.complete_rows.specs.Moments.{AreMoments, IsRowAt}
 -- a run of a whole tree from the start to its end, within the longest limit
 pub record IsWholeRun (constants : List ℕ) (kernel : List (List ℕ)) (limit : ℕ) (tree : Tree) (inputs tape : List ℕ) (u : State) (log : List run.Event)
     : Type 0 where
-  pub constants_are : length constants ≡ 168
-  pub within : limit ≤ 524287
+  pub constants_are : length constants ≡ number_of_constants
+  pub within : limit ≤ most_cycles
   pub whole : IsWhole tree
-  pub few : length inputs ≤ 16
+  pub few : length inputs ≤ most_inputs
   pub inputs_are : AreElements inputs
   pub tape_is : AreElements tape
   pub done : execution constants kernel limit tree (start inputs tape) ≡ Done u log

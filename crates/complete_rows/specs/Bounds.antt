@@ -1,5 +1,6 @@
 -- How far addresses, keys and counts go at each place of a run.
 use Rattle.std.specs.Prelude.{◌≡◌, ℕ, ◌+◌, ◌*◌, ◌<◌, ◌≤◌, true, List, length, All}
+use Rattle.vm_field.specs.Limits.{most_cycles, most_nesting}
 use Rattle.vm_field.specs.Field.{prime, AreElements}
 use Rattle.vm_field.specs.Machine.{Core}
 use Rattle.machine_cycles.specs.declared.event.Event.{Event}
@@ -16,10 +17,10 @@ pub record IsBounded (d : Decoder) (clock : ℕ) (events : List Event) : Type 0 
   pub ha : d.ha ≤ 1 + 8 * clock
   pub blocks : All IsLowBlock d.blocks
   pub keys : AreElements d.keys
-  pub whole : clock + length events ≤ 524287
+  pub whole : clock + length events ≤ most_cycles
 
 -- a state of a run from the start
 pub record IsSmallCore (c : Core) : Type 0 where
-  pub nesting : c.nesting ≤ 1024
+  pub nesting : c.nesting ≤ most_nesting
   pub depth : length c.stack ≤ 16 + c.clock
   pub context : c.context ≤ c.clock

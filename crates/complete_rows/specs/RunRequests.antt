@@ -1,5 +1,6 @@
 -- What the rows of a run ask of the small tables.
 use Rattle.std.specs.Prelude.{ℕ, ◌-◌, Bool, true, false, if◌then◌else◌, List, [], ◌∷◌, ◌++◌, take, reverse}
+use Rattle.vm_field.specs.Limits.{most_nesting}
 use Rattle.vm_field.specs.Sponge.{absorbed, begun}
 use Rattle.vm_ops.specs.Codes.{code_of, is_start_op}
 use Rattle.vm_ops.specs.declared.op.Op.{Op}
@@ -83,7 +84,7 @@ accesses_of (e ∷ later) = accesses_by e.op e ++ accesses_of later
 
 -- a start shows how many more blocks may nest in it; other rows show their limbs
 abbrev pub ranges_by : Event → Visible → List ℕ
-ranges_by e next = if is_start_op e.op then (1024 - next.nesting) ∷ [] else limbs_by e.op e.before next
+ranges_by e next = if is_start_op e.op then (most_nesting - next.nesting) ∷ [] else limbs_by e.op e.before next
 
 unfoldable pub ranges_of : Visible → List Event → List ℕ
 ranges_of last [] = []

@@ -1,6 +1,7 @@
 -- The step of an ordinary operation fills its row and the row behind it.
 use Rattle.std.proofs.Common.{◌≡◌, ℕ, ◌+◌, ◌-◌, ◌^◌, ◌<◌, true, false, cond, List, [], ◌∷◌, length, take, drop, slice_index, refl, sym, ap, ap₂, ◌∙◌, subst, arith, lit<}
 use Rattle.std.proofs.lemmas.List.{get_or-take}
+use Rattle.vm_field.specs.Limits.{number_of_constants}
 use Rattle.vm_field.specs.Field.{felt_inv}
 use Rattle.vm_field.specs.Machine.{Core, State, IsWellFormed, word_at, zero_word}
 use Rattle.vm_field.specs.Signs.{◌⊟◌}
@@ -95,7 +96,7 @@ module _ (constants : List ℕ) (kernel : List (List ℕ)) (limit : ℕ) where
 
   -- ---- both rows
 
-  pub do_fills : (item : Item) (from to : State) (d : Decoder) (later : List Event) (y : List ℕ) (next : Op) → length constants ≡ 168
+  pub do_fills : (item : Item) (from to : State) (d : Decoder) (later : List Event) (y : List ℕ) (next : Op) → length constants ≡ number_of_constants
       → IsCycle constants kernel limit (Do item) from to → IsOrdinaryItem item → IsWellFormed from → IsWellFormed to
       → from.core.clock < 2 ^ 19 → length from.core.stack < 2 ^ 20 → length d.keys + 16 ≡ length from.core.stack
       → Shows next (advance d (event_at constants kernel (Do item) from) later) to.core y

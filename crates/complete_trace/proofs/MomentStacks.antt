@@ -1,5 +1,6 @@
 -- What the rows of a moment of a run show of the stack and of limbs.
 use Rattle.std.proofs.Common.{◌≡◌, ℕ, ◌+◌, ◌≤◌, false, List, length, take, refl, sym, ap, ◌∙◌, subst, arith}
+use Rattle.vm_field.specs.Limits.{most_cycles, number_of_constants}
 use Rattle.vm_field.specs.Machine.{State, IsWellFormed}
 use Rattle.vm_ops.specs.declared.item.Item.{Item}
 use Rattle.vm_ops.specs.Codes.{is_ordinary_op}
@@ -35,7 +36,7 @@ module _ (constants : List ℕ) (kernel : List (List ℕ)) (limit : ℕ) where
     keyed : length d.keys + 16 ≡ length s.core.stack
     shows : Shows (flags.op_of y) (advance d (event_at constants kernel mark s) later) t.core y
 
-  shown : {x y : List ℕ} → limit ≤ 524287 → (m : IsMoment constants kernel limit x y) → IsShown m.mark m.s m.t m.d m.later y
+  shown : {x y : List ℕ} → limit ≤ most_cycles → (m : IsMoment constants kernel limit x y) → IsShown m.mark m.s m.t m.d m.later y
   shown within m = record {
     cycle = m.cycle;
     known_is = known constants kernel limit within m;
@@ -45,7 +46,7 @@ module _ (constants : List ℕ) (kernel : List (List ℕ)) (limit : ℕ) where
     shows = place_shows constants m.next;
   }
 
-  fills : (item : Item) (s t : State) (d : Decoder) (later : List Event) (y : List ℕ) → length constants ≡ 168 → IsShown (Do item) s t d later y
+  fills : (item : Item) (s t : State) (d : Decoder) (later : List Event) (y : List ℕ) → length constants ≡ number_of_constants → IsShown (Do item) s t d later y
       → FillsRows constants item (row_of d (event_at constants kernel (Do item) s) (visible_of t.core) later) y (elsewhere_of s) (elsewhere_of t)
   fills item s t d later y len h =
       let early = h.known_is.early in
@@ -69,7 +70,7 @@ module _ (constants : List ℕ) (kernel : List (List ℕ)) (limit : ℕ) where
       (flags.op_of y) is h.known_is
       h.keyed (blocks mark s t d later y h)
 
-  facts : (mark : Mark) (s t : State) (d : Decoder) (later : List Event) (y : List ℕ) → length constants ≡ 168 → IsShown mark s t d later y
+  facts : (mark : Mark) (s t : State) (d : Decoder) (later : List Event) (y : List ℕ) → length constants ≡ number_of_constants → IsShown mark s t d later y
       → StackFacts (op_of mark) (row_of d (event_at constants kernel mark s) (visible_of t.core) later) y
   facts (Do item) s t d later y len h =
       let f = fills item s t d later y len h in
@@ -97,14 +98,14 @@ module _ (constants : List ℕ) (kernel : List (List ℕ)) (limit : ℕ) where
   facts (EndSyscall digest frame) s t d later y len h = block (EndSyscall digest frame) s t d later y refl h
 
   -- the row of a moment, by the operation that its bits spell
-  pub moment_facts : {x y : List ℕ} → length constants ≡ 168 → limit ≤ 524287 → IsMoment constants kernel limit x y → StackFacts (flags.op_of x) x y
+  pub moment_facts : {x y : List ℕ} → length constants ≡ number_of_constants → limit ≤ most_cycles → IsMoment constants kernel limit x y → StackFacts (flags.op_of x) x y
   moment_facts {x = x} {y = y} len within m =
       let P : List ℕ → Type 0 = λ z. StackFacts (flags.op_of z) z y in
       subst P (sym m.row) (subst (λ op. StackFacts op (row_of m.d (event_at constants kernel m.mark m.s) (visible_of m.t.core) m.later) y)
       (sym (line_op (line_of m.d (event_at constants kernel m.mark m.s) (visible_of m.t.core) m.later)))
       (facts m.mark m.s m.t m.d m.later y len (shown within m)))
 
-  pub moment_fills : (x y : List ℕ) → length constants ≡ 168 → limit ≤ 524287 → (m : IsMoment constants kernel limit x y) → (item : Item)
+  pub moment_fills : (x y : List ℕ) → length constants ≡ number_of_constants → limit ≤ most_cycles → (m : IsMoment constants kernel limit x y) → (item : Item)
       → m.mark ≡ Do item → FillsRows constants item x y (elsewhere_of m.s) (elsewhere_of m.t)
   moment_fills x y len within m item is =
       let P : Mark → Type 0 = λ mark. IsShown mark m.s m.t m.d m.later y

@@ -2,6 +2,7 @@
 use Rattle.std.proofs.Common.{All, ◌≡◌, ℕ, ◌+◌, ◌-◌, ◌^◌, ◌<◌, ◌≤◌, cond, List, [], ◌∷◌, length, map, replicate, refl, sym, ◌∙◌, subst, arith}
 use Rattle.std.proofs.lemmas.List.{get_or_append_left, length-replicate}
 use Rattle.std.proofs.lemmas.List.Elements.{All-append, All-cons, All-from_get_or, All-head, All-nil, All-tail}
+use Rattle.vm_field.specs.Limits.{most_cycles, number_of_constants}
 use Rattle.vm_field.specs.Machine.{State, IsWellFormed, filled_up, start}
 use Rattle.vm_field.proofs.Elements.{length-filled_up}
 use Rattle.vm_field.proofs.WellFormed.{start-IsWellFormed}
@@ -57,7 +58,7 @@ enough_keys n deep = let count = keys_count (n - 16) in omega (arith, count, dee
 
 module _ (constants : List ℕ) (kernel : List (List ℕ)) (limit : ℕ) where
   -- the limbs of an operation, whatever the decoder shows
-  limbs_low : (item : Item) (from to : State) → length constants ≡ 168 → limit ≤ 524287 → IsCycle constants kernel limit (Do item) from to
+  limbs_low : (item : Item) (from to : State) → length constants ≡ number_of_constants → limit ≤ most_cycles → IsCycle constants kernel limit (Do item) from to
       → IsWholeMark (Do item) → IsWellFormed from → IsWellFormed to → length from.core.stack ≤ 16 + from.core.clock
       → All Is16 (limbs_by item.op (visible_of from.core) (visible_of to.core))
   unfolding limbs_of
@@ -82,7 +83,7 @@ module _ (constants : List ℕ) (kernel : List (List ℕ)) (limit : ℕ) where
   one_low n = All-cons Is16 (1024 - n) [] (omega arith) (All-nil Is16)
 
   -- what a cycle asks for
-  ranges_low : (mark : Mark) (from to : State) → length constants ≡ 168 → limit ≤ 524287 → IsCycle constants kernel limit mark from to
+  ranges_low : (mark : Mark) (from to : State) → length constants ≡ number_of_constants → limit ≤ most_cycles → IsCycle constants kernel limit mark from to
       → IsWholeMark mark → IsWellFormed from → IsWellFormed to → length from.core.stack ≤ 16 + from.core.clock
       → All Is16 (ranges_by (event_at constants kernel mark from) (visible_of to.core))
   ranges_low (Do item) from to len within cycle w h g few =
@@ -111,7 +112,7 @@ module _ (constants : List ℕ) (kernel : List (List ℕ)) (limit : ℕ) where
   behind_is (goes first cycle later) = refl
 
   along : {todo : List Task} {s u : State} {log : List run.Event} → Steps constants kernel limit todo s log u
-      → length constants ≡ 168 → limit ≤ 524287
+      → length constants ≡ number_of_constants → limit ≤ most_cycles
       → AreWholeTasks todo → IsWellFormed s → All (λ e. length e.core.stack ≤ 16 + e.core.clock) log
       → All Is16 (ranges_of (visible_of u.core) (map (shown constants kernel) log))
   unfolding ranges_of

@@ -1,6 +1,7 @@
 -- The rows of a run show all facts, and their entries are 0.
 use Rattle.std.proofs.Common.{◌≡◌, ◌⊎◌, inl, inr, ℕ, suc, ◌<◌, ◌≤◌, List, length, arith}
 use Rattle.std.proofs.lemmas.Bool.{cases_eq}
+use Rattle.vm_field.specs.Limits.{most_cycles, number_of_constants}
 use Rattle.vm_field.specs.Machine.{State}
 use Rattle.block_tree.specs.Execution as run
 use Rattle.block_tree.specs.Trees.{Tree}
@@ -22,7 +23,7 @@ use Rattle.complete_trace.proofs.MomentStacks.{end_facts, end_level, moment_fact
 
 module _ (constants : List ℕ) (kernel : List (List ℕ)) (limit : ℕ) where
   -- of a row, the last one or not
-  row_facts : length constants ≡ 168 → limit ≤ 524287 → (d : Decoder) (u : State) (rows : List (List ℕ)) → AreMoments constants kernel limit d u rows
+  row_facts : length constants ≡ number_of_constants → limit ≤ most_cycles → (d : Decoder) (u : State) (rows : List (List ℕ)) → AreMoments constants kernel limit d u rows
       → (i : ℕ) → i < length rows → IsStackRow (op_in rows i) (row_at rows i) × IsLimbRow (op_in rows i) (row_at rows i)
   row_facts len within d u rows moments i low = go (cases_eq (suc i) (length rows))
     where

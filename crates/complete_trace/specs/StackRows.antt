@@ -1,5 +1,6 @@
 -- The rows of a run show all facts of rows, and the numbers that they look up on the range bus have 16 bits.
 use Rattle.std.specs.Prelude.{◌≡◌, ℕ, suc, ◌^◌, ◌<◌, ◌≤◌, List, length, All}
+use Rattle.vm_field.specs.Limits.{most_cycles, most_nesting, number_of_constants}
 use Rattle.vm_field.specs.Machine.{State}
 use Rattle.vm_ops.specs.declared.item.Item.{Item}
 use Rattle.vm_table.specs.MainColumns.{lv}
@@ -31,7 +32,7 @@ RunHasZeros = (constants : List ℕ) (kernel : List (List ℕ)) (limit : ℕ) (t
 
 -- A row of an ordinary operation is filled by its step: it looks up what is so.
 abbrev pub MomentFills : Type 0
-MomentFills = (constants : List ℕ) (kernel : List (List ℕ)) (limit : ℕ) (x y : List ℕ) → length constants ≡ 168 → limit ≤ 524287
+MomentFills = (constants : List ℕ) (kernel : List (List ℕ)) (limit : ℕ) (x y : List ℕ) → length constants ≡ number_of_constants → limit ≤ most_cycles
     → (m : IsMoment constants kernel limit x y) → (item : Item) → m.mark ≡ Do item
     → FillsRows constants item x y (elsewhere_of m.s) (elsewhere_of m.t)
 
@@ -40,7 +41,7 @@ MomentFills = (constants : List ℕ) (kernel : List (List ℕ)) (limit : ℕ) (x
 pub record LooksUp (rows : List (List ℕ)) (i : ℕ) : Type 0 where
   pub ranges : LooksUpLimbs (op_in rows i) (row_at rows i)
   pub bits : LooksUpBits (op_in rows i) (row_at rows i) (row_at rows (suc i))
-  pub level : lv (row_at rows (suc i)) ≤ 1024
+  pub level : lv (row_at rows (suc i)) ≤ most_nesting
 
 -- so does each row of a run but the last
 abbrev pub RowsLookUp : Type 0

@@ -2,6 +2,7 @@
 use Rattle.std.proofs.Common.{if◌then◌else◌, ◌≡◌, ℕ, suc, ◌+◌, ◌*◌, ◌%◌, ◌<◌, ◌==◌, Bool, true, false, List, [], ◌∷◌, ◌++◌, length, slice_index, slice_index_or, take, drop, All, refl, sym, ap, ◌∙◌, arith, lit<}
 use Rattle.std.proofs.lemmas.List.Elements.{All-head, All-tail}
 use Rattle.vm_ops.specs.Values.{bit_of}
+use Rattle.vm_field.specs.Limits.{number_of_constants}
 use Rattle.vm_field.specs.Permutation.{permuted}
 use Rattle.vm_field.proofs.PermutationLemmas.{permuted-is, rounds-none}
 use Rattle.buses.specs.Counts.{Counted, counted, once, over_first, over_rows, total}
@@ -58,7 +59,7 @@ perm_begins-is : (address : ℕ) (p : Perm) → begins_by p.mode p.cont address 
 unfolding begins_by
 perm_begins-is address p = refl
 
-first_gives : (constants : List ℕ) (p : Perm) (address : ℕ) → length constants ≡ 168 → IsState p.start
+first_gives : (constants : List ℕ) (p : Perm) (address : ℕ) → length constants ≡ number_of_constants → IsState p.start
     → permutation_begins address (perm_row constants p 0 false) ≡ perm_begins address p
 first_gives constants p address len s =
     row_begins address row
@@ -70,7 +71,7 @@ first_gives constants p address len s =
     row : List ℕ
     row = perm_row constants p 0 false
 
-last_gives : (constants : List ℕ) (p : Perm) (address : ℕ) → length constants ≡ 168 → IsState p.start
+last_gives : (constants : List ℕ) (p : Perm) (address : ℕ) → length constants ≡ number_of_constants → IsState p.start
     → permutation_ends address (perm_row constants p 7 p.more) ≡ perm_ends constants address p
 unfolding stops_at
 last_gives constants p address len s =
@@ -139,7 +140,7 @@ sum_of_eight : (a b c d e f g h t v w : ℕ) → a ≡ v → b ≡ 0 → c ≡ 0
     → a + (b + (c + (d + (e + (f + (g + (h + t))))))) ≡ v + (w + t)
 sum_of_eight a b c d e f g h t v w ea eb ec ed ee ef eg eh = omega (arith, ea, eb, ec, ed, ee, ef, eg, eh)
 
-given_perms : (constants : List ℕ) (q : ℕ) (perms : List Perm) (u : List ℕ) → length constants ≡ 168 → All (λ p. IsState p.start) perms
+given_perms : (constants : List ℕ) (q : ℕ) (perms : List Perm) (u : List ℕ) → length constants ≡ number_of_constants → All (λ p. IsState p.start) perms
     → given_from q (rows_of constants perms) u ≡ counted (perms_given constants (8 * q + 1) perms) u
 unfolding rows_of rows_before perms_given total
 given_perms constants q [] u len s = sym (counted-none u)
@@ -175,7 +176,7 @@ given_perms constants q (p ∷ perms) u len s =
     next : 8 * suc q + 1 ≡ 8 * q + 1 + 8
     next = omega arith
 
-pub rows_give : (constants : List ℕ) (perms : List Perm) (u : List ℕ) → length constants ≡ 168 → All (λ p. IsState p.start) perms
+pub rows_give : (constants : List ℕ) (perms : List Perm) (u : List ℕ) → length constants ≡ number_of_constants → All (λ p. IsState p.start) perms
     → over_rows (λ i row next. hasher_given i row) (rows_of constants perms) u ≡ counted (perms_given constants 1 perms) u
 unfolding over_first
 rows_give constants perms u len s =

@@ -3,6 +3,7 @@ use Rattle.std.proofs.lemmas.Bool.{cases_Bool, eqb-true}
 use Rattle.std.proofs.Common.{◌/◌, inl, inr, ◌≡◌, ℕ, zero, suc, ◌+◌, ◌*◌, ◌-◌, ◌%◌, ◌==◌, ◌&&◌, Bool, true, false, if◌then◌else◌, List, [], ◌∷◌, length, slice_index, drop, Option, Some, None, All, refl, sym, ap, ap₂, subst, ◌∙◌, arith}
 use Rattle.std.proofs.lemmas.List.Elements.{All-head, All-tail, All-drop}
 use Rattle.vm_ops.specs.Values.{bit_of}
+use Rattle.vm_field.specs.Limits.{number_of_constants}
 use Rattle.vm_field.specs.Sponge.{HashInput}
 use Rattle.vm_field.proofs.PermutationLemmas.{rounds-none}
 use Rattle.chip_columns.specs.HasherColumns.{mode, cont, x, state}
@@ -19,12 +20,12 @@ absorbed_is : (row : List ℕ) → absorbed_part row ≡ drop 4 (state row)
 unfolding state
 absorbed_is row = refl
 
-row_absorbs : (constants : List ℕ) (p : Perm) → length constants ≡ 168 → IsState p.start
+row_absorbs : (constants : List ℕ) (p : Perm) → length constants ≡ number_of_constants → IsState p.start
     → absorbed_part (perm_row constants p 0 false) ≡ drop 4 p.start
 row_absorbs constants p len s =
     absorbed_is (perm_row constants p 0 false) ∙ ap (drop 4) (row_state constants p 0 false len (omega arith) s ∙ rounds-none constants p.start)
 
-blocks_same : (constants : List ℕ) (perms : List Perm) → length constants ≡ 168 → All (λ p. IsState p.start) perms
+blocks_same : (constants : List ℕ) (perms : List Perm) → length constants ≡ number_of_constants → All (λ p. IsState p.start) perms
     → blocks_from (rows_of constants perms) ≡ blocks_in perms
 unfolding rows_of rows_before blocks_from blocks_in
 blocks_same constants [] len s = refl
@@ -54,7 +55,7 @@ bit_zero_is : (b : Bool) → b ≡ false → (bit_of b == 0) ≡ true
 bit_zero_is true e = absurd (cc)
 bit_zero_is false e = refl
 
-first_computes : (constants : List ℕ) (p : Perm) (rest : List Perm) → length constants ≡ 168 → All (λ p. IsState p.start) (p ∷ rest)
+first_computes : (constants : List ℕ) (p : Perm) (rest : List Perm) → length constants ≡ number_of_constants → All (λ p. IsState p.start) (p ∷ rest)
     → p.mode ≡ false → p.cont ≡ false
     → computation_from (rows_of constants (p ∷ rest)) ≡ Some (record { domain = slice_index p.start 1; blocks = blocks_in (p ∷ rest) })
 unfolding rows_of rows_before
@@ -79,7 +80,7 @@ at_first rows k =
     less : 1 + 8 * k - 1 ≡ 8 * k
     less = omega arith
 
-pub found_computes : (constants : List ℕ) (perms : List Perm) (b domain : ℕ) (blocks : List (List ℕ)) (digest : List ℕ) → length constants ≡ 168
+pub found_computes : (constants : List ℕ) (perms : List Perm) (b domain : ℕ) (blocks : List (List ℕ)) (digest : List ℕ) → length constants ≡ number_of_constants
     → All (λ p. IsState p.start) perms → FoundAt constants 1 perms b domain blocks digest
     → computation_at (rows_of constants perms) b ≡ Some (record { domain = domain; blocks = blocks })
 found_computes constants perms b domain blocks digest len s f =
@@ -122,7 +123,7 @@ record Opens (constants : List ℕ) (perms : List Perm) (input : HashInput) : Ty
   cont_none : p.cont ≡ false
   input_is : record { domain = slice_index p.start 1; blocks = blocks_in (p ∷ rest) } ≡ input
 
-opens_from : (constants : List ℕ) (perms : List Perm) (input : HashInput) → length constants ≡ 168 → All (λ p. IsState p.start) perms
+opens_from : (constants : List ℕ) (perms : List Perm) (input : HashInput) → length constants ≡ number_of_constants → All (λ p. IsState p.start) perms
     → computation_from (rows_of constants perms) ≡ Some input → Opens constants perms input
 unfolding rows_of rows_before
 opens_from constants [] input len s e = absurd (cc)
@@ -153,7 +154,7 @@ opens_from constants (p ∷ rest) input len s e = elim (cases_Bool p.mode) [
 place_is : (b : ℕ) → b % 8 ≡ 1 → b ≡ 1 + 8 * (b / 8)
 place_is b h = omega (arith, h)
 
-pub computes_at : (constants : List ℕ) (perms : List Perm) (b : ℕ) (input : HashInput) → length constants ≡ 168
+pub computes_at : (constants : List ℕ) (perms : List Perm) (b : ℕ) (input : HashInput) → length constants ≡ number_of_constants
     → All (λ p. IsState p.start) perms → computation_at (rows_of constants perms) b ≡ Some input → ComputesAt constants perms b input
 computes_at constants perms b input len s e = elim (cases_Bool (b % 8 == 1)) [
   | inr not ↦ absurd (not_found (b % 8 == 1) (computation_from (drop (b - 1) (rows_of constants perms))) input not e)

@@ -2,6 +2,7 @@
 use Rattle.std.proofs.Common.{◌≡◌, ℕ, zero, suc, ◌+◌, ◌*◌, ◌<◌, ◌≤◌, ◌==◌, Bool, true, false, List, [], ◌∷◌, ◌++◌, length, slice_get, slice_index, slice_index_or, take, replicate, Option, Some, None, All, refl, sym, ap, ap₂, subst, ◌∙◌, arith, lit<}
 use Rattle.std.proofs.lemmas.List.Elements.{All-head, All-tail}
 use Rattle.vm_ops.specs.Values.{bit_of}
+use Rattle.vm_field.specs.Limits.{number_of_constants}
 use Rattle.vm_field.specs.Field.{prime, AreElements, felt_pow, felt_sub, felt_mul, felt_add}
 use Rattle.vm_field.specs.Permutation.{before_roots, round, rounds, round_constants, permuted, seventh_powers}
 use Rattle.vm_field.proofs.Algebra.{felt_sub-same, felt_mul-zero_first, felt_mul-zero_second}
@@ -79,13 +80,13 @@ same_bits false = refl
 
 -- ---- states
 
-rounds-IsState : (constants : List ℕ) (p : Perm) (k : ℕ) → length constants ≡ 168 → k ≤ 7 → IsState p.start → IsState (rounds k constants p.start)
+rounds-IsState : (constants : List ℕ) (p : Perm) (k : ℕ) → length constants ≡ number_of_constants → k ≤ 7 → IsState p.start → IsState (rounds k constants p.start)
 rounds-IsState constants p k len h s = record {
   size = length-rounds k constants p.start (omega arith) s.size;
   below = elements-rounds k constants p.start s.below;
 }
 
-pub row_state : (constants : List ℕ) (p : Perm) (k : ℕ) (going : Bool) → length constants ≡ 168 → k ≤ 7 → IsState p.start
+pub row_state : (constants : List ℕ) (p : Perm) (k : ℕ) (going : Bool) → length constants ≡ number_of_constants → k ≤ 7 → IsState p.start
     → state (perm_row constants p k going) ≡ rounds k constants p.start
 unfolding perm_row
 row_state constants p k going len h s = state_is _ _ _ (rounds k constants p.start) (rounds-IsState constants p k len h s).size
@@ -143,7 +144,7 @@ flags_inside constants first begins p k going no_first no_cont zeros =
     row : List ℕ
     row = perm_row constants p k false
 
-inside_zero : (constants : List ℕ) (first begins : Bool) (p : Perm) (k : ℕ) (going : Bool) → length constants ≡ 168 → k < 7 → IsState p.start
+inside_zero : (constants : List ℕ) (first begins : Bool) (p : Perm) (k : ℕ) (going : Bool) → length constants ≡ number_of_constants → k < 7 → IsState p.start
     → (first ≡ true → p.cont ≡ false) → (p.mode ≡ true → p.cont ≡ false)
     → (begins ≡ true → p.mode ≡ false → p.cont ≡ false
     → (x (perm_row constants p k false) 0 ≡ 0) × (x (perm_row constants p k false) 2 ≡ 0) × (x (perm_row constants p k false) 3 ≡ 0))
@@ -181,7 +182,7 @@ pub perm_row-cont : (constants : List ℕ) (p : Perm) (k : ℕ) (going : Bool) �
 unfolding perm_row
 perm_row-cont constants p k going = refl
 
-perm_row-below : (constants : List ℕ) (p : Perm) (k : ℕ) (going : Bool) → length constants ≡ 168 → k ≤ 7 → IsState p.start
+perm_row-below : (constants : List ℕ) (p : Perm) (k : ℕ) (going : Bool) → length constants ≡ number_of_constants → k ≤ 7 → IsState p.start
     → CellsBelow (perm_row constants p k going)
 unfolding perm_row
 perm_row-below constants p k going len h s zero = bit_below p.mode
@@ -229,7 +230,7 @@ pub perm_row-more : (constants : List ℕ) (p : Perm) (k : ℕ) (going : Bool) �
 unfolding perm_row
 perm_row-more constants p k going = refl
 
-chain_end : (constants : List ℕ) (p : Perm) (last : List ℕ) (next : Option (List ℕ)) → length constants ≡ 168 → IsState p.start
+chain_end : (constants : List ℕ) (p : Perm) (last : List ℕ) (next : Option (List ℕ)) → length constants ≡ number_of_constants → IsState p.start
     → permuted constants p.start ≡ last → LinksTo p.more last next → chain_values true (perm_row constants p 7 p.more) next ≡ replicate 4 0
 chain_end constants p last None len s same l = chain_last (perm_row constants p 7 p.more)
 chain_end constants p last (Some y) len s same l =
@@ -247,7 +248,7 @@ start_zeros : (constants : List ℕ) (p : Perm) → (slice_index p.start 0 ≡ 0
 unfolding perm_row
 start_zeros constants p is = (start_at constants p 0 is.0, start_at constants p 2 is.1, start_at constants p 3 is.2)
 
-block_zero : (constants : List ℕ) (first : Bool) (p : Perm) (next : Option (List ℕ)) → length constants ≡ 168 → IsState p.start
+block_zero : (constants : List ℕ) (first : Bool) (p : Perm) (next : Option (List ℕ)) → length constants ≡ number_of_constants → IsState p.start
     → (first ≡ true → p.cont ≡ false) → (p.mode ≡ true → (p.cont ≡ false) × (p.more ≡ false))
     → (p.mode ≡ false → p.cont ≡ false → (slice_index p.start 0 ≡ 0) × (slice_index p.start 2 ≡ 0) × (slice_index p.start 3 ≡ 0))
     → LinksTo p.more (permuted constants p.start) next
@@ -277,7 +278,7 @@ block_zero constants first p next len s no_first apart zeros l = record {
         (Some (perm_row constants p (suc k) going)))
     later k going h = inside_zero constants false false p k going len h s (λ e. absurd (cc)) no_cont (λ e. absurd (cc))
 
-next_links : (constants : List ℕ) (going : Bool) (last : List ℕ) (perms : List Perm) → length constants ≡ 168 → All (λ p. IsState p.start) perms
+next_links : (constants : List ℕ) (going : Bool) (last : List ℕ) (perms : List Perm) → length constants ≡ number_of_constants → All (λ p. IsState p.start) perms
     → FollowsOn constants going last perms → LinksTo going last (first_of (rows_of constants perms))
 unfolding LinksTo rows_of rows_before
 next_links constants going last [] len s f = f
@@ -287,7 +288,7 @@ next_links constants going last (p ∷ perms) len s f = (
       ∙ f.2 (f.0 ∙ on),
 )
 
-rows_zero : (constants : List ℕ) (first going : Bool) (last : List ℕ) (perms : List Perm) → length constants ≡ 168 → All (λ p. IsState p.start) perms
+rows_zero : (constants : List ℕ) (first going : Bool) (last : List ℕ) (perms : List Perm) → length constants ≡ number_of_constants → All (λ p. IsState p.start) perms
     → FollowsOn constants going last perms → (first ≡ true → going ≡ false) → ZeroFrom constants first (rows_of constants perms)
 unfolding ZeroFrom rows_of rows_before
 rows_zero constants first going last [] len s f no_first = tt
@@ -313,12 +314,12 @@ table_cons r rows wide_row below_row t = record { wide = wide; below = below }
 table_none : IsTable 15 []
 table_none = record { wide = λ i h. absurd (omega arith); below = λ i k. lit< tt }
 
-perm_row-wide : (constants : List ℕ) (p : Perm) (k : ℕ) (going : Bool) → length constants ≡ 168 → k ≤ 7 → IsState p.start
+perm_row-wide : (constants : List ℕ) (p : Perm) (k : ℕ) (going : Bool) → length constants ≡ number_of_constants → k ≤ 7 → IsState p.start
     → length (perm_row constants p k going) ≡ 15
 unfolding perm_row
 perm_row-wide constants p k going len h s = let size = (rounds-IsState constants p k len h s).size in omega arith
 
-table_of : (constants : List ℕ) (perms : List Perm) → length constants ≡ 168 → All (λ p. IsState p.start) perms → IsTable 15 (rows_of constants perms)
+table_of : (constants : List ℕ) (perms : List Perm) → length constants ≡ number_of_constants → All (λ p. IsState p.start) perms → IsTable 15 (rows_of constants perms)
 unfolding rows_of rows_before
 table_of constants [] len s = table_none
 table_of constants (p ∷ perms) len s =
@@ -346,7 +347,7 @@ perm_from : (a b c d e f : Bool) (s t : List ℕ) → a ≡ d → b ≡ e → c 
     → ◌≡◌ {A = Perm} (record { mode = a; cont = b; more = c; start = s }) (record { mode = d; cont = e; more = f; start = t })
 perm_from a b c d e f s t p q r u = cc
 
-perm_again : (constants : List ℕ) (p : Perm) → length constants ≡ 168 → IsState p.start
+perm_again : (constants : List ℕ) (p : Perm) → length constants ≡ number_of_constants → IsState p.start
     → perm_of (perm_row constants p 0 false) (perm_row constants p 7 p.more) ≡ p
 unfolding perm_of
 perm_again constants p len s =
@@ -355,7 +356,7 @@ perm_again constants p len s =
     (ap (λ n. n == 1) (perm_row-more constants p 7 p.more) ∙ bit_again p.more)
     (row_state constants p 0 false len (omega arith) s ∙ rounds-none constants p.start)
 
-pub perms_again : (constants : List ℕ) (perms : List Perm) → length constants ≡ 168 → All (λ p. IsState p.start) perms
+pub perms_again : (constants : List ℕ) (perms : List Perm) → length constants ≡ number_of_constants → All (λ p. IsState p.start) perms
     → perms_in (rows_of constants perms) ≡ perms
 unfolding rows_of rows_before perms_in
 perms_again constants [] len s = refl
@@ -363,7 +364,7 @@ perms_again constants (p ∷ perms) len s =
     ap₂ (λ (q : Perm) (qs : List Perm). q ∷ qs) (perm_again constants p len (All-head (λ p. IsState p.start) p perms s))
     (perms_again constants perms len (All-tail (λ p. IsState p.start) p perms s))
 
-pub rows_are_zero : (c : Claim) (perms : List Perm) → length c.constants ≡ 168 → PermsFit c.constants perms → HasherIsZero c (rows_of c.constants perms)
+pub rows_are_zero : (c : Claim) (perms : List Perm) → length c.constants ≡ number_of_constants → PermsFit c.constants perms → HasherIsZero c (rows_of c.constants perms)
 rows_are_zero c perms len fit = record {
   table = table_of c.constants perms len fit.states;
   whole = let e = rows_of-size c.constants perms in omega (arith, e);

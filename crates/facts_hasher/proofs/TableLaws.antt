@@ -1,5 +1,6 @@
 -- The laws of the hasher's table.
 use Rattle.std.proofs.Common.{◌≡◌, ℕ, List, length, ap, ◌∙◌}
+use Rattle.vm_field.specs.Limits.{number_of_constants}
 use Rattle.buses.specs.Counts.{over_rows}
 use Rattle.buses.specs.declared.bus.Bus.TheVariants as bus
 use Rattle.air_kit.specs.declared.requests.Perm.{Perm}
@@ -12,7 +13,7 @@ use Rattle.facts_hasher.proofs.ZerosAreRows.{fit_of, are_rows}
 use Rattle.facts_hasher.proofs.RowsAreZero.{rows_of-size, rows_are_zero, perms_again}
 use Rattle.facts_hasher.proofs.GivenLemmas.{rows_give}
 
-pub zeros_are_rows : (c : Claim) (rows : List (List ℕ)) → length c.constants ≡ 168 → HasherIsZero c rows → ArePermRows c.constants rows
+pub zeros_are_rows : (c : Claim) (rows : List (List ℕ)) → length c.constants ≡ number_of_constants → HasherIsZero c rows → ArePermRows c.constants rows
 zeros_are_rows c rows len z = record {
   fit = fit;
   rows_are = are_rows c rows len z;
@@ -24,7 +25,7 @@ zeros_are_rows c rows len z = record {
     fit : PermsFit c.constants (perms_in rows)
     fit = fit_of c rows len z
 
-pub rows_show : (c : Claim) (perms : List Perm) → length c.constants ≡ 168 → PermsFit c.constants perms → ShowsPerms c perms (rows_of c.constants perms)
+pub rows_show : (c : Claim) (perms : List Perm) → length c.constants ≡ number_of_constants → PermsFit c.constants perms → ShowsPerms c perms (rows_of c.constants perms)
 rows_show c perms len fit = record {
   size = rows_of-size c.constants perms;
   zero = rows_are_zero c perms len fit;

@@ -15,6 +15,7 @@ use Rattle.facts_hasher.specs.HashMeaning.{GivesOn, IsGivenWhole, IsHash, TableG
 use Rattle.facts_hasher.proofs.Given.{IsGivenBy, given_by_one, given-address, given-same, given-once}
 use Rattle.facts_hasher.proofs.MeaningLemmas.{GivesOnBy, FoundAt, blocks_in, permutes_by, hash_by}
 use Rattle.facts_hasher.proofs.InputLemmas.{IsOpened, further, given_counts, opened_by}
+use Rattle.vm_field.specs.Limits.{number_of_constants}
 use Rattle.vm_field.specs.Sponge.{HashInput}
 use Rattle.facts_hasher.proofs.RowMeaning.{ComputesAt, computes_at, found_computes}
 use Rattle.facts_hasher.proofs.RowsAreZero.{rows_of-size}
@@ -64,7 +65,7 @@ input_given constants perms given s f is address input at =
       goes_on = gives_on_counts constants perms given is (1 + 8 * at.number) (further at.p.more at.rest) _ o.goes_on_by;
     }
 
-perms_give : (constants : List ℕ) (perms : List Perm) (rows : List (List ℕ)) (given : List ℕ → ℕ) → length constants ≡ 168
+perms_give : (constants : List ℕ) (perms : List Perm) (rows : List (List ℕ)) (given : List ℕ → ℕ) → length constants ≡ number_of_constants
     → All (λ p. IsState p.start) perms → FollowsOn constants false [] perms → rows ≡ rows_of constants perms
     → ((u : List ℕ) → given u ≡ counted (perms_given constants 1 perms) u) → TableGives constants rows given
 perms_give constants perms rows given len s f rows_are is = record {
@@ -95,7 +96,7 @@ perms_give constants perms rows given len s f rows_are is = record {
       digest_is = found.digest_is;
     }
 
-pub table_gives : (c : Claim) (rows : List (List ℕ)) → length c.constants ≡ 168 → HasherIsZero c rows
+pub table_gives : (c : Claim) (rows : List (List ℕ)) → length c.constants ≡ number_of_constants → HasherIsZero c rows
     → TableGives c.constants rows (over_rows (chip_given bus.Hasher table.Hasher) rows)
 table_gives c rows len z =
     let are = zeros_are_rows c rows len z in

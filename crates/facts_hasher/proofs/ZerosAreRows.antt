@@ -3,6 +3,7 @@ use Rattle.std.proofs.Common.{◌≡◌, ℕ, zero, suc, ◌+◌, ◌*◌, ◌<�
 use Rattle.std.proofs.lemmas.Bool.{eqb-true}
 use Rattle.std.proofs.lemmas.List.Elements.{All-cons, All-nil}
 use Rattle.vm_ops.specs.Values.{bit_of}
+use Rattle.vm_field.specs.Limits.{number_of_constants}
 use Rattle.vm_field.specs.Permutation.{round, rounds, round_constants, permuted}
 use Rattle.vm_field.proofs.PermutationLemmas.{length-round_constants, permuted-is, rounds-last, rounds-none}
 use Rattle.vm_table.specs.Layout.{IsTable}
@@ -61,7 +62,7 @@ record EightRows (r0 r1 r2 r3 r4 r5 r6 r7 : List ℕ) : Type 0 where
   wide : (r : ℕ) → r < 8 → length (slice_index_or (r0 ∷ r1 ∷ r2 ∷ r3 ∷ r4 ∷ r5 ∷ r6 ∷ r7 ∷ []) r []) ≡ 15
   below : (r : ℕ) → CellsBelow (slice_index_or (r0 ∷ r1 ∷ r2 ∷ r3 ∷ r4 ∷ r5 ∷ r6 ∷ r7 ∷ []) r [])
 
-block_shows : (constants : List ℕ) (first : Bool) (r0 r1 r2 r3 r4 r5 r6 r7 : List ℕ) (next : Option (List ℕ)) → length constants ≡ 168
+block_shows : (constants : List ℕ) (first : Bool) (r0 r1 r2 r3 r4 r5 r6 r7 : List ℕ) (next : Option (List ℕ)) → length constants ≡ number_of_constants
     → EightRows r0 r1 r2 r3 r4 r5 r6 r7 → ((y : List ℕ) → next ≡ Some y → CellsBelow y)
     → EightZero constants first r0 r1 r2 r3 r4 r5 r6 r7 next → BlockShows constants first r0 r1 r2 r3 r4 r5 r6 r7 next
 unfolding rows_before perm_of
@@ -207,7 +208,7 @@ capacity_linked : (going : Bool) (last r : List ℕ) → LinksTo going last (Som
 unfolding LinksTo
 capacity_linked going last r l is = l.1 is
 
-follows : (constants : List ℕ) (first going : Bool) (last : List ℕ) (rows : List (List ℕ)) → length constants ≡ 168 → IsTable 15 rows
+follows : (constants : List ℕ) (first going : Bool) (last : List ℕ) (rows : List (List ℕ)) → length constants ≡ number_of_constants → IsTable 15 rows
     → ZeroFrom constants first rows → LinksTo going last (first_of rows) → FollowsOn constants going last (perms_in rows)
 unfolding ZeroFrom perms_in perm_of LinksTo state
 follows constants first going last [] len t z l = l
@@ -227,7 +228,7 @@ follows constants first going last (r0 ∷ r1 ∷ r2 ∷ r3 ∷ r4 ∷ r5 ∷ r6
     )
 follows constants first going last _ len t z l = absurd z
 
-rows_are : (constants : List ℕ) (first : Bool) (rows : List (List ℕ)) → length constants ≡ 168 → IsTable 15 rows
+rows_are : (constants : List ℕ) (first : Bool) (rows : List (List ℕ)) → length constants ≡ number_of_constants → IsTable 15 rows
     → ZeroFrom constants first rows → rows ≡ rows_of constants (perms_in rows)
 unfolding ZeroFrom perms_in rows_of
 rows_are constants first [] len t z = refl
@@ -245,7 +246,7 @@ states (r0 ∷ r1 ∷ r2 ∷ r3 ∷ r4 ∷ r5 ∷ r6 ∷ r7 ∷ rows) t =
     (states rows (table_rest r0 r1 r2 r3 r4 r5 r6 r7 rows t))
 states _ t = All-nil (λ p. IsState p.start)
 
-first_links : (constants : List ℕ) (rows : List (List ℕ)) → length constants ≡ 168 → IsTable 15 rows → ZeroFrom constants true rows
+first_links : (constants : List ℕ) (rows : List (List ℕ)) → length constants ≡ number_of_constants → IsTable 15 rows → ZeroFrom constants true rows
     → LinksTo false [] (first_of rows)
 unfolding ZeroFrom LinksTo
 first_links constants [] len t z = refl
@@ -265,12 +266,12 @@ zero_is c rows z =
     (record { row = row; cur = slice_index_or rows k []; next = slice_get rows (suc k) })) n) (row_none k)
     ∙ z.zero k n h)
 
-pub fit_of : (c : Claim) (rows : List (List ℕ)) → length c.constants ≡ 168 → HasherIsZero c rows → PermsFit c.constants (perms_in rows)
+pub fit_of : (c : Claim) (rows : List (List ℕ)) → length c.constants ≡ number_of_constants → HasherIsZero c rows → PermsFit c.constants (perms_in rows)
 fit_of c rows len z = record {
   follows =
       follows c.constants true false [] rows len z.table (zero_is c rows z) (first_links c.constants rows len z.table (zero_is c rows z));
   states = states rows z.table;
 }
 
-pub are_rows : (c : Claim) (rows : List (List ℕ)) → length c.constants ≡ 168 → HasherIsZero c rows → rows ≡ rows_of c.constants (perms_in rows)
+pub are_rows : (c : Claim) (rows : List (List ℕ)) → length c.constants ≡ number_of_constants → HasherIsZero c rows → rows ≡ rows_of c.constants (perms_in rows)
 are_rows c rows len z = rows_are c.constants true rows len z.table (zero_is c rows z)

@@ -1,4 +1,5 @@
 ghost use Rattle.std.specs.Prelude.{◌≡◌, ℕ, List, length};
+ghost use Rattle.vm_field.specs.Limits.{number_of_constants};
 ghost use Rattle.air_kit.specs.ChipTuples.{chip_given};
 ghost use Rattle.air_kit.specs.Places.{Claim};
 ghost use Rattle.air_kit.specs.declared.requests.Perm.{Perm};
@@ -13,10 +14,10 @@ ghost use Rattle.facts_hasher.specs.PermRows.{rows_of};
 /// of permutations that fit have entries 0 and show these again. What a table whose entries are 0 gives on its bus is right: a hash
 /// that is given whole is the hash of its blocks, and what a permutation gives behind it is the permutation of what went in.
 pub fn table_laws()
-    ensures zeros_are_rows { (c : Claim) (rows : List (List ℕ)) → length c.constants ≡ 168 → HasherIsZero c rows
+    ensures zeros_are_rows { (c : Claim) (rows : List (List ℕ)) → length c.constants ≡ number_of_constants → HasherIsZero c rows
         → ArePermRows c.constants rows }
-    ensures rows_show { (c : Claim) (perms : List Perm) → length c.constants ≡ 168 → PermsFit c.constants perms
+    ensures rows_show { (c : Claim) (perms : List Perm) → length c.constants ≡ number_of_constants → PermsFit c.constants perms
         → ShowsPerms c perms (rows_of c.constants perms) }
-    ensures gives { (c : Claim) (rows : List (List ℕ)) → length c.constants ≡ 168 → HasherIsZero c rows
+    ensures gives { (c : Claim) (rows : List (List ℕ)) → length c.constants ≡ number_of_constants → HasherIsZero c rows
         → TableGives c.constants rows (over_rows (chip_given bus.Hasher table.Hasher) rows) }
 {}

@@ -1,5 +1,6 @@
 -- What stands beside the rows of a trace is in the range of elements.
 use Rattle.std.proofs.Common.{ℕ, ◌<◌, ◌≤◌, ◌^◌, length, slice_index, arith}
+use Rattle.vm_field.specs.Limits.{most_outputs}
 use Rattle.vm_field.specs.Field.{prime}
 use Rattle.vm_field.proofs.Elements.{elements-index}
 use Rattle.vm_table.specs.Layout.{IsTable}
@@ -43,7 +44,7 @@ lengths_low t counts j = elements-index (lengths_of t) j (elements_each (lengths
       ),
     )
 
-few_outputs : (n : ℕ) → n ≤ 524303 → n < prime
+few_outputs : (n : ℕ) → n ≤ most_outputs → n < prime
 few_outputs n h = omega (arith, h)
 
 few_digests : (n : ℕ) → n ≤ 255 → n < prime

@@ -2,6 +2,7 @@
 use Rattle.std.proofs.Common.{◌≡◌, ℕ, ◌+◌, ◌^◌, ◌<◌, ◌≤◌, Bool, true, false, eqb, List, ◌++◌, drop, length, slice_index, Ok, ap, ap₂, sym, subst, ◌∙◌, arith, lit<}
 use Rattle.std.proofs.lemmas.List.{take-append-drop, length-drop}
 use Rattle.vm_field.proofs.Elements.{elements-index}
+use Rattle.vm_field.specs.Limits.{number_of_constants}
 use Rattle.vm_field.specs.Field.{prime, felt_add}
 use Rattle.vm_field.specs.Machine.{State, IsWellFormed}
 use Rattle.vm_ops.proofs.FrameLemmas.{step-same_call}
@@ -91,7 +92,7 @@ clock_next : (n m : ℕ) → m ≡ n + 1 → n < 2 ^ 19 → m ≡ felt_add n 1
 clock_next n m e few = omega (arith, e, few)
 
 fills_between : (constants : List ℕ) (item : Item) (x y : List ℕ) (e f : Elsewhere) → IsOrdinaryItem item → is_ordinary_op item.op ≡ true
-    → IsWellFormed (state_of x e) → length constants ≡ 168 → clk x < 2 ^ 19 → depth x ≡ 16 + length e.below → depth x < 2 ^ 20
+    → IsWellFormed (state_of x e) → length constants ≡ number_of_constants → clk x < 2 ^ 19 → depth x ≡ 16 + length e.below → depth x < 2 ^ 20
     → depth y ≡ 16 + length f.below → sys y ≡ sys x → Stepped constants item (state_of x e) (state_of y f) → FilledBy item.op x y e
     → FillsRows constants item x y e f
 fills_between constants item x y e f ordinary_item is well count early deep shallow deep_next flag done filled =
@@ -143,7 +144,7 @@ fills_between constants item x y e f ordinary_item is well count early deep shal
 
 -- ---- of a step
 
-pub step_fills : (constants : List ℕ) (item : Item) (s t : State) (x y : List ℕ) → length constants ≡ 168 → IsOrdinaryItem item → IsWellFormed s
+pub step_fills : (constants : List ℕ) (item : Item) (s t : State) (x y : List ℕ) → length constants ≡ number_of_constants → IsOrdinaryItem item → IsWellFormed s
     → s.core.clock < 2 ^ 19 → length s.core.stack < 2 ^ 20 → step constants item s ≡ Ok t → ShowsState x s → ShowsState y t
     → FilledBy item.op x y (elsewhere_of s) → FillsRows constants item x y (elsewhere_of s) (elsewhere_of t)
 step_fills constants item s t x y count o well early shallow goes here next filled =

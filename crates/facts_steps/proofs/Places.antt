@@ -7,6 +7,7 @@ use Rattle.vm_ops.specs.declared.op.Op.{Op}
 use Rattle.vm_ops.specs.declared.op.Shift.{Shift}
 use Rattle.vm_ops.specs.declared.op.Shift.TheVariants.{Left, Stay, Right}
 use Rattle.vm_table.specs.MainColumns.{h, s, depth}
+use Rattle.vm_field.specs.Limits.{number_of_constants}
 use Rattle.vm_field.specs.Field.{felt_add}
 use Rattle.air_kit.specs.Flags.{is_left, is_right, is_shift, op_of}
 use Rattle.air_kit.specs.MainTuples.{is_call_op, row_shifts_left}
@@ -116,7 +117,7 @@ place_goes constants k rows i shows p =
       tape = tape_goes rows i p.within;
     }
 
-pub place_shows : (constants : List ℕ) (k : Claim) (rows : List (List ℕ)) (i : ℕ) → length constants ≡ 168 → ShowsRows k rows
+pub place_shows : (constants : List ℕ) (k : Claim) (rows : List (List ℕ)) (i : ℕ) → length constants ≡ number_of_constants → ShowsRows k rows
     → IsPlace constants rows i
     → ShowsStep constants (op_in rows i) (row_at rows i) (row_at rows (suc i)) (elsewhere_at rows i) (elsewhere_at rows (suc i))
 place_shows constants k rows i count shows p =

@@ -1,6 +1,7 @@
 -- What an operation sees of the state of a row.
 use Rattle.std.proofs.Common.{◌≡◌, ℕ, zero, suc, ◌+◌, ◌<◌, ◌≤◌, List, [], ◌∷◌, ◌++◌, take, drop, length, slice_index, refl, ap, sym, ◌∙◌, arith}
 use Rattle.std.proofs.lemmas.List.{length-append, length-take-le, get_or_append_left}
+use Rattle.vm_field.specs.Limits.{number_of_constants}
 use Rattle.vm_field.specs.Machine.{word_at, IsWord}
 use Rattle.vm_ops.specs.Sizes.{IsSeenBy}
 use Rattle.vm_ops.specs.Stepping.{ShowTheSame, seen_at}
@@ -81,7 +82,7 @@ length_digest : (x : List ℕ) → length (function_digest x) ≡ 4
 unfolding function_digest
 length_digest x = refl
 
-pub sized : (constants : List ℕ) (item : Item) (x : List ℕ) (e : Elsewhere) → length constants ≡ 168
+pub sized : (constants : List ℕ) (item : Item) (x : List ℕ) (e : Elsewhere) → length constants ≡ number_of_constants
     → ((context place : ℕ) → IsWord (word_at e.memory context place)) → advice_of item.op ≤ length e.tape
     → IsSeenBy item.op (seen_by constants item x e)
 sized constants item x e count words enough = record {

@@ -1,6 +1,7 @@
 -- Rows whose facts hold show a step.
 use Rattle.std.proofs.Common.{◌≡◌, ◌≢◌, ℕ, ◌+◌, ◌^◌, ◌<◌, ◌≤◌, Bool, true, false, ◌||◌, eqb, List, [], ◌∷◌, ◌++◌, drop, length, slice_index, Option, Some, None, MatchOption, refl, ap, ap₂, sym, subst, ◌∙◌, arith, lit≤}
 use Rattle.vm_field.proofs.Places.{words-insert}
+use Rattle.vm_field.specs.Limits.{number_of_constants}
 use Rattle.vm_field.specs.Field.{prime, AreElements, felt_add}
 use Rattle.vm_field.specs.Machine.{WordMap, word_at, IsWord}
 use Rattle.vm_ops.proofs.ShownLemmas.{trap_of-shown}
@@ -120,7 +121,7 @@ words_behind x memory (Some word) new words = words-insert memory (ctx x, s x 0)
 next_clock : (n m : ℕ) → m ≡ felt_add n 1 → n < 2 ^ 19 → m ≡ n + 1
 next_clock n m e few = omega (arith, e, few)
 
-pub rows_show : (constants : List ℕ) (op next : Op) (x y : List ℕ) (e f : Elsewhere) → length constants ≡ 168 → is_ordinary_op op ≡ true
+pub rows_show : (constants : List ℕ) (op next : Op) (x y : List ℕ) (e f : Elsewhere) → length constants ≡ number_of_constants → is_ordinary_op op ≡ true
     → IsRowOf x e → ShowsRow op x → ShowsPair op next x y → GoesOnBy op x y e f → Lookups constants op x y e → ShowsStep constants op x y e f
 rows_show constants op next x y e f count is of row pair goes looks =
     let o = ordinary op is in

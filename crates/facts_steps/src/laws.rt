@@ -1,4 +1,5 @@
 ghost use Rattle.std.specs.Prelude.{◌≡◌, ℕ, suc, ◌^◌, ◌<◌, List, length, true, Ok};
+ghost use Rattle.vm_field.specs.Limits.{number_of_constants};
 ghost use Rattle.vm_field.specs.Machine.{IsWellFormed, State};
 ghost use Rattle.vm_ops.specs.Codes.{is_ordinary_op};
 ghost use Rattle.vm_ops.specs.Items.{IsOrdinaryItem};
@@ -20,10 +21,10 @@ ghost use Rattle.facts_steps.specs.Showing.{IsPlace, ShowsStep};
 /// show one step of the machine. It leads from the state of the row to that of the row behind it, each with what no row shows: the
 /// cells below the sixteenth, memory and the tape. So do two rows of a main table, of which the other rows say what they do not show.
 pub fn step_laws()
-    ensures shows { (constants : List ℕ) (op next : Op) (x y : List ℕ) (e f : Elsewhere) → length constants ≡ 168
+    ensures shows { (constants : List ℕ) (op next : Op) (x y : List ℕ) (e f : Elsewhere) → length constants ≡ number_of_constants
         → is_ordinary_op op ≡ true → IsRowOf x e → ShowsRow op x → ShowsPair op next x y → GoesOnBy op x y e f
         → Lookups constants op x y e → ShowsStep constants op x y e f }
-    ensures at_place { (constants : List ℕ) (k : Claim) (rows : List (List ℕ)) (i : ℕ) → length constants ≡ 168
+    ensures at_place { (constants : List ℕ) (k : Claim) (rows : List (List ℕ)) (i : ℕ) → length constants ≡ number_of_constants
         → ShowsRows k rows → IsPlace constants rows i
         → ShowsStep constants (op_in rows i) (row_at rows i) (row_at rows (suc i)) (elsewhere_at rows i) (elsewhere_at rows (suc i)) }
 {}
@@ -38,7 +39,7 @@ pub fn number_laws()
 /// The law of fillings: where a step of an ordinary item leads from one state to another, the two rows that show these states, with the
 /// cells that no state has filled in, have the facts of rows but those of their span, and ask the buses for what is so.
 pub fn fill_laws()
-    ensures fills { (constants : List ℕ) (item : Item) (s t : State) (x y : List ℕ) → length constants ≡ 168
+    ensures fills { (constants : List ℕ) (item : Item) (s t : State) (x y : List ℕ) → length constants ≡ number_of_constants
         → IsOrdinaryItem item → IsWellFormed s → s.core.clock < 2 ^ 19 → length s.core.stack < 2 ^ 20
         → step constants item s ≡ Ok t → ShowsState x s → ShowsState y t → FilledBy item.op x y (elsewhere_of s)
         → FillsRows constants item x y (elsewhere_of s) (elsewhere_of t) }

@@ -2,6 +2,7 @@
 use Rattle.std.proofs.Common.{◌≡◌, ◌≢◌, ℕ, zero, suc, ◌+◌, ◌^◌, ◌<◌, ◌≤◌, List, [], ◌∷◌, ◌++◌, length, map, All, refl, sym, ap, subst, ◌∙◌, arith}
 use Rattle.std.proofs.lemmas.List.{length-map}
 use Rattle.std.proofs.lemmas.List.Elements.{All-append}
+use Rattle.vm_field.specs.Limits.{number_of_constants}
 use Rattle.vm_field.specs.Machine.{IsWord}
 use Rattle.facts_hasher.specs.PermRows.{rows_of as perm_rows}
 use Rattle.facts_bitwise.specs.BitRows.{rows_of as bit_rows}
@@ -53,10 +54,10 @@ filled constants kernel r memory = record {
 
 -- ---- entries
 
-hasher-zero : (c : Claim) (constants : List ℕ) (perms : List Perm) → c.constants ≡ constants → length constants ≡ 168 → PermsFit constants perms
+hasher-zero : (c : Claim) (constants : List ℕ) (perms : List Perm) → c.constants ≡ constants → length constants ≡ number_of_constants → PermsFit constants perms
     → HasherIsZero c (perm_rows constants perms)
 hasher-zero c constants perms e =
-    subst (λ (k : List ℕ). length k ≡ 168 → PermsFit k perms → HasherIsZero c (perm_rows k perms)) e (λ len fit. (rows_show c perms len fit).zero)
+    subst (λ (k : List ℕ). length k ≡ number_of_constants → PermsFit k perms → HasherIsZero c (perm_rows k perms)) e (λ len fit. (rows_show c perms len fit).zero)
 
 none_at : (number : ℕ) → at_number [] number ≡ 0
 unfolding at_number
@@ -114,7 +115,7 @@ module _ (constants : List ℕ) (kernel : List (List ℕ)) (r : Requests) (memor
       most_in table.Kernel = let size = kernel-size (times_called r.calls) kernel in let room = fits.room.words in omega (arith, size, room)
       most_in table.Left = let size = length-map r.keys (λ (k : ℕ). k ∷ []) in let room = fits.room.keys in omega (arith, size, room)
 
-  zeros : length constants ≡ 168 → PermsFit constants r.perms → All IsWord kernel → (c : Claim) (name : TableName) (row number : ℕ)
+  zeros : length constants ≡ number_of_constants → PermsFit constants r.perms → All IsWord kernel → (c : Claim) (name : TableName) (row number : ℕ)
       → c.constants ≡ constants
       → c.kernel ≡ kernel → name ≢ table.Main → row < length (rows_of trace name) → value_at c trace name row number ≡ 0
   zeros len fit words c table.Main row number ec ek apart within = absurd (apart refl)
@@ -125,7 +126,7 @@ module _ (constants : List ℕ) (kernel : List (List ℕ)) (r : Requests) (memor
   zeros len fit words c table.Kernel row number ec ek apart within = kernel-zero c (times_called r.calls) kernel ek words row number within
   zeros len fit words c table.Left row number ec ek apart within = none_at number
 
-  gives : length constants ≡ 168 → Fits constants kernel r → All (λ p. IsState p.start) r.perms → All IsWord kernel
+  gives : length constants ≡ number_of_constants → Fits constants kernel r → All (λ p. IsState p.start) r.perms → All IsWord kernel
       → (on : Bus) (u : List ℕ) → on ≢ bus.Range
       → over_chips (λ name rows. over_rows (chip_given on name) rows u) trace ≡ counted (answers_on constants r on) u
   gives len fits states words bus.Blocks u apart = all_quiet _ _ _ _ _ _ u
@@ -145,7 +146,7 @@ module _ (constants : List ℕ) (kernel : List (List ℕ)) (r : Requests) (memor
       fifth_alone _ _ _ _ _ _ _ (over-quiet _ u) (over-quiet _ u) (over-quiet _ u) (over-quiet _ u)
       (kernel_gives kernel r.calls u words fits.calls) (over-quiet _ u)
 
-pub filled-answers : (constants : List ℕ) (kernel : List (List ℕ)) (r : Requests) (memory : List (List ℕ)) → length constants ≡ 168
+pub filled-answers : (constants : List ℕ) (kernel : List (List ℕ)) (r : Requests) (memory : List (List ℕ)) → length constants ≡ number_of_constants
     → Fits constants kernel r → All (λ p. IsState p.start) r.perms → HaveWords r.bits → ShowsAccesses r.accesses memory → All IsWord kernel
     → All (λ v. v < 65536) r.ranges → AnswersBeside constants kernel r (filled constants kernel r memory)
 filled-answers constants kernel r memory len fits states operands shown words small main some most =

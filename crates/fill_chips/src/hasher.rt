@@ -1,4 +1,5 @@
 ghost use Rattle.std.specs.Prelude.{◌≡◌, ◌*◌, ◌^◌, ◌≤◌, [], ◌∷◌, ◌++◌, length, All, IfOk, OnOk};
+ghost use Rattle.vm_field.specs.Limits.{number_of_constants};
 ghost use Rattle.rpo_hash.specs.States.{IsState};
 ghost use Rattle.vm_ops.specs.Values.{bit_of};
 ghost use Rattle.facts_hasher.specs.PermRows.{rows_before, rows_of};
@@ -19,7 +20,7 @@ pub(crate) fn hasher_table(
     requires room { 8 * length perms.now ≤ 2 ^ 22 }
     ensures rows { IfOk result (λ table. table ≡ rows_of permutations.old perms.now) }
     ensures states { IfOk result (λ table. All (λ p. IsState p.start) perms.now) }
-    ensures constants { length permutations.old ≡ 168 }
+    ensures constants { length permutations.old ≡ number_of_constants }
     ensures same { permutations.new ≡ permutations.old }
 {
     known_constants(permutations.params());

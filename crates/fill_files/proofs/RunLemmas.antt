@@ -3,6 +3,7 @@
 use Rattle.std.proofs.Common.{◌≡◌, ℕ, ◌^◌, ◌≤◌, List, [], ◌∷◌, length, sym, subst, arith}
 use Rattle.rpo_hash.specs.Constants.{constants_of}
 use Rattle.rpo_hash.specs.declared.params.Params.{Params}
+use Rattle.vm_field.specs.Limits.{most_cycles, most_outputs, number_of_constants}
 use Rattle.vm_field.specs.Machine.{State, IsWellFormed, filled_up, start}
 use Rattle.vm_field.proofs.Elements.{length-filled_up}
 use Rattle.vm_field.proofs.WellFormed.{start-IsWellFormed}
@@ -37,7 +38,7 @@ module _ (constants : List ℕ) (kernel : List (List ℕ)) (limit : ℕ) (tree :
   steps : Steps constants kernel limit (Block tree ∷ []) (start inputs tape) log u
   steps = run-steps constants kernel limit tree (start inputs tape) u log r.whole r.done
 
-  log_within : length log ≤ 524287
+  log_within : length log ≤ most_cycles
   unfolding start
   log_within = let within = steps_within constants kernel limit steps (omega arith) in let limited = r.within in omega (arith, within, limited)
 
@@ -45,7 +46,7 @@ module _ (constants : List ℕ) (kernel : List (List ℕ)) (limit : ℕ) (tree :
   unfolding start
   clock_at_end = let counts = log-counts constants kernel limit (steps-log constants kernel limit steps) in omega (arith, counts)
 
-  depth_at_end : length u.core.stack ≤ 524303
+  depth_at_end : length u.core.stack ≤ most_outputs
   unfolding start
   depth_at_end =
       let formed : IsWellFormed (start inputs tape) = start-IsWellFormed inputs tape r.inputs_are r.tape_is in
@@ -56,7 +57,7 @@ module _ (constants : List ℕ) (kernel : List (List ℕ)) (limit : ℕ) (tree :
   rows_within : length (rows_of (visible_of u.core) (events_of constants kernel log)) ≤ 2 ^ 19
   rows_within = omega (arith, rows_counted constants kernel u log, log_within)
 
-module _ (params : Params) (program : Program) (answer : Run) (size : length (constants_of params) ≡ 168)
+module _ (params : Params) (program : Program) (answer : Run) (size : length (constants_of params) ≡ number_of_constants)
     (was : WasExecuted params program answer) where
   abbrev constants : List ℕ
   constants = constants_of params
@@ -100,7 +101,7 @@ module _ (params : Params) (program : Program) (answer : Run) (size : length (co
       subst (λ events. length (rows_of (visible_of (core_of answer.state)) events) ≤ 2 ^ 19) (sym was.ran.events)
       (rows_within constants program.kernel was.limit (tree_of program.tree) was.inputs.stack was.inputs.advice u was.ran.log is_run)
 
-  pub deep : length answer.state.stack ≤ 524303
+  pub deep : length answer.state.stack ≤ most_outputs
   deep = depth_at_end constants program.kernel was.limit (tree_of program.tree) was.inputs.stack was.inputs.advice u was.ran.log is_run
 
   pub digest_is : answer.digest ≡ tree_digest constants (tree_of program.tree)

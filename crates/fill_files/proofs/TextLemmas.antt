@@ -3,6 +3,7 @@ use Rattle.std.proofs.Common.{ℕ, ◌+◌, ◌*◌, ◌<◌, ◌≤◌, List, [
 use Rattle.std.proofs.lemmas.List.{length-append}
 use Rattle.std.proofs.lemmas.List.Elements.{All-head, All-tail}
 use Rattle.std.proofs.lemmas.Fmt.{length-decimal-le}
+use Rattle.vm_field.specs.Limits.{most_outputs}
 use Rattle.vm_field.specs.Field.{AreElements, prime}
 use Rattle.vm_field.specs.Machine.{IsWord}
 use Rattle.vm_field.specs.WordText.{word_hex}
@@ -42,7 +43,7 @@ joined : (a b : List ℕ) (x y : ℕ) → length a ≤ x → length b ≤ y → 
 joined a b x y first second = omega (arith, first, second, length-append a b)
 
 pub short_text : (claim : Stated) → IsWord claim.digest → All IsWord claim.kernel → AreElements claim.inputs → AreElements claim.outputs
-    → length claim.inputs ≤ 16 → length claim.kernel ≤ 255 → length claim.outputs ≤ 524303 → length (statement_text claim) ≤ most_statement_bytes
+    → length claim.inputs ≤ 16 → length claim.kernel ≤ 255 → length claim.outputs ≤ most_outputs → length (statement_text claim) ≤ most_statement_bytes
 unfolding statement_text
 short_text claim digest kernel inputs outputs few words deep =
     let of_digest : length (word_hex claim.digest) ≤ 64 = let four = digest.size in omega (arith, four, length-word_hex claim.digest) in

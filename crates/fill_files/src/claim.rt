@@ -1,4 +1,5 @@
 ghost use Rattle.std.specs.Prelude.{◌≡◌, ◌≤◌, length, IfOk};
+ghost use Rattle.vm_field.specs.Limits.{most_outputs};
 ghost use Rattle.statement.specs.Statements.{claim_of};
 ghost use Rattle.fill_files.specs.RunFiles.{IsStatementFileOf, claim_with};
 
@@ -21,7 +22,7 @@ pub fn statement_file_of_run(
     inputs: Inputs,
     end: &RunEnd,
 ) -> Result<Bytes, Memory>
-    requires { length end.now.state.stack ≤ 524303 }
+    requires { length end.now.state.stack ≤ most_outputs }
     ensures { IfOk result (IsStatementFileOf (claim_with end.now.digest program.kernel inputs.stack end.now.state.stack)) }
 {
     let statement = statement_of_run(alloc, program, inputs, end)?;
@@ -35,7 +36,7 @@ fn statement_of_run(
     inputs: Inputs,
     end: &RunEnd,
 ) -> Result<Statement, Memory>
-    requires { length end.now.state.stack ≤ 524303 }
+    requires { length end.now.state.stack ≤ most_outputs }
     ensures { IfOk result (λ s. claim_of s ≡ claim_with end.now.digest program.kernel inputs.stack end.now.state.stack) }
 {
     let outputs = cells_of(alloc, &end.state)?;

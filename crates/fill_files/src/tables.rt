@@ -1,4 +1,5 @@
 ghost use Rattle.std.specs.Prelude.{◌≡◌, ◌≤◌, length, IfOk, Ok};
+ghost use Rattle.vm_field.specs.Limits.{most_outputs};
 ghost use Rattle.rpo_hash.specs.Constants.{constants_of};
 ghost use Rattle.block_tree.specs.Trees.{tree_digest};
 ghost use Rattle.block_tree.specs.TreeView.{tree_of};
@@ -34,7 +35,7 @@ pub fn trace_of_run(
     ensures counts { IfOk result (λ r. HasCounts r.0) }
     ensures state { IfOk result (λ r. r.1.state ≡ run.state) }
     ensures digest { IfOk result (λ r. r.1.digest ≡ tree_digest (constants_of params.now) (tree_of program.now.tree)) }
-    ensures depth { IfOk result (λ r. length r.1.state.stack ≤ 524303) }
+    ensures depth { IfOk result (λ r. length r.1.state.stack ≤ most_outputs) }
 {
     let (trace, end) = tables_of_run(alloc, params, program, run)?;
     known_file(&trace);

@@ -1,4 +1,5 @@
 ghost use Rattle.std.specs.Prelude.{◌≡◌, ◌^◌, ◌≤◌, length, IfOk};
+ghost use Rattle.vm_field.specs.Limits.{most_outputs};
 ghost use Rattle.rpo_hash.specs.Constants.{constants_of};
 ghost use Rattle.vm_table.specs.Layout.{IsTable};
 ghost use Rattle.air_kit.specs.Requests.{Fits};
@@ -57,7 +58,7 @@ pub(crate) fn tables_of_run(
     ensures short { IfOk result (λ r. IsShort r.0) }
     ensures state { IfOk result (λ r. r.1.state ≡ run.state) }
     ensures digest { IfOk result (λ r. r.1.digest ≡ tree_digest (constants_of params.now) (tree_of program.now.tree)) }
-    ensures depth { IfOk result (λ r. length r.1.state.stack ≤ 524303) }
+    ensures depth { IfOk result (λ r. length r.1.state.stack ≤ most_outputs) }
 {
     known_run(params, program, &run);
     let filled = fill_run(alloc, run)?;
@@ -99,7 +100,7 @@ fn known_run(params: &Params, _program: &Program, _run: &Run)
     ensures asked { HasFew (requests_of (constants_of params.now) (visible_of (core_of _run.now.state)) _run.now.events) }
     ensures has { 1 ≤ length (rows_of (visible_of (core_of _run.now.state)) _run.now.events) }
     ensures few { length (rows_of (visible_of (core_of _run.now.state)) _run.now.events) ≤ 2 ^ 19 }
-    ensures depth { length _run.now.state.stack ≤ 524303 }
+    ensures depth { length _run.now.state.stack ≤ most_outputs }
     ensures digest { _run.now.digest ≡ tree_digest (constants_of params.now) (tree_of _program.now.tree) }
     ensures permutations { _run.now.permutations ≡ constants_of params.now }
 {

@@ -21,23 +21,7 @@ use machine_cycles::{Event, Visible};
 use op_pack::in_use;
 use vm_field::{Felt, Memory};
 use vm_ops::{Kind, kind_of};
-
-// The columns at which the parts of a row begin (docs/CONSTRAINTS.md).
-const CLK: usize = 0;
-
-const ADDR: usize = 8;
-
-const H0: usize = 16;
-
-const SP: usize = 24;
-
-const S0: usize = 30;
-
-const DEPTH: usize = 46;
-
-const W0: usize = 51;
-
-const T0: usize = 55;
+use vm_table::column;
 
 /// Writes the row of an event before the state behind it, where its loop's body is repeated so often,
 /// over the row that stands there: each cell is written.
@@ -57,15 +41,15 @@ pub(crate) fn write_row(
         → OnOk result (row.new ≡ row_of (decoder_in decoder.now) event.now next.now later) }
 {
     let kind = kind_of(event.op);
-    write_cells(row, CLK, &state_cells(&event.before));
-    write_cells(row, ADDR, &open_cells(decoder, event)?);
-    write_cells(row, H0, &hash_cells(kind, decoder, event));
-    write_cells(row, SP, &batch_cells(kind, decoder, event)?);
-    write_cells(row, S0, &stack_cells(&event.before));
-    write_cells(row, DEPTH, &key_cells(inverses, decoder, event)?);
+    write_cells(row, column::CLK, &state_cells(&event.before));
+    write_cells(row, column::ADDR, &open_cells(decoder, event)?);
+    write_cells(row, column::H, &hash_cells(kind, decoder, event));
+    write_cells(row, column::SP, &batch_cells(kind, decoder, event)?);
+    write_cells(row, column::S, &stack_cells(&event.before));
+    write_cells(row, column::DEPTH, &key_cells(inverses, decoder, event)?);
     let witnesses = witness_cells(inverses, kind, decoder, event, next, turns)?;
-    write_cells(row, W0, &witnesses);
-    write_cells(row, T0, &limbs_of(event, next).cells);
+    write_cells(row, column::W, &witnesses);
+    write_cells(row, column::T, &limbs_of(event, next).cells);
     Ok(())
 }
 

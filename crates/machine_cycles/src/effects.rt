@@ -1,4 +1,5 @@
 ghost use Rattle.std.specs.Prelude.{◌≡◌, ◌+◌, ◌-◌, ◌^◌, ◌<◌, ◌≤◌, Err, [], drop, length, nat_lt, OnOk};
+ghost use Rattle.vm_field.specs.Limits.{most_cycles};
 ghost use Rattle.block_tree.specs.Cycles.{and_then, closes, effect_of, enters_call, enters_syscall, is_in_kernel, opens, pops_bit, reads, returns_to, top};
 ghost use Rattle.vm_state.specs.Views.{core_of};
 ghost use Rattle.machine_cycles.specs.Effects.{Effected, Opened};
@@ -9,7 +10,7 @@ use crate::mark::{Frame, Mark};
 use crate::setting::Setting;
 use op_steps::StepStop;
 use tree_hash::Batch;
-use vm_field::{Felt, Word};
+use vm_field::{Felt, MOST_NESTING, Word};
 use vm_ops::Cause;
 use vm_state::{Aside, State};
 
@@ -25,7 +26,7 @@ pub(crate) fn effect(
     setting: &Setting,
     mark: Mark,
 ) -> Result<(), StepStop>
-    requires clock { state.old.clock ≤ 524287 }
+    requires clock { state.old.clock ≤ most_cycles }
     ensures effect { Effected (effect_of (constants_in setting.now) setting.now.kernel.now (mark_of mark) []
         (core_of state.old)) result state.old state.new }
     ensures hidden { OnOk result (SetsAside mark state.old.stack hidden.new) }
@@ -44,9 +45,6 @@ pub(crate) fn effect(
         Mark::EndCall(_, frame) | Mark::EndSyscall(_, frame) => return_to(state, frame),
     }
 }
-
-/// The greatest number of blocks that have started and not ended.
-const MOST_NESTED: u32 = 1024;
 
 fn start_opaque(state: &mut State) -> Result<(), StepStop>
     ensures { Effected (opens (λ c. Err Cause.OpaqueBlock) (core_of state.old)) result state.old state.new }
@@ -76,7 +74,7 @@ fn start_on_bit(state: &mut State) -> Result<(), StepStop>
 }
 
 fn start_call(state: &mut State, hidden: &mut Aside, callee: &Word) -> Result<(), StepStop>
-    requires clock { state.old.clock ≤ 524287 }
+    requires clock { state.old.clock ≤ most_cycles }
     ensures effect { Effected (opens (enters_call callee.now) (core_of state.old)) result state.old state.new }
     ensures hidden { OnOk result (hidden.new ≡ drop 16 state.old.stack) }
 {
@@ -109,7 +107,7 @@ fn end_loop(state: &mut State) -> Result<(), StepStop>
 fn open(state: &mut State) -> Result<(), StepStop>
     ensures { Opened result state.old state.new }
 {
-    if state.nesting < MOST_NESTED {
+    if state.nesting < MOST_NESTING {
         state.nesting += 1;
         Ok(())
     } else {
@@ -154,7 +152,7 @@ fn read(state: &mut State, batch: &Batch) -> Result<(), StepStop>
 // The callee has a context and a digest of its own.
 #[tactic(auto, unfolding(block_tree::specs::Cycles::enters_call))]
 fn enter_call(state: &mut State, hidden: &mut Aside, callee: &Word) -> Result<(), StepStop>
-    requires clock { state.old.clock ≤ 524287 }
+    requires clock { state.old.clock ≤ most_cycles }
     ensures effect { Effected (enters_call callee.now (core_of state.old)) result state.old state.new }
     ensures hidden { OnOk result (hidden.new ≡ drop 16 state.old.stack) }
 {

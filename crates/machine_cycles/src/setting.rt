@@ -1,4 +1,5 @@
 ghost use Rattle.std.specs.Prelude.{◌≤◌};
+ghost use Rattle.vm_field.specs.Limits.{most_cycles};
 
 use rpo_hash::Params;
 use std::alloc::Global;
@@ -13,5 +14,5 @@ pub struct Setting<'a> {
     pub kernel: &'a [Word],
     /// The clock at which the run is cut off.
     pub limit: u32,
-    pub ghost few: { limit ≤ 524287 },
+    pub ghost few: { limit ≤ most_cycles },
 }

@@ -1,5 +1,6 @@
 -- Each instruction has its effect.
 use Rattle.std.proofs.Common.{◌≡◌, ℕ, ◌<◌, true, List, length, Ok}
+use Rattle.vm_field.specs.Limits.{number_of_constants}
 use Rattle.vm_field.specs.Machine.{State, IsWellFormed}
 use Rattle.masm_effects.proofs.Sized.{sized-of}
 use Rattle.masm_instr.specs.declared.name.Name.{Name}
@@ -25,7 +26,7 @@ use Rattle.masm_effects.proofs.Bits32.{meets-u32checked_and, meets-u32checked_xo
 use Rattle.masm_effects.proofs.Memory.{meets-mem_load, meets-mem_loadw, meets-mem_store, meets-mem_storew, meets-locaddr, meets-loc_load, meets-loc_loadw, meets-loc_store, meets-loc_storew}
 use Rattle.masm_effects.proofs.Readings.{meets-sdepth, meets-caller, meets-clk, meets-adv_push, meets-adv_loadw, meets-hperm, meets-hmerge}
 
-meets : (constants : List ℕ) (locals : ℕ) (s : State) → length constants ≡ 168 → IsWellFormed s → (name : Name) → MeetsAll constants locals s name
+meets : (constants : List ℕ) (locals : ℕ) (s : State) → length constants ≡ number_of_constants → IsWellFormed s → (name : Name) → MeetsAll constants locals s name
 meets constants locals s count well names.Add = meets-add constants locals s
 meets constants locals s count well names.Sub = meets-sub constants locals s
 meets constants locals s count well names.Mul = meets-mul constants locals s
@@ -119,14 +120,14 @@ meets constants locals s count well names.LocStorew = meets-loc_storew constants
 meets constants locals s count well names.Hperm = meets-hperm constants locals s count
 meets constants locals s count well names.Hmerge = meets-hmerge constants locals s count
 
-pub instruction-effects : (constants : List ℕ) (locals : ℕ) (s : State) → length constants ≡ 168 → IsWellFormed s
+pub instruction-effects : (constants : List ℕ) (locals : ℕ) (s : State) → length constants ≡ number_of_constants → IsWellFormed s
     → (name : Name) (numbers : List ℕ) → is_in_form name numbers ≡ true
     → HasEffect constants (expansion name numbers locals) s (instr_effect constants name numbers locals s)
 instruction-effects constants locals s count well name numbers form =
     has-effect constants (expansion name numbers locals) s (instr_effect constants name numbers locals s) count
     (sized-of s.core well.core) (meets constants locals s count well name numbers form)
 
-pub instruction-kept : (constants : List ℕ) (locals : ℕ) (s t : State) → length constants ≡ 168 → IsWellFormed s
+pub instruction-kept : (constants : List ℕ) (locals : ℕ) (s t : State) → length constants ≡ number_of_constants → IsWellFormed s
     → (name : Name) (numbers : List ℕ) → is_in_form name numbers ≡ true → (names_local name ≡ true → first numbers < locals)
     → run constants (expansion name numbers locals) s ≡ Ok t → IsWellFormed t
 instruction-kept constants locals s t count well name numbers form local e =

@@ -2,6 +2,7 @@
 use Rattle.std.proofs.Common.{◌≡◌, ℕ, ◌+◌, ◌-◌, ◌≤◌, max, Bool, true, false, List, ◌++◌, length, drop, Option, Some, None, Result, Ok, is_some, refl, sym, ◌∙◌, ap, arith, add-zero}
 use Rattle.std.proofs.lemmas.List.{length-append, length-drop, drop-append-le, append_assoc}
 use Rattle.vm_field.proofs.Elements.{length-filled_up}
+use Rattle.vm_field.specs.Limits.{number_of_constants}
 use Rattle.vm_field.specs.Machine.{Core, State, WordMap, filled_up}
 use Rattle.vm_ops.specs.declared.cause.Cause.{Cause}
 use Rattle.vm_ops.specs.declared.item.Item.{Item}
@@ -107,7 +108,7 @@ answers (Some cause) true r c rest w target e is same = (cause, is)
 answers None true r c rest w target e does same = cc
 answers (Some cause) false r c rest w target e does same = cc
 
-pub has-effect : (constants : List ℕ) (items : List Item) (s : State) (e : Effect) → length constants ≡ 168 → IsSized s.core
+pub has-effect : (constants : List ℕ) (items : List Item) (s : State) (e : Effect) → length constants ≡ number_of_constants → IsSized s.core
     → Meets constants items s e → HasEffect constants items s e
 unfolding HasEffect
 has-effect constants items s e count sized meets =

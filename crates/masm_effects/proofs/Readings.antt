@@ -1,6 +1,7 @@
 -- The instructions that read the state, the advice, and those that hash.
 use Rattle.std.proofs.Common.{◌≡◌, ℕ, zero, suc, ◌+◌, ◌-◌, ◌%◌, ◌≤◌, max, Bool, true, false, not, ◌&&◌, ◌||◌, nat_lt, nat_le, List, [], ◌∷◌, ◌++◌, length, drop, take, reverse, slice_index, Option, None, is_some, refl, sym, ◌∙◌, ap, subst, inl, inr, lit≤, arith, lt-ltb, le-ltb, ltb-true, ltb-false}
 use Rattle.std.proofs.lemmas.Bool.{cases_lt}
+use Rattle.vm_field.specs.Limits.{number_of_constants}
 use Rattle.vm_field.specs.Field.{prime}
 use Rattle.vm_field.specs.Machine.{State, IsWellFormed}
 use Rattle.vm_ops.specs.declared.cause.Cause.{Cause}
@@ -170,20 +171,20 @@ meets-adv_loadw constants locals s numbers form =
 abbrev permuted_cells : List ℕ → List ℕ → List ℕ
 permuted_cells constants xs = permuted constants (reverse xs)
 
-twelve-left : (constants xs : List ℕ) → length constants ≡ 168 → length xs ≡ 12 → length (permuted_cells constants xs) ≡ 12
+twelve-left : (constants xs : List ℕ) → length constants ≡ number_of_constants → length xs ≡ 12 → length (permuted_cells constants xs) ≡ 12
 twelve-left constants xs count twelve = length-permuted constants (reverse xs) count (length-reverse xs ∙ twelve)
 
 all-left : (xs rest : List ℕ) → length xs ≡ 12 → listed 12 0 (reverse xs ++ []) ++ rest ≡ reverse xs ++ rest
 all-left xs rest twelve =
     ap (λ (ys : List ℕ). ys ++ rest) (ap (listed 12 0) (append-nil (reverse xs)) ∙ listed-all 12 (reverse xs) (length-reverse xs ∙ twelve))
 
-hperm-alone : (constants : List ℕ) (locals : ℕ) (s : State) → length constants ≡ 168 → MeetsAt constants locals s names.Hperm []
+hperm-alone : (constants : List ℕ) (locals : ℕ) (s : State) → length constants ≡ number_of_constants → MeetsAt constants locals s names.Hperm []
 unfolding expansion front instr_effect last trap fits left_cells computed trap_of
 hperm-alone constants locals s count =
     acts _ _ _ _ _ _ _ (lit≤ tt) refl refl refl refl refl
     (λ free. all-left (permuted_cells constants (cells s 12 0)) _ (twelve-left constants (cells s 12 0) count refl))
 
-pub meets-hperm : (constants : List ℕ) (locals : ℕ) (s : State) → length constants ≡ 168 → MeetsAll constants locals s names.Hperm
+pub meets-hperm : (constants : List ℕ) (locals : ℕ) (s : State) → length constants ≡ number_of_constants → MeetsAll constants locals s names.Hperm
 meets-hperm constants locals s count numbers form =
     by_none names.Hperm (MeetsAt constants locals s names.Hperm) numbers refl form (hperm-alone constants locals s count)
 
@@ -194,13 +195,13 @@ digest-left xs rest twelve =
     let P : List ℕ → Type 0 = λ ys. listed 4 4 (reverse ys ++ []) ++ rest ≡ reverse (listed 4 0 (take 4 (drop 4 ys))) ++ rest in
     subst P (listed-all 12 xs twelve) refl
 
-hmerge-alone : (constants : List ℕ) (locals : ℕ) (s : State) → length constants ≡ 168 → MeetsAt constants locals s names.Hmerge []
+hmerge-alone : (constants : List ℕ) (locals : ℕ) (s : State) → length constants ≡ number_of_constants → MeetsAt constants locals s names.Hmerge []
 unfolding hashed expansion front instr_effect last trap fits left_cells computed trap_of
 hmerge-alone constants locals s count =
     acts _ _ _ _ _ _ _ (lit≤ tt) refl refl refl refl refl
     (λ free. digest-left (permuted_cells constants (cells s 8 0 ++ 0 ∷ 0 ∷ 0 ∷ 0 ∷ [])) _
     (twelve-left constants (cells s 8 0 ++ 0 ∷ 0 ∷ 0 ∷ 0 ∷ []) count refl))
 
-pub meets-hmerge : (constants : List ℕ) (locals : ℕ) (s : State) → length constants ≡ 168 → MeetsAll constants locals s names.Hmerge
+pub meets-hmerge : (constants : List ℕ) (locals : ℕ) (s : State) → length constants ≡ number_of_constants → MeetsAll constants locals s names.Hmerge
 meets-hmerge constants locals s count numbers form =
     by_none names.Hmerge (MeetsAt constants locals s names.Hmerge) numbers refl form (hmerge-alone constants locals s count)

@@ -2,6 +2,7 @@
 use Rattle.std.proofs.Common.{◌≡◌, ℕ, zero, suc, ◌+◌, ◌-◌, ◌≤◌, max, ◌⊎◌, inl, inr, Bool, true, false, ◌||◌, not, nat_le, nat_lt, List, [], ◌∷◌, ◌++◌, length, take, drop, slice_index, Option, Some, None, Result, Ok, Err, refl, sym, ◌∙◌, ap, subst, arith, leb-true, ltb-true, ltb-false, le-ltb}
 use Rattle.std.proofs.lemmas.Bool.{and_parts, or_cases}
 use Rattle.std.proofs.lemmas.List.{get_or_append_left, length-append, length-drop, length-take-le}
+use Rattle.vm_field.specs.Limits.{number_of_constants}
 use Rattle.vm_field.specs.Machine.{Core, State, word_at}
 use Rattle.vm_ops.specs.declared.cause.Cause.{Cause}
 use Rattle.vm_ops.specs.declared.cause.Cause.TheVariants as causes
@@ -70,7 +71,7 @@ seen-is constants c rest item w s sized shows enough taken =
     cc
 
 -- what it then sees is of the right size
-seen-sized : (constants : List ℕ) (c : Core) (item : Item) (w : Window) → length constants ≡ 168 → 16 ≤ length w.cells
+seen-sized : (constants : List ℕ) (c : Core) (item : Item) (w : Window) → length constants ≡ number_of_constants → 16 ≤ length w.cells
     → IsSeenBy item.op (seen_in constants c item w)
 seen-sized constants c item w e enough = record {
   constants = e;
@@ -109,7 +110,7 @@ behind op v s = record {
   tape = drop (advice_of op) s.tape;
 }
 
-shows-next : (constants : List ℕ) (c : Core) (rest : List ℕ) (item : Item) (w : Window) (s : State) → length constants ≡ 168
+shows-next : (constants : List ℕ) (c : Core) (rest : List ℕ) (item : Item) (w : Window) (s : State) → length constants ≡ number_of_constants
     → 16 ≤ length c.stack → Room item w.cells → WindowShows c rest w s
     → WindowShows c rest (next constants c item w) (behind item.op (seen_in constants c item w) s)
 unfolding stack_after
@@ -159,7 +160,7 @@ short-or : (short : Bool) (own : Option Cause) (r : Result State Cause) (c : Cor
 short-or true own r c rest w lacks does = lacks refl
 short-or false own r c rest w lacks does = does refl
 
-pub step-does : (constants : List ℕ) (c : Core) (rest : List ℕ) (item : Item) (w : Window) (s : State) → length constants ≡ 168
+pub step-does : (constants : List ℕ) (c : Core) (rest : List ℕ) (item : Item) (w : Window) (s : State) → length constants ≡ number_of_constants
     → 16 ≤ length c.stack → has_room item w.cells ≡ true → IsSized s.core → WindowShows c rest w s
     → Does (trap_in constants c item w) (step constants item s) c rest (next constants c item w)
 step-does constants c rest item w s e deep has sized shows =
@@ -191,7 +192,7 @@ run-on constants c rest items w v None later r (t, is, shows) go =
     subst P (sym is) (go t is shows)
 run-on constants c rest items w v (Some cause) later r is go = ap (after_ok (run constants items)) is
 
-pub run-does : (constants : List ℕ) (c : Core) (rest : List ℕ) (items : List Item) (w : Window) (s : State) → length constants ≡ 168
+pub run-does : (constants : List ℕ) (c : Core) (rest : List ℕ) (items : List Item) (w : Window) (s : State) → length constants ≡ number_of_constants
     → 16 ≤ length c.stack → fits constants c items w ≡ true → IsSized s.core → WindowShows c rest w s
     → Does (trap constants c items w) (run constants items s) c rest (last constants c items w)
 unfolding run last trap fits

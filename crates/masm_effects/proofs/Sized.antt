@@ -4,6 +4,7 @@ use Rattle.std.proofs.lemmas.List.{length-drop, length-take-le}
 use Rattle.std.specs.FinMap.{insert}
 use Rattle.std.specs.Option.{MatchOption}
 use Rattle.vm_field.proofs.Places.{same_place, word_at-insert_same, word_at-insert_other}
+use Rattle.vm_field.specs.Limits.{number_of_constants}
 use Rattle.vm_field.specs.Machine.{Core, State, WordMap, word_at, IsWellFormedCore}
 use Rattle.vm_ops.proofs.Sizing.{length-stack_after}
 use Rattle.vm_ops.proofs.StepLemmas.{stepped}
@@ -44,7 +45,7 @@ words-kept memory context place (Some word) h e c a =
       | inr differ ↦ rw (word_at-insert_other memory (context, place) word c a differ) (h c a)
     ]
 
-pub step-sized : (constants : List ℕ) (item : Item) (s t : State) → length constants ≡ 168 → IsSized s.core
+pub step-sized : (constants : List ℕ) (item : Item) (s t : State) → length constants ≡ number_of_constants → IsSized s.core
     → step constants item s ≡ Ok t → IsSized t.core
 step-sized constants item s t f h e =
     let done = stepped constants item s t e in

@@ -1,5 +1,6 @@
 -- By induction on the items: a cycle of an operation is its step.
 use Rattle.std.proofs.Common.{◌≡◌, ◌≢◌, ℕ, ◌+◌, ◌≤◌, Bool, true, false, cond, nat_lt, List, [], ◌∷◌, length, Result, Ok, Err, refl, sym, ◌∙◌, arith, lt-ltb}
+use Rattle.vm_field.specs.Limits.{number_of_constants}
 use Rattle.vm_field.specs.Machine.{State, IsWellFormed}
 use Rattle.vm_ops.specs.declared.cause.Cause.{Cause}
 use Rattle.vm_ops.specs.declared.item.Item.{Item}
@@ -68,7 +69,7 @@ comes-to false (Done t events) r target agrees within answers =
 comes-to false (Trap clock cause) r target agrees within answers = absurd (let no : Err cause ≡ Ok target = sym agrees ∙ answers in cc)
 comes-to false OutOfCycles r target agrees within answers = absurd (within refl)
 
-pub operations-effect : (constants : List ℕ) (kernel : List (List ℕ)) (limit locals : ℕ) (s : State) → length constants ≡ 168 → IsWellFormed s
+pub operations-effect : (constants : List ℕ) (kernel : List (List ℕ)) (limit locals : ℕ) (s : State) → length constants ≡ number_of_constants → IsWellFormed s
     → (name : Name) (numbers : List ℕ) → is_in_form name numbers ≡ true → s.core.clock + length (expansion name numbers locals) ≤ limit
     → TrapsOrIsDone (instr_effect constants name numbers locals s).traps (operations constants kernel limit (expansion name numbers locals) s)
     (affected (instr_effect constants name numbers locals s) (length (expansion name numbers locals)) s)

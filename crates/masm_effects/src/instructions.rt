@@ -4,6 +4,7 @@ ghost use Rattle.masm_instr.specs.declared.name.Name.{Name};
 ghost use Rattle.masm_effects.specs.Effects.{instr_effect};
 ghost use Rattle.masm_expand.specs.Expansion.{expansion};
 ghost use Rattle.masm_instr.specs.Instructions.{first, is_in_form, names_local};
+ghost use Rattle.vm_field.specs.Limits.{number_of_constants};
 ghost use Rattle.vm_field.specs.Machine.{IsWellFormed, State};
 ghost use Rattle.vm_ops.specs.declared.cause.Cause.{Cause};
 ghost use Rattle.vm_ops.specs.Runs.{run};
@@ -14,10 +15,10 @@ ghost use Rattle.vm_ops.specs.Runs.{run};
 /// formed where a local that the instruction names is one of the procedure's. The cause of a trap is
 /// that of the first operation that traps.
 pub fn effect_laws()
-    ensures effects { (constants : List ℕ) (locals : ℕ) (s : State) → length constants ≡ 168
+    ensures effects { (constants : List ℕ) (locals : ℕ) (s : State) → length constants ≡ number_of_constants
         → IsWellFormed s → (name : Name) (numbers : List ℕ) → is_in_form name numbers ≡ true
         → HasEffect constants (expansion name numbers locals) s (instr_effect constants name numbers locals s) }
-    ensures kept { (constants : List ℕ) (locals : ℕ) (s t : State) → length constants ≡ 168
+    ensures kept { (constants : List ℕ) (locals : ℕ) (s t : State) → length constants ≡ number_of_constants
         → IsWellFormed s → (name : Name) (numbers : List ℕ) → is_in_form name numbers ≡ true
         → (names_local name ≡ true → first numbers < locals)
         → run constants (expansion name numbers locals) s ≡ Ok t → IsWellFormed t }

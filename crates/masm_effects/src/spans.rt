@@ -6,6 +6,7 @@ ghost use Rattle.masm_instr.specs.declared.name.Name.{Name};
 ghost use Rattle.masm_effects.specs.Effects.{instr_effect};
 ghost use Rattle.masm_expand.specs.Expansion.{expansion};
 ghost use Rattle.masm_instr.specs.Instructions.{is_in_form};
+ghost use Rattle.vm_field.specs.Limits.{number_of_constants};
 ghost use Rattle.vm_field.specs.Machine.{IsWellFormed, State};
 ghost use Rattle.vm_ops.specs.declared.item.Item.{Item};
 ghost use Rattle.vm_ops.specs.Runs.{run};
@@ -20,7 +21,7 @@ pub fn span_laws()
         → s.core.clock + length items ≤ limit
         → operations constants kernel limit items s ≢ OutOfCycles }
     ensures effects { (constants : List ℕ) (kernel : List (List ℕ)) (limit locals : ℕ) (s : State)
-        → length constants ≡ 168 → IsWellFormed s → (name : Name) (numbers : List ℕ)
+        → length constants ≡ number_of_constants → IsWellFormed s → (name : Name) (numbers : List ℕ)
         → is_in_form name numbers ≡ true
         → s.core.clock + length (expansion name numbers locals) ≤ limit
         → TrapsOrIsDone (instr_effect constants name numbers locals s).traps

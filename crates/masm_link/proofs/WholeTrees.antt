@@ -6,6 +6,7 @@ use Rattle.std.proofs.lemmas.Option.{same_Some}
 use Rattle.std.specs.List.{Contains}
 use Rattle.std.specs.Option.{option_to_list}
 use Rattle.block_tree.specs.Trees.{Tree, tree_height}
+use Rattle.block_tree.specs.KnownTrees.{HasNoOpaque}
 use Rattle.block_tree.specs.TreeView.{tree_of}
 use Rattle.masm_tree.specs.declared.tree.Position.{Position}
 use Rattle.masm_tree.specs.Trees.{Procedure, Source, position_of}
@@ -15,7 +16,7 @@ use Rattle.masm_names.proofs.DoubleLemmas.{cons_here}
 use Rattle.masm_flat.specs.Blocks.{Block, Span, Join, Split, Loop, Call, Syscall, seen_as, as_tree, as_operations, as_height}
 use Rattle.masm_flat.specs.Lists.{Exported, IsBlockOf}
 use Rattle.masm_link.specs.Assembling.{assembled}
-use Rattle.masm_link.specs.Laws.{HasNoOpaque, IsWithinLimits, AssembledTrees}
+use Rattle.masm_link.specs.Laws.{IsWithinLimits, AssembledTrees}
 use Rattle.masm_link.specs.Refusals.{IsTooLarge, too_many_operations, too_deep, dangling, oversized, Links}
 
 -- a block's tree is whole, and as high as the block

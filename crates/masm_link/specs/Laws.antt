@@ -1,28 +1,20 @@
 -- The trees of assembled programs, and that a source has one.
 use Rattle.std.specs.Prelude.{◌≡◌, ℕ, ◌≤◌, List, Option, Result, Ok, Err}
+use Rattle.vm_field.specs.Limits.{most_nesting, most_operations}
 use Rattle.block_tree.specs.declared.program.Program.{Program}
-use Rattle.block_tree.specs.Trees.{Tree, Opaque, Span, Join, Split, Loop, Call, Syscall, tree_height}
+use Rattle.block_tree.specs.Trees.{Tree, tree_height}
+use Rattle.block_tree.specs.KnownTrees.{HasNoOpaque}
 use Rattle.block_tree.specs.TreeView.{tree_of}
 use Rattle.masm_flat.specs.Blocks.{Block, seen_as, as_tree, as_operations}
 use Rattle.masm_link.specs.declared.refusal.AsmError.{AsmError}
 use Rattle.masm_link.specs.declared.refusal.AsmError.TheVariants.{Memory}
 use Rattle.masm_link.specs.Assembling.{Assembles}
 
--- each block of the tree is known whole
-abbrev pub HasNoOpaque : Tree → Type 0
-HasNoOpaque (Opaque digest) = ⊥
-HasNoOpaque (Span batches) = Unit {0}
-HasNoOpaque (Join first second) = HasNoOpaque first × HasNoOpaque second
-HasNoOpaque (Split on_one on_zero) = HasNoOpaque on_one × HasNoOpaque on_zero
-HasNoOpaque (Loop body) = HasNoOpaque body
-HasNoOpaque (Call callee) = HasNoOpaque callee
-HasNoOpaque (Syscall callee) = HasNoOpaque callee
-
 -- the tree of a block within the limits
 pub record IsWithinLimits (tree : Tree) (block : Block) : Type 0 where
   pub is : tree ≡ seen_as as_tree block
-  pub operations : seen_as as_operations block ≤ 524288
-  pub height : tree_height tree ≤ 1024
+  pub operations : seen_as as_operations block ≤ most_operations
+  pub height : tree_height tree ≤ most_nesting
   pub whole : HasNoOpaque tree
 
 abbrev pub AssembledTrees : Type 0

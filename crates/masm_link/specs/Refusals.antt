@@ -4,6 +4,7 @@ pub use Rattle.masm_tree.specs.Trees.{position_of}
 pub use Rattle.masm_names.specs.Naming.{at_constant, exported_of, Dangles, IsClosed, Doubles}
 use Rattle.std.specs.Prelude.{◌≡◌, ◌<◌, List, Option, Some, None, MatchOption}
 use Rattle.std.specs.List.{AllZip, Any}
+use Rattle.vm_field.specs.Limits.{most_nesting, most_operations}
 use Rattle.masm_tree.specs.declared.tree.Position.{Position}
 use Rattle.masm_tree.specs.Trees.{Procedure, Source}
 use Rattle.masm_names.specs.declared.refusal.LinkCause.{LinkCause}
@@ -15,9 +16,9 @@ use Rattle.masm_tables.specs.Kernels.{names_of}
 
 -- a procedure whose tree is too large
 pub data IsTooLarge (procs : List Procedure) (kernel : List Exported) (p : Procedure) : Position → LinkCause → Type 0 where
-  too_many_operations : (block : Block) → IsBlockOf procs kernel p block → 524288 < seen_as as_operations block
+  too_many_operations : (block : Block) → IsBlockOf procs kernel p block → most_operations < seen_as as_operations block
       → IsTooLarge procs kernel p (position_of p) causes.TooManyOps
-  too_deep : (block : Block) → IsBlockOf procs kernel p block → 1024 < seen_as as_height block
+  too_deep : (block : Block) → IsBlockOf procs kernel p block → most_nesting < seen_as as_height block
       → IsTooLarge procs kernel p (position_of p) causes.TooDeep
 
 abbrev pub Oversized : Source → List Exported → Position → LinkCause → Type 0

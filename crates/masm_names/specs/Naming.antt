@@ -1,6 +1,7 @@
 -- What is refused of the names and the uses of a source (docs/ASSEMBLY.md, "What is refused").
 use Rattle.std.specs.Prelude.{◌≡◌, ℕ, true, List, ◌∷◌, ◌++◌, length, None}
 use Rattle.std.specs.List.{filter, Any, Contains}
+use Rattle.vm_field.specs.Limits.{most_kernel}
 use Rattle.masm_reading.specs.declared.constant.Const.{Const}
 use Rattle.masm_tree.specs.declared.tree.Position.{Position}
 use Rattle.masm_tree.specs.Trees.{Procedure, Source, position_of}
@@ -33,4 +34,4 @@ pub data Doubles (source : Source) : Position → LinkCause → Type 0 where
   second_procedure : (before : List Procedure) (p : Procedure) (behind : List Procedure) → source.procs ≡ before ++ p ∷ behind
       → Any (λ q. q.name ≡ p.name) before → Doubles source (position_of p) causes.Duplicate
   one_export_more : (before : List Procedure) (p : Procedure) (behind : List Procedure) → source.procs ≡ before ++ p ∷ behind
-      → p.exported ≡ true → length (exported_of before) ≡ 255 → Doubles source (position_of p) causes.TooManyExports
+      → p.exported ≡ true → length (exported_of before) ≡ most_kernel → Doubles source (position_of p) causes.TooManyExports

@@ -4,15 +4,13 @@ ghost use Rattle.masm_names.specs.Least.{FindsLeast};
 use crate::names::Defined;
 use crate::refusal::{LinkCause, Refusal, earlier};
 use masm_tree::Proc;
-
-// How many procedures a kernel may export.
-const MAX_EXPORTS: usize = 255;
+use vm_field::MOST_KERNEL;
 
 // The refusal of a procedure behind so many exports.
 fn extra_export(exports: usize, procedure: &Proc) -> Option<Refusal>
     ensures { FindsLeast (IsExtra exports procedure.now) result }
 {
-    if !procedure.exported || exports != MAX_EXPORTS {
+    if !procedure.exported || exports != MOST_KERNEL {
         return None;
     }
     Some(Refusal {

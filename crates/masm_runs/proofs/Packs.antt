@@ -30,7 +30,8 @@ use Rattle.masm_flat.specs.Blocks.{Block, Span, Join, Split, Loop, Call, Syscall
 use Rattle.masm_flat.specs.Lists.{Exported, IsList, nothing, instr, exec, call, syscall, branches, loops, repeated, first_procedure, first_export, times, with_locals, IsBlockOf}
 use Rattle.masm_names.specs.Naming.{exported_of}
 use Rattle.masm_link.specs.Assembling.{reads, read_tokens, read_parsed, KernelExports, no_kernel, of_kernel, assembled}
-use Rattle.masm_runs.specs.Runs.{IsReady, AssembledIsReady}
+use Rattle.block_tree.specs.KnownTrees.{IsReady}
+use Rattle.masm_runs.specs.Runs.{AssembledIsReady}
 
 -- batches that are read together are read each
 batches-read : (batches : List (List ℕ)) (items : List Item) → read_batches batches ≡ Some items → AllByRecursion HasReading batches

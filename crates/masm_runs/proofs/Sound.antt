@@ -14,7 +14,8 @@ use Rattle.block_tree.specs.Behind.{HasReading}
 use Rattle.block_tree.specs.Cycles.{Cycle, Frame, Mark, StartOpaque, StartSpan, StartJoin, StartSplit, StartLoop, StartCall, StartSyscall, Respan, Repeat, Do, End, EndSpan, EndLoop, EndCall, EndSyscall, frame_of, pops_bit, opens, closes, and_then, reads, enters_call, is_in_kernel, enters_syscall, returns_to, effect_of, advice_taken, top}
 use Rattle.block_tree.specs.Execution.{Event, Outcome, Done, Trap, OutOfCycles, Part, logged, then_do, skip, seq, cycle_outcome, taking, at_bit, cycle, operations, read_operations, batches_from, turns, execution}
 use Rattle.block_tree.specs.Trees.{Tree, Opaque, Span, Join, Split, Loop, Call, Syscall, tree_digest, tree_height}
-use Rattle.masm_runs.specs.Runs.{IsReady, IsOfValues, TrapsForValues, ReadyRuns}
+use Rattle.block_tree.specs.KnownTrees.{IsReady}
+use Rattle.masm_runs.specs.Runs.{IsOfValues, TrapsForValues, ReadyRuns}
 
 -- a cycle's effect leaves so many blocks open, or traps for values
 abbrev Sound : ℕ → Result Core Cause → Type 0

@@ -1,25 +1,15 @@
 -- The trees of assembled programs as they are run.
-use Rattle.std.specs.Prelude.{◌≡◌, ◌≢◌, ℕ, ◌≤◌, List, [], Option, Ok}
-use Rattle.std.specs.List.{AllByRecursion}
+use Rattle.std.specs.Prelude.{◌≡◌, ℕ, ◌≤◌, List, Option, Ok}
+use Rattle.vm_field.specs.Limits.{most_nesting}
 use Rattle.vm_field.specs.Machine.{State}
 use Rattle.vm_ops.specs.declared.cause.Cause.{Cause}
 use Rattle.vm_ops.specs.declared.cause.Cause.TheVariants as cause
 use Rattle.block_tree.specs.declared.program.Program.{Program}
-use Rattle.block_tree.specs.Behind.{HasReading}
 use Rattle.block_tree.specs.Execution.{Outcome, Done, Trap, OutOfCycles, execution}
-use Rattle.block_tree.specs.Trees.{Tree, Opaque, Span, Join, Split, Loop, Call, Syscall, tree_height}
+use Rattle.block_tree.specs.Trees.{Tree, tree_height}
+use Rattle.block_tree.specs.KnownTrees.{IsReady}
 use Rattle.block_tree.specs.TreeView.{tree_of}
 use Rattle.masm_link.specs.Assembling.{Assembles}
-
--- each block is known whole, and each span has batches, of which each has a reading
-abbrev pub IsReady : Tree → Type 0
-IsReady (Opaque digest) = ⊥
-IsReady (Span batches) = (batches ≢ []) × AllByRecursion HasReading batches
-IsReady (Join first second) = IsReady first × IsReady second
-IsReady (Split on_one on_zero) = IsReady on_one × IsReady on_zero
-IsReady (Loop body) = IsReady body
-IsReady (Call callee) = IsReady callee
-IsReady (Syscall callee) = IsReady callee
 
 -- a cause that comes of the values of the run, and not of the form of the tree
 abbrev pub IsOfValues : Cause → Type 0
@@ -47,7 +37,7 @@ TrapsForValues OutOfCycles = Unit {0}
 -- from every state in which no block is open, a tree that is ready and has at most 1,024 blocks on a path
 abbrev pub ReadyRuns : Type 0
 ReadyRuns = (constants : List ℕ) (kernel : List (List ℕ)) (limit : ℕ) (tree : Tree) (s : State) → IsReady tree
-    → tree_height tree ≤ 1024 → s.core.nesting ≡ 0 → TrapsForValues (execution constants kernel limit tree s)
+    → tree_height tree ≤ most_nesting → s.core.nesting ≡ 0 → TrapsForValues (execution constants kernel limit tree s)
 
 abbrev pub AssembledIsReady : Type 0
 AssembledIsReady = (constants text : List ℕ) (kernel : Option (List ℕ)) (program : Program)

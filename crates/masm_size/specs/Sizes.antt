@@ -1,6 +1,7 @@
 -- The sizes of lists (docs/ASSEMBLY.md, "What is refused"): how many operations there are, up to a limit, and how high the
 -- blocks stand, with no block built.
 use Rattle.std.specs.Prelude.{ℕ, zero, suc, ◌+◌, ◌-◌, ◌*◌, ◌/◌, ◌%◌, min, max, Bool, true, false, not, ◌&&◌, ◌||◌, nat_eq, nat_lt, nat_le, if◌then◌else◌, List, [], ◌∷◌, ◌++◌, length, map, Option, Some, None}
+use Rattle.vm_field.specs.Limits.{most_nesting, most_operations}
 use Rattle.vm_ops.specs.declared.item.Item.{Item}
 use Rattle.masm_expand.specs.Expansion.{expansion}
 use Rattle.masm_tree.specs.declared.terminal.Leaf.TheVariants as leaves
@@ -13,7 +14,7 @@ use Rattle.masm_size.specs.declared.shape.Size as code
 use Rattle.masm_flat.specs.Blocks.{View, Piece, Operation, Whole, all_joined}
 
 abbrev pub extent : ℕ → ℕ → Extent
-extent operations height = record { operations = min operations 524289; height = min height 1025 }
+extent operations height = record { operations = min operations (most_operations + 1); height = min height (most_nesting + 1) }
 
 -- how many operations a block has, and how many blocks stand on its longest path
 abbrev pub as_extent : View Extent
@@ -116,7 +117,7 @@ part_view part = record { operations = part.operations; row = row_view part.outl
 -- above the limit no parts are kept
 abbrev pub limited : ℕ → ShapeRow → Size
 limited operations row =
-    if nat_le operations 524288 then record { operations = operations; row = row } else record { operations = 524289; row = no_row }
+    if nat_le operations most_operations then record { operations = operations; row = row } else record { operations = most_operations + 1; row = no_row }
 
 -- the size of a list
 abbrev pub size_of : List (Piece Extent) → Size

@@ -2,6 +2,7 @@ ghost use Rattle.std.specs.Prelude.{◌≡◌};
 ghost use Rattle.masm_size.specs.Sizes.{is_joined, height_next, height_among, highest, row_height, row_view};
 
 use crate::shape::{Outline, Rise};
+use vm_field::MOST_NESTING;
 
 // Whether the block at this place among so many is joined with another one on the next level.
 fn is_joined(count: u32, index: u32) -> bool
@@ -15,7 +16,7 @@ fn height_next(count: u32, index: u32, height: u32) -> u32
     ensures { result ≡ height_next count index height }
 {
     if is_joined(count, index) {
-        height.saturating_add(1).min(1025)
+        height.saturating_add(1).min(MOST_NESTING + 1)
     } else {
         height
     }

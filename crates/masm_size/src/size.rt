@@ -9,10 +9,7 @@ use masm_expand::expand;
 use masm_flat::Extent;
 use masm_instr::Instr;
 use std::alloc::Global;
-use vm_field::Memory;
-
-// More operations than this are refused.
-const MOST: u32 = 524_288;
+use vm_field::{MOST_NESTING, MOST_OPERATIONS, Memory};
 
 // The outline of the empty list.
 pub(crate) const NO_PARTS: Outline = Outline {
@@ -147,8 +144,8 @@ pub fn both(before: Size, more: Part) -> Result<Size, Memory>
     ensures { IfOk result (λ size. size_view size ≡ both (size_view before) (part_view more.entry)) }
 {
     let operations = before.operations.saturating_add(more.operations);
-    if operations > MOST {
-        return Ok(without_parts(MOST + 1, before));
+    if operations > MOST_OPERATIONS {
+        return Ok(without_parts(MOST_OPERATIONS + 1, before));
     }
     joined(operations, before, more)
 }
@@ -162,8 +159,8 @@ pub fn times(count: u32, size: Size) -> Size
         return without_parts(0, size);
     }
     let operations = size.operations.saturating_mul(count);
-    if operations > MOST {
-        return without_parts(MOST + 1, size);
+    if operations > MOST_OPERATIONS {
+        return without_parts(MOST_OPERATIONS + 1, size);
     }
     let step = offset_of(size.outline, size.outline.starts_in_run);
     Size {
@@ -191,8 +188,8 @@ fn both_limited(
         ≡ both (size_view before)
         (limited operations (row_view outline (record { index = 0; height = height } ∷ [])))) }
 {
-    if operations > MOST {
-        let operations = MOST + 1;
+    if operations > MOST_OPERATIONS {
+        let operations = MOST_OPERATIONS + 1;
         return both(
             before,
             Part {
@@ -263,8 +260,8 @@ pub fn over(child: Extent) -> Extent
     ensures { result ≡ as_extent.call child }
 {
     Extent {
-        operations: child.operations.min(MOST + 1),
-        height: child.height.saturating_add(1).min(1025),
+        operations: child.operations.min(MOST_OPERATIONS + 1),
+        height: child.height.saturating_add(1).min(MOST_NESTING + 1),
     }
 }
 
@@ -276,7 +273,7 @@ pub fn over_two(first: Extent, second: Extent) -> Extent
         operations: first
             .operations
             .saturating_add(second.operations)
-            .min(MOST + 1),
-        height: first.height.max(second.height).saturating_add(1).min(1025),
+            .min(MOST_OPERATIONS + 1),
+        height: first.height.max(second.height).saturating_add(1).min(MOST_NESTING + 1),
     }
 }

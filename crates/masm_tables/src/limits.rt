@@ -14,13 +14,7 @@ use masm_names::{Defined, LinkCause, Names, Refusal, earlier};
 use masm_size::{Size, Sizes, extent_of, size_of_procedure};
 use masm_tree::{Position, Proc};
 use std::alloc::Global;
-use vm_field::Memory;
-
-// How many operations a tree may have.
-const MOST_OPERATIONS: u32 = 524_288;
-
-// How many blocks may stand on one path of a tree.
-const MOST_BLOCKS: u32 = 1_024;
+use vm_field::{MOST_NESTING, MOST_OPERATIONS, Memory};
 
 fn size_cause(extent: Extent) -> Option<LinkCause>
     ensures { result ≡ size_cause extent }
@@ -28,7 +22,7 @@ fn size_cause(extent: Extent) -> Option<LinkCause>
     if extent.operations > MOST_OPERATIONS {
         return Some(LinkCause::TooManyOps);
     }
-    if extent.height > MOST_BLOCKS {
+    if extent.height > MOST_NESTING {
         return Some(LinkCause::TooDeep);
     }
     None

@@ -1,5 +1,6 @@
 -- What a read command asks for.
 use Rattle.std.specs.Prelude.{◌≤◌, length, option_map, IfSome}
+use Rattle.vm_field.specs.Limits.{most_cycles, most_name_bytes}
 use Rattle.cmd_run.specs.Naming.{AreNamed, outputs_from}
 use Rattle.miden_app.specs.declared.words.Command.{Command}
 use Rattle.miden_app.specs.declared.words.Command.TheVariants as command
@@ -16,11 +17,11 @@ asks (command.Check params table statement evidence) = check params.now table.no
 -- its names are those of files
 abbrev pub NamesFiles : Command → Type 0
 NamesFiles command.Nothing = Unit {0}
-NamesFiles (command.Hash params numbers) = (length params.now ≤ 200) × (length numbers.now ≤ 200)
+NamesFiles (command.Hash params numbers) = (length params.now ≤ most_name_bytes) × (length numbers.now ≤ most_name_bytes)
 NamesFiles (command.Assemble params source kernel) =
-    (length params.now ≤ 200) × (length source.now ≤ 200) × IfSome kernel (λ k. length k.now ≤ 200)
+    (length params.now ≤ most_name_bytes) × (length source.now ≤ most_name_bytes) × IfSome kernel (λ k. length k.now ≤ most_name_bytes)
 NamesFiles (command.Run params source inputs outputs kernel limit) =
-    (length params.now ≤ 200) × (length source.now ≤ 200) × (length inputs.now ≤ 200) × AreNamed outputs
-    × IfSome kernel (λ k. length k.now ≤ 200) × (limit ≤ 524287)
+    (length params.now ≤ most_name_bytes) × (length source.now ≤ most_name_bytes) × (length inputs.now ≤ most_name_bytes) × AreNamed outputs
+    × IfSome kernel (λ k. length k.now ≤ most_name_bytes) × (limit ≤ most_cycles)
 NamesFiles (command.Check params table statement evidence) =
-    (length params.now ≤ 200) × (length table.now ≤ 200) × (length statement.now ≤ 200) × (length evidence.now ≤ 200)
+    (length params.now ≤ most_name_bytes) × (length table.now ≤ most_name_bytes) × (length statement.now ≤ most_name_bytes) × (length evidence.now ≤ most_name_bytes)

@@ -1,5 +1,6 @@
 // `hash`: the digest of a file of numbers.
 ghost use Rattle.std.specs.Prelude.{◌≡◌, ◌≤◌, length, IfOk, Some};
+ghost use Rattle.vm_field.specs.Limits.{most_name_bytes};
 ghost use Rattle.rpo_hash.specs.Constants.{constants_of};
 ghost use Rattle.cmd_kit.specs.HashSteps.{hash_steps, numbers_steps};
 ghost use Rattle.cmd_kit.specs.Outcomes.{ComesTo, EndsIn, SaysStatus};
@@ -19,8 +20,8 @@ const MOST_NUMBERS_BYTES: u64 = 262144;
 /// `hash`: reads the parameters, then the numbers, and hashes these, eight to a block, with
 /// domain 0.
 pub fn hash_files<F: Shelf>(alloc: Global, shelf: &mut F, params: &str, numbers: &str) -> Outcome
-    requires params { length params.now ≤ 200 }
-    requires numbers { length numbers.now ≤ 200 }
+    requires params { length params.now ≤ most_name_bytes }
+    requires numbers { length numbers.now ≤ most_name_bytes }
     ensures { EndsIn (Some (hash_steps params.now numbers.now)) result (F.state shelf.old) (F.state shelf.new) }
 {
     match load_params(alloc, shelf, params) {
@@ -32,7 +33,7 @@ pub fn hash_files<F: Shelf>(alloc: Global, shelf: &mut F, params: &str, numbers:
 // Reads and hashes the numbers.
 #[tactic(auto, using(cmd_kit::proofs::ServingLemmas::work_ends))]
 fn hash_file<F: Shelf>(alloc: Global, shelf: &mut F, constants: &Params, name: &str) -> Outcome
-    requires { length name.now ≤ 200 }
+    requires { length name.now ≤ most_name_bytes }
     ensures { EndsIn (Some (numbers_steps name.now (constants_of constants.now))) result (F.state shelf.old) (F.state shelf.new) }
 {
     match load(alloc, shelf, name, MOST_NUMBERS_BYTES) {

@@ -2,6 +2,7 @@
 ghost use Rattle.std.specs.Prelude.{◌≡◌, ◌≤◌, ◌∷◌, length, option_map, Some, IfSome};
 ghost use Rattle.std.specs.List.{list_any};
 ghost use Rattle.std.specs.Str.{bytes_eq};
+ghost use Rattle.vm_field.specs.Limits.{most_cycles, most_name_bytes};
 ghost use Rattle.cmd_words.specs.Words.{texts};
 ghost use Rattle.cmd_kit.specs.Asked.{nothing, hash, assemble, check, check_words, check_of_names, is_apart, hash_words, hash_of_names, assemble_words, assemble_of_names, run, run_words, run_of_names, run_apart, given_name, outputs_in, limit_in, asked};
 ghost use Rattle.cmd_run.specs.Naming.{AreNamed, outputs_from};
@@ -9,6 +10,7 @@ ghost use Rattle.miden_app.specs.Asking.{asks, NamesFiles};
 
 use cmd_run::Outputs;
 use cmd_words::{is_form, name_at, optional_name, optional_number};
+use vm_field::MOST_CYCLES;
 
 /// What the words after the program's name ask for.
 pub enum Command<'a> {
@@ -42,9 +44,6 @@ pub enum Command<'a> {
         evidence: &'a str,
     },
 }
-
-// The most cycles of a run.
-const MOST_CYCLES: u32 = 524_287;
 
 /// Reads the words.
 #[tactic(auto, unfolding(cmd_kit::specs::Asked::asked))]
@@ -90,10 +89,10 @@ fn check_with<'a>(
     statement: &'a str,
     evidence: &'a str,
 ) -> Command<'a>
-    requires params { length params.now ≤ 200 }
-    requires table { length table.now ≤ 200 }
-    requires statement { length statement.now ≤ 200 }
-    requires evidence { length evidence.now ≤ 200 }
+    requires params { length params.now ≤ most_name_bytes }
+    requires table { length table.now ≤ most_name_bytes }
+    requires statement { length statement.now ≤ most_name_bytes }
+    requires evidence { length evidence.now ≤ most_name_bytes }
     ensures asks { asks result ≡ check_of_names (Some params.entry.now) (Some table.entry.now) (Some statement.entry.now)
         (Some (Some evidence.entry.now)) }
     ensures named { NamesFiles result }
@@ -193,12 +192,12 @@ fn run_with<'a>(
     kernel: Option<&'a str>,
     limit: u32,
 ) -> Command<'a>
-    requires params { length params.now ≤ 200 }
-    requires source { length source.now ≤ 200 }
-    requires inputs { length inputs.now ≤ 200 }
+    requires params { length params.now ≤ most_name_bytes }
+    requires source { length source.now ≤ most_name_bytes }
+    requires inputs { length inputs.now ≤ most_name_bytes }
     requires outputs { AreNamed outputs }
-    requires kernel { IfSome kernel (λ k. length k.now ≤ 200) }
-    requires limit { limit ≤ 524287 }
+    requires kernel { IfSome kernel (λ k. length k.now ≤ most_name_bytes) }
+    requires limit { limit ≤ most_cycles }
     ensures asks { asks result ≡ run_apart params.entry.now source.entry.now inputs.entry.now (outputs_from outputs.entry)
         (option_map (λ k. k.now) kernel.entry) limit }
     ensures named { NamesFiles result }
@@ -234,7 +233,7 @@ fn is_read(name: &str, params: &str, source: &str, inputs: &str, kernel: Option<
 // The limit of cycles that the words give, the most where they give none.
 fn limit_of(words: &[Vec<u8>]) -> Option<u32>
     ensures is { result ≡ limit_in (texts words.now) }
-    ensures small { IfSome result (λ limit. limit ≤ 524287) }
+    ensures small { IfSome result (λ limit. limit ≤ most_cycles) }
 {
     match optional_number(1, u64::from(MOST_CYCLES), "--limit", words) {
         Some(Some(limit)) => Some(limit as u32),

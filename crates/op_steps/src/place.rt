@@ -1,4 +1,5 @@
 ghost use Rattle.std.specs.Prelude.{◌≡◌, ◌+◌, ◌≤◌, ◌++◌, length, drop, IfOk, OnOk, OnErr};
+ghost use Rattle.vm_field.specs.Limits.{most_cycles};
 ghost use Rattle.vm_ops.specs.Moves.{shift_of};
 ghost use Rattle.vm_ops.specs.Values.{advice_of};
 ghost use Rattle.op_steps.specs.Places.{shifted};
@@ -32,7 +33,7 @@ fn skip_advice(state: &mut State, count: usize)
 pub(crate) fn settle(op: Op, left: &[Felt], state: &mut State)
     requires few { length left.now ≤ 16 }
     requires sixteen { 16 ≤ length state.old.stack }
-    requires clock { state.old.clock ≤ 524287 }
+    requires clock { state.old.clock ≤ most_cycles }
     ensures { state.new ≡ record state.old {
       clock = state.old.clock + 1;
       stack = left.now ++ drop (length left.now) (shifted (shift_of op) state.old.stack);

@@ -1,4 +1,5 @@
 ghost use Rattle.std.specs.Prelude.{◌≡◌, ◌≢◌, ◌≤◌, ◌↔◌, ℕ, List, IsTrue};
+ghost use Rattle.vm_field.specs.Limits.{most_cycles};
 ghost use Rattle.rpo_hash.specs.Constants.{constants_of};
 ghost use Rattle.vm_ops.specs.Items.{IsOrdinaryItem};
 ghost use Rattle.vm_ops.specs.Moves.{shift_of};
@@ -24,7 +25,7 @@ use vm_state::State;
 /// is as before.
 pub fn step(alloc: Global, params: &Params, item: &Item, state: &mut State) -> Result<(), StepStop>
     requires item { IsOrdinaryItem item.now }
-    requires clock { state.old.clock ≤ 524287 }
+    requires clock { state.old.clock ≤ most_cycles }
     ensures { AnswersStep (step (constants_of params.now) item.now (state_of state.old)) result (state_of state.old) (state_of state.new) }
 {
     if shift(item.op) == Shift::Right {
@@ -48,7 +49,7 @@ pub fn is_quiet(op: Op) -> bool
 #[tactic(auto, using(crate::proofs::Steps::single_quietly, crate::proofs::Steps::moved_quietly))]
 pub fn step_quiet(params: &Params, item: &Item, state: &mut State) -> Result<(), Cause>
     requires item { IsOrdinaryItem item.now }
-    requires clock { state.old.clock ≤ 524287 }
+    requires clock { state.old.clock ≤ most_cycles }
     requires quiet { IsQuiet item.now.op }
     ensures { AnswersQuietStep (step (constants_of params.now) item.now (state_of state.old)) result (state_of state.old) (state_of state.new) }
 {
@@ -67,7 +68,7 @@ pub fn step_quiet(params: &Params, item: &Item, state: &mut State) -> Result<(),
 // The same of any quiet operation, from all the cells that it leaves.
 #[tactic(auto, using(crate::proofs::Steps::stepped_quietly))]
 fn step_computing(params: &Params, item: &Item, state: &mut State) -> Result<(), Cause>
-    requires clock { state.old.clock ≤ 524287 }
+    requires clock { state.old.clock ≤ most_cycles }
     requires quiet { IsQuiet item.now.op }
     ensures { AnswersQuietStep (step (constants_of params.now) item.now (state_of state.old)) result (state_of state.old) (state_of state.new) }
 {
@@ -91,7 +92,7 @@ fn pointer_after(op: Op, state: &State) -> Felt
 // One cycle of an operation that shifts the stack to the right.
 #[tactic(auto, using(crate::proofs::Steps::single_growing))]
 fn step_growing(params: &Params, item: &Item, state: &mut State) -> Result<(), StepStop>
-    requires clock { state.old.clock ≤ 524287 }
+    requires clock { state.old.clock ≤ most_cycles }
     requires grows { shift_of item.now.op ≡ Shift.Right }
     ensures { AnswersStep (step (constants_of params.now) item.now (state_of state.old)) result (state_of state.old) (state_of state.new) }
 {
@@ -106,7 +107,7 @@ fn step_growing(params: &Params, item: &Item, state: &mut State) -> Result<(), S
 // The same from all the cells that the operation leaves.
 #[tactic(auto, using(crate::proofs::Steps::stepped_growing))]
 fn step_wider(params: &Params, item: &Item, state: &mut State) -> Result<(), StepStop>
-    requires clock { state.old.clock ≤ 524287 }
+    requires clock { state.old.clock ≤ most_cycles }
     requires grows { shift_of item.now.op ≡ Shift.Right }
     ensures { AnswersStep (step (constants_of params.now) item.now (state_of state.old)) result (state_of state.old) (state_of state.new) }
 {

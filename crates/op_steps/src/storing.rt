@@ -1,4 +1,5 @@
 ghost use Rattle.std.specs.Prelude.{◌≡◌, ◌≤◌, ◌<◌, ◌^◌, ℕ, true, List, [], Some, slice_index};
+ghost use Rattle.vm_field.specs.Limits.{most_cycles};
 ghost use Rattle.vm_ops.specs.Codes.{writes_memory};
 ghost use Rattle.vm_ops.specs.Step.{seen, step};
 ghost use Rattle.vm_ops.specs.Values.{written};
@@ -15,7 +16,7 @@ use vm_state::State;
 // One cycle of an operation that writes memory.
 #[tactic(auto, using(crate::proofs::Steps::stored, crate::proofs::Steps::stored_outside))]
 pub(crate) fn step_storing(item: &Item, state: &mut State) -> Result<(), StepStop>
-    requires clock { state.old.clock ≤ 524287 }
+    requires clock { state.old.clock ≤ most_cycles }
     requires writes { writes_memory item.now.op ≡ true }
     ensures { (constants : List ℕ) → AnswersStep (step constants item.now (state_of state.old)) result (state_of state.old) (state_of state.new) }
 {

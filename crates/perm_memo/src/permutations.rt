@@ -1,5 +1,6 @@
 ghost use Rattle.std.specs.Prelude.{◌≡◌, ◌<◌, [], EachIndex, IfSome, length, slice_index, slice_index_or};
 ghost use Rattle.rpo_hash.specs.Constants.{constants_of};
+ghost use Rattle.vm_field.specs.Limits.{number_of_constants};
 ghost use Rattle.vm_field.specs.Field.{prime};
 ghost use Rattle.vm_field.specs.Permutation.{permuted};
 ghost use Rattle.perm_memo.specs.RoundStates.{round_states};
@@ -115,7 +116,7 @@ impl Permutations {
     pub fn permuted(&mut self, state: &[Felt; 12]) -> [Felt; 12]
         ensures is { result ≡ permuted self.old state.now }
         ensures below { EachIndex result (λ k. slice_index result k < prime) }
-        ensures constants { length self.old ≡ 168 }
+        ensures constants { length self.old ≡ number_of_constants }
         ensures same { self.new ≡ self.old }
     {
         known_constants(&self.params);

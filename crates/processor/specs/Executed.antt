@@ -1,5 +1,6 @@
 -- What `execute` answers.
 use Rattle.std.specs.Prelude.{◌≡◌, ℕ, ◌≤◌, List, ◌++◌, map, Result, Ok, Err}
+use Rattle.vm_field.specs.Limits.{most_cycles}
 use Rattle.vm_field.specs.Machine.{start}
 use Rattle.rpo_hash.specs.Constants.{constants_of}
 use Rattle.rpo_hash.specs.declared.params.Params.{Params}
@@ -34,7 +35,7 @@ pub record IsRunOf (params : Params) (program : Program) (inputs : Inputs) (limi
 pub record WasExecuted (params : Params) (program : Program) (answer : Run) : Type 0 where
   pub inputs : Inputs
   pub limit : ℕ
-  pub below : limit ≤ 524287
+  pub below : limit ≤ most_cycles
   pub ran : IsRunOf params program inputs limit answer
 
 -- An answer is the run, or the trap with its clock, or that the cycles were used up, as the definition has it, or the want of memory.

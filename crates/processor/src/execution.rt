@@ -1,4 +1,5 @@
 ghost use Rattle.std.specs.Prelude.{◌≤◌, IfOk};
+ghost use Rattle.vm_field.specs.Limits.{most_cycles};
 ghost use Rattle.processor.specs.Executed.{Executes, WasExecuted};
 
 use crate::blocks::block;
@@ -26,7 +27,7 @@ pub fn execute(
     inputs: &Inputs,
     limit: u32,
 ) -> Result<Run, Stop>
-    requires limit { limit ≤ 524287 }
+    requires limit { limit ≤ most_cycles }
     ensures is { Executes result params.now program.now inputs.now limit }
     ensures was { IfOk result (WasExecuted params.now program.now) }
 {

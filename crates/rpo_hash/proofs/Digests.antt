@@ -2,6 +2,7 @@
 use Rattle.std.proofs.Common.{◌≡◌, ℕ, ◌<◌, List, [], ◌∷◌, ◌++◌, length, take, drop, refl, arith, length-drop}
 use Rattle.std.proofs.lemmas.List.{length-take-le}
 use Rattle.std.proofs.lemmas.List.Sums.{fold-append}
+use Rattle.vm_field.specs.Limits.{number_of_constants}
 use Rattle.vm_field.specs.Sponge.{absorbed, begun, hashed, sponge_after, squeezed}
 use Rattle.vm_field.specs.Machine.{IsWord}
 use Rattle.rpo_hash.specs.States.{IsState}
@@ -18,7 +19,7 @@ pub hashed-is : (constants : List ℕ) (domain : ℕ) (blocks : List (List ℕ))
 unfolding hashed
 hashed-is constants domain blocks = refl
 
-after_some : (constants state : List ℕ) (block : List ℕ) (blocks : List (List ℕ)) → length constants ≡ 168
+after_some : (constants state : List ℕ) (block : List ℕ) (blocks : List (List ℕ)) → length constants ≡ number_of_constants
     → IsState (sponge_after constants state (block ∷ blocks))
 after_some constants state block [] len = permuted-IsState constants (take 4 state ++ block) len
 after_some constants state block (next ∷ blocks) len = after_some constants (absorbed constants state block) next blocks len
@@ -29,7 +30,7 @@ squeezed-IsWord state s = record {
   below = elements-take 4 (drop 4 state) (elements-drop 4 state s.below);
 }
 
-pub hashed-IsWord : (constants : List ℕ) (domain : ℕ) (blocks : List (List ℕ)) → length constants ≡ 168 → 0 < length blocks
+pub hashed-IsWord : (constants : List ℕ) (domain : ℕ) (blocks : List (List ℕ)) → length constants ≡ number_of_constants → 0 < length blocks
     → IsWord (hashed constants domain blocks)
 unfolding hashed
 hashed-IsWord constants domain [] len some = absurd (omega arith)

@@ -2,6 +2,7 @@
 use Rattle.std.proofs.Common.{◌≡◌, ℕ, zero, suc, ◌*◌, ◌<◌, List, [], ◌∷◌, length, map, take, drop, All, sym, refl, ap, ap₂, ◌∙◌, arith, length-drop}
 use Rattle.std.proofs.lemmas.List.{length-take-le, length-map}
 use Rattle.std.proofs.lemmas.List.Elements.{All-head, All-tail}
+use Rattle.vm_field.specs.Limits.{number_of_constants}
 use Rattle.vm_field.specs.Field.{prime, felt_add, felt_pow, seventh_root}
 use Rattle.vm_field.specs.Permutation.{added, mixed, seventh_powers, seventh_roots, powered, before_roots, round, rounds, permuted}
 use Rattle.vm_field.proofs.Inverses.{felt_pow-seventh_root, same_from_seventh}
@@ -126,10 +127,10 @@ same_from_rounds (suc n) c x y lc sx sy e =
     (same_from_rounds n (drop 24 c) (round (take 24 c) x) (round (take 24 c) y) (omega (arith, length-drop 24 c))
     (round-IsState (take 24 c) x (length-take-le 24 c (omega arith))) (round-IsState (take 24 c) y (length-take-le 24 c (omega arith))) e)
 
-pub same_from_permuted : (c x y : List ℕ) → length c ≡ 168 → IsState x → IsState y → permuted c x ≡ permuted c y → x ≡ y
+pub same_from_permuted : (c x y : List ℕ) → length c ≡ number_of_constants → IsState x → IsState y → permuted c x ≡ permuted c y → x ≡ y
 unfolding permuted
 same_from_permuted c x y lc sx sy e = same_from_rounds 7 c x y lc sx sy e
 
-pub permuted-IsState : (c x : List ℕ) → length c ≡ 168 → IsState (permuted c x)
+pub permuted-IsState : (c x : List ℕ) → length c ≡ number_of_constants → IsState (permuted c x)
 unfolding permuted
 permuted-IsState c x lc = rounds-IsState 6 c x lc

@@ -1,6 +1,7 @@
 -- The constants of the rounds, read one round after another.
 use Rattle.std.proofs.Common.{◌≡◌, ℕ, ◌+◌, ◌*◌, ◌<◌, List, [], ◌∷◌, ◌++◌, length, take, set, Result, Ok, Err, sym, ap, ap₂, ◌∙◌, arith, append_assoc, append-nil}
 use Rattle.std.proofs.lemmas.List.{length-take-le}
+use Rattle.vm_field.specs.Limits.{number_of_constants}
 use Rattle.rpo_hash.specs.Constants.{interleaved}
 use Rattle.rpo_hash.specs.ParamText.{and_then, element_lines, nothing_left, parameters_of}
 use Rattle.rpo_hash.specs.declared.params.ParamError.{ParamError}
@@ -85,7 +86,7 @@ read_all k line bytes rest firsts seconds r read is lf ls line_is last =
         (ap (λ n. take n seconds) is ∙ whole 7 seconds ls)
 
 pub length-read_all : (k : ℕ) (bytes rest : List ℕ) (firsts seconds : List (List ℕ)) → ReadRounds k bytes firsts seconds rest → k ≡ 7
-    → length firsts ≡ 7 → length seconds ≡ 7 → length (interleaved firsts seconds) ≡ 168
+    → length firsts ≡ 7 → length seconds ≡ 7 → length (interleaved firsts seconds) ≡ number_of_constants
 length-read_all k bytes rest firsts seconds read is lf ls =
     ap₂ (λ (fs ss : List (List ℕ)). length (interleaved fs ss)) (sym (ap (λ n. take n firsts) is ∙ whole 7 firsts lf))
     (sym (ap (λ n. take n seconds) is ∙ whole 7 seconds ls))

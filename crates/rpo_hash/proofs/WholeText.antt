@@ -6,6 +6,7 @@ use Rattle.std.proofs.lemmas.List.Elements.{All-head, All-tail}
 use Rattle.std.proofs.lemmas.Str.Parse.{numerals_by_value, tells_all_ascii_digits}
 use Rattle.std.specs.Char.{is_ascii_digit}
 use Rattle.std.specs.Str.{all_ascii_digits}
+use Rattle.vm_field.specs.Limits.{number_of_constants}
 use Rattle.vm_field.specs.Decimal.{element_of}
 use Rattle.vm_field.specs.Field.{prime, AreElements}
 use Rattle.vm_field.proofs.DecimalText.{decimal-element_of, element_of-decimal}
@@ -149,24 +150,24 @@ lines-written n (e ∷ es) below =
 -- ---- the whole text
 
 pub text-read : (text constants : List ℕ) → parameters_of text ≡ Ok constants
-    → (text ≡ text_of constants) × (length constants ≡ 168) × AreElements constants
+    → (text ≡ text_of constants) × (length constants ≡ number_of_constants) × AreElements constants
 unfolding parameters_of
 text-read text constants is = go (element_lines 168 1 text) (lines-read 168 1 text) is
   where
     end : (es rest : List ℕ) → AreLines 168 text es rest → and_then (λ _. Ok es) (nothing_left 169 rest) ≡ Ok constants
-        → (text ≡ text_of constants) × (length constants ≡ 168) × AreElements constants
+        → (text ≡ text_of constants) × (length constants ≡ number_of_constants) × AreElements constants
     end es [] lines same =
-        let P : List ℕ → Type 0 = λ cs. (text ≡ text_of cs) × (length cs ≡ 168) × AreElements cs in
+        let P : List ℕ → Type 0 = λ cs. (text ≡ text_of cs) × (length cs ≡ number_of_constants) × AreElements cs in
         subst P (same_constants es constants same) (lines.text ∙ append-nil (text_of es), lines.count, lines.below)
     end es (b ∷ bs) lines same = cc
 
     go : (r : Read) → ((es rest : List ℕ) → r ≡ Ok (es, rest) → AreLines 168 text es rest)
         → and_then (λ read. and_then (λ _. Ok read.0) (nothing_left 169 read.1)) r ≡ Ok constants
-        → (text ≡ text_of constants) × (length constants ≡ 168) × AreElements constants
+        → (text ≡ text_of constants) × (length constants ≡ number_of_constants) × AreElements constants
     go (Err e) lines same = cc
     go (Ok m) lines same = end m.0 m.1 (lines m.0 m.1 refl) same
 
-pub read-text : (text constants : List ℕ) → text ≡ text_of constants → length constants ≡ 168 → AreElements constants
+pub read-text : (text constants : List ℕ) → text ≡ text_of constants → length constants ≡ number_of_constants → AreElements constants
     → parameters_of text ≡ Ok constants
 unfolding parameters_of
 read-text text constants is size below =

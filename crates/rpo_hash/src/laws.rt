@@ -1,6 +1,7 @@
 ghost use Rattle.std.specs.Prelude.{◌≡◌, ◌↔◌, ℕ, suc, ◌<◌, List, [], ◌∷◌, ◌++◌, length, Ok};
 ghost use Rattle.rpo_hash.specs.ParamText.{parameters_of, text_of};
 ghost use Rattle.rpo_hash.specs.States.{IsState};
+ghost use Rattle.vm_field.specs.Limits.{number_of_constants};
 ghost use Rattle.vm_field.specs.Field.{AreElements};
 ghost use Rattle.vm_field.specs.Machine.{IsWord};
 ghost use Rattle.vm_field.specs.Permutation.{before_roots, permuted, round, round_constants, rounds, seventh_powers};
@@ -24,16 +25,16 @@ pub fn permutation_laws()
     ensures before_roots { (constants x : List ℕ) → length constants ≡ 24
         → IsState (before_roots constants x) }
 
-    ensures one_to_one { (constants x y : List ℕ) → length constants ≡ 168 → IsState x → IsState y
+    ensures one_to_one { (constants x y : List ℕ) → length constants ≡ number_of_constants → IsState x → IsState y
         → permuted constants x ≡ permuted constants y → x ≡ y }
-    ensures elements { (constants x : List ℕ) → length constants ≡ 168 → IsState (permuted constants x) }
+    ensures elements { (constants x : List ℕ) → length constants ≡ number_of_constants → IsState (permuted constants x) }
 {}
 
 /// The law of the text of the constants: it reads as these exactly where it is their 168 lines,
 /// each the canonical decimal of an element and a line feed.
 pub fn parameter_laws()
     ensures text { (text constants : List ℕ) → (parameters_of text ≡ Ok constants)
-        ↔ ((text ≡ text_of constants) × (length constants ≡ 168) × AreElements constants) }
+        ↔ ((text ≡ text_of constants) × (length constants ≡ number_of_constants) × AreElements constants) }
 {}
 
 /// The laws of the sponge: what one block more leaves in it, that `hashed` is what is squeezed
@@ -45,7 +46,7 @@ pub fn sponge_laws()
     ensures digest { (constants : List ℕ) (domain : ℕ) (blocks : List (List ℕ))
         → hashed constants domain blocks ≡ squeezed (sponge_after constants (begun domain) blocks) }
     ensures elements { (constants : List ℕ) (domain : ℕ) (blocks : List (List ℕ))
-        → length constants ≡ 168 → 0 < length blocks → IsWord (hashed constants domain blocks) }
+        → length constants ≡ number_of_constants → 0 < length blocks → IsWord (hashed constants domain blocks) }
 {}
 
 fn crosses<T: Send + Sync>() {}

@@ -1,4 +1,5 @@
 ghost use Rattle.std.specs.Prelude.{◌≡◌, ◌+◌, ◌<◌, ◌^◌, IfErr, IfOk, OnOk, MatchResult, Ok, Err, length};
+ghost use Rattle.vm_field.specs.Limits.{number_of_constants};
 ghost use Rattle.rpo_hash.specs.Constants.{constants_of};
 ghost use Rattle.rpo_hash.specs.ParamText.{element_line, element_lines, nothing_left, parameters_of};
 
@@ -58,7 +59,7 @@ impl Params {
     pub fn read(bytes: &[u8]) -> Result<Params, ParamError>
         ensures value { IfOk result (λ params. parameters_of bytes.now ≡ Ok (constants_of params)) }
         ensures refused { IfErr result (λ error. parameters_of bytes.now ≡ Err error) }
-        ensures count { IfOk result (λ params. length (constants_of params) ≡ 168) }
+        ensures count { IfOk result (λ params. length (constants_of params) ≡ number_of_constants) }
     {
         let mut first = [[Felt::ZERO; 12]; 7];
         let mut second = [[Felt::ZERO; 12]; 7];

@@ -1,6 +1,7 @@
 ghost use Rattle.std.specs.Prelude.{◌≡◌, ℕ, ◌<◌, [], length, EachIndex, slice_index, slice_index_or};
 ghost use Rattle.rpo_hash.specs.Constants.{constants_of};
 ghost use Rattle.rpo_hash.specs.States.{IsState};
+ghost use Rattle.vm_field.specs.Limits.{number_of_constants};
 ghost use Rattle.vm_field.specs.Field.{prime, felt_pow};
 ghost use Rattle.vm_field.specs.Permutation.{added, before_roots, mixed, permuted, round, round_constants, row_product, seventh_powers};
 
@@ -11,7 +12,7 @@ use vm_field::{Felt, felt_at, roots7};
 pub fn permute(params: &Params, state: [Felt; 12]) -> [Felt; 12]
     ensures is { result ≡ permuted (constants_of params.now) state }
     ensures below { EachIndex result (λ k. slice_index result k < prime) }
-    ensures constants { length (constants_of params.now) ≡ 168 }
+    ensures constants { length (constants_of params.now) ≡ number_of_constants }
 {
     known_constants(params);
     let mut state = state;
@@ -48,7 +49,7 @@ pub fn known_constants(params: &Params)
     ensures twelve { (k : ℕ) → k < 7
         → (length (slice_index_or params.now.first k []) ≡ 12)
         × (length (slice_index_or params.now.second k []) ≡ 12) }
-    ensures count { length (constants_of params.now) ≡ 168 }
+    ensures count { length (constants_of params.now) ≡ number_of_constants }
 {
     for k in 0..7 {
         known_twelve(&params.first[k]);

@@ -1,5 +1,6 @@
 -- The blocks that are open before a row, and that each END is that of the newest one.
 use Rattle.std.specs.Prelude.{◌≡◌, ℕ, zero, suc, ◌≤◌, ◌<◌, if◌then◌else◌, List, [], ◌∷◌, drop, length}
+use Rattle.vm_field.specs.Limits.{most_nesting}
 use Rattle.vm_ops.specs.Codes.{is_start_op}
 use Rattle.vm_ops.specs.declared.op.Op.TheVariants as ops
 use Rattle.vm_table.specs.MainColumns.{addr, clk, ctx, sys, lv}
@@ -37,7 +38,7 @@ pub record FrameFacts (rows : List (List ℕ)) : Type 0 where
   pub ends : (e : ℕ) → IsAt rows e ops.End → (j : ℕ) × IsBlock rows j e
   pub closed : (j e : ℕ) → Closes rows j e → IsBlock rows j e
   pub level : (i : ℕ) → i < length rows → lv (row_at rows i) ≡ length (open_at rows i)
-  pub nesting : (j : ℕ) → Starts rows j → lv (row_at rows j) < 1024
+  pub nesting : (j : ℕ) → Starts rows j → lv (row_at rows j) < most_nesting
   pub context : (i : ℕ) → i < length rows → ctx (row_at rows i) ≤ clk (row_at rows i)
   pub syscall : (i : ℕ) → i < length rows → sys (row_at rows i) < 2
 

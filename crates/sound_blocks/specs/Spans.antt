@@ -1,5 +1,6 @@
 -- The rows of a span: its batches, each with the rows of its items, and its END.
 use Rattle.std.specs.Prelude.{◌≡◌, ◌≢◌, ℕ, suc, List, [], ◌∷◌, length, Some}
+use Rattle.vm_field.specs.Limits.{number_of_constants}
 use Rattle.vm_field.specs.Sponge.{HashInput, digest_of_input}
 use Rattle.vm_ops.specs.declared.item.Item.{Item}
 use Rattle.vm_ops.specs.declared.op.Op.TheVariants as ops
@@ -49,4 +50,4 @@ pub record SpanFacts (constants : List ℕ) (hasher rows : List (List ℕ)) : Ty
       → IsHashedAt constants hasher rows j e (record { domain = domain_of (op_in rows j); blocks = eight (row_at rows j) ∷ [] })
 
 abbrev pub GrantedSpans : Type 0
-GrantedSpans = (p : Public) (t : Trace) → length (constants_of p.params) ≡ 168 → Granted p t → SpanFacts (constants_of p.params) t.hasher t.main
+GrantedSpans = (p : Public) (t : Trace) → length (constants_of p.params) ≡ number_of_constants → Granted p t → SpanFacts (constants_of p.params) t.hasher t.main

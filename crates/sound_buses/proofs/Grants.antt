@@ -1,5 +1,6 @@
 -- An accepted trace grants what its buses say.
 use Rattle.std.proofs.Common.{◌≡◌, ℕ, ◌^◌, ◌<◌, ◌≤◌, List, length, arith}
+use Rattle.vm_field.specs.Limits.{number_of_constants}
 use Rattle.vm_field.specs.Field.{prime}
 use Rattle.vm_table.specs.MainColumns.{clk}
 use Rattle.chip_columns.specs.RangeColumns.{v}
@@ -40,7 +41,7 @@ few_rows n few = omega (arith, few)
 few_clocks : (n : ℕ) → n ≤ 2 ^ 19 → n ≤ 2 ^ 32
 few_clocks n few = omega (arith, few)
 
-pub accepted_grants : (p : Public) (t : Trace) → length (constants_of p.params) ≡ 168 → HasTables t → IsAccepted p t → Granted p t
+pub accepted_grants : (p : Public) (t : Trace) → length (constants_of p.params) ≡ number_of_constants → HasTables t → IsAccepted p t → Granted p t
 accepted_grants p t len whole accepted = record {
   rows = shows;
   few = few;

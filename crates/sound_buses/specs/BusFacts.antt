@@ -1,8 +1,10 @@
 -- What the buses of an accepted trace say of the rows of its main table, beside what the entries say.
-use Rattle.std.specs.Prelude.{◌≡◌, ◌≤◌, ◌^◌, length}
+use Rattle.std.specs.Prelude.{◌≡◌, ◌≤◌, length}
+use Rattle.vm_field.specs.Limits.{number_of_constants}
 use Rattle.vm_table.specs.Layout.{IsTable}
 use Rattle.rpo_hash.specs.Constants.{constants_of}
-use Rattle.air_kit.specs.Traces.{HasCounts, claim_of}
+use Rattle.air_kit.specs.Traces.{HasCounts, claim_of, most_rows}
+use Rattle.air_kit.specs.declared.trace.TableName.TheVariants as table
 use Rattle.air_kit.specs.Acceptance.{IsAccepted}
 use Rattle.air_kit.specs.declared.trace.Public.{Public}
 use Rattle.air_kit.specs.declared.trace.Trace.{Trace}
@@ -27,7 +29,7 @@ pub record HasTables (t : Trace) : Type 0 where
 -- what rows show, and what the buses grant them
 pub record Granted (p : Public) (t : Trace) : Type 0 where
   pub rows : ShowsRows (claim_of p t) t.main
-  pub few : length t.main ≤ 2 ^ 19
+  pub few : length t.main ≤ most_rows table.Main
   pub blocks : BlockFacts t.main
   pub children : ChildFacts t.main p.statement.digest
   pub groups : GroupFacts t.main
@@ -40,4 +42,4 @@ pub record Granted (p : Public) (t : Trace) : Type 0 where
 
 -- an accepted trace grants all this
 abbrev pub AcceptedGrants : Type 0
-AcceptedGrants = (p : Public) (t : Trace) → length (constants_of p.params) ≡ 168 → HasTables t → IsAccepted p t → Granted p t
+AcceptedGrants = (p : Public) (t : Trace) → length (constants_of p.params) ≡ number_of_constants → HasTables t → IsAccepted p t → Granted p t

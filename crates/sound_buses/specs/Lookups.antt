@@ -2,6 +2,7 @@
 use Rattle.std.specs.Prelude.{◌≡◌, ℕ, suc, ◌^◌, ◌<◌, true, List, ◌∷◌, length}
 use Rattle.buses.specs.Counts.{counted, over_rows}
 use Rattle.buses.specs.declared.bus.Bus.TheVariants as bus
+use Rattle.vm_field.specs.Limits.{most_nesting}
 use Rattle.vm_field.specs.Signs.{◌⊞◌, ◌⊟◌}
 use Rattle.vm_field.specs.Permutation.{permuted}
 use Rattle.vm_ops.specs.declared.op.Op.TheVariants as ops
@@ -48,7 +49,7 @@ MemoryFacts rows = ((i : ℕ) → i < length rows → ctx (row_at rows i) < 2 ^ 
 -- limbs have 16 bits, and so has the number of blocks that may still be nested in one that starts
 pub record RangeFacts (rows : List (List ℕ)) : Type 0 where
   pub limb : (i j : ℕ) → suc i < length rows → j < limbs_of (op_in rows i) → t (row_at rows i) j < 2 ^ 16
-  pub nesting : (j : ℕ) → Starts rows j → 1024 ⊟ lv (row_at rows (suc j)) < 2 ^ 16
+  pub nesting : (j : ℕ) → Starts rows j → most_nesting ⊟ lv (row_at rows (suc j)) < 2 ^ 16
 
 -- a syscall calls a function of the kernel
 abbrev pub KernelFacts : List (List ℕ) → List (List ℕ) → Type 0

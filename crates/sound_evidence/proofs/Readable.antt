@@ -1,5 +1,6 @@
 -- What an accepted trace shows, put together from the laws of buses, frames, nesting and spans.
 use Rattle.std.proofs.Common.{◌≡◌, length}
+use Rattle.vm_field.specs.Limits.{number_of_constants}
 use Rattle.rpo_hash.specs.Constants.{constants_of}
 use Rattle.vm_table.specs.Layout.{IsTable}
 use Rattle.air_kit.specs.Acceptance.{IsAccepted}
@@ -16,7 +17,7 @@ use Rattle.sound_runs.specs.TreeFacts.{TreeFacts}
 use Rattle.sound_evidence.specs.Walking.{IsWalkable}
 use Rattle.sound_evidence.specs.Known.{IsKnown}
 
-pub known_of : (p : Public) (t : Trace) → length (constants_of p.params) ≡ 168 → HasCounts t → IsTable 65 t.main → IsTable 2 t.range
+pub known_of : (p : Public) (t : Trace) → length (constants_of p.params) ≡ number_of_constants → HasCounts t → IsTable 65 t.main → IsTable 2 t.range
     → IsTable 15 t.hasher → IsTable 12 t.bitwise → IsTable 14 t.memory → IsTable 5 t.kernel → IsTable 1 t.left → IsAccepted p t
     → IsKnown p t
 known_of p t constants counts main range hasher bitwise memory kernel left accepted = record {

@@ -1,12 +1,13 @@
 -- What a walk along the rows rests on, and what it finds.
-use Rattle.std.specs.Prelude.{◌≡◌, ℕ, suc, ◌^◌, ◌≤◌, List, ◌++◌, drop, length}
+use Rattle.std.specs.Prelude.{◌≡◌, ℕ, suc, ◌≤◌, List, ◌++◌, drop, length}
 use Rattle.vm_ops.specs.declared.op.Op.{Op}
 use Rattle.vm_ops.specs.declared.op.Op.TheVariants as ops
 use Rattle.rpo_hash.specs.Constants.{constants_of}
 use Rattle.air_kit.specs.declared.trace.Public.{Public}
 use Rattle.air_kit.specs.declared.trace.Trace.{Trace}
 use Rattle.air_kit.specs.RowStates.{tape_of}
-use Rattle.air_kit.specs.Traces.{HasCounts}
+use Rattle.air_kit.specs.Traces.{HasCounts, most_rows}
+use Rattle.air_kit.specs.declared.trace.TableName.TheVariants as table
 use Rattle.sound_runs.specs.TreeFacts.{HasTree, TreeFacts}
 use Rattle.tree_merge.specs.AddrView.{placed_of}
 use Rattle.tree_merge.specs.Placed.{placed_digest}
@@ -15,8 +16,8 @@ use Rattle.sound_evidence.specs.declared.found.Found.{Found}
 -- the facts of the trace's rows, and that its tables are no larger than they may be
 pub record IsWalkable (p : Public) (t : Trace) : Type 0 where
   pub facts : TreeFacts (constants_of p.params) t.hasher t.main p.statement.digest
-  pub rows : length t.main ≤ 2 ^ 19
-  pub hashes : length t.hasher ≤ 2 ^ 22
+  pub rows : length t.main ≤ most_rows table.Main
+  pub hashes : length t.hasher ≤ most_rows table.Hasher
 
 -- a trace whose tables have so many rows as they may, and whose rows have their facts, is readable
 abbrev pub CountsAreReadable : Type 0

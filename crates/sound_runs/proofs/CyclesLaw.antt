@@ -1,5 +1,6 @@
 -- The laws of cycles and of ends.
 use Rattle.std.proofs.Common.{◌≡◌, ℕ, suc, ◌-◌, cond, eqb, List, length, refl, ap, ◌∙◌}
+use Rattle.vm_field.specs.Limits.{number_of_constants}
 use Rattle.vm_ops.specs.declared.op.Op.TheVariants as ops
 use Rattle.rpo_hash.specs.Constants.{constants_of}
 use Rattle.air_kit.specs.MainTuples.{is_call_op}
@@ -24,7 +25,7 @@ use Rattle.sound_runs.proofs.StartRows.{join_goes, loop_goes, span_goes, split_g
 use Rattle.sound_runs.proofs.StateRows.{top_at}
 use Rattle.sound_runs.proofs.TurnRows.{repeat_goes, respan_goes}
 
-known_of : (p : Public) (t : Trace) → length (constants_of p.params) ≡ 168 → Granted p t
+known_of : (p : Public) (t : Trace) → length (constants_of p.params) ≡ number_of_constants → Granted p t
     → Known (constants_of p.params) p.statement.kernel p.statement.outputs t.main
 known_of p t count granted = record {
   count = count;

@@ -1,5 +1,6 @@
 -- What the rows of an accepted main table show, as all that follows takes it.
 use Rattle.std.proofs.Common.{◌≡◌, ℕ, suc, ◌-◌, ◌<◌, ◌≤◌, ◌^◌, List, length, arith}
+use Rattle.vm_field.specs.Limits.{number_of_constants}
 use Rattle.vm_field.specs.Field.{prime}
 use Rattle.vm_field.specs.Permutation.{permuted}
 use Rattle.vm_ops.specs.declared.op.Op.TheVariants as ops
@@ -17,7 +18,7 @@ use Rattle.sound_blocks.specs.Frames.{FrameFacts}
 use Rattle.sound_blocks.specs.Lists.{OverflowLists}
 
 pub record Known (constants : List ℕ) (kernel : List (List ℕ)) (outputs : List ℕ) (rows : List (List ℕ)) : Type 0 where
-  pub count : length constants ≡ 168
+  pub count : length constants ≡ number_of_constants
   pub claim : Claim
   pub shows : ShowsRows claim rows
   pub few : length rows ≤ 2 ^ 19

@@ -1,5 +1,6 @@
 -- The states of the first row and of the last one.
 use Rattle.std.specs.Prelude.{◌≡◌, ℕ, ◌-◌, ◌≤◌, List, length}
+use Rattle.vm_field.specs.Limits.{most_inputs, number_of_constants}
 use Rattle.vm_field.specs.Machine.{Stands, start}
 use Rattle.air_kit.specs.RowStates.{state_at, tape_of}
 use Rattle.air_kit.specs.declared.trace.Public.{Public}
@@ -15,5 +16,5 @@ pub record EndFacts (inputs outputs : List ℕ) (rows : List (List ℕ)) : Type 
   pub clock : (state_at rows (length rows - 1)).core.clock ≡ length rows - 1
 
 abbrev pub GrantedEnds : Type 0
-GrantedEnds = (p : Public) (t : Trace) → length (constants_of p.params) ≡ 168 → length p.statement.inputs ≤ 16 → HasTables t → Granted p t
+GrantedEnds = (p : Public) (t : Trace) → length (constants_of p.params) ≡ number_of_constants → length p.statement.inputs ≤ most_inputs → HasTables t → Granted p t
     → EndFacts p.statement.inputs p.statement.outputs t.main

@@ -11,6 +11,7 @@ use Rattle.serde_json.specs.Data.{Data, string, depth, items_depth}
 use Rattle.serde_json.specs.Read.{read}
 use Rattle.serde_json.specs.Written.{compact_text, items_text, has_float, items_have_float}
 use Rattle.serde_json.proofs.OnLiterals.{serde_json_on_literals}
+use Rattle.vm_field.specs.Limits.{most_outputs}
 use Rattle.vm_field.specs.Field.{AreElements}
 use Rattle.vm_field.specs.Machine.{IsWord}
 use Rattle.vm_field.specs.WordText.{hex_digits, word_hex, word_of_hex}
@@ -128,7 +129,7 @@ pub record IsGood (claim : Stated) : Type 0 where
   pub inputs_few : length claim.inputs ≤ 16
   pub kernel_few : length claim.kernel ≤ 255
   pub outputs_full : 16 ≤ length claim.outputs
-  pub outputs_few : length claim.outputs ≤ 524303
+  pub outputs_few : length claim.outputs ≤ most_outputs
   pub distinct : AreDistinct claim.kernel
 
 pub claim_by-statement_data : (claim : Stated) → IsGood claim → claim_by (statement_data claim) ≡ Ok claim

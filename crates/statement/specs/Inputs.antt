@@ -1,6 +1,7 @@
 -- What the text of inputs gives, and the text that is written of them (docs/FORMATS.md, "Inputs").
 use Rattle.std.specs.Prelude.{ℕ, ◌&&◌, nat_le, if◌then◌else◌, List, ◌++◌, length, codes, Bool, Option, None, option_map, option_and_then, Result, Ok, Err}
 use Rattle.std.specs.Option.{ok_or}
+use Rattle.vm_field.specs.Limits.{most_advice, most_inputs}
 use Rattle.serde_json.specs.Data.{Data, Items}
 use Rattle.vm_state.specs.declared.inputs.Inputs.{Inputs}
 use Rattle.statement.specs.declared.refusal.TextCause.{TextCause}
@@ -31,7 +32,7 @@ given_from arrays =
     (elements_of arrays.stack)
 
 abbrev pub is_short : Given → Bool
-is_short given = nat_le (length given.stack) 16 && nat_le (length given.advice) 1048576
+is_short given = nat_le (length given.stack) most_inputs && nat_le (length given.advice) most_advice
 
 -- what a value gives, or the first cause that it has
 abbrev pub given_by : Data → Result Given TextCause

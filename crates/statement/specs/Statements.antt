@@ -3,6 +3,7 @@ use Rattle.std.specs.Prelude.{ℕ, ◌&&◌, nat_eq, nat_le, not, true, if◌the
 use Rattle.std.specs.List.{list_any}
 use Rattle.std.specs.Option.{ok_or}
 use Rattle.serde_json.specs.Data.{Data, Items}
+use Rattle.vm_field.specs.Limits.{least_depth, most_inputs, most_kernel, most_outputs}
 use Rattle.vm_field.specs.WordText.{word_hex, word_of_hex}
 use Rattle.vm_state.specs.declared.statement.Statement.{Statement}
 use Rattle.statement.specs.declared.refusal.TextCause.{TextCause}
@@ -41,8 +42,8 @@ are_distinct (word ∷ words) = not (list_any (pointwise nat_eq word) words) && 
 
 abbrev pub has_counts : Stated → Bool
 has_counts claim =
-    nat_le (length claim.inputs) 16 && nat_le (length claim.kernel) 255
-    && nat_le 16 (length claim.outputs) && nat_le (length claim.outputs) 524303
+    nat_le (length claim.inputs) most_inputs && nat_le (length claim.kernel) most_kernel
+    && nat_le least_depth (length claim.outputs) && nat_le (length claim.outputs) most_outputs
 
 -- the claim, where its lists have good lengths, and none of its kernel's words comes twice
 abbrev pub counted : Stated → Result Stated TextCause

@@ -2,7 +2,7 @@
 use Rattle.std.specs.Prelude.{ℕ, ◌+◌, ◌*◌, ◌^◌, ◌≤◌, ◌==◌, nat_lt, if◌then◌else◌, List, ◌++◌, length, codes, Result, Ok, Err}
 use Rattle.byteorder.specs.Endian.{little_number, little_bytes}
 use Rattle.vm_table.specs.Layout.{IsTable}
-use Rattle.air_kit.specs.Traces.{rows_of}
+use Rattle.air_kit.specs.Traces.{rows_of, most_rows}
 use Rattle.air_kit.specs.declared.trace.TableName.{TableName}
 use Rattle.air_kit.specs.declared.trace.TableName.TheVariants as table
 use Rattle.air_kit.specs.declared.trace.Trace.{Trace}
@@ -128,10 +128,10 @@ bytes_of t =
 
 -- bounds of the row counts, by which places stay small
 pub record AreFew (c : RowCounts) : Type 0 where
-  pub main : c.main ≤ 2 ^ 19
-  pub range : c.range ≤ 2 ^ 17
-  pub hasher : c.hasher ≤ 2 ^ 22
-  pub bitwise : c.bitwise ≤ 2 ^ 22
-  pub memory : c.memory ≤ 2 ^ 19
-  pub kernel : c.kernel ≤ 255
-  pub left : c.left ≤ 2 ^ 19
+  pub main : c.main ≤ most_rows table.Main
+  pub range : c.range ≤ most_rows table.Range
+  pub hasher : c.hasher ≤ most_rows table.Hasher
+  pub bitwise : c.bitwise ≤ most_rows table.Bitwise
+  pub memory : c.memory ≤ most_rows table.Memory
+  pub kernel : c.kernel ≤ most_rows table.Kernel
+  pub left : c.left ≤ most_rows table.Left

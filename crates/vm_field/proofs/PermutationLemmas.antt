@@ -2,6 +2,7 @@
 use Rattle.std.proofs.Common.{◌≡◌, ◌↔◌, ℕ, zero, suc, ◌+◌, ◌*◌, ◌<◌, ◌≤◌, Bool, true, false, cond, ◌==◌, List, [], ◌∷◌, length, map, take, drop, refl, sym, ap, ap₂, ◌∙◌, arith, lit<}
 use Rattle.std.proofs.lemmas.List.{drop-drop, length-drop, length-map, length-take-le}
 use Rattle.std.proofs.lemmas.List.Elements.{All-head, All-tail}
+use Rattle.vm_field.specs.Limits.{number_of_constants}
 use Rattle.vm_field.specs.Field.{prime, AreElements, felt_add, felt_pow, one_below, seventh_root}
 use Rattle.vm_field.specs.Permutation.{added, mixed, rotated, row_product, powered, before_roots, round, rounds, permuted, round_constants, seventh_powers, seventh_roots}
 use Rattle.vm_field.proofs.Inverses.{felt_pow-seventh_root, seventh_root-seventh}
@@ -19,7 +20,7 @@ pub length-mixed : (x : List ℕ) → length (mixed x) ≡ 12
 unfolding mixed
 length-mixed x = refl
 
-pub length-round_constants : (constants : List ℕ) (k : ℕ) → length constants ≡ 168 → k < 7 → length (round_constants constants k) ≡ 24
+pub length-round_constants : (constants : List ℕ) (k : ℕ) → length constants ≡ number_of_constants → k < 7 → length (round_constants constants k) ≡ 24
 length-round_constants constants k h below =
     length-take-le 24 (drop (24 * k) constants) (omega (arith, length-drop (24 * k) constants))
 
@@ -44,7 +45,7 @@ length-rounds (suc n) constants x h e =
     (omega (arith, length-drop 24 constants))
     (length-round (take 24 constants) x (length-take-le 24 constants (omega arith)))
 
-pub length-permuted : (constants x : List ℕ) → length constants ≡ 168 → length x ≡ 12 → length (permuted constants x) ≡ 12
+pub length-permuted : (constants x : List ℕ) → length constants ≡ number_of_constants → length x ≡ 12 → length (permuted constants x) ≡ 12
 unfolding permuted
 length-permuted constants x h e = length-rounds 7 constants x (omega arith) e
 
@@ -113,7 +114,7 @@ elements-rounds (suc n) constants x below =
     elements-rounds n (drop 24 constants) (round (take 24 constants) x) (elements-round (take 24 constants) x)
 
 -- of any state, since each round gives elements
-pub elements-permuted : (constants x : List ℕ) → length constants ≡ 168 → length x ≡ 12 → AreElements (permuted constants x)
+pub elements-permuted : (constants x : List ℕ) → length constants ≡ number_of_constants → length x ≡ 12 → AreElements (permuted constants x)
 unfolding permuted rounds
 elements-permuted constants x h e =
     elements-rounds 6 (drop 24 constants) (round (take 24 constants) x) (elements-round (take 24 constants) x)

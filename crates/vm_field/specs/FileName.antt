@@ -1,6 +1,7 @@
 -- The names that a command takes for files (docs/FORMATS.md).
 use Rattle.std.specs.Prelude.{ℕ, Bool, false, ◌==◌, ◌&&◌, ◌||◌, not, nat_le, List, [], ◌∷◌, length}
 use Rattle.std.specs.List.{list_all}
+use Rattle.vm_field.specs.Limits.{most_name_bytes}
 
 -- a letter, a digit, or one of . _ - /
 abbrev pub is_name_byte : ℕ → Bool
@@ -16,4 +17,4 @@ begins_with_dash (b ∷ bs) = b == 45
 -- 1 to 200 such bytes, the first of which is no dash
 abbrev pub is_file_name : List ℕ → Bool
 is_file_name text =
-    nat_le 1 (length text) && nat_le (length text) 200 && list_all is_name_byte text && not (begins_with_dash text)
+    nat_le 1 (length text) && nat_le (length text) most_name_bytes && list_all is_name_byte text && not (begins_with_dash text)

@@ -3,6 +3,7 @@ pub mod Signs
 pub mod Permutation
 pub mod Sponge
 pub mod Machine
+pub mod Limits
 pub mod FileName
 pub mod WordText
 pub mod Decimal

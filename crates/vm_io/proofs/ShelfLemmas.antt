@@ -9,15 +9,16 @@ use Rattle.std.proofs.lemmas.Option.{IfSome_then}
 use Rattle.std.proofs.lemmas.Map.Text.{is_eq-slice_cmp}
 use Rattle.std.proofs.lemmas.Slice.Eq.{bytes_eq-Decides}
 use Rattle.std.proofs.lemmas.Bool.{false_from_ne_true}
+use Rattle.vm_field.specs.Limits.{most_name_bytes}
 use Rattle.vm_io.specs.Count.{Rose, one_more}
 use Rattle.vm_io.specs.Shelf.{Files, ShelfState, Told, kept_name, with_failed_name}
 
 -- a name of at most 200 bytes is kept whole
-pub kept_whole : (name : List ℕ) → length name ≤ 200 → kept_name name ≡ name
+pub kept_whole : (name : List ℕ) → length name ≤ most_name_bytes → kept_name name ≡ name
 kept_whole name short = take_all 200 name short
 
 -- the name that failed is this one
-pub failed_whole : (told : Option (List ℕ)) (name : List ℕ) → length name ≤ 200 → with_failed_name told name ≡ option_map (λ _. name) told
+pub failed_whole : (told : Option (List ℕ)) (name : List ℕ) → length name ≤ most_name_bytes → with_failed_name told name ≡ option_map (λ _. name) told
 failed_whole told name short = ap (λ kept. option_map (λ _. kept) told) (kept_whole name short)
 
 -- a rise shows, unless the count had stopped

@@ -4,6 +4,7 @@ use Rattle.std.specs.Option.{option_map}
 use Rattle.std.specs.Ordering.{nat_cmp}
 use Rattle.std.specs.Cmp.Lexicographic.{slice_cmp}
 use Rattle.std.specs.FinMap.{FinMap, get, insert}
+use Rattle.vm_field.specs.Limits.{most_name_bytes}
 use Rattle.vm_io.specs.Count.{Rose}
 use Rattle.vm_io.specs.declared.shelf.ReadStop.{ReadStop}
 use Rattle.vm_io.specs.declared.shelf.ReadStop.TheVariants as read
@@ -27,7 +28,7 @@ Told s P = IfSome s.files P
 
 -- the part of a name that a shelf keeps
 abbrev pub kept_name : List ℕ → List ℕ
-kept_name name = take 200 name
+kept_name name = take most_name_bytes name
 
 -- the last failed name becomes this one, where it is told
 abbrev pub with_failed_name : Option (List ℕ) → List ℕ → Option (List ℕ)

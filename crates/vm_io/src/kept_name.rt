@@ -2,22 +2,24 @@ ghost use Rattle.std.specs.Prelude.{◌≡◌, ◌≤◌, [], length, take};
 ghost use Rattle.vm_io.specs.Shelf.{kept_name};
 
 use std::marker::Model;
+use vm_field::MOST_NAME_BYTES;
 
-/// The front of a name, of 200 bytes at most. It takes no memory.
+/// The front of a name, of `MOST_NAME_BYTES` at most. It takes no memory.
 #[derive(Drop)]
 pub struct KeptName {
-    bytes: [u8; 200],
+    bytes: [u8; MOST_NAME_BYTES],
     length: usize,
 }
 
 impl Model for KeptName {
     ghost use Rattle.std.specs.Prelude.{ℕ, List, take, ◌≤◌};
+    ghost use Rattle.vm_field.specs.Limits.{most_name_bytes};
 
     ghost Value = { List ℕ };
 
     ghost view = { λ a. take a.length a.bytes };
 
-    ghost invariant = { λ a. a.length ≤ 200 };
+    ghost invariant = { λ a. a.length ≤ most_name_bytes };
 }
 
 impl KeptName {
@@ -26,12 +28,12 @@ impl KeptName {
         ensures none { result ≡ [] }
     {
         KeptName {
-            bytes: [0; 200],
+            bytes: [0; MOST_NAME_BYTES],
             length: 0,
         }
     }
 
-    /// Keeps the first 200 bytes of a name.
+    /// Keeps the first `MOST_NAME_BYTES` of a name.
     pub fn keep(&mut self, name: &str)
         ensures kept { self.new ≡ kept_name name.now }
     {

@@ -3,6 +3,7 @@ use Rattle.std.proofs.Common.{◌≡◌, ◌≢◌, ℕ, ◌+◌, ◌-◌, ◌<�
 use Rattle.std.proofs.lemmas.List.{drop-drop, drop_all, drop_at, drop_more, get_or_append_left, get_or-append_right, get_or-drop, get_or-map, get_or-take, get_or_past}
 use Rattle.std.proofs.lemmas.List.Elements.{All-get_or}
 use Rattle.vm_field.proofs.Elements.{index-zeros, length-filled_up}
+use Rattle.vm_field.specs.Limits.{number_of_constants}
 use Rattle.vm_field.specs.Machine.{State, filled_up, IsWellFormed}
 use Rattle.vm_ops.proofs.MoveLemmas.{ByOne, leaves_of-below, shift_of-by_one, sources_of-visible, takes_of-below}
 use Rattle.vm_ops.proofs.Sizing.{length-computed, length-left_cells}
@@ -142,7 +143,7 @@ below_by Left taken left stack after by less few deep rest cells =
 
 -- ---- of a step
 
-pub step-below : (constants : List ℕ) (item : Item) (s t : State) → length constants ≡ 168 → IsWellFormed s
+pub step-below : (constants : List ℕ) (item : Item) (s t : State) → length constants ≡ number_of_constants → IsWellFormed s
     → step constants item s ≡ Ok t → ShiftedBelow (shift_of item.op) s.core.stack t.core.stack
 step-below constants item s t f h e =
     let done = stepped constants item s t e in
@@ -153,7 +154,7 @@ step-below constants item s t f h e =
     (ap (drop 16) stack ∙ drop-stack_after item.op (seen_at constants item s) s.core.stack sized)
     (λ j past. ap (λ xs. slice_index xs j) stack ∙ index-below item.op (seen_at constants item s) s.core.stack j sized past)
 
-pub step-untouched : (constants : List ℕ) (item : Item) (s t : State) (j : ℕ) → length constants ≡ 168 → IsWellFormed s
+pub step-untouched : (constants : List ℕ) (item : Item) (s t : State) (j : ℕ) → length constants ≡ number_of_constants → IsWellFormed s
     → step constants item s ≡ Ok t → leaves_of item.op ≤ j
     → slice_index t.core.stack j ≡ slice_index s.core.stack (takes_of item.op + (j - leaves_of item.op))
 step-untouched constants item s t j f h e past =
@@ -161,7 +162,7 @@ step-untouched constants item s t j f h e past =
     let sized = seen_at-sized constants item s f h done.enough in
     ap (λ (u : State). slice_index u.core.stack j) done.is ∙ index-below item.op (seen_at constants item s) s.core.stack j sized past
 
-pub step-moved : (constants : List ℕ) (item : Item) (s t : State) (j : ℕ) → length constants ≡ 168 → IsWellFormed s
+pub step-moved : (constants : List ℕ) (item : Item) (s t : State) (j : ℕ) → length constants ≡ number_of_constants → IsWellFormed s
     → step constants item s ≡ Ok t → computes_of item.op ≡ 0 → j < leaves_of item.op
     → slice_index t.core.stack j ≡ slice_index s.core.stack (slice_index (sources_of item.op) j)
 step-moved constants item s t j f h e none within =

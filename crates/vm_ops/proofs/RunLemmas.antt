@@ -3,6 +3,7 @@ use Rattle.std.proofs.Common.{◌≡◌, ◌≢◌, ℕ, ◌<◌, List, [], ◌�
 use Rattle.std.proofs.lemmas.List.Elements.{All-head, All-tail}
 use Rattle.std.specs.List.{All}
 use Rattle.std.specs.Option.{MatchOption}
+use Rattle.vm_field.specs.Limits.{number_of_constants}
 use Rattle.vm_field.specs.Field.{prime}
 use Rattle.vm_field.specs.Machine.{State, IsWellFormed}
 use Rattle.vm_ops.proofs.StepLemmas.{step-kept}
@@ -48,7 +49,7 @@ kept_next : (constants : List ℕ) (items : List Item) (r : Result State Cause) 
 kept_next constants items (Ok s) t first later e = later s (first s refl) e
 kept_next constants items (Err cause) t first later e = cc
 
-pub run-kept : (constants : List ℕ) (items : List Item) (s t : State) → length constants ≡ 168 → All IsOrdinaryItem items
+pub run-kept : (constants : List ℕ) (items : List Item) (s t : State) → length constants ≡ number_of_constants → All IsOrdinaryItem items
     → IsWellFormed s → run constants items s ≡ Ok t → IsWellFormed t
 unfolding run
 run-kept constants [] s t f each h e = let same : s ≡ t = cc in rw (← same) h

@@ -5,6 +5,7 @@ use Rattle.std.proofs.lemmas.List.{length-take-le}
 use Rattle.std.specs.Option.{MatchOption}
 use Rattle.vm_field.proofs.Elements.{elements-append, elements-drop, elements-filled_up, elements-take}
 use Rattle.vm_field.proofs.Places.{words-insert}
+use Rattle.vm_field.specs.Limits.{number_of_constants}
 use Rattle.vm_field.specs.Field.{prime, AreElements}
 use Rattle.vm_field.specs.Machine.{Core, State, WordMap, word_at, IsWord, IsWellFormed}
 use Rattle.vm_ops.proofs.Sizing.{length-stack_after}
@@ -100,7 +101,7 @@ step-clock constants item s t e = ap (λ (u : State). u.core.clock) (stepped con
 
 -- ---- from a well-formed state
 
-pub seen_at-sized : (constants : List ℕ) (item : Item) (s : State) → length constants ≡ 168 → IsWellFormed s
+pub seen_at-sized : (constants : List ℕ) (item : Item) (s : State) → length constants ≡ number_of_constants → IsWellFormed s
     → advice_of item.op ≤ length s.tape → IsSeenBy item.op (seen_at constants item s)
 seen_at-sized constants item s e h enough = record {
   constants = e;
@@ -121,7 +122,7 @@ seen_at-elements constants item s small h = record {
   cells = elements-take 16 s.core.stack h.core.cells;
 }
 
-pub step-depth : (constants : List ℕ) (item : Item) (s t : State) → length constants ≡ 168 → IsWellFormed s
+pub step-depth : (constants : List ℕ) (item : Item) (s t : State) → length constants ≡ number_of_constants → IsWellFormed s
     → step constants item s ≡ Ok t → length t.core.stack ≡ depth_after item.op (length s.core.stack)
 step-depth constants item s t f h e =
     let done = stepped constants item s t e in
@@ -157,7 +158,7 @@ kept constants item s h sized made free =
       tape = elements-drop (advice_of op) s.tape h.tape;
     }
 
-pub step-kept : (constants : List ℕ) (item : Item) (s t : State) → length constants ≡ 168 → unwrap_or item.imm 0 < prime
+pub step-kept : (constants : List ℕ) (item : Item) (s t : State) → length constants ≡ number_of_constants → unwrap_or item.imm 0 < prime
     → IsWellFormed s → step constants item s ≡ Ok t → IsWellFormed t
 step-kept constants item s t f small h e =
     let done = stepped constants item s t e in

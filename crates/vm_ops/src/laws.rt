@@ -1,4 +1,5 @@
 ghost use Rattle.std.specs.Prelude.{◌≡◌, ◌≢◌, ℕ, ◌+◌, ◌-◌, ◌<◌, ◌≤◌, ◌↔◌, false, List, ◌++◌, drop, length, slice_index, Some, None, unwrap_or, Ok, Err, All};
+ghost use Rattle.vm_field.specs.Limits.{number_of_constants};
 ghost use Rattle.vm_field.specs.Field.{prime, AreElements};
 ghost use Rattle.vm_field.specs.Machine.{State, IsWellFormed};
 ghost use Rattle.vm_ops.specs.Codes.{code_of, op_at, reads_elsewhere, writes_memory};
@@ -49,10 +50,10 @@ pub fn step_laws()
 
     ensures clock { (constants : List ℕ) (item : Item) (s t : State) → step constants item s ≡ Ok t
         → t.core.clock ≡ s.core.clock + 1 }
-    ensures depth { (constants : List ℕ) (item : Item) (s t : State) → length constants ≡ 168
+    ensures depth { (constants : List ℕ) (item : Item) (s t : State) → length constants ≡ number_of_constants
         → IsWellFormed s → step constants item s ≡ Ok t
         → length t.core.stack ≡ depth_after item.op (length s.core.stack) }
-    ensures kept { (constants : List ℕ) (item : Item) (s t : State) → length constants ≡ 168
+    ensures kept { (constants : List ℕ) (item : Item) (s t : State) → length constants ≡ number_of_constants
         → unwrap_or item.imm 0 < prime → IsWellFormed s → step constants item s ≡ Ok t
         → IsWellFormed t }
 {}
@@ -73,14 +74,14 @@ pub fn frame_laws()
         → t.tape ≡ drop (advice_of item.op) s.tape }
 
     ensures untouched { (constants : List ℕ) (item : Item) (s t : State) (j : ℕ)
-        → length constants ≡ 168 → IsWellFormed s → step constants item s ≡ Ok t
+        → length constants ≡ number_of_constants → IsWellFormed s → step constants item s ≡ Ok t
         → leaves_of item.op ≤ j → slice_index t.core.stack j
         ≡ slice_index s.core.stack (takes_of item.op + (j - leaves_of item.op)) }
-    ensures below { (constants : List ℕ) (item : Item) (s t : State) → length constants ≡ 168
+    ensures below { (constants : List ℕ) (item : Item) (s t : State) → length constants ≡ number_of_constants
         → IsWellFormed s → step constants item s ≡ Ok t
         → ShiftedBelow (shift_of item.op) s.core.stack t.core.stack }
     ensures moved { (constants : List ℕ) (item : Item) (s t : State) (j : ℕ)
-        → length constants ≡ 168 → IsWellFormed s → step constants item s ≡ Ok t
+        → length constants ≡ number_of_constants → IsWellFormed s → step constants item s ≡ Ok t
         → computes_of item.op ≡ 0 → j < leaves_of item.op
         → slice_index t.core.stack j ≡ slice_index s.core.stack (slice_index (sources_of item.op) j) }
 {}
@@ -90,7 +91,7 @@ pub fn frame_laws()
 pub fn run_laws()
     ensures append { (constants : List ℕ) (xs ys : List Item) (s : State)
         → run constants (xs ++ ys) s ≡ after_ok (run constants ys) (run constants xs s) }
-    ensures kept { (constants : List ℕ) (items : List Item) (s t : State) → length constants ≡ 168
+    ensures kept { (constants : List ℕ) (items : List Item) (s t : State) → length constants ≡ number_of_constants
         → All IsOrdinaryItem items → IsWellFormed s → run constants items s ≡ Ok t
         → IsWellFormed t }
 {}

@@ -1,4 +1,5 @@
 ghost use Rattle.std.specs.Prelude.{◌≡◌, ◌≤◌, length};
+ghost use Rattle.vm_field.specs.Limits.{most_advice, most_inputs};
 ghost use Rattle.vm_field.specs.Field.{AreElements};
 
 use vm_field::Felts;
@@ -9,8 +10,8 @@ use vm_field::Felts;
 pub struct Inputs {
     pub stack: Felts,
     pub advice: Felts,
-    pub ghost few: { length stack ≤ 16 },
-    pub ghost short: { length advice ≤ 1048576 },
+    pub ghost few: { length stack ≤ most_inputs },
+    pub ghost short: { length advice ≤ most_advice },
     pub ghost cells: { AreElements stack },
     pub ghost elements: { AreElements advice },
 }
@@ -24,8 +25,8 @@ impl Inputs {
 
     /// The inputs of these lists.
     pub fn new(stack: Felts, advice: Felts) -> Inputs
-        requires few { length stack ≤ 16 }
-        requires short { length advice ≤ 1048576 }
+        requires few { length stack ≤ most_inputs }
+        requires short { length advice ≤ most_advice }
         ensures stack { result.stack ≡ stack }
         ensures advice { result.advice ≡ advice }
     {

@@ -1,4 +1,5 @@
 use Rattle.std.proofs.Common.{◌≡◌, slice_index_or, [], length, ◌∙◌, sym, ap, subst}
+use Rattle.vm_field.specs.Limits.{number_of_constants}
 use Rattle.rpo_hash.specs.States.{IsState}
 use Rattle.rpo_hash.proofs.OneToOne.{permuted-IsState}
 use Rattle.perm_memo.specs.RoundStates.{round_states}
@@ -12,6 +13,6 @@ returns-clause-is c =
 
 pub returns-clause-below : goal.returns-clause-below
 returns-clause-below c =
-    let count : length c.args.self.now ≡ 168 = subst (λ constants. length constants ≡ 168) c.self.view_is c.known_constants.ensures.count in
+    let count : length c.args.self.now ≡ number_of_constants = subst (λ constants. length constants ≡ number_of_constants) c.self.view_is c.known_constants.ensures.count in
     let state = subst IsState (sym (returns-clause-is c)) (permuted-IsState c.args.self.now c.args.state.now count) in
     λ k h. state.below k 0 h
