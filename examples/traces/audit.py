@@ -1,9 +1,10 @@
 #!/usr/bin/env python3
 """Reads evidence for itself, against the table file and the statement that it was written for:
 
-    audit.py PARAMS TABLE STATEMENT EVIDENCE
+    audit.py STATUS PARAMS TABLE STATEMENT EVIDENCE
 
-prints `consistent`, or says what is not. Of a run it computes the digest of the tree, and compares it with the statement's, and the
+prints `consistent`, or says what is not. STATUS is that of the `check` which wrote the evidence, as `$?` behind it: where it is not 0
+nothing was written, and a file of that name is evidence of another table. Of a run it computes the digest of the tree, and compares it with the statement's, and the
 cycles with the rows of the main table; where the tree is one span, with the cycles of its batches, too. Of a pair it reads the two
 hashes in the table: their inputs differ, and their digests do not. It runs nothing of the program; docs/FORMATS.md has the files.
 """
@@ -114,7 +115,17 @@ def faults(params, table, statement, evidence):
     return run_faults(constants_in(params), tables_in(table), said, lines)
 
 
-if __name__ == "__main__":
-    found = list(faults(*sys.argv[1:5]))
+def main():
+    words = sys.argv[1:]
+    if len(words) != 5 or not words[0].isdecimal():
+        print("usage: audit.py STATUS PARAMS TABLE STATEMENT EVIDENCE", file=sys.stderr)
+        sys.exit(2)
+    if int(words[0]) != 0:
+        sys.exit(f"the check ended with status {words[0]} and wrote no evidence")
+    found = list(faults(*words[1:]))
     print("\n".join(found) or "consistent")
     sys.exit(1 if found else 0)
+
+
+if __name__ == "__main__":
+    main()

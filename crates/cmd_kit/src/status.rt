@@ -1,5 +1,8 @@
 ghost use Rattle.std.specs.Prelude.{◌≡◌};
+ghost use Rattle.std.specs.Process.{exit_status};
 ghost use Rattle.cmd_kit.specs.Statuses.{number_of};
+
+use std::process::ExitCode;
 
 /// How a call of `serve` ended.
 #[derive(Clone, Copy, Debug, PartialEq, Eq)]
@@ -33,7 +36,7 @@ pub enum Status {
 }
 
 impl Status {
-    /// The exit status of the program.
+    /// The number of the status (docs/FORMATS.md).
     pub fn number(self) -> u8
         ensures { result ≡ number_of self }
     {
@@ -52,5 +55,12 @@ impl Status {
             Status::TooLong => 11,
             Status::Memory => 12,
         }
+    }
+
+    /// What the program ends with: an exit status of this number.
+    pub fn exit_code(self) -> ExitCode
+        ensures { exit_status result ≡ number_of self }
+    {
+        ExitCode::from(self.number())
     }
 }

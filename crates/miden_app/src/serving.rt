@@ -16,7 +16,7 @@ use vm_field::Bytes;
 use vm_io::{Gate, Shelf, Sink, SinkStop};
 
 /// Does what the words after the program's name ask for, over the shelf's files, and prints its
-/// line in one call of the sink.
+/// line.
 ///
 /// Each status other than `SinkFault` and `Memory` is the one that the words and the files come to,
 /// or says that a read or a write failed, and its line was printed. `SinkFault` says that the line

@@ -28,7 +28,7 @@ fn handed_words(rt: &(impl Env + AllocGlobal)) -> io::Result<Vec<Vec<u8>>> {
 
 fn main(rt: HostRuntime) -> ExitCode {
     let Some(words) = words(&rt) else {
-        return ExitCode::from(Status::Memory.number());
+        return Status::Memory.exit_code();
     };
     let mut shelf = FolderShelf::new(&rt);
     let mut out = StdSink::new(&rt);
@@ -39,5 +39,5 @@ fn main(rt: HostRuntime) -> ExitCode {
         &mut out,
         &OpenGate,
     );
-    ExitCode::from(status.number())
+    status.exit_code()
 }

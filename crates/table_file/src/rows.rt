@@ -27,9 +27,6 @@ pub(crate) fn take_rows<const W: usize>(
     ensures some { IfOk result (λ count. 8 * W ≤ count) }
     ensures err { IfErr result (λ error. (all : List ℕ) → StandsAt all at bytes.now → GivesRead (Err error) (rows_at all W left.old at)) }
 {
-    if table.rows() == 0 {
-        table.reserve(*left)?;
-    }
     let size = ELEMENT_BYTES * W;
     let mut row = [Felt::ZERO; W];
     let mut used = 0;
