@@ -2,10 +2,11 @@
 """Whether the pages say what is so. `.ci/run` calls it behind the proofs:
 
     pages.py            lists by file and line what is not so, and ends with 1 if anything is not
-    pages.py --write    writes what each crate says of itself to the tables of docs/ARCHITECTURE.md, and checks nothing
+    pages.py --write    writes what each crate says of itself to the tables of docs/ARCHITECTURE.md, and the schema, and checks nothing
 
 The tables of crates in docs/ARCHITECTURE.md and docs/CLAUSES.md have one row for each crate of crates.txt, in its order; the second
-cells of the former are what the crates say of themselves. Paths and links lead somewhere, and README.md names each page. The
+cells of the former are what the crates say of themselves. Paths and links lead somewhere, and README.md names each page.
+examples/traces/schema.json is what docs/CONSTRAINTS.md says of columns, constraints and buses. The
 commands of README.md and docs/GUIDE.md print what is shown below them, and a table of which a cell is changed is refused, or still
 has evidence. These last two need the program that `rt ci` leaves, since nothing here builds it.
 """
@@ -25,6 +26,8 @@ import time
 from collections.abc import Iterator
 from dataclasses import dataclass
 from pathlib import Path
+
+import schema
 
 ROOT = Path(__file__).resolve().parent.parent
 PROGRAM = ROOT / "crates/miden_cli/out/miden_cli"
@@ -228,11 +231,13 @@ def main() -> int:
     crates = crates_in_order()
     if sys.argv[1:]:
         (ROOT / MAP).write_text("".join(f"{line}\n" for line in map_as_said(crates)), encoding="utf-8")
+        schema.write()
         return 0
     pages = sorted(f"docs/{page.name}" for page in (ROOT / "docs").glob("*.md"))
     findings = [*table_findings(MAP, crates), *cell_findings(crates), *table_findings(CLAUSES, crates)]
     findings += [at(page, 1, f"{README} does not name this page") for page in pages if page not in "\n".join(lines_of(README))]
     findings += [finding for page in [README, *pages] for finding in path_findings(page)]
+    findings += schema.schema_findings()
     seen = f"{len(crates)} crates"
     if is_built():
         commands = {page: commands_of(page) for page in (README, GUIDE)}

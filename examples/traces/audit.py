@@ -9,24 +9,13 @@ cycles with the rows of the main table; where the tree is one span, with the cyc
 hashes in the table: their inputs differ, and their digests do not. It runs nothing of the program; docs/FORMATS.md has the files.
 """
 import json
-import struct
 import sys
 
 from rpo import constants_in, digest_of, word_text
+from tables import tables_in
 
 DOMAINS = {"join": 70, "split": 71, "loop": 72, "call": 74, "syscall": 75}
 PUSH = 69
-
-
-def tables_in(path):
-    with open(path, "rb") as file:
-        content = file.read()
-    counts = struct.unpack_from("<7I", content, 8)
-    tables, place = [], 36
-    for count, width in zip(counts, (65, 2, 15, 12, 14, 5, 1)):
-        tables.append([struct.unpack_from(f"<{width}Q", content, place + 8 * width * i) for i in range(count)])
-        place += 8 * width * count
-    return tables
 
 
 def word_in(text):

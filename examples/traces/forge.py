@@ -1,26 +1,42 @@
 #!/usr/bin/env python3
-"""Changes one cell of the main table of a table file:
+"""Changes one cell of a table file:
 
     forge.py TABLE ROW COLUMN VALUE FORGED
 
-writes to FORGED what stands in TABLE, with VALUE in that cell. Rows and columns count from 0; docs/CONSTRAINTS.md has the
-columns, docs/FORMATS.md the file.
+writes to FORGED what stands in TABLE, with VALUE in that cell. Rows count from 0. COLUMN is a column of the main table by its name,
+as s0, or by its number, or one of another table with the table's name in front, as memory.v0; docs/CONSTRAINTS.md has them all,
+docs/FORMATS.md the file.
 """
 import struct
 import sys
 
-HEAD, COLUMNS = 36, 65
+from tables import COLUMNS, counts_in, place_of
+
+
+def column_of(word):
+    """The table and the number of a column."""
+    table, name = word.split(".", 1) if "." in word else ("main", word)
+    columns = COLUMNS.get(table, [])
+    if name.isdecimal() and int(name) < len(columns):
+        return table, int(name)
+    if name not in columns:
+        sys.exit(f"there is no column {word}; the tables are {' '.join(COLUMNS)}, the columns of {table} {' '.join(columns) or 'none'}")
+    return table, columns.index(name)
 
 
 def main():
-    table, row, column, value, forged = sys.argv[1], *map(int, sys.argv[2:5]), sys.argv[5]
-    with open(table, "rb") as file:
+    words = sys.argv[1:]
+    if len(words) != 5 or not words[1].isdecimal() or not words[3].isdecimal() or int(words[3]) >= 2**64:
+        print("usage: forge.py TABLE ROW COLUMN VALUE FORGED", file=sys.stderr)
+        sys.exit(2)
+    (table, column), row = column_of(words[2]), int(words[1])
+    with open(words[0], "rb") as file:
         content = bytearray(file.read())
-    rows = struct.unpack_from("<I", content, 8)[0]
-    if not (0 <= row < rows and 0 <= column < COLUMNS):
-        sys.exit(f"the main table has rows 0 to {rows - 1} and columns 0 to {COLUMNS - 1}")
-    struct.pack_into("<Q", content, HEAD + 8 * (COLUMNS * row + column), value)
-    with open(forged, "wb") as file:
+    rows = dict(zip(COLUMNS, counts_in(content)))[table]
+    if row >= rows:
+        sys.exit(f"the table {table} has rows 0 to {rows - 1}" if rows else f"the table {table} has no rows")
+    struct.pack_into("<Q", content, place_of(content, table, row, column), int(words[3]))
+    with open(words[4], "wb") as file:
         file.write(content)
 
 

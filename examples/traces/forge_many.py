@@ -17,16 +17,14 @@ import tempfile
 
 from audit import faults
 from rpo import P
+from tables import HEAD, cells_in
 
-WIDTHS = (65, 2, 15, 12, 14, 5, 1)
 ACCEPTED = "accepted, and consistent"
 
 
 def forged(content: bytes, choice: random.Random) -> bytes:
     """The bytes of a table file, with another value in one cell of any of its tables."""
-    counts = struct.unpack_from("<7I", content, 8)
-    cells = sum(width * count for width, count in zip(WIDTHS, counts))
-    place = 36 + 8 * choice.randrange(cells)
+    place = HEAD + 8 * choice.randrange(cells_in(content))
     old = struct.unpack_from("<Q", content, place)[0]
     new = choice.choice([(old + 1) % P, (old - 1) % P, 0, 1, choice.randrange(P)])
     changed = bytearray(content)

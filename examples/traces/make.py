@@ -10,9 +10,9 @@ has the columns, docs/FORMATS.md the files.
 """
 import json
 import os
-import struct
 
 from rpo import P, constants_in, permutation, word_text
+from tables import COLUMNS, written
 
 HERE = os.path.dirname(os.path.abspath(__file__))
 CONSTANTS = constants_in(os.path.join(HERE, "../params/derived"))
@@ -41,19 +41,10 @@ def inverse(x):
 
 
 def main_row(clock, code, level, cells, depth, key, **named):
-    row = [0] * 65
-    row[0], row[1], row[46], row[47], row[48], row[50] = clock, 2**30, depth, key, inverse(depth - 16), level
-    row[9:16] = [code >> j & 1 for j in range(7)]
-    row[30:46] = cells[:16]
-    row[8] = row[49] = 1 if level else 0
-    for column, value in named.items():
-        row[COLUMNS[column]] = value % P
-    return row
-
-
-COLUMNS = {"sp": 24, "gc": 25, "ox": 26, "c0": 27, "c1": 28, "c2": 29}
-COLUMNS.update({f"h{j}": 16 + j for j in range(8)})
-COLUMNS.update({f"w{j}": 51 + j for j in range(4)})
+    named |= {"clk": clock, "fmp": 2**30, "depth": depth, "key": key, "inv": inverse(depth - 16), "lv": level}
+    named |= {f"b{j}": code >> j & 1 for j in range(7)} | {f"s{j}": cells[j] for j in range(16)}
+    named |= {"addr": 1 if level else 0, "ha": 1 if level else 0}
+    return [named.get(column, 0) % P for column in COLUMNS["main"]]
 
 
 def fill():
@@ -82,11 +73,7 @@ def fill():
 
 
 def write(name, tables, digest, outputs):
-    with open(os.path.join(HERE, name + ".table"), "wb") as file:
-        file.write(b"MDTB" + struct.pack("<8I", 1, *(len(table) for table in tables)))
-        for table in tables:
-            for row in table:
-                file.write(struct.pack(f"<{len(row)}Q", *row))
+    written(os.path.join(HERE, name + ".table"), tables)
     with open(os.path.join(HERE, name + ".json"), "w") as file:
         statement = {"digest": digest, "inputs": [], "kernel": [], "outputs": outputs}
         file.write(json.dumps(statement, separators=(",", ":")))
@@ -94,5 +81,5 @@ def write(name, tables, digest, outputs):
 
 tables, digest, outputs = fill()
 write("sum", tables, digest, outputs)
-tables[0][-1][30] = outputs[0] = 8
+tables[0][-1][COLUMNS["main"].index("s0")] = outputs[0] = 8
 write("forged", tables, digest, outputs)

@@ -34,7 +34,10 @@ pub fn number_in(least: u64, most: u64, word: &[u8]) -> Option<u64>
 fn is_name(word: &[u8]) -> bool
     ensures { result ≡ is_file_name word.now }
 {
-    1 <= word.len() && word.len() <= MOST_NAME_BYTES && has_name_bytes(word) && !begins_with_dash(word)
+    1 <= word.len()
+        && word.len() <= MOST_NAME_BYTES
+        && has_name_bytes(word)
+        && !begins_with_dash(word)
 }
 
 fn has_name_bytes(word: &[u8]) -> bool

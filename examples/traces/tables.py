@@ -1,0 +1,47 @@
+"""Table files (docs/FORMATS.md) by the names of their tables and columns, for the scripts beside this file."""
+import json
+import os
+import struct
+
+HEAD = 36
+
+with open(os.path.join(os.path.dirname(os.path.abspath(__file__)), "schema.json"), encoding="utf-8") as schema:
+    COLUMNS = {table["name"]: table["columns"] for table in json.load(schema)["tables"]}
+WIDTHS = [len(columns) for columns in COLUMNS.values()]
+
+
+def counts_in(content):
+    """How many rows each table has, in their order."""
+    return struct.unpack_from("<7I", content, 8)
+
+
+def cells_in(content):
+    """How many cells all tables have together."""
+    return sum(width * count for width, count in zip(WIDTHS, counts_in(content)))
+
+
+def tables_in(path):
+    """The rows of each table, in their order."""
+    with open(path, "rb") as file:
+        content = file.read()
+    tables, place = [], HEAD
+    for count, width in zip(counts_in(content), WIDTHS):
+        tables.append([struct.unpack_from(f"<{width}Q", content, place + 8 * width * i) for i in range(count)])
+        place += 8 * width * count
+    return tables
+
+
+def place_of(content, table, row, column):
+    """The byte at which a cell lies."""
+    names = list(COLUMNS)
+    before = sum(width * count for name, width, count in zip(names, WIDTHS, counts_in(content)) if names.index(name) < names.index(table))
+    return HEAD + 8 * (before + len(COLUMNS[table]) * row + column)
+
+
+def written(path, tables):
+    """Writes the rows of the seven tables as a table file."""
+    with open(path, "wb") as file:
+        file.write(b"MDTB" + struct.pack("<8I", 1, *(len(table) for table in tables)))
+        for table in tables:
+            for row in table:
+                file.write(struct.pack(f"<{len(row)}Q", *row))
