@@ -4,6 +4,7 @@ pub mod Completeness
 pub mod EvidenceLaw
 pub mod LawLemmas
 pub mod LentFiles
+pub mod RunLaw
 pub mod OutcomeLemmas
 pub mod ServingLemmas
 pub mod Walks

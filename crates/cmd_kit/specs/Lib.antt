@@ -12,6 +12,7 @@ pub mod Malformed
 pub mod Outcomes
 pub mod RefusalLines
 pub mod RunEnds
+pub mod RunLaws
 pub mod RunSteps
 pub mod Serving
 pub mod SourceEnds

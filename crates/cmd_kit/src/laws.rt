@@ -1,4 +1,5 @@
 ghost use Rattle.cmd_kit.specs.Completeness.{GoodIsOk};
+ghost use Rattle.cmd_kit.specs.RunLaws.{AnsweredRunStands};
 ghost use Rattle.cmd_kit.specs.Laws.{OtherFilesStay, CommandsWrite, UsageMeansNothing, NothingGivesUsage, AcceptedHasEvidence, WrittenRunIsAccepted};
 
 /// Which files `serve` may change, over a shelf that tells its files: whatever the answer, those
@@ -23,6 +24,15 @@ pub fn usage_is_for_no_command()
 /// file that have different inputs and one digest.
 pub fn accepted_has_evidence()
     ensures { AcceptedHasEvidence }
+{}
+
+/// What stands where `run` answers `Ok`, over a shelf that tells its files: the source has a program, which runs from
+/// the inputs to an end within the limit; the table file and the statement of that run stand under their names, and its
+/// cycles and its stack were printed. The table has a row for each cycle and a last one, takes of the tape what the run
+/// took, and is accepted for the statement.
+#[tactic(auto, using(crate::proofs::RunLaw::answered_run_stands))]
+pub fn answered_run_stands()
+    ensures { AnsweredRunStands }
 {}
 
 /// What `run` vouches for, over a shelf that tells its files: where it answers `Ok`, `check` of the two files

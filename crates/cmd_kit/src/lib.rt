@@ -18,8 +18,8 @@ mod status;
 pub use answer::Answer;
 pub use bad_forms::malformed;
 pub use laws::{
-    accepted_has_evidence, good_files_are_served, other_files_stay, usage_is_for_no_command,
-    written_run_is_accepted,
+    accepted_has_evidence, answered_run_stands, good_files_are_served, other_files_stay,
+    usage_is_for_no_command, written_run_is_accepted,
 };
 pub use lines::append_word;
 pub use loading::load;

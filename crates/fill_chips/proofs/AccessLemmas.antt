@@ -1,5 +1,5 @@
 -- The rows of accesses, one by one, and that accesses that fit are shown by them.
-use Rattle.std.proofs.Common.{◌≡◌, ℕ, suc, ◌+◌, ◌<◌, ◌≤◌, ◌/◌, ◌%◌, List, [], ◌∷◌, ◌++◌, length, get_or, slice_index, drop, Option, Some, All, Result, Ok, Err, IfOk, refl, sym, ap, ap₂, subst, ◌∙◌, add-one, append_assoc, drop-cons}
+use Rattle.std.proofs.Common.{◌≡◌, ℕ, suc, ◌+◌, ◌<◌, ◌≤◌, ◌/◌, ◌%◌, List, [], ◌∷◌, ◌++◌, length, get_or, slice_index, drop, Option, None, Some, All, Result, Ok, Err, IfOk, refl, sym, ap, ap₂, subst, ◌∙◌, add-one, append_assoc, drop-cons}
 use Rattle.std.proofs.lemmas.List.{append-nil, drop_all}
 use Rattle.std.specs.List.Sorted.{IsPermutation}
 use Rattle.air_kit.specs.declared.requests.Access.{Access}
@@ -8,7 +8,7 @@ use Rattle.air_kit.specs.Requests.{Fits}
 use Rattle.facts_memory.specs.AccessRows.{new_address, new_context, row_behind, rows_behind, step_behind}
 use Rattle.facts_memory.specs.MemoryTables.{AccessesFit, IsSmallAccess, ShowsAccesses}
 use Rattle.facts_memory.proofs.RowsShow.{rows_show}
-use Rattle.fill_chips.specs.MemoryLimbs.{AreRowsOf}
+use Rattle.fill_chips.specs.MemoryLimbs.{AreRowsOf, HasNoFirstStep}
 
 -- a row by its cells
 pub row-is : (before : Option Access) (a : Access) (c0 c1 c2 c3 c4 c5 c6 c7 c8 c9 c10 c11 c12 c13 : ℕ) → c0 ≡ a.kind → c1 ≡ a.ctx → c2 ≡ a.addr
@@ -35,6 +35,12 @@ behind-cons before a accesses = refl
 behind-none : (before : Option Access) → rows_behind before [] ≡ []
 unfolding rows_behind
 behind-none before = refl
+
+-- the first row is that of an access behind none
+pub no_first_step : (accesses : List Access) (rows : List (List ℕ)) → rows ≡ rows_behind None accesses → HasNoFirstStep rows
+unfolding row_behind, rows_behind
+no_first_step [] rows is = subst HasNoFirstStep (sym is) (record { low = refl; high = refl })
+no_first_step (a ∷ accesses) rows is = subst HasNoFirstStep (sym is) (record { low = refl; high = refl })
 
 -- one more access
 pub rows-step : (sorted : List Access) (table new : List (List ℕ)) (row : List ℕ) (before : Option Access) (i : ℕ) (a : Access) → i < length sorted

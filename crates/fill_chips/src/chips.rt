@@ -1,7 +1,7 @@
 ghost use Rattle.std.specs.Prelude.{◌≡◌, ◌++◌, IfOk};
 ghost use Rattle.air_kit.specs.Requests.{Fits};
 ghost use Rattle.fill_chips.specs.Beside.{AnswersBeside, HasSizes};
-ghost use Rattle.fill_chips.specs.MemoryLimbs.{limbs_in};
+ghost use Rattle.fill_chips.specs.MemoryLimbs.{HasNoFirstStep, limbs_in};
 ghost use Rattle.fill_chips.specs.RangeRows.{range_rows};
 
 use crate::bitwise::bitwise_table;
@@ -38,6 +38,7 @@ pub fn fill_chips(
     requires fit { Fits permutations.old kernel.now requests.now }
     ensures answers { IfOk result (AnswersBeside permutations.old kernel.now requests.now) }
     ensures sizes { IfOk result (HasSizes requests.now) }
+    ensures first { IfOk result (λ chips. HasNoFirstStep chips.memory) }
     ensures range { IfOk result (λ chips. chips.range ≡ range_rows (requests.now.ranges ++ limbs_in chips.memory)) }
     ensures same { permutations.new ≡ permutations.old }
 {

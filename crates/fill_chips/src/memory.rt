@@ -5,7 +5,7 @@ ghost use Rattle.facts_memory.specs.Accesses.{key_of};
 ghost use Rattle.facts_memory.specs.AccessRows.{new_address, new_context, row_behind, rows_of, step_behind};
 ghost use Rattle.vm_table.specs.Layout.{row_at};
 ghost use Rattle.facts_memory.specs.MemoryTables.{HasLimbs, IsSmallAccess};
-ghost use Rattle.fill_chips.specs.MemoryLimbs.{AreRowsOf, limbs_of};
+ghost use Rattle.fill_chips.specs.MemoryLimbs.{AreRowsOf, HasNoFirstStep, limbs_of};
 
 use crate::hasher::bit_of;
 use air_kit::Access;
@@ -25,6 +25,7 @@ struct Step {
 /// A row for each access, by context, then by address, then by clock.
 pub(crate) fn memory_table(alloc: Global, accesses: &[Access]) -> Result<Table<14>, Memory>
     ensures rows { IfOk result (AreRowsOf accesses.now) }
+    ensures first { IfOk result HasNoFirstStep }
     ensures small { IfOk result (λ table. All IsSmallAccess accesses.now) }
 {
     let sorted = sorted(alloc, accesses)?;
@@ -51,6 +52,7 @@ fn key_of(ctx: u32, addr: u32, clk: u32) -> u128
 // The rows of accesses that stand in order.
 fn table_of(alloc: Global, sorted: &[Access]) -> Result<Table<14>, Memory>
     ensures rows { IfOk result (λ table. table ≡ rows_of sorted.now) }
+    ensures first { IfOk result HasNoFirstStep }
     ensures small { IfOk result (λ table. All IsSmallAccess sorted.now) }
 {
     let mut table = Table::new(alloc);

@@ -42,7 +42,7 @@ module _ (constants : List ℕ) (kernel : List (List ℕ)) (limit : ℕ) (tree :
   unfolding start
   log_within = let within = steps_within constants kernel limit steps (omega arith) in let limited = r.within in omega (arith, within, limited)
 
-  clock_at_end : u.core.clock ≡ length log
+  pub clock_at_end : u.core.clock ≡ length log
   unfolding start
   clock_at_end = let counts = log-counts constants kernel limit (steps-log constants kernel limit steps) in omega (arith, counts)
 

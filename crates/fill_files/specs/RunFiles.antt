@@ -1,5 +1,5 @@
 -- The two files of an executed run, its tables and its statement, and that the one is accepted for the other.
-use Rattle.std.specs.Prelude.{◌≡◌, ℕ, ◌≤◌, List, length, Ok}
+use Rattle.std.specs.Prelude.{◌≡◌, ℕ, ◌≤◌, List, ◌++◌, length, Ok}
 use Rattle.vm_field.specs.Machine.{State}
 use Rattle.rpo_hash.specs.Constants.{constants_of}
 use Rattle.rpo_hash.specs.declared.params.Params.{Params}
@@ -9,12 +9,16 @@ use Rattle.block_tree.specs.Trees.{Tree, tree_digest}
 use Rattle.block_tree.specs.declared.program.Program.{Program}
 use Rattle.processor.specs.declared.run.Run.{Run}
 use Rattle.statement.specs.Statements.{Stated, claim_of, statement_of, statement_text}
-use Rattle.table_file.specs.Files.{trace_of}
+use Rattle.table_file.specs.Files.{bytes_of, trace_of}
 use Rattle.air_kit.specs.Acceptance.{IsAccepted}
+use Rattle.air_kit.specs.declared.requests.Requests.{Requests}
 use Rattle.air_kit.specs.declared.trace.Public.{Public}
 use Rattle.air_kit.specs.declared.trace.Trace.{Trace}
 use Rattle.complete_rows.specs.BlockRows.{IsWholeRun, events_of}
+use Rattle.complete_requests.specs.Asked.{requests}
 use Rattle.complete_trace.specs.Acceptance.{IsTraceOf}
+use Rattle.fill_chips.specs.MemoryLimbs.{HasNoFirstStep, limbs_in}
+use Rattle.fill_chips.specs.RangeRows.{range_rows}
 
 -- the longest table file, and the longest statement
 abbrev pub most_table_bytes : ℕ
@@ -23,10 +27,19 @@ most_table_bytes = 1073741824
 abbrev pub most_statement_bytes : ℕ
 most_statement_bytes = 16777216
 
--- a table file of a run that ended in this state with this log: it is no longer than a table file may be, and reads as the trace of the run
+-- the range table has the rows of what the main table and memory's rows ask of it, and no others
+abbrev pub HasStatedRange : Requests → Trace → Type 0
+HasStatedRange asked t = t.range ≡ range_rows (asked.ranges ++ limbs_in t.memory)
+
+-- The table file of a run that ended in this state with this log: it is spelled as the trace of the run is, reads as that, and is no
+-- longer than a table file may be. Of the small tables, which answer what the rows ask, the range table is stated, and memory's first
+-- row shows no step.
 pub record IsTableFileOf (constants : List ℕ) (kernel : List (List ℕ)) (u : State) (log : List run.Event) (bytes : List ℕ) : Type 0 where
   pub trace : Trace
   pub traces : IsTraceOf constants kernel u log trace
+  pub range : HasStatedRange (requests constants kernel u log) trace
+  pub memory : HasNoFirstStep trace.memory
+  pub spelled : bytes ≡ bytes_of trace
   pub reads : trace_of bytes ≡ Ok trace
   pub short : length bytes ≤ most_table_bytes
 

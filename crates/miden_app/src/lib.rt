@@ -6,7 +6,7 @@ mod serving;
 mod words;
 
 pub use cmd_kit::{
-    Status, accepted_has_evidence, good_files_are_served, other_files_stay,
+    Status, accepted_has_evidence, answered_run_stands, good_files_are_served, other_files_stay,
     usage_is_for_no_command, written_run_is_accepted,
 };
 pub use serving::serve;

@@ -3,7 +3,7 @@ use Rattle.std.proofs.lemmas.List.{take_more}
 use Rattle.std.proofs.lemmas.List.Elements.{All-append, All-cons, All-nil}
 use Rattle.facts_memory.specs.AccessRows.{rows_behind}
 use Rattle.facts_memory.specs.MemoryTables.{IsSmallAccess}
-use Rattle.fill_chips.proofs.AccessLemmas.{rows-done, rows-step}
+use Rattle.fill_chips.proofs.AccessLemmas.{no_first_step, rows-done, rows-step}
 use Rattle.fill_chips.proofs.memory.table_of.Goals as goal
 
 pub loop-access-init : goal.loop-access-init
@@ -35,3 +35,6 @@ pub returns-clause-rows : goal.returns-clause-rows
 returns-clause-rows c =
     sym (rows-done c.args.sorted.now c.loop-access.table c.loop-access.before c.loop-access.access-index c.loop-access-test.false)
     ∙ c.loop-access.invariant.rows
+
+pub returns-clause-first : goal.returns-clause-first
+returns-clause-first c = no_first_step c.args.sorted.now c.loop-access.table (returns-clause-rows c)

@@ -6,7 +6,7 @@ use Rattle.table_file.proofs.rows.take_rows.Goals as goal
 
 pub returns-in_err-read_row-clause-err : goal.returns-in_err-read_row-clause-err
 returns-in_err-read_row-clause-err g c =
-    let p = err_from_is_err_and c.from_residual-in_err-read_row.result c.from_residual-in_err-read_row.ensures.1 in
+    let p = err_from_is_err_and c.from_residual.result c.from_residual.ensures.1 in
     let used = c.loop-left.used in
     let within = c.loop-left.invariant.within in
     let size : 8 * g.row.W ≡ used + 8 * g.row.W - used = omega arith in
