@@ -16,3 +16,4 @@ pub mod RowLemmas
 pub mod MomentFacts
 pub mod TableLemmas
 pub mod ChainLemmas
+pub mod DeepKeyLemmas

@@ -13,3 +13,4 @@ pub mod Shows
 pub mod BlockRows
 pub mod AgreementLaws
 pub mod Chains
+pub mod DeepKeys

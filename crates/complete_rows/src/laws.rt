@@ -1,5 +1,6 @@
 ghost use Rattle.complete_rows.specs.AgreementLaws.{AgreesBehind};
 ghost use Rattle.complete_rows.specs.Chains.{RunIsLinked};
+ghost use Rattle.complete_rows.specs.DeepKeys.{RunKeepsDeepKeys};
 ghost use Rattle.complete_rows.specs.BlockRows.{RowsAreCounted, RunHasMoments, RunShowsBlocks};
 
 /// The law of agreement: behind each cycle of a run the tasks that are still to be done, the decoder
@@ -16,4 +17,11 @@ pub fn filled_laws()
     ensures linked { RunIsLinked }
     ensures count { RowsAreCounted }
     ensures blocks { RunShowsBlocks }
+{}
+
+/// The law of keys, for such a run: before each cycle and behind the last one the keys of all cells below the
+/// sixteenth, those that calls hide among them, are clocks of past cycles that pushed, and no two are the same.
+#[tactic(auto, using(crate::proofs::DeepKeyLemmas::run_keeps_keys))]
+pub fn key_laws()
+    ensures { RunKeepsDeepKeys }
 {}

@@ -4,4 +4,4 @@
 
 mod laws;
 
-pub use laws::{agreement_laws, filled_laws};
+pub use laws::{agreement_laws, filled_laws, key_laws};

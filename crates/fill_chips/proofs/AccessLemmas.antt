@@ -38,7 +38,7 @@ behind-none before = refl
 
 -- the first row is that of an access behind none
 pub no_first_step : (accesses : List Access) (rows : List (List ℕ)) → rows ≡ rows_behind None accesses → HasNoFirstStep rows
-unfolding row_behind, rows_behind
+unfolding row_behind rows_behind
 no_first_step [] rows is = subst HasNoFirstStep (sym is) (record { low = refl; high = refl })
 no_first_step (a ∷ accesses) rows is = subst HasNoFirstStep (sym is) (record { low = refl; high = refl })
 
