@@ -13,7 +13,7 @@ all-three a b c h =
     let one = and_parts a b two.0 in
     (one.0, one.1, two.1)
 
-all-seven : (a b c d e f g : Bool) → (a && b && c && d && e && f && g) ≡ true
+pub all-seven : (a b c d e f g : Bool) → (a && b && c && d && e && f && g) ≡ true
     → (a ≡ true) × (b ≡ true) × (c ≡ true) × (d ≡ true) × (e ≡ true) × (f ≡ true) × (g ≡ true)
 all-seven a b c d e f g h =
     let six = and_parts (a && b && c && d && e && f) g h in

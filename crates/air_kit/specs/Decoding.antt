@@ -1,18 +1,19 @@
 -- What a decoded row is known to show.
-use Rattle.std.specs.Prelude.{◌≡◌, ◌<◌, ℕ, ◌/◌, ◌%◌, List, [], ◌∷◌, Option, Some}
+use Rattle.std.specs.Prelude.{◌≡◌, ◌↔◌, ℕ, ◌/◌, ◌%◌, Bool, nat_lt, ◌&&◌, List, [], ◌∷◌, Option, Some}
 use Rattle.vm_field.specs.Signs.{◌⊠◌}
 use Rattle.vm_ops.specs.declared.op.Op.{Op}
 use Rattle.vm_table.specs.MainColumns.{b}
-use Rattle.air_kit.specs.Flags.{HasOp, factor, spelled}
+use Rattle.air_kit.specs.Flags.{HasOp, factor}
 
--- an operation that was found is the row's; where none was found, nothing is said
+-- what was found is the operation that the row's bits spell; none where they are not bits, or spell none
 abbrev pub IsDecoded : List ℕ → Option Op → Type 0
-IsDecoded row found = (op : Op) → found ≡ Some op → HasOp row op
+IsDecoded row found = (op : Op) → (found ≡ Some op) ↔ HasOp row op
 
--- the bits are bits, and spell this number
-pub record IsSpelled (row : List ℕ) (code : ℕ) : Type 0 where
-  pub bits : (j : ℕ) → j < 7 → b row j < 2
-  pub is : code ≡ spelled 7 (b row)
+-- whether the bits of a row's operation are bits
+abbrev pub are_bits : List ℕ → Bool
+are_bits row =
+    nat_lt (b row 0) 2 && nat_lt (b row 1) 2 && nat_lt (b row 2) 2 && nat_lt (b row 3) 2 && nat_lt (b row 4) 2 && nat_lt (b row 5) 2
+    && nat_lt (b row 6) 2
 
 -- the product over a list of bits by the digits of a code, lowest first
 unfoldable pub bit_product : ℕ → List ℕ → ℕ

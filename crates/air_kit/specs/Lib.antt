@@ -25,3 +25,10 @@ pub mod Hashes
 pub mod Requests
 pub mod RowStates
 pub mod Counts
+pub mod MainNumbers
+pub mod RangeNumbers
+pub mod HasherNumbers
+pub mod BitwiseNumbers
+pub mod MemoryNumbers
+pub mod KernelNumbers
+pub mod Numbers

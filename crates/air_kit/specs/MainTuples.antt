@@ -2,7 +2,9 @@
 use Rattle.std.specs.Prelude.{ℕ, zero, suc, ◌-◌, Bool, ◌==◌, ◌&&◌, ◌||◌, if◌then◌else◌, List, [], ◌∷◌, ◌++◌}
 use Rattle.vm_field.specs.Limits.{most_nesting}
 use Rattle.vm_field.specs.Signs.{◌⊞◌, ◌⊟◌, ◌⊠◌}
-use Rattle.vm_ops.specs.Codes.{code_of, is_ordinary_op, is_start_op}
+use Rattle.vm_ops.specs.Codes.{code_of, is_ordinary_op, is_start_op, kind_of}
+use Rattle.vm_ops.specs.declared.kind.Kind.{Kind}
+use Rattle.vm_ops.specs.declared.kind.Kind.TheVariants as kinds
 use Rattle.vm_ops.specs.declared.op.Op.{Op}
 use Rattle.vm_ops.specs.declared.op.Op.TheVariants as ops
 use Rattle.vm_table.specs.MainColumns.{clk, fmp, ctx, sys, f, addr, h, sp, gc, c, s, depth, key, ha, lv, w, t}
@@ -19,13 +21,22 @@ no_frame = 0 ∷ 0 ∷ 0 ∷ 0 ∷ 0 ∷ 0 ∷ 0 ∷ 0 ∷ 0 ∷ []
 abbrev pub frame_of : List ℕ → List ℕ
 frame_of x = ctx x ∷ fmp x ∷ sys x ∷ depth x ∷ key x ∷ f x 0 ∷ f x 1 ∷ f x 2 ∷ f x 3 ∷ []
 
--- the kind of a block that starts
+-- the kind of a block that starts, as the tuples number it; 0 where none starts
+abbrev pub start_number : Kind → List ℕ → ℕ
+start_number kinds.Ordinary x = 0
+start_number kinds.Join x = 0
+start_number kinds.Split x = 0
+start_number kinds.Loop x = s x 0
+start_number kinds.Span x = 2
+start_number kinds.Call x = 3
+start_number kinds.Syscall x = 4
+start_number kinds.End x = 0
+start_number kinds.Repeat x = 0
+start_number kinds.Respan x = 0
+start_number kinds.Halt x = 0
+
 abbrev pub kind_of_start : Op → List ℕ → ℕ
-kind_of_start ops.Loop x = s x 0
-kind_of_start ops.Span x = 2
-kind_of_start ops.Call x = 3
-kind_of_start ops.Syscall x = 4
-kind_of_start op x = 0
+kind_of_start op x = start_number (kind_of op) x
 
 abbrev pub is_call_op : Op → Bool
 is_call_op op = is_op op ops.Call || is_op op ops.Syscall
@@ -56,14 +67,22 @@ back x = h x 4 ∷ h x 5 ∷ h x 6 ∷ h x 7 ∷ []
 abbrev pub child : ℕ → List ℕ → ℕ → Counted
 child parent digest more = once (parent ∷ digest ++ more ∷ [])
 
+-- those that a row of a kind gives
+abbrev pub children_by : Kind → List ℕ → List ℕ → List Counted
+children_by kinds.Ordinary x y = []
+children_by kinds.Join x y = child (addr y) (front x) 1 ∷ child (addr y) (back x) 0 ∷ []
+children_by kinds.Split x y = child (addr y) (if s x 0 == 1 then front x else back x) 0 ∷ []
+children_by kinds.Loop x y = if s x 0 == 1 then child (addr y) (front x) 0 ∷ [] else []
+children_by kinds.Span x y = []
+children_by kinds.Call x y = child (addr y) (front x) 0 ∷ []
+children_by kinds.Syscall x y = child (addr y) (front x) 0 ∷ []
+children_by kinds.End x y = []
+children_by kinds.Repeat x y = child (addr x) (front x) 0 ∷ []
+children_by kinds.Respan x y = []
+children_by kinds.Halt x y = []
+
 unfoldable pub children_of : Op → List ℕ → List ℕ → List Counted
-children_of ops.Join x y = child (addr y) (front x) 1 ∷ child (addr y) (back x) 0 ∷ []
-children_of ops.Split x y = child (addr y) (if s x 0 == 1 then front x else back x) 0 ∷ []
-children_of ops.Loop x y = if s x 0 == 1 then child (addr y) (front x) 0 ∷ [] else []
-children_of ops.Call x y = child (addr y) (front x) 0 ∷ []
-children_of ops.Syscall x y = child (addr y) (front x) 0 ∷ []
-children_of ops.Repeat x y = child (addr x) (front x) 0 ∷ []
-children_of op x y = []
+children_of op x y = children_by (kind_of op) x y
 
 unfoldable pub children_given : List ℕ → List ℕ → List Counted
 children_given x y = children_of (op_of x) x y

@@ -5,6 +5,7 @@
 mod chips;
 mod compare;
 mod counts;
+mod decode;
 mod fault;
 mod flags;
 mod laws;
@@ -17,8 +18,9 @@ mod trace;
 pub use chips::{bit_value, in_last, only};
 pub use compare::{are_same, is_one, is_zero};
 pub use counts::{has_counts, may_have};
+pub use decode::{code_in, has_bits, op_in, op_spelled};
 pub use fault::{Fault, first_nonzero, or_next};
-pub use laws::count_laws;
+pub use laws::{count_laws, number_laws};
 pub use place::Place;
 pub use requests::{Access, BitOp, Perm, Requests};
 pub use seen::Seen;

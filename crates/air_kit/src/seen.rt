@@ -1,10 +1,11 @@
-ghost use Rattle.std.specs.Prelude.{◌≡◌, ◌<◌, ◌≤◌, IfSome, if◌then◌else◌};
+ghost use Rattle.std.specs.Prelude.{◌≡◌, ◌<◌, IfSome, if◌then◌else◌};
 ghost use Rattle.vm_ops.specs.Codes.{op_at};
 ghost use Rattle.air_kit.specs.BlockValues.{calls, returns};
-ghost use Rattle.air_kit.specs.Decoding.{IsDecoded, IsSpelled};
+ghost use Rattle.air_kit.specs.Decoding.{IsDecoded};
 ghost use Rattle.air_kit.specs.Flags.{flag, flags_of};
 ghost use Rattle.air_kit.specs.Sets.{passes_of};
 
+use crate::decode::op_spelled;
 use crate::flags::flag_in;
 use crate::sets::OpSet;
 use vm_field::Felt;
@@ -25,11 +26,11 @@ impl<'a, V: MainView> Seen<'a, V> {
     pub fn of(row: &'a V) -> Seen<'a, V>
         ensures row { result.row ≡ row.entry }
     {
-        let op = operation_of(row);
+        let op = op_spelled(row);
         Seen { row, op }
     }
 
-    /// The row's operation; none where its bits spell none.
+    /// The row's operation; none where its bits are not bits, or spell none.
     pub fn operation(&self) -> Option<Op>
         ensures { IsDecoded (V.cells self.now.row.now) result }
     {
@@ -105,34 +106,4 @@ fn flag_at<V: MainView>(row: &V, set: OpSet, code: u8) -> Felt
         }
         None => Felt::ZERO,
     }
-}
-
-// The operation that the row's bits spell.
-fn operation_of<V: MainView>(row: &V) -> Option<Op>
-    ensures { IsDecoded (V.cells row.now) result }
-{
-    from_opcode(code_of(row)?)
-}
-
-// The number that the row's bits spell; none where one of them is neither 0 nor 1.
-fn code_of<V: MainView>(row: &V) -> Option<u8>
-    ensures { IfSome result (IsSpelled (V.cells row.now)) }
-{
-    let b0 = bit(row.b0())?;
-    let b1 = bit(row.b1())?;
-    let b2 = bit(row.b2())?;
-    let b3 = bit(row.b3())?;
-    let b4 = bit(row.b4())?;
-    let b5 = bit(row.b5())?;
-    let b6 = bit(row.b6())?;
-    Some(b0 + 2 * b1 + 4 * b2 + 8 * b3 + 16 * b4 + 32 * b5 + 64 * b6)
-}
-
-// The bit that an element is.
-fn bit(element: Felt) -> Option<u8>
-    ensures is { IfSome result (λ bit. bit ≡ element) }
-    ensures below { IfSome result (λ bit. bit < 2) }
-{
-    let number = element.value();
-    if number < 2 { Some(number as u8) } else { None }
 }

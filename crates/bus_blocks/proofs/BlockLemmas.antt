@@ -1,13 +1,15 @@
 -- What a row gives and asks of blocks, by its operation.
-use Rattle.std.proofs.Common.{◌≡◌, ℕ, ◌==◌, true, false, cond, List, [], ◌∷◌, ◌++◌, Result, Ok, OnOk, refl, ap, sym, ◌∙◌, subst}
+use Rattle.std.proofs.Common.{◌≡◌, ℕ, ◌==◌, Bool, true, false, cond, List, [], ◌∷◌, ◌++◌, Result, Ok, OnOk, refl, ap, sym, ◌∙◌, subst}
 use Rattle.vm_field.specs.Signs.{◌⊞◌}
 use Rattle.buses.specs.Counts.{Counted, once}
 use Rattle.bus_kit.specs.Adding.{IsCounted}
 use Rattle.bus_kit.specs.declared.tally.Tally.{Tally}
 use Rattle.bus_kit.proofs.AddingLemmas.{none_counted}
 use Rattle.air_kit.specs.Flags.{is_op, op_of}
-use Rattle.air_kit.specs.MainTuples.{blocks_asked, blocks_given, child, children_asked, children_given, children_of, frame_of, front, is_call_op, kind_of_end, kind_of_start, loops_asked, loops_given, no_frame}
-use Rattle.vm_ops.specs.Codes.{is_start_op}
+use Rattle.air_kit.specs.MainTuples.{blocks_asked, blocks_given, child, children_asked, children_by, children_given, children_of, frame_of, front, is_call_op, kind_of_end, kind_of_start, loops_asked, loops_given, no_frame}
+use Rattle.vm_ops.specs.Codes.{is_start_op, kind_of}
+use Rattle.vm_ops.specs.declared.kind.Kind.{Kind}
+use Rattle.vm_ops.specs.declared.kind.Kind.TheVariants as kinds
 use Rattle.vm_ops.specs.declared.op.Op.{Op}
 use Rattle.vm_ops.specs.declared.op.Op.TheVariants as ops
 use Rattle.vm_table.specs.MainColumns.{addr, h, w}
@@ -16,6 +18,24 @@ use Rattle.vm_table.specs.MainColumns.{addr, h, w}
 end_starts_none : (op : Op) → true ≡ is_op op ops.End → false ≡ is_start_op op
 end_starts_none ops.End e = refl
 end_starts_none op e = absurd (cc)
+
+-- whether a kind is that of END
+abbrev pub is_end_kind : Kind → Bool
+is_end_kind kinds.Ordinary = false
+is_end_kind kinds.Join = false
+is_end_kind kinds.Split = false
+is_end_kind kinds.Loop = false
+is_end_kind kinds.Span = false
+is_end_kind kinds.Call = false
+is_end_kind kinds.Syscall = false
+is_end_kind kinds.End = true
+is_end_kind kinds.Repeat = false
+is_end_kind kinds.Respan = false
+is_end_kind kinds.Halt = false
+
+ended_by : (op : Op) → is_op op ops.End ≡ is_end_kind (kind_of op)
+ended_by ops.End = refl
+ended_by op = refl
 
 -- the block of a row that starts one, and of one that ends one
 abbrev pub started : Op → List ℕ → List ℕ → List ℕ
@@ -45,28 +65,34 @@ module _ {E : Type 0} (n : ℕ) (a b : Tally) (r : Result (Unit {0}) E) (x y : L
       → OnOk r (IsCounted n a b [] (once t ∷ [])) → OnOk r (IsCounted n a b (blocks_asked x y) (blocks_given x y))
   block_starts op t is fails holds tuple p = blocks_by op is (rw (← fails, ← holds, ← tuple) p)
 
-  -- the bus of children
-  abbrev ChildrenBy : Op → Type 0
-  ChildrenBy op = OnOk r (IsCounted n a b (cond (is_op op ops.End) (child (addr y) (front x) (more_of y) ∷ []) []) (children_of op x y))
+  -- the bus of children, by the kind
+  abbrev ChildrenBy : Kind → Type 0
+  ChildrenBy kind = OnOk r (IsCounted n a b (cond (is_end_kind kind) (child (addr y) (front x) (more_of y) ∷ []) []) (children_by kind x y))
 
-  children_by : (op : Op) → op ≡ op_of x → ChildrenBy op → OnOk r (IsCounted n a b (children_asked x y) (children_given x y))
-  unfolding children_asked children_given
-  children_by op is p = subst ChildrenBy is p
+  by_kind : (op : Op) (kind : Kind) → op ≡ op_of x → kind ≡ kind_of op → ChildrenBy kind
+      → OnOk r (IsCounted n a b (children_asked x y) (children_given x y))
+  unfolding children_asked children_given children_of
+  by_kind op kind is of p =
+      let q : ChildrenBy (kind_of (op_of x)) = subst ChildrenBy (of ∙ ap kind_of is) p in
+      rw (ended_by (op_of x)) q
 
-  -- those of an operation that is given
-  pub children_given_by : (op own : Op) (cs : List Counted) → op ≡ op_of x → op ≡ own → false ≡ is_op own ops.End → cs ≡ children_of own x y
+  -- those of a kind that is given
+  pub children_given_by : (op : Op) (kind own : Kind) (cs : List Counted) → op ≡ op_of x → kind ≡ kind_of op → kind ≡ own → false ≡ is_end_kind own
+      → cs ≡ children_by own x y
       → OnOk r (IsCounted n a b [] cs) → OnOk r (IsCounted n a b (children_asked x y) (children_given x y))
-  children_given_by op own cs is same fails given p = children_by own (sym same ∙ is) (rw (← fails, ← given) p)
+  children_given_by op kind own cs is of same fails given p = by_kind op own is (sym same ∙ of) (rw (← fails, ← given) p)
 
   -- a child of one
-  pub child_given_by : (op own : Op) (t u : List ℕ) → op ≡ op_of x → op ≡ own → false ≡ is_op own ops.End → t ≡ u → once u ∷ [] ≡ children_of own x y
+  pub child_given_by : (op : Op) (kind own : Kind) (t u : List ℕ) → op ≡ op_of x → kind ≡ kind_of op → kind ≡ own → false ≡ is_end_kind own → t ≡ u
+      → once u ∷ [] ≡ children_by own x y
       → OnOk r (IsCounted n a b [] (once t ∷ [])) → OnOk r (IsCounted n a b (children_asked x y) (children_given x y))
-  child_given_by op own t u is same fails tuple given p = children_given_by op own (once t ∷ []) is same fails (ap (λ k. once k ∷ []) tuple ∙ given) p
+  child_given_by op kind own t u is of same fails tuple given p =
+      children_given_by op kind own (once t ∷ []) is of same fails (ap (λ k. once k ∷ []) tuple ∙ given) p
 
-  pub child_ends : (op : Op) (t : List ℕ) (more : ℕ) → op ≡ op_of x → op ≡ ops.End → t ≡ addr y ∷ front x ++ more ∷ [] → more ≡ more_of y
+  pub child_ends : (op : Op) (kind : Kind) (t : List ℕ) (more : ℕ) → op ≡ op_of x → kind ≡ kind_of op → kind ≡ kinds.End
+      → t ≡ addr y ∷ front x ++ more ∷ [] → more ≡ more_of y
       → OnOk r (IsCounted n a b (once t ∷ []) []) → OnOk r (IsCounted n a b (children_asked x y) (children_given x y))
-  unfolding children_of
-  child_ends op t more is same tuple behind p = children_by ops.End (sym same ∙ is) (rw (← behind, ← tuple) p)
+  child_ends op kind t more is of same tuple behind p = by_kind op kinds.End is (sym same ∙ of) (rw (← behind, ← tuple) p)
 
   -- the bus of loops
   abbrev LoopsBy : Op → Type 0
@@ -91,8 +117,9 @@ module _ (n : ℕ) (a : Tally) (x y : List ℕ) (op : Op) (is : op ≡ op_of x) 
   pub no_block : false ≡ is_op op ops.End → false ≡ is_start_op op → IsCounted n a a (blocks_asked x y) (blocks_given x y)
   no_block e0 e1 = blocks_by {E = Unit {0}} n a a (Ok tt) x y op is (rw (← e0, ← e1) (none_counted n a))
 
-  pub no_child : false ≡ is_op op ops.End → [] ≡ children_of op x y → IsCounted n a a (children_asked x y) (children_given x y)
-  no_child e0 e1 = children_by {E = Unit {0}} n a a (Ok tt) x y op is (rw (← e0, ← e1) (none_counted n a))
+  pub no_child : (kind own : Kind) → kind ≡ kind_of op → kind ≡ own → false ≡ is_end_kind own → [] ≡ children_by own x y
+      → IsCounted n a a (children_asked x y) (children_given x y)
+  no_child kind own of same e0 e1 = by_kind {E = Unit {0}} n a a (Ok tt) x y op own is (sym same ∙ of) (rw (← e0, ← e1) (none_counted n a))
 
   pub no_loop : false ≡ is_op op ops.Repeat → false ≡ is_op op ops.Loop → IsCounted n a a (loops_asked x y) (loops_given x y)
   no_loop e0 e1 = loops_by {E = Unit {0}} n a a (Ok tt) x y op is (rw (← e0, ← e1) (none_counted n a))
@@ -109,16 +136,3 @@ not_repeat op h = refl
 pub not_end : (op : Op) → (op ≡ ops.End → ⊥) → false ≡ is_op op ops.End
 not_end ops.End h = absurd (h refl)
 not_end op h = refl
-
--- one that is none of those that have children
-pub not_parent : (op : Op) (x y : List ℕ) → (op ≡ ops.Join → ⊥) → (op ≡ ops.Split → ⊥) → (op ≡ ops.Loop → ⊥) → (op ≡ ops.Call → ⊥)
-    → (op ≡ ops.Syscall → ⊥)
-    → (op ≡ ops.Repeat → ⊥) → [] ≡ children_of op x y
-unfolding children_of
-not_parent ops.Join x y h0 h1 h2 h3 h4 h5 = absurd (h0 refl)
-not_parent ops.Split x y h0 h1 h2 h3 h4 h5 = absurd (h1 refl)
-not_parent ops.Loop x y h0 h1 h2 h3 h4 h5 = absurd (h2 refl)
-not_parent ops.Call x y h0 h1 h2 h3 h4 h5 = absurd (h3 refl)
-not_parent ops.Syscall x y h0 h1 h2 h3 h4 h5 = absurd (h4 refl)
-not_parent ops.Repeat x y h0 h1 h2 h3 h4 h5 = absurd (h5 refl)
-not_parent op x y h0 h1 h2 h3 h4 h5 = refl

@@ -1,15 +1,14 @@
 ghost use Rattle.std.specs.Prelude.{◌≡◌, ◌==◌, if◌then◌else◌, List, ◌∷◌, OnOk};
 ghost use Rattle.vm_field.specs.Signs.{◌⊞◌, ◌⊠◌};
 ghost use Rattle.vm_table.specs.MainColumns.{addr, h};
-ghost use Rattle.air_kit.specs.Flags.{op_of};
+ghost use Rattle.air_kit.specs.Flags.{is_op, op_of};
 ghost use Rattle.air_kit.specs.MainTuples.{blocks_given, blocks_asked, frame_of, is_call_op, no_frame, kind_of_start, kind_of_end};
 ghost use Rattle.bus_kit.specs.Adding.{IsCounted};
 ghost use Rattle.bus_blocks.specs.Space.{HasSpace};
 
-use crate::decode::is_end;
 use bus_kit::{Tally, ask, give};
 use vm_field::{Felt, Memory};
-use vm_ops::{Op, is_start};
+use vm_ops::{Kind, Op, is_start, kind_of};
 use vm_table::MainView;
 
 /// A start gives its block, and an END asks for the one that it ends.
@@ -54,22 +53,30 @@ fn ended<V: MainView>(x: &V, y: &V) -> [Felt; 12]
     }
 }
 
+/// Whether the operation is END.
+pub fn is_end(op: Op) -> bool
+    ensures { result ≡ is_op op Op.End }
+{
+    matches!(op, Op::End)
+}
+
 fn is_call(op: Op) -> bool
     ensures { result ≡ is_call_op op }
 {
     matches!(op, Op::Call | Op::Syscall)
 }
 
-// The kind of a block that starts.
+// The kind of a block that starts; 0 where none starts.
 fn kind_of_start<V: MainView>(op: Op, x: &V) -> Felt
     ensures { result ≡ kind_of_start op (V.cells x.now) }
 {
-    match op {
-        Op::Loop => x.s0(),
-        Op::Span => Felt::from_u32(2),
-        Op::Call => Felt::from_u32(3),
-        Op::Syscall => Felt::from_u32(4),
-        _ => Felt::ZERO,
+    match kind_of(op) {
+        Kind::Join | Kind::Split => Felt::ZERO,
+        Kind::Loop => x.s0(),
+        Kind::Span => Felt::from_u32(2),
+        Kind::Call => Felt::from_u32(3),
+        Kind::Syscall => Felt::from_u32(4),
+        Kind::Ordinary | Kind::End | Kind::Repeat | Kind::Respan | Kind::Halt => Felt::ZERO,
     }
 }
 

@@ -6,10 +6,10 @@ ghost use Rattle.air_kit.specs.MainTuples.{back, child, children_given, children
 ghost use Rattle.bus_kit.specs.Adding.{IsCounted};
 ghost use Rattle.bus_blocks.specs.Space.{HasSpace};
 
-use crate::decode::op_in;
+use air_kit::op_in;
 use bus_kit::{Tally, ask, give};
 use vm_field::{Felt, Memory};
-use vm_ops::{Op, is_start};
+use vm_ops::{Kind, Op, is_start, kind_of};
 use vm_table::MainView;
 
 /// A parent gives its children's digests, and an END asks for the child that it ends.
@@ -20,14 +20,14 @@ pub fn tuples_children<V: MainView>(op: Op, x: &V, y: &V, tally: &mut Tally) -> 
     ensures { OnOk result (IsCounted 2 tally.old tally.new
         (children_asked (V.cells x.now) (V.cells y.now)) (children_given (V.cells x.now) (V.cells y.now))) }
 {
-    match op {
-        Op::Join => give_both(x, y, tally),
-        Op::Split => give(tally, &chosen(x, y)),
-        Op::Loop => give_entered(x, y, tally),
-        Op::Call | Op::Syscall => give(tally, &first(y, x, Felt::ZERO)),
-        Op::Repeat => give(tally, &first(x, x, Felt::ZERO)),
-        Op::End => ask(tally, &first(y, x, more_behind(y))),
-        _ => Ok(()),
+    match kind_of(op) {
+        Kind::Join => give_both(x, y, tally),
+        Kind::Split => give(tally, &chosen(x, y)),
+        Kind::Loop => give_entered(x, y, tally),
+        Kind::Call | Kind::Syscall => give(tally, &first(y, x, Felt::ZERO)),
+        Kind::Repeat => give(tally, &first(x, x, Felt::ZERO)),
+        Kind::End => ask(tally, &first(y, x, more_behind(y))),
+        Kind::Ordinary | Kind::Span | Kind::Respan | Kind::Halt => Ok(()),
     }
 }
 

@@ -8,7 +8,7 @@ ghost use Rattle.air_kit.specs.SpanValues.{opcode_in, rest, rest_flag};
 ghost use Rattle.bus_kit.specs.Adding.{IsCounted};
 ghost use Rattle.bus_blocks.specs.Space.{HasSpace};
 
-use crate::decode::code_in;
+use air_kit::code_in;
 use bus_kit::{Tally, ask, give};
 use vm_field::{Felt, Memory};
 use vm_ops::{Op, is_ordinary};

@@ -3,14 +3,12 @@
 
 mod blocks;
 mod children;
-mod decode;
 mod groups;
 mod loops;
 mod overflow;
 
 pub use blocks::tuples_blocks;
 pub use children::tuples_children;
-pub use decode::op_in;
 pub use groups::{positions, tuples_groups};
 pub use loops::tuples_loops;
 pub use overflow::tuples_overflow;

@@ -6,7 +6,7 @@ ghost use Rattle.air_kit.specs.MainTuples.{overflow_given, overflow_asked};
 ghost use Rattle.bus_kit.specs.Adding.{IsCounted};
 ghost use Rattle.bus_blocks.specs.Space.{HasSpace};
 
-use crate::decode::is_end;
+use crate::blocks::is_end;
 use bus_kit::{Tally, ask, give};
 use vm_field::{Felt, Memory};
 use vm_ops::{Op, Shift, shift};

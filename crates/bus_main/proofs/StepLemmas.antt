@@ -9,8 +9,10 @@ use Rattle.bus_kit.specs.declared.tallies.Tallies.{Tallies}
 use Rattle.bus_kit.specs.declared.tally.Tally.{Tally}
 use Rattle.bus_kit.proofs.AddingLemmas.{counted_within, none_counted}
 use Rattle.air_kit.specs.Flags.{is_op, op_of}
-use Rattle.air_kit.specs.MainTuples.{accesses_of, bitwise_asked, blocks_asked, blocks_given, children_asked, children_given, children_of, groups_asked, groups_given, hasher_asked, kernel_asked, loops_asked, loops_given, main_asked, main_given, memory_asked, overflow_asked, overflow_given, range_asked}
-use Rattle.vm_ops.specs.Codes.{is_ordinary_op, is_start_op}
+use Rattle.air_kit.specs.MainTuples.{accesses_of, bitwise_asked, blocks_asked, blocks_given, children_asked, children_given, groups_asked, groups_given, hasher_asked, kernel_asked, loops_asked, loops_given, main_asked, main_given, memory_asked, overflow_asked, overflow_given, range_asked}
+use Rattle.vm_ops.specs.Codes.{is_ordinary_op, is_start_op, kind_of}
+use Rattle.vm_ops.specs.declared.kind.Kind.TheVariants as kinds
+use Rattle.vm_ops.proofs.CodeLemmas.{ordinary-kind}
 use Rattle.vm_ops.specs.declared.op.Op.{Op}
 use Rattle.vm_ops.specs.declared.op.Op.TheVariants as ops
 use Rattle.bus_blocks.specs.Space.{HasSpace}
@@ -40,16 +42,6 @@ outside ops.Repeat h = absurd (cc)
 outside ops.Respan h = absurd (cc)
 outside ops.Halt h = absurd (cc)
 outside op h = record { end = refl; start = refl; repeat = refl; loop = refl; syscall = refl }
-
-no_children_of : (op : Op) (x y : List ℕ) → is_ordinary_op op ≡ true → [] ≡ children_of op x y
-unfolding children_of
-no_children_of ops.Join x y h = absurd (cc)
-no_children_of ops.Split x y h = absurd (cc)
-no_children_of ops.Loop x y h = absurd (cc)
-no_children_of ops.Call x y h = absurd (cc)
-no_children_of ops.Syscall x y h = absurd (cc)
-no_children_of ops.Repeat x y h = absurd (cc)
-no_children_of op x y h = refl
 
 -- another one is none of those of numbers and of memory
 no_accesses_of : (op : Op) (x y : List ℕ) → is_ordinary_op op ≡ false → [] ≡ accesses_of op x y
@@ -86,7 +78,8 @@ module _ (x y : List ℕ) (op : Op) (is : op ≡ op_of x) (t : Tallies) where
 
     pub ordinary_counted : (b : Bus) → IsCounted (2 ^ 65) (tally_of t b) (tally_of Ordinary b) (main_asked b x y) (main_given b x y)
     ordinary_counted bus.Blocks = no_block (2 ^ 65) t.blocks x y op is (outside op holds).end (outside op holds).start
-    ordinary_counted bus.Children = no_child (2 ^ 65) t.children x y op is (outside op holds).end (no_children_of op x y holds)
+    ordinary_counted bus.Children =
+        no_child (2 ^ 65) t.children x y op is (kind_of op) kinds.Ordinary refl (ordinary-kind (kind_of op) holds) refl refl
     ordinary_counted bus.Loops = no_loop (2 ^ 65) t.loops x y op is (outside op holds).repeat (outside op holds).loop
     ordinary_counted bus.Groups = within 8 _ _ _ _ to_groups (lit≤ tt)
     ordinary_counted bus.Overflow = within 1 _ _ _ _ to_overflow (lit≤ tt)

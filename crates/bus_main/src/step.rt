@@ -10,8 +10,9 @@ use crate::hasher::tuples_hasher;
 use crate::kernel::tuples_kernel;
 use crate::memory::tuples_memory;
 use crate::range::tuples_range;
+use air_kit::op_in;
 use bus_blocks::{
-    op_in, tuples_blocks, tuples_children, tuples_groups, tuples_loops, tuples_overflow,
+    tuples_blocks, tuples_children, tuples_groups, tuples_loops, tuples_overflow,
 };
 use bus_kit::Tallies;
 use vm_field::Memory;

@@ -1,7 +1,7 @@
 -- The bits spell the number.
 use Rattle.std.proofs.Common.{◌∙◌, lit<}
 use Rattle.air_kit.proofs.DecodeLemmas.{spelled_by}
-use Rattle.bus_blocks.proofs.decode.code_in.Goals as goal
+use Rattle.air_kit.proofs.decode.code_in.Goals as goal
 
 pub bit-b0-requires : goal.bit-b0-requires
 bit-b0-requires g c = rw c.b0.ensures.is (c.requires 0 (lit< tt))
@@ -26,13 +26,7 @@ bit-b6-requires g c = rw c.b6.ensures.is (c.requires 6 (lit< tt))
 
 pub returns : goal.returns
 returns g c =
-    (spelled_by (g.V.View.cells c.args.row.now) _ _ _ _ _ _ _
-    (c.bit-b0.ensures.is ∙ c.b0.ensures.is)
-    (c.bit-b1.ensures.is ∙ c.b1.ensures.is)
-    (c.bit-b2.ensures.is ∙ c.b2.ensures.is)
-    (c.bit-b3.ensures.is ∙ c.b3.ensures.is)
-    (c.bit-b4.ensures.is ∙ c.b4.ensures.is)
-    (c.bit-b5.ensures.is ∙ c.b5.ensures.is)
+    spelled_by (g.V.View.cells c.args.row.now) _ _ _ _ _ _ _
+    (c.bit-b0.ensures.is ∙ c.b0.ensures.is) (c.bit-b1.ensures.is ∙ c.b1.ensures.is) (c.bit-b2.ensures.is ∙ c.b2.ensures.is)
+    (c.bit-b3.ensures.is ∙ c.b3.ensures.is) (c.bit-b4.ensures.is ∙ c.b4.ensures.is) (c.bit-b5.ensures.is ∙ c.b5.ensures.is)
     (c.bit-b6.ensures.is ∙ c.b6.ensures.is)
-    c.bit-b0.ensures.below c.bit-b1.ensures.below c.bit-b2.ensures.below c.bit-b3.ensures.below c.bit-b4.ensures.below
-    c.bit-b5.ensures.below c.bit-b6.ensures.below).is
