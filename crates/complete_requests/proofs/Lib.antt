@@ -23,6 +23,7 @@ pub mod MemorySteps
 pub mod MemoryClocks
 pub mod MemoryFit
 pub mod FitLaw
+pub mod SmallNumbers
 pub mod OverflowCells
 pub mod OverflowSteps
 pub mod OverflowBus

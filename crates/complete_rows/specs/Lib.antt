@@ -6,6 +6,7 @@ pub mod Witnesses
 pub mod Limbs
 pub mod Filling
 pub mod RunRequests
+pub mod Numbers
 pub mod Agreement
 pub mod Bounds
 pub mod Moments

@@ -1,11 +1,11 @@
-ghost use Rattle.std.specs.Prelude.{◌≡◌, ℕ, ◌*◌, drop, slice_get, slice_index, length, List, IfOk, OnOk};
+ghost use Rattle.std.specs.Prelude.{◌≡◌, ℕ, ◌+◌, ◌*◌, ◌^◌, ◌<◌, drop, slice_get, slice_index, length, List, OnOk};
 ghost use Rattle.complete_rows.specs.Decoder.{address_of, at_start, called, closed, key_of, keys_after, next_after, opened, popped};
 ghost use Rattle.complete_rows.specs.Groups.{batch_begun, taken_from};
 ghost use Rattle.vm_ops.specs.declared.kind.Kind.TheVariants as kinds;
 ghost use Rattle.vm_ops.specs.Moves.{shift_of};
+ghost use Rattle.fill_decoder.specs.Bounds.{HasRoom};
 ghost use Rattle.fill_decoder.specs.Views.{advance_as, decoder_in, unread_in};
 
-use crate::numbers::{sum_of, times_eight};
 use crate::positions::positions_of;
 use crate::stack::Stack;
 use fill_requests::is_op;
@@ -88,7 +88,12 @@ impl Decoder {
     }
 
     /// Goes on behind an event of a kind, before so many later batches of its span.
+    ///
+    /// # Errors
+    ///
+    /// `Memory` where the system gave none for a block, a position or a key.
     pub fn advance(&mut self, event: &Event, kind: Kind, batches: usize) -> Result<(), Memory>
+        requires { HasRoom (decoder_in self.old) batches }
         ensures { OnOk result (decoder_in self.new ≡ advance_as kind (decoder_in self.old) event.now batches) }
     {
         match kind {
@@ -112,10 +117,12 @@ impl Decoder {
 
     // An operation of a span.
     fn take(&mut self, event: &Event) -> Result<(), Memory>
+        requires next { self.old.next + 8 < 2 ^ 64 }
+        requires place { self.old.place + 1 < 2 ^ 64 }
         ensures { OnOk result (decoder_in self.new ≡ advance_as kinds.Ordinary (decoder_in self.old) event.now 0) }
     {
-        let next = next_after(event.op, self.next)?;
-        self.move_group(is_op(event.op, Op::Push))?;
+        let next = next_after(event.op, self.next);
+        self.move_group(is_op(event.op, Op::Push));
         move_keys(&mut self.keys, event)?;
         self.next = next;
         Ok(())
@@ -123,25 +130,23 @@ impl Decoder {
 
     // An operation of the group is taken.
     #[tactic(auto, using(crate::proofs::GroupLemmas::goes_on, crate::proofs::GroupLemmas::uses_up, crate::proofs::GroupLemmas::first_number))]
-    fn move_group(&mut self, is_push: bool) -> Result<(), Memory>
-        ensures { OnOk result (decoder_in self.new ≡ record (decoder_in self.old) { unread = taken_from is_push (unread_in self.old) }) }
+    fn move_group(&mut self, is_push: bool)
+        requires { self.old.place + 1 < 2 ^ 64 }
+        ensures { decoder_in self.new ≡ record (decoder_in self.old) { unread = taken_from is_push (unread_in self.old) } }
     {
         let number = Felt::reduced(u128::from(self.number.value() / 128));
-        let place = sum_of(self.place, 1)?;
+        let place = self.place + 1;
         if is_push {
             let _ = self.positions.pop();
             self.number = number;
             self.place = place;
-            return Ok(());
-        }
-        if number.value() == 0 {
+        } else if number.value() == 0 {
             self.number = self.positions.pop().unwrap_or(Felt::ZERO);
             self.place = 0;
-            return Ok(());
+        } else {
+            self.number = number;
+            self.place = place;
         }
-        self.number = number;
-        self.place = place;
-        Ok(())
     }
 
     // A batch is begun.
@@ -156,10 +161,11 @@ impl Decoder {
 
     // A block starts whose hash takes so many permutations.
     fn open(&mut self, permutations: usize) -> Result<(), Memory>
+        requires { self.old.next + 8 * permutations < 2 ^ 64 }
         ensures { OnOk result (decoder_in self.new ≡ opened permutations (decoder_in self.old)) }
     {
         let address = self.next;
-        let next = sum_of(address, times_eight(permutations)?)?;
+        let next = address + 8 * permutations as u64;
         let hidden = Stack::new(self.alloc);
         self.blocks.push(Open { address, hidden })?;
         self.next = next;
@@ -168,6 +174,7 @@ impl Decoder {
 
     // A block starts that pops its condition.
     fn open_on_bit(&mut self) -> Result<(), Memory>
+        requires { self.old.next + 8 < 2 ^ 64 }
         ensures { OnOk result (decoder_in self.new ≡ popped (opened 1 (decoder_in self.old))) }
     {
         self.open(1)?;
@@ -177,22 +184,21 @@ impl Decoder {
 
     // A span starts, with so many batches behind its first one.
     fn start_span(&mut self, event: &Event, batches: usize) -> Result<(), Memory>
+        requires { self.old.next + 8 * (batches + 1) < 2 ^ 64 }
         ensures { OnOk result (decoder_in self.new ≡ advance_as kinds.Span (decoder_in self.old) event.now batches) }
     {
-        let Some(permutations) = batches.checked_add(1) else {
-            return Err(Memory::Memory);
-        };
         let address = self.next;
-        self.open(permutations)?;
+        self.open(batches + 1)?;
         self.ha = address;
         self.begin(&event.hash)
     }
 
     // The next batch of a span begins.
     fn respan(&mut self, event: &Event) -> Result<(), Memory>
+        requires { self.old.ha + 8 < 2 ^ 64 }
         ensures { OnOk result (decoder_in self.new ≡ advance_as kinds.Respan (decoder_in self.old) event.now 0) }
     {
-        self.ha = sum_of(self.ha, 8)?;
+        self.ha += 8;
         self.begin(&event.hash)
     }
 
@@ -205,10 +211,11 @@ impl Decoder {
 
     // A call hides the cells below the sixteenth.
     fn call(&mut self) -> Result<(), Memory>
+        requires { self.old.next + 8 < 2 ^ 64 }
         ensures { OnOk result (decoder_in self.new ≡ called (decoder_in self.old)) }
     {
         let address = self.next;
-        let next = sum_of(address, 8)?;
+        let next = address + 8;
         let hidden = mem::replace(&mut self.keys, Stack::new(self.alloc));
         self.blocks.push(Open { address, hidden })?;
         self.next = next;
@@ -234,14 +241,11 @@ impl Decoder {
 }
 
 // The next hasher address behind an operation.
-fn next_after(op: Op, next: u64) -> Result<u64, Memory>
-    ensures { IfOk result (λ behind. behind ≡ next_after op next) }
+fn next_after(op: Op, next: u64) -> u64
+    requires { next + 8 < 2 ^ 64 }
+    ensures { result ≡ next_after op next }
 {
-    if is_op(op, Op::HPerm) {
-        sum_of(next, 8)
-    } else {
-        Ok(next)
-    }
+    if is_op(op, Op::HPerm) { next + 8 } else { next }
 }
 
 // The keys behind an operation.

@@ -2,10 +2,8 @@
 #![tactic(auto)]
 
 mod decoder;
-mod numbers;
 mod positions;
 mod stack;
 
 pub use decoder::{Decoder, Open};
-pub use numbers::sum_of;
 pub use stack::{Stack, into_elements};

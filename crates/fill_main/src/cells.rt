@@ -1,5 +1,5 @@
-ghost use Rattle.std.specs.Prelude.{◌≡◌, ◌==◌, [], ◌∷◌, slice_index, IfOk};
-ghost use Rattle.vm_field.specs.Field.{felt_inv};
+ghost use Rattle.std.specs.Prelude.{◌≡◌, ◌<◌, ◌==◌, [], ◌∷◌, slice_index};
+ghost use Rattle.vm_field.specs.Field.{felt_inv, prime};
 ghost use Rattle.vm_field.specs.Signs.{◌⊟◌};
 ghost use Rattle.vm_ops.specs.Codes.{is_ordinary_op};
 ghost use Rattle.vm_ops.specs.Values.{bit_of};
@@ -7,7 +7,7 @@ ghost use Rattle.complete_rows.specs.Lines.{code_bit};
 
 use crate::inverses::Inverses;
 use machine_cycles::Visible;
-use vm_field::{Felt, Memory};
+use vm_field::Felt;
 use vm_ops::{Op, is_ordinary, opcode};
 
 // 1 where the test holds, else 0.
@@ -17,14 +17,12 @@ fn bit(test: bool) -> Felt
     if test { Felt::ONE } else { Felt::ZERO }
 }
 
-// The element of a number. The numbers of a run are far below the prime.
-pub(crate) fn felt_of(number: u64) -> Result<Felt, Memory>
-    ensures { IfOk result (λ x. x ≡ number) }
+// The element of a number below the prime.
+pub(crate) fn felt_of(number: u64) -> Felt
+    requires { number < prime }
+    ensures { result ≡ number }
 {
-    match Felt::try_from_u64(number) {
-        Ok(element) => Ok(element),
-        Err(_) => Err(Memory::Memory),
-    }
+    Felt::reduced(u128::from(number))
 }
 
 // The columns of the state, up to the digest of the function that runs.
@@ -82,15 +80,16 @@ pub(crate) fn depth_cells(
     seen: &Visible,
     key: Felt,
     ha: Felt,
-) -> Result<[Felt; 5], Memory>
-    ensures { IfOk result (λ cells. cells ≡ seen.now.depth ∷ key ∷ felt_inv (seen.now.depth ⊟ 16) ∷ ha ∷ seen.now.nesting ∷ []) }
+) -> [Felt; 5]
+    requires { seen.now.depth < prime }
+    ensures { result ≡ seen.now.depth ∷ key ∷ felt_inv (seen.now.depth ⊟ 16) ∷ ha ∷ seen.now.nesting ∷ [] }
 {
-    let depth = felt_of(seen.depth as u64)?;
-    Ok([
+    let depth = felt_of(seen.depth as u64);
+    [
         depth,
         key,
         inverses.inverse(depth - Felt::from_u32(16)),
         ha,
         Felt::from_u32(seen.nesting),
-    ])
+    ]
 }

@@ -1,6 +1,7 @@
-ghost use Rattle.std.specs.Prelude.{◌≡◌, ℕ, drop, IfOk};
+ghost use Rattle.std.specs.Prelude.{◌≡◌, ◌≤◌, ℕ, drop, length, IfOk};
 ghost use Rattle.complete_rows.specs.Filling.{halted, rows_of};
 ghost use Rattle.vm_ops.specs.declared.kind.Kind.TheVariants as kinds;
+ghost use Rattle.complete_rows.specs.Numbers.{HasSmallNumbers};
 ghost use Rattle.complete_rows.specs.RunRequests.{requests_of};
 ghost use Rattle.complete_rows.specs.Turns.{respans};
 
@@ -25,6 +26,7 @@ pub(crate) fn fill(
     last: &Visible,
     events: &Events,
 ) -> Result<(Table<65>, Requests), Memory>
+    requires { HasSmallNumbers last.now events.now }
     ensures rows { IfOk result (λ r. r.0 ≡ rows_of last.now events.now) }
     ensures requests { IfOk result (λ r. r.1 ≡ requests_of permutations.old last.now events.now) }
     ensures same { permutations.new ≡ permutations.old }
@@ -41,7 +43,7 @@ pub(crate) fn fill(
         let event = events.event(i);
         let next = seen_behind(last, events, i + 1);
         let turn = turns.pop().unwrap_or(0);
-        write_row(&mut row, &mut inverses, &decoder, &event, &next, turn)?;
+        write_row(&mut row, &mut inverses, &decoder, &event, &next, turn);
         table.push_row(&row)?;
         let kind = kind_of(event.op);
         let batches = batches_of(alloc, kind, events, i + 1)?;
@@ -55,7 +57,7 @@ pub(crate) fn fill(
             batches.as_slice(),
         )?;
     }
-    write_row(&mut row, &mut inverses, &decoder, &halted(last), last, 0)?;
+    write_row(&mut row, &mut inverses, &decoder, &halted(last), last, 0);
     table.push_row(&row)?;
     requests.keys = into_elements(decoder.keys);
     Ok((table, requests))
@@ -69,7 +71,8 @@ fn batches_of(
     events: &Events,
     first: usize,
 ) -> Result<Sequence<[Felt; 8]>, Memory>
-    ensures { IfOk result (λ batches. kind ≡ kinds.Span → batches ≡ respans (drop first events.now)) }
+    ensures are { IfOk result (λ batches. kind ≡ kinds.Span → batches ≡ respans (drop first events.now)) }
+    ensures few { IfOk result (λ batches. length batches ≤ length events.now) }
 {
     match kind {
         Kind::Span => respans(alloc, events, first),

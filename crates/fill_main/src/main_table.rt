@@ -2,6 +2,7 @@ ghost use Rattle.std.specs.Prelude.{◌≡◌, IfOk};
 ghost use Rattle.vm_state.specs.Views.{core_of};
 ghost use Rattle.machine_cycles.specs.Events.{visible_of};
 ghost use Rattle.complete_rows.specs.Filling.{rows_of};
+ghost use Rattle.complete_rows.specs.Numbers.{HasSmallNumbers};
 ghost use Rattle.complete_rows.specs.RunRequests.{requests_of};
 
 use crate::fill::fill;
@@ -14,18 +15,19 @@ use vm_state::State;
 use vm_table::Table;
 
 /// The main table of a run that ends in a state, one row for each of its events and HALT's behind
-/// them, and what its rows ask of the small tables.
+/// them, and what its rows ask of the small tables. The numbers that these events show and ask are
+/// those of a run: they are as small as columns and requests take.
 ///
 /// # Errors
 ///
-/// `Memory` where the system gave no memory, or where a number is too great for its column or its
-/// request.
+/// `Memory` where the system gave none for the rows, the requests or what is counted on the way.
 pub fn fill_main(
     alloc: Global,
     permutations: &mut Permutations,
     state: &State,
     events: &Events,
 ) -> Result<(Table<65>, Requests), Memory>
+    requires { HasSmallNumbers (visible_of (core_of state.now)) events.now }
     ensures rows { IfOk result (λ r. r.0 ≡ rows_of (visible_of (core_of state.now)) events.now) }
     ensures requests { IfOk result (λ r. r.1 ≡ requests_of permutations.old (visible_of (core_of state.now)) events.now) }
     ensures same { permutations.new ≡ permutations.old }

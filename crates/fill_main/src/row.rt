@@ -1,6 +1,6 @@
-ghost use Rattle.std.specs.Prelude.{◌≡◌, ◌≤◌, ◌+◌, ◌==◌, List, ◌++◌, [], ◌∷◌, length, take, slice_index, IfOk, OnOk};
+ghost use Rattle.std.specs.Prelude.{◌≡◌, ◌<◌, ◌≤◌, ◌+◌, ◌==◌, List, ◌++◌, [], ◌∷◌, length, take, slice_index};
 ghost use Rattle.machine_cycles.specs.declared.event.Event as shown;
-ghost use Rattle.vm_field.specs.Field.{felt_inv};
+ghost use Rattle.vm_field.specs.Field.{felt_inv, prime};
 ghost use Rattle.vm_field.specs.Signs.{◌⊟◌};
 ghost use Rattle.complete_rows.specs.Decoder.{address_of, key_of};
 ghost use Rattle.complete_rows.specs.Filling.{hash_by, in_use_by, row_of, witnesses_by};
@@ -10,6 +10,7 @@ ghost use Rattle.complete_rows.specs.Turns.{repeats};
 ghost use Rattle.complete_rows.specs.Witnesses.{operation_witnesses};
 ghost use Rattle.vm_ops.specs.Codes.{is_ordinary_op};
 ghost use Rattle.fill_requests.specs.Parts.{eight_of, four_of, sixteen_of};
+ghost use Rattle.fill_decoder.specs.Bounds.{ShowsElements};
 ghost use Rattle.fill_decoder.specs.Views.{decoder_in};
 
 use crate::cells::{block_cells, depth_cells, felt_of, group_cells, state_cells};
@@ -19,16 +20,12 @@ use fill_decoder::Decoder;
 use fill_requests::limbs_of;
 use machine_cycles::{Event, Visible};
 use op_pack::in_use;
-use vm_field::{Felt, Memory};
+use vm_field::Felt;
 use vm_ops::{Kind, kind_of};
 use vm_table::column;
 
 /// Writes the row of an event before the state behind it, where its loop's body is repeated so often,
 /// over the row that stands there: each cell is written.
-///
-/// # Errors
-///
-/// `Memory` where a number is too great for its column.
 pub(crate) fn write_row(
     row: &mut [Felt; 65],
     inverses: &mut Inverses,
@@ -36,21 +33,23 @@ pub(crate) fn write_row(
     event: &Event,
     next: &Visible,
     turns: u64,
-) -> Result<(), Memory>
+)
+    requires decoder { ShowsElements (decoder_in decoder.now) }
+    requires depth { event.now.before.depth < prime }
+    requires turns { turns < prime }
     ensures { (later : List shown.Event) → turns ≡ slice_index (repeats later) 0
-        → OnOk result (row.new ≡ row_of (decoder_in decoder.now) event.now next.now later) }
+        → row.new ≡ row_of (decoder_in decoder.now) event.now next.now later }
 {
     let kind = kind_of(event.op);
     write_cells(row, column::CLK, &state_cells(&event.before));
-    write_cells(row, column::ADDR, &open_cells(decoder, event)?);
+    write_cells(row, column::ADDR, &open_cells(decoder, event));
     write_cells(row, column::H, &hash_cells(kind, decoder, event));
-    write_cells(row, column::SP, &batch_cells(kind, decoder, event)?);
+    write_cells(row, column::SP, &batch_cells(kind, decoder, event));
     write_cells(row, column::S, &stack_cells(&event.before));
-    write_cells(row, column::DEPTH, &key_cells(inverses, decoder, event)?);
-    let witnesses = witness_cells(inverses, kind, decoder, event, next, turns)?;
+    write_cells(row, column::DEPTH, &key_cells(inverses, decoder, event));
+    let witnesses = witness_cells(inverses, kind, decoder, event, next, turns);
     write_cells(row, column::W, &witnesses);
     write_cells(row, column::T, &limbs_of(event, next).cells);
-    Ok(())
 }
 
 // Writes cells over those of a row from a place on.
@@ -64,12 +63,12 @@ fn write_cells(row: &mut [Felt; 65], place: usize, cells: &[Felt])
 }
 
 // The address of the newest block, and the bits of the operation.
-fn open_cells(decoder: &Decoder, event: &Event) -> Result<[Felt; 8], Memory>
-    ensures { IfOk result (λ cells. cells ≡ address_of decoder.now.blocks ∷ code_bit event.now.op 0 ∷ code_bit event.now.op 1
-        ∷ code_bit event.now.op 2 ∷ code_bit event.now.op 3 ∷ code_bit event.now.op 4 ∷ code_bit event.now.op 5 ∷ code_bit event.now.op 6 ∷ []) }
+fn open_cells(decoder: &Decoder, event: &Event) -> [Felt; 8]
+    requires { address_of decoder.now.blocks < prime }
+    ensures { result ≡ address_of decoder.now.blocks ∷ code_bit event.now.op 0 ∷ code_bit event.now.op 1
+        ∷ code_bit event.now.op 2 ∷ code_bit event.now.op 3 ∷ code_bit event.now.op 4 ∷ code_bit event.now.op 5 ∷ code_bit event.now.op 6 ∷ [] }
 {
-    let address = felt_of(decoder.address())?;
-    Ok(block_cells(address, event.op))
+    block_cells(felt_of(decoder.address()), event.op)
 }
 
 // The visible cells of the stack.
@@ -97,11 +96,13 @@ fn stack_cells(seen: &Visible) -> [Felt; 16]
 }
 
 // The columns from the stack's depth to the level of nesting.
-fn key_cells(inverses: &mut Inverses, decoder: &Decoder, event: &Event) -> Result<[Felt; 5], Memory>
-    ensures { IfOk result (λ cells. cells ≡ event.now.before.depth ∷ key_of decoder.now.keys ∷ felt_inv (event.now.before.depth ⊟ 16)
-        ∷ decoder.now.ha ∷ event.now.before.nesting ∷ []) }
+fn key_cells(inverses: &mut Inverses, decoder: &Decoder, event: &Event) -> [Felt; 5]
+    requires ha { decoder.now.ha < prime }
+    requires depth { event.now.before.depth < prime }
+    ensures { result ≡ event.now.before.depth ∷ key_of decoder.now.keys ∷ felt_inv (event.now.before.depth ⊟ 16)
+        ∷ decoder.now.ha ∷ event.now.before.nesting ∷ [] }
 {
-    let ha = felt_of(decoder.ha)?;
+    let ha = felt_of(decoder.ha);
     depth_cells(inverses, &event.before, decoder.key(), ha)
 }
 
@@ -126,14 +127,16 @@ fn eight_cells(hash: &[Felt; 8]) -> [Felt; 8]
 }
 
 // The columns of the group and of the batch.
-fn batch_cells(kind: Kind, decoder: &Decoder, event: &Event) -> Result<[Felt; 6], Memory>
-    ensures { IfOk result (λ cells. cells ≡ bit_of (is_ordinary_op event.now.op) ∷ length decoder.now.positions ∷ decoder.now.place
+fn batch_cells(kind: Kind, decoder: &Decoder, event: &Event) -> [Felt; 6]
+    requires left { length decoder.now.positions < prime }
+    requires place { decoder.now.place < prime }
+    ensures { result ≡ bit_of (is_ordinary_op event.now.op) ∷ length decoder.now.positions ∷ decoder.now.place
         ∷ bit_of (in_use_by kind event.now == 8) ∷ bit_of (in_use_by kind event.now == 4)
-        ∷ bit_of (in_use_by kind event.now == 2) ∷ []) }
+        ∷ bit_of (in_use_by kind event.now == 2) ∷ [] }
 {
-    let left = felt_of(decoder.positions.len() as u64)?;
-    let place = felt_of(decoder.place)?;
-    Ok(group_cells(event.op, left, place, positions_in_use(kind, event)))
+    let left = felt_of(decoder.positions.len() as u64);
+    let place = felt_of(decoder.place);
+    group_cells(event.op, left, place, positions_in_use(kind, event))
 }
 
 // How many positions are in use of a batch that begins; 0 in other rows.
@@ -154,16 +157,18 @@ fn witness_cells(
     event: &Event,
     next: &Visible,
     turns: u64,
-) -> Result<[Felt; 4], Memory>
+) -> [Felt; 4]
+    requires next { decoder.now.next < prime }
+    requires turns { turns < prime }
     ensures { (later : List shown.Event) → turns ≡ slice_index (repeats later) 0
-        → IfOk result (λ cells. cells ≡ four_of (witnesses_by kind (decoder_in decoder.now) event.now next.now later)) }
+        → result ≡ four_of (witnesses_by kind (decoder_in decoder.now) event.now next.now later) }
 {
     let zero = Felt::ZERO;
     match kind {
         Kind::Ordinary => operation_cells(inverses, decoder, event, next),
-        Kind::Loop => Ok([felt_of(turns)?, zero, zero, zero]),
-        Kind::Span | Kind::Respan => Ok(batch_witnesses(inverses, &event.hash)),
-        _ => Ok([zero; 4]),
+        Kind::Loop => [felt_of(turns), zero, zero, zero],
+        Kind::Span | Kind::Respan => batch_witnesses(inverses, &event.hash),
+        _ => [zero; 4],
     }
 }
 
@@ -173,16 +178,17 @@ fn operation_cells(
     decoder: &Decoder,
     event: &Event,
     next: &Visible,
-) -> Result<[Felt; 4], Memory>
-    ensures { IfOk result (λ cells. cells ≡ operation_witnesses event.now.op decoder.now.next decoder.now.number event.now.before next.now) }
+) -> [Felt; 4]
+    requires { decoder.now.next < prime }
+    ensures { result ≡ operation_witnesses event.now.op decoder.now.next decoder.now.number event.now.before next.now }
 {
-    let address = felt_of(decoder.next)?;
-    Ok(operation_witnesses(
+    let address = felt_of(decoder.next);
+    operation_witnesses(
         inverses,
         event.op,
         address,
         decoder.number,
         &event.before,
         next,
-    ))
+    )
 }

@@ -1,8 +1,8 @@
-ghost use Rattle.std.specs.Prelude.{◌≡◌, slice_index, OnOk, IfOk};
+ghost use Rattle.std.specs.Prelude.{◌≡◌, ◌+◌, ◌^◌, ◌<◌, slice_index, OnOk, IfOk};
 ghost use Rattle.complete_rows.specs.Turns.{repeats_by};
 ghost use Rattle.fill_main.specs.Turns.{turns_of};
 
-use fill_decoder::{Stack, sum_of};
+use fill_decoder::Stack;
 use machine_cycles::Events;
 use std::alloc::Global;
 use vm_field::Memory;
@@ -35,6 +35,7 @@ fn front(counts: &Stack<u64>) -> u64
 // Counts one event more, from the end on.
 #[tactic(auto, using(fill_decoder::proofs::GroupLemmas::first_number))]
 fn count(counts: &mut Stack<u64>, kind: Kind) -> Result<(), Memory>
+    requires { slice_index counts.old 0 + 1 < 2 ^ 64 }
     ensures { OnOk result (counts.new ≡ repeats_by kind counts.old) }
 {
     match kind {
@@ -45,7 +46,7 @@ fn count(counts: &mut Stack<u64>, kind: Kind) -> Result<(), Memory>
         }
         Kind::End => counts.push(0),
         Kind::Repeat => {
-            let more = sum_of(counts.pop().unwrap_or(0), 1)?;
+            let more = counts.pop().unwrap_or(0) + 1;
             counts.push(more)
         }
     }

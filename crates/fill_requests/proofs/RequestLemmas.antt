@@ -1,5 +1,5 @@
 -- What each event of a run adds to its requests.
-use Rattle.std.proofs.Common.{◌≡◌, ℕ, ◌+◌, ◌<◌, ◌≤◌, if◌then◌else◌, List, [], ◌∷◌, ◌++◌, length, get_or, drop, take, refl, ap, ap₂, ◌∙◌}
+use Rattle.std.proofs.Common.{All, ◌≡◌, ℕ, ◌+◌, ◌<◌, ◌≤◌, if◌then◌else◌, List, [], ◌∷◌, ◌++◌, length, get_or, drop, take, refl, ap, ap₂, ◌∙◌}
 use Rattle.vm_ops.specs.declared.op.Op.TheVariants as ops
 use Rattle.air_kit.specs.Flags.{is_op}
 use Rattle.air_kit.specs.declared.requests.Access.{Access}
@@ -9,13 +9,14 @@ use Rattle.air_kit.specs.declared.requests.Requests.{Requests}
 use Rattle.machine_cycles.specs.declared.event.Event.{Event}
 use Rattle.machine_cycles.specs.declared.event.Visible.{Visible}
 use Rattle.complete_rows.specs.Filling.{seen_behind}
+use Rattle.complete_rows.specs.Numbers.{HasU32Address, HasU32Operands, IsU16}
 use Rattle.vm_ops.specs.declared.kind.Kind.TheVariants as kinds
 use Rattle.vm_ops.specs.declared.kind.Kind.{Kind}
 use Rattle.vm_ops.specs.Codes.{kind_of}
 use Rattle.complete_rows.specs.RunRequests.{accesses_by, accesses_of, bits_by, bits_of, calls_of, hash_perms, perms_by, perms_of, ranges_by, ranges_of}
 use Rattle.complete_rows.specs.Turns.{respans}
 use Rattle.fill_requests.specs.Asked.{perms_as}
-use Rattle.fill_requests.proofs.LoopLemmas.{ended, step}
+use Rattle.fill_requests.proofs.LoopLemmas.{ended, step, step-all}
 
 pub bits-step : (events : List Event) (i : ℕ) (e : Event) (done more : List BitOp) → i < length events → e ≡ get_or events i e
     → more ≡ done ++ bits_by e.op e.before → more ++ bits_of (drop (i + 1) events) ≡ done ++ bits_of (drop i events)
@@ -27,6 +28,12 @@ pub bits-ended : (events : List Event) (i : ℕ) (done : List BitOp) → length 
 unfolding bits_of
 bits-ended events i done past = ended bits_of refl events i done past
 
+pub bits-fit : (events : List Event) (i : ℕ) (e : Event) (done : List BitOp) → i < length events → e ≡ get_or events i e
+    → done ++ bits_of (drop i events) ≡ bits_of events → All HasU32Operands (bits_of events) → All HasU32Operands (bits_by e.op e.before)
+unfolding bits_of
+bits-fit events i e done within is whole fit =
+    step-all HasU32Operands bits_of (λ e later. bits_by e.op e.before) (λ e later. refl) events i e done (bits_of events) within is whole fit
+
 pub accesses-step : (events : List Event) (i : ℕ) (e : Event) (done more : List Access) → i < length events → e ≡ get_or events i e
     → more ≡ done ++ accesses_by e.op e → more ++ accesses_of (drop (i + 1) events) ≡ done ++ accesses_of (drop i events)
 unfolding accesses_of
@@ -36,6 +43,12 @@ accesses-step events i e done more within is added =
 pub accesses-ended : (events : List Event) (i : ℕ) (done : List Access) → length events ≤ i → done ++ accesses_of (drop i events) ≡ done
 unfolding accesses_of
 accesses-ended events i done past = ended accesses_of refl events i done past
+
+pub accesses-fit : (events : List Event) (i : ℕ) (e : Event) (done : List Access) → i < length events → e ≡ get_or events i e
+    → done ++ accesses_of (drop i events) ≡ accesses_of events → All HasU32Address (accesses_of events) → All HasU32Address (accesses_by e.op e)
+unfolding accesses_of
+accesses-fit events i e done within is whole fit =
+    step-all HasU32Address accesses_of (λ e later. accesses_by e.op e) (λ e later. refl) events i e done (accesses_of events) within is whole fit
 
 pub calls-step : (events : List Event) (i : ℕ) (e : Event) (done more : List (List ℕ)) → i < length events → e ≡ get_or events i e
     → more ≡ done ++ (if is_op e.op ops.Syscall then take 4 e.hash ∷ [] else [])
@@ -58,6 +71,14 @@ ranges-step last events i e done more within is added =
 pub ranges-ended : (last : Visible) (events : List Event) (i : ℕ) (done : List ℕ) → length events ≤ i → done ++ ranges_of last (drop i events) ≡ done
 unfolding ranges_of
 ranges-ended last events i done past = ended (ranges_of last) refl events i done past
+
+pub ranges-fit : (last : Visible) (events : List Event) (i : ℕ) (e : Event) (done : List ℕ) → i < length events → e ≡ get_or events i e
+    → done ++ ranges_of last (drop i events) ≡ ranges_of last events → All IsU16 (ranges_of last events)
+    → All IsU16 (ranges_by e (seen_behind last (drop (i + 1) events)))
+unfolding ranges_of
+ranges-fit last events i e done within is whole fit =
+    step-all IsU16 (ranges_of last) (λ e later. ranges_by e (seen_behind last later)) (λ e later. refl) events i e done (ranges_of last events)
+    within is whole fit
 
 pub perms-step : (constants : List ℕ) (events : List Event) (i : ℕ) (e : Event) (done more : List Perm) → i < length events → e ≡ get_or events i e
     → more ≡ done ++ perms_by (kind_of e.op) constants e (drop (i + 1) events)

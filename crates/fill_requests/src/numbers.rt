@@ -1,27 +1,19 @@
-ghost use Rattle.std.specs.Prelude.{◌≡◌, IfOk};
+ghost use Rattle.std.specs.Prelude.{◌≡◌, ◌^◌, ◌<◌};
 
-use vm_field::{Felt, Memory};
+use vm_field::Felt;
 
-// An element as a number of 32 bits.
-pub(crate) fn u32_of(element: Felt) -> Result<u32, Memory>
-    ensures { IfOk result (λ number. number ≡ element) }
+// An element of 32 bits as a number.
+pub(crate) fn u32_of(element: Felt) -> u32
+    requires { element < 2 ^ 32 }
+    ensures { result ≡ element }
 {
-    let number = element.value();
-    if number < 1 << 32 {
-        Ok(number as u32)
-    } else {
-        Err(Memory::Memory)
-    }
+    element.value() as u32
 }
 
-// An element as a number of 16 bits.
-pub(crate) fn u16_of(element: Felt) -> Result<u16, Memory>
-    ensures { IfOk result (λ number. number ≡ element) }
+// An element of 16 bits as a number.
+pub(crate) fn u16_of(element: Felt) -> u16
+    requires { element < 2 ^ 16 }
+    ensures { result ≡ element }
 {
-    let number = element.value();
-    if number < 65536 {
-        Ok(number as u16)
-    } else {
-        Err(Memory::Memory)
-    }
+    element.value() as u16
 }

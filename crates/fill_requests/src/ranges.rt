@@ -1,4 +1,5 @@
-ghost use Rattle.std.specs.Prelude.{◌≡◌, ◌++◌, OnOk};
+ghost use Rattle.std.specs.Prelude.{◌≡◌, ◌++◌, All, OnOk};
+ghost use Rattle.complete_rows.specs.Numbers.{IsU16};
 ghost use Rattle.complete_rows.specs.RunRequests.{ranges_by};
 
 use crate::limbs::limbs_of;
@@ -13,6 +14,7 @@ pub(crate) fn push_ranges(
     event: &Event,
     next: &Visible,
 ) -> Result<(), Memory>
+    requires { All IsU16 (ranges_by event.now next.now) }
     ensures { OnOk result (ranges.new ≡ ranges.old ++ ranges_by event.now next.now) }
 {
     if is_start(event.op) {
@@ -25,10 +27,11 @@ pub(crate) fn push_ranges(
 
 // Limbs.
 fn push_limbs(ranges: &mut Sequence<u16>, limbs: &[Felt]) -> Result<(), Memory>
+    requires { All IsU16 limbs.now }
     ensures { OnOk result (ranges.new ≡ ranges.old ++ limbs.now) }
 {
     for i in 0..limbs.len() {
-        ranges.push(u16_of(limbs[i])?)?;
+        ranges.push(u16_of(limbs[i]))?;
     }
     Ok(())
 }

@@ -1,6 +1,7 @@
-ghost use Rattle.std.specs.Prelude.{◌≡◌, ◌++◌, [], ◌∷◌, take, if◌then◌else◌, OnOk};
+ghost use Rattle.std.specs.Prelude.{◌≡◌, ◌++◌, [], ◌∷◌, take, if◌then◌else◌, All, OnOk};
 ghost use Rattle.vm_ops.specs.declared.op.Op.TheVariants as ops;
 ghost use Rattle.air_kit.specs.Flags.{is_op};
+ghost use Rattle.complete_rows.specs.Numbers.{HasU32Address, HasU32Operands, IsU16};
 ghost use Rattle.complete_rows.specs.RunRequests.{accesses_by, bits_by, ranges_by};
 ghost use Rattle.fill_requests.specs.Asked.{perms_as};
 
@@ -31,7 +32,11 @@ pub fn no_requests(alloc: Global) -> Requests
 }
 
 /// Adds what the row of an event of a kind asks, before the state behind it, where its span has
-/// these later batches.
+/// these later batches. Operands and addresses have 32 bits, and limbs 16.
+///
+/// # Errors
+///
+/// `Memory` where the system gave none for a request.
 pub fn push_requests(
     requests: &mut Requests,
     permutations: &mut Permutations,
@@ -40,6 +45,9 @@ pub fn push_requests(
     next: &Visible,
     batches: &[[Felt; 8]],
 ) -> Result<(), Memory>
+    requires bits { All HasU32Operands (bits_by event.now.op event.now.before) }
+    requires accesses { All HasU32Address (accesses_by event.now.op event.now) }
+    requires ranges { All IsU16 (ranges_by event.now next.now) }
     ensures perms { OnOk result (requests.new.perms ≡ requests.old.perms ++ perms_as kind permutations.old event.now batches.now) }
     ensures bits { OnOk result (requests.new.bits ≡ requests.old.bits ++ bits_by event.now.op event.now.before) }
     ensures accesses { OnOk result (requests.new.accesses ≡ requests.old.accesses ++ accesses_by event.now.op event.now) }

@@ -1,16 +1,22 @@
-use Rattle.std.proofs.Common.{◌≡◌, ℕ, ◌+◌, List, ◌++◌, [], drop, length, refl, sym, ap, ◌∙◌, arith, slice_index, subst, get_or, unwrap_or}
+use Rattle.std.proofs.Common.{All, ◌≡◌, ℕ, ◌+◌, ◌<◌, ◌≤◌, List, ◌++◌, [], drop, length, refl, sym, ap, ◌∙◌, arith, slice_index, subst, get_or, unwrap_or}
+use Rattle.std.proofs.lemmas.List.{length-drop}
+use Rattle.std.proofs.lemmas.List.Elements.{All-get_or}
+use Rattle.vm_field.specs.Field.{prime}
 use Rattle.air_kit.specs.declared.requests.Perm.{Perm}
 use Rattle.air_kit.specs.declared.requests.Requests.{Requests}
 use Rattle.machine_cycles.specs.declared.event.Event.{Event}
 use Rattle.machine_cycles.specs.declared.event.Visible.{Visible}
 use Rattle.complete_rows.specs.Decoder.{Decoder, decoder_after}
 use Rattle.complete_rows.specs.Filling.{fill, row_of}
+use Rattle.complete_rows.specs.Numbers.{IsU16}
 use Rattle.complete_rows.specs.RunRequests.{accesses_of, bits_of, calls_of, perms_of, ranges_by, ranges_of}
 use Rattle.complete_rows.specs.Turns.{repeats}
 use Rattle.fill_requests.proofs.RequestLemmas as ask
+use Rattle.fill_decoder.specs.Bounds.{IsSmall}
 use Rattle.fill_decoder.specs.Views.{decoder_in}
+use Rattle.fill_decoder.proofs.BoundLemmas.{small_room, small_shows, small_start, small_step}
 use Rattle.fill_decoder.proofs.DecoderLemmas.{known}
-use Rattle.fill_main.proofs.FillLemmas.{decoder-end, decoder-step, rows-end, rows-step, turn-first, turns-here, turns-left, no-repeats, whole}
+use Rattle.fill_main.proofs.FillLemmas.{decoder-end, decoder-step, few-repeats, rows-end, rows-step, turn-first, turns-here, turns-left, no-repeats, whole}
 use Rattle.fill_main.proofs.fill.fill.Goals as goal
 
 pub loop-i-init : goal.loop-i-init
@@ -25,6 +31,7 @@ loop-i-init c =
           ∙ ap (λ (d : Decoder). fill last d events) c.new-decoder.ensures;
       after = ap (λ (d : Decoder). decoder_after d events) c.new-decoder.ensures;
       turns = c.in_ok-turns.ensures;
+      small = subst (λ d. IsSmall d 0 events) (sym c.new-decoder.ensures) (small_start events c.requires.few);
       perms = ap (λ (r : Requests). r.perms ++ perms_of constants events) none;
       bits = ap (λ (r : Requests). r.bits ++ bits_of events) none;
       accesses = ap (λ (r : Requests). r.accesses ++ accesses_of events) none;
@@ -52,20 +59,21 @@ loop-i-preserved c =
     let turn : c.unwrap_or-turn.result ≡ slice_index (repeats later) 0
     = turn-first c.loop-i.turns _ _ c.unwrap_or-turn.result here (c.unwrap_or-turn.ensures ∙ ap (λ o. unwrap_or o 0) c.pop.ensures.item) in
     let moved = c.in_ok-advance.ensures ∙ known e c.kind_of-kind.result d _ later c.kind_of-kind.ensures
-    (λ starts. c.len.ensures.count ∙ ap (λ (xs : List (List ℕ)). length xs) (c.in_ok-batches.ensures (c.kind_of-kind.ensures ∙ starts))) in
+    (λ starts. c.len.ensures.count ∙ ap (λ (xs : List (List ℕ)). length xs) (c.in_ok-batches.ensures.are (c.kind_of-kind.ensures ∙ starts))) in
     record {
       rows =
           rows-step last d _ events i e _ c.loop-i.table _ (omega arith) is
-          (c.in_ok-write_row.ensures later turn ∙ ap (λ seen. row_of d e seen later) next)
+          (c.write_row.ensures later turn ∙ ap (λ seen. row_of d e seen later) next)
           c.in_ok-push_row.ensures.ok moved
           ∙ invariant.rows;
       after = decoder-step d _ events i e (omega arith) is moved ∙ invariant.after;
       turns = turns-left c.loop-i.turns _ _ _ here c.pop.ensures.left;
+      small = small_step d _ events i e (omega arith) is moved invariant.small;
       perms =
           ask.perms-step constants events i e asked.perms _ (omega arith) is
           (added.perms ∙ ap (λ (more : List Perm). asked.perms ++ more)
           (ask.perms-known constants c.loop-i.permutations c.kind_of-kind.result e _ later invariant.same c.kind_of-kind.ensures
-          (λ starts. c.as_slice.ensures.items ∙ c.in_ok-batches.ensures (c.kind_of-kind.ensures ∙ starts))))
+          (λ starts. c.as_slice.ensures.items ∙ c.in_ok-batches.ensures.are (c.kind_of-kind.ensures ∙ starts))))
           ∙ invariant.perms;
       bits = ask.bits-step events i e asked.bits _ (omega arith) is added.bits ∙ invariant.bits;
       accesses = ask.accesses-step events i e asked.accesses _ (omega arith) is added.accesses ∙ invariant.accesses;
@@ -77,6 +85,63 @@ loop-i-preserved c =
       same = c.push_requests.ensures.same ∙ invariant.same;
     }
 
+pub write_row-requires : goal.write_row-requires
+write_row-requires c =
+    let events = c.args.events.now in
+    let i = c.loop-i.i in
+    let e = c.event-event.result in
+    let shown = c.event-event.ensures in
+    let is = subst (λ (x : Event). x ≡ get_or events i x) (sym shown.2) shown.1 in
+    let later = drop (i + 1) events in
+    let invariant = c.loop-i.invariant in
+    let here = invariant.turns ∙ turns-here events i e (omega arith) is in
+    let turn : c.unwrap_or-turn.result ≡ slice_index (repeats later) 0
+    = turn-first c.loop-i.turns _ _ c.unwrap_or-turn.result here (c.unwrap_or-turn.ensures ∙ ap (λ o. unwrap_or o 0) c.pop.ensures.item) in
+    let most = few-repeats later in
+    let few : length events ≤ 524287 = c.requires.few in
+    record {
+      decoder = small_shows (decoder_in c.loop-i.decoder) i (drop i events) invariant.small;
+      depth = subst (λ (x : Event). x.before.depth < prime) (sym is)
+          (All-get_or (λ (x : Event). x.before.depth < prime) events i e (omega arith) c.requires.depths);
+      turns = omega (arith, turn, most, few, length-drop (i + 1) events);
+    }
+
+pub advance-requires : goal.advance-requires
+advance-requires c =
+    let events = c.args.events.now in
+    let i = c.loop-i.i in
+    let count = c.len.ensures.count in
+    let most = c.in_ok-batches.ensures.few in
+    let few : length events ≤ 524287 = c.requires.few in
+    small_room (decoder_in c.loop-i.decoder) i c.len.result (drop i events) c.loop-i.invariant.small (omega (arith, count, most, few))
+
+pub push_requests-requires : goal.push_requests-requires
+push_requests-requires c =
+    let last = c.args.last.now in
+    let events = c.args.events.now in
+    let i = c.loop-i.i in
+    let e = c.event-event.result in
+    let shown = c.event-event.ensures in
+    let is = subst (λ (x : Event). x ≡ get_or events i x) (sym shown.2) shown.1 in
+    let asked = c.loop-i.requests in
+    let invariant = c.loop-i.invariant in
+    record {
+      bits = ask.bits-fit events i e asked.bits (omega arith) is invariant.bits c.requires.bits;
+      accesses = ask.accesses-fit events i e asked.accesses (omega arith) is invariant.accesses c.requires.accesses;
+      ranges = subst (λ (seen : Visible). All IsU16 (ranges_by e seen)) (sym c.seen_behind-next.ensures)
+          (ask.ranges-fit last events i e asked.ranges (omega arith) is invariant.ranges c.requires.ranges);
+    }
+
+pub write_row-requires-2 : goal.write_row-requires-2
+write_row-requires-2 c =
+    let events = c.args.events.now in
+    let i = c.loop-i.i in
+    record {
+      decoder = small_shows (decoder_in c.loop-i.decoder) i (drop i events) c.loop-i.invariant.small;
+      depth = subst (λ (x : Event). x.before.depth < prime) (sym c.halted.ensures) c.requires.depth;
+      turns = omega arith;
+    }
+
 pub returns : goal.returns
 returns c =
     let constants = c.args.permutations.now in
@@ -86,7 +151,7 @@ returns c =
     let asked = c.loop-i.requests in
     let invariant = c.loop-i.invariant in
     let d = decoder_in c.loop-i.decoder in
-    let row = c.in_ok-write_row-2.ensures [] no-repeats ∙ ap (λ e. row_of d e last []) c.halted.ensures in
+    let row = c.write_row-2.ensures [] no-repeats ∙ ap (λ e. row_of d e last []) c.halted.ensures in
     record {
       rows = rows-end last d events i _ c.loop-i.table _ (omega arith) row c.in_ok-push_row-2.ensures.ok ∙ invariant.rows ∙ sym (whole last events);
       requests =

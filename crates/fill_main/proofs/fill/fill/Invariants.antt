@@ -3,6 +3,7 @@ use Rattle.complete_rows.specs.Decoder.{at_start, decoder_after}
 use Rattle.complete_rows.specs.Filling.{fill}
 use Rattle.complete_rows.specs.RunRequests.{accesses_of, bits_of, calls_of, perms_of, ranges_of}
 use Rattle.fill_main.specs.Turns.{turns_of}
+use Rattle.fill_decoder.specs.Bounds.{IsSmall}
 use Rattle.fill_decoder.specs.Views.{decoder_in}
 use Rattle.fill_main.proofs.fill.fill.Given as goal
 
@@ -11,6 +12,7 @@ invariant-loop-i l = record {
   rows : l.table ++ fill l.last (decoder_in l.decoder) (drop l.i l.events) ≡ fill l.last at_start l.events;
   after : decoder_after (decoder_in l.decoder) (drop l.i l.events) ≡ decoder_after at_start l.events;
   turns : l.turns ≡ turns_of (drop l.i l.events);
+  small : IsSmall (decoder_in l.decoder) l.i (drop l.i l.events);
   perms : l.requests.perms ++ perms_of l.fn.permutations (drop l.i l.events) ≡ perms_of l.fn.permutations l.events;
   bits : l.requests.bits ++ bits_of (drop l.i l.events) ≡ bits_of l.events;
   accesses : l.requests.accesses ++ accesses_of (drop l.i l.events) ≡ accesses_of l.events;

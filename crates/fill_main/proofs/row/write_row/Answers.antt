@@ -17,8 +17,8 @@ returns c = λ later turn.
     row-laid (line_of d e next later) _ _ _ _ _ _ _ _ _ _ _ _ _ _ _ _ c.write_cells.ensures.written c.write_cells-2.ensures.written
     c.write_cells-3.ensures.written c.write_cells-4.ensures.written c.write_cells-5.ensures.written c.write_cells-6.ensures.written
     c.write_cells-7.ensures.written c.write_cells-8.ensures.written c.write_cells-8.ensures.whole
-    c.state_cells.ensures c.in_ok-open_cells.ensures (c.hash_cells.ensures ∙ ap (λ (k : Kind). eight_of (hash_by k d e)) kind)
-    (c.in_ok-batch_cells.ensures ∙ ap (λ (k : Kind). bit_of (is_ordinary_op e.op) ∷ length d.unread.positions ∷ d.unread.place
+    c.state_cells.ensures c.open_cells.ensures (c.hash_cells.ensures ∙ ap (λ (k : Kind). eight_of (hash_by k d e)) kind)
+    (c.batch_cells.ensures ∙ ap (λ (k : Kind). bit_of (is_ordinary_op e.op) ∷ length d.unread.positions ∷ d.unread.place
     ∷ bit_of (in_use_by k e == 8) ∷ bit_of (in_use_by k e == 4) ∷ bit_of (in_use_by k e == 2) ∷ []) kind)
-    c.stack_cells.ensures c.in_ok-key_cells.ensures
-    (c.in_ok-witnesses.ensures later turn ∙ ap (λ (k : Kind). four_of (witnesses_by k d e next later)) kind) c.limbs_of.ensures.cells
+    c.stack_cells.ensures c.key_cells.ensures
+    (c.witness_cells-witnesses.ensures later turn ∙ ap (λ (k : Kind). four_of (witnesses_by k d e next later)) kind) c.limbs_of.ensures.cells

@@ -1,9 +1,10 @@
 use Rattle.std.proofs.Common.{◌≡◌, ℕ, ◌+◌, ◌-◌, ◌<◌, List, ◌∷◌, drop, length, sym, ap, ap₂, ◌∙◌, arith, slice_index}
+use Rattle.std.proofs.lemmas.List.{length-drop}
 use Rattle.vm_ops.specs.declared.kind.Kind.{Kind}
 use Rattle.vm_ops.specs.Codes.{kind_of}
 use Rattle.complete_rows.specs.Turns.{repeats, repeats_by}
 use Rattle.fill_main.specs.Turns.{turns_of}
-use Rattle.fill_main.proofs.FillLemmas.{none-behind, repeats-here, turns-here}
+use Rattle.fill_main.proofs.FillLemmas.{few-repeats, none-behind, repeats-here, turns-here}
 use Rattle.fill_main.proofs.turns.turns_of.Goals as goal
 
 pub loop-i-init : goal.loop-i-init
@@ -30,6 +31,16 @@ loop-i-preserved c =
           c.in_ok-push.ensures ∙ ap₂ (λ (n : ℕ) (xs : List ℕ). n ∷ xs) (c.front.ensures ∙ ap (λ xs. slice_index xs 0) counts) turns
           ∙ sym (turns-here events j e within shown.1);
     }
+
+-- a number that the length of a list goes beyond
+pub count-requires : goal.count-requires
+count-requires c =
+    let events = c.args.events.now in
+    let i = c.loop-i.i in
+    let most = few-repeats (drop i events) in
+    let here : slice_index c.loop-i.counts 0 ≡ slice_index (repeats (drop i events)) 0
+    = ap (λ (xs : List ℕ). slice_index xs 0) c.loop-i.invariant.counts in
+    omega (arith, here, most, length-drop i events)
 
 pub returns : goal.returns
 returns c =

@@ -9,7 +9,7 @@ pub loop-i-preserved : goal.loop-i-preserved
 loop-i-preserved c =
     step (λ (xs : List ℕ). xs) (λ (x : ℕ) (later : List ℕ). x ∷ []) (λ x later. refl) c.args.limbs.now c.loop-i.i
     c.index-limbs-i.result c.loop-i.ranges _
-    (omega arith) c.index-limbs-i.is (c.in_ok-push.ensures.ok ∙ ap (λ (n : ℕ). c.loop-i.ranges ++ n ∷ []) c.in_ok-u16_of.ensures)
+    (omega arith) c.index-limbs-i.is (c.in_ok-push.ensures.ok ∙ ap (λ (n : ℕ). c.loop-i.ranges ++ n ∷ []) c.u16_of.ensures)
     ∙ c.loop-i.invariant
 
 pub returns : goal.returns
