@@ -1,5 +1,6 @@
 -- How great the numbers are that the rows of a run show, and those that they ask of the small tables.
 use Rattle.std.specs.Prelude.{ℕ, ◌^◌, ◌<◌, ◌≤◌, List, length, All}
+use Rattle.vm_field.specs.Limits.{most_cycles}
 use Rattle.vm_field.specs.Field.{prime}
 use Rattle.air_kit.specs.declared.requests.Access.{Access}
 use Rattle.air_kit.specs.declared.requests.BitOp.{BitOp}
@@ -23,7 +24,7 @@ IsU16 n = n < 2 ^ 16
 -- Of events that end in a state: there are no more of them than the longest run has, each depth of the stack is below the prime, and
 -- what they ask has as many bits as the small tables take.
 pub record HasSmallNumbers (last : Visible) (events : List Event) : Type 0 where
-  pub few : length events ≤ 524287
+  pub few : length events ≤ most_cycles
   pub depths : All (λ e. e.before.depth < prime) events
   pub depth : last.depth < prime
   pub ranges : All IsU16 (ranges_of last events)

@@ -2,6 +2,7 @@
 use Rattle.std.proofs.Common.{All, ◌≡◌, ℕ, zero, suc, ◌+◌, ◌*◌, ◌/◌, ◌<◌, ◌≤◌, Bool, true, false, cond, List, [], ◌∷◌, length, get_or, drop, take, sym, subst, arith}
 use Rattle.std.proofs.lemmas.List.{length-drop, length-take}
 use Rattle.std.proofs.lemmas.List.Elements.{All-cons, All-drop, All-head, All-nil}
+use Rattle.vm_field.specs.Limits.{most_cycles}
 use Rattle.vm_field.specs.Field.{prime}
 use Rattle.op_pack.specs.Reading.{are_zero, positions_in_use}
 use Rattle.vm_ops.specs.Codes.{kind_of}
@@ -54,7 +55,7 @@ record Before (k : Kind) (d : Decoder) (e : Event) (later : List Event) (count :
   blocks : All (λ b. b.address < prime) d.blocks
   left : length d.unread.positions ≤ 7
   place : d.unread.place ≤ count
-  few : count + suc (length later) ≤ 524287
+  few : count + suc (length later) ≤ most_cycles
 
 -- a block that starts at the next address
 started : (d : Decoder) (hidden : List ℕ) → d.next < prime → All (λ b. b.address < prime) d.blocks
@@ -170,7 +171,7 @@ small_next d e later count b =
 
 -- ---- along events
 
-pub small_start : (events : List Event) → length events ≤ 524287 → IsSmall at_start 0 events
+pub small_start : (events : List Event) → length events ≤ most_cycles → IsSmall at_start 0 events
 small_start events few = record {
   next = omega arith;
   ha = omega arith;
@@ -208,7 +209,7 @@ small_shows d count later small =
     }
 
 -- before no more later batches than there are events
-pub small_room : (d : Decoder) (count batches : ℕ) (later : List Event) → IsSmall d count later → batches ≤ 524287 → HasRoom d batches
+pub small_room : (d : Decoder) (count batches : ℕ) (later : List Event) → IsSmall d count later → batches ≤ most_cycles → HasRoom d batches
 small_room d count batches later small most =
     let next = small.next in
     let ha = small.ha in

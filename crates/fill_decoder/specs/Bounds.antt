@@ -1,5 +1,6 @@
 -- How great the decoder's numbers are.
 use Rattle.std.specs.Prelude.{ℕ, ◌+◌, ◌*◌, ◌^◌, ◌<◌, ◌≤◌, List, length, All}
+use Rattle.vm_field.specs.Limits.{most_cycles}
 use Rattle.vm_field.specs.Field.{prime}
 use Rattle.machine_cycles.specs.declared.event.Event.{Event}
 use Rattle.complete_rows.specs.Decoder.{Decoder, address_of}
@@ -27,4 +28,4 @@ pub record IsSmall (d : Decoder) (count : ℕ) (later : List Event) : Type 0 whe
   pub blocks : All (λ b. b.address < prime) d.blocks
   pub left : length d.unread.positions ≤ 7
   pub place : d.unread.place ≤ count
-  pub few : count + length later ≤ 524287
+  pub few : count + length later ≤ most_cycles

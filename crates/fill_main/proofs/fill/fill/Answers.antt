@@ -1,6 +1,7 @@
 use Rattle.std.proofs.Common.{All, ◌≡◌, ℕ, ◌+◌, ◌<◌, ◌≤◌, List, ◌++◌, [], drop, length, refl, sym, ap, ◌∙◌, arith, slice_index, subst, get_or, unwrap_or}
 use Rattle.std.proofs.lemmas.List.{length-drop}
 use Rattle.std.proofs.lemmas.List.Elements.{All-get_or}
+use Rattle.vm_field.specs.Limits.{most_cycles}
 use Rattle.vm_field.specs.Field.{prime}
 use Rattle.air_kit.specs.declared.requests.Perm.{Perm}
 use Rattle.air_kit.specs.declared.requests.Requests.{Requests}
@@ -98,7 +99,7 @@ write_row-requires c =
     let turn : c.unwrap_or-turn.result ≡ slice_index (repeats later) 0
     = turn-first c.loop-i.turns _ _ c.unwrap_or-turn.result here (c.unwrap_or-turn.ensures ∙ ap (λ o. unwrap_or o 0) c.pop.ensures.item) in
     let most = few-repeats later in
-    let few : length events ≤ 524287 = c.requires.few in
+    let few : length events ≤ most_cycles = c.requires.few in
     record {
       decoder = small_shows (decoder_in c.loop-i.decoder) i (drop i events) invariant.small;
       depth = subst (λ (x : Event). x.before.depth < prime) (sym is)
@@ -112,7 +113,7 @@ advance-requires c =
     let i = c.loop-i.i in
     let count = c.len.ensures.count in
     let most = c.in_ok-batches.ensures.few in
-    let few : length events ≤ 524287 = c.requires.few in
+    let few : length events ≤ most_cycles = c.requires.few in
     small_room (decoder_in c.loop-i.decoder) i c.len.result (drop i events) c.loop-i.invariant.small (omega (arith, count, most, few))
 
 pub push_requests-requires : goal.push_requests-requires
