@@ -24,7 +24,7 @@ quiet op test e is set = never (sym set ∙ gate (is_ordinary_op op) test e is)
 pub apart : {A : Type 0} (op other : Op) → is_ordinary_op op ≡ false → is_ordinary_op other ≡ true → is_op op other ≡ true → A
 apart op other is ordinary same =
     let code : code_of op ≡ code_of other = eqb-true (code_of op) (code_of other) same in
-    never (sym ordinary ∙ ordinary-below op ∙ ap (λ n. ltb n 70) code ∙ sym (ordinary-below other) ∙ is)
+    never (sym ordinary ∙ ordinary-below other ∙ ap (λ n. ltb n 70) (sym code) ∙ sym (ordinary-below op) ∙ is)
 
 no_right : (op : Op) → not (is_ordinary_op op) && is_right op ≡ false
 no_right ops.Noop = refl
