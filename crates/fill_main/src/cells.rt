@@ -75,12 +75,7 @@ pub(crate) fn group_cells(op: Op, left: Felt, place: Felt, in_use: usize) -> [Fe
 }
 
 // The columns from the stack's depth to the level of nesting.
-pub(crate) fn depth_cells(
-    inverses: &mut Inverses,
-    seen: &Visible,
-    key: Felt,
-    ha: Felt,
-) -> [Felt; 5]
+pub(crate) fn depth_cells(inverses: &mut Inverses, seen: &Visible, key: Felt, ha: Felt) -> [Felt; 5]
     requires { seen.now.depth < prime }
     ensures { result ≡ seen.now.depth ∷ key ∷ felt_inv (seen.now.depth ⊟ 16) ∷ ha ∷ seen.now.nesting ∷ [] }
 {
