@@ -11,9 +11,7 @@ use crate::kernel::tuples_kernel;
 use crate::memory::tuples_memory;
 use crate::range::tuples_range;
 use air_kit::op_in;
-use bus_blocks::{
-    tuples_blocks, tuples_children, tuples_groups, tuples_loops, tuples_overflow,
-};
+use bus_blocks::{tuples_blocks, tuples_children, tuples_groups, tuples_loops, tuples_overflow};
 use bus_kit::Tallies;
 use vm_field::Memory;
 use vm_ops::{Op, is_ordinary};
