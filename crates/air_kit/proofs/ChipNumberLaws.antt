@@ -1,19 +1,17 @@
 -- The entries of the small tables have their numbers.
-use Rattle.std.proofs.Common.{ℕ, ◌==◌, refl}
-use Rattle.air_kit.specs.ChipPlaces.{begins_eight, ends_eight, is_inside}
+use Rattle.std.proofs.Common.{◌==◌, refl}
+use Rattle.air_kit.specs.ChipPlaces.{ends_eight, is_inside}
 use Rattle.air_kit.specs.Places.{Claim, Spot, at_number, family}
 use Rattle.air_kit.specs.RangeNumbers.{HasRangeNumbers}
 use Rattle.air_kit.specs.KernelNumbers.{HasKernelNumbers}
 use Rattle.air_kit.specs.HasherNumbers.{HasHasherNumbers, round_of}
 use Rattle.air_kit.specs.BitwiseNumbers.{HasBitwiseNumbers}
 use Rattle.air_kit.specs.MemoryNumbers.{HasMemoryNumbers}
-use Rattle.air_kit.specs.RangeValues as range
 use Rattle.air_kit.specs.RangeValues.{range_values}
 use Rattle.air_kit.specs.KernelValues as kernel
 use Rattle.air_kit.specs.KernelValues.{kernel_values}
 use Rattle.air_kit.specs.HasherValues as hasher
 use Rattle.air_kit.specs.HasherValues.{chain_values, hasher_flag_values, hasher_values, hasher_values_by, round_values}
-use Rattle.air_kit.specs.BitwiseValues as bitwise
 use Rattle.air_kit.specs.BitwiseValues.{bitwise_values, bitwise_values_by}
 use Rattle.air_kit.specs.MemoryValues as memory
 use Rattle.air_kit.specs.MemoryValues.{access_values, memory_values, word_values}

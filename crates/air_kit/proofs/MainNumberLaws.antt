@@ -1,5 +1,5 @@
 -- The entries of the main table have their numbers.
-use Rattle.std.proofs.Common.{ℕ, refl}
+use Rattle.std.proofs.Common.{refl}
 use Rattle.air_kit.specs.Places.{Claim, Spot, at_first, at_last, at_number, family, on_pair, on_row}
 use Rattle.air_kit.specs.MainNumbers.{HasMainNumbers}
 use Rattle.air_kit.specs.MainValues.{decoder_values, main_values}
