@@ -274,6 +274,10 @@ pub fn over_two(first: Extent, second: Extent) -> Extent
             .operations
             .saturating_add(second.operations)
             .min(MOST_OPERATIONS + 1),
-        height: first.height.max(second.height).saturating_add(1).min(MOST_NESTING + 1),
+        height: first
+            .height
+            .max(second.height)
+            .saturating_add(1)
+            .min(MOST_NESTING + 1),
     }
 }
