@@ -7,8 +7,8 @@ ghost use Rattle.vm_table.specs.MainColumns.{s};
 ghost use Rattle.air_kit.specs.Flags.{HasBits};
 ghost use Rattle.sound_evidence.specs.Walking.{marked_of};
 
-use crate::decode::{marked_in, operation_of};
-use air_kit::Trace;
+use crate::decode::marked_in;
+use air_kit::{Trace, op_in};
 use vm_field::{Felt, Word};
 use vm_ops::Op;
 use vm_table::MainView;
@@ -19,7 +19,7 @@ pub fn operation(trace: &Trace, i: usize) -> Op
     requires bits { HasBits (row_at trace.now.main i) }
     ensures { result ≡ op_in trace.now.main i }
 {
-    operation_of(&trace.main.row(i))
+    op_in(&trace.main.row(i))
 }
 
 // The operation of a row in a span, if it ends the span, begins a batch or takes from the tape; else NOOP.

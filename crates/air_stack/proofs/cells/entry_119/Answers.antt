@@ -6,7 +6,7 @@ pub returns-in-Some-operation : goal.returns-in-Some-operation
 returns-in-Some-operation g c =
     rw c.in-Some.is
     (cell_decoded c.args.j (g.V.View.cells c.args.x.now.row.now) (g.V.View.cells c.in-Some.y) c.in-Some-operation.op c.term.result
-    (c.operation.ensures c.in-Some-operation.op c.in-Some-operation.is) c.term.ensures.is c.term.ensures.below)
+    ((c.operation.ensures c.in-Some-operation.op).0 c.in-Some-operation.is) c.term.ensures.is c.term.ensures.below)
 
 pub returns-in-None : goal.returns-in-None
 unfolding entry_119
