@@ -12,7 +12,7 @@ use Rattle.vm_ops.specs.declared.op.Op.TheVariants as ops
 use Rattle.air_kit.specs.Flags.{is_op}
 use Rattle.machine_cycles.specs.declared.event.Event.{Event}
 use Rattle.complete_rows.specs.Decoder.{Decoder, Open, address_of, advance, advance_by, at_start}
-use Rattle.complete_rows.specs.Groups.{Unread, batch_begun, group_after, taken_from}
+use Rattle.complete_rows.specs.Groups.{Unread, batch_begun, group_after}
 use Rattle.complete_rows.specs.Turns.{respans, respans_by}
 use Rattle.complete_rows.proofs.BoundLemmas.{few_respans}
 use Rattle.fill_requests.proofs.LoopLemmas.{suffix}

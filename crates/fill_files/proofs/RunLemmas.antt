@@ -1,6 +1,7 @@
 -- What a run that was executed shows: it is one from the start to the end, so that its requests fit, and its rows and its stack are
 -- within bounds.
 use Rattle.std.proofs.Common.{◌≡◌, ℕ, ◌^◌, ◌≤◌, List, [], ◌∷◌, length, sym, subst, arith}
+use Rattle.std.proofs.lemmas.List.{length-map}
 use Rattle.rpo_hash.specs.Constants.{constants_of}
 use Rattle.rpo_hash.specs.declared.params.Params.{Params}
 use Rattle.vm_field.specs.Limits.{most_cycles, most_outputs, number_of_constants}
@@ -16,19 +17,22 @@ use Rattle.block_tree.specs.declared.program.Program.{Program}
 use Rattle.block_tree.proofs.AlongLemmas.{log-counts, steps-shallow}
 use Rattle.block_tree.proofs.RunSteps.{run-steps}
 use Rattle.block_tree.proofs.TaskLemmas.{steps-log}
-use Rattle.machine_cycles.specs.Events.{visible_of}
+use Rattle.machine_cycles.specs.Events.{shown, visible_of}
 use Rattle.processor.specs.Executed.{WasExecuted}
 use Rattle.processor.specs.declared.run.Run.{Run}
 use Rattle.air_kit.specs.Requests.{Fits}
 use Rattle.air_kit.specs.declared.requests.Requests.{Requests}
 use Rattle.complete_rows.specs.BlockRows.{IsWholeRun, events_of, filled}
 use Rattle.complete_rows.specs.Filling.{rows_of}
+use Rattle.complete_rows.specs.Numbers.{HasSmallNumbers}
 use Rattle.complete_rows.specs.RunRequests.{requests_of}
 use Rattle.complete_rows.proofs.MomentLemmas.{steps_within}
-use Rattle.complete_rows.proofs.TableLemmas.{rows_counted}
+use Rattle.complete_rows.proofs.TableLemmas.{is_linked, rows_counted}
 use Rattle.complete_requests.specs.Asked.{requests}
 use Rattle.complete_requests.specs.Fitting.{FitsRows}
 use Rattle.complete_requests.proofs.FitLaw.{run_fits}
+use Rattle.complete_requests.proofs.SmallNumbers.{addresses_fit, bits_fit, depth_fits, depths_fit}
+use Rattle.complete_trace.proofs.RangeLemmas.{ranges_are_low}
 use Rattle.fill_chips.specs.Beside.{HasSizes, beside}
 use Rattle.fill_chips.specs.declared.chips.Chips.{Chips}
 use Rattle.fill_files.specs.Inside.{HasFew, IsShort}
@@ -57,6 +61,18 @@ module _ (constants : List ℕ) (kernel : List (List ℕ)) (limit : ℕ) (tree :
   rows_within : length (rows_of (visible_of u.core) (events_of constants kernel log)) ≤ 2 ^ 19
   rows_within = omega (arith, rows_counted constants kernel u log, log_within)
 
+  small_numbers : HasSmallNumbers (visible_of u.core) (events_of constants kernel log)
+  small_numbers =
+      let linked = is_linked constants kernel limit tree inputs tape u log r in
+      record {
+        few = omega (arith, log_within, length-map log (shown constants kernel));
+        depths = depths_fit constants kernel limit u linked;
+        depth = depth_fits constants kernel limit u linked;
+        ranges = ranges_are_low constants kernel limit tree inputs tape u log r;
+        bits = bits_fit constants kernel limit u linked;
+        accesses = addresses_fit constants kernel limit u linked;
+      }
+
 module _ (params : Params) (program : Program) (answer : Run) (size : length (constants_of params) ≡ number_of_constants)
     (was : WasExecuted params program answer) where
   abbrev constants : List ℕ
@@ -83,6 +99,11 @@ module _ (params : Params) (program : Program) (answer : Run) (size : length (co
   pub fits : Fits constants program.kernel (requests_of constants (visible_of (core_of answer.state)) answer.events)
   fits =
       subst (λ events. Fits constants program.kernel (requests_of constants (visible_of (core_of answer.state)) events)) (sym was.ran.events) fit.fits
+
+  pub numbers : HasSmallNumbers (visible_of (core_of answer.state)) answer.events
+  numbers =
+      subst (λ events. HasSmallNumbers (visible_of (core_of answer.state)) events) (sym was.ran.events)
+      (small_numbers constants program.kernel was.limit (tree_of program.tree) was.inputs.stack was.inputs.advice u was.ran.log is_run)
 
   pub few_asked : HasFew (requests_of constants (visible_of (core_of answer.state)) answer.events)
   few_asked =

@@ -10,6 +10,7 @@ ghost use Rattle.vm_state.specs.Views.{core_of};
 ghost use Rattle.machine_cycles.specs.Events.{visible_of};
 ghost use Rattle.processor.specs.Executed.{WasExecuted};
 ghost use Rattle.complete_rows.specs.Filling.{rows_of};
+ghost use Rattle.complete_rows.specs.Numbers.{HasSmallNumbers};
 ghost use Rattle.complete_rows.specs.RunRequests.{requests_of};
 ghost use Rattle.fill_chips.specs.Beside.{beside};
 ghost use Rattle.fill_files.specs.Inside.{HasFew, IsShort, TracesRun};
@@ -69,6 +70,7 @@ pub(crate) fn tables_of_run(
 
 // Fills the main table. The events of the run are given up.
 fn fill_run(alloc: Global, run: Run) -> Result<Filled, Memory>
+    requires { HasSmallNumbers (visible_of (core_of run.state)) run.events }
     ensures rows { IfOk result (λ f. f.main ≡ rows_of (visible_of (core_of run.state)) run.events) }
     ensures requests { IfOk result (λ f. f.requests ≡ requests_of run.permutations (visible_of (core_of run.state)) run.events) }
     ensures permutations { IfOk result (λ f. f.permutations ≡ run.permutations) }
@@ -97,6 +99,7 @@ fn known_run(params: &Params, _program: &Program, _run: &Run)
     requires { WasExecuted params.now _program.now _run.now }
     ensures fits { Fits (constants_of params.now) _program.now.kernel
         (requests_of (constants_of params.now) (visible_of (core_of _run.now.state)) _run.now.events) }
+    ensures numbers { HasSmallNumbers (visible_of (core_of _run.now.state)) _run.now.events }
     ensures asked { HasFew (requests_of (constants_of params.now) (visible_of (core_of _run.now.state)) _run.now.events) }
     ensures has { 1 ≤ length (rows_of (visible_of (core_of _run.now.state)) _run.now.events) }
     ensures few { length (rows_of (visible_of (core_of _run.now.state)) _run.now.events) ≤ 2 ^ 19 }

@@ -1,8 +1,11 @@
-use Rattle.fill_files.proofs.RunLemmas.{deep, digest_is, few_asked, few_rows, fits, has_rows, permutations_are}
+use Rattle.fill_files.proofs.RunLemmas.{deep, digest_is, few_asked, few_rows, fits, has_rows, numbers, permutations_are}
 use Rattle.fill_files.proofs.tracing.known_run.Goals as goal
 
 pub returns-clause-fits : goal.returns-clause-fits
 returns-clause-fits c = fits c.args.params.now c.args._program.now c.args._run.now c.known_constants.ensures.count c.requires
+
+pub returns-clause-numbers : goal.returns-clause-numbers
+returns-clause-numbers c = numbers c.args.params.now c.args._program.now c.args._run.now c.known_constants.ensures.count c.requires
 
 pub returns-clause-has : goal.returns-clause-has
 returns-clause-has c = has_rows c.args.params.now c.args._program.now c.args._run.now c.known_constants.ensures.count c.requires
