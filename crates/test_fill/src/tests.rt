@@ -1,10 +1,15 @@
+ghost use Rattle.vm_state.specs.Views.{core_of};
+ghost use Rattle.machine_cycles.specs.Events.{visible_of};
+ghost use Rattle.processor.specs.Executed.{WasExecuted};
+ghost use Rattle.complete_rows.specs.Numbers.{HasSmallNumbers};
+
 use air_kit::Requests;
 use block_tree::{Exports, Program, Tree, are_distinct};
 use fill_main::fill_main;
 use machine_cycles::Stop;
 use op_pack::Batches;
 use processor::{Run, execute};
-use rpo_hash::Params;
+use rpo_hash::{Params, known_constants};
 use std::alloc::Global;
 use vm_field::{Felt, Felts, Memory, Words};
 use vm_ops::{Op, opcode};
@@ -26,8 +31,8 @@ fn cell(table: &Table<65>, row: usize, column: usize) -> Option<u64> {
     }
 }
 
-// A span of one group, and the immediates behind it.
-fn span(alloc: Global, ops: &[Op], numbers: &[u32]) -> Result<Tree, Memory> {
+/// A span of one group, and the immediates behind it.
+pub fn span(alloc: Global, ops: &[Op], numbers: &[u32]) -> Result<Tree, Memory> {
     let mut number: u64 = 0;
     for op in ops.iter().rev() {
         number = number
@@ -43,7 +48,11 @@ fn span(alloc: Global, ops: &[Op], numbers: &[u32]) -> Result<Tree, Memory> {
 
 /// The program of a tree, with no kernel.
 pub fn program(alloc: Global, tree: Tree) -> Result<Program, Memory> {
-    let kernel = Words::new(alloc);
+    program_over(alloc, Words::new(alloc), tree)
+}
+
+/// The program of a tree over a kernel.
+pub fn program_over(alloc: Global, kernel: Words, tree: Tree) -> Result<Program, Memory> {
     if kernel.len() > 255 || !are_distinct(kernel.as_slice()) {
         return Err(Memory::Memory);
     }
@@ -90,21 +99,34 @@ fn tree(alloc: Global, case: Case) -> Result<Tree, Memory> {
     }
 }
 
-// The loop is entered for the first one, and its body runs again for the second.
-fn ran(alloc: Global, case: Case) -> Result<Run, Stop> {
-    let ones = if let Case::Loop = case { 2 } else { 0 };
-    let inputs = inputs_of_ones(alloc, ones)?;
-    let program = program(alloc, tree(alloc, case)?)?;
-    execute(alloc, &NO_CONSTANTS, &program, &inputs, 100)
+// What is known of the numbers of a run that was executed. A run does nothing.
+fn known_numbers(params: &Params, _program: &Program, _run: &Run)
+    requires { WasExecuted params.now _program.now _run.now }
+    ensures { HasSmallNumbers (visible_of (core_of _run.now.state)) _run.now.events }
+{
+    known_constants(params);
 }
 
-fn filled(alloc: Global, case: Case) -> Result<(Table<65>, Requests), Stop> {
-    let mut run = ran(alloc, case)?;
+/// The main table of a program's run from so many ones, and what it asks.
+pub fn filled(
+    alloc: Global,
+    program: &Program,
+    ones: usize,
+) -> Result<(Table<65>, Requests), Stop> {
+    let inputs = inputs_of_ones(alloc, ones)?;
+    let mut run = execute(alloc, &NO_CONSTANTS, program, &inputs, 100)?;
+    known_numbers(&NO_CONSTANTS, program, &run);
     Ok(fill_main(alloc, &mut run.permutations, &run.state, &run.events)?)
 }
 
-// A row, a column and the cell there.
-type Cell = (usize, usize, u64);
+// The loop is entered for the first one, and its body runs again for the second.
+fn case_filled(alloc: Global, case: Case) -> Result<(Table<65>, Requests), Stop> {
+    let ones = if let Case::Loop = case { 2 } else { 0 };
+    filled(alloc, &program(alloc, tree(alloc, case)?)?, ones)
+}
+
+/// A row, a column and the cell there.
+pub type Cell = (usize, usize, u64);
 
 static EMPTY: [Cell; 12] = [
     (0, 8, 0),
@@ -137,7 +159,8 @@ static PUSHED: [Cell; 12] = [
     (5, 16, 0),
 ];
 
-fn shows(table: &Table<65>, cells: &[Cell]) -> bool {
+/// Whether these cells stand in a table.
+pub fn shows(table: &Table<65>, cells: &[Cell]) -> bool {
     let mut all = true;
     for (row, column, value) in cells {
         all = all && cell(table, *row, *column) == Some(*value);
@@ -230,7 +253,7 @@ fn is_right(case: Case, table: &Table<65>, requests: &Requests) -> bool {
 // Whether the main table of the case is filled right, and asks what it should. The tables and the
 // requests are owned here alone, since a proof pays for each owner.
 fn is_met(alloc: Global, case: Case) -> bool {
-    match filled(alloc, case) {
+    match case_filled(alloc, case) {
         Ok((table, requests)) => is_right(case, &table, &requests),
         Err(_) => false,
     }
