@@ -82,12 +82,7 @@ pub fn add_moved(list: Vec<Piece>, out: &mut Vec<Piece>) -> Result<(), Memory>
 
 // Adds copies of the pieces of a list, so many times.
 #[tactic(auto, using(crate::proofs::Times::times_more))]
-fn add_turns(
-    alloc: Global,
-    count: u32,
-    list: &[Piece],
-    out: &mut Vec<Piece>,
-) -> Result<(), Memory>
+fn add_turns(alloc: Global, count: u32, list: &[Piece], out: &mut Vec<Piece>) -> Result<(), Memory>
     ensures { OnOk result (pieces_of out.new.items ≡ pieces_of out.old.items ++ times count (pieces_of list.now)) }
 {
     for _turn in 0..count {

@@ -67,6 +67,7 @@ with_fresh old new row fresh marks is = record {
     none : (b : Bool) → not b ≡ true → b ≡ false
     none false h = refl
     none true h = sym h
+
     was_none : (q : ℕ) → is_unmarked old q ≡ true → get_or old q false ≡ false
     was_none q h = none (get_or old q false) h
 

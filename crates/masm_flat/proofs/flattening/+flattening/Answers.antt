@@ -197,9 +197,11 @@ flatten-loop-stmt-preserved t c =
           let so_far = before.gives known rest serves in
           let uses = ap uses_of split ∙ uses-first s behind in
           let here = added.gives known (uses_of behind ++ rest) (subst (Serves c.args.scope.now known c.loop-stmt.table)
-          (ap (λ us. us ++ rest) uses ∙ append_assoc (uses_of (stmt_view s Empty)) (uses_of behind) rest) so_far.1) in
-          (go_on _ _ _ _ _ _ here.0
-              (ap (flat_with as_tree known c.args.locals) split ∙ flat-first as_tree known c.args.locals s behind) so_far.0, here.1);
+          (ap (λ us. us ++ rest) uses ∙ append_assoc (uses_of (stmt_view s Empty)) (uses_of behind) rest) so_far.1) in (
+            go_on _ _ _ _ _ _ here.0
+                (ap (flat_with as_tree known c.args.locals) split ∙ flat-first as_tree known c.args.locals s behind) so_far.0,
+            here.1,
+          );
       keeps = keeps_then _ _ _ before.keeps added.keeps;
       locals = (locals-first c.args.locals s behind (subst (HasLocals c.args.locals) split before.locals)).1;
       light = omega (arith, ap weight split, weight-first s behind, before.light);
