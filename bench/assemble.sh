@@ -1,9 +1,11 @@
 #!/bin/bash
-# Assembles three sources by masm_link and by plain Rust (assemble.rs, rustc -O) in turn, and prints for each the least
-# time of both in microseconds, the peak memory of both processes, and the ratios, each of which is to be at most 1.3.
-# The sources are many procedures in near 1,000,000 bytes; a chain of 600 procedures, each used by the next one and by
-# begin, whose tree has near 524,288 operations; and a chain of near 1,000,000 bytes into a cycle, which is refused. The
-# program over masm_link is made in a temporary folder.
+# Assembles sources by masm_link and by plain Rust (assemble.rs, rustc -O) in turn, and prints for each the least time of
+# both in microseconds, the peak memory of both processes, and the ratios, each of which is to be at most 1.3. The sources
+# are many procedures in near 1,000,000 bytes; a chain of 600 procedures, each used by the next one and by begin, whose tree
+# has near 524,288 operations; and a chain of near 1,000,000 bytes into a cycle, which is refused. Two kinds are assembled
+# at two lengths, to show that time grows with the length: chains of procedures, each used by the next one alone, and
+# procedures that begin calls one behind the other. Their times are to have ratios of at most 1.2. The program over
+# masm_link is made in a temporary folder.
 set -e
 top=$(cd "$(dirname "$0")/.." && pwd)
 work=$(mktemp -d)
@@ -143,8 +145,21 @@ def refused():
     lines = [f"proc.f{i} exec.f{i + 1} neg end" for i in range(31900)]
     return "\n".join(lines + ["proc.f31900 exec.f31900 end", "begin exec.f0 end"])
 
-cases = {"procedures": procedures, "chain": chain, "refused": refused}
-for name, source in cases.items():
+def handed_on(count):
+    lines = ["proc.c0 neg swap end"]
+    lines += [f"proc.c{k} exec.c{k - 1} neg swap end" for k in range(1, count)]
+    return "\n".join(lines + [f"begin exec.c{count - 1} end"])
+
+def called(count):
+    lines = [f"proc.c{k} neg swap add.{k + 1} end" for k in range(count)]
+    return "\n".join(lines + ["begin"] + [f"call.c{k}" for k in range(count)] + ["end"])
+
+cases = {"procedures": (procedures, 1.3), "chain": (chain, 1.3), "refused": (refused, 1.3)}
+for count in (5000, 10000):
+    cases[f"handed_on_{count}"] = (lambda count=count: handed_on(count), 1.2)
+for count in (4000, 8000):
+    cases[f"called_{count}"] = (lambda count=count: called(count), 1.2)
+for name, (source, _) in cases.items():
     text = source()
     assert len(text) <= 1048576, name
     with open(name, "w") as out:
@@ -159,7 +174,7 @@ def run(words):
     return int(printed[1]), usage.ru_maxrss / 1000, printed[:1] + printed[2:]
 
 proved = os.path.join(work, "crates/bench_assemble/out/bench_assemble")
-for name in cases:
+for name, (_, most) in cases.items():
     times, peaks = {"masm_link": [], "plain": []}, {}
     for _ in range(5):
         came = {}
@@ -170,6 +185,6 @@ for name in cases:
             sys.exit(f"the results differ: {came}")
     ours, plain = min(times["masm_link"]), min(times["plain"])
     print(f"{name}: {came['plain'][1]} bytes, {' '.join(came['plain'][2:])}: plain Rust {plain} us, "
-          f"{peaks['plain']:.1f} MB, masm_link {ours} us, {peaks['masm_link']:.1f} MB, ratios {ours / plain:.2f} and "
+          f"{peaks['plain']:.1f} MB, masm_link {ours} us, {peaks['masm_link']:.1f} MB, ratios {ours / plain:.2f} of at most {most} and "
           f"{peaks['masm_link'] / peaks['plain']:.2f} of at most 1.3")
 PY

@@ -4,6 +4,7 @@ pub mod Levels
 pub mod Once
 pub mod Placed
 pub mod Seen
+pub mod Served
 pub mod Statements
 pub mod Frames
 pub mod Times

@@ -15,6 +15,7 @@ use Rattle.masm_flat.specs.Blocks.{View, Piece, Operation, Whole, whole}
 use Rattle.masm_flat.specs.Flattening.{Known, flat_with}
 use Rattle.masm_tree.specs.Locals.{HasLocals}
 use Rattle.masm_flat.specs.Lists.{times}
+use Rattle.masm_names.specs.Uses.{Own, Kernel, use_at, uses_of}
 
 pub body_of_more : (s : Stmt) (ss : List Stmt) → body_of (s ∷ ss) ≡ stmt_view s (body_of ss)
 unfolding body_of
@@ -148,3 +149,42 @@ module _ (s : Stmt) where
 
   pub weight-Repeat : (at : Position) (n : ℕ) (xs : Vec Stmt Global) → s ≡ Repeat at n xs → weight (stmt_view s Empty) ≡ 1 + weight (body_of xs.items)
   weight-Repeat at n xs e = omega (arith, ap weight (ap (λ s. stmt_view s Empty) e ∙ view-Repeat at n xs Empty))
+
+-- the uses of the first statement, and of those behind it
+
+uses-step : (f : Stmt-F (Body → Body)) (rest : Body) → uses_of (add_step f rest) ≡ uses_of (add_step f Empty) ++ uses_of rest
+uses-step (Stmt-F.Instr at instr) rest = refl
+uses-step (Stmt-F.If at first second) rest =
+    let xs = uses_of (joined first.items) in
+    let ys = uses_of (joined second.items) in
+    ap (λ zs. xs ++ (zs ++ uses_of rest)) (sym (append-nil ys)) ∙ sym (append_assoc xs (ys ++ []) (uses_of rest))
+uses-step (Stmt-F.While at turn) rest = ap (λ zs. zs ++ uses_of rest) (sym (append-nil (uses_of (joined turn.items))))
+uses-step (Stmt-F.Repeat at n turn) rest = ap (λ zs. zs ++ uses_of rest) (sym (append-nil (uses_of (joined turn.items))))
+uses-step (Stmt-F.Exec at name) rest = refl
+uses-step (Stmt-F.Call at name) rest = refl
+uses-step (Stmt-F.Syscall at name) rest = refl
+
+pub uses-first : (s : Stmt) (rest : Body) → uses_of (stmt_view s rest) ≡ uses_of (stmt_view s Empty) ++ uses_of rest
+uses-first s rest = each (λ g. (rest : Body) → uses_of (g rest) ≡ uses_of (g Empty) ++ uses_of rest) uses-step s rest
+
+pub uses-Instr : (at : Position) (i : Instruction) → uses_of (stmt_view (Instr at i) Empty) ≡ []
+uses-Instr at i = ap uses_of (view-Instr at i Empty)
+
+pub uses-Exec : (at : Position) (name : List ℕ) → uses_of (stmt_view (Exec at name) Empty) ≡ use_at at Own name ∷ []
+uses-Exec at name = ap uses_of (view-Exec at name Empty)
+
+pub uses-Call : (at : Position) (name : List ℕ) → uses_of (stmt_view (Call at name) Empty) ≡ use_at at Own name ∷ []
+uses-Call at name = ap uses_of (view-Call at name Empty)
+
+pub uses-Syscall : (at : Position) (name : List ℕ) → uses_of (stmt_view (Syscall at name) Empty) ≡ use_at at Kernel name ∷ []
+uses-Syscall at name = ap uses_of (view-Syscall at name Empty)
+
+pub uses-If : (at : Position) (xs ys : Vec Stmt Global)
+    → uses_of (stmt_view (If at xs ys) Empty) ≡ uses_of (body_of xs.items) ++ uses_of (body_of ys.items)
+uses-If at xs ys = ap uses_of (view-If at xs ys Empty) ∙ ap (λ zs. uses_of (body_of xs.items) ++ zs) (append-nil _)
+
+pub uses-While : (at : Position) (xs : Vec Stmt Global) → uses_of (stmt_view (While at xs) Empty) ≡ uses_of (body_of xs.items)
+uses-While at xs = ap uses_of (view-While at xs Empty) ∙ append-nil _
+
+pub uses-Repeat : (at : Position) (n : ℕ) (xs : Vec Stmt Global) → uses_of (stmt_view (Repeat at n xs) Empty) ≡ uses_of (body_of xs.items)
+uses-Repeat at n xs = ap uses_of (view-Repeat at n xs Empty) ∙ append-nil _

@@ -7,7 +7,6 @@ use Rattle.vm_field.specs.Machine.{zero_word}
 use Rattle.block_tree.specs.Trees.{Tree, Opaque}
 use Rattle.block_tree.specs.TreeView.{tree_of}
 use Rattle.masm_flat.specs.declared.kernel.KernelProc.{KernelProc}
-use Rattle.masm_flat.specs.declared.known.Lists.{Lists}
 use Rattle.masm_flat.specs.declared.piece.Piece as code
 use Rattle.masm_flat.specs.Blocks.{Piece}
 use Rattle.masm_flat.specs.Flattening.{Known}
@@ -26,6 +25,3 @@ tree_at kernel name = unwrap_or (option_map (λ p. tree_of p.tree) (find (λ p. 
 -- what is known with these lists, by the places of names
 abbrev pub lists_known : Names → List (Vec code.Piece Global) → List KernelProc → Known Tree
 lists_known names lists kernel = record { list = λ name. list_at lists (place_at names name); exported = tree_at kernel }
-
-abbrev pub known_of : Lists → Known Tree
-known_of l = lists_known l.names.now l.lists.now l.kernel.now.procs.now

@@ -3,3 +3,4 @@ pub mod Flattening
 pub mod Lists
 pub mod Views
 pub mod KnownLists
+pub mod Taking

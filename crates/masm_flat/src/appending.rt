@@ -67,21 +67,42 @@ pub fn add_copies(alloc: Global, list: &[Piece], out: &mut Vec<Piece>) -> Result
     Ok(())
 }
 
-/// Adds copies of the pieces of a list, so many times.
-#[tactic(auto, using(crate::proofs::Times::times_more))]
-pub fn add_times(
-    alloc: Global,
-    count: u32,
-    list: &[Piece],
-    out: &mut Vec<Piece>,
-) -> Result<(), Memory>
-    ensures { OnOk result (pieces_of out.new.items ≡ pieces_of out.old.items ++ times count (pieces_of list.now)) }
+/// Adds the pieces of a list itself. Where none stand before them nothing is moved.
+pub fn add_moved(list: Vec<Piece>, out: &mut Vec<Piece>) -> Result<(), Memory>
+    ensures { OnOk result (pieces_of out.new.items ≡ pieces_of out.old.items ++ pieces_of list.items) }
 {
-    if list.is_empty() {
+    let mut list = list;
+    if out.is_empty() {
+        *out = list;
         return Ok(());
     }
+    out.append(&mut list)?;
+    Ok(())
+}
+
+// Adds copies of the pieces of a list, so many times.
+#[tactic(auto, using(crate::proofs::Times::times_more))]
+fn add_turns(alloc: Global, count: u32, list: &[Piece], out: &mut Vec<Piece>) -> Result<(), Memory>
+    ensures { OnOk result (pieces_of out.new.items ≡ pieces_of out.old.items ++ times count (pieces_of list.now)) }
+{
     for _turn in 0..count {
         add_copies(alloc, list, out)?;
     }
     Ok(())
+}
+
+/// Adds the pieces of a list, so many times: copies, and then the list itself.
+pub fn add_times(
+    alloc: Global,
+    count: u32,
+    list: Vec<Piece>,
+    out: &mut Vec<Piece>,
+) -> Result<(), Memory>
+    ensures { OnOk result (pieces_of out.new.items ≡ pieces_of out.old.items ++ times count (pieces_of list.items)) }
+{
+    if list.is_empty() || count == 0 {
+        return Ok(());
+    }
+    add_turns(alloc, count - 1, &list, out)?;
+    add_moved(list, out)
 }

@@ -10,11 +10,13 @@ mod kernel;
 mod known;
 mod piece;
 mod procedure;
+mod table;
 
 pub use appending::add_copies;
 pub use extent::Extent;
 pub use joining::tree_of_list;
 pub use kernel::{Kernel, KernelProc};
-pub use known::Lists;
+pub use known::Scope;
 pub use piece::Piece;
 pub use procedure::list_of_procedure;
+pub use table::Table;

@@ -1,3 +1,5 @@
+ghost use Rattle.std.specs.Prelude.{◌≡◌, length, IfOk};
+
 use graphs::row_at;
 use std::alloc::{AllocError, Global};
 
@@ -76,7 +78,9 @@ struct Numbering {
 }
 
 impl Numbering {
-    fn give(&mut self, place: usize, number: usize) -> Result<(), AllocError> {
+    fn give(&mut self, place: usize, number: usize) -> Result<(), AllocError>
+        ensures { length self.new.numbers.items ≡ length self.old.numbers.items }
+    {
         if place < self.numbers.len() && self.numbers[place] == self.numbers.len() {
             self.numbers[place] = number;
             self.open.push(place)?;
@@ -84,7 +88,9 @@ impl Numbering {
         Ok(())
     }
 
-    fn give_all(&mut self, row: &[usize], number: usize) -> Result<(), AllocError> {
+    fn give_all(&mut self, row: &[usize], number: usize) -> Result<(), AllocError>
+        ensures { length self.new.numbers.items ≡ length self.old.numbers.items }
+    {
         for place in row {
             self.give(*place, number)?;
         }
@@ -92,15 +98,17 @@ impl Numbering {
     }
 }
 
-// Numbers of a graph's places, by Kosaraju's algorithm: the same one for places that lead to one
-// another, and else a greater one where an edge leads. The edges of the other graph are those of
-// this one turned round. Callers test what they need of the numbers, so that only time rests on
-// them.
+// Numbers of a graph's places, one for each, by Kosaraju's algorithm: the same one for places that
+// lead to one another, and else a greater one where an edge leads. The edges of the other graph are
+// those of this one turned round. Callers test what they need of the numbers, so that only time
+// rests on which they are.
 pub(crate) fn numbers_of(
     alloc: Global,
     graph: &[Vec<usize>],
     back: &[Vec<usize>],
-) -> Result<Vec<usize>, AllocError> {
+) -> Result<Vec<usize>, AllocError>
+    ensures { IfOk result (λ numbers. length numbers.items ≡ length graph.now) }
+{
     let left = leaving_order(alloc, graph)?;
     let mut numbering = Numbering {
         numbers: vec![in alloc; graph.len(); graph.len()]?,

@@ -1,15 +1,20 @@
--- A source and a kernel have one program, or one that is refused.
-use Rattle.std.proofs.Common.{◌≡◌, ℕ, Bool, false, List, [], ◌∷◌, map, Option, Some, None, Result, Ok, Err, MatchOption, refl, sym, ap, ap₂, subst, ◌∙◌}
+-- A source and a kernel have one program, or one refusal.
+use Rattle.std.proofs.Common.{◌≡◌, ℕ, zero, suc, ◌≤◌, Bool, false, ◌⊎◌, inl, inr, List, [], ◌∷◌, map, Option, Some, None, Result, Ok, Err, MatchOption, refl, sym, ap, ap₂, subst, ◌∙◌, arith}
 use Rattle.std.specs.List.{AllZip}
 use Rattle.masm_tree.specs.Trees.{Procedure, Source}
+use Rattle.masm_tree.specs.declared.tree.Position.{Position}
+use Rattle.masm_names.specs.declared.refusal.LinkCause.{LinkCause}
+use Rattle.masm_names.specs.declared.refusal.LinkCause.TheVariants as causes
+use Rattle.masm_names.specs.Causes.{order}
+use Rattle.masm_names.specs.Least.{ComesBefore, IsLeast}
 use Rattle.masm_names.specs.Naming.{exported_of}
 use Rattle.masm_flat.specs.Blocks.{Block, block_of, seen_as, as_tree}
 use Rattle.masm_flat.specs.Lists.{Exported, IsBlockOf, with_locals}
 use Rattle.masm_flat.proofs.Once.{list_once}
 use Rattle.masm_link.specs.declared.refusal.AsmError.{AsmError}
-use Rattle.masm_link.specs.Assembling.{reads, LinksText, Refuses, unread, unlinked, KernelExports, no_kernel, of_kernel, export_of, export_digest, without_repeats, assembled, kernel_refused, refused, no_memory}
-use Rattle.masm_link.specs.Refusals.{Links}
-use Rattle.masm_link.specs.Laws.{OneProgram}
+use Rattle.masm_link.specs.Assembling.{reads, link_refusal, LinksText, Refuses, unread, unlinked, KernelExports, no_kernel, of_kernel, export_of, export_digest, without_repeats, assembled, kernel_refused, refused, no_memory}
+use Rattle.masm_link.specs.Refusals.{Links, RefusesAt}
+use Rattle.masm_link.specs.Laws.{OneProgram, OneRefusal}
 
 -- a procedure is one block
 block_once : (procs : List Procedure) (kernel : List Exported) (p : Procedure) (a b : Block) → IsBlockOf procs kernel p a
@@ -52,13 +57,13 @@ links_once {is_kernel} {text} {kernel} {xs} {ys} {a} {b} one other =
       body_once one.source.procs kernel one.source.main a b one.links.body links.body,
     )
 
+read_or_refused : (source : Source) (refusal : AsmError) (r : Result Source AsmError) → r ≡ Ok source → r ≡ Err refusal → ⊥
+read_or_refused source refusal r one other = cc
+
 -- and is not refused
 pub links_or_refused : {is_kernel : Bool} {text : List ℕ} {kernel xs : List Exported} {a : Option Block} {refusal : AsmError}
     → LinksText is_kernel text kernel xs a → Refuses is_kernel text kernel refusal → ⊥
-links_or_refused {is_kernel} {text} links (unread refusal read) = not_both links.source refusal (reads is_kernel text) links.read read
-  where
-    not_both : (source : Source) (refusal : AsmError) (r : Result Source AsmError) → r ≡ Ok source → r ≡ Err refusal → ⊥
-    not_both source refusal r one other = cc
+links_or_refused {is_kernel} {text} links (unread refusal read) = read_or_refused links.source refusal (reads is_kernel text) links.read read
 links_or_refused {is_kernel} {text} {kernel} {xs} {a} links (unlinked source at cause read least) =
     let same = same_source links.source source (reads is_kernel text) links.read read in
     let clean = subst (λ s. Links s kernel xs a) same links.links in
@@ -86,3 +91,68 @@ one_program constants text _ program _ (assembled xs own block _ given links is)
     let exports = kernels_once given' given in
     absurd (links_or_refused links (subst (λ e. Refuses false text e refusal) exports refuses))
 one_program constants text _ program _ (assembled xs own block _ given links is) no_memory = refl
+
+-- the cause of each number in their order
+abbrev cause_at : ℕ → LinkCause
+cause_at zero = causes.Duplicate
+cause_at (suc zero) = causes.TooManyExports
+cause_at (suc (suc zero)) = causes.UnknownProcedure
+cause_at (suc (suc (suc zero))) = causes.NotInKernel
+cause_at (suc (suc (suc (suc zero)))) = causes.Recursive
+cause_at (suc (suc (suc (suc (suc zero))))) = causes.TooManyOps
+cause_at (suc (suc (suc (suc (suc (suc n)))))) = causes.TooDeep
+
+at_order : (cause : LinkCause) → cause_at (order cause) ≡ cause
+at_order causes.Duplicate = refl
+at_order causes.TooManyExports = refl
+at_order causes.UnknownProcedure = refl
+at_order causes.NotInKernel = refl
+at_order causes.Recursive = refl
+at_order causes.TooManyOps = refl
+at_order causes.TooDeep = refl
+
+order_once : (a b : LinkCause) → order a ≡ order b → a ≡ b
+order_once a b same = sym (at_order a) ∙ (ap cause_at same ∙ at_order b)
+
+-- two places of which each comes first are one
+both_first : (a b : Position) (m n : ℕ) → ComesBefore a b ⊎ ((a ≡ b) × (m ≤ n)) → ComesBefore b a ⊎ ((b ≡ a) × (n ≤ m)) → (a ≡ b) × (m ≡ n)
+both_first a b m n (inl (inl low)) (inl (inl high)) = absurd (omega arith)
+both_first a b m n (inl (inl low)) (inl (inr high)) = absurd (omega (arith, high.0))
+both_first a b m n (inl (inr low)) (inl (inl high)) = absurd (omega (arith, low.0))
+both_first a b m n (inl (inr low)) (inl (inr high)) = absurd (omega (arith, low.1, high.1))
+both_first a b m n (inl (inl low)) (inr same) = absurd (omega (arith, ap (λ (p : Position). p.line) same.0))
+both_first a b m n (inl (inr low)) (inr same) = absurd (omega (arith, low.1, ap (λ (p : Position). p.column) same.0))
+both_first a b m n (inr same) (inl (inl high)) = absurd (omega (arith, ap (λ (p : Position). p.line) same.0))
+both_first a b m n (inr same) (inl (inr high)) = absurd (omega (arith, high.1, ap (λ (p : Position). p.column) same.0))
+both_first a b m n (inr same) (inr again) = (same.0, omega (arith, same.1, again.1))
+
+least_once : (Refused : Position → LinkCause → Type 0) (a b : Position) (x y : LinkCause) → IsLeast Refused a x → IsLeast Refused b y
+    → (a ≡ b) × (x ≡ y)
+least_once Refused a b x y one other =
+    let same = both_first a b (order x) (order y) (one.first b y other.stands) (other.first a x one.stands) in
+    (same.0, order_once x y same.1)
+
+-- a text is refused once
+refuses_once : {is_kernel : Bool} {text : List ℕ} {kernel : List Exported} {a b : AsmError}
+    → Refuses is_kernel text kernel a → Refuses is_kernel text kernel b → a ≡ b
+refuses_once {is_kernel} {text} (unread a one) (unread b other) = same_refusal a b (reads is_kernel text) one other
+  where
+    same_refusal : (a b : AsmError) (r : Result Source AsmError) → r ≡ Err a → r ≡ Err b → a ≡ b
+    same_refusal a b r one other = cc
+refuses_once {is_kernel} {text} (unread a one) (unlinked source at cause read least) = absurd (read_or_refused source a (reads is_kernel text) read one)
+refuses_once {is_kernel} {text} (unlinked source at cause read least) (unread b other) = absurd (read_or_refused source b (reads is_kernel text) read other)
+refuses_once {is_kernel} {text} {kernel} (unlinked source at cause read least) (unlinked again at' cause' read' least') =
+    let same = same_source again source (reads is_kernel text) read' read in
+    let once = least_once (RefusesAt source kernel) at at' cause cause' least (subst (λ s. IsLeast (RefusesAt s kernel) at' cause') same least') in
+    ap₂ (link_refusal is_kernel) once.0 once.1
+
+pub one_refusal : OneRefusal
+one_refusal constants text _ _ _ some some' (kernel_refused kernel one refuses) (kernel_refused _ other refuses') = refuses_once refuses refuses'
+one_refusal constants text _ _ _ some some' (kernel_refused kernel one refuses) (refused _ other (of_kernel _ _ exports) refuses') =
+    absurd (links_or_refused exports refuses)
+one_refusal constants text _ _ _ some some' (refused _ one (of_kernel _ _ exports) refuses) (kernel_refused kernel other refuses') =
+    absurd (links_or_refused exports refuses')
+one_refusal constants text _ _ _ some some' (refused xs one given refuses) (refused ys other given' refuses') =
+    refuses_once refuses (subst (λ e. Refuses false text e other) (kernels_once given' given) refuses')
+one_refusal constants text _ _ _ some some' no_memory answer = absurd (some refl)
+one_refusal constants text _ _ _ some some' answer no_memory = absurd (some' refl)

@@ -1,5 +1,5 @@
 -- The trees of assembled programs, and that a source has one.
-use Rattle.std.specs.Prelude.{◌≡◌, ℕ, ◌≤◌, List, Option, Result, Ok, Err}
+use Rattle.std.specs.Prelude.{◌≡◌, ◌≢◌, ℕ, ◌≤◌, List, Option, Result, Ok, Err}
 use Rattle.vm_field.specs.Limits.{most_nesting, most_operations}
 use Rattle.block_tree.specs.declared.program.Program.{Program}
 use Rattle.block_tree.specs.Trees.{Tree, tree_height}
@@ -31,3 +31,8 @@ IsProgramOrMemory program (Err refusal) = refusal ≡ Memory
 abbrev pub OneProgram : Type 0
 OneProgram = (constants text : List ℕ) (kernel : Option (List ℕ)) (program : Program) (answer : Result Program AsmError)
     → Assembles constants text kernel (Ok program) → Assembles constants text kernel answer → IsProgramOrMemory program answer
+
+-- what is refused has one refusal: two that are answered, neither of them the want of memory, are equal
+abbrev pub OneRefusal : Type 0
+OneRefusal = (constants text : List ℕ) (kernel : Option (List ℕ)) (one other : AsmError) → one ≢ Memory → other ≢ Memory
+    → Assembles constants text kernel (Err one) → Assembles constants text kernel (Err other) → one ≡ other

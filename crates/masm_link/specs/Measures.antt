@@ -1,6 +1,7 @@
 -- What is known of a source before anything is built, and what it links to in memory.
 use Rattle.std.specs.Prelude.{◌≡◌, ℕ, ◌≤◌, true, List, length, Option, Some, Result, Ok, Err, Vec, slice_get}
 use Rattle.std.specs.Global.{Global}
+use Rattle.std.specs.List.{All}
 use Rattle.std.specs.Option.{option_map}
 use Rattle.block_tree.specs.TreeView.{tree_of}
 use Rattle.masm_tree.specs.declared.tree.Position.{Position}
@@ -18,7 +19,7 @@ use Rattle.masm_names.specs.declared.refusal.Refusal.{Refusal}
 use Rattle.masm_names.specs.Least.{IsLeast}
 use Rattle.masm_names.specs.Names.{place_at}
 use Rattle.masm_names.specs.Naming.{IsClosed}
-use Rattle.masm_uses.specs.Plans.{IsPlan}
+use Rattle.masm_uses.specs.Plans.{EndsInFull, IsPlan, main_uses}
 use Rattle.masm_uses.specs.UseOrders.{IsUseOrder}
 use Rattle.masm_names.specs.Uses.{first_place}
 use Rattle.masm_link.specs.declared.linking.Linked.{Linked}
@@ -35,6 +36,8 @@ pub record IsMeasured (source : Source) (kernel : List KernelProc) (m : Measured
   pub closed : IsClosed source (names_in kernel)
   pub order : IsUseOrder source.procs m.order.items
   pub steps : IsPlan source m.steps.items
+  pub ended : All (EndsInFull (place_at m.names) source.procs) m.steps.items
+  pub uses : m.uses.items ≡ main_uses (place_at m.names) source.main
   pub count : length m.sizes.items ≡ length source.procs
   pub sizes : (exports : List Exported) → AreExports exports kernel → AreSizes source.procs exports m.order.items m.sizes.items
 

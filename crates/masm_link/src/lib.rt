@@ -9,5 +9,5 @@ mod reading;
 mod refusal;
 
 pub use assembling::assemble;
-pub use laws::{assembled_trees, one_program};
+pub use laws::{assembled_trees, one_program, one_refusal};
 pub use refusal::{AsmCause, AsmError, cause_text};

@@ -59,6 +59,8 @@ pub(crate) struct Measured {
     pub order: Vec<usize>,
     // The steps that build the lists that are needed.
     pub steps: Vec<Step>,
+    // The places of the procedures that are used between `begin` and `end`, one for each use.
+    pub uses: Vec<usize>,
     // The sizes of their lists, by their places.
     pub sizes: Vec<Size>,
 }
@@ -86,12 +88,13 @@ fn sized(
     requires closed { IsClosed (source_of ast.now) (names_in kernel.now.procs.now) }
     ensures { IfOk result (IsMeasured (source_of ast.now) kernel.now.procs.now) }
 {
-    let Plan { order, steps } = use_plan(alloc, ast, &names, exported)?;
+    let Plan { order, steps, main } = use_plan(alloc, ast, &names, exported)?;
     let sizes = sizes_of(alloc, ast, &names, kernel, &order)?;
     Ok(Measured {
         names,
         order,
         steps,
+        uses: main,
         sizes,
     })
 }
@@ -156,9 +159,10 @@ fn built(
         → IsLinked (source_of ast.now) exports linked) }
     ensures main { IfOk result (λ linked. is_some linked.main ≡ is_some ast.now.main) }
 {
-    let lists = lists_of(alloc, ast, &measured.names, kernel, &measured.steps)?;
-    let exports = exports_of(alloc, &ast.procs, &measured.sizes, &lists)?;
-    let main = main_tree(alloc, &measured.names, kernel, &ast.main, lists)?;
+    let table = lists_of(alloc, ast, &measured.names, kernel, &measured.steps)?;
+    let exports = exports_of(alloc, &ast.procs, &measured.sizes, &table.lists)?;
+    let names = &measured.names;
+    let main = main_tree(alloc, names, kernel, &ast.main, &measured.uses, table)?;
     Ok(Linked { exports, main })
 }
 

@@ -6,4 +6,5 @@ pub mod Least
 pub mod Names
 pub mod Naming
 pub mod Repeats
+pub mod UsedPlaces
 pub mod Uses

@@ -34,6 +34,7 @@ use Rattle.masm_flat.specs.Lists.{Exported, IsList, with_locals}
 use Rattle.masm_size.specs.Sizes.{as_extent, size_of, extent, nothing, size_view, procedure_size}
 use Rattle.masm_flat.specs.Views.{pieces_of}
 use Rattle.masm_flat.proofs.Flattened.{Fits, flat-is, seen-append}
+use Rattle.masm_flat.proofs.Served.{got_other}
 use Rattle.masm_size.proofs.Sized.{SizesFit, HasOperations, procedure-sized}
 use Rattle.masm_names.proofs.UsesOnly.{UsesOnly}
 use Rattle.masm_tables.specs.Kernels.{AreExports}
@@ -76,17 +77,10 @@ read_here ast place p within is =
     mapped procedure_of ast.procs.items place p (slice_get_read ast.procs.items (length ast.procs.items) place p refl (omega arith) is)
 
 -- what a list has at a place after a write
-got_same : {X : Type 0} (xs : List X) (i : ℕ) (x : X) → i < length xs → slice_get (set xs i x) i ≡ Some x
+pub got_same : {X : Type 0} (xs : List X) (i : ℕ) (x : X) → i < length xs → slice_get (set xs i x) i ≡ Some x
 got_same [] i x below = absurd (omega arith)
 got_same (y ∷ xs) zero x below = refl
 got_same (y ∷ xs) (suc i) x below = got_same xs i x (omega arith)
-
-pub got_other : {X : Type 0} (xs : List X) (i q : ℕ) (x : X) → q ≢ i → slice_get (set xs i x) q ≡ slice_get xs q
-got_other [] i q x apart = refl
-got_other (y ∷ xs) zero zero x apart = absurd (apart refl)
-got_other (y ∷ xs) zero (suc q) x apart = refl
-got_other (y ∷ xs) (suc i) zero x apart = refl
-got_other (y ∷ xs) (suc i) (suc q) x apart = got_other xs i q x (λ same. apart (ap suc same))
 
 module _ (source : Source) (exports : List Exported) (kernel : List KernelProc) (are : AreExports exports kernel)
     (names : Names) (places : (name : List ℕ) → place_at names name ≡ first_place source.procs name) where
@@ -148,38 +142,31 @@ module _ (source : Source) (exports : List Exported) (kernel : List KernelProc) 
         (uses_behind source closed_names closed order is k p below here)
         ∙ ap (λ r. size_of (seen_pieces (seen_as as_extent) (with_locals r.locals pieces))) same)))
 
-  -- a step of a plan: a list is built where those that it needs are held, and some are freed
+  -- a step of a plan: a list is built where those that it needs are held, and some are taken
   module _ (closed_names : List (List ℕ)) (closed : IsClosed source closed_names) (place : ℕ) (p : Procedure)
       (here : slice_get source.procs place ≡ Some p)
-      (old mid new : List (Vec piece.Piece Global)) (list : Vec piece.Piece Global) (within : place < length old) where
-    pub list_here : ((q : ℕ) → NeedsIn source.procs place q → IsListAt source.procs exports old q) → mid ≡ set old place list
+      (old new : List (Vec piece.Piece Global)) (list : Vec piece.Piece Global) (set_here : slice_get new place ≡ Some list) where
+    list_here : ((q : ℕ) → NeedsIn source.procs place q → IsListAt source.procs exports old q)
         → pieces_of list.items ≡ with_locals p.locals (flat_with as_tree (lists_known names old kernel) p.locals p.body)
-        → IsListAt source.procs exports mid place
-    list_here needs sets is_list q pieces there d =
+        → IsListAt source.procs exports new place
+    list_here needs is_list q pieces there d =
         let same : p ≡ q = same_Some p q (sym here ∙ there) in
         let d' = subst (λ r. IsList source.procs exports r.locals r.body pieces) (sym same) d in
-        ap (λ o. unwrap_or (option_map (λ (v : Vec piece.Piece Global). pieces_of v.items) o) []) (ap (λ xs. slice_get xs place) sets
-        ∙ got_same old place list within)
+        ap (λ o. unwrap_or (option_map (λ (v : Vec piece.Piece Global). pieces_of v.items) o) []) set_here
         ∙ (is_list
         ∙ (listed (IsListAt source.procs exports old) old (λ r held. held) p pieces d'
         (uses_held source closed_names closed (IsListAt source.procs exports old) place p here needs)
         ∙ ap (λ r. seen_pieces (seen_as as_tree) (with_locals r.locals pieces)) same))
 
-    list_there : (q : ℕ) → q ≢ place → mid ≡ set old place list → IsListAt source.procs exports old q → IsListAt source.procs exports mid q
-    list_there q apart sets known r pieces there d =
-        ap (λ o. unwrap_or (option_map (λ (v : Vec piece.Piece Global). pieces_of v.items) o) [])
-        (ap (λ xs. slice_get xs q) sets ∙ got_other old place q list apart)
-        ∙ known r pieces there d
-
-    pub list_step : ((q : ℕ) → NeedsIn source.procs place q → IsListAt source.procs exports old q) → mid ≡ set old place list
+    pub list_step : ((q : ℕ) → NeedsIn source.procs place q → IsListAt source.procs exports old q)
         → pieces_of list.items ≡ with_locals p.locals (flat_with as_tree (lists_known names old kernel) p.locals p.body)
-        → (q : ℕ) → IsListAt source.procs exports old q ⊎ (q ≡ place) → slice_get new q ≡ slice_get mid q → IsListAt source.procs exports new q
-    list_step needs sets is_list q held kept r pieces there d =
-        ap (λ o. unwrap_or (option_map (λ (v : Vec piece.Piece Global). pieces_of v.items) o) []) kept
-        ∙ elim (eqb_tells q place) [
-          | inl same ↦ subst (IsListAt source.procs exports mid) (sym same.1) (list_here needs sets is_list) r pieces there d
-          | inr apart ↦ elim held [
-            | inl known ↦ list_there q apart.1 sets known r pieces there d
-            | inr at ↦ absurd (apart.1 at)
-          ]
-        ]
+        → (q : ℕ) → IsListAt source.procs exports old q ⊎ (q ≡ place) → (q ≢ place → slice_get new q ≡ slice_get old q)
+        → IsListAt source.procs exports new q
+    list_step needs is_list q held kept r pieces there d = elim (eqb_tells q place) [
+      | inl same ↦ subst (IsListAt source.procs exports new) (sym same.1) (list_here needs is_list) r pieces there d
+      | inr apart ↦ elim held [
+        | inl known ↦
+            ap (λ o. unwrap_or (option_map (λ (v : Vec piece.Piece Global). pieces_of v.items) o) []) (kept apart.1) ∙ known r pieces there d
+        | inr at ↦ absurd (apart.1 at)
+      ]
+    ]

@@ -5,3 +5,4 @@ pub mod Finding
 pub mod Known
 pub mod Over
 pub mod Steps
+pub mod Taken

@@ -9,10 +9,15 @@ ghost use Rattle.masm_size.specs.Sizes.{extent_of, size_view};
 ghost use Rattle.masm_flat.specs.Views.{pieces_of};
 ghost use Rattle.masm_tree.specs.Locals.{MainFits};
 ghost use Rattle.masm_tree.specs.Views.{body_of, procedure_of};
+ghost use Rattle.masm_flat.specs.Taking.{HasNoneLeft};
+ghost use Rattle.masm_names.specs.Names.{place_at};
+ghost use Rattle.masm_uses.specs.Plans.{main_uses};
 ghost use Rattle.masm_tables.specs.Building.{AreBuilt};
 
 use block_tree::Tree;
-use masm_flat::{Kernel, KernelProc, Lists, Piece, add_copies, list_of_procedure, tree_of_list};
+use masm_flat::{
+    Kernel, KernelProc, Piece, Scope, Table, add_copies, list_of_procedure, tree_of_list,
+};
 use masm_names::Names;
 use masm_size::{Size, extent_of};
 use masm_tree::Proc;
@@ -59,29 +64,30 @@ pub fn exports_of(
     Ok(exports)
 }
 
-/// The tree of the body between `begin` and `end`. The procedures' lists are not needed behind its own, and are freed before its
-/// tree is built.
+/// The tree of the body between `begin` and `end`, of which these are the places that it uses. Each list is taken by its last use,
+/// and what is left of the table is freed before the tree is built.
 pub fn main_tree(
     alloc: Global,
     names: &Names,
     kernel: &Kernel<'_>,
     main: &Option<Proc>,
-    lists: Vec<Vec<Piece>>,
+    uses: &[usize],
+    table: Table,
 ) -> Result<Option<Tree>, Memory>
-    requires { MainFits (option_map procedure_of main.now) }
+    requires fits { MainFits (option_map procedure_of main.now) }
+    requires uses { uses.now ≡ main_uses (place_at names.now) (option_map procedure_of main.now) }
+    requires none { HasNoneLeft table }
     ensures { IfOk result (λ tree. option_map tree_of tree
         ≡ option_map (λ p. whole as_tree (with_locals p.locals
-        (flat_with as_tree (lists_known names.now lists.items kernel.now.procs.now) p.locals (body_of p.body.items)))) main.now) }
+        (flat_with as_tree (lists_known names.now table.lists.items kernel.now.procs.now) p.locals (body_of p.body.items)))) main.now) }
 {
     let Some(procedure) = main else {
         return Ok(None);
     };
-    let known = Lists {
-        names,
-        lists: lists.as_slice(),
-        kernel,
-    };
-    let list = list_of_procedure(alloc, &known, procedure)?;
-    drop(lists);
+    let scope = Scope { names, kernel };
+    let mut table = table;
+    table.expect(uses);
+    let list = list_of_procedure(alloc, &scope, &mut table, procedure)?;
+    drop(table);
     Ok(Some(tree_of_list(alloc, list)?))
 }

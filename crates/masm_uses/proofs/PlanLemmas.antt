@@ -1,14 +1,15 @@
 -- Plans: rows that are marked, and steps one before the other.
-use Rattle.std.proofs.Common.{◌≡◌, ℕ, ◌+◌, ◌<◌, ◌≤◌, Bool, true, false, List, [], ◌∷◌, ◌++◌, length, take, get_or, set, ◌⊎◌, inl, inr, refl, sym, ap, subst, ◌∙◌, arith}
-use Rattle.std.specs.Prelude.{reverse}
-use Rattle.std.proofs.lemmas.Bool.{false≢true, cases_lt}
+use Rattle.std.proofs.Common.{◌≡◌, ℕ, ◌+◌, ◌<◌, ◌≤◌, Bool, true, false, not, List, [], ◌∷◌, ◌++◌, length, take, get_or, set, ◌⊎◌, inl, inr, refl, sym, ap, subst, ◌∙◌, arith}
+use Rattle.std.specs.Prelude.{reverse, filter}
+use Rattle.std.proofs.lemmas.Bool.{false≢true, cases_lt, cases_Bool}
 use Rattle.std.proofs.lemmas.Bool.Decides.{eqb_tells}
 use Rattle.std.proofs.lemmas.List.{take_more, take_all, get_or-set_same, get_or-set_other, get_or_past, length-set, reverse-append}
-use Rattle.std.proofs.lemmas.List.Elements.{Contains-push_cases}
+use Rattle.std.proofs.lemmas.List.Elements.{Contains-push_cases, filter_passes}
 use Rattle.std.specs.List.{Contains}
 use Rattle.graphs.specs.Graph.{Edge}
 use Rattle.graphs.specs.Orders.{IsOrder}
-use Rattle.masm_uses.specs.Plans.{HeldBehind, Builds, MarksRow, StepsTo, passed, built}
+use Rattle.masm_uses.specs.Plans.{HeldBehind, Builds, MarksRow, StepsTo, passed, built, IsNoneOrAll, EndsInGraph}
+use Rattle.masm_names.proofs.TimesAmong.{times_kept, times_dropped}
 use Rattle.masm_uses.specs.declared.planning.Step.{Step}
 use Rattle.graphs.proofs.SortLemmas.{contains_none}
 
@@ -22,8 +23,8 @@ row_none marks = record {
   count = refl;
 }
 
-module _ (old mid : List Bool) (row fresh : List ℕ) (i place : ℕ) (below : i < length row) (is : place ≡ get_or row i 0)
-    (before : MarksRow old (take i row) mid fresh) where
+module _ (old mid : List Bool) (row : List ℕ) (i place : ℕ) (below : i < length row) (is : place ≡ get_or row i 0)
+    (before : MarksRow old (take i row) mid []) where
   longer : (q : ℕ) → Contains (take (i + 1) row) q → Contains (take i row) q ⊎ (place ≡ q)
   longer q h =
       elim (Contains-push_cases (take i row) (get_or row i 0) q (subst (λ xs. Contains xs q) (take_more row i 0 below) h)) [
@@ -31,32 +32,14 @@ module _ (old mid : List Bool) (row fresh : List ℕ) (i place : ℕ) (below : i
         | inr here ↦ inr (is ∙ here)
       ]
 
-  pub row_passed : get_or mid place false ≡ true → MarksRow old (take (i + 1) row) mid fresh
-  row_passed seen = record {
-    marked = λ q h. elim (longer q h) [
-      | inl early ↦ before.marked q early
-      | inr here ↦ subst (λ p. get_or mid p false ≡ true) here seen
-    ];
-    keeps = before.keeps;
-    fresh_were = before.fresh_were;
-    count = before.count;
-  }
-
-  was_unmarked : (b : Bool) → get_or old place false ≡ b → get_or mid place false ≡ false → b ≡ false
-  was_unmarked false e unseen = refl
-  was_unmarked true e unseen = sym (before.keeps place e) ∙ unseen
-
-  pub row_marked : place < length mid → get_or mid place false ≡ false → MarksRow old (take (i + 1) row) (set mid place true) (fresh ++ place ∷ [])
-  row_marked within unseen = record {
+  pub row_more : place < length mid → MarksRow old (take (i + 1) row) (set mid place true) []
+  row_more within = record {
     marked = λ q h. elim (longer q h) [
       | inl early ↦ stays q (before.marked q early)
       | inr here ↦ subst (λ p. get_or (set mid place true) p false ≡ true) here (get_or-set_same mid place true false within)
     ];
     keeps = λ q h. stays q (before.keeps q h);
-    fresh_were = λ q h. elim (Contains-push_cases fresh place q h) [
-      | inl early ↦ before.fresh_were q early
-      | inr here ↦ subst (λ p. get_or old p false ≡ false) here (was_unmarked (get_or old place false) refl unseen)
-    ];
+    fresh_were = λ q h. absurd (contains_none q h);
     count = length-set mid place true ∙ before.count;
   }
     where
@@ -65,6 +48,41 @@ module _ (old mid : List Bool) (row fresh : List ℕ) (i place : ℕ) (below : i
         | inl same ↦ subst (λ p. get_or (set mid place true) p false ≡ true) (sym same.1) (get_or-set_same mid place true false within)
         | inr apart ↦ get_or-set_other mid place q true false apart.1 ∙ h
       ]
+
+abbrev pub is_unmarked : List Bool → ℕ → Bool
+is_unmarked marks place = not (get_or marks place false)
+
+-- a row that is marked, with those of its places that had no mark
+pub with_fresh : (old new : List Bool) (row fresh : List ℕ) → MarksRow old row new [] → fresh ≡ filter (is_unmarked old) row
+    → MarksRow old row new fresh
+with_fresh old new row fresh marks is = record {
+  marked = marks.marked;
+  keeps = marks.keeps;
+  fresh_were = λ q h.
+      let has = subst (λ xs. Contains xs q) is h in
+      was_none q (ap (is_unmarked old) (sym has.2) ∙ filter_passes (is_unmarked old) row has.0 q has.1);
+  count = marks.count;
+}
+  where
+    none : (b : Bool) → not b ≡ true → b ≡ false
+    none false h = refl
+    none true h = sym h
+
+    was_none : (q : ℕ) → is_unmarked old q ≡ true → get_or old q false ≡ false
+    was_none q h = none (get_or old q false) h
+
+pub none_or_all : (p : ℕ → Bool) (row : List ℕ) → IsNoneOrAll (filter p row) row
+none_or_all p row q = elim (cases_Bool (p q)) [
+  | inl keeps ↦ inr (times_kept p q keeps row)
+  | inr drops ↦ inl (times_dropped p q drops row)
+]
+
+-- a step whose ended places are those of its row that had no mark
+pub step_ends : (graph : List (List ℕ)) (step : Step) (place : ℕ) (row : List ℕ) (marks : List Bool) → get_or graph place [] ≡ row
+    → step.place ≡ place → step.ended.items ≡ filter (is_unmarked marks) row → EndsInGraph graph step
+step_ends graph step place row marks is_row is_place is_ended =
+    subst (λ xs. IsNoneOrAll step.ended.items xs) (sym (ap (λ k. get_or graph k []) is_place ∙ is_row))
+    (subst (λ xs. IsNoneOrAll xs row) (sym is_ended) (none_or_all (is_unmarked marks) row))
 
 -- More may be held and less needed and wanted.
 pub builds-more : (Needs Needs' : ℕ → ℕ → Type 0) (count count' : ℕ) (Wanted Wanted' Held Held' : ℕ → Type 0) (steps : List Step) → count ≡ count'

@@ -1,10 +1,10 @@
 -- A plan of a graph of uses is one of the source.
-use Rattle.std.proofs.Common.{◌≡◌, ℕ, ◌<◌, Bool, true, false, List, map, length, get_or, slice_get, Option, Some, None, sym, ap, subst, ◌∙◌, arith}
+use Rattle.std.proofs.Common.{◌≡◌, ℕ, ◌<◌, Bool, true, false, List, [], ◌∷◌, map, length, get_or, slice_get, Option, Some, None, refl, sym, ap, ap₂, subst, ◌∙◌, arith}
 use Rattle.std.specs.Prelude.{reverse}
 use Rattle.std.proofs.lemmas.List.{length-map}
 use Rattle.std.proofs.lemmas.List.Elements.{Contains-get_or}
 use Rattle.std.proofs.lemmas.Option.{get_or_from_slice_get, slice_get-get_or}
-use Rattle.std.specs.List.{All, Contains}
+use Rattle.std.specs.List.{All, Contains, cons_option}
 use Rattle.std.specs.Option.{option_map}
 use Rattle.masm_reading.specs.declared.constant.Const.{Const}
 use Rattle.masm_tree.specs.declared.tree.Proc.{Proc}
@@ -12,9 +12,10 @@ use Rattle.masm_tree.specs.Trees.{Procedure, Source}
 use Rattle.masm_tree.specs.Views.{procedure_of, body_of}
 use Rattle.masm_uses.specs.declared.planning.Step.{Step}
 use Rattle.graphs.specs.Graph.{Edge}
-use Rattle.masm_graph.specs.Links.{link_of, links_in, main_links_in, own_places}
-use Rattle.masm_uses.specs.Plans.{Builds, IsWanted, exported, of_main, NeedsIn, IsPlan}
-use Rattle.masm_names.specs.Uses.{Use, Own, uses_of, first_place}
+use Rattle.masm_graph.specs.Links.{link_of, links_in, main_links_in, own_place, own_places, own_target, kernel_target, target_of}
+use Rattle.masm_uses.specs.Plans.{Builds, IsWanted, exported, of_main, NeedsIn, IsPlan, IsNoneOrAll, EndsInGraph, EndsInFull, main_uses}
+use Rattle.masm_names.specs.Uses.{Use, Owner, Own, Kernel, uses_of, first_place}
+use Rattle.masm_names.specs.UsedPlaces.{place_used, places_used}
 use Rattle.masm_uses.proofs.PlanLemmas.{builds-more}
 use Rattle.graphs.proofs.SortLemmas.{contains_none}
 use Rattle.masm_uses.proofs.UsedLemmas.{contains_at, at_contains, mapped, unmapped, place_within, leads_by, leads_own, used_goes}
@@ -82,3 +83,37 @@ module _ (own kernel : List ℕ → Option ℕ) (procs : List Proc) (places : (n
         (counts own kernel procs places ∙ sym (length-map procs procedure_of))
         (λ i j h. goes_edge (map (links_in own kernel) procs) i j (used_goes own kernel procs places i h.0 j h.1))
         (wanted row marks is exports used) (λ q h. h) b
+
+-- rows of uses by the places to which they lead
+module _ (own kernel : List ℕ → Option ℕ) where
+  own_is : (o : Option ℕ) → own_place (own_target o) ≡ o
+  own_is None = refl
+  own_is (Some place) = refl
+
+  kernel_is : (o : Option ℕ) → own_place (kernel_target o) ≡ None
+  kernel_is None = refl
+  kernel_is (Some place) = refl
+
+  target_is : (kind : Owner) (name : List ℕ) → own_place (target_of own kernel kind name) ≡ place_used own kind name
+  target_is Own name = own_is (own name)
+  target_is Kernel name = kernel_is (kernel name)
+
+  row_used : (us : List Use) → own_places (map (link_of own kernel) us) ≡ places_used own us
+  row_used [] = refl
+  row_used (u ∷ us) = ap₂ cons_option (target_is u.kind u.name) (row_used us)
+
+  pub steps_end : (procs : List Proc) (steps : List Step) → All (EndsInGraph (map own_places (map (links_in own kernel) procs))) steps
+      → All (EndsInFull own (map procedure_of procs)) steps
+  steps_end procs steps all k d below p here =
+      let step = get_or steps k d in
+      let found = unmapped procedure_of procs step.place p here in
+      let row = get_or_from_slice_get (map own_places (map (links_in own kernel) procs)) step.place _ []
+      (mapped own_places (map (links_in own kernel) procs) step.place _ (mapped (links_in own kernel) procs step.place found.0 found.1)) in
+      subst (IsNoneOrAll step.ended.items)
+      (row ∙ (row_used (uses_of (body_of found.0.body.items)) ∙ ap (λ (q : Procedure). places_used own (uses_of q.body)) (sym found.2)))
+      (all k d below)
+
+  pub main_used : (main : Option Proc) (row : List ℕ) → row ≡ own_places (main_links_in own kernel main)
+      → row ≡ main_uses own (option_map procedure_of main)
+  main_used None row is = is
+  main_used (Some p) row is = is ∙ row_used (uses_of (body_of p.body.items))

@@ -1,9 +1,10 @@
 -- Plans: which procedures' lists are built, in which order, and which of them are not needed any more behind each.
-use Rattle.std.specs.Prelude.{◌≡◌, ℕ, ◌<◌, Bool, true, false, List, [], ◌∷◌, ◌++◌, length, Some, slice_get, slice_index_or, reverse, ◌⊎◌}
+use Rattle.std.specs.Prelude.{◌≡◌, ℕ, ◌<◌, Bool, true, false, List, [], ◌∷◌, ◌++◌, length, Option, Some, None, slice_get, slice_index_or, reverse, ◌⊎◌}
 use Rattle.std.specs.List.{Contains}
 use Rattle.masm_tree.specs.Trees.{Procedure, Source}
 use Rattle.masm_uses.specs.declared.planning.Step.{Step}
 use Rattle.masm_names.specs.Uses.{Use, Own, uses_of, first_place, UsedIn}
+use Rattle.masm_names.specs.UsedPlaces.{places_used, times_among}
 
 -- what is held behind a step
 abbrev pub HeldBehind : (ℕ → Type 0) → Step → ℕ → Type 0
@@ -43,3 +44,21 @@ pub data StepsTo (place : ℕ) (row : List ℕ) (marks : List Bool) (steps : Lis
   passed : slice_index_or marks place false ≡ false → StepsTo place row marks steps marks steps
   built : (step : Step) (new : List Bool) → slice_index_or marks place false ≡ true → step.place ≡ place
       → MarksRow marks row new step.ended.items → StepsTo place row marks steps new (steps ++ step ∷ [])
+
+-- a place stands in a list as often as it does in these, or not at all
+abbrev pub IsNoneOrAll : List ℕ → List ℕ → Type 0
+IsNoneOrAll places all = (place : ℕ) → (times_among places place ≡ 0) ⊎ (times_among places place ≡ times_among all place)
+
+-- what ends with a step stands there once for each edge that leads to it
+abbrev pub EndsInGraph : List (List ℕ) → Step → Type 0
+EndsInGraph graph step = IsNoneOrAll step.ended.items (slice_index_or graph step.place [])
+
+-- what ends with a step stands there once for each use that the procedure makes of it, where names lead to these places
+abbrev pub EndsInFull : (List ℕ → Option ℕ) → List Procedure → Step → Type 0
+EndsInFull own procs step =
+    (p : Procedure) → slice_get procs step.place ≡ Some p → IsNoneOrAll step.ended.items (places_used own (uses_of p.body))
+
+-- the places of the procedures that are used between begin and end, one for each use
+abbrev pub main_uses : (List ℕ → Option ℕ) → Option Procedure → List ℕ
+main_uses own None = []
+main_uses own (Some p) = places_used own (uses_of p.body)

@@ -1,8 +1,9 @@
 ghost use Rattle.std.specs.Prelude.{◌≡◌, ℕ, List, IfOk};
+ghost use Rattle.std.specs.List.{All};
 ghost use Rattle.masm_tree.specs.Views.{source_of};
 ghost use Rattle.masm_names.specs.Names.{place_at};
 ghost use Rattle.masm_names.specs.Naming.{IsClosed};
-ghost use Rattle.masm_uses.specs.Plans.{IsPlan};
+ghost use Rattle.masm_uses.specs.Plans.{EndsInFull, IsPlan, main_uses};
 ghost use Rattle.masm_uses.specs.UseOrders.{IsUseOrder};
 ghost use Rattle.masm_names.specs.Uses.{first_place};
 
@@ -22,6 +23,8 @@ pub struct Plan {
     /// The steps that build the lists of the procedures that are exported or used between `begin`
     /// and `end`, and of those that these reach. The last step stands first.
     pub steps: Vec<Step>,
+    /// The places of the procedures that are used between `begin` and `end`, one for each use.
+    pub main: Vec<usize>,
 }
 
 /// An order of a source's procedures and the steps that build their lists, where the kernel exports
@@ -31,6 +34,8 @@ pub fn use_plan(alloc: Global, ast: &Ast, names: &Names, kernel: &[Bytes]) -> Re
     requires closed { IsClosed (source_of ast.now) kernel.now }
     ensures order { IfOk result (λ plan. IsUseOrder (source_of ast.now).procs plan.order.items) }
     ensures steps { IfOk result (λ plan. IsPlan (source_of ast.now) plan.steps.items) }
+    ensures ended { IfOk result (λ plan. All (EndsInFull (place_at names.now) (source_of ast.now).procs) plan.steps.items) }
+    ensures main { IfOk result (λ plan. plan.main.items ≡ main_uses (place_at names.now) (source_of ast.now).main) }
 {
     let exports = Names::of(alloc, kernel)?;
     let procs = ast.procs.as_slice();
@@ -42,5 +47,9 @@ pub fn use_plan(alloc: Global, ast: &Ast, names: &Names, kernel: &[Bytes]) -> Re
     let graph = graph.as_slice();
     let order = order(alloc, graph)?;
     let steps = steps_of(alloc, graph, order.as_slice(), wanted)?;
-    Ok(Plan { order, steps })
+    Ok(Plan {
+        order,
+        steps,
+        main: row,
+    })
 }

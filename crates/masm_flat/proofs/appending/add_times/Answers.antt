@@ -1,18 +1,30 @@
-use Rattle.std.proofs.Common.{arith, ◌++◌, append_assoc, ap, sym, ◌∙◌}
+use Rattle.std.proofs.Common.{◌≡◌, ℕ, ◌+◌, ◌-◌, [], ◌++◌, append_assoc, append-nil, ap, sym, ◌∙◌, arith}
 use Rattle.std.proofs.lemmas.Bool.Decides.{nat_tests}
 use Rattle.std.proofs.lemmas.List.{nil_from_length}
 use Rattle.masm_flat.specs.Lists.{times}
 use Rattle.masm_flat.specs.Views.{pieces_of}
+use Rattle.masm_flat.proofs.Served.{on_ok}
 use Rattle.masm_flat.proofs.Times.{times_more, times_of_none}
 use Rattle.masm_flat.proofs.appending.add_times.Goals as goal
-
-pub loop-turn-preserved : goal.loop-turn-preserved
-loop-turn-preserved c =
-    let before = pieces_of c.args.out.now.items in
-    let list = pieces_of c.args.list.now in
-    c.in_ok-add_copies.ensures ∙ ap (λ xs. xs ++ list) c.loop-turn.invariant ∙ append_assoc before (times c.loop-turn._turn list) list
-    ∙ ap (λ xs. before ++ xs) (sym (times_more c.loop-turn._turn list))
+use Rattle.masm_flat.proofs.appending.add_times.Goals.{then-is_empty-via-then-is_empty, then-is_empty-via-else-is_empty+then-count-eq0}
 
 pub returns-then-is_empty : goal.returns-then-is_empty
-returns-then-is_empty c = times_of_none c.args.count c.args.list.now (pieces_of c.args.out.now.items)
-    (nil_from_length c.args.list.now (let none = sym c.is_empty.ensures ∙ c.if-is_empty.true in grind (arith, nat_tests)))
+returns-then-is_empty c =
+    let out = pieces_of c.args.out.now.items in
+    elim c.then-is_empty.branch [
+      | then-is_empty-via-then-is_empty w ↦ times_of_none c.args.count c.args.list.items out
+          (nil_from_length c.args.list.items (let none = sym c.is_empty.ensures ∙ w.if-is_empty.true in grind (arith, nat_tests)))
+      | then-is_empty-via-else-is_empty+then-count-eq0 w ↦
+          let none : c.args.count ≡ 0 = omega (arith, w.if-count-eq0.true) in
+          sym (append-nil out) ∙ ap (λ n. out ++ times n (pieces_of c.args.list.items)) (sym none)
+    ]
+
+pub returns : goal.returns
+returns c =
+    let out = pieces_of c.args.out.now.items in
+    let list = pieces_of c.args.list.items in
+    let n = c.args.count - 1 in
+    let same : c.args.count ≡ n + 1 = omega arith in
+    on_ok c.add_moved.result _ _ (λ is.
+    is ∙ (ap (λ xs. xs ++ list) (c.in_ok-add_turns.ensures ∙ ap (λ xs. out ++ times n (pieces_of xs)) c.deref.ensures.value)
+    ∙ (append_assoc out (times n list) list ∙ ap (λ xs. out ++ xs) (sym (times_more n list) ∙ ap (λ k. times k list) (sym same))))) c.add_moved.ensures

@@ -1,14 +1,20 @@
-use Rattle.std.proofs.Common.{◌≡◌, ◌+◌, ◌*◌, ◌<◌, ◌∷◌, ◌++◌, drop, ap, sym, subst, ◌∙◌, append-nil, arith, rules}
+use Rattle.std.proofs.Common.{◌≡◌, ◌+◌, ◌*◌, ◌<◌, [], ◌∷◌, ◌++◌, map, drop, refl, ap, sym, subst, ◌∙◌, append-nil, append_assoc, arith, rules}
 use Rattle.std.proofs.lemmas.List.{drop_more, at_drop_all}
 use Rattle.masm_tree.specs.Trees.{Empty}
 use Rattle.masm_tree.specs.Views.{stmt_view, body_of}
 use Rattle.masm_tree.proofs.Mirror.{body_of_nil}
-use Rattle.masm_flat.specs.Blocks.{as_tree}
+use Rattle.block_tree.specs.Trees as trees
+use Rattle.block_tree.specs.TreeView.{tree_of}
+use Rattle.masm_flat.specs.Blocks.{as_tree, whole, Operation, Whole}
+use Rattle.masm_flat.specs.Lists.{times}
 use Rattle.masm_flat.specs.Flattening.{flat_with}
 use Rattle.masm_tree.specs.Locals.{HasLocals}
-use Rattle.masm_flat.specs.KnownLists.{known_of}
+use Rattle.masm_flat.specs.Taking.{Serves}
+use Rattle.masm_names.specs.Uses.{Own, Kernel, use_at, uses_of}
+use Rattle.masm_expand.specs.Expansion.{expansion}
 use Rattle.masm_flat.specs.Views.{pieces_of}
-use Rattle.masm_flat.proofs.Statements.{body_of_more, flat-first, locals-first, go_on, locals-Instr, locals-If, locals-While, locals-Repeat, weight, weight-first, weight-If, weight-While, weight-Repeat}
+use Rattle.masm_flat.proofs.Statements.{body_of_more, flat-first, uses-first, flat-Instr, flat-Exec, flat-Call, flat-Syscall, flat-If, flat-While, flat-Repeat, uses-Instr, uses-Exec, uses-Call, uses-Syscall, uses-If, uses-While, uses-Repeat, locals-first, go_on, locals-Instr, locals-If, locals-While, locals-Repeat, weight, weight-first, weight-If, weight-While, weight-Repeat}
+use Rattle.masm_flat.proofs.Served.{keeps_then, on_ok, comes_same, comes_as, comes_then, comes_statement, comes_body, comes_exported}
 use Rattle.masm_flat.proofs.flattening.+flattening.Goals as goal
 
 pub add_statement-add_instr-requires : goal.add_statement-add_instr-requires
@@ -46,6 +52,122 @@ add_statement-list_of-requires-in-Repeat t c =
     rw c.deref-in-Repeat.ensures.value (omega (arith, weight-Repeat c.args.stmt.now _ _ _ c.in-Repeat.is)) in
     search rules
 
+pub add_statement-returns-in-Instr : goal.add_statement-returns-in-Instr
+add_statement-returns-in-Instr t c =
+    let locals = c.args.locals in
+    let at = c.in-Instr.field-0 in
+    let instr = c.in-Instr.instr in
+    let ops = map Operation (expansion instr.name instr.numbers locals) in
+    on_ok c.add_instr.result _ _ (λ is.
+    comes_statement c.args.scope.now locals c.args.stmt.now [] (λ known. ops) (λ xs. xs) c.args.table.now c.args.table.now
+    (pieces_of c.args.out.now.items) (pieces_of c.add_instr.new.out.items) ops
+    (ap (λ s. uses_of (stmt_view s Empty)) c.in-Instr.is ∙ uses-Instr at instr)
+    (λ known. ap (λ s. flat_with as_tree known locals (stmt_view s Empty)) c.in-Instr.is ∙ flat-Instr as_tree known locals at instr)
+    is (comes_same c.args.scope.now c.args.table.now (λ known. ops) ops (λ known. refl))) c.add_instr.ensures
+
+pub add_statement-returns-in-Exec : goal.add_statement-returns-in-Exec
+add_statement-returns-in-Exec t c =
+    let locals = c.args.locals in
+    let at = c.in-Exec.field-0 in
+    let name = c.in-Exec.name in
+    let out = pieces_of c.args.out.now.items in
+    on_ok c.add_used.result _ _ (λ comes.
+    comes_as c.args.scope.now (use_at at Own name ∷ []) _ (λ known. out ++ known.list name)
+    (λ known. out ++ flat_with as_tree known locals (stmt_view c.args.stmt.now Empty)) (λ xs. xs) c.args.table.now c.add_used.new.table
+    (pieces_of c.add_used.new.out.items) (pieces_of c.add_used.new.out.items)
+    (ap (λ s. uses_of (stmt_view s Empty)) c.in-Exec.is ∙ uses-Exec at name)
+    (λ known. ap (λ xs. out ++ xs) (sym (ap (λ s. flat_with as_tree known locals (stmt_view s Empty)) c.in-Exec.is ∙ flat-Exec as_tree known locals at name)))
+    refl (comes at)) c.add_used.ensures
+
+pub add_statement-returns-in_ok-called-in-Call : goal.add_statement-returns-in_ok-called-in-Call
+add_statement-returns-in_ok-called-in-Call t c =
+    let locals = c.args.locals in
+    let at = c.in-Call.field-0 in
+    let name = c.in-Call.name in
+    on_ok c.add_tree.result _ _ (λ is.
+    comes_statement c.args.scope.now locals c.args.stmt.now (use_at at Own name ∷ []) (λ known. trees.Call (whole as_tree (known.list name)))
+    (λ tree. Whole tree ∷ []) c.args.table.now c.called.new.table (pieces_of c.args.out.now.items) (pieces_of c.add_tree.new.out.items)
+    (tree_of c.in_ok-called-in-Call.field-0)
+    (ap (λ s. uses_of (stmt_view s Empty)) c.in-Call.is ∙ uses-Call at name)
+    (λ known. ap (λ s. flat_with as_tree known locals (stmt_view s Empty)) c.in-Call.is ∙ flat-Call as_tree known locals at name)
+    is (c.in_ok-called-in-Call.ensures at)) c.add_tree.ensures
+
+pub add_statement-returns-in_ok-kernel_called-in-Syscall : goal.add_statement-returns-in_ok-kernel_called-in-Syscall
+add_statement-returns-in_ok-kernel_called-in-Syscall t c =
+    let locals = c.args.locals in
+    let at = c.in-Syscall.field-0 in
+    let name = c.in-Syscall.name in
+    let tree = tree_of c.in_ok-kernel_called-in-Syscall.field-0 in
+    on_ok c.add_tree-in-Syscall.result _ _ (λ is.
+    comes_statement c.args.scope.now locals c.args.stmt.now (use_at at Kernel name ∷ []) (λ known. trees.Syscall (known.exported name))
+    (λ t. Whole t ∷ []) c.args.table.now c.args.table.now (pieces_of c.args.out.now.items) (pieces_of c.add_tree-in-Syscall.new.out.items) tree
+    (ap (λ s. uses_of (stmt_view s Empty)) c.in-Syscall.is ∙ uses-Syscall at name)
+    (λ known. ap (λ s. flat_with as_tree known locals (stmt_view s Empty)) c.in-Syscall.is ∙ flat-Syscall as_tree known locals at name)
+    is (comes_exported c.args.scope.now at name c.args.table.now trees.Syscall tree c.in_ok-kernel_called-in-Syscall.ensures)) c.add_tree-in-Syscall.ensures
+
+pub add_statement-returns-in_ok-split-in-If : goal.add_statement-returns-in_ok-split-in-If
+add_statement-returns-in_ok-split-in-If t c =
+    let locals = c.args.locals in
+    let scope = c.args.scope.now in
+    let at = c.in-If.field-0 in
+    let xs = c.in-If.first in
+    let ys = c.in-If.second in
+    let one = pieces_of c.in_ok-on_one-in-If.on_one.items in
+    let zero = pieces_of c.in_ok-on_zero-in-If.on_zero.items in
+    let old = c.args.table.now in
+    let mid = c.list_of.new.table in
+    let new = c.list_of-in-If.new.table in
+    let both =
+    comes_then scope (uses_of (body_of xs.items)) (uses_of (body_of ys.items)) (λ known. flat_with as_tree known locals (body_of xs.items))
+    (λ known. flat_with as_tree known locals (body_of ys.items)) (λ a b. trees.Split (whole as_tree a) (whole as_tree b)) old mid new one zero
+    (comes_body scope locals c.deref.result.now xs.items old mid one c.deref.ensures.value c.in_ok-on_one-in-If.ensures)
+    (comes_body scope locals c.deref-in-If.result.now ys.items mid new zero c.deref-in-If.ensures.value c.in_ok-on_zero-in-If.ensures) in
+    let out = pieces_of c.args.out.now.items in
+    on_ok c.add_tree-in-If.result _ _ (λ is.
+    comes_statement scope locals c.args.stmt.now (uses_of (body_of xs.items) ++ uses_of (body_of ys.items))
+    (λ known. trees.Split (whole as_tree (flat_with as_tree known locals (body_of xs.items))) (whole as_tree (flat_with as_tree known locals
+    (body_of ys.items)))) (λ t. Whole t ∷ []) old new out (pieces_of c.add_tree-in-If.new.out.items) (trees.Split (whole as_tree one) (whole as_tree zero))
+    (ap (λ s. uses_of (stmt_view s Empty)) c.in-If.is ∙ uses-If at xs ys)
+    (λ known. ap (λ s. flat_with as_tree known locals (stmt_view s Empty)) c.in-If.is ∙ flat-If as_tree known locals at xs ys)
+    (is ∙ ap (λ t. out ++ Whole t ∷ []) c.in_ok-split-in-If.ensures) both) c.add_tree-in-If.ensures
+
+pub add_statement-returns-in_ok-repeating-in-While : goal.add_statement-returns-in_ok-repeating-in-While
+add_statement-returns-in_ok-repeating-in-While t c =
+    let locals = c.args.locals in
+    let scope = c.args.scope.now in
+    let at = c.in-While.field-0 in
+    let xs = c.in-While.turn in
+    let turn = pieces_of c.in_ok-list-in-While.list.items in
+    let old = c.args.table.now in
+    let new = c.list_of-in-While.new.table in
+    let out = pieces_of c.args.out.now.items in
+    on_ok c.add_tree-in-While.result _ _ (λ is.
+    comes_statement scope locals c.args.stmt.now (uses_of (body_of xs.items)) (λ known. flat_with as_tree known locals (body_of xs.items))
+    (λ pieces. Whole (trees.Loop (whole as_tree pieces)) ∷ []) old new out (pieces_of c.add_tree-in-While.new.out.items) turn
+    (ap (λ s. uses_of (stmt_view s Empty)) c.in-While.is ∙ uses-While at xs)
+    (λ known. ap (λ s. flat_with as_tree known locals (stmt_view s Empty)) c.in-While.is ∙ flat-While as_tree known locals at xs)
+    (is ∙ ap (λ t. out ++ Whole t ∷ []) c.in_ok-repeating-in-While.ensures)
+    (comes_body scope locals c.deref-in-While.result.now xs.items old new turn c.deref-in-While.ensures.value c.in_ok-list-in-While.ensures))
+    c.add_tree-in-While.ensures
+
+pub add_statement-returns-in_ok-list-in-Repeat : goal.add_statement-returns-in_ok-list-in-Repeat
+add_statement-returns-in_ok-list-in-Repeat t c =
+    let locals = c.args.locals in
+    let scope = c.args.scope.now in
+    let at = c.in-Repeat.field-0 in
+    let n = c.in-Repeat.count in
+    let xs = c.in-Repeat.turn in
+    let turn = pieces_of c.in_ok-list-in-Repeat.list.items in
+    let old = c.args.table.now in
+    let new = c.list_of-in-Repeat.new.table in
+    on_ok c.add_times.result _ _ (λ is.
+    comes_statement scope locals c.args.stmt.now (uses_of (body_of xs.items)) (λ known. flat_with as_tree known locals (body_of xs.items))
+    (times n) old new (pieces_of c.args.out.now.items) (pieces_of c.add_times.new.out.items) turn
+    (ap (λ s. uses_of (stmt_view s Empty)) c.in-Repeat.is ∙ uses-Repeat at n xs)
+    (λ known. ap (λ s. flat_with as_tree known locals (stmt_view s Empty)) c.in-Repeat.is ∙ flat-Repeat as_tree known locals at n xs)
+    is (comes_body scope locals c.deref-in-Repeat.result.now xs.items old new turn c.deref-in-Repeat.ensures.value c.in_ok-list-in-Repeat.ensures))
+    c.add_times.ensures
+
 pub flatten-add_statement-requires : goal.flatten-add_statement-requires
 flatten-add_statement-requires t c =
     let body = c.args.body.now in
@@ -67,17 +189,32 @@ flatten-loop-stmt-preserved t c =
     let here : drop i body ≡ s ∷ drop (i + 1) body =
     drop_more body i s (omega arith) ∙ ap (λ y. y ∷ drop (i + 1) body) (sym c.stmt-item.is) in
     let split = ap body_of here ∙ body_of_more s (drop (i + 1) body) in
-    let rest = body_of (drop (i + 1) body) in
-    let flat = flat_with as_tree (known_of c.args.lists.now) c.args.locals in
+    let behind = body_of (drop (i + 1) body) in
+    let added = c.in_ok-add_statement.ensures in
+    let before = c.loop-stmt.invariant in
     record {
-      flat = go_on _ _ _ _ _ _ c.in_ok-add_statement.ensures
-          (ap flat split ∙ flat-first as_tree (known_of c.args.lists.now) c.args.locals s rest) c.loop-stmt.invariant.flat;
-      locals = (locals-first c.args.locals s rest (subst (HasLocals c.args.locals) split c.loop-stmt.invariant.locals)).1;
-      light = omega (arith, ap weight split, weight-first s rest, c.loop-stmt.invariant.light);
+      gives = λ known rest serves.
+          let so_far = before.gives known rest serves in
+          let uses = ap uses_of split ∙ uses-first s behind in
+          let here = added.gives known (uses_of behind ++ rest) (subst (Serves c.args.scope.now known c.loop-stmt.table)
+          (ap (λ us. us ++ rest) uses ∙ append_assoc (uses_of (stmt_view s Empty)) (uses_of behind) rest) so_far.1) in (
+            go_on _ _ _ _ _ _ here.0
+                (ap (flat_with as_tree known c.args.locals) split ∙ flat-first as_tree known c.args.locals s behind) so_far.0,
+            here.1,
+          );
+      keeps = keeps_then _ _ _ before.keeps added.keeps;
+      locals = (locals-first c.args.locals s behind (subst (HasLocals c.args.locals) split before.locals)).1;
+      light = omega (arith, ap weight split, weight-first s behind, before.light);
     }
 
 pub flatten-returns : goal.flatten-returns
-flatten-returns t c =
-    let flat = flat_with as_tree (known_of c.args.lists.now) c.args.locals in
-    let none = ap flat (at_drop_all body_of c.args.body.now c.loop-stmt.stmt-index (omega arith) ∙ body_of_nil) in
-    sym (append-nil _) ∙ ap (λ xs. pieces_of c.loop-stmt.out.items ++ xs) (sym none) ∙ c.loop-stmt.invariant.flat
+flatten-returns t c = record {
+  gives = λ known rest serves.
+      let so_far = c.loop-stmt.invariant.gives known rest serves in
+      let flat = flat_with as_tree known c.args.locals in
+      let none = at_drop_all body_of c.args.body.now c.loop-stmt.stmt-index (omega arith) ∙ body_of_nil in (
+        sym (append-nil _) ∙ ap (λ xs. pieces_of c.loop-stmt.out.items ++ xs) (sym (ap flat none)) ∙ so_far.0,
+        subst (λ b. Serves c.args.scope.now known c.loop-stmt.table (uses_of b ++ rest)) none so_far.1,
+      );
+  keeps = c.loop-stmt.invariant.keeps;
+}

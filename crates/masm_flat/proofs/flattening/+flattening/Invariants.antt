@@ -1,19 +1,24 @@
-use Rattle.std.proofs.Common.{◌≡◌, ◌+◌, ◌*◌, ◌≤◌, ◌++◌, drop}
+use Rattle.std.proofs.Common.{◌≡◌, ℕ, ◌+◌, ◌*◌, ◌≤◌, List, ◌++◌, drop}
+use Rattle.block_tree.specs.Trees.{Tree}
 use Rattle.masm_tree.specs.Trees.{Empty}
 use Rattle.masm_tree.specs.Views.{stmt_view, body_of}
 use Rattle.masm_flat.specs.Blocks.{as_tree}
-use Rattle.masm_flat.specs.Flattening.{flat_with}
+use Rattle.masm_flat.specs.Flattening.{Known, flat_with}
 use Rattle.masm_tree.specs.Locals.{HasLocals}
-use Rattle.masm_flat.specs.KnownLists.{known_of}
+use Rattle.masm_flat.specs.Taking.{Keeps, Serves}
 use Rattle.masm_flat.specs.Views.{pieces_of}
+use Rattle.masm_names.specs.Uses.{Use, uses_of}
 use Rattle.masm_flat.proofs.Statements.{weight}
 use Rattle.masm_flat.proofs.flattening.+flattening.Given as goal
 
 abbrev pub invariant-flatten-loop-stmt : goal.invariant-flatten-loop-stmt
 invariant-flatten-loop-stmt l = record {
-  flat :
-      pieces_of l.out.items ++ flat_with as_tree (known_of l.lists) l.locals (body_of (drop l.stmt-index l.body))
-      ≡ pieces_of l.fn.out.items ++ flat_with as_tree (known_of l.lists) l.locals (body_of l.body);
+  gives :
+      (known : Known Tree) (rest : List Use) → Serves l.scope known l.fn.table (uses_of (body_of l.body) ++ rest)
+      → (pieces_of l.out.items ++ flat_with as_tree known l.locals (body_of (drop l.stmt-index l.body))
+      ≡ pieces_of l.fn.out.items ++ flat_with as_tree known l.locals (body_of l.body))
+      × Serves l.scope known l.table (uses_of (body_of (drop l.stmt-index l.body)) ++ rest);
+  keeps : Keeps l.fn.table l.table;
   locals : HasLocals l.locals (body_of (drop l.stmt-index l.body));
   light : weight (body_of (drop l.stmt-index l.body)) ≤ weight (body_of l.body);
 }

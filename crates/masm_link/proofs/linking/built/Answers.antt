@@ -1,4 +1,5 @@
-use Rattle.std.proofs.Common.{subst}
+use Rattle.std.proofs.Common.{sym, subst}
+use Rattle.std.specs.List.{All}
 use Rattle.block_tree.specs.TreeView.{tree_of}
 use Rattle.masm_flat.specs.Blocks.{as_tree, whole}
 use Rattle.masm_flat.specs.Flattening.{flat_with}
@@ -7,17 +8,24 @@ use Rattle.masm_flat.specs.Lists.{with_locals}
 use Rattle.masm_tree.specs.Views.{body_of, source_of}
 use Rattle.masm_tables.specs.Building.{AreBuilt}
 use Rattle.masm_tables.specs.Tables.{AreLists}
+use Rattle.masm_names.specs.Names.{place_at}
+use Rattle.masm_uses.specs.Plans.{EndsInFull}
 use Rattle.masm_link.proofs.Linked.{linked_is, some_same}
 use Rattle.masm_link.proofs.linking.built.Goals as goal
+
+pub lists_of-requires-clause-ended : goal.lists_of-requires-clause-ended
+lists_of-requires-clause-ended c =
+    subst (All (EndsInFull (place_at c.args.measured.now.names) (source_of c.args.ast.now).procs)) (sym c.deref.ensures.value)
+    c.requires.measured.ended
 
 pub returns-clause-linked : goal.returns-clause-linked
 returns-clause-linked c = λ exports are.
     let ast = c.args.ast.now in
     let m = c.args.measured.now in
     let kernel = c.args.kernel.now.procs.now in
-    let lists = c.in_ok-lists.lists.items in
+    let lists = c.in_ok-table.table.lists.items in
     let out = c.in_ok-exports.exports.items in
-    let known : AreLists (source_of ast) exports lists = c.in_ok-lists.ensures.lists exports are in
+    let known : AreLists (source_of ast) exports lists = c.in_ok-table.ensures.lists exports are in
     let built =
     subst (λ ls. AreBuilt m.sizes.items ls ast.procs.items out) c.deref-4.ensures.value
     (subst (λ ss. AreBuilt ss c.deref-4.result.now ast.procs.items out) c.deref-3.ensures.value
@@ -29,6 +37,6 @@ pub returns-clause-main : goal.returns-clause-main
 returns-clause-main c =
     some_same tree_of
     (λ p. whole as_tree (with_locals p.locals
-    (flat_with as_tree (lists_known c.args.measured.now.names c.in_ok-lists.lists.items c.args.kernel.now.procs.now)
+    (flat_with as_tree (lists_known c.args.measured.now.names c.in_ok-table.table.lists.items c.args.kernel.now.procs.now)
     p.locals (body_of p.body.items))))
     c.in_ok-main.main c.args.ast.now.main c.in_ok-main.ensures

@@ -1,15 +1,21 @@
-use Rattle.std.proofs.Common.{◌≡◌, List, Option, Some, Vec, Global, sym, ap, ◌∙◌}
+use Rattle.std.proofs.Common.{◌≡◌, List, [], refl, subst, Option, Some, Vec, Global, sym, ap, ◌∙◌}
 use Rattle.std.specs.Option.{option_map}
 use Rattle.block_tree.specs.Trees.{Tree}
 use Rattle.masm_tree.specs.declared.tree.Proc.{Proc}
-use Rattle.masm_tree.specs.Views.{body_of}
+use Rattle.masm_tree.specs.Views.{body_of, procedure_of}
 use Rattle.masm_names.specs.declared.names.Names.{Names}
 use Rattle.masm_flat.specs.declared.kernel.KernelProc.{KernelProc}
 use Rattle.masm_flat.specs.Blocks.{Piece, as_tree, whole}
-use Rattle.masm_flat.specs.Flattening.{flat_with}
+use Rattle.masm_flat.specs.declared.known.Scope.{Scope}
+use Rattle.masm_flat.specs.Flattening.{Known, flat_with}
 use Rattle.masm_flat.specs.Lists.{with_locals}
 use Rattle.masm_flat.specs.declared.piece.Piece as piece
 use Rattle.masm_flat.specs.KnownLists.{lists_known}
+use Rattle.masm_names.specs.Names.{place_at}
+use Rattle.masm_names.specs.UsedPlaces.{places_used}
+use Rattle.masm_names.specs.Uses.{uses_of}
+use Rattle.masm_uses.specs.Plans.{IsNoneOrAll, main_uses}
+use Rattle.masm_tables.proofs.Taken.{counted_in, serves_start, all_of}
 use Rattle.masm_tables.proofs.building.main_tree.Goals as goal
 
 -- the tree of a list that is built with lists that are lent
@@ -27,6 +33,15 @@ tree_is main p names kernel lent lists pieces tree there same listed built =
 
 pub returns : goal.returns
 returns c =
-    tree_is c.args.main.now _ c.args.names.now c.args.kernel.now.procs.now c.as_slice.result.now c.args.lists.items _ _ c.in-Some.is
-    c.as_slice.ensures.value
-    c.in_ok-list.ensures c.in_ok-tree_of_list.ensures
+    let scope : Scope = record { names = c.args.names; kernel = c.args.kernel } in
+    let p = c.in-Some.procedure in
+    let mid = c.expect.new.self in
+    let uses = uses_of (body_of p.body.items) in
+    let all = c.requires.uses ∙ ap (λ main. main_uses (place_at c.args.names.now) (option_map procedure_of main)) c.in-Some.is in
+    let counted = counted_in c.args.table mid c.args.uses.now c.args.uses.now c.expect.ensures.count refl c.expect.ensures.left in
+    let known : Known Tree = lists_known c.args.names.now mid.lists.items c.args.kernel.now.procs.now in
+    let ends : IsNoneOrAll c.args.uses.now (places_used (place_at c.args.names.now) uses) =
+    subst (IsNoneOrAll c.args.uses.now) all (all_of c.args.uses.now) in
+    let gives = c.in_ok-list.ensures.gives known [] (serves_start mid c.args.uses.now counted scope uses ends) in
+    tree_is c.args.main.now _ c.args.names.now c.args.kernel.now.procs.now mid.lists.items c.args.table.lists.items _ _ c.in-Some.is
+    (ap (λ v. v.items) c.expect.ensures.lists) gives.0 c.in_ok-tree_of_list.ensures

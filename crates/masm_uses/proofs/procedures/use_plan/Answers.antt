@@ -6,10 +6,11 @@ use Rattle.graphs.specs.Graph.{rows_of, IsGraph, Edge}
 use Rattle.masm_graph.specs.Links.{links_in, own_places}
 use Rattle.masm_names.specs.Names.{place_at}
 use Rattle.graphs.specs.Orders.{IsAcyclic, IsOrder}
-use Rattle.masm_uses.specs.Plans.{Builds}
+use Rattle.std.specs.List.{All}
+use Rattle.masm_uses.specs.Plans.{Builds, EndsInGraph}
 use Rattle.masm_tree.specs.declared.tree.Proc.{Proc}
 use Rattle.masm_tree.specs.Views.{source_of}
-use Rattle.masm_uses.proofs.PlanSources.{row_within, plan-is}
+use Rattle.masm_uses.proofs.PlanSources.{row_within, plan-is, steps_end, main_used}
 use Rattle.masm_uses.proofs.UseOrderLemmas.{counts, is-graph, is-acyclic, use-order}
 use Rattle.masm_uses.proofs.procedures.use_plan.Goals as goal
 
@@ -116,4 +117,24 @@ returns-clause-steps c =
     (λ q is. c.in_ok-wanted.ensures.exported q (ap (λ ps. get_or (map (λ (p : Proc). p.exported) ps) q false) c.as_slice-procs.ensures.value ∙ is))
     c.in_ok-wanted.ensures.used
     (subst (λ g. Builds (Edge g) (length g) (λ q. get_or marks q false ≡ true) (λ q. ⊥) (reverse c.in_ok-steps.steps.items)) graph
-    c.in_ok-steps.ensures)
+    c.in_ok-steps.ensures.builds)
+
+pub returns-clause-ended : goal.returns-clause-ended
+returns-clause-ended c =
+    let own : List ℕ → Option ℕ = place_at c.args.names.now in
+    let kernel : List ℕ → Option ℕ = place_at c.in_ok-exports.exports in
+    let procs = c.args.ast.now.procs.items in
+    let graph =
+    graph_is own kernel procs c.as_slice-procs.result.now c.in_ok-rows.rows.items c.as_slice-3.result.now
+    c.in_ok-graph.graph.items c.as_slice-graph.result.now
+    c.as_slice-procs.ensures.value c.as_slice-3.ensures.value c.as_slice-graph.ensures.value c.in_ok-rows.ensures c.in_ok-graph.ensures in
+    let steps = c.in_ok-steps.steps.items in
+    steps_end own kernel procs steps (subst (λ g. All (EndsInGraph g) steps) graph c.in_ok-steps.ensures.ended)
+
+pub returns-clause-main : goal.returns-clause-main
+returns-clause-main c =
+    let own : List ℕ → Option ℕ = place_at c.args.names.now in
+    let kernel : List ℕ → Option ℕ = place_at c.in_ok-exports.exports in
+    let ast = c.args.ast.now in
+    main_used own kernel ast.main c.in_ok-row.row.items
+    (c.in_ok-row.ensures ∙ ap own_places (c.as_slice.ensures.value ∙ c.in_ok-main.ensures))

@@ -1,5 +1,5 @@
 use Rattle.std.proofs.Common.{◌≡◌, length}
-use Rattle.masm_tables.proofs.listing.empty_lists.Given as goal
+use Rattle.masm_flat.proofs.table.Table.new.Given as goal
 
 abbrev pub invariant-loop : goal.invariant-loop
 invariant-loop l = length l.lists.items ≡ l.counter

@@ -1,0 +1,242 @@
+-- What a table serves, use by use.
+use Rattle.std.proofs.Common.{◌≡◌, ◌≢◌, ℕ, ◌+◌, ◌-◌, ◌<◌, ◌≤◌, List, [], ◌∷◌, ◌++◌, length, set, get_or, Option, Some, None, Result, Ok, Err, Vec, Global, zero, suc, ◌⊎◌, inl, inr, refl, sym, ap, ap₂, subst, ◌∙◌, append_assoc, arith}
+use Rattle.std.proofs.lemmas.Bool.{cases_lt}
+use Rattle.std.proofs.lemmas.Bool.Decides.{eqb_tells}
+use Rattle.std.proofs.lemmas.List.{append-nil, get_or-set_same, get_or-set_other, get_or_past, length-set}
+use Rattle.std.proofs.lemmas.List.Elements.{Contains-append_right}
+use Rattle.std.specs.List.{Contains, cons_option}
+use Rattle.std.specs.Option.{option_map}
+use Rattle.std.specs.Prelude.{unwrap_or, slice_get, OnOk}
+use Rattle.std.proofs.lemmas.Option.{slice_get_read, slice_get_past}
+use Rattle.block_tree.specs.Trees.{Tree}
+use Rattle.masm_tree.specs.declared.tree.Position.{Position}
+use Rattle.masm_tree.specs.declared.tree.Stmt.{Stmt}
+use Rattle.masm_tree.specs.Trees.{Empty}
+use Rattle.masm_tree.specs.Views.{stmt_view, body_of}
+use Rattle.masm_flat.specs.declared.known.Scope.{Scope}
+use Rattle.masm_flat.specs.declared.table.Table.{Table}
+use Rattle.masm_flat.specs.declared.piece.Piece as code
+use Rattle.masm_flat.specs.Blocks.{Piece, as_tree}
+use Rattle.masm_flat.specs.Flattening.{Known, flat_with}
+use Rattle.masm_flat.specs.KnownLists.{list_at, tree_at}
+use Rattle.masm_flat.specs.Taking.{left_at, TakesList, Keeps, Serves, ComesTo}
+use Rattle.masm_flat.specs.Views.{pieces_of}
+use Rattle.masm_names.specs.Names.{place_at}
+use Rattle.masm_names.specs.UsedPlaces.{place_used, places_used, times_among}
+use Rattle.masm_names.specs.Uses.{Use, Own, Kernel, use_at, uses_of}
+use Rattle.masm_names.proofs.TimesAmong.{times_yes, times_no, times_some}
+
+-- lists that stay
+
+pub keeps_same : (t : Table) → Keeps t t
+keeps_same t = record { lists = λ q h. refl; left = λ q h. h; count = refl; left_count = refl }
+
+pub keeps_then : (a b c : Table) → Keeps a b → Keeps b c → Keeps a c
+keeps_then a b c first second = record {
+  lists = λ q h. second.lists q (first.left q h) ∙ first.lists q h;
+  left = λ q h. second.left q (first.left q h);
+  count = second.count ∙ first.count;
+  left_count = second.left_count ∙ first.left_count;
+}
+
+-- a use of a list, which is the next of those that are left
+
+module _ (place : ℕ) (old new : Table) (takes : TakesList place old new) where
+  left_here : left_at new place ≡ left_at old place - 1
+  left_here = elim (cases_lt place (length old.left.items)) [
+    | inl low ↦ ap (λ xs. get_or xs place 0) takes.left ∙ get_or-set_same old.left.items place (left_at old place - 1) 0 low
+    | inr past ↦
+        let now = get_or_past new.left.items place 0 (let count = ap length takes.left in let same = length-set old.left.items place (left_at old place - 1) in omega arith) in
+        let was = get_or_past old.left.items place 0 past in omega arith
+  ]
+
+  left_there : (q : ℕ) → q ≢ place → left_at new q ≡ left_at old q
+  left_there q apart = ap (λ xs. get_or xs q 0) takes.left ∙ get_or-set_other old.left.items place q (left_at old place - 1) 0 apart
+
+  pub keeps_taking : Keeps old new
+  keeps_taking = record {
+    lists = λ q h. elim (eqb_tells q place) [
+      | inl same ↦ ap (λ v. slice_get v.items q) (takes.stays (λ one. absurd (omega (arith, one, ap (left_at old) (sym same.1) ∙ h))))
+      | inr apart ↦ takes.others q apart.1
+    ];
+    left = λ q h. elim (eqb_tells q place) [
+      | inl same ↦ let here = left_here in let at = ap (left_at new) same.1 in let was = ap (left_at old) (sym same.1) ∙ h in omega arith
+      | inr apart ↦ left_there q apart.1 ∙ h
+    ];
+    count = takes.count;
+    left_count = ap length takes.left ∙ length-set old.left.items place (left_at old place - 1);
+  }
+
+same_list : (old new : Table) (q : ℕ) → slice_get new.lists.items q ≡ slice_get old.lists.items q
+    → list_at new.lists.items (Some q) ≡ list_at old.lists.items (Some q)
+same_list old new q same = ap (λ o. unwrap_or (option_map (λ v. pieces_of v.items) o) []) same
+
+module _ (scope : Scope) (known : Known Tree) (rest : List Use) where
+  abbrev own : List ℕ → Option ℕ
+  own = place_at scope.names.now
+
+  later : (u v : Use) → Contains rest v → Contains (u ∷ rest) v
+  later u v has = Contains-append_right (u ∷ []) rest v has
+
+  -- a use that leads to no list
+  pub serves_none : (u : Use) (table : Table) → place_used own u.kind u.name ≡ None → Serves scope known table (u ∷ rest) → Serves scope known table rest
+  serves_none u table none serves = record {
+    exported = serves.exported;
+    lists = λ v has kind. serves.lists v (later u v has) kind;
+    left = λ q. elim (serves.left q) [
+      | inl stays ↦ inl stays
+      | inr counted ↦ inr (counted ∙ ap (λ o. times_among (cons_option o (places_used own rest)) q) none)
+    ];
+  }
+
+  -- a use of the list at a place
+  module _ (u : Use) (place : ℕ) (old new : Table) (leads : place_used own u.kind u.name ≡ Some place)
+      (takes : TakesList place old new) (serves : Serves scope known old (u ∷ rest)) where
+    counted_here : times_among (places_used own (u ∷ rest)) place ≡ 1 + times_among (places_used own rest) place
+    counted_here = elim (eqb_tells place place) [
+      | inl same ↦ ap (λ o. times_among (cons_option o (places_used own rest)) place) leads ∙ times_yes place (places_used own rest) place same.0
+      | inr apart ↦ absurd (apart.1 refl)
+    ]
+
+    -- where the list is used again it stays
+    stays_for : 1 ≤ times_among (places_used own rest) place → left_at old place ≢ 1
+    stays_for more one = elim (serves.left place) [
+      | inl none ↦ absurd (omega (arith, none, one))
+      | inr counted ↦ absurd (omega (arith, counted, one, more, counted_here))
+    ]
+
+    list_of : (v : Use) → Contains rest v → v.kind ≡ Own → (o : Option ℕ) → own v.name ≡ o → list_at new.lists.items o ≡ list_at old.lists.items o
+    list_of v has kind None none = refl
+    list_of v has kind (Some q) found = elim (eqb_tells q place) [
+      | inl same ↦
+          ap (λ lists. list_at lists.items (Some q)) (takes.stays (stays_for (times_some own rest v place has kind (found ∙ ap Some same.1))))
+      | inr apart ↦ same_list old new q (takes.others q apart.1)
+    ]
+
+    pub serves_next : Serves scope known new rest
+    serves_next = record {
+      exported = serves.exported;
+      lists = λ v has kind. list_of v has kind (own v.name) refl ∙ serves.lists v (later u v has) kind;
+      left = λ q. elim (eqb_tells q place) [
+        | inl same ↦ elim (serves.left place) [
+          | inl none ↦ inl (let here = left_here place old new takes in let at = ap (left_at new) same.1 in omega arith)
+          | inr counted ↦ inr (ap (left_at new) same.1 ∙ (left_here place old new takes
+              ∙ (minus_one (left_at old place) _ (counted ∙ counted_here) ∙ ap (times_among (places_used own rest)) (sym same.1))))
+        ]
+        | inr apart ↦ elim (serves.left q) [
+          | inl none ↦ inl (left_there place old new takes q apart.1 ∙ none)
+          | inr counted ↦ inr (left_there place old new takes q apart.1 ∙ (counted
+              ∙ (ap (λ o. times_among (cons_option o (places_used own rest)) q) leads ∙ times_no place (places_used own rest) q apart.0)))
+        ]
+      ];
+    }
+      where
+        minus_one : (n m : ℕ) → n ≡ 1 + m → n - 1 ≡ m
+        minus_one n m e = omega arith
+
+-- results of one step behind another
+
+pub comes_same : {A : Type 0} (scope : Scope) (table : Table) (value : Known Tree → A) (result : A) → ((known : Known Tree) → result ≡ value known)
+    → ComesTo scope [] value table table result
+comes_same scope table value result is = record { gives = λ known rest serves. (is known, serves); keeps = keeps_same table }
+
+pub comes_then : {A B C : Type 0} (scope : Scope) (us vs : List Use) (f : Known Tree → A) (g : Known Tree → B) (h : A → B → C) (old mid new : Table)
+    (a : A) (b : B) → ComesTo scope us f old mid a → ComesTo scope vs g mid new b
+    → ComesTo scope (us ++ vs) (λ known. h (f known) (g known)) old new (h a b)
+comes_then scope us vs f g h old mid new a b first second = record {
+  gives = λ known rest serves.
+      let one = first.gives known (vs ++ rest) (subst (Serves scope known old) (append_assoc us vs rest) serves) in
+      let two = second.gives known rest one.1 in
+      (ap₂ h one.0 two.0, two.1);
+  keeps = keeps_then old mid new first.keeps second.keeps;
+}
+
+-- the same uses, and the same value
+pub comes_as : {A B : Type 0} (scope : Scope) (us vs : List Use) (f : Known Tree → A) (g : Known Tree → B) (h : A → B) (old new : Table)
+    (a : A) (b : B) → vs ≡ us → ((known : Known Tree) → h (f known) ≡ g known) → b ≡ h a → ComesTo scope us f old new a → ComesTo scope vs g old new b
+comes_as scope us vs f g h old new a b same value is comes = record {
+  gives = λ known rest serves.
+      let one = comes.gives known rest (subst (λ xs. Serves scope known old (xs ++ rest)) same serves) in
+      (is ∙ (ap h one.0 ∙ value known), one.1);
+  keeps = comes.keeps;
+}
+
+-- the list of a name
+pub comes_used : (scope : Scope) (at : Position) (name : List ℕ) (place : ℕ) (old new : Table) (before after : List (Piece Tree))
+    → place_at scope.names.now name ≡ Some place → TakesList place old new → after ≡ before ++ list_at old.lists.items (Some place)
+    → ComesTo scope (use_at at Own name ∷ []) (λ known. before ++ known.list name) old new after
+comes_used scope at name place old new before after leads takes is = record {
+  gives = λ known rest serves.
+      let u = use_at at Own name in (
+        is ∙ ap (λ xs. before ++ xs)
+            (ap (list_at old.lists.items) (sym leads) ∙ serves.lists u (0, omega arith, refl) refl),
+        serves_next scope known rest u place old new leads takes serves,
+      );
+  keeps = keeps_taking place old new takes;
+}
+
+pub comes_unused : (scope : Scope) (at : Position) (name : List ℕ) (table : Table) (before : List (Piece Tree))
+    → place_at scope.names.now name ≡ None
+    → ComesTo scope (use_at at Own name ∷ []) (λ known. before ++ known.list name) table table before
+comes_unused scope at name table before leads = record {
+  gives = λ known rest serves.
+      let u = use_at at Own name in (
+        sym (append-nil before)
+            ∙ ap (λ xs. before ++ xs) (ap (list_at table.lists.items) (sym leads) ∙ serves.lists u (0, omega arith, refl) refl),
+        serves_none scope known rest u table leads serves,
+      );
+  keeps = keeps_same table;
+}
+
+-- a system call, whose block the kernel has
+pub comes_exported : {A : Type 0} (scope : Scope) (at : Position) (name : List ℕ) (table : Table) (f : Tree → A) (result : A)
+    → result ≡ f (tree_at scope.kernel.now.procs.now name)
+    → ComesTo scope (use_at at Kernel name ∷ []) (λ known. f (known.exported name)) table table result
+comes_exported scope at name table f result is = record {
+  gives = λ known rest serves. (
+    is ∙ ap f (sym (serves.exported name)),
+    serves_none scope known rest (use_at at Kernel name) table refl serves,
+  );
+  keeps = keeps_same table;
+}
+
+-- the list of one statement
+pub comes_statement : {A : Type 0} (scope : Scope) (locals : ℕ) (s : Stmt) (us : List Use) (f : Known Tree → A) (h : A → List (Piece Tree))
+    (old new : Table) (before after : List (Piece Tree)) (a : A) → uses_of (stmt_view s Empty) ≡ us
+    → ((known : Known Tree) → flat_with as_tree known locals (stmt_view s Empty) ≡ h (f known)) → after ≡ before ++ h a → ComesTo scope us f old new a
+    → ComesTo scope (uses_of (stmt_view s Empty)) (λ known. before ++ flat_with as_tree known locals (stmt_view s Empty)) old new after
+comes_statement scope locals s us f h old new before after a uses flat is comes =
+    comes_as scope us (uses_of (stmt_view s Empty)) f (λ known. before ++ flat_with as_tree known locals (stmt_view s Empty)) (λ x. before ++ h x) old new
+    a after uses (λ known. ap (λ xs. before ++ xs) (sym (flat known))) is comes
+
+-- the list of a body, as it is lent
+pub comes_body : (scope : Scope) (locals : ℕ) (lent body : List Stmt) (old new : Table) (pieces : List (Piece Tree)) → lent ≡ body
+    → ComesTo scope (uses_of (body_of lent)) (λ known. flat_with as_tree known locals (body_of lent)) old new pieces
+    → ComesTo scope (uses_of (body_of body)) (λ known. flat_with as_tree known locals (body_of body)) old new pieces
+comes_body scope locals lent body old new pieces same comes =
+    subst (λ b. ComesTo scope (uses_of (body_of b)) (λ known. flat_with as_tree known locals (body_of b)) old new pieces) same comes
+
+pub on_ok : {X E : Type 0} (r : Result X E) (P Q : Type 0) → (P → Q) → OnOk r P → OnOk r Q
+on_ok (Ok x) P Q f h = f h
+on_ok (Err e) P Q f h = h
+
+pub on_both : {X E : Type 0} (r : Result X E) (P Q R : Type 0) → (P → Q → R) → OnOk r P → OnOk r Q → OnOk r R
+on_both (Ok x) P Q R f h k = f h k
+on_both (Err e) P Q R f h k = h
+
+-- lists at their places
+pub got_other : {X : Type 0} (xs : List X) (i q : ℕ) (x : X) → q ≢ i → slice_get (set xs i x) q ≡ slice_get xs q
+got_other [] i q x apart = refl
+got_other (y ∷ xs) zero zero x apart = absurd (apart refl)
+got_other (y ∷ xs) zero (suc q) x apart = refl
+got_other (y ∷ xs) (suc i) zero x apart = refl
+got_other (y ∷ xs) (suc i) (suc q) x apart = got_other xs i q x (λ same. apart (ap suc same))
+
+pub list_read : (lists : List (Vec code.Piece Global)) (place : ℕ) (v : Vec code.Piece Global) → place < length lists → v ≡ get_or lists place v
+    → list_at lists (Some place) ≡ pieces_of v.items
+list_read lists place v low is =
+    ap (λ o. unwrap_or (option_map (λ (w : Vec code.Piece Global). pieces_of w.items) o) []) (slice_get_read lists (length lists) place v refl low is)
+
+pub list_past : (lists : List (Vec code.Piece Global)) (place : ℕ) → length lists ≤ place → list_at lists (Some place) ≡ []
+list_past lists place past =
+    ap (λ o. unwrap_or (option_map (λ (w : Vec code.Piece Global). pieces_of w.items) o) []) (slice_get_past lists place past)

@@ -1,6 +1,0 @@
-use Rattle.std.proofs.Common.{take}
-use Rattle.masm_uses.specs.Plans.{MarksRow}
-use Rattle.masm_uses.proofs.planning.mark_row.Given as goal
-
-abbrev pub invariant-loop-place : goal.invariant-loop-place
-invariant-loop-place l = MarksRow l.fn.marks.items (take l.place-index l.row) l.marks.items l.fresh.items
