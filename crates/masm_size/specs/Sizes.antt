@@ -187,7 +187,7 @@ times_size zero s = nothing
 times_size (suc n) s = limited (suc n * s.operations) (row_times n s.row)
 
 abbrev pub join_heights : ℕ → ℕ → ℕ
-join_heights a b = min (1 + max a b) 1025
+join_heights a b = min (1 + max a b) (most_nesting + 1)
 
 abbrev pub one_high : List Item → ℕ
 one_high items = 1
@@ -201,7 +201,7 @@ abbrev pub is_joined : (count index : ℕ) → Bool
 is_joined count index = nat_lt (index + 1) count || nat_eq (count % 2) 0
 
 abbrev pub height_next : (count index height : ℕ) → ℕ
-height_next count index height = if is_joined count index then min (1 + height) 1025 else height
+height_next count index height = if is_joined count index then min (1 + height) (most_nesting + 1) else height
 
 -- how high a block of this height comes to stand among so many, on at most so many levels
 abbrev pub height_within : (levels count index height : ℕ) → ℕ
