@@ -46,7 +46,9 @@ module _ (place : ℕ) (old new : Table) (takes : TakesList place old new) where
   left_here = elim (cases_lt place (length old.left.items)) [
     | inl low ↦ ap (λ xs. get_or xs place 0) takes.left ∙ get_or-set_same old.left.items place (left_at old place - 1) 0 low
     | inr past ↦
-        let now = get_or_past new.left.items place 0 (let count = ap length takes.left in let same = length-set old.left.items place (left_at old place - 1) in omega arith) in
+        let count = ap length takes.left in
+        let same = length-set old.left.items place (left_at old place - 1) in
+        let now = get_or_past new.left.items place 0 (omega arith) in
         let was = get_or_past old.left.items place 0 past in omega arith
   ]
 
@@ -79,7 +81,8 @@ module _ (scope : Scope) (known : Known Tree) (rest : List Use) where
   later u v has = Contains-append_right (u ∷ []) rest v has
 
   -- a use that leads to no list
-  pub serves_none : (u : Use) (table : Table) → place_used own u.kind u.name ≡ None → Serves scope known table (u ∷ rest) → Serves scope known table rest
+  pub serves_none : (u : Use) (table : Table) → place_used own u.kind u.name ≡ None → Serves scope known table (u ∷ rest)
+      → Serves scope known table rest
   serves_none u table none serves = record {
     exported = serves.exported;
     lists = λ v has kind. serves.lists v (later u v has) kind;
@@ -206,8 +209,8 @@ pub comes_statement : {A : Type 0} (scope : Scope) (locals : ℕ) (s : Stmt) (us
     → ((known : Known Tree) → flat_with as_tree known locals (stmt_view s Empty) ≡ h (f known)) → after ≡ before ++ h a → ComesTo scope us f old new a
     → ComesTo scope (uses_of (stmt_view s Empty)) (λ known. before ++ flat_with as_tree known locals (stmt_view s Empty)) old new after
 comes_statement scope locals s us f h old new before after a uses flat is comes =
-    comes_as scope us (uses_of (stmt_view s Empty)) f (λ known. before ++ flat_with as_tree known locals (stmt_view s Empty)) (λ x. before ++ h x) old new
-    a after uses (λ known. ap (λ xs. before ++ xs) (sym (flat known))) is comes
+    comes_as scope us (uses_of (stmt_view s Empty)) f (λ known. before ++ flat_with as_tree known locals (stmt_view s Empty)) (λ x. before ++ h x)
+    old new a after uses (λ known. ap (λ xs. before ++ xs) (sym (flat known))) is comes
 
 -- the list of a body, as it is lent
 pub comes_body : (scope : Scope) (locals : ℕ) (lent body : List Stmt) (old new : Table) (pieces : List (Piece Tree)) → lent ≡ body

@@ -105,7 +105,8 @@ fn add_statement(
 ) -> Result<(), Memory>
     requires { HasLocals locals (stmt_view stmt.now Empty) }
     ensures { OnOk result (ComesTo scope.now (uses_of (stmt_view stmt.now Empty))
-        (λ known. pieces_of out.old.items ++ flat_with as_tree known locals (stmt_view stmt.now Empty)) table.old table.new (pieces_of out.new.items)) }
+        (λ known. pieces_of out.old.items ++ flat_with as_tree known locals (stmt_view stmt.now Empty)) table.old table.new
+        (pieces_of out.new.items)) }
 {
     match stmt {
         Stmt::Instr(_, instr) => add_instr(alloc, instr, locals, out),

@@ -76,7 +76,8 @@ add_statement-returns-in-Exec t c =
     (λ known. out ++ flat_with as_tree known locals (stmt_view c.args.stmt.now Empty)) (λ xs. xs) c.args.table.now c.add_used.new.table
     (pieces_of c.add_used.new.out.items) (pieces_of c.add_used.new.out.items)
     (ap (λ s. uses_of (stmt_view s Empty)) c.in-Exec.is ∙ uses-Exec at name)
-    (λ known. ap (λ xs. out ++ xs) (sym (ap (λ s. flat_with as_tree known locals (stmt_view s Empty)) c.in-Exec.is ∙ flat-Exec as_tree known locals at name)))
+    (λ known. ap (λ xs. out ++ xs) (sym (ap (λ s. flat_with as_tree known locals (stmt_view s Empty)) c.in-Exec.is
+    ∙ flat-Exec as_tree known locals at name)))
     refl (comes at)) c.add_used.ensures
 
 pub add_statement-returns-in_ok-called-in-Call : goal.add_statement-returns-in_ok-called-in-Call
@@ -103,7 +104,8 @@ add_statement-returns-in_ok-kernel_called-in-Syscall t c =
     (λ t. Whole t ∷ []) c.args.table.now c.args.table.now (pieces_of c.args.out.now.items) (pieces_of c.add_tree-in-Syscall.new.out.items) tree
     (ap (λ s. uses_of (stmt_view s Empty)) c.in-Syscall.is ∙ uses-Syscall at name)
     (λ known. ap (λ s. flat_with as_tree known locals (stmt_view s Empty)) c.in-Syscall.is ∙ flat-Syscall as_tree known locals at name)
-    is (comes_exported c.args.scope.now at name c.args.table.now trees.Syscall tree c.in_ok-kernel_called-in-Syscall.ensures)) c.add_tree-in-Syscall.ensures
+    is (comes_exported c.args.scope.now at name c.args.table.now trees.Syscall tree c.in_ok-kernel_called-in-Syscall.ensures))
+    c.add_tree-in-Syscall.ensures
 
 pub add_statement-returns-in_ok-split-in-If : goal.add_statement-returns-in_ok-split-in-If
 add_statement-returns-in_ok-split-in-If t c =
@@ -126,7 +128,8 @@ add_statement-returns-in_ok-split-in-If t c =
     on_ok c.add_tree-in-If.result _ _ (λ is.
     comes_statement scope locals c.args.stmt.now (uses_of (body_of xs.items) ++ uses_of (body_of ys.items))
     (λ known. trees.Split (whole as_tree (flat_with as_tree known locals (body_of xs.items))) (whole as_tree (flat_with as_tree known locals
-    (body_of ys.items)))) (λ t. Whole t ∷ []) old new out (pieces_of c.add_tree-in-If.new.out.items) (trees.Split (whole as_tree one) (whole as_tree zero))
+    (body_of ys.items)))) (λ t. Whole t ∷ []) old new out (pieces_of c.add_tree-in-If.new.out.items)
+    (trees.Split (whole as_tree one) (whole as_tree zero))
     (ap (λ s. uses_of (stmt_view s Empty)) c.in-If.is ∙ uses-If at xs ys)
     (λ known. ap (λ s. flat_with as_tree known locals (stmt_view s Empty)) c.in-If.is ∙ flat-If as_tree known locals at xs ys)
     (is ∙ ap (λ t. out ++ Whole t ∷ []) c.in_ok-split-in-If.ensures) both) c.add_tree-in-If.ensures

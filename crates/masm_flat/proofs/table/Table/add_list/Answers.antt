@@ -21,7 +21,8 @@ returns-then-not-is_last-clause-pieces c =
     let low : c.args.place < length lists = omega (arith, c.len.ensures) in
     on_ok c.add_copies.result _ _ (λ is.
     is ∙ ap (λ xs. pieces_of c.args.out.now.items ++ xs) (ap pieces_of c.deref.ensures.value
-    ∙ (sym (list_read lists c.args.place c.index.result.now low c.index.ensures) ∙ ap (λ v. list_at v.items (Some c.args.place)) same))) c.add_copies.ensures
+    ∙ (sym (list_read lists c.args.place c.index.result.now low c.index.ensures) ∙ ap (λ v. list_at v.items (Some c.args.place)) same)))
+    c.add_copies.ensures
 
 pub returns-clause-pieces : goal.returns-clause-pieces
 returns-clause-pieces c =
