@@ -5,7 +5,7 @@ use Rattle.air_kit.specs.OpcodeValues.{opcode_values}
 use Rattle.air_kit.specs.BoundaryValues.{boundary_values, start_values, inputs_values, end_values, outputs_values}
 use Rattle.air_kit.specs.BlockValues.{block_values, follow_values, shown_values, kept_values}
 use Rattle.air_kit.proofs.FaultLemmas.{first_append}
-use Rattle.air_blocks.specs.Entries.{spot_of}
+use Rattle.air_blocks.specs.Entries.{spot_with}
 
 -- an answer that joins the answers of two lists
 pub joined : (n m : ℕ) (xs ys : List ℕ) (a b r : Option (ℕ × ℕ)) → r ≡ or_next a b → a ≡ first_fault_of n xs
@@ -52,7 +52,7 @@ unfolding block_values follow_values shown_values kept_values family
 block_length p = refl
 
 -- the values of blocks do not ask for the row's number
-pub block_number : (n : ℕ) (x : List ℕ) (y : Option (List ℕ)) → block_values (spot_of 0 x y) ≡ block_values (spot_of n x y)
+pub block_number : (n : ℕ) (x : List ℕ) (y : Option (List ℕ)) → block_values (spot_with 0 x y) ≡ block_values (spot_with n x y)
 unfolding block_values follow_values shown_values kept_values family
 block_number n x y = refl
 

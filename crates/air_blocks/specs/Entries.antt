@@ -12,5 +12,5 @@ abbrev pub of_pair : PairEntry → List ℕ → List ℕ → ℕ
 of_pair entry x y = entry (flag x) (flag y) x y
 
 -- the place of a row of this number
-abbrev pub spot_of : ℕ → List ℕ → Option (List ℕ) → Spot
-spot_of number x y = record { row = number; cur = x; next = y }
+abbrev pub spot_with : ℕ → List ℕ → Option (List ℕ) → Spot
+spot_with number x y = record { row = number; cur = x; next = y }

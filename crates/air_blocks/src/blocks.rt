@@ -3,7 +3,7 @@ ghost use Rattle.std.specs.Prelude.{◌≡◌, ◌<◌, option_map};
 ghost use Rattle.air_kit.specs.BlockValues.{starts, batches, stays_inside, kind_flags, entry_60, entry_61, entry_62, entry_63, entry_64, entry_65, entry_66, entry_67, entry_68, entry_69, entry_70, entry_74, entry_75, entry_79, entry_80, entry_81, entry_82, entry_83, entry_84, entry_85, entry_89, entry_90, entry_91, follow_values, shown_values, kept_values, block_values};
 ghost use Rattle.air_kit.specs.Flags.{flag};
 ghost use Rattle.air_kit.specs.Places.{first_fault_of};
-ghost use Rattle.air_blocks.specs.Entries.{of_row, of_pair, spot_of};
+ghost use Rattle.air_blocks.specs.Entries.{of_row, of_pair, spot_with};
 
 use air_kit::{OpSet, Seen, first_nonzero, or_next};
 use vm_field::Felt;
@@ -248,7 +248,7 @@ fn entry_91<V: MainView>(x: &Seen<'_, V>, y: &Seen<'_, V>) -> Felt
 /// The first of entries 60 to 69 that is not 0.
 #[tactic(auto, unfolding(air_kit::specs::BlockValues::follow_values, air_kit::specs::Places::family))]
 fn follow_faults<V: MainView>(x: &Seen<'_, V>, next: &Option<Seen<'_, V>>) -> Option<(u16, Felt)>
-    ensures { result ≡ first_fault_of 60 (follow_values (spot_of 0 (V.cells x.now.row.now) (option_map (λ y. V.cells y.row.now) next.now))) }
+    ensures { result ≡ first_fault_of 60 (follow_values (spot_with 0 (V.cells x.now.row.now) (option_map (λ y. V.cells y.row.now) next.now))) }
 {
     match next {
         Some(y) => first_nonzero(
@@ -287,7 +287,7 @@ fn follow_faults<V: MainView>(x: &Seen<'_, V>, next: &Option<Seen<'_, V>>) -> Op
 /// The first of entries 70 to 81 that is not 0.
 #[tactic(auto, unfolding(air_kit::specs::BlockValues::shown_values, air_kit::specs::Places::family))]
 fn shown_faults<V: MainView>(x: &Seen<'_, V>, next: &Option<Seen<'_, V>>) -> Option<(u16, Felt)>
-    ensures { result ≡ first_fault_of 70 (shown_values (spot_of 0 (V.cells x.now.row.now) (option_map (λ y. V.cells y.row.now) next.now))) }
+    ensures { result ≡ first_fault_of 70 (shown_values (spot_with 0 (V.cells x.now.row.now) (option_map (λ y. V.cells y.row.now) next.now))) }
 {
     let _ = next;
     first_nonzero(
@@ -312,7 +312,7 @@ fn shown_faults<V: MainView>(x: &Seen<'_, V>, next: &Option<Seen<'_, V>>) -> Opt
 /// The first of entries 82 to 91 that is not 0.
 #[tactic(auto, unfolding(air_kit::specs::BlockValues::kept_values, air_kit::specs::Places::family))]
 fn kept_faults<V: MainView>(x: &Seen<'_, V>, next: &Option<Seen<'_, V>>) -> Option<(u16, Felt)>
-    ensures { result ≡ first_fault_of 82 (kept_values (spot_of 0 (V.cells x.now.row.now) (option_map (λ y. V.cells y.row.now) next.now))) }
+    ensures { result ≡ first_fault_of 82 (kept_values (spot_with 0 (V.cells x.now.row.now) (option_map (λ y. V.cells y.row.now) next.now))) }
 {
     match next {
         Some(y) => first_nonzero(
@@ -336,7 +336,7 @@ fn kept_faults<V: MainView>(x: &Seen<'_, V>, next: &Option<Seen<'_, V>>) -> Opti
 
 /// The first of entries 60 to 91 that is not 0.
 pub fn block_faults<V: MainView>(x: &Seen<'_, V>, next: &Option<Seen<'_, V>>) -> Option<(u16, Felt)>
-    ensures { result ≡ first_fault_of 60 (block_values (spot_of 0 (V.cells x.now.row.now) (option_map (λ y. V.cells y.row.now) next.now))) }
+    ensures { result ≡ first_fault_of 60 (block_values (spot_with 0 (V.cells x.now.row.now) (option_map (λ y. V.cells y.row.now) next.now))) }
 {
     let follow = follow_faults(x, next);
     let shown = shown_faults(x, next);

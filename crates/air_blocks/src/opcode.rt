@@ -2,7 +2,7 @@
 ghost use Rattle.std.specs.Prelude.{◌≡◌, ◌<◌, option_map};
 ghost use Rattle.air_kit.specs.OpcodeValues.{entry_1, entry_8, entry_9, entry_10, opcode_values};
 ghost use Rattle.air_kit.specs.Places.{first_fault_of};
-ghost use Rattle.air_blocks.specs.Entries.{of_row, of_pair, spot_of};
+ghost use Rattle.air_blocks.specs.Entries.{of_row, of_pair, spot_with};
 
 use air_kit::{OpSet, Seen, first_nonzero};
 use vm_field::Felt;
@@ -48,7 +48,7 @@ pub fn opcode_faults<V: MainView>(
     x: &Seen<'_, V>,
     next: &Option<Seen<'_, V>>,
 ) -> Option<(u16, Felt)>
-    ensures { result ≡ first_fault_of 1 (opcode_values (spot_of row (V.cells x.now.row.now) (option_map (λ y. V.cells y.row.now) next.now))) }
+    ensures { result ≡ first_fault_of 1 (opcode_values (spot_with row (V.cells x.now.row.now) (option_map (λ y. V.cells y.row.now) next.now))) }
 {
     let starts = if row == 0 { entry_9(x) } else { Felt::ZERO };
     let grows = match next {

@@ -12,7 +12,7 @@ use Rattle.air_kit.specs.Places.{first_fault_of}
 use Rattle.air_kit.specs.BlockValues.{starts, batches, calls, returns, kind_flags, entry_60, entry_61, entry_62, entry_63, entry_64, entry_65, entry_66, entry_67, entry_68, entry_69, entry_70, entry_74, entry_89, entry_90, entry_91, follow_values, kept_values, block_values}
 use Rattle.air_kit.proofs.FlagLemmas.{at_op, flags_of-hot}
 use Rattle.air_kit.proofs.ZeroLemmas.{Zeros}
-use Rattle.air_blocks.specs.Entries.{of_pair, of_row, spot_of}
+use Rattle.air_blocks.specs.Entries.{of_pair, of_row, spot_with}
 use Rattle.air_decoder.specs.Quick.{HasKind, IsBehindEnd, IsEnd, IsOpening, IsRepeat}
 use Rattle.air_decoder.specs.Quick.IsBehindEnd.{returned, kept}
 use Rattle.air_decoder.proofs.QuickLemmas.{FrameZero, block_clean, frame_free, frame_zeros, kept_list, no_kinds, shown_zeros}
@@ -55,7 +55,7 @@ block_flags x op has loop call syscall halt caller update span respan control = 
 
 -- Entries 60 to 69.
 follow_zeros : (x y : List ℕ) (op : Op) → BlockFlags (flag x) op → sp x ≡ 0 → of_pair entry_62 x y ≡ 0 → of_pair entry_66 x y ≡ 0
-    → of_row entry_67 x ≡ 0 → of_row entry_68 x ≡ 0 → of_row entry_69 x ≡ 0 → Zeros (follow_values (spot_of 0 x (Some y)))
+    → of_row entry_67 x ≡ 0 → of_row entry_68 x ≡ 0 → of_row entry_69 x ≡ 0 → Zeros (follow_values (spot_with 0 x (Some y)))
 unfolding follow_values batches entry_60 entry_61 entry_63 entry_64 entry_65
 follow_zeros x y op b outside child behind bit repeats ends = (
   b.halt,
@@ -114,7 +114,7 @@ unfolding entry_91
 no_batch_kept x y op b outside = rw (b.span, b.respan, outside) (simp zero-mul)
 
 opening_kept : (x y : List ℕ) (op : Op) → BlockFlags (flag x) op → one_hot op ops.End ≡ 0 → is_start_op op ≡ true → sp x ≡ 0 → IsOpening x y
-    → Zeros (kept_values (spot_of 0 x (Some y)))
+    → Zeros (kept_values (spot_with 0 x (Some y)))
 unfolding starts entry_89 entry_90
 opening_kept x y op b other start outside k =
     let end : flag x ops.End ≡ 0 = b.end ∙ other in
@@ -124,7 +124,7 @@ opening_kept x y op b other start outside k =
 -- The four operations.
 opening_clean : (x y : List ℕ) (op : Op) → BlockFlags (flag x) op → one_hot op ops.End ≡ 0 → one_hot op ops.Repeat ≡ 0
     → is_start_op op ≡ true → sp x ≡ 0
-    → of_row entry_67 x ≡ 0 → IsOpening x y → first_fault_of 60 (block_values (spot_of 0 x (Some y))) ≡ None
+    → of_row entry_67 x ≡ 0 → IsOpening x y → first_fault_of 60 (block_values (spot_with 0 x (Some y))) ≡ None
 opening_clean x y op b other once start outside bit k =
     let end : flag x ops.End ≡ 0 = b.end ∙ other in
     block_clean x y
@@ -133,13 +133,13 @@ opening_clean x y op b other once start outside bit k =
     (opening_kept x y op b other start outside k)
 
 pub join_clean : (x y : List ℕ) (op : Op) → HasOp x op → code_of op ≡ 70 → sp x ≡ 0 → IsOpening x y
-    → first_fault_of 60 (block_values (spot_of 0 x (Some y))) ≡ None
+    → first_fault_of 60 (block_values (spot_with 0 x (Some y))) ≡ None
 join_clean x y op has is outside k =
     let b = block_flags x ops.Join (subst (HasOp x) (code_of-different op ops.Join is) has) refl refl refl refl refl refl refl refl refl in
     opening_clean x y ops.Join b refl refl refl outside (no_condition x b.split b.loop) k
 
 pub split_clean : (x y : List ℕ) (op : Op) → HasOp x op → code_of op ≡ 71 → sp x ≡ 0 → s x 0 < 2 → IsOpening x y
-    → first_fault_of 60 (block_values (spot_of 0 x (Some y))) ≡ None
+    → first_fault_of 60 (block_values (spot_with 0 x (Some y))) ≡ None
 split_clean x y op has is outside bit k =
     let b = block_flags x ops.Split (subst (HasOp x) (code_of-different op ops.Split is) has) refl refl refl refl refl refl refl refl refl in
     opening_clean x y ops.Split b refl refl refl outside (condition_is x b.split b.loop bit) k
@@ -148,14 +148,14 @@ repeats_is : (x : List ℕ) → flag x ops.Repeat ≡ 1 → felt_sub (s x 0) 1 �
 unfolding entry_68
 repeats_is x again holds = rw (again, holds) refl
 
-repeat_kept : (x y : List ℕ) → BlockFlags (flag x) ops.Repeat → sp x ≡ 0 → IsRepeat x y → Zeros (kept_values (spot_of 0 x (Some y)))
+repeat_kept : (x y : List ℕ) → BlockFlags (flag x) ops.Repeat → sp x ≡ 0 → IsRepeat x y → Zeros (kept_values (spot_with 0 x (Some y)))
 unfolding starts entry_89 entry_90
 repeat_kept x y b outside k =
     kept_list x y (frame_zeros x y b.call b.syscall b.update (no_return x b.end) k.frame) (rw (b.starts_is, b.end, k.block) refl)
     (rw (k.level, b.starts_is, b.end) refl) (no_batch_kept x y ops.Repeat b outside)
 
 pub repeat_clean : (x y : List ℕ) (op : Op) → HasOp x op → code_of op ≡ 77 → sp x ≡ 0 → IsRepeat x y
-    → first_fault_of 60 (block_values (spot_of 0 x (Some y))) ≡ None
+    → first_fault_of 60 (block_values (spot_with 0 x (Some y))) ≡ None
 repeat_clean x y op has is outside k =
     let b = block_flags x ops.Repeat (subst (HasOp x) (code_of-different op ops.Repeat is) has) refl refl refl refl refl refl refl refl refl in
     block_clean x y
@@ -205,14 +205,14 @@ end_frame : (x y : List ℕ) → BlockFlags (flag x) ops.End → IsBehindEnd x y
 end_frame x y b (returned call) = frame_free x y b.call b.syscall b.update (end_returns x 1 b.end call)
 end_frame x y b (kept none frame) = frame_zeros x y b.call b.syscall b.update (end_returns x 0 b.end none) frame
 
-end_kept : (x y : List ℕ) → BlockFlags (flag x) ops.End → sp x ≡ 0 → IsEnd x y → Zeros (kept_values (spot_of 0 x (Some y)))
+end_kept : (x y : List ℕ) → BlockFlags (flag x) ops.End → sp x ≡ 0 → IsEnd x y → Zeros (kept_values (spot_with 0 x (Some y)))
 unfolding starts entry_89 entry_90
 end_kept x y b outside k =
     kept_list x y (end_frame x y b k.behind) (rw (b.starts_is, b.end) (simp zero-mul)) (rw (b.starts_is, b.end, k.level) refl)
     (no_batch_kept x y ops.End b outside)
 
 pub end_clean : (x y : List ℕ) (op : Op) → HasOp x op → code_of op ≡ 76 → sp x ≡ 0 → IsEnd x y
-    → first_fault_of 60 (block_values (spot_of 0 x (Some y))) ≡ None
+    → first_fault_of 60 (block_values (spot_with 0 x (Some y))) ≡ None
 end_clean x y op has is outside k =
     let here : HasOp x ops.End = subst (HasOp x) (code_of-different op ops.End is) has in
     let b = block_flags x ops.End here refl refl refl refl refl refl refl refl refl in

@@ -20,7 +20,7 @@ use Rattle.air_kit.specs.SpanValues.{opcode_in, rest, rest_flag, goes_on, entry_
 use Rattle.air_kit.proofs.FlagLemmas.{at_op, flag_apart, flags_of-hot, sum_of-hot}
 use Rattle.air_kit.proofs.FaultLemmas.{first_append}
 use Rattle.air_kit.proofs.ZeroLemmas.{Zeros, no_fault, bit_zero}
-use Rattle.air_blocks.specs.Entries.{of_pair, of_row, spot_of}
+use Rattle.air_blocks.specs.Entries.{of_pair, of_row, spot_with}
 use Rattle.air_decoder.specs.Quick.{HasNoBatch, IsClean, IsFirstBatch, IsFrame, IsNextBatch, IsGoingOn, IsInner, IsOutside, IsOver, IsPlain, IsStep}
 use Rattle.air_decoder.specs.Quick.IsOver.{opens, ends}
 use Rattle.air_decoder.proofs.FaultLemmas.{decoder_joined}
@@ -148,10 +148,10 @@ not_first : (n v : ℕ) → n ≢ 0 → cond (eqb n 0) v 0 ≡ 0
 not_first n v apart = rw (behind_first n apart) refl
 
 pub opcode_clean : (n : ℕ) (x y : List ℕ) (op : Op) → HasOp x op → n ≢ 0 → felt_sub (felt_sub (clk y) (clk x)) 1 ≡ 0
-    → first_fault_of 1 (opcode_values (spot_of n x (Some y))) ≡ None
+    → first_fault_of 1 (opcode_values (spot_with n x (Some y))) ≡ None
 unfolding opcode_values family entry_1 entry_8 entry_9 entry_10
 opcode_clean n x y op has behind clock =
-    no_fault 1 (opcode_values (spot_of n x (Some y))) (
+    no_fault 1 (opcode_values (spot_with n x (Some y))) (
       bit 0 (omega arith),
       (
         bit 1 (omega arith),
@@ -178,7 +178,7 @@ opcode_clean n x y op has behind clock =
     bit j h = bit_zero (b x j) (has.bits j h)
 
 -- Entries 60 to 91.
-follow_clean : (x y : List ℕ) → RowFlags (flag x) 0 0 1 → IsStep x y → Zeros (follow_values (spot_of 0 x (Some y)))
+follow_clean : (x y : List ℕ) → RowFlags (flag x) 0 0 1 → IsStep x y → Zeros (follow_values (spot_with 0 x (Some y)))
 unfolding follow_values batches calls starts entry_60 entry_61 entry_62 entry_63 entry_64 entry_65 entry_66 entry_67 entry_68 entry_69
 follow_clean x y r t =
     let q = r.quiet in (
@@ -205,7 +205,7 @@ follow_clean x y r t =
     )
 
 batch_follow_clean : (x y : List ℕ) (first again : ℕ) → RowFlags (flag x) first again 0 → sp x ≡ 0 → sp y ≡ 1
-    → Zeros (follow_values (spot_of 0 x (Some y)))
+    → Zeros (follow_values (spot_with 0 x (Some y)))
 unfolding follow_values calls starts entry_60 entry_61 entry_62 entry_63 entry_64 entry_65 entry_66 entry_67 entry_68 entry_69
 batch_follow_clean x y first again r outside inside =
     let q = r.quiet in (
@@ -232,7 +232,7 @@ batch_follow_clean x y first again r outside inside =
     )
 
 pub shown_zeros : (x y : List ℕ) → flag x ops.Loop ≡ 0 → flag x ops.Call ≡ 0 → flag x ops.Syscall ≡ 0 → flag x ops.Caller ≡ 0 → flag x ops.Halt ≡ 0
-    → ((j : ℕ) → j < 4 → of_row (entry_70 j) x ≡ 0) → of_row entry_74 x ≡ 0 → Zeros (shown_values (spot_of 0 x (Some y)))
+    → ((j : ℕ) → j < 4 → of_row (entry_70 j) x ≡ 0) → of_row entry_74 x ≡ 0 → Zeros (shown_values (spot_with 0 x (Some y)))
 unfolding shown_values family calls entry_75 entry_79 entry_80 entry_81
 shown_zeros x y loop call syscall caller halt bits kinds = (
   bits 0 (omega arith),
@@ -264,12 +264,12 @@ shown_zeros x y loop call syscall caller halt bits kinds = (
 )
 
 pub no_kinds : (x y : List ℕ) → flag x ops.End ≡ 0 → flag x ops.Loop ≡ 0 → flag x ops.Call ≡ 0 → flag x ops.Syscall ≡ 0 → flag x ops.Caller ≡ 0
-    → flag x ops.Halt ≡ 0 → Zeros (shown_values (spot_of 0 x (Some y)))
+    → flag x ops.Halt ≡ 0 → Zeros (shown_values (spot_with 0 x (Some y)))
 unfolding entry_70 entry_74
 no_kinds x y end loop call syscall caller halt =
     shown_zeros x y loop call syscall caller halt (λ j low. rw end (simp zero-mul)) (rw end (simp zero-mul))
 
-shown_clean : (x y : List ℕ) → QuietFlags (flag x) → Zeros (shown_values (spot_of 0 x (Some y)))
+shown_clean : (x y : List ℕ) → QuietFlags (flag x) → Zeros (shown_values (spot_with 0 x (Some y)))
 shown_clean x y q = no_kinds x y q.end q.loop q.call q.syscall q.caller q.halt
 
 inside_is : (x : List ℕ) (return : ℕ) → flag x ops.Call ≡ 0 → flag x ops.Syscall ≡ 0 → returns (flag x) x ≡ return
@@ -321,44 +321,44 @@ frame_clean : (x y : List ℕ) → QuietFlags (flag x) → IsFrame x y → Frame
 frame_clean x y q k = frame_zeros x y q.call q.syscall q.update (returns_is x q) k
 
 pub kept_list : (x y : List ℕ) → FrameZero x y → of_pair entry_89 x y ≡ 0 → of_pair entry_90 x y ≡ 0 → of_pair entry_91 x y ≡ 0
-    → Zeros (kept_values (spot_of 0 x (Some y)))
+    → Zeros (kept_values (spot_with 0 x (Some y)))
 unfolding kept_values family
 kept_list x y z block level batch =
     (z.context, (z.locals, (z.mode, (z.digest_0, (z.digest_1, (z.digest_2, (z.digest_3, (block, (level, (batch, tt))))))))))
 
-kept_clean : (x y : List ℕ) → RowFlags (flag x) 0 0 1 → IsStep x y → Zeros (kept_values (spot_of 0 x (Some y)))
+kept_clean : (x y : List ℕ) → RowFlags (flag x) 0 0 1 → IsStep x y → Zeros (kept_values (spot_with 0 x (Some y)))
 unfolding starts entry_89 entry_90 entry_91
 kept_clean x y r t =
     let k = t.kept in
     kept_list x y (frame_clean x y r.quiet k.frame) (rw (r.starts, r.quiet.end, k.block) refl) (rw (k.level, r.starts, r.quiet.end) refl)
     (rw (r.span, r.respan, t.inside, k.batch) (simp zero-mul))
 
-first_kept_clean : (x y : List ℕ) → RowFlags (flag x) 1 0 0 → IsFirstBatch x y → Zeros (kept_values (spot_of 0 x (Some y)))
+first_kept_clean : (x y : List ℕ) → RowFlags (flag x) 1 0 0 → IsFirstBatch x y → Zeros (kept_values (spot_with 0 x (Some y)))
 unfolding starts entry_89 entry_90 entry_91
 first_kept_clean x y r k =
     kept_list x y (frame_clean x y r.quiet k.frame) (rw (r.starts, r.quiet.end) (simp zero-mul)) (rw (r.starts, k.level, r.quiet.end) refl)
     (rw (r.span, r.respan, k.outside, k.batch) (simp zero-mul))
 
-next_kept_clean : (x y : List ℕ) → RowFlags (flag x) 0 1 0 → IsNextBatch x y → Zeros (kept_values (spot_of 0 x (Some y)))
+next_kept_clean : (x y : List ℕ) → RowFlags (flag x) 0 1 0 → IsNextBatch x y → Zeros (kept_values (spot_with 0 x (Some y)))
 unfolding starts entry_89 entry_90 entry_91
 next_kept_clean x y r k =
     kept_list x y (frame_clean x y r.quiet k.frame) (rw (r.starts, r.quiet.end, k.block) refl) (rw (k.level, r.starts, r.quiet.end) refl)
     (rw (r.span, r.respan, k.outside, k.batch) (simp zero-mul))
 
-pub block_clean : (x y : List ℕ) → Zeros (follow_values (spot_of 0 x (Some y))) → Zeros (shown_values (spot_of 0 x (Some y)))
-    → Zeros (kept_values (spot_of 0 x (Some y))) → first_fault_of 60 (block_values (spot_of 0 x (Some y))) ≡ None
+pub block_clean : (x y : List ℕ) → Zeros (follow_values (spot_with 0 x (Some y))) → Zeros (shown_values (spot_with 0 x (Some y)))
+    → Zeros (kept_values (spot_with 0 x (Some y))) → first_fault_of 60 (block_values (spot_with 0 x (Some y))) ≡ None
 unfolding block_values
 block_clean x y follow shown kept =
-    first_append 60 (follow_values (spot_of 0 x (Some y))) (shown_values (spot_of 0 x (Some y)) ++ kept_values (spot_of 0 x (Some y)))
-    ∙ rw (no_fault 60 (follow_values (spot_of 0 x (Some y))) follow)
-    (first_append _ (shown_values (spot_of 0 x (Some y))) (kept_values (spot_of 0 x (Some y)))
-    ∙ rw (no_fault _ (shown_values (spot_of 0 x (Some y))) shown) (no_fault _ (kept_values (spot_of 0 x (Some y))) kept))
+    first_append 60 (follow_values (spot_with 0 x (Some y))) (shown_values (spot_with 0 x (Some y)) ++ kept_values (spot_with 0 x (Some y)))
+    ∙ rw (no_fault 60 (follow_values (spot_with 0 x (Some y))) follow)
+    (first_append _ (shown_values (spot_with 0 x (Some y))) (kept_values (spot_with 0 x (Some y)))
+    ∙ rw (no_fault _ (shown_values (spot_with 0 x (Some y))) shown) (no_fault _ (kept_values (spot_with 0 x (Some y))) kept))
 
 -- Entries 92 to 106.
 no_two : (a u v : ℕ) → a ≡ 0 → felt_mul (felt_mul a u) v ≡ 0
 no_two a u v e = felt_mul-zero_first (felt_mul a u) v (felt_mul-zero_first a u e)
 
-batch_clean : (x y : List ℕ) → batches (flag x) ≡ 0 → Zeros (batch_values (spot_of 0 x (Some y)))
+batch_clean : (x y : List ℕ) → batches (flag x) ≡ 0 → Zeros (batch_values (spot_with 0 x (Some y)))
 unfolding batch_values family entry_92 entry_95 entry_96 entry_103 entry_104 entry_105 entry_106
 batch_clean x y e = (
   no_two _ _ _ e,
@@ -402,23 +402,23 @@ no_batches : (fl : Flags) → RowFlags fl 0 0 1 → batches fl ≡ 0
 unfolding batches
 no_batches fl r = rw (r.span, r.respan) refl
 
-batch_length : (x y : List ℕ) → length (batch_values (spot_of 0 x (Some y))) ≡ 15
+batch_length : (x y : List ℕ) → length (batch_values (spot_with 0 x (Some y))) ≡ 15
 unfolding batch_values family
 batch_length x y = refl
 
-span_clean : (x y : List ℕ) → first_fault_of 92 (batch_values (spot_of 0 x (Some y))) ≡ None
-    → first_fault_of 107 (group_values (spot_of 0 x (Some y))) ≡ None
-    → first_fault_of 92 (span_values (spot_of 0 x (Some y))) ≡ None
+span_clean : (x y : List ℕ) → first_fault_of 92 (batch_values (spot_with 0 x (Some y))) ≡ None
+    → first_fault_of 107 (group_values (spot_with 0 x (Some y))) ≡ None
+    → first_fault_of 92 (span_values (spot_with 0 x (Some y))) ≡ None
 unfolding span_values
 span_clean x y batch group =
-    first_append 92 (batch_values (spot_of 0 x (Some y))) (group_values (spot_of 0 x (Some y))) ∙ rw (batch, batch_length x y) group
+    first_append 92 (batch_values (spot_with 0 x (Some y))) (group_values (spot_with 0 x (Some y))) ∙ rw (batch, batch_length x y) group
 
 -- outside a span no group goes on
 no_ninth : (s a b c d e f g h i : ℕ) → s ≡ 0
     → felt_mul (felt_mul (felt_mul (felt_mul (felt_mul (felt_mul (felt_mul (felt_mul (felt_mul s a) b) c) d) e) f) g) h) i ≡ 0
 no_ninth s a b c d e f g h i z = felt_mul-zero_first _ i (no_two _ g h (no_two _ e f (no_two _ c d (no_two s a b z))))
 
-no_group : (x y : List ℕ) → sp x ≡ 0 → Zeros (group_values (spot_of 0 x (Some y)))
+no_group : (x y : List ℕ) → sp x ≡ 0 → Zeros (group_values (spot_with 0 x (Some y)))
 unfolding group_values entry_107 entry_108 entry_109 entry_110 entry_111 entry_112 entry_113 entry_114
 no_group x y e = (
   no_two _ _ _ e,
@@ -486,7 +486,7 @@ place_clean fl x inside low = rw inside (places (ox x) low)
 
 -- A group that goes on.
 group_goes : (x y : List ℕ) (left push : ℕ) → left ≡ rest x → push ≡ flag x ops.Push → sp x ≡ 1 → ox x < 9 → entry_107 (flag x) x ≡ 0
-    → goes_on (flag x) x ≡ 1 → IsGoingOn x y left push → Zeros (group_values (spot_of 0 x (Some y)))
+    → goes_on (flag x) x ≡ 1 → IsGoingOn x y left push → Zeros (group_values (spot_with 0 x (Some y)))
 unfolding group_values entry_108 entry_109 entry_110 entry_111 entry_112 entry_113
 group_goes x y left push is pushes inside low first going g = (
   first,
@@ -535,7 +535,7 @@ goes_not fl x none push = rw (rest_flag_none x none, push) refl
 
 -- A group behind whose last row another one begins, or the batch ends.
 group_over : (x y : List ℕ) (push : ℕ) → push ≡ flag x ops.Push → sp x ≡ 1 → ox x < 9 → rest x ≡ 0 → goes_on (flag x) x ≡ 0 → IsOver x y push
-    → Zeros (group_values (spot_of 0 x (Some y)))
+    → Zeros (group_values (spot_with 0 x (Some y)))
 unfolding group_values entry_108 entry_109 entry_110 entry_111 entry_112 entry_113
 group_over x y push pushes inside low none stops (opens opening place count) = (
   first_by_none (flag x) x inside none,
@@ -575,57 +575,57 @@ group_over x y push pushes inside low none stops (ends close count) = (
 
 -- The three cases of the test.
 pub some_clean : (x y : List ℕ) (left push : ℕ) → left ≡ rest x → push ≡ flag x ops.Push → sp x ≡ 1 → ox x < 9 → felt_mul left (w x 3) ≡ 1
-    → IsGoingOn x y left push → first_fault_of 107 (group_values (spot_of 0 x (Some y))) ≡ None
+    → IsGoingOn x y left push → first_fault_of 107 (group_values (spot_with 0 x (Some y))) ≡ None
 some_clean x y left push is pushes inside low one g =
     let some = rest_flag_some x left is one in
-    no_fault 107 (group_values (spot_of 0 x (Some y)))
+    no_fault 107 (group_values (spot_with 0 x (Some y)))
     (group_goes x y left push is pushes inside low (first_by_rest (flag x) x inside some) (goes_by_rest (flag x) x some) g)
 
 pub push_clean : (x y : List ℕ) (left push : ℕ) → left ≡ rest x → push ≡ flag x ops.Push → sp x ≡ 1 → ox x < 9 → left ≡ 0 → push ≡ 1
-    → IsGoingOn x y left push → first_fault_of 107 (group_values (spot_of 0 x (Some y))) ≡ None
+    → IsGoingOn x y left push → first_fault_of 107 (group_values (spot_with 0 x (Some y))) ≡ None
 push_clean x y left push is pushes inside low none one g =
     let nothing : rest x ≡ 0 = sym is ∙ none in
-    no_fault 107 (group_values (spot_of 0 x (Some y)))
+    no_fault 107 (group_values (spot_with 0 x (Some y)))
     (group_goes x y left push is pushes inside low (first_by_none (flag x) x inside nothing) (goes_by_push (flag x) x nothing (sym pushes ∙ one)) g)
 
 pub over_clean : (x y : List ℕ) (left push : ℕ) → left ≡ rest x → push ≡ flag x ops.Push → sp x ≡ 1 → ox x < 9 → left ≡ 0 → push ≡ 0
-    → IsOver x y push → first_fault_of 107 (group_values (spot_of 0 x (Some y))) ≡ None
+    → IsOver x y push → first_fault_of 107 (group_values (spot_with 0 x (Some y))) ≡ None
 over_clean x y left push is pushes inside low none zero_is o =
     let nothing : rest x ≡ 0 = sym is ∙ none in
-    no_fault 107 (group_values (spot_of 0 x (Some y)))
+    no_fault 107 (group_values (spot_with 0 x (Some y)))
     (group_over x y push pushes inside low nothing (goes_not (flag x) x nothing (sym pushes ∙ zero_is)) o)
 
 -- all of a row
 pub row_clean : (x y : List ℕ) (op : Op) → HasOp x op → IsPlain op → IsStep x y
-    → first_fault_of 107 (group_values (spot_of 0 x (Some y))) ≡ None → IsClean x y
+    → first_fault_of 107 (group_values (spot_with 0 x (Some y))) ≡ None → IsClean x y
 row_clean x y op has plain step group =
     let r = plain_flags x op has plain in
     record {
       opcode = λ n behind. opcode_clean n x y op has behind step.clock;
       block = block_clean x y (follow_clean x y r step) (shown_clean x y r.quiet) (kept_clean x y r step);
-      span = span_clean x y (no_fault 92 (batch_values (spot_of 0 x (Some y))) (batch_clean x y (no_batches (flag x) r))) group;
+      span = span_clean x y (no_fault 92 (batch_values (spot_with 0 x (Some y))) (batch_clean x y (no_batches (flag x) r))) group;
     }
 
 pub first_batch_clean : (x y : List ℕ) (op : Op) → HasOp x op → code_of op ≡ 73 → IsFirstBatch x y
-    → first_fault_of 92 (batch_values (spot_of 0 x (Some y))) ≡ None
+    → first_fault_of 92 (batch_values (spot_with 0 x (Some y))) ≡ None
     → IsClean x y
 first_batch_clean x y op has is step batch =
     let r = span_flags x (subst (HasOp x) (code_of-different op ops.Span is) has) in
     record {
       opcode = λ n behind. opcode_clean n x y op has behind step.clock;
       block = block_clean x y (batch_follow_clean x y 1 0 r step.outside step.inside) (shown_clean x y r.quiet) (first_kept_clean x y r step);
-      span = span_clean x y batch (no_fault 107 (group_values (spot_of 0 x (Some y))) (no_group x y step.outside));
+      span = span_clean x y batch (no_fault 107 (group_values (spot_with 0 x (Some y))) (no_group x y step.outside));
     }
 
 pub next_batch_clean : (x y : List ℕ) (op : Op) → HasOp x op → code_of op ≡ 78 → IsNextBatch x y
-    → first_fault_of 92 (batch_values (spot_of 0 x (Some y))) ≡ None
+    → first_fault_of 92 (batch_values (spot_with 0 x (Some y))) ≡ None
     → IsClean x y
 next_batch_clean x y op has is step batch =
     let r = respan_flags x (subst (HasOp x) (code_of-different op ops.Respan is) has) in
     record {
       opcode = λ n behind. opcode_clean n x y op has behind step.clock;
       block = block_clean x y (batch_follow_clean x y 0 1 r step.outside step.inside) (shown_clean x y r.quiet) (next_kept_clean x y r step);
-      span = span_clean x y batch (no_fault 107 (group_values (spot_of 0 x (Some y))) (no_group x y step.outside));
+      span = span_clean x y batch (no_fault 107 (group_values (spot_with 0 x (Some y))) (no_group x y step.outside));
     }
 
 no_batch : (x : List ℕ) (op : Op) → HasOp x op → HasNoBatch op → batches (flag x) ≡ 0
@@ -634,23 +634,23 @@ no_batch x op has apart =
     rw (flag_apart x op ops.Span has (λ e. apart.not_span (sym e)), flag_apart x op ops.Respan has (λ e. apart.not_respan (sym e))) refl
 
 pub outside_clean : (x y : List ℕ) (op : Op) → HasOp x op → HasNoBatch op → IsOutside x y
-    → first_fault_of 60 (block_values (spot_of 0 x (Some y))) ≡ None
+    → first_fault_of 60 (block_values (spot_with 0 x (Some y))) ≡ None
     → IsClean x y
 outside_clean x y op has apart step block = record {
   opcode = λ n behind. opcode_clean n x y op has behind step.clock;
   block = block;
-  span = span_clean x y (no_fault 92 (batch_values (spot_of 0 x (Some y))) (batch_clean x y (no_batch x op has apart)))
-      (no_fault 107 (group_values (spot_of 0 x (Some y))) (no_group x y step.outside));
+  span = span_clean x y (no_fault 92 (batch_values (spot_with 0 x (Some y))) (batch_clean x y (no_batch x op has apart)))
+      (no_fault 107 (group_values (spot_with 0 x (Some y))) (no_group x y step.outside));
 }
 
 -- The whole list of a row behind the first one.
-boundary_clean : (claim : Claim) (n : ℕ) (x y : List ℕ) → n ≢ 0 → first_fault_of 11 (boundary_values claim (spot_of n x (Some y))) ≡ None
+boundary_clean : (claim : Claim) (n : ℕ) (x y : List ℕ) → n ≢ 0 → first_fault_of 11 (boundary_values claim (spot_with n x (Some y))) ≡ None
 unfolding boundary_values start_values inputs_values end_values outputs_values family
 boundary_clean claim n x y behind = rw (behind_first n behind) refl
 
-parts_clean : (c : Claim) (n : ℕ) (x y : List ℕ) → n ≢ 0 → IsClean x y → None ≡ first_fault_of 1 (decoder_values c (spot_of n x (Some y)))
+parts_clean : (c : Claim) (n : ℕ) (x y : List ℕ) → n ≢ 0 → IsClean x y → None ≡ first_fault_of 1 (decoder_values c (spot_with n x (Some y)))
 parts_clean c n x y h clean =
-    decoder_joined c (spot_of n x (Some y)) x (Some y) None None None None None None None refl refl (sym (clean.opcode n h))
+    decoder_joined c (spot_with n x (Some y)) x (Some y) None None None None None None None refl refl (sym (clean.opcode n h))
     (sym (boundary_clean c n x y h))
     (sym clean.block) (sym clean.span) refl refl refl
 
@@ -659,8 +659,8 @@ pub place_answer : (c : Claim) (p : Spot) (x : List ℕ) (next : Option (List �
 place_answer c p x None ex ey inner = absurd inner
 place_answer c p x (Some y) ex ey inner = parts_clean c p.row x y inner.0 inner.1 ∙ ap (λ q. first_fault_of 1 (decoder_values c q)) here
   where
-    here : spot_of p.row x (Some y) ≡ p
-    here = ap (λ x. spot_of p.row x (Some y)) ex ∙ ap (spot_of p.row p.cur) ey
+    here : spot_with p.row x (Some y) ≡ p
+    here = ap (λ x. spot_with p.row x (Some y)) ex ∙ ap (spot_with p.row p.cur) ey
 
 pub low_place : (value read place : ℕ) → value ≡ read → read ≡ place → value ≤ 8 → place < 9
 low_place value read place is shown low = omega arith

@@ -10,7 +10,7 @@ use Rattle.air_kit.specs.Places.{first_fault_of}
 use Rattle.air_kit.specs.OpcodeValues.{opcode_values}
 use Rattle.air_kit.specs.BlockValues.{block_values, starts}
 use Rattle.air_kit.specs.SpanValues.{span_values}
-use Rattle.air_blocks.specs.Entries.{spot_of}
+use Rattle.air_blocks.specs.Entries.{spot_with}
 
 -- an ordinary operation but CALLER and FMPUPDATE, which have entries of their own
 pub record IsPlain (op : Op) : Type 0 where
@@ -120,9 +120,9 @@ pub record IsEnd (x y : List ℕ) : Type 0 where
 
 -- all entries of a row behind the first one are 0
 pub record IsClean (x y : List ℕ) : Type 0 where
-  pub opcode : (n : ℕ) → n ≢ 0 → first_fault_of 1 (opcode_values (spot_of n x (Some y))) ≡ None
-  pub block : first_fault_of 60 (block_values (spot_of 0 x (Some y))) ≡ None
-  pub span : first_fault_of 92 (span_values (spot_of 0 x (Some y))) ≡ None
+  pub opcode : (n : ℕ) → n ≢ 0 → first_fault_of 1 (opcode_values (spot_with n x (Some y))) ≡ None
+  pub block : first_fault_of 60 (block_values (spot_with 0 x (Some y))) ≡ None
+  pub span : first_fault_of 92 (span_values (spot_with 0 x (Some y))) ≡ None
 
 -- the same of a row that has one behind it
 abbrev pub IsInner : ℕ → List ℕ → Option (List ℕ) → Type 0

@@ -8,7 +8,7 @@ ghost use Rattle.air_kit.specs.Flags.{HasOp, flag};
 ghost use Rattle.air_kit.specs.Places.{first_fault_of};
 ghost use Rattle.air_kit.specs.BlockValues.{block_values, starts};
 ghost use Rattle.air_kit.specs.SpanValues.{batch_values, group_values, rest};
-ghost use Rattle.air_blocks.specs.Entries.{spot_of};
+ghost use Rattle.air_blocks.specs.Entries.{spot_with};
 ghost use Rattle.air_decoder.specs.Quick.{HasKind, IsBehindEnd, IsClean, IsEnd, IsFirstBatch, HasNoBatch, IsFrame, IsGoingOn, IsInner, IsKept, IsNextBatch, IsOpening, IsOutside, IsOver, IsPlain, IsRepeat, IsStep};
 
 use crate::spans::batch_faults;
@@ -99,7 +99,7 @@ fn is_next_batch<V: MainView>(x: &V, y: &V) -> bool
 
 // Whether the positions of a batch are as the row says, and the next row takes them.
 fn has_batch<V: MainView>(x: &Seen<'_, V>, y: &V) -> bool
-    ensures { IsTrue result → first_fault_of 92 (batch_values (spot_of 0 (V.cells x.now.row.now) (Some (V.cells y.now)))) ≡ None }
+    ensures { IsTrue result → first_fault_of 92 (batch_values (spot_with 0 (V.cells x.now.row.now) (Some (V.cells y.now)))) ≡ None }
 {
     let next = Some(Seen::of(y));
     match batch_faults(x, &next) {
@@ -231,7 +231,7 @@ fn is_end<V: MainView>(x: &V, y: &V) -> bool
 fn has_block<V: MainView>(x: &Seen<'_, V>, y: &V, op: Op) -> bool
     requires has { HasOp (V.cells x.now.row.now) op }
     requires outside { sp (V.cells x.now.row.now) ≡ 0 }
-    ensures { IsTrue result → first_fault_of 60 (block_values (spot_of 0 (V.cells x.now.row.now) (Some (V.cells y.now)))) ≡ None }
+    ensures { IsTrue result → first_fault_of 60 (block_values (spot_with 0 (V.cells x.now.row.now) (Some (V.cells y.now)))) ≡ None }
 {
     let code = opcode(op);
     if code == opcode(Op::End) {
@@ -323,7 +323,7 @@ fn rest<V: MainView>(x: &V, op: Op) -> Felt
 fn is_group_clean<V: MainView>(x: &Seen<'_, V>, y: &V, op: Op) -> bool
     requires has { HasOp (V.cells x.now.row.now) op }
     requires inside { sp (V.cells x.now.row.now) ≡ 1 }
-    ensures { IsTrue result → first_fault_of 107 (group_values (spot_of 0 (V.cells x.now.row.now) (Some (V.cells y.now)))) ≡ None }
+    ensures { IsTrue result → first_fault_of 107 (group_values (spot_with 0 (V.cells x.now.row.now) (Some (V.cells y.now)))) ≡ None }
 {
     if x.row.ox().value() > 8 {
         return false;

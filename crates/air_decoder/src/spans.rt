@@ -3,7 +3,7 @@ ghost use Rattle.std.specs.Prelude.{◌≡◌, ◌<◌, option_map};
 ghost use Rattle.air_kit.specs.SpanValues.{opcode_in, rest, rest_flag, goes_on, size_flags, unused, entry_92, entry_95, entry_96, entry_103, entry_104, entry_105, entry_106, entry_107, entry_108, entry_109, entry_110, entry_111, entry_112, entry_113, entry_114, batch_values, group_values, span_values};
 ghost use Rattle.air_kit.specs.Flags.{flag};
 ghost use Rattle.air_kit.specs.Places.{first_fault_of};
-ghost use Rattle.air_blocks.specs.Entries.{of_row, of_pair, spot_of};
+ghost use Rattle.air_blocks.specs.Entries.{of_row, of_pair, spot_with};
 
 use air_blocks::batches;
 use air_kit::{Seen, first_nonzero, or_next};
@@ -218,7 +218,7 @@ pub(crate) fn batch_faults<V: MainView>(
     x: &Seen<'_, V>,
     next: &Option<Seen<'_, V>>,
 ) -> Option<(u16, Felt)>
-    ensures { result ≡ first_fault_of 92 (batch_values (spot_of 0 (V.cells x.now.row.now) (option_map (λ y. V.cells y.row.now) next.now))) }
+    ensures { result ≡ first_fault_of 92 (batch_values (spot_with 0 (V.cells x.now.row.now) (option_map (λ y. V.cells y.row.now) next.now))) }
 {
     match next {
         Some(y) => first_nonzero(
@@ -267,7 +267,7 @@ pub(crate) fn batch_faults<V: MainView>(
 /// The first of entries 107 to 114 that is not 0.
 #[tactic(auto, unfolding(air_kit::specs::SpanValues::group_values, air_kit::specs::Places::family))]
 fn group_faults<V: MainView>(x: &Seen<'_, V>, next: &Option<Seen<'_, V>>) -> Option<(u16, Felt)>
-    ensures { result ≡ first_fault_of 107 (group_values (spot_of 0 (V.cells x.now.row.now) (option_map (λ y. V.cells y.row.now) next.now))) }
+    ensures { result ≡ first_fault_of 107 (group_values (spot_with 0 (V.cells x.now.row.now) (option_map (λ y. V.cells y.row.now) next.now))) }
 {
     match next {
         Some(y) => first_nonzero(
@@ -304,7 +304,7 @@ pub(crate) fn span_faults<V: MainView>(
     x: &Seen<'_, V>,
     next: &Option<Seen<'_, V>>,
 ) -> Option<(u16, Felt)>
-    ensures { result ≡ first_fault_of 92 (span_values (spot_of 0 (V.cells x.now.row.now) (option_map (λ y. V.cells y.row.now) next.now))) }
+    ensures { result ≡ first_fault_of 92 (span_values (spot_with 0 (V.cells x.now.row.now) (option_map (λ y. V.cells y.row.now) next.now))) }
 {
     let batch = batch_faults(x, next);
     let group = group_faults(x, next);

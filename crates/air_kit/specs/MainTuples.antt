@@ -18,8 +18,8 @@ use Rattle.air_kit.specs.SpanValues.{rest_flag}
 abbrev pub no_frame : List ℕ
 no_frame = 0 ∷ 0 ∷ 0 ∷ 0 ∷ 0 ∷ 0 ∷ 0 ∷ 0 ∷ 0 ∷ []
 
-abbrev pub frame_of : List ℕ → List ℕ
-frame_of x = ctx x ∷ fmp x ∷ sys x ∷ depth x ∷ key x ∷ f x 0 ∷ f x 1 ∷ f x 2 ∷ f x 3 ∷ []
+abbrev pub frame_cells : List ℕ → List ℕ
+frame_cells x = ctx x ∷ fmp x ∷ sys x ∷ depth x ∷ key x ∷ f x 0 ∷ f x 1 ∷ f x 2 ∷ f x 3 ∷ []
 
 -- the kind of a block that starts, as the tuples number it; 0 where none starts
 abbrev pub start_number : Kind → List ℕ → ℕ
@@ -44,7 +44,7 @@ is_call_op op = is_op op ops.Call || is_op op ops.Syscall
 unfoldable pub blocks_given : List ℕ → List ℕ → List Counted
 blocks_given x y =
     if is_start_op (op_of x)
-    then once (addr y ∷ addr x ∷ kind_of_start (op_of x) x ∷ (if is_call_op (op_of x) then frame_of x else no_frame)) ∷ []
+    then once (addr y ∷ addr x ∷ kind_of_start (op_of x) x ∷ (if is_call_op (op_of x) then frame_cells x else no_frame)) ∷ []
     else []
 
 -- the kind of a block that ends, by the END's flags
@@ -54,7 +54,7 @@ kind_of_end x = h x 4 ⊞ 2 ⊠ h x 5 ⊞ 3 ⊠ h x 6 ⊞ 4 ⊠ h x 7
 unfoldable pub blocks_asked : List ℕ → List ℕ → List Counted
 blocks_asked x y =
     if is_op (op_of x) ops.End
-    then once (addr x ∷ addr y ∷ kind_of_end x ∷ (if h x 6 ⊞ h x 7 == 1 then frame_of y else no_frame)) ∷ []
+    then once (addr x ∷ addr y ∷ kind_of_end x ∷ (if h x 6 ⊞ h x 7 == 1 then frame_cells y else no_frame)) ∷ []
     else []
 
 -- Children: the block, the child's digest, and whether another child starts behind it.
@@ -182,16 +182,16 @@ memory_asked x y = accesses_of (op_of x) x y
 
 -- Range: limbs of 16 bits, and how many more blocks may be nested in one that starts.
 -- how many limbs an operation has
-abbrev pub limbs_of : Op → ℕ
-limbs_of ops.U32Split = 4
-limbs_of ops.U32Assert2 = 4
-limbs_of ops.U32Sub = 6
-limbs_of ops.U32Add = 7
-limbs_of ops.U32Mul = 8
-limbs_of ops.U32Add3 = 9
-limbs_of ops.U32MAdd = 10
-limbs_of ops.U32Div = 10
-limbs_of op = 0
+abbrev pub count_of_limbs : Op → ℕ
+count_of_limbs ops.U32Split = 4
+count_of_limbs ops.U32Assert2 = 4
+count_of_limbs ops.U32Sub = 6
+count_of_limbs ops.U32Add = 7
+count_of_limbs ops.U32Mul = 8
+count_of_limbs ops.U32Add3 = 9
+count_of_limbs ops.U32MAdd = 10
+count_of_limbs ops.U32Div = 10
+count_of_limbs op = 0
 
 -- so many limbs from limb j on
 unfoldable pub limbs_from : List ℕ → ℕ → ℕ → List Counted
@@ -200,7 +200,7 @@ limbs_from x j (suc n) = once (t x j ∷ []) ∷ limbs_from x (suc j) n
 
 unfoldable pub range_asked : List ℕ → List ℕ → List Counted
 range_asked x y =
-    if is_start_op (op_of x) then once ((most_nesting ⊟ lv y) ∷ []) ∷ [] else limbs_from x 0 (limbs_of (op_of x))
+    if is_start_op (op_of x) then once ((most_nesting ⊟ lv y) ∷ []) ∷ [] else limbs_from x 0 (count_of_limbs (op_of x))
 
 -- Kernel: the digest that a syscall calls.
 unfoldable pub kernel_asked : List ℕ → List ℕ → List Counted

@@ -18,7 +18,7 @@ use Rattle.air_kit.specs.Places.{Spot, first_fault_of, on_pair}
 use Rattle.air_kit.specs.StackValues.{below_term, cell_values, cells, deeper, depth_values, end_term, entry_115, entry_116, entry_117, entry_118, entry_119, keeps_depth, operand_values, shifts_left, shifts_right, stack_values, term, top_term}
 use Rattle.air_kit.proofs.FlagLemmas.{at_op, flag_apart, flags_of-hot, sum_over-hot}
 use Rattle.air_kit.proofs.ZeroLemmas.{Zeros, no_fault, zeros_family}
-use Rattle.air_stack.specs.Parts.{spot_of}
+use Rattle.air_stack.specs.Parts.{spot_between}
 use Rattle.air_stack.proofs.PartLemmas.{answer_joins}
 use Rattle.air_stack.proofs.TermLemmas.{copied_term, moved_at}
 use Rattle.air_stack.specs.Quick.{AreCopies, ComeUp, EndsBlock, EndsCall, EndsLoop, Falls, GoDown, IsMoved, IsSteady, Rises, Shifts, StayLevel, Stays}
@@ -75,7 +75,7 @@ unfolding entry_115
 deep_is fl x deep = deep
 
 falls_clean : (x y : List ℕ) → DepthFlags (flag x) 1 0 → felt_mul (felt_sub (depth x) 16) (felt_sub 1 (deeper x)) ≡ 0 → Falls x y
-    → Zeros (depth_values (spot_of x (Some y)))
+    → Zeros (depth_values (spot_between x (Some y)))
 unfolding depth_values entry_116 entry_118
 falls_clean x y d deep m = (
   deep_is (flag x) x deep,
@@ -105,7 +105,7 @@ falls_clean x y d deep m = (
 )
 
 stays_clean : (x y : List ℕ) → DepthFlags (flag x) 0 0 → felt_mul (felt_sub (depth x) 16) (felt_sub 1 (deeper x)) ≡ 0 → Stays x y
-    → Zeros (depth_values (spot_of x (Some y)))
+    → Zeros (depth_values (spot_between x (Some y)))
 unfolding depth_values entry_116 entry_118
 stays_clean x y d deep m = (
   deep_is (flag x) x deep,
@@ -134,7 +134,7 @@ stays_clean x y d deep m = (
 )
 
 rises_clean : (x y : List ℕ) → DepthFlags (flag x) 0 1 → felt_mul (felt_sub (depth x) 16) (felt_sub 1 (deeper x)) ≡ 0 → Rises x y
-    → Zeros (depth_values (spot_of x (Some y)))
+    → Zeros (depth_values (spot_between x (Some y)))
 unfolding depth_values entry_116 entry_118
 rises_clean x y d deep m = (
   deep_is (flag x) x deep,
@@ -164,12 +164,12 @@ rises_clean x y d deep m = (
 
 pub depth_clean : (x y : List ℕ) (op : Op) → HasOp x op → IsSteady op → felt_mul (felt_sub (depth x) 16) (felt_sub 1 (deeper x)) ≡ 0
     → Shifts (shift_of op) x y
-    → first_fault_of 115 (depth_values (spot_of x (Some y))) ≡ None
+    → first_fault_of 115 (depth_values (spot_between x (Some y))) ≡ None
 depth_clean x y op has steady deep moves =
-    no_fault 115 (depth_values (spot_of x (Some y))) (go (shift_of op) (depth_flags x op has steady) moves)
+    no_fault 115 (depth_values (spot_between x (Some y))) (go (shift_of op) (depth_flags x op has steady) moves)
   where
     go : (shift : Shift) → DepthFlags (flag x) (cond (is_shift Left shift) 1 0) (cond (is_shift Right shift) 1 0) → Shifts shift x y
-        → Zeros (depth_values (spot_of x (Some y)))
+        → Zeros (depth_values (spot_between x (Some y)))
     go Left d m = falls_clean x y d deep m
     go Stay d m = stays_clean x y d deep m
     go Right d m = rises_clean x y d deep m
@@ -195,11 +195,11 @@ term_zero x y op not_end tops below j low =
     ]
 
 pub cells_clean : (x y : List ℕ) (op : Op) → HasOp x op → IsSteady op → ((j : ℕ) → j < leaves_of op → top_term j x y op ≡ 0)
-    → ((j : ℕ) → j < 16 → leaves_of op ≤ j → below_term j x y op ≡ 0) → first_fault_of 119 (cell_values (spot_of x (Some y))) ≡ None
+    → ((j : ℕ) → j < 16 → leaves_of op ≤ j → below_term j x y op ≡ 0) → first_fault_of 119 (cell_values (spot_between x (Some y))) ≡ None
 unfolding cell_values entry_119
 cells_clean x y op has steady tops below =
-    no_fault 119 (cell_values (spot_of x (Some y)))
-    (zeros_family 16 (λ j. on_pair (entry_119 j) (spot_of x (Some y)))
+    no_fault 119 (cell_values (spot_between x (Some y)))
+    (zeros_family 16 (λ j. on_pair (entry_119 j) (spot_between x (Some y)))
     (λ j low. at_op has (λ fl. sum_over fl (term j x y)) ∙ sum_over-hot op (term j x y)
     ∙ ap (λ n. n % prime) (term_zero x y op steady.not_end tops below j low)))
 
@@ -260,12 +260,12 @@ right_leaves op is = let more : leaves_of op ≡ takes_of op + 1 = by_one op Rig
 
 -- the whole answer, where the parts before the operands have no fault
 pub moved_answer : (p : Spot) (x : List ℕ) (next : Option (List ℕ)) (operands : Option (ℕ × ℕ)) → x ≡ p.cur → next ≡ p.next → IsMoved x next
-    → operands ≡ first_fault_of 135 (operand_values (spot_of x next)) → operands ≡ first_fault_of 115 (stack_values p)
+    → operands ≡ first_fault_of 135 (operand_values (spot_between x next)) → operands ≡ first_fault_of 115 (stack_values p)
 moved_answer p x next operands same after moved is =
     answer_joins p x None None operands operands operands same
-    (subst (λ n. None ≡ first_fault_of 115 (depth_values (spot_of x n))) after (sym moved.depths))
-    (subst (λ n. None ≡ first_fault_of 119 (cell_values (spot_of x n))) after (sym moved.tops))
-    (subst (λ n. operands ≡ first_fault_of 135 (operand_values (spot_of x n))) after is) refl refl
+    (subst (λ n. None ≡ first_fault_of 115 (depth_values (spot_between x n))) after (sym moved.depths))
+    (subst (λ n. None ≡ first_fault_of 119 (cell_values (spot_between x n))) after (sym moved.tops))
+    (subst (λ n. operands ≡ first_fault_of 135 (operand_values (spot_between x n))) after is) refl refl
 
 pub free_last : (m a d t deep last : ℕ) → m ≡ felt_mul a t → a ≡ felt_sub 1 d → d ≡ deep → t ≡ last → m ≡ 0 → felt_mul (felt_sub 1 deep) last ≡ 0
 free_last m a d t deep last product less is cell none = cc
@@ -294,7 +294,7 @@ unfolding keeps_depth
 end_keeps x loop call e = rw (e.right_is, e.left_is, e.calls_is, e.returns_is) refl
 
 block_depths : (x y : List ℕ) → EndFlags x 0 0 → felt_mul (felt_sub (depth x) 16) (felt_sub 1 (deeper x)) ≡ 0 → Stays x y
-    → Zeros (depth_values (spot_of x (Some y)))
+    → Zeros (depth_values (spot_between x (Some y)))
 unfolding depth_values entry_116 entry_117 entry_118
 block_depths x y e deep m = (
   deep_is (flag x) x deep,
@@ -305,7 +305,7 @@ block_depths x y e deep m = (
 )
 
 call_depths : (x y : List ℕ) → EndFlags x 0 1 → felt_mul (felt_sub (depth x) 16) (felt_sub 1 (deeper x)) ≡ 0 → felt_sub (depth x) 16 ≡ 0
-    → Zeros (depth_values (spot_of x (Some y)))
+    → Zeros (depth_values (spot_between x (Some y)))
 unfolding depth_values entry_116 entry_117 entry_118
 call_depths x y e deep full = (
   deep_is (flag x) x deep,
@@ -316,7 +316,7 @@ call_depths x y e deep full = (
 )
 
 loop_depths : (x y : List ℕ) → EndFlags x 1 0 → felt_mul (felt_sub (depth x) 16) (felt_sub 1 (deeper x)) ≡ 0 → Falls x y
-    → Zeros (depth_values (spot_of x (Some y)))
+    → Zeros (depth_values (spot_between x (Some y)))
 unfolding depth_values entry_116 entry_117 entry_118
 loop_depths x y e deep m = (
   deep_is (flag x) x deep,
@@ -333,11 +333,11 @@ loop_depths x y e deep m = (
   ),
 )
 
-end_cells : (x y : List ℕ) → HasOp x ops.End → ((j : ℕ) → j < 16 → end_term j x y ≡ 0) → first_fault_of 119 (cell_values (spot_of x (Some y))) ≡ None
+end_cells : (x y : List ℕ) → HasOp x ops.End → ((j : ℕ) → j < 16 → end_term j x y ≡ 0) → first_fault_of 119 (cell_values (spot_between x (Some y))) ≡ None
 unfolding cell_values entry_119 term
 end_cells x y has zero =
-    no_fault 119 (cell_values (spot_of x (Some y)))
-    (zeros_family 16 (λ j. on_pair (entry_119 j) (spot_of x (Some y)))
+    no_fault 119 (cell_values (spot_between x (Some y)))
+    (zeros_family 16 (λ j. on_pair (entry_119 j) (spot_between x (Some y)))
     (λ j low. at_op has (λ fl. sum_over fl (term j x y)) ∙ sum_over-hot ops.End (term j x y) ∙ ap (λ n. n % prime) (zero j low)))
 
 level_end : (x y : List ℕ) → h x 4 ≡ 0 → StayLevel 0 x y → (j : ℕ) → j < 16 → end_term j x y ≡ 0
@@ -356,7 +356,7 @@ pub ends_block : (x y : List ℕ) (op : Op) → HasOp x op → code_of op ≡ 76
 ends_block x y op has is deep entered called ends =
     let end = end_is x op has is in
     record {
-      depths = no_fault 115 (depth_values (spot_of x (Some y))) (block_depths x y (end_flags x 0 0 end entered called) deep ends.kept);
+      depths = no_fault 115 (depth_values (spot_between x (Some y))) (block_depths x y (end_flags x 0 0 end entered called) deep ends.kept);
       tops = end_cells x y end (level_end x y entered ends.cells);
     }
 
@@ -365,7 +365,7 @@ pub ends_call : (x y : List ℕ) (op : Op) → HasOp x op → code_of op ≡ 76 
 ends_call x y op has is deep entered called ends =
     let end = end_is x op has is in
     record {
-      depths = no_fault 115 (depth_values (spot_of x (Some y))) (call_depths x y (end_flags x 0 1 end entered called) deep ends.full);
+      depths = no_fault 115 (depth_values (spot_between x (Some y))) (call_depths x y (end_flags x 0 1 end entered called) deep ends.full);
       tops = end_cells x y end (level_end x y entered ends.cells);
     }
 
@@ -374,7 +374,7 @@ pub ends_loop : (x y : List ℕ) (op : Op) → HasOp x op → code_of op ≡ 76 
 ends_loop x y op has is deep entered called ends =
     let end = end_is x op has is in
     record {
-      depths = no_fault 115 (depth_values (spot_of x (Some y))) (loop_depths x y (end_flags x 1 0 end entered called) deep ends.moves);
+      depths = no_fault 115 (depth_values (spot_between x (Some y))) (loop_depths x y (end_flags x 1 0 end entered called) deep ends.moves);
       tops = end_cells x y end (left_end x y entered ends.free ends.cells);
     }
 

@@ -6,8 +6,8 @@ use Rattle.air_kit.specs.Flags.{Flags}
 use Rattle.air_kit.specs.Places.{Spot}
 
 -- the place of a row with the one after it; no entry of the stack reads the row's number
-abbrev pub spot_of : List ℕ → Option (List ℕ) → Spot
-spot_of x next = record { row = 0; cur = x; next = next }
+abbrev pub spot_between : List ℕ → Option (List ℕ) → Spot
+spot_between x next = record { row = 0; cur = x; next = next }
 
 -- the operations whose flags the entries of operands read
 abbrev pub has_operands : Op → Bool

@@ -9,7 +9,7 @@ use Rattle.vm_ops.specs.declared.op.Shift.TheVariants.{Left, Stay, Right}
 use Rattle.vm_table.specs.MainColumns.{clk, depth, key, s}
 use Rattle.air_kit.specs.Places.{first_fault_of}
 use Rattle.air_kit.specs.StackValues.{cell_values, deeper, depth_values}
-use Rattle.air_stack.specs.Parts.{spot_of}
+use Rattle.air_stack.specs.Parts.{spot_between}
 
 -- the operation neither calls nor ends a block
 pub record IsSteady (op : Op) : Type 0 where
@@ -69,5 +69,5 @@ pub record EndsLoop (x y : List ℕ) : Type 0 where
 
 -- the entries of the depth, of the key and of the cells are 0
 pub record IsMoved (x : List ℕ) (next : Option (List ℕ)) : Type 0 where
-  pub depths : first_fault_of 115 (depth_values (spot_of x next)) ≡ None
-  pub tops : first_fault_of 119 (cell_values (spot_of x next)) ≡ None
+  pub depths : first_fault_of 115 (depth_values (spot_between x next)) ≡ None
+  pub tops : first_fault_of 119 (cell_values (spot_between x next)) ≡ None

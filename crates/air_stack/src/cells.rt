@@ -4,7 +4,7 @@ ghost use Rattle.vm_ops.specs.Codes.{op_at};
 ghost use Rattle.air_kit.specs.Flags.{flag, sum_over};
 ghost use Rattle.air_kit.specs.Places.{between, first_fault_of};
 ghost use Rattle.air_kit.specs.StackValues.{term, entry_119, cell_values};
-ghost use Rattle.air_stack.specs.Parts.{spot_of};
+ghost use Rattle.air_stack.specs.Parts.{spot_between};
 
 use crate::moves::term;
 use air_kit::{Seen, first_nonzero};
@@ -15,7 +15,7 @@ use vm_table::MainView;
 /// The first of the entries 119 to 134, of the sixteen cells, that is not 0.
 #[tactic(auto, unfolding(air_kit::specs::StackValues::cell_values, air_kit::specs::Places::family))]
 pub(crate) fn cell_fault<V: MainView>(x: &Seen<'_, V>, next: &Option<V>) -> Option<(u16, Felt)>
-    ensures { result ≡ first_fault_of 119 (cell_values (spot_of (V.cells x.now.row.now) (option_map V.cells next.now))) }
+    ensures { result ≡ first_fault_of 119 (cell_values (spot_between (V.cells x.now.row.now) (option_map V.cells next.now))) }
 {
     let values = [
         entry_119(0, x, next),

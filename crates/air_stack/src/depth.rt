@@ -2,7 +2,7 @@ ghost use Rattle.std.specs.Prelude.{◌≡◌, option_map};
 ghost use Rattle.air_kit.specs.Flags.{flag};
 ghost use Rattle.air_kit.specs.Places.{between, first_fault_of};
 ghost use Rattle.air_kit.specs.StackValues.{deeper, shifts_left, shifts_right, keeps_depth, entry_115, entry_116, entry_117, entry_118, depth_values};
-ghost use Rattle.air_stack.specs.Parts.{spot_of};
+ghost use Rattle.air_stack.specs.Parts.{spot_between};
 
 use air_kit::{OpSet, Seen, first_nonzero};
 use vm_field::Felt;
@@ -12,7 +12,7 @@ use vm_table::MainView;
 /// The first of the entries 115 to 118, of the depth and of the key, that is not 0.
 #[tactic(auto, unfolding(air_kit::specs::StackValues::depth_values))]
 pub(crate) fn depth_fault<V: MainView>(x: &Seen<'_, V>, next: &Option<V>) -> Option<(u16, Felt)>
-    ensures { result ≡ first_fault_of 115 (depth_values (spot_of (V.cells x.now.row.now) (option_map V.cells next.now))) }
+    ensures { result ≡ first_fault_of 115 (depth_values (spot_between (V.cells x.now.row.now) (option_map V.cells next.now))) }
 {
     let values = [
         entry_115(x),

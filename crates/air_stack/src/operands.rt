@@ -2,7 +2,7 @@ ghost use Rattle.std.specs.Prelude.{◌≡◌, IsTrue, option_map};
 ghost use Rattle.air_kit.specs.Flags.{flag};
 ghost use Rattle.air_kit.specs.Places.{between, first_fault_of};
 ghost use Rattle.air_kit.specs.StackValues.{entry_135, entry_136, entry_137, entry_138, entry_139, operand_values};
-ghost use Rattle.air_stack.specs.Parts.{has_operands, HasNoOperands, spot_of};
+ghost use Rattle.air_stack.specs.Parts.{has_operands, HasNoOperands, spot_between};
 
 use air_kit::{Seen, first_nonzero};
 use vm_field::Felt;
@@ -11,7 +11,7 @@ use vm_table::MainView;
 
 /// The first of the entries 135 to 139, of what operands must be, that is not 0.
 pub(crate) fn operand_fault<V: MainView>(x: &Seen<'_, V>, next: &Option<V>) -> Option<(u16, Felt)>
-    ensures { result ≡ first_fault_of 135 (operand_values (spot_of (V.cells x.now.row.now) (option_map V.cells next.now))) }
+    ensures { result ≡ first_fault_of 135 (operand_values (spot_between (V.cells x.now.row.now) (option_map V.cells next.now))) }
 {
     if lacks_operands(x) {
         return None;
@@ -23,7 +23,7 @@ pub(crate) fn operand_fault<V: MainView>(x: &Seen<'_, V>, next: &Option<V>) -> O
 #[inline(never)]
 #[tactic(auto, unfolding(air_kit::specs::StackValues::operand_values))]
 fn tested_fault<V: MainView>(x: &Seen<'_, V>, next: &Option<V>) -> Option<(u16, Felt)>
-    ensures { result ≡ first_fault_of 135 (operand_values (spot_of (V.cells x.now.row.now) (option_map V.cells next.now))) }
+    ensures { result ≡ first_fault_of 135 (operand_values (spot_between (V.cells x.now.row.now) (option_map V.cells next.now))) }
 {
     let values = [
         entry_135(x, next),

@@ -7,7 +7,7 @@ ghost use Rattle.vm_table.specs.MainColumns.{depth};
 ghost use Rattle.air_kit.specs.Flags.{HasOp};
 ghost use Rattle.air_kit.specs.Places.{first_fault_of};
 ghost use Rattle.air_kit.specs.StackValues.{below_term, cell_values, deeper, depth_values, top_term};
-ghost use Rattle.air_stack.specs.Parts.{spot_of};
+ghost use Rattle.air_stack.specs.Parts.{spot_between};
 ghost use Rattle.air_stack.specs.Quick.{AreCopies, ComeUp, EndsBlock, EndsCall, EndsLoop, Falls, GoDown, IsMoved, IsSteady, Rises, Shifts, StayLevel, Stays};
 
 use crate::depth::deeper;
@@ -94,7 +94,7 @@ fn is_depth_clean<V: MainView>(x: &V, y: &V, op: Op, deep: Felt) -> bool
     requires has { HasOp (V.cells x.now) op }
     requires steady { IsSteady op }
     requires deep { deep ≡ deeper (V.cells x.now) }
-    ensures { IsTrue result → first_fault_of 115 (depth_values (spot_of (V.cells x.now) (Some (V.cells y.now)))) ≡ None }
+    ensures { IsTrue result → first_fault_of 115 (depth_values (spot_between (V.cells x.now) (Some (V.cells y.now)))) ≡ None }
 {
     if is_deep_clean(x, deep) {
         return shifts(x, y, op, deep);
@@ -191,7 +191,7 @@ fn are_cells_clean<V: MainView>(x: &V, y: &V, op: Op, deep: Felt) -> bool
     requires has { HasOp (V.cells x.now) op }
     requires steady { IsSteady op }
     requires deep { deep ≡ deeper (V.cells x.now) }
-    ensures { IsTrue result → first_fault_of 119 (cell_values (spot_of (V.cells x.now) (Some (V.cells y.now)))) ≡ None }
+    ensures { IsTrue result → first_fault_of 119 (cell_values (spot_between (V.cells x.now) (Some (V.cells y.now)))) ≡ None }
 {
     if are_tops_clean(x, y, op) {
         return are_below_clean(x, y, op, deep);

@@ -11,7 +11,7 @@ use Rattle.op_pack.specs.Reading.{IsBatch}
 use Rattle.block_tree.specs.Cycles.{Mark, StartOpaque, StartSpan, StartJoin, StartSplit, StartLoop, StartCall, StartSyscall, Respan, Repeat, Do, End, EndSpan, EndLoop, EndCall, EndSyscall, top, advice_taken}
 use Rattle.block_tree.specs.Marks.{IsWholeMark}
 use Rattle.block_tree.specs.RowLaws.{core_after}
-use Rattle.block_tree.specs.Rows.{op_of, hash_of, accessed, behind, four_of}
+use Rattle.block_tree.specs.Rows.{op_of_mark, hash_of, accessed, behind, four_of}
 use Rattle.block_tree.specs.Steps.{IsCycle}
 
 -- two words are eight elements
@@ -55,7 +55,7 @@ word-cond false v w hv hw = hw
 
 pub accessed-word : (mark : Mark) (before after : Core) → IsWellFormedCore after → IsWord (accessed mark before after)
 accessed-word mark before after h =
-    word-cond (accesses_memory (op_of mark)) (word_at after.memory before.context (top before)) zero_word
+    word-cond (accesses_memory (op_of_mark mark)) (word_at after.memory before.context (top before)) zero_word
     (h.words before.context (top before)) word-zero
 
 pub shown-behind : (constants : List ℕ) (kernel : List (List ℕ)) (limit : ℕ) (mark : Mark) (s t : State) → IsCycle constants kernel limit mark s t

@@ -8,22 +8,22 @@ use Rattle.vm_ops.specs.declared.op.Op.TheVariants as ops
 use Rattle.block_tree.specs.Cycles.{Mark, StartOpaque, StartSpan, StartJoin, StartSplit, StartLoop, StartCall, StartSyscall, Respan, Repeat, Do, End, EndSpan, EndLoop, EndCall, EndSyscall, top}
 
 -- The operation of a cycle's row. An opaque block never starts, and so has no row; it has the name of a span here.
-abbrev pub op_of : Mark → Op
-op_of StartOpaque = ops.Span
-op_of (StartSpan batch) = ops.Span
-op_of (StartJoin first second) = ops.Join
-op_of (StartSplit on_one on_zero) = ops.Split
-op_of (StartLoop body) = ops.Loop
-op_of (StartCall callee) = ops.Call
-op_of (StartSyscall callee) = ops.Syscall
-op_of (Respan batch) = ops.Respan
-op_of (Repeat body) = ops.Repeat
-op_of (Do item) = item.op
-op_of (End digest) = ops.End
-op_of (EndSpan digest) = ops.End
-op_of (EndLoop digest) = ops.End
-op_of (EndCall digest frame) = ops.End
-op_of (EndSyscall digest frame) = ops.End
+abbrev pub op_of_mark : Mark → Op
+op_of_mark StartOpaque = ops.Span
+op_of_mark (StartSpan batch) = ops.Span
+op_of_mark (StartJoin first second) = ops.Join
+op_of_mark (StartSplit on_one on_zero) = ops.Split
+op_of_mark (StartLoop body) = ops.Loop
+op_of_mark (StartCall callee) = ops.Call
+op_of_mark (StartSyscall callee) = ops.Syscall
+op_of_mark (Respan batch) = ops.Respan
+op_of_mark (Repeat body) = ops.Repeat
+op_of_mark (Do item) = item.op
+op_of_mark (End digest) = ops.End
+op_of_mark (EndSpan digest) = ops.End
+op_of_mark (EndLoop digest) = ops.End
+op_of_mark (EndCall digest frame) = ops.End
+op_of_mark (EndSyscall digest frame) = ops.End
 
 -- what PUSH pushes
 abbrev pub immediate_of : Mark → Option ℕ
@@ -51,7 +51,7 @@ hash_of (EndSyscall digest frame) = digest ++ (0 ∷ 0 ∷ 0 ∷ 1 ∷ [])
 
 -- the word that the cycle reads or writes, as it stands behind the cycle
 abbrev pub accessed : Mark → Core → Core → List ℕ
-accessed mark before after = if accesses_memory (op_of mark) then word_at after.memory before.context (top before) else zero_word
+accessed mark before after = if accesses_memory (op_of_mark mark) then word_at after.memory before.context (top before) else zero_word
 
 -- the elements that the cycle takes of the tape, and zeros behind them
 abbrev pub four_of : List ℕ → List ℕ

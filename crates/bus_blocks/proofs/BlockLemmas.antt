@@ -6,7 +6,7 @@ use Rattle.bus_kit.specs.Adding.{IsCounted}
 use Rattle.bus_kit.specs.declared.tally.Tally.{Tally}
 use Rattle.bus_kit.proofs.AddingLemmas.{none_counted}
 use Rattle.air_kit.specs.Flags.{is_op, op_of}
-use Rattle.air_kit.specs.MainTuples.{blocks_asked, blocks_given, child, children_asked, children_by, children_given, children_of, frame_of, front, is_call_op, kind_of_end, kind_of_start, loops_asked, loops_given, no_frame}
+use Rattle.air_kit.specs.MainTuples.{blocks_asked, blocks_given, child, children_asked, children_by, children_given, children_of, frame_cells, front, is_call_op, kind_of_end, kind_of_start, loops_asked, loops_given, no_frame}
 use Rattle.vm_ops.specs.Codes.{is_start_op, kind_of}
 use Rattle.vm_ops.specs.declared.kind.Kind.{Kind}
 use Rattle.vm_ops.specs.declared.kind.Kind.TheVariants as kinds
@@ -39,10 +39,10 @@ ended_by op = refl
 
 -- the block of a row that starts one, and of one that ends one
 abbrev pub started : Op → List ℕ → List ℕ → List ℕ
-started op x y = addr y ∷ addr x ∷ kind_of_start op x ∷ cond (is_call_op op) (frame_of x) no_frame
+started op x y = addr y ∷ addr x ∷ kind_of_start op x ∷ cond (is_call_op op) (frame_cells x) no_frame
 
 abbrev pub ended : List ℕ → List ℕ → List ℕ
-ended x y = addr x ∷ addr y ∷ kind_of_end x ∷ cond (h x 6 ⊞ h x 7 == 1) (frame_of y) no_frame
+ended x y = addr x ∷ addr y ∷ kind_of_end x ∷ cond (h x 6 ⊞ h x 7 == 1) (frame_cells y) no_frame
 
 -- whether another block starts at a row
 abbrev pub more_of : List ℕ → ℕ

@@ -2,7 +2,7 @@ ghost use Rattle.std.specs.Prelude.{◌≡◌, ◌==◌, if◌then◌else◌, Li
 ghost use Rattle.vm_field.specs.Signs.{◌⊞◌, ◌⊠◌};
 ghost use Rattle.vm_table.specs.MainColumns.{addr, h};
 ghost use Rattle.air_kit.specs.Flags.{is_op, op_of};
-ghost use Rattle.air_kit.specs.MainTuples.{blocks_given, blocks_asked, frame_of, is_call_op, no_frame, kind_of_start, kind_of_end};
+ghost use Rattle.air_kit.specs.MainTuples.{blocks_given, blocks_asked, frame_cells, is_call_op, no_frame, kind_of_start, kind_of_end};
 ghost use Rattle.bus_kit.specs.Adding.{IsCounted};
 ghost use Rattle.bus_blocks.specs.Space.{HasSpace};
 
@@ -30,7 +30,7 @@ pub fn tuples_blocks<V: MainView>(op: Op, x: &V, y: &V, tally: &mut Tally) -> Re
 // The block that starts: it, its parent, its kind, and what the END of a call is to bring back.
 fn started<V: MainView>(op: Op, x: &V, y: &V) -> [Felt; 12]
     ensures { result ≡ addr (V.cells y.now) ∷ addr (V.cells x.now) ∷ kind_of_start op (V.cells x.now)
-        ∷ (if is_call_op op then frame_of (V.cells x.now) else no_frame) }
+        ∷ (if is_call_op op then frame_cells (V.cells x.now) else no_frame) }
 {
     let kind = kind_of_start(op, x);
     if is_call(op) {
@@ -43,7 +43,7 @@ fn started<V: MainView>(op: Op, x: &V, y: &V) -> [Felt; 12]
 // The block that ends: the same, with what the next row shows behind a call.
 fn ended<V: MainView>(x: &V, y: &V) -> [Felt; 12]
     ensures { result ≡ addr (V.cells x.now) ∷ addr (V.cells y.now) ∷ kind_of_end (V.cells x.now)
-        ∷ (if h (V.cells x.now) 6 ⊞ h (V.cells x.now) 7 == 1 then frame_of (V.cells y.now) else no_frame) }
+        ∷ (if h (V.cells x.now) 6 ⊞ h (V.cells x.now) 7 == 1 then frame_cells (V.cells y.now) else no_frame) }
 {
     let kind = kind_of_end(x);
     if x.h6() + x.h7() == Felt::ONE {
@@ -89,7 +89,7 @@ fn kind_of_end<V: MainView>(x: &V) -> Felt
 
 // A block, its parent, its kind, and what a row shows of what a call sets aside.
 fn framed<V: MainView>(block: Felt, parent: Felt, kind: Felt, row: &V) -> [Felt; 12]
-    ensures { result ≡ block ∷ parent ∷ kind ∷ frame_of (V.cells row.now) }
+    ensures { result ≡ block ∷ parent ∷ kind ∷ frame_cells (V.cells row.now) }
 {
     [
         block,

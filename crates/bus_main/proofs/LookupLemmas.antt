@@ -6,7 +6,7 @@ use Rattle.bus_kit.specs.Adding.{IsCounted, singles}
 use Rattle.bus_kit.specs.declared.tally.Tally.{Tally}
 use Rattle.bus_kit.proofs.AddingLemmas.{none_counted}
 use Rattle.air_kit.specs.Flags.{is_op, op_of}
-use Rattle.air_kit.specs.MainTuples.{accesses_of, bitwise_asked, domain_of, eight, front, hash_end, hasher_asked, limbs_from, limbs_of, memory_asked, range_asked, twelve}
+use Rattle.air_kit.specs.MainTuples.{accesses_of, bitwise_asked, domain_of, eight, front, hash_end, hasher_asked, limbs_from, count_of_limbs, memory_asked, range_asked, twelve}
 use Rattle.vm_ops.specs.Codes.{is_start_op}
 use Rattle.vm_ops.specs.declared.op.Op.{Op}
 use Rattle.vm_ops.specs.declared.op.Op.TheVariants as ops
@@ -81,7 +81,7 @@ module _ {E : Type 0} (n : ℕ) (a b : Tally) (r : Result (Unit {0}) E) (x y : L
 
   -- the range bus
   abbrev RangeBy : Op → Type 0
-  RangeBy op = OnOk r (IsCounted n a b (cond (is_start_op op) (once ((1024 ⊟ lv y) ∷ []) ∷ []) (limbs_from x 0 (limbs_of op))) [])
+  RangeBy op = OnOk r (IsCounted n a b (cond (is_start_op op) (once ((1024 ⊟ lv y) ∷ []) ∷ []) (limbs_from x 0 (count_of_limbs op))) [])
 
   range_by : (op : Op) → op ≡ op_of x → RangeBy op → OnOk r (IsCounted n a b (range_asked x y) [])
   unfolding range_asked
@@ -91,7 +91,7 @@ module _ {E : Type 0} (n : ℕ) (a b : Tally) (r : Result (Unit {0}) E) (x y : L
       → OnOk r (IsCounted n a b (once u ∷ []) []) → OnOk r (IsCounted n a b (range_asked x y) [])
   nesting_asked op u is holds tuple p = range_by op is (rw (← holds, ← tuple) p)
 
-  pub limbs_asked : (op : Op) (count : ℕ) → op ≡ op_of x → false ≡ is_start_op op → count ≡ limbs_of op
+  pub limbs_asked : (op : Op) (count : ℕ) → op ≡ op_of x → false ≡ is_start_op op → count ≡ count_of_limbs op
       → OnOk r (IsCounted n a b (limbs_from x 0 count) []) → OnOk r (IsCounted n a b (range_asked x y) [])
   limbs_asked op count is fails few p = range_by op is (rw (← fails, ← few) p)
 

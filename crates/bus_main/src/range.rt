@@ -3,7 +3,7 @@ ghost use Rattle.vm_field.specs.Limits.{most_nesting};
 ghost use Rattle.vm_field.specs.Signs.{◌⊟◌};
 ghost use Rattle.vm_table.specs.MainColumns.{lv, t};
 ghost use Rattle.air_kit.specs.Flags.{op_of};
-ghost use Rattle.air_kit.specs.MainTuples.{limbs_from, limbs_of, range_asked};
+ghost use Rattle.air_kit.specs.MainTuples.{limbs_from, count_of_limbs, range_asked};
 ghost use Rattle.bus_kit.specs.Adding.{IsCounted};
 ghost use Rattle.bus_blocks.specs.Space.{HasSpace};
 
@@ -72,7 +72,7 @@ fn nesting_left<V: MainView>(y: &V) -> [Felt; 1]
 
 // How many limbs an operation has.
 fn limbs_of(op: Op) -> usize
-    ensures is { result ≡ limbs_of op }
+    ensures is { result ≡ count_of_limbs op }
     ensures few { result ≤ 10 }
 {
     match op {

@@ -2,7 +2,7 @@
 use Rattle.std.proofs.Common.{◌≡◌, ℕ, List, Some, refl, subst, sym}
 use Rattle.rpo_hash.specs.Constants.{constants_of}
 use Rattle.block_tree.specs.declared.evidence.Evidence.{Evidence}
-use Rattle.statement.specs.Statements.{claim_of}
+use Rattle.statement.specs.Statements.{stated_of}
 use Rattle.statement.specs.EvidenceText.{evidence_text}
 use Rattle.air_kit.specs.Acceptance.{IsAccepted}
 use Rattle.air_kit.specs.declared.trace.Public.{Public}
@@ -24,44 +24,44 @@ use Rattle.cmd_kit.specs.Steps.{Steps, accepted, refused, checked, ending, evide
 use Rattle.cmd_kit.proofs.ServingLemmas.{goes_past_finding, same_again, says_comes, says_ends, work_ends}
 
 -- what is shown against a statement and constants is shown of what they say
-evidence_for_public : (p : Public) (t : Trace) (e : Evidence) → IsEvidence p t e → IsEvidenceFor (constants_of p.params) (claim_of p.statement) t e
+evidence_for_public : (p : Public) (t : Trace) (e : Evidence) → IsEvidence p t e → IsEvidenceFor (constants_of p.params) (stated_of p.statement) t e
 evidence_for_public p t e is = record { against = p; is_public = record { params = refl; statement = refl }; is_evidence = is }
 
 -- the text of evidence is right
 pub evidence_is_right : (p : Public) (t : Trace) (e : Evidence) (bytes : List ℕ) → IsEvidence p t e → bytes ≡ evidence_text e
-    → IsRight (evidence_for (constants_of p.params) (claim_of p.statement) t) bytes
+    → IsRight (evidence_for (constants_of p.params) (stated_of p.statement) t) bytes
 evidence_is_right p t e bytes is text = record { evidence = e; is_evidence = evidence_for_public p t e is; text = text }
 
 -- it is told which evidence was written
 pub told_ends : (p : Public) (t : Trace) (e : Evidence) (bytes : List ℕ) (o : Outcome) (s : ShelfState) → IsEvidence p t e → bytes ≡ evidence_text e
-    → SaysStatus o status.Ok (accepted_line e) → EndsIn (Some (ending (telling (constants_of p.params) (claim_of p.statement) t bytes))) o s s
+    → SaysStatus o status.Ok (accepted_line e) → EndsIn (Some (ending (telling (constants_of p.params) (stated_of p.statement) t bytes))) o s s
 told_ends p t e bytes o s is text says =
-    let end = telling (constants_of p.params) (claim_of p.statement) t bytes in
+    let end = telling (constants_of p.params) (stated_of p.statement) t bytes in
     work_ends end o s (says_ends end status.Ok (accepted_line e) o refl
     (record { evidence = e; is_evidence = evidence_for_public p t e is; text = text; is = refl }) says)
 
 -- a trace that is accepted
 pub accepted_goes : (p : Public) (t : Trace) (name : List ℕ) (o : Outcome) (old new : ShelfState) → IsAccepted p t
-    → EndsIn (Some (found_steps name (constants_of p.params) (claim_of p.statement) t accepted)) o old new
-    → EndsIn (Some (judging_steps name (constants_of p.params) t (claim_of p.statement))) o old new
+    → EndsIn (Some (found_steps name (constants_of p.params) (stated_of p.statement) t accepted)) o old new
+    → EndsIn (Some (judging_steps name (constants_of p.params) t (stated_of p.statement))) o old new
 accepted_goes p t name o old new is ends =
-    goes_past_finding (checked (constants_of p.params) (claim_of p.statement) t)
-    (found_steps name (constants_of p.params) (claim_of p.statement) t) accepted old
+    goes_past_finding (checked (constants_of p.params) (stated_of p.statement) t)
+    (found_steps name (constants_of p.params) (stated_of p.statement) t) accepted old
     (record { against = p; is_public = record { params = refl; statement = refl }; found = is }) o new ends
 
 -- one that is refused, where want of memory is answered by itself
 pub refused_ends : (p : Public) (t : Trace) (name : List ℕ) (r : Refused) (o : Outcome) (s : ShelfState) → IsRefusal p t r
     → (r ≡ why.Memory → o ≡ outcome.Memory) → SaysStatus o status.Refused (refused_line r)
-    → EndsIn (Some (judging_steps name (constants_of p.params) t (claim_of p.statement))) o s s
+    → EndsIn (Some (judging_steps name (constants_of p.params) t (stated_of p.statement))) o s s
 refused_ends p t name r o s is wants says = by r is wants says
   where
     steps : Steps
-    steps = judging_steps name (constants_of p.params) t (claim_of p.statement)
+    steps = judging_steps name (constants_of p.params) t (stated_of p.statement)
 
     goes : (r : Refused) → IsWhy p t r → SaysStatus o status.Refused (refused_line r) → EndsIn (Some steps) o s s
     goes r is says =
-        goes_past_finding (checked (constants_of p.params) (claim_of p.statement) t)
-        (found_steps name (constants_of p.params) (claim_of p.statement) t)
+        goes_past_finding (checked (constants_of p.params) (stated_of p.statement) t)
+        (found_steps name (constants_of p.params) (stated_of p.statement) t)
         (refused r) s (record { against = p; is_public = record { params = refl; statement = refl }; found = is }) o s
         (work_ends (refusal r) o s (says_comes status.Refused (refused_line r) o refl says))
 

@@ -2,7 +2,7 @@
 ghost use Rattle.std.specs.Prelude.{◌≡◌, ◌≤◌, ◌∷◌, ◌++◌, length, codes, decimal, IfOk, Some};
 ghost use Rattle.vm_field.specs.Limits.{most_name_bytes};
 ghost use Rattle.rpo_hash.specs.Constants.{constants_of};
-ghost use Rattle.statement.specs.Statements.{claim_of};
+ghost use Rattle.statement.specs.Statements.{stated_of};
 ghost use Rattle.air_kit.specs.Traces.{HasCounts};
 ghost use Rattle.cmd_kit.specs.CheckEnds.{accepted_line};
 ghost use Rattle.cmd_kit.specs.CheckSteps.{check_steps, found_steps, judging_steps};
@@ -87,7 +87,7 @@ fn judge<F: Shelf, G: Gate>(
 ) -> Outcome
     requires counts { HasCounts trace }
     requires evidence { length evidence.now ≤ most_name_bytes }
-    ensures { EndsIn (Some (judging_steps evidence.now (constants_of public.params) trace (claim_of public.statement))) result
+    ensures { EndsIn (Some (judging_steps evidence.now (constants_of public.params) trace (stated_of public.statement))) result
         (F.state shelf.old) (F.state shelf.new) }
 {
     match check(alloc, trace, public, 1, gate) {
@@ -114,7 +114,7 @@ fn refuse(alloc: Global, refused: &Refused) -> Outcome
 #[tactic(auto, using(crate::proofs::CheckLemmas::evidence_is_right, cmd_kit::proofs::ServingLemmas::same_again))]
 fn accept<F: Shelf>(alloc: Global, shelf: &mut F, valid: &Valid, name: &str) -> Outcome
     requires name { length name.now ≤ most_name_bytes }
-    ensures { EndsIn (Some (found_steps name.now (constants_of valid.now.public.params) (claim_of valid.now.public.statement)
+    ensures { EndsIn (Some (found_steps name.now (constants_of valid.now.public.params) (stated_of valid.now.public.statement)
         valid.now.trace accepted)) result
         (F.state shelf.old) (F.state shelf.new) }
 {

@@ -3,7 +3,7 @@ use Rattle.std.proofs.Common.{◌≡◌, ℕ, true, List, Option, Some, Ok, refl
 use Rattle.std.specs.FinMap.{get, insert}
 use Rattle.rpo_hash.specs.Constants.{constants_of}
 use Rattle.block_tree.specs.TreeView.{tree_of}
-use Rattle.statement.specs.Statements.{Stated, claim_of}
+use Rattle.statement.specs.Statements.{Stated, stated_of}
 use Rattle.air_kit.specs.Acceptance.{IsAccepted}
 use Rattle.air_kit.specs.declared.trace.Public.{Public}
 use Rattle.air_kit.specs.declared.trace.Trace.{Trace}
@@ -40,7 +40,7 @@ not_both p t why.Memory is h = h
 -- the steps of `check` over what `run` left, which ended with some answer
 module _ (a : Answer) (new : Option Files) where
   verdict : (name constants : List ℕ) (claim : Stated) (t : Trace) (m : Files)
-      → ((p : Public) → constants_of p.params ≡ constants → claim_of p.statement ≡ claim → IsAccepted p t)
+      → ((p : Public) → constants_of p.params ≡ constants → stated_of p.statement ≡ claim → IsAccepted p t)
       → (v : Verdict) → IsVerdictFor constants claim t v → ComesWhere (found_steps name constants claim t v) (Done a new) (Some m) → a.status ≡ status.Ok
   verdict name constants claim t m all accepted found h =
       let written = was_written a new name _ _ m h in
@@ -73,7 +73,7 @@ module _ (a : Answer) (new : Option Files) where
       verdict evidence good.constants claim trace n accepts found.0 found.1 found.2
     where
       accepts : (p : Public) → constants_of p.params ≡ left.good.constants
-          → claim_of p.statement ≡ claim_of_good m params source inputs kernel limit left.good → IsAccepted p left.shows.trace
+          → stated_of p.statement ≡ claim_of_good m params source inputs kernel limit left.good → IsAccepted p left.shows.trace
       accepts p params_are claims =
           files_accepted left.good.constants left.good.program.kernel limit (tree_of left.good.program.tree) left.good.given.stack
           left.good.given.advice left.good.last left.good.log

@@ -68,7 +68,7 @@ same_outcome constants source kernel p q given limit one other =
 
 -- a trace that is accepted for what is claimed is accepted however the claim lies in memory
 same_accepted : (p q : Public) (t : Trace) → constants_of p.params ≡ constants_of q.params
-    → statements.claim_of p.statement ≡ statements.claim_of q.statement → IsAccepted p t → IsAccepted q t
+    → statements.stated_of p.statement ≡ statements.stated_of q.statement → IsAccepted p t → IsAccepted q t
 same_accepted p q t params claims is =
     let digest : p.statement.digest ≡ q.statement.digest = ap (λ (c : Stated). c.digest) claims in
     let kernel : p.statement.kernel ≡ q.statement.kernel = ap (λ (c : Stated). c.kernel) claims in

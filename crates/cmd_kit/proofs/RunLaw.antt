@@ -9,7 +9,7 @@ use Rattle.block_tree.specs.TreeView.{tree_of}
 use Rattle.block_tree.specs.declared.program.Program.{Program}
 use Rattle.masm_link.specs.declared.refusal.AsmError.{AsmError}
 use Rattle.statement.specs.Inputs.{Given, inputs_of}
-use Rattle.statement.specs.Statements.{claim_of}
+use Rattle.statement.specs.Statements.{stated_of}
 use Rattle.statement.specs.declared.refusal.TextCause.{TextCause}
 use Rattle.air_kit.specs.Acceptance.{IsAccepted}
 use Rattle.air_kit.specs.RowStates.{tape_of}

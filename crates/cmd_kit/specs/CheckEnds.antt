@@ -3,7 +3,7 @@ use Rattle.std.specs.Prelude.{◌≡◌, ℕ, List, ◌∷◌, ◌++◌, codes, 
 use Rattle.rpo_hash.specs.Constants.{constants_of}
 use Rattle.block_tree.specs.declared.evidence.Evidence.{Evidence}
 use Rattle.block_tree.specs.declared.evidence.Evidence.TheVariants.{Run, Pair}
-use Rattle.statement.specs.Statements.{Stated, claim_of}
+use Rattle.statement.specs.Statements.{Stated, stated_of}
 use Rattle.statement.specs.EvidenceText.{evidence_text}
 use Rattle.air_kit.specs.Acceptance.{IsAccepted, IsBusRefusal, IsFirstFault}
 use Rattle.air_kit.specs.Traces as traces
@@ -20,7 +20,7 @@ use Rattle.cmd_kit.specs.Steps.{End, stop, Verdict, accepted, refused, ends_with
 -- what a trace is checked against: these constants, and a statement that claims this
 pub record IsPublic (constants : List ℕ) (claim : Stated) (p : Public) : Type 0 where
   pub params : constants_of p.params ≡ constants
-  pub statement : claim_of p.statement ≡ claim
+  pub statement : stated_of p.statement ≡ claim
 
 -- why a trace is refused: its first entry that is not 0; where there is none, the first bus that is apart, with the least tuple
 abbrev pub IsWhy : Public → Trace → Refused → Type 0

@@ -3,7 +3,7 @@ use Rattle.std.specs.Prelude.{◌≡◌, ℕ, suc, List, ◌++◌, length, Optio
 use Rattle.std.specs.FinMap.{insert}
 use Rattle.rpo_hash.specs.Constants.{constants_of}
 use Rattle.block_tree.specs.TreeView.{tree_of}
-use Rattle.statement.specs.Statements.{Stated, claim_of}
+use Rattle.statement.specs.Statements.{Stated, stated_of}
 use Rattle.air_kit.specs.Acceptance.{IsAccepted}
 use Rattle.air_kit.specs.RowStates.{tape_of}
 use Rattle.air_kit.specs.declared.trace.Public.{Public}
@@ -37,7 +37,7 @@ pub record RunStands (params source inputs : List ℕ) (outputs : Outputs) (kern
   pub rows : length shows.trace.main ≡ suc good.last.core.clock
   pub tape : good.given.advice ≡ tape_of shows.trace.main ++ good.last.tape
   pub accepted : (p : Public) → constants_of p.params ≡ good.constants
-      → claim_of p.statement ≡ claim_of_good m params source inputs kernel limit good → IsAccepted p shows.trace
+      → stated_of p.statement ≡ claim_of_good m params source inputs kernel limit good → IsAccepted p shows.trace
 
 -- Where `run` answers `Ok`, its files are good, and these stand.
 abbrev pub AnsweredRunStands : Type 0

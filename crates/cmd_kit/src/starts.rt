@@ -4,7 +4,7 @@ ghost use Rattle.vm_field.specs.Limits.{most_name_bytes, most_source_bytes};
 ghost use Rattle.air_kit.specs.Traces.{HasCounts};
 ghost use Rattle.rpo_hash.specs.Constants.{constants_of};
 ghost use Rattle.statement.specs.Inputs.{given_of};
-ghost use Rattle.statement.specs.Statements.{claim_of};
+ghost use Rattle.statement.specs.Statements.{stated_of};
 ghost use Rattle.cmd_kit.specs.Outcomes.{EndsThere, Loads};
 ghost use Rattle.cmd_kit.specs.Sources.{file_of};
 ghost use Rattle.cmd_kit.specs.Starts.{inputs_steps, kernel_steps, params_steps, source_steps, statement_steps, trace_steps};
@@ -94,7 +94,7 @@ pub fn load_statement<F: Shelf>(
     name: &str,
 ) -> Result<Statement, Outcome>
     requires { length name.now ≤ most_name_bytes }
-    ensures loads { IfOk result (λ statement. Loads (statement_steps name.now) (claim_of statement) (F.state shelf.old) (F.state shelf.new)) }
+    ensures loads { IfOk result (λ statement. Loads (statement_steps name.now) (stated_of statement) (F.state shelf.old) (F.state shelf.new)) }
     ensures ends { IfErr result (λ end. EndsThere (statement_steps name.now) end (F.state shelf.old) (F.state shelf.new)) }
 {
     let bytes = load(alloc, shelf, name, MOST_STATEMENT_BYTES)?;

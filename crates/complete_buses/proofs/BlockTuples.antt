@@ -31,24 +31,24 @@ saved frame keys =
 
 pub frame_is : (x : List ℕ) (frame : Frame) (keys : List ℕ) → ctx x ≡ frame.context → fmp x ≡ frame.fmp → sys x ≡ bit_of frame.in_syscall
     → depth x ≡ length frame.hidden + 16 → key x ≡ key_of keys → ((j : ℕ) → j < 4 → f x j ≡ slice_index frame.digest j)
-    → tuples.frame_of x ≡ saved frame keys
+    → tuples.frame_cells x ≡ saved frame keys
 frame_is x frame keys context pointer syscall deep newest digest =
     rw (context, pointer, syscall, deep, newest, digest 0 (lit< tt), digest 1 (lit< tt), digest 2 (lit< tt), digest 3 (lit< tt)) refl
 
 -- ---- what is given
 
 abbrev starter : Op → List ℕ → List ℕ → List ℕ
-starter op x y = block_tuple (addr y) (addr x) (kind_of_start op x) (cond (is_call_op op) (tuples.frame_of x) no_frame)
+starter op x y = block_tuple (addr y) (addr x) (kind_of_start op x) (cond (is_call_op op) (tuples.frame_cells x) no_frame)
 
 pub start_gives : (x y : List ℕ) (op : Op) (own parent kind : ℕ) (frame u : List ℕ) → flags.op_of x ≡ op → is_start_op op ≡ true → addr y ≡ own
-    → addr x ≡ parent → kind_of_start op x ≡ kind → cond (is_call_op op) (tuples.frame_of x) no_frame ≡ frame
+    → addr x ≡ parent → kind_of_start op x ≡ kind → cond (is_call_op op) (tuples.frame_cells x) no_frame ≡ frame
     → counted (blocks_given x y) u ≡ hit (block_tuple own parent kind frame) u
 unfolding blocks_given
 start_gives x y op own parent kind frame u is start at around kind_is frame_set =
     ap (λ o. counted (cond (is_start_op o) (once (starter o x y) ∷ []) []) u) is
     ∙ ap (λ b. counted (cond b (once (starter op x y) ∷ []) []) u) start
     ∙ ap (λ t. counted (once t ∷ []) u)
-    (same (addr y) own (addr x) parent (kind_of_start op x) kind (cond (is_call_op op) (tuples.frame_of x) no_frame) frame at around
+    (same (addr y) own (addr x) parent (kind_of_start op x) kind (cond (is_call_op op) (tuples.frame_cells x) no_frame) frame at around
     kind_is frame_set)
     ∙ one_count (block_tuple own parent kind frame) u
 
@@ -61,7 +61,7 @@ none_gives x y u op is no_start =
 -- ---- what is asked
 
 abbrev brought_back : List ℕ → List ℕ → List ℕ
-brought_back x y = cond (h x 6 ⊞ h x 7 == 1) (tuples.frame_of y) no_frame
+brought_back x y = cond (h x 6 ⊞ h x 7 == 1) (tuples.frame_cells y) no_frame
 
 abbrev ender : List ℕ → List ℕ → List ℕ
 ender x y = block_tuple (addr x) (addr y) (kind_of_end x) (brought_back x y)
@@ -97,14 +97,14 @@ span_ended x y has = (rw (has.loop, has.span, has.call, has.syscall) refl, rw (h
 pub closed : (x y : List ℕ) → HasFlags x 0 0 0 0 → (kind_of_end x ≡ 0) × (brought_back x y ≡ no_frame)
 closed x y has = (rw (has.loop, has.span, has.call, has.syscall) refl, rw (has.call, has.syscall) refl)
 
-pub call_ended : (x y frame : List ℕ) → HasFlags x 0 0 1 0 → tuples.frame_of y ≡ frame → (kind_of_end x ≡ 3) × (brought_back x y ≡ frame)
+pub call_ended : (x y frame : List ℕ) → HasFlags x 0 0 1 0 → tuples.frame_cells y ≡ frame → (kind_of_end x ≡ 3) × (brought_back x y ≡ frame)
 call_ended x y frame has is = (rw (has.loop, has.span, has.call, has.syscall) refl, back ∙ is)
   where
-    back : brought_back x y ≡ tuples.frame_of y
+    back : brought_back x y ≡ tuples.frame_cells y
     back = rw (has.call, has.syscall) refl
 
-pub syscall_ended : (x y frame : List ℕ) → HasFlags x 0 0 0 1 → tuples.frame_of y ≡ frame → (kind_of_end x ≡ 4) × (brought_back x y ≡ frame)
+pub syscall_ended : (x y frame : List ℕ) → HasFlags x 0 0 0 1 → tuples.frame_cells y ≡ frame → (kind_of_end x ≡ 4) × (brought_back x y ≡ frame)
 syscall_ended x y frame has is = (rw (has.loop, has.span, has.call, has.syscall) refl, back ∙ is)
   where
-    back : brought_back x y ≡ tuples.frame_of y
+    back : brought_back x y ≡ tuples.frame_cells y
     back = rw (has.call, has.syscall) refl

@@ -6,7 +6,7 @@ use Rattle.vm_ops.specs.declared.op.Op.{Op}
 use Rattle.vm_ops.specs.declared.op.Op.TheVariants as ops
 use Rattle.buses.specs.Counts.{counted}
 use Rattle.block_tree.specs.Cycles.{Frame, Mark, Do}
-use Rattle.block_tree.specs.Rows.{op_of}
+use Rattle.block_tree.specs.Rows.{op_of_mark}
 use Rattle.block_tree.specs.Steps.{Task, Block, Within, Turned, Closing, Returning, Leaving, Next, span, join, split_1, split_0, loop_1, loop_0, call, syscall, operation, respan, span_ends, repeats, loop_ends, closes, returns, leaves}
 use Rattle.block_tree.specs.Trees.{Tree, Loop, tree_digest}
 use Rattle.air_kit.specs.MainTuples.{children_asked, children_given}
@@ -58,20 +58,20 @@ module _ (constants : List ℕ) where
   owed_children (task ∷ todo) blocks u =
       hit (child_tuple (address_of (around task blocks)) (digest_of task) (starts todo)) u + owed_children todo (around task blocks) u
 
-  turn_stays : {body : Tree} {c : Core} {mark : Mark} {rest : List Task} → Next constants (Turned body) c mark rest → is_start_op (op_of mark) ≡ false
+  turn_stays : {body : Tree} {c : Core} {mark : Mark} {rest : List Task} → Next constants (Turned body) c mark rest → is_start_op (op_of_mark mark) ≡ false
   turn_stays (repeats bit) = refl
   turn_stays (loop_ends bit) = refl
 
   close_stays : {digest : List ℕ} {c : Core} {mark : Mark} {rest : List Task} → Next constants (Closing digest) c mark rest
-      → is_start_op (op_of mark) ≡ false
+      → is_start_op (op_of_mark mark) ≡ false
   close_stays closes = refl
 
   return_stays : {digest : List ℕ} {frame : Frame} {c : Core} {mark : Mark} {rest : List Task} → Next constants (Returning digest frame) c mark rest
-      → is_start_op (op_of mark) ≡ false
+      → is_start_op (op_of_mark mark) ≡ false
   return_stays returns = refl
 
   leave_stays : {digest : List ℕ} {frame : Frame} {c : Core} {mark : Mark} {rest : List Task} → Next constants (Leaving digest frame) c mark rest
-      → is_start_op (op_of mark) ≡ false
+      → is_start_op (op_of_mark mark) ≡ false
   leave_stays leaves = refl
 
   bit_is : (op other : Op) → op ≡ other → is_start_op other ≡ false → ◌≡◌ {A = ℕ} (cond (is_start_op op) 1 0) 0
@@ -81,10 +81,10 @@ module _ (constants : List ℕ) where
   starts_is [] c op out h = bit_is op ops.Halt h refl
   starts_is (Block tree ∷ todo) c op out h = ap (λ b. cond b 1 0) (starts_block constants tree todo c op h)
   starts_is (Within items later digest ∷ todo) c op out h = absurd out.0
-  starts_is (Turned body ∷ todo) c op out h = bit_is op (op_of h.0) h.4 (turn_stays h.2)
-  starts_is (Closing digest ∷ todo) c op out h = bit_is op (op_of h.0) h.4 (close_stays h.2)
-  starts_is (Returning digest frame ∷ todo) c op out h = bit_is op (op_of h.0) h.4 (return_stays h.2)
-  starts_is (Leaving digest frame ∷ todo) c op out h = bit_is op (op_of h.0) h.4 (leave_stays h.2)
+  starts_is (Turned body ∷ todo) c op out h = bit_is op (op_of_mark h.0) h.4 (turn_stays h.2)
+  starts_is (Closing digest ∷ todo) c op out h = bit_is op (op_of_mark h.0) h.4 (close_stays h.2)
+  starts_is (Returning digest frame ∷ todo) c op out h = bit_is op (op_of_mark h.0) h.4 (return_stays h.2)
+  starts_is (Leaving digest frame ∷ todo) c op out h = bit_is op (op_of_mark h.0) h.4 (leave_stays h.2)
 
   pub children_pair : (kernel : List (List ℕ)) → {task : Task} {c : Core} {mark : Mark} {rest : List Task} → Next constants task c mark rest
       → (advice : List ℕ) (b : Core) (d : Decoder) (events : List Event) (todo : List Task) (x y : List ℕ) (after : Core)

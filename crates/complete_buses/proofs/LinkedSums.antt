@@ -2,7 +2,7 @@
 use Rattle.std.proofs.Common.{◌≡◌, ℕ, ◌+◌, List, [], ◌∷◌, ◌++◌, slice_index, refl, ap, subst, arith}
 use Rattle.vm_field.specs.Machine.{Core, State}
 use Rattle.block_tree.specs.Cycles.{Mark}
-use Rattle.block_tree.specs.Rows.{op_of}
+use Rattle.block_tree.specs.Rows.{op_of_mark}
 use Rattle.block_tree.specs.Steps.{Task, Closing, Next, closes}
 use Rattle.machine_cycles.specs.declared.event.Event.{Event}
 use Rattle.complete_rows.specs.Agreement.{Agrees}
@@ -36,11 +36,11 @@ module _ (constants : List ℕ) (kernel : List (List ℕ)) (limit : ℕ) where
       omega (arith, here, behind)
 
   close_ends : {digest : List ℕ} {c : Core} {mark : Mark} {rest : List Task} → Next constants (Closing digest) c mark rest
-      → kind_of (op_of mark) ≡ kinds.End
+      → kind_of (op_of_mark mark) ≡ kinds.End
   close_ends closes = refl
 
   no_turn : (task : Task) (digest : List ℕ) (c : Core) (mark : Mark) (rest : List Task) → task ≡ Closing digest → Next constants task c mark rest
-      → kind_of (op_of mark) ≡ kinds.End
+      → kind_of (op_of_mark mark) ≡ kinds.End
   no_turn task digest c mark rest e next = close_ends (subst (λ t. Next constants t c mark rest) e next)
 
   -- a block that ends without a turn has none to come

@@ -5,7 +5,7 @@ use Rattle.vm_ops.specs.declared.op.Op.TheVariants as ops
 use Rattle.buses.specs.Counts.{counted}
 use Rattle.vm_table.specs.MainColumns.{w}
 use Rattle.block_tree.specs.Cycles.{Mark, Do}
-use Rattle.block_tree.specs.Rows.{op_of}
+use Rattle.block_tree.specs.Rows.{op_of_mark}
 use Rattle.block_tree.specs.Steps as steps
 use Rattle.block_tree.specs.Steps.{Task, Block, Within, Turned, Closing, Returning, Leaving, Next, span, join, split_1, split_0, loop_1, loop_0, call, syscall, operation, respan, span_ends, loop_ends, closes, returns, leaves}
 use Rattle.block_tree.specs.Trees.{Loop, tree_digest}
@@ -36,7 +36,7 @@ module _ (constants : List ℕ) where
   module _ (kernel : List (List ℕ)) where
     pub loops_pair : {task : Task} {c : Core} {mark : Mark} {rest : List Task} → Next constants task c mark rest → (advice : List ℕ) (b : Core)
         (d : Decoder) (events : List Event) (todo : List Task) (x y : List ℕ) → Pair constants kernel mark advice c b d events x y
-        → (kind_of (op_of mark) ≡ kinds.Loop → w x 0 ≡ slice_index (repeats events) 0)
+        → (kind_of (op_of_mark mark) ≡ kinds.Loop → w x 0 ≡ slice_index (repeats events) 0)
         → ((digest : List ℕ) → rest ++ todo ≡ Closing digest ∷ todo → slice_index (repeats events) 0 ≡ 0) → (u : List ℕ)
         → counted (loops_given x y) u + owed_loops (task ∷ todo) d.blocks (repeats (shown_between mark advice c b ∷ events)) u
         ≡ counted (loops_asked x y) u + owed_loops (rest ++ todo) (advance d (shown_between mark advice c b) events).blocks (repeats events) u

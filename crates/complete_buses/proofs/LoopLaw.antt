@@ -5,7 +5,7 @@ use Rattle.buses.specs.Counts.{counted, over_rows, with_next}
 use Rattle.vm_table.specs.MainColumns.{w}
 use Rattle.block_tree.specs.Cycles.{advice_taken, effect_of}
 use Rattle.block_tree.specs.Execution as run
-use Rattle.block_tree.specs.Rows.{behind, op_of}
+use Rattle.block_tree.specs.Rows.{behind, op_of_mark}
 use Rattle.block_tree.specs.Trees.{Tree}
 use Rattle.air_kit.specs.MainTuples.{loops_asked, loops_given}
 use Rattle.machine_cycles.specs.Events.{visible_of}
@@ -24,7 +24,7 @@ use Rattle.complete_buses.proofs.PairShown.{pair_of}
 
 -- a loop shows how often it is repeated
 shows_turns : (constants : List ℕ) (kernel : List (List ℕ)) (limit : ℕ) (x y : List ℕ) (m : IsMoment constants kernel limit x y)
-    → kind_of (op_of m.mark) ≡ kinds.Loop → w x 0 ≡ slice_index (repeats m.later) 0
+    → kind_of (op_of_mark m.mark) ≡ kinds.Loop → w x 0 ≡ slice_index (repeats m.later) 0
 shows_turns constants kernel limit x y m is =
     moment_witness constants kernel limit m 0 (lit< tt)
     ∙ ap (λ k. slice_index (witnesses_by k m.d (event_at constants kernel m.mark m.s) (visible_of m.t.core) m.later) 0) is

@@ -5,7 +5,7 @@ use Rattle.vm_table.specs.MainColumns.{h}
 use Rattle.block_tree.specs.Cycles.{Mark, advice_taken, effect_of}
 use Rattle.block_tree.specs.Behind.{IsAllowed, core_behind}
 use Rattle.block_tree.specs.Marks.{IsWholeMark}
-use Rattle.block_tree.specs.Rows.{behind, op_of}
+use Rattle.block_tree.specs.Rows.{behind, op_of_mark}
 use Rattle.block_tree.proofs.BehindLemmas.{behind-cycle}
 use Rattle.air_kit.specs.Flags as flags
 use Rattle.air_kit.specs.MainTuples.{back, front}
@@ -25,9 +25,9 @@ pub record Pair (constants : List ℕ) (kernel : List (List ℕ)) (mark : Mark) 
     : Type 0 where
   pub allowed : IsAllowed constants kernel mark advice c
   pub whole : IsWholeMark mark
-  pub op : flags.op_of x ≡ op_of mark
+  pub op : flags.op_of x ≡ op_of_mark mark
   pub here : Shows (flags.op_of x) d c x
-  pub hash : (j : ℕ) → j < 8 → h x j ≡ slice_index (hash_by (kind_of (op_of mark)) d (shown_between mark advice c b)) j
+  pub hash : (j : ℕ) → j < 8 → h x j ≡ slice_index (hash_by (kind_of (op_of_mark mark)) d (shown_between mark advice c b)) j
   pub next : Shows (flags.op_of y) (advance d (shown_between mark advice c b) later) (ticked (core_behind constants mark advice c)) y
 
 module _ (constants : List ℕ) (kernel : List (List ℕ)) (limit : ℕ) where

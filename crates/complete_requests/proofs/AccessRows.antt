@@ -13,7 +13,7 @@ use Rattle.vm_ops.specs.declared.op.Op.{Op}
 use Rattle.vm_ops.specs.declared.op.Op.TheVariants as ops
 use Rattle.vm_table.specs.MainColumns.{clk, ctx, s, t}
 use Rattle.block_tree.specs.Cycles.{Mark, Do, top}
-use Rattle.block_tree.specs.Rows.{op_of}
+use Rattle.block_tree.specs.Rows.{op_of_mark}
 use Rattle.block_tree.specs.Steps.{IsCycle}
 use Rattle.air_kit.specs.MainTuples as tuples
 use Rattle.air_kit.specs.MainTuples.{memory_asked}
@@ -107,7 +107,7 @@ module _ (sn : Seen) (e : Event) (next : Visible) (x y : List ℕ) where
 
 mark_accesses : (constants : List ℕ) (mark : Mark) (before : State) (e : Event) (next : Visible) (x y : List ℕ)
     → ((item : Item) → mark ≡ Do item → ShowsAccess item.op (seen_at constants item before) e next x y)
-    → tuples.accesses_of (op_of mark) x y ≡ map access_given (accesses_by (op_of mark) e)
+    → tuples.accesses_of (op_of_mark mark) x y ≡ map access_given (accesses_by (op_of_mark mark) e)
 unfolding tuples.accesses_of
 mark_accesses constants (Do item) before e next x y shows = op_accesses (seen_at constants item before) e next x y item.op (shows item refl)
 mark_accesses constants mark before e next x y shows = refl
@@ -117,7 +117,7 @@ module _ (constants : List ℕ) (len : length constants ≡ number_of_constants)
   moment_access : (item : Item) → m.mark ≡ Do item
       → ShowsAccess item.op (seen_at constants item m.s) (event_at constants kernel m.mark m.s) (visible_of m.t.core) x y
   moment_access item is = record {
-    is = ap op_of is;
+    is = ap op_of_mark is;
     context = (moment_shows constants kernel limit m).context;
     clock = (moment_shows constants kernel limit m).clock;
     address = refl;
@@ -130,7 +130,7 @@ module _ (constants : List ℕ) (len : length constants ≡ number_of_constants)
     size = (m.before.core.words m.s.core.context (top m.s.core)).size;
   }
 
-  pub row_accesses : memory_asked x y ≡ map access_given (accesses_by (op_of m.mark) (event_at constants kernel m.mark m.s))
+  pub row_accesses : memory_asked x y ≡ map access_given (accesses_by (op_of_mark m.mark) (event_at constants kernel m.mark m.s))
   unfolding memory_asked
   row_accesses =
       ap (λ o. tuples.accesses_of o x y) (moment_op constants kernel limit m)

@@ -11,7 +11,7 @@ use Rattle.vm_ops.specs.declared.op.Op.{Op}
 use Rattle.vm_ops.specs.declared.op.Op.TheVariants as ops
 use Rattle.vm_table.specs.MainColumns.{s}
 use Rattle.block_tree.specs.Cycles.{Mark, Do}
-use Rattle.block_tree.specs.Rows.{op_of}
+use Rattle.block_tree.specs.Rows.{op_of_mark}
 use Rattle.buses.specs.Counts.{Counted, once}
 use Rattle.air_kit.specs.Flags as flags
 use Rattle.air_kit.specs.Flags.{is_op}
@@ -52,14 +52,14 @@ op_bits op sn seen x y same cells tops = refl
 mark_bits : (constants : List ℕ) (mark : Mark) (before : State) (x y : List ℕ)
     → ((item : Item) → (j : ℕ) → j < 16 → s x j ≡ cell (seen_at constants item before) j)
     → ((item : Item) → mark ≡ Do item → ShowsTops item.op (seen_at constants item before) y)
-    → asked_by (op_of mark) x y ≡ map bit_given (bits_by (op_of mark) (visible_of before.core))
+    → asked_by (op_of_mark mark) x y ≡ map bit_given (bits_by (op_of_mark mark) (visible_of before.core))
 mark_bits constants (Do item) before x y cells tops =
     op_bits item.op (seen_at constants item before) (visible_of before.core) x y refl (cells item) (tops item refl)
 mark_bits constants mark before x y cells tops = refl
 
 module _ (constants : List ℕ) (len : length constants ≡ number_of_constants) (kernel : List (List ℕ)) (limit : ℕ) {x y : List ℕ}
     (m : IsMoment constants kernel limit x y) where
-  pub row_bits : bitwise_asked x y ≡ map bit_given (bits_by (op_of m.mark) (visible_of m.s.core))
+  pub row_bits : bitwise_asked x y ≡ map bit_given (bits_by (op_of_mark m.mark) (visible_of m.s.core))
   row_bits =
-      asked_is (op_of m.mark) x y (moment_op constants kernel limit m)
+      asked_is (op_of_mark m.mark) x y (moment_op constants kernel limit m)
       ∙ mark_bits constants m.mark m.s x y (λ item. moment_cell constants len kernel limit m) (moment_tops constants len kernel limit m)

@@ -5,7 +5,7 @@ use Rattle.vm_field.specs.Machine.{Core, State}
 use Rattle.op_pack.specs.Reading.{IsBatch}
 use Rattle.block_tree.specs.Cycles.{Mark, Do}
 use Rattle.block_tree.specs.Marks.{IsWholeMark}
-use Rattle.block_tree.specs.Rows.{hash_of, op_of}
+use Rattle.block_tree.specs.Rows.{hash_of, op_of_mark}
 use Rattle.block_tree.proofs.RowLemmas.{hash-batch}
 use Rattle.block_tree.specs.Steps.{Task, Block, Within, Turned, Closing, Returning, Leaving, Next, span, join, split_1, split_0, loop_1, loop_0, call, syscall, operation, respan, span_ends, repeats, loop_ends, closes, returns, leaves}
 use Rattle.buses.specs.Counts.{Counted, counted, over_rows, with_next}
@@ -36,7 +36,7 @@ coming (Leaving digest frame ∷ todo) = []
 
 coming_step : (constants : List ℕ) {task : Task} {c : Core} {mark : Mark} {rest : List Task} → Next constants task c mark rest → IsWholeMark mark
     → (todo : List Task) (more : List (List ℕ)) → more ≡ coming (rest ++ todo)
-    → respans_by (kind_of (op_of mark)) (hash_of mark) more ≡ coming (task ∷ todo)
+    → respans_by (kind_of (op_of_mark mark)) (hash_of mark) more ≡ coming (task ∷ todo)
 coming_step constants (span read) w todo more e = refl
 coming_step constants join w todo more e = refl
 coming_step constants (split_1 bit) w todo more e = refl
@@ -88,7 +88,7 @@ module _ (constants : List ℕ) (kernel : List (List ℕ)) (limit : ℕ) (u : St
   unfolding respans
   coming_whole (chains.ends e) = All-nil IsBatch
   coming_whole (chains.goes m later) =
-      respans_whole (kind_of (op_of m.mark)) (hash_of m.mark) (respans m.later) (hash-batch m.mark m.whole) (coming_whole later)
+      respans_whole (kind_of (op_of_mark m.mark)) (hash_of m.mark) (respans m.later) (hash-batch m.mark m.whole) (coming_whole later)
 
   -- the state behind an event is the one before the next
   pub seen_is : {todo : List Task} {d : Decoder} {s : State} {events : List Event} {rows : List (List ℕ)}

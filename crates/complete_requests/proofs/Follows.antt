@@ -9,7 +9,7 @@ use Rattle.vm_ops.specs.Codes.{code_of}
 use Rattle.vm_ops.specs.declared.op.Op.{Op}
 use Rattle.vm_ops.specs.declared.op.Op.TheVariants as ops
 use Rattle.op_pack.specs.Reading.{IsBatch}
-use Rattle.block_tree.specs.Rows.{op_of}
+use Rattle.block_tree.specs.Rows.{op_of_mark}
 use Rattle.block_tree.specs.Steps.{Task}
 use Rattle.block_tree.proofs.RowLemmas.{hash-batch}
 use Rattle.air_kit.specs.Requests.{FollowsOn}
@@ -93,5 +93,5 @@ module _ (constants : List ℕ) (len : length constants ≡ number_of_constants)
   unfolding perms_of
   perms_follow kernel limit u (chains.ends e) = λ state. refl
   perms_follow kernel limit u (chains.goes m later) =
-      follows_by (kind_of (op_of m.mark)) (event_at constants kernel m.mark m.s) m.later (perms_of constants m.later) (hash-batch m.mark m.whole)
+      follows_by (kind_of (op_of_mark m.mark)) (event_at constants kernel m.mark m.s) m.later (perms_of constants m.later) (hash-batch m.mark m.whole)
       (coming_whole constants kernel limit u later) (perms_follow kernel limit u later)

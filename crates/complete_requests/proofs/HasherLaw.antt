@@ -3,7 +3,7 @@ use Rattle.std.proofs.Common.{◌≡◌, ℕ, ◌+◌, List, [], ◌∷◌, ◌+
 use Rattle.vm_field.specs.Limits.{number_of_constants}
 use Rattle.vm_field.specs.Machine.{State}
 use Rattle.block_tree.specs.Cycles.{advice_taken, effect_of}
-use Rattle.block_tree.specs.Rows.{behind, op_of}
+use Rattle.block_tree.specs.Rows.{behind, op_of_mark}
 use Rattle.block_tree.specs.Steps.{Block}
 use Rattle.block_tree.specs.Trees.{Tree}
 use Rattle.buses.specs.Counts.{counted, over_rows, with_next}
@@ -32,7 +32,7 @@ module _ (constants : List ℕ) (len : length constants ≡ number_of_constants)
         (moment_cells constants kernel limit m).op (let low = (moment_low constants kernel limit m).next in omega (arith, low)) m.before.core.deep
         (moment_cell constants len kernel limit m) (moment_tops constants len kernel limit m)
         (moment_witness constants kernel limit m 0 (lit< tt)) is;
-    moves = λ is. operation_moves (op_of m.mark) m.d.next (visible_of m.s.core);
+    moves = λ is. operation_moves (op_of_mark m.mark) m.d.next (visible_of m.s.core);
   }
 
   moment_asks : (x y : List ℕ) (rows : List (List ℕ)) (m : IsMoment constants kernel limit x y)

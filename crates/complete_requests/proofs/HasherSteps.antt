@@ -10,7 +10,7 @@ use Rattle.vm_ops.specs.declared.op.Op.TheVariants as ops
 use Rattle.vm_table.specs.MainColumns.{addr, h, ha, w}
 use Rattle.op_pack.specs.Reading.{IsBatch}
 use Rattle.block_tree.specs.Cycles.{Mark}
-use Rattle.block_tree.specs.Rows.{hash_of, op_of}
+use Rattle.block_tree.specs.Rows.{hash_of, op_of_mark}
 use Rattle.block_tree.specs.Steps.{Task, Block, Within, Turned, Closing, Returning, Leaving}
 use Rattle.block_tree.specs.Trees.{Loop, tree_digest}
 use Rattle.buses.specs.Counts.{Counted, counted, once}
@@ -62,16 +62,16 @@ owed_hashes constants v todo d events =
 
 -- what a row and the row behind it show of hashes
 pub record Cells (mark : Mark) (d after : Decoder) (x y : List ℕ) : Type 0 where
-  pub op : flags.op_of x ≡ op_of mark
-  pub eight : is_ordinary_op (op_of mark) ≡ false → eight x ≡ hash_of mark
+  pub op : flags.op_of x ≡ op_of_mark mark
+  pub eight : is_ordinary_op (op_of_mark mark) ≡ false → eight x ≡ hash_of mark
   pub address : addr x ≡ address_of d.blocks
   pub behind : addr y ≡ address_of after.blocks
   pub batch : ha x ≡ d.ha
 
 -- an operation asks what its requests give
 pub record OperationAsks (constants : List ℕ) (mark : Mark) (next : ℕ) (e : Event) (x y : List ℕ) (v : List ℕ) : Type 0 where
-  pub given : is_ordinary_op (op_of mark) ≡ true → counted (perms_given constants next (perms_by_op e.op e.before)) v ≡ counted (hasher_asked x y) v
-  pub moves : is_ordinary_op (op_of mark) ≡ true → next_after e.op next ≡ next + 8 * length (perms_by_op e.op e.before)
+  pub given : is_ordinary_op (op_of_mark mark) ≡ true → counted (perms_given constants next (perms_by_op e.op e.before)) v ≡ counted (hasher_asked x y) v
+  pub moves : is_ordinary_op (op_of_mark mark) ≡ true → next_after e.op next ≡ next + 8 * length (perms_by_op e.op e.before)
 
 abbrev pub asked_by : Op → List ℕ → List ℕ → List Counted
 asked_by op x y =

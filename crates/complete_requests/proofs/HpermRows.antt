@@ -19,7 +19,7 @@ use Rattle.vm_ops.specs.declared.op.Op.TheVariants as ops
 use Rattle.vm_table.specs.MainColumns as columns
 use Rattle.vm_table.specs.MainColumns.{s, w}
 use Rattle.block_tree.specs.Cycles.{Mark, Do}
-use Rattle.block_tree.specs.Rows.{op_of}
+use Rattle.block_tree.specs.Rows.{op_of_mark}
 use Rattle.buses.specs.Counts.{counted}
 use Rattle.air_kit.specs.Flags as flags
 use Rattle.air_kit.specs.Flags.{is_op}
@@ -92,15 +92,15 @@ no_moves op next seen other =
 
 abbrev Asks : List ℕ → Mark → Decoder → State → List ℕ → List ℕ → List ℕ → Type 0
 Asks constants mark d s x y v =
-    counted (perms_given constants d.next (perms_by_op (op_of mark) (visible_of s.core))) v ≡ counted (hasher_asked x y) v
+    counted (perms_given constants d.next (perms_by_op (op_of_mark mark) (visible_of s.core))) v ≡ counted (hasher_asked x y) v
 
 module _ (constants : List ℕ) (len : length constants ≡ number_of_constants) (x y v : List ℕ) where
-  pub operation_given : (mark : Mark) (d : Decoder) (s : State) (e : Event) (n : Visible) (later : List Event) → e.op ≡ op_of mark
-      → flags.op_of x ≡ op_of mark → d.next + 7 < prime → 16 ≤ length s.core.stack
+  pub operation_given : (mark : Mark) (d : Decoder) (s : State) (e : Event) (n : Visible) (later : List Event) → e.op ≡ op_of_mark mark
+      → flags.op_of x ≡ op_of_mark mark → d.next + 7 < prime → 16 ≤ length s.core.stack
       → ((j : ℕ) → j < 16 → columns.s x j ≡ slice_index (take 16 s.core.stack) j)
       → ((item : Item) → mark ≡ Do item → ShowsTops item.op (seen_at constants item s) y)
       → w x 0 ≡ slice_index (witnesses_by (kind_of e.op) d e n later) 0
-      → is_ordinary_op (op_of mark) ≡ true → Asks constants mark d s x y v
+      → is_ordinary_op (op_of_mark mark) ≡ true → Asks constants mark d s x y v
   unfolding operation_witnesses
   operation_given (Do item) d s e n later same op low deep cells tops witness is = go (is_op item.op ops.HPerm) refl
     where

@@ -13,7 +13,7 @@ use Rattle.vm_ops.specs.declared.op.Op.TheVariants as ops
 use Rattle.block_tree.specs.Behind.{IsAllowed}
 use Rattle.block_tree.specs.Cycles.{Mark, StartSyscall, Do, advice_taken}
 use Rattle.block_tree.specs.Marks.{IsWholeMark}
-use Rattle.block_tree.specs.Rows.{hash_of, op_of}
+use Rattle.block_tree.specs.Rows.{hash_of, op_of_mark}
 use Rattle.block_tree.specs.Steps.{Task}
 use Rattle.air_kit.specs.Flags.{is_op}
 use Rattle.machine_cycles.specs.declared.event.Event.{Event}
@@ -55,7 +55,7 @@ taken_word (a ∷ b ∷ c ∷ []) size = absurd (omega (arith, size))
 taken_word (a ∷ b ∷ c ∷ d ∷ e ∷ more) size = absurd (omega (arith, size))
 
 abbrev called : Mark → List (List ℕ)
-called mark = if is_op (op_of mark) ops.Syscall then take 4 (hash_of mark) ∷ [] else []
+called mark = if is_op (op_of_mark mark) ops.Syscall then take 4 (hash_of mark) ∷ [] else []
 
 module _ (constants : List ℕ) (kernel : List (List ℕ)) where
   mark_calls : (mark : Mark) (advice : List ℕ) (c : Core) → IsAllowed constants kernel mark advice c → IsWholeMark mark → (words : List (List ℕ))

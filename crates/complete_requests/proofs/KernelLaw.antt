@@ -6,7 +6,7 @@ use Rattle.vm_ops.specs.declared.op.Op.{Op}
 use Rattle.vm_ops.specs.declared.op.Op.TheVariants as ops
 use Rattle.vm_ops.proofs.CodeLemmas.{code_of-different}
 use Rattle.std.proofs.lemmas.Bool.{eqb-true}
-use Rattle.block_tree.specs.Rows.{hash_of, op_of}
+use Rattle.block_tree.specs.Rows.{hash_of, op_of_mark}
 use Rattle.block_tree.specs.Steps.{Task}
 use Rattle.buses.specs.Counts.{Counted, counted, once, over_rows, with_next}
 use Rattle.buses.proofs.Counting.{counted-none, counted-append}
@@ -47,13 +47,13 @@ module _ (constants : List ℕ) (kernel : List (List ℕ)) (limit : ℕ) (u : St
   owed todo d events = counted (map once (calls_of events)) v
 
   row_calls : {x y : List ℕ} (m : IsMoment constants kernel limit x y)
-      → counted (kernel_asked x y) v ≡ counted (map once (called (is_op (op_of m.mark) ops.Syscall) (take 4 (hash_of m.mark)))) v
+      → counted (kernel_asked x y) v ≡ counted (map once (called (is_op (op_of_mark m.mark) ops.Syscall) (take 4 (hash_of m.mark)))) v
   unfolding kernel_asked
   row_calls {x = x} {y = y} m =
       let cells = moment_cells constants kernel limit m in
       ap (λ o. counted (asks (is_op o ops.Syscall) (front x)) v) cells.op
-      ∙ asks_called (is_op (op_of m.mark) ops.Syscall) (front x) (take 4 (hash_of m.mark)) v
-      (λ is. ap (take 4) (cells.eight (syscall_opens (op_of m.mark) is)))
+      ∙ asks_called (is_op (op_of_mark m.mark) ops.Syscall) (front x) (take 4 (hash_of m.mark)) v
+      (λ is. ap (take 4) (cells.eight (syscall_opens (op_of_mark m.mark) is)))
 
   moment_asks : (x y : List ℕ) (rows : List (List ℕ)) (m : IsMoment constants kernel limit x y)
       → AreLinked constants kernel limit u (m.rest ++ m.todo) (advance m.d (event_at constants kernel m.mark m.s) m.later) m.t m.later (y ∷ rows)
@@ -62,7 +62,7 @@ module _ (constants : List ℕ) (kernel : List (List ℕ)) (limit : ℕ) (u : St
   unfolding calls_of
   moment_asks x y rows m later =
       let here = row_calls m in
-      let both = map_called (is_op (op_of m.mark) ops.Syscall) (take 4 (hash_of m.mark)) (calls_of m.later) v in
+      let both = map_called (is_op (op_of_mark m.mark) ops.Syscall) (take 4 (hash_of m.mark)) (calls_of m.later) v in
       omega (arith, here, both)
 
   none : (d : Decoder) → owed [] d [] ≡ 0

@@ -4,7 +4,7 @@ use Rattle.std.proofs.lemmas.List.{append_assoc, append-nil}
 use Rattle.std.proofs.lemmas.List.Elements.{All-append, All-cons, All-nil}
 use Rattle.std.specs.FinMap.{get-empty}
 use Rattle.vm_field.specs.Machine.{Core, State, WordMap, place_cmp, start, word_at, zero_word}
-use Rattle.block_tree.specs.Rows.{op_of}
+use Rattle.block_tree.specs.Rows.{op_of_mark}
 use Rattle.block_tree.specs.Steps.{Task}
 use Rattle.block_tree.proofs.AlongLemmas.{cycle-clock}
 use Rattle.air_kit.specs.Requests.{FitsMemory}
@@ -70,7 +70,7 @@ module _ (constants : List ℕ) (kernel : List (List ℕ)) (limit : ℕ) (u : St
   unfolding accesses_of
   fits_along (chains.ends e) past low latest = All-nil (FitsMemory (past ++ []))
   fits_along (chains.goes m later) past low latest =
-      let here = accesses_by (op_of m.mark) (event_at constants kernel m.mark m.s) in
+      let here = accesses_by (op_of_mark m.mark) (event_at constants kernel m.mark m.s) in
       let leaves = mark_leaves constants kernel limit m.mark m.s m.t m.cycle in
       let ticks = cycle-clock constants kernel limit m.mark m.s m.t m.cycle in
       let whole = m.bounded.whole in

@@ -9,7 +9,7 @@ use Rattle.vm_ops.specs.Values.{Seen, written}
 use Rattle.vm_ops.specs.declared.op.Op.{Op}
 use Rattle.vm_ops.specs.declared.op.Op.TheVariants as ops
 use Rattle.block_tree.specs.Cycles.{Mark, Do, top}
-use Rattle.block_tree.specs.Rows.{op_of}
+use Rattle.block_tree.specs.Rows.{op_of_mark}
 use Rattle.block_tree.specs.Steps.{IsCycle}
 use Rattle.air_kit.specs.declared.requests.Access.{Access}
 use Rattle.machine_cycles.specs.declared.event.Event.{Event}
@@ -75,7 +75,7 @@ module _ (sn : Seen) (c : Core) (e : Event) (after : WordMap) where
 
 module _ (constants : List ℕ) (kernel : List (List ℕ)) (limit : ℕ) where
   pub mark_leaves : (mark : Mark) (s t : State) → IsCycle constants kernel limit mark s t
-      → Leaves s.core t.core.memory (accesses_by (op_of mark) (event_at constants kernel mark s))
+      → Leaves s.core t.core.memory (accesses_by (op_of_mark mark) (event_at constants kernel mark s))
   mark_leaves (Do item) s t cycle =
       op_leaves (seen_at constants item s) s.core (event_at constants kernel (Do item) s) t.core.memory item.op (record {
         clock = refl;

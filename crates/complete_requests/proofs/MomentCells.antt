@@ -6,7 +6,7 @@ use Rattle.vm_ops.specs.Codes.{is_ordinary_op}
 use Rattle.vm_table.specs.MainColumns.{h}
 use Rattle.block_tree.specs.Cycles.{Mark, StartOpaque, StartSpan, StartJoin, StartSplit, StartLoop, StartCall, StartSyscall, Respan, Repeat, Do, End, EndSpan, EndLoop, EndCall, EndSyscall, advice_taken, effect_of}
 use Rattle.block_tree.specs.Marks.{IsWholeMark}
-use Rattle.block_tree.specs.Rows.{behind, hash_of, op_of}
+use Rattle.block_tree.specs.Rows.{behind, hash_of, op_of_mark}
 use Rattle.block_tree.proofs.RowLemmas.{hash-batch}
 use Rattle.air_kit.specs.MainTuples.{eight}
 use Rattle.machine_cycles.specs.Events.{shown_between}
@@ -30,8 +30,8 @@ eight_are xs x size cells =
 
 -- a row of blocks shows the hash of its mark
 mark_hash : (mark : Mark) → IsWholeMark mark → (d : Decoder) (advice : List ℕ) (c b : Core) (x : List ℕ)
-    → ((j : ℕ) → j < 8 → h x j ≡ slice_index (hash_by (kind_of (op_of mark)) d (shown_between mark advice c b)) j)
-    → is_ordinary_op (op_of mark) ≡ false → (j : ℕ) → j < 8 → h x j ≡ slice_index (hash_of mark) j
+    → ((j : ℕ) → j < 8 → h x j ≡ slice_index (hash_by (kind_of (op_of_mark mark)) d (shown_between mark advice c b)) j)
+    → is_ordinary_op (op_of_mark mark) ≡ false → (j : ℕ) → j < 8 → h x j ≡ slice_index (hash_of mark) j
 mark_hash StartOpaque w d advice c b x cells is = cells
 mark_hash (StartSpan batch) w d advice c b x cells is = cells
 mark_hash (StartJoin one other) w d advice c b x cells is = cells
@@ -49,7 +49,7 @@ mark_hash (EndCall digest frame) w d advice c b x cells is = cells
 mark_hash (EndSyscall digest frame) w d advice c b x cells is = cells
 
 module _ (constants : List ℕ) (kernel : List (List ℕ)) (limit : ℕ) {x y : List ℕ} (m : IsMoment constants kernel limit x y) where
-  pub moment_eight : is_ordinary_op (op_of m.mark) ≡ false → eight x ≡ hash_of m.mark
+  pub moment_eight : is_ordinary_op (op_of_mark m.mark) ≡ false → eight x ≡ hash_of m.mark
   moment_eight is =
       eight_are (hash_of m.mark) x (hash-batch m.mark m.whole).size
       (mark_hash m.mark m.whole m.d (take (advice_taken m.mark) m.s.tape) m.s.core

@@ -2,7 +2,7 @@
 use Rattle.std.proofs.Common.{◌≡◌, ℕ, ◌+◌, List, [], ◌∷◌, ◌++◌, length, map, ap, arith}
 use Rattle.vm_field.specs.Limits.{number_of_constants}
 use Rattle.vm_field.specs.Machine.{State}
-use Rattle.block_tree.specs.Rows.{op_of}
+use Rattle.block_tree.specs.Rows.{op_of_mark}
 use Rattle.block_tree.specs.Steps.{Task}
 use Rattle.buses.specs.Counts.{counted, over_rows, with_next}
 use Rattle.buses.proofs.Counting.{counted-none}
@@ -31,9 +31,9 @@ module _ (constants : List ℕ) (len : length constants ≡ number_of_constants)
       ≡ counted (bitwise_asked x y) v + owed_bits (m.rest ++ m.todo) (advance m.d (event_at constants kernel m.mark m.s) m.later) m.later
   unfolding bits_of
   moment_bits x y rows m later =
-      let here : counted (bitwise_asked x y) v ≡ counted (map bit_given (bits_by (op_of m.mark) (visible_of m.s.core))) v
+      let here : counted (bitwise_asked x y) v ≡ counted (map bit_given (bits_by (op_of_mark m.mark) (visible_of m.s.core))) v
       = ap (λ l. counted l v) (row_bits constants len kernel limit m) in
-      let both = map_counts bit_given (bits_by (op_of m.mark) (visible_of m.s.core)) (bits_of m.later) v in
+      let both = map_counts bit_given (bits_by (op_of_mark m.mark) (visible_of m.s.core)) (bits_of m.later) v in
       omega (arith, here, both)
 
   moment_accesses : (x y : List ℕ) (rows : List (List ℕ)) (m : IsMoment constants kernel limit x y)
@@ -42,9 +42,9 @@ module _ (constants : List ℕ) (len : length constants ≡ number_of_constants)
       ≡ counted (memory_asked x y) v + owed_accesses (m.rest ++ m.todo) (advance m.d (event_at constants kernel m.mark m.s) m.later) m.later
   unfolding accesses_of
   moment_accesses x y rows m later =
-      let here : counted (memory_asked x y) v ≡ counted (map access_given (accesses_by (op_of m.mark) (event_at constants kernel m.mark m.s))) v
+      let here : counted (memory_asked x y) v ≡ counted (map access_given (accesses_by (op_of_mark m.mark) (event_at constants kernel m.mark m.s))) v
       = ap (λ l. counted l v) (row_accesses constants len kernel limit m) in
-      let both = map_counts access_given (accesses_by (op_of m.mark) (event_at constants kernel m.mark m.s)) (accesses_of m.later) v in
+      let both = map_counts access_given (accesses_by (op_of_mark m.mark) (event_at constants kernel m.mark m.s)) (accesses_of m.later) v in
       omega (arith, here, both)
 
   no_bits_owed : (d : Decoder) → owed_bits [] d [] ≡ 0

@@ -11,7 +11,7 @@ use Rattle.vm_ops.specs.declared.op.Shift.{Shift}
 use Rattle.vm_ops.specs.declared.op.Shift.TheVariants.{Left, Stay, Right}
 use Rattle.vm_table.specs.MainColumns.{clk, depth, h, key, s}
 use Rattle.block_tree.specs.Cycles.{Mark}
-use Rattle.block_tree.specs.Rows.{hash_of, op_of}
+use Rattle.block_tree.specs.Rows.{hash_of, op_of_mark}
 use Rattle.block_tree.specs.Steps.{Task, Block, Within, Turned, Closing, Returning, Leaving}
 use Rattle.buses.specs.Counts.{counted}
 use Rattle.buses.proofs.Counting.{counted-none}
@@ -40,14 +40,14 @@ owed_cells v todo d stack = counted (entries d.keys (drop 16 stack)) v + hidden 
 
 -- what a row and the row behind it show of cells
 pub record StackCells (mark : Mark) (c : Core) (stack : List ℕ) (d after : Decoder) (x y : List ℕ) : Type 0 where
-  pub op : flags.op_of x ≡ op_of mark
+  pub op : flags.op_of x ≡ op_of_mark mark
   pub clock : clk x ≡ c.clock
   pub last : s x 15 ≡ slice_index c.stack 15
   pub deep : depth x ≡ length c.stack
   pub key_is : key x ≡ key_of d.keys
   pub behind : s y 15 ≡ slice_index stack 15
   pub key_behind : key y ≡ key_of after.keys
-  pub eight : is_ordinary_op (op_of mark) ≡ false → eight x ≡ hash_of mark
+  pub eight : is_ordinary_op (op_of_mark mark) ≡ false → eight x ≡ hash_of mark
 
 module _ (x y v : List ℕ) where
   pub none_given : (op : Op) → flags.op_of x ≡ op → is_right op ≡ false → counted (overflow_given x y) v ≡ 0

@@ -7,7 +7,7 @@ use Rattle.vm_ops.specs.Codes.{is_start_op}
 use Rattle.vm_ops.specs.declared.op.Op.{Op}
 use Rattle.vm_ops.specs.declared.op.Op.TheVariants as ops
 use Rattle.vm_table.specs.MainColumns.{lv, t}
-use Rattle.block_tree.specs.Rows.{op_of}
+use Rattle.block_tree.specs.Rows.{op_of_mark}
 use Rattle.block_tree.specs.Steps.{Task}
 use Rattle.buses.specs.Counts.{Counted, counted, once, over_rows, with_next}
 use Rattle.buses.proofs.Counting.{counted-none}
@@ -42,7 +42,7 @@ limbs_are x (n ∷ xs) j cells =
     rw (here, later) refl
 
 -- an operation has as many limbs as its row shows
-count_limbs : (op : Op) (x y : Visible) → length (limbs_by op x y) ≡ tuples.limbs_of op
+count_limbs : (op : Op) (x y : Visible) → length (limbs_by op x y) ≡ tuples.count_of_limbs op
 count_limbs ops.U32Split x y = refl
 count_limbs ops.U32Assert2 x y = refl
 count_limbs ops.U32Sub x y = refl
@@ -53,7 +53,7 @@ count_limbs ops.U32MAdd x y = refl
 count_limbs ops.U32Div x y = refl
 count_limbs op x y = refl
 
-few_limbs : (op : Op) → tuples.limbs_of op ≤ 10
+few_limbs : (op : Op) → tuples.count_of_limbs op ≤ 10
 few_limbs ops.U32Split = omega arith
 few_limbs ops.U32Assert2 = omega arith
 few_limbs ops.U32Sub = omega arith
@@ -65,7 +65,7 @@ few_limbs ops.U32Div = omega arith
 few_limbs op = omega arith
 
 operation_limbs : (e : Event) (next : Visible) (x : List ℕ) → ((j : ℕ) → j < 10 → t x j ≡ slice_index (limbs_of e next) j)
-    → limbs_from x 0 (tuples.limbs_of e.op) ≡ map in_range (limbs_by e.op e.before next)
+    → limbs_from x 0 (tuples.count_of_limbs e.op) ≡ map in_range (limbs_by e.op e.before next)
 unfolding limbs_of
 operation_limbs e next x cells =
     let size = count_limbs e.op e.before next in
@@ -92,11 +92,11 @@ module _ (constants : List ℕ) (kernel : List (List ℕ)) (limit : ℕ) (u : St
       → counted (range_asked x y) v ≡ counted (map in_range (ranges_by (event_at constants kernel m.mark m.s) (visible_of m.t.core))) v
   unfolding range_asked
   row_ranges {x = x} {y = y} m few =
-      let op : flags.op_of x ≡ op_of m.mark = (moment_cells constants kernel limit m).op in
+      let op : flags.op_of x ≡ op_of_mark m.mark = (moment_cells constants kernel limit m).op in
       let level : lv y ≡ m.t.core.nesting = (place_shows constants m.next).level in
-      ap (λ o. counted (cond (is_start_op o) (once ((1024 ⊟ lv y) ∷ []) ∷ []) (limbs_from x 0 (tuples.limbs_of o))) v) op
-      ∙ asked_ranges (is_start_op (op_of m.mark)) (1024 ⊟ lv y) (1024 - m.t.core.nesting) (limbs_from x 0 (tuples.limbs_of (op_of m.mark)))
-      (limbs_by (op_of m.mark) (visible_of m.s.core) (visible_of m.t.core)) v (ap (λ n. 1024 ⊟ n) level ∙ room_left m.t.core.nesting few)
+      ap (λ o. counted (cond (is_start_op o) (once ((1024 ⊟ lv y) ∷ []) ∷ []) (limbs_from x 0 (tuples.count_of_limbs o))) v) op
+      ∙ asked_ranges (is_start_op (op_of_mark m.mark)) (1024 ⊟ lv y) (1024 - m.t.core.nesting) (limbs_from x 0 (tuples.count_of_limbs (op_of_mark m.mark)))
+      (limbs_by (op_of_mark m.mark) (visible_of m.s.core) (visible_of m.t.core)) v (ap (λ n. 1024 ⊟ n) level ∙ room_left m.t.core.nesting few)
       (operation_limbs (event_at constants kernel m.mark m.s) (visible_of m.t.core) x (moment_limb constants kernel limit m))
 
   moment_asks : (x y : List ℕ) (rows : List (List ℕ)) (m : IsMoment constants kernel limit x y)

@@ -14,7 +14,7 @@ use Rattle.vm_ops.specs.declared.op.Op.TheVariants as ops
 use Rattle.vm_ops.proofs.StepLemmas.{stepped}
 use Rattle.vm_ops.proofs.ValueLemmas.{two_u32-fit}
 use Rattle.block_tree.specs.Cycles.{Mark, Do}
-use Rattle.block_tree.specs.Rows.{op_of}
+use Rattle.block_tree.specs.Rows.{op_of_mark}
 use Rattle.block_tree.specs.Steps.{IsCycle, Task}
 use Rattle.block_tree.proofs.KeptLemmas.{cycle-step}
 use Rattle.machine_cycles.specs.Events.{visible_of}
@@ -70,12 +70,12 @@ module _ (constants : List ℕ) (kernel : List (List ℕ)) (limit : ℕ) where
   free_of : (item : Item) (s t : State) → IsCycle constants kernel limit (Do item) s t → trap_of item.op (seen_at constants item s) ≡ None
   free_of item s t cycle = (stepped constants item s t (cycle-step constants kernel limit item s t cycle)).free
 
-  mark_bits : (mark : Mark) (s t : State) → IsCycle constants kernel limit mark s t → All HasU32Operands (bits_by (op_of mark) (visible_of s.core))
+  mark_bits : (mark : Mark) (s t : State) → IsCycle constants kernel limit mark s t → All HasU32Operands (bits_by (op_of_mark mark) (visible_of s.core))
   mark_bits (Do item) s t cycle = op_bits item.op (seen_at constants item s) (visible_of s.core) refl (free_of item s t cycle)
   mark_bits mark s t cycle = All-nil HasU32Operands
 
   mark_accesses : (mark : Mark) (s t : State) → IsCycle constants kernel limit mark s t
-      → All HasU32Address (accesses_by (op_of mark) (event_at constants kernel mark s))
+      → All HasU32Address (accesses_by (op_of_mark mark) (event_at constants kernel mark s))
   mark_accesses (Do item) s t cycle =
       op_accesses item.op (seen_at constants item s) (event_at constants kernel (Do item) s) refl (free_of item s t cycle)
   mark_accesses mark s t cycle = All-nil HasU32Address
@@ -86,14 +86,14 @@ module _ (constants : List ℕ) (kernel : List (List ℕ)) (limit : ℕ) where
     unfolding bits_of
     bits_fit (chains.ends e) = All-nil HasU32Operands
     bits_fit (chains.goes m later) =
-        All-append HasU32Operands (bits_by (op_of m.mark) (visible_of m.s.core)) (bits_of m.later) (mark_bits m.mark m.s m.t m.cycle) (bits_fit later)
+        All-append HasU32Operands (bits_by (op_of_mark m.mark) (visible_of m.s.core)) (bits_of m.later) (mark_bits m.mark m.s m.t m.cycle) (bits_fit later)
 
     pub addresses_fit : {todo : List Task} {d : Decoder} {s : State} {events : List Event} {rows : List (List ℕ)}
         → AreLinked constants kernel limit u todo d s events rows → All HasU32Address (accesses_of events)
     unfolding accesses_of
     addresses_fit (chains.ends e) = All-nil HasU32Address
     addresses_fit (chains.goes m later) =
-        All-append HasU32Address (accesses_by (op_of m.mark) (event_at constants kernel m.mark m.s)) (accesses_of m.later)
+        All-append HasU32Address (accesses_by (op_of_mark m.mark) (event_at constants kernel m.mark m.s)) (accesses_of m.later)
         (mark_accesses m.mark m.s m.t m.cycle) (addresses_fit later)
 
     -- a stack is no deeper than cycles and the sixteen cells that it begins with

@@ -10,7 +10,7 @@ use Rattle.vm_ops.specs.declared.op.Op.{Op}
 use Rattle.vm_ops.specs.declared.op.Op.TheVariants as ops
 use Rattle.vm_table.specs.MainColumns.{s}
 use Rattle.block_tree.specs.Cycles.{Mark, Do, advice_taken}
-use Rattle.block_tree.specs.Rows.{op_of}
+use Rattle.block_tree.specs.Rows.{op_of_mark}
 use Rattle.air_kit.specs.RowStates.{taken_by}
 use Rattle.complete_rows.specs.Moments.{IsMoment}
 use Rattle.complete_requests.proofs.Tops.{ShowsTops, moment_tops}
@@ -45,12 +45,12 @@ op_takes op sn tape y is enough tops = refl
 
 mark_takes : (constants : List ℕ) (mark : Mark) (before : State) (y : List ℕ) → advice_taken mark ≤ length before.tape
     → ((item : Item) → mark ≡ Do item → ShowsTops item.op (seen_at constants item before) y)
-    → taken_by (op_of mark) y ≡ take (advice_taken mark) before.tape
+    → taken_by (op_of_mark mark) y ≡ take (advice_taken mark) before.tape
 mark_takes constants (Do item) before y enough tops =
     op_takes item.op (seen_at constants item before) before.tape y refl enough (tops item refl)
 mark_takes constants mark before y enough tops = refl
 
 module _ (constants : List ℕ) (len : length constants ≡ number_of_constants) (kernel : List (List ℕ)) (limit : ℕ) {x y : List ℕ}
     (m : IsMoment constants kernel limit x y) where
-  pub row_takes : taken_by (op_of m.mark) y ≡ take (advice_taken m.mark) m.s.tape
+  pub row_takes : taken_by (op_of_mark m.mark) y ≡ take (advice_taken m.mark) m.s.tape
   row_takes = mark_takes constants m.mark m.s y m.cycle.enough (moment_tops constants len kernel limit m)

@@ -7,7 +7,7 @@ use Rattle.vm_ops.specs.declared.op.Op.{Op}
 use Rattle.vm_ops.specs.declared.op.Op.TheVariants as ops
 use Rattle.block_tree.specs.Cycles.{Mark, Frame}
 use Rattle.block_tree.specs.Marks.{IsWholeMark}
-use Rattle.block_tree.specs.Rows.{op_of}
+use Rattle.block_tree.specs.Rows.{op_of_mark}
 use Rattle.block_tree.specs.Steps.{Task, Block, Within, Turned, Closing, Returning, Leaving, Next, span, join, split_1, split_0, loop_1, loop_0, call, syscall, operation, respan, span_ends, repeats, loop_ends, closes, returns, leaves}
 use Rattle.block_tree.specs.Trees.{Tree}
 use Rattle.air_kit.specs.Flags.{is_op}
@@ -16,7 +16,7 @@ use Rattle.complete_rows.specs.Moments.{Comes}
 
 module _ (constants : List ℕ) where
   block_starts : {tree : Tree} {c : Core} {mark : Mark} {rest : List Task} → Next constants (Block tree) c mark rest
-      → is_start_op (op_of mark) ≡ true
+      → is_start_op (op_of_mark mark) ≡ true
   block_starts (span read) = refl
   block_starts join = refl
   block_starts (split_1 bit) = refl
@@ -31,7 +31,7 @@ module _ (constants : List ℕ) where
 
   -- in a batch that is not read to its end comes an operation
   item_goes : {item : Item} {items : List Item} {later : List (List ℕ)} {digest : List ℕ} {c : Core} {mark : Mark} {rest : List Task}
-      → Next constants (Within (item ∷ items) later digest) c mark rest → IsWholeMark mark → is_ordinary_op (op_of mark) ≡ true
+      → Next constants (Within (item ∷ items) later digest) c mark rest → IsWholeMark mark → is_ordinary_op (op_of_mark mark) ≡ true
   item_goes operation w = w.ordinary
 
   pub goes_within : (item : Item) (items : List Item) (later : List (List ℕ)) (digest : List ℕ) (todo : List Task) (c : Core) (op : Op)
@@ -43,7 +43,7 @@ module _ (constants : List ℕ) where
   Closes op = (is_ordinary_op op ≡ false) × (is_op op ops.End || is_op op ops.Respan ≡ true)
 
   batch_closes : {later : List (List ℕ)} {digest : List ℕ} {c : Core} {mark : Mark} {rest : List Task}
-      → Next constants (Within [] later digest) c mark rest → Closes (op_of mark)
+      → Next constants (Within [] later digest) c mark rest → Closes (op_of_mark mark)
   batch_closes (respan read) = (refl, refl)
   batch_closes span_ends = (refl, refl)
 
@@ -52,7 +52,7 @@ module _ (constants : List ℕ) where
   closes_batch later digest todo c op h = subst Closes (sym h.4) (batch_closes h.2)
 
   close_ends : {digest : List ℕ} {c : Core} {mark : Mark} {rest : List Task} → Next constants (Closing digest) c mark rest
-      → is_op (op_of mark) ops.End ≡ true
+      → is_op (op_of_mark mark) ops.End ≡ true
   close_ends closes = refl
 
   -- a loop that is not entered ends at once
@@ -68,20 +68,20 @@ module _ (constants : List ℕ) where
   starts_behind op is = rw is refl
 
   turn_behind : {body : Tree} {c : Core} {mark : Mark} {rest : List Task} → Next constants (Turned body) c mark rest
-      → comes_behind (op_of mark) ≡ true
+      → comes_behind (op_of_mark mark) ≡ true
   turn_behind (repeats bit) = refl
   turn_behind (loop_ends bit) = refl
 
   close_behind : {digest : List ℕ} {c : Core} {mark : Mark} {rest : List Task} → Next constants (Closing digest) c mark rest
-      → comes_behind (op_of mark) ≡ true
+      → comes_behind (op_of_mark mark) ≡ true
   close_behind closes = refl
 
   return_behind : {digest : List ℕ} {frame : Frame} {c : Core} {mark : Mark} {rest : List Task} → Next constants (Returning digest frame) c mark rest
-      → comes_behind (op_of mark) ≡ true
+      → comes_behind (op_of_mark mark) ≡ true
   return_behind returns = refl
 
   leave_behind : {digest : List ℕ} {frame : Frame} {c : Core} {mark : Mark} {rest : List Task} → Next constants (Leaving digest frame) c mark rest
-      → comes_behind (op_of mark) ≡ true
+      → comes_behind (op_of_mark mark) ≡ true
   leave_behind leaves = refl
 
   pub behind_block : (todo : List Task) (c : Core) (op : Op) → AreOutside todo → Comes constants todo c op → comes_behind op ≡ true

@@ -9,7 +9,7 @@ use Rattle.vm_ops.specs.declared.op.Op.TheVariants as ops
 use Rattle.vm_ops.proofs.CodeLemmas.{code_of-below, op_at-code_of}
 use Rattle.block_tree.specs.Behind.{core_behind}
 use Rattle.block_tree.specs.Cycles.{Mark, advice_taken, effect_of}
-use Rattle.block_tree.specs.Rows.{accessed, behind, op_of}
+use Rattle.block_tree.specs.Rows.{accessed, behind, op_of_mark}
 use Rattle.block_tree.specs.Steps.{Task, IsCycle}
 use Rattle.block_tree.proofs.BehindLemmas.{behind-cycle}
 use Rattle.block_tree.proofs.RowLemmas.{accessed-word, hash-batch, shown-behind}
@@ -80,7 +80,7 @@ module _ (constants : List ℕ) (kernel : List (List ℕ)) (limit : ℕ) where
       let word : accessed m.mark m.s.core (behind (effect_of constants kernel m.mark (take (advice_taken m.mark) m.s.tape) m.s.core) m.s.core)
       ≡ accessed m.mark m.s.core m.t.core
       = (shown-behind constants kernel limit m.mark m.s m.t m.cycle).0 in
-      let reads : ReadsAs (op_of m.mark) (row_of m.d (event_at constants kernel m.mark m.s) (visible_of m.t.core) m.later)
+      let reads : ReadsAs (op_of_mark m.mark) (row_of m.d (event_at constants kernel m.mark m.s) (visible_of m.t.core) m.later)
       = line_reads (line_of m.d (event_at constants kernel m.mark m.s) (visible_of m.t.core) m.later)
       (low_line m.d (event_at constants kernel m.mark m.s) (visible_of m.t.core) m.s.core m.later (record {
         before = refl;
@@ -103,7 +103,7 @@ module _ (constants : List ℕ) (kernel : List (List ℕ)) (limit : ℕ) where
 
   pub moment_row : {x y : List ℕ} → limit ≤ most_cycles → IsMoment constants kernel limit x y → IsRow (flags.op_of x) x
   moment_row within m =
-      let row : IsRow (op_of m.mark) (row_of m.d (event_at constants kernel m.mark m.s) (visible_of m.t.core) m.later)
+      let row : IsRow (op_of_mark m.mark) (row_of m.d (event_at constants kernel m.mark m.s) (visible_of m.t.core) m.later)
       = row_shown constants kernel (take (advice_taken m.mark) m.s.tape) m.first m.d m.later m.todo
       (behind (effect_of constants kernel m.mark (take (advice_taken m.mark) m.s.tape) m.s.core) m.s.core) (visible_of m.t.core)
       (known within m) m.agrees in
@@ -112,22 +112,22 @@ module _ (constants : List ℕ) (kernel : List (List ℕ)) (limit : ℕ) where
       (sym (line_op (line_of m.d (event_at constants kernel m.mark m.s) (visible_of m.t.core) m.later))) row)
 
   -- the operation of a moment's row, and its cells
-  pub moment_op : {x y : List ℕ} → (m : IsMoment constants kernel limit x y) → flags.op_of x ≡ op_of m.mark
+  pub moment_op : {x y : List ℕ} → (m : IsMoment constants kernel limit x y) → flags.op_of x ≡ op_of_mark m.mark
   moment_op m = ap flags.op_of m.row ∙ line_op (line_of m.d (event_at constants kernel m.mark m.s) (visible_of m.t.core) m.later)
 
   pub moment_shows : {x y : List ℕ} → (m : IsMoment constants kernel limit x y) → Shows (flags.op_of x) m.d m.s.core x
   moment_shows {x = x} m =
       subst (λ op. Shows op m.d m.s.core x) (sym (moment_op m))
-      (subst (Shows (op_of m.mark) m.d m.s.core) (sym m.row)
+      (subst (Shows (op_of_mark m.mark) m.d m.s.core) (sym m.row)
       (shows_row m.d (event_at constants kernel m.mark m.s) (visible_of m.t.core) m.later m.s.core refl))
 
   pub moment_hash : {x y : List ℕ} → (m : IsMoment constants kernel limit x y) → (j : ℕ) → j < 8
-      → h x j ≡ slice_index (hash_by (kind_of (op_of m.mark)) m.d (event_at constants kernel m.mark m.s)) j
+      → h x j ≡ slice_index (hash_by (kind_of (op_of_mark m.mark)) m.d (event_at constants kernel m.mark m.s)) j
   moment_hash m j low =
       ap (λ z. h z j) m.row ∙ col_h (line_of m.d (event_at constants kernel m.mark m.s) (visible_of m.t.core) m.later) j low
 
   pub moment_witness : {x y : List ℕ} → (m : IsMoment constants kernel limit x y) → (j : ℕ) → j < 4
-      → w x j ≡ slice_index (witnesses_by (kind_of (op_of m.mark)) m.d (event_at constants kernel m.mark m.s) (visible_of m.t.core) m.later) j
+      → w x j ≡ slice_index (witnesses_by (kind_of (op_of_mark m.mark)) m.d (event_at constants kernel m.mark m.s) (visible_of m.t.core) m.later) j
   moment_witness m j low =
       ap (λ z. w z j) m.row ∙ col_w (line_of m.d (event_at constants kernel m.mark m.s) (visible_of m.t.core) m.later) j low
 
@@ -151,7 +151,7 @@ module _ (constants : List ℕ) (kernel : List (List ℕ)) (limit : ℕ) where
       let comes : Comes constants (m.rest ++ m.todo)
       (ticked (core_behind constants m.mark (take (advice_taken m.mark) m.s.tape) m.s.core)) (flags.op_of y)
       = subst (λ c. Comes constants (m.rest ++ m.todo) c (flags.op_of y)) core (place_comes constants m.next) in
-      let pair : IsPair (op_of m.mark) (flags.op_of y) (row_of m.d (event_at constants kernel m.mark m.s) (visible_of m.t.core) m.later) y
+      let pair : IsPair (op_of_mark m.mark) (flags.op_of y) (row_of m.d (event_at constants kernel m.mark m.s) (visible_of m.t.core) m.later) y
       = pair_shown constants kernel (take (advice_taken m.mark) m.s.tape) m.first m.d m.later m.todo
       (behind (effect_of constants kernel m.mark (take (advice_taken m.mark) m.s.tape) m.s.core) m.s.core) (visible_of m.t.core) y (flags.op_of y)
       (known within m) m.agrees (behind_shows m) comes in

@@ -13,7 +13,7 @@ use Rattle.op_pack.specs.Reading.{positions_in_use}
 use Rattle.block_tree.specs.Behind.{core_behind, IsAllowed}
 use Rattle.block_tree.specs.Cycles.{Mark, StartSpan, StartJoin, StartSplit, StartLoop, StartCall, StartSyscall, Respan, Repeat, Do, End, EndSpan, EndLoop, EndCall, EndSyscall, frame_of, top}
 use Rattle.block_tree.specs.Marks.{IsWholeMark}
-use Rattle.block_tree.specs.Rows.{op_of}
+use Rattle.block_tree.specs.Rows.{op_of_mark}
 use Rattle.block_tree.specs.Steps.{Task, Block, Turned, Closing, Returning, Leaving, Next, span, join, split_1, split_0, loop_1, loop_0, call, syscall, operation, respan, span_ends, repeats, loop_ends, closes, returns, leaves}
 use Rattle.block_tree.specs.Trees.{Span, Join, Split, Loop, Call, Syscall, tree_digest}
 use Rattle.air_kit.specs.Flags.{is_op}
@@ -124,7 +124,7 @@ module _ (constants : List ℕ) (kernel : List (List ℕ)) (advice : List ℕ) w
   pub pair_shown : {task : Task} {c : Core} {mark : Mark} {rest : List Task} → Next constants task c mark rest → (d : Decoder) (later : List Event)
       (todo : List Task) (b : Core) (v : Visible) (y : List ℕ) (next : Op) → Known constants kernel mark advice c d → Agrees (task ∷ todo) d c
       → Shows next (advance d (shown_between mark advice c b) later) (behind_of mark c) y → Comes constants (rest ++ todo) (behind_of mark c) next
-      → IsPair (op_of mark) next (row_of d (shown_between mark advice c b) v later) y
+      → IsPair (op_of_mark mark) next (row_of d (shown_between mark advice c b) v later) y
   pair_shown (join {c = c} {a = a} {b = z}) d later todo b v y next k agrees sy comes =
       let sx : Shows ops.Join d c (row_of d (shown_between (StartJoin (tree_digest constants a) (tree_digest constants z)) advice c b) v later)
       = shows_row d (shown_between (StartJoin (tree_digest constants a) (tree_digest constants z)) advice c b) v later c refl in

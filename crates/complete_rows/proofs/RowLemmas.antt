@@ -10,7 +10,7 @@ use Rattle.vm_ops.specs.declared.op.Op.TheVariants as ops
 use Rattle.vm_ops.specs.Values.{bit_of}
 use Rattle.vm_table.specs.MainColumns.{h, w}
 use Rattle.block_tree.specs.Cycles.{Mark, StartSpan, StartJoin, StartSplit, StartLoop, StartCall, StartSyscall, Respan, Repeat, Do, End, EndSpan, EndLoop, EndCall, EndSyscall, top}
-use Rattle.block_tree.specs.Rows.{op_of}
+use Rattle.block_tree.specs.Rows.{op_of_mark}
 use Rattle.block_tree.specs.Steps.{Task, Next, span, join, split_1, split_0, loop_1, loop_0, call, syscall, operation, respan, span_ends, repeats, loop_ends, closes, returns, leaves}
 use Rattle.block_tree.specs.Trees.{Loop, tree_digest}
 use Rattle.air_kit.specs.Flags.{is_op}
@@ -56,7 +56,7 @@ last_witness d e v later is =
 module _ (constants : List ℕ) (kernel : List (List ℕ)) (advice : List ℕ) where
   pub row_shown : {task : Task} {c : Core} {mark : Mark} {rest : List Task} → Next constants task c mark rest → (d : Decoder) (later : List Event)
       (todo : List Task) (b : Core) (v : Visible) → Known constants kernel mark advice c d → Agrees (task ∷ todo) d c
-      → IsRow (op_of mark) (row_of d (shown_between mark advice c b) v later)
+      → IsRow (op_of_mark mark) (row_of d (shown_between mark advice c b) v later)
   row_shown (join {c = c} {a = a} {b = z}) d later todo b v k agrees =
       let sx : Shows ops.Join d c (row_of d (shown_between (StartJoin (tree_digest constants a) (tree_digest constants z)) advice c b) v later)
       = shows_row d (shown_between (StartJoin (tree_digest constants a) (tree_digest constants z)) advice c b) v later c refl in

@@ -29,7 +29,7 @@ use Rattle.complete_rows.specs.BlockRows.{ClaimsRun, IsWholeRun, ShowsBlocks, ev
 use Rattle.complete_rows.specs.Bounds.{IsSmallCore}
 use Rattle.complete_rows.specs.Chains.{AreLinked}
 use Rattle.complete_rows.specs.Decoder.{Decoder, advance, at_start, decoder_after}
-use Rattle.complete_rows.specs.Filling.{fill, rows_of}
+use Rattle.complete_rows.specs.Filling.{fill, rows_of_run}
 use Rattle.complete_rows.specs.Lines.{Line, laid_out}
 use Rattle.complete_rows.specs.Moments.{AreMoments, IsLastMoment, IsRowAt}
 use Rattle.complete_rows.specs.Shows.{Shows}
@@ -84,7 +84,7 @@ module _ (constants : List ℕ) (kernel : List (List ℕ)) (limit : ℕ) where
   pub filled_run : (tree : Tree) (inputs tape : List ℕ) (u : State) (log : List run.Event) → IsWholeRun constants kernel limit tree inputs tape u log
       → Filled constants kernel limit (Block tree ∷ []) at_start (start inputs tape) u (events_of constants kernel log)
       (filled constants kernel u log)
-  unfolding rows_of start
+  unfolding rows_of_run start
   filled_run tree inputs tape u log r =
       let steps = steps_of tree inputs tape u log r in
       let few : length (events_of constants kernel log) ≤ most_cycles
@@ -188,7 +188,7 @@ fill_count last d (e ∷ later) = let behind = fill_count last (advance d e late
 
 pub rows_counted : (constants : List ℕ) (kernel : List (List ℕ)) (u : State) (log : List run.Event)
     → length (filled constants kernel u log) ≡ length log + 1
-unfolding rows_of
+unfolding rows_of_run
 rows_counted constants kernel u log =
     let count = fill_count (visible_of u.core) at_start (events_of constants kernel log) in
     omega (arith, count, length-map log (shown constants kernel))

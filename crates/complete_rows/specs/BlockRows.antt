@@ -17,7 +17,7 @@ use Rattle.facts_main.specs.Bounds.{IsFirstRow, IsLastRow}
 use Rattle.facts_main.specs.MainRows.{op_in}
 use Rattle.facts_main.specs.RowFacts.{ReadsAs, IsRow, IsPair}
 use Rattle.complete_rows.specs.Decoder.{at_start, decoder_after, key_of}
-use Rattle.complete_rows.specs.Filling.{rows_of}
+use Rattle.complete_rows.specs.Filling.{rows_of_run}
 use Rattle.complete_rows.specs.Moments.{AreMoments, IsRowAt}
 
 -- a run of a whole tree from the start to its end, within the longest limit
@@ -36,7 +36,7 @@ abbrev pub events_of : List ℕ → List (List ℕ) → List run.Event → List 
 events_of constants kernel log = map (shown constants kernel) log
 
 abbrev pub filled : List ℕ → List (List ℕ) → State → List run.Event → List (List ℕ)
-filled constants kernel u log = rows_of (visible_of u.core) (events_of constants kernel log)
+filled constants kernel u log = rows_of_run (visible_of u.core) (events_of constants kernel log)
 
 -- the keys of the cells that are left at the end
 abbrev pub keys_of : List ℕ → List (List ℕ) → List run.Event → List ℕ

@@ -97,5 +97,5 @@ fill last d [] = row_of d (halted last) last [] ∷ []
 fill last d (e ∷ later) = row_of d e (seen_behind last later) later ∷ fill last (advance d e later) later
 
 -- the rows of a run that ends in this state
-unfoldable pub rows_of : Visible → List Event → List (List ℕ)
-rows_of last events = fill last at_start events
+unfoldable pub rows_of_run : Visible → List Event → List (List ℕ)
+rows_of_run last events = fill last at_start events

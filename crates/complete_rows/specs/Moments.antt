@@ -6,7 +6,7 @@ use Rattle.vm_ops.specs.declared.op.Op.TheVariants as ops
 use Rattle.block_tree.specs.Cycles.{Mark, advice_taken}
 use Rattle.block_tree.specs.Execution.{event_of}
 use Rattle.block_tree.specs.Marks.{IsWholeMark}
-use Rattle.block_tree.specs.Rows.{op_of}
+use Rattle.block_tree.specs.Rows.{op_of_mark}
 use Rattle.block_tree.specs.Steps.{Task, Next, IsCycle}
 use Rattle.machine_cycles.specs.Events.{shown, visible_of}
 use Rattle.machine_cycles.specs.declared.event.Event.{Event}
@@ -24,7 +24,7 @@ event_at constants kernel mark s = shown constants kernel (event_of mark (advice
 abbrev pub Comes : List ℕ → List Task → Core → Op → Type 0
 Comes constants [] c op = op ≡ ops.Halt
 Comes constants (task ∷ todo) c op =
-    (mark : Mark) × (rest : List Task) × Next constants task c mark rest × IsWholeMark mark × (op ≡ op_of mark)
+    (mark : Mark) × (rest : List Task) × Next constants task c mark rest × IsWholeMark mark × (op ≡ op_of_mark mark)
 
 -- the row at a place of a run, whichever it is
 pub record IsRowAt (constants : List ℕ) (todo : List Task) (d : Decoder) (c : Core) (x : List ℕ) : Type 0 where

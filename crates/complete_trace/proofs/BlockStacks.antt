@@ -9,7 +9,7 @@ use Rattle.vm_ops.specs.declared.op.Op.TheVariants as ops
 use Rattle.vm_table.specs.MainColumns.{depth, h}
 use Rattle.block_tree.specs.Behind.{core_behind}
 use Rattle.block_tree.specs.Cycles.{Mark, StartOpaque, StartSpan, StartJoin, StartSplit, StartLoop, StartCall, StartSyscall, Respan, Repeat, Do, End, EndSpan, EndLoop, EndCall, EndSyscall}
-use Rattle.block_tree.specs.Rows.{hash_of, op_of}
+use Rattle.block_tree.specs.Rows.{hash_of, op_of_mark}
 use Rattle.machine_cycles.specs.Events.{shown_between, visible_of}
 use Rattle.machine_cycles.specs.declared.event.Visible.{Visible}
 use Rattle.machine_cycles.specs.declared.event.Event.{Event}
@@ -59,29 +59,29 @@ module _ (constants : List ℕ) (kernel : List (List ℕ)) (advice : List ℕ) w
   line mark d c b v later = row_of d (shown_between mark advice c b) v later
 
   ends_by : (mark : Mark) (digest : List ℕ) (i j k l : ℕ) (d : Decoder) (c b : Core) (v : Visible) (later : List Event)
-      → op_of mark ≡ ops.End → ((n : ℕ) → n < 8 → h (line mark d c b v later) n ≡ slice_index (digest ++ i ∷ j ∷ k ∷ l ∷ []) n)
+      → op_of_mark mark ≡ ops.End → ((n : ℕ) → n < 8 → h (line mark d c b v later) n ≡ slice_index (digest ++ i ∷ j ∷ k ∷ l ∷ []) n)
       → length digest ≡ 4 → EndsBy (line mark d c b v later) i k l
   ends_by mark digest i j k l d c b v later is hash size =
       let z = behind_digest digest i j k l (line mark d c b v later) size hash in record { loop = z.0; call = z.2; syscall = z.3 }
 
   -- a row of a block by itself, and the row behind it
-  facts : (mark : Mark) (d : Decoder) (c b : Core) (v : Visible) (later : List Event) (y : List ℕ) → is_ordinary_op (op_of mark) ≡ false
+  facts : (mark : Mark) (d : Decoder) (c b : Core) (v : Visible) (later : List Event) (y : List ℕ) → is_ordinary_op (op_of_mark mark) ≡ false
       → Known constants kernel mark advice c d
-      → (ends_call (op_of mark) (line mark d c b v later) ≡ true → depth (line mark d c b v later) ≡ 16)
-      → MovesStack (op_of mark) (line mark d c b v later) y → StackFacts (op_of mark) (line mark d c b v later) y
+      → (ends_call (op_of_mark mark) (line mark d c b v later) ≡ true → depth (line mark d c b v later) ≡ 16)
+      → MovesStack (op_of_mark mark) (line mark d c b v later) y → StackFacts (op_of_mark mark) (line mark d c b v later) y
   facts mark d c b v later y is k returns moves =
       let x : List ℕ = line mark d c b v later in
       let deep : depth x ≡ length c.stack = col_depth (line_of d (shown_between mark advice c b) v later) in
       let enough = k.formed.deep in
       let few = k.small.depth in
       record {
-        stack_row = stack_row (op_of mark) x is (omega (arith, deep, enough)) (omega (arith, deep, few, k.early))
+        stack_row = stack_row (op_of_mark mark) x is (omega (arith, deep, enough)) (omega (arith, deep, few, k.early))
             (col_inv (line_of d (shown_between mark advice c b) v later) ∙ ap (λ n. felt_inv (n ⊟ 16)) (sym deep)) returns;
-        limb_row = limb_row (op_of mark) x is;
+        limb_row = limb_row (op_of_mark mark) x is;
         stack_pair = moves;
-        limb_pair = limb_pair (op_of mark) x y is;
-        ranges = ranges (op_of mark) x is;
-        bits = bits (op_of mark) x y is;
+        limb_pair = limb_pair (op_of_mark mark) x y is;
+        ranges = ranges (op_of_mark mark) x is;
+        bits = bits (op_of_mark mark) x y is;
       }
 
   shallow : (mark : Mark) (c : Core) (d : Decoder) → Known constants kernel mark advice c d → length c.stack < 2 ^ 20
@@ -89,7 +89,7 @@ module _ (constants : List ℕ) (kernel : List (List ℕ)) (advice : List ℕ) w
 
   around : (mark : Mark) (d : Decoder) (c b : Core) (v : Visible) (later : List Event) (y : List ℕ) (next : Op)
       → Shows next (advance d (shown_between mark advice c b) later) (ticked (core_behind constants mark advice c)) y
-      → Around (op_of mark) next (line mark d c b v later) y d (advance d (shown_between mark advice c b) later) c
+      → Around (op_of_mark mark) next (line mark d c b v later) y d (advance d (shown_between mark advice c b) later) c
       (ticked (core_behind constants mark advice c))
   around mark d c b v later y next sy = record { here = shows_row d (shown_between mark advice c b) v later c refl; behind = sy }
 
@@ -100,9 +100,9 @@ module _ (constants : List ℕ) (kernel : List (List ℕ)) (advice : List ℕ) w
       ap (λ u. keys_behind u d) e ∙ keys_by_flags (digest ++ i ∷ j ∷ k ∷ l ∷ []) d i j k l (has_flags digest i j k l size)
 
   pub block_facts : (mark : Mark) (d : Decoder) (c b : Core) (v : Visible) (later : List Event) (y : List ℕ) (next : Op)
-      → is_ordinary_op (op_of mark) ≡ false → Known constants kernel mark advice c d → length d.keys + 16 ≡ length c.stack
+      → is_ordinary_op (op_of_mark mark) ≡ false → Known constants kernel mark advice c d → length d.keys + 16 ≡ length c.stack
       → Shows next (advance d (shown_between mark advice c b) later) (ticked (core_behind constants mark advice c)) y
-      → StackFacts (op_of mark) (line mark d c b v later) y
+      → StackFacts (op_of_mark mark) (line mark d c b v later) y
   block_facts StartOpaque d c b v later y next is k keyed sy = absurd k.allowed
   block_facts (StartSpan batch) d c b v later y next is k keyed sy =
       let a = around (StartSpan batch) d c b v later y next sy in

@@ -8,7 +8,7 @@ use Rattle.vm_ops.specs.declared.op.Op.TheVariants as ops
 use Rattle.vm_table.specs.MainColumns.{lv}
 use Rattle.block_tree.specs.Behind.{core_behind}
 use Rattle.block_tree.specs.Cycles.{Mark, StartOpaque, StartSpan, StartJoin, StartSplit, StartLoop, StartCall, StartSyscall, Respan, Repeat, Do, End, EndSpan, EndLoop, EndCall, EndSyscall, advice_taken, effect_of}
-use Rattle.block_tree.specs.Rows.{behind, op_of}
+use Rattle.block_tree.specs.Rows.{behind, op_of_mark}
 use Rattle.block_tree.specs.Steps.{IsCycle}
 use Rattle.air_kit.specs.Flags as flags
 use Rattle.machine_cycles.specs.Events.{visible_of}
@@ -62,8 +62,8 @@ module _ (constants : List ℕ) (kernel : List (List ℕ)) (limit : ℕ) where
       subst (λ c. Shows (flags.op_of y) (advance d (event_at constants kernel mark s) later) c y)
       (core_after constants kernel limit mark s t h.cycle) h.shows
 
-  block : (mark : Mark) (s t : State) (d : Decoder) (later : List Event) (y : List ℕ) → is_ordinary_op (op_of mark) ≡ false
-      → IsShown mark s t d later y → StackFacts (op_of mark) (row_of d (event_at constants kernel mark s) (visible_of t.core) later) y
+  block : (mark : Mark) (s t : State) (d : Decoder) (later : List Event) (y : List ℕ) → is_ordinary_op (op_of_mark mark) ≡ false
+      → IsShown mark s t d later y → StackFacts (op_of_mark mark) (row_of d (event_at constants kernel mark s) (visible_of t.core) later) y
   block mark s t d later y is h =
       block_facts constants kernel (take (advice_taken mark) s.tape) mark d s.core
       (behind (effect_of constants kernel mark (take (advice_taken mark) s.tape) s.core) s.core) (visible_of t.core) later y
@@ -71,7 +71,7 @@ module _ (constants : List ℕ) (kernel : List (List ℕ)) (limit : ℕ) where
       h.keyed (blocks mark s t d later y h)
 
   facts : (mark : Mark) (s t : State) (d : Decoder) (later : List Event) (y : List ℕ) → length constants ≡ number_of_constants → IsShown mark s t d later y
-      → StackFacts (op_of mark) (row_of d (event_at constants kernel mark s) (visible_of t.core) later) y
+      → StackFacts (op_of_mark mark) (row_of d (event_at constants kernel mark s) (visible_of t.core) later) y
   facts (Do item) s t d later y len h =
       let f = fills item s t d later y len h in
       record {

@@ -6,7 +6,7 @@ use Rattle.vm_ops.specs.Moves.{leaves_of}
 use Rattle.vm_ops.specs.declared.op.Op.{Op}
 use Rattle.vm_ops.specs.declared.op.Op.TheVariants as ops
 use Rattle.air_kit.specs.Flags.{is_op, is_right}
-use Rattle.air_kit.specs.MainTuples.{limbs_of}
+use Rattle.air_kit.specs.MainTuples.{count_of_limbs}
 use Rattle.facts_main.specs.Limbs.{IsLimbRow, MovesLimbs, has_high_word, has_second, has_third}
 use Rattle.facts_main.specs.Stack.{LeavesCells, tests_top, tests_two}
 use Rattle.facts_main.proofs.Says.{never}
@@ -54,7 +54,7 @@ no_high : (op : Op) → not (is_ordinary_op op) && has_high_word op ≡ false
 no_high ops.Noop = refl
 no_high op = refl
 
-no_limbs : (op : Op) → not (is_ordinary_op op) && not (eqb (limbs_of op) 0) ≡ false
+no_limbs : (op : Op) → not (is_ordinary_op op) && not (eqb (count_of_limbs op) 0) ≡ false
 no_limbs ops.Noop = refl
 no_limbs op = refl
 
@@ -73,9 +73,9 @@ pub leaves_none : (op : Op) → is_ordinary_op op ≡ false → leaves_of op ≡
 leaves_none op is =
     eqb-true (leaves_of op) 0 (not_false (eqb (leaves_of op) 0) (gate (is_ordinary_op op) (not (eqb (leaves_of op) 0)) (no_leaves op) is))
 
-limbs_none : (op : Op) → is_ordinary_op op ≡ false → limbs_of op ≡ 0
+limbs_none : (op : Op) → is_ordinary_op op ≡ false → count_of_limbs op ≡ 0
 limbs_none op is =
-    eqb-true (limbs_of op) 0 (not_false (eqb (limbs_of op) 0) (gate (is_ordinary_op op) (not (eqb (limbs_of op) 0)) (no_limbs op) is))
+    eqb-true (count_of_limbs op) 0 (not_false (eqb (count_of_limbs op) 0) (gate (is_ordinary_op op) (not (eqb (count_of_limbs op) 0)) (no_limbs op) is))
 
 pub top_off : {A : Type 0} (op : Op) → is_ordinary_op op ≡ false → tests_top op ≡ true → A
 top_off op is = quiet op (tests_top op) (no_top op) is

@@ -41,7 +41,7 @@ abbrev Is16 : ℕ → Type 0
 Is16 v = v < 2 ^ 16
 
 -- an operation has as many limbs as it asks for
-limbs_count : (op : Op) (x y : Visible) → length (limbs_by op x y) ≡ tuples.limbs_of op
+limbs_count : (op : Op) (x y : Visible) → length (limbs_by op x y) ≡ tuples.count_of_limbs op
 limbs_count ops.Noop x y = refl
 limbs_count op x y = refl
 
@@ -73,8 +73,8 @@ module _ (constants : List ℕ) (kernel : List (List ℕ)) (limit : ℕ) where
       (omega (arith, early, within, few)) (enough_keys (length from.core.stack) deep) (shows_row (advance d e []) (halted v) v [] to.core refl) in
       let most = few_limbs item.op in
       All-from_get_or Is16 (limbs_by item.op e.before v) 0 (λ j low.
-      (let size : length (limbs_by item.op e.before v) ≡ tuples.limbs_of item.op = limbs_count item.op e.before v in
-      let few_j : j < tuples.limbs_of item.op = omega (arith, low, size) in
+      (let size : length (limbs_by item.op e.before v) ≡ tuples.count_of_limbs item.op = limbs_count item.op e.before v in
+      let few_j : j < tuples.count_of_limbs item.op = omega (arith, low, size) in
       subst Is16 (col_t (line_of d e v []) j (omega (arith, few_j, most))
       ∙ get_or_append_left (limbs_by item.op e.before v) (word_rest item.op e.word) 0 j low)
       (f.looks.ranges j few_j)))

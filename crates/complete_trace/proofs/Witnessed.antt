@@ -61,7 +61,7 @@ pub record ShowsCells (x y : List ℕ) (v n : Visible) : Type 0 where
   pub top : s y 0 ≡ cell n 0
   pub next : s y 1 ≡ cell n 1
 
-pub limbs_same : (op : Op) (x y : List ℕ) (v n : Visible) (word : List ℕ) → ShowsCells x y v n → (j : ℕ) → j < tuples.limbs_of op
+pub limbs_same : (op : Op) (x y : List ℕ) (v n : Visible) (word : List ℕ) → ShowsCells x y v n → (j : ℕ) → j < tuples.count_of_limbs op
     → slice_index (limbs_by op v n ++ word_rest op word) j ≡ slice_index (limbs_filled op x y) j
 limbs_same ops.U32Split x y v n word e j low =
     let top = e.top in let next = e.next in
@@ -90,12 +90,12 @@ limbs_same ops.U32MAdd x y v n word e j low =
 limbs_same ops.Noop x y v n word e j low = absurd (omega (arith, low))
 limbs_same op x y v n word e j low = absurd (omega (arith, low))
 
-pub few_limbs : (op : Op) → tuples.limbs_of op ≤ 10
+pub few_limbs : (op : Op) → tuples.count_of_limbs op ≤ 10
 few_limbs ops.Noop = omega arith
 few_limbs op = omega arith
 
 pub limb_is : (d : Decoder) (e : Event) (v : Visible) (later : List Event) (y : List ℕ) → ShowsCells (row_of d e v later) y e.before v
-    → (j : ℕ) → j < tuples.limbs_of e.op → t (row_of d e v later) j ≡ slice_index (limbs_filled e.op (row_of d e v later) y) j
+    → (j : ℕ) → j < tuples.count_of_limbs e.op → t (row_of d e v later) j ≡ slice_index (limbs_filled e.op (row_of d e v later) y) j
 unfolding limbs_of
 limb_is d e v later y shown j low =
     let few = few_limbs e.op in

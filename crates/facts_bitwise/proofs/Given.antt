@@ -13,7 +13,7 @@ use Rattle.air_kit.specs.ChipTuples.{bitwise_given}
 use Rattle.air_kit.specs.Requests.{bit_given}
 use Rattle.facts_hasher.proofs.BlockLemmas.{eight}
 use Rattle.facts_hasher.proofs.Totals.{total-eight, total-same}
-use Rattle.facts_bitwise.specs.BitRows.{bitwise, bit_row, rows_before, rows_of}
+use Rattle.facts_bitwise.specs.BitRows.{bitwise, bit_row, rows_before, rows_of_bits}
 use Rattle.facts_bitwise.specs.BitTables.{HasWords, HaveWords, GivesOps, IsBitwise}
 
 -- the tuple of an operation
@@ -65,8 +65,8 @@ head_counts : (p : BitOp) (ops : List BitOp) (u : List ℕ)
 head_counts p ops u =
     ap (λ (c : Counted). counted (c ∷ map bit_given ops) u) (bit_given-is p) ∙ counted-append (once (tuple_of p) ∷ []) (map bit_given ops) u
 
-given_ops : (q : ℕ) (ops : List BitOp) (u : List ℕ) → given_from q (rows_of ops) u ≡ counted (map bit_given ops) u
-unfolding rows_of rows_before total
+given_ops : (q : ℕ) (ops : List BitOp) (u : List ℕ) → given_from q (rows_of_bits ops) u ≡ counted (map bit_given ops) u
+unfolding rows_of_bits rows_before total
 given_ops q [] u = sym (counted-none u)
 given_ops q (p ∷ ops) u =
     total-eight (length rows) f
@@ -78,7 +78,7 @@ given_ops q (p ∷ ops) u =
     ∙ sym (head_counts p ops u)
   where
     rows : List (List ℕ)
-    rows = rows_of ops
+    rows = rows_of_bits ops
 
     f : ℕ → ℕ
     f i = counted (bitwise_given (8 * q + i) (slice_index_or (rows_before p rows) i [])) u
@@ -86,10 +86,10 @@ given_ops q (p ∷ ops) u =
     moved : (i : ℕ) → 8 * q + eight i ≡ 8 * suc q + i
     moved i = omega arith
 
-pub rows_give : (ops : List BitOp) → GivesOps ops (rows_of ops)
+pub rows_give : (ops : List BitOp) → GivesOps ops (rows_of_bits ops)
 unfolding over_first
 rows_give ops u =
-    total-same (length (rows_of ops)) _ _ (λ i h. ap (λ n. counted (bitwise_given n (slice_index_or (rows_of ops) i [])) u) (none i))
+    total-same (length (rows_of_bits ops)) _ _ (λ i h. ap (λ n. counted (bitwise_given n (slice_index_or (rows_of_bits ops) i [])) u) (none i))
     ∙ given_ops 0 ops u
   where
     none : (i : ℕ) → i ≡ 8 * 0 + i

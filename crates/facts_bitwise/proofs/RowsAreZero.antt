@@ -11,7 +11,7 @@ use Rattle.air_kit.specs.Places.{at_number}
 use Rattle.facts_hasher.proofs.BlockLemmas.{eight, first_of}
 use Rattle.facts_hasher.proofs.RowsAreZero.{bit_again}
 use Rattle.facts_hasher.proofs.ZeroLemmas.{AllZero, CellsBelow}
-use Rattle.facts_bitwise.specs.BitRows.{bit_row, row_without, rows_before, rows_of, op_of, ops_in}
+use Rattle.facts_bitwise.specs.BitRows.{bit_row, row_without, rows_before, rows_of_bits, bit_op_of, ops_in}
 use Rattle.facts_bitwise.specs.BitTables.{HasWords, HaveWords, BitwiseIsZero}
 use Rattle.facts_bitwise.proofs.Nibbles.{bitwise-below}
 use Rattle.facts_bitwise.proofs.EightRows.{EightZero, ZeroFrom, from_eight, zero_behind}
@@ -49,11 +49,11 @@ eight_zero p next words = record {
   z7 = last_zero p.xor p.a p.b next;
 }
 
-rows_zero : (i : ℕ) (ops : List BitOp) → i % 8 ≡ 0 → HaveWords ops → ZeroFrom i (rows_of ops)
-unfolding ZeroFrom rows_of rows_before
+rows_zero : (i : ℕ) (ops : List BitOp) → i % 8 ≡ 0 → HaveWords ops → ZeroFrom i (rows_of_bits ops)
+unfolding ZeroFrom rows_of_bits rows_before
 rows_zero i [] start words = tt
 rows_zero i (p ∷ ops) start words =
-    from_eight i _ _ _ _ _ _ _ _ (rows_of ops) start (eight_zero p (first_of (rows_of ops)) (All-head HasWords p ops words))
+    from_eight i _ _ _ _ _ _ _ _ (rows_of_bits ops) start (eight_zero p (first_of (rows_of_bits ops)) (All-head HasWords p ops words))
     (rows_zero (eight i) ops (omega (arith, start)) (All-tail HasWords p ops words))
 
 -- ---- the table
@@ -97,12 +97,12 @@ row_below xor u v hu hv (suc (suc (suc (suc (suc (suc (suc (suc (suc (suc (suc (
 with_row : (xor : Bool) (u v : ℕ) (rows : List (List ℕ)) → u < 2 ^ 32 → v < 2 ^ 32 → IsTable 12 rows → IsTable 12 (bit_row xor u v ∷ rows)
 with_row xor u v rows hu hv t = table_cons (bit_row xor u v) rows (row_wide xor u v) (row_below xor u v hu hv) t
 
-table_of : (ops : List BitOp) → HaveWords ops → IsTable 12 (rows_of ops)
-unfolding rows_of rows_before row_without
+table_of : (ops : List BitOp) → HaveWords ops → IsTable 12 (rows_of_bits ops)
+unfolding rows_of_bits rows_before row_without
 table_of [] words = record { wide = λ i h. absurd (omega arith); below = λ i k. lit< tt }
 table_of (p ∷ ops) words =
     row 28 _ (row 24 _ (row 20 _ (row 16 _ (row 12 _ (row 8 _ (row 4 _
-    (with_row p.xor p.a p.b (rows_of ops) own.0 own.1 (table_of ops (All-tail HasWords p ops words)))))))))
+    (with_row p.xor p.a p.b (rows_of_bits ops) own.0 own.1 (table_of ops (All-tail HasWords p ops words)))))))))
   where
     own : HasWords p
     own = All-head HasWords p ops words
@@ -110,8 +110,8 @@ table_of (p ∷ ops) words =
     row : (n : ℕ) (rows : List (List ℕ)) → IsTable 12 rows → IsTable 12 (bit_row p.xor (p.a / 2 ^ n) (p.b / 2 ^ n) ∷ rows)
     row n rows t = with_row p.xor (p.a / 2 ^ n) (p.b / 2 ^ n) rows (shifted_below n p.a own.0) (shifted_below n p.b own.1) t
 
-pub rows_of-size : (ops : List BitOp) → length (rows_of ops) ≡ 8 * length ops
-unfolding rows_of rows_before
+pub rows_of-size : (ops : List BitOp) → length (rows_of_bits ops) ≡ 8 * length ops
+unfolding rows_of_bits rows_before
 rows_of-size [] = refl
 rows_of-size (p ∷ ops) = let e = rows_of-size ops in omega (arith, e)
 
@@ -121,19 +121,19 @@ op_from : (x y : Bool) (s t u v : ℕ) → x ≡ y → s ≡ t → u ≡ v
     → ◌≡◌ {A = BitOp} (record { xor = x; a = s; b = u }) (record { xor = y; a = t; b = v })
 op_from x y s t u v p q r = cc
 
-op_again : (p : BitOp) → op_of (bit_row p.xor p.a p.b) ≡ p
-unfolding op_of bit_row
+op_again : (p : BitOp) → bit_op_of (bit_row p.xor p.a p.b) ≡ p
+unfolding bit_op_of bit_row
 op_again p = op_from _ p.xor p.a p.a p.b p.b (bit_again p.xor) refl refl
 
-pub ops_again : (ops : List BitOp) → ops_in (rows_of ops) ≡ ops
-unfolding rows_of rows_before ops_in
+pub ops_again : (ops : List BitOp) → ops_in (rows_of_bits ops) ≡ ops
+unfolding rows_of_bits rows_before ops_in
 ops_again [] = refl
 ops_again (p ∷ ops) = ap₂ (λ (q : BitOp) (qs : List BitOp). q ∷ qs) (op_again p) (ops_again ops)
 
 no_others : (k : ℕ) → k ≡ 0 + k
 no_others k = omega arith
 
-pub rows_are_zero : (ops : List BitOp) → HaveWords ops → BitwiseIsZero (rows_of ops)
+pub rows_are_zero : (ops : List BitOp) → HaveWords ops → BitwiseIsZero (rows_of_bits ops)
 rows_are_zero ops words = record {
   table = table_of ops words;
   whole = let e = rows_of-size ops in omega (arith, e);
@@ -143,4 +143,4 @@ rows_are_zero ops words = record {
 }
   where
     rows : List (List ℕ)
-    rows = rows_of ops
+    rows = rows_of_bits ops

@@ -1,13 +1,13 @@
 -- The laws of the bitwise table.
 use Rattle.std.proofs.Common.{◌≡◌, ℕ, ◌<◌, List, [], ◌∷◌, length, ap, subst, ◌∙◌}
 use Rattle.air_kit.specs.declared.requests.BitOp.{BitOp}
-use Rattle.facts_bitwise.specs.BitRows.{rows_of, ops_in}
+use Rattle.facts_bitwise.specs.BitRows.{rows_of_bits, ops_in}
 use Rattle.facts_bitwise.specs.BitTables.{HaveWords, IsBitwise, BitwiseIsZero, ShowsOps, given_in}
 use Rattle.facts_bitwise.proofs.ZerosAreRows.{zeros_are_rows}
 use Rattle.facts_bitwise.proofs.RowsAreZero.{rows_of-size, rows_are_zero, ops_again}
 use Rattle.facts_bitwise.proofs.Given.{IsGiven, given_by_one, is_right, rows_give}
 
-pub rows_show : (ops : List BitOp) → HaveWords ops → ShowsOps ops (rows_of ops)
+pub rows_show : (ops : List BitOp) → HaveWords ops → ShowsOps ops (rows_of_bits ops)
 rows_show ops words = record { size = rows_of-size ops; zero = rows_are_zero ops words; ops_are = ops_again ops }
 
 is_given : (rows : List (List ℕ)) (u : List ℕ) → BitwiseIsZero rows → 0 < given_in rows u → IsGiven u

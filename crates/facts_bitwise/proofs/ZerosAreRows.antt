@@ -6,7 +6,7 @@ use Rattle.chip_columns.specs.BitwiseColumns.{op, a, b}
 use Rattle.air_kit.specs.BitwiseValues.{bitwise_values}
 use Rattle.air_kit.specs.Places.{at_number}
 use Rattle.facts_hasher.proofs.BlockLemmas.{eight, first_of}
-use Rattle.facts_bitwise.specs.BitRows.{bit_row, row_without, rows_before, rows_of, op_of, ops_in}
+use Rattle.facts_bitwise.specs.BitRows.{bit_row, row_without, rows_before, rows_of_bits, bit_op_of, ops_in}
 use Rattle.facts_bitwise.specs.BitTables.{HasWords, AreOpRows, BitwiseIsZero}
 use Rattle.facts_bitwise.proofs.ZeroLemmas.{IsNextRow, ShowsBits, first_shows, goes_on, has_bits}
 use Rattle.facts_bitwise.proofs.EightRows.{EightZero, ZeroFrom, eight_from, zero_from}
@@ -28,8 +28,8 @@ one_before n k last cur next h g = record {
 row_same : (x y : Bool) (s t u v : ℕ) → x ≡ y → s ≡ t → u ≡ v → bit_row x s u ≡ bit_row y t v
 row_same x y s t u v p q r = cc
 
-before_is : (n k : ℕ) (last row : List ℕ) → ShowsBits k row → IsBefore n last row → row ≡ row_without n (op_of last)
-unfolding row_without op_of
+before_is : (n k : ℕ) (last row : List ℕ) → ShowsBits k row → IsBefore n last row → row ≡ row_without n (bit_op_of last)
+unfolding row_without bit_op_of
 before_is n k last row s h =
     s.row_is ∙ row_same (op row == 1) (op last == 1) (a row) _ (b row) _ (ap (λ o. o == 1) h.kind_same) h.first_is h.second_is
 
@@ -41,12 +41,12 @@ eight_same : (a b c d e f g h s t u v w z y q : List ℕ) (rows : List (List ℕ
 eight_same a b c d e f g h s t u v w z y q rows e0 e1 e2 e3 e4 e5 e6 e7 = cc
 
 record EightShow (r0 r1 r2 r3 r4 r5 r6 r7 : List ℕ) (rows : List (List ℕ)) : Type 0 where
-  rows_are : r0 ∷ r1 ∷ r2 ∷ r3 ∷ r4 ∷ r5 ∷ r6 ∷ r7 ∷ rows ≡ rows_before (op_of r7) rows
-  words : HasWords (op_of r7)
+  rows_are : r0 ∷ r1 ∷ r2 ∷ r3 ∷ r4 ∷ r5 ∷ r6 ∷ r7 ∷ rows ≡ rows_before (bit_op_of r7) rows
+  words : HasWords (bit_op_of r7)
 
 eight_show : (r0 r1 r2 r3 r4 r5 r6 r7 : List ℕ) (rows : List (List ℕ)) → IsTable 12 (r0 ∷ r1 ∷ r2 ∷ r3 ∷ r4 ∷ r5 ∷ r6 ∷ r7 ∷ rows)
     → EightZero r0 r1 r2 r3 r4 r5 r6 r7 (first_of rows) → EightShow r0 r1 r2 r3 r4 r5 r6 r7 rows
-unfolding rows_before op_of
+unfolding rows_before bit_op_of
 eight_show r0 r1 r2 r3 r4 r5 r6 r7 rows t z = record {
   rows_are = eight_same r0 r1 r2 r3 r4 r5 r6 r7 _ _ _ _ _ _ _ _ rows (before_is 28 4 r7 r0 s0 b0) (before_is 24 8 r7 r1 g1.shows b1)
       (before_is 20 12 r7 r2 g2.shows b2) (before_is 16 16 r7 r3 g3.shows b3) (before_is 12 20 r7 r4 g4.shows b4)
@@ -110,15 +110,15 @@ table_rest r0 r1 r2 r3 r4 r5 r6 r7 rows t = record {
 }
 
 from_numbers : (i : ℕ) (rows : List (List ℕ)) → i % 8 ≡ 0 → length rows % 8 ≡ 0 → IsTable 12 rows → ZeroFrom i rows → AreOpRows rows
-unfolding rows_of ops_in
+unfolding rows_of_bits ops_in
 from_numbers i [] start whole t z = record { words = All-nil HasWords; rows_are = refl }
 from_numbers i (r0 ∷ r1 ∷ r2 ∷ r3 ∷ r4 ∷ r5 ∷ r6 ∷ r7 ∷ rows) start whole t z =
     let parts = eight_from i r0 r1 r2 r3 r4 r5 r6 r7 rows start z in
     let show = eight_show r0 r1 r2 r3 r4 r5 r6 r7 rows t parts.0 in
     let are = from_numbers (eight i) rows (omega (arith, start)) (omega (arith, whole)) (table_rest r0 r1 r2 r3 r4 r5 r6 r7 rows t) parts.1 in
     record {
-      words = All-cons HasWords (op_of r7) (ops_in rows) show.words are.words;
-      rows_are = show.rows_are ∙ ap (rows_before (op_of r7)) are.rows_are;
+      words = All-cons HasWords (bit_op_of r7) (ops_in rows) show.words are.words;
+      rows_are = show.rows_are ∙ ap (rows_before (bit_op_of r7)) are.rows_are;
     }
 from_numbers i _ start whole t z = absurd (omega arith)
 

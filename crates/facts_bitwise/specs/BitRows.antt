@@ -25,15 +25,15 @@ rows_before p rows =
     ∷ row_without 4 p ∷ bit_row p.xor p.a p.b ∷ rows
 
 -- the rows of operations, one behind the other
-unfoldable pub rows_of : List BitOp → List (List ℕ)
-rows_of [] = []
-rows_of (p ∷ ops) = rows_before p (rows_of ops)
+unfoldable pub rows_of_bits : List BitOp → List (List ℕ)
+rows_of_bits [] = []
+rows_of_bits (p ∷ ops) = rows_before p (rows_of_bits ops)
 
 -- the operation that the last of eight rows shows
-unfoldable pub op_of : List ℕ → BitOp
-op_of last = record { xor = op last == 1; a = a last; b = b last }
+unfoldable pub bit_op_of : List ℕ → BitOp
+bit_op_of last = record { xor = op last == 1; a = a last; b = b last }
 
 -- the operations that rows show
 unfoldable pub ops_in : List (List ℕ) → List BitOp
-ops_in (r0 ∷ r1 ∷ r2 ∷ r3 ∷ r4 ∷ r5 ∷ r6 ∷ r7 ∷ rows) = op_of r7 ∷ ops_in rows
+ops_in (r0 ∷ r1 ∷ r2 ∷ r3 ∷ r4 ∷ r5 ∷ r6 ∷ r7 ∷ rows) = bit_op_of r7 ∷ ops_in rows
 ops_in rows = []

@@ -10,7 +10,7 @@ use Rattle.air_kit.specs.ChipTuples.{chip_given}
 use Rattle.air_kit.specs.Places.{at_number}
 use Rattle.air_kit.specs.Requests.{bit_given}
 use Rattle.air_kit.specs.Traces.{spot_of}
-use Rattle.facts_bitwise.specs.BitRows.{rows_of, ops_in}
+use Rattle.facts_bitwise.specs.BitRows.{rows_of_bits, ops_in}
 
 -- each entry is 0 in each row
 pub record BitwiseIsZero (rows : List (List ℕ)) : Type 0 where
@@ -32,7 +32,7 @@ given_in rows = over_rows (chip_given bus.Bitwise table.Bitwise) rows
 -- the rows are those of the operations that they show
 pub record AreOpRows (rows : List (List ℕ)) : Type 0 where
   pub words : HaveWords (ops_in rows)
-  pub rows_are : rows ≡ rows_of (ops_in rows)
+  pub rows_are : rows ≡ rows_of_bits (ops_in rows)
 
 -- rows that show these operations and no more, and whose entries are 0
 pub record ShowsOps (ops : List BitOp) (rows : List (List ℕ)) : Type 0 where

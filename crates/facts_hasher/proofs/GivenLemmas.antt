@@ -12,7 +12,7 @@ use Rattle.rpo_hash.specs.States.{IsState}
 use Rattle.air_kit.specs.declared.requests.Perm.{Perm}
 use Rattle.air_kit.specs.ChipTuples.{hasher_given, permutation_begins, permutation_ends}
 use Rattle.air_kit.specs.Requests.{perm_begins, perm_ends, perms_given}
-use Rattle.facts_hasher.specs.PermRows.{perm_row, rows_before, rows_of}
+use Rattle.facts_hasher.specs.PermRows.{perm_row, rows_before, rows_of_perms}
 use Rattle.facts_hasher.proofs.BlockLemmas.{eight}
 use Rattle.facts_hasher.proofs.RowsAreZero.{bit_again, perm_row-mode, perm_row-cont, perm_row-more, row_state}
 use Rattle.facts_hasher.proofs.Totals.{total-eight, total-same}
@@ -141,8 +141,8 @@ sum_of_eight : (a b c d e f g h t v w : ℕ) → a ≡ v → b ≡ 0 → c ≡ 0
 sum_of_eight a b c d e f g h t v w ea eb ec ed ee ef eg eh = omega (arith, ea, eb, ec, ed, ee, ef, eg, eh)
 
 given_perms : (constants : List ℕ) (q : ℕ) (perms : List Perm) (u : List ℕ) → length constants ≡ number_of_constants → All (λ p. IsState p.start) perms
-    → given_from q (rows_of constants perms) u ≡ counted (perms_given constants (8 * q + 1) perms) u
-unfolding rows_of rows_before perms_given total
+    → given_from q (rows_of_perms constants perms) u ≡ counted (perms_given constants (8 * q + 1) perms) u
+unfolding rows_of_perms rows_before perms_given total
 given_perms constants q [] u len s = sym (counted-none u)
 given_perms constants q (p ∷ perms) u len s =
     total-eight (length rows) f
@@ -162,7 +162,7 @@ given_perms constants q (p ∷ perms) u len s =
     (counted-append (perm_ends constants (8 * q + 1 + 7) p) (perms_given constants (8 * q + 1 + 8) perms) u))
   where
     rows : List (List ℕ)
-    rows = rows_of constants perms
+    rows = rows_of_perms constants perms
 
     own : IsState p.start
     own = All-head (λ p. IsState p.start) p perms s
@@ -177,11 +177,11 @@ given_perms constants q (p ∷ perms) u len s =
     next = omega arith
 
 pub rows_give : (constants : List ℕ) (perms : List Perm) (u : List ℕ) → length constants ≡ number_of_constants → All (λ p. IsState p.start) perms
-    → over_rows (λ i row next. hasher_given i row) (rows_of constants perms) u ≡ counted (perms_given constants 1 perms) u
+    → over_rows (λ i row next. hasher_given i row) (rows_of_perms constants perms) u ≡ counted (perms_given constants 1 perms) u
 unfolding over_first
 rows_give constants perms u len s =
-    total-same (length (rows_of constants perms)) _ _
-    (λ i h. ap (λ n. counted (hasher_given n (slice_index_or (rows_of constants perms) i [])) u) (none i))
+    total-same (length (rows_of_perms constants perms)) _ _
+    (λ i h. ap (λ n. counted (hasher_given n (slice_index_or (rows_of_perms constants perms) i [])) u) (none i))
     ∙ given_perms constants 0 perms u len s
   where
     none : (i : ℕ) → i ≡ 8 * 0 + i

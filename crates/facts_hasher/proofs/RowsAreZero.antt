@@ -17,7 +17,7 @@ use Rattle.air_kit.specs.ChipPlaces.{only}
 use Rattle.air_kit.specs.Places.{Claim, at_number, family}
 use Rattle.air_kit.specs.HasherValues.{begins_at_zero, bit_value, hasher_flag_values, chain_values, round_values, hasher_values, hasher_values_by}
 use Rattle.air_kit.specs.Requests.{FollowsOn}
-use Rattle.facts_hasher.specs.PermRows.{perm_row, rows_before, rows_of, perm_of, perms_in}
+use Rattle.facts_hasher.specs.PermRows.{perm_row, rows_before, rows_of_perms, perm_of, perms_in}
 use Rattle.facts_hasher.specs.HashTables.{HasherIsZero, PermsFit}
 use Rattle.facts_hasher.proofs.RowLemmas.{state_is, zero_cons}
 use Rattle.facts_hasher.proofs.ZeroLemmas.{AllZero, CellsBelow}
@@ -279,8 +279,8 @@ block_zero constants first p next len s no_first apart zeros l = record {
     later k going h = inside_zero constants false false p k going len h s (λ e. absurd (cc)) no_cont (λ e. absurd (cc))
 
 next_links : (constants : List ℕ) (going : Bool) (last : List ℕ) (perms : List Perm) → length constants ≡ number_of_constants → All (λ p. IsState p.start) perms
-    → FollowsOn constants going last perms → LinksTo going last (first_of (rows_of constants perms))
-unfolding LinksTo rows_of rows_before
+    → FollowsOn constants going last perms → LinksTo going last (first_of (rows_of_perms constants perms))
+unfolding LinksTo rows_of_perms rows_before
 next_links constants going last [] len s f = f
 next_links constants going last (p ∷ perms) len s f = (
   perm_row-cont constants p 0 false ∙ ap bit_of f.0,
@@ -289,11 +289,11 @@ next_links constants going last (p ∷ perms) len s f = (
 )
 
 rows_zero : (constants : List ℕ) (first going : Bool) (last : List ℕ) (perms : List Perm) → length constants ≡ number_of_constants → All (λ p. IsState p.start) perms
-    → FollowsOn constants going last perms → (first ≡ true → going ≡ false) → ZeroFrom constants first (rows_of constants perms)
-unfolding ZeroFrom rows_of rows_before
+    → FollowsOn constants going last perms → (first ≡ true → going ≡ false) → ZeroFrom constants first (rows_of_perms constants perms)
+unfolding ZeroFrom rows_of_perms rows_before
 rows_zero constants first going last [] len s f no_first = tt
 rows_zero constants first going last (p ∷ perms) len s f no_first = (
-  block_zero constants first p (first_of (rows_of constants perms)) len (All-head (λ p. IsState p.start) p perms s) (λ on. f.0 ∙ no_first on)
+  block_zero constants first p (first_of (rows_of_perms constants perms)) len (All-head (λ p. IsState p.start) p perms s) (λ on. f.0 ∙ no_first on)
       f.1 f.3 (next_links constants p.more (permuted constants p.start) perms len (All-tail (λ p. IsState p.start) p perms s) f.4),
   rows_zero constants false p.more (permuted constants p.start) perms len (All-tail (λ p. IsState p.start) p perms s) f.4 (λ e. absurd (cc)),
 )
@@ -319,12 +319,12 @@ perm_row-wide : (constants : List ℕ) (p : Perm) (k : ℕ) (going : Bool) → l
 unfolding perm_row
 perm_row-wide constants p k going len h s = let size = (rounds-IsState constants p k len h s).size in omega arith
 
-table_of : (constants : List ℕ) (perms : List Perm) → length constants ≡ number_of_constants → All (λ p. IsState p.start) perms → IsTable 15 (rows_of constants perms)
-unfolding rows_of rows_before
+table_of : (constants : List ℕ) (perms : List Perm) → length constants ≡ number_of_constants → All (λ p. IsState p.start) perms → IsTable 15 (rows_of_perms constants perms)
+unfolding rows_of_perms rows_before
 table_of constants [] len s = table_none
 table_of constants (p ∷ perms) len s =
     row 0 false _ (omega arith) (row 1 false _ (omega arith) (row 2 false _ (omega arith) (row 3 false _ (omega arith)
-    (row 4 false _ (omega arith) (row 5 false _ (omega arith) (row 6 false _ (omega arith) (row 7 p.more (rows_of constants perms) (omega arith)
+    (row 4 false _ (omega arith) (row 5 false _ (omega arith) (row 6 false _ (omega arith) (row 7 p.more (rows_of_perms constants perms) (omega arith)
     (table_of constants perms len (All-tail (λ p. IsState p.start) p perms s)))))))))
   where
     own : IsState p.start
@@ -334,8 +334,8 @@ table_of constants (p ∷ perms) len s =
     row k going rows h t =
         table_cons (perm_row constants p k going) rows (perm_row-wide constants p k going len h own) (perm_row-below constants p k going len h own) t
 
-pub rows_of-size : (constants : List ℕ) (perms : List Perm) → length (rows_of constants perms) ≡ 8 * length perms
-unfolding rows_of rows_before
+pub rows_of-size : (constants : List ℕ) (perms : List Perm) → length (rows_of_perms constants perms) ≡ 8 * length perms
+unfolding rows_of_perms rows_before
 rows_of-size constants [] = refl
 rows_of-size constants (p ∷ perms) = let e = rows_of-size constants perms in omega (arith, e)
 
@@ -357,14 +357,14 @@ perm_again constants p len s =
     (row_state constants p 0 false len (omega arith) s ∙ rounds-none constants p.start)
 
 pub perms_again : (constants : List ℕ) (perms : List Perm) → length constants ≡ number_of_constants → All (λ p. IsState p.start) perms
-    → perms_in (rows_of constants perms) ≡ perms
-unfolding rows_of rows_before perms_in
+    → perms_in (rows_of_perms constants perms) ≡ perms
+unfolding rows_of_perms rows_before perms_in
 perms_again constants [] len s = refl
 perms_again constants (p ∷ perms) len s =
     ap₂ (λ (q : Perm) (qs : List Perm). q ∷ qs) (perm_again constants p len (All-head (λ p. IsState p.start) p perms s))
     (perms_again constants perms len (All-tail (λ p. IsState p.start) p perms s))
 
-pub rows_are_zero : (c : Claim) (perms : List Perm) → length c.constants ≡ number_of_constants → PermsFit c.constants perms → HasherIsZero c (rows_of c.constants perms)
+pub rows_are_zero : (c : Claim) (perms : List Perm) → length c.constants ≡ number_of_constants → PermsFit c.constants perms → HasherIsZero c (rows_of_perms c.constants perms)
 rows_are_zero c perms len fit = record {
   table = table_of c.constants perms len fit.states;
   whole = let e = rows_of-size c.constants perms in omega (arith, e);
@@ -374,7 +374,7 @@ rows_are_zero c perms len fit = record {
 }
   where
     rows : List (List ℕ)
-    rows = rows_of c.constants perms
+    rows = rows_of_perms c.constants perms
 
     row_none : (k : ℕ) → k ≡ 8 * 0 + k
     row_none k = omega arith

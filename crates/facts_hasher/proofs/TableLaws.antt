@@ -7,7 +7,7 @@ use Rattle.air_kit.specs.declared.requests.Perm.{Perm}
 use Rattle.air_kit.specs.declared.trace.TableName.TheVariants as table
 use Rattle.air_kit.specs.ChipTuples.{chip_given}
 use Rattle.air_kit.specs.Places.{Claim}
-use Rattle.facts_hasher.specs.PermRows.{rows_of, perms_in}
+use Rattle.facts_hasher.specs.PermRows.{rows_of_perms, perms_in}
 use Rattle.facts_hasher.specs.HashTables.{HasherIsZero, PermsFit, ArePermRows, ShowsPerms}
 use Rattle.facts_hasher.proofs.ZerosAreRows.{fit_of, are_rows}
 use Rattle.facts_hasher.proofs.RowsAreZero.{rows_of-size, rows_are_zero, perms_again}
@@ -25,7 +25,7 @@ zeros_are_rows c rows len z = record {
     fit : PermsFit c.constants (perms_in rows)
     fit = fit_of c rows len z
 
-pub rows_show : (c : Claim) (perms : List Perm) → length c.constants ≡ number_of_constants → PermsFit c.constants perms → ShowsPerms c perms (rows_of c.constants perms)
+pub rows_show : (c : Claim) (perms : List Perm) → length c.constants ≡ number_of_constants → PermsFit c.constants perms → ShowsPerms c perms (rows_of_perms c.constants perms)
 rows_show c perms len fit = record {
   size = rows_of-size c.constants perms;
   zero = rows_are_zero c perms len fit;

@@ -9,7 +9,7 @@ use Rattle.air_kit.specs.ChipTuples.{chip_given}
 use Rattle.air_kit.specs.Hashes.{computation_at}
 use Rattle.air_kit.specs.Places.{Claim}
 use Rattle.air_kit.specs.Requests.{FollowsOn, perms_given}
-use Rattle.facts_hasher.specs.PermRows.{rows_of, perms_in}
+use Rattle.facts_hasher.specs.PermRows.{rows_of_perms, perms_in}
 use Rattle.facts_hasher.specs.HashTables.{HasherIsZero}
 use Rattle.facts_hasher.specs.HashMeaning.{GivesOn, IsGivenWhole, IsHash, TableGives}
 use Rattle.facts_hasher.proofs.Given.{IsGivenBy, given_by_one, given-address, given-same, given-once}
@@ -66,7 +66,7 @@ input_given constants perms given s f is address input at =
     }
 
 perms_give : (constants : List ℕ) (perms : List Perm) (rows : List (List ℕ)) (given : List ℕ → ℕ) → length constants ≡ number_of_constants
-    → All (λ p. IsState p.start) perms → FollowsOn constants false [] perms → rows ≡ rows_of constants perms
+    → All (λ p. IsState p.start) perms → FollowsOn constants false [] perms → rows ≡ rows_of_perms constants perms
     → ((u : List ℕ) → given u ≡ counted (perms_given constants 1 perms) u) → TableGives constants rows given
 perms_give constants perms rows given len s f rows_are is = record {
   once = λ u. let e = is u in let m = given-once constants 1 perms u in omega (arith, e, m);

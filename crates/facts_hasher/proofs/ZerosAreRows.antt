@@ -13,7 +13,7 @@ use Rattle.air_kit.specs.declared.requests.Perm.{Perm}
 use Rattle.air_kit.specs.Places.{Claim, at_number}
 use Rattle.air_kit.specs.HasherValues.{hasher_values}
 use Rattle.air_kit.specs.Requests.{FollowsOn}
-use Rattle.facts_hasher.specs.PermRows.{perm_row, rows_before, rows_of, perm_of, perms_in}
+use Rattle.facts_hasher.specs.PermRows.{perm_row, rows_before, rows_of_perms, perm_of, perms_in}
 use Rattle.facts_hasher.specs.HashTables.{HasherIsZero, PermsFit}
 use Rattle.facts_hasher.proofs.RowLemmas.{row_is, state-IsState, bit_is}
 use Rattle.facts_hasher.proofs.ZeroLemmas.{CellsBelow, IsNextRound, goes_on, Begins, begins, Ends, ends, LinkedTo}
@@ -229,8 +229,8 @@ follows constants first going last (r0 ∷ r1 ∷ r2 ∷ r3 ∷ r4 ∷ r5 ∷ r6
 follows constants first going last _ len t z l = absurd z
 
 rows_are : (constants : List ℕ) (first : Bool) (rows : List (List ℕ)) → length constants ≡ number_of_constants → IsTable 15 rows
-    → ZeroFrom constants first rows → rows ≡ rows_of constants (perms_in rows)
-unfolding ZeroFrom perms_in rows_of
+    → ZeroFrom constants first rows → rows ≡ rows_of_perms constants (perms_in rows)
+unfolding ZeroFrom perms_in rows_of_perms
 rows_are constants first [] len t z = refl
 rows_are constants first (r0 ∷ r1 ∷ r2 ∷ r3 ∷ r4 ∷ r5 ∷ r6 ∷ r7 ∷ rows) len t z =
     let rest = table_rest r0 r1 r2 r3 r4 r5 r6 r7 rows t in
@@ -273,5 +273,5 @@ fit_of c rows len z = record {
   states = states rows z.table;
 }
 
-pub are_rows : (c : Claim) (rows : List (List ℕ)) → length c.constants ≡ number_of_constants → HasherIsZero c rows → rows ≡ rows_of c.constants (perms_in rows)
+pub are_rows : (c : Claim) (rows : List (List ℕ)) → length c.constants ≡ number_of_constants → HasherIsZero c rows → rows ≡ rows_of_perms c.constants (perms_in rows)
 are_rows c rows len z = rows_are c.constants true rows len z.table (zero_is c rows z)

@@ -11,7 +11,7 @@ use Rattle.air_kit.specs.declared.trace.TableName.TheVariants as table
 use Rattle.buses.specs.Counts.{counted, over_rows}
 use Rattle.buses.specs.declared.bus.Bus.TheVariants as bus
 use Rattle.air_kit.specs.Traces.{spot_of}
-use Rattle.facts_hasher.specs.PermRows.{rows_of, perms_in}
+use Rattle.facts_hasher.specs.PermRows.{rows_of_perms, perms_in}
 
 -- each entry is 0 in each row
 pub record HasherIsZero (c : Claim) (rows : List (List ℕ)) : Type 0 where
@@ -32,7 +32,7 @@ GivesPerms constants perms rows =
 -- the rows are those of the permutations that they show
 pub record ArePermRows (constants : List ℕ) (rows : List (List ℕ)) : Type 0 where
   pub fit : PermsFit constants (perms_in rows)
-  pub rows_are : rows ≡ rows_of constants (perms_in rows)
+  pub rows_are : rows ≡ rows_of_perms constants (perms_in rows)
   pub given : GivesPerms constants (perms_in rows) rows
 
 -- rows that show these permutations and no more, and whose entries are 0

@@ -17,9 +17,9 @@ rows_before constants p rows =
     ∷ perm_row constants p 7 p.more ∷ rows
 
 -- the rows of permutations, one behind the other
-unfoldable pub rows_of : List ℕ → List Perm → List (List ℕ)
-rows_of constants [] = []
-rows_of constants (p ∷ perms) = rows_before constants p (rows_of constants perms)
+unfoldable pub rows_of_perms : List ℕ → List Perm → List (List ℕ)
+rows_of_perms constants [] = []
+rows_of_perms constants (p ∷ perms) = rows_before constants p (rows_of_perms constants perms)
 
 -- the permutation that a first and a last row show
 unfoldable pub perm_of : List ℕ → List ℕ → Perm

@@ -3,7 +3,7 @@ use Rattle.std.proofs.Common.{◌≡◌, ℕ, zero, suc, ◌<◌, ◌≤◌, ◌
 use Rattle.std.proofs.lemmas.Bool.{cases_Bool}
 use Rattle.vm_field.specs.Machine.{zero_word}
 use Rattle.air_kit.specs.declared.requests.Access.{Access}
-use Rattle.facts_memory.specs.Accesses.{Keeps, is_at, key_of, word_behind}
+use Rattle.facts_memory.specs.Accesses.{Keeps, is_at, access_key, word_behind}
 use Rattle.facts_memory.specs.MemoryTables.{AreOrdered, AreSmall, access_at, access_before}
 use Rattle.facts_memory.specs.Serving.{AreAsked, HasRow}
 use Rattle.facts_memory.proofs.Keys.{between, clock_of_place, key_of_place, rise, rise_back, rise_to}
@@ -12,13 +12,13 @@ use Rattle.facts_memory.proofs.RowOrder.{at_same}
 
 -- ---- keys
 
-pub keys_rise : (rows : List (List ℕ)) → AreOrdered rows → (q r : ℕ) → q < r → r < length rows → key_of (access_at rows q) < key_of (access_at rows r)
-keys_rise rows o q r less h = rise (λ k. key_of (access_at rows k)) (length rows) o.grows q r less h
+pub keys_rise : (rows : List (List ℕ)) → AreOrdered rows → (q r : ℕ) → q < r → r < length rows → access_key (access_at rows q) < access_key (access_at rows r)
+keys_rise rows o q r less h = rise (λ k. access_key (access_at rows k)) (length rows) o.grows q r less h
 
 -- of two rows the one with the lesser key stands before
 pub rows_from_keys : (rows : List (List ℕ)) → AreOrdered rows → (q r : ℕ) → q < length rows → r < length rows
-    → key_of (access_at rows q) < key_of (access_at rows r) → q < r
-rows_from_keys rows o q r hq hr less = rise_back (λ k. key_of (access_at rows k)) (length rows) o.grows q r hq hr less
+    → access_key (access_at rows q) < access_key (access_at rows r) → q < r
+rows_from_keys rows o q r hq hr less = rise_back (λ k. access_key (access_at rows k)) (length rows) o.grows q r hq hr less
 
 -- ---- the latest word
 
@@ -36,10 +36,10 @@ row_before asks m rows t q k b h less is at =
     let within : k < m = (let w = t.asked.within q h in omega (arith, w, less)) in
     let row : HasRow rows b = t.asked.asked k b within is in
     let clock : b.clk ≡ k = t.clocks k b within is in
-    let less_key : key_of b < key_of (access_at rows q) = key_of_place (access_at rows q) b at (omega (arith, clock, less)) in (
+    let less_key : access_key b < access_key (access_at rows q) = key_of_place (access_at rows q) b at (omega (arith, clock, less)) in (
       row.at,
       rows_from_keys rows t.ordered row.at q row.within h
-          (subst (λ a. key_of a < key_of (access_at rows q)) (sym row.shows) less_key),
+          (subst (λ a. access_key a < access_key (access_at rows q)) (sym row.shows) less_key),
       row.shows,
     )
 
@@ -64,7 +64,7 @@ latest_behind asks m rows t q h = go (cases_Bool (is_at p a.ctx a.addr))
     inside : q < length rows
     inside = omega (arith, h)
 
-    grows : key_of p < key_of a
+    grows : access_key p < access_key a
     grows = t.ordered.grows q h
 
     none_between : is_at p a.ctx a.addr ≡ true → NoneOf asks (suc p.clk) a.clk a.ctx a.addr
@@ -75,19 +75,19 @@ latest_behind asks m rows t q h = go (cases_Bool (is_at p a.ctx a.addr))
         let pp = place_is p a.ctx a.addr same in
         let bp = place_is b a.ctx a.addr at in
         let there : is_at p b.ctx b.addr ≡ true = at_same p b.ctx b.addr (pp.0 ∙ sym bp.0) (pp.1 ∙ sym bp.1) in
-        let less_key : key_of p < key_of b = key_of_place b p there (omega (arith, clock, low)) in
+        let less_key : access_key p < access_key b = key_of_place b p there (omega (arith, clock, low)) in
         let less = r.1 in
         let more : q < r.0 =
-        rows_from_keys rows t.ordered q r.0 inside (omega (arith, less, h)) (subst (λ x. key_of p < key_of x) (sym r.2) less_key) in
+        rows_from_keys rows t.ordered q r.0 inside (omega (arith, less, h)) (subst (λ x. access_key p < access_key x) (sym r.2) less_key) in
         omega (arith, more, less)
 
     no_other : is_at p a.ctx a.addr ≡ false → NoneOf asks 0 a.clk a.ctx a.addr
     no_other apart k b low high is at =
         let r = row_before asks m rows t (suc q) k b h high is at in
         let less = r.1 in
-        let low_key : key_of b ≤ key_of p =
-        subst (λ x. key_of x ≤ key_of p) r.2
-        (rise_to (λ n. key_of (access_at rows n)) (length rows) t.ordered.grows r.0 q (omega (arith, less)) inside) in
+        let low_key : access_key b ≤ access_key p =
+        subst (λ x. access_key x ≤ access_key p) r.2
+        (rise_to (λ n. access_key (access_at rows n)) (length rows) t.ordered.grows r.0 q (omega (arith, less)) inside) in
         let same : is_at p a.ctx a.addr ≡ true =
         between b p a at low_key grows (t.ordered.addresses q inside) (t.small.clocks q inside) (t.ordered.addresses (suc q) h)
         (t.small.clocks (suc q) h) in

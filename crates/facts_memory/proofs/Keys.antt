@@ -2,7 +2,7 @@
 use Rattle.std.proofs.Common.{◌≡◌, ℕ, zero, suc, ◌+◌, ◌*◌, ◌<◌, ◌≤◌, ◌⊎◌, inl, inr, ⊎_elim, true, ap, arith}
 use Rattle.std.proofs.lemmas.Bool.{cases_order}
 use Rattle.air_kit.specs.declared.requests.Access.{Access}
-use Rattle.facts_memory.specs.Accesses.{is_at, key_of}
+use Rattle.facts_memory.specs.Accesses.{is_at, access_key}
 use Rattle.facts_memory.proofs.Latest.{place_is}
 use Rattle.facts_memory.proofs.Numbers.{limit}
 use Rattle.facts_memory.proofs.RowOrder.{at_same}
@@ -38,10 +38,10 @@ rise_back f n rises q r hq hr less = elim (cases_order q r) [
 
 -- ---- accesses of one place
 
-pub key_of_place : (a b : Access) → is_at b a.ctx a.addr ≡ true → b.clk < a.clk → key_of b < key_of a
+pub key_of_place : (a b : Access) → is_at b a.ctx a.addr ≡ true → b.clk < a.clk → access_key b < access_key a
 key_of_place a b at less = let p = place_is b a.ctx a.addr at in let c = p.0 in let d = p.1 in omega (arith, c, d, less)
 
-pub clock_of_place : (a b : Access) → is_at b a.ctx a.addr ≡ true → key_of b < key_of a → b.clk < a.clk
+pub clock_of_place : (a b : Access) → is_at b a.ctx a.addr ≡ true → access_key b < access_key a → b.clk < a.clk
 clock_of_place a b at less = let p = place_is b a.ctx a.addr at in let c = p.0 in let d = p.1 in omega (arith, c, d, less)
 
 -- ---- a place between two accesses of one word
@@ -53,7 +53,7 @@ inner_same : (c d c' d' : ℕ) → d < limit → d' < limit → c * 4294967296 +
 inner_same c d c' d' h h' e = (omega arith, omega arith)
 
 -- what stands between two accesses of one place is one of it
-pub between : (b p a : Access) → is_at b a.ctx a.addr ≡ true → key_of b ≤ key_of p → key_of p < key_of a → p.addr < limit → p.clk < limit
+pub between : (b p a : Access) → is_at b a.ctx a.addr ≡ true → access_key b ≤ access_key p → access_key p < access_key a → p.addr < limit → p.clk < limit
     → a.addr < limit → a.clk < limit → is_at p a.ctx a.addr ≡ true
 between b p a at low high hp hpk ha hak =
     let place = place_is b a.ctx a.addr at in

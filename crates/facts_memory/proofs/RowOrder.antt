@@ -5,7 +5,7 @@ use Rattle.vm_field.specs.Field.{prime, felt_sub, felt_mul}
 use Rattle.vm_field.specs.Machine.{zero_word}
 use Rattle.chip_columns.specs.MemoryColumns.{ctx, addr, clk, v, n0, n1}
 use Rattle.air_kit.specs.declared.requests.Access.{Access}
-use Rattle.facts_memory.specs.Accesses.{access_of, is_at, key_of, word_behind}
+use Rattle.facts_memory.specs.Accesses.{access_of, is_at, access_key, word_behind}
 use Rattle.facts_memory.proofs.Numbers.{Moves, by_context, by_address, by_clock, limit}
 use Rattle.facts_memory.proofs.RowZeros.{CellsBelow, four}
 
@@ -18,7 +18,7 @@ key_grows n m c a k c' a' k' (by_address _ _ same grows) ha hk = omega (arith, s
 key_grows n m c a k c' a' k' (by_clock _ _ same also grows) ha hk = omega (arith, same, also, grows)
 
 pub rows_grow : (x y : List ℕ) → Moves (n0 y) (n1 y) (ctx x) (addr x) (clk x) (ctx y) (addr y) (clk y) → addr x < limit → clk x < limit
-    → key_of (access_of x) < key_of (access_of y)
+    → access_key (access_of x) < access_key (access_of y)
 rows_grow x y m ha hk = key_grows (n0 y) (n1 y) (ctx x) (addr x) (clk x) (ctx y) (addr y) (clk y) m ha hk
 
 -- ---- words

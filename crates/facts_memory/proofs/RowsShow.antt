@@ -3,15 +3,15 @@ use Rattle.std.proofs.Common.{List, None, ◌∙◌}
 use Rattle.std.specs.List.Sorted.{IsNonDecreasingBy, IsPermutation}
 use Rattle.std.proofs.lemmas.List.Sorted.{length_permutation}
 use Rattle.air_kit.specs.declared.requests.Access.{Access}
-use Rattle.facts_memory.specs.Accesses.{key_of}
-use Rattle.facts_memory.specs.AccessRows.{rows_of}
+use Rattle.facts_memory.specs.Accesses.{access_key}
+use Rattle.facts_memory.specs.AccessRows.{rows_of_accesses}
 use Rattle.facts_memory.specs.MemoryTables.{AccessesFit, ShowsAccesses}
 use Rattle.facts_memory.proofs.RowsGive.{sorted_give}
 use Rattle.facts_memory.proofs.RowsZero.{Linked, rows_limbs, rows_size, rows_zero}
 use Rattle.facts_memory.proofs.SortedFit.{sorted_linked}
 
-pub rows_show : (accesses sorted : List Access) → AccessesFit accesses → IsPermutation accesses sorted → IsNonDecreasingBy key_of sorted
-    → ShowsAccesses accesses (rows_of sorted)
+pub rows_show : (accesses sorted : List Access) → AccessesFit accesses → IsPermutation accesses sorted → IsNonDecreasingBy access_key sorted
+    → ShowsAccesses accesses (rows_of_accesses sorted)
 rows_show accesses sorted f p n = record {
   size = rows_size None sorted ∙ length_permutation accesses sorted p;
   zero = rows_zero sorted linked;

@@ -5,7 +5,7 @@ use Rattle.std.proofs.lemmas.List.{get_or-map, get_or_past, length-map}
 use Rattle.vm_field.specs.Machine.{zero_word}
 use Rattle.air_kit.specs.declared.requests.Access.{Access}
 use Rattle.air_kit.specs.Requests.{IsEarlier, IsWordBefore, last, never}
-use Rattle.facts_memory.specs.Accesses.{Keeps, access_of, is_at, key_of, word_behind}
+use Rattle.facts_memory.specs.Accesses.{Keeps, access_of, is_at, access_key, word_behind}
 use Rattle.facts_memory.specs.MemoryTables.{AreOrdered, AreSmall, HaveLimbs, MemoryIsZero, ShowLatest, access_at}
 use Rattle.facts_memory.proofs.InOrder.{rows_from_keys}
 use Rattle.facts_memory.proofs.Keys.{between, key_of_place, rise_to}
@@ -38,14 +38,14 @@ stands_before : (rows : List (List ℕ)) → AreOrdered rows → (i j : ℕ) (ot
     → slice_index_or (all rows) j (access_at rows i) ≡ other → IsEarlier (access_at rows i) other → (j < i) × (access_at rows j ≡ other)
 stands_before rows o i j other h e earlier =
     let row = row_of rows j (access_at rows i) other e earlier in
-    let key : key_of other < key_of (access_at rows i) =
+    let key : access_key other < access_key (access_at rows i) =
     key_of_place (access_at rows i) other (at_same other (access_at rows i).ctx (access_at rows i).addr earlier.ctx earlier.addr) earlier.clk in (
-      rows_from_keys rows o j i row.0 h (subst (λ b. key_of b < key_of (access_at rows i)) (sym row.1) key),
+      rows_from_keys rows o j i row.0 h (subst (λ b. access_key b < access_key (access_at rows i)) (sym row.1) key),
       row.1,
     )
 
 -- of two accesses of one place the one with the greater key has no earlier clock
-clock_up : (p b : Access) → b.ctx ≡ p.ctx → b.addr ≡ p.addr → key_of b ≤ key_of p → b.clk ≤ p.clk
+clock_up : (p b : Access) → b.ctx ≡ p.ctx → b.addr ≡ p.addr → access_key b ≤ access_key p → b.clk ≤ p.clk
 clock_up p b c d low = omega (arith, c, d, low)
 
 -- ---- the word before each row
@@ -72,17 +72,17 @@ next_shows rows o small q h = go (cases_Bool (is_at p a.ctx a.addr))
     inside : q < length rows
     inside = omega (arith, h)
 
-    grows : key_of p < key_of a
+    grows : access_key p < access_key a
     grows = o.grows q h
 
     keeps : Keeps a (word_behind (Some p) a)
     keeps = o.keeps (suc q) h
 
     -- what stands before is no later than the row before
-    low_key : (j : ℕ) (other : Access) → j < suc q → access_at rows j ≡ other → key_of other ≤ key_of p
+    low_key : (j : ℕ) (other : Access) → j < suc q → access_at rows j ≡ other → access_key other ≤ access_key p
     low_key j other less is =
-        subst (λ b. key_of b ≤ key_of p) is
-        (rise_to (λ n. key_of (access_at rows n)) (length rows) o.grows j q (omega (arith, less)) inside)
+        subst (λ b. access_key b ≤ access_key p) is
+        (rise_to (λ n. access_key (access_at rows n)) (length rows) o.grows j q (omega (arith, less)) inside)
 
     p_earlier : is_at p a.ctx a.addr ≡ true → IsEarlier a p
     p_earlier at =

@@ -5,7 +5,7 @@ use Rattle.std.proofs.lemmas.Bool.{cases_Bool}
 use Rattle.vm_field.specs.Machine.{zero_word}
 use Rattle.air_kit.specs.declared.requests.Access.{Access}
 use Rattle.air_kit.specs.Requests.{FitsMemory}
-use Rattle.facts_memory.specs.Accesses.{Keeps, is_at, key_of, word_behind}
+use Rattle.facts_memory.specs.Accesses.{Keeps, is_at, access_key, word_behind}
 use Rattle.facts_memory.specs.MemoryTables.{AccessesFit}
 use Rattle.facts_memory.proofs.Fitting.{FitsBehind, Follows}
 use Rattle.facts_memory.proofs.RowsZero.{Linked}
@@ -57,7 +57,7 @@ linked_from before [] first later = tt
 linked_from before (a ∷ accesses) first later =
     (first a (omega arith), linked_from (Some a) accesses (λ d h. later 0 d (omega (arith, h))) (λ q d h. later (suc q) d (omega (arith, h))))
 
-pub sorted_linked : (accesses sorted : List Access) → AccessesFit accesses → IsPermutation accesses sorted → IsNonDecreasingBy key_of sorted
+pub sorted_linked : (accesses sorted : List Access) → AccessesFit accesses → IsPermutation accesses sorted → IsNonDecreasingBy access_key sorted
     → Linked None sorted
 sorted_linked accesses sorted f p n =
     let o : IsInOrder accesses sorted = record { fit = f; moved = p; order = n } in

@@ -5,7 +5,7 @@ use Rattle.std.proofs.lemmas.Bool.{cases_lt, cases_order}
 use Rattle.std.proofs.lemmas.List.Sorted.{All-permutation}
 use Rattle.air_kit.specs.declared.requests.Access.{Access}
 use Rattle.air_kit.specs.Requests.{FitsMemory}
-use Rattle.facts_memory.specs.Accesses.{key_of}
+use Rattle.facts_memory.specs.Accesses.{access_key}
 use Rattle.facts_memory.specs.MemoryTables.{AccessesFit, IsSmallAccess}
 use Rattle.facts_memory.proofs.Clocks.{fit_apart, sorted_apart}
 use Rattle.facts_memory.proofs.Fitting.{Follows, IsShown, address, clock, context}
@@ -16,7 +16,7 @@ use Rattle.facts_memory.proofs.Numbers.{limit}
 pub record IsInOrder (accesses sorted : List Access) : Type 0 where
   pub fit : AccessesFit accesses
   pub moved : IsPermutation accesses sorted
-  pub order : IsNonDecreasingBy key_of sorted
+  pub order : IsNonDecreasingBy access_key sorted
 
 -- ---- each access
 
@@ -46,8 +46,8 @@ same_clock : (x y k l : ℕ) → k < limit → l < limit → x * 4294967296 + k 
 same_clock x y k l hk hl e = omega arith
 
 pub strict : (accesses sorted : List Access) → IsInOrder accesses sorted → (d : Access)
-    → Rises (λ i. key_of (slice_index_or sorted i d)) (length sorted)
-strict accesses sorted o d i h = go (cases_lt (key_of b) (key_of a))
+    → Rises (λ i. access_key (slice_index_or sorted i d)) (length sorted)
+strict accesses sorted o d i h = go (cases_lt (access_key b) (access_key a))
   where
     b : Access
     b = slice_index_or sorted i d
@@ -55,16 +55,16 @@ strict accesses sorted o d i h = go (cases_lt (key_of b) (key_of a))
     a : Access
     a = slice_index_or sorted (suc i) d
 
-    go : (key_of b < key_of a) ⊎ (key_of a ≤ key_of b) → key_of b < key_of a
+    go : (access_key b < access_key a) ⊎ (access_key a ≤ access_key b) → access_key b < access_key a
     go (inl less) = less
     go (inr more) =
-        let le : key_of b ≤ key_of a = o.order i (suc i) d (omega arith) h in
-        let same : key_of b ≡ key_of a = omega (arith, le, more) in
+        let le : access_key b ≤ access_key a = o.order i (suc i) d (omega arith) h in
+        let same : access_key b ≡ access_key a = omega (arith, le, more) in
         absurd (sorted_apart accesses sorted o.moved (fit_apart accesses o.fit) i (suc i) d (omega arith) h
         (same_clock (b.ctx * 4294967296 + b.addr) (a.ctx * 4294967296 + a.addr) b.clk a.clk
         (shown_at accesses sorted o i d (omega (arith, h))).limits.k_small (shown_at accesses sorted o (suc i) d h).limits.k_small same))
 
-pub follows_from : (b a : Access) → IsShown b → IsShown a → key_of b < key_of a → Follows b a
+pub follows_from : (b a : Access) → IsShown b → IsShown a → access_key b < access_key a → Follows b a
 follows_from b a sb sa less = go (cases_order b.ctx a.ctx) (cases_order b.addr a.addr)
   where
     hb : b.addr < limit

@@ -8,7 +8,7 @@ use Rattle.std.proofs.lemmas.List.Sorted.{Contains-permutation, IsPermutation-sy
 use Rattle.vm_field.specs.Machine.{zero_word}
 use Rattle.air_kit.specs.declared.requests.Access.{Access}
 use Rattle.air_kit.specs.Requests.{IsEarlier, IsWordBefore, last, never}
-use Rattle.facts_memory.specs.Accesses.{is_at, key_of}
+use Rattle.facts_memory.specs.Accesses.{is_at, access_key}
 use Rattle.facts_memory.proofs.Keys.{between, clock_of_place, key_of_place, rise, rise_back, rise_to}
 use Rattle.facts_memory.proofs.Latest.{place_is}
 use Rattle.facts_memory.proofs.RowOrder.{at_same}
@@ -24,7 +24,7 @@ member accesses i a other e earlier = go (cases_lt i (length accesses))
         let same : a.clk ≡ other.clk = ap (λ (b : Access). b.clk) self in
         let less = earlier.clk in absurd (omega (arith, same, less))
 
-key_before : (a other : Access) → IsEarlier a other → key_of other < key_of a
+key_before : (a other : Access) → IsEarlier a other → access_key other < access_key a
 key_before a other e = key_of_place a other (at_same other a.ctx a.addr e.ctx e.addr) e.clk
 
 -- an earlier access of the same place stands before
@@ -34,9 +34,9 @@ stands_before : (accesses sorted : List Access) → IsInOrder accesses sorted �
 stands_before accesses sorted o q d h i other e earlier =
     let at = Contains-permutation accesses sorted other o.moved (member accesses i (slice_index_or sorted q d) other e earlier) in
     let here : slice_index_or sorted at.0 d ≡ other = get_or_default sorted at.0 d other at.1 ∙ at.2 in
-    let less : key_of (slice_index_or sorted at.0 d) < key_of (slice_index_or sorted q d) =
-    subst (λ b. key_of b < key_of (slice_index_or sorted q d)) (sym here) (key_before (slice_index_or sorted q d) other earlier) in
-    (at.0, rise_back (λ n. key_of (slice_index_or sorted n d)) (length sorted) (strict accesses sorted o d) at.0 q at.1 h less, here)
+    let less : access_key (slice_index_or sorted at.0 d) < access_key (slice_index_or sorted q d) =
+    subst (λ b. access_key b < access_key (slice_index_or sorted q d)) (sym here) (key_before (slice_index_or sorted q d) other earlier) in
+    (at.0, rise_back (λ n. access_key (slice_index_or sorted n d)) (length sorted) (strict accesses sorted o d) at.0 q at.1 h less, here)
 
 -- a sorted access is one of the accesses
 found : (accesses sorted : List Access) → IsInOrder accesses sorted → (q : ℕ) (d a : Access) → q < length sorted
@@ -80,9 +80,9 @@ same_word accesses sorted o q d h at word before = go word before
 
     less_clock : (r : ℕ) (other : Access) → r < q → slice_index_or sorted r d ≡ other → IsEarlier a other → other.clk < p.clk
     less_clock r other less is earlier =
-        let key : key_of other < key_of p =
-        subst (λ b. key_of b < key_of p) is
-        (rise (λ n. key_of (slice_index_or sorted n d)) (length sorted) (strict accesses sorted o d) r q less inside) in
+        let key : access_key other < access_key p =
+        subst (λ b. access_key b < access_key p) is
+        (rise (λ n. access_key (slice_index_or sorted n d)) (length sorted) (strict accesses sorted o d) r q less inside) in
         clock_of_place p other (at_same other p.ctx p.addr (earlier.ctx ∙ sym place.0) (earlier.addr ∙ sym place.1)) key
 
     at_row : (r : ℕ) (other : Access) → (r < q) ⊎ (q ≤ r) → r < suc q → slice_index_or sorted r d ≡ other → IsEarlier a other → p.clk ≤ other.clk
@@ -107,9 +107,9 @@ other_word accesses sorted o q d h apart word (last i other e earlier most) =
     let r = stands_before accesses sorted o (suc q) d h i other e earlier in
     let inside : q < length sorted = omega (arith, h) in
     let below = r.1 in
-    let low : key_of other ≤ key_of (slice_index_or sorted q d) =
-    subst (λ b. key_of b ≤ key_of (slice_index_or sorted q d)) r.2
-    (rise_to (λ n. key_of (slice_index_or sorted n d)) (length sorted) (strict accesses sorted o d) r.0 q (omega (arith, below)) inside) in
+    let low : access_key other ≤ access_key (slice_index_or sorted q d) =
+    subst (λ b. access_key b ≤ access_key (slice_index_or sorted q d)) r.2
+    (rise_to (λ n. access_key (slice_index_or sorted n d)) (length sorted) (strict accesses sorted o d) r.0 q (omega (arith, below)) inside) in
     let sp = (shown_at accesses sorted o q d inside).limits in
     let sa = (shown_at accesses sorted o (suc q) d h).limits in
     let same =

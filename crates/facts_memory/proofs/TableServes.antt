@@ -2,7 +2,7 @@
 use Rattle.std.proofs.Common.{◌≡◌, ℕ, ◌<◌, ◌^◌, List, length, Option, inl, inr, sym, ap, subst, arith}
 use Rattle.std.proofs.lemmas.Bool.{cases_lt}
 use Rattle.air_kit.specs.declared.requests.Access.{Access}
-use Rattle.facts_memory.specs.Accesses.{Keeps, key_of}
+use Rattle.facts_memory.specs.Accesses.{Keeps, access_key}
 use Rattle.facts_memory.specs.MemoryTables.{AreOrdered, AreSmall, HaveLimbs, MemoryIsZero, access_at}
 use Rattle.facts_memory.specs.Serving.{AreAsks, ArePaired, AreServed, GivesAsks, HasRow}
 use Rattle.facts_memory.proofs.Asked.{are_asked, rows_small}
@@ -33,10 +33,10 @@ serves asks m rows are z limbs gives = record {
 -- rows that show the same access are one
 same_row : (rows : List (List ℕ)) → AreOrdered rows → (q r : ℕ) → q < length rows → r < length rows → access_at rows q ≡ access_at rows r → q ≡ r
 same_row rows o q r hq hr same = elim (cases_lt q r) [
-  | inl less ↦ absurd (let rise = keys_rise rows o q r less hr in let e = ap key_of same in omega (arith, rise, e))
+  | inl less ↦ absurd (let rise = keys_rise rows o q r less hr in let e = ap access_key same in omega (arith, rise, e))
   | inr not_less ↦
       elim (cases_lt r q) [
-        | inl more ↦ absurd (let rise = keys_rise rows o r q more hq in let e = ap key_of same in omega (arith, rise, e))
+        | inl more ↦ absurd (let rise = keys_rise rows o r q more hq in let e = ap access_key same in omega (arith, rise, e))
         | inr not_more ↦ omega (arith, not_less, not_more)
       ]
 ]

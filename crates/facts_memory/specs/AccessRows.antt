@@ -32,5 +32,5 @@ unfoldable pub rows_behind : Option Access → List Access → List (List ℕ)
 rows_behind before [] = []
 rows_behind before (a ∷ accesses) = row_behind before a ∷ rows_behind (Some a) accesses
 
-abbrev pub rows_of : List Access → List (List ℕ)
-rows_of accesses = rows_behind None accesses
+abbrev pub rows_of_accesses : List Access → List (List ℕ)
+rows_of_accesses accesses = rows_behind None accesses

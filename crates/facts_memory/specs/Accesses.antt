@@ -15,8 +15,8 @@ access_of row = record {
 }
 
 -- Accesses stand by context, then by address, then by clock, where each is below 2^32.
-abbrev pub key_of : Access → ℕ
-key_of a = (a.ctx * 2 ^ 32 + a.addr) * 2 ^ 32 + a.clk
+abbrev pub access_key : Access → ℕ
+access_key a = (a.ctx * 2 ^ 32 + a.addr) * 2 ^ 32 + a.clk
 
 -- an access of this address in this context
 abbrev pub is_at : Access → ℕ → ℕ → Bool

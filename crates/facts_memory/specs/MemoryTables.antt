@@ -12,7 +12,7 @@ use Rattle.air_kit.specs.MemoryValues.{memory_values}
 use Rattle.air_kit.specs.Traces.{spot_of}
 use Rattle.air_kit.specs.ChipTuples.{chip_given}
 use Rattle.air_kit.specs.Requests.{FitsMemory, IsWordBefore, access_given}
-use Rattle.facts_memory.specs.Accesses.{Keeps, access_of, key_of, word_behind}
+use Rattle.facts_memory.specs.Accesses.{Keeps, access_of, access_key, word_behind}
 
 -- each entry is 0 in each row
 pub record MemoryIsZero (rows : List (List ℕ)) : Type 0 where
@@ -46,7 +46,7 @@ access_before rows (suc i) = Some (access_at rows i)
 pub record AreOrdered (rows : List (List ℕ)) : Type 0 where
   pub kinds : (i : ℕ) → i < length rows → (access_at rows i).kind ≤ 2
   pub addresses : (i : ℕ) → i < length rows → (access_at rows i).addr < 2 ^ 32
-  pub grows : (i : ℕ) → suc i < length rows → key_of (access_at rows i) < key_of (access_at rows (suc i))
+  pub grows : (i : ℕ) → suc i < length rows → access_key (access_at rows i) < access_key (access_at rows (suc i))
   pub keeps : (i : ℕ) → i < length rows → Keeps (access_at rows i) (word_behind (access_before rows i) (access_at rows i))
 
 -- Each row shows the word before it, that of the last earlier row of its context and address, or zeros, changed by its own write alone.

@@ -2,8 +2,8 @@ ghost use Rattle.std.specs.Prelude.{◌≡◌, ℕ, List, Option};
 ghost use Rattle.std.specs.List.Sorted.{IsNonDecreasingBy, IsPermutation};
 ghost use Rattle.vm_table.specs.Layout.{IsTable};
 ghost use Rattle.air_kit.specs.declared.requests.Access.{Access};
-ghost use Rattle.facts_memory.specs.Accesses.{key_of};
-ghost use Rattle.facts_memory.specs.AccessRows.{rows_of};
+ghost use Rattle.facts_memory.specs.Accesses.{access_key};
+ghost use Rattle.facts_memory.specs.AccessRows.{rows_of_accesses};
 ghost use Rattle.facts_memory.specs.MainAccesses.{GivesMain, IsClocked, PairsMain, ServesMain};
 ghost use Rattle.facts_memory.specs.MemoryTables.{AreOrdered, AreSmall, AccessesFit, HaveLimbs, MemoryIsZero, ShowLatest, ShowsAccesses};
 ghost use Rattle.facts_memory.specs.Serving.{AreAsks, ArePaired, AreServed, GivesAsks};
@@ -28,5 +28,5 @@ pub fn table_laws()
     ensures pairs_main { (main rows : List (List ℕ)) → IsClocked main → MemoryIsZero rows → HaveLimbs rows → GivesMain main rows
         → PairsMain main rows }
     ensures rows_show { (accesses sorted : List Access) → AccessesFit accesses → IsPermutation accesses sorted
-        → IsNonDecreasingBy key_of sorted → ShowsAccesses accesses (rows_of sorted) }
+        → IsNonDecreasingBy access_key sorted → ShowsAccesses accesses (rows_of_accesses sorted) }
 {}

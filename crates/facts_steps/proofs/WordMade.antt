@@ -6,7 +6,7 @@ use Rattle.vm_ops.specs.Moves.{leaves_of}
 use Rattle.vm_ops.specs.declared.op.Op.{Op}
 use Rattle.vm_ops.specs.declared.op.Op.TheVariants as ops
 use Rattle.vm_table.specs.MainColumns.{s, t, w}
-use Rattle.air_kit.specs.MainTuples.{limbs_of}
+use Rattle.air_kit.specs.MainTuples.{count_of_limbs}
 use Rattle.air_kit.specs.StackValues.{left_value}
 use Rattle.facts_main.specs.Limbs.{has_high_word}
 use Rattle.facts_steps.specs.Filling.{limbs_filled}
@@ -20,7 +20,7 @@ pub record Made (op : Op) (x y : List ℕ) : Type 0 where
   pub runs : Runs op x
   pub low : s x 0 < prime
   pub tops : reads_elsewhere op ≡ false → (j : ℕ) → j < leaves_of op → s y j ≡ left_value op j x
-  pub limb : (j : ℕ) → j < limbs_of op → t x j ≡ slice_index (limbs_filled op x y) j
+  pub limb : (j : ℕ) → j < count_of_limbs op → t x j ≡ slice_index (limbs_filled op x y) j
   pub not_highest : has_high_word op ≡ true → w x 0 ≡ felt_inv (felt_sub (2 ^ 32 - 1) (s y 0))
 
 -- ---- what is left, as numbers

@@ -4,7 +4,7 @@ use Rattle.vm_ops.specs.declared.op.Op.{Op}
 use Rattle.vm_ops.specs.declared.op.Op.TheVariants as ops
 use Rattle.vm_table.specs.MainColumns.{s, t}
 use Rattle.air_kit.specs.Flags.{is_op}
-use Rattle.air_kit.specs.MainTuples.{limbs_of}
+use Rattle.air_kit.specs.MainTuples.{count_of_limbs}
 use Rattle.air_kit.specs.U32Values.{limbs}
 use Rattle.facts_main.proofs.Says.{off}
 use Rattle.facts_main.specs.Limbs.{IsLimbRow, has_second, has_third}
@@ -12,14 +12,14 @@ use Rattle.facts_steps.specs.Lookups.{LooksUpLimbs}
 use Rattle.facts_steps.proofs.Numbers.{limbs_below}
 use Rattle.facts_steps.proofs.Products.{divisor_is}
 
-pub limb_word : (op : Op) (x : List ℕ) (j : ℕ) → LooksUpLimbs op x → j + 1 < limbs_of op → limbs j x < 2 ^ 32
+pub limb_word : (op : Op) (x : List ℕ) (j : ℕ) → LooksUpLimbs op x → j + 1 < count_of_limbs op → limbs j x < 2 ^ 32
 unfolding limbs
 limb_word op x j has few = limbs_below (t x j) (t x (j + 1)) (has j (omega (arith, few))) (has (j + 1) few)
 
 pub below_by : (a b n : ℕ) → a ≡ b → b < n → a < n
 below_by a b n e h = omega (arith, e, h)
 
-four_limbs : (op : Op) → has_second op ≡ true → 4 ≤ limbs_of op
+four_limbs : (op : Op) → has_second op ≡ true → 4 ≤ count_of_limbs op
 four_limbs ops.U32Add is = lit≤ tt
 four_limbs ops.U32Sub is = lit≤ tt
 four_limbs ops.U32Mul is = lit≤ tt
@@ -30,7 +30,7 @@ four_limbs ops.U32MAdd is = lit≤ tt
 four_limbs ops.Noop is = off is
 four_limbs op is = off is
 
-six_limbs : (op : Op) → has_third op ≡ true → 6 ≤ limbs_of op
+six_limbs : (op : Op) → has_third op ≡ true → 6 ≤ count_of_limbs op
 six_limbs ops.U32Add3 is = lit≤ tt
 six_limbs ops.U32MAdd is = lit≤ tt
 six_limbs ops.Noop is = off is

@@ -5,7 +5,7 @@ use Rattle.vm_ops.specs.declared.op.Op.{Op}
 use Rattle.vm_ops.specs.declared.op.Op.TheVariants as ops
 use Rattle.vm_table.specs.MainColumns.{s, t, w}
 use Rattle.air_kit.specs.Flags.{is_op}
-use Rattle.air_kit.specs.MainTuples.{limbs_of}
+use Rattle.air_kit.specs.MainTuples.{count_of_limbs}
 use Rattle.air_kit.specs.U32Values.{limbs, two_left}
 use Rattle.facts_main.proofs.Says.{off}
 use Rattle.facts_main.specs.Limbs.{IsLimbRow, MovesLimbs, Splits, Adds, AddsThree, Subtracts, Multiplies, MultipliesAndAdds, Divides, has_second, has_third, has_high_word}
@@ -14,7 +14,7 @@ use Rattle.facts_steps.proofs.Numbers.{words_make, word_low, word_high, one_way,
 use Rattle.facts_steps.proofs.Products.{product_make, product_sum_make, divided_make, divisor_make}
 use Rattle.facts_steps.proofs.WordMade.{Made, split_is, add_is, add_three_is, mul_is, mul_add_is, sub_is, div_is, mul_below, mul_add_below, rest_below, quotient_below, below_divisor, remainder_below, distance_below}
 
-at_limbs : (op : Op) (x y : List ℕ) (j n : ℕ) → Made op x y → j + 1 < limbs_of op → n < 2 ^ 32
+at_limbs : (op : Op) (x y : List ℕ) (j n : ℕ) → Made op x y → j + 1 < count_of_limbs op → n < 2 ^ 32
     → slice_index (limbs_filled op x y) j ≡ n % 2 ^ 16 → slice_index (limbs_filled op x y) (j + 1) ≡ n / 2 ^ 16 → n ≡ limbs j x
 unfolding limbs
 at_limbs op x y j n m few low first second =

@@ -9,7 +9,7 @@ use Rattle.vm_ops.specs.declared.op.Op.{Op}
 use Rattle.vm_ops.specs.declared.op.Op.TheVariants as ops
 use Rattle.vm_table.specs.MainColumns.{clk, fmp, ctx, sys, addr, s, depth, key, inv, lv, w, t}
 use Rattle.air_kit.specs.Flags.{is_op, is_left, is_right}
-use Rattle.air_kit.specs.MainTuples.{limbs_of}
+use Rattle.air_kit.specs.MainTuples.{count_of_limbs}
 use Rattle.air_kit.specs.RowStates.{Elsewhere}
 use Rattle.air_kit.specs.StackValues.{cells, function_digest}
 use Rattle.facts_main.specs.Blocks.{IsBlockRow, KeepsBlock}
@@ -57,7 +57,7 @@ pub record FilledBy (op : Op) (x y : List ℕ) (e : Elsewhere) : Type 0 where
   pub not_zero : is_op op ops.Eqz ≡ true → w x 0 ≡ felt_inv (s x 0)
   pub not_same : is_op op ops.Eq ≡ true → w x 0 ≡ felt_inv (s x 0 ⊟ s x 1)
   pub not_highest : has_high_word op ≡ true → w x 0 ≡ felt_inv (2 ^ 32 - 1 ⊟ s y 0)
-  pub limb : (j : ℕ) → j < limbs_of op → t x j ≡ slice_index (limbs_filled op x y) j
+  pub limb : (j : ℕ) → j < count_of_limbs op → t x j ≡ slice_index (limbs_filled op x y) j
   pub word : is_op op ops.MLoad || is_op op ops.MStore ≡ true → drop 1 (word_before x e) ≡ t x 0 ∷ t x 1 ∷ t x 2 ∷ []
   pub key_right : is_right op ≡ true → key y ≡ clk x
   pub key_flat : is_left op ≡ true → depth x ≡ 16 → key y ≡ key x

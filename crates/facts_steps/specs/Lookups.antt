@@ -7,12 +7,12 @@ use Rattle.vm_ops.specs.declared.op.Op.{Op}
 use Rattle.vm_ops.specs.declared.op.Op.TheVariants as ops
 use Rattle.vm_table.specs.MainColumns.{ctx, s, t}
 use Rattle.air_kit.specs.Flags.{is_op}
-use Rattle.air_kit.specs.MainTuples.{limbs_of, twelve}
+use Rattle.air_kit.specs.MainTuples.{count_of_limbs, twelve}
 use Rattle.air_kit.specs.RowStates.{Elsewhere}
 
 -- the range bus: limbs have 16 bits
 abbrev pub LooksUpLimbs : Op → List ℕ → Type 0
-LooksUpLimbs op x = (j : ℕ) → j < limbs_of op → t x j < 2 ^ 16
+LooksUpLimbs op x = (j : ℕ) → j < count_of_limbs op → t x j < 2 ^ 16
 
 -- the bitwise bus: the operands have 32 bits, and the result is that of their bits
 abbrev pub is_bitwise : Op → Bool

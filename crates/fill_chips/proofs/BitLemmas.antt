@@ -3,7 +3,7 @@ use Rattle.std.proofs.Common.{◌≡◌, ℕ, zero, suc, ◌*◌, ◌-◌, ◌/�
 use Rattle.std.proofs.Math.Nat.{div-one}
 use Rattle.vm_ops.specs.Values.{bit_of}
 use Rattle.air_kit.specs.declared.requests.BitOp.{BitOp}
-use Rattle.facts_bitwise.specs.BitRows.{bit_row, bitwise, row_without, rows_before, rows_of}
+use Rattle.facts_bitwise.specs.BitRows.{bit_row, bitwise, row_without, rows_before, rows_of_bits}
 
 -- a row by its cells
 pub row-is : (xor : Bool) (u v : ℕ) (c0 c1 c2 c3 c4 c5 c6 c7 c8 c9 c10 c11 : ℕ) → c0 ≡ bit_of xor → c1 ≡ u → c2 ≡ v → c3 ≡ u % 2 → c4 ≡ u / 2 % 2
@@ -22,13 +22,13 @@ unfolding rows_before
 before-append p rows more = refl
 
 -- one more operation
-pub rows-push : (ops : List BitOp) (p : BitOp) → rows_of (ops ++ p ∷ []) ≡ rows_of ops ++ rows_before p []
-unfolding rows_of
+pub rows-push : (ops : List BitOp) (p : BitOp) → rows_of_bits (ops ++ p ∷ []) ≡ rows_of_bits ops ++ rows_before p []
+unfolding rows_of_bits
 rows-push [] p = refl
-rows-push (q ∷ ops) p = ap (rows_before q) (rows-push ops p) ∙ before-append q (rows_of ops) (rows_before p [])
+rows-push (q ∷ ops) p = ap (rows_before q) (rows-push ops p) ∙ before-append q (rows_of_bits ops) (rows_before p [])
 
-pub rows-none : rows_of [] ≡ []
-unfolding rows_of
+pub rows-none : rows_of_bits [] ≡ []
+unfolding rows_of_bits
 rows-none = refl
 
 -- the first rows of an operation

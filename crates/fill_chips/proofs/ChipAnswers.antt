@@ -4,8 +4,8 @@ use Rattle.std.proofs.lemmas.List.{length-map}
 use Rattle.std.proofs.lemmas.List.Elements.{All-append}
 use Rattle.vm_field.specs.Limits.{number_of_constants}
 use Rattle.vm_field.specs.Machine.{IsWord}
-use Rattle.facts_hasher.specs.PermRows.{rows_of as perm_rows}
-use Rattle.facts_bitwise.specs.BitRows.{rows_of as bit_rows}
+use Rattle.facts_hasher.specs.PermRows.{rows_of_perms as perm_rows}
+use Rattle.facts_bitwise.specs.BitRows.{rows_of_bits as bit_rows}
 use Rattle.facts_bitwise.proofs.Given.{rows_give as bits_give}
 use Rattle.facts_bitwise.proofs.TableLaws.{rows_show as bits_show}
 use Rattle.buses.specs.Counts.{counted, once, over_rows}

@@ -7,21 +7,21 @@ use Rattle.buses.proofs.Counting.{counted-none, counted-append}
 use Rattle.chip_columns.specs.MemoryColumns.{d0, d1, a0, a1}
 use Rattle.air_kit.specs.ChipTuples.{memory_ranges}
 use Rattle.facts_memory.specs.MemoryTables.{HasLimbs, HaveLimbs}
-use Rattle.fill_chips.specs.MemoryLimbs.{limbs_in, limbs_of}
+use Rattle.fill_chips.specs.MemoryLimbs.{limbs_in, limbs_of_access}
 use Rattle.fill_chips.proofs.GivenLemmas.{over-cons, over-none}
 
 pub limbs-none : limbs_in [] ≡ []
 unfolding limbs_in
 limbs-none = refl
 
-limbs-cons : (row : List ℕ) (rows : List (List ℕ)) → limbs_in (row ∷ rows) ≡ limbs_of row ++ limbs_in rows
+limbs-cons : (row : List ℕ) (rows : List (List ℕ)) → limbs_in (row ∷ rows) ≡ limbs_of_access row ++ limbs_in rows
 unfolding limbs_in
 limbs-cons row rows = refl
 
-pub limbs-push : (rows : List (List ℕ)) (row : List ℕ) → limbs_in (rows ++ row ∷ []) ≡ limbs_in rows ++ limbs_of row
+pub limbs-push : (rows : List (List ℕ)) (row : List ℕ) → limbs_in (rows ++ row ∷ []) ≡ limbs_in rows ++ limbs_of_access row
 unfolding limbs_in
 limbs-push [] row = refl
-limbs-push (x ∷ rows) row = ap (λ limbs. limbs_of x ++ limbs) (limbs-push rows row) ∙ sym (append_assoc (limbs_of x) (limbs_in rows) (limbs_of row))
+limbs-push (x ∷ rows) row = ap (λ limbs. limbs_of_access x ++ limbs) (limbs-push rows row) ∙ sym (append_assoc (limbs_of_access x) (limbs_in rows) (limbs_of_access row))
 
 pub limbs-count : (rows : List (List ℕ)) → length (limbs_in rows) ≡ 4 * length rows
 unfolding limbs_in
@@ -39,7 +39,7 @@ limbs-small (row ∷ rows) have =
     (All-cons (λ v. v < 65536) (a0 row) (a1 row ∷ limbs_in rows) here.a0_small
     (All-cons (λ v. v < 65536) (a1 row) (limbs_in rows) here.a1_small later)))
 
-row-asks : (row : List ℕ) (u : List ℕ) → counted (map (λ v. once (v ∷ [])) (limbs_of row)) u ≡ counted (memory_ranges row) u
+row-asks : (row : List ℕ) (u : List ℕ) → counted (map (λ v. once (v ∷ [])) (limbs_of_access row)) u ≡ counted (memory_ranges row) u
 unfolding memory_ranges
 row-asks row u = refl
 
@@ -57,6 +57,6 @@ limbs-asked [] u =
     ∙ sym (over-none (λ i x next. memory_ranges x) u)
 limbs-asked (row ∷ rows) u =
     ap (λ limbs. counted (map (λ (v : ℕ). once (v ∷ [])) limbs) u) (limbs-cons row rows)
-    ∙ asked-both (limbs_of row) (limbs_in rows) u
+    ∙ asked-both (limbs_of_access row) (limbs_in rows) u
     ∙ ap₂ (λ m n. m + n) (row-asks row u) (limbs-asked rows u)
     ∙ sym (over-cons memory_ranges row rows u)

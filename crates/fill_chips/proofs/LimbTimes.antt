@@ -4,7 +4,7 @@ use Rattle.std.proofs.lemmas.Bool.{cases_lt}
 use Rattle.std.proofs.lemmas.List.{append-nil, get_or_past, take_more}
 use Rattle.std.proofs.lemmas.List.Sums.{count_by-le-length, sum_by-append}
 use Rattle.vm_table.specs.Layout.{row_at}
-use Rattle.fill_chips.specs.MemoryLimbs.{limbs_in, limbs_of}
+use Rattle.fill_chips.specs.MemoryLimbs.{limbs_in, limbs_of_access}
 use Rattle.fill_chips.specs.RangeRows.{AreTimes, times_asked}
 use Rattle.fill_chips.proofs.LimbLemmas.{limbs-count, limbs-none, limbs-push}
 
@@ -25,7 +25,7 @@ times-begun asked zeros times size none counts = record {
 }
 
 -- one more row
-pub times-row : (asked times new limbs : List ℕ) (rows : List (List ℕ)) (i : ℕ) → i < length rows → limbs ≡ limbs_of (row_at rows i)
+pub times-row : (asked times new limbs : List ℕ) (rows : List (List ℕ)) (i : ℕ) → i < length rows → limbs ≡ limbs_of_access (row_at rows i)
     → AreTimes (asked ++ limbs_in (take i rows)) times → length new ≡ 65536
     → ((v : ℕ) → slice_index new v ≡ slice_index times v + times_asked limbs v) → AreTimes (asked ++ limbs_in (take (i + 1) rows)) new
 times-row asked times new limbs rows i within is are size counts = record {
@@ -33,12 +33,12 @@ times-row asked times new limbs rows i within is are size counts = record {
   counts = λ v h.
       counts v
       ∙ ap₂ (λ m n. m + n) (are.counts v h) (ap (λ values. times_asked values v) is)
-      ∙ sym (times-both (asked ++ limbs_in (take i rows)) (limbs_of (row_at rows i)) v)
+      ∙ sym (times-both (asked ++ limbs_in (take i rows)) (limbs_of_access (row_at rows i)) v)
       ∙ ap (λ values. times_asked values v)
-      (append_assoc asked (limbs_in (take i rows)) (limbs_of (row_at rows i)) ∙ ap (λ more. asked ++ more) (sym next));
+      (append_assoc asked (limbs_in (take i rows)) (limbs_of_access (row_at rows i)) ∙ ap (λ more. asked ++ more) (sym next));
 }
   where
-    next : limbs_in (take (i + 1) rows) ≡ limbs_in (take i rows) ++ limbs_of (row_at rows i)
+    next : limbs_in (take (i + 1) rows) ≡ limbs_in (take i rows) ++ limbs_of_access (row_at rows i)
     next = ap limbs_in (take_more rows i [] within) ∙ limbs-push (take i rows) (row_at rows i)
 
 -- no value is counted more often than there are values
@@ -57,7 +57,7 @@ times-below asked times rows v are = elim (cases_lt v 65536) [
       omega (arith, none)
 ]
 
-pub times-room : (asked times limbs : List ℕ) (rows : List (List ℕ)) (i v : ℕ) → i < length rows → limbs ≡ limbs_of (row_at rows i)
+pub times-room : (asked times limbs : List ℕ) (rows : List (List ℕ)) (i v : ℕ) → i < length rows → limbs ≡ limbs_of_access (row_at rows i)
     → AreTimes (asked ++ limbs_in (take i rows)) times → slice_index times v + length limbs ≤ length asked + 4 * length rows
 times-room asked times limbs rows i v within is are =
     let below = times-below asked times (take i rows) v are in

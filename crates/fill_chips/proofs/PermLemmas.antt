@@ -3,7 +3,7 @@ use Rattle.std.proofs.Common.{◌≡◌, ℕ, zero, suc, Bool, false, List, [], 
 use Rattle.vm_ops.specs.Values.{bit_of}
 use Rattle.vm_field.specs.Permutation.{rounds}
 use Rattle.air_kit.specs.declared.requests.Perm.{Perm}
-use Rattle.facts_hasher.specs.PermRows.{perm_row, rows_before, rows_of}
+use Rattle.facts_hasher.specs.PermRows.{perm_row, rows_before, rows_of_perms}
 
 before-append : (constants : List ℕ) (p : Perm) (rows more : List (List ℕ))
     → rows_before constants p (rows ++ more) ≡ rows_before constants p rows ++ more
@@ -12,14 +12,14 @@ before-append constants p rows more = refl
 
 -- one more permutation
 pub rows-push : (constants : List ℕ) (perms : List Perm) (p : Perm)
-    → rows_of constants (perms ++ p ∷ []) ≡ rows_of constants perms ++ rows_before constants p []
-unfolding rows_of
+    → rows_of_perms constants (perms ++ p ∷ []) ≡ rows_of_perms constants perms ++ rows_before constants p []
+unfolding rows_of_perms
 rows-push constants [] p = refl
 rows-push constants (q ∷ perms) p =
-    ap (rows_before constants q) (rows-push constants perms p) ∙ before-append constants q (rows_of constants perms) (rows_before constants p [])
+    ap (rows_before constants q) (rows-push constants perms p) ∙ before-append constants q (rows_of_perms constants perms) (rows_before constants p [])
 
-pub rows-none : (constants : List ℕ) → rows_of constants [] ≡ []
-unfolding rows_of
+pub rows-none : (constants : List ℕ) → rows_of_perms constants [] ≡ []
+unfolding rows_of_perms
 rows-none constants = refl
 
 -- the first rows of a permutation

@@ -1,5 +1,5 @@
 ghost use Rattle.std.specs.Prelude.{◌≡◌, ◌*◌, ◌^◌, ◌<◌, ◌≤◌, [], ◌++◌, length, IfOk, OnOk};
-ghost use Rattle.facts_bitwise.specs.BitRows.{bit_row, bitwise, row_without, rows_before, rows_of};
+ghost use Rattle.facts_bitwise.specs.BitRows.{bit_row, bitwise, row_without, rows_before, rows_of_bits};
 ghost use Rattle.facts_bitwise.specs.BitTables.{HaveWords, HasWords};
 
 use crate::hasher::bit_of;
@@ -11,7 +11,7 @@ use vm_table::Table;
 /// Eight rows for each operation: its operands without their lowest 28 bits, then without 24, and so on.
 pub(crate) fn bitwise_table(alloc: Global, ops: &[BitOp]) -> Result<Table<12>, Memory>
     requires room { 8 * length ops.now ≤ 2 ^ 22 }
-    ensures rows { IfOk result (λ table. table ≡ rows_of ops.now) }
+    ensures rows { IfOk result (λ table. table ≡ rows_of_bits ops.now) }
     ensures words { IfOk result (λ table. HaveWords ops.now) }
 {
     let mut table = Table::new(alloc);

@@ -2,7 +2,7 @@ ghost use Rattle.std.specs.Prelude.{◌≡◌, ◌*◌, ◌^◌, ◌≤◌, [], 
 ghost use Rattle.vm_field.specs.Limits.{number_of_constants};
 ghost use Rattle.rpo_hash.specs.States.{IsState};
 ghost use Rattle.vm_ops.specs.Values.{bit_of};
-ghost use Rattle.facts_hasher.specs.PermRows.{rows_before, rows_of};
+ghost use Rattle.facts_hasher.specs.PermRows.{rows_before, rows_of_perms};
 
 use air_kit::Perm;
 use perm_memo::Permutations;
@@ -18,7 +18,7 @@ pub(crate) fn hasher_table(
     perms: &[Perm],
 ) -> Result<Table<15>, Memory>
     requires room { 8 * length perms.now ≤ 2 ^ 22 }
-    ensures rows { IfOk result (λ table. table ≡ rows_of permutations.old perms.now) }
+    ensures rows { IfOk result (λ table. table ≡ rows_of_perms permutations.old perms.now) }
     ensures states { IfOk result (λ table. All (λ p. IsState p.start) perms.now) }
     ensures constants { length permutations.old ≡ number_of_constants }
     ensures same { permutations.new ≡ permutations.old }

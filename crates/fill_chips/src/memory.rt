@@ -1,11 +1,11 @@
 ghost use Rattle.std.specs.Prelude.{◌≡◌, ◌+◌, ◌*◌, ◌-◌, ◌^◌, ◌<◌, length, All, IfOk};
 ghost use Rattle.vm_ops.specs.Values.{bit_of};
 ghost use Rattle.std.specs.List.Sorted.{IsNonDecreasingBy, IsPermutation};
-ghost use Rattle.facts_memory.specs.Accesses.{key_of};
-ghost use Rattle.facts_memory.specs.AccessRows.{new_address, new_context, row_behind, rows_of, step_behind};
+ghost use Rattle.facts_memory.specs.Accesses.{access_key};
+ghost use Rattle.facts_memory.specs.AccessRows.{new_address, new_context, row_behind, rows_of_accesses, step_behind};
 ghost use Rattle.vm_table.specs.Layout.{row_at};
 ghost use Rattle.facts_memory.specs.MemoryTables.{HasLimbs, IsSmallAccess};
-ghost use Rattle.fill_chips.specs.MemoryLimbs.{AreRowsOf, HasNoFirstStep, limbs_of};
+ghost use Rattle.fill_chips.specs.MemoryLimbs.{AreRowsOf, HasNoFirstStep, limbs_of_access};
 
 use crate::hasher::bit_of;
 use air_kit::Access;
@@ -35,7 +35,7 @@ pub(crate) fn memory_table(alloc: Global, accesses: &[Access]) -> Result<Table<1
 // A copy of accesses, in the order of their rows.
 fn sorted(alloc: Global, accesses: &[Access]) -> Result<Vec<Access>, Memory>
     ensures same { IfOk result (λ sorted. IsPermutation accesses.now sorted.items) }
-    ensures in_order { IfOk result (λ sorted. IsNonDecreasingBy key_of sorted.items) }
+    ensures in_order { IfOk result (λ sorted. IsNonDecreasingBy access_key sorted.items) }
 {
     let mut sorted = Vec::from_slice(alloc, accesses)?;
     sorted.sort_unstable_by_key(|access| key_of(access.ctx, access.addr, access.clk));
@@ -51,7 +51,7 @@ fn key_of(ctx: u32, addr: u32, clk: u32) -> u128
 
 // The rows of accesses that stand in order.
 fn table_of(alloc: Global, sorted: &[Access]) -> Result<Table<14>, Memory>
-    ensures rows { IfOk result (λ table. table ≡ rows_of sorted.now) }
+    ensures rows { IfOk result (λ table. table ≡ rows_of_accesses sorted.now) }
     ensures first { IfOk result HasNoFirstStep }
     ensures small { IfOk result (λ table. All IsSmallAccess sorted.now) }
 {
@@ -124,7 +124,7 @@ fn step_behind(before: &Option<Access>, access: Access) -> Step
 pub(crate) fn limbs_of(memory: &Table<14>, i: usize) -> [u16; 4]
     requires within { i < length memory.now }
     requires limbs { HasLimbs (row_at memory.now i) }
-    ensures { result ≡ limbs_of (row_at memory.now i) }
+    ensures { result ≡ limbs_of_access (row_at memory.now i) }
 {
     let row = memory.row(i);
     [

@@ -23,7 +23,7 @@ use Rattle.processor.specs.declared.run.Run.{Run}
 use Rattle.air_kit.specs.Requests.{Fits}
 use Rattle.air_kit.specs.declared.requests.Requests.{Requests}
 use Rattle.complete_rows.specs.BlockRows.{IsWholeRun, events_of, filled}
-use Rattle.complete_rows.specs.Filling.{rows_of}
+use Rattle.complete_rows.specs.Filling.{rows_of_run}
 use Rattle.complete_rows.specs.Numbers.{HasSmallNumbers}
 use Rattle.complete_rows.specs.RunRequests.{requests_of}
 use Rattle.complete_rows.proofs.MomentLemmas.{steps_within}
@@ -58,7 +58,7 @@ module _ (constants : List ℕ) (kernel : List (List ℕ)) (limit : ℕ) (tree :
       let shallow = steps-shallow constants kernel limit r.constants_are 0 16 steps (omega (arith, full), (r.whole, tt), formed) in
       let deep = shallow.1 in omega (arith, deep, clock_at_end, log_within)
 
-  rows_within : length (rows_of (visible_of u.core) (events_of constants kernel log)) ≤ 2 ^ 19
+  rows_within : length (rows_of_run (visible_of u.core) (events_of constants kernel log)) ≤ 2 ^ 19
   rows_within = omega (arith, rows_counted constants kernel u log, log_within)
 
   small_numbers : HasSmallNumbers (visible_of u.core) (events_of constants kernel log)
@@ -112,14 +112,14 @@ module _ (params : Params) (program : Program) (answer : Run) (size : length (co
       let rows = rows_within constants program.kernel was.limit (tree_of program.tree) was.inputs.stack was.inputs.advice u was.ran.log is_run in
       omega (arith, few, rows))
 
-  pub has_rows : 1 ≤ length (rows_of (visible_of (core_of answer.state)) answer.events)
+  pub has_rows : 1 ≤ length (rows_of_run (visible_of (core_of answer.state)) answer.events)
   has_rows =
-      subst (λ events. 1 ≤ length (rows_of (visible_of (core_of answer.state)) events)) (sym was.ran.events)
+      subst (λ events. 1 ≤ length (rows_of_run (visible_of (core_of answer.state)) events)) (sym was.ran.events)
       (omega (arith, rows_counted constants program.kernel u was.ran.log))
 
-  pub few_rows : length (rows_of (visible_of (core_of answer.state)) answer.events) ≤ 2 ^ 19
+  pub few_rows : length (rows_of_run (visible_of (core_of answer.state)) answer.events) ≤ 2 ^ 19
   few_rows =
-      subst (λ events. length (rows_of (visible_of (core_of answer.state)) events) ≤ 2 ^ 19) (sym was.ran.events)
+      subst (λ events. length (rows_of_run (visible_of (core_of answer.state)) events) ≤ 2 ^ 19) (sym was.ran.events)
       (rows_within constants program.kernel was.limit (tree_of program.tree) was.inputs.stack was.inputs.advice u was.ran.log is_run)
 
   pub deep : length answer.state.stack ≤ most_outputs

@@ -8,7 +8,7 @@ use Rattle.block_tree.specs.Execution as run
 use Rattle.block_tree.specs.Trees.{Tree, tree_digest}
 use Rattle.block_tree.specs.declared.program.Program.{Program}
 use Rattle.processor.specs.declared.run.Run.{Run}
-use Rattle.statement.specs.Statements.{Stated, claim_of, statement_of, statement_text}
+use Rattle.statement.specs.Statements.{Stated, stated_of, statement_of, statement_text}
 use Rattle.table_file.specs.Files.{bytes_of, trace_of}
 use Rattle.air_kit.specs.Acceptance.{IsAccepted}
 use Rattle.air_kit.specs.declared.requests.Requests.{Requests}
@@ -67,5 +67,5 @@ IsFileOfRun params program answer bytes =
 abbrev pub FilesAreAccepted : Type 0
 FilesAreAccepted = (constants : List ℕ) (kernel : List (List ℕ)) (limit : ℕ) (tree : Tree) (inputs tape : List ℕ) (u : State) (log : List run.Event)
     → IsWholeRun constants kernel limit tree inputs tape u log
-    → (p : Public) → constants_of p.params ≡ constants → claim_of p.statement ≡ claim_of_run constants tree kernel inputs u.core.stack
+    → (p : Public) → constants_of p.params ≡ constants → stated_of p.statement ≡ claim_of_run constants tree kernel inputs u.core.stack
     → (bytes : List ℕ) → (file : IsTableFileOf constants kernel u log bytes) → IsAccepted p file.trace

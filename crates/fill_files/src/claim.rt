@@ -1,6 +1,6 @@
 ghost use Rattle.std.specs.Prelude.{◌≡◌, ◌≤◌, length, IfOk};
 ghost use Rattle.vm_field.specs.Limits.{most_outputs};
-ghost use Rattle.statement.specs.Statements.{claim_of};
+ghost use Rattle.statement.specs.Statements.{stated_of};
 ghost use Rattle.fill_files.specs.RunFiles.{IsStatementFileOf, claim_with};
 
 use crate::tracing::RunEnd;
@@ -37,7 +37,7 @@ fn statement_of_run(
     end: &RunEnd,
 ) -> Result<Statement, Memory>
     requires { length end.now.state.stack ≤ most_outputs }
-    ensures { IfOk result (λ s. claim_of s ≡ claim_with end.now.digest program.kernel inputs.stack end.now.state.stack) }
+    ensures { IfOk result (λ s. stated_of s ≡ claim_with end.now.digest program.kernel inputs.stack end.now.state.stack) }
 {
     let outputs = cells_of(alloc, &end.state)?;
     Ok(Statement::new(end.digest, program.kernel, inputs.stack, outputs))
@@ -46,7 +46,7 @@ fn statement_of_run(
 // The file of a statement.
 #[tactic(auto, using(crate::proofs::TextLemmas::short_text))]
 fn written(alloc: Global, statement: &Statement) -> Result<Bytes, Memory>
-    ensures { IfOk result (IsStatementFileOf (claim_of statement.now)) }
+    ensures { IfOk result (IsStatementFileOf (stated_of statement.now)) }
 {
     write_statement(alloc, statement)
 }

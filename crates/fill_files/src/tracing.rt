@@ -9,7 +9,7 @@ ghost use Rattle.block_tree.specs.TreeView.{tree_of};
 ghost use Rattle.vm_state.specs.Views.{core_of};
 ghost use Rattle.machine_cycles.specs.Events.{visible_of};
 ghost use Rattle.processor.specs.Executed.{WasExecuted};
-ghost use Rattle.complete_rows.specs.Filling.{rows_of};
+ghost use Rattle.complete_rows.specs.Filling.{rows_of_run};
 ghost use Rattle.complete_rows.specs.Numbers.{HasSmallNumbers};
 ghost use Rattle.complete_rows.specs.RunRequests.{requests_of};
 ghost use Rattle.fill_chips.specs.Beside.{beside};
@@ -71,7 +71,7 @@ pub(crate) fn tables_of_run(
 // Fills the main table. The events of the run are given up.
 fn fill_run(alloc: Global, run: Run) -> Result<Filled, Memory>
     requires { HasSmallNumbers (visible_of (core_of run.state)) run.events }
-    ensures rows { IfOk result (λ f. f.main ≡ rows_of (visible_of (core_of run.state)) run.events) }
+    ensures rows { IfOk result (λ f. f.main ≡ rows_of_run (visible_of (core_of run.state)) run.events) }
     ensures requests { IfOk result (λ f. f.requests ≡ requests_of run.permutations (visible_of (core_of run.state)) run.events) }
     ensures permutations { IfOk result (λ f. f.permutations ≡ run.permutations) }
     ensures state { IfOk result (λ f. f.end.state ≡ run.state) }
@@ -101,8 +101,8 @@ fn known_run(params: &Params, _program: &Program, _run: &Run)
         (requests_of (constants_of params.now) (visible_of (core_of _run.now.state)) _run.now.events) }
     ensures numbers { HasSmallNumbers (visible_of (core_of _run.now.state)) _run.now.events }
     ensures asked { HasFew (requests_of (constants_of params.now) (visible_of (core_of _run.now.state)) _run.now.events) }
-    ensures has { 1 ≤ length (rows_of (visible_of (core_of _run.now.state)) _run.now.events) }
-    ensures few { length (rows_of (visible_of (core_of _run.now.state)) _run.now.events) ≤ 2 ^ 19 }
+    ensures has { 1 ≤ length (rows_of_run (visible_of (core_of _run.now.state)) _run.now.events) }
+    ensures few { length (rows_of_run (visible_of (core_of _run.now.state)) _run.now.events) ≤ 2 ^ 19 }
     ensures depth { length _run.now.state.stack ≤ most_outputs }
     ensures digest { _run.now.digest ≡ tree_digest (constants_of params.now) (tree_of _program.now.tree) }
     ensures permutations { _run.now.permutations ≡ constants_of params.now }

@@ -1,5 +1,5 @@
 ghost use Rattle.std.specs.Prelude.{◌≡◌, ◌≤◌, ℕ, drop, length, IfOk};
-ghost use Rattle.complete_rows.specs.Filling.{halted, rows_of};
+ghost use Rattle.complete_rows.specs.Filling.{halted, rows_of_run};
 ghost use Rattle.vm_ops.specs.declared.kind.Kind.TheVariants as kinds;
 ghost use Rattle.complete_rows.specs.Numbers.{HasSmallNumbers};
 ghost use Rattle.complete_rows.specs.RunRequests.{requests_of};
@@ -27,7 +27,7 @@ pub(crate) fn fill(
     events: &Events,
 ) -> Result<(Table<65>, Requests), Memory>
     requires { HasSmallNumbers last.now events.now }
-    ensures rows { IfOk result (λ r. r.0 ≡ rows_of last.now events.now) }
+    ensures rows { IfOk result (λ r. r.0 ≡ rows_of_run last.now events.now) }
     ensures requests { IfOk result (λ r. r.1 ≡ requests_of permutations.old last.now events.now) }
     ensures same { permutations.new ≡ permutations.old }
 {

@@ -1,7 +1,7 @@
 ghost use Rattle.std.specs.Prelude.{◌≡◌, IfOk};
 ghost use Rattle.vm_state.specs.Views.{core_of};
 ghost use Rattle.machine_cycles.specs.Events.{visible_of};
-ghost use Rattle.complete_rows.specs.Filling.{rows_of};
+ghost use Rattle.complete_rows.specs.Filling.{rows_of_run};
 ghost use Rattle.complete_rows.specs.Numbers.{HasSmallNumbers};
 ghost use Rattle.complete_rows.specs.RunRequests.{requests_of};
 
@@ -28,7 +28,7 @@ pub fn fill_main(
     events: &Events,
 ) -> Result<(Table<65>, Requests), Memory>
     requires { HasSmallNumbers (visible_of (core_of state.now)) events.now }
-    ensures rows { IfOk result (λ r. r.0 ≡ rows_of (visible_of (core_of state.now)) events.now) }
+    ensures rows { IfOk result (λ r. r.0 ≡ rows_of_run (visible_of (core_of state.now)) events.now) }
     ensures requests { IfOk result (λ r. r.1 ≡ requests_of permutations.old (visible_of (core_of state.now)) events.now) }
     ensures same { permutations.new ≡ permutations.old }
 {

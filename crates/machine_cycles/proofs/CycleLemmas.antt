@@ -15,7 +15,7 @@ use Rattle.op_steps.specs.declared.refusal.StepStop.TheVariants as step_stop
 use Rattle.vm_state.specs.Views.{core_of, state_of}
 use Rattle.vm_state.specs.declared.state.State.{State}
 use Rattle.machine_cycles.specs.Effects.{Effected}
-use Rattle.block_tree.specs.Rows.{hash_of, op_of}
+use Rattle.block_tree.specs.Rows.{hash_of, op_of_mark}
 use Rattle.machine_cycles.specs.Events.{shown_between, visible_of}
 use Rattle.machine_cycles.specs.Marks.{mark_of}
 use Rattle.machine_cycles.specs.Running.{Ran, RanAs, shown_in}
@@ -76,7 +76,7 @@ no_advice _ = refl
 -- what the log shows of such a cycle
 abbrev pub row : Mark → Core → Core → Event
 row m before after = record {
-  op = op_of (mark_of m);
+  op = op_of_mark (mark_of m);
   before = visible_of before;
   imm = None;
   tape = zero_word;
@@ -117,7 +117,7 @@ module _ (setting : Setting) (m : Mark) (before mid : State) where
       → (visible ≡ visible_of (core_of before)) × (before.clock < setting.limit)
       → Effected (effect_at [] (core_of before)) (Ok v) before mid
       → after.state ≡ record mid { clock = mid.clock + 1 }
-      → op ≡ op_of (mark_of m) → tape ≡ zero_word → word ≡ zero_word → hash ≡ hash_of (mark_of m) → result ≡ top (core_of after.state)
+      → op ≡ op_of_mark (mark_of m) → tape ≡ zero_word → word ≡ zero_word → hash ≡ hash_of (mark_of m) → result ≡ top (core_of after.state)
       → after.log ≡ log ++ (record { op = op; before = visible; imm = None; tape = tape; word = word; hash = hash; result = result }) ∷ []
       → Ran setting (cycle_in setting (mark_of m) (state_of before)) log (Ok u) after
   mark-done {log} {after} {u} op visible tape word hash result began e now is_op is_tape is_word is_hash is_result logged =

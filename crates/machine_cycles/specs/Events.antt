@@ -3,7 +3,7 @@ use Rattle.std.specs.Prelude.{ℕ, List, length, take}
 use Rattle.vm_field.specs.Machine.{Core}
 use Rattle.block_tree.specs.Cycles.{Mark, top, effect_of}
 use Rattle.block_tree.specs.Execution as run
-use Rattle.block_tree.specs.Rows.{accessed, behind, four_of, hash_of, immediate_of, op_of}
+use Rattle.block_tree.specs.Rows.{accessed, behind, four_of, hash_of, immediate_of, op_of_mark}
 use Rattle.machine_cycles.specs.declared.event.Event.{Event}
 use Rattle.machine_cycles.specs.declared.event.Visible.{Visible}
 
@@ -22,7 +22,7 @@ visible_of c = record {
 
 abbrev pub shown_between : Mark → List ℕ → Core → Core → Event
 shown_between mark advice before after = record {
-  op = op_of mark;
+  op = op_of_mark mark;
   before = visible_of before;
   imm = immediate_of mark;
   tape = four_of advice;

@@ -1,6 +1,6 @@
 ghost use Rattle.std.specs.Prelude.{◌≡◌, ◌<◌, slice_set};
 ghost use Rattle.vm_field.specs.Machine.{zero_word};
-ghost use Rattle.block_tree.specs.Rows.{hash_of, op_of};
+ghost use Rattle.block_tree.specs.Rows.{hash_of, op_of_mark};
 ghost use Rattle.machine_cycles.specs.Marks.{mark_of};
 
 use tree_hash::{Batch, pair};
@@ -41,7 +41,7 @@ pub enum Mark {
 impl Mark {
     /// The operation of the cycle's row.
     pub fn op(&self) -> Op
-        ensures { result ≡ op_of (mark_of self.now) }
+        ensures { result ≡ op_of_mark (mark_of self.now) }
     {
         match self {
             Mark::StartOpaque | Mark::StartSpan(_) => Op::Span,

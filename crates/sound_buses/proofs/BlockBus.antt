@@ -6,7 +6,7 @@ use Rattle.vm_ops.specs.Codes.{is_start_op}
 use Rattle.vm_ops.specs.declared.op.Op.TheVariants as ops
 use Rattle.vm_table.specs.MainColumns.{addr, h, s}
 use Rattle.air_kit.specs.Flags.{is_op, op_of}
-use Rattle.air_kit.specs.MainTuples.{blocks_asked, blocks_given, frame_of, is_call_op, kind_of_end, kind_of_start, no_frame}
+use Rattle.air_kit.specs.MainTuples.{blocks_asked, blocks_given, frame_cells, is_call_op, kind_of_end, kind_of_start, no_frame}
 use Rattle.air_kit.specs.Places.{Claim}
 use Rattle.vm_table.specs.Layout.{row_at}
 use Rattle.facts_main.specs.MainRows.{ShowsRows, op_in}
@@ -17,10 +17,10 @@ use Rattle.sound_buses.proofs.Tuples.{single_self, tested_few, tested_is}
 
 -- what a start gives, and what an END asks
 abbrev pub start_tuple : List ℕ → List ℕ → List ℕ
-start_tuple x y = addr y ∷ addr x ∷ kind_of_start (op_of x) x ∷ cond (is_call_op (op_of x)) (frame_of x) no_frame
+start_tuple x y = addr y ∷ addr x ∷ kind_of_start (op_of x) x ∷ cond (is_call_op (op_of x)) (frame_cells x) no_frame
 
 abbrev pub end_tuple : List ℕ → List ℕ → List ℕ
-end_tuple x y = addr x ∷ addr y ∷ kind_of_end x ∷ cond (felt_add (h x 6) (h x 7) == 1) (frame_of y) no_frame
+end_tuple x y = addr x ∷ addr y ∷ kind_of_end x ∷ cond (felt_add (h x 6) (h x 7) == 1) (frame_cells y) no_frame
 
 block_given_is : (x y u : List ℕ) → 0 < counted (blocks_given x y) u → (is_start_op (op_of x) ≡ true) × (start_tuple x y ≡ u)
 unfolding blocks_given
@@ -49,8 +49,8 @@ abbrev SameParts : List (List ℕ) → ℕ → ℕ → Type 0
 SameParts rows e j =
     (own rows j ≡ addr (row_at rows e)) × (addr (row_at rows j) ≡ addr (row_at rows (suc e)))
     × (kind_of_start (op_in rows j) (row_at rows j) ≡ kind_of_end (row_at rows e))
-    × (cond (is_call_op (op_in rows j)) (frame_of (row_at rows j)) no_frame
-    ≡ cond (felt_add (h (row_at rows e) 6) (h (row_at rows e) 7) == 1) (frame_of (row_at rows (suc e))) no_frame)
+    × (cond (is_call_op (op_in rows j)) (frame_cells (row_at rows j)) no_frame
+    ≡ cond (felt_add (h (row_at rows e) 6) (h (row_at rows e) 7) == 1) (frame_cells (row_at rows (suc e))) no_frame)
 
 -- the start whose tuple an END asks
 record Partner (rows : List (List ℕ)) (e : ℕ) : Type 0 where
@@ -91,8 +91,8 @@ module _ (k : Claim) (rows : List (List ℕ)) (shows : ShowsRows k rows)
   same_parts e p =
       parts (own rows p.j) (addr (row_at rows p.j)) (kind_of_start (op_in rows p.j) (row_at rows p.j)) (addr (row_at rows e))
       (addr (row_at rows (suc e)))
-      (kind_of_end (row_at rows e)) (cond (is_call_op (op_in rows p.j)) (frame_of (row_at rows p.j)) no_frame)
-      (cond (felt_add (h (row_at rows e) 6) (h (row_at rows e) 7) == 1) (frame_of (row_at rows (suc e))) no_frame) p.same
+      (kind_of_end (row_at rows e)) (cond (is_call_op (op_in rows p.j)) (frame_cells (row_at rows p.j)) no_frame)
+      (cond (felt_add (h (row_at rows e) 6) (h (row_at rows e) 7) == 1) (frame_cells (row_at rows (suc e))) no_frame) p.same
 
   closes : (e : ℕ) → IsAt rows e ops.End → (p : Partner rows e) → Closes rows p.j e
   closes e at p = record {
@@ -101,7 +101,7 @@ module _ (k : Claim) (rows : List (List ℕ)) (shows : ShowsRows k rows)
     own_is = same.0;
     parent = sym same.1;
     flags = flags;
-    frame = λ is. frame_back (is_call_op (op_in rows p.j)) _ (frame_of (row_at rows p.j)) (frame_of (row_at rows (suc e))) no_frame is
+    frame = λ is. frame_back (is_call_op (op_in rows p.j)) _ (frame_cells (row_at rows p.j)) (frame_cells (row_at rows (suc e))) no_frame is
         (call_flagged (op_in rows p.j) (s (row_at rows p.j) 0) (row_at rows e) is flags) same.3;
   }
     where

@@ -9,7 +9,7 @@ use Rattle.vm_table.specs.MainColumns.{lv, t}
 use Rattle.chip_columns.specs.RangeColumns as range
 use Rattle.air_kit.specs.ChipTuples.{range_given}
 use Rattle.air_kit.specs.Flags.{op_of}
-use Rattle.air_kit.specs.MainTuples.{limbs_from, limbs_of, range_asked}
+use Rattle.air_kit.specs.MainTuples.{limbs_from, count_of_limbs, range_asked}
 use Rattle.vm_table.specs.Layout.{row_at}
 use Rattle.facts_main.specs.MainRows.{op_in}
 use Rattle.sound_buses.specs.Blocks.{Starts}
@@ -23,7 +23,7 @@ unfolding range_asked
 start_asks x y is = rw is refl
 
 -- a block's start has no limbs
-limbs_apart : (op : Op) (j : ℕ) → j < limbs_of op → is_start_op op ≡ false
+limbs_apart : (op : Op) (j : ℕ) → j < count_of_limbs op → is_start_op op ≡ false
 limbs_apart ops.U32Split j h = refl
 limbs_apart ops.U32Assert2 j h = refl
 limbs_apart ops.U32Sub j h = refl
@@ -34,7 +34,7 @@ limbs_apart ops.U32MAdd j h = refl
 limbs_apart ops.U32Div j h = refl
 limbs_apart op j h = absurd (omega (arith, h))
 
-limbs_ask : (x y : List ℕ) → is_start_op (op_of x) ≡ false → range_asked x y ≡ limbs_from x 0 (limbs_of (op_of x))
+limbs_ask : (x y : List ℕ) → is_start_op (op_of x) ≡ false → range_asked x y ≡ limbs_from x 0 (count_of_limbs (op_of x))
 unfolding range_asked
 limbs_ask x y is = rw is refl
 
@@ -76,13 +76,13 @@ module _ (rows table : List (List ℕ)) (short : (i : ℕ) → i < length table 
   asked_short i n at =
       given_short table short n (let h = rows_have range_asked rows (n ∷ []) i at in let a = alike (n ∷ []) in omega (arith, h, a))
 
-  limb : (i j : ℕ) → suc i < length rows → j < limbs_of (op_in rows i) → t (row_at rows i) j < 2 ^ 16
+  limb : (i j : ℕ) → suc i < length rows → j < count_of_limbs (op_in rows i) → t (row_at rows i) j < 2 ^ 16
   limb i j within few = asked_short i (t (row_at rows i) j) (record {
     within = within;
     positive =
         subst (λ cs. 0 < counted cs (t (row_at rows i) j ∷ []))
         (sym (limbs_ask (row_at rows i) (row_at rows (suc i)) (limbs_apart (op_in rows i) j few)))
-        (limb_in (row_at rows i) 0 (limbs_of (op_in rows i)) j (omega arith) (omega (arith, few)));
+        (limb_in (row_at rows i) 0 (count_of_limbs (op_in rows i)) j (omega arith) (omega (arith, few)));
   })
 
   nesting : (j : ℕ) → Starts rows j → felt_sub 1024 (lv (row_at rows (suc j))) < 2 ^ 16

@@ -5,7 +5,7 @@ use Rattle.vm_ops.specs.declared.op.Op.{Op}
 use Rattle.vm_ops.specs.declared.op.Op.TheVariants as ops
 use Rattle.vm_table.specs.MainColumns.{addr, h, s}
 use Rattle.air_kit.specs.Flags.{is_op}
-use Rattle.air_kit.specs.MainTuples.{frame_of, is_call_op}
+use Rattle.air_kit.specs.MainTuples.{frame_cells, is_call_op}
 use Rattle.vm_table.specs.Layout.{row_at}
 use Rattle.facts_main.specs.MainRows.{op_in}
 
@@ -38,7 +38,7 @@ pub record Closes (rows : List (List ℕ)) (j e : ℕ) : Type 0 where
   pub own_is : own rows j ≡ addr (row_at rows e)
   pub parent : addr (row_at rows (suc e)) ≡ addr (row_at rows j)
   pub flags : ShowsKind (op_in rows j) (s (row_at rows j) 0) (row_at rows e)
-  pub frame : is_call_op (op_in rows j) ≡ true → frame_of (row_at rows (suc e)) ≡ frame_of (row_at rows j)
+  pub frame : is_call_op (op_in rows j) ≡ true → frame_cells (row_at rows (suc e)) ≡ frame_cells (row_at rows j)
 
 -- Blocks have addresses of their own, and each END is that of one block, which has no other END.
 pub record BlockFacts (rows : List (List ℕ)) : Type 0 where

@@ -8,7 +8,7 @@ use Rattle.vm_field.specs.Permutation.{permuted}
 use Rattle.vm_ops.specs.declared.op.Op.TheVariants as ops
 use Rattle.vm_table.specs.MainColumns.{ctx, ha, lv, s, t, w}
 use Rattle.air_kit.specs.ChipTuples.{chip_given}
-use Rattle.air_kit.specs.MainTuples.{domain_of, eight, front, hash_end, hasher_asked, limbs_of, twelve}
+use Rattle.air_kit.specs.MainTuples.{domain_of, eight, front, hash_end, hasher_asked, count_of_limbs, twelve}
 use Rattle.air_kit.specs.declared.trace.TableName.TheVariants as table
 use Rattle.block_tree.specs.Cycles.{is_in_kernel}
 use Rattle.facts_hasher.specs.HashMeaning.{TableGives}
@@ -48,7 +48,7 @@ MemoryFacts rows = ((i : ℕ) → i < length rows → ctx (row_at rows i) < 2 ^ 
 
 -- limbs have 16 bits, and so has the number of blocks that may still be nested in one that starts
 pub record RangeFacts (rows : List (List ℕ)) : Type 0 where
-  pub limb : (i j : ℕ) → suc i < length rows → j < limbs_of (op_in rows i) → t (row_at rows i) j < 2 ^ 16
+  pub limb : (i j : ℕ) → suc i < length rows → j < count_of_limbs (op_in rows i) → t (row_at rows i) j < 2 ^ 16
   pub nesting : (j : ℕ) → Starts rows j → most_nesting ⊟ lv (row_at rows (suc j)) < 2 ^ 16
 
 -- a syscall calls a function of the kernel

@@ -33,7 +33,7 @@ unfolding function_digest
 digest_called x y e = λ i. sym (e 0 (lit< tt)) i ∷ sym (e 1 (lit< tt)) i ∷ sym (e 2 (lit< tt)) i ∷ sym (e 3 (lit< tt)) i ∷ []
 
 -- what a call set aside is what the row behind its END has
-digest_back : (x y : List ℕ) → tuples.frame_of y ≡ tuples.frame_of x → function_digest x ≡ function_digest y
+digest_back : (x y : List ℕ) → tuples.frame_cells y ≡ tuples.frame_cells x → function_digest x ≡ function_digest y
 unfolding function_digest
 digest_back x y e = sym (ap (λ (xs : List ℕ). drop 5 xs) e)
 
@@ -109,7 +109,7 @@ module _ {constants outputs : List ℕ} {kernel rows : List (List ℕ)} (known :
       (stack_returned known i j ops.End (end_moves rows i closes.ends flag) end_still closes call)
       (memory_stays rows i ops.End closes.ends end_quiet) (tape_stays rows i ops.End closes.ends end_quiet)
     where
-      at : (k : ℕ) → slice_index (tuples.frame_of (row_at rows (suc i))) k ≡ slice_index (tuples.frame_of (row_at rows j)) k
+      at : (k : ℕ) → slice_index (tuples.frame_cells (row_at rows (suc i))) k ≡ slice_index (tuples.frame_cells (row_at rows j)) k
       at k = ap (λ (xs : List ℕ). slice_index xs k) (closes.frame call)
 
   pub call_end_goes : (j i : ℕ) → IsAt rows j ops.Call → Closes rows j i

@@ -78,5 +78,5 @@ statement_text claim =
     codes "{\"digest\":\"" ++ word_hex claim.digest ++ codes "\",\"inputs\":[" ++ listed claim.inputs ++ codes "],\"kernel\":["
     ++ words_listed claim.kernel ++ codes "],\"outputs\":[" ++ listed claim.outputs ++ codes "]}"
 
-abbrev pub claim_of : Statement → Stated
-claim_of s = record { digest = s.digest; inputs = s.inputs; kernel = s.kernel; outputs = s.outputs }
+abbrev pub stated_of : Statement → Stated
+stated_of s = record { digest = s.digest; inputs = s.inputs; kernel = s.kernel; outputs = s.outputs }

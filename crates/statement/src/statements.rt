@@ -4,7 +4,7 @@ ghost use Rattle.serde_json.specs.View.{view, items_view};
 ghost use Rattle.answers.specs.Gives.{Gives};
 ghost use Rattle.statement.specs.Causes.{cause_in};
 ghost use Rattle.statement.specs.Statements as statements;
-ghost use Rattle.statement.specs.Statements.{claim_by, claim_from, claim_of, statement_of, statement_text};
+ghost use Rattle.statement.specs.Statements.{claim_by, claim_from, stated_of, statement_of, statement_text};
 ghost use Rattle.statement.specs.StatementJson.{statement_data};
 
 use crate::refusal::{TextCause, TextError};
@@ -24,14 +24,14 @@ use vm_state::{Inputs, Statement};
 /// whole numbers below 2^64 - 2^32 + 1, top first, at most 16 and 16 to 524,303. A key that comes
 /// twice has its last value. A refusal names the first cause that the text has.
 pub fn read_statement(alloc: Global, bytes: &[u8]) -> Result<Statement, TextError>
-    ensures { Gives claim_of cause_in result (statement_of bytes.now) }
+    ensures { Gives stated_of cause_in result (statement_of bytes.now) }
 {
     let value = value_of(alloc, bytes)?;
     statement_by(alloc, &value)
 }
 
 fn statement_by(alloc: Global, value: &Value) -> Result<Statement, TextError>
-    ensures { Gives claim_of cause_in result (claim_by (view value.now)) }
+    ensures { Gives stated_of cause_in result (claim_by (view value.now)) }
 {
     if !has_keys(value, 4) {
         return Err(TextError::Bad(TextCause::Shape));
@@ -59,7 +59,7 @@ fn statement_from(
     kernel: &[Value],
     outputs: &[Value],
 ) -> Result<Statement, TextError>
-    ensures { Gives claim_of cause_in result (claim_from (record {
+    ensures { Gives stated_of cause_in result (claim_from (record {
       digest = digest.now;
       inputs = items_view inputs.now;
       kernel = items_view kernel.now;
@@ -103,15 +103,15 @@ fn differ(words: &Words) -> bool
 /// "outputs":[0,..]}`, with no space and no line feed, and digests in lower case. `read_statement`
 /// reads it back.
 pub fn write_statement(alloc: Global, statement: &Statement) -> Result<Bytes, Memory>
-    ensures text { IfOk result (λ bytes. bytes ≡ statement_text (claim_of statement.now)) }
-    ensures back { IfOk result (λ bytes. statement_of bytes ≡ Ok (claim_of statement.now)) }
+    ensures text { IfOk result (λ bytes. bytes ≡ statement_text (stated_of statement.now)) }
+    ensures back { IfOk result (λ bytes. statement_of bytes ≡ Ok (stated_of statement.now)) }
 {
     let value = value_from(alloc, statement)?;
     Ok(Bytes::from_vec(value.to_vec(alloc)?))
 }
 
 fn value_from(alloc: Global, statement: &Statement) -> Result<Value, Memory>
-    ensures { IfOk result (λ v. view v ≡ statement_data (claim_of statement.now)) }
+    ensures { IfOk result (λ v. view v ≡ statement_data (stated_of statement.now)) }
 {
     let digest = text_of(alloc, &statement.digest)?;
     let inputs = array_of(alloc, statement.inputs.as_slice())?;

@@ -1,6 +1,6 @@
 use Rattle.std.proofs.Common.{◌∙◌}
 use Rattle.rpo_hash.specs.Constants.{constants_of}
-use Rattle.statement.specs.Statements.{claim_of}
+use Rattle.statement.specs.Statements.{stated_of}
 use Rattle.cmd_kit.specs.Steps.{ending, evidence_for, telling}
 use Rattle.cmd_check.proofs.CheckLemmas.{evidence_is_right, told_ends}
 use Rattle.cmd_kit.proofs.OutcomeLemmas.{says_line}
@@ -11,7 +11,7 @@ returns-in-Ok-save g c =
     let public = c.args.valid.now.public in
     let trace = c.args.valid.now.trace in
     let text = c.as_slice.ensures.items ∙ c.in-Ok-write_evidence.ensures in
-    c.in-Ok-save.ensures.written (evidence_for (constants_of public.params) (claim_of public.statement) trace)
-    (λ bytes. ending (telling (constants_of public.params) (claim_of public.statement) trace bytes))
+    c.in-Ok-save.ensures.written (evidence_for (constants_of public.params) (stated_of public.statement) trace)
+    (λ bytes. ending (telling (constants_of public.params) (stated_of public.statement) trace bytes))
     (evidence_is_right public trace c.in-Ok.evidence _ c.in-Ok.ensures text) _ _
     (told_ends public trace c.in-Ok.evidence _ _ _ c.in-Ok.ensures text (says_line _ _ _ _ c.answered.ensures c.accepted_text.ensures))

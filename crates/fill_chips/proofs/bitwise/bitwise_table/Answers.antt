@@ -1,7 +1,7 @@
 use Rattle.std.proofs.Common.{[], ◌∷◌, ◌++◌, false, get_or, take, sym, subst, ap, ◌∙◌}
 use Rattle.std.proofs.lemmas.List.{take_more}
 use Rattle.std.proofs.lemmas.List.Elements.{All-append, All-cons, All-nil}
-use Rattle.facts_bitwise.specs.BitRows.{rows_before, rows_of}
+use Rattle.facts_bitwise.specs.BitRows.{rows_before, rows_of_bits}
 use Rattle.facts_bitwise.specs.BitTables.{HaveWords, HasWords}
 use Rattle.fill_chips.proofs.BitLemmas.{rows-none, rows-push}
 use Rattle.fill_chips.proofs.bitwise.bitwise_table.Goals as goal
@@ -18,7 +18,7 @@ loop-op-preserved c =
     record {
       rows =
           c.in_ok-push_operation.ensures.rows ∙ ap (λ table. table ++ rows_before op []) c.loop-op.invariant.rows
-          ∙ sym (rows-push (take i ops) op) ∙ ap rows_of (sym more);
+          ∙ sym (rows-push (take i ops) op) ∙ ap rows_of_bits (sym more);
       words =
           subst HaveWords (sym more)
           (All-append HasWords (take i ops) (op ∷ []) c.loop-op.invariant.words

@@ -1,8 +1,8 @@
 use Rattle.std.proofs.Common.{◌≡◌, ◌∷◌, [], ◌++◌, List, ℕ, ◌<◌, map, All, ap, ap₂, subst, ◌∙◌, arith}
 use Rattle.rpo_hash.specs.States.{IsState}
 use Rattle.vm_field.specs.Machine.{IsWord}
-use Rattle.facts_hasher.specs.PermRows.{rows_of}
-use Rattle.facts_bitwise.specs.BitRows.{rows_of as bit_rows}
+use Rattle.facts_hasher.specs.PermRows.{rows_of_perms}
+use Rattle.facts_bitwise.specs.BitRows.{rows_of_bits as bit_rows}
 use Rattle.facts_bitwise.specs.BitTables.{HaveWords}
 use Rattle.facts_memory.specs.MemoryTables.{ShowsAccesses}
 use Rattle.fill_chips.specs.KernelRows.{kernel_rows, times_called}
@@ -32,8 +32,8 @@ returns-clause-answers c =
     c.in_ok-memory.ensures.rows in
     let range_is : c.in_ok-range_table.field-0 ≡ range_rows (r.ranges ++ limbs_in memory) =
     c.in_ok-range_table.ensures.rows ∙ ap (λ ranges. range_rows (ranges ++ limbs_in memory)) c.as_slice-2.ensures.items in
-    let hasher_is : c.in_ok-hasher_table.field-0 ≡ rows_of constants r.perms =
-    c.in_ok-hasher_table.ensures.rows ∙ ap (rows_of constants) c.as_slice-3.ensures.items in
+    let hasher_is : c.in_ok-hasher_table.field-0 ≡ rows_of_perms constants r.perms =
+    c.in_ok-hasher_table.ensures.rows ∙ ap (rows_of_perms constants) c.as_slice-3.ensures.items in
     let bitwise_is : c.in_ok-bitwise_table.field-0 ≡ bit_rows r.bits = c.in_ok-bitwise_table.ensures.rows ∙ ap bit_rows c.as_slice-4.ensures.items in
     let kernel_is : c.in_ok-kernel_table.field-0 ≡ kernel_rows (times_called r.calls) kernel =
     c.in_ok-kernel_table.ensures.rows ∙ ap₂ (λ (calls words : List (List ℕ)). kernel_rows (times_called calls) words) c.as_slice-6.ensures.items
@@ -58,8 +58,8 @@ returns-clause-sizes c =
     c.in_ok-memory.ensures.rows in
     let range_is : c.in_ok-range_table.field-0 ≡ range_rows (r.ranges ++ limbs_in memory) =
     c.in_ok-range_table.ensures.rows ∙ ap (λ ranges. range_rows (ranges ++ limbs_in memory)) c.as_slice-2.ensures.items in
-    let hasher_is : c.in_ok-hasher_table.field-0 ≡ rows_of constants r.perms =
-    c.in_ok-hasher_table.ensures.rows ∙ ap (rows_of constants) c.as_slice-3.ensures.items in
+    let hasher_is : c.in_ok-hasher_table.field-0 ≡ rows_of_perms constants r.perms =
+    c.in_ok-hasher_table.ensures.rows ∙ ap (rows_of_perms constants) c.as_slice-3.ensures.items in
     let bitwise_is : c.in_ok-bitwise_table.field-0 ≡ bit_rows r.bits = c.in_ok-bitwise_table.ensures.rows ∙ ap bit_rows c.as_slice-4.ensures.items in
     let kernel_is : c.in_ok-kernel_table.field-0 ≡ kernel_rows (times_called r.calls) kernel =
     c.in_ok-kernel_table.ensures.rows ∙ ap₂ (λ (calls words : List (List ℕ)). kernel_rows (times_called calls) words) c.as_slice-6.ensures.items

@@ -2,7 +2,7 @@ use Rattle.std.proofs.Common.{◌≡◌, ◌+◌, [], ◌∷◌, ◌++◌, take,
 use Rattle.std.proofs.lemmas.List.{take_more}
 use Rattle.std.proofs.lemmas.List.Elements.{All-append, All-cons, All-nil}
 use Rattle.rpo_hash.specs.States.{IsState}
-use Rattle.facts_hasher.specs.PermRows.{rows_before, rows_of}
+use Rattle.facts_hasher.specs.PermRows.{rows_before, rows_of_perms}
 use Rattle.fill_chips.proofs.PermLemmas.{rows-none, rows-push}
 use Rattle.fill_chips.proofs.hasher.hasher_table.Goals as goal
 
@@ -25,7 +25,7 @@ loop-perm-preserved c =
       rows =
           c.in_ok-push_permutation.ensures.rows ∙ ap (λ constants. c.loop-perm.table ++ rows_before constants perm []) c.loop-perm.invariant.same
           ∙ ap (λ table. table ++ rows_before constants perm []) c.loop-perm.invariant.rows
-          ∙ sym (rows-push constants (take i perms) perm) ∙ ap (rows_of constants) (sym more);
+          ∙ sym (rows-push constants (take i perms) perm) ∙ ap (rows_of_perms constants) (sym more);
       states =
           subst (All (λ p. IsState p.start)) (sym more)
           (All-append (λ p. IsState p.start) (take i perms) (perm ∷ []) c.loop-perm.invariant.states

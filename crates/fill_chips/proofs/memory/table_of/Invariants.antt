@@ -1,10 +1,10 @@
 use Rattle.std.proofs.Common.{◌≡◌, ◌++◌, take, drop, All}
-use Rattle.facts_memory.specs.AccessRows.{rows_behind, rows_of}
+use Rattle.facts_memory.specs.AccessRows.{rows_behind, rows_of_accesses}
 use Rattle.facts_memory.specs.MemoryTables.{IsSmallAccess}
 use Rattle.fill_chips.proofs.memory.table_of.Given as goal
 
 abbrev pub invariant-loop-access : goal.invariant-loop-access
 invariant-loop-access l = record {
-  rows : l.table ++ rows_behind l.before (drop l.access-index l.sorted) ≡ rows_of l.sorted;
+  rows : l.table ++ rows_behind l.before (drop l.access-index l.sorted) ≡ rows_of_accesses l.sorted;
   small : All IsSmallAccess (take l.access-index l.sorted);
 }
