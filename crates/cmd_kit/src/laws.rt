@@ -30,7 +30,6 @@ pub fn accepted_has_evidence()
 /// the inputs to an end within the limit; the table file and the statement of that run stand under their names, and its
 /// cycles and its stack were printed. The table has a row for each cycle and a last one, takes of the tape what the run
 /// took, and is accepted for the statement.
-#[tactic(auto, using(crate::proofs::RunLaw::answered_run_stands))]
 pub fn answered_run_stands()
     ensures { AnsweredRunStands }
 {}
