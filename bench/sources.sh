@@ -123,6 +123,19 @@ end
 END
 }
 
+# One span of ten permutations a turn, each of the one before.
+permutations_source() {
+    cat <<END
+begin
+    repeat.${TURNS:-2000}
+        repeat.10
+            hperm
+        end
+    end
+end
+END
+}
+
 all_kernel() {
     cat <<END
 export.count.1

@@ -9,7 +9,10 @@ ghost use Rattle.block_tree.specs.Rows.{four_of};
 ghost use Rattle.machine_cycles.specs.Events.{visible_of};
 ghost use Rattle.machine_cycles.specs.Marks.{IsEntry, SetsAside, frame_in, mark_of};
 ghost use Rattle.machine_cycles.specs.Running.{Ran, done_of};
-ghost use Rattle.machine_cycles.specs.Settings.{cycle_in};
+ghost use Rattle.machine_cycles.specs.Settings.{constants_in, cycle_in};
+ghost use Rattle.op_steps.specs.Steps.{AnswersStep};
+ghost use Rattle.vm_field.specs.Limits.{most_cycles};
+ghost use Rattle.vm_ops.specs.Step.{step};
 ghost use Rattle.machine_cycles.specs.declared.refusal.Stop.TheVariants.{OutOfCycles};
 
 use crate::effects::{effect, top_of};
@@ -18,7 +21,8 @@ use crate::log::Events;
 use crate::mark::{Frame, Mark};
 use crate::refusal::{Stop, stop_at};
 use crate::setting::Setting;
-use op_steps::step;
+use op_steps::{StepStop, step, step_hperm};
+use perm_memo::Permutations;
 use std::mem;
 use vm_field::{Felt, Word};
 use vm_ops::{Item, Op, accesses_memory};
@@ -31,12 +35,15 @@ pub struct Runner {
     /// What the latest call has set aside.
     pub hidden: Aside,
     pub log: Events,
+    /// The permutations that HPERM has taken, under the constants of the run.
+    pub permutations: Permutations,
 }
 
 /// One cycle that is no operation.
 pub fn cycle(runner: &mut Runner, setting: &Setting, mark: Mark) -> Result<(), Stop>
     ensures ran { Ran setting.now (cycle_in setting.now (mark_of mark) (state_of runner.old.state)) runner.old.log result runner.new }
     ensures hidden { OnOk result (SetsAside mark runner.old.state.stack runner.new.hidden) }
+    ensures same { runner.new.permutations ≡ runner.old.permutations }
 {
     let before = before_cycle(&runner.state, setting)?;
     let op = mark.op();
@@ -55,6 +62,7 @@ pub fn enter(runner: &mut Runner, setting: &Setting, mark: Mark) -> Result<Frame
     requires entry { IsEntry mark }
     ensures ran { Ran setting.now (cycle_in setting.now (mark_of mark) (state_of runner.old.state)) runner.old.log (done_of result) runner.new }
     ensures frame { IfOk result (λ frame. frame_in frame ≡ frame_of (core_of runner.old.state)) }
+    ensures same { runner.new.permutations ≡ runner.old.permutations }
 {
     let context = runner.state.context;
     let fmp = runner.state.fmp;
@@ -75,17 +83,38 @@ pub fn enter(runner: &mut Runner, setting: &Setting, mark: Mark) -> Result<Frame
 /// One cycle of an operation.
 pub fn operation(runner: &mut Runner, setting: &Setting, item: &Item) -> Result<(), Stop>
     requires item { IsOrdinaryItem item.now }
-    ensures { Ran setting.now (cycle_in setting.now (Do item.now) (state_of runner.old.state)) runner.old.log result runner.new }
+    requires constants { runner.old.permutations ≡ constants_in setting.now }
+    ensures ran { Ran setting.now (cycle_in setting.now (Do item.now) (state_of runner.old.state)) runner.old.log result runner.new }
+    ensures same { runner.new.permutations ≡ runner.old.permutations }
 {
     let before = before_cycle(&runner.state, setting)?;
     let tape = next_advice(&runner.state, item.op);
-    if let Err(stop) = step(setting.alloc, setting.params, item, &mut runner.state) {
+    if let Err(stop) = stepped(runner, setting, item) {
         return Err(stop_at(before.clock, stop));
     }
     let word = word_behind(&runner.state, item.op, &before);
     let top = top_of(&runner.state);
     runner.log.push_operation(item, before, tape, word, top)?;
     Ok(())
+}
+
+// The step of an operation. HPERM's permutation is kept for the rows that show it.
+fn stepped(runner: &mut Runner, setting: &Setting, item: &Item) -> Result<(), StepStop>
+    requires item { IsOrdinaryItem item.now }
+    requires clock { runner.old.state.clock ≤ most_cycles }
+    requires constants { runner.old.permutations ≡ constants_in setting.now }
+    ensures step { AnswersStep (step (constants_in setting.now) item.now (state_of runner.old.state)) result
+        (state_of runner.old.state) (state_of runner.new.state) }
+    ensures log { runner.new.log ≡ runner.old.log }
+    ensures same { runner.new.permutations ≡ runner.old.permutations }
+{
+    match item.op {
+        Op::HPerm => {
+            step_hperm(&mut runner.permutations, &mut runner.state);
+            Ok(())
+        }
+        _ => step(setting.alloc, setting.params, item, &mut runner.state),
+    }
 }
 
 // What is visible before a cycle, if the limit allows the cycle.

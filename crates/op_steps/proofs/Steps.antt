@@ -1,10 +1,12 @@
 -- The machine's step, from the cells that the operation leaves or its trap.
-use Rattle.std.proofs.Common.{◌≡◌, ℕ, ◌+◌, ◌^◌, ◌<◌, ◌≤◌, ◌⊎◌, inl, inr, Bool, true, false, cond, List, [], ◌∷◌, ◌++◌, length, take, drop, refl, ap, sym, subst, ◌∙◌, nat_lt, slice_index, map, arith}
+use Rattle.std.proofs.Common.{◌≡◌, ℕ, ◌+◌, ◌^◌, ◌<◌, ◌≤◌, ◌⊎◌, inl, inr, Bool, true, false, cond, List, [], ◌∷◌, ◌++◌, length, take, drop, refl, ap, sym, subst, ◌∙◌, nat_lt, slice_index, map, reverse, arith}
 use Rattle.std.proofs.lemmas.Bool.{ltb-true, ltb-false}
 use Rattle.std.proofs.lemmas.Bool.Decides.{nat_tests}
+use Rattle.std.proofs.lemmas.List.{append-nil}
 use Rattle.std.specs.FinMap.{insert}
 use Rattle.std.specs.Prelude.{Option, Some, None, Result, Ok, Err}
 use Rattle.vm_field.specs.Machine.{State, filled_up, word_at}
+use Rattle.vm_field.specs.Permutation.{permuted}
 use Rattle.vm_ops.specs.declared.cause.Cause.{Cause}
 use Rattle.vm_ops.specs.declared.cause.Cause.TheVariants.{AdviceEmpty, AddressRange}
 use Rattle.vm_ops.specs.declared.item.Item.{Item}
@@ -192,6 +194,32 @@ pub single_quietly : (constants : List ℕ) (item : Item) (s : State) (cell : �
 single_quietly constants item s cell single quiet e enough =
     let keeps = single_keeps item.op (seen_at constants item s) single in
     stepped_quietly constants item s (cell ∷ []) s.core.fmp quiet (without_advice constants item s keeps.0 ∙ e) (sym keeps.1) enough (sym keeps.2)
+
+hperm_is_quiet : IsQuiet ops.HPerm
+hperm_is_quiet = record { shift = λ e. cc; memory = refl }
+
+hperm_leaves : (constants : List ℕ) (imm : Option ℕ) (s : State) (left : List ℕ)
+    → left ≡ reverse (permuted constants (reverse (take 12 (take 16 s.core.stack))))
+    → outcome_at constants (record { op = ops.HPerm; imm = imm }) s ≡ Ok left
+unfolding outcome left_cells computed trap_of
+hperm_leaves constants imm s left is =
+    without_advice constants (record { op = ops.HPerm; imm = imm }) s refl
+    ∙ ap (λ cells. Ok cells) (append-nil (reverse (permuted constants (reverse (take 12 (take 16 s.core.stack))))) ∙ sym is)
+
+-- the step of HPERM
+pub hperm_quietly : (constants : List ℕ) (item : Item) (s : State) (left : List ℕ) → item.op ≡ ops.HPerm
+    → left ≡ reverse (permuted constants (reverse (take 12 (take 16 s.core.stack)))) → length left ≡ 12 → 16 ≤ length s.core.stack
+    → step constants item s ≡ Ok (record {
+      core = record s.core { clock = s.core.clock + 1; stack = left ++ drop (length left) s.core.stack };
+      tape = s.tape;
+    })
+hperm_quietly constants item s left is are count enough =
+    subst (λ op. step constants (record { op = op; imm = item.imm }) s ≡ Ok (record {
+      core = record s.core { clock = s.core.clock + 1; stack = left ++ drop (length left) s.core.stack };
+      tape = s.tape;
+    })) (sym is)
+    (stepped_quietly constants (record { op = ops.HPerm; imm = item.imm }) s left s.core.fmp hperm_is_quiet
+    (hperm_leaves constants item.imm s left are) count enough refl)
 
 -- the step of one that pushes a cell
 pub single_growing : (constants : List ℕ) (item : Item) (s : State) (cell : ℕ) → is_single item.op ≡ true → shift_of item.op ≡ Right

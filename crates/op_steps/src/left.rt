@@ -58,8 +58,8 @@ fn on_state(params: &Params, item: &Item, state: &State) -> Result<Cells, Cause>
     }
 }
 
-// The cells that operations see.
-fn top_cells(state: &State) -> &[Felt; 16]
+/// The cells that operations see.
+pub(crate) fn top_cells(state: &State) -> &[Felt; 16]
     ensures is { result.now ≡ take 16 state.now.stack }
     ensures sixteen { 16 ≤ length state.now.stack }
 {
@@ -112,15 +112,30 @@ fn next_word(state: &State) -> [Felt; 4]
     ]
 }
 
-// The permutation of the top twelve cells, of which the last one holds the state's first element.
+// The permutation of the top twelve cells.
 fn permuted_cells(params: &Params, cells: &[Felt; 16]) -> Cells
     ensures is { result ≡ reverse (permuted (constants_of params.now) (reverse (take 12 cells.now))) }
     ensures count { length result ≡ 12 }
 {
+    cells_behind(permute(params, hashed_state(cells)))
+}
+
+/// What HPERM permutes: the top twelve cells, of which the last one holds the state's first element.
+pub(crate) fn hashed_state(cells: &[Felt; 16]) -> [Felt; 12]
+    ensures { result ≡ reverse (take 12 cells.now) }
+{
     let mut state = [Felt::ZERO; 12];
     state.copy_from_slice(&cells[..12]);
     state.reverse();
-    let mut permuted = permute(params, state);
-    permuted.reverse();
-    Cells::of(&permuted)
+    state
+}
+
+/// The cells that HPERM leaves of the state behind its permutation.
+pub(crate) fn cells_behind(permuted: [Felt; 12]) -> Cells
+    ensures is { result ≡ reverse permuted }
+    ensures count { length result ≡ 12 }
+{
+    let mut cells = permuted;
+    cells.reverse();
+    Cells::of(&cells)
 }

@@ -14,4 +14,4 @@ mod storing;
 mod words;
 
 pub use refusal::StepStop;
-pub use stepping::{is_quiet, step, step_quiet};
+pub use stepping::{is_quiet, step, step_hperm, step_quiet};

@@ -1,4 +1,4 @@
-ghost use Rattle.std.specs.Prelude.{◌≡◌, ◌≢◌, ◌≤◌, ◌↔◌, ℕ, List, IsTrue};
+ghost use Rattle.std.specs.Prelude.{◌≡◌, ◌≢◌, ◌≤◌, ◌↔◌, ℕ, List, IsTrue, Ok};
 ghost use Rattle.vm_field.specs.Limits.{most_cycles};
 ghost use Rattle.rpo_hash.specs.Constants.{constants_of};
 ghost use Rattle.vm_ops.specs.Items.{IsOrdinaryItem};
@@ -6,15 +6,17 @@ ghost use Rattle.vm_ops.specs.Moves.{shift_of};
 ghost use Rattle.vm_ops.specs.Step.{seen, step};
 ghost use Rattle.vm_ops.specs.Values.{fmp_after};
 ghost use Rattle.vm_ops.specs.declared.item.Item.{Item};
+ghost use Rattle.vm_ops.specs.declared.op.Op.TheVariants as ops;
 ghost use Rattle.vm_state.specs.Views.{core_of, state_of};
 ghost use Rattle.op_steps.specs.Steps.{IsQuiet, AnswersStep, AnswersQuietStep};
 
-use crate::left::left_cells;
+use crate::left::{cells_behind, hashed_state, left_cells, top_cells};
 use crate::moves::{is_move, moved};
 use crate::place::settle;
 use crate::refusal::StepStop;
 use crate::single::single;
 use crate::storing::step_storing;
+use perm_memo::Permutations;
 use rpo_hash::Params;
 use std::alloc::Global;
 use vm_field::Felt;
@@ -77,6 +79,17 @@ fn step_computing(params: &Params, item: &Item, state: &mut State) -> Result<(),
     settle(item.op, left.as_slice(), state);
     state.fmp = fmp;
     Ok(())
+}
+
+/// One cycle of HPERM, whose permutation is one of those that are kept, or is kept from then on.
+pub fn step_hperm(permutations: &mut Permutations, state: &mut State)
+    requires { state.old.clock ≤ most_cycles }
+    ensures step { (item : Item) → item.op ≡ ops.HPerm → step permutations.old item (state_of state.old) ≡ Ok (state_of state.new) }
+    ensures same { permutations.new ≡ permutations.old }
+{
+    let permuted = permutations.permuted(&hashed_state(top_cells(state)));
+    let left = cells_behind(permuted);
+    settle(Op::HPerm, left.as_slice(), state);
 }
 
 // The frame pointer behind the operation.

@@ -11,16 +11,13 @@ use std::collections::BTreeMap;
 use std::marker::Model;
 use vm_field::Felt;
 
-// How many `new` keeps at most: 48 MiB of them.
-const MOST: usize = 65536;
-
 /// Permutations that were computed under one list of constants, by the state before them, so that
 /// none of these is computed again. It is seen as the constants.
 #[derive(Drop)]
 pub struct Permutations {
     params: Params,
-    // how many are kept at most
-    most: usize,
+    // whether any is kept
+    keeps: bool,
     kept: Vec<[[Felt; 12]; 8]>,
     // where one stands, by the fingerprint of its first state; another state may have the same one
     places: BTreeMap<u64, usize>,
@@ -39,11 +36,12 @@ impl Model for Permutations {
 }
 
 impl Permutations {
-    /// No permutations yet, under these constants, and a bound of 65,536. It allocates nothing.
+    /// No permutations yet, under these constants; each is to be kept while memory serves. It
+    /// allocates nothing.
     pub fn new(alloc: Global, params: &Params) -> Permutations
         ensures { result ≡ constants_of params.now }
     {
-        Permutations::keeping(alloc, params, MOST)
+        Permutations::of(alloc, params, true)
     }
 
     /// No permutations under these constants, now or later: each is computed anew, and none takes
@@ -51,16 +49,16 @@ impl Permutations {
     pub fn keeping_none(alloc: Global, params: &Params) -> Permutations
         ensures { result ≡ constants_of params.now }
     {
-        Permutations::keeping(alloc, params, 0)
+        Permutations::of(alloc, params, false)
     }
 
-    // No permutations yet, under these constants, and a bound.
-    fn keeping(alloc: Global, params: &Params, most: usize) -> Permutations
+    // No permutations yet, under these constants.
+    fn of(alloc: Global, params: &Params, keeps: bool) -> Permutations
         ensures { result ≡ constants_of params.now }
     {
         Permutations {
             params: *params,
-            most,
+            keeps,
             kept: Vec::new(alloc),
             places: BTreeMap::new(alloc),
         }
@@ -74,7 +72,7 @@ impl Permutations {
     }
 
     /// The state, and what it is behind each of the seven rounds. They are kept for the next time
-    /// where memory and the bound allow: the first 65,536 behind `new`, none behind `keeping_none`.
+    /// behind `new` while memory serves, and never behind `keeping_none`.
     pub fn rounds(&mut self, state: &[Felt; 12]) -> [[Felt; 12]; 8]
         ensures rounds { result ≡ round_states self.old state.now }
         ensures same { self.new ≡ self.old }
@@ -100,14 +98,14 @@ impl Permutations {
         }
     }
 
-    // Keeps the states of a permutation. Where memory is refused or the bound is reached, they are
-    // not found again.
+    // Keeps the states of a permutation, if they are to be kept. Where memory is refused, they are not
+    // found again.
     fn keep(&mut self, fingerprint: u64, states: &[[Felt; 12]; 8])
         requires { states.now ≡ round_states self.old (slice_index_or states.now 0 []) }
         ensures { self.new ≡ self.old }
     {
         let place = self.kept.len();
-        if place < self.most && self.kept.push(*states).is_ok() {
+        if self.keeps && self.kept.push(*states).is_ok() {
             let _ = self.places.insert(fingerprint, place);
         }
     }

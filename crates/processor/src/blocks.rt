@@ -18,8 +18,10 @@ use vm_ops::Item;
 // The run of a block.
 #[cycle(blocks)]
 pub(crate) fn block(runner: &mut Runner, setting: &Setting, node: &Node) -> Result<(), Stop>
+    requires memo { runner.old.permutations ≡ constants_in setting.now }
     requires hashed { IsHashed (constants_in setting.now) node.now }
-    ensures { Ran setting.now (execution_in setting.now (node_tree node.now) (state_of runner.old.state)) runner.old.log result runner.new }
+    ensures ran { Ran setting.now (execution_in setting.now (node_tree node.now) (state_of runner.old.state)) runner.old.log result runner.new }
+    ensures same { runner.new.permutations ≡ runner.old.permutations }
 {
     match node {
         Node::Opaque(_) => cycle(runner, setting, Mark::StartOpaque),
@@ -40,11 +42,13 @@ fn join(
     first: &Node,
     second: &Node,
 ) -> Result<(), Stop>
+    requires memo { runner.old.permutations ≡ constants_in setting.now }
     requires digest { digest.now ≡ digest_of setting.now (trees.Join (node_tree first.now) (node_tree second.now)) }
     requires first { IsHashed (constants_in setting.now) first.now }
     requires second { IsHashed (constants_in setting.now) second.now }
-    ensures { Ran setting.now (execution_in setting.now (trees.Join (node_tree first.now) (node_tree second.now))
+    ensures ran { Ran setting.now (execution_in setting.now (trees.Join (node_tree first.now) (node_tree second.now))
         (state_of runner.old.state)) runner.old.log result runner.new }
+    ensures same { runner.new.permutations ≡ runner.old.permutations }
 {
     cycle(
         runner,
@@ -64,11 +68,13 @@ fn split(
     on_one: &Node,
     on_zero: &Node,
 ) -> Result<(), Stop>
+    requires memo { runner.old.permutations ≡ constants_in setting.now }
     requires digest { digest.now ≡ digest_of setting.now (trees.Split (node_tree on_one.now) (node_tree on_zero.now)) }
     requires on_one { IsHashed (constants_in setting.now) on_one.now }
     requires on_zero { IsHashed (constants_in setting.now) on_zero.now }
-    ensures { Ran setting.now (execution_in setting.now (trees.Split (node_tree on_one.now) (node_tree on_zero.now))
+    ensures ran { Ran setting.now (execution_in setting.now (trees.Split (node_tree on_one.now) (node_tree on_zero.now))
         (state_of runner.old.state)) runner.old.log result runner.new }
+    ensures same { runner.new.permutations ≡ runner.old.permutations }
 {
     let condition = top_of(&runner.state);
     cycle(
@@ -89,11 +95,13 @@ fn branch(
     on_one: &Node,
     on_zero: &Node,
 ) -> Result<(), Stop>
+    requires memo { runner.old.permutations ≡ constants_in setting.now }
     requires on_one { IsHashed (constants_in setting.now) on_one.now }
     requires on_zero { IsHashed (constants_in setting.now) on_zero.now }
-    ensures { Ran setting.now (at_bit condition (execution_in setting.now (node_tree on_zero.now))
+    ensures ran { Ran setting.now (at_bit condition (execution_in setting.now (node_tree on_zero.now))
         (execution_in setting.now (node_tree on_one.now)) (state_of runner.old.state)) runner.old.log result
         runner.new }
+    ensures same { runner.new.permutations ≡ runner.old.permutations }
 {
     if condition.value() == 0 {
         block(runner, setting, on_zero)
@@ -104,10 +112,12 @@ fn branch(
 
 #[cycle(blocks)]
 fn repeated(runner: &mut Runner, setting: &Setting, digest: &Word, body: &Node) -> Result<(), Stop>
+    requires memo { runner.old.permutations ≡ constants_in setting.now }
     requires digest { digest.now ≡ digest_of setting.now (trees.Loop (node_tree body.now)) }
     requires body { IsHashed (constants_in setting.now) body.now }
-    ensures { Ran setting.now (execution_in setting.now (trees.Loop (node_tree body.now)) (state_of runner.old.state))
+    ensures ran { Ran setting.now (execution_in setting.now (trees.Loop (node_tree body.now)) (state_of runner.old.state))
         runner.old.log result runner.new }
+    ensures same { runner.new.permutations ≡ runner.old.permutations }
 {
     let condition = top_of(&runner.state);
     cycle(runner, setting, Mark::StartLoop(body.digest()))?;
@@ -121,9 +131,11 @@ fn repeated(runner: &mut Runner, setting: &Setting, digest: &Word, body: &Node) 
 // The turns of a loop that was entered, until a 0 is on top behind one.
 #[cycle(blocks)]
 fn turns(runner: &mut Runner, setting: &Setting, digest: &Word, body: &Node) -> Result<(), Stop>
+    requires memo { runner.old.permutations ≡ constants_in setting.now }
     requires body { IsHashed (constants_in setting.now) body.now }
-    ensures { (n : ℕ) → setting.now.limit ≤ n + runner.old.state.clock
+    ensures ran { (n : ℕ) → setting.now.limit ≤ n + runner.old.state.clock
         → Ran setting.now (turns_in setting.now digest.now (node_tree body.now) n (state_of runner.old.state)) runner.old.log result runner.new }
+    ensures same { runner.new.permutations ≡ runner.old.permutations }
 {
     loop {
         block(runner, setting, body)?;
@@ -136,10 +148,12 @@ fn turns(runner: &mut Runner, setting: &Setting, digest: &Word, body: &Node) -> 
 
 #[cycle(blocks)]
 fn call(runner: &mut Runner, setting: &Setting, digest: &Word, callee: &Node) -> Result<(), Stop>
+    requires memo { runner.old.permutations ≡ constants_in setting.now }
     requires digest { digest.now ≡ digest_of setting.now (trees.Call (node_tree callee.now)) }
     requires callee { IsHashed (constants_in setting.now) callee.now }
-    ensures { Ran setting.now (execution_in setting.now (trees.Call (node_tree callee.now)) (state_of runner.old.state))
+    ensures ran { Ran setting.now (execution_in setting.now (trees.Call (node_tree callee.now)) (state_of runner.old.state))
         runner.old.log result runner.new }
+    ensures same { runner.new.permutations ≡ runner.old.permutations }
 {
     let frame = enter(runner, setting, Mark::StartCall(callee.digest()))?;
     block(runner, setting, callee)?;
@@ -148,10 +162,12 @@ fn call(runner: &mut Runner, setting: &Setting, digest: &Word, callee: &Node) ->
 
 #[cycle(blocks)]
 fn syscall(runner: &mut Runner, setting: &Setting, digest: &Word, callee: &Node) -> Result<(), Stop>
+    requires memo { runner.old.permutations ≡ constants_in setting.now }
     requires digest { digest.now ≡ digest_of setting.now (trees.Syscall (node_tree callee.now)) }
     requires callee { IsHashed (constants_in setting.now) callee.now }
-    ensures { Ran setting.now (execution_in setting.now (trees.Syscall (node_tree callee.now)) (state_of runner.old.state))
+    ensures ran { Ran setting.now (execution_in setting.now (trees.Syscall (node_tree callee.now)) (state_of runner.old.state))
         runner.old.log result runner.new }
+    ensures same { runner.new.permutations ≡ runner.old.permutations }
 {
     let frame = enter(runner, setting, Mark::StartSyscall(callee.digest()))?;
     block(runner, setting, callee)?;
@@ -164,9 +180,11 @@ fn span(
     digest: &Word,
     batches: &[ReadBatch],
 ) -> Result<(), Stop>
+    requires memo { runner.old.permutations ≡ constants_in setting.now }
     requires digest { digest.now ≡ digest_of setting.now (trees.Span (elements_of batches.now)) }
-    ensures { Ran setting.now (execution_in setting.now (trees.Span (elements_of batches.now)) (state_of runner.old.state))
+    ensures ran { Ran setting.now (execution_in setting.now (trees.Span (elements_of batches.now)) (state_of runner.old.state))
         runner.old.log result runner.new }
+    ensures same { runner.new.permutations ≡ runner.old.permutations }
 {
     all_batches(runner, setting, batches)?;
     cycle(runner, setting, Mark::EndSpan(*digest))
@@ -174,8 +192,10 @@ fn span(
 
 // The batches of a span.
 fn all_batches(runner: &mut Runner, setting: &Setting, batches: &[ReadBatch]) -> Result<(), Stop>
-    ensures { Ran setting.now (batches_in setting.now cycles.StartSpan (elements_of batches.now) (state_of runner.old.state))
+    requires memo { runner.old.permutations ≡ constants_in setting.now }
+    ensures ran { Ran setting.now (batches_in setting.now cycles.StartSpan (elements_of batches.now) (state_of runner.old.state))
         runner.old.log result runner.new }
+    ensures same { runner.new.permutations ≡ runner.old.permutations }
 {
     match batches.split_first() {
         None => Ok(()),
@@ -189,8 +209,10 @@ fn all_batches(runner: &mut Runner, setting: &Setting, batches: &[ReadBatch]) ->
 
 // The batches behind the first.
 fn later_batches(runner: &mut Runner, setting: &Setting, batches: &[ReadBatch]) -> Result<(), Stop>
-    ensures { Ran setting.now (batches_in setting.now cycles.Respan (elements_of batches.now) (state_of runner.old.state))
+    requires memo { runner.old.permutations ≡ constants_in setting.now }
+    ensures ran { Ran setting.now (batches_in setting.now cycles.Respan (elements_of batches.now) (state_of runner.old.state))
         runner.old.log result runner.new }
+    ensures same { runner.new.permutations ≡ runner.old.permutations }
 {
     for batch in batches {
         cycle(runner, setting, Mark::Respan(batch.shown()))?;
@@ -201,8 +223,10 @@ fn later_batches(runner: &mut Runner, setting: &Setting, batches: &[ReadBatch]) 
 
 // The operations of a batch, as it is read. One that has no reading has trapped before.
 fn batch_operations(runner: &mut Runner, setting: &Setting, batch: &ReadBatch) -> Result<(), Stop>
-    ensures { Ran setting.now (read_operations_in setting.now (reading batch.now.elements) (state_of runner.old.state))
+    requires memo { runner.old.permutations ≡ constants_in setting.now }
+    ensures ran { Ran setting.now (read_operations_in setting.now (reading batch.now.elements) (state_of runner.old.state))
         runner.old.log result runner.new }
+    ensures same { runner.new.permutations ≡ runner.old.permutations }
 {
     match &batch.items {
         None => Ok(()),
@@ -212,8 +236,10 @@ fn batch_operations(runner: &mut Runner, setting: &Setting, batch: &ReadBatch) -
 
 // One operation after another.
 fn all_operations(runner: &mut Runner, setting: &Setting, items: &[Item]) -> Result<(), Stop>
+    requires memo { runner.old.permutations ≡ constants_in setting.now }
     requires ordinary { All IsOrdinaryItem items.now }
-    ensures { Ran setting.now (operations_in setting.now items.now (state_of runner.old.state)) runner.old.log result runner.new }
+    ensures ran { Ran setting.now (operations_in setting.now items.now (state_of runner.old.state)) runner.old.log result runner.new }
+    ensures same { runner.new.permutations ≡ runner.old.permutations }
 {
     for item in items {
         operation(runner, setting, item)?;

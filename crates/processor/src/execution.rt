@@ -43,6 +43,7 @@ pub fn execute(
         state: State::start(alloc, inputs)?,
         hidden: Aside::none(alloc),
         log: Events::new(alloc),
+        permutations,
     };
     block(&mut runner, &setting, &node)?;
     let advice = inputs.advice.as_slice();
@@ -52,6 +53,6 @@ pub fn execute(
         state: runner.state,
         events: runner.log,
         digest: node.digest(),
-        permutations,
+        permutations: runner.permutations,
     })
 }

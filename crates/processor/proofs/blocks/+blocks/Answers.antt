@@ -9,82 +9,82 @@ use Rattle.processor.proofs.RunLemmas.{ran-along, ran-fail, ran-then}
 use Rattle.processor.proofs.BlockLemmas.{at_bit-zero, at_bit-one, join-as, split-as, loop-as, call-as, syscall-as, block-ticks, ran-ticks, turns-end, turns-fail, turns-more, turns-repeat_fail, turns-start}
 use Rattle.processor.proofs.blocks.+blocks.Goals as goal
 
-pub call-returns-in_err-frame : goal.call-returns-in_err-frame
-call-returns-in_err-frame t c =
+pub call-returns-in_err-frame-clause-ran : goal.call-returns-in_err-frame-clause-ran
+call-returns-in_err-frame-clause-ran t c =
     ran-along (call-as c.args.setting.now (node_tree c.args.callee.now) c.digest.result c.args.digest.now
     (frame_of (core_of c.args.runner.now.state)) (state_of c.args.runner.now.state)
     (c.digest.ensures.hashed (constants_in c.args.setting.now) c.requires.callee) c.requires.digest refl)
     (ran-fail _ _ (search rules) c.in_err-frame.ensures.ran)
 
-pub call-returns-in_err-block : goal.call-returns-in_err-block
-call-returns-in_err-block t c =
+pub call-returns-in_err-block-clause-ran : goal.call-returns-in_err-block-clause-ran
+call-returns-in_err-block-clause-ran t c =
     ran-along (call-as c.args.setting.now (node_tree c.args.callee.now) c.digest.result c.args.digest.now
     (frame_in c.in_ok-frame.frame) (state_of c.args.runner.now.state)
     (c.digest.ensures.hashed (constants_in c.args.setting.now) c.requires.callee) c.requires.digest c.in_ok-frame.ensures.frame)
-    (ran-then _ _ c.in_ok-frame.ensures.ran (ran-fail _ _ (search rules) c.in_err-block.ensures))
+    (ran-then _ _ c.in_ok-frame.ensures.ran (ran-fail _ _ (search rules) c.in_err-block.ensures.ran))
 
-pub call-returns : goal.call-returns
-call-returns t c =
+pub call-returns-clause-ran : goal.call-returns-clause-ran
+call-returns-clause-ran t c =
     ran-along (call-as c.args.setting.now (node_tree c.args.callee.now) c.digest.result c.args.digest.now
     (frame_in c.in_ok-frame.frame) (state_of c.args.runner.now.state)
     (c.digest.ensures.hashed (constants_in c.args.setting.now) c.requires.callee) c.requires.digest c.in_ok-frame.ensures.frame)
-    (ran-then _ _ c.in_ok-frame.ensures.ran (ran-then _ _ c.in_ok-block.ensures c.cycle.ensures.ran))
+    (ran-then _ _ c.in_ok-frame.ensures.ran (ran-then _ _ c.in_ok-block.ensures.ran c.cycle.ensures.ran))
 
-pub syscall-returns-in_err-frame : goal.syscall-returns-in_err-frame
-syscall-returns-in_err-frame t c =
+pub syscall-returns-in_err-frame-clause-ran : goal.syscall-returns-in_err-frame-clause-ran
+syscall-returns-in_err-frame-clause-ran t c =
     ran-along (syscall-as c.args.setting.now (node_tree c.args.callee.now) c.digest.result c.args.digest.now
     (frame_of (core_of c.args.runner.now.state)) (state_of c.args.runner.now.state)
     (c.digest.ensures.hashed (constants_in c.args.setting.now) c.requires.callee) c.requires.digest refl)
     (ran-fail _ _ (search rules) c.in_err-frame.ensures.ran)
 
-pub syscall-returns-in_err-block : goal.syscall-returns-in_err-block
-syscall-returns-in_err-block t c =
+pub syscall-returns-in_err-block-clause-ran : goal.syscall-returns-in_err-block-clause-ran
+syscall-returns-in_err-block-clause-ran t c =
     ran-along (syscall-as c.args.setting.now (node_tree c.args.callee.now) c.digest.result c.args.digest.now
     (frame_in c.in_ok-frame.frame) (state_of c.args.runner.now.state)
     (c.digest.ensures.hashed (constants_in c.args.setting.now) c.requires.callee) c.requires.digest c.in_ok-frame.ensures.frame)
-    (ran-then _ _ c.in_ok-frame.ensures.ran (ran-fail _ _ (search rules) c.in_err-block.ensures))
+    (ran-then _ _ c.in_ok-frame.ensures.ran (ran-fail _ _ (search rules) c.in_err-block.ensures.ran))
 
-pub syscall-returns : goal.syscall-returns
-syscall-returns t c =
+pub syscall-returns-clause-ran : goal.syscall-returns-clause-ran
+syscall-returns-clause-ran t c =
     ran-along (syscall-as c.args.setting.now (node_tree c.args.callee.now) c.digest.result c.args.digest.now
     (frame_in c.in_ok-frame.frame) (state_of c.args.runner.now.state)
     (c.digest.ensures.hashed (constants_in c.args.setting.now) c.requires.callee) c.requires.digest c.in_ok-frame.ensures.frame)
-    (ran-then _ _ c.in_ok-frame.ensures.ran (ran-then _ _ c.in_ok-block.ensures c.cycle.ensures.ran))
+    (ran-then _ _ c.in_ok-frame.ensures.ran (ran-then _ _ c.in_ok-block.ensures.ran c.cycle.ensures.ran))
 
-pub join-returns-in_err-cycle : goal.join-returns-in_err-cycle
-join-returns-in_err-cycle t c =
+pub join-returns-in_err-cycle-clause-ran : goal.join-returns-in_err-cycle-clause-ran
+join-returns-in_err-cycle-clause-ran t c =
     ran-along (join-as c.args.setting.now (node_tree c.args.first.now) (node_tree c.args.second.now) c.digest.result
     c.digest-2.result c.args.digest.now (state_of c.args.runner.now.state)
     (c.digest.ensures.hashed (constants_in c.args.setting.now) c.requires.first)
     (c.digest-2.ensures.hashed (constants_in c.args.setting.now) c.requires.second) c.requires.digest)
     (ran-fail _ _ (search rules) c.in_err-cycle.ensures.ran)
 
-pub join-returns-in_err-block : goal.join-returns-in_err-block
-join-returns-in_err-block t c =
+pub join-returns-in_err-block-clause-ran : goal.join-returns-in_err-block-clause-ran
+join-returns-in_err-block-clause-ran t c =
     ran-along (join-as c.args.setting.now (node_tree c.args.first.now) (node_tree c.args.second.now) c.digest.result
     c.digest-2.result c.args.digest.now (state_of c.args.runner.now.state)
     (c.digest.ensures.hashed (constants_in c.args.setting.now) c.requires.first)
     (c.digest-2.ensures.hashed (constants_in c.args.setting.now) c.requires.second) c.requires.digest)
-    (ran-then _ _ c.in_ok-cycle.ensures.ran (ran-fail _ _ (search rules) c.in_err-block.ensures))
+    (ran-then _ _ c.in_ok-cycle.ensures.ran (ran-fail _ _ (search rules) c.in_err-block.ensures.ran))
 
-pub join-returns-in_err-block-2 : goal.join-returns-in_err-block-2
-join-returns-in_err-block-2 t c =
+pub join-returns-in_err-block-2-clause-ran : goal.join-returns-in_err-block-2-clause-ran
+join-returns-in_err-block-2-clause-ran t c =
     ran-along (join-as c.args.setting.now (node_tree c.args.first.now) (node_tree c.args.second.now) c.digest.result
     c.digest-2.result c.args.digest.now (state_of c.args.runner.now.state)
     (c.digest.ensures.hashed (constants_in c.args.setting.now) c.requires.first)
     (c.digest-2.ensures.hashed (constants_in c.args.setting.now) c.requires.second) c.requires.digest)
-    (ran-then _ _ c.in_ok-cycle.ensures.ran (ran-then _ _ c.in_ok-block.ensures (ran-fail _ _ (search rules) c.in_err-block-2.ensures)))
+    (ran-then _ _ c.in_ok-cycle.ensures.ran (ran-then _ _ c.in_ok-block.ensures.ran (ran-fail _ _ (search rules) c.in_err-block-2.ensures.ran)))
 
-pub join-returns : goal.join-returns
-join-returns t c =
+pub join-returns-clause-ran : goal.join-returns-clause-ran
+join-returns-clause-ran t c =
     ran-along (join-as c.args.setting.now (node_tree c.args.first.now) (node_tree c.args.second.now) c.digest.result
     c.digest-2.result c.args.digest.now (state_of c.args.runner.now.state)
     (c.digest.ensures.hashed (constants_in c.args.setting.now) c.requires.first)
     (c.digest-2.ensures.hashed (constants_in c.args.setting.now) c.requires.second) c.requires.digest)
-    (ran-then _ _ c.in_ok-cycle.ensures.ran (ran-then _ _ c.in_ok-block.ensures (ran-then _ _ c.in_ok-block-2.ensures c.cycle-2.ensures.ran)))
+    (ran-then _ _ c.in_ok-cycle.ensures.ran (ran-then _ _ c.in_ok-block.ensures.ran (ran-then _ _ c.in_ok-block-2.ensures.ran c.cycle-2.ensures.ran)))
 
-pub split-returns-in_err-cycle : goal.split-returns-in_err-cycle
-split-returns-in_err-cycle t c =
+pub split-returns-in_err-cycle-clause-ran : goal.split-returns-in_err-cycle-clause-ran
+split-returns-in_err-cycle-clause-ran t c =
     ran-along (split-as c.args.setting.now (node_tree c.args.on_one.now) (node_tree c.args.on_zero.now) c.digest.result
     c.digest-2.result c.args.digest.now c.top_of-condition.result (state_of c.args.runner.now.state)
     (c.digest.ensures.hashed (constants_in c.args.setting.now) c.requires.on_one)
@@ -92,33 +92,33 @@ split-returns-in_err-cycle t c =
     c.top_of-condition.ensures)
     (ran-fail _ _ (search rules) c.in_err-cycle.ensures.ran)
 
-pub split-returns-in_err-branch : goal.split-returns-in_err-branch
-split-returns-in_err-branch t c =
+pub split-returns-in_err-branch-clause-ran : goal.split-returns-in_err-branch-clause-ran
+split-returns-in_err-branch-clause-ran t c =
     ran-along (split-as c.args.setting.now (node_tree c.args.on_one.now) (node_tree c.args.on_zero.now) c.digest.result
     c.digest-2.result c.args.digest.now c.top_of-condition.result (state_of c.args.runner.now.state)
     (c.digest.ensures.hashed (constants_in c.args.setting.now) c.requires.on_one)
     (c.digest-2.ensures.hashed (constants_in c.args.setting.now) c.requires.on_zero) c.requires.digest
     c.top_of-condition.ensures)
-    (ran-then _ _ c.in_ok-cycle.ensures.ran (ran-fail _ _ (search rules) c.in_err-branch.ensures))
+    (ran-then _ _ c.in_ok-cycle.ensures.ran (ran-fail _ _ (search rules) c.in_err-branch.ensures.ran))
 
-pub split-returns : goal.split-returns
-split-returns t c =
+pub split-returns-clause-ran : goal.split-returns-clause-ran
+split-returns-clause-ran t c =
     ran-along (split-as c.args.setting.now (node_tree c.args.on_one.now) (node_tree c.args.on_zero.now) c.digest.result
     c.digest-2.result c.args.digest.now c.top_of-condition.result (state_of c.args.runner.now.state)
     (c.digest.ensures.hashed (constants_in c.args.setting.now) c.requires.on_one)
     (c.digest-2.ensures.hashed (constants_in c.args.setting.now) c.requires.on_zero) c.requires.digest
     c.top_of-condition.ensures)
-    (ran-then _ _ c.in_ok-cycle.ensures.ran (ran-then _ _ c.in_ok-branch.ensures c.cycle-2.ensures.ran))
+    (ran-then _ _ c.in_ok-cycle.ensures.ran (ran-then _ _ c.in_ok-branch.ensures.ran c.cycle-2.ensures.ran))
 
-pub repeated-returns-in_err-cycle : goal.repeated-returns-in_err-cycle
-repeated-returns-in_err-cycle t c =
+pub repeated-returns-in_err-cycle-clause-ran : goal.repeated-returns-in_err-cycle-clause-ran
+repeated-returns-in_err-cycle-clause-ran t c =
     ran-along (loop-as c.args.setting.now (node_tree c.args.body.now) c.digest.result c.args.digest.now c.top_of-condition.result
     (state_of c.args.runner.now.state)
     (c.digest.ensures.hashed (constants_in c.args.setting.now) c.requires.body) c.requires.digest c.top_of-condition.ensures)
     (ran-fail _ _ (search rules) c.in_err-cycle.ensures.ran)
 
-pub repeated-returns-then-value-eq0 : goal.repeated-returns-then-value-eq0
-repeated-returns-then-value-eq0 t c =
+pub repeated-returns-then-value-eq0-clause-ran : goal.repeated-returns-then-value-eq0-clause-ran
+repeated-returns-then-value-eq0-clause-ran t c =
     ran-along (loop-as c.args.setting.now (node_tree c.args.body.now) c.digest.result c.args.digest.now c.value.result
     (state_of c.args.runner.now.state)
     (c.digest.ensures.hashed (constants_in c.args.setting.now) c.requires.body) c.requires.digest (c.value.ensures.is ∙ c.top_of-condition.ensures))
@@ -126,8 +126,8 @@ repeated-returns-then-value-eq0 t c =
     (ran-along (ap (λ (f : Part). f (state_of c.cycle.new.runner.state)) (at_bit-zero c.value.result _ _ c.if-value-eq0.true))
     c.cycle-then-value-eq0.ensures.ran))
 
-pub repeated-returns-else-value-eq0 : goal.repeated-returns-else-value-eq0
-repeated-returns-else-value-eq0 t c =
+pub repeated-returns-else-value-eq0-clause-ran : goal.repeated-returns-else-value-eq0-clause-ran
+repeated-returns-else-value-eq0-clause-ran t c =
     let ticked : c.cycle.new.runner.state.clock ≡ c.args.runner.now.state.clock + 1
     = (ran-ticks c.args.setting.now (StartLoop c.digest.result) (state_of c.args.runner.now.state) c.cycle.new.runner c.in_ok-cycle.ensures.ran).0 in
     ran-along (loop-as c.args.setting.now (node_tree c.args.body.now) c.digest.result c.args.digest.now c.value.result
@@ -135,29 +135,29 @@ repeated-returns-else-value-eq0 t c =
     (c.digest.ensures.hashed (constants_in c.args.setting.now) c.requires.body) c.requires.digest (c.value.ensures.is ∙ c.top_of-condition.ensures))
     (ran-then _ _ c.in_ok-cycle.ensures.ran
     (ran-along (ap (λ (f : Part). f (state_of c.cycle.new.runner.state)) (at_bit-one c.value.result _ _ c.if-value-eq0.false))
-    (c.turns.ensures (c.args.setting.now.limit - c.args.runner.now.state.clock) (omega (arith, ticked)))))
+    (c.turns.ensures.ran (c.args.setting.now.limit - c.args.runner.now.state.clock) (omega (arith, ticked)))))
 
-pub turns-returns-in_err-block : goal.turns-returns-in_err-block
-turns-returns-in_err-block t c = λ n room.
-    turns-fail c.args.setting.now c.args.digest.now (node_tree c.args.body.now) n (c.loop-runner.invariant n room) (search rules)
-    c.in_err-block.ensures
+pub turns-returns-in_err-block-clause-ran : goal.turns-returns-in_err-block-clause-ran
+turns-returns-in_err-block-clause-ran t c = λ n room.
+    turns-fail c.args.setting.now c.args.digest.now (node_tree c.args.body.now) n (c.loop-runner.invariant.ran n room) (search rules)
+    c.in_err-block.ensures.ran
 
-pub turns-returns-then-value-eq0 : goal.turns-returns-then-value-eq0
-turns-returns-then-value-eq0 t c = λ n room.
-    turns-end c.args.setting.now c.args.digest.now (node_tree c.args.body.now) n c.value.result (c.loop-runner.invariant n room) c.in_ok-block.ensures
+pub turns-returns-then-value-eq0-clause-ran : goal.turns-returns-then-value-eq0-clause-ran
+turns-returns-then-value-eq0-clause-ran t c = λ n room.
+    turns-end c.args.setting.now c.args.digest.now (node_tree c.args.body.now) n c.value.result (c.loop-runner.invariant.ran n room) c.in_ok-block.ensures.ran
     (c.value.ensures.is ∙ c.top_of.ensures) c.if-value-eq0.true c.cycle.ensures.ran
 
-pub turns-returns-in_err-cycle : goal.turns-returns-in_err-cycle
-turns-returns-in_err-cycle t c = λ n room.
+pub turns-returns-in_err-cycle-clause-ran : goal.turns-returns-in_err-cycle-clause-ran
+turns-returns-in_err-cycle-clause-ran t c = λ n room.
     turns-repeat_fail c.args.setting.now c.args.digest.now (node_tree c.args.body.now) n c.value.result c.digest.result
-    (c.loop-runner.invariant n room) c.in_ok-block.ensures
+    (c.loop-runner.invariant.ran n room) c.in_ok-block.ensures.ran
     (c.value.ensures.is ∙ c.top_of.ensures) c.if-value-eq0.false (c.digest.ensures.hashed (constants_in c.args.setting.now) c.requires.body)
     (search rules) c.in_err-cycle.ensures.ran
 
 pub turns-loop-runner-smaller : goal.turns-loop-runner-smaller
 turns-loop-runner-smaller t c =
     let body : c.loop-runner.runner.state.clock < c.block.new.runner.state.clock
-    = block-ticks c.args.setting.now (node_tree c.args.body.now) (state_of c.loop-runner.runner.state) c.block.new.runner c.in_ok-block.ensures in
+    = block-ticks c.args.setting.now (node_tree c.args.body.now) (state_of c.loop-runner.runner.state) c.block.new.runner c.in_ok-block.ensures.ran in
     let repeat : (c.cycle-in-loop-runner.new.runner.state.clock ≡ c.block.new.runner.state.clock + 1)
     × (c.block.new.runner.state.clock < c.args.setting.now.limit)
     = ran-ticks c.args.setting.now (Repeat c.digest.result) (state_of c.block.new.runner.state) c.cycle-in-loop-runner.new.runner
@@ -165,12 +165,20 @@ turns-loop-runner-smaller t c =
     omega (arith, body, repeat.0, repeat.1)
 
 pub turns-loop-runner-preserved : goal.turns-loop-runner-preserved
-turns-loop-runner-preserved t c = λ n room.
-    turns-more c.args.setting.now c.args.digest.now (node_tree c.args.body.now) n c.value.result c.digest.result
-    (c.loop-runner.invariant n room) c.in_ok-block.ensures
-    (c.value.ensures.is ∙ c.top_of.ensures) c.if-value-eq0.false (c.digest.ensures.hashed (constants_in c.args.setting.now) c.requires.body)
-    c.in_ok-cycle.ensures.ran
+turns-loop-runner-preserved t c = record {
+  ran =
+      λ n room.
+      turns-more c.args.setting.now c.args.digest.now (node_tree c.args.body.now) n c.value.result c.digest.result
+      (c.loop-runner.invariant.ran n room) c.in_ok-block.ensures.ran
+      (c.value.ensures.is ∙ c.top_of.ensures) c.if-value-eq0.false (c.digest.ensures.hashed (constants_in c.args.setting.now) c.requires.body)
+      c.in_ok-cycle.ensures.ran;
+  same = c.in_ok-cycle.ensures.same ∙ (c.in_ok-block.ensures.same ∙ c.loop-runner.invariant.same);
+}
 
 pub turns-loop-runner-init : goal.turns-loop-runner-init
-turns-loop-runner-init t c = λ n room.
-    turns-start c.args.setting.now c.args.digest.now (node_tree c.args.body.now) n c.args.runner.now room
+turns-loop-runner-init t c = record {
+  ran =
+      λ n room.
+      turns-start c.args.setting.now c.args.digest.now (node_tree c.args.body.now) n c.args.runner.now room;
+  same = refl;
+}

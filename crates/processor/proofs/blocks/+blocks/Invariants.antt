@@ -1,4 +1,4 @@
-use Rattle.std.proofs.Common.{ℕ, ◌+◌, ◌-◌, ◌*◌, ◌≤◌, max}
+use Rattle.std.proofs.Common.{◌≡◌, ℕ, ◌+◌, ◌-◌, ◌*◌, ◌≤◌, max}
 use Rattle.block_tree.specs.Trees.{tree_height}
 use Rattle.tree_hash.specs.Nodes.{node_tree}
 use Rattle.processor.proofs.BlockLemmas.{TurnsLeft}
@@ -29,9 +29,10 @@ abbrev pub decreases-syscall : goal.decreases-syscall
 decreases-syscall l = 3 * tree_height (node_tree l.callee.now) + 1
 
 abbrev pub invariant-turns-loop-runner : goal.invariant-turns-loop-runner
-invariant-turns-loop-runner l =
-    (n : ℕ) → l.setting.limit ≤ n + l.fn.runner.state.clock
-    → TurnsLeft l.setting l.digest (node_tree l.body) n l.fn.runner l.runner
+invariant-turns-loop-runner l = record {
+  ran : (n : ℕ) → l.setting.limit ≤ n + l.fn.runner.state.clock → TurnsLeft l.setting l.digest (node_tree l.body) n l.fn.runner l.runner;
+  same : l.runner.permutations ≡ l.fn.runner.permutations;
+}
 
 abbrev pub decreases-turns-loop-runner : goal.decreases-turns-loop-runner
 decreases-turns-loop-runner l = l.setting.limit - l.runner.state.clock

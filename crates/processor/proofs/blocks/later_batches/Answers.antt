@@ -1,4 +1,4 @@
-use Rattle.std.proofs.Common.{rules, ◌+◌, drop, Ok}
+use Rattle.std.proofs.Common.{rules, ◌+◌, ◌∙◌, drop, Ok}
 use Rattle.block_tree.specs.Cycles.{Respan}
 use Rattle.block_tree.specs.Execution.{seq}
 use Rattle.op_pack.specs.Reading.{reading}
@@ -9,40 +9,43 @@ use Rattle.processor.proofs.RunLemmas.{left-fail, left-next}
 use Rattle.processor.proofs.SpanLemmas.{left-batch, no_batches}
 use Rattle.processor.proofs.blocks.later_batches.Goals as goal
 
-pub returns-in_err-cycle : goal.returns-in_err-cycle
-returns-in_err-cycle c =
+pub returns-in_err-cycle-clause-ran : goal.returns-in_err-cycle-clause-ran
+returns-in_err-cycle-clause-ran c =
     left-fail (cycle_in c.args.setting.now (Respan c.shown.result.elements))
     (seq (read_operations_in c.args.setting.now (reading c.batch-item.result.elements))
     (batches_in c.args.setting.now Respan (elements_of (drop (c.loop-batch.batch-index + 1) c.args.batches.now))))
     (left-batch c.args.setting.now c.args.batches.now c.loop-batch.batch-index c.batch-item.result c.shown.result.elements
-    c.loop-batch-test.true c.batch-item.is c.shown.ensures.elements c.loop-batch.invariant)
+    c.loop-batch-test.true c.batch-item.is c.shown.ensures.elements c.loop-batch.invariant.ran)
     (search rules) c.in_err-cycle.ensures.ran
 
-pub returns-in_err-batch_operations : goal.returns-in_err-batch_operations
-returns-in_err-batch_operations c =
+pub returns-in_err-batch_operations-clause-ran : goal.returns-in_err-batch_operations-clause-ran
+returns-in_err-batch_operations-clause-ran c =
     left-fail (read_operations_in c.args.setting.now (reading c.batch-item.result.elements))
     (batches_in c.args.setting.now Respan (elements_of (drop (c.loop-batch.batch-index + 1) c.args.batches.now)))
     (left-next (cycle_in c.args.setting.now (Respan c.shown.result.elements))
     (seq (read_operations_in c.args.setting.now (reading c.batch-item.result.elements))
     (batches_in c.args.setting.now Respan (elements_of (drop (c.loop-batch.batch-index + 1) c.args.batches.now))))
     (left-batch c.args.setting.now c.args.batches.now c.loop-batch.batch-index c.batch-item.result c.shown.result.elements
-    c.loop-batch-test.true c.batch-item.is c.shown.ensures.elements c.loop-batch.invariant)
+    c.loop-batch-test.true c.batch-item.is c.shown.ensures.elements c.loop-batch.invariant.ran)
     c.in_ok-cycle.ensures.ran)
-    (search rules) c.in_err-batch_operations.ensures
+    (search rules) c.in_err-batch_operations.ensures.ran
 
 pub loop-batch-preserved : goal.loop-batch-preserved
-loop-batch-preserved c =
-    left-next (read_operations_in c.args.setting.now (reading c.batch-item.result.elements))
-    (batches_in c.args.setting.now Respan (elements_of (drop (c.loop-batch.batch-index + 1) c.args.batches.now)))
-    (left-next (cycle_in c.args.setting.now (Respan c.shown.result.elements))
-    (seq (read_operations_in c.args.setting.now (reading c.batch-item.result.elements))
-    (batches_in c.args.setting.now Respan (elements_of (drop (c.loop-batch.batch-index + 1) c.args.batches.now))))
-    (left-batch c.args.setting.now c.args.batches.now c.loop-batch.batch-index c.batch-item.result c.shown.result.elements
-    c.loop-batch-test.true c.batch-item.is c.shown.ensures.elements c.loop-batch.invariant)
-    c.in_ok-cycle.ensures.ran)
-    c.in_ok-batch_operations.ensures
+loop-batch-preserved c = record {
+  ran =
+      left-next (read_operations_in c.args.setting.now (reading c.batch-item.result.elements))
+      (batches_in c.args.setting.now Respan (elements_of (drop (c.loop-batch.batch-index + 1) c.args.batches.now)))
+      (left-next (cycle_in c.args.setting.now (Respan c.shown.result.elements))
+      (seq (read_operations_in c.args.setting.now (reading c.batch-item.result.elements))
+      (batches_in c.args.setting.now Respan (elements_of (drop (c.loop-batch.batch-index + 1) c.args.batches.now))))
+      (left-batch c.args.setting.now c.args.batches.now c.loop-batch.batch-index c.batch-item.result c.shown.result.elements
+      c.loop-batch-test.true c.batch-item.is c.shown.ensures.elements c.loop-batch.invariant.ran)
+      c.in_ok-cycle.ensures.ran)
+      c.in_ok-batch_operations.ensures.ran;
+  same = c.in_ok-batch_operations.ensures.same ∙ (c.in_ok-cycle.ensures.same ∙ c.loop-batch.invariant.same);
+}
 
-pub returns : goal.returns
-returns c =
-    c.loop-batch.invariant.goes (Ok tt) c.loop-batch.runner
+pub returns-clause-ran : goal.returns-clause-ran
+returns-clause-ran c =
+    c.loop-batch.invariant.ran.goes (Ok tt) c.loop-batch.runner
     (no_batches c.args.setting.now c.args.batches.now c.loop-batch.batch-index c.loop-batch.runner tt c.loop-batch-test.false)
