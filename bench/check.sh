@@ -55,7 +55,7 @@ cat >"$work/crates/bench_check/src/main.rt" <<'END_MAIN'
 #![tactic(auto)]
 
 use air_kit::{Public, Trace};
-use checker::{check, check_rows, has_counts};
+use checker::{Seed, check, check_rows, has_counts};
 use rpo_hash::Params;
 use std::alloc::Global;
 use std::time::Instant;
@@ -111,7 +111,7 @@ fn time(rt: &HostRuntime, file: &str) -> anyhow::Result<()> {
     }
     let rows = trace.main.rows();
     let start = Instant::now(rt)?;
-    let answer = check(rt.alloc(), trace, public, 1, &OpenGate);
+    let answer = check(rt.alloc(), Seed::new(0), trace, public, 1, &OpenGate);
     let counting = start.elapsed(rt)?.as_micros().saturating_sub(testing);
     if answer.is_err() {
         println!(rt; "not accepted")?;

@@ -1,7 +1,14 @@
 #!/bin/bash
-# Checks short table files whose heads claim as many rows as a table may have, one for each table, under a bound of virtual memory
+# Checks files that were made to cost the checker more than they are long.
+#
+# First short table files whose heads claim as many rows as a table may have, one for each table, under a bound of virtual memory
 # that none of these tables would fit in. What a head claims reserves nothing: each file is answered `malformed .. Ended` with the
-# status 10, and not as refused memory. MIDEN is the program in place of the one that the script `miden` builds, KILOBYTES the bound.
+# status 10, and not as refused memory. KILOBYTES is the bound.
+#
+# Then a memory table of ROWS rows, 128,000 where that is not given, whose tuples would all have the same hash if it began with the
+# seed 0, and one of as many ordinary rows: the time of the first is to be at most five times that of the second.
+#
+# MIDEN is the program in place of the one that the script `miden` builds.
 set -e
 top=$(cd "$(dirname "$0")/.." && pwd)
 work=$(mktemp -d)
@@ -37,4 +44,60 @@ for name in main range hasher bitwise memory kernel left; do
         failed=1
     fi
 done
+
+# The hash of a tuple begins as a FoldHasher that took the seed; it takes the tuple's length and each element, by one
+# multiplication each. An element that is what the hasher has come to leaves 0.
+make_memory() {
+    python3 - "$top/examples/traces" "$1" "${ROWS:-128000}" <<'END'
+import sys
+
+sys.path.insert(0, sys.argv[1])
+from tables import COLUMNS, tables_in, written
+
+PRIME = 2**64 - 2**32 + 1
+MEMORY = list(COLUMNS).index("memory")
+
+
+def folded(state, number):
+    product = (state ^ number) * (0x9E3779B97F4A7C15 ^ 16)
+    return (product & (2**64 - 1)) ^ (product >> 64)
+
+
+def come_to(numbers):
+    state = 0x243F6A8885A308D3
+    for number in [0, 8] + numbers:
+        state = folded(state, number)
+    return state
+
+
+rows = []
+for clock in range(1, int(sys.argv[3]) + 1):
+    element = come_to([1, 0, 0, clock]) if sys.argv[2] == "colliding" else clock
+    rows.append((1, 0, 0, clock, element % PRIME, 0, 0, 0, int(clock == 1), 0, 0, 0, 0, 0))
+tables = tables_in(sys.argv[1] + "/sum.table")
+tables[MEMORY] = rows
+written(sys.argv[2], tables)
+END
+}
+
+# The least milliseconds of three.
+time_of() {
+    local least= took began status
+    for _ in 1 2 3; do
+        began=$(date +%s%N)
+        status=0
+        "$program" check params "$1" statement --evidence evidence >/dev/null || status=$?
+        took=$((($(date +%s%N) - began) / 1000000))
+        [ "$status" -eq 1 ] || return 1
+        if [ -z "$least" ] || [ "$took" -lt "$least" ]; then least=$took; fi
+    done
+    echo "$least"
+}
+
+make_memory ordinary
+make_memory colliding
+ordinary=$(time_of ordinary)
+colliding=$(time_of colliding)
+echo "ordinary rows: $ordinary ms, colliding rows: $colliding ms"
+[ "$colliding" -le $((5 * ordinary)) ] || failed=1
 exit "$failed"

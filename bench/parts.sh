@@ -34,7 +34,7 @@ make_program() {
 ghost use Rattle.std.specs.Prelude.{◌≤◌, length, IfSome};
 
 use air_kit::Public;
-use checker::{check, check_rows};
+use checker::{Seed, check, check_rows};
 use fill_files::{statement_file_of_run, trace_of_run};
 use host_io::FolderShelf;
 use masm_lex::MAX_SOURCE;
@@ -139,7 +139,7 @@ fn time(
         println!(rt; "a fault in a row")?;
     }
     let testing = lap(rt, &mut start)?;
-    let Ok(valid) = check(alloc, trace, public, 1, &OpenGate) else {
+    let Ok(valid) = check(alloc, Seed::new(0), trace, public, 1, &OpenGate) else {
         println!(rt; "not accepted")?;
         return Ok(());
     };

@@ -18,7 +18,7 @@ cat >"$work/crates/bench_tally/src/main.rt" <<'END'
 ghost use Rattle.std.specs.Prelude.{◌≡◌, ℕ, ◌≤◌, List, true};
 ghost use Rattle.bus_kit.specs.Tallies.{asked_in, is_width};
 
-use bus_kit::Tally;
+use bus_kit::{Seed, Tally};
 use std::alloc::Global;
 use std::time::Instant;
 use vm_field::{Felt, Memory};
@@ -49,7 +49,7 @@ fn time_width(rt: &HostRuntime, alloc: Global, width: usize) -> anyhow::Result<(
     requires few { width ≤ 14 }
     requires positive { 1 ≤ width }
 {
-    let mut tally = Tally::new(alloc);
+    let mut tally = Tally::new(alloc, Seed::new(0));
     let start = Instant::now(rt)?;
     ask_all(&mut tally, width)?;
     let adds = start.elapsed(rt)?.as_micros();

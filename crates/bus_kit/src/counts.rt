@@ -2,6 +2,7 @@ ghost use Rattle.std.specs.Prelude.{◌≡◌, ℕ, ◌+◌, ◌^◌, ◌<◌, �
 ghost use Rattle.bus_kit.specs.Counting.{both_in, more_on, on_side, IsAdded};
 ghost use Rattle.bus_kit.specs.Scanning.{IsAnswerOf, scanned as scanned_of, told as told_of};
 
+use crate::seed::Seed;
 use crate::tuple::{Tuple, Unequal};
 use std::alloc::Global;
 use std::cmp::Ordering;
@@ -83,18 +84,18 @@ fn told<const N: usize>(entry: &Entry<N>) -> Unequal
 /// Both counts of the tuples of one width.
 #[derive(Drop)]
 pub struct Counts<const N: usize> {
-    pub both: HashMap<[Felt; N], Both>,
+    pub both: HashMap<[Felt; N], Both, Seed>,
     ghost few: { N ≤ 14 },
 }
 
 impl<const N: usize> Counts<N> {
     /// No tuple. It allocates nothing.
-    pub fn new(alloc: Global) -> Counts<N>
+    pub fn new(alloc: Global, seed: Seed) -> Counts<N>
         requires { N ≤ 14 }
         ensures { (u : List ℕ) → both_in result.both u ≡ (0, 0) }
     {
         Counts {
-            both: HashMap::new(alloc),
+            both: HashMap::with_hasher(alloc, seed),
         }
     }
 

@@ -4,6 +4,7 @@
 mod adding;
 mod counts;
 mod laws;
+mod seed;
 mod singles;
 mod tallies;
 mod tally;
@@ -12,6 +13,7 @@ mod values;
 
 pub use adding::{ask, ask_if, ask_values, give, give_if, give_times};
 pub use laws::types_cross;
+pub use seed::Seed;
 pub use tallies::Tallies;
 pub use tally::Tally;
 pub use tuple::{Tuple, Unequal};

@@ -4,6 +4,7 @@ ghost use Rattle.bus_kit.specs.Scanning.{IsAnswerOf};
 ghost use Rattle.bus_kit.specs.Tallies.{one_of};
 
 use crate::counts::{Counts, Side, added};
+use crate::seed::Seed;
 use crate::tuple::{Tuple, Unequal};
 use crate::values::{SMALL, Singles, first_apart, make_room};
 use std::alloc::Global;
@@ -11,12 +12,12 @@ use vm_field::{Felt, Memory};
 
 impl Singles {
     /// No element. It allocates nothing.
-    pub fn new(alloc: Global) -> Singles
+    pub fn new(alloc: Global, seed: Seed) -> Singles
         ensures { (u : List ℕ) → one_of result u ≡ (0, 0) }
     {
         Singles {
             small: Vec::new(alloc),
-            great: Counts::new(alloc),
+            great: Counts::new(alloc, seed),
         }
     }
 

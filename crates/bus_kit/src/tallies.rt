@@ -2,6 +2,7 @@ ghost use Rattle.std.specs.Prelude.{◌≡◌, ℕ, List};
 ghost use Rattle.buses.specs.declared.bus.Bus.{Bus};
 ghost use Rattle.bus_kit.specs.ByBus.{asked_by, given_by, tally_of};
 
+use crate::seed::Seed;
 use crate::tally::Tally;
 use buses::Bus;
 use std::alloc::Global;
@@ -23,21 +24,21 @@ pub struct Tallies {
 
 impl Tallies {
     /// The tallies of no tuple. It allocates nothing.
-    pub fn new(alloc: Global) -> Tallies
+    pub fn new(alloc: Global, seed: Seed) -> Tallies
         ensures asked { (bus : Bus) (u : List ℕ) → asked_by result bus u ≡ 0 }
         ensures given { (bus : Bus) (u : List ℕ) → given_by result bus u ≡ 0 }
     {
         Tallies {
-            blocks: Tally::new(alloc),
-            children: Tally::new(alloc),
-            loops: Tally::new(alloc),
-            groups: Tally::new(alloc),
-            overflow: Tally::new(alloc),
-            hasher: Tally::new(alloc),
-            bitwise: Tally::new(alloc),
-            memory: Tally::new(alloc),
-            range: Tally::new(alloc),
-            kernel: Tally::new(alloc),
+            blocks: Tally::new(alloc, seed),
+            children: Tally::new(alloc, seed),
+            loops: Tally::new(alloc, seed),
+            groups: Tally::new(alloc, seed),
+            overflow: Tally::new(alloc, seed),
+            hasher: Tally::new(alloc, seed),
+            bitwise: Tally::new(alloc, seed),
+            memory: Tally::new(alloc, seed),
+            range: Tally::new(alloc, seed),
+            kernel: Tally::new(alloc, seed),
         }
     }
 

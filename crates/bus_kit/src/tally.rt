@@ -5,6 +5,7 @@ ghost use Rattle.buses.specs.Counts.{hits};
 ghost use Rattle.bus_kit.specs.Tallies.{asked_in, both_at, given_in, is_width};
 
 use crate::counts::{Counts, Side};
+use crate::seed::Seed;
 use crate::tuple::Unequal;
 use crate::values::Singles;
 use std::alloc::Global;
@@ -28,21 +29,21 @@ pub struct Tally {
 
 impl Tally {
     /// The tally of no tuple. It allocates nothing.
-    pub fn new(alloc: Global) -> Tally
+    pub fn new(alloc: Global, seed: Seed) -> Tally
         ensures asked { (u : List ℕ) → asked_in result u ≡ 0 }
         ensures given { (u : List ℕ) → given_in result u ≡ 0 }
     {
         Tally {
-            one: Singles::new(alloc),
-            three: Counts::new(alloc),
-            four: Counts::new(alloc),
-            five: Counts::new(alloc),
-            six: Counts::new(alloc),
-            eight: Counts::new(alloc),
-            ten: Counts::new(alloc),
-            eleven: Counts::new(alloc),
-            twelve: Counts::new(alloc),
-            fourteen: Counts::new(alloc),
+            one: Singles::new(alloc, seed),
+            three: Counts::new(alloc, seed),
+            four: Counts::new(alloc, seed),
+            five: Counts::new(alloc, seed),
+            six: Counts::new(alloc, seed),
+            eight: Counts::new(alloc, seed),
+            ten: Counts::new(alloc, seed),
+            eleven: Counts::new(alloc, seed),
+            twelve: Counts::new(alloc, seed),
+            fourteen: Counts::new(alloc, seed),
         }
     }
 

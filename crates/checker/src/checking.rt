@@ -8,6 +8,7 @@ use crate::refusal::{Refused, first_apart};
 use crate::rows::check_rows;
 use crate::setting::Setting;
 use air_kit::{Public, Trace};
+use bus_kit::Seed;
 use std::alloc::Global;
 use vm_io::Gate;
 
@@ -42,9 +43,10 @@ impl Valid {
 /// Checks a trace: it is accepted exactly where each entry of each row is 0 and each bus has each tuple asked as often as given.
 /// Else the answer is the first fault by table, row and number; where there is none, the first bus that is apart, with the least
 /// tuple and both its counts. Memory is asked for only where no row has a fault. The rows are tested in so many pieces, of which
-/// each goes through the gate; there is one.
+/// each goes through the gate; there is one. The tuples' counts are hashed from the seed, on which no answer depends.
 pub fn check<G: Gate>(
     alloc: Global,
+    seed: Seed,
     trace: Trace,
     public: Public,
     pieces: usize,
@@ -60,14 +62,14 @@ pub fn check<G: Gate>(
     if let Some(fault) = check_rows(&trace, &public, pieces, gate) {
         return Err(Refused::Fault(fault));
     }
-    match refused_by_buses(alloc, &trace, &public) {
+    match refused_by_buses(alloc, seed, &trace, &public) {
         None => Ok(Valid { trace, public }),
         Some(refused) => Err(refused),
     }
 }
 
 // Why the buses refuse a trace of which no row has a fault; none where they do not.
-fn refused_by_buses(alloc: Global, trace: &Trace, public: &Public) -> Option<Refused>
+fn refused_by_buses(alloc: Global, seed: Seed, trace: &Trace, public: &Public) -> Option<Refused>
     requires counts { HasCounts trace.now }
     requires zero { AreZero (claim_of public.now trace.now) trace.now }
     ensures { IsBusesAnswer public.now trace.now result }
@@ -75,7 +77,7 @@ fn refused_by_buses(alloc: Global, trace: &Trace, public: &Public) -> Option<Ref
     // a table says of its rows that they are elements
     let _ = trace.main.rows();
     let setting = Setting::of(trace, public);
-    let Some(tallies) = count_all(alloc, trace, &setting) else {
+    let Some(tallies) = count_all(alloc, seed, trace, &setting) else {
         return Some(Refused::Memory);
     };
     match first_apart(&tallies) {

@@ -10,16 +10,21 @@ use air_kit::{TableName, Trace};
 use bus_chips::{
     tuples_bitwise, tuples_hasher, tuples_kernel, tuples_left, tuples_memory, tuples_range,
 };
-use bus_kit::Tallies;
+use bus_kit::{Seed, Tallies};
 use std::alloc::Global;
 
 /// What the rows of all tables and the statement ask and give on each bus; none where memory was refused.
-pub(crate) fn count_all(alloc: Global, trace: &Trace, setting: &Setting<'_>) -> Option<Tallies>
+pub(crate) fn count_all(
+    alloc: Global,
+    seed: Seed,
+    trace: &Trace,
+    setting: &Setting<'_>,
+) -> Option<Tallies>
     requires counts { HasCounts trace.now }
     requires readable { AreReadable trace.now.main }
     ensures { IfSome result (IsTraceCounted (claim_in setting.now) setting.now.public.now.statement.digest trace.now) }
 {
-    let mut tallies = Tallies::new(alloc);
+    let mut tallies = Tallies::new(alloc, seed);
     count_table(trace, setting, TableName::Main, &mut tallies)?;
     count_table(trace, setting, TableName::Range, &mut tallies)?;
     count_table(trace, setting, TableName::Hasher, &mut tallies)?;

@@ -10,6 +10,7 @@ mod rows;
 mod setting;
 
 pub use air_kit::has_counts;
+pub use bus_kit::Seed;
 pub use checking::{Valid, check};
 pub use crossing::types_cross;
 pub use refusal::Refused;

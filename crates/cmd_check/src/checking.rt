@@ -14,7 +14,7 @@ ghost use Rattle.cmd_kit.specs.Steps.{accepted};
 
 use air_kit::{Public, Trace};
 use block_tree::Evidence;
-use checker::{Refused, Valid, check};
+use checker::{Refused, Seed, Valid, check};
 use cmd_kit::{
     Outcome, Status, answered, load_params, load_statement, load_trace, refused_line, save,
 };
@@ -37,6 +37,7 @@ pub struct CheckNames<'a> {
 /// `check`: reads the parameters, the table file and the statement, and judges the trace.
 pub fn check_files<F: Shelf, G: Gate>(
     alloc: Global,
+    seed: Seed,
     shelf: &mut F,
     gate: &G,
     params: &str,
@@ -49,7 +50,7 @@ pub fn check_files<F: Shelf, G: Gate>(
     ensures { EndsIn (Some (check_steps params.now names.entry.table.now names.entry.statement.now names.entry.evidence.now)) result
         (F.state shelf.old) (F.state shelf.new) }
 {
-    match read_and_judge(alloc, shelf, gate, params, names) {
+    match read_and_judge(alloc, seed, shelf, gate, params, names) {
         Ok(end) | Err(end) => end,
     }
 }
@@ -57,6 +58,7 @@ pub fn check_files<F: Shelf, G: Gate>(
 // Reads the files, one after another, and judges the trace.
 fn read_and_judge<F: Shelf, G: Gate>(
     alloc: Global,
+    seed: Seed,
     shelf: &mut F,
     gate: &G,
     params: &str,
@@ -73,12 +75,13 @@ fn read_and_judge<F: Shelf, G: Gate>(
     let trace = load_trace(alloc, shelf, names.table)?;
     let statement = load_statement(alloc, shelf, names.statement)?;
     let public = Public { params, statement };
-    Ok(judge(alloc, shelf, gate, public, trace, names.evidence))
+    Ok(judge(alloc, seed, shelf, gate, public, trace, names.evidence))
 }
 
 // Checks the trace: its evidence is written and told, or its refusal is told.
 fn judge<F: Shelf, G: Gate>(
     alloc: Global,
+    seed: Seed,
     shelf: &mut F,
     gate: &G,
     public: Public,
@@ -90,7 +93,7 @@ fn judge<F: Shelf, G: Gate>(
     ensures { EndsIn (Some (judging_steps evidence.now (constants_of public.params) trace (stated_of public.statement))) result
         (F.state shelf.old) (F.state shelf.new) }
 {
-    match check(alloc, trace, public, 1, gate) {
+    match check(alloc, seed, trace, public, 1, gate) {
         Ok(valid) => accept(alloc, shelf, &valid, evidence),
         Err(refused) => refuse(alloc, &refused),
     }

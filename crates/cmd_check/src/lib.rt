@@ -3,4 +3,5 @@
 
 mod checking;
 
+pub use checker::Seed;
 pub use checking::{CheckNames, check_files};

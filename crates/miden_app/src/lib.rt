@@ -5,8 +5,9 @@ mod hash;
 mod serving;
 mod words;
 
+pub use cmd_check::Seed;
 pub use cmd_kit::{
     Status, accepted_has_evidence, answered_run_stands, good_files_are_served, other_files_stay,
-    usage_is_for_no_command, written_run_is_accepted,
+    run_leaves_good_files, usage_is_for_no_command, written_run_is_accepted,
 };
 pub use serving::serve;

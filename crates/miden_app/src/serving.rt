@@ -8,7 +8,7 @@ ghost use Rattle.cmd_kit.specs.Serving.{Serves};
 use crate::hash::hash_files;
 use crate::words::{Command, command_of};
 use cmd_assemble::assemble_files;
-use cmd_check::{CheckNames, check_files};
+use cmd_check::{CheckNames, Seed, check_files};
 use cmd_kit::{Outcome, Status, answered};
 use cmd_run::{RunOptions, run_source_files};
 use std::alloc::Global;
@@ -16,7 +16,7 @@ use vm_field::Bytes;
 use vm_io::{Gate, Shelf, Sink, SinkStop};
 
 /// Does what the words after the program's name ask for, over the shelf's files, and prints its
-/// line.
+/// line. No file, line or status depends on the seed, from which the counts of `check` are hashed.
 ///
 /// Each status other than `SinkFault` and `Memory` is the one that the words and the files come to,
 /// or says that a read or a write failed, and its line was printed. `SinkFault` says that the line
@@ -30,6 +30,7 @@ use vm_io::{Gate, Shelf, Sink, SinkStop};
 #[tactic(auto, using(crate::proofs::PrintingLemmas::serves_steps))]
 pub fn serve<F: Shelf, K: Sink, G: Gate>(
     alloc: Global,
+    seed: Seed,
     words: &[Vec<u8>],
     shelf: &mut F,
     out: &mut K,
@@ -38,13 +39,19 @@ pub fn serve<F: Shelf, K: Sink, G: Gate>(
     ensures { Serves (texts words.now) result (F.state shelf.old) (F.state shelf.new)
         (K.state out.old) (K.state out.new) }
 {
-    let outcome = obey(alloc, words, shelf, gate);
+    let outcome = obey(alloc, seed, words, shelf, gate);
     print(alloc, out, outcome)
 }
 
 // Does the work of the command, and leaves its line to be printed.
 #[tactic(auto, using(cmd_kit::proofs::ServingLemmas::usage_ends))]
-fn obey<F: Shelf, G: Gate>(alloc: Global, words: &[Vec<u8>], shelf: &mut F, gate: &G) -> Outcome
+fn obey<F: Shelf, G: Gate>(
+    alloc: Global,
+    seed: Seed,
+    words: &[Vec<u8>],
+    shelf: &mut F,
+    gate: &G,
+) -> Outcome
     ensures { EndsIn (steps_of (asked (texts words.now))) result (F.state shelf.old) (F.state shelf.new) }
 {
     match command_of(words) {
@@ -80,6 +87,7 @@ fn obey<F: Shelf, G: Gate>(alloc: Global, words: &[Vec<u8>], shelf: &mut F, gate
             evidence,
         } => check_files(
             alloc,
+            seed,
             shelf,
             gate,
             params,

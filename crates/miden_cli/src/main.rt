@@ -2,8 +2,9 @@
 #![tactic(auto)]
 
 use host_io::{FolderShelf, StdSink};
-use miden_app::{Status, serve};
+use miden_app::{Seed, Status, serve};
 use std::process::ExitCode;
+use std::random::RandomSource;
 use std::rt::Env;
 use std::{env, io};
 use vm_io::OpenGate;
@@ -26,6 +27,15 @@ fn handed_words(rt: &(impl Env + AllocGlobal)) -> io::Result<Vec<Vec<u8>>> {
     Ok(words)
 }
 
+// A number that whoever made the files does not know; 0 where the system has no random bytes.
+fn seed(rt: &impl RandomSource) -> Seed {
+    let mut bytes = [0; 8];
+    if rt.fill_bytes(&mut bytes).is_err() {
+        bytes = [0; 8];
+    }
+    Seed::new(u64::from_le_bytes(bytes))
+}
+
 fn main(rt: HostRuntime) -> ExitCode {
     let Some(words) = words(&rt) else {
         return Status::Memory.exit_code();
@@ -34,6 +44,7 @@ fn main(rt: HostRuntime) -> ExitCode {
     let mut out = StdSink::new(&rt);
     let status = serve(
         rt.alloc(),
+        seed(&rt),
         words.as_slice(),
         &mut shelf,
         &mut out,

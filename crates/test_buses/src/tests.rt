@@ -5,7 +5,7 @@ ghost use Rattle.bus_main.specs.RowTuples.{IsReadable};
 
 use air_kit::{Place, Public};
 use bus_blocks::positions;
-use bus_kit::{Tallies, Tuple, Unequal};
+use bus_kit::{Seed, Tallies, Tuple, Unequal};
 use bus_main::tuples;
 use buses::Bus;
 use rpo_hash::Params;
@@ -293,7 +293,7 @@ fn is_apart(found: &Option<Unequal>, case: &Case, ends: bool) -> bool {
 
 // Whether a row's tallies are as its case says. Nothing returns before the end: the proof pays for the tallies at each return.
 fn is_counted(alloc: Global, case: &Case, ends: bool) -> Result<bool, Memory> {
-    let mut tallies = Tallies::new(alloc);
+    let mut tallies = Tallies::new(alloc, Seed::new(0));
     let done = count(alloc, case, ends, &mut tallies);
     let is_right = is_apart(&tallies.of(case.bus).unequal(), case, ends);
     done.map(|is_read| is_read && is_right)

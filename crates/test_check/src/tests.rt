@@ -2,7 +2,7 @@ use crate::cases::{ACCEPTED, APART, Answer, Case, FAULTS};
 use crate::making::{are_within, public, trace};
 use air_kit::{Fault, Public, Trace};
 use bus_kit::Tuple;
-use checker::{Refused, Valid, check, has_counts};
+use checker::{Refused, Seed, Valid, check, has_counts};
 use std::alloc::Global;
 use std::test::Fail;
 use vm_field::Memory;
@@ -55,7 +55,10 @@ fn is_answered(alloc: Global, trace: Trace, public: Public, case: &Case) -> bool
     if !are_within(&trace, case.changes) || !has_counts(&trace) {
         return false;
     }
-    is_answer(&check(alloc, trace, public, 1, &OpenGate), &case.answer)
+    is_answer(
+        &check(alloc, Seed::new(0), trace, public, 1, &OpenGate),
+        &case.answer,
+    )
 }
 
 fn answers(alloc: Global, case: &Case) -> Result<bool, Memory> {

@@ -1,4 +1,4 @@
-use bus_kit::{Tally, Tuple};
+use bus_kit::{Seed, Tally, Tuple};
 use std::alloc::Global;
 use std::test::Fail;
 use vm_field::{Felt, Memory};
@@ -6,7 +6,7 @@ use vm_field::{Felt, Memory};
 // The tally of [7], [70000] and a tuple of three elements, asked and given, and of a lesser one that
 // was asked alone.
 fn tallied(alloc: Global, more: u64) -> Result<Tally, Memory> {
-    let mut tally = Tally::new(alloc);
+    let mut tally = Tally::new(alloc, Seed::new(0));
     tally.ask(&[Felt::from_u32(7)], 3)?;
     tally.give(&[Felt::from_u32(7)], 3)?;
     tally.ask(&[Felt::from_u32(70000)], more)?;

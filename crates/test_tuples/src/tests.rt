@@ -2,7 +2,7 @@ ghost use Rattle.bus_kit.specs.ByBus.{HaveRoom};
 
 use air_kit::{Place, Public};
 use bus_chips::{tuples_bitwise, tuples_memory};
-use bus_kit::{Tallies, Tuple, Unequal};
+use bus_kit::{Seed, Tallies, Tuple, Unequal};
 use buses::Bus;
 use rpo_hash::Params;
 use std::alloc::Global;
@@ -165,7 +165,7 @@ fn count(alloc: Global, counted: &Counted, tallies: &mut Tallies) -> Result<(), 
 
 // Whether a row's tallies are as its case says. Nothing returns before the end: the proof pays for the tallies at each return.
 fn is_counted(alloc: Global, case: &Case) -> Result<bool, Memory> {
-    let mut tallies = Tallies::new(alloc);
+    let mut tallies = Tallies::new(alloc, Seed::new(0));
     let done = count(alloc, &case.counted, &mut tallies);
     let is_right = is_apart(&tallies.of(case.bus).unequal(), &case.apart);
     done.and(Ok(is_right))

@@ -1,5 +1,5 @@
 use crate::tests::content::{Content, bytes_of};
-use miden_app::serve;
+use miden_app::{Seed, serve};
 use std::alloc::Global;
 use std::process::Abort;
 use std::test::Fail;
@@ -111,7 +111,14 @@ fn answers(alloc: Global, row: &Row, shelf: &mut MemShelf) -> Result<bool, Memor
         sink.fail(row.failing_write)?;
     }
     let words = words_of(alloc, row.words)?;
-    let status = serve(alloc, words.as_slice(), shelf, &mut sink, &OpenGate);
+    let status = serve(
+        alloc,
+        Seed::new(0),
+        words.as_slice(),
+        shelf,
+        &mut sink,
+        &OpenGate,
+    );
     Ok(
         status.number() == row.number
             && sink.taken() == row.printed.as_bytes()
@@ -249,7 +256,14 @@ fn runs(alloc: Global, row: &Outline) -> Result<bool, Memory> {
     let mut shelf = shelf_of(alloc, &row.run)?;
     let mut sink = MemSink::new(alloc);
     let words = words_of(alloc, row.run.words)?;
-    let status = serve(alloc, words.as_slice(), &mut shelf, &mut sink, &OpenGate);
+    let status = serve(
+        alloc,
+        Seed::new(0),
+        words.as_slice(),
+        &mut shelf,
+        &mut sink,
+        &OpenGate,
+    );
     let is_run = status.number() == row.run.number
         && sink.taken().ends_with(row.run.printed.as_bytes());
     Ok(is_run && answers(alloc, &row.check, &mut shelf)? && has_line(&shelf, row.line))
