@@ -24,6 +24,8 @@ use Rattle.air_kit.specs.declared.trace.Trace.{Trace}
 use Rattle.table_file.specs.Files.{trace_of}
 use Rattle.vm_io.specs.Shelf.{Files, ShelfState}
 use Rattle.vm_io.specs.Sink.{SinkState}
+use Rattle.checker.specs.declared.refusal.Refused.{Refused}
+use Rattle.checker.specs.declared.refusal.Refused.TheVariants as why
 use Rattle.cmd_kit.specs.declared.status.Status.{Status}
 use Rattle.cmd_kit.specs.declared.status.Status.TheVariants as status
 use Rattle.cmd_kit.specs.declared.answer.Answer.{Answer}
@@ -34,7 +36,7 @@ use Rattle.cmd_kit.specs.SourceEnds.{AssemblesFiles}
 use Rattle.cmd_kit.specs.AssembleEnds as assembling
 use Rattle.cmd_kit.specs.AssembleEnds.{AnswersAssembly, assembled}
 use Rattle.cmd_kit.specs.HashEnds.{hash_end}
-use Rattle.cmd_kit.specs.CheckEnds.{IsVerdictFor}
+use Rattle.cmd_kit.specs.CheckEnds.{IsVerdictFor, IsWhy}
 use Rattle.cmd_kit.specs.RunEnds as ends
 use Rattle.cmd_kit.specs.RunEnds.{IsCourse, halted, trapped, unended, outcome_of}
 use Rattle.cmd_kit.specs.Commands.{EndsAs, steps_of}
@@ -44,8 +46,7 @@ use Rattle.cmd_kit.specs.AssembleSteps.{assemble_steps}
 use Rattle.cmd_kit.specs.RunSteps.{run_steps, running_steps, course_steps}
 use Rattle.cmd_kit.specs.CheckSteps.{check_steps, judging_steps, found_steps}
 use Rattle.cmd_kit.specs.Serving.{ComesWhere, ServesAs, Works, Ends}
-use Rattle.cmd_kit.specs.Completeness.{FileSays, HoldsSource, HoldsKernel, IsGood, IsGoodHash, IsGoodAssembly, IsGoodRun, IsGoodCheck, IsFault, GoodIsOk}
-use Rattle.cmd_kit.proofs.CompleteLaw.{not_both}
+use Rattle.cmd_kit.specs.Completeness.{FileSays, HoldsSource, HoldsKernel, IsAcceptedFor, IsGood, IsGoodHash, IsGoodAssembly, IsGoodRun, IsGoodCheck, IsFault, GoodIsOk, OneVerdict}
 use Rattle.cmd_kit.proofs.Walks as walks
 use Rattle.cmd_kit.proofs.Walks.{ended, read_on, was_found, was_written}
 
@@ -80,6 +81,16 @@ same_accepted p q t params claims is =
       buses = λ bus. subst (λ c. AreAlike (asked_on c t bus) (given_on q.statement.digest t bus)) same
           (subst (λ d. AreAlike (asked_on (traces.claim_of p t) t bus) (given_on d t bus)) digest (is.buses bus));
     }
+
+pub one_verdict : OneVerdict
+one_verdict constants claim t h p is =
+    same_accepted h.against p t (h.is_public.params ∙ sym is.params) (h.is_public.statement ∙ sym is.statement) h.found
+
+-- no trace is refused that is accepted
+not_both : (p : Public) (t : Trace) (r : Refused) → IsAccepted p t → IsWhy p t r → ⊥
+not_both p t (why.Fault f) is h = h.nonzero (h.value_is ∙ is.zero f.table f.row f.number h.within)
+not_both p t (why.Bus bus tuple asked given) is h = h.least.apart (h.least.asked_is ∙ is.buses bus tuple ∙ sym h.least.given_is)
+not_both p t why.Memory is h = h
 
 -- steps over these files that ended with an answer
 module _ (a : Answer) (new : Option Files) (m : Files) where
@@ -152,16 +163,14 @@ module _ (a : Answer) (new : Option Files) (m : Files) where
       let found = was_found a new (course h.constants file h.kernel h.given limit) (course_steps outputs h.constants h.given) m fifth in
       course_ok h.constants file h.kernel outputs h.given limit h.program h.last h.log found.0 h.assembled h.done found.1 found.2
 
-  verdict_ok : (evidence constants : List ℕ) (claim : Stated) (t : Trace) (v : Verdict) → IsVerdictFor constants claim t accepted
+  verdict_ok : (evidence constants : List ℕ) (claim : Stated) (t : Trace) (v : Verdict) → IsAcceptedFor constants claim t
       → IsVerdictFor constants claim t v → Goes (found_steps evidence constants claim t v) → a.status ≡ status.Ok
   verdict_ok evidence constants claim t accepted is found goes =
       let written = was_written a new evidence _ _ m goes in
       let told = ended a new (telling constants claim t written.0) (insert m evidence written.0) written.2 in
       ap (λ (b : Answer). b.status) told.0.is
   verdict_ok evidence constants claim t (refused r) is found goes =
-      absurd (not_both found.against t r
-      (same_accepted is.against found.against t (is.is_public.params ∙ sym found.is_public.params)
-      (is.is_public.statement ∙ sym found.is_public.statement) is.found) found.found)
+      absurd (not_both found.against t r (is found.against found.is_public) found.found)
 
   checked_well : (params table statement evidence : List ℕ) → IsGoodCheck m params table statement
       → Goes (check_steps params table statement evidence) → a.status ≡ status.Ok

@@ -11,6 +11,8 @@ use Rattle.block_tree.specs.declared.program.Program.{Program}
 use Rattle.number_files.specs.Grammar.{numbers_of}
 use Rattle.statement.specs.Inputs.{Given, inputs_of}
 use Rattle.statement.specs.Statements.{Stated, statement_of}
+use Rattle.air_kit.specs.Acceptance.{IsAccepted}
+use Rattle.air_kit.specs.declared.trace.Public.{Public}
 use Rattle.air_kit.specs.declared.trace.Trace.{Trace}
 use Rattle.table_file.specs.Files.{trace_of}
 use Rattle.vm_io.specs.Shelf.{Files, ShelfState}
@@ -22,7 +24,7 @@ use Rattle.cmd_kit.specs.Asked.{Asked, nothing, hash, assemble, run, check, aske
 use Rattle.cmd_kit.specs.Steps.{SourceFile, accepted}
 use Rattle.cmd_kit.specs.SourceEnds.{AssemblesFiles}
 use Rattle.cmd_kit.specs.RunEnds.{outcome_of}
-use Rattle.cmd_kit.specs.CheckEnds.{IsVerdictFor}
+use Rattle.cmd_kit.specs.CheckEnds.{IsPublic, IsVerdictFor}
 use Rattle.cmd_kit.specs.Starts.{most_params_bytes, most_inputs_bytes}
 use Rattle.cmd_kit.specs.HashSteps.{most_numbers_bytes}
 use Rattle.cmd_kit.specs.Serving.{Serves}
@@ -79,6 +81,10 @@ pub record IsGoodRun (m : Files) (params source inputs : List ℕ) (name : Optio
   pub assembled : AssemblesFiles constants (record { name = source; text = text }) kernel (Ok program)
   pub done : outcome_of constants program given limit ≡ Done last log
 
+-- the trace is accepted for what is claimed, whatever value holds these constants and this claim
+abbrev pub IsAcceptedFor : List ℕ → Stated → Trace → Type 0
+IsAcceptedFor constants claim trace = (p : Public) → IsPublic constants claim p → IsAccepted p trace
+
 -- the trace is accepted
 pub record IsGoodCheck (m : Files) (params table statement : List ℕ) : Type 0 where
   pub constants : List ℕ
@@ -87,7 +93,7 @@ pub record IsGoodCheck (m : Files) (params table statement : List ℕ) : Type 0 
   pub params_say : FileSays m params most_params_bytes parameters_of constants
   pub table_says : FileSays m table most_table_bytes trace_of trace
   pub statement_says : FileSays m statement most_statement_bytes statement_of claim
-  pub found : IsVerdictFor constants claim trace accepted
+  pub found : IsAcceptedFor constants claim trace
 
 abbrev pub IsGood : Files → Asked → Type 0
 IsGood m nothing = ⊥
@@ -110,3 +116,8 @@ abbrev pub GoodIsOk : Type 0
 GoodIsOk =
     (words : List (List ℕ)) (s : Status) (old new : ShelfState) (before now : SinkState) (m : Files)
     → old.files ≡ Some m → IsGood m (asked words) → Serves words s old new before now → (s ≡ status.Ok) ⊎ IsFault (kind_of s)
+
+-- What is accepted with one value of these constants and this claim is accepted with each.
+abbrev pub OneVerdict : Type 0
+OneVerdict =
+    (constants : List ℕ) (claim : Stated) (trace : Trace) → IsVerdictFor constants claim trace accepted → IsAcceptedFor constants claim trace

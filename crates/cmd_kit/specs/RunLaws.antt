@@ -11,8 +11,8 @@ use Rattle.fill_files.specs.RunFiles.{IsTableFileOf, IsStatementFileOf, claim_of
 use Rattle.vm_io.specs.Shelf.{Files, ShelfState}
 use Rattle.vm_io.specs.Sink.{SinkState, with_piece}
 use Rattle.cmd_kit.specs.declared.status.Status.TheVariants as status
-use Rattle.cmd_kit.specs.Asked.{Outputs, run, asked}
-use Rattle.cmd_kit.specs.Completeness.{IsGoodRun}
+use Rattle.cmd_kit.specs.Asked.{Outputs, run, check, asked}
+use Rattle.cmd_kit.specs.Completeness.{IsGood, IsGoodRun}
 use Rattle.cmd_kit.specs.RunEnds.{run_lines}
 use Rattle.cmd_kit.specs.Serving.{Serves}
 
@@ -46,3 +46,11 @@ AnsweredRunStands =
     (kernel : Option (List ℕ)) (limit : ℕ) (m : Files)
     → Serves words status.Ok old new before now → asked words ≡ run params source inputs outputs kernel limit → old.files ≡ Some m
     → RunStands params source inputs outputs kernel limit m new before now
+
+-- Where `run` answers `Ok`, the files that it leaves are good for every `check` of what it wrote under the same parameters.
+abbrev pub RunLeavesGoodFiles : Type 0
+RunLeavesGoodFiles =
+    (words : List (List ℕ)) (old new : ShelfState) (before now : SinkState) (params source inputs : List ℕ) (outputs : Outputs)
+    (kernel : Option (List ℕ)) (limit : ℕ) (m : Files)
+    → Serves words status.Ok old new before now → asked words ≡ run params source inputs outputs kernel limit → old.files ≡ Some m
+    → (n : Files) × (new.files ≡ Some n) × ((evidence : List ℕ) → IsGood n (check params outputs.table outputs.statement evidence))

@@ -1,5 +1,5 @@
-ghost use Rattle.cmd_kit.specs.Completeness.{GoodIsOk};
-ghost use Rattle.cmd_kit.specs.RunLaws.{AnsweredRunStands};
+ghost use Rattle.cmd_kit.specs.Completeness.{GoodIsOk, OneVerdict};
+ghost use Rattle.cmd_kit.specs.RunLaws.{AnsweredRunStands, RunLeavesGoodFiles};
 ghost use Rattle.cmd_kit.specs.Laws.{OtherFilesStay, CommandsWrite, UsageMeansNothing, NothingGivesUsage, AcceptedHasEvidence, WrittenRunIsAccepted};
 
 /// Which files `serve` may change, over a shelf that tells its files: whatever the answer, those
@@ -34,10 +34,16 @@ pub fn answered_run_stands()
     ensures { AnsweredRunStands }
 {}
 
+/// Where `run` answers `Ok`, over a shelf that tells its files, what it leaves is good for every `check` of the two
+/// files that it wrote, under the same parameters: they stand under their names within their lengths, read as the
+/// trace and the claim of the run, and the trace is accepted for the claim.
+pub fn run_leaves_good_files()
+    ensures { RunLeavesGoodFiles }
+{}
+
 /// What `run` vouches for, over a shelf that tells its files: where it answers `Ok`, `check` of the two files
 /// that it wrote, under the same parameters, is answered `Ok` and not refused, unless a read, a write, the
 /// sink or memory fails.
-#[tactic(auto, using(crate::proofs::CompleteLaw::written_run_is_accepted))]
 pub fn written_run_is_accepted()
     ensures { WrittenRunIsAccepted }
 {}
@@ -45,8 +51,9 @@ pub fn written_run_is_accepted()
 /// No command is refused what it can do, over a shelf that tells its files. Where its files are there,
 /// within their lengths and of their forms, and where the source of `assemble` has a program, that of `run`
 /// one that ends within the limit, and the trace of `check` is accepted, it is answered `Ok`, unless a
-/// read, a write, the sink or memory fails.
-#[tactic(auto, using(crate::proofs::Completeness::good_is_ok))]
+/// read, a write, the sink or memory fails. A trace that is accepted with one value of the constants and of
+/// the claim is accepted with each.
 pub fn good_files_are_served()
-    ensures { GoodIsOk }
+    ensures served { GoodIsOk }
+    ensures accepted { OneVerdict }
 {}

@@ -19,7 +19,7 @@ pub use answer::Answer;
 pub use bad_forms::malformed;
 pub use laws::{
     accepted_has_evidence, answered_run_stands, good_files_are_served, other_files_stay,
-    usage_is_for_no_command, written_run_is_accepted,
+    run_leaves_good_files, usage_is_for_no_command, written_run_is_accepted,
 };
 pub use lines::append_word;
 pub use loading::load;
