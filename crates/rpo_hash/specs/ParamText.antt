@@ -1,6 +1,7 @@
 -- The text of the constants: 168 lines, each the canonical decimal of an element and a line feed.
 use Rattle.std.specs.Prelude.{ℕ, zero, suc, ◌+◌, ◌==◌, if◌then◌else◌, List, [], ◌∷◌, Option, Some, None, ok_or, option_map, option_and_then, Result, Ok, Err, decimal, ◌++◌}
 use Rattle.vm_field.specs.Decimal.{element_of}
+use Rattle.vm_field.specs.Limits.{number_of_constants}
 use Rattle.rpo_hash.specs.declared.params.ParamCause.TheVariants.{Ended, Number, Extra}
 use Rattle.rpo_hash.specs.declared.params.ParamError.{ParamError}
 
@@ -36,7 +37,8 @@ nothing_left n (b ∷ bs) = Err (record { line = n; cause = Extra })
 
 -- the constants that a text writes, or its first line that is wrong
 unfoldable pub parameters_of : List ℕ → Result (List ℕ) ParamError
-parameters_of bytes = and_then (λ read. and_then (λ _. Ok read.0) (nothing_left 169 read.1)) (element_lines 168 1 bytes)
+parameters_of bytes =
+    and_then (λ read. and_then (λ _. Ok read.0) (nothing_left (number_of_constants + 1) read.1)) (element_lines number_of_constants 1 bytes)
 
 -- the text that is written of constants: a line for each
 unfoldable pub text_of : List ℕ → List ℕ
