@@ -6,3 +6,4 @@ pub mod Matrix
 pub mod OneToOne
 pub mod Digests
 pub mod WholeText
+pub mod Halves

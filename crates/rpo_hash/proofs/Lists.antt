@@ -30,6 +30,13 @@ twelve_elements (x0 ∷ x1 ∷ x2 ∷ x3 ∷ x4 ∷ x5 ∷ x6 ∷ x7 ∷ x8 ∷ 
     e7 e8 e9 e10 e11 = cc
 twelve_elements _ a b c d e f g h i j k l len e0 e1 e2 e3 e4 e5 e6 e7 e8 e9 e10 e11 = absurd (omega arith)
 
+-- twelve elements, each read at its place
+pub twelve_places : (xs : List ℕ) (a b c d e f g h i j k l : ℕ) → length xs ≡ 12
+    → xs ≡ get_or xs 0 a ∷ get_or xs 1 b ∷ get_or xs 2 c ∷ get_or xs 3 d ∷ get_or xs 4 e ∷ get_or xs 5 f ∷ get_or xs 6 g
+    ∷ get_or xs 7 h ∷ get_or xs 8 i ∷ get_or xs 9 j ∷ get_or xs 10 k ∷ get_or xs 11 l ∷ []
+twelve_places (x0 ∷ x1 ∷ x2 ∷ x3 ∷ x4 ∷ x5 ∷ x6 ∷ x7 ∷ x8 ∷ x9 ∷ x10 ∷ x11 ∷ []) a b c d e f g h i j k l len = refl
+twelve_places _ a b c d e f g h i j k l len = absurd (omega arith)
+
 -- a list of sums is known by its places
 pub added-by_place : (xs cs ss : List ℕ) → length cs ≡ length xs → length ss ≡ length xs
     → ((k : ℕ) → k < length xs → slice_index ss k ≡ felt_add (slice_index xs k) (slice_index cs k)) → ss ≡ added xs cs

@@ -3,3 +3,4 @@ pub mod ParamText
 pub mod CauseText
 pub mod SpongeState
 pub mod States
+pub mod Frequencies

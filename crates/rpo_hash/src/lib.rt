@@ -2,6 +2,7 @@
 //! and the text of the constants.
 #![tactic(auto)]
 
+mod frequencies;
 mod laws;
 mod lines;
 mod params;

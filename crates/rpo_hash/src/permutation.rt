@@ -3,10 +3,11 @@ ghost use Rattle.rpo_hash.specs.Constants.{constants_of};
 ghost use Rattle.rpo_hash.specs.States.{IsState};
 ghost use Rattle.vm_field.specs.Limits.{number_of_constants};
 ghost use Rattle.vm_field.specs.Field.{prime, felt_pow};
-ghost use Rattle.vm_field.specs.Permutation.{added, before_roots, mixed, permuted, round, round_constants, row_product, seventh_powers};
+ghost use Rattle.vm_field.specs.Permutation.{added, before_roots, mixed, permuted, round, round_constants, seventh_powers};
 
+use crate::frequencies::{Thirds, all_joined, high_halves, low_halves, product};
 use crate::params::Params;
-use vm_field::{Felt, felt_at, roots7};
+use vm_field::{Felt, roots7};
 
 /// The permutation of a state of twelve elements: seven rounds.
 pub fn permute(params: &Params, state: [Felt; 12]) -> [Felt; 12]
@@ -73,51 +74,17 @@ fn mixed(state: &[Felt; 12]) -> [Felt; 12]
     ensures { result ≡ mixed state.now }
 {
     let [a, b, c, d, e, f, g, h, i, j, k, l] = *state;
-    [
-        row_product(&[a, b, c, d, e, f, g, h, i, j, k, l]),
-        row_product(&[b, c, d, e, f, g, h, i, j, k, l, a]),
-        row_product(&[c, d, e, f, g, h, i, j, k, l, a, b]),
-        row_product(&[d, e, f, g, h, i, j, k, l, a, b, c]),
-        row_product(&[e, f, g, h, i, j, k, l, a, b, c, d]),
-        row_product(&[f, g, h, i, j, k, l, a, b, c, d, e]),
-        row_product(&[g, h, i, j, k, l, a, b, c, d, e, f]),
-        row_product(&[h, i, j, k, l, a, b, c, d, e, f, g]),
-        row_product(&[i, j, k, l, a, b, c, d, e, f, g, h]),
-        row_product(&[j, k, l, a, b, c, d, e, f, g, h, i]),
-        row_product(&[k, l, a, b, c, d, e, f, g, h, i, j]),
-        row_product(&[l, a, b, c, d, e, f, g, h, i, j, k]),
-    ]
-}
-
-// The matrix's first row times the state. The numbers of the row come to 160, so that their sum
-// has 72 bits and is reduced once.
-fn row_product(state: &[Felt; 12]) -> Felt
-    ensures is { result ≡ row_product state.now }
-    ensures below { result < prime }
-{
-    Felt::reduced(
-        7 * wide(state, 0)
-            + 23 * wide(state, 1)
-            + 8 * wide(state, 2)
-            + 26 * wide(state, 3)
-            + 13 * wide(state, 4)
-            + 10 * wide(state, 5)
-            + 9 * wide(state, 6)
-            + 7 * wide(state, 7)
-            + 6 * wide(state, 8)
-            + 22 * wide(state, 9)
-            + 21 * wide(state, 10)
-            + 8 * wide(state, 11),
-    )
-}
-
-// The number of the state's element at a place, with room for sums.
-fn wide(state: &[Felt; 12], i: usize) -> u128
-    requires { i < 12 }
-    ensures is { result ≡ slice_index state.now i }
-    ensures below { result < prime }
-{
-    u128::from(felt_at(state, i).value())
+    let low = product(Thirds {
+        zero: low_halves(a, d, g, j),
+        one: low_halves(b, e, h, k),
+        two: low_halves(c, f, i, l),
+    });
+    let high = product(Thirds {
+        zero: high_halves(a, d, g, j),
+        one: high_halves(b, e, h, k),
+        two: high_halves(c, f, i, l),
+    });
+    all_joined(low, high)
 }
 
 // The sums of a state and constants, element by element.
