@@ -26,7 +26,7 @@ row_of-more rows row i P before here past =
 
 -- rows and one more are held
 pub held_with : (w : ℕ) (rows : List (List ℕ)) (row : List ℕ) → IsHeld w rows → length row ≡ w → ((k : ℕ) → get_or row k 0 < prime)
-    → w * 8 < 2 ^ 63 → IsHeld w (rows ++ row ∷ [])
+    → w * 2112 < 2 ^ 63 → IsHeld w (rows ++ row ∷ [])
 held_with w rows row held wide low few = record {
   shape = record {
     wide = λ i h. row_of-more rows row i (λ r. length r ≡ w) (λ inside. held.shape.wide i inside) (λ is. wide)

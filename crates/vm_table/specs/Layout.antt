@@ -14,4 +14,4 @@ pub record IsTable (width : ℕ) (rows : List (List ℕ)) : Type 0 where
 -- rows that lie in memory: a row that is there has a size
 pub record IsHeld (width : ℕ) (rows : List (List ℕ)) : Type 0 where
   pub shape : IsTable width rows
-  pub few : 0 < length rows → width * 8 < 2 ^ 63
+  pub few : 0 < length rows → width * 2112 < 2 ^ 63

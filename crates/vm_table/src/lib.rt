@@ -1,6 +1,7 @@
 //! Tables of elements: a list of rows, and views that read a row cell by cell.
 #![tactic(auto)]
 
+mod blocks;
 pub mod column;
 mod main_view;
 mod table;

@@ -1,28 +1,34 @@
-ghost use Rattle.std.specs.Prelude.{◌≡◌, ◌+◌, ◌<◌, [], ◌∷◌, ◌++◌, length, slice_index_or, OnOk, OnErr};
+ghost use Rattle.std.specs.Prelude.{◌≡◌, ◌+◌, ◌*◌, ◌/◌, ◌<◌, [], ◌∷◌, ◌++◌, length, map, take, drop, slice_index, slice_index_or, OnOk, OnErr};
+ghost use Rattle.std.specs.List.{slice_set};
+ghost use Rattle.vm_table.specs.Blocks.{blocks_for};
 ghost use Rattle.vm_table.specs.Layout.{IsTable};
 ghost use Rattle.vm_table.specs.Rows.{row_cells};
 
+use crate::blocks::{
+    Block, MOST_COLUMNS, ROWS, column_of_block, room_for_row, set_in_block, write_row,
+};
 use crate::view::{Row, RowPair};
 use std::alloc::Global;
-use std::array;
 use std::marker::Model;
 use vm_field::{Felt, Memory, known_elements};
 
-/// A table of W columns, seen as the list of its rows.
+/// A table of W columns, seen as the list of its rows. Rows lie in blocks of 256, in which a column's cells stand side by side.
 #[derive(Drop)]
 pub struct Table<const W: usize> {
-    rows: Vec<[Felt; W]>,
+    rows: usize,
+    blocks: Vec<Block<W>>,
 }
 
 impl<const W: usize> Model for Table<W> {
-    ghost use Rattle.std.specs.Prelude.{ℕ, List};
+    ghost use Rattle.std.specs.Prelude.{ℕ, List, ◌≡◌, length};
+    ghost use Rattle.vm_table.specs.Blocks.{rows_in, blocks_for};
     ghost use Rattle.vm_table.specs.Layout.{IsHeld};
 
     ghost Value = { List (List ℕ) };
 
-    ghost view = { λ t. t.rows.items };
+    ghost view = { λ t. rows_in W t.blocks.items t.rows };
 
-    ghost invariant = { λ t. IsHeld W t.rows.items };
+    ghost invariant = { λ t. IsHeld W (rows_in W t.blocks.items t.rows) × (length t.blocks.items ≡ blocks_for t.rows) };
 }
 
 impl<const W: usize> Table<W> {
@@ -31,7 +37,8 @@ impl<const W: usize> Table<W> {
         ensures empty { result ≡ [] }
     {
         Table {
-            rows: Vec::new(alloc),
+            rows: 0,
+            blocks: Vec::new(alloc),
         }
     }
 
@@ -40,7 +47,7 @@ impl<const W: usize> Table<W> {
         ensures is { result ≡ length self.now }
         ensures shape { IsTable W self.now }
     {
-        self.rows.len()
+        self.rows
     }
 
     /// Adds a row at the end. At `Memory` the table is as before.
@@ -49,7 +56,12 @@ impl<const W: usize> Table<W> {
         ensures err { OnErr result (self.new ≡ self.old) }
     {
         known_elements(row);
-        self.rows.extend_from_slice(array::from_ref(row))?;
+        if W > MOST_COLUMNS {
+            return Err(Memory::Memory);
+        }
+        room_for_row(&mut self.blocks, self.rows)?;
+        write_row(&mut self.blocks[self.rows / ROWS], self.rows % ROWS, row);
+        self.rows += 1;
         Ok(())
     }
 
@@ -57,7 +69,7 @@ impl<const W: usize> Table<W> {
     pub fn reserve(&mut self, rows: usize) -> Result<(), Memory>
         ensures { self.new ≡ self.old }
     {
-        self.rows.reserve(rows)?;
+        self.blocks.reserve(rows / ROWS + 1)?;
         Ok(())
     }
 
@@ -66,7 +78,7 @@ impl<const W: usize> Table<W> {
         requires { i < length self.now }
         ensures cells { row_cells result ≡ slice_index_or self.now i [] }
     {
-        Row::of(&self.rows[i])
+        Row::of(&self.blocks[i / ROWS], i % ROWS)
     }
 
     /// The row of this number and the next one.
@@ -80,6 +92,33 @@ impl<const W: usize> Table<W> {
             cur: self.row(i),
             next: self.row(i + 1),
         }
+    }
+
+    /// How many blocks of 256 rows there are; the last one may have less.
+    pub fn blocks(&self) -> usize
+        ensures is { result ≡ blocks_for (length self.now) }
+    {
+        self.blocks.len()
+    }
+
+    /// The cells of a column in the rows of a block.
+    pub fn column(&self, block: usize, column: usize) -> &[Felt]
+        requires block { block < blocks_for (length self.now) }
+        requires column { column < W }
+        ensures is { result.now ≡ map (λ row. slice_index row column) (take 256 (drop (256 * block) self.now)) }
+    {
+        let count = (self.rows - ROWS * block).min(ROWS);
+        column_of_block(&self.blocks[block], column, count)
+    }
+
+    /// Changes a cell, and no other.
+    pub fn set_cell(&mut self, row: usize, column: usize, value: Felt)
+        requires row { row < length self.old }
+        requires column { column < W }
+        ensures { self.new ≡ slice_set self.old row (slice_set (slice_index_or self.old row []) column value) }
+    {
+        let _ = value.value();
+        set_in_block(&mut self.blocks[row / ROWS], row % ROWS, column, value);
     }
 }
 

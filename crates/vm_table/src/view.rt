@@ -1,6 +1,7 @@
 ghost use Rattle.std.specs.Prelude.{◌≡◌, ℕ, ◌*◌, ◌^◌, ◌<◌, List, length, slice_index};
 ghost use Rattle.vm_field.specs.Field.{prime};
 
+use crate::blocks::{Block, cell_in_block};
 use vm_field::Felt;
 
 /// A row that can be read cell by cell, however it lies in memory.
@@ -19,20 +20,24 @@ pub trait View<const W: usize> {
 /// A row of a table.
 #[derive(Clone, Copy)]
 pub struct Row<'a, const W: usize> {
-    cells: &'a [Felt; W],
-    ghost wide: { length cells.now ≡ W },
-    ghost few: { W * 8 < 2 ^ 63 },
+    columns: &'a [[Felt; 264]; W],
+    place: usize,
+    ghost wide: { length columns.now ≡ W },
+    ghost within: { place < 256 },
+    ghost few: { W * 2112 < 2 ^ 63 },
 }
 
 impl<'a, const W: usize> Row<'a, W> {
+    ghost use Rattle.vm_table.specs.Blocks.{block_row};
     ghost use Rattle.vm_table.specs.Rows.{row_cells};
 
-    /// The row of these cells.
+    /// The row at this place of a block.
     #[tactic(auto, unfolding(crate::specs::Rows::row_cells))]
-    pub(crate) fn of(cells: &'a [Felt; W]) -> Row<'a, W>
-        ensures cells { row_cells result ≡ cells.entry.now }
+    pub(crate) fn of(columns: &'a Block<W>, place: usize) -> Row<'a, W>
+        requires { place < 256 }
+        ensures cells { row_cells result ≡ block_row W columns.entry.now place }
     {
-        Row { cells }
+        Row { columns, place }
     }
 }
 
@@ -43,9 +48,7 @@ impl<'a, const W: usize> View<W> for Row<'a, W> {
 
     #[tactic(auto, unfolding(crate::specs::Rows::row_cells))]
     fn cell(&self, column: usize) -> Felt {
-        let element = self.cells[column];
-        let _ = element.value();
-        element
+        cell_in_block(self.columns, self.place, column)
     }
 }
 
