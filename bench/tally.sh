@@ -15,66 +15,83 @@ cat >"$work/crates/bench_tally/src/main.rt" <<'END'
 //! Times counts of tuples.
 #![tactic(auto)]
 
-ghost use Rattle.std.specs.Prelude.{◌≡◌, ℕ, ◌≤◌, List, true};
-ghost use Rattle.bus_kit.specs.Tallies.{asked_in, is_width};
+ghost use Rattle.std.specs.Prelude.{◌≡◌, ℕ, ◌≤◌, List};
 
-use bus_kit::{Seed, Tally};
+use bus_kit::{Count, Seed, Tally, Unequal, ValueTally, ask};
 use std::alloc::Global;
 use std::time::Instant;
 use vm_field::{Felt, Memory};
 
 // Values below 2^16 where the width is 1, and distinct tuples else.
-fn ask_all(tally: &mut Tally, width: usize) -> Result<(), Memory>
-    requires width { is_width width ≡ true }
-    requires few { width ≤ 14 }
-    requires positive { 1 ≤ width }
-    requires none { (u : List ℕ) → asked_in tally.old u ≡ 0 }
+fn ask_all<const N: usize, T: Count<N>>(tally: &mut T) -> Result<(), Memory>
+    requires positive { 1 ≤ N }
+    requires few { N ≤ 14 }
+    requires none { (u : List ℕ) → T.both tally.old u ≡ (0, 0) }
 {
-    let mut tuple = [Felt::ZERO; 14];
+    let mut tuple = [Felt::ZERO; N];
     for i in 0..2000000u32 {
         let mixed = i.wrapping_mul(2654435761);
-        if width == 1 {
+        if N == 1 {
             tuple[0] = Felt::from_u32(mixed % 65536);
         } else {
             tuple[0] = Felt::from_u32(mixed);
-            tuple[width - 1] = Felt::from_u32(i);
+            tuple[N - 1] = Felt::from_u32(i);
         }
-        tally.ask(&tuple[..width], 1)?;
+        ask(tally, &tuple)?;
     }
     Ok(())
 }
 
-fn time_width(rt: &HostRuntime, alloc: Global, width: usize) -> anyhow::Result<()>
-    requires width { is_width width ≡ true }
-    requires few { width ≤ 14 }
-    requires positive { 1 ≤ width }
-{
-    let mut tally = Tally::new(alloc, Seed::new(0));
-    let start = Instant::now(rt)?;
-    ask_all(&mut tally, width)?;
-    let adds = start.elapsed(rt)?.as_micros();
-    let start = Instant::now(rt)?;
-    let asked = tally.unequal().map_or(0, |x| x.asked);
+fn tell(
+    rt: &HostRuntime,
+    width: usize,
+    adds: u128,
+    start: &Instant,
+    found: Option<Unequal>,
+) -> anyhow::Result<()> {
     let scan = start.elapsed(rt)?.as_micros();
+    let asked = found.map_or(0, |x| x.asked);
     println!(rt; "{width} {adds} {scan} {asked}")?;
     Ok(())
 }
 
+fn time_tuples<const N: usize>(rt: &HostRuntime, alloc: Global) -> anyhow::Result<()>
+    requires positive { 1 ≤ N }
+    requires few { N ≤ 14 }
+{
+    let mut tally = Tally::<N>::new(alloc, Seed::new(0));
+    let start = Instant::now(rt)?;
+    ask_all(&mut tally)?;
+    let adds = start.elapsed(rt)?.as_micros();
+    let start = Instant::now(rt)?;
+    let found = tally.unequal();
+    tell(rt, N, adds, &start, found)
+}
+
+fn time_values(rt: &HostRuntime, alloc: Global) -> anyhow::Result<()> {
+    let mut tally = ValueTally::new(alloc, Seed::new(0));
+    let start = Instant::now(rt)?;
+    ask_all(&mut tally)?;
+    let adds = start.elapsed(rt)?.as_micros();
+    let start = Instant::now(rt)?;
+    let found = tally.unequal();
+    tell(rt, 1, adds, &start, found)
+}
+
 fn main(rt: HostRuntime) -> anyhow::Result<()> {
     let alloc = rt.alloc();
-    time_width(&rt, alloc, 1)?;
-    time_width(&rt, alloc, 3)?;
-    time_width(&rt, alloc, 5)?;
-    time_width(&rt, alloc, 12)
+    time_values(&rt, alloc)?;
+    time_tuples::<3>(&rt, alloc)?;
+    time_tuples::<5>(&rt, alloc)?;
+    time_tuples::<12>(&rt, alloc)
 }
 END
 cat >"$work/crates/bench_tally/proofs/ask_all/Invariants.antt" <<'END'
-use Rattle.std.proofs.Common.{◌≡◌, ℕ, ◌≤◌, List, length}
-use Rattle.bus_kit.specs.Tallies.{asked_in}
+use Rattle.std.proofs.Common.{ℕ, ◌≤◌, List}
 use Rattle.bench_tally.proofs.ask_all.Given as goal
 
 abbrev pub invariant-loop-i : goal.invariant-loop-i
-invariant-loop-i l = record { room : (u : List ℕ) → asked_in l.tally u ≤ l.i; wide : length l.tuple ≡ 14 }
+invariant-loop-i g l = (u : List ℕ) → (g.T.Count.both l.tally u).0 ≤ l.i
 END
 rustc --edition 2021 -O -o "$work/plain" "$top/bench/tally.rs"
 cd "$work/crates/bench_tally"

@@ -2,8 +2,7 @@
 use Rattle.std.proofs.Common.{◌≡◌, ℕ, ◌==◌, Bool, true, false, cond, List, [], ◌∷◌, ◌++◌, Result, Ok, OnOk, refl, ap, sym, ◌∙◌, subst}
 use Rattle.vm_field.specs.Signs.{◌⊞◌}
 use Rattle.buses.specs.Counts.{Counted, once}
-use Rattle.bus_kit.specs.Adding.{IsCounted}
-use Rattle.bus_kit.specs.declared.tally.Tally.{Tally}
+use Rattle.bus_kit.specs.Adding.{Tallied, IsCounted}
 use Rattle.bus_kit.proofs.AddingLemmas.{none_counted}
 use Rattle.air_kit.specs.Flags.{is_op, op_of}
 use Rattle.air_kit.specs.MainTuples.{blocks_asked, blocks_given, child, children_asked, children_by, children_given, children_of, frame_cells, front, is_call_op, kind_of_end, kind_of_start, loops_asked, loops_given, no_frame}
@@ -48,7 +47,7 @@ ended x y = addr x ∷ addr y ∷ kind_of_end x ∷ cond (h x 6 ⊞ h x 7 == 1) 
 abbrev pub more_of : List ℕ → ℕ
 more_of y = cond (is_start_op (op_of y)) 1 0
 
-module _ {E : Type 0} (n : ℕ) (a b : Tally) (r : Result (Unit {0}) E) (x y : List ℕ) where
+module _ {E : Type 0} (n : ℕ) (a b : Tallied) (r : Result (Unit {0}) E) (x y : List ℕ) where
   -- the bus of blocks, by the operation
   abbrev BlocksBy : Op → Type 0
   BlocksBy op = OnOk r (IsCounted n a b (cond (is_op op ops.End) (once (ended x y) ∷ []) []) (cond (is_start_op op) (once (started op x y) ∷ []) []))
@@ -113,7 +112,7 @@ module _ {E : Type 0} (n : ℕ) (a b : Tally) (r : Result (Unit {0}) E) (x y : L
   loop_goes_on op t is same tuple p = loops_by ops.Repeat (sym same ∙ is) (rw (← tuple) p)
 
 -- The same where an operation has no tuple.
-module _ (n : ℕ) (a : Tally) (x y : List ℕ) (op : Op) (is : op ≡ op_of x) where
+module _ (n : ℕ) (a : Tallied) (x y : List ℕ) (op : Op) (is : op ≡ op_of x) where
   pub no_block : false ≡ is_op op ops.End → false ≡ is_start_op op → IsCounted n a a (blocks_asked x y) (blocks_given x y)
   no_block e0 e1 = blocks_by {E = Unit {0}} n a a (Ok tt) x y op is (rw (← e0, ← e1) (none_counted n a))
 

@@ -1,8 +1,7 @@
 -- What a row gives and asks of the cells below the sixteenth, by its operation.
 use Rattle.std.proofs.Common.{◌≡◌, ℕ, ◌==◌, ◌&&◌, ◌||◌, true, false, cond, List, [], ◌∷◌, Result, Ok, OnOk, refl, ap, ◌∙◌, subst}
 use Rattle.buses.specs.Counts.{Counted, once}
-use Rattle.bus_kit.specs.Adding.{IsCounted}
-use Rattle.bus_kit.specs.declared.tally.Tally.{Tally}
+use Rattle.bus_kit.specs.Adding.{Tallied, IsCounted}
 use Rattle.bus_kit.proofs.AddingLemmas.{none_counted}
 use Rattle.air_kit.specs.Flags.{is_op, is_shift, op_of}
 use Rattle.air_kit.specs.MainTuples.{overflow_asked, overflow_given}
@@ -22,12 +21,12 @@ end_stays op e = refl
 abbrev pub comes : List ℕ → List ℕ → List Counted
 comes x y = cond (depth x == 16) [] (once (key x ∷ s y 15 ∷ key y ∷ []) ∷ [])
 
-pub none_comes : (a : Tally) (x y : List ℕ) (d e : ℕ) → d ≡ depth x → e ≡ 16 → true ≡ (d == e) → IsCounted 1 a a (comes x y) []
+pub none_comes : (a : Tallied) (x y : List ℕ) (d e : ℕ) → d ≡ depth x → e ≡ 16 → true ≡ (d == e) → IsCounted 1 a a (comes x y) []
 none_comes a x y d e is sixteen same =
     let test : true ≡ (depth x == 16) = same ∙ ap (λ k. k == e) is ∙ ap (λ k. depth x == k) sixteen in
     rw (← test) (none_counted 1 a)
 
-module _ {E : Type 0} (n : ℕ) (a b : Tally) (r : Result (Unit {0}) E) (x y : List ℕ) where
+module _ {E : Type 0} (n : ℕ) (a b : Tallied) (r : Result (Unit {0}) E) (x y : List ℕ) where
   -- the bus of cells, by the operation and its shift
   abbrev OverflowBy : Op → Shift → Type 0
   OverflowBy op shift =
@@ -52,6 +51,6 @@ module _ {E : Type 0} (n : ℕ) (a b : Tally) (r : Result (Unit {0}) E) (x y : L
   condition_goes op is moves holds p = overflow_by op Stay is moves (rw (← holds) p)
 
 -- The same where an operation has no tuple.
-module _ (n : ℕ) (a : Tally) (x y : List ℕ) (op : Op) (is : op ≡ op_of x) where
+module _ (n : ℕ) (a : Tallied) (x y : List ℕ) (op : Op) (is : op ≡ op_of x) where
   pub no_cell : Stay ≡ shift_of op → false ≡ (is_op op ops.End && (h x 4 == 1)) → IsCounted n a a (overflow_asked x y) (overflow_given x y)
   no_cell moves e0 = overflow_by {E = Unit {0}} n a a (Ok tt) x y op Stay is moves (rw (← e0) (none_counted n a))

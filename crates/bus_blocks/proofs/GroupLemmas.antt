@@ -1,9 +1,7 @@
 -- What a row gives and asks of groups, by its operation.
 use Rattle.std.proofs.Common.{ap, ◌≡◌, ℕ, suc, ◌+◌, ◌-◌, ◌<◌, ◌≤◌, ◌==◌, ◌&&◌, true, false, cond, List, [], ◌∷◌, Result, Ok, OnOk, refl, sym, ◌∙◌, subst, arith, add-one}
 use Rattle.buses.specs.Counts.{once}
-use Rattle.bus_kit.specs.Adding.{IsCounted}
-use Rattle.bus_kit.specs.Tallies.{given_in}
-use Rattle.bus_kit.specs.declared.tally.Tally.{Tally}
+use Rattle.bus_kit.specs.Adding.{Tallied, IsCounted}
 use Rattle.bus_kit.proofs.AddingLemmas.{counted_within, none_counted}
 use Rattle.air_kit.specs.Flags.{is_op, op_of}
 use Rattle.air_kit.specs.MainTuples.{groups_asked, groups_from, groups_given, is_batch_op, positions}
@@ -14,7 +12,7 @@ use Rattle.vm_ops.specs.declared.op.Op.TheVariants as ops
 use Rattle.vm_table.specs.MainColumns.{gc, h, ha, s, sp}
 use Rattle.bus_blocks.proofs.TwoLemmas.{given_first}
 
-module _ {E : Type 0} (n : ℕ) (a b : Tally) (r : Result (Unit {0}) E) (x y : List ℕ) where
+module _ {E : Type 0} (n : ℕ) (a b : Tallied) (r : Result (Unit {0}) E) (x y : List ℕ) where
   abbrev GroupsBy : Op → Type 0
   GroupsBy op =
       OnOk r (IsCounted n a b
@@ -41,7 +39,7 @@ module _ {E : Type 0} (n : ℕ) (a b : Tally) (r : Result (Unit {0}) E) (x y : L
   group_taken op t e is e0 e1 holds tuple element p = groups_by op is (rw (← e0, ← e1, ← holds, ← element, ← tuple) p)
 
 -- the same where an operation has no tuple
-pub no_group : (n : ℕ) (a : Tally) (x y : List ℕ) (op : Op) → op ≡ op_of x → false ≡ is_op op ops.Push → false ≡ is_batch_op op
+pub no_group : (n : ℕ) (a : Tallied) (x y : List ℕ) (op : Op) → op ≡ op_of x → false ≡ is_op op ops.Push → false ≡ is_batch_op op
     → false ≡ (is_ordinary_op op && (rest_flag x == 0) && (sp y == 1)) → IsCounted n a a (groups_asked x y) (groups_given x y)
 no_group n a x y op is e0 e1 fails = groups_by {E = Unit {0}} n a a (Ok tt) x y op is (rw (← e0, ← e1, ← fails) (none_counted n a))
 
@@ -55,22 +53,22 @@ not_batch ops.Respan h k = absurd (k refl)
 not_batch op h k = refl
 
 -- The positions before q are given: who gives the others gives all.
-pub record AreGivenBelow (x y : List ℕ) (count q : ℕ) (old now : Tally) : Type 0 where
-  pub rest : (new : Tally) → IsCounted (count - q) now new [] (groups_from x y q (count - q))
+pub record AreGivenBelow (x y : List ℕ) (count q : ℕ) (old now : Tallied) : Type 0 where
+  pub rest : (new : Tallied) → IsCounted (count - q) now new [] (groups_from x y q (count - q))
       → IsCounted (count - 1) old new [] (groups_from x y 1 (count - 1))
-  pub grows : (u : List ℕ) → given_in now u + 1 ≤ given_in old u + q
+  pub grows : (u : List ℕ) → (now u).1 + 1 ≤ (old u).1 + q
 
-pub given_below_one : (x y : List ℕ) (count : ℕ) (t : Tally) → AreGivenBelow x y count 1 t t
+pub given_below_one : (x y : List ℕ) (count : ℕ) (t : Tallied) → AreGivenBelow x y count 1 t t
 given_below_one x y count t = record { rest = λ new p. p; grows = λ u. omega arith }
 
 -- one position more
-one_more_group : (x y : List ℕ) (q m : ℕ) (now mid new : Tally) (t : List ℕ) → t ≡ ha y ∷ suc m ∷ h x q ∷ [] → IsCounted 1 now mid [] (once t ∷ [])
+one_more_group : (x y : List ℕ) (q m : ℕ) (now mid new : Tallied) (t : List ℕ) → t ≡ ha y ∷ suc m ∷ h x q ∷ [] → IsCounted 1 now mid [] (once t ∷ [])
     → IsCounted m mid new [] (groups_from x y (suc q) m) → IsCounted (suc m) now new [] (groups_from x y q (suc m))
 unfolding groups_from
 one_more_group x y q m now mid new t tuple p rest =
     rw (← tuple) (given_first 1 m (suc m) now mid new (once t ∷ []) [] (groups_from x y (suc q) m) p rest (omega arith))
 
-pub given_below_more : (x y : List ℕ) (count q left : ℕ) (old now mid : Tally) (t : List ℕ) → q < count → left ≡ count - q
+pub given_below_more : (x y : List ℕ) (count q left : ℕ) (old now mid : Tallied) (t : List ℕ) → q < count → left ≡ count - q
     → t ≡ ha y ∷ left ∷ h x q ∷ []
     → IsCounted 1 now mid [] (once t ∷ []) → AreGivenBelow x y count q old now → AreGivenBelow x y count (q + 1) old mid
 given_below_more x y count q left old now mid t within is tuple p before =
@@ -82,7 +80,7 @@ given_below_more x y count q left old now mid t within is tuple p before =
       grows = λ u. let grown = p.given_grows u in let had = before.grows u in omega arith;
     }
 
-pub given_all : (x y : List ℕ) (count q all : ℕ) (old now : Tally) → count ≤ q → count ≡ all → all ≤ 8 → AreGivenBelow x y count q old now
+pub given_all : (x y : List ℕ) (count q all : ℕ) (old now : Tallied) → count ≤ q → count ≡ all → all ≤ 8 → AreGivenBelow x y count q old now
     → IsCounted 8 old now [] (groups_from x y 1 (all - 1))
 unfolding groups_from
 given_all x y count q all old now past is few below =

@@ -3,6 +3,7 @@ ghost use Rattle.vm_field.specs.Signs.{◌⊞◌, ◌⊠◌};
 ghost use Rattle.vm_table.specs.MainColumns.{addr, h};
 ghost use Rattle.air_kit.specs.Flags.{is_op, op_of};
 ghost use Rattle.air_kit.specs.MainTuples.{blocks_given, blocks_asked, frame_cells, is_call_op, no_frame, kind_of_start, kind_of_end};
+ghost use Rattle.bus_kit.specs.Widths.{tallied};
 ghost use Rattle.bus_kit.specs.Adding.{IsCounted};
 ghost use Rattle.bus_blocks.specs.Space.{HasSpace};
 
@@ -12,10 +13,10 @@ use vm_ops::{Kind, Op, is_start, kind_of};
 use vm_table::MainView;
 
 /// A start gives its block, and an END asks for the one that it ends.
-pub fn tuples_blocks<V: MainView>(op: Op, x: &V, y: &V, tally: &mut Tally) -> Result<(), Memory>
+pub fn tuples_blocks<V: MainView>(op: Op, x: &V, y: &V, tally: &mut Tally<12>) -> Result<(), Memory>
     requires op { op ≡ op_of (V.cells x.now) }
-    requires room { HasSpace tally.old }
-    ensures { OnOk result (IsCounted 1 tally.old tally.new
+    requires room { HasSpace (tallied tally.old) }
+    ensures { OnOk result (IsCounted 1 (tallied tally.old) (tallied tally.new)
         (blocks_asked (V.cells x.now) (V.cells y.now)) (blocks_given (V.cells x.now) (V.cells y.now))) }
 {
     if is_end(op) {

@@ -3,6 +3,7 @@ ghost use Rattle.vm_ops.specs.Codes.{is_start_op};
 ghost use Rattle.vm_table.specs.MainColumns.{addr, s};
 ghost use Rattle.air_kit.specs.Flags.{op_of, HasBits};
 ghost use Rattle.air_kit.specs.MainTuples.{back, child, children_given, children_asked, front};
+ghost use Rattle.bus_kit.specs.Widths.{tallied};
 ghost use Rattle.bus_kit.specs.Adding.{IsCounted};
 ghost use Rattle.bus_blocks.specs.Space.{HasSpace};
 
@@ -13,11 +14,16 @@ use vm_ops::{Kind, Op, is_start, kind_of};
 use vm_table::MainView;
 
 /// A parent gives its children's digests, and an END asks for the child that it ends.
-pub fn tuples_children<V: MainView>(op: Op, x: &V, y: &V, tally: &mut Tally) -> Result<(), Memory>
+pub fn tuples_children<V: MainView>(
+    op: Op,
+    x: &V,
+    y: &V,
+    tally: &mut Tally<6>,
+) -> Result<(), Memory>
     requires op { op ≡ op_of (V.cells x.now) }
     requires next { HasBits (V.cells y.now) }
-    requires room { HasSpace tally.old }
-    ensures { OnOk result (IsCounted 2 tally.old tally.new
+    requires room { HasSpace (tallied tally.old) }
+    ensures { OnOk result (IsCounted 2 (tallied tally.old) (tallied tally.new)
         (children_asked (V.cells x.now) (V.cells y.now)) (children_given (V.cells x.now) (V.cells y.now))) }
 {
     match kind_of(op) {
@@ -32,9 +38,9 @@ pub fn tuples_children<V: MainView>(op: Op, x: &V, y: &V, tally: &mut Tally) -> 
 }
 
 // Both children of a JOIN.
-fn give_both<V: MainView>(x: &V, y: &V, tally: &mut Tally) -> Result<(), Memory>
-    requires { HasSpace tally.old }
-    ensures { OnOk result (IsCounted 2 tally.old tally.new []
+fn give_both<V: MainView>(x: &V, y: &V, tally: &mut Tally<6>) -> Result<(), Memory>
+    requires { HasSpace (tallied tally.old) }
+    ensures { OnOk result (IsCounted 2 (tallied tally.old) (tallied tally.new) []
         (child (addr (V.cells y.now)) (front (V.cells x.now)) 1 ∷ child (addr (V.cells y.now)) (back (V.cells x.now)) 0 ∷ [])) }
 {
     give(tally, &first(y, x, Felt::ONE))?;
@@ -42,9 +48,9 @@ fn give_both<V: MainView>(x: &V, y: &V, tally: &mut Tally) -> Result<(), Memory>
 }
 
 // The body of a loop that is entered.
-fn give_entered<V: MainView>(x: &V, y: &V, tally: &mut Tally) -> Result<(), Memory>
-    requires { HasSpace tally.old }
-    ensures { OnOk result (IsCounted 1 tally.old tally.new []
+fn give_entered<V: MainView>(x: &V, y: &V, tally: &mut Tally<6>) -> Result<(), Memory>
+    requires { HasSpace (tallied tally.old) }
+    ensures { OnOk result (IsCounted 1 (tallied tally.old) (tallied tally.new) []
         (if s (V.cells x.now) 0 == 1 then child (addr (V.cells y.now)) (front (V.cells x.now)) 0 ∷ [] else [])) }
 {
     if x.s0() == Felt::ONE {

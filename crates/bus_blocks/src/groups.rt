@@ -5,6 +5,7 @@ ghost use Rattle.buses.specs.Counts.{once};
 ghost use Rattle.air_kit.specs.Flags.{op_of, HasBits};
 ghost use Rattle.air_kit.specs.MainTuples.{groups_asked, groups_from, groups_given, is_batch_op, positions};
 ghost use Rattle.air_kit.specs.SpanValues.{opcode_in, rest, rest_flag};
+ghost use Rattle.bus_kit.specs.Widths.{tallied};
 ghost use Rattle.bus_kit.specs.Adding.{IsCounted};
 ghost use Rattle.bus_blocks.specs.Space.{HasSpace};
 
@@ -15,12 +16,12 @@ use vm_ops::{Op, is_ordinary};
 use vm_table::MainView;
 
 /// A batch gives its positions behind the first, and rows of its span ask for those that they take.
-pub fn tuples_groups<V: MainView>(op: Op, x: &V, y: &V, tally: &mut Tally) -> Result<(), Memory>
+pub fn tuples_groups<V: MainView>(op: Op, x: &V, y: &V, tally: &mut Tally<3>) -> Result<(), Memory>
     requires op { op ≡ op_of (V.cells x.now) }
     requires bits { HasBits (V.cells x.now) }
     requires batch { is_batch_op op ≡ true → positions (V.cells x.now) ≤ 8 }
-    requires room { HasSpace tally.old }
-    ensures { OnOk result (IsCounted 8 tally.old tally.new
+    requires room { HasSpace (tallied tally.old) }
+    ensures { OnOk result (IsCounted 8 (tallied tally.old) (tallied tally.new)
         (groups_asked (V.cells x.now) (V.cells y.now)) (groups_given (V.cells x.now) (V.cells y.now))) }
 {
     match op {
@@ -37,10 +38,10 @@ pub fn tuples_groups<V: MainView>(op: Op, x: &V, y: &V, tally: &mut Tally) -> Re
 }
 
 // The positions of a batch behind the first.
-fn give_positions<V: MainView>(x: &V, y: &V, tally: &mut Tally) -> Result<(), Memory>
+fn give_positions<V: MainView>(x: &V, y: &V, tally: &mut Tally<3>) -> Result<(), Memory>
     requires batch { positions (V.cells x.now) ≤ 8 }
-    requires room { HasSpace tally.old }
-    ensures { OnOk result (IsCounted 8 tally.old tally.new [] (groups_from (V.cells x.now) (V.cells y.now) 1 (positions (V.cells x.now) - 1))) }
+    requires room { HasSpace (tallied tally.old) }
+    ensures { OnOk result (IsCounted 8 (tallied tally.old) (tallied tally.new) [] (groups_from (V.cells x.now) (V.cells y.now) 1 (positions (V.cells x.now) - 1))) }
 {
     let count = positions(x).value() as usize;
     for q in 1..count {

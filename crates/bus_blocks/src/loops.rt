@@ -2,6 +2,7 @@ ghost use Rattle.std.specs.Prelude.{◌≡◌, ◌^◌, ◌∷◌, OnOk};
 ghost use Rattle.vm_table.specs.MainColumns.{addr};
 ghost use Rattle.air_kit.specs.Flags.{op_of};
 ghost use Rattle.air_kit.specs.MainTuples.{front, loops_given, loops_asked};
+ghost use Rattle.bus_kit.specs.Widths.{tallied};
 ghost use Rattle.bus_kit.specs.Adding.{IsCounted};
 ghost use Rattle.bus_blocks.specs.Space.{HasSpace};
 
@@ -11,10 +12,10 @@ use vm_ops::Op;
 use vm_table::MainView;
 
 /// A LOOP gives its body as often as its witness says, and a REPEAT asks for it.
-pub fn tuples_loops<V: MainView>(op: Op, x: &V, y: &V, tally: &mut Tally) -> Result<(), Memory>
+pub fn tuples_loops<V: MainView>(op: Op, x: &V, y: &V, tally: &mut Tally<5>) -> Result<(), Memory>
     requires op { op ≡ op_of (V.cells x.now) }
-    requires room { HasSpace tally.old }
-    ensures { OnOk result (IsCounted (2 ^ 64) tally.old tally.new
+    requires room { HasSpace (tallied tally.old) }
+    ensures { OnOk result (IsCounted (2 ^ 64) (tallied tally.old) (tallied tally.new)
         (loops_asked (V.cells x.now) (V.cells y.now)) (loops_given (V.cells x.now) (V.cells y.now))) }
 {
     match op {

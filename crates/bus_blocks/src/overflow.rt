@@ -3,6 +3,7 @@ ghost use Rattle.vm_table.specs.MainColumns.{clk, depth, h, key, s};
 ghost use Rattle.buses.specs.Counts.{once};
 ghost use Rattle.air_kit.specs.Flags.{is_op, op_of};
 ghost use Rattle.air_kit.specs.MainTuples.{overflow_given, overflow_asked};
+ghost use Rattle.bus_kit.specs.Widths.{tallied};
 ghost use Rattle.bus_kit.specs.Adding.{IsCounted};
 ghost use Rattle.bus_blocks.specs.Space.{HasSpace};
 
@@ -13,10 +14,15 @@ use vm_ops::{Op, Shift, shift};
 use vm_table::MainView;
 
 /// A cell that goes below the sixteenth is given, and one that comes back is asked for.
-pub fn tuples_overflow<V: MainView>(op: Op, x: &V, y: &V, tally: &mut Tally) -> Result<(), Memory>
+pub fn tuples_overflow<V: MainView>(
+    op: Op,
+    x: &V,
+    y: &V,
+    tally: &mut Tally<3>,
+) -> Result<(), Memory>
     requires op { op ≡ op_of (V.cells x.now) }
-    requires room { HasSpace tally.old }
-    ensures { OnOk result (IsCounted 1 tally.old tally.new
+    requires room { HasSpace (tallied tally.old) }
+    ensures { OnOk result (IsCounted 1 (tallied tally.old) (tallied tally.new)
         (overflow_asked (V.cells x.now) (V.cells y.now)) (overflow_given (V.cells x.now) (V.cells y.now))) }
 {
     match shift(op) {
@@ -40,9 +46,9 @@ fn leaves_loop<V: MainView>(op: Op, x: &V) -> bool
 }
 
 // Behind a left shift a cell comes back, unless there was none below the sixteenth.
-fn come_back<V: MainView>(x: &V, y: &V, tally: &mut Tally) -> Result<(), Memory>
-    requires { HasSpace tally.old }
-    ensures { OnOk result (IsCounted 1 tally.old tally.new
+fn come_back<V: MainView>(x: &V, y: &V, tally: &mut Tally<3>) -> Result<(), Memory>
+    requires { HasSpace (tallied tally.old) }
+    ensures { OnOk result (IsCounted 1 (tallied tally.old) (tallied tally.new)
         (if depth (V.cells x.now) == 16 then [] else once (key (V.cells x.now) ∷ s (V.cells y.now) 15 ∷ key (V.cells y.now) ∷ []) ∷ []) []) }
 {
     if x.depth() == Felt::from_u32(16) {

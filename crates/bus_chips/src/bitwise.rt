@@ -2,6 +2,7 @@ ghost use Rattle.std.specs.Prelude.{◌≡◌, ◌^◌, [], OnOk, option_map};
 ghost use Rattle.air_kit.specs.ChipTuples.{bitwise_given, chip_given, chip_asked};
 ghost use Rattle.air_kit.specs.Rows.{claim_at};
 ghost use Rattle.air_kit.specs.declared.trace.TableName.TheVariants as table;
+ghost use Rattle.bus_kit.specs.Widths.{tallied};
 ghost use Rattle.bus_kit.specs.Adding.{CanCount, IsCounted};
 ghost use Rattle.bus_kit.specs.ByBus.{AreCounted, HaveRoom};
 
@@ -24,9 +25,9 @@ pub fn tuples_bitwise<V: BitwiseView>(
 }
 
 // What row i of the table gives.
-fn operation<V: BitwiseView>(i: u32, row: &V, tally: &mut Tally) -> Result<(), Memory>
-    requires { CanCount tally.old }
-    ensures { OnOk result (IsCounted 1 tally.old tally.new [] (bitwise_given i (V.cells row.now))) }
+fn operation<V: BitwiseView>(i: u32, row: &V, tally: &mut Tally<4>) -> Result<(), Memory>
+    requires { CanCount (tallied tally.old) }
+    ensures { OnOk result (IsCounted 1 (tallied tally.old) (tallied tally.new) [] (bitwise_given i (V.cells row.now))) }
 {
     let place = i % 8;
     if place == 7 {

@@ -3,11 +3,12 @@ ghost use Rattle.air_kit.specs.ChipTuples.{chip_given, chip_asked, hasher_given,
 ghost use Rattle.chip_columns.specs.HasherColumns as hasher;
 ghost use Rattle.air_kit.specs.Rows.{claim_at};
 ghost use Rattle.air_kit.specs.declared.trace.TableName.TheVariants as table;
+ghost use Rattle.bus_kit.specs.Tallies.{steps_tallied};
 ghost use Rattle.bus_kit.specs.Adding.{CanCount, IsCounted};
 ghost use Rattle.bus_kit.specs.ByBus.{AreCounted, HaveRoom};
 
 use air_kit::Place;
-use bus_kit::{Tallies, Tally, give};
+use bus_kit::{StepTally, Tallies, give};
 use chip_columns::HasherView;
 use vm_field::{Felt, Memory};
 
@@ -26,9 +27,9 @@ pub fn tuples_hasher<V: HasherView>(
 }
 
 // What row i of the table gives.
-fn permutation<V: HasherView>(i: u32, row: &V, tally: &mut Tally) -> Result<(), Memory>
-    requires { CanCount tally.old }
-    ensures { OnOk result (IsCounted 1 tally.old tally.new [] (hasher_given i (V.cells row.now))) }
+fn permutation<V: HasherView>(i: u32, row: &V, tally: &mut StepTally) -> Result<(), Memory>
+    requires { CanCount (steps_tallied tally.old) }
+    ensures { OnOk result (IsCounted 1 (steps_tallied tally.old) (steps_tallied tally.new) [] (hasher_given i (V.cells row.now))) }
 {
     let place = i % 8;
     let address = address_of(i);
@@ -49,9 +50,9 @@ fn address_of(i: u32) -> Felt
 }
 
 // What the first row of a permutation gives.
-fn begins<V: HasherView>(address: Felt, row: &V, tally: &mut Tally) -> Result<(), Memory>
-    requires { CanCount tally.old }
-    ensures { OnOk result (IsCounted 1 tally.old tally.new [] (permutation_begins address (V.cells row.now))) }
+fn begins<V: HasherView>(address: Felt, row: &V, tally: &mut StepTally) -> Result<(), Memory>
+    requires { CanCount (steps_tallied tally.old) }
+    ensures { OnOk result (IsCounted 1 (steps_tallied tally.old) (steps_tallied tally.new) [] (permutation_begins address (V.cells row.now))) }
 {
     if row.mode() == Felt::ONE {
         give(tally, &whole(4, address, row))
@@ -63,9 +64,9 @@ fn begins<V: HasherView>(address: Felt, row: &V, tally: &mut Tally) -> Result<()
 }
 
 // What the last row of a permutation gives.
-fn ends<V: HasherView>(address: Felt, row: &V, tally: &mut Tally) -> Result<(), Memory>
-    requires { CanCount tally.old }
-    ensures { OnOk result (IsCounted 1 tally.old tally.new [] (permutation_ends address (V.cells row.now))) }
+fn ends<V: HasherView>(address: Felt, row: &V, tally: &mut StepTally) -> Result<(), Memory>
+    requires { CanCount (steps_tallied tally.old) }
+    ensures { OnOk result (IsCounted 1 (steps_tallied tally.old) (steps_tallied tally.new) [] (permutation_ends address (V.cells row.now))) }
 {
     if row.mode() == Felt::ONE {
         give(tally, &whole(5, address, row))

@@ -4,3 +4,5 @@ pub mod SingleLemmas
 pub mod WidthLemmas
 pub mod AnswerLemmas
 pub mod AddingLemmas
+pub mod AbsorbLemmas
+pub mod SumLemmas

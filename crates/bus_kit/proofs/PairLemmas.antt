@@ -4,8 +4,8 @@ use Rattle.std.specs.HashMap.{HashMap, get}
 use lib.Pointwise.{bytes_decides, pointwise}
 use Rattle.bus_kit.specs.Counting.{both_in, more_on, on_side, IsAdded}
 use Rattle.buses.specs.Counts.{hits}
-use Rattle.bus_kit.specs.declared.counts.Side.{Side}
-use Rattle.bus_kit.specs.declared.counts.Side.TheVariants.{Asked, Given}
+use Rattle.bus_kit.specs.declared.count.Side.{Side}
+use Rattle.bus_kit.specs.declared.count.Side.TheVariants.{Asked, Given}
 
 -- no more than before
 pub more_on_zero : (side : Side) (both : ℕ × ℕ) → more_on side 0 both ≡ both
@@ -24,12 +24,8 @@ added_at m n side t count v u at is =
       | false ↦ λ apart got. ap (λ o. unwrap_or o (0, 0)) got ∙ sym (more_on_zero side (both_in m u))
     ] refl at
 
-hits_zero : (t u : List ℕ) (count : ℕ) → count ≡ 0 → hits t count u ≡ 0
+pub hits_zero : (t u : List ℕ) (count : ℕ) → count ≡ 0 → hits t count u ≡ 0
 hits_zero t u count none = elim (pointwise nat_eq t u) as (λ b. cond b count 0 ≡ 0) [ true ↦ none | false ↦ refl ]
-
--- the count 0 adds nothing
-pub added_zero : (side : Side) (t : List ℕ) (count : ℕ) (b : List ℕ → ℕ × ℕ) → count ≡ 0 → (u : List ℕ) → b u ≡ more_on side (hits t count u) (b u)
-added_zero side t count b none u = sym (more_on_zero side (b u)) ∙ ap (λ n. more_on side n (b u)) (sym (hits_zero t u count none))
 
 -- the other side
 abbrev pub other_side : Side → Side
@@ -62,11 +58,3 @@ module _ {E : Type 0} (side : Side) (t : List ℕ) (count : ℕ) (b k : List ℕ
   pub counted_few : (r : Result (Unit {0}) E) → IsAdded side t count b k r → OnOk r ((u : List ℕ) → on_side side (k u) ≤ on_side side (b u) + count)
   counted_few (Ok x) added = λ u. let same = counted (Ok x) added u in let few = hits_few t u count in omega arith
   counted_few (Err x) added = tt
-
-  pub counted_absent : (r : Result (Unit {0}) E) → IsAdded side t count b k r → OnErr r (((b t).0 ≡ 0) × ((b t).1 ≡ 0))
-  counted_absent (Ok x) added = tt
-  counted_absent (Err x) added = (ap (λ p. p.0) added.0, ap (λ p. p.1) added.0)
-
-  pub counted_none : (r : Result (Unit {0}) E) → IsAdded side t count b k r → OnErr r ((u : List ℕ) → ((k u).0 ≡ (b u).0) × ((k u).1 ≡ (b u).1))
-  counted_none (Ok x) added = tt
-  counted_none (Err x) added = λ u. (ap (λ p. p.0) (added.1 u), ap (λ p. p.1) (added.1 u))

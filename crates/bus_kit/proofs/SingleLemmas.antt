@@ -6,6 +6,12 @@ use Rattle.bus_kit.specs.Scanning.{IsAnswerOf}
 use Rattle.bus_kit.specs.Singles.{one_at, AreAlikeBelow}
 use Rattle.bus_kit.specs.declared.tuple.Unequal.{Unequal}
 
+-- a tuple of one element is that of its first
+pub single : (t : List ℕ) (x : ℕ) → length t ≡ 1 → slice_index_or t 0 x ∷ [] ≡ t
+single [] x e = absurd (omega (arith, e))
+single (y ∷ []) x e = refl
+single (y ∷ z ∷ t) x e = absurd (omega (arith, e))
+
 -- where all that stand in a list are alike, all are
 alike_beyond : (small : List (ℕ × ℕ)) (v : ℕ) → AreAlikeBelow small (length small)
     → (slice_index_or small v (0, 0)).0 ≡ (slice_index_or small v (0, 0)).1

@@ -3,5 +3,8 @@ pub mod Counting
 pub mod Scanning
 pub mod Singles
 pub mod Tallies
+pub mod Widths
 pub mod Adding
 pub mod ByBus
+pub mod Absorbing
+pub mod Placing

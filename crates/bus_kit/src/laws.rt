@@ -1,6 +1,8 @@
+use crate::hasher::StepTally;
 use crate::tallies::Tallies;
 use crate::tally::Tally;
 use crate::tuple::{Tuple, Unequal};
+use crate::values::ValueTally;
 
 fn crosses<T: Send + Sync>() {}
 
@@ -8,6 +10,8 @@ fn crosses<T: Send + Sync>() {}
 pub fn types_cross() {
     crosses::<Tuple>();
     crosses::<Unequal>();
-    crosses::<Tally>();
+    crosses::<Tally<12>>();
+    crosses::<StepTally>();
+    crosses::<ValueTally>();
     crosses::<Tallies>();
 }

@@ -1,31 +1,52 @@
-ghost use Rattle.std.specs.Prelude.{◌≡◌, ℕ, ◌+◌, ◌^◌, ◌<◌, ◌≤◌, List, [], ◌∷◌, length, IfSome};
+ghost use Rattle.std.specs.Prelude.{◌≡◌, ℕ, ◌+◌, ◌^◌, ◌<◌, List, [], ◌∷◌};
 ghost use Rattle.bus_kit.specs.Counting.{on_side, IsAdded};
 ghost use Rattle.bus_kit.specs.Scanning.{IsAnswerOf};
-ghost use Rattle.bus_kit.specs.Tallies.{one_of};
+ghost use Rattle.bus_kit.specs.Tallies.{values_tallied};
 
-use crate::counts::{Counts, Side, added};
+use crate::count::{Count, Side, added};
 use crate::seed::Seed;
+use crate::tally::Tally;
 use crate::tuple::{Tuple, Unequal};
-use crate::values::{SMALL, Singles, first_apart, make_room};
+use crate::values::{SMALL, ValueTally, first_apart, make_room};
 use std::alloc::Global;
 use vm_field::{Felt, Memory};
 
-impl Singles {
-    /// No element. It allocates nothing.
-    pub fn new(alloc: Global, seed: Seed) -> Singles
-        ensures { (u : List ℕ) → one_of result u ≡ (0, 0) }
+impl ValueTally {
+    /// The tally of no element. It allocates nothing.
+    #[tactic(auto, unfolding(crate::specs::Tallies::values_tallied))]
+    pub fn new(alloc: Global, seed: Seed) -> ValueTally
+        ensures { (u : List ℕ) → values_tallied result u ≡ (0, 0) }
     {
-        Singles {
+        ValueTally {
             small: Vec::new(alloc),
-            great: Counts::new(alloc, seed),
+            great: Tally::new(alloc, seed),
         }
     }
 
-    /// Counts an element on one side. At `Memory` it had no count, and all counts are as before.
-    #[inline(always)]
-    pub fn add(&mut self, side: Side, element: Felt, count: u64) -> Result<(), Memory>
-        requires { on_side side (one_of self.old (element ∷ [])) + count < 2 ^ 128 }
-        ensures { IsAdded side (element ∷ []) count (one_of self.old) (one_of self.new) result }
+    /// The least element that was not asked as often as it was given, with both counts, or none exactly
+    /// where there is no such element. It takes no memory.
+    #[tactic(auto, unfolding(crate::specs::Tallies::values_tallied))]
+    pub fn unequal(&self) -> Option<Unequal>
+        ensures { IsAnswerOf (values_tallied self.now) result }
+    {
+        let Some(place) = first_apart(&self.small) else {
+            return self.great.unequal();
+        };
+        let both = self.small[place];
+        Some(Unequal {
+            tuple: Tuple::of(&[Felt::from_u32(place as u32)]),
+            asked: both.0,
+            given: both.1,
+        })
+    }
+}
+
+impl ValueTally {
+    // Counts an element on one side. At `Memory` it had no count, and all counts are as before.
+    #[tactic(auto, unfolding(crate::specs::Tallies::values_tallied))]
+    fn add_element(&mut self, side: Side, element: Felt, count: u64) -> Result<(), Memory>
+        requires { on_side side (values_tallied self.old (element ∷ [])) + count < 2 ^ 128 }
+        ensures { IsAdded side (element ∷ []) count (values_tallied self.old) (values_tallied self.new) result }
     {
         let place = element.value() as usize;
         if place >= SMALL {
@@ -38,20 +59,14 @@ impl Singles {
         self.small[place] = added(side, both, count);
         Ok(())
     }
+}
 
-    /// The least element that was not asked as often as it was given, if there is one.
-    pub fn least_apart(&self) -> Option<Unequal>
-        ensures least { IsAnswerOf (one_of self.now) result }
-        ensures width { IfSome result (λ x. length x.tuple ≡ 1) }
-    {
-        let Some(place) = first_apart(&self.small) else {
-            return self.great.least_apart();
-        };
-        let both = self.small[place];
-        Some(Unequal {
-            tuple: Tuple::of(&[Felt::from_u32(place as u32)]),
-            asked: both.0,
-            given: both.1,
-        })
+impl Count<1> for ValueTally {
+    ghost use Rattle.bus_kit.specs.Tallies.{values_tallied};
+
+    ghost both = { values_tallied };
+
+    fn add(&mut self, side: Side, tuple: &[Felt; 1], count: u64) -> Result<(), Memory> {
+        self.add_element(side, tuple[0], count)
     }
 }

@@ -1,32 +1,35 @@
 ghost use Rattle.std.specs.Prelude.{◌≡◌, ℕ, List};
 ghost use Rattle.buses.specs.declared.bus.Bus.{Bus};
-ghost use Rattle.bus_kit.specs.ByBus.{asked_by, given_by, tally_of};
+ghost use Rattle.bus_kit.specs.ByBus.{both_by};
+ghost use Rattle.bus_kit.specs.Scanning.{IsAnswerOf};
 
+use crate::hasher::StepTally;
 use crate::seed::Seed;
 use crate::tally::Tally;
+use crate::tuple::Unequal;
+use crate::values::ValueTally;
 use buses::Bus;
 use std::alloc::Global;
 
-/// A tally for each bus.
+/// A tally for each bus, of the width that its tuples have.
 #[derive(Drop)]
 pub struct Tallies {
-    pub blocks: Tally,
-    pub children: Tally,
-    pub loops: Tally,
-    pub groups: Tally,
-    pub overflow: Tally,
-    pub hasher: Tally,
-    pub bitwise: Tally,
-    pub memory: Tally,
-    pub range: Tally,
-    pub kernel: Tally,
+    pub blocks: Tally<12>,
+    pub children: Tally<6>,
+    pub loops: Tally<5>,
+    pub groups: Tally<3>,
+    pub overflow: Tally<3>,
+    pub hasher: StepTally,
+    pub bitwise: Tally<4>,
+    pub memory: Tally<8>,
+    pub range: ValueTally,
+    pub kernel: Tally<4>,
 }
 
 impl Tallies {
     /// The tallies of no tuple. It allocates nothing.
     pub fn new(alloc: Global, seed: Seed) -> Tallies
-        ensures asked { (bus : Bus) (u : List ℕ) → asked_by result bus u ≡ 0 }
-        ensures given { (bus : Bus) (u : List ℕ) → given_by result bus u ≡ 0 }
+        ensures { (bus : Bus) (u : List ℕ) → both_by result bus u ≡ (0, 0) }
     {
         Tallies {
             blocks: Tally::new(alloc, seed),
@@ -34,29 +37,30 @@ impl Tallies {
             loops: Tally::new(alloc, seed),
             groups: Tally::new(alloc, seed),
             overflow: Tally::new(alloc, seed),
-            hasher: Tally::new(alloc, seed),
+            hasher: StepTally::new(alloc, seed),
             bitwise: Tally::new(alloc, seed),
             memory: Tally::new(alloc, seed),
-            range: Tally::new(alloc, seed),
+            range: ValueTally::new(alloc, seed),
             kernel: Tally::new(alloc, seed),
         }
     }
 
-    /// The tally of a bus.
-    pub fn of(&self, bus: Bus) -> &Tally
-        ensures { result.now ≡ tally_of self.now bus }
+    /// The least tuple of a bus that was not asked as often as it was given, with both counts, or none
+    /// exactly where there is no such tuple. It takes no memory.
+    pub fn unequal(&self, bus: Bus) -> Option<Unequal>
+        ensures { IsAnswerOf (both_by self.now bus) result }
     {
         match bus {
-            Bus::Blocks => &self.blocks,
-            Bus::Children => &self.children,
-            Bus::Loops => &self.loops,
-            Bus::Groups => &self.groups,
-            Bus::Overflow => &self.overflow,
-            Bus::Hasher => &self.hasher,
-            Bus::Bitwise => &self.bitwise,
-            Bus::Memory => &self.memory,
-            Bus::Range => &self.range,
-            Bus::Kernel => &self.kernel,
+            Bus::Blocks => self.blocks.unequal(),
+            Bus::Children => self.children.unequal(),
+            Bus::Loops => self.loops.unequal(),
+            Bus::Groups => self.groups.unequal(),
+            Bus::Overflow => self.overflow.unequal(),
+            Bus::Hasher => self.hasher.unequal(),
+            Bus::Bitwise => self.bitwise.unequal(),
+            Bus::Memory => self.memory.unequal(),
+            Bus::Range => self.range.unequal(),
+            Bus::Kernel => self.kernel.unequal(),
         }
     }
 }

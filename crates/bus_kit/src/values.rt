@@ -1,21 +1,23 @@
-ghost use Rattle.std.specs.Prelude.{◌≡◌, ℕ, ◌+◌, ◌^◌, ◌<◌, ◌≤◌, List, [], ◌∷◌, length, slice_index_or, OnOk, OnErr, IsNone, IfSome};
-ghost use Rattle.bus_kit.specs.Counting.{both_in};
+ghost use Rattle.std.specs.Prelude.{◌≡◌, ℕ, ◌+◌, ◌^◌, ◌<◌, ◌≤◌, List, [], ◌∷◌, length, slice_index_or, OnOk, OnErr};
 ghost use Rattle.bus_kit.specs.Singles.{FirstApart};
+ghost use Rattle.bus_kit.specs.Widths.{tallied};
 
-use crate::counts::{Both, Counts};
+use crate::count::Both;
+use crate::tally::Tally;
 use std::alloc::Global;
 use vm_field::Memory;
 
 /// The values that are counted by place: those below it.
 pub const SMALL: usize = 65536;
 
-/// Both counts of single elements: by place of those below 2^16, in a map of the others.
+/// How often each element was asked, and how often it was given: by place of those below 2^16, in a map
+/// of the others.
 #[derive(Drop)]
-pub struct Singles {
-    pub small: Vec<Both>,
-    pub great: Counts<1>,
+pub struct ValueTally {
+    pub(crate) small: Vec<Both>,
+    pub(crate) great: Tally<1>,
     ghost few: { length small.items ≤ 65536 },
-    ghost none_is_small: { (v : ℕ) → v < 65536 → both_in great.both (v ∷ []) ≡ (0, 0) },
+    ghost none_is_small: { (v : ℕ) → v < 65536 → tallied great (v ∷ []) ≡ (0, 0) },
 }
 
 /// Makes room for all values that are counted by place.

@@ -1,15 +1,14 @@
 -- What a row asks of the kernel, by its operation.
 use Rattle.std.proofs.Common.{◌≡◌, ℕ, false, cond, List, [], ◌∷◌, Result, Ok, OnOk, refl, sym, ◌∙◌, subst}
 use Rattle.buses.specs.Counts.{once}
-use Rattle.bus_kit.specs.Adding.{IsCounted}
-use Rattle.bus_kit.specs.declared.tally.Tally.{Tally}
+use Rattle.bus_kit.specs.Adding.{Tallied, IsCounted}
 use Rattle.bus_kit.proofs.AddingLemmas.{none_counted}
 use Rattle.air_kit.specs.Flags.{is_op, op_of}
 use Rattle.air_kit.specs.MainTuples.{front, kernel_asked}
 use Rattle.vm_ops.specs.declared.op.Op.{Op}
 use Rattle.vm_ops.specs.declared.op.Op.TheVariants as ops
 
-module _ {E : Type 0} (n : ℕ) (a b : Tally) (r : Result (Unit {0}) E) (x y : List ℕ) where
+module _ {E : Type 0} (n : ℕ) (a b : Tallied) (r : Result (Unit {0}) E) (x y : List ℕ) where
   abbrev KernelBy : Op → Type 0
   KernelBy op = OnOk r (IsCounted n a b (cond (is_op op ops.Syscall) (once (front x) ∷ []) []) [])
 
@@ -22,7 +21,7 @@ module _ {E : Type 0} (n : ℕ) (a b : Tally) (r : Result (Unit {0}) E) (x y : L
   kernel_called op t is same tuple p = kernel_by ops.Syscall (sym same ∙ is) (rw (← tuple) p)
 
 -- The same where an operation has no tuple.
-module _ (n : ℕ) (a : Tally) (x y : List ℕ) (op : Op) (is : op ≡ op_of x) where
+module _ (n : ℕ) (a : Tallied) (x y : List ℕ) (op : Op) (is : op ≡ op_of x) where
   pub no_call : false ≡ is_op op ops.Syscall → IsCounted n a a (kernel_asked x y) []
   no_call e0 = kernel_by {E = Unit {0}} n a a (Ok tt) x y op is (rw (← e0) (none_counted n a))
 

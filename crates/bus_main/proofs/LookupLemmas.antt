@@ -2,8 +2,7 @@
 use Rattle.std.proofs.Common.{◌≡◌, ℕ, zero, suc, ◌≤◌, true, false, cond, List, [], ◌∷◌, Result, Ok, OnOk, refl, ap, sym, ◌∙◌, subst, take, arith}
 use Rattle.vm_field.specs.Signs.{◌⊞◌, ◌⊟◌}
 use Rattle.buses.specs.Counts.{Counted, once}
-use Rattle.bus_kit.specs.Adding.{IsCounted, singles}
-use Rattle.bus_kit.specs.declared.tally.Tally.{Tally}
+use Rattle.bus_kit.specs.Adding.{Tallied, IsCounted, singles}
 use Rattle.bus_kit.proofs.AddingLemmas.{none_counted}
 use Rattle.air_kit.specs.Flags.{is_op, op_of}
 use Rattle.air_kit.specs.MainTuples.{accesses_of, bitwise_asked, domain_of, eight, front, hash_end, hasher_asked, limbs_from, count_of_limbs, memory_asked, range_asked, twelve}
@@ -12,7 +11,7 @@ use Rattle.vm_ops.specs.declared.op.Op.{Op}
 use Rattle.vm_ops.specs.declared.op.Op.TheVariants as ops
 use Rattle.vm_table.specs.MainColumns.{addr, ha, lv, s, t, w}
 
-module _ {E : Type 0} (n : ℕ) (a b : Tally) (r : Result (Unit {0}) E) (x y : List ℕ) where
+module _ {E : Type 0} (n : ℕ) (a b : Tallied) (r : Result (Unit {0}) E) (x y : List ℕ) where
   -- the hasher's bus
   abbrev HasherBy : Op → Type 0
   HasherBy op =
@@ -96,7 +95,7 @@ module _ {E : Type 0} (n : ℕ) (a b : Tally) (r : Result (Unit {0}) E) (x y : L
   limbs_asked op count is fails few p = range_by op is (rw (← fails, ← few) p)
 
 -- The same where an operation has no tuple.
-module _ (n : ℕ) (a : Tally) (x y : List ℕ) (op : Op) (is : op ≡ op_of x) where
+module _ (n : ℕ) (a : Tallied) (x y : List ℕ) (op : Op) (is : op ≡ op_of x) where
   pub no_hash : false ≡ is_start_op op → false ≡ is_op op ops.Respan → false ≡ is_op op ops.End → false ≡ is_op op ops.HPerm
       → IsCounted n a a (hasher_asked x y) []
   no_hash e0 e1 e2 e3 = hasher_by {E = Unit {0}} n a a (Ok tt) x y op is (rw (← e0, ← e1, ← e2, ← e3) (none_counted n a))
@@ -152,6 +151,6 @@ limbs_are x all (suc (suc (suc (suc (suc (suc (suc (suc (suc zero))))))))) few i
 limbs_are x all (suc (suc (suc (suc (suc (suc (suc (suc (suc (suc zero)))))))))) few is = rw is refl
 limbs_are x all (suc (suc (suc (suc (suc (suc (suc (suc (suc (suc (suc n))))))))))) few is = absurd (omega (arith, few))
 
-pub no_limbs : (a : Tally) (x : List ℕ) (count : ℕ) → count ≡ 0 → IsCounted 16 a a (limbs_from x 0 count) []
+pub no_limbs : (a : Tallied) (x : List ℕ) (count : ℕ) → count ≡ 0 → IsCounted 16 a a (limbs_from x 0 count) []
 unfolding limbs_from
 no_limbs a x count is = rw is (none_counted 16 a)

@@ -3,12 +3,17 @@ use Rattle.std.proofs.Common.{◌≡◌, ℕ, ◌^◌, ◌≤◌, ◌==◌, Bool
 use Rattle.buses.specs.Counts.{Counted, once, with_next}
 use Rattle.buses.specs.declared.bus.Bus.{Bus}
 use Rattle.buses.specs.declared.bus.Bus.TheVariants as bus
-use Rattle.bus_kit.specs.Adding.{CanCount, IsCounted}
-use Rattle.bus_kit.specs.ByBus.{AreCounted, HaveRoom, tally_of}
+use Rattle.bus_kit.specs.Adding.{Tallied, CanCount, IsCounted}
+use Rattle.bus_kit.specs.ByBus.{AreCounted, HaveRoom, both_by}
+use Rattle.bus_kit.specs.Tallies.{steps_tallied, values_tallied}
+use Rattle.bus_kit.specs.Widths.{tallied}
+use Rattle.bus_kit.specs.declared.hasher.StepTally.{StepTally}
 use Rattle.bus_kit.specs.declared.tallies.Tallies.{Tallies}
 use Rattle.bus_kit.specs.declared.tally.Tally.{Tally}
+use Rattle.bus_kit.specs.declared.values.ValueTally.{ValueTally}
 use Rattle.bus_kit.proofs.AddingLemmas.{counted_within, none_counted}
 use Rattle.air_kit.specs.Flags.{is_op, op_of}
+use Rattle.air_kit.specs.Places.{Claim}
 use Rattle.air_kit.specs.MainTuples.{accesses_of, bitwise_asked, blocks_asked, blocks_given, children_asked, children_given, groups_asked, groups_given, hasher_asked, kernel_asked, loops_asked, loops_given, main_asked, main_given, memory_asked, overflow_asked, overflow_given, range_asked}
 use Rattle.vm_ops.specs.Codes.{is_ordinary_op, is_start_op, kind_of}
 use Rattle.vm_ops.specs.declared.kind.Kind.TheVariants as kinds
@@ -61,43 +66,43 @@ no_xor ops.U32Xor h = absurd (cc)
 no_xor op h = refl
 
 -- no count grew by more than 2^65
-within : (n : ℕ) (a b : Tally) (xs ys : List Counted) → IsCounted n a b xs ys → n ≤ 2 ^ 65 → IsCounted (2 ^ 65) a b xs ys
+within : (n : ℕ) (a b : Tallied) (xs ys : List Counted) → IsCounted n a b xs ys → n ≤ 2 ^ 65 → IsCounted (2 ^ 65) a b xs ys
 within n a b xs ys p few = counted_within n (2 ^ 65) a b xs ys p few
 
 module _ (x y : List ℕ) (op : Op) (is : op ≡ op_of x) (t : Tallies) where
   -- the buses of an ordinary operation
-  module _ (holds : is_ordinary_op op ≡ true) (groups overflow hasher bitwise memory range : Tally)
-      (to_groups : IsCounted 8 t.groups groups (groups_asked x y) (groups_given x y))
-      (to_overflow : IsCounted 1 t.overflow overflow (overflow_asked x y) (overflow_given x y))
-      (to_hasher : IsCounted 2 t.hasher hasher (hasher_asked x y) [])
-      (to_bitwise : IsCounted 1 t.bitwise bitwise (bitwise_asked x y) [])
-      (to_memory : IsCounted 1 t.memory memory (memory_asked x y) [])
-      (to_range : IsCounted 16 t.range range (range_asked x y) []) where
+  module _ (holds : is_ordinary_op op ≡ true) (groups : Tally 3) (overflow : Tally 3) (hasher : StepTally) (bitwise : Tally 4) (memory : Tally 8) (range : ValueTally)
+      (to_groups : IsCounted 8 (tallied t.groups) (tallied groups) (groups_asked x y) (groups_given x y))
+      (to_overflow : IsCounted 1 (tallied t.overflow) (tallied overflow) (overflow_asked x y) (overflow_given x y))
+      (to_hasher : IsCounted 2 (steps_tallied t.hasher) (steps_tallied hasher) (hasher_asked x y) [])
+      (to_bitwise : IsCounted 1 (tallied t.bitwise) (tallied bitwise) (bitwise_asked x y) [])
+      (to_memory : IsCounted 1 (tallied t.memory) (tallied memory) (memory_asked x y) [])
+      (to_range : IsCounted 16 (values_tallied t.range) (values_tallied range) (range_asked x y) []) where
     abbrev Ordinary : Tallies
     Ordinary = record t { groups = groups; overflow = overflow; hasher = hasher; bitwise = bitwise; memory = memory; range = range }
 
-    pub ordinary_counted : (b : Bus) → IsCounted (2 ^ 65) (tally_of t b) (tally_of Ordinary b) (main_asked b x y) (main_given b x y)
-    ordinary_counted bus.Blocks = no_block (2 ^ 65) t.blocks x y op is (outside op holds).end (outside op holds).start
+    pub ordinary_counted : (b : Bus) → IsCounted (2 ^ 65) (both_by t b) (both_by Ordinary b) (main_asked b x y) (main_given b x y)
+    ordinary_counted bus.Blocks = no_block (2 ^ 65) (tallied t.blocks) x y op is (outside op holds).end (outside op holds).start
     ordinary_counted bus.Children =
-        no_child (2 ^ 65) t.children x y op is (kind_of op) kinds.Ordinary refl (ordinary-kind (kind_of op) holds) refl refl
-    ordinary_counted bus.Loops = no_loop (2 ^ 65) t.loops x y op is (outside op holds).repeat (outside op holds).loop
+        no_child (2 ^ 65) (tallied t.children) x y op is (kind_of op) kinds.Ordinary refl (ordinary-kind (kind_of op) holds) refl refl
+    ordinary_counted bus.Loops = no_loop (2 ^ 65) (tallied t.loops) x y op is (outside op holds).repeat (outside op holds).loop
     ordinary_counted bus.Groups = within 8 _ _ _ _ to_groups (lit≤ tt)
     ordinary_counted bus.Overflow = within 1 _ _ _ _ to_overflow (lit≤ tt)
     ordinary_counted bus.Hasher = within 2 _ _ _ _ to_hasher (lit≤ tt)
     ordinary_counted bus.Bitwise = within 1 _ _ _ _ to_bitwise (lit≤ tt)
     ordinary_counted bus.Memory = within 1 _ _ _ _ to_memory (lit≤ tt)
     ordinary_counted bus.Range = within 16 _ _ _ _ to_range (lit≤ tt)
-    ordinary_counted bus.Kernel = no_call (2 ^ 65) t.kernel x y op is (outside op holds).syscall
+    ordinary_counted bus.Kernel = no_call (2 ^ 65) (tallied t.kernel) x y op is (outside op holds).syscall
 
   -- those of another one
-  module _ (fails : is_ordinary_op op ≡ false) (blocks children loops groups overflow hasher range kernel : Tally)
-      (to_blocks : IsCounted 1 t.blocks blocks (blocks_asked x y) (blocks_given x y))
-      (to_children : IsCounted 2 t.children children (children_asked x y) (children_given x y))
-      (to_loops : IsCounted (2 ^ 64) t.loops loops (loops_asked x y) (loops_given x y))
-      (to_groups : IsCounted 8 t.groups groups (groups_asked x y) (groups_given x y))
-      (to_overflow : IsCounted 1 t.overflow overflow (overflow_asked x y) (overflow_given x y))
-      (to_hasher : IsCounted 2 t.hasher hasher (hasher_asked x y) [])
-      (to_range : IsCounted 16 t.range range (range_asked x y) []) where
+  module _ (fails : is_ordinary_op op ≡ false) (blocks : Tally 12) (children : Tally 6) (loops : Tally 5) (groups : Tally 3) (overflow : Tally 3) (hasher : StepTally) (range : ValueTally) (kernel : Tally 4)
+      (to_blocks : IsCounted 1 (tallied t.blocks) (tallied blocks) (blocks_asked x y) (blocks_given x y))
+      (to_children : IsCounted 2 (tallied t.children) (tallied children) (children_asked x y) (children_given x y))
+      (to_loops : IsCounted (2 ^ 64) (tallied t.loops) (tallied loops) (loops_asked x y) (loops_given x y))
+      (to_groups : IsCounted 8 (tallied t.groups) (tallied groups) (groups_asked x y) (groups_given x y))
+      (to_overflow : IsCounted 1 (tallied t.overflow) (tallied overflow) (overflow_asked x y) (overflow_given x y))
+      (to_hasher : IsCounted 2 (steps_tallied t.hasher) (steps_tallied hasher) (hasher_asked x y) [])
+      (to_range : IsCounted 16 (values_tallied t.range) (values_tallied range) (range_asked x y) []) where
     abbrev Control : Tallies
     Control =
         record t {
@@ -111,28 +116,28 @@ module _ (x y : List ℕ) (op : Op) (is : op ≡ op_of x) (t : Tallies) where
           kernel = kernel;
         }
 
-    control_bus : IsCounted 1 t.kernel kernel (kernel_asked x y) [] → (b : Bus)
-        → IsCounted (2 ^ 65) (tally_of t b) (tally_of Control b) (main_asked b x y) (main_given b x y)
+    control_bus : IsCounted 1 (tallied t.kernel) (tallied kernel) (kernel_asked x y) [] → (b : Bus)
+        → IsCounted (2 ^ 65) (both_by t b) (both_by Control b) (main_asked b x y) (main_given b x y)
     control_bus to_kernel bus.Blocks = within 1 _ _ _ _ to_blocks (lit≤ tt)
     control_bus to_kernel bus.Children = within 2 _ _ _ _ to_children (lit≤ tt)
     control_bus to_kernel bus.Loops = within (2 ^ 64) _ _ _ _ to_loops (lit≤ tt)
     control_bus to_kernel bus.Groups = within 8 _ _ _ _ to_groups (lit≤ tt)
     control_bus to_kernel bus.Overflow = within 1 _ _ _ _ to_overflow (lit≤ tt)
     control_bus to_kernel bus.Hasher = within 2 _ _ _ _ to_hasher (lit≤ tt)
-    control_bus to_kernel bus.Bitwise = none_combined (2 ^ 65) t.bitwise x y op is (no_and op fails) (no_xor op fails)
-    control_bus to_kernel bus.Memory = no_access (2 ^ 65) t.memory x y op is (no_accesses_of op x y fails)
+    control_bus to_kernel bus.Bitwise = none_combined (2 ^ 65) (tallied t.bitwise) x y op is (no_and op fails) (no_xor op fails)
+    control_bus to_kernel bus.Memory = no_access (2 ^ 65) (tallied t.memory) x y op is (no_accesses_of op x y fails)
     control_bus to_kernel bus.Range = within 16 _ _ _ _ to_range (lit≤ tt)
     control_bus to_kernel bus.Kernel = within 1 _ _ _ _ to_kernel (lit≤ tt)
 
 -- the same where memory may have been refused at the last bus
 pub ordinary_done : {E : Type 0} (x y : List ℕ) (op : Op) (is : op ≡ op_of x) (t : Tallies) (holds : is_ordinary_op op ≡ true)
-    (groups overflow hasher bitwise memory range : Tally) (r : Result (Unit {0}) E)
-    → IsCounted 8 t.groups groups (groups_asked x y) (groups_given x y)
-    → IsCounted 1 t.overflow overflow (overflow_asked x y) (overflow_given x y)
-    → IsCounted 2 t.hasher hasher (hasher_asked x y) []
-    → IsCounted 1 t.bitwise bitwise (bitwise_asked x y) []
-    → IsCounted 1 t.memory memory (memory_asked x y) []
-    → OnOk r (IsCounted 16 t.range range (range_asked x y) [])
+    (groups : Tally 3) (overflow : Tally 3) (hasher : StepTally) (bitwise : Tally 4) (memory : Tally 8) (range : ValueTally) (r : Result (Unit {0}) E)
+    → IsCounted 8 (tallied t.groups) (tallied groups) (groups_asked x y) (groups_given x y)
+    → IsCounted 1 (tallied t.overflow) (tallied overflow) (overflow_asked x y) (overflow_given x y)
+    → IsCounted 2 (steps_tallied t.hasher) (steps_tallied hasher) (hasher_asked x y) []
+    → IsCounted 1 (tallied t.bitwise) (tallied bitwise) (bitwise_asked x y) []
+    → IsCounted 1 (tallied t.memory) (tallied memory) (memory_asked x y) []
+    → OnOk r (IsCounted 16 (values_tallied t.range) (values_tallied range) (range_asked x y) [])
     → OnOk r (AreCounted (2
     ^ 65) t (record t {
       groups = groups;
@@ -148,15 +153,15 @@ ordinary_done x y op is t holds groups overflow hasher bitwise memory range (Ok 
 ordinary_done x y op is t holds groups overflow hasher bitwise memory range (Err e) p0 p1 p2 p3 p4 p5 = tt
 
 pub control_done : {E : Type 0} (x y : List ℕ) (op : Op) (is : op ≡ op_of x) (t : Tallies) (fails : is_ordinary_op op ≡ false)
-    (blocks children loops groups overflow hasher range kernel : Tally) (r : Result (Unit {0}) E)
-    → IsCounted 1 t.blocks blocks (blocks_asked x y) (blocks_given x y)
-    → IsCounted 2 t.children children (children_asked x y) (children_given x y)
-    → IsCounted (2 ^ 64) t.loops loops (loops_asked x y) (loops_given x y)
-    → IsCounted 8 t.groups groups (groups_asked x y) (groups_given x y)
-    → IsCounted 1 t.overflow overflow (overflow_asked x y) (overflow_given x y)
-    → IsCounted 2 t.hasher hasher (hasher_asked x y) []
-    → IsCounted 16 t.range range (range_asked x y) []
-    → ((next : List ℕ) → OnOk r (IsCounted 1 t.kernel kernel (kernel_asked x next) []))
+    (blocks : Tally 12) (children : Tally 6) (loops : Tally 5) (groups : Tally 3) (overflow : Tally 3) (hasher : StepTally) (range : ValueTally) (kernel : Tally 4) (r : Result (Unit {0}) E)
+    → IsCounted 1 (tallied t.blocks) (tallied blocks) (blocks_asked x y) (blocks_given x y)
+    → IsCounted 2 (tallied t.children) (tallied children) (children_asked x y) (children_given x y)
+    → IsCounted (2 ^ 64) (tallied t.loops) (tallied loops) (loops_asked x y) (loops_given x y)
+    → IsCounted 8 (tallied t.groups) (tallied groups) (groups_asked x y) (groups_given x y)
+    → IsCounted 1 (tallied t.overflow) (tallied overflow) (overflow_asked x y) (overflow_given x y)
+    → IsCounted 2 (steps_tallied t.hasher) (steps_tallied hasher) (hasher_asked x y) []
+    → IsCounted 16 (values_tallied t.range) (values_tallied range) (range_asked x y) []
+    → ((next : List ℕ) → OnOk r (IsCounted 1 (tallied t.kernel) (tallied kernel) (kernel_asked x next) []))
     → OnOk r (AreCounted (2 ^ 65) t
     (record t {
       blocks = blocks;
@@ -174,12 +179,12 @@ control_done x y op is t fails blocks children loops groups overflow hasher rang
 control_done x y op is t fails blocks children loops groups overflow hasher range kernel (Err e) p0 p1 p2 p3 p4 p5 p6 p7 = tt
 
 -- What a row gives and asks in its place: the statement's digest first, then what it gives with the row behind it.
-module _ (digest x : List ℕ) (next : Option (List ℕ)) (i : ℕ) (t : Tallies) (first : Tally) (now : Tallies)
-    (outermost : IsCounted 1 t.children first [] (cond (i == 0) (once (0 ∷ digest ++ 0 ∷ []) ∷ []) []))
+module _ (k : Claim) (x : List ℕ) (next : Option (List ℕ)) (i : ℕ) (t : Tallies) (first : Tally 6) (now : Tallies)
+    (outermost : IsCounted 1 (tallied t.children) (tallied first) [] (cond (i == 0) (once (0 ∷ k.digest ++ 0 ∷ []) ∷ []) []))
     (behind : AreCounted (2 ^ 65) (record t { children = first }) now (λ b. with_next (main_asked b) i x next)
     (λ b. with_next (main_given b) i x next)) where
   -- a bus on which the statement gives nothing
-  elsewhere : (b : Bus) (before after : Tally) (given : List Counted)
+  elsewhere : (b : Bus) (before after : Tallied) (given : List Counted)
       → IsCounted (2 ^ 65) before after (with_next (main_asked b) i x next) given
       → IsCounted (2 ^ 66) before after (with_next (main_asked b) i x next) (cond (i == 0) ([] ++ given) given)
   elsewhere b before after given p =
@@ -188,61 +193,61 @@ module _ (digest x : List ℕ) (next : Option (List ℕ)) (i : ℕ) (t : Tallies
       elim (i == 0) as (λ test. IsCounted (2 ^ 66) before after (with_next (main_asked b) i x next) (cond test ([] ++ given) given))
       [ true ↦ more | false ↦ more ]
 
-  here : (test : Bool) → IsCounted 1 t.children first [] (cond test (once (0 ∷ digest ++ 0 ∷ []) ∷ []) [])
-      → IsCounted (2 ^ 66) t.children now.children (with_next (main_asked bus.Children) i x next)
-      (cond test ((once (0 ∷ digest ++ 0 ∷ []) ∷ []) ++ with_next (main_given bus.Children) i x next) (with_next (main_given bus.Children) i x next))
+  here : (test : Bool) → IsCounted 1 (tallied t.children) (tallied first) [] (cond test (once (0 ∷ k.digest ++ 0 ∷ []) ∷ []) [])
+      → IsCounted (2 ^ 66) (tallied t.children) (tallied now.children) (with_next (main_asked bus.Children) i x next)
+      (cond test ((once (0 ∷ k.digest ++ 0 ∷ []) ∷ []) ++ with_next (main_given bus.Children) i x next) (with_next (main_given bus.Children) i x next))
   here true p =
-      given_first 1 (2 ^ 65) (2 ^ 66) t.children first now.children (once (0 ∷ digest ++ 0 ∷ []) ∷ []) (with_next (main_asked bus.Children) i x next)
+      given_first 1 (2 ^ 65) (2 ^ 66) (tallied t.children) (tallied first) (tallied now.children) (once (0 ∷ k.digest ++ 0 ∷ []) ∷ []) (with_next (main_asked bus.Children) i x next)
       (with_next (main_given bus.Children) i x next) p (behind bus.Children) (lit≤ tt)
   here false p =
-      given_first 1 (2 ^ 65) (2 ^ 66) t.children first now.children [] (with_next (main_asked bus.Children) i x next)
+      given_first 1 (2 ^ 65) (2 ^ 66) (tallied t.children) (tallied first) (tallied now.children) [] (with_next (main_asked bus.Children) i x next)
       (with_next (main_given bus.Children) i x next) p (behind bus.Children) (lit≤ tt)
 
-  pub placed : AreCounted (2 ^ 66) t now (λ b. main_asked_at b i x next) (λ b. main_given_at digest b i x next)
-  placed bus.Blocks = elsewhere bus.Blocks t.blocks now.blocks _ (behind bus.Blocks)
+  pub placed : AreCounted (2 ^ 66) t now (λ b. main_asked_at b i x next) (λ b. main_given_at k b i x next)
+  placed bus.Blocks = elsewhere bus.Blocks (tallied t.blocks) (tallied now.blocks) _ (behind bus.Blocks)
   placed bus.Children = here (i == 0) outermost
-  placed bus.Loops = elsewhere bus.Loops t.loops now.loops _ (behind bus.Loops)
-  placed bus.Groups = elsewhere bus.Groups t.groups now.groups _ (behind bus.Groups)
-  placed bus.Overflow = elsewhere bus.Overflow t.overflow now.overflow _ (behind bus.Overflow)
-  placed bus.Hasher = elsewhere bus.Hasher t.hasher now.hasher _ (behind bus.Hasher)
-  placed bus.Bitwise = elsewhere bus.Bitwise t.bitwise now.bitwise _ (behind bus.Bitwise)
-  placed bus.Memory = elsewhere bus.Memory t.memory now.memory _ (behind bus.Memory)
-  placed bus.Range = elsewhere bus.Range t.range now.range _ (behind bus.Range)
-  placed bus.Kernel = elsewhere bus.Kernel t.kernel now.kernel _ (behind bus.Kernel)
+  placed bus.Loops = elsewhere bus.Loops (tallied t.loops) (tallied now.loops) _ (behind bus.Loops)
+  placed bus.Groups = elsewhere bus.Groups (tallied t.groups) (tallied now.groups) _ (behind bus.Groups)
+  placed bus.Overflow = elsewhere bus.Overflow (tallied t.overflow) (tallied now.overflow) _ (behind bus.Overflow)
+  placed bus.Hasher = elsewhere bus.Hasher (steps_tallied t.hasher) (steps_tallied now.hasher) _ (behind bus.Hasher)
+  placed bus.Bitwise = elsewhere bus.Bitwise (tallied t.bitwise) (tallied now.bitwise) _ (behind bus.Bitwise)
+  placed bus.Memory = elsewhere bus.Memory (tallied t.memory) (tallied now.memory) _ (behind bus.Memory)
+  placed bus.Range = elsewhere bus.Range (values_tallied t.range) (values_tallied now.range) _ (behind bus.Range)
+  placed bus.Kernel = elsewhere bus.Kernel (tallied t.kernel) (tallied now.kernel) _ (behind bus.Kernel)
 
-pub placed_done : {E : Type 0} (digest x y : List ℕ) (i : ℕ) (t : Tallies) (first : Tally) (now : Tallies) (r : Result (Unit {0}) E)
-    → IsCounted 1 t.children first [] (cond (i == 0) (once (0 ∷ digest ++ 0 ∷ []) ∷ []) [])
+pub placed_done : {E : Type 0} (k : Claim) (x y : List ℕ) (i : ℕ) (t : Tallies) (first : Tally 6) (now : Tallies) (r : Result (Unit {0}) E)
+    → IsCounted 1 (tallied t.children) (tallied first) [] (cond (i == 0) (once (0 ∷ k.digest ++ 0 ∷ []) ∷ []) [])
     → OnOk r (AreCounted (2 ^ 65) (record t { children = first }) now (λ b. main_asked b x y) (λ b. main_given b x y))
-    → OnOk r (AreCounted (2 ^ 66) t now (λ b. main_asked_at b i x (Some y)) (λ b. main_given_at digest b i x (Some y)))
-placed_done digest x y i t first now (Ok v) p q = placed digest x (Some y) i t first now p q
-placed_done digest x y i t first now (Err e) p q = tt
+    → OnOk r (AreCounted (2 ^ 66) t now (λ b. main_asked_at b i x (Some y)) (λ b. main_given_at k b i x (Some y)))
+placed_done k x y i t first now (Ok v) p q = placed k x (Some y) i t first now p q
+placed_done k x y i t first now (Err e) p q = tt
 
-pub placed_last : (digest x : List ℕ) (i : ℕ) (t : Tallies) (first : Tally)
-    → IsCounted 1 t.children first [] (cond (i == 0) (once (0 ∷ digest ++ 0 ∷ []) ∷ []) [])
-    → AreCounted (2 ^ 66) t (record t { children = first }) (λ b. main_asked_at b i x None) (λ b. main_given_at digest b i x None)
-placed_last digest x i t first p = placed digest x None i t first (record t { children = first }) p nothing
+pub placed_last : (k : Claim) (x : List ℕ) (i : ℕ) (t : Tallies) (first : Tally 6)
+    → IsCounted 1 (tallied t.children) (tallied first) [] (cond (i == 0) (once (0 ∷ k.digest ++ 0 ∷ []) ∷ []) [])
+    → AreCounted (2 ^ 66) t (record t { children = first }) (λ b. main_asked_at b i x None) (λ b. main_given_at k b i x None)
+placed_last k x i t first p = placed k x None i t first (record t { children = first }) p nothing
   where
     nothing : (b : Bus)
-        → IsCounted (2 ^ 65) (tally_of (record t { children = first }) b) (tally_of (record t { children = first }) b) [] []
-    nothing b = none_counted (2 ^ 65) (tally_of (record t { children = first }) b)
+        → IsCounted (2 ^ 65) (both_by (record t { children = first }) b) (both_by (record t { children = first }) b) [] []
+    nothing b = none_counted (2 ^ 65) (both_by (record t { children = first }) b)
 
 -- counts that are below 2^127 have space, also behind one more tuple
-has_space : (t : Tally) → CanCount t → HasSpace t
+has_space : (t : Tallied) → CanCount t → HasSpace t
 has_space t room u = let both = room u in (omega arith, omega arith)
 
-has_space_behind : (t now : Tally) (xs : List Counted) → CanCount t → IsCounted 1 t now [] xs → HasSpace now
+has_space_behind : (t now : Tallied) (xs : List Counted) → CanCount t → IsCounted 1 t now [] xs → HasSpace now
 has_space_behind t now xs room p u =
     let both = room u in let asked = p.asked_grows u in let given = p.given_grows u in (omega arith, omega arith)
 
-pub have_space : (t : Tallies) (first : Tally) (xs : List Counted) → HaveRoom t → IsCounted 1 t.children first [] xs
+pub have_space : (t : Tallies) (first : Tally 6) (xs : List Counted) → HaveRoom t → IsCounted 1 (tallied t.children) (tallied first) [] xs
     → HaveSpace (record t { children = first })
-have_space t first xs room p bus.Blocks = has_space t.blocks (room bus.Blocks)
-have_space t first xs room p bus.Children = has_space_behind t.children first xs (room bus.Children) p
-have_space t first xs room p bus.Loops = has_space t.loops (room bus.Loops)
-have_space t first xs room p bus.Groups = has_space t.groups (room bus.Groups)
-have_space t first xs room p bus.Overflow = has_space t.overflow (room bus.Overflow)
-have_space t first xs room p bus.Hasher = has_space t.hasher (room bus.Hasher)
-have_space t first xs room p bus.Bitwise = has_space t.bitwise (room bus.Bitwise)
-have_space t first xs room p bus.Memory = has_space t.memory (room bus.Memory)
-have_space t first xs room p bus.Range = has_space t.range (room bus.Range)
-have_space t first xs room p bus.Kernel = has_space t.kernel (room bus.Kernel)
+have_space t first xs room p bus.Blocks = has_space (tallied t.blocks) (room bus.Blocks)
+have_space t first xs room p bus.Children = has_space_behind (tallied t.children) (tallied first) xs (room bus.Children) p
+have_space t first xs room p bus.Loops = has_space (tallied t.loops) (room bus.Loops)
+have_space t first xs room p bus.Groups = has_space (tallied t.groups) (room bus.Groups)
+have_space t first xs room p bus.Overflow = has_space (tallied t.overflow) (room bus.Overflow)
+have_space t first xs room p bus.Hasher = has_space (steps_tallied t.hasher) (room bus.Hasher)
+have_space t first xs room p bus.Bitwise = has_space (tallied t.bitwise) (room bus.Bitwise)
+have_space t first xs room p bus.Memory = has_space (tallied t.memory) (room bus.Memory)
+have_space t first xs room p bus.Range = has_space (values_tallied t.range) (room bus.Range)
+have_space t first xs room p bus.Kernel = has_space (tallied t.kernel) (room bus.Kernel)

@@ -5,7 +5,8 @@ use Rattle.buses.specs.declared.bus.Bus.{Bus}
 use Rattle.air_kit.specs.Flags.{op_of, HasBits}
 use Rattle.air_kit.specs.MainTuples.{is_batch_op, positions, main_asked, main_given}
 use Rattle.air_kit.specs.Acceptance.{statement_given}
-use Rattle.bus_kit.specs.ByBus.{tally_of}
+use Rattle.air_kit.specs.Places.{Claim}
+use Rattle.bus_kit.specs.ByBus.{both_by}
 use Rattle.bus_kit.specs.declared.tallies.Tallies.{Tallies}
 use Rattle.bus_blocks.specs.Space.{HasSpace}
 
@@ -19,10 +20,10 @@ abbrev pub main_asked_at : Bus → OfRow
 main_asked_at bus = with_next (main_asked bus)
 
 -- what it gives, with the statement's digest at the first row
-abbrev pub main_given_at : List ℕ → Bus → OfRow
-main_given_at digest bus i x next =
-    if i == 0 then statement_given bus digest ++ with_next (main_given bus) i x next else with_next (main_given bus) i x next
+abbrev pub main_given_at : Claim → Bus → OfRow
+main_given_at c bus i x next =
+    if i == 0 then statement_given bus c ++ with_next (main_given bus) i x next else with_next (main_given bus) i x next
 
 -- on each bus each count may grow by 2^65
 abbrev pub HaveSpace : Tallies → Type 0
-HaveSpace t = (bus : Bus) → HasSpace (tally_of t bus)
+HaveSpace t = (bus : Bus) → HasSpace (both_by t bus)

@@ -2,6 +2,7 @@ ghost use Rattle.std.specs.Prelude.{◌≡◌, [], ◌∷◌, OnOk};
 ghost use Rattle.vm_table.specs.MainColumns.{s};
 ghost use Rattle.air_kit.specs.Flags.{op_of};
 ghost use Rattle.air_kit.specs.MainTuples.{bitwise_asked};
+ghost use Rattle.bus_kit.specs.Widths.{tallied};
 ghost use Rattle.bus_kit.specs.Adding.{IsCounted};
 ghost use Rattle.bus_blocks.specs.Space.{HasSpace};
 
@@ -15,11 +16,11 @@ pub(crate) fn tuples_bitwise<V: MainView>(
     op: Op,
     x: &V,
     y: &V,
-    tally: &mut Tally,
+    tally: &mut Tally<4>,
 ) -> Result<(), Memory>
     requires op { op ≡ op_of (V.cells x.now) }
-    requires room { HasSpace tally.old }
-    ensures { OnOk result (IsCounted 1 tally.old tally.new (bitwise_asked (V.cells x.now) (V.cells y.now)) []) }
+    requires room { HasSpace (tallied tally.old) }
+    ensures { OnOk result (IsCounted 1 (tallied tally.old) (tallied tally.new) (bitwise_asked (V.cells x.now) (V.cells y.now)) []) }
 {
     match op {
         Op::U32And => ask(tally, &combined(0, x, y)),

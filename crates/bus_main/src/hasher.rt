@@ -4,10 +4,11 @@ ghost use Rattle.vm_table.specs.MainColumns.{addr, h, ha, w};
 ghost use Rattle.buses.specs.Counts.{once};
 ghost use Rattle.air_kit.specs.Flags.{is_op, op_of};
 ghost use Rattle.air_kit.specs.MainTuples.{domain_of, eight, front, hash_end, hasher_asked, twelve};
+ghost use Rattle.bus_kit.specs.Tallies.{steps_tallied};
 ghost use Rattle.bus_kit.specs.Adding.{IsCounted};
 ghost use Rattle.bus_blocks.specs.Space.{HasSpace};
 
-use bus_kit::{Tally, ask};
+use bus_kit::{StepTally, ask};
 use vm_field::{Felt, Memory};
 use vm_ops::{Op, is_start, opcode};
 use vm_table::MainView;
@@ -17,11 +18,11 @@ pub(crate) fn tuples_hasher<V: MainView>(
     op: Op,
     x: &V,
     y: &V,
-    tally: &mut Tally,
+    tally: &mut StepTally,
 ) -> Result<(), Memory>
     requires op { op ≡ op_of (V.cells x.now) }
-    requires room { HasSpace tally.old }
-    ensures { OnOk result (IsCounted 2 tally.old tally.new (hasher_asked (V.cells x.now) (V.cells y.now)) []) }
+    requires room { HasSpace (steps_tallied tally.old) }
+    ensures { OnOk result (IsCounted 2 (steps_tallied tally.old) (steps_tallied tally.new) (hasher_asked (V.cells x.now) (V.cells y.now)) []) }
 {
     match op {
         Op::Respan => ask(tally, &gone_on(x)),
@@ -38,9 +39,9 @@ pub(crate) fn tuples_hasher<V: MainView>(
 }
 
 // The input and the output of HPERM.
-fn permuted<V: MainView>(x: &V, y: &V, tally: &mut Tally) -> Result<(), Memory>
-    requires { HasSpace tally.old }
-    ensures { OnOk result (IsCounted 2 tally.old tally.new
+fn permuted<V: MainView>(x: &V, y: &V, tally: &mut StepTally) -> Result<(), Memory>
+    requires { HasSpace (steps_tallied tally.old) }
+    ensures { OnOk result (IsCounted 2 (steps_tallied tally.old) (steps_tallied tally.new)
         (once (4 ∷ w (V.cells x.now) 0 ∷ twelve (V.cells x.now))
         ∷ once (5 ∷ (w (V.cells x.now) 0 ⊞ 7) ∷ twelve (V.cells y.now)) ∷ []) []) }
 {

@@ -1,8 +1,10 @@
 ghost use Rattle.std.specs.Prelude.{◌≡◌, ◌^◌, ◌==◌, ◌++◌, if◌then◌else◌, [], ◌∷◌, IfSome, OnOk, option_map};
 ghost use Rattle.buses.specs.Counts.{once};
+ghost use Rattle.bus_kit.specs.Widths.{tallied};
 ghost use Rattle.bus_kit.specs.Adding.{CanCount, IsCounted};
 ghost use Rattle.bus_kit.specs.ByBus.{AreCounted, HaveRoom};
 ghost use Rattle.air_kit.specs.Flags.{HasBits};
+ghost use Rattle.air_kit.specs.Rows.{claim_at};
 ghost use Rattle.bus_main.specs.RowTuples.{IsReadable, main_asked_at, main_given_at};
 
 use crate::step::step;
@@ -19,7 +21,7 @@ pub fn tuples<V: MainView>(place: &Place<'_, V>, tallies: &mut Tallies) -> Resul
     requires room { HaveRoom tallies.old }
     ensures { OnOk result (AreCounted (2 ^ 66) tallies.old tallies.new
         (λ bus. main_asked_at bus place.now.row (V.cells place.now.cur) (option_map V.cells place.now.next))
-        (λ bus. main_given_at place.now.public.now.statement.digest bus place.now.row (V.cells place.now.cur) (option_map V.cells place.now.next))) }
+        (λ bus. main_given_at (claim_at place.now) bus place.now.row (V.cells place.now.cur) (option_map V.cells place.now.next))) }
 {
     outermost(
         place.row,
@@ -33,9 +35,9 @@ pub fn tuples<V: MainView>(place: &Place<'_, V>, tallies: &mut Tallies) -> Resul
 }
 
 // The first row gives the statement's digest, as the child of no block.
-fn outermost(row: u32, digest: &Word, tally: &mut Tally) -> Result<(), Memory>
-    requires { CanCount tally.old }
-    ensures { OnOk result (IsCounted 1 tally.old tally.new []
+fn outermost(row: u32, digest: &Word, tally: &mut Tally<6>) -> Result<(), Memory>
+    requires { CanCount (tallied tally.old) }
+    ensures { OnOk result (IsCounted 1 (tallied tally.old) (tallied tally.new) []
         (if row == 0 then once (0 ∷ digest.now ++ 0 ∷ []) ∷ [] else [])) }
 {
     if row == 0 {

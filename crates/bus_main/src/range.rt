@@ -4,10 +4,11 @@ ghost use Rattle.vm_field.specs.Signs.{◌⊟◌};
 ghost use Rattle.vm_table.specs.MainColumns.{lv, t};
 ghost use Rattle.air_kit.specs.Flags.{op_of};
 ghost use Rattle.air_kit.specs.MainTuples.{limbs_from, count_of_limbs, range_asked};
+ghost use Rattle.bus_kit.specs.Tallies.{values_tallied};
 ghost use Rattle.bus_kit.specs.Adding.{IsCounted};
 ghost use Rattle.bus_blocks.specs.Space.{HasSpace};
 
-use bus_kit::{Tally, ask, ask_values};
+use bus_kit::{ValueTally, ask, ask_values};
 use vm_field::{Felt, MOST_NESTING, Memory};
 use vm_ops::{Op, is_start};
 use vm_table::MainView;
@@ -17,11 +18,11 @@ pub(crate) fn tuples_range<V: MainView>(
     op: Op,
     x: &V,
     y: &V,
-    tally: &mut Tally,
+    tally: &mut ValueTally,
 ) -> Result<(), Memory>
     requires op { op ≡ op_of (V.cells x.now) }
-    requires room { HasSpace tally.old }
-    ensures { OnOk result (IsCounted 16 tally.old tally.new (range_asked (V.cells x.now) (V.cells y.now)) []) }
+    requires room { HasSpace (values_tallied tally.old) }
+    ensures { OnOk result (IsCounted 16 (values_tallied tally.old) (values_tallied tally.new) (range_asked (V.cells x.now) (V.cells y.now)) []) }
 {
     if is_start(op) {
         ask(tally, &nesting_left(y))
@@ -31,10 +32,10 @@ pub(crate) fn tuples_range<V: MainView>(
 }
 
 // The first limbs of a row.
-fn ask_limbs<V: MainView>(count: usize, x: &V, tally: &mut Tally) -> Result<(), Memory>
+fn ask_limbs<V: MainView>(count: usize, x: &V, tally: &mut ValueTally) -> Result<(), Memory>
     requires few { count ≤ 10 }
-    requires room { HasSpace tally.old }
-    ensures { OnOk result (IsCounted 16 tally.old tally.new (limbs_from (V.cells x.now) 0 count) []) }
+    requires room { HasSpace (values_tallied tally.old) }
+    ensures { OnOk result (IsCounted 16 (values_tallied tally.old) (values_tallied tally.new) (limbs_from (V.cells x.now) 0 count) []) }
 {
     if count == 0 {
         return Ok(());

@@ -295,7 +295,7 @@ fn is_apart(found: &Option<Unequal>, case: &Case, ends: bool) -> bool {
 fn is_counted(alloc: Global, case: &Case, ends: bool) -> Result<bool, Memory> {
     let mut tallies = Tallies::new(alloc, Seed::new(0));
     let done = count(alloc, case, ends, &mut tallies);
-    let is_right = is_apart(&tallies.of(case.bus).unequal(), case, ends);
+    let is_right = is_apart(&tallies.unequal(case.bus), case, ends);
     done.map(|is_read| is_read && is_right)
 }
 

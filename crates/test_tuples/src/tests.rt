@@ -167,7 +167,7 @@ fn count(alloc: Global, counted: &Counted, tallies: &mut Tallies) -> Result<(), 
 fn is_counted(alloc: Global, case: &Case) -> Result<bool, Memory> {
     let mut tallies = Tallies::new(alloc, Seed::new(0));
     let done = count(alloc, &case.counted, &mut tallies);
-    let is_right = is_apart(&tallies.of(case.bus).unequal(), &case.apart);
+    let is_right = is_apart(&tallies.unequal(case.bus), &case.apart);
     done.and(Ok(is_right))
 }
 

@@ -3,6 +3,7 @@ use Rattle.std.proofs.Common.{refl, inl, inr, lit≤}
 use Rattle.vm_ops.specs.declared.kind.Kind.TheVariants as kinds
 use Rattle.bus_blocks.proofs.BlockLemmas.{child_ends, child_given_by, children_given_by, no_child}
 use Rattle.bus_blocks.proofs.TwoLemmas.{wider}
+use Rattle.bus_kit.specs.Widths.{tallied}
 use Rattle.bus_blocks.proofs.children.tuples_children.Goals as goal
 
 pub returns-in-Join : goal.returns-in-Join
@@ -61,8 +62,8 @@ returns-in-Ordinary g c =
     let x = g.V.View.cells c.args.x.now in
     let y = g.V.View.cells c.args.y.now in
     elim c.in-Ordinary.is [
-      | inl is ↦ no_child 2 c.args.tally.now x y c.args.op c.requires.op c.kind_of.result kinds.Ordinary c.kind_of.ensures is refl refl
-      | inr (inl is) ↦ no_child 2 c.args.tally.now x y c.args.op c.requires.op c.kind_of.result kinds.Span c.kind_of.ensures is refl refl
-      | inr (inr (inl is)) ↦ no_child 2 c.args.tally.now x y c.args.op c.requires.op c.kind_of.result kinds.Respan c.kind_of.ensures is refl refl
-      | inr (inr (inr is)) ↦ no_child 2 c.args.tally.now x y c.args.op c.requires.op c.kind_of.result kinds.Halt c.kind_of.ensures is refl refl
+      | inl is ↦ no_child 2 (tallied c.args.tally.now) x y c.args.op c.requires.op c.kind_of.result kinds.Ordinary c.kind_of.ensures is refl refl
+      | inr (inl is) ↦ no_child 2 (tallied c.args.tally.now) x y c.args.op c.requires.op c.kind_of.result kinds.Span c.kind_of.ensures is refl refl
+      | inr (inr (inl is)) ↦ no_child 2 (tallied c.args.tally.now) x y c.args.op c.requires.op c.kind_of.result kinds.Respan c.kind_of.ensures is refl refl
+      | inr (inr (inr is)) ↦ no_child 2 (tallied c.args.tally.now) x y c.args.op c.requires.op c.kind_of.result kinds.Halt c.kind_of.ensures is refl refl
     ]

@@ -3,6 +3,7 @@ use Rattle.std.proofs.Common.{refl, inl, inr, lit≤}
 use Rattle.vm_ops.specs.declared.op.Op.TheVariants as ops
 use Rattle.bus_blocks.proofs.GroupLemmas.{batch_given, group_taken, immediate_taken, no_group, not_batch, not_push}
 use Rattle.bus_blocks.proofs.TwoLemmas.{wider}
+use Rattle.bus_kit.specs.Widths.{tallied}
 use Rattle.bus_blocks.proofs.groups.tuples_groups.Goals as goal
 
 pub returns-in-Span : goal.returns-in-Span
@@ -34,5 +35,5 @@ pub returns-else-opens_group : goal.returns-else-opens_group
 returns-else-opens_group g c =
     let x = g.V.View.cells c.args.x.now in
     let y = g.V.View.cells c.args.y.now in
-    no_group 8 c.args.tally.now x y c.args.op c.requires.op (not_push c.args.op c.in_default.not-Push)
+    no_group 8 (tallied c.args.tally.now) x y c.args.op c.requires.op (not_push c.args.op c.in_default.not-Push)
     (not_batch c.args.op c.in_default.not-Span c.in_default.not-Respan) c.if-opens_group.ensures

@@ -2,6 +2,7 @@
 use Rattle.std.proofs.Common.{◌^◌, lit≤}
 use Rattle.bus_blocks.proofs.BlockLemmas.{loop_begins, loop_goes_on, no_loop, not_loop, not_repeat}
 use Rattle.bus_blocks.proofs.TwoLemmas.{wider}
+use Rattle.bus_kit.specs.Widths.{tallied}
 use Rattle.bus_blocks.proofs.loops.tuples_loops.Goals as goal
 
 pub returns-in-Loop : goal.returns-in-Loop
@@ -19,4 +20,4 @@ returns-in-Repeat g c =
 
 pub returns-in_default : goal.returns-in_default
 returns-in_default g c =
-    no_loop _ c.args.tally.now _ _ c.args.op c.requires.op (not_repeat c.args.op c.in_default.not-Repeat) (not_loop c.args.op c.in_default.not-Loop)
+    no_loop _ (tallied c.args.tally.now) _ _ c.args.op c.requires.op (not_repeat c.args.op c.in_default.not-Repeat) (not_loop c.args.op c.in_default.not-Loop)

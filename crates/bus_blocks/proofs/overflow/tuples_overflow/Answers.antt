@@ -1,5 +1,6 @@
 -- By the shift of the row's operation.
 use Rattle.bus_blocks.proofs.CellLemmas.{cell_comes, cell_goes, condition_goes, no_cell}
+use Rattle.bus_kit.specs.Widths.{tallied}
 use Rattle.bus_blocks.proofs.overflow.tuples_overflow.Goals as goal
 
 pub returns-in-Right : goal.returns-in-Right
@@ -13,4 +14,4 @@ returns-then-leaves_loop g c =
     condition_goes _ _ _ _ _ _ _ c.requires.op c.in-Stay.ensures c.if-leaves_loop.ensures c.come_back-then-leaves_loop.ensures
 
 pub returns-else-leaves_loop : goal.returns-else-leaves_loop
-returns-else-leaves_loop g c = no_cell 1 c.args.tally.now _ _ c.args.op c.requires.op c.in-Stay.ensures c.if-leaves_loop.ensures
+returns-else-leaves_loop g c = no_cell 1 (tallied c.args.tally.now) _ _ c.args.op c.requires.op c.in-Stay.ensures c.if-leaves_loop.ensures

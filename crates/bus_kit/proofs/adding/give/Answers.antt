@@ -1,9 +1,11 @@
 -- The tuple was counted.
-use Rattle.std.proofs.Common.{lit≤}
-use Rattle.bus_kit.proofs.AddingLemmas.{give_counted}
+use Rattle.std.proofs.Common.{lit≤, arith}
+use Rattle.buses.specs.Counts.{once}
+use Rattle.bus_kit.proofs.AddingLemmas.{added_given}
 use Rattle.bus_kit.proofs.adding.give.Goals as goal
 
+pub add-requires : goal.add-requires
+add-requires g c = let room = c.requires.room c.args.tuple.now in omega arith
+
 pub returns : goal.returns
-returns c =
-    give_counted 1 c.args.tally.now c.give.new.self (record { tuple = c.args.tuple.now; count = 1 }) c.give.result (lit≤ tt)
-    c.give.ensures.ok c.give.ensures.other c.give.ensures.grows
+returns g c = added_given 1 (g.T.Count.both c.args.tally.now) (g.T.Count.both c.add.new.self) (once c.args.tuple.now) c.add.result (lit≤ tt) c.add.ensures

@@ -3,6 +3,7 @@ use Rattle.std.proofs.Common.{lit≤}
 use Rattle.bus_blocks.proofs.BlockLemmas.{not_end}
 use Rattle.bus_blocks.proofs.TwoLemmas.{wider}
 use Rattle.bus_main.proofs.LookupLemmas.{hash_begins, hash_ends, hash_goes_on, no_hash, not_hperm, not_respan, state_permuted}
+use Rattle.bus_kit.specs.Tallies.{steps_tallied}
 use Rattle.bus_main.proofs.hasher.tuples_hasher.Goals as goal
 
 pub returns-in-Respan : goal.returns-in-Respan
@@ -36,5 +37,5 @@ pub returns-else-is_start : goal.returns-else-is_start
 returns-else-is_start g c =
     let x = g.V.View.cells c.args.x.now in
     let y = g.V.View.cells c.args.y.now in
-    no_hash 2 c.args.tally.now x y c.args.op c.requires.op c.if-is_start.ensures
+    no_hash 2 (steps_tallied c.args.tally.now) x y c.args.op c.requires.op c.if-is_start.ensures
     (not_respan c.args.op c.in_default.not-Respan) (not_end c.args.op c.in_default.not-End) (not_hperm c.args.op c.in_default.not-HPerm)

@@ -3,6 +3,7 @@ use Rattle.std.proofs.Common.{refl}
 use Rattle.air_kit.specs.MainTuples.{accesses_of}
 use Rattle.vm_ops.specs.declared.op.Op.TheVariants as ops
 use Rattle.bus_main.proofs.LookupLemmas.{access_by, no_access, not_access}
+use Rattle.bus_kit.specs.Widths.{tallied}
 use Rattle.bus_main.proofs.memory.tuples_memory.Goals as goal
 
 pub returns-in-MLoad : goal.returns-in-MLoad
@@ -37,5 +38,5 @@ pub returns-in_default : goal.returns-in_default
 returns-in_default g c =
     let x = g.V.View.cells c.args.x.now in
     let y = g.V.View.cells c.args.y.now in
-    no_access 1 c.args.tally.now x y c.args.op c.requires.op
+    no_access 1 (tallied c.args.tally.now) x y c.args.op c.requires.op
     (not_access c.args.op _ _ c.in_default.not-MLoad c.in_default.not-MLoadW c.in_default.not-MStore c.in_default.not-MStoreW)

@@ -1,4 +1,5 @@
 -- The statement's digest, and behind it what the row gives with the one behind it.
+use Rattle.air_kit.specs.Rows.{claim_at}
 use Rattle.buses.specs.declared.bus.Bus.TheVariants as bus
 use Rattle.bus_main.proofs.StepLemmas.{have_space, placed_done, placed_last}
 use Rattle.bus_main.proofs.place.tuples.Goals as goal
@@ -12,13 +13,13 @@ step-requires-clause-room g c = have_space c.args.tallies.now c.outermost.new.ta
 pub returns-in-Some : goal.returns-in-Some
 returns-in-Some g c =
     rw c.in-Some.is
-    (placed_done c.args.place.now.public.now.statement.digest (g.V.View.cells c.args.place.now.cur) (g.V.View.cells c.in-Some.next)
+    (placed_done (claim_at c.args.place.now) (g.V.View.cells c.args.place.now.cur) (g.V.View.cells c.in-Some.next)
     c.args.place.now.row c.args.tallies.now
     c.outermost.new.tally c.step.new.tallies c.step.result c.in_ok-outermost.ensures c.step.ensures)
 
 pub returns-in-None : goal.returns-in-None
 returns-in-None g c =
     rw c.in-None.is
-    (placed_last c.args.place.now.public.now.statement.digest (g.V.View.cells c.args.place.now.cur) c.args.place.now.row
+    (placed_last (claim_at c.args.place.now) (g.V.View.cells c.args.place.now.cur) c.args.place.now.row
     c.args.tallies.now c.outermost.new.tally
     c.in_ok-outermost.ensures)

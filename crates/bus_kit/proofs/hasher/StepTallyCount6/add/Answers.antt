@@ -1,0 +1,16 @@
+use Rattle.std.proofs.Common.{◌+◌, ◌<◌, ◌^◌, lit<, subst}
+use Rattle.bus_kit.specs.Counting.{on_side}
+use Rattle.bus_kit.proofs.WidthLemmas.{at_six, in_six}
+use Rattle.bus_kit.proofs.hasher.StepTallyCount6.add.Goals as goal
+
+pub add-requires : goal.add-requires
+add-requires c = (
+  lit< tt,
+  (
+    lit< tt,
+    subst (λ both. on_side c.args.side both + c.args.count < 2 ^ 128) (at_six c.args.self.now c.args.tuple.now c.told-tuple) c.requires,
+  ),
+)
+
+pub returns : goal.returns
+returns c = in_six c.args.side c.args.tuple.now c.args.count c.args.self.now c.add.new.self c.add.result c.told-tuple c.add.ensures
