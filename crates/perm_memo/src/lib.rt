@@ -3,4 +3,4 @@
 
 mod permutations;
 
-pub use permutations::Permutations;
+pub use permutations::{Permutations, types_cross};

@@ -86,6 +86,17 @@ impl Permutations {
         states
     }
 
+    /// The same of what is kept, or computed where it is not. It keeps nothing, so that several threads may
+    /// ask at once.
+    pub fn rounds_of(&self, state: &[Felt; 12]) -> [[Felt; 12]; 8]
+        ensures { result ≡ round_states self.now state.now }
+    {
+        match self.found(fingerprint(state), state) {
+            Some(states) => states,
+            None => computed(&self.params, state),
+        }
+    }
+
     // The states of this state's permutation, if they are kept.
     fn found(&self, fingerprint: u64, state: &[Felt; 12]) -> Option<[[Felt; 12]; 8]>
         ensures { IfSome result (λ states. states ≡ round_states self.now state.now) }
@@ -142,4 +153,11 @@ fn fingerprint(state: &[Felt; 12]) -> u64 {
         );
     }
     fingerprint
+}
+
+fn crosses<T: Send + Sync>() {}
+
+/// Permutations may be sent to other threads and read by several.
+pub fn types_cross() {
+    crosses::<Permutations>();
 }
