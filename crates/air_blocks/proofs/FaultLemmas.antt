@@ -19,9 +19,9 @@ pub opcode_length : (p : Spot) → length (opcode_values p) ≡ 10
 unfolding opcode_values family
 opcode_length p = refl
 
-start_length : (p : Spot) → length (start_values p) ≡ 12
+start_length : (c : Claim) (p : Spot) → length (start_values c p) ≡ 12
 unfolding start_values family
-start_length p = refl
+start_length c p = refl
 
 inputs_length : (c : Claim) (p : Spot) → length (inputs_values c p) ≡ 16
 unfolding inputs_values family
@@ -57,17 +57,17 @@ unfolding block_values follow_values shown_values kept_values family
 block_number n x y = refl
 
 -- the answers of the parts are the answer of their lists
-pub boundary_joined : (c : Claim) (p : Spot) (s i e o r0 r1 r : Option (ℕ × ℕ)) → s ≡ first_fault_of 11 (start_values p)
+pub boundary_joined : (c : Claim) (p : Spot) (s i e o r0 r1 r : Option (ℕ × ℕ)) → s ≡ first_fault_of 11 (start_values c p)
     → i ≡ first_fault_of 23 (inputs_values c p)
     → e ≡ first_fault_of 39 (end_values c p) → o ≡ first_fault_of 44 (outputs_values c p)
     → r0 ≡ or_next e o → r1 ≡ or_next i r0 → r ≡ or_next s r1 → r ≡ first_fault_of 11 (boundary_values c p)
 unfolding boundary_values
 boundary_joined c p s i e o r0 r1 r es ei ee eo e0 e1 er =
-    joined 11 23 (start_values p) (inputs_values c p ++ (end_values c p ++ outputs_values c p)) s r1 r er es
+    joined 11 23 (start_values c p) (inputs_values c p ++ (end_values c p ++ outputs_values c p)) s r1 r er es
     (joined 23 39 (inputs_values c p) (end_values c p ++ outputs_values c p) i r0 r1 e1 ei
     (joined 39 44 (end_values c p) (outputs_values c p) e o r0 e0 ee eo (ap (λ k. 39 + k) (end_length c p)))
     (ap (λ k. 23 + k) (inputs_length c p)))
-    (ap (λ k. 11 + k) (start_length p))
+    (ap (λ k. 11 + k) (start_length c p))
 
 pub block_joined : (p : Spot) (f s k r0 r : Option (ℕ × ℕ)) → f ≡ first_fault_of 60 (follow_values p) → s ≡ first_fault_of 70 (shown_values p)
     → k ≡ first_fault_of 82 (kept_values p) → r0 ≡ or_next s k → r ≡ or_next f r0 → r ≡ first_fault_of 60 (block_values p)

@@ -1,6 +1,6 @@
 //! Entries 11 to 59: the first row shows the start of a run from the inputs, the last one the end with the outputs.
 ghost use Rattle.std.specs.Prelude.{◌≡◌, ◌<◌, List, slice_index, length};
-ghost use Rattle.air_kit.specs.BoundaryValues.{entry_11, entry_12, entry_13, entry_14, entry_15, entry_16, entry_20, entry_21, entry_22, entry_23, entry_39, entry_40, entry_41, entry_42, entry_43, entry_44, start_values, inputs_values, end_values, outputs_values, boundary_values};
+ghost use Rattle.air_kit.specs.BoundaryValues.{entry_11, entry_12, entry_13, entry_14, entry_15, entry_16, entry_20, entry_21, entry_22, entry_23, entry_39, entry_40, entry_41, entry_42, entry_43, entry_44, depth_at_start, key_at_start, start_values, inputs_values, end_values, outputs_values, boundary_values};
 ghost use Rattle.air_kit.specs.Places.{first_fault_of};
 ghost use Rattle.air_kit.specs.Rows.{claim_at, spot_at};
 ghost use Rattle.air_blocks.specs.Entries.{of_row};
@@ -77,20 +77,34 @@ fn entry_20<V: MainView>(x: &Seen<'_, V>) -> Felt
     x.row.lv()
 }
 
-// The stack has sixteen cells.
+// The stack is as deep as it is at the start.
 #[tactic(auto, unfolding(air_kit::specs::BoundaryValues::entry_21))]
-fn entry_21<V: MainView>(x: &Seen<'_, V>) -> Felt
-    ensures { result ≡ of_row entry_21 (V.cells x.now.row.now) }
+fn entry_21<V: MainView>(place: &Place<'_, V>, x: &Seen<'_, V>) -> Felt
+    ensures { result ≡ of_row (entry_21 (claim_at place.now)) (V.cells x.now.row.now) }
 {
-    x.row.depth() - Felt::from_u32(16)
+    x.row.depth() - depth_at_start(place)
 }
 
-// And none below.
+// The newest cell below the sixteenth is that of the start.
 #[tactic(auto, unfolding(air_kit::specs::BoundaryValues::entry_22))]
-fn entry_22<V: MainView>(x: &Seen<'_, V>) -> Felt
-    ensures { result ≡ of_row entry_22 (V.cells x.now.row.now) }
+fn entry_22<V: MainView>(place: &Place<'_, V>, x: &Seen<'_, V>) -> Felt
+    ensures { result ≡ of_row (entry_22 (claim_at place.now)) (V.cells x.now.row.now) }
 {
-    x.row.key()
+    x.row.key() - key_at_start(place)
+}
+
+// How deep the stack is at the start.
+fn depth_at_start<V>(_place: &Place<'_, V>) -> Felt
+    ensures { result ≡ depth_at_start (claim_at _place.now) }
+{
+    Felt::from_u32(16)
+}
+
+// The key of the newest cell below the sixteenth at the start: there is none.
+fn key_at_start<V>(_place: &Place<'_, V>) -> Felt
+    ensures { result ≡ key_at_start (claim_at _place.now) }
+{
+    Felt::ZERO
 }
 
 // 23 to 38: cell j is input j.
@@ -159,7 +173,7 @@ fn entry_44<V: MainView>(place: &Place<'_, V>, j: usize, x: &Seen<'_, V>) -> Fel
 #[tactic(auto, unfolding(air_kit::specs::BoundaryValues::start_values, air_kit::specs::Places::family))]
 fn start_faults<V: MainView>(place: &Place<'_, V>, x: &Seen<'_, V>) -> Option<(u16, Felt)>
     requires { x.now.row.now ≡ place.now.cur }
-    ensures { result ≡ first_fault_of 11 (start_values (spot_at V.cells place.now)) }
+    ensures { result ≡ first_fault_of 11 (start_values (claim_at place.now) (spot_at V.cells place.now)) }
 {
     if place.row != 0 {
         return None;
@@ -176,8 +190,8 @@ fn start_faults<V: MainView>(place: &Place<'_, V>, x: &Seen<'_, V>) -> Option<(u
             entry_16(2, x),
             entry_16(3, x),
             entry_20(x),
-            entry_21(x),
-            entry_22(x),
+            entry_21(place, x),
+            entry_22(place, x),
         ],
         11,
     )

@@ -1,6 +1,6 @@
 -- What decoding a row finds, and sums over the operations from a code on.
-use Rattle.std.proofs.Common.{◌≡◌, ℕ, zero, suc, ◌+◌, ◌*◌, ◌<◌, ◌↔◌, cond, nat_lt, Bool, true, IsTrue, List, [], ◌∷◌, drop, Option, Some, None, IfSome, refl, ap, sym, subst, ◌∙◌, arith, lit<}
-use Rattle.std.proofs.lemmas.Bool.{lt-ltb, ltb-true}
+use Rattle.std.proofs.Common.{◌≡◌, ℕ, zero, suc, ◌+◌, ◌*◌, ◌<◌, ◌↔◌, ◌&&◌, cond, nat_lt, Bool, true, IsTrue, List, [], ◌∷◌, drop, Option, Some, None, IfSome, refl, ap, sym, subst, ◌∙◌, arith, lit<}
+use Rattle.std.proofs.lemmas.Bool.{and_parts, lt-ltb, ltb-true}
 use Rattle.std.specs.List.{slice_get}
 use Rattle.vm_field.specs.Field.{felt_add}
 use Rattle.vm_ops.specs.declared.op.Op.{Op}
@@ -9,8 +9,18 @@ use Rattle.vm_ops.proofs.CodeLemmas.{code_of-op_at, op_at-code_of, op_at-outside
 use Rattle.vm_table.specs.MainColumns.{b}
 use Rattle.air_kit.specs.Flags.{flag, sum_of, flags_of, spelled, HasBits}
 use Rattle.air_kit.specs.Decoding.{IsDecoded, are_bits}
-use Rattle.air_kit.proofs.CountLaws.{all-seven}
 use Rattle.air_kit.proofs.FlagLemmas.{has_op-from, flags_of-hot, at_op}
+
+all-seven : (a b c d e f g : Bool) → (a && b && c && d && e && f && g) ≡ true
+    → (a ≡ true) × (b ≡ true) × (c ≡ true) × (d ≡ true) × (e ≡ true) × (f ≡ true) × (g ≡ true)
+all-seven a b c d e f g h =
+    let six = and_parts (a && b && c && d && e && f) g h in
+    let five = and_parts (a && b && c && d && e) f six.0 in
+    let four = and_parts (a && b && c && d) e five.0 in
+    let three = and_parts (a && b && c) d four.0 in
+    let two = and_parts (a && b) c three.0 in
+    let one = and_parts a b two.0 in
+    (one.0, one.1, two.1, three.1, four.1, five.1, six.1)
 
 -- seven numbers that are a row's bits
 pub spelled_by : (row : List ℕ) (n0 n1 n2 n3 n4 n5 n6 : ℕ) → n0 ≡ b row 0 → n1 ≡ b row 1 → n2 ≡ b row 2 → n3 ≡ b row 3

@@ -1,18 +1,17 @@
 -- An accepted trace, and the first refusal of another one (docs/CONSTRAINTS.md).
-use Rattle.std.specs.Prelude.{◌≡◌, ◌≢◌, ℕ, ◌+◌, ◌<◌, List, [], ◌∷◌, ◌++◌, length, Option, Some, None}
-use Rattle.buses.specs.Counts.{Counted, AreAlike, IsLeastApart, counted, once, over_rows, with_next}
+use Rattle.std.specs.Prelude.{◌≡◌, ◌≢◌, ℕ, ◌+◌, ◌<◌, List, [], ◌∷◌, length, Option, Some, None}
+use Rattle.buses.specs.Counts.{Counted, AreAlike, IsLeastApart, counted, over_rows, with_next}
 use Rattle.buses.specs.Names.{bus_number}
 use Rattle.buses.specs.declared.bus.Bus.{Bus}
 use Rattle.buses.specs.declared.bus.Bus.TheVariants as bus
 use Rattle.air_kit.specs.declared.trace.Public.{Public}
 use Rattle.air_kit.specs.declared.trace.TableName.{TableName}
-use Rattle.air_kit.specs.declared.trace.TableName.TheVariants as table
 use Rattle.air_kit.specs.declared.trace.Trace.{Trace}
 use Rattle.air_kit.specs.declared.fault.Fault.{Fault}
-use Rattle.air_kit.specs.Tables.{table_number}
+use Rattle.air_kit.specs.Tables.{every_chip, sum_over, table_number}
 use Rattle.air_kit.specs.Places.{Claim}
 use Rattle.air_kit.specs.Traces.{rows_of, claim_of, value_at}
-use Rattle.air_kit.specs.MainTuples.{main_given, main_asked}
+use Rattle.air_kit.specs.MainTuples.{child, main_given, main_asked}
 use Rattle.air_kit.specs.ChipTuples.{chip_given, chip_asked}
 
 -- each entry is 0 at each row
@@ -21,14 +20,20 @@ AreZero c t = (name : TableName) (row number : ℕ) → row < length (rows_of t 
 
 -- how often a tuple counts over the small tables
 abbrev pub over_chips : (TableName → List (List ℕ) → ℕ) → Trace → ℕ
-over_chips count t =
-    count table.Range t.range + count table.Hasher t.hasher + count table.Bitwise t.bitwise + count table.Memory t.memory
-    + count table.Kernel t.kernel + count table.Left t.left
+over_chips count t = sum_over every_chip (λ name. count name (rows_of t name))
 
 -- the statement gives its digest as the child of no block
-abbrev pub statement_given : Bus → List ℕ → List Counted
-statement_given bus.Children digest = once (0 ∷ digest ++ 0 ∷ []) ∷ []
-statement_given bus digest = []
+abbrev pub statement_given : Bus → Claim → List Counted
+statement_given bus.Blocks c = []
+statement_given bus.Children c = child 0 c.digest 0 ∷ []
+statement_given bus.Loops c = []
+statement_given bus.Groups c = []
+statement_given bus.Overflow c = []
+statement_given bus.Hasher c = []
+statement_given bus.Bitwise c = []
+statement_given bus.Memory c = []
+statement_given bus.Range c = []
+statement_given bus.Kernel c = []
 
 -- how often a tuple is asked on a bus
 unfoldable pub asked_on : Claim → Trace → Bus → List ℕ → ℕ
@@ -36,15 +41,15 @@ asked_on c t bus u =
     over_rows (with_next (main_asked bus)) t.main u + over_chips (λ name rows. over_rows (chip_asked c bus name) rows u) t
 
 -- how often it is given
-unfoldable pub given_on : List ℕ → Trace → Bus → List ℕ → ℕ
-given_on digest t bus u =
-    counted (statement_given bus digest) u + over_rows (with_next (main_given bus)) t.main u
+unfoldable pub given_on : Claim → Trace → Bus → List ℕ → ℕ
+given_on c t bus u =
+    counted (statement_given bus c) u + over_rows (with_next (main_given bus)) t.main u
     + over_chips (λ name rows. over_rows (chip_given bus name) rows u) t
 
 -- each entry is 0, and on each bus each tuple is asked as often as it is given
 pub record IsAccepted (p : Public) (t : Trace) : Type 0 where
   pub zero : AreZero (claim_of p t) t
-  pub buses : (bus : Bus) → AreAlike (asked_on (claim_of p t) t bus) (given_on p.statement.digest t bus)
+  pub buses : (bus : Bus) → AreAlike (asked_on (claim_of p t) t bus) (given_on (claim_of p t) t bus)
 
 -- places are ordered by table, then row, then number
 pub data IsBefore (name : TableName) (row number : ℕ) (f : Fault) : Type 0 where
@@ -69,5 +74,5 @@ IsRowsAnswer c t (Some f) = IsFirstFault c t f
 pub record IsBusRefusal (p : Public) (t : Trace) (bus : Bus) (tuple : List ℕ) (asked given : ℕ) : Type 0 where
   pub zero : AreZero (claim_of p t) t
   pub earlier : (other : Bus) → bus_number other < bus_number bus
-      → AreAlike (asked_on (claim_of p t) t other) (given_on p.statement.digest t other)
-  pub least : IsLeastApart (asked_on (claim_of p t) t bus) (given_on p.statement.digest t bus) tuple asked given
+      → AreAlike (asked_on (claim_of p t) t other) (given_on (claim_of p t) t other)
+  pub least : IsLeastApart (asked_on (claim_of p t) t bus) (given_on (claim_of p t) t bus) tuple asked given

@@ -40,12 +40,22 @@ entry_16 j fl x = f x j
 unfoldable pub entry_20 : RowEntry
 entry_20 fl x = lv x
 
--- the stack has sixteen cells, and none below
-unfoldable pub entry_21 : RowEntry
-entry_21 fl x = depth x ⊟ 16
+-- the cells below the sixteenth at the start, how deep the stack is then, and the key of the newest of those cells, 0 where there is none
+abbrev pub deep_at_start : Claim → List ℕ
+deep_at_start c = []
 
-unfoldable pub entry_22 : RowEntry
-entry_22 fl x = key x
+abbrev pub depth_at_start : Claim → ℕ
+depth_at_start c = 16
+
+abbrev pub key_at_start : Claim → ℕ
+key_at_start c = 0
+
+-- the stack is as deep as it is at the start, with the same newest cell below the sixteenth
+unfoldable pub entry_21 : Claim → RowEntry
+entry_21 c fl x = depth x ⊟ depth_at_start c
+
+unfoldable pub entry_22 : Claim → RowEntry
+entry_22 c fl x = key x ⊟ key_at_start c
 
 -- 23 to 38: cell j is input j
 unfoldable pub entry_23 : Claim → ℕ → RowEntry
@@ -75,10 +85,10 @@ entry_43 c fl x = key x ⊟ c.left_key
 unfoldable pub entry_44 : Claim → ℕ → RowEntry
 entry_44 c j fl x = s x j ⊟ slice_index c.outputs j
 
-unfoldable pub start_values : Spot → List ℕ
-start_values p =
+unfoldable pub start_values : Claim → Spot → List ℕ
+start_values c p =
     at_first entry_11 p ∷ at_first entry_12 p ∷ at_first entry_13 p ∷ at_first entry_14 p ∷ at_first entry_15 p
-    ∷ (family 4 (λ j. at_first (entry_16 j) p) ++ (at_first entry_20 p ∷ at_first entry_21 p ∷ at_first entry_22 p ∷ []))
+    ∷ (family 4 (λ j. at_first (entry_16 j) p) ++ (at_first entry_20 p ∷ at_first (entry_21 c) p ∷ at_first (entry_22 c) p ∷ []))
 
 unfoldable pub inputs_values : Claim → Spot → List ℕ
 inputs_values c p = family 16 (λ j. at_first (entry_23 c j) p)
@@ -92,4 +102,4 @@ unfoldable pub outputs_values : Claim → Spot → List ℕ
 outputs_values c p = family 16 (λ j. at_last (entry_44 c j) p)
 
 unfoldable pub boundary_values : Claim → Spot → List ℕ
-boundary_values c p = start_values p ++ (inputs_values c p ++ (end_values c p ++ outputs_values c p))
+boundary_values c p = start_values c p ++ (inputs_values c p ++ (end_values c p ++ outputs_values c p))

@@ -27,8 +27,8 @@ pub record HasMainNumbers (c : Claim) (p : Spot) : Type 0 where
   pub number_15 : main_value c p 15 ≡ at_first entry_15 p
   pub number_16 : (j : ℕ) → j < 4 → main_value c p (16 + j) ≡ at_first (entry_16 j) p
   pub number_20 : main_value c p 20 ≡ at_first entry_20 p
-  pub number_21 : main_value c p 21 ≡ at_first entry_21 p
-  pub number_22 : main_value c p 22 ≡ at_first entry_22 p
+  pub number_21 : main_value c p 21 ≡ at_first (entry_21 c) p
+  pub number_22 : main_value c p 22 ≡ at_first (entry_22 c) p
   pub number_23 : (j : ℕ) → j < 16 → main_value c p (23 + j) ≡ at_first (entry_23 c j) p
   pub number_39 : main_value c p 39 ≡ at_first (entry_39 c) p
   pub number_40 : main_value c p 40 ≡ at_first (entry_40 c) p

@@ -6,6 +6,7 @@ use Rattle.air_kit.specs.Flags.{Flags, flag}
 -- the first key of the table of cells left.
 pub record Claim : Type 0 where
   pub constants : List ℕ
+  pub digest : List ℕ
   pub kernel : List (List ℕ)
   pub inputs : List ℕ
   pub outputs : List ℕ

@@ -67,10 +67,10 @@ overflow_behind x o =
     else if is_call_op (op_of x) then record { below = []; aside = o.below ∷ o.aside }
     else if row_returns x then brought_back o.aside else o
 
--- those of row i
-unfoldable pub overflow_at : List (List ℕ) → ℕ → Overflow
-overflow_at rows zero = record { below = []; aside = [] }
-overflow_at rows (suc i) = overflow_behind (slice_index_or rows i []) (overflow_at rows i)
+-- those of row i, where these cells are below the sixteenth in the first row
+unfoldable pub overflow_at : List ℕ → List (List ℕ) → ℕ → Overflow
+overflow_at deep rows zero = record { below = deep; aside = [] }
+overflow_at deep rows (suc i) = overflow_behind (slice_index_or rows i []) (overflow_at deep rows i)
 
 -- the word that a row writes
 abbrev pub written_by : Op → List ℕ → Option (List ℕ)
@@ -89,13 +89,13 @@ memory_at rows (suc i) =
     memory_behind (slice_index_or rows i []) (written_by (op_of (slice_index_or rows i [])) (slice_index_or rows i [])) (memory_at rows i)
 
 -- what row i does not show
-abbrev pub elsewhere_at : List (List ℕ) → ℕ → Elsewhere
-elsewhere_at rows i = record {
-  below = (overflow_at rows i).below;
+abbrev pub elsewhere_at : List ℕ → List (List ℕ) → ℕ → Elsewhere
+elsewhere_at deep rows i = record {
+  below = (overflow_at deep rows i).below;
   memory = memory_at rows i;
   tape = tape_of (drop i rows);
 }
 
 -- the state of row i
-abbrev pub state_at : List (List ℕ) → ℕ → State
-state_at rows i = state_of (slice_index_or rows i []) (elsewhere_at rows i)
+abbrev pub state_at : List ℕ → List (List ℕ) → ℕ → State
+state_at deep rows i = state_of (slice_index_or rows i []) (elsewhere_at deep rows i)

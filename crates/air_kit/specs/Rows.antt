@@ -8,6 +8,7 @@ use Rattle.air_kit.specs.Places.{Claim, Spot}
 abbrev pub claim_at : {V : Type 0} → Place V → Claim
 claim_at p = record {
   constants = constants_of p.public.now.params;
+  digest = p.public.now.statement.digest;
   kernel = p.public.now.statement.kernel;
   inputs = p.public.now.statement.inputs;
   outputs = p.public.now.statement.outputs;

@@ -1,5 +1,5 @@
 -- A trace: the rows of its tables, how many each may have, and the values of all entries.
-use Rattle.std.specs.Prelude.{◌≡◌, ℕ, suc, ◌^◌, ◌≤◌, ◌%◌, List, [], ◌∷◌, length, slice_get, slice_index_or}
+use Rattle.std.specs.Prelude.{◌≡◌, ℕ, suc, ◌^◌, ◌≤◌, ◌%◌, List, [], length, map, slice_get, slice_index_or}
 use Rattle.vm_field.specs.Limits.{most_kernel}
 use Rattle.chip_columns.specs.LeftColumns.{key}
 use Rattle.rpo_hash.specs.Constants.{constants_of}
@@ -8,6 +8,7 @@ use Rattle.air_kit.specs.declared.trace.TableName.{TableName}
 use Rattle.air_kit.specs.declared.trace.TableName.TheVariants as table
 use Rattle.air_kit.specs.declared.trace.Trace.{Trace}
 use Rattle.air_kit.specs.Places.{Claim, Spot, at_number}
+use Rattle.air_kit.specs.Tables.{every_table}
 use Rattle.air_kit.specs.MainValues.{main_values}
 use Rattle.air_kit.specs.RangeValues.{range_values}
 use Rattle.air_kit.specs.HasherValues.{hasher_values}
@@ -27,11 +28,19 @@ rows_of t table.Left = t.left
 
 -- how many rows each table has, in their order
 abbrev pub lengths_of : Trace → List ℕ
-lengths_of t =
-    length t.main ∷ length t.range ∷ length t.hasher ∷ length t.bitwise ∷ length t.memory ∷ length t.kernel ∷ length t.left
-    ∷ []
+lengths_of t = map (λ name. length (rows_of t name)) every_table
 
--- how many rows a table may have
+-- how many rows a table has at least
+abbrev pub least_rows : TableName → ℕ
+least_rows table.Main = 1
+least_rows table.Range = 1
+least_rows table.Hasher = 0
+least_rows table.Bitwise = 0
+least_rows table.Memory = 0
+least_rows table.Kernel = 0
+least_rows table.Left = 0
+
+-- how many it has at most
 abbrev pub most_rows : TableName → ℕ
 most_rows table.Main = 2 ^ 19
 most_rows table.Range = 2 ^ 17
@@ -41,18 +50,31 @@ most_rows table.Memory = 2 ^ 19
 most_rows table.Kernel = most_kernel
 most_rows table.Left = 2 ^ 19
 
--- each table has as many rows as it may, and whole operations
-pub record HasCounts (t : Trace) : Type 0 where
-  pub most : (name : TableName) → length (rows_of t name) ≤ most_rows name
-  pub main : 1 ≤ length t.main
-  pub range : 1 ≤ length t.range
-  pub hasher : length t.hasher % 8 ≡ 0
-  pub bitwise : length t.bitwise % 8 ≡ 0
+-- by how many rows it grows at once
+abbrev pub rows_at_once : TableName → ℕ
+rows_at_once table.Main = 1
+rows_at_once table.Range = 1
+rows_at_once table.Hasher = 8
+rows_at_once table.Bitwise = 8
+rows_at_once table.Memory = 1
+rows_at_once table.Kernel = 1
+rows_at_once table.Left = 1
+
+-- a table may have so many rows
+pub record IsCount (name : TableName) (n : ℕ) : Type 0 where
+  pub least : least_rows name ≤ n
+  pub most : n ≤ most_rows name
+  pub whole : n % rows_at_once name ≡ 0
+
+-- each table has as many rows as it may
+abbrev pub HasCounts : Trace → Type 0
+HasCounts t = (name : TableName) → IsCount name (length (rows_of t name))
 
 -- what stands beside the rows
 abbrev pub claim_of : Public → Trace → Claim
 claim_of p t = record {
   constants = constants_of p.params;
+  digest = p.statement.digest;
   kernel = p.statement.kernel;
   inputs = p.statement.inputs;
   outputs = p.statement.outputs;

@@ -1,6 +1,6 @@
 ghost use Rattle.std.specs.Prelude.{◌≡◌, ◌<◌, ◌↔◌, IsTrue};
-ghost use Rattle.air_kit.specs.Traces.{HasCounts, most_rows};
-ghost use Rattle.air_kit.specs.Counts.{all_may_have, least_rows, may_have, rows_at_once};
+ghost use Rattle.air_kit.specs.Traces.{HasCounts, least_rows, most_rows, rows_at_once};
+ghost use Rattle.air_kit.specs.Counts.{may_have};
 
 use crate::trace::{TableName, Trace};
 use vm_field::MOST_KERNEL;
@@ -52,18 +52,10 @@ pub fn may_have(table: TableName, count: usize) -> bool
 pub fn has_counts(trace: &Trace) -> bool
     ensures { IsTrue result ↔ HasCounts trace.now }
 {
-    all_may_have(trace)
-}
-
-#[tactic(auto, unfolding(crate::specs::Counts::all_may_have))]
-fn all_may_have(trace: &Trace) -> bool
-    ensures { result ≡ all_may_have trace.now }
-{
-    may_have(TableName::Main, trace.main.rows())
-        && may_have(TableName::Range, trace.range.rows())
-        && may_have(TableName::Hasher, trace.hasher.rows())
-        && may_have(TableName::Bitwise, trace.bitwise.rows())
-        && may_have(TableName::Memory, trace.memory.rows())
-        && may_have(TableName::Kernel, trace.kernel.rows())
-        && may_have(TableName::Left, trace.left.rows())
+    for table in TableName::EVERY {
+        if !may_have(table, trace.rows(table)) {
+            return false;
+        }
+    }
+    true
 }

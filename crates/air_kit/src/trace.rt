@@ -1,5 +1,6 @@
-ghost use Rattle.std.specs.Prelude.{◌≡◌};
+ghost use Rattle.std.specs.Prelude.{◌≡◌, length};
 ghost use Rattle.air_kit.specs.Tables.{table_number, text_of_table};
+ghost use Rattle.air_kit.specs.Traces.{rows_of};
 
 use crate::fault::Fault;
 use crate::place::Place;
@@ -19,6 +20,23 @@ pub struct Trace {
     pub memory: Table<14>,
     pub kernel: Table<5>,
     pub left: Table<1>,
+}
+
+impl Trace {
+    /// How many rows a table has.
+    pub fn rows(&self, table: TableName) -> usize
+        ensures { result ≡ length (rows_of self.now table) }
+    {
+        match table {
+            TableName::Main => self.main.rows(),
+            TableName::Range => self.range.rows(),
+            TableName::Hasher => self.hasher.rows(),
+            TableName::Bitwise => self.bitwise.rows(),
+            TableName::Memory => self.memory.rows(),
+            TableName::Kernel => self.kernel.rows(),
+            TableName::Left => self.left.rows(),
+        }
+    }
 }
 
 /// A table of a trace.

@@ -93,22 +93,21 @@ apart_all asked given None alike = λ b. alike b (bus_below b)
 apart_all asked given (Some a) first = first
 
 -- The counts of a trace: where they are alike on all buses, a trace of which no row has a fault is accepted.
-pub accepted : (p : Public) (t : Trace) (k : Claim) (digest : List ℕ) (tallies : Tallies) → k ≡ claim_of p t → digest ≡ p.statement.digest
-    → IsTraceCounted k digest t tallies → AreZero (claim_of p t) t → ((b : Bus) → AreAlike (asked_by tallies b) (given_by tallies b)) → IsAccepted p t
-accepted p t k digest tallies same word counted zeros alike =
-    let whole = subst (λ d. IsTraceCounted (claim_of p t) d t tallies) word (subst (λ c. IsTraceCounted c digest t tallies) same counted) in
+pub accepted : (p : Public) (t : Trace) (k : Claim) (tallies : Tallies) → k ≡ claim_of p t
+    → IsTraceCounted k t tallies → AreZero (claim_of p t) t → ((b : Bus) → AreAlike (asked_by tallies b) (given_by tallies b)) → IsAccepted p t
+accepted p t k tallies same counted zeros alike =
+    let whole = subst (λ c. IsTraceCounted c t tallies) same counted in
     record {
       zero = zeros;
       buses = λ b u. sym (whole.asked b u) ∙ alike b u ∙ whole.given b u;
     }
 
 -- Where they are apart, the first such bus refuses it.
-pub refused_at : (p : Public) (t : Trace) (k : Claim) (digest : List ℕ) (tallies : Tallies) (a : Apart) → k ≡ claim_of p t
-    → digest ≡ p.statement.digest
-    → IsTraceCounted k digest t tallies → AreZero (claim_of p t) t → IsFirstApart (asked_by tallies) (given_by tallies) a
+pub refused_at : (p : Public) (t : Trace) (k : Claim) (tallies : Tallies) (a : Apart) → k ≡ claim_of p t
+    → IsTraceCounted k t tallies → AreZero (claim_of p t) t → IsFirstApart (asked_by tallies) (given_by tallies) a
     → IsBusRefusal p t a.bus a.tuple a.asked a.given
-refused_at p t k digest tallies a same word counted zeros first =
-    let whole = subst (λ d. IsTraceCounted (claim_of p t) d t tallies) word (subst (λ c. IsTraceCounted c digest t tallies) same counted) in
+refused_at p t k tallies a same counted zeros first =
+    let whole = subst (λ c. IsTraceCounted c t tallies) same counted in
     record {
       zero = zeros;
       earlier = λ b h u. sym (whole.asked b u) ∙ first.earlier b h u ∙ whole.given b u;

@@ -16,4 +16,4 @@ most_small table.Left = lit< tt
 
 -- a number of 32 bits
 pub rows_few : {t : Trace} → HasCounts t → (name : TableName) → length (rows_of t name) < 2 ^ 32
-rows_few counts name = let h = counts.most name in let k = most_small name in omega (arith, h, k)
+rows_few counts name = let h = (counts name).most in let k = most_small name in omega (arith, h, k)

@@ -1,17 +1,17 @@
 -- Rows counted one after another, and tables.
-use Rattle.std.proofs.Common.{◌≡◌, ℕ, zero, suc, ◌+◌, ◌^◌, ◌<◌, ◌≤◌, ◌==◌, true, false, List, length, Option, Result, Ok, Err, OnOk, OnSome, refl, sym, subst, add-one, arith, lit≤}
+use Rattle.std.proofs.Common.{◌≡◌, ℕ, zero, suc, ◌+◌, ◌*◌, ◌^◌, ◌<◌, ◌≤◌, ◌==◌, true, false, List, [], ◌∷◌, take, length, slice_index_or, Option, Result, Ok, Err, OnOk, OnSome, refl, sym, subst, add-one, arith, lit≤}
 use Rattle.std.proofs.lemmas.Bool.{eqb-true}
 use Rattle.std.specs.Result.{result_ok}
 use Rattle.air_kit.specs.Acceptance.{AreZero, asked_on, given_on, statement_given}
 use Rattle.air_kit.specs.MainTuples.{main_given}
 use Rattle.air_kit.specs.MainValues.{main_values}
 use Rattle.air_kit.specs.Places.{Claim, Spot}
-use Rattle.air_kit.specs.Tables.{table_number}
+use Rattle.air_kit.specs.Tables.{every_table, sum_over, table_number}
 use Rattle.air_kit.specs.Traces.{HasCounts, most_rows, rows_of, spot_of}
 use Rattle.air_kit.specs.declared.trace.TableName.{TableName}
 use Rattle.air_kit.specs.declared.trace.TableName.TheVariants as table
 use Rattle.air_kit.specs.declared.trace.Trace.{Trace}
-use Rattle.buses.specs.Counts.{Counted, OfRow, at_row, counted, over_first, total, with_next}
+use Rattle.buses.specs.Counts.{Counted, OfRow, at_row, counted, over_first, over_rows, total, with_next}
 use Rattle.buses.specs.declared.bus.Bus.{Bus}
 use Rattle.buses.proofs.Counting.{counted-append}
 use Rattle.bus_kit.specs.ByBus.{AreCounted, HaveRoom, asked_by, given_by}
@@ -21,12 +21,13 @@ use Rattle.facts_main.proofs.BatchFacts.{batch_row}
 use Rattle.facts_main.proofs.OpcodeFacts.{main_parts, opcode_bits}
 use Rattle.facts_main.proofs.Zeros.{numbers_zero}
 use Rattle.vm_table.specs.Layout.{IsTable}
-use Rattle.checker.specs.Counting.{AreReadable, AreRowsCounted, AreWithin, IsRowCounted, IsTableCounted, IsTraceCounted, asked_of, given_of, room_before, room_behind}
+use Rattle.checker.proofs.TableOrder.{number_at, table_at}
+use Rattle.checker.specs.Counting.{AreReadable, AreRowsCounted, AreTablesCounted, AreWithin, IsRowCounted, IsTableCounted, IsTraceCounted, asked_of, given_of, room_before, room_behind}
 
 -- no row
-pub none_counted : (c : Claim) (digest : List ℕ) (t : Trace) (name : TableName) (a : Tallies) → AreRowsCounted c digest t name 0 a a
+pub none_counted : (c : Claim) (t : Trace) (name : TableName) (a : Tallies) → AreRowsCounted c t name 0 a a
 unfolding over_first total
-none_counted c digest t name a = record {
+none_counted c t name a = record {
   asked_is = λ bus u. omega arith;
   given_is = λ bus u. omega arith;
   asked_grows = λ bus u. omega arith;
@@ -43,9 +44,9 @@ unfolding over_first
 over_more tuples rows n u = total_more n (λ i. counted (at_row tuples rows i) u)
 
 -- one row more
-pub one_more_counted : (c : Claim) (digest : List ℕ) (t : Trace) (name : TableName) (n : ℕ) (a b e : Tallies)
-    → AreRowsCounted c digest t name n a b → IsRowCounted c digest t name n b e → AreRowsCounted c digest t name (n + 1) a e
-one_more_counted c digest t name n a b e p q = record {
+pub one_more_counted : (c : Claim) (t : Trace) (name : TableName) (n : ℕ) (a b e : Tallies)
+    → AreRowsCounted c t name n a b → IsRowCounted c t name n b e → AreRowsCounted c t name (n + 1) a e
+one_more_counted c t name n a b e p q = record {
   asked_is = λ bus u.
       let before = p.asked_is bus u in
       let row = (q bus).asked_is u in
@@ -54,7 +55,7 @@ one_more_counted c digest t name n a b e p q = record {
   given_is = λ bus u.
       let before = p.given_is bus u in
       let row = (q bus).given_is u in
-      let more = over_more (given_of digest bus name) (rows_of t name) n u in
+      let more = over_more (given_of c bus name) (rows_of t name) n u in
       omega (arith, before, row, more);
   asked_grows = λ bus u. let before = p.asked_grows bus u in let row = (q bus).asked_grows u in omega (arith, before, row);
   given_grows = λ bus u. let before = p.given_grows bus u in let row = (q bus).given_grows u in omega (arith, before, row);
@@ -70,9 +71,9 @@ number_small table.Kernel = lit≤ tt
 number_small table.Left = lit≤ tt
 
 -- there is room for one row more
-pub room_for_row : (c : Claim) (digest : List ℕ) (t : Trace) (name : TableName) (n : ℕ) (a b : Tallies)
-    → AreWithin (room_before name) a → AreRowsCounted c digest t name n a b → n < 2 ^ 32 → HaveRoom b
-room_for_row c digest t name n a b within p few bus u =
+pub room_for_row : (c : Claim) (t : Trace) (name : TableName) (n : ℕ) (a b : Tallies)
+    → AreWithin (room_before name) a → AreRowsCounted c t name n a b → n < 2 ^ 32 → HaveRoom b
+room_for_row c t name n a b within p few bus u =
     let start = within bus u in
     let number = number_small name in
     let asked = p.asked_grows bus u in
@@ -89,11 +90,11 @@ most_few table.Kernel = lit≤ tt
 most_few table.Left = lit≤ tt
 
 -- and behind the table for the next one
-pub room_for_table : (c : Claim) (digest : List ℕ) (t : Trace) (name : TableName) (a b : Tallies)
-    → HasCounts t → AreWithin (room_before name) a → IsTableCounted c digest t name a b → AreWithin (room_behind name) b
-room_for_table c digest t name a b counts within p bus u =
+pub room_for_table : (c : Claim) (t : Trace) (name : TableName) (a b : Tallies)
+    → HasCounts t → AreWithin (room_before name) a → IsTableCounted c t name a b → AreWithin (room_behind name) b
+room_for_table c t name a b counts within p bus u =
     let start = within bus u in
-    let few = counts.most name in
+    let few = (counts name).most in
     let most = most_few name in
     let asked = p.asked_grows bus u in
     let given = p.given_grows bus u in
@@ -105,15 +106,14 @@ as_option P (Ok v) o is h = subst (λ x. OnSome x P) (sym is) h
 as_option P (Err e) o is h = subst (λ x. OnSome x P) (sym is) tt
 
 -- what a function of places counted, of another name and place that are the same
-pub row_counted : {E : Type 0} (r : Result (Unit {0}) E) (o : Option (Unit {0})) (c d : Claim) (p q : Spot) (digest word : List ℕ) (old new : Tallies)
-    (asked : Claim → Spot → Bus → List Counted) (given : List ℕ → Spot → Bus → List Counted)
-    → o ≡ result_ok r → c ≡ d → p ≡ q → digest ≡ word → OnOk r (AreCounted (2 ^ 66) old new (asked c p) (given digest p))
-    → OnSome o (AreCounted (2 ^ 66) old new (asked d q) (given word q))
-row_counted r o c d p q digest word old new asked given is same there alike h =
-    subst (λ w. OnSome o (AreCounted (2 ^ 66) old new (asked d q) (given w q))) alike
-    (subst (λ s. OnSome o (AreCounted (2 ^ 66) old new (asked d s) (given digest s))) there
-    (subst (λ k. OnSome o (AreCounted (2 ^ 66) old new (asked k p) (given digest p))) same
-    (as_option (AreCounted (2 ^ 66) old new (asked c p) (given digest p)) r o is h)))
+pub row_counted : {E : Type 0} (r : Result (Unit {0}) E) (o : Option (Unit {0})) (c d : Claim) (p q : Spot) (old new : Tallies)
+    (asked given : Claim → Spot → Bus → List Counted)
+    → o ≡ result_ok r → c ≡ d → p ≡ q → OnOk r (AreCounted (2 ^ 66) old new (asked c p) (given c p))
+    → OnSome o (AreCounted (2 ^ 66) old new (asked d q) (given d q))
+row_counted r o c d p q old new asked given is same there h =
+    subst (λ s. OnSome o (AreCounted (2 ^ 66) old new (asked d s) (given d s))) there
+    (subst (λ k. OnSome o (AreCounted (2 ^ 66) old new (asked k p) (given k p))) same
+    (as_option (AreCounted (2 ^ 66) old new (asked c p) (given c p)) r o is h))
 
 suc_apart : (i : ℕ) → (suc i == 0) ≡ false
 suc_apart i =
@@ -121,62 +121,75 @@ suc_apart i =
     [ true ↦ λ e. absurd (let same = eqb-true (suc i) 0 e in omega (arith, same)) | false ↦ λ _. refl ] refl
 
 -- a row of the main table but the first
-behind_first : (digest : List ℕ) (bus : Bus) (rows : List (List ℕ)) (i : ℕ) (u : List ℕ)
-    → counted (at_row (main_given_at digest bus) rows (suc i)) u ≡ counted (at_row (with_next (main_given bus)) rows (suc i)) u
-behind_first digest bus rows i u = rw (suc_apart i) refl
+behind_first : (c : Claim) (bus : Bus) (rows : List (List ℕ)) (i : ℕ) (u : List ℕ)
+    → counted (at_row (main_given_at c bus) rows (suc i)) u ≡ counted (at_row (with_next (main_given bus)) rows (suc i)) u
+behind_first c bus rows i u = rw (suc_apart i) refl
 
 -- the statement's tuples stand before those of the first row
-main_given_first : (digest : List ℕ) (bus : Bus) (rows : List (List ℕ)) (n : ℕ) (u : List ℕ)
-    → over_first (main_given_at digest bus) rows (suc n) u
-    ≡ counted (statement_given bus digest) u + over_first (with_next (main_given bus)) rows (suc n) u
+main_given_first : (c : Claim) (bus : Bus) (rows : List (List ℕ)) (n : ℕ) (u : List ℕ)
+    → over_first (main_given_at c bus) rows (suc n) u
+    ≡ counted (statement_given bus c) u + over_first (with_next (main_given bus)) rows (suc n) u
 unfolding over_first total
-main_given_first digest bus rows zero u =
-    let first = counted-append (statement_given bus digest) (at_row (with_next (main_given bus)) rows 0) u in omega (arith, first)
-main_given_first digest bus rows (suc n) u =
-    let before = main_given_first digest bus rows n u in let last = behind_first digest bus rows n u in omega (arith, before, last)
+main_given_first c bus rows zero u =
+    let first = counted-append (statement_given bus c) (at_row (with_next (main_given bus)) rows 0) u in omega (arith, first)
+main_given_first c bus rows (suc n) u =
+    let before = main_given_first c bus rows n u in let last = behind_first c bus rows n u in omega (arith, before, last)
 
-main_given_rows : (digest : List ℕ) (bus : Bus) (rows : List (List ℕ)) (n : ℕ) (u : List ℕ) → 1 ≤ n
-    → over_first (main_given_at digest bus) rows n u ≡ counted (statement_given bus digest) u + over_first (with_next (main_given bus)) rows n u
-main_given_rows digest bus rows zero u some = absurd (omega (arith, some))
-main_given_rows digest bus rows (suc n) u some = main_given_first digest bus rows n u
+main_given_rows : (c : Claim) (bus : Bus) (rows : List (List ℕ)) (n : ℕ) (u : List ℕ) → 1 ≤ n
+    → over_first (main_given_at c bus) rows n u ≡ counted (statement_given bus c) u + over_first (with_next (main_given bus)) rows n u
+main_given_rows c bus rows zero u some = absurd (omega (arith, some))
+main_given_rows c bus rows (suc n) u some = main_given_first c bus rows n u
+
+sum_next : (names : List TableName) (n : ℕ) (of : TableName → ℕ) → n < length names
+    → sum_over (take (suc n) names) of ≡ sum_over (take n names) of + of (slice_index_or names n table.Main)
+sum_next [] n of h = absurd (omega (arith, h))
+sum_next (name ∷ names) zero of h = omega arith
+sum_next (name ∷ names) (suc n) of h = let more = sum_next names n of (omega (arith, h)) in omega (arith, more)
+
+-- no table
+pub no_table_counted : (c : Claim) (t : Trace) (none : Tallies) → ((bus : Bus) (u : List ℕ) → asked_by none bus u ≡ 0)
+    → ((bus : Bus) (u : List ℕ) → given_by none bus u ≡ 0) → AreTablesCounted c t 0 none
+no_table_counted c t none asked given = record {
+  asked_is = asked;
+  given_is = given;
+  within = λ bus u. let a = asked bus u in let g = given bus u in (omega (arith, a), omega (arith, g));
+}
+
+-- there is room for one table more, and it was counted
+pub room_at : (n : ℕ) (a : Tallies) → n < 7 → AreWithin (n * 2 ^ 90) a → AreWithin (room_before (table_at n)) a
+room_at n a h within = subst (λ (k : ℕ). AreWithin (k * 2 ^ 90) a) (sym (number_at n h)) within
+
+pub one_table_more : (c : Claim) (t : Trace) (n : ℕ) (a b : Tallies) → n < 7 → AreTablesCounted c t n a → IsTableCounted c t (table_at n) a b
+    → AreWithin (room_behind (table_at n)) b → AreTablesCounted c t (n + 1) b
+one_table_more c t n a b h before p within = rw add-one (record {
+  asked_is = λ bus u.
+      let so_far = before.asked_is bus u in
+      let table = p.asked_is bus u in
+      let all = sum_next every_table n (λ name. over_rows (asked_of c bus name) (rows_of t name) u) h in
+      omega (arith, so_far, table, all);
+  given_is = λ bus u.
+      let so_far = before.given_is bus u in
+      let table = p.given_is bus u in
+      let all = sum_next every_table n (λ name. over_rows (given_of c bus name) (rows_of t name) u) h in
+      omega (arith, so_far, table, all);
+  within = subst (λ (k : ℕ). AreWithin (suc k * 2 ^ 90) b) (number_at n h) within;
+})
 
 -- all tables
-pub trace_counted : (c : Claim) (digest : List ℕ) (t : Trace) (none main range hasher bitwise memory kernel left : Tallies) → HasCounts t
-    → ((bus : Bus) (u : List ℕ) → asked_by none bus u ≡ 0) → ((bus : Bus) (u : List ℕ) → given_by none bus u ≡ 0)
-    → IsTableCounted c digest t table.Main none main → IsTableCounted c digest t table.Range main range
-    → IsTableCounted c digest t table.Hasher range hasher → IsTableCounted c digest t table.Bitwise hasher bitwise
-    → IsTableCounted c digest t table.Memory bitwise memory → IsTableCounted c digest t table.Kernel memory kernel
-    → IsTableCounted c digest t table.Left kernel left → IsTraceCounted c digest t left
+pub trace_counted : (c : Claim) (t : Trace) (tallies : Tallies) → HasCounts t → AreTablesCounted c t 7 tallies → IsTraceCounted c t tallies
 unfolding asked_on given_on
-trace_counted c digest t none main range hasher bitwise memory kernel left counts none_asked none_given by_main by_range by_hasher
-    by_bitwise by_memory by_kernel by_left = record {
-      asked = λ bus u.
-          let h0 = none_asked bus u in
-          let h1 = by_main.asked_is bus u in
-          let h2 = by_range.asked_is bus u in
-          let h3 = by_hasher.asked_is bus u in
-          let h4 = by_bitwise.asked_is bus u in
-          let h5 = by_memory.asked_is bus u in
-          let h6 = by_kernel.asked_is bus u in
-          let h7 = by_left.asked_is bus u in
-          omega (arith, h0, h1, h2, h3, h4, h5, h6, h7);
-      given = λ bus u.
-          let h0 = none_given bus u in
-          let h1 = by_main.given_is bus u in
-          let statement = main_given_rows digest bus t.main (length t.main) u counts.main in
-          let h2 = by_range.given_is bus u in
-          let h3 = by_hasher.given_is bus u in
-          let h4 = by_bitwise.given_is bus u in
-          let h5 = by_memory.given_is bus u in
-          let h6 = by_kernel.given_is bus u in
-          let h7 = by_left.given_is bus u in
-          omega (arith, h0, h1, statement, h2, h3, h4, h5, h6, h7);
-    }
+trace_counted c t tallies counts all = record {
+  asked = all.asked_is;
+  given = λ bus u.
+      let tables = all.given_is bus u in
+      let statement = main_given_rows c bus t.main (length t.main) u (counts table.Main).least in
+      omega (arith, tables, statement);
+}
 
 -- a row that is counted under the table's name
-pub row_named : (o : Option (Unit {0})) (c : Claim) (digest : List ℕ) (t : Trace) (name other : TableName) (i : ℕ) (old new : Tallies)
-    → name ≡ other → OnSome o (IsRowCounted c digest t other i old new) → OnSome o (IsRowCounted c digest t name i old new)
-row_named o c digest t name other i old new same h = subst (λ n. OnSome o (IsRowCounted c digest t n i old new)) (sym same) h
+pub row_named : (o : Option (Unit {0})) (c : Claim) (t : Trace) (name other : TableName) (i : ℕ) (old new : Tallies)
+    → name ≡ other → OnSome o (IsRowCounted c t other i old new) → OnSome o (IsRowCounted c t name i old new)
+row_named o c t name other i old new same h = subst (λ n. OnSome o (IsRowCounted c t n i old new)) (sym same) h
 
 -- the main table's rows can be read where all entries are 0
 pub all_readable : (c : Claim) (t : Trace) → IsTable 65 t.main → AreZero c t → AreReadable t.main

@@ -1,3 +1,4 @@
+pub mod TableOrder
 pub mod RowLemmas
 pub mod CountLemmas
 pub mod CountingLemmas

@@ -1,12 +1,12 @@
 -- From the first fault of a row's list of values to what is answered of the row, its table and the trace.
-use Rattle.std.proofs.Common.{◌≡◌, ℕ, zero, suc, ◌<◌, ◌≤◌, List, ◌++◌, length, slice_index, Option, Some, None, refl, sym, ap, subst, ◌∙◌, arith, lit<}
+use Rattle.std.proofs.Common.{◌≡◌, ℕ, zero, suc, ◌+◌, ◌<◌, ◌≤◌, List, ◌++◌, length, slice_index, Option, Some, None, refl, sym, ap, subst, ◌∙◌, add-one, arith, lit<}
 use Rattle.std.proofs.Common.{inl, inr, ltb}
 use Rattle.std.proofs.lemmas.Bool.{cases_Bool, ltb-true, ltb-false}
 use Rattle.air_kit.specs.declared.fault.Fault.{Fault}
 use Rattle.air_kit.specs.declared.trace.TableName.{TableName}
 use Rattle.air_kit.specs.declared.trace.TableName.TheVariants as table
 use Rattle.air_kit.specs.declared.trace.Trace.{Trace}
-use Rattle.air_kit.specs.Acceptance.{IsBefore, by_table, by_row, by_number, IsFirstFault, IsRowsAnswer}
+use Rattle.air_kit.specs.Acceptance.{AreZero, IsBefore, by_table, by_row, by_number, IsFirstFault}
 use Rattle.air_kit.specs.Places.{Claim, Spot, family, first_fault_of, at_number, or_next}
 use Rattle.air_kit.specs.Tables.{table_number}
 use Rattle.air_kit.specs.Traces.{rows_of, value_at, values_at}
@@ -18,7 +18,8 @@ use Rattle.air_kit.specs.StackValues.{stack_values, depth_values, cell_values, o
 use Rattle.air_kit.specs.U32Values.{u32_values}
 use Rattle.air_kit.specs.MainValues.{decoder_values, main_values}
 use Rattle.air_kit.proofs.FaultLemmas.{first_append, first_none, first_some}
-use Rattle.checker.specs.Answers.{IsRowAnswer, IsZeroTable, IsTableFault, IsTableAnswer, AreZeroBelow, IsAnswerBelow}
+use Rattle.checker.proofs.TableOrder.{at_own_number, number_at, table_at}
+use Rattle.checker.specs.Answers.{IsRowAnswer, IsZeroTable, IsTableFault, IsTableAnswer, AreZeroBelow}
 
 numbers_zero : (values : List ℕ) → ((k : ℕ) → slice_index values k ≡ 0) → (number : ℕ) → at_number values number ≡ 0
 unfolding at_number
@@ -75,25 +76,6 @@ pub main_of_parts : (c : Claim) (p : Spot) (decoder stack u32 whole : Option (�
     → whole ≡ or_next decoder (or_next stack u32) → whole ≡ first_fault_of 1 (main_values c p)
 main_of_parts c p decoder stack u32 whole d s u w = w ∙ rw (d, s, u) (main_joined c p)
 
-table_at : ℕ → TableName
-table_at zero = table.Main
-table_at (suc zero) = table.Range
-table_at (suc (suc zero)) = table.Hasher
-table_at (suc (suc (suc zero))) = table.Bitwise
-table_at (suc (suc (suc (suc zero)))) = table.Memory
-table_at (suc (suc (suc (suc (suc zero))))) = table.Kernel
-table_at (suc (suc (suc (suc (suc (suc n)))))) = table.Left
-
-at_own_number : (name : TableName) → table_at (table_number name) ≡ name
-unfolding table_at
-at_own_number table.Main = refl
-at_own_number table.Range = refl
-at_own_number table.Hasher = refl
-at_own_number table.Bitwise = refl
-at_own_number table.Memory = refl
-at_own_number table.Kernel = refl
-at_own_number table.Left = refl
-
 same_table : (a b : TableName) → table_number a ≡ table_number b → a ≡ b
 same_table a b e = sym (at_own_number a) ∙ ap table_at e ∙ at_own_number b
 
@@ -135,16 +117,22 @@ first_from_table c t f fault below = record {
   first = first_of c t f fault below;
 }
 
--- one table more
-pub answer_next : (c : Claim) (t : Trace) (name : TableName) (r : Option Fault) → AreZeroBelow c t (table_number name)
-    → IsTableAnswer c t name r → IsAnswerBelow c t (suc (table_number name)) r
-answer_next c t name None below zeros = zero_below_next c t name below zeros
-answer_next c t name (Some f) below fault = first_from_table c t f fault.1 (subst (λ x. AreZeroBelow c t (table_number x)) (sym fault.0) below)
+-- the tables before a place are 0, and so is the table at that place
+pub zero_next : (c : Claim) (t : Trace) (n : ℕ) → n < 7 → AreZeroBelow c t n → IsZeroTable c t (table_at n) → AreZeroBelow c t (n + 1)
+zero_next c t n h below zeros =
+    rw add-one
+    (subst (λ k. AreZeroBelow c t (suc k)) (number_at n h)
+    (zero_below_next c t (table_at n) (subst (AreZeroBelow c t) (sym (number_at n h)) below) zeros))
+
+-- or it has a fault
+pub fault_at : (c : Claim) (t : Trace) (n : ℕ) (f : Fault) → n < 7 → AreZeroBelow c t n → IsTableAnswer c t (table_at n) (Some f)
+    → IsFirstFault c t f
+fault_at c t n f h below fault =
+    first_from_table c t f fault.1 (subst (AreZeroBelow c t) (sym (ap table_number fault.0 ∙ number_at n h)) below)
 
 -- all tables
-pub answer_all : (c : Claim) (t : Trace) (r : Option Fault) → IsAnswerBelow c t 7 r → IsRowsAnswer c t r
-answer_all c t None zeros = λ name row number h. zeros name (table_below name) row h number
-answer_all c t (Some f) first = first
+pub all_zero : (c : Claim) (t : Trace) → AreZeroBelow c t 7 → AreZero c t
+all_zero c t zeros = λ name row number h. zeros name (table_below name) row h number
 
 -- before the first table
 pub none_below : (c : Claim) (t : Trace) → AreZeroBelow c t 0

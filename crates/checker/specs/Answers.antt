@@ -39,8 +39,3 @@ IsTableAnswer c t name (Some f) = (f.table ≡ name) × IsTableFault c t f
 -- each entry is 0 in the tables whose number is below this one
 abbrev pub AreZeroBelow : Claim → Trace → ℕ → Type 0
 AreZeroBelow c t n = (name : TableName) → table_number name < n → IsZeroTable c t name
-
--- what a test of the tables whose number is below this one answers
-abbrev pub IsAnswerBelow : Claim → Trace → ℕ → Option Fault → Type 0
-IsAnswerBelow c t n None = AreZeroBelow c t n
-IsAnswerBelow c t n (Some f) = IsFirstFault c t f

@@ -22,16 +22,12 @@ pub(crate) fn count_all(
 ) -> Option<Tallies>
     requires counts { HasCounts trace.now }
     requires readable { AreReadable trace.now.main }
-    ensures { IfSome result (IsTraceCounted (claim_in setting.now) setting.now.public.now.statement.digest trace.now) }
+    ensures { IfSome result (IsTraceCounted (claim_in setting.now) trace.now) }
 {
     let mut tallies = Tallies::new(alloc, seed);
-    count_table(trace, setting, TableName::Main, &mut tallies)?;
-    count_table(trace, setting, TableName::Range, &mut tallies)?;
-    count_table(trace, setting, TableName::Hasher, &mut tallies)?;
-    count_table(trace, setting, TableName::Bitwise, &mut tallies)?;
-    count_table(trace, setting, TableName::Memory, &mut tallies)?;
-    count_table(trace, setting, TableName::Kernel, &mut tallies)?;
-    count_table(trace, setting, TableName::Left, &mut tallies)?;
+    for name in TableName::EVERY {
+        count_table(trace, setting, name, &mut tallies)?;
+    }
     Some(tallies)
 }
 
@@ -45,7 +41,7 @@ fn count_table(
     requires counts { HasCounts trace.now }
     requires readable { AreReadable trace.now.main }
     requires room { AreWithin (room_before name) tallies.old }
-    ensures counted { OnSome result (IsTableCounted (claim_in setting.now) setting.now.public.now.statement.digest trace.now
+    ensures counted { OnSome result (IsTableCounted (claim_in setting.now) trace.now
         name tallies.old tallies.new) }
     ensures room { OnSome result (AreWithin (room_behind name) tallies.new) }
 {
@@ -68,7 +64,7 @@ fn count_row(
     requires within { row < length (rows_of trace.now name) }
     requires small { row < 2 ^ 32 }
     requires room { HaveRoom tallies.old }
-    ensures { OnSome result (IsRowCounted (claim_in setting.now) setting.now.public.now.statement.digest trace.now name row tallies.old tallies.new) }
+    ensures { OnSome result (IsRowCounted (claim_in setting.now) trace.now name row tallies.old tallies.new) }
 {
     match name {
         TableName::Main => bus_main::tuples(&setting.place(&trace.main, row), tallies).ok(),

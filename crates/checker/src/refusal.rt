@@ -81,7 +81,7 @@ fn next_apart(found: Option<Apart>, tallies: &Tallies, bus: Bus) -> Option<Apart
 {
     match found {
         Some(apart) => Some(apart),
-        None => match tallies.of(bus).unequal() {
+        None => match tallies.unequal(bus) {
             Some(unequal) => Some(Apart {
                 bus,
                 tuple: unequal.tuple,

@@ -1,10 +1,9 @@
-ghost use Rattle.std.specs.Prelude.{◌≡◌, suc, ◌^◌, ◌<◌, length};
+ghost use Rattle.std.specs.Prelude.{◌≡◌, ◌^◌, ◌<◌, length};
 ghost use Rattle.air_kit.specs.Acceptance.{IsRowsAnswer};
 ghost use Rattle.air_kit.specs.Places.{first_fault_of};
 ghost use Rattle.air_kit.specs.Traces.{HasCounts, claim_of, rows_of, values_at};
 ghost use Rattle.air_kit.specs.declared.trace.TableName.TheVariants as table;
-ghost use Rattle.air_kit.specs.Tables.{table_number};
-ghost use Rattle.checker.specs.Answers.{IsAnswerBelow, IsRowAnswer, IsTableAnswer};
+ghost use Rattle.checker.specs.Answers.{IsRowAnswer, IsTableAnswer};
 ghost use Rattle.checker.specs.Settings.{claim_in};
 
 use crate::setting::Setting;
@@ -24,35 +23,16 @@ pub fn check_rows<G: Gate>(trace: &Trace, public: &Public, pieces: usize, gate: 
 }
 
 // Table by table, in their order.
-#[tactic(auto, using(crate::proofs::RowLemmas::answer_all, crate::proofs::RowLemmas::none_below))]
 fn first_fault(trace: &Trace, setting: &Setting<'_>) -> Option<Fault>
     requires counts { HasCounts trace.now }
     ensures { IsRowsAnswer (claim_in setting.now) trace.now result }
 {
-    let fault = next_fault(None, trace, setting, TableName::Main);
-    let fault = next_fault(fault, trace, setting, TableName::Range);
-    let fault = next_fault(fault, trace, setting, TableName::Hasher);
-    let fault = next_fault(fault, trace, setting, TableName::Bitwise);
-    let fault = next_fault(fault, trace, setting, TableName::Memory);
-    let fault = next_fault(fault, trace, setting, TableName::Kernel);
-    next_fault(fault, trace, setting, TableName::Left)
-}
-
-// The fault so far, or that of the next table.
-fn next_fault(
-    fault: Option<Fault>,
-    trace: &Trace,
-    setting: &Setting<'_>,
-    name: TableName,
-) -> Option<Fault>
-    requires counts { HasCounts trace.now }
-    requires so_far { IsAnswerBelow (claim_in setting.now) trace.now (table_number name) fault }
-    ensures { IsAnswerBelow (claim_in setting.now) trace.now (suc (table_number name)) result }
-{
-    match fault {
-        Some(found) => Some(found),
-        None => table_fault(trace, setting, name),
+    for name in TableName::EVERY {
+        if let Some(fault) = table_fault(trace, setting, name) {
+            return Some(fault);
+        }
     }
+    None
 }
 
 // The first fault of a table.
@@ -79,15 +59,7 @@ pub(crate) fn rows_in(trace: &Trace, name: TableName) -> usize
     ensures is { result ≡ length (rows_of trace.now name) }
     ensures few { result < 2 ^ 32 }
 {
-    match name {
-        TableName::Main => trace.main.rows(),
-        TableName::Range => trace.range.rows(),
-        TableName::Hasher => trace.hasher.rows(),
-        TableName::Bitwise => trace.bitwise.rows(),
-        TableName::Memory => trace.memory.rows(),
-        TableName::Kernel => trace.kernel.rows(),
-        TableName::Left => trace.left.rows(),
-    }
+    trace.rows(name)
 }
 
 // The first fault of a row.

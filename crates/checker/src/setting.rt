@@ -5,7 +5,8 @@ ghost use Rattle.air_kit.specs.Traces.{HasCounts, claim_of, lengths_of, spot_of}
 ghost use Rattle.vm_table.specs.Rows.{row_cells};
 ghost use Rattle.checker.specs.Settings.{claim_in};
 
-use air_kit::{Place, Public, Trace};
+use crate::rows::rows_in;
+use air_kit::{Place, Public, TableName, Trace};
 use chip_columns::LeftView;
 use vm_field::Felt;
 use vm_table::{Row, Table, View};
@@ -62,13 +63,13 @@ fn lengths_of(trace: &Trace) -> [u32; 7]
     ensures { result ≡ lengths_of trace.now }
 {
     [
-        trace.main.rows() as u32,
-        trace.range.rows() as u32,
-        trace.hasher.rows() as u32,
-        trace.bitwise.rows() as u32,
-        trace.memory.rows() as u32,
-        trace.kernel.rows() as u32,
-        trace.left.rows() as u32,
+        rows_in(trace, TableName::Main) as u32,
+        rows_in(trace, TableName::Range) as u32,
+        rows_in(trace, TableName::Hasher) as u32,
+        rows_in(trace, TableName::Bitwise) as u32,
+        rows_in(trace, TableName::Memory) as u32,
+        rows_in(trace, TableName::Kernel) as u32,
+        rows_in(trace, TableName::Left) as u32,
     ]
 }
 

@@ -75,11 +75,10 @@ same_accepted p q t params claims is =
     let kernel : p.statement.kernel ≡ q.statement.kernel = ap (λ (c : Stated). c.kernel) claims in
     let inputs : p.statement.inputs ≡ q.statement.inputs = ap (λ (c : Stated). c.inputs) claims in
     let outputs : p.statement.outputs ≡ q.statement.outputs = ap (λ (c : Stated). c.outputs) claims in
-    let same : traces.claim_of p t ≡ traces.claim_of q t = rw (params, kernel, inputs, outputs) refl in
+    let same : traces.claim_of p t ≡ traces.claim_of q t = rw (params, digest, kernel, inputs, outputs) refl in
     record {
       zero = subst (λ c. AreZero c t) same is.zero;
-      buses = λ bus. subst (λ c. AreAlike (asked_on c t bus) (given_on q.statement.digest t bus)) same
-          (subst (λ d. AreAlike (asked_on (traces.claim_of p t) t bus) (given_on d t bus)) digest (is.buses bus));
+      buses = λ bus. subst (λ c. AreAlike (asked_on c t bus) (given_on c t bus)) same (is.buses bus);
     }
 
 pub one_verdict : OneVerdict

@@ -1,7 +1,7 @@
 ghost use Rattle.std.specs.Prelude.{◌≡◌, ◌++◌, IfOk, OnOk, decimal};
 ghost use Rattle.cmd_kit.specs.RefusalLines.{bus_line, fault_line, refused_line};
 
-use air_kit::{Fault, table_text};
+use air_kit::Fault;
 use buses::Bus;
 use checker::Refused;
 use decimal_text::{append_elements, append_number};
@@ -32,9 +32,9 @@ pub fn refused_line(alloc: Global, refused: &Refused) -> Result<Bytes, Memory>
 fn fault_line(alloc: Global, fault: &Fault) -> Result<Bytes, Memory>
     ensures { IfOk result (λ line. line ≡ fault_line fault.now) }
 {
-    let mut line = Bytes::copied(alloc, b"refused ")?;
-    line.append(table_text(fault.table).as_bytes())?;
-    line.append(b" row ")?;
+    let table = fault.table;
+    let name = format!(in alloc; "refused {table} row ")?;
+    let mut line = Bytes::copied(alloc, name.as_bytes())?;
     append_number(&mut line, u64::from(fault.row))?;
     line.append(b" constraint ")?;
     append_number(&mut line, u64::from(fault.number))?;

@@ -7,7 +7,7 @@ use Rattle.block_tree.specs.Execution as run
 use Rattle.block_tree.specs.Rows.{behind}
 use Rattle.block_tree.specs.Trees.{Tree}
 use Rattle.air_kit.specs.MainTuples.{blocks_asked, blocks_given}
-use Rattle.complete_rows.specs.BlockRows.{IsWholeRun, events_of, filled}
+use Rattle.complete_rows.specs.BlockRows.{IsWholeRun, filled}
 use Rattle.complete_rows.proofs.ChainLemmas.{balanced, over_rows_pairs}
 use Rattle.complete_rows.proofs.TableLemmas.{is_linked}
 use Rattle.complete_buses.proofs.BlockBus.{blocks_pair, owed_blocks}

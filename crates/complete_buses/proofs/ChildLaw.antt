@@ -1,15 +1,13 @@
 -- The bus of children over the rows of a run.
-use Rattle.std.proofs.Common.{◌≡◌, ℕ, ◌+◌, List, take, arith}
+use Rattle.std.proofs.Common.{◌≡◌, ℕ, ◌+◌, List, [], ◌∷◌, take, arith}
 use Rattle.vm_field.specs.Machine.{State}
 use Rattle.buses.specs.Counts.{counted, over_rows, with_next}
-use Rattle.buses.specs.declared.bus.Bus.TheVariants as bus
 use Rattle.block_tree.specs.Cycles.{advice_taken, effect_of}
 use Rattle.block_tree.specs.Execution as run
 use Rattle.block_tree.specs.Rows.{behind}
 use Rattle.block_tree.specs.Trees.{Tree, tree_digest}
-use Rattle.air_kit.specs.Acceptance.{statement_given}
-use Rattle.air_kit.specs.MainTuples.{children_asked, children_given}
-use Rattle.complete_rows.specs.BlockRows.{IsWholeRun, events_of, filled}
+use Rattle.air_kit.specs.MainTuples.{child, children_asked, children_given}
+use Rattle.complete_rows.specs.BlockRows.{IsWholeRun, filled}
 use Rattle.complete_rows.proofs.ChainLemmas.{balanced, over_rows_pairs}
 use Rattle.complete_rows.proofs.MomentFacts.{place_comes}
 use Rattle.complete_rows.proofs.TableLemmas.{is_linked}
@@ -20,7 +18,7 @@ use Rattle.complete_buses.proofs.PairShown.{pair_of}
 
 pub children_even : (constants : List ℕ) (kernel : List (List ℕ)) (limit : ℕ) (tree : Tree) (inputs tape : List ℕ) (u : State) (log : List run.Event)
     → IsWholeRun constants kernel limit tree inputs tape u log → (tuple : List ℕ)
-    → counted (statement_given bus.Children (tree_digest constants tree)) tuple
+    → counted (child 0 (tree_digest constants tree) 0 ∷ []) tuple
     + over_rows (with_next children_given) (filled constants kernel u log) tuple
     ≡ over_rows (with_next children_asked) (filled constants kernel u log) tuple
 unfolding owed_children

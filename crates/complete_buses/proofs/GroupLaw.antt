@@ -13,8 +13,8 @@ use Rattle.block_tree.specs.Steps.{Task}
 use Rattle.block_tree.specs.Trees.{Tree}
 use Rattle.air_kit.specs.Flags as flags
 use Rattle.air_kit.specs.MainTuples.{groups_asked, groups_given}
-use Rattle.complete_rows.specs.BlockRows.{IsWholeRun, events_of, filled}
-use Rattle.complete_rows.specs.Decoder.{Decoder, at_start, decoder_after}
+use Rattle.complete_rows.specs.BlockRows.{IsWholeRun, decoder_behind, filled}
+use Rattle.complete_rows.specs.Decoder.{Decoder}
 use Rattle.complete_rows.specs.Filling.{line_of}
 use Rattle.complete_rows.specs.Moments.{IsMoment, IsRowAt}
 use Rattle.complete_rows.proofs.ChainLemmas.{balanced, over_rows_pairs}
@@ -55,8 +55,7 @@ groups_even constants kernel limit tree inputs tape u log r tuple =
     (is_linked constants kernel limit tree inputs tape u log r) in
     let last = agrees_last constants kernel limit (is_linked constants kernel limit tree inputs tape u log r) in
     let end =
-    nothing_owed (decoder_after at_start (events_of constants kernel log)).ha
-    (decoder_after at_start (events_of constants kernel log)).unread
+    nothing_owed (decoder_behind constants kernel inputs log).ha (decoder_behind constants kernel inputs log).unread
     tuple last.reads in
     let given = over_rows_pairs groups_given tuple (filled constants kernel u log) in
     let asked = over_rows_pairs groups_asked tuple (filled constants kernel u log) in

@@ -9,7 +9,7 @@ use Rattle.block_tree.specs.Rows.{behind, op_of_mark}
 use Rattle.block_tree.specs.Trees.{Tree}
 use Rattle.air_kit.specs.MainTuples.{loops_asked, loops_given}
 use Rattle.machine_cycles.specs.Events.{visible_of}
-use Rattle.complete_rows.specs.BlockRows.{IsWholeRun, events_of, filled}
+use Rattle.complete_rows.specs.BlockRows.{IsWholeRun, filled}
 use Rattle.complete_rows.specs.Filling.{witnesses_by}
 use Rattle.vm_ops.specs.declared.kind.Kind.TheVariants as kinds
 use Rattle.vm_ops.specs.Codes.{kind_of}

@@ -1,10 +1,10 @@
 -- The requests of a run fit.
-use Rattle.std.proofs.Common.{ℕ, ◌≤◌, List, [], length, arith}
+use Rattle.std.proofs.Common.{ℕ, ◌≤◌, List, [], length, ap, arith}
 use Rattle.vm_field.specs.Machine.{State}
 use Rattle.block_tree.specs.Execution as run
 use Rattle.block_tree.specs.Trees.{Tree}
 use Rattle.complete_rows.specs.BlockRows.{IsWholeRun, events_of, filled}
-use Rattle.complete_rows.proofs.TableLemmas.{is_linked}
+use Rattle.complete_rows.proofs.TableLemmas.{is_linked, keys_asked}
 use Rattle.complete_requests.specs.Asked.{requests}
 use Rattle.complete_requests.specs.Fitting.{FitsRows}
 use Rattle.complete_requests.proofs.Follows.{perms_follow}
@@ -21,6 +21,7 @@ run_fits constants kernel limit tree inputs tape u log r words =
     let few = requests_few constants (events_of constants kernel log) in
     let most = events_few constants kernel limit u linked in
     let keys = keys_few constants kernel limit u linked in
+    let same = ap length (keys_asked constants kernel limit tree inputs tape u log r) in
     let rows = rows_are constants kernel limit u linked in
     record {
       fits = record {
@@ -33,7 +34,7 @@ run_fits constants kernel limit tree inputs tape u log r words =
           bits = omega (arith, few, most);
           accesses = omega (arith, few, most);
           words = words;
-          keys = omega (arith, keys);
+          keys = omega (arith, keys, same);
         };
       };
       few = omega (arith, few, rows);

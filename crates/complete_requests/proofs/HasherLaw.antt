@@ -49,9 +49,9 @@ module _ (constants : List ℕ) (len : length constants ≡ number_of_constants)
   unfolding perms_of perms_given
   nothing_owed d = let none = counted-none v in omega (arith, none)
 
-  pub hashes_asked : {tree : Tree} {s : State} {events : List Event} {rows : List (List ℕ)}
-      → AreLinked constants kernel limit u (Block tree ∷ []) at_start s events rows
+  pub hashes_asked : (deep : ℕ) {tree : Tree} {s : State} {events : List Event} {rows : List (List ℕ)}
+      → AreLinked constants kernel limit u (Block tree ∷ []) (at_start deep) s events rows
       → over_rows (with_next hasher_asked) rows v ≡ counted (perms_given constants 1 (perms_of constants events)) v
-  hashes_asked linked =
+  hashes_asked deep linked =
       let asked = rows_ask constants kernel limit u hasher_asked v (owed_hashes constants v) moment_asks nothing_owed linked in
       omega (arith, asked)

@@ -1,5 +1,5 @@
 -- What the rows of a run give of overflow is what they and the cells that are left ask.
-use Rattle.std.proofs.Common.{◌≡◌, ℕ, ◌+◌, ◌≤◌, List, [], ◌∷◌, ◌++◌, length, map, take, drop, refl, sym, ap, ◌∙◌, subst, arith, lit<}
+use Rattle.std.proofs.Common.{◌≡◌, ℕ, ◌+◌, ◌-◌, ◌≤◌, List, [], ◌∷◌, ◌++◌, length, map, take, drop, refl, sym, ap, ◌∙◌, subst, arith, lit<}
 use Rattle.vm_field.specs.Limits.{most_cycles, number_of_constants}
 use Rattle.vm_field.specs.Machine.{State}
 use Rattle.block_tree.specs.Cycles.{advice_taken, effect_of}
@@ -13,9 +13,9 @@ use Rattle.vm_ops.proofs.FrameLemmas.{step-below}
 use Rattle.air_kit.specs.MainTuples.{overflow_asked, overflow_given}
 use Rattle.chip_columns.specs.LeftColumns as left
 use Rattle.machine_cycles.specs.declared.event.Event.{Event}
-use Rattle.complete_rows.specs.BlockRows.{IsWholeRun, events_of, filled, keys_of}
+use Rattle.complete_rows.specs.BlockRows.{IsWholeRun, filled, keys_of}
 use Rattle.complete_rows.specs.Chains.{AreLinked}
-use Rattle.complete_rows.specs.Decoder.{advance, at_start, decoder_after}
+use Rattle.complete_rows.specs.Decoder.{advance, at_start, decoder_after, keys_at_start}
 use Rattle.complete_rows.specs.Moments.{IsMoment, event_at}
 use Rattle.complete_rows.proofs.ChainLemmas.{balanced, over_rows_pairs}
 use Rattle.complete_rows.proofs.MomentFacts.{core_after, known, moment_op, moment_shows, place_shows}
@@ -55,11 +55,12 @@ module _ (constants : List ℕ) (len : length constants ≡ number_of_constants)
       (cycle-step constants kernel limit item m.s m.t (subst (λ mark. IsCycle constants kernel limit mark m.s m.t) is m.cycle)))
       m.agrees.keyed (stack_cells m)
 
-  rows_even : (u : State) {tree : Tree} {s : State} {events : List Event} {rows : List (List ℕ)}
-      → AreLinked constants kernel limit u (Block tree ∷ []) at_start s events rows → (v : List ℕ)
+  rows_even : (u : State) (deep : ℕ) {tree : Tree} {s : State} {events : List Event} {rows : List (List ℕ)}
+      → AreLinked constants kernel limit u (Block tree ∷ []) (at_start deep) s events rows → (v : List ℕ)
       → over_rows (with_next overflow_given) rows v
-      ≡ over_rows (with_next overflow_asked) rows v + counted (entries (decoder_after at_start events).keys (drop 16 u.core.stack)) v
-  rows_even u {s = s} {events = events} {rows = rows} linked v =
+      ≡ over_rows (with_next overflow_asked) rows v + counted (entries (decoder_after (at_start deep) events).keys (drop 16 u.core.stack)) v
+  unfolding keys_at_start
+  rows_even u deep {s = s} {events = events} {rows = rows} linked v =
       let whole = balanced constants kernel limit (λ x y. counted (overflow_given x y) v) (λ x y. counted (overflow_asked x y) v)
       (λ todo d t later. owed_cells v todo d t.core.stack) (λ x y m. moment_even v x y m) linked in
       let given = over_rows_pairs overflow_given v rows in
@@ -70,15 +71,16 @@ module _ (constants : List ℕ) (len : length constants ≡ number_of_constants)
 pub overflow_is_even : (constants : List ℕ) (kernel : List (List ℕ)) (limit : ℕ) (tree : Tree) (inputs tape : List ℕ) (u : State)
     (log : List run.Event)
     → IsWholeRun constants kernel limit tree inputs tape u log
-    → OverflowIsEven (filled constants kernel u log) (keys_of constants kernel log) u
+    → OverflowIsEven (filled constants kernel u log) (keys_of constants kernel inputs log) u
 overflow_is_even constants kernel limit tree inputs tape u log r =
-    let even = rows_even constants r.constants_are kernel limit r.within u (is_linked constants kernel limit tree inputs tape u log r) in
+    let even = rows_even constants r.constants_are kernel limit r.within u (length inputs - 16)
+    (is_linked constants kernel limit tree inputs tape u log r) in
     record {
       cells = even;
       table = λ k others outputs keys v.
           let asked = table_asks k others v in
           let same : counted (entries (map left.key others) (drop 16 k.outputs)) v
-          ≡ counted (entries (keys_of constants kernel log) (drop 16 u.core.stack)) v
+          ≡ counted (entries (keys_of constants kernel inputs log) (drop 16 u.core.stack)) v
           = rw (keys, outputs) refl in
           even v ∙ ap (λ n. over_rows (with_next overflow_asked) (filled constants kernel u log) v + n) (sym (asked ∙ same));
     }

@@ -10,7 +10,7 @@ use Rattle.air_kit.specs.MainTuples.{overflow_asked, overflow_given}
 use Rattle.air_kit.specs.Places.{Claim}
 use Rattle.air_kit.specs.declared.trace.TableName.TheVariants as table
 use Rattle.chip_columns.specs.LeftColumns as left
-use Rattle.complete_rows.specs.BlockRows.{IsWholeRun, events_of, filled, keys_of}
+use Rattle.complete_rows.specs.BlockRows.{IsWholeRun, filled, keys_of}
 use Rattle.complete_rows.specs.Decoder.{key_of}
 
 -- cells with their keys, each with the key of the one below it
@@ -30,4 +30,4 @@ pub record OverflowIsEven (rows : List (List ℕ)) (keys : List ℕ) (u : State)
 abbrev pub RunKeepsOverflow : Type 0
 RunKeepsOverflow = (constants : List ℕ) (kernel : List (List ℕ)) (limit : ℕ) (tree : Tree) (inputs tape : List ℕ) (u : State) (log : List run.Event)
     → IsWholeRun constants kernel limit tree inputs tape u log
-    → OverflowIsEven (filled constants kernel u log) (keys_of constants kernel log) u
+    → OverflowIsEven (filled constants kernel u log) (keys_of constants kernel inputs log) u

@@ -11,7 +11,7 @@ use Rattle.vm_ops.specs.declared.op.Shift.TheVariants.{Left, Stay, Right}
 use Rattle.air_kit.specs.Flags.{is_op}
 use Rattle.machine_cycles.specs.declared.event.Event.{Event}
 use Rattle.complete_rows.specs.Bounds.{IsBounded, IsLowBlock}
-use Rattle.complete_rows.specs.Decoder.{Open, Decoder, advance, advance_by, at_start, ends_call, ends_loop, hidden_of, keys_after}
+use Rattle.complete_rows.specs.Decoder.{Open, Decoder, advance, advance_by, at_start, ends_call, ends_loop, hidden_of, keys_after, keys_at_start}
 use Rattle.vm_ops.specs.declared.kind.Kind.TheVariants as kinds
 use Rattle.vm_ops.specs.declared.kind.Kind.{Kind}
 use Rattle.vm_ops.specs.Codes.{kind_of}
@@ -146,8 +146,9 @@ bounded_next d e later clock b is =
       whole = b.whole;
     })
 
-pub bounded_start : (events : List Event) → length events ≤ most_cycles → IsBounded at_start 0 events
-bounded_start events few = record {
+pub bounded_start : (deep : ℕ) (events : List Event) → length events ≤ most_cycles → IsBounded (at_start deep) 0 events
+unfolding keys_at_start
+bounded_start deep events few = record {
   next = omega arith;
   ha = omega arith;
   blocks = All-nil IsLowBlock;

@@ -1,5 +1,5 @@
 -- From cycle to cycle the keys of cells below the sixteenth stay those of past pushes, and fall.
-use Rattle.std.proofs.Common.{◌≡◌, ◌⊎◌, ℕ, zero, suc, ◌+◌, ◌<◌, ◌≤◌, Bool, true, false, cond, List, [], ◌∷◌, ◌++◌, length, drop, slice_index, inl, inr, refl, arith}
+use Rattle.std.proofs.Common.{◌≡◌, ◌⊎◌, ℕ, zero, suc, ◌+◌, ◌-◌, ◌<◌, ◌≤◌, Bool, true, false, cond, List, [], ◌∷◌, ◌++◌, length, drop, slice_index, inl, inr, refl, arith}
 use Rattle.vm_field.specs.Machine.{State, start}
 use Rattle.vm_ops.specs.Moves.{shift_of}
 use Rattle.vm_ops.specs.declared.op.Shift.{Shift}
@@ -14,7 +14,7 @@ use Rattle.block_tree.proofs.RunSteps.{run-steps}
 use Rattle.machine_cycles.specs.declared.event.Event.{Event}
 use Rattle.complete_rows.specs.BlockRows.{IsWholeRun, events_of}
 use Rattle.complete_rows.specs.DeepKeys.{AreDeepKeys, Fall, HasDeepKeys, KeepsDeepKeys, RunKeepsDeepKeys, all_keys, hidden_keys}
-use Rattle.complete_rows.specs.Decoder.{Open, Decoder, advance, advance_by, at_start, ends_call, ends_loop, hidden_of, keys_after}
+use Rattle.complete_rows.specs.Decoder.{Open, Decoder, advance, advance_by, at_start, ends_call, ends_loop, hidden_of, keys_after, keys_at_start}
 use Rattle.complete_rows.specs.Moments.{event_at}
 
 below_more : (past : List Event) (b c : ℕ) (keys : List ℕ) → b ≤ c → AreDeepKeys past b keys → AreDeepKeys past c keys
@@ -112,6 +112,7 @@ module _ (constants : List ℕ) (kernel : List (List ℕ)) (limit : ℕ) where
       )
 
 pub run_keeps_keys : RunKeepsDeepKeys
-unfolding start
+unfolding start keys_at_start
 run_keeps_keys constants kernel limit tree inputs tape u log r =
-    keys_along constants kernel limit (run-steps constants kernel limit tree (start inputs tape) u log r.whole r.done) at_start [] (omega arith) tt
+    keys_along constants kernel limit (run-steps constants kernel limit tree (start inputs tape) u log r.whole r.done) (at_start (length inputs - 16)) []
+    (omega arith) tt

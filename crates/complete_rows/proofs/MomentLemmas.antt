@@ -48,7 +48,7 @@ module _ (constants : List ℕ) (kernel : List (List ℕ)) (limit : ℕ) where
   seen log = map (shown constants kernel) log
 
   -- the state behind an event is the one before the next
-  behind_is : {todo : List Task} {t u : State} {log : List run.Event} → Steps constants kernel limit todo t log u
+  pub behind_is : {todo : List Task} {t u : State} {log : List run.Event} → Steps constants kernel limit todo t log u
       → seen_behind (visible_of u.core) (seen log) ≡ visible_of t.core
   behind_is ended = refl
   behind_is (goes first cycle later) = refl

@@ -25,28 +25,30 @@ use Rattle.vm_table.specs.Layout.{row_at}
 use Rattle.facts_main.specs.MainRows.{op_in}
 use Rattle.facts_main.specs.RowFacts.{ReadsAs, IsRow}
 use Rattle.complete_rows.specs.Agreement.{Agrees}
-use Rattle.complete_rows.specs.BlockRows.{ClaimsRun, IsWholeRun, ShowsBlocks, events_of, filled, keys_of}
+use Rattle.complete_rows.specs.BlockRows.{ClaimsRun, IsWholeRun, ShowsBlocks, decoder_behind, events_of, filled, keys_of}
 use Rattle.complete_rows.specs.Bounds.{IsSmallCore}
 use Rattle.complete_rows.specs.Chains.{AreLinked}
-use Rattle.complete_rows.specs.Decoder.{Decoder, advance, at_start, decoder_after}
-use Rattle.complete_rows.specs.Filling.{fill, rows_of_run}
+use Rattle.complete_rows.specs.Decoder.{Decoder, advance, at_start, decoder_after, keys_at_start}
+use Rattle.complete_rows.specs.Filling.{deep_before, fill, rows_of_run}
 use Rattle.complete_rows.specs.Lines.{Line, laid_out}
 use Rattle.complete_rows.specs.Moments.{AreMoments, IsLastMoment, IsRowAt}
+use Rattle.complete_rows.specs.RunRequests.{requests_of}
 use Rattle.complete_rows.specs.Shows.{Shows}
 use Rattle.complete_rows.proofs.AgreeLemmas.{low_nothing}
 use Rattle.complete_rows.proofs.BoundLemmas.{bounded_start}
 use Rattle.complete_rows.proofs.ColumnLemmas.{below_four}
 use Rattle.complete_rows.proofs.FollowLemmas.{starts_block}
 use Rattle.complete_rows.proofs.MomentFacts.{end_op, end_reads, end_row_shown, end_shows, moment_pair, moment_reads, moment_row, place_comes, place_shows}
-use Rattle.complete_rows.proofs.MomentLemmas.{Filled, along, end_at, moment_at, steps_within, unlinked}
+use Rattle.complete_rows.proofs.MomentLemmas.{Filled, along, behind_is, end_at, moment_at, steps_within, unlinked}
 
 -- ---- the start
 
 depth_start : (inputs : List ℕ) → length inputs ≤ 16 → 16 ≡ length (filled_up inputs)
 depth_start inputs few = omega (arith, few, length-filled_up inputs)
 
-agrees_start : (tree : Tree) (inputs tape : List ℕ) → length inputs ≤ 16 → Agrees (Block tree ∷ []) at_start (start inputs tape).core
-unfolding start
+agrees_start : (tree : Tree) (inputs tape : List ℕ) → length inputs ≤ 16
+    → Agrees (Block tree ∷ []) (at_start (length inputs - 16)) (start inputs tape).core
+unfolding start keys_at_start
 agrees_start tree inputs tape few = record {
   framed = refl;
   reads = (refl, tt);
@@ -81,8 +83,22 @@ module _ (constants : List ℕ) (kernel : List (List ℕ)) (limit : ℕ) where
         record { nesting = nested.1; depth = (let deep = shallow.1 in omega (arith, deep)); context = reached.1 },
       )
 
+  -- what is seen before the first event is the start
+  deep_is : (tree : Tree) (inputs tape : List ℕ) (u : State) (log : List run.Event) → IsWholeRun constants kernel limit tree inputs tape u log
+      → deep_before (visible_of u.core) (events_of constants kernel log) ≡ length inputs - 16
+  unfolding start
+  deep_is tree inputs tape u log r =
+      let seen = behind_is constants kernel limit (steps_of tree inputs tape u log r) in
+      let deep : length (filled_up inputs) - 16 ≡ length inputs - 16 = omega (arith, length-filled_up inputs) in
+      ap (λ (v : Visible). v.depth - 16) seen ∙ deep
+
+  pub keys_asked : (tree : Tree) (inputs tape : List ℕ) (u : State) (log : List run.Event) → IsWholeRun constants kernel limit tree inputs tape u log
+      → (requests_of constants (visible_of u.core) (events_of constants kernel log)).keys ≡ keys_of constants kernel inputs log
+  keys_asked tree inputs tape u log r =
+      ap (λ deep. (decoder_after (at_start deep) (events_of constants kernel log)).keys) (deep_is tree inputs tape u log r)
+
   pub filled_run : (tree : Tree) (inputs tape : List ℕ) (u : State) (log : List run.Event) → IsWholeRun constants kernel limit tree inputs tape u log
-      → Filled constants kernel limit (Block tree ∷ []) at_start (start inputs tape) u (events_of constants kernel log)
+      → Filled constants kernel limit (Block tree ∷ []) (at_start (length inputs - 16)) (start inputs tape) u (events_of constants kernel log)
       (filled constants kernel u log)
   unfolding rows_of_run start
   filled_run tree inputs tape u log r =
@@ -91,8 +107,13 @@ module _ (constants : List ℕ) (kernel : List (List ℕ)) (limit : ℕ) where
       = let within = steps_within constants kernel limit steps (omega arith) in
       let limited = r.within in omega (arith, within, limited, length-map log (shown constants kernel)) in
       let states = small tree inputs tape u log r in
-      along constants kernel limit r.constants_are steps (r.whole, tt) (start-IsWellFormed inputs tape r.inputs_are r.tape_is) at_start
-      (agrees_start tree inputs tape r.few) (bounded_start (events_of constants kernel log) few) states.0 states.1
+      subst
+      (λ deep. Filled constants kernel limit (Block tree ∷ []) (at_start (length inputs - 16)) (start inputs tape) u
+      (events_of constants kernel log) (fill (visible_of u.core) (at_start deep) (events_of constants kernel log)))
+      (sym (deep_is tree inputs tape u log r))
+      (along constants kernel limit r.constants_are steps (r.whole, tt) (start-IsWellFormed inputs tape r.inputs_are r.tape_is)
+      (at_start (length inputs - 16)) (agrees_start tree inputs tape r.few)
+      (bounded_start (length inputs - 16) (events_of constants kernel log) few) states.0 states.1)
 
 -- ---- each row
 
@@ -156,11 +177,11 @@ module _ (constants : List ℕ) (kernel : List (List ℕ)) (limit : ℕ) (within
 -- ---- the first row
 
 first_shown : (constants : List ℕ) (tree : Tree) (inputs tape : List ℕ) (u : State) (d : Decoder) (x : List ℕ) (k : Claim)
-    → IsRowAt constants (Block tree ∷ []) at_start (start inputs tape).core x → length inputs ≤ 16 → ClaimsRun k inputs d.keys u
-    → length d.keys + 16 ≡ length u.core.stack → IsFirstRow k (flags.op_of x) x
-unfolding start
+    → IsRowAt constants (Block tree ∷ []) (at_start (length inputs - 16)) (start inputs tape).core x → length inputs ≤ 16
+    → ClaimsRun k inputs d.keys u → length d.keys + 16 ≡ length u.core.stack → IsFirstRow k (flags.op_of x) x
+unfolding start keys_at_start
 first_shown constants tree inputs tape u d x k at few claims keyed =
-    let shows : Shows (flags.op_of x) at_start (start inputs tape).core x = place_shows constants at in
+    let shows : Shows (flags.op_of x) (at_start (length inputs - 16)) (start inputs tape).core x = place_shows constants at in
     record {
       start = record {
         starts = starts_block constants tree [] (start inputs tape).core (flags.op_of x) (place_comes constants at);
@@ -190,7 +211,8 @@ pub rows_counted : (constants : List ℕ) (kernel : List (List ℕ)) (u : State)
     → length (filled constants kernel u log) ≡ length log + 1
 unfolding rows_of_run
 rows_counted constants kernel u log =
-    let count = fill_count (visible_of u.core) at_start (events_of constants kernel log) in
+    let deep : ℕ = deep_before (visible_of u.core) (events_of constants kernel log) in
+    let count = fill_count (visible_of u.core) (at_start deep) (events_of constants kernel log) in
     omega (arith, count, length-map log (shown constants kernel))
 
 last_keyed : (constants : List ℕ) (kernel : List (List ℕ)) (limit : ℕ) (d : Decoder) (u : State) (rows : List (List ℕ))
@@ -201,45 +223,47 @@ last_keyed constants kernel limit d u rows moments some =
 
 pub is_linked : (constants : List ℕ) (kernel : List (List ℕ)) (limit : ℕ) (tree : Tree) (inputs tape : List ℕ) (u : State) (log : List run.Event)
     → IsWholeRun constants kernel limit tree inputs tape u log
-    → AreLinked constants kernel limit u (Block tree ∷ []) at_start (start inputs tape) (events_of constants kernel log)
+    → AreLinked constants kernel limit u (Block tree ∷ []) (at_start (length inputs - 16)) (start inputs tape) (events_of constants kernel log)
     (filled constants kernel u log)
 is_linked constants kernel limit tree inputs tape u log r =
     let f = filled_run constants kernel limit tree inputs tape u log r in
-    subst (AreLinked constants kernel limit u (Block tree ∷ []) at_start (start inputs tape) (events_of constants kernel log)) (sym f.are) f.linked
+    subst (AreLinked constants kernel limit u (Block tree ∷ []) (at_start (length inputs - 16)) (start inputs tape) (events_of constants kernel log))
+    (sym f.are) f.linked
 
 pub has_moments : (constants : List ℕ) (kernel : List (List ℕ)) (limit : ℕ) (tree : Tree) (inputs tape : List ℕ) (u : State) (log : List run.Event)
     → IsWholeRun constants kernel limit tree inputs tape u log
-    → AreMoments constants kernel limit (decoder_after at_start (events_of constants kernel log)) u (filled constants kernel u log)
-    × IsRowAt constants (Block tree ∷ []) at_start (start inputs tape).core (row_at (filled constants kernel u log) 0)
+    → AreMoments constants kernel limit (decoder_behind constants kernel inputs log) u (filled constants kernel u log)
+    × IsRowAt constants (Block tree ∷ []) (at_start (length inputs - 16)) (start inputs tape).core (row_at (filled constants kernel u log) 0)
 has_moments constants kernel limit tree inputs tape u log r =
     let f = filled_run constants kernel limit tree inputs tape u log r in (
       unlinked constants kernel limit (is_linked constants kernel limit tree inputs tape u log r),
-      subst (λ x. IsRowAt constants (Block tree ∷ []) at_start (start inputs tape).core x) (sym (ap (λ rows. row_at rows 0) f.are)) f.at,
+      subst (λ x. IsRowAt constants (Block tree ∷ []) (at_start (length inputs - 16)) (start inputs tape).core x)
+          (sym (ap (λ rows. row_at rows 0) f.are)) f.at,
     )
 
 pub shows_blocks : (constants : List ℕ) (kernel : List (List ℕ)) (limit : ℕ) (tree : Tree) (inputs tape : List ℕ) (u : State) (log : List run.Event)
     → IsWholeRun constants kernel limit tree inputs tape u log
-    → (k : Claim) → ClaimsRun k inputs (keys_of constants kernel log) u → ShowsBlocks k (filled constants kernel u log)
+    → (k : Claim) → ClaimsRun k inputs (keys_of constants kernel inputs log) u → ShowsBlocks k (filled constants kernel u log)
 shows_blocks constants kernel limit tree inputs tape u log r k claims =
     let m = has_moments constants kernel limit tree inputs tape u log r in
     record {
       table = record {
-        wide = all_wide constants kernel limit r.within (decoder_after at_start (events_of constants kernel log)) u
+        wide = all_wide constants kernel limit r.within (decoder_behind constants kernel inputs log) u
             (filled constants kernel u log) m.0;
-        below = all_low constants kernel limit r.within (decoder_after at_start (events_of constants kernel log)) u
+        below = all_low constants kernel limit r.within (decoder_behind constants kernel inputs log) u
             (filled constants kernel u log) m.0;
       };
-      reads = all_read constants kernel limit r.within (decoder_after at_start (events_of constants kernel log)) u
+      reads = all_read constants kernel limit r.within (decoder_behind constants kernel inputs log) u
           (filled constants kernel u log) m.0;
       row_is =
-          all_rows constants kernel limit r.within (decoder_after at_start (events_of constants kernel log)) u
+          all_rows constants kernel limit r.within (decoder_behind constants kernel inputs log) u
           (filled constants kernel u log) m.0;
       pair_is = λ i h. moment_pair constants kernel limit r.within
-          (moment_at constants kernel limit (decoder_after at_start (events_of constants kernel log)) u (filled constants kernel u log) m.0 i h);
-      first = λ h. first_shown constants tree inputs tape u (decoder_after at_start (events_of constants kernel log))
+          (moment_at constants kernel limit (decoder_behind constants kernel inputs log) u (filled constants kernel u log) m.0 i h);
+      first = λ h. first_shown constants tree inputs tape u (decoder_behind constants kernel inputs log)
           (row_at (filled constants kernel u log) 0) k m.1 r.few claims
-          (last_keyed constants kernel limit (decoder_after at_start (events_of constants kernel log)) u (filled constants kernel u log) m.0 h);
-      last = last_shown constants kernel limit r.within (decoder_after at_start (events_of constants kernel log)) u
+          (last_keyed constants kernel limit (decoder_behind constants kernel inputs log) u (filled constants kernel u log) m.0 h);
+      last = last_shown constants kernel limit r.within (decoder_behind constants kernel inputs log) u
           (filled constants kernel u log) m.0 k
           inputs claims;
     }

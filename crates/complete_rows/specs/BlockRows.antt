@@ -1,5 +1,5 @@
 -- What the rows of a run show of blocks, batches, groups and boundaries, and the laws of runs that say so.
-use Rattle.std.specs.Prelude.{◌≡◌, ℕ, suc, ◌+◌, ◌<◌, ◌≤◌, List, [], ◌∷◌, length, map}
+use Rattle.std.specs.Prelude.{◌≡◌, ℕ, suc, ◌+◌, ◌-◌, ◌<◌, ◌≤◌, List, [], ◌∷◌, length, map}
 use Rattle.vm_field.specs.Limits.{most_cycles, most_inputs, number_of_constants}
 use Rattle.vm_field.specs.Field.{AreElements}
 use Rattle.vm_field.specs.Machine.{State, start}
@@ -16,7 +16,7 @@ use Rattle.machine_cycles.specs.declared.event.Event.{Event}
 use Rattle.facts_main.specs.Bounds.{IsFirstRow, IsLastRow}
 use Rattle.facts_main.specs.MainRows.{op_in}
 use Rattle.facts_main.specs.RowFacts.{ReadsAs, IsRow, IsPair}
-use Rattle.complete_rows.specs.Decoder.{at_start, decoder_after, key_of}
+use Rattle.complete_rows.specs.Decoder.{Decoder, at_start, decoder_after, key_of}
 use Rattle.complete_rows.specs.Filling.{rows_of_run}
 use Rattle.complete_rows.specs.Moments.{AreMoments, IsRowAt}
 
@@ -38,9 +38,13 @@ events_of constants kernel log = map (shown constants kernel) log
 abbrev pub filled : List ℕ → List (List ℕ) → State → List run.Event → List (List ℕ)
 filled constants kernel u log = rows_of_run (visible_of u.core) (events_of constants kernel log)
 
--- the keys of the cells that are left at the end
-abbrev pub keys_of : List ℕ → List (List ℕ) → List run.Event → List ℕ
-keys_of constants kernel log = (decoder_after at_start (events_of constants kernel log)).keys
+-- the decoder behind a run from these inputs
+abbrev pub decoder_behind : List ℕ → List (List ℕ) → List ℕ → List run.Event → Decoder
+decoder_behind constants kernel inputs log = decoder_after (at_start (length inputs - 16)) (events_of constants kernel log)
+
+-- the keys of the cells that are left at its end
+abbrev pub keys_of : List ℕ → List (List ℕ) → List ℕ → List run.Event → List ℕ
+keys_of constants kernel inputs log = (decoder_behind constants kernel inputs log).keys
 
 -- the statement of a run, with the table of cells left that holds these keys and with a row for each word of the kernel
 pub record ClaimsRun (k : Claim) (inputs keys : List ℕ) (u : State) : Type 0 where
@@ -62,14 +66,14 @@ pub record ShowsBlocks (k : Claim) (rows : List (List ℕ)) : Type 0 where
 abbrev pub RunShowsBlocks : Type 0
 RunShowsBlocks = (constants : List ℕ) (kernel : List (List ℕ)) (limit : ℕ) (tree : Tree) (inputs tape : List ℕ) (u : State) (log : List run.Event)
     → IsWholeRun constants kernel limit tree inputs tape u log
-    → (k : Claim) → ClaimsRun k inputs (keys_of constants kernel log) u → ShowsBlocks k (filled constants kernel u log)
+    → (k : Claim) → ClaimsRun k inputs (keys_of constants kernel inputs log) u → ShowsBlocks k (filled constants kernel u log)
 
 -- each row of a run is that of a cycle, and the last one HALT's
 abbrev pub RunHasMoments : Type 0
 RunHasMoments = (constants : List ℕ) (kernel : List (List ℕ)) (limit : ℕ) (tree : Tree) (inputs tape : List ℕ) (u : State) (log : List run.Event)
     → IsWholeRun constants kernel limit tree inputs tape u log
-    → AreMoments constants kernel limit (decoder_after at_start (events_of constants kernel log)) u (filled constants kernel u log)
-    × IsRowAt constants (Block tree ∷ []) at_start (start inputs tape).core (row_at (filled constants kernel u log) 0)
+    → AreMoments constants kernel limit (decoder_behind constants kernel inputs log) u (filled constants kernel u log)
+    × IsRowAt constants (Block tree ∷ []) (at_start (length inputs - 16)) (start inputs tape).core (row_at (filled constants kernel u log) 0)
 
 -- there is one row more than there are events
 abbrev pub RowsAreCounted : Type 0

@@ -1,5 +1,5 @@
 -- The rows of a run as a chain: behind each cycle its tasks, the decoder, the state and the later events are those before the next.
-use Rattle.std.specs.Prelude.{ℕ, ◌+◌, List, [], ◌∷◌, ◌++◌}
+use Rattle.std.specs.Prelude.{ℕ, ◌+◌, ◌-◌, List, [], ◌∷◌, ◌++◌, length}
 use Rattle.vm_field.specs.Machine.{State, start}
 use Rattle.block_tree.specs.Execution as run
 use Rattle.block_tree.specs.Steps.{Task, Block}
@@ -27,5 +27,5 @@ over_pairs count (x ∷ y ∷ rows) = count x y + over_pairs count (y ∷ rows)
 abbrev pub RunIsLinked : Type 0
 RunIsLinked = (constants : List ℕ) (kernel : List (List ℕ)) (limit : ℕ) (tree : Tree) (inputs tape : List ℕ) (u : State) (log : List run.Event)
     → IsWholeRun constants kernel limit tree inputs tape u log
-    → AreLinked constants kernel limit u (Block tree ∷ []) at_start (start inputs tape) (events_of constants kernel log)
+    → AreLinked constants kernel limit u (Block tree ∷ []) (at_start (length inputs - 16)) (start inputs tape) (events_of constants kernel log)
     (filled constants kernel u log)

@@ -97,9 +97,13 @@ advance_by kinds.Halt d e later = d
 abbrev pub advance : Decoder → Event → List Event → Decoder
 advance d e later = advance_by (kind_of e.op) d e later
 
--- Before the first cycle. Addresses count from 1.
-abbrev pub at_start : Decoder
-at_start = record { blocks = []; next = 1; ha = 0; unread = nothing_unread; keys = [] }
+-- the keys of so many cells below the sixteenth before the first cycle, the newest first
+unfoldable pub keys_at_start : ℕ → List ℕ
+keys_at_start deep = []
+
+-- Before the first cycle, with so many cells below the sixteenth. Addresses count from 1.
+abbrev pub at_start : ℕ → Decoder
+at_start deep = record { blocks = []; next = 1; ha = 0; unread = nothing_unread; keys = keys_at_start deep }
 
 -- behind all events
 unfoldable pub decoder_after : Decoder → List Event → Decoder

@@ -1,6 +1,6 @@
 -- The keys of all cells below the sixteenth, those that calls hide among them: each is the clock of a cycle that pushed, and no two are
 -- the same.
-use Rattle.std.specs.Prelude.{◌≡◌, ◌⊎◌, ℕ, ◌<◌, List, [], ◌∷◌, ◌++◌, length, slice_index}
+use Rattle.std.specs.Prelude.{◌≡◌, ◌⊎◌, ℕ, ◌-◌, ◌<◌, List, [], ◌∷◌, ◌++◌, length, slice_index}
 use Rattle.vm_field.specs.Machine.{State}
 use Rattle.vm_ops.specs.Moves.{shift_of}
 use Rattle.vm_ops.specs.declared.op.Shift.TheVariants.{Right}
@@ -43,4 +43,4 @@ KeepsDeepKeys d past (e ∷ later) = HasDeepKeys d past × KeepsDeepKeys (advanc
 
 abbrev pub RunKeepsDeepKeys : Type 0
 RunKeepsDeepKeys = (constants : List ℕ) (kernel : List (List ℕ)) (limit : ℕ) (tree : Tree) (inputs tape : List ℕ) (u : State) (log : List run.Event)
-    → IsWholeRun constants kernel limit tree inputs tape u log → KeepsDeepKeys at_start [] (events_of constants kernel log)
+    → IsWholeRun constants kernel limit tree inputs tape u log → KeepsDeepKeys (at_start (length inputs - 16)) [] (events_of constants kernel log)

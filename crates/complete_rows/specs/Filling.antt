@@ -1,5 +1,5 @@
 -- The rows of the main table of a run, from its events and the state at its end. One row shows a cycle, and HALT is the last.
-use Rattle.std.specs.Prelude.{ℕ, None, List, [], ◌∷◌, length, slice_index}
+use Rattle.std.specs.Prelude.{ℕ, ◌-◌, None, List, [], ◌∷◌, length, slice_index}
 use Rattle.vm_field.specs.Machine.{zero_word}
 use Rattle.vm_ops.specs.declared.op.Op.TheVariants as ops
 use Rattle.op_pack.specs.Reading.{positions_in_use}
@@ -30,6 +30,10 @@ halted last = record {
 abbrev pub seen_behind : Visible → List Event → Visible
 seen_behind last [] = last
 seen_behind last (e ∷ later) = e.before
+
+-- how many cells stand below the sixteenth before the first event, or at the end where there is none
+abbrev pub deep_before : Visible → List Event → ℕ
+deep_before last events = (seen_behind last events).depth - 16
 
 -- a row of an ordinary operation shows what is left of its group in place of a hash
 abbrev pub hash_by : Kind → Decoder → Event → List ℕ
@@ -98,4 +102,4 @@ fill last d (e ∷ later) = row_of d e (seen_behind last later) later ∷ fill l
 
 -- the rows of a run that ends in this state
 unfoldable pub rows_of_run : Visible → List Event → List (List ℕ)
-rows_of_run last events = fill last at_start events
+rows_of_run last events = fill last (at_start (deep_before last events)) events

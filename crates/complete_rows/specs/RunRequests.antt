@@ -13,7 +13,7 @@ use Rattle.air_kit.specs.declared.requests.Requests.{Requests}
 use Rattle.machine_cycles.specs.declared.event.Event.{Event}
 use Rattle.machine_cycles.specs.declared.event.Visible.{Visible}
 use Rattle.complete_rows.specs.Decoder.{at_start, decoder_after}
-use Rattle.complete_rows.specs.Filling.{seen_behind}
+use Rattle.complete_rows.specs.Filling.{deep_before, seen_behind}
 use Rattle.vm_ops.specs.declared.kind.Kind.TheVariants as kinds
 use Rattle.vm_ops.specs.declared.kind.Kind.{Kind}
 use Rattle.vm_ops.specs.Codes.{kind_of}
@@ -103,5 +103,5 @@ requests_of constants last events = record {
   accesses = accesses_of events;
   ranges = ranges_of last events;
   calls = calls_of events;
-  keys = (decoder_after at_start events).keys;
+  keys = (decoder_after (at_start (deep_before last events)) events).keys;
 }

@@ -13,7 +13,7 @@ use Rattle.air_kit.specs.Traces.{claim_of}
 use Rattle.air_kit.specs.declared.requests.Requests.{Requests}
 use Rattle.air_kit.specs.declared.trace.Public.{Public}
 use Rattle.air_kit.specs.declared.trace.Trace.{Trace}
-use Rattle.complete_rows.specs.BlockRows.{IsWholeRun, events_of, filled}
+use Rattle.complete_rows.specs.BlockRows.{IsWholeRun, filled}
 use Rattle.complete_requests.specs.Asked.{requests}
 use Rattle.complete_trace.specs.Acceptance.{IsStatementOf, IsTraceOf}
 use Rattle.complete_trace.proofs.BlockBuses.{blocks_alike, children_alike, groups_alike, loops_alike}
@@ -27,27 +27,27 @@ use Rattle.complete_trace.proofs.TraceClaim.{trace_zero}
 other : (on : Bus) → bus_number on ≢ bus_number bus.Range → on ≢ bus.Range
 other on apart e = apart (ap bus_number e)
 
-module _ (k : Claim) (constants digest : List ℕ) (kernel : List (List ℕ)) (r : Requests) (u : State) (t : Trace)
-    (main : AreSides constants digest r u t.main) (a : Answers constants kernel r t) (outputs : k.outputs ≡ u.core.stack) where
-  alike : (on : Bus) (v : List ℕ) → asked_on k t on v ≡ given_on digest t on v
-  alike bus.Blocks v = blocks_alike k digest t v (main.blocks v) (a.given bus.Blocks v (other bus.Blocks (omega arith)))
-  alike bus.Children v = children_alike k digest t v (main.children v) (a.given bus.Children v (other bus.Children (omega arith)))
-  alike bus.Loops v = loops_alike k digest t v (main.loops v) (a.given bus.Loops v (other bus.Loops (omega arith)))
-  alike bus.Groups v = groups_alike k digest t v (main.groups v) (a.given bus.Groups v (other bus.Groups (omega arith)))
+module _ (k : Claim) (constants : List ℕ) (kernel : List (List ℕ)) (r : Requests) (u : State) (t : Trace)
+    (main : AreSides constants k.digest r u t.main) (a : Answers constants kernel r t) (outputs : k.outputs ≡ u.core.stack) where
+  alike : (on : Bus) (v : List ℕ) → asked_on k t on v ≡ given_on k t on v
+  alike bus.Blocks v = blocks_alike k t v (main.blocks v) (a.given bus.Blocks v (other bus.Blocks (omega arith)))
+  alike bus.Children v = children_alike k t v (main.children v) (a.given bus.Children v (other bus.Children (omega arith)))
+  alike bus.Loops v = loops_alike k t v (main.loops v) (a.given bus.Loops v (other bus.Loops (omega arith)))
+  alike bus.Groups v = groups_alike k t v (main.groups v) (a.given bus.Groups v (other bus.Groups (omega arith)))
   alike bus.Overflow v =
-      overflow_alike k digest t v (main.overflow.table k t.left outputs a.keys v) (a.given bus.Overflow v (other bus.Overflow (omega arith)))
-  alike bus.Hasher v = hasher_alike k constants digest r t main.asks v (a.given bus.Hasher v (other bus.Hasher (omega arith)))
-  alike bus.Bitwise v = bitwise_alike k constants digest r t main.asks v (a.given bus.Bitwise v (other bus.Bitwise (omega arith)))
-  alike bus.Memory v = memory_alike k constants digest r t main.asks v (a.given bus.Memory v (other bus.Memory (omega arith)))
-  alike bus.Range v = range_alike k digest r.ranges t v (main.asks.range v) (a.ranges v)
-  alike bus.Kernel v = kernel_alike k constants digest r t main.asks v (a.given bus.Kernel v (other bus.Kernel (omega arith)))
+      overflow_alike k t v (main.overflow.table k t.left outputs a.keys v) (a.given bus.Overflow v (other bus.Overflow (omega arith)))
+  alike bus.Hasher v = hasher_alike k constants r t main.asks v (a.given bus.Hasher v (other bus.Hasher (omega arith)))
+  alike bus.Bitwise v = bitwise_alike k constants r t main.asks v (a.given bus.Bitwise v (other bus.Bitwise (omega arith)))
+  alike bus.Memory v = memory_alike k constants r t main.asks v (a.given bus.Memory v (other bus.Memory (omega arith)))
+  alike bus.Range v = range_alike k r.ranges t v (main.asks.range v) (a.ranges v)
+  alike bus.Kernel v = kernel_alike k constants r t main.asks v (a.given bus.Kernel v (other bus.Kernel (omega arith)))
 
 pub run_accepted : (constants : List ℕ) (kernel : List (List ℕ)) (limit : ℕ) (tree : Tree) (inputs tape : List ℕ) (u : State) (log : List run.Event)
     → IsWholeRun constants kernel limit tree inputs tape u log → (p : Public) (t : Trace)
     → IsStatementOf constants kernel tree inputs u p → IsTraceOf constants kernel u log t → IsAccepted p t
 run_accepted constants kernel limit tree inputs tape u log r p t is trace = record {
   zero = trace_zero constants kernel limit tree inputs tape u log r p t is trace;
-  buses = alike (claim_of p t) constants p.statement.digest kernel (requests constants kernel u log) u t main trace.answers is.outputs_are;
+  buses = alike (claim_of p t) constants kernel (requests constants kernel u log) u t main trace.answers is.outputs_are;
 }
   where
     named : AreSides constants p.statement.digest (requests constants kernel u log) u (filled constants kernel u log)

@@ -1,10 +1,10 @@
 -- The buses of blocks, children, loops and groups: the small tables have no part in them.
-use Rattle.std.proofs.Common.{◌≡◌, ℕ, ◌+◌, List, [], ◌∙◌, arith}
+use Rattle.std.proofs.Common.{◌≡◌, ℕ, ◌+◌, List, [], ◌∷◌, ◌∙◌, arith}
 use Rattle.buses.specs.Counts.{counted, over_rows, with_next}
 use Rattle.buses.specs.declared.bus.Bus.TheVariants as bus
 use Rattle.buses.proofs.Counting.{counted-none}
-use Rattle.air_kit.specs.Acceptance.{asked_on, given_on, statement_given}
-use Rattle.air_kit.specs.MainTuples.{blocks_asked, blocks_given, children_asked, children_given, groups_asked, groups_given, loops_asked, loops_given}
+use Rattle.air_kit.specs.Acceptance.{asked_on, given_on}
+use Rattle.air_kit.specs.MainTuples.{child, blocks_asked, blocks_given, children_asked, children_given, groups_asked, groups_given, loops_asked, loops_given}
 use Rattle.air_kit.specs.Places.{Claim}
 use Rattle.air_kit.specs.declared.trace.Trace.{Trace}
 use Rattle.complete_trace.proofs.Quiet.{chips_give, chips_quiet}
@@ -15,26 +15,26 @@ named_sides asked more named given rest even zm zr = omega (arith, even, zm, zr)
 sides : (asked more named given rest : ℕ) → given ≡ asked → named ≡ 0 → more ≡ 0 → rest ≡ 0 → asked + more ≡ named + given + rest
 sides asked more named given rest even zn zm zr = omega (arith, even, zn, zm, zr)
 
-module _ (k : Claim) (digest : List ℕ) (t : Trace) (v : List ℕ) where
+module _ (k : Claim) (t : Trace) (v : List ℕ) where
   pub blocks_alike : over_rows (with_next blocks_given) t.main v ≡ over_rows (with_next blocks_asked) t.main v
-      → chips_give bus.Blocks t v ≡ counted [] v → asked_on k t bus.Blocks v ≡ given_on digest t bus.Blocks v
+      → chips_give bus.Blocks t v ≡ counted [] v → asked_on k t bus.Blocks v ≡ given_on k t bus.Blocks v
   unfolding asked_on given_on
   blocks_alike even none = sides _ _ _ _ _ even (counted-none v) (chips_quiet t v) (none ∙ counted-none v)
 
   pub children_alike
-      : counted (statement_given bus.Children digest) v + over_rows (with_next children_given) t.main v
+      : counted (child 0 k.digest 0 ∷ []) v + over_rows (with_next children_given) t.main v
       ≡ over_rows (with_next children_asked) t.main v
       → chips_give bus.Children t v ≡ counted [] v
-      → asked_on k t bus.Children v ≡ given_on digest t bus.Children v
+      → asked_on k t bus.Children v ≡ given_on k t bus.Children v
   unfolding asked_on given_on
   children_alike even none = named_sides _ _ _ _ _ even (chips_quiet t v) (none ∙ counted-none v)
 
   pub loops_alike : over_rows (with_next loops_given) t.main v ≡ over_rows (with_next loops_asked) t.main v
-      → chips_give bus.Loops t v ≡ counted [] v → asked_on k t bus.Loops v ≡ given_on digest t bus.Loops v
+      → chips_give bus.Loops t v ≡ counted [] v → asked_on k t bus.Loops v ≡ given_on k t bus.Loops v
   unfolding asked_on given_on
   loops_alike even none = sides _ _ _ _ _ even (counted-none v) (chips_quiet t v) (none ∙ counted-none v)
 
   pub groups_alike : over_rows (with_next groups_given) t.main v ≡ over_rows (with_next groups_asked) t.main v
-      → chips_give bus.Groups t v ≡ counted [] v → asked_on k t bus.Groups v ≡ given_on digest t bus.Groups v
+      → chips_give bus.Groups t v ≡ counted [] v → asked_on k t bus.Groups v ≡ given_on k t bus.Groups v
   unfolding asked_on given_on
   groups_alike even none = sides _ _ _ _ _ even (counted-none v) (chips_quiet t v) (none ∙ counted-none v)

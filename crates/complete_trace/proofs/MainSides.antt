@@ -1,14 +1,13 @@
 -- What the rows of a run give and ask: the buses of blocks by themselves, the others against requests and the cells that are left.
-use Rattle.std.proofs.Common.{◌≡◌, ℕ, ◌+◌, List}
+use Rattle.std.proofs.Common.{◌≡◌, ℕ, ◌+◌, List, [], ◌∷◌, sym, subst}
 use Rattle.vm_field.specs.Machine.{State}
 use Rattle.block_tree.specs.Execution as run
 use Rattle.block_tree.specs.Trees.{Tree, tree_digest}
 use Rattle.buses.specs.Counts.{counted, over_rows, with_next}
-use Rattle.buses.specs.declared.bus.Bus.TheVariants as bus
-use Rattle.air_kit.specs.Acceptance.{statement_given}
-use Rattle.air_kit.specs.MainTuples.{blocks_asked, blocks_given, children_asked, children_given, groups_asked, groups_given, loops_asked, loops_given}
+use Rattle.air_kit.specs.MainTuples.{child, blocks_asked, blocks_given, children_asked, children_given, groups_asked, groups_given, loops_asked, loops_given}
 use Rattle.air_kit.specs.declared.requests.Requests.{Requests}
-use Rattle.complete_rows.specs.BlockRows.{IsWholeRun, events_of, filled}
+use Rattle.complete_rows.specs.BlockRows.{IsWholeRun, filled}
+use Rattle.complete_rows.proofs.TableLemmas.{keys_asked}
 use Rattle.complete_buses.proofs.BlockLaw.{blocks_even}
 use Rattle.complete_buses.proofs.ChildLaw.{children_even}
 use Rattle.complete_buses.proofs.GroupLaw.{groups_even}
@@ -21,7 +20,7 @@ use Rattle.complete_requests.proofs.OverflowLaw.{overflow_is_even}
 pub record AreSides (constants digest : List ℕ) (r : Requests) (u : State) (rows : List (List ℕ)) : Type 0 where
   pub blocks : (v : List ℕ) → over_rows (with_next blocks_given) rows v ≡ over_rows (with_next blocks_asked) rows v
   pub children : (v : List ℕ)
-      → counted (statement_given bus.Children digest) v + over_rows (with_next children_given) rows v ≡ over_rows (with_next children_asked) rows v
+      → counted (child 0 digest 0 ∷ []) v + over_rows (with_next children_given) rows v ≡ over_rows (with_next children_asked) rows v
   pub loops : (v : List ℕ) → over_rows (with_next loops_given) rows v ≡ over_rows (with_next loops_asked) rows v
   pub groups : (v : List ℕ) → over_rows (with_next groups_given) rows v ≡ over_rows (with_next groups_asked) rows v
   pub asks : RowsAsk constants rows r
@@ -36,5 +35,6 @@ run_sides constants kernel limit tree inputs tape u log r = record {
   loops = loops_even constants kernel limit tree inputs tape u log r;
   groups = groups_even constants kernel limit tree inputs tape u log r;
   asks = run_asks constants kernel limit tree inputs tape u log r;
-  overflow = overflow_is_even constants kernel limit tree inputs tape u log r;
+  overflow = subst (λ keys. OverflowIsEven (filled constants kernel u log) keys u) (sym (keys_asked constants kernel limit tree inputs tape u log r))
+      (overflow_is_even constants kernel limit tree inputs tape u log r);
 }

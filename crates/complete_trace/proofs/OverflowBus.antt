@@ -11,20 +11,20 @@ use Rattle.air_kit.specs.declared.trace.TableName.TheVariants as table
 use Rattle.air_kit.specs.declared.trace.Trace.{Trace}
 use Rattle.complete_trace.proofs.Quiet.{chips_give, rows_quiet}
 
-sixth_alone : (a b c d e f : ℕ) → a ≡ 0 → b ≡ 0 → c ≡ 0 → d ≡ 0 → e ≡ 0 → a + b + c + d + e + f ≡ f
+sixth_alone : (a b c d e f : ℕ) → a ≡ 0 → b ≡ 0 → c ≡ 0 → d ≡ 0 → e ≡ 0 → a + (b + (c + (d + (e + (f + 0))))) ≡ f
 sixth_alone a b c d e f za zb zc zd ze = omega (arith, za, zb, zc, zd, ze)
 
 left_over : (asked more named given rest left : ℕ) → given ≡ asked + left → more ≡ left → named ≡ 0 → rest ≡ 0
     → asked + more ≡ named + given + rest
 left_over asked more named given rest left even is zn zr = omega (arith, even, is, zn, zr)
 
-pub overflow_alike : (k : Claim) (digest : List ℕ) (t : Trace) (v : List ℕ)
+pub overflow_alike : (k : Claim) (t : Trace) (v : List ℕ)
     → over_rows (with_next overflow_given) t.main v
     ≡ over_rows (with_next overflow_asked) t.main v + over_rows (chip_asked k bus.Overflow table.Left) t.left v
     → chips_give bus.Overflow t v ≡ counted [] v
-    → asked_on k t bus.Overflow v ≡ given_on digest t bus.Overflow v
+    → asked_on k t bus.Overflow v ≡ given_on k t bus.Overflow v
 unfolding asked_on given_on
-overflow_alike k digest t v even none =
+overflow_alike k t v even none =
     left_over _ _ _ _ _ _ even
     (sixth_alone _ _ _ _ _ (over_rows (chip_asked k bus.Overflow table.Left) t.left v) (rows_quiet t.range v) (rows_quiet t.hasher v)
     (rows_quiet t.bitwise v) (rows_quiet t.memory v) (rows_quiet t.kernel v))

@@ -29,7 +29,7 @@ pairs_quiet rows v =
     total_none (length rows) (λ i. counted (with_next (λ x y. []) i (row_at rows i) (slice_get rows (suc i))) v)
     (λ i. pair_quiet i (row_at rows i) (slice_get rows (suc i)) v)
 
-six_none : (a b c d e f : ℕ) → a ≡ 0 → b ≡ 0 → c ≡ 0 → d ≡ 0 → e ≡ 0 → f ≡ 0 → a + b + c + d + e + f ≡ 0
+six_none : (a b c d e f : ℕ) → a ≡ 0 → b ≡ 0 → c ≡ 0 → d ≡ 0 → e ≡ 0 → f ≡ 0 → a + (b + (c + (d + (e + (f + 0))))) ≡ 0
 six_none a b c d e f za zb zc zd ze zf = omega (arith, za, zb, zc, zd, ze, zf)
 
 -- how often the small tables give a tuple on a bus

@@ -13,8 +13,8 @@ use Rattle.vm_table.specs.Layout.{row_at}
 use Rattle.facts_main.specs.MainRows.{MainIsZero, ShowsRows, op_in}
 use Rattle.facts_main.specs.Stack.{IsStackRow}
 use Rattle.facts_main.proofs.TableFacts.{rows_zero}
-use Rattle.complete_rows.specs.BlockRows.{ClaimsRun, IsWholeRun, ShowsBlocks, events_of, filled, keys_of}
-use Rattle.complete_rows.specs.Decoder.{Decoder, at_start, decoder_after}
+use Rattle.complete_rows.specs.BlockRows.{ClaimsRun, IsWholeRun, ShowsBlocks, decoder_behind, filled, keys_of}
+use Rattle.complete_rows.specs.Decoder.{Decoder}
 use Rattle.complete_rows.specs.Moments.{AreMoments}
 use Rattle.complete_rows.proofs.MomentLemmas.{end_at, moment_at}
 use Rattle.complete_rows.proofs.TableLemmas.{has_moments, shows_blocks}
@@ -34,12 +34,12 @@ module _ (constants : List ℕ) (kernel : List (List ℕ)) (limit : ℕ) where
           (f.stack_row, f.limb_row)
 
   pub shows_rows : (tree : Tree) (inputs tape : List ℕ) (u : State) (log : List run.Event) → IsWholeRun constants kernel limit tree inputs tape u log
-      → (k : Claim) → ClaimsRun k inputs (keys_of constants kernel log) u
+      → (k : Claim) → ClaimsRun k inputs (keys_of constants kernel inputs log) u
       → ShowsRows k (filled constants kernel u log)
   shows_rows tree inputs tape u log r k claims =
       let b : ShowsBlocks k (filled constants kernel u log) = shows_blocks constants kernel limit tree inputs tape u log r k claims in
       let m = has_moments constants kernel limit tree inputs tape u log r in
-      let d : Decoder = decoder_after at_start (events_of constants kernel log) in
+      let d : Decoder = decoder_behind constants kernel inputs log in
       let rows : List (List ℕ) = filled constants kernel u log in
       record {
         row_is = λ i low. (
@@ -55,7 +55,7 @@ module _ (constants : List ℕ) (kernel : List (List ℕ)) (limit : ℕ) where
       }
 
   pub has_zeros : (tree : Tree) (inputs tape : List ℕ) (u : State) (log : List run.Event) → IsWholeRun constants kernel limit tree inputs tape u log
-      → (k : Claim) → ClaimsRun k inputs (keys_of constants kernel log) u → IsLowClaim k
+      → (k : Claim) → ClaimsRun k inputs (keys_of constants kernel inputs log) u → IsLowClaim k
       → MainIsZero k (filled constants kernel u log)
   has_zeros tree inputs tape u log r k claims low =
       rows_zero k (filled constants kernel u log) low (shows_blocks constants kernel limit tree inputs tape u log r k claims).table
@@ -73,7 +73,7 @@ module _ (constants : List ℕ) (kernel : List (List ℕ)) (limit : ℕ) where
       → (i : ℕ) → suc i < length (filled constants kernel u log) → LooksUp (filled constants kernel u log) i
   look_up tree inputs tape u log r i low =
       let m = has_moments constants kernel limit tree inputs tape u log r in
-      let d : Decoder = decoder_after at_start (events_of constants kernel log) in
+      let d : Decoder = decoder_behind constants kernel inputs log in
       let rows : List (List ℕ) = filled constants kernel u log in
       let f = moment_facts constants kernel limit r.constants_are r.within (moment_at constants kernel limit d u rows m.0 i low) in
       record { ranges = f.ranges; bits = f.bits; level = level_low d u rows m.0 (suc i) low }

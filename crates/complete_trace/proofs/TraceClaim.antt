@@ -14,8 +14,9 @@ use Rattle.air_kit.specs.Tables.{table_number}
 use Rattle.chip_columns.specs.LeftColumns.{key}
 use Rattle.facts_main.specs.MainRows.{MainIsZero}
 use Rattle.facts_main.proofs.ClaimFacts.{claim_low}
-use Rattle.complete_rows.specs.BlockRows.{ClaimsRun, IsWholeRun, events_of, keys_of}
+use Rattle.complete_rows.specs.BlockRows.{ClaimsRun, IsWholeRun, keys_of}
 use Rattle.complete_rows.specs.Decoder.{key_of}
+use Rattle.complete_rows.proofs.TableLemmas.{keys_asked}
 use Rattle.complete_trace.proofs.TableStacks.{has_zeros}
 use Rattle.complete_trace.specs.Acceptance.{IsStatementOf, IsTraceOf}
 
@@ -26,13 +27,16 @@ first_key (x ∷ rows) = refl
 module _ (constants : List ℕ) (kernel : List (List ℕ)) (limit : ℕ) (tree : Tree) (inputs tape : List ℕ) (u : State) (log : List run.Event)
     (r : IsWholeRun constants kernel limit tree inputs tape u log) (p : Public) (t : Trace)
     (is : IsStatementOf constants kernel tree inputs u p) (trace : IsTraceOf constants kernel u log t) where
-  claims : ClaimsRun (claim_of p t) inputs (keys_of constants kernel log) u
+  keys_are : map key t.left ≡ keys_of constants kernel inputs log
+  keys_are = trace.answers.keys ∙ keys_asked constants kernel limit tree inputs tape u log r
+
+  claims : ClaimsRun (claim_of p t) inputs (keys_of constants kernel inputs log) u
   claims = record {
     inputs_are = is.inputs_are;
     outputs_are = is.outputs_are;
     kernel_rows = trace.answers.words ∙ sym (ap length is.kernel_is);
-    left_rows = sym (length-map t.left key) ∙ ap length trace.answers.keys;
-    left_key_is = first_key t.left ∙ ap key_of trace.answers.keys;
+    left_rows = sym (length-map t.left key) ∙ ap length keys_are;
+    left_key_is = first_key t.left ∙ ap key_of keys_are;
   }
 
   main_zero : MainIsZero (claim_of p t) t.main

@@ -22,13 +22,13 @@ use Rattle.complete_rows.specs.RunRequests.{ranges_of}
 abbrev pub RunShowsRows : Type 0
 RunShowsRows = (constants : List ℕ) (kernel : List (List ℕ)) (limit : ℕ) (tree : Tree) (inputs tape : List ℕ) (u : State) (log : List run.Event)
     → IsWholeRun constants kernel limit tree inputs tape u log
-    → (k : Claim) → ClaimsRun k inputs (keys_of constants kernel log) u → ShowsRows k (filled constants kernel u log)
+    → (k : Claim) → ClaimsRun k inputs (keys_of constants kernel inputs log) u → ShowsRows k (filled constants kernel u log)
 
 -- so their entries are 0
 abbrev pub RunHasZeros : Type 0
 RunHasZeros = (constants : List ℕ) (kernel : List (List ℕ)) (limit : ℕ) (tree : Tree) (inputs tape : List ℕ) (u : State) (log : List run.Event)
     → IsWholeRun constants kernel limit tree inputs tape u log
-    → (k : Claim) → ClaimsRun k inputs (keys_of constants kernel log) u → IsLowClaim k → MainIsZero k (filled constants kernel u log)
+    → (k : Claim) → ClaimsRun k inputs (keys_of constants kernel inputs log) u → IsLowClaim k → MainIsZero k (filled constants kernel u log)
 
 -- A row of an ordinary operation is filled by its step: it looks up what is so.
 abbrev pub MomentFills : Type 0

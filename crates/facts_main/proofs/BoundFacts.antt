@@ -50,13 +50,13 @@ pub says_20 : (op : Op) (x : List ℕ) → Low x → Says (entry_20 (hot op) x) 
 unfolding entry_20
 says_20 op x low = zero_says (lv x) (low 50)
 
-pub says_21 : (op : Op) (x : List ℕ) → Low x → Says (entry_21 (hot op) x) (depth x ≡ 16)
+pub says_21 : (k : Claim) (op : Op) (x : List ℕ) → Low x → Says (entry_21 k (hot op) x) (depth x ≡ 16)
 unfolding entry_21
-says_21 op x low = sub_says (depth x) 16 (low 46) (lit< tt)
+says_21 k op x low = sub_says (depth x) 16 (low 46) (lit< tt)
 
-pub says_22 : (op : Op) (x : List ℕ) → Low x → Says (entry_22 (hot op) x) (key x ≡ 0)
+pub says_22 : (k : Claim) (op : Op) (x : List ℕ) → Low x → Says (entry_22 k (hot op) x) (key x ≡ 0)
 unfolding entry_22
-says_22 op x low = zero_says (key x) (low 47)
+says_22 k op x low = sub_says (key x) 0 (low 47) (lit< tt)
 
 pub says_23 : (k : Claim) (op : Op) (x : List ℕ) (j : ℕ) → IsLowClaim k → Low x → Says (entry_23 k j (hot op) x) (s x j ≡ slice_index k.inputs j)
 unfolding entry_23

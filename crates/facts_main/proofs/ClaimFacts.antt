@@ -22,19 +22,19 @@ lengths_low t counts j = elements-index (lengths_of t) j (elements_each (lengths
   where
     each : EachLow (lengths_of t)
     each = (
-      few_rows (length t.main) (let h = counts.most table.Main in omega (arith, h)),
+      few_rows (length t.main) (let h = (counts table.Main).most in omega (arith, h)),
       (
-        few_rows (length t.range) (let h = counts.most table.Range in omega (arith, h)),
+        few_rows (length t.range) (let h = (counts table.Range).most in omega (arith, h)),
         (
-          few_rows (length t.hasher) (let h = counts.most table.Hasher in omega (arith, h)),
+          few_rows (length t.hasher) (let h = (counts table.Hasher).most in omega (arith, h)),
           (
-            few_rows (length t.bitwise) (let h = counts.most table.Bitwise in omega (arith, h)),
+            few_rows (length t.bitwise) (let h = (counts table.Bitwise).most in omega (arith, h)),
             (
-              few_rows (length t.memory) (let h = counts.most table.Memory in omega (arith, h)),
+              few_rows (length t.memory) (let h = (counts table.Memory).most in omega (arith, h)),
               (
-                few_rows (length t.kernel) (let h = counts.most table.Kernel in omega (arith, h)),
+                few_rows (length t.kernel) (let h = (counts table.Kernel).most in omega (arith, h)),
                 (
-                  few_rows (length t.left) (let h = counts.most table.Left in omega (arith, h)),
+                  few_rows (length t.left) (let h = (counts table.Left).most in omega (arith, h)),
                   tt,
                 ),
               ),

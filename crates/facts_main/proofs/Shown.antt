@@ -231,9 +231,9 @@ pair_shown op p y r row opcode blocks spans e = record {
 
 -- ---- the first row and the last one
 
-starts_run : (op : Op) (p : Spot) → HasOps op p → AllZero (opcode_values p) → AllZero (start_values p) → p.row ≡ 0 → StartsRun op p.cur
+starts_run : (k : Claim) (op : Op) (p : Spot) → HasOps op p → AllZero (opcode_values p) → AllZero (start_values k p) → p.row ≡ 0 → StartsRun op p.cur
 unfolding opcode_values start_values family
-starts_run op p r opcode zeros e = record {
+starts_run k op p r opcode zeros e = record {
   starts = (first_at entry_11 r (says_11 op p.cur)).shown (zeros 0) e;
   clock = (first_at entry_9 r (says_9 op p.cur r.here.low)).shown (opcode 8) e;
   block = (first_at entry_12 r (says_12 op p.cur r.here.low)).shown (zeros 1) e;
@@ -242,8 +242,8 @@ starts_run op p r opcode zeros e = record {
   syscall = (first_at entry_15 r (says_15 op p.cur r.here.low)).shown (zeros 4) e;
   digest = below_four (λ j. f p.cur j ≡ 0) (digest 0 (zeros 5)) (digest 1 (zeros 6)) (digest 2 (zeros 7)) (digest 3 (zeros 8));
   level = (first_at entry_20 r (says_20 op p.cur r.here.low)).shown (zeros 9) e;
-  depth_is = (first_at entry_21 r (says_21 op p.cur r.here.low)).shown (zeros 10) e;
-  key_is = (first_at entry_22 r (says_22 op p.cur r.here.low)).shown (zeros 11) e;
+  depth_is = (first_at (entry_21 k) r (says_21 k op p.cur r.here.low)).shown (zeros 10) e;
+  key_is = (first_at (entry_22 k) r (says_22 k op p.cur r.here.low)).shown (zeros 11) e;
 }
   where
     digest : (j : ℕ) → at_first (entry_16 j) p ≡ 0 → f p.cur j ≡ 0
@@ -263,7 +263,7 @@ outputs_shown k op p few r zeros e j h =
 
 -- the parts of the boundaries
 record Bounds (k : Claim) (p : Spot) : Type 0 where
-  start : AllZero (start_values p)
+  start : AllZero (start_values k p)
   inputs : AllZero (inputs_values k p)
   finish : AllZero (end_values k p)
   outputs : AllZero (outputs_values k p)
@@ -271,10 +271,10 @@ record Bounds (k : Claim) (p : Spot) : Type 0 where
 bounds_of : (k : Claim) (p : Spot) → AllZero (boundary_values k p) → Bounds k p
 unfolding boundary_values
 bounds_of k p zeros =
-    let behind = zero_back (start_values p) (inputs_values k p ++ (end_values k p ++ outputs_values k p)) zeros in
+    let behind = zero_back (start_values k p) (inputs_values k p ++ (end_values k p ++ outputs_values k p)) zeros in
     let later = zero_back (inputs_values k p) (end_values k p ++ outputs_values k p) behind in
     record {
-      start = zero_front (start_values p) (inputs_values k p ++ (end_values k p ++ outputs_values k p)) zeros;
+      start = zero_front (start_values k p) (inputs_values k p ++ (end_values k p ++ outputs_values k p)) zeros;
       inputs = zero_front (inputs_values k p) (end_values k p ++ outputs_values k p) behind;
       finish = zero_front (end_values k p) (outputs_values k p) later;
       outputs = zero_back (end_values k p) (outputs_values k p) later;
@@ -287,7 +287,7 @@ unfolding end_values
 first_shown k op p few r opcode zeros e =
     let b : Bounds k p = bounds_of k p zeros in
     record {
-      start = starts_run op p r opcode b.start e;
+      start = starts_run k op p r opcode b.start e;
       inputs = inputs_shown k op p few r b.inputs e;
       kernel = (first_at (entry_39 k) r (says_39 k op p.cur few)).shown (b.finish 0) e;
       left = (first_at (entry_40 k) r (says_40 k op p.cur few)).shown (b.finish 1) e;

@@ -100,10 +100,10 @@ tape_goes (x ∷ (y ∷ rows)) (suc i) few = tape_goes (y ∷ rows) i (omega (ar
 
 -- ---- all of it
 
-pub place_goes : (constants : List ℕ) (k : Claim) (rows : List (List ℕ)) (i : ℕ) → ShowsRows k rows → IsPlace constants rows i
-    → GoesOnBy (op_in rows i) (row_at rows i) (row_at rows (suc i)) (elsewhere_at rows i) (elsewhere_at rows (suc i))
+pub place_goes : (constants deep : List ℕ) (k : Claim) (rows : List (List ℕ)) (i : ℕ) → ShowsRows k rows → IsPlace constants deep rows i
+    → GoesOnBy (op_in rows i) (row_at rows i) (row_at rows (suc i)) (elsewhere_at deep rows i) (elsewhere_at deep rows (suc i))
 unfolding overflow_at memory_at
-place_goes constants k rows i shows p =
+place_goes constants deep k rows i shows p =
     let x : List ℕ = row_at rows i in
     let y : List ℕ = row_at rows (suc i) in
     let o = ordinary (op_of x) p.ordinary in
@@ -111,19 +111,19 @@ place_goes constants k rows i shows p =
     let last : is_left (op_of x) ≡ true → depth x ≡ 16 → s y 15 ≡ 0 =
     (subst (λ (m : Op). ShiftsCells m x y) (mover_is (op_of x) x o) pair.stack.shifts).last in
     record {
-      below = below_from (op_of x) x y (overflow_at rows i).below (overflow_behind x (overflow_at rows i)).below p.here.depth_is
-          (overflow_goes x y (overflow_at rows i) o p.here.depth_is p.finds last);
+      below = below_from (op_of x) x y (overflow_at deep rows i).below (overflow_behind x (overflow_at deep rows i)).below p.here.depth_is
+          (overflow_goes x y (overflow_at deep rows i) o p.here.depth_is p.finds last);
       memory = refl;
       tape = tape_goes rows i p.within;
     }
 
-pub place_shows : (constants : List ℕ) (k : Claim) (rows : List (List ℕ)) (i : ℕ) → length constants ≡ number_of_constants → ShowsRows k rows
-    → IsPlace constants rows i
-    → ShowsStep constants (op_in rows i) (row_at rows i) (row_at rows (suc i)) (elsewhere_at rows i) (elsewhere_at rows (suc i))
-place_shows constants k rows i count shows p =
-    rows_show constants (op_in rows i) (op_in rows (suc i)) (row_at rows i) (row_at rows (suc i)) (elsewhere_at rows i) (elsewhere_at rows (suc i))
-    count p.ordinary
-    p.here (shows.row_is i (below_next i (length rows) p.within)) (shows.pair_is i p.within) (place_goes constants k rows i shows p) p.looks
+pub place_shows : (constants deep : List ℕ) (k : Claim) (rows : List (List ℕ)) (i : ℕ) → length constants ≡ number_of_constants
+    → ShowsRows k rows → IsPlace constants deep rows i
+    → ShowsStep constants (op_in rows i) (row_at rows i) (row_at rows (suc i)) (elsewhere_at deep rows i) (elsewhere_at deep rows (suc i))
+place_shows constants deep k rows i count shows p =
+    rows_show constants (op_in rows i) (op_in rows (suc i)) (row_at rows i) (row_at rows (suc i)) (elsewhere_at deep rows i)
+    (elsewhere_at deep rows (suc i)) count p.ordinary p.here
+    (shows.row_is i (below_next i (length rows) p.within)) (shows.pair_is i p.within) (place_goes constants deep k rows i shows p) p.looks
   where
     below_next : (n m : ℕ) → suc n < m → n < m
     below_next n m h = omega (arith, h)

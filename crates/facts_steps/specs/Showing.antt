@@ -18,12 +18,12 @@ pub record ShowsStep (constants : List ℕ) (op : Op) (x y : List ℕ) (e f : El
   pub depth_is : depth y ≡ 16 + length f.below
   pub words : (context place : ℕ) → IsWord (word_at f.memory context place)
 
--- The row at a place of a main table, with what the rows before it and behind it say that it does not show. Where it takes the first
--- cell below the sixteenth, the row behind it has this cell.
-pub record IsPlace (constants : List ℕ) (rows : List (List ℕ)) (i : ℕ) : Type 0 where
+-- The row at a place of a main table whose first row has these cells below the sixteenth, with what the rows before it and behind it
+-- say that it does not show. Where it takes the first cell below the sixteenth, the row behind it has this cell.
+pub record IsPlace (constants deep : List ℕ) (rows : List (List ℕ)) (i : ℕ) : Type 0 where
   pub within : suc i < length rows
   pub ordinary : is_ordinary_op (op_in rows i) ≡ true
-  pub here : IsRowOf (row_at rows i) (elsewhere_at rows i)
+  pub here : IsRowOf (row_at rows i) (elsewhere_at deep rows i)
   pub finds : is_left (op_in rows i) ≡ true → depth (row_at rows i) ≢ 16
-      → s (row_at rows (suc i)) 15 ≡ slice_index (elsewhere_at rows i).below 0
-  pub looks : Lookups constants (op_in rows i) (row_at rows i) (row_at rows (suc i)) (elsewhere_at rows i)
+      → s (row_at rows (suc i)) 15 ≡ slice_index (elsewhere_at deep rows i).below 0
+  pub looks : Lookups constants (op_in rows i) (row_at rows i) (row_at rows (suc i)) (elsewhere_at deep rows i)

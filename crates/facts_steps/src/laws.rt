@@ -19,14 +19,16 @@ ghost use Rattle.facts_steps.specs.Showing.{IsPlace, ShowsStep};
 
 /// The law of rows: a row of an ordinary operation and the row behind it, whose facts hold and to which the buses grant what they ask,
 /// show one step of the machine. It leads from the state of the row to that of the row behind it, each with what no row shows: the
-/// cells below the sixteenth, memory and the tape. So do two rows of a main table, of which the other rows say what they do not show.
+/// cells below the sixteenth, memory and the tape. So do two rows of a main table, of which the other rows say what they do not
+/// show, whatever cells are below the sixteenth in the first one.
 pub fn step_laws()
     ensures shows { (constants : List ℕ) (op next : Op) (x y : List ℕ) (e f : Elsewhere) → length constants ≡ number_of_constants
         → is_ordinary_op op ≡ true → IsRowOf x e → ShowsRow op x → ShowsPair op next x y → GoesOnBy op x y e f
         → Lookups constants op x y e → ShowsStep constants op x y e f }
-    ensures at_place { (constants : List ℕ) (k : Claim) (rows : List (List ℕ)) (i : ℕ) → length constants ≡ number_of_constants
-        → ShowsRows k rows → IsPlace constants rows i
-        → ShowsStep constants (op_in rows i) (row_at rows i) (row_at rows (suc i)) (elsewhere_at rows i) (elsewhere_at rows (suc i)) }
+    ensures at_place { (constants deep : List ℕ) (k : Claim) (rows : List (List ℕ)) (i : ℕ) → length constants ≡ number_of_constants
+        → ShowsRows k rows → IsPlace constants deep rows i
+        → ShowsStep constants (op_in rows i) (row_at rows i) (row_at rows (suc i)) (elsewhere_at deep rows i)
+        (elsewhere_at deep rows (suc i)) }
 {}
 
 /// The law of numbers: where the limbs of a row have 16 bits, its operands have 32 bits, and the two words of a sum or of a product are

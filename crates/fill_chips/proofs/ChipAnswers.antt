@@ -23,7 +23,7 @@ use Rattle.air_kit.specs.Acceptance.{over_chips}
 use Rattle.air_kit.specs.ChipTuples.{chip_given}
 use Rattle.air_kit.specs.Places.{Claim, at_number}
 use Rattle.air_kit.specs.Requests.{Fits, answers_on}
-use Rattle.air_kit.specs.Traces.{HasCounts, most_rows, rows_of, value_at}
+use Rattle.air_kit.specs.Traces.{HasCounts, rows_of, value_at}
 use Rattle.facts_hasher.specs.HashTables.{PermsFit, HasherIsZero}
 use Rattle.facts_hasher.proofs.GivenLemmas.{rows_give}
 use Rattle.facts_hasher.proofs.RowsAreZero.{rows_of-size}
@@ -66,26 +66,26 @@ none_at (suc n) = refl
 
 -- ---- buses
 
-sum_of_none : (a b c d e f : ℕ) → a ≡ 0 → b ≡ 0 → c ≡ 0 → d ≡ 0 → e ≡ 0 → f ≡ 0 → a + b + c + d + e + f ≡ 0
+sum_of_none : (a b c d e f : ℕ) → a ≡ 0 → b ≡ 0 → c ≡ 0 → d ≡ 0 → e ≡ 0 → f ≡ 0 → a + (b + (c + (d + (e + (f + 0))))) ≡ 0
 sum_of_none a b c d e f za zb zc zd ze zf = omega (arith, za, zb, zc, zd, ze, zf)
 
 all_quiet : (r h b m k l : List (List ℕ)) (u : List ℕ)
-    → over_rows (λ i x next. []) r u + over_rows (λ i x next. []) h u + over_rows (λ i x next. []) b u + over_rows (λ i x next. []) m u
-    + over_rows (λ i x next. []) k u + over_rows (λ i x next. []) l u ≡ counted [] u
+    → over_rows (λ i x next. []) r u + (over_rows (λ i x next. []) h u + (over_rows (λ i x next. []) b u
+    + (over_rows (λ i x next. []) m u + (over_rows (λ i x next. []) k u + (over_rows (λ i x next. []) l u + 0))))) ≡ counted [] u
 all_quiet r h b m k l u =
     sum_of_none _ _ _ _ _ _ (over-quiet r u) (over-quiet h u) (over-quiet b u) (over-quiet m u) (over-quiet k u) (over-quiet l u)
     ∙ sym (counted-none u)
 
-second_alone : (a b c d e f n : ℕ) → a ≡ 0 → b ≡ n → c ≡ 0 → d ≡ 0 → e ≡ 0 → f ≡ 0 → a + b + c + d + e + f ≡ n
+second_alone : (a b c d e f n : ℕ) → a ≡ 0 → b ≡ n → c ≡ 0 → d ≡ 0 → e ≡ 0 → f ≡ 0 → a + (b + (c + (d + (e + (f + 0))))) ≡ n
 second_alone a b c d e f n za is zc zd ze zf = omega (arith, za, is, zc, zd, ze, zf)
 
-third_alone : (a b c d e f n : ℕ) → a ≡ 0 → b ≡ 0 → c ≡ n → d ≡ 0 → e ≡ 0 → f ≡ 0 → a + b + c + d + e + f ≡ n
+third_alone : (a b c d e f n : ℕ) → a ≡ 0 → b ≡ 0 → c ≡ n → d ≡ 0 → e ≡ 0 → f ≡ 0 → a + (b + (c + (d + (e + (f + 0))))) ≡ n
 third_alone a b c d e f n za zb is zd ze zf = omega (arith, za, zb, is, zd, ze, zf)
 
-fourth_alone : (a b c d e f n : ℕ) → a ≡ 0 → b ≡ 0 → c ≡ 0 → d ≡ n → e ≡ 0 → f ≡ 0 → a + b + c + d + e + f ≡ n
+fourth_alone : (a b c d e f n : ℕ) → a ≡ 0 → b ≡ 0 → c ≡ 0 → d ≡ n → e ≡ 0 → f ≡ 0 → a + (b + (c + (d + (e + (f + 0))))) ≡ n
 fourth_alone a b c d e f n za zb zc is ze zf = omega (arith, za, zb, zc, is, ze, zf)
 
-fifth_alone : (a b c d e f n : ℕ) → a ≡ 0 → b ≡ 0 → c ≡ 0 → d ≡ 0 → e ≡ n → f ≡ 0 → a + b + c + d + e + f ≡ n
+fifth_alone : (a b c d e f n : ℕ) → a ≡ 0 → b ≡ 0 → c ≡ 0 → d ≡ 0 → e ≡ n → f ≡ 0 → a + (b + (c + (d + (e + (f + 0))))) ≡ n
 fifth_alone a b c d e f n za zb zc zd is zf = omega (arith, za, zb, zc, zd, is, zf)
 
 keys_again : (keys : List ℕ) → map key (map (λ (k : ℕ). k ∷ []) keys) ≡ keys
@@ -98,22 +98,30 @@ module _ (constants : List ℕ) (kernel : List (List ℕ)) (r : Requests) (memor
   trace = beside main (filled constants kernel r memory)
 
   counts_are : Fits constants kernel r → 1 ≤ length main → length main ≤ 2 ^ 19 → HasCounts trace
-  counts_are fits some most = record {
-    most = most_in;
-    main = some;
-    range = range-some (r.ranges ++ limbs_in memory);
-    hasher = let size = rows_of-size constants r.perms in omega (arith, size);
-    bitwise = bits.zero.whole;
-  }
-    where
-      most_in : (name : TableName) → length (rows_of trace name) ≤ most_rows name
-      most_in table.Main = most
-      most_in table.Range = let few = range-few (r.ranges ++ limbs_in memory) in omega (arith, few)
-      most_in table.Hasher = let size = rows_of-size constants r.perms in let room = fits.room.perms in omega (arith, size, room)
-      most_in table.Bitwise = let size = bits.size in let room = fits.room.bits in omega (arith, size, room)
-      most_in table.Memory = let size = shown.size in let room = fits.room.accesses in omega (arith, size, room)
-      most_in table.Kernel = let size = kernel-size (times_called r.calls) kernel in let room = fits.room.words in omega (arith, size, room)
-      most_in table.Left = let size = length-map r.keys (λ (k : ℕ). k ∷ []) in let room = fits.room.keys in omega (arith, size, room)
+  counts_are fits some most table.Main = record { least = some; most = most; whole = omega arith }
+  counts_are fits some most table.Range =
+      let few = range-few (r.ranges ++ limbs_in memory) in
+      record { least = range-some (r.ranges ++ limbs_in memory); most = omega (arith, few); whole = omega arith }
+  counts_are fits some most table.Hasher =
+      let size = rows_of-size constants r.perms in
+      let room = fits.room.perms in
+      record { least = omega arith; most = omega (arith, size, room); whole = omega (arith, size) }
+  counts_are fits some most table.Bitwise =
+      let size = bits.size in
+      let room = fits.room.bits in
+      record { least = omega arith; most = omega (arith, size, room); whole = bits.zero.whole }
+  counts_are fits some most table.Memory =
+      let size = shown.size in
+      let room = fits.room.accesses in
+      record { least = omega arith; most = omega (arith, size, room); whole = omega arith }
+  counts_are fits some most table.Kernel =
+      let size = kernel-size (times_called r.calls) kernel in
+      let room = fits.room.words in
+      record { least = omega arith; most = omega (arith, size, room); whole = omega arith }
+  counts_are fits some most table.Left =
+      let size = length-map r.keys (λ (k : ℕ). k ∷ []) in
+      let room = fits.room.keys in
+      record { least = omega arith; most = omega (arith, size, room); whole = omega arith }
 
   zeros : length constants ≡ number_of_constants → PermsFit constants r.perms → All IsWord kernel → (c : Claim) (name : TableName) (row number : ℕ)
       → c.constants ≡ constants

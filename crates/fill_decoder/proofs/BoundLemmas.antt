@@ -171,8 +171,8 @@ small_next d e later count b =
 
 -- ---- along events
 
-pub small_start : (events : List Event) → length events ≤ most_cycles → IsSmall at_start 0 events
-small_start events few = record {
+pub small_start : (deep : ℕ) (events : List Event) → length events ≤ most_cycles → IsSmall (at_start deep) 0 events
+small_start deep events few = record {
   next = omega arith;
   ha = omega arith;
   blocks = All-nil (λ b. b.address < prime);

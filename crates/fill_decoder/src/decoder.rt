@@ -49,9 +49,10 @@ pub struct Decoder {
 }
 
 impl Decoder {
-    /// Before the first cycle.
+    /// Before the first cycle, when no cell below the sixteenth has a key, however many there are.
+    #[tactic(auto, unfolding(complete_rows::specs::Decoder::keys_at_start))]
     pub fn new(alloc: Global) -> Decoder
-        ensures { decoder_in result ≡ at_start }
+        ensures { (deep : ℕ) → decoder_in result ≡ at_start deep }
     {
         Decoder {
             alloc,

@@ -1,14 +1,16 @@
 -- The tables of a trace have their columns, and the file of a trace is no longer than a table file may be.
-use Rattle.std.proofs.Common.{◌≡◌, ℕ, suc, ◌+◌, ◌*◌, ◌^◌, ◌≤◌, List, [], ◌∷◌, ◌++◌, length, ◌∙◌, ap, refl, arith}
+use Rattle.std.proofs.Common.{◌≡◌, ℕ, suc, ◌+◌, ◌*◌, ◌≤◌, List, [], ◌∷◌, ◌++◌, length, ◌∙◌, ap, ap₂, refl, arith}
 use Rattle.std.proofs.lemmas.List.{length-append}
 use Rattle.byteorder.specs.Endian.{little_bytes}
 use Rattle.byteorder.specs.Numbers.{length-bytes_low_first}
 use Rattle.vm_table.specs.Layout.{IsTable}
-use Rattle.air_kit.specs.Traces.{HasCounts}
+use Rattle.air_kit.specs.Tables.{columns, every_table, sum_over}
+use Rattle.air_kit.specs.Traces.{HasCounts, lengths_of, rows_of}
+use Rattle.air_kit.specs.declared.trace.TableName.{TableName}
 use Rattle.air_kit.specs.declared.trace.TableName.TheVariants as table
 use Rattle.air_kit.specs.declared.trace.Trace.{Trace}
 use Rattle.table_file.specs.Fields.{parts_bytes, row_bytes, table_bytes}
-use Rattle.table_file.specs.Files.{AreTables, bytes_of, counts_in, head_bytes}
+use Rattle.table_file.specs.Files.{AreTables, bytes_of, head_bytes}
 use Rattle.fill_files.specs.Inside.{IsShort}
 use Rattle.fill_files.specs.RunFiles.{most_table_bytes}
 
@@ -50,59 +52,30 @@ table_size width (row ∷ rows) shape =
     sized : (all first others width n : ℕ) → all ≡ first + others → first ≡ 8 * width → others ≡ 8 * width * n → all ≡ 8 * width * suc n
     sized all first others width n is one more = grind (arith, is, one, more)
 
-head_size : (main range hasher bitwise memory kernel left : ℕ)
-    → length (head_bytes (record
-    { main = main; range = range; hasher = hasher; bitwise = bitwise; memory = memory; kernel = kernel; left = left })) ≡ 36
-unfolding head_bytes
-head_size main range hasher bitwise memory kernel left = refl
+-- the bytes of tables, together
+sizes : (t : Trace) → AreTables t → (names : List TableName)
+    → length (parts_bytes (λ name. table_bytes (rows_of t name)) names) ≡ sum_over names (λ name. 8 * columns name * length (rows_of t name))
+unfolding parts_bytes
+sizes t shapes [] = refl
+sizes t shapes (name ∷ names) =
+    length-append (table_bytes (rows_of t name)) (parts_bytes (λ other. table_bytes (rows_of t other)) names)
+    ∙ ap₂ (λ (m n : ℕ). m + n) (table_size (columns name) (rows_of t name) (shapes name)) (sizes t shapes names)
 
--- the range table, and what stands behind it
-small_sum : (t : Trace) → AreTables t → length t.main ≤ 2 ^ 19 → length t.range ≤ 2 ^ 17
-    → length (table_bytes t.hasher ++ (table_bytes t.bitwise ++ (table_bytes t.memory ++ (table_bytes t.kernel ++ table_bytes t.left))))
-    ≤ 120 * 2 ^ 22 + 40 * 255 + 8 * 2 ^ 19
-    → length (bytes_of t) ≤ most_table_bytes
+head_size : (t : Trace) → length (head_bytes (lengths_of t)) ≡ 36
+unfolding head_bytes parts_bytes
+head_size t = refl
+
+pub short_file : (t : Trace) → HasCounts t → AreTables t → IsShort t → length (bytes_of t) ≤ most_table_bytes
 unfolding bytes_of
-small_sum t shapes main range behind =
-    let head = head_size (length t.main) (length t.range) (length t.hasher) (length t.bitwise) (length t.memory) (length t.kernel) (length t.left) in
-    omega (
-      arith,
-      head,
-      main,
-      range,
-      behind,
-      table_size 65 t.main (shapes table.Main),
-      table_size 2 t.range (shapes table.Range),
-      length-append (head_bytes (counts_in t)) (table_bytes t.main
-          ++ (table_bytes t.range
-          ++ (table_bytes t.hasher ++ (table_bytes t.bitwise ++ (table_bytes t.memory ++ (table_bytes t.kernel ++ table_bytes t.left)))))),
-      length-append (table_bytes t.main) (table_bytes t.range
-          ++ (table_bytes t.hasher ++ (table_bytes t.bitwise ++ (table_bytes t.memory ++ (table_bytes t.kernel ++ table_bytes t.left))))),
-      length-append (table_bytes t.range) (table_bytes t.hasher
-          ++ (table_bytes t.bitwise ++ (table_bytes t.memory ++ (table_bytes t.kernel ++ table_bytes t.left)))),
-    )
-
--- the tables of the hasher, of bitwise operations and of memory, which are short together, and those behind them
-short_sum : (t : Trace) → AreTables t → IsShort t → length t.kernel ≤ 255 → length t.left ≤ 2 ^ 19
-    → length (table_bytes t.hasher ++ (table_bytes t.bitwise ++ (table_bytes t.memory ++ (table_bytes t.kernel ++ table_bytes t.left))))
-    ≤ 120 * 2 ^ 22 + 40 * 255 + 8 * 2 ^ 19
-short_sum t shapes short kernel left =
+short_file t counts shapes short =
     omega (
       arith,
       short,
-      kernel,
-      left,
-      table_size 15 t.hasher (shapes table.Hasher),
-      table_size 12 t.bitwise (shapes table.Bitwise),
-      table_size 14 t.memory (shapes table.Memory),
-      table_size 5 t.kernel (shapes table.Kernel),
-      table_size 1 t.left (shapes table.Left),
-      length-append (table_bytes t.hasher) (table_bytes t.bitwise ++ (table_bytes t.memory ++ (table_bytes t.kernel ++ table_bytes t.left))),
-      length-append (table_bytes t.bitwise) (table_bytes t.memory ++ (table_bytes t.kernel ++ table_bytes t.left)),
-      length-append (table_bytes t.memory) (table_bytes t.kernel ++ table_bytes t.left),
-      length-append (table_bytes t.kernel) (table_bytes t.left),
+      head_size t,
+      sizes t shapes every_table,
+      (counts table.Main).most,
+      (counts table.Range).most,
+      (counts table.Kernel).most,
+      (counts table.Left).most,
+      length-append (head_bytes (lengths_of t)) (parts_bytes (λ name. table_bytes (rows_of t name)) every_table),
     )
-
-pub short_file : (t : Trace) → HasCounts t → AreTables t → IsShort t → length (bytes_of t) ≤ most_table_bytes
-short_file t counts shapes short =
-    small_sum t shapes (counts.most table.Main) (counts.most table.Range)
-    (short_sum t shapes short (counts.most table.Kernel) (counts.most table.Left))

@@ -5,7 +5,7 @@ use Rattle.std.proofs.lemmas.List.Elements.{All-cons, All-drop, All-head, All-ni
 use Rattle.machine_cycles.specs.declared.event.Event.{Event}
 use Rattle.machine_cycles.specs.declared.event.Visible.{Visible}
 use Rattle.complete_rows.specs.Decoder.{Decoder, advance, at_start, decoder_after}
-use Rattle.complete_rows.specs.Filling.{fill, halted, row_of, rows_of_run, seen_behind}
+use Rattle.complete_rows.specs.Filling.{deep_before, fill, halted, row_of, rows_of_run, seen_behind}
 use Rattle.vm_ops.specs.Codes.{kind_of}
 use Rattle.vm_ops.specs.declared.kind.Kind.TheVariants as kinds
 use Rattle.vm_ops.specs.declared.kind.Kind.{Kind}
@@ -22,7 +22,7 @@ fill-last : (last : Visible) (d : Decoder) → fill last d [] ≡ row_of d (halt
 unfolding fill
 fill-last last d = refl
 
-pub whole : (last : Visible) (events : List Event) → rows_of_run last events ≡ fill last at_start events
+pub whole : (last : Visible) (events : List Event) → rows_of_run last events ≡ fill last (at_start (deep_before last events)) events
 unfolding rows_of_run
 whole last events = refl
 

@@ -7,6 +7,7 @@ use Rattle.vm_ops.specs.declared.op.Op.TheVariants as ops
 use Rattle.vm_ops.proofs.CodeLemmas.{code_of-different}
 use Rattle.air_kit.specs.Flags.{is_op}
 use Rattle.air_kit.specs.MainTuples.{is_call_op}
+use Rattle.air_kit.specs.Places.{Claim}
 use Rattle.air_kit.specs.RowStates.{row_returns}
 use Rattle.vm_table.specs.Layout.{row_at}
 use Rattle.facts_main.specs.MainRows.{op_in}
@@ -16,22 +17,23 @@ use Rattle.sound_blocks.specs.Lists.{below_at}
 use Rattle.sound_blocks.proofs.RowKinds.{call_flags}
 
 -- the cells of the starts of the calls among these blocks
-unfoldable pub asides : List (List ℕ) → List ℕ → List (List ℕ)
-asides rows [] = []
-asides rows (j ∷ js) = if is_call_op (op_in rows j) then below_at rows j ∷ asides rows js else asides rows js
+unfoldable pub asides : Claim → List (List ℕ) → List ℕ → List (List ℕ)
+asides k rows [] = []
+asides k rows (j ∷ js) = if is_call_op (op_in rows j) then below_at k rows j ∷ asides k rows js else asides k rows js
 
-pub asides-call : (rows : List (List ℕ)) (j : ℕ) (js : List ℕ) → is_call_op (op_in rows j) ≡ true
-    → asides rows (j ∷ js) ≡ below_at rows j ∷ asides rows js
+pub asides-call : (k : Claim) (rows : List (List ℕ)) (j : ℕ) (js : List ℕ) → is_call_op (op_in rows j) ≡ true
+    → asides k rows (j ∷ js) ≡ below_at k rows j ∷ asides k rows js
 unfolding asides
-asides-call rows j js is = cond-true (is_call_op (op_in rows j)) _ _ is
+asides-call k rows j js is = cond-true (is_call_op (op_in rows j)) _ _ is
 
-pub asides-other : (rows : List (List ℕ)) (j : ℕ) (js : List ℕ) → is_call_op (op_in rows j) ≡ false → asides rows (j ∷ js) ≡ asides rows js
+pub asides-other : (k : Claim) (rows : List (List ℕ)) (j : ℕ) (js : List ℕ) → is_call_op (op_in rows j) ≡ false
+    → asides k rows (j ∷ js) ≡ asides k rows js
 unfolding asides
-asides-other rows j js other = cond-false (is_call_op (op_in rows j)) _ _ other
+asides-other k rows j js other = cond-false (is_call_op (op_in rows j)) _ _ other
 
-pub asides-none : (rows : List (List ℕ)) → asides rows [] ≡ []
+pub asides-none : (k : Claim) (rows : List (List ℕ)) → asides k rows [] ≡ []
 unfolding asides
-asides-none rows = refl
+asides-none k rows = refl
 
 -- ---- the blocks that are open behind a row
 
@@ -62,16 +64,16 @@ block_of rows frames e within is =
     frames.ends e (record { within = within; is = code_of-different (op_in rows e) ops.End (eqb-true (code_of (op_in rows e)) (code_of ops.End) is) })
 
 -- a row that does not call and does not return leaves them
-pub asides_same : (rows : List (List ℕ)) → FrameFacts rows → (i : ℕ) → suc i < length rows → is_call_op (op_in rows i) ≡ false
-    → row_returns (row_at rows i) ≡ false → asides rows (open_at rows (suc i)) ≡ asides rows (open_at rows i)
-asides_same rows frames i within nc nt = elim (cases_Bool (is_start_op (op_in rows i))) [
-  | inl is ↦ ap (asides rows) (open_start rows i is) ∙ asides-other rows i (open_at rows i) nc
+pub asides_same : (k : Claim) (rows : List (List ℕ)) → FrameFacts rows → (i : ℕ) → suc i < length rows → is_call_op (op_in rows i) ≡ false
+    → row_returns (row_at rows i) ≡ false → asides k rows (open_at rows (suc i)) ≡ asides k rows (open_at rows i)
+asides_same k rows frames i within nc nt = elim (cases_Bool (is_start_op (op_in rows i))) [
+  | inl is ↦ ap (asides k rows) (open_start rows i is) ∙ asides-other k rows i (open_at rows i) nc
   | inr other ↦ elim (cases_Bool (is_op (op_in rows i) ops.End)) [
     | inl is ↦
         let b = block_of rows frames i within is in
         let top : open_at rows i ≡ b.0 ∷ open_at rows b.0 = b.1.newest in
-        ap (asides rows) (open_end rows i other is ∙ ap (λ js. drop 1 js) top)
-        ∙ sym (ap (asides rows) top ∙ asides-other rows b.0 (open_at rows b.0) (sym (returns_is rows b.0 i b.1.closes) ∙ nt))
-    | inr apart ↦ ap (asides rows) (open_same rows i other apart)
+        ap (asides k rows) (open_end rows i other is ∙ ap (λ js. drop 1 js) top)
+        ∙ sym (ap (asides k rows) top ∙ asides-other k rows b.0 (open_at rows b.0) (sym (returns_is rows b.0 i b.1.closes) ∙ nt))
+    | inr apart ↦ ap (asides k rows) (open_same rows i other apart)
   ]
 ]

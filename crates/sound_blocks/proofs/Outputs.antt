@@ -7,6 +7,7 @@ use Rattle.vm_table.specs.MainColumns.{s}
 use Rattle.chip_columns.specs.LeftColumns as left
 use Rattle.air_kit.specs.ChipTuples.{next_key}
 use Rattle.air_kit.specs.Flags.{is_right}
+use Rattle.air_kit.specs.Places.{Claim}
 use Rattle.air_kit.specs.StackValues.{cells}
 use Rattle.facts_main.specs.MainRows.{op_in}
 use Rattle.sound_buses.specs.Overflow.{OverflowFacts}
@@ -18,20 +19,20 @@ abbrev key_left : List (List ℕ) → ℕ → ℕ
 key_left left_rows q = left.key (slice_index_or left_rows q [])
 
 -- what is left, and the first key of it
-pub record Leaves (rows left_rows : List (List ℕ)) (outputs below : List ℕ) : Type 0 where
+pub record Leaves (k : Claim) (rows left_rows : List (List ℕ)) (below : List ℕ) : Type 0 where
   pub goes : is_right (op_in rows 0) ≡ false
-  pub overflow : OverflowFacts rows left_rows outputs
-  pub chain : 0 < length left_rows → Chain rows (key_left left_rows 0) below
+  pub overflow : OverflowFacts rows left_rows k.outputs
+  pub chain : 0 < length left_rows → Chain k rows (key_left left_rows 0) below
   pub size : length below ≡ length left_rows
 
 next_key_is : (left_rows : List (List ℕ)) (q : ℕ) → q < length left_rows → next_key (slice_get left_rows q) ≡ key_left left_rows q
 next_key_is left_rows q h = ap next_key (slice_get-get_or left_rows q [] h)
 
-front_left : {rows left_rows : List (List ℕ)} {outputs below : List ℕ} → Leaves rows left_rows outputs below → (q : ℕ) → q < length left_rows
-    → Chain rows (key_left left_rows q) (drop q below)
-    → Front rows (key_left left_rows q) (slice_index outputs (16 + q)) (next_key (slice_get left_rows (suc q))) (drop q below)
-front_left {rows = rows} {left_rows = left_rows} {outputs = outputs} {below = below} l q h chain =
-    front_of rows l.goes (key_left left_rows q) (drop q below) chain (slice_index outputs (16 + q)) (next_key (slice_get left_rows (suc q)))
+front_left : {k : Claim} {rows left_rows : List (List ℕ)} {below : List ℕ} → Leaves k rows left_rows below → (q : ℕ) → q < length left_rows
+    → Chain k rows (key_left left_rows q) (drop q below)
+    → Front k rows (key_left left_rows q) (slice_index k.outputs (16 + q)) (next_key (slice_get left_rows (suc q))) (drop q below)
+front_left {k = k} {rows = rows} {left_rows = left_rows} {below = below} l q h chain =
+    front_of k rows l.goes (key_left left_rows q) (drop q below) chain (slice_index k.outputs (16 + q)) (next_key (slice_get left_rows (suc q)))
     (l.overflow.stays q h)
 
 one_on : (xs : List ℕ) (q cell : ℕ) (later : List ℕ) → q < length xs → drop q xs ≡ cell ∷ later → later ≡ drop (suc q) xs
@@ -40,21 +41,21 @@ one_on xs q cell later h e = let f = drop-cons xs q 0 h in cc
 before : (q l : ℕ) → suc q < l → q < l
 before q l h = omega (arith, h)
 
-pub walk : {rows left_rows : List (List ℕ)} {outputs below : List ℕ} → Leaves rows left_rows outputs below → (q : ℕ) → q < length left_rows
-    → Chain rows (key_left left_rows q) (drop q below)
+pub walk : {k : Claim} {rows left_rows : List (List ℕ)} {below : List ℕ} → Leaves k rows left_rows below → (q : ℕ) → q < length left_rows
+    → Chain k rows (key_left left_rows q) (drop q below)
 walk l zero h = l.chain h
-walk {rows = rows} {left_rows = left_rows} {below = below} l (suc q) h =
+walk {k = k} {rows = rows} {left_rows = left_rows} {below = below} l (suc q) h =
     let f = front_left l q (before q (length left_rows) h) (walk l q (before q (length left_rows) h)) in
     let size = l.size in
-    subst (λ (n : ℕ). Chain rows n (drop (suc q) below)) (next_key_is left_rows (suc q) h)
-    (subst (λ (xs : List ℕ). Chain rows (next_key (slice_get left_rows (suc q))) xs)
+    subst (λ (n : ℕ). Chain k rows n (drop (suc q) below)) (next_key_is left_rows (suc q) h)
+    (subst (λ (xs : List ℕ). Chain k rows (next_key (slice_get left_rows (suc q))) xs)
     (one_on below q _ f.later (let few : q < length below = omega (arith, size, h) in few) f.is) f.chain)
 
 same_place : (q : ℕ) → q + 0 ≡ q
 same_place q = omega arith
 
-cell_left : {rows left_rows : List (List ℕ)} {outputs below : List ℕ} → Leaves rows left_rows outputs below → (q : ℕ) → q < length left_rows
-    → get_or below q 0 ≡ slice_index outputs (16 + q)
+cell_left : {k : Claim} {rows left_rows : List (List ℕ)} {below : List ℕ} → Leaves k rows left_rows below → (q : ℕ) → q < length left_rows
+    → get_or below q 0 ≡ slice_index k.outputs (16 + q)
 cell_left {below = below} l q h =
     let f = front_left l q h (walk l q h) in
     ap (λ n. get_or below n 0) (sym (same_place q)) ∙ sym (get_or-drop q below 0 0) ∙ ap (λ (xs : List ℕ). get_or xs 0 0) f.is
@@ -94,11 +95,11 @@ each_is x below outputs top rest (suc (suc (suc (suc (suc (suc (suc (suc (suc (s
 each_is x below outputs top rest (suc (suc (suc (suc (suc (suc (suc (suc (suc (suc (suc (suc (suc (suc (suc (suc k)))))))))))))))) h =
     rest k (place_below k (length below) h) ∙ ap (slice_index outputs) (sixteen k)
 
-pub stack_is : {rows left_rows : List (List ℕ)} {outputs below : List ℕ} → Leaves rows left_rows outputs below → (x : List ℕ)
-    → ((j : ℕ) → j < 16 → s x j ≡ slice_index outputs j) → length left_rows + 16 ≡ length outputs → cells x ++ below ≡ outputs
-stack_is {left_rows = left_rows} {outputs = outputs} {below = below} l x top count =
-    ext_get_or 0 (cells x ++ below) outputs (all_size x below ∙ whole (length below) (length left_rows) (length outputs) l.size count)
-    (λ i h. each_is x below outputs top (λ q few. cell_left l q (subst (λ (n : ℕ). q < n) l.size few)) i
+pub stack_is : {k : Claim} {rows left_rows : List (List ℕ)} {below : List ℕ} → Leaves k rows left_rows below → (x : List ℕ)
+    → ((j : ℕ) → j < 16 → s x j ≡ slice_index k.outputs j) → length left_rows + 16 ≡ length k.outputs → cells x ++ below ≡ k.outputs
+stack_is {k = k} {left_rows = left_rows} {below = below} l x top count =
+    ext_get_or 0 (cells x ++ below) k.outputs (all_size x below ∙ whole (length below) (length left_rows) (length k.outputs) l.size count)
+    (λ i h. each_is x below k.outputs top (λ q few. cell_left l q (subst (λ (n : ℕ). q < n) l.size few)) i
     (subst (λ (n : ℕ). i < n) (all_size x below) h))
   where
     whole : (n m o : ℕ) → n ≡ m → m + 16 ≡ o → 16 + n ≡ o

@@ -1,9 +1,11 @@
 -- The law of the cells below the sixteenth.
-use Rattle.std.proofs.Common.{◌≡◌, ◌≢◌, ℕ, suc, ◌+◌, ◌<◌, ◌≤◌, true, List, [], ◌∷◌, ◌++◌, length, drop, sym, ap, subst, ◌∙◌, arith}
+use Rattle.std.proofs.Common.{◌≡◌, ◌≢◌, ℕ, suc, ◌+◌, ◌<◌, ◌≤◌, true, List, [], ◌∷◌, ◌++◌, length, drop, sym, ap, subst, ◌∙◌, arith, lit≤}
 use Rattle.std.proofs.lemmas.List.{nil_from_length}
 use Rattle.vm_table.specs.MainColumns.{s, depth}
+use Rattle.air_kit.specs.BoundaryValues.{deep_at_start, depth_at_start}
 use Rattle.air_kit.specs.MainTuples.{is_call_op, row_shifts_left}
-use Rattle.air_kit.specs.RowStates.{Overflow, overflow_at}
+use Rattle.air_kit.specs.Places.{Claim}
+use Rattle.air_kit.specs.RowStates.{Overflow}
 use Rattle.air_kit.specs.StackValues.{cells}
 use Rattle.air_kit.specs.Traces.{claim_of}
 use Rattle.air_kit.specs.declared.trace.Public.{Public}
@@ -19,8 +21,8 @@ use Rattle.sound_blocks.specs.Chains.{Chain, GrantedChains}
 use Rattle.sound_blocks.proofs.Chains.{elements_of}
 use Rattle.sound_blocks.proofs.RowKinds.{behind_deeper, left_right_apart}
 use Rattle.sound_blocks.proofs.Asides.{returns_is}
-use Rattle.sound_blocks.proofs.Returns.{next_is, return_back, aside_is}
-use Rattle.sound_blocks.proofs.Holds.{Known, Holds, holds, front_at, first_goes}
+use Rattle.sound_blocks.proofs.Returns.{overflow_in, next_is, return_back, aside_is}
+use Rattle.sound_blocks.proofs.Holds.{Known, Holds, holds, front_at, first_goes, start_depth}
 use Rattle.sound_blocks.proofs.Outputs.{Leaves, stack_is, walk}
 
 before : (i l : ℕ) → suc i < l → i < l
@@ -29,21 +31,21 @@ before i l h = omega (arith, h)
 none_counted : (d n : ℕ) → d ≡ 16 + n → d ≡ 16 → n ≡ 0
 none_counted d n e f = omega (arith, e, f)
 
-deep_at : {rows left_rows : List (List ℕ)} {outputs : List ℕ} → Known rows left_rows outputs → (i : ℕ) → suc i < length rows
-    → row_shifts_left (row_at rows i) ≡ true → depth (row_at rows i) ≢ 16 → below_at rows i ≡ s (row_at rows (suc i)) 15 ∷ below_at rows (suc i)
-deep_at {rows = rows} known i within l a =
+deep_at : {k : Claim} {rows left_rows : List (List ℕ)} → Known k rows left_rows → (i : ℕ) → suc i < length rows
+    → row_shifts_left (row_at rows i) ≡ true → depth (row_at rows i) ≢ 16 → below_at k rows i ≡ s (row_at rows (suc i)) 15 ∷ below_at k rows (suc i)
+deep_at {k = k} {rows = rows} known i within l a =
     let f = front_at known i within (holds known i (before i (length rows) within)) l a in
-    let behind = behind_deeper (row_at rows i) (overflow_at rows i) (left_right_apart (row_at rows i) l) l a in
+    let behind = behind_deeper (row_at rows i) (overflow_in k rows i) (left_right_apart (row_at rows i) l) l a in
     f.is
     ∙ ap (λ (xs : List ℕ). s (row_at rows (suc i)) 15 ∷ xs)
-    (sym (ap (λ (o : Overflow). o.below) (next_is rows i ∙ behind) ∙ ap (λ (xs : List ℕ). drop 1 xs) f.is))
+    (sym (ap (λ (o : Overflow). o.below) (next_is k rows i ∙ behind) ∙ ap (λ (xs : List ℕ). drop 1 xs) f.is))
 
-returns_at : {rows left_rows : List (List ℕ)} {outputs : List ℕ} → Known rows left_rows outputs → (j e : ℕ) → Closes rows j e
-    → is_call_op (op_in rows j) ≡ true → (below_at rows e ≡ []) × (below_at rows (suc e) ≡ below_at rows j)
-returns_at {rows = rows} known j e closes call = (
-  nil_from_length (below_at rows e) (none_counted (depth (row_at rows e)) (length (below_at rows e)) (holds known e within).depth_is flat),
+returns_at : {k : Claim} {rows left_rows : List (List ℕ)} → Known k rows left_rows → (j e : ℕ) → Closes rows j e
+    → is_call_op (op_in rows j) ≡ true → (below_at k rows e ≡ []) × (below_at k rows (suc e) ≡ below_at k rows j)
+returns_at {k = k} {rows = rows} known j e closes call = (
+  nil_from_length (below_at k rows e) (none_counted (depth (row_at rows e)) (length (below_at k rows e)) (holds known e within).depth_is flat),
   ap (λ (o : Overflow). o.below)
-      (return_back rows j e (known.frames.closed j e closes) call (aside_is known.claim rows known.shows known.frames e within)),
+      (return_back k rows j e (known.frames.closed j e closes) call (aside_is k rows known.shows known.frames e within)),
 )
   where
     within : e < length rows
@@ -59,7 +61,7 @@ counted : (d n m o : ℕ) → d ≡ 16 + n → d ≡ o → m + 16 ≡ o → n �
 counted d n m o e f g = omega (arith, e, f, g)
 
 -- what the last row leaves
-module _ (p : Public) (t : Trace) (granted : Granted p t) (known : Known t.main t.left p.statement.outputs) (i : ℕ)
+module _ (p : Public) (t : Trace) (granted : Granted p t) (known : Known (claim_of p t) t.main t.left) (i : ℕ)
     (e : suc i ≡ length t.main) where
   within : i < length t.main
   within = last_below i (length t.main) e
@@ -67,7 +69,7 @@ module _ (p : Public) (t : Trace) (granted : Granted p t) (known : Known t.main 
   some : 0 < length t.main
   some = omega (arith, within)
 
-  here : Holds t.main i
+  here : Holds (claim_of p t) t.main i
   here = holds known i within
 
   last : IsLastRow (claim_of p t) (op_in t.main i) (row_at t.main i)
@@ -76,36 +78,40 @@ module _ (p : Public) (t : Trace) (granted : Granted p t) (known : Known t.main 
   count : length t.left + 16 ≡ length p.statement.outputs
   count = (granted.rows.first some).left
 
-  leaves : Leaves t.main t.left p.statement.outputs (below_at t.main i)
+  leaves : Leaves (claim_of p t) t.main t.left (below_at (claim_of p t) t.main i)
   leaves = record {
     goes = first_goes known some;
     overflow = granted.overflow;
-    chain = λ more. subst (λ (n : ℕ). Chain t.main n (below_at t.main i)) last.key_is here.chain;
-    size = counted (depth (row_at t.main i)) (length (below_at t.main i)) (length t.left) (length p.statement.outputs)
+    chain = λ more. subst (λ (n : ℕ). Chain (claim_of p t) t.main n (below_at (claim_of p t) t.main i)) last.key_is here.chain;
+    size = counted (depth (row_at t.main i)) (length (below_at (claim_of p t) t.main i)) (length t.left) (length p.statement.outputs)
         here.depth_is last.depth_is count;
   }
 
-  stack_at : cells (row_at t.main i) ++ below_at t.main i ≡ p.statement.outputs
+  stack_at : cells (row_at t.main i) ++ below_at (claim_of p t) t.main i ≡ p.statement.outputs
   stack_at = stack_is leaves (row_at t.main i) last.outputs count
 
-few_deep : (d n i : ℕ) → d ≡ 16 + n → n ≤ i → d ≤ 16 + i
-few_deep d n i e few = omega (arith, e, few)
+few_deep : (d n m s i : ℕ) → d ≡ 16 + n → n ≤ m + i → s ≡ 16 + m → d ≤ s + i
+few_deep d n m s i e few start = omega (arith, e, few, start)
 
-known_of : (p : Public) (t : Trace) → Granted p t → FrameFacts t.main → Known t.main t.left p.statement.outputs
+known_of : (p : Public) (t : Trace) → Granted p t → FrameFacts t.main → Known (claim_of p t) t.main t.left
 known_of p t granted frames =
-    record { claim = claim_of p t; shows = granted.rows; few = granted.few; overflow = granted.overflow; frames = frames }
+    record { shows = granted.rows; few = granted.few; shallow = lit≤ tt; overflow = granted.overflow; frames = frames }
 
 pub overflow_law : GrantedOverflow
 overflow_law p t granted frames = record {
   depth_is = λ i h. (holds known i h).depth_is;
-  bounded = λ i h. few_deep (depth (row_at t.main i)) (length (below_at t.main i)) i (holds known i h).depth_is (holds known i h).few;
-  elements = λ i h. elements_of t.main (λ r few. (granted.rows.row_is r few).reads.low 45) _ (below_at t.main i) (holds known i h).chain;
+  bounded = λ i h.
+      few_deep (depth (row_at t.main i)) (length (below_at (claim_of p t) t.main i)) (length (deep_at_start (claim_of p t)))
+      (depth_at_start (claim_of p t)) i (holds known i h).depth_is (holds known i h).few (start_depth (claim_of p t));
+  elements = λ i h.
+      elements_of (claim_of p t) t.main (λ r few. (granted.rows.row_is r few).reads.low 45) _ (below_at (claim_of p t) t.main i)
+      (holds known i h).chain;
   deep = deep_at known;
   returns = returns_at known;
   stack_left = stack_at p t granted known;
 }
   where
-    known : Known t.main t.left p.statement.outputs
+    known : Known (claim_of p t) t.main t.left
     known = known_of p t granted frames
 
 pub chain_law : GrantedChains
@@ -115,5 +121,5 @@ chain_law p t granted frames = record {
   left_keys = λ i e q h. walk (leaves p t granted known i e) q h;
 }
   where
-    known : Known t.main t.left p.statement.outputs
+    known : Known (claim_of p t) t.main t.left
     known = known_of p t granted frames

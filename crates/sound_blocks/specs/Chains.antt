@@ -2,6 +2,8 @@
 use Rattle.std.specs.Prelude.{◌≡◌, ℕ, suc, ◌<◌, List, [], ◌∷◌, drop, length, slice_index_or}
 use Rattle.vm_table.specs.MainColumns.{key}
 use Rattle.chip_columns.specs.LeftColumns as left
+use Rattle.air_kit.specs.Places.{Claim}
+use Rattle.air_kit.specs.Traces.{claim_of}
 use Rattle.air_kit.specs.declared.trace.Public.{Public}
 use Rattle.air_kit.specs.declared.trace.Trace.{Trace}
 use Rattle.vm_table.specs.Layout.{row_at}
@@ -10,20 +12,24 @@ use Rattle.sound_buses.specs.Overflow.{IsPushed}
 use Rattle.sound_blocks.specs.Frames.{FrameFacts}
 use Rattle.sound_blocks.specs.Lists.{below_at}
 
--- The cells under a key: the one that the row of this clock pushed, then those under the key that this row had. Keys fall along a
--- chain, so none stands there twice, and none is 0, under which no cell is.
-pub data Chain (rows : List (List ℕ)) : ℕ → List ℕ → Type 0 where
-  none : Chain rows 0 []
-  some : (at cell below : ℕ) (cells : List ℕ) → IsPushed rows at cell below → below < at → Chain rows below cells
-      → Chain rows at (cell ∷ cells)
+-- by which keys fall along a chain: a key's rank; that of a later entry is greater
+abbrev pub rank_of : Claim → ℕ → ℕ
+rank_of k at = at
+
+-- The cells under a key: the one that the row of this clock pushed, then those under the key that this row had. Ranks fall along a
+-- chain, so no key stands there twice, and none is 0, under which no cell is.
+pub data Chain (k : Claim) (rows : List (List ℕ)) : ℕ → List ℕ → Type 0 where
+  none : Chain k rows 0 []
+  some : (at cell below : ℕ) (cells : List ℕ) → IsPushed rows at cell below → rank_of k below < rank_of k at → Chain k rows below cells
+      → Chain k rows at (cell ∷ cells)
 
 -- The cells below the sixteenth of a row are those under its key. At the end the table of cells left has a key for each of them, under
 -- which it and those below it are.
-pub record OverflowChains (rows left_rows : List (List ℕ)) : Type 0 where
-  pub chain : (i : ℕ) → i < length rows → Chain rows (key (row_at rows i)) (below_at rows i)
-  pub left_size : (i : ℕ) → suc i ≡ length rows → length left_rows ≡ length (below_at rows i)
+pub record OverflowChains (k : Claim) (rows left_rows : List (List ℕ)) : Type 0 where
+  pub chain : (i : ℕ) → i < length rows → Chain k rows (key (row_at rows i)) (below_at k rows i)
+  pub left_size : (i : ℕ) → suc i ≡ length rows → length left_rows ≡ length (below_at k rows i)
   pub left_keys : (i : ℕ) → suc i ≡ length rows → (q : ℕ) → q < length left_rows
-      → Chain rows (left.key (slice_index_or left_rows q [])) (drop q (below_at rows i))
+      → Chain k rows (left.key (slice_index_or left_rows q [])) (drop q (below_at k rows i))
 
 abbrev pub GrantedChains : Type 0
-GrantedChains = (p : Public) (t : Trace) → Granted p t → FrameFacts t.main → OverflowChains t.main t.left
+GrantedChains = (p : Public) (t : Trace) → Granted p t → FrameFacts t.main → OverflowChains (claim_of p t) t.main t.left

@@ -53,9 +53,9 @@ accepted_grants p t len whole accepted = record {
   };
   groups = group_facts t.main (groups_alike p t accepted) k shows (one_asker constants t.main t.hasher gives (hasher_alike p t accepted));
   overflow = overflow_facts k t.main t.left (overflow_alike p t accepted) clock;
-  hashes = hash_facts constants t.main t.hasher gives (hasher_alike p t accepted) (whole.counts.most table.Hasher);
+  hashes = hash_facts constants t.main t.hasher gives (hasher_alike p t accepted) (whole.counts table.Hasher).most;
   bits =
-      bit_facts t.main t.bitwise (record { table = whole.bitwise; whole = whole.counts.bitwise; zero = accepted.zero table.Bitwise })
+      bit_facts t.main t.bitwise (record { table = whole.bitwise; whole = (whole.counts table.Bitwise).whole; zero = accepted.zero table.Bitwise })
       (bits_alike p t accepted);
   memory = λ contexts.
       main_serves t.main t.memory (record { few = few_clocks (length t.main) few; clocks = clock; contexts = contexts })
@@ -73,7 +73,7 @@ accepted_grants p t len whole accepted = record {
     constants = constants_of p.params
 
     few : length t.main ≤ 2 ^ 19
-    few = whole.counts.most table.Main
+    few = (whole.counts table.Main).most
 
     shows : ShowsRows (claim_of p t) t.main
     shows = trace_shown p t whole.counts whole.main whole.left accepted.zero
@@ -82,10 +82,10 @@ accepted_grants p t len whole accepted = record {
     clock = clock_is (claim_of p t) t.main shows (few_rows (length t.main) few)
 
     short : (i : ℕ) → i < length t.range → v (row_at t.range i) < 2 ^ 16
-    short = values_short t.range whole.range (whole.counts.most table.Range) (accepted.zero table.Range)
+    short = values_short t.range whole.range (whole.counts table.Range).most (accepted.zero table.Range)
 
     gives : TableGives (constants_of p.params) t.hasher (hasher_gives t.hasher)
-    gives = table_gives (claim_of p t) t.hasher len (record { table = whole.hasher; whole = whole.counts.hasher; zero = accepted.zero table.Hasher })
+    gives = table_gives (claim_of p t) t.hasher len (record { table = whole.hasher; whole = (whole.counts table.Hasher).whole; zero = accepted.zero table.Hasher })
 
     positive : (j : ℕ) → Starts t.main j → 0 < own t.main j
     positive = own_positive (constants_of p.params) t.main t.hasher gives (hasher_alike p t accepted)
@@ -94,4 +94,4 @@ accepted_grants p t len whole accepted = record {
     one = own_one (constants_of p.params) t.main t.hasher gives (hasher_alike p t accepted)
 
     size : length t.kernel ≡ length p.statement.kernel
-    size = (shows.first (let some = whole.counts.main in omega (arith, some))).kernel
+    size = (shows.first (let some = (whole.counts table.Main).least in omega (arith, some))).kernel

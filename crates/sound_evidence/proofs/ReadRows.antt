@@ -52,4 +52,4 @@ own_small p t readable j e closes = by_op (true_or_false (is_op (op_in t.main j)
         within_table t.hasher (own t.main j) _ tt hashed.computation readable.hashes
 
 pub counts_readable : CountsAreReadable
-counts_readable p t counts facts = record { facts = facts; rows = counts.most table.Main; hashes = counts.most table.Hasher }
+counts_readable p t counts facts = record { facts = facts; rows = (counts table.Main).most; hashes = (counts table.Hasher).most }

@@ -43,13 +43,13 @@ tree_facts p t k = record {
   claim = claim_of p t;
   shows = (granted p t k).rows;
   frames = frames_granted p t (granted p t k);
-  nesting = nesting_granted p t k.whole.counts.main (granted p t k);
+  nesting = nesting_granted p t (k.whole.counts table.Main).least (granted p t k);
   spans = span_law p t k.constants (granted p t k);
 }
 
 pub readable : (p : Public) (t : Trace) → IsKnown p t → IsWalkable p t
 readable p t k = record {
   facts = tree_facts p t k;
-  rows = k.whole.counts.most table.Main;
-  hashes = k.whole.counts.most table.Hasher;
+  rows = (k.whole.counts table.Main).most;
+  hashes = (k.whole.counts table.Hasher).most;
 }

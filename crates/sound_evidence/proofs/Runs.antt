@@ -7,8 +7,11 @@ use Rattle.block_tree.specs.TreeView.{tree_of}
 use Rattle.block_tree.specs.declared.tree.Tree as held
 use Rattle.block_tree.specs.declared.evidence.Evidence.TheVariants.{Run}
 use Rattle.block_tree.proofs.Refinement.{refines-refl}
+use Rattle.air_kit.specs.BoundaryValues.{deep_at_start}
 use Rattle.air_kit.specs.RowStates.{state_at, tape_of}
+use Rattle.air_kit.specs.Traces.{claim_of}
 use Rattle.air_kit.specs.declared.trace.Public.{Public}
+use Rattle.air_kit.specs.declared.trace.TableName.TheVariants as table
 use Rattle.air_kit.specs.declared.trace.Trace.{Trace}
 use Rattle.sound_runs.specs.Running.{Goes, ShowRun}
 use Rattle.sound_runs.proofs.TreeRuns.{trees_run}
@@ -23,21 +26,21 @@ use Rattle.sound_evidence.specs.Known.{IsKnown}
 use Rattle.sound_evidence.proofs.Readable.{granted, tree_facts}
 
 -- the states along the rows
-abbrev states : Trace → ℕ → State
-states t = state_at t.main
+abbrev states : Public → Trace → ℕ → State
+states p t = state_at (deep_at_start (claim_of p t)) t.main
 
-shows : (p : Public) (t : Trace) → IsKnown p t → ShowRun (constants_of p.params) p.statement.kernel (length t.main - 1) t.main (states t)
+shows : (p : Public) (t : Trace) → IsKnown p t → ShowRun (constants_of p.params) p.statement.kernel (length t.main - 1) t.main (states p t)
 shows p t k = cycles_law p t k.constants k.whole (granted p t k)
 
-ends : (p : Public) (t : Trace) → IsKnown p t → EndFacts p.statement.inputs p.statement.outputs t.main
+ends : (p : Public) (t : Trace) → IsKnown p t → EndFacts (claim_of p t) t.main
 ends p t k = ends_law p t k.constants p.statement.inputs_few k.whole (granted p t k)
 
 -- the tree goes from the first row to the last one
 goes : (p : Public) (t : Trace) (k : IsKnown p t) (found : Found) → IsWholeTree p t found
-    → Goes (states t) (execution (constants_of p.params) p.statement.kernel (length t.main - 1) (plain (placed_of found.tree))
-    (states t 0)) (suc found.end)
+    → Goes (states p t) (execution (constants_of p.params) p.statement.kernel (length t.main - 1) (plain (placed_of found.tree))
+    (states p t 0)) (suc found.end)
 goes p t k found w =
-    trees_run (constants_of p.params) p.statement.kernel (length t.main - 1) t.hasher t.main p.statement.digest (states t)
+    trees_run (constants_of p.params) p.statement.kernel (length t.main - 1) t.hasher t.main p.statement.digest (states p t)
     (tree_facts p t k) (shows p t k)
     0 found.end (placed_of found.tree) w.tree (plain (placed_of found.tree)) (refines-refl (constants_of p.params) (plain (placed_of found.tree)))
 
@@ -50,15 +53,15 @@ one_more n some = omega arith
 run : (p : Public) (t : Trace) (k : IsKnown p t) (found : Found) → IsWholeTree p t found
     → IsRun p t (length t.main - 1) (plain (placed_of found.tree)) (tape_of t.main)
 run p t k found w = record {
-  rows = one_more (length t.main) k.whole.counts.main;
+  rows = one_more (length t.main) (k.whole.counts table.Main).least;
   digest = w.digest;
   tape_is = refl;
-  state = states t (length t.main - 1);
+  state = states p t (length t.main - 1);
   events = (goes p t k found w).events;
   done = subst (λ s. execution (constants_of p.params) p.statement.kernel (length t.main - 1) (plain (placed_of found.tree)) s
-      ≡ Done (states t (length t.main - 1)) (goes p t k found w).events) (ends p t k).starts
-      (subst (λ m. execution (constants_of p.params) p.statement.kernel (length t.main - 1) (plain (placed_of found.tree)) (states t 0)
-      ≡ Done (states t m) (goes p t k found w).events) (behind_end (length t.main) found.end w.last) (goes p t k found w).done);
+      ≡ Done (states p t (length t.main - 1)) (goes p t k found w).events) (ends p t k).starts
+      (subst (λ m. execution (constants_of p.params) p.statement.kernel (length t.main - 1) (plain (placed_of found.tree)) (states p t 0)
+      ≡ Done (states p t m) (goes p t k found w).events) (behind_end (length t.main) found.end w.last) (goes p t k found w).done);
   clock = (ends p t k).clock;
   stands = (ends p t k).stands;
 }

@@ -3,6 +3,7 @@ use Rattle.std.proofs.Common.{◌≡◌, ℕ, suc, ◌<◌, List, length, refl}
 use Rattle.vm_ops.specs.declared.op.Op.{Op}
 use Rattle.vm_ops.specs.declared.op.Op.TheVariants as ops
 use Rattle.vm_table.specs.MainColumns.{s}
+use Rattle.air_kit.specs.Places.{Claim}
 use Rattle.facts_bitwise.specs.BitTables.{IsBitwise}
 use Rattle.vm_table.specs.Layout.{row_at}
 use Rattle.facts_main.specs.MainRows.{op_in}
@@ -24,8 +25,8 @@ looks_up_bits ops.U32Xor x y conjunction difference =
 looks_up_bits op x y conjunction difference =
     record { top = λ is. off is; second = λ is. off is; conjunction = λ is. off is; difference = λ is. off is }
 
-pub bits_at : {constants outputs : List ℕ} {kernel rows : List (List ℕ)} → Known constants kernel outputs rows → (i : ℕ) → suc i < length rows
-    → LooksUpBits (op_in rows i) (row_at rows i) (row_at rows (suc i))
+pub bits_at : {constants : List ℕ} {kernel rows : List (List ℕ)} {k : Claim} → Known constants kernel k rows → (i : ℕ)
+    → suc i < length rows → LooksUpBits (op_in rows i) (row_at rows i) (row_at rows (suc i))
 bits_at {rows = rows} known i within =
     looks_up_bits (op_in rows i) (row_at rows i) (row_at rows (suc i)) (λ is. known.bits.conjunction i (record { within = within; is = is }))
     (λ is. known.bits.difference i (record { within = within; is = is }))

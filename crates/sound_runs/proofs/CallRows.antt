@@ -8,7 +8,7 @@ use Rattle.vm_table.specs.MainColumns.{clk, f, h, sys}
 use Rattle.air_kit.specs.Flags.{is_op, is_right}
 use Rattle.air_kit.specs.MainTuples as tuples
 use Rattle.air_kit.specs.MainTuples.{front, is_call_op}
-use Rattle.air_kit.specs.RowStates.{state_at}
+use Rattle.air_kit.specs.Places.{Claim}
 use Rattle.air_kit.specs.StackValues.{function_digest}
 use Rattle.block_tree.specs.Cycles.{EndCall, EndSyscall, StartCall, StartSyscall, frame_of}
 use Rattle.block_tree.specs.Execution.{cycle}
@@ -21,7 +21,7 @@ use Rattle.sound_runs.specs.Running.{Goes}
 use Rattle.sound_runs.proofs.EndRows.{end_moves, end_quiet, end_still, flag_of}
 use Rattle.sound_runs.proofs.Going.{goes_on, same_state, state_behind}
 use Rattle.sound_runs.proofs.Levels.{level_closes, level_opens}
-use Rattle.sound_runs.proofs.Premises.{Known, before, clock_at}
+use Rattle.sound_runs.proofs.Premises.{Known, before, clock_at, state_in}
 use Rattle.sound_runs.proofs.Quiet.{IsQuiet, digest_same, memory_stays, tape_stays}
 use Rattle.sound_runs.proofs.StackRows.{MovesAs, returns_flat, stack_called, stack_returned}
 use Rattle.sound_runs.proofs.StartRows.{early_at, none_taken}
@@ -37,7 +37,7 @@ digest_back : (x y : List ℕ) → tuples.frame_cells y ≡ tuples.frame_cells x
 unfolding function_digest
 digest_back x y e = sym (ap (λ (xs : List ℕ). drop 5 xs) e)
 
-module _ {constants outputs : List ℕ} {kernel rows : List (List ℕ)} (known : Known constants kernel outputs rows) where
+module _ {constants : List ℕ} {kernel rows : List (List ℕ)} {k : Claim} (known : Known constants kernel k rows) where
   calls_at : (i : ℕ) (m : Op) → IsAt rows i m → is_start_op m ≡ true → Starts rows i
   calls_at i m at is = record { within = at.within; is = ap is_start_op at.is ∙ is }
 
@@ -61,10 +61,10 @@ module _ {constants outputs : List ℕ} {kernel rows : List (List ℕ)} (known :
       one_more c i l e h few = omega (arith, e, h, few)
 
   pub call_goes : (i : ℕ) → IsAt rows i ops.Call
-      → Goes (state_at rows) (cycle constants kernel (length rows - 1) (StartCall (front (row_at rows i))) (state_at rows i)) (suc i)
+      → Goes (state_in k rows) (cycle constants kernel (length rows - 1) (StartCall (front (row_at rows i))) (state_in k rows i)) (suc i)
   call_goes i at =
-      goes_on constants kernel (length rows - 1) (StartCall (front (row_at rows i))) (state_at rows) i (suc i) (early_at known i at.within)
-      (none_taken (length (state_at rows i).tape))
+      goes_on constants kernel (length rows - 1) (StartCall (front (row_at rows i))) (state_in k rows) i (suc i) (early_at known i at.within)
+      (none_taken (length (state_in k rows i).tape))
       (known.frames.nesting i (calls_at i ops.Call at refl), ap (λ n. eqb n 1) outside)
       (same_state (clock_next known i at.within) (context_called i at.within ∙ sym enters.context) (sym enters.frame)
       (ap (λ n. eqb n 1) (outside ∙ sym enters.syscall)) (digest_called (row_at rows i) (row_at rows (suc i)) enters.digest)
@@ -82,10 +82,10 @@ module _ {constants outputs : List ℕ} {kernel rows : List (List ℕ)} (known :
       enters = (keeps_at i at.within).call (ap (λ o. is_op o ops.Call) at.is)
 
   pub syscall_goes : (i : ℕ) → IsAt rows i ops.Syscall
-      → Goes (state_at rows) (cycle constants kernel (length rows - 1) (StartSyscall (front (row_at rows i))) (state_at rows i)) (suc i)
+      → Goes (state_in k rows) (cycle constants kernel (length rows - 1) (StartSyscall (front (row_at rows i))) (state_in k rows i)) (suc i)
   syscall_goes i at =
-      goes_on constants kernel (length rows - 1) (StartSyscall (front (row_at rows i))) (state_at rows) i (suc i) (early_at known i at.within)
-      (none_taken (length (state_at rows i).tape))
+      goes_on constants kernel (length rows - 1) (StartSyscall (front (row_at rows i))) (state_in k rows) i (suc i) (early_at known i at.within)
+      (none_taken (length (state_in k rows i).tape))
       (known.frames.nesting i (calls_at i ops.Syscall at refl), ap (λ n. eqb n 1) (outside_at i ops.Syscall at refl), known.kernel_is i at)
       (same_state (clock_next known i at.within) (sym enters.context) (sym enters.frame) (sym (ap (λ n. eqb n 1) enters.syscall))
       (digest_same (row_at rows i) (row_at rows (suc i)) ((keeps_at i at.within).digest (ap (λ o. keeps_digest o (row_at rows i)) at.is)))
@@ -102,7 +102,7 @@ module _ {constants outputs : List ℕ} {kernel rows : List (List ℕ)} (known :
 
   -- the state behind the END of a call, whatever its mark says of a digest
   returned_state : (j i : ℕ) → Closes rows j i → is_call_op (op_in rows j) ≡ true → h (row_at rows i) 4 ≡ 0
-      → state_behind constants (EndCall (front (row_at rows i)) (frame_of (state_at rows j).core)) (state_at rows i) ≡ state_at rows (suc i)
+      → state_behind constants (EndCall (front (row_at rows i)) (frame_of (state_in k rows j).core)) (state_in k rows i) ≡ state_in k rows (suc i)
   returned_state j i closes call flag =
       same_state (clock_next known i closes.ends.within) (sym (at 0)) (sym (at 1)) (sym (ap (λ n. eqb n 1) (at 2)))
       (digest_back (row_at rows j) (row_at rows (suc i)) (closes.frame call)) (level_closes rows i known.frames closes.ends)
@@ -113,17 +113,17 @@ module _ {constants outputs : List ℕ} {kernel rows : List (List ℕ)} (known :
       at k = ap (λ (xs : List ℕ). slice_index xs k) (closes.frame call)
 
   pub call_end_goes : (j i : ℕ) → IsAt rows j ops.Call → Closes rows j i
-      → Goes (state_at rows)
-      (cycle constants kernel (length rows - 1) (EndCall (front (row_at rows i)) (frame_of (state_at rows j).core)) (state_at rows i)) (suc i)
+      → Goes (state_in k rows)
+      (cycle constants kernel (length rows - 1) (EndCall (front (row_at rows i)) (frame_of (state_in k rows j).core)) (state_in k rows i)) (suc i)
   call_end_goes j i at closes =
-      goes_on constants kernel (length rows - 1) (EndCall (front (row_at rows i)) (frame_of (state_at rows j).core)) (state_at rows) i (suc i)
-      (early_at known i closes.ends.within) (none_taken (length (state_at rows i).tape)) (returns_flat known i j closes (ap is_call_op at.is))
+      goes_on constants kernel (length rows - 1) (EndCall (front (row_at rows i)) (frame_of (state_in k rows j).core)) (state_in k rows) i (suc i)
+      (early_at known i closes.ends.within) (none_taken (length (state_in k rows i).tape)) (returns_flat known i j closes (ap is_call_op at.is))
       (returned_state j i closes (ap is_call_op at.is) (flag_of rows j i ops.Call at closes))
 
   pub syscall_end_goes : (j i : ℕ) → IsAt rows j ops.Syscall → Closes rows j i
-      → Goes (state_at rows)
-      (cycle constants kernel (length rows - 1) (EndSyscall (front (row_at rows i)) (frame_of (state_at rows j).core)) (state_at rows i)) (suc i)
+      → Goes (state_in k rows)
+      (cycle constants kernel (length rows - 1) (EndSyscall (front (row_at rows i)) (frame_of (state_in k rows j).core)) (state_in k rows i)) (suc i)
   syscall_end_goes j i at closes =
-      goes_on constants kernel (length rows - 1) (EndSyscall (front (row_at rows i)) (frame_of (state_at rows j).core)) (state_at rows) i (suc i)
-      (early_at known i closes.ends.within) (none_taken (length (state_at rows i).tape)) (returns_flat known i j closes (ap is_call_op at.is))
+      goes_on constants kernel (length rows - 1) (EndSyscall (front (row_at rows i)) (frame_of (state_in k rows j).core)) (state_in k rows) i (suc i)
+      (early_at known i closes.ends.within) (none_taken (length (state_in k rows i).tape)) (returns_flat known i j closes (ap is_call_op at.is))
       (returned_state j i closes (ap is_call_op at.is) (flag_of rows j i ops.Syscall at closes))

@@ -1,12 +1,13 @@
 -- The laws of cycles and of ends.
-use Rattle.std.proofs.Common.{◌≡◌, ℕ, suc, ◌-◌, cond, eqb, List, length, refl, ap, ◌∙◌}
+use Rattle.std.proofs.Common.{◌≡◌, ℕ, suc, ◌-◌, cond, eqb, List, length, refl, ap, ◌∙◌, lit≤}
 use Rattle.vm_field.specs.Limits.{number_of_constants}
 use Rattle.vm_ops.specs.declared.op.Op.TheVariants as ops
 use Rattle.rpo_hash.specs.Constants.{constants_of}
 use Rattle.air_kit.specs.MainTuples.{is_call_op}
-use Rattle.air_kit.specs.RowStates.{state_at}
+use Rattle.air_kit.specs.Places.{Claim}
 use Rattle.air_kit.specs.Traces.{claim_of}
 use Rattle.air_kit.specs.declared.trace.Public.{Public}
+use Rattle.air_kit.specs.declared.trace.TableName.TheVariants as table
 use Rattle.air_kit.specs.declared.trace.Trace.{Trace}
 use Rattle.block_tree.specs.Cycles.{Mark}
 use Rattle.block_tree.specs.Execution.{cycle}
@@ -20,18 +21,18 @@ use Rattle.sound_runs.proofs.CallRows.{call_end_goes, call_goes, syscall_end_goe
 use Rattle.sound_runs.proofs.EndRows.{end_goes, flag_of, loop_end_goes, span_end_goes}
 use Rattle.sound_runs.proofs.FirstAndLast.{end_facts}
 use Rattle.sound_runs.proofs.OperationRows.{operation_goes}
-use Rattle.sound_runs.proofs.Premises.{Known, below_limit, clock_at, low_contexts}
+use Rattle.sound_runs.proofs.Premises.{Known, below_limit, clock_at, low_contexts, state_in}
 use Rattle.sound_runs.proofs.StartRows.{join_goes, loop_goes, span_goes, split_goes}
 use Rattle.sound_runs.proofs.StateRows.{top_at}
 use Rattle.sound_runs.proofs.TurnRows.{repeat_goes, respan_goes}
 
 known_of : (p : Public) (t : Trace) → length (constants_of p.params) ≡ number_of_constants → Granted p t
-    → Known (constants_of p.params) p.statement.kernel p.statement.outputs t.main
+    → Known (constants_of p.params) p.statement.kernel (claim_of p t) t.main
 known_of p t count granted = record {
   count = count;
-  claim = claim_of p t;
   shows = granted.rows;
   few = granted.few;
+  shallow = lit≤ tt;
   groups = granted.groups;
   ranges = granted.ranges;
   permutes = granted.hashes.permutes;
@@ -42,9 +43,9 @@ known_of p t count granted = record {
   lists = overflow_law p t granted (frames_granted p t granted);
 }
 
-module _ {constants outputs : List ℕ} {kernel rows : List (List ℕ)} (known : Known constants kernel outputs rows) where
-  row_goes : (i : ℕ) (mark : Mark) → ShowsMark rows (state_at rows) i mark
-      → Goes (state_at rows) (cycle constants kernel (length rows - 1) mark (state_at rows i)) (suc i)
+module _ {constants : List ℕ} {kernel rows : List (List ℕ)} {k : Claim} (known : Known constants kernel k rows) where
+  row_goes : (i : ℕ) (mark : Mark) → ShowsMark rows (state_in k rows) i mark
+      → Goes (state_in k rows) (cycle constants kernel (length rows - 1) mark (state_in k rows i)) (suc i)
   row_goes i mark (span at) = span_goes known i at
   row_goes i mark (join at) = join_goes known i at
   row_goes i mark (split at) = split_goes known i at
@@ -63,10 +64,10 @@ module _ {constants outputs : List ℕ} {kernel rows : List (List ℕ)} (known :
   row_goes i mark (call_end {j = j} at closes) = call_end_goes known j i at closes
   row_goes i mark (syscall_end {j = j} at closes) = syscall_end_goes known j i at closes
 
-  show_run : ShowRun constants kernel (length rows - 1) rows (state_at rows)
+  show_run : ShowRun constants kernel (length rows - 1) rows (state_in k rows)
   show_run = record {
     goes = row_goes;
-    top_is = λ i h. top_at rows i;
+    top_is = λ i h. top_at k rows i;
     clock = λ i h. clock_at known i h;
     below = λ i within. below_limit i i (length rows) refl within;
   }
@@ -76,4 +77,4 @@ cycles_law p t count whole granted = show_run (known_of p t count granted)
 
 pub ends_law : GrantedEnds
 unfolding known_of
-ends_law p t count few whole granted = end_facts (known_of p t count granted) whole.counts.main few
+ends_law p t count few whole granted = end_facts (known_of p t count granted) (whole.counts table.Main).least few

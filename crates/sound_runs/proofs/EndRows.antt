@@ -6,7 +6,7 @@ use Rattle.vm_ops.specs.declared.op.Op.TheVariants as ops
 use Rattle.vm_table.specs.MainColumns.{clk, h, lv, s}
 use Rattle.air_kit.specs.Flags.{is_op, is_right}
 use Rattle.air_kit.specs.MainTuples.{front, is_call_op}
-use Rattle.air_kit.specs.RowStates.{state_at}
+use Rattle.air_kit.specs.Places.{Claim}
 use Rattle.air_kit.specs.StackValues.{cells}
 use Rattle.block_tree.specs.Cycles.{End, EndLoop, EndSpan}
 use Rattle.block_tree.specs.Execution.{cycle}
@@ -19,7 +19,7 @@ use Rattle.sound_blocks.proofs.Asides.{returns_is}
 use Rattle.sound_runs.specs.Running.{Goes}
 use Rattle.sound_runs.proofs.Going.{goes_on}
 use Rattle.sound_runs.proofs.Levels.{level_closes}
-use Rattle.sound_runs.proofs.Premises.{Known, before}
+use Rattle.sound_runs.proofs.Premises.{Known, before, state_in}
 use Rattle.sound_runs.proofs.Quiet.{IsQuiet}
 use Rattle.sound_runs.proofs.StackRows.{IsStill, MovesAs, Pops, stack_pops, stack_stays}
 use Rattle.sound_runs.proofs.StartRows.{early_at, none_taken}
@@ -55,39 +55,39 @@ pub flag_of : (rows : List (List ℕ)) (j i : ℕ) (m : Op) → IsAt rows j m �
 flag_of rows j i m at closes =
     closes.flags.entered ∙ ap (λ o. cond (is_op o ops.Loop && eqb (s (row_at rows j) 0) 1) 1 0) at.is
 
-module _ {constants outputs : List ℕ} {kernel rows : List (List ℕ)} (known : Known constants kernel outputs rows) where
+module _ {constants : List ℕ} {kernel rows : List (List ℕ)} {k : Claim} (known : Known constants kernel k rows) where
   -- the state behind the END of a block that calls no function and of which no condition is left
   still_end : (j i : ℕ) → Closes rows j i → is_call_op (op_in rows j) ≡ false → h (row_at rows i) 4 ≡ 0
-      → state_with (state_at rows i) (clk (row_at rows i) + 1) (lv (row_at rows i) - 1) (cells (row_at rows i) ++ below_at rows i)
-      ≡ state_at rows (suc i)
+      → state_with (state_in k rows i) (clk (row_at rows i) + 1) (lv (row_at rows i) - 1) (cells (row_at rows i) ++ below_at k rows i)
+      ≡ state_in k rows (suc i)
   still_end j i closes no_call flag =
       state_next known i ops.End closes.ends end_quiet (ap is_call_op closes.ends.is) (returns_is rows j i closes ∙ no_call)
-      (lv (row_at rows i) - 1) (cells (row_at rows i) ++ below_at rows i) (level_closes rows i known.frames closes.ends)
+      (lv (row_at rows i) - 1) (cells (row_at rows i) ++ below_at k rows i) (level_closes rows i known.frames closes.ends)
       (stack_stays known i ops.End (end_moves rows i closes.ends flag) end_still (ap is_call_op closes.ends.is)
       (returns_is rows j i closes ∙ no_call))
 
   pub end_goes : (j i : ℕ) → Closes rows j i → is_call_op (op_in rows j) ≡ false → h (row_at rows i) 4 ≡ 0
-      → Goes (state_at rows) (cycle constants kernel (length rows - 1) (End (front (row_at rows i))) (state_at rows i)) (suc i)
+      → Goes (state_in k rows) (cycle constants kernel (length rows - 1) (End (front (row_at rows i))) (state_in k rows i)) (suc i)
   end_goes j i closes no_call flag =
-      goes_on constants kernel (length rows - 1) (End (front (row_at rows i))) (state_at rows) i (suc i)
-      (early_at known i closes.ends.within) (none_taken (length (state_at rows i).tape)) tt (still_end j i closes no_call flag)
+      goes_on constants kernel (length rows - 1) (End (front (row_at rows i))) (state_in k rows) i (suc i)
+      (early_at known i closes.ends.within) (none_taken (length (state_in k rows i).tape)) tt (still_end j i closes no_call flag)
 
   pub span_end_goes : (j i : ℕ) → IsAt rows j ops.Span → Closes rows j i
-      → Goes (state_at rows) (cycle constants kernel (length rows - 1) (EndSpan (front (row_at rows i))) (state_at rows i)) (suc i)
+      → Goes (state_in k rows) (cycle constants kernel (length rows - 1) (EndSpan (front (row_at rows i))) (state_in k rows i)) (suc i)
   span_end_goes j i at closes =
-      goes_on constants kernel (length rows - 1) (EndSpan (front (row_at rows i))) (state_at rows) i (suc i)
-      (early_at known i closes.ends.within) (none_taken (length (state_at rows i).tape)) tt
+      goes_on constants kernel (length rows - 1) (EndSpan (front (row_at rows i))) (state_in k rows) i (suc i)
+      (early_at known i closes.ends.within) (none_taken (length (state_in k rows i).tape)) tt
       (still_end j i closes (ap is_call_op at.is) (flag_of rows j i ops.Span at closes))
 
   -- the loop's condition is 0, and is taken off
   pub loop_end_goes : (j i : ℕ) → IsAt rows j ops.Loop → s (row_at rows j) 0 ≡ 1 → Closes rows j i
-      → Goes (state_at rows) (cycle constants kernel (length rows - 1) (EndLoop (front (row_at rows i))) (state_at rows i)) (suc i)
+      → Goes (state_in k rows) (cycle constants kernel (length rows - 1) (EndLoop (front (row_at rows i))) (state_in k rows i)) (suc i)
   loop_end_goes j i at entered closes =
-      goes_on constants kernel (length rows - 1) (EndLoop (front (row_at rows i))) (state_at rows) i (suc i)
-      (early_at known i closes.ends.within) (none_taken (length (state_at rows i).tape))
-      (subst (λ (n : ℕ). n < 2) (sym (top_at rows i ∙ zero_on_top)) (lit< tt))
+      goes_on constants kernel (length rows - 1) (EndLoop (front (row_at rows i))) (state_in k rows) i (suc i)
+      (early_at known i closes.ends.within) (none_taken (length (state_in k rows i).tape))
+      (subst (λ (n : ℕ). n < 2) (sym (top_at k rows i ∙ zero_on_top)) (lit< tt))
       (state_next known i ops.End closes.ends end_quiet (ap is_call_op closes.ends.is) (returns_is rows j i closes ∙ ap is_call_op at.is)
-      (lv (row_at rows i) - 1) (filled_up (drop 1 (cells (row_at rows i) ++ below_at rows i)))
+      (lv (row_at rows i) - 1) (filled_up (drop 1 (cells (row_at rows i) ++ below_at k rows i)))
       (level_closes rows i known.frames closes.ends) (stack_pops known i ops.Drop (end_pops rows i closes.ends flag) drop_pops))
     where
       flag : h (row_at rows i) 4 ≡ 1

@@ -6,7 +6,7 @@ use Rattle.vm_field.proofs.Elements.{length-filled_up}
 use Rattle.vm_ops.proofs.FrameLemmas.{index-filled_up}
 use Rattle.vm_table.specs.MainColumns.{f, s}
 use Rattle.air_kit.specs.Places.{Claim}
-use Rattle.air_kit.specs.RowStates.{memory_at, overflow_at, state_at, tape_of}
+use Rattle.air_kit.specs.RowStates.{memory_at, overflow_at, tape_of}
 use Rattle.air_kit.specs.StackValues.{cells, function_digest}
 use Rattle.facts_main.specs.Bounds.{IsFirstRow}
 use Rattle.vm_table.specs.Layout.{row_at}
@@ -14,7 +14,7 @@ use Rattle.facts_main.specs.MainRows.{op_in}
 use Rattle.facts_steps.proofs.Seeing.{cells_index, length_cells}
 use Rattle.sound_runs.specs.Ends.{EndFacts}
 use Rattle.sound_runs.proofs.Going.{same_state}
-use Rattle.sound_runs.proofs.Premises.{Known, clock_at}
+use Rattle.sound_runs.proofs.Premises.{Known, clock_at, state_in}
 
 -- ---- the first row
 
@@ -38,7 +38,7 @@ unfolding function_digest
 zero_digest x e = λ i. e 0 (lit< tt) i ∷ e 1 (lit< tt) i ∷ e 2 (lit< tt) i ∷ e 3 (lit< tt) i ∷ []
 
 pub first_state : (k : Claim) (rows : List (List ℕ)) → length k.inputs ≤ 16 → IsFirstRow k (op_in rows 0) (row_at rows 0)
-    → state_at rows 0 ≡ start k.inputs (tape_of rows)
+    → state_in k rows 0 ≡ start k.inputs (tape_of rows)
 unfolding start overflow_at memory_at
 first_state k rows few first =
     same_state first.start.clock first.start.context first.start.frame (ap (λ n. eqb n 1) first.start.syscall)
@@ -60,10 +60,10 @@ last_place l h = omega (arith, h)
 last_within : (l : ℕ) → 1 ≤ l → l - 1 < l
 last_within l h = omega (arith, h)
 
-pub end_facts : {constants outputs : List ℕ} {kernel rows : List (List ℕ)} → (known : Known constants kernel outputs rows) → 1 ≤ length rows
-    → length known.claim.inputs ≤ 16 → EndFacts known.claim.inputs outputs rows
-end_facts {rows = rows} known some few = record {
-  starts = first_state known.claim rows few (known.shows.first some);
+pub end_facts : {constants : List ℕ} {kernel rows : List (List ℕ)} {k : Claim} → Known constants kernel k rows → 1 ≤ length rows
+    → length k.inputs ≤ 16 → EndFacts k rows
+end_facts {rows = rows} {k = k} known some few = record {
+  starts = first_state k rows few (known.shows.first some);
   stands = record {
     stack = known.lists.stack_left (length rows - 1) (last_place (length rows) some);
     tape = nothing_taken rows (length rows - 1) (last_place (length rows) some);

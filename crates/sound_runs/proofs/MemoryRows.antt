@@ -8,6 +8,8 @@ use Rattle.vm_field.proofs.Elements.{word-of}
 use Rattle.vm_ops.specs.declared.op.Op.{Op}
 use Rattle.vm_ops.specs.declared.op.Op.TheVariants as ops
 use Rattle.vm_table.specs.MainColumns.{ctx, s, t}
+use Rattle.air_kit.specs.BoundaryValues.{deep_at_start}
+use Rattle.air_kit.specs.Places.{Claim}
 use Rattle.air_kit.specs.declared.requests.Access.{Access}
 use Rattle.air_kit.specs.RowStates.{elsewhere_at, memory_at, memory_behind, written_by}
 use Rattle.facts_memory.specs.MainAccesses.{ServesRow, access_by}
@@ -23,19 +25,20 @@ use Rattle.sound_runs.proofs.Premises.{Known, before}
 abbrev Serves : List (List ℕ) → ℕ → Op → List ℕ → List ℕ → Type 0
 Serves rows i op x y = (a : Access) → access_by op x y ≡ Some a → ServesRow rows i a
 
-looks_up_word : (rows : List (List ℕ)) (i : ℕ) (op : Op) (x y : List ℕ) → Serves rows i op x y → LooksUpWord op x y (elsewhere_at rows i)
-looks_up_word rows i ops.MLoad x y serves =
+looks_up_word : (deep : List ℕ) (rows : List (List ℕ)) (i : ℕ) (op : Op) (x y : List ℕ) → Serves rows i op x y
+    → LooksUpWord op x y (elsewhere_at deep rows i)
+looks_up_word deep rows i ops.MLoad x y serves =
     let r = serves _ refl in
     record { address = λ is. r.address; element = λ is. sym (r.keeps.reads refl); word = λ is. off is; kept = λ is. off is }
-looks_up_word rows i ops.MLoadW x y serves =
+looks_up_word deep rows i ops.MLoadW x y serves =
     let r = serves _ refl in
     record { address = λ is. r.address; element = λ is. off is; word = λ is. sym (r.keeps.reads refl); kept = λ is. off is }
-looks_up_word rows i ops.MStore x y serves =
+looks_up_word deep rows i ops.MStore x y serves =
     let r = serves _ refl in
     record { address = λ is. r.address; element = λ is. off is; word = λ is. off is; kept = λ is. sym (r.keeps.keeps refl) }
-looks_up_word rows i ops.MStoreW x y serves =
+looks_up_word deep rows i ops.MStoreW x y serves =
     let r = serves _ refl in record { address = λ is. r.address; element = λ is. off is; word = λ is. off is; kept = λ is. off is }
-looks_up_word rows i op x y serves =
+looks_up_word deep rows i op x y serves =
     record { address = λ is. off is; element = λ is. off is; word = λ is. off is; kept = λ is. off is }
 
 -- ---- memory is made of words
@@ -53,11 +56,11 @@ stays_words ops.MStoreW x memory low words =
     words
 stays_words op x memory low words = words
 
-module _ {constants outputs : List ℕ} {kernel rows : List (List ℕ)} (known : Known constants kernel outputs rows) where
+module _ {constants : List ℕ} {kernel rows : List (List ℕ)} {k : Claim} (known : Known constants kernel k rows) where
   pub word_looked_up : (i : ℕ) → suc i < length rows
-      → LooksUpWord (op_in rows i) (row_at rows i) (row_at rows (suc i)) (elsewhere_at rows i)
+      → LooksUpWord (op_in rows i) (row_at rows i) (row_at rows (suc i)) (elsewhere_at (deep_at_start k) rows i)
   word_looked_up i within =
-      looks_up_word rows i (op_in rows i) (row_at rows i) (row_at rows (suc i))
+      looks_up_word (deep_at_start k) rows i (op_in rows i) (row_at rows i) (row_at rows (suc i))
       (λ a is. known.memory i (row_at rows (suc i)) a (slice_get-get_or rows (suc i) [] within) is)
 
   pub words_at : (i : ℕ) → i < length rows → MadeOfWords (memory_at rows i)

@@ -5,8 +5,10 @@ use Rattle.vm_ops.specs.Step.{act}
 use Rattle.vm_ops.specs.Values.{advice_of}
 use Rattle.vm_ops.specs.declared.op.Op.TheVariants as ops
 use Rattle.vm_table.specs.MainColumns.{clk, depth, s}
+use Rattle.air_kit.specs.BoundaryValues.{deep_at_start, depth_at_start}
 use Rattle.air_kit.specs.Flags.{is_left}
-use Rattle.air_kit.specs.RowStates.{elsewhere_at, state_at}
+use Rattle.air_kit.specs.Places.{Claim}
+use Rattle.air_kit.specs.RowStates.{elsewhere_at}
 use Rattle.block_tree.specs.Cycles.{Do}
 use Rattle.block_tree.specs.Execution.{cycle, event_of}
 use Rattle.block_tree.proofs.Parts.{taking-ok}
@@ -24,26 +26,26 @@ use Rattle.sound_runs.specs.Running.{Goes}
 use Rattle.sound_blocks.specs.Items.{item_at}
 use Rattle.sound_runs.proofs.BitRows.{bits_at}
 use Rattle.sound_runs.proofs.MemoryRows.{word_looked_up, words_at}
-use Rattle.sound_runs.proofs.Premises.{Known, before, clock_at}
+use Rattle.sound_runs.proofs.Premises.{Known, before, clock_at, state_in}
 use Rattle.sound_runs.proofs.StartRows.{early_at}
 
 early_clock : (c i l : ℕ) → c ≡ i → i < l → l ≤ 2 ^ 19 → c < 2 ^ 19
 early_clock c i l e h few = omega (arith, e, h, few)
 
-shallow_stack : (d i l : ℕ) → d ≤ 16 + i → i < l → l ≤ 2 ^ 19 → d < 2 ^ 20
-shallow_stack d i l most h few = omega (arith, most, h, few)
+shallow_stack : (d s i l : ℕ) → d ≤ s + i → s ≤ 2 ^ 19 → i < l → l ≤ 2 ^ 19 → d < 2 ^ 20
+shallow_stack d s i l most start h few = omega (arith, most, start, h, few)
 
-module _ {constants outputs : List ℕ} {kernel rows : List (List ℕ)} (known : Known constants kernel outputs rows) where
-  row_of_at : (i : ℕ) → i < length rows → IsRowOf (row_at rows i) (elsewhere_at rows i)
+module _ {constants : List ℕ} {kernel rows : List (List ℕ)} {k : Claim} (known : Known constants kernel k rows) where
+  row_of_at : (i : ℕ) → i < length rows → IsRowOf (row_at rows i) (elsewhere_at (deep_at_start k) rows i)
   row_of_at i h = record {
     early = early_clock (clk (row_at rows i)) i (length rows) (clock_at known i h) h known.few;
     depth_is = known.lists.depth_is i h;
-    shallow = shallow_stack (depth (row_at rows i)) i (length rows) (known.lists.bounded i h) h known.few;
+    shallow = shallow_stack (depth (row_at rows i)) (depth_at_start k) i (length rows) (known.lists.bounded i h) known.shallow h known.few;
     words = words_at known i h;
   }
 
   looks_at : (i : ℕ) → suc i < length rows
-      → Lookups constants (op_in rows i) (row_at rows i) (row_at rows (suc i)) (elsewhere_at rows i)
+      → Lookups constants (op_in rows i) (row_at rows i) (row_at rows (suc i)) (elsewhere_at (deep_at_start k) rows i)
   looks_at i within = record {
     ranges = λ j few. known.ranges.limb i j within few;
     bits = bits_at known i within;
@@ -53,13 +55,13 @@ module _ {constants outputs : List ℕ} {kernel rows : List (List ℕ)} (known :
 
   -- a left shift of a deeper stack brings up the first cell below
   finds_at : (i : ℕ) → suc i < length rows → is_ordinary_op (op_in rows i) ≡ true → is_left (op_in rows i) ≡ true
-      → depth (row_at rows i) ≢ 16 → s (row_at rows (suc i)) 15 ≡ slice_index (below_at rows i) 0
+      → depth (row_at rows i) ≢ 16 → s (row_at rows (suc i)) 15 ≡ slice_index (below_at k rows i) 0
   finds_at i within is left deep =
       sym (ap (λ (xs : List ℕ). slice_index xs 0)
       (known.lists.deep i within
       (shifts_left_is (row_at rows i) ∙ ap is_left (mover_is (op_in rows i) (row_at rows i) (ordinary (op_in rows i) is)) ∙ left) deep))
 
-  place_at : (i : ℕ) → suc i < length rows → is_ordinary_op (op_in rows i) ≡ true → IsPlace constants rows i
+  place_at : (i : ℕ) → suc i < length rows → is_ordinary_op (op_in rows i) ≡ true → IsPlace constants (deep_at_start k) rows i
   place_at i within is = record {
     within = within;
     ordinary = is;
@@ -69,11 +71,11 @@ module _ {constants outputs : List ℕ} {kernel rows : List (List ℕ)} (known :
   }
 
   pub operation_goes : (i : ℕ) → suc i < length rows → is_ordinary_op (op_in rows i) ≡ true
-      → Goes (state_at rows) (cycle constants kernel (length rows - 1) (Do (item_at rows i)) (state_at rows i)) (suc i)
+      → Goes (state_in k rows) (cycle constants kernel (length rows - 1) (Do (item_at rows i)) (state_in k rows i)) (suc i)
   operation_goes i within is = record {
-    events = event_of (Do (item_at rows i)) (advice_of (op_in rows i)) (state_at rows i) ∷ [];
+    events = event_of (Do (item_at rows i)) (advice_of (op_in rows i)) (state_in k rows i) ∷ [];
     done =
-        taking-ok (length rows - 1) (Do (item_at rows i)) (advice_of (op_in rows i)) (act constants (item_at rows i)) (state_at rows i)
-        (state_at rows (suc i)) (early_at known i within)
-        (place_shows constants known.claim rows i known.count known.shows (place_at i within is)).steps;
+        taking-ok (length rows - 1) (Do (item_at rows i)) (advice_of (op_in rows i)) (act constants (item_at rows i)) (state_in k rows i)
+        (state_in k rows (suc i)) (early_at known i within)
+        (place_shows constants (deep_at_start k) k rows i known.count known.shows (place_at i within is)).steps;
   }

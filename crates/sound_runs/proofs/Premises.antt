@@ -2,11 +2,14 @@
 use Rattle.std.proofs.Common.{◌≡◌, ℕ, suc, ◌-◌, ◌<◌, ◌≤◌, ◌^◌, List, length, arith}
 use Rattle.vm_field.specs.Limits.{number_of_constants}
 use Rattle.vm_field.specs.Field.{prime}
+use Rattle.vm_field.specs.Machine.{State}
 use Rattle.vm_field.specs.Permutation.{permuted}
 use Rattle.vm_ops.specs.declared.op.Op.TheVariants as ops
 use Rattle.vm_table.specs.MainColumns.{clk, ctx}
+use Rattle.air_kit.specs.BoundaryValues.{deep_at_start, depth_at_start}
 use Rattle.air_kit.specs.MainTuples.{twelve}
 use Rattle.air_kit.specs.Places.{Claim}
+use Rattle.air_kit.specs.RowStates.{state_at}
 use Rattle.facts_memory.specs.MainAccesses.{ServesMain}
 use Rattle.vm_table.specs.Layout.{row_at}
 use Rattle.facts_main.specs.MainRows.{ShowsRows}
@@ -17,11 +20,15 @@ use Rattle.sound_buses.specs.Lookups.{BitFacts, KernelFacts, RangeFacts}
 use Rattle.sound_blocks.specs.Frames.{FrameFacts}
 use Rattle.sound_blocks.specs.Lists.{OverflowLists}
 
-pub record Known (constants : List ℕ) (kernel : List (List ℕ)) (outputs : List ℕ) (rows : List (List ℕ)) : Type 0 where
+-- the state of row i, beside this claim
+abbrev pub state_in : Claim → List (List ℕ) → ℕ → State
+state_in k rows i = state_at (deep_at_start k) rows i
+
+pub record Known (constants : List ℕ) (kernel : List (List ℕ)) (k : Claim) (rows : List (List ℕ)) : Type 0 where
   pub count : length constants ≡ number_of_constants
-  pub claim : Claim
-  pub shows : ShowsRows claim rows
+  pub shows : ShowsRows k rows
   pub few : length rows ≤ 2 ^ 19
+  pub shallow : depth_at_start k ≤ 2 ^ 19
   pub groups : GroupFacts rows
   pub ranges : RangeFacts rows
   pub permutes : (i : ℕ) → IsAt rows i ops.HPerm → twelve (row_at rows (suc i)) ≡ permuted constants (twelve (row_at rows i))
@@ -29,7 +36,7 @@ pub record Known (constants : List ℕ) (kernel : List (List ℕ)) (outputs : Li
   pub memory : ServesMain rows
   pub kernel_is : KernelFacts kernel rows
   pub frames : FrameFacts rows
-  pub lists : OverflowLists rows outputs
+  pub lists : OverflowLists k rows
 
 pub before : (i l : ℕ) → suc i < l → i < l
 before i l h = omega (arith, h)
@@ -38,9 +45,9 @@ low_rows : (l : ℕ) → l ≤ 2 ^ 19 → l < prime
 low_rows l h = omega (arith, h)
 
 -- clocks count the rows
-pub clock_at : {constants outputs : List ℕ} {kernel rows : List (List ℕ)} → Known constants kernel outputs rows → (i : ℕ) → i < length rows
+pub clock_at : {constants : List ℕ} {kernel rows : List (List ℕ)} {k : Claim} → Known constants kernel k rows → (i : ℕ) → i < length rows
     → clk (row_at rows i) ≡ i
-clock_at {rows = rows} known i h = clock_is known.claim rows known.shows (low_rows (length rows) known.few) i h
+clock_at {rows = rows} {k = k} known i h = clock_is k rows known.shows (low_rows (length rows) known.few) i h
 
 -- contexts have 32 bits
 pub low_contexts : (claim : Claim) (rows : List (List ℕ)) → ShowsRows claim rows → length rows ≤ 2 ^ 19 → FrameFacts rows → (i : ℕ)

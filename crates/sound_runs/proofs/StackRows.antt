@@ -6,7 +6,8 @@ use Rattle.vm_ops.specs.declared.op.Op.{Op}
 use Rattle.vm_table.specs.MainColumns.{depth}
 use Rattle.air_kit.specs.Flags.{is_left, is_right}
 use Rattle.air_kit.specs.MainTuples.{is_call_op, row_shifts_left}
-use Rattle.air_kit.specs.RowStates.{Overflow, overflow_at, row_returns}
+use Rattle.air_kit.specs.Places.{Claim}
+use Rattle.air_kit.specs.RowStates.{Overflow, row_returns}
 use Rattle.air_kit.specs.StackValues.{cells}
 use Rattle.vm_table.specs.Layout.{row_at}
 use Rattle.facts_main.specs.MainRows.{op_in}
@@ -14,7 +15,7 @@ use Rattle.facts_main.specs.Stack.{ShiftsCells, mover}
 use Rattle.facts_main.proofs.RunFacts.{shifts_left_is}
 use Rattle.sound_buses.specs.Blocks.{Closes}
 use Rattle.sound_blocks.specs.Lists.{below_at}
-use Rattle.sound_blocks.proofs.Returns.{next_is}
+use Rattle.sound_blocks.proofs.Returns.{overflow_in, next_is}
 use Rattle.sound_blocks.proofs.RowKinds.{behind_call, behind_flat, behind_same}
 use Rattle.facts_steps.proofs.Seeing.{drop_cells, take_cells}
 use Rattle.sound_runs.proofs.Premises.{Known, before}
@@ -41,7 +42,7 @@ sixteen : (x : List ℕ) → length (cells x ++ []) ≤ 16
 unfolding cells
 sixteen x = lit≤ tt
 
-module _ {constants outputs : List ℕ} {kernel rows : List (List ℕ)} (known : Known constants kernel outputs rows) where
+module _ {constants : List ℕ} {kernel rows : List (List ℕ)} {k : Claim} (known : Known constants kernel k rows) where
   shifts_as : (i : ℕ) (m : Op) → MovesAs rows i m → ShiftsCells m (row_at rows i) (row_at rows (suc i))
   shifts_as i m moves =
       subst (λ (o : Op). ShiftsCells o (row_at rows i) (row_at rows (suc i))) moves.mover_is (known.shows.pair_is i moves.within).stack.shifts
@@ -52,55 +53,55 @@ module _ {constants outputs : List ℕ} {kernel rows : List (List ℕ)} (known :
   cells_still : (i : ℕ) (m : Op) → MovesAs rows i m → IsStill m → cells (row_at rows i) ≡ cells (row_at rows (suc i))
   cells_still i m moves still = cells_stay m (row_at rows i) (row_at rows (suc i)) still.takes still.leaves still.left (shifts_as i m moves)
 
-  below_next : (i : ℕ) (o : Overflow) → overflow_at rows (suc i) ≡ o → below_at rows (suc i) ≡ o.below
+  below_next : (i : ℕ) (o : Overflow) → overflow_in k rows (suc i) ≡ o → below_at k rows (suc i) ≡ o.below
   below_next i o e = ap (λ (v : Overflow). v.below) e
 
   pub stack_stays : (i : ℕ) (m : Op) → MovesAs rows i m → IsStill m → is_call_op (op_in rows i) ≡ false → row_returns (row_at rows i) ≡ false
-      → cells (row_at rows i) ++ below_at rows i ≡ cells (row_at rows (suc i)) ++ below_at rows (suc i)
+      → cells (row_at rows i) ++ below_at k rows i ≡ cells (row_at rows (suc i)) ++ below_at k rows (suc i)
   stack_stays i m moves still no_call no_return =
       ap₂ (λ (u v : List ℕ). u ++ v) (cells_still i m moves still)
-      (sym (below_next i (overflow_at rows i)
-      (next_is rows i
-      ∙ behind_same (row_at rows i) (overflow_at rows i) moves.right (left_as i m moves ∙ still.left) no_call no_return)))
+      (sym (below_next i (overflow_in k rows i)
+      (next_is k rows i
+      ∙ behind_same (row_at rows i) (overflow_in k rows i) moves.right (left_as i m moves ∙ still.left) no_call no_return)))
 
   pub stack_pops : (i : ℕ) (m : Op) → MovesAs rows i m → Pops m
-      → filled_up (drop 1 (cells (row_at rows i) ++ below_at rows i)) ≡ cells (row_at rows (suc i)) ++ below_at rows (suc i)
+      → filled_up (drop 1 (cells (row_at rows i) ++ below_at k rows i)) ≡ cells (row_at rows (suc i)) ++ below_at k rows (suc i)
   stack_pops i m moves pops =
-      stack_popped m (row_at rows i) (row_at rows (suc i)) (below_at rows i) (below_at rows (suc i)) pops.takes pops.leaves pops.left
+      stack_popped m (row_at rows i) (row_at rows (suc i)) (below_at k rows i) (below_at k rows (suc i)) pops.takes pops.leaves pops.left
       (shifts_as i m moves) (known.lists.depth_is i (before i (length rows) moves.within)) flat
       (known.lists.deep i moves.within (left_as i m moves ∙ pops.left))
     where
-      flat : depth (row_at rows i) ≡ 16 → below_at rows (suc i) ≡ below_at rows i
+      flat : depth (row_at rows i) ≡ 16 → below_at k rows (suc i) ≡ below_at k rows i
       flat at =
-          below_next i (overflow_at rows i)
-          (next_is rows i ∙ behind_flat (row_at rows i) (overflow_at rows i) moves.right (left_as i m moves ∙ pops.left) at)
+          below_next i (overflow_in k rows i)
+          (next_is k rows i ∙ behind_flat (row_at rows i) (overflow_in k rows i) moves.right (left_as i m moves ∙ pops.left) at)
 
   pub stack_called : (i : ℕ) (m : Op) → MovesAs rows i m → IsStill m → is_call_op (op_in rows i) ≡ true
-      → take 16 (cells (row_at rows i) ++ below_at rows i) ≡ cells (row_at rows (suc i)) ++ below_at rows (suc i)
+      → take 16 (cells (row_at rows i) ++ below_at k rows i) ≡ cells (row_at rows (suc i)) ++ below_at k rows (suc i)
   stack_called i m moves still call =
-      take_cells (row_at rows i) (below_at rows i) ∙ cells_still i m moves still ∙ nothing_more (cells (row_at rows (suc i)))
+      take_cells (row_at rows i) (below_at k rows i) ∙ cells_still i m moves still ∙ nothing_more (cells (row_at rows (suc i)))
       ∙ ap (λ (u : List ℕ). cells (row_at rows (suc i)) ++ u)
       (sym (below_next i _
-      (next_is rows i ∙ behind_call (row_at rows i) (overflow_at rows i) moves.right (left_as i m moves ∙ still.left) call)))
+      (next_is k rows i ∙ behind_call (row_at rows i) (overflow_in k rows i) moves.right (left_as i m moves ∙ still.left) call)))
     where
       nothing_more : (xs : List ℕ) → xs ≡ xs ++ []
       nothing_more [] = refl
       nothing_more (x ∷ xs) = ap (λ (ys : List ℕ). x ∷ ys) (nothing_more xs)
 
   pub stack_returned : (i j : ℕ) (m : Op) → MovesAs rows i m → IsStill m → Closes rows j i → is_call_op (op_in rows j) ≡ true
-      → (cells (row_at rows i) ++ below_at rows i) ++ drop 16 (cells (row_at rows j) ++ below_at rows j)
-      ≡ cells (row_at rows (suc i)) ++ below_at rows (suc i)
+      → (cells (row_at rows i) ++ below_at k rows i) ++ drop 16 (cells (row_at rows j) ++ below_at k rows j)
+      ≡ cells (row_at rows (suc i)) ++ below_at k rows (suc i)
   stack_returned i j m moves still closes call =
       ap₂ (λ (u v : List ℕ). (cells (row_at rows i) ++ u) ++ v) (known.lists.returns j i closes call).0
-      (drop_cells (row_at rows j) (below_at rows j) ∙ sym (known.lists.returns j i closes call).1)
-      ∙ ap (λ (u : List ℕ). u ++ below_at rows (suc i)) (nothing (cells (row_at rows i)))
-      ∙ ap (λ (u : List ℕ). u ++ below_at rows (suc i)) (cells_still i m moves still)
+      (drop_cells (row_at rows j) (below_at k rows j) ∙ sym (known.lists.returns j i closes call).1)
+      ∙ ap (λ (u : List ℕ). u ++ below_at k rows (suc i)) (nothing (cells (row_at rows i)))
+      ∙ ap (λ (u : List ℕ). u ++ below_at k rows (suc i)) (cells_still i m moves still)
     where
       nothing : (xs : List ℕ) → xs ++ [] ≡ xs
       nothing [] = refl
       nothing (x ∷ xs) = ap (λ (ys : List ℕ). x ∷ ys) (nothing xs)
 
   -- a call ends with no cell below the sixteenth
-  pub returns_flat : (i j : ℕ) → Closes rows j i → is_call_op (op_in rows j) ≡ true → length (cells (row_at rows i) ++ below_at rows i) ≤ 16
+  pub returns_flat : (i j : ℕ) → Closes rows j i → is_call_op (op_in rows j) ≡ true → length (cells (row_at rows i) ++ below_at k rows i) ≤ 16
   returns_flat i j closes call =
       subst (λ (b : List ℕ). length (cells (row_at rows i) ++ b) ≤ 16) (sym (known.lists.returns j i closes call).0) (sixteen (row_at rows i))

@@ -6,7 +6,7 @@ use Rattle.vm_field.specs.Machine.{State}
 use Rattle.air_kit.specs.Flags.{is_op}
 use Rattle.vm_table.specs.MainColumns.{clk, lv, s}
 use Rattle.air_kit.specs.MainTuples.{is_call_op}
-use Rattle.air_kit.specs.RowStates.{state_at}
+use Rattle.air_kit.specs.Places.{Claim}
 use Rattle.air_kit.specs.StackValues.{cells}
 use Rattle.block_tree.specs.Cycles.{top}
 use Rattle.facts_main.specs.Blocks.{ends_call}
@@ -16,7 +16,7 @@ use Rattle.sound_buses.specs.Blocks.{IsAt}
 use Rattle.sound_blocks.specs.Lists.{below_at}
 use Rattle.facts_steps.proofs.Seeing.{top_index}
 use Rattle.sound_runs.proofs.Going.{same_state}
-use Rattle.sound_runs.proofs.Premises.{Known, before, clock_at}
+use Rattle.sound_runs.proofs.Premises.{Known, before, clock_at, state_in}
 use Rattle.sound_runs.proofs.Quiet.{IsQuiet, IsSameFunction, memory_stays, same_function, tape_stays}
 
 -- the state with another clock, other blocks and another stack
@@ -25,10 +25,10 @@ state_with st clock nesting stack =
     record { core = record st.core { clock = clock; nesting = nesting; stack = stack }; tape = st.tape }
 
 -- what is on top of a row's stack
-pub top_at : (rows : List (List ℕ)) (i : ℕ) → top (state_at rows i).core ≡ s (row_at rows i) 0
-top_at rows i = top_index (row_at rows i) (below_at rows i) 0 (omega arith)
+pub top_at : (k : Claim) (rows : List (List ℕ)) (i : ℕ) → top (state_in k rows i).core ≡ s (row_at rows i) 0
+top_at k rows i = top_index (row_at rows i) (below_at k rows i) 0 (omega arith)
 
-module _ {constants outputs : List ℕ} {kernel rows : List (List ℕ)} (known : Known constants kernel outputs rows) where
+module _ {constants : List ℕ} {kernel rows : List (List ℕ)} {k : Claim} (known : Known constants kernel k rows) where
   pub clock_next : (i : ℕ) → suc i < length rows → clk (row_at rows i) + 1 ≡ clk (row_at rows (suc i))
   clock_next i within =
       ap (λ n. n + 1) (clock_at known i (before i (length rows) within)) ∙ one_more i ∙ sym (clock_at known (suc i) within)
@@ -39,8 +39,8 @@ module _ {constants outputs : List ℕ} {kernel rows : List (List ℕ)} (known :
   -- a row that neither calls nor ends a call changes the clock, the open blocks and the stack alone
   pub state_next : (i : ℕ) (m : Op) → IsAt rows i m → IsQuiet m → is_call_op (op_in rows i) ≡ false
       → ends_call (op_in rows i) (row_at rows i) ≡ false → (nesting : ℕ) (stack : List ℕ) → nesting ≡ lv (row_at rows (suc i))
-      → stack ≡ cells (row_at rows (suc i)) ++ below_at rows (suc i)
-      → state_with (state_at rows i) (clk (row_at rows i) + 1) nesting stack ≡ state_at rows (suc i)
+      → stack ≡ cells (row_at rows (suc i)) ++ below_at k rows (suc i)
+      → state_with (state_in k rows i) (clk (row_at rows i) + 1) nesting stack ≡ state_in k rows (suc i)
   state_next i m at quiet no_call no_return nesting stack level cells_are =
       same_state (clock_next i at.within) same.context same.frame (ap (λ n. eqb n 1) same.syscall) same.digest level cells_are
       (memory_stays rows i m at quiet) (tape_stays rows i m at quiet)

@@ -2,7 +2,10 @@
 use Rattle.std.specs.Prelude.{◌≡◌, ℕ, ◌-◌, ◌≤◌, List, length}
 use Rattle.vm_field.specs.Limits.{most_inputs, number_of_constants}
 use Rattle.vm_field.specs.Machine.{Stands, start}
+use Rattle.air_kit.specs.BoundaryValues.{deep_at_start}
+use Rattle.air_kit.specs.Places.{Claim}
 use Rattle.air_kit.specs.RowStates.{state_at, tape_of}
+use Rattle.air_kit.specs.Traces.{claim_of}
 use Rattle.air_kit.specs.declared.trace.Public.{Public}
 use Rattle.air_kit.specs.declared.trace.Trace.{Trace}
 use Rattle.rpo_hash.specs.Constants.{constants_of}
@@ -10,11 +13,11 @@ use Rattle.sound_buses.specs.BusFacts.{Granted, HasTables}
 
 -- The first row shows the state at the start, with the inputs and the trace's tape; the last one shows the end, with the outputs, after
 -- as many cycles as rows have one behind them.
-pub record EndFacts (inputs outputs : List ℕ) (rows : List (List ℕ)) : Type 0 where
-  pub starts : state_at rows 0 ≡ start inputs (tape_of rows)
-  pub stands : Stands (state_at rows (length rows - 1)) outputs
-  pub clock : (state_at rows (length rows - 1)).core.clock ≡ length rows - 1
+pub record EndFacts (k : Claim) (rows : List (List ℕ)) : Type 0 where
+  pub starts : state_at (deep_at_start k) rows 0 ≡ start k.inputs (tape_of rows)
+  pub stands : Stands (state_at (deep_at_start k) rows (length rows - 1)) k.outputs
+  pub clock : (state_at (deep_at_start k) rows (length rows - 1)).core.clock ≡ length rows - 1
 
 abbrev pub GrantedEnds : Type 0
-GrantedEnds = (p : Public) (t : Trace) → length (constants_of p.params) ≡ number_of_constants → length p.statement.inputs ≤ most_inputs → HasTables t → Granted p t
-    → EndFacts p.statement.inputs p.statement.outputs t.main
+GrantedEnds = (p : Public) (t : Trace) → length (constants_of p.params) ≡ number_of_constants → length p.statement.inputs ≤ most_inputs → HasTables t
+    → Granted p t → EndFacts (claim_of p t) t.main

@@ -1,127 +1,96 @@
 -- Laws of the head of a table file.
-use Rattle.std.proofs.Common.{◌≡◌, ℕ, ◌+◌, ◌^◌, ◌<◌, ◌≤◌, Bool, true, ◌==◌, List, ◌++◌, drop, codes, Result, Ok, refl, sym, ap, ◌∙◌, arith, append_assoc}
+use Rattle.std.proofs.Common.{◌≡◌, ℕ, suc, ◌+◌, ◌*◌, ◌^◌, ◌<◌, ◌≤◌, Bool, true, ◌==◌, List, [], ◌∷◌, ◌++◌, drop, length, map, codes, Result, Ok, refl, sym, ap, subst, ◌∙◌, arith, append_assoc}
 use Rattle.std.proofs.lemmas.Bool.{eqb-true}
 use Rattle.byteorder.specs.Endian.{little_bytes}
 use Rattle.byteorder.specs.Numbers.{length-bytes_low_first}
-use Rattle.air_kit.specs.Traces.{most_rows}
+use Rattle.air_kit.specs.Tables.{every_table}
+use Rattle.air_kit.specs.Traces.{IsCount, most_rows}
 use Rattle.air_kit.specs.declared.trace.TableName.{TableName}
 use Rattle.air_kit.specs.declared.trace.TableName.TheVariants as table
+use Rattle.air_kit.specs.Counts.{may_have}
+use Rattle.air_kit.proofs.CountLaws.{is_count, may_have_if}
 use Rattle.table_file.specs.declared.cause.FileCause.{FileCause}
 use Rattle.table_file.specs.declared.cause.FileCause.TheVariants as cause
 use Rattle.table_file.specs.declared.cause.FileError.{FileError}
-use Rattle.table_file.specs.declared.counts.RowCounts.{RowCounts}
-use Rattle.table_file.specs.Fields.{number_at}
-use Rattle.table_file.specs.Files.{magic, count_at, count_bytes, counts_of, head_of, head_bytes}
-use Rattle.air_kit.specs.Counts.{may_have}
-use Rattle.air_kit.proofs.CountLaws.{may-have}
+use Rattle.table_file.specs.Fields.{number_at, parts_bytes}
+use Rattle.table_file.specs.Files.{magic, count_at, count_bytes, counts_at, head_of, head_bytes}
 use Rattle.table_file.proofs.Chains.{chain}
-use Rattle.table_file.proofs.NumberLaws.{AreBytes, number-tested, number-written, number-reads}
+use Rattle.table_file.proofs.NumberLaws.{AreBytes, number-says, number-tested, number-written, number-reads}
 use Rattle.table_file.proofs.PartLaws.{behind_part}
+use Rattle.table_file.proofs.TablesByName.{Each}
+
+-- a count fits its bytes
+pub few-fit : (name : TableName) (n : ℕ) → n ≤ most_rows name → n < 256 ^ 4
+few-fit table.Main n h = omega arith
+few-fit table.Range n h = omega arith
+few-fit table.Hasher n h = omega arith
+few-fit table.Bitwise n h = omega arith
+few-fit table.Memory n h = omega arith
+few-fit table.Kernel n h = omega arith
+few-fit table.Left n h = omega arith
 
 module _ (bytes : List ℕ) where
-  -- the fields of a head that reads as these counts
-  pub record HeadSays (c : RowCounts) : Type 0 where
-    pub word : ℕ
-    pub word_is : number_at bytes 4 cause.Magic (λ n. n == magic) 0 ≡ Ok word
-    pub version : ℕ
-    pub version_is : number_at bytes 4 cause.Version (λ n. n == 1) 4 ≡ Ok version
-    pub main : count_at bytes table.Main 8 ≡ Ok c.main
-    pub range : count_at bytes table.Range 12 ≡ Ok c.range
-    pub hasher : count_at bytes table.Hasher 16 ≡ Ok c.hasher
-    pub bitwise : count_at bytes table.Bitwise 20 ≡ Ok c.bitwise
-    pub memory : count_at bytes table.Memory 24 ≡ Ok c.memory
-    pub kernel : count_at bytes table.Kernel 28 ≡ Ok c.kernel
-    pub left : count_at bytes table.Left 32 ≡ Ok c.left
+  -- counts that read well from a place on
+  pub record CountsSay (names : List TableName) (at : ℕ) (counts : List ℕ) : Type 0 where
+    pub each : length counts ≡ length names
+    pub may : Each IsCount names counts
+    pub within : at + 4 * length names ≤ length bytes
+    pub written : AreBytes bytes → parts_bytes count_bytes counts ++ drop (at + 4 * length names) bytes ≡ drop at bytes
 
-  abbrev counted : RowCounts → Result RowCounts FileError
-  counted c = Ok c
-
-  inside : (a b : RowCounts) → counted a ≡ Ok b → a ≡ b
+  inside : {A : Type 0} (a b : A) → (let r : Result A FileError = Ok a in r) ≡ Ok b → a ≡ b
   inside a b e = cc
-
-  pub head-says : (c : RowCounts) → head_of bytes ≡ Ok c → HeadSays c
-  unfolding head_of counts_of
-  head-says c e =
-      let word = chain (number_at bytes 4 cause.Magic (λ n. n == magic) 0) c _ e in
-      let version = chain (number_at bytes 4 cause.Version (λ n. n == 1) 4) c _ word.2 in
-      let main = chain (count_at bytes table.Main 8) c _ version.2 in
-      let range = chain (count_at bytes table.Range 12) c _ main.2 in
-      let hasher = chain (count_at bytes table.Hasher 16) c _ range.2 in
-      let bitwise = chain (count_at bytes table.Bitwise 20) c _ hasher.2 in
-      let memory = chain (count_at bytes table.Memory 24) c _ bitwise.2 in
-      let kernel = chain (count_at bytes table.Kernel 28) c _ memory.2 in
-      let left = chain (count_at bytes table.Left 32) c _ kernel.2 in
-      let is =
-      inside (record {
-        main = main.0;
-        range = range.0;
-        hasher = hasher.0;
-        bitwise = bitwise.0;
-        memory = memory.0;
-        kernel = kernel.0;
-        left = left.0;
-      }) c left.2 in
-      record {
-        word = word.0;
-        word_is = word.1;
-        version = version.0;
-        version_is = version.1;
-        main = main.1 ∙ ap (λ (k : RowCounts). Ok k.main) is;
-        range = range.1 ∙ ap (λ (k : RowCounts). Ok k.range) is;
-        hasher = hasher.1 ∙ ap (λ (k : RowCounts). Ok k.hasher) is;
-        bitwise = bitwise.1 ∙ ap (λ (k : RowCounts). Ok k.bitwise) is;
-        memory = memory.1 ∙ ap (λ (k : RowCounts). Ok k.memory) is;
-        kernel = kernel.1 ∙ ap (λ (k : RowCounts). Ok k.kernel) is;
-        left = left.1 ∙ ap (λ (k : RowCounts). Ok k.left) is;
-      }
-
-  pub count-fits : (name : TableName) (at n : ℕ) → count_at bytes name at ≡ Ok n → may_have name n ≡ true
-  count-fits name at n is = number-tested bytes 4 cause.Count (may_have name) at n is
 
   -- a field in front of what follows it
   joined : (part more rest : List ℕ) (at next : ℕ) → part ++ drop next bytes ≡ drop at bytes → more ++ rest ≡ drop next bytes
       → (part ++ more) ++ rest ≡ drop at bytes
   joined part more rest at next here follows = append_assoc part more rest ∙ ap (λ (bs : List ℕ). part ++ bs) follows ∙ here
 
-  count-written : AreBytes bytes → (name : TableName) (at n : ℕ) → count_at bytes name at ≡ Ok n
-      → count_bytes n ++ drop (at + 4) bytes ≡ drop at bytes
-  count-written low name at n is = number-written bytes 4 cause.Count (may_have name) at n low is
+  counts-say : (names : List TableName) (at : ℕ) (counts : List ℕ) → at ≤ length bytes → counts_at bytes names at ≡ Ok counts → CountsSay names at counts
+  unfolding counts_at parts_bytes
+  counts-say [] at counts before is =
+      subst (CountsSay [] at) (inside [] counts is) (record {
+        each = refl;
+        may = tt;
+        within = omega arith;
+        written = λ low. let here : at + 4 * 0 ≡ at = omega arith in ap (λ (n : ℕ). drop n bytes) here;
+      })
+  counts-say (name ∷ names) at counts before is =
+      let a = chain (count_at bytes name at) counts _ is in
+      let b = chain (counts_at bytes names (at + 4)) counts _ a.2 in
+      let fits = (number-says bytes 4 cause.Count (may_have name) at a.0 a.1).0 in
+      let rest = counts-say names (at + 4) b.0 fits b.1 in
+      let place : at + 4 * suc (length names) ≡ at + 4 + 4 * length names = omega arith in
+      subst (CountsSay (name ∷ names) at) (inside (a.0 ∷ b.0) counts b.2) (record {
+        each = ap suc rest.each;
+        may = (is_count name a.0 (number-tested bytes 4 cause.Count (may_have name) at a.0 a.1), rest.may);
+        within = let long = rest.within in omega (arith, long, place);
+        written = λ low.
+            ap (λ (n : ℕ). (count_bytes a.0 ++ parts_bytes count_bytes b.0) ++ drop n bytes) place
+            ∙ joined (count_bytes a.0) (parts_bytes count_bytes b.0) (drop (at + 4 + 4 * length names) bytes) at (at + 4)
+            (number-written bytes 4 cause.Count (may_have name) at a.0 low a.1) (rest.written low);
+      })
 
-  -- the bytes of a good head are its own
-  pub head-written : AreBytes bytes → (c : RowCounts) → HeadSays c → head_bytes c ++ drop 36 bytes ≡ bytes
-  unfolding head_bytes
-  head-written low c says =
-      let word : says.word ≡ magic = eqb-true says.word magic (number-tested bytes 4 cause.Magic (λ n. n == magic) 0 says.word says.word_is) in
-      let version : says.version ≡ 1 = eqb-true says.version 1 (number-tested bytes 4 cause.Version (λ n. n == 1) 4 says.version says.version_is) in
-      let first : codes "MDTB" ++ drop 4 bytes ≡ bytes =
-      ap (λ (n : ℕ). little_bytes 4 n ++ drop 4 bytes) (sym word)
-      ∙ number-written bytes 4 cause.Magic (λ n. n == magic) 0 says.word low says.word_is in
-      let second : count_bytes 1 ++ drop 8 bytes ≡ drop 4 bytes =
-      ap (λ (n : ℕ). little_bytes 4 n ++ drop 8 bytes) (sym version)
-      ∙ number-written bytes 4 cause.Version (λ n. n == 1) 4 says.version low says.version_is in
-      let rest = drop 36 bytes in
-      joined (codes "MDTB") (count_bytes 1
-      ++ (count_bytes c.main ++ (count_bytes c.range
-      ++ (count_bytes c.hasher ++ (count_bytes c.bitwise
-      ++ (count_bytes c.memory ++ (count_bytes c.kernel ++ count_bytes c.left))))))) rest 0 4 first
-      (joined (count_bytes 1) (count_bytes c.main
-      ++ (count_bytes c.range ++ (count_bytes c.hasher
-      ++ (count_bytes c.bitwise ++ (count_bytes c.memory ++ (count_bytes c.kernel ++ count_bytes c.left)))))) rest 4 8 second
-      (joined (count_bytes c.main) (count_bytes c.range
-      ++ (count_bytes c.hasher ++ (count_bytes c.bitwise
-      ++ (count_bytes c.memory ++ (count_bytes c.kernel ++ count_bytes c.left))))) rest 8 12
-      (count-written low table.Main 8 c.main says.main)
-      (joined (count_bytes c.range) (count_bytes c.hasher
-      ++ (count_bytes c.bitwise ++ (count_bytes c.memory ++ (count_bytes c.kernel ++ count_bytes c.left)))) rest 12 16
-      (count-written low table.Range 12 c.range says.range)
-      (joined (count_bytes c.hasher) (count_bytes c.bitwise
-      ++ (count_bytes c.memory ++ (count_bytes c.kernel ++ count_bytes c.left))) rest 16 20
-      (count-written low table.Hasher 16 c.hasher says.hasher)
-      (joined (count_bytes c.bitwise) (count_bytes c.memory ++ (count_bytes c.kernel ++ count_bytes c.left)) rest 20 24
-      (count-written low table.Bitwise 20 c.bitwise says.bitwise)
-      (joined (count_bytes c.memory) (count_bytes c.kernel ++ count_bytes c.left) rest 24 28 (count-written low table.Memory 24 c.memory says.memory)
-      (joined (count_bytes c.kernel) (count_bytes c.left) rest 28 32 (count-written low table.Kernel 28 c.kernel says.kernel)
-      (count-written low table.Left 32 c.left says.left))))))))
+  -- what a good head says of its counts, and its bytes, which are its own
+  pub head-says : (counts : List ℕ) → head_of bytes ≡ Ok counts → CountsSay every_table 8 counts × (AreBytes bytes → head_bytes counts ++ drop 36 bytes ≡ bytes)
+  unfolding head_of head_bytes
+  head-says counts e =
+      let word = chain (number_at bytes 4 cause.Magic (λ n. n == magic) 0) counts _ e in
+      let version = chain (number_at bytes 4 cause.Version (λ n. n == 1) 4) counts _ word.2 in
+      let fits = (number-says bytes 4 cause.Version (λ n. n == 1) 4 version.0 version.1).0 in
+      let say = counts-say every_table 8 counts fits version.2 in
+      let is_word : word.0 ≡ magic = eqb-true word.0 magic (number-tested bytes 4 cause.Magic (λ n. n == magic) 0 word.0 word.1) in
+      let is_one : version.0 ≡ 1 = eqb-true version.0 1 (number-tested bytes 4 cause.Version (λ n. n == 1) 4 version.0 version.1) in (
+        say,
+        λ low.
+            let first : codes "MDTB" ++ drop 4 bytes ≡ bytes =
+            ap (λ (n : ℕ). little_bytes 4 n ++ drop 4 bytes) (sym is_word)
+            ∙ number-written bytes 4 cause.Magic (λ n. n == magic) 0 word.0 low word.1 in
+            let second : count_bytes 1 ++ drop 8 bytes ≡ drop 4 bytes =
+            ap (λ (n : ℕ). little_bytes 4 n ++ drop 8 bytes) (sym is_one)
+            ∙ number-written bytes 4 cause.Version (λ n. n == 1) 4 version.0 low version.1 in
+            joined (codes "MDTB") (count_bytes 1 ++ parts_bytes count_bytes counts) (drop 36 bytes) 0 4 first
+            (joined (count_bytes 1) (parts_bytes count_bytes counts) (drop 36 bytes) 4 8 second (say.written low)),
+      )
 
   field-read : (why : FileCause) (test : ℕ → Bool) (at n : ℕ) (rest : List ℕ) → n < 256 ^ 4 → test n ≡ true
       → drop at bytes ≡ little_bytes 4 n ++ rest → (number_at bytes 4 why test at ≡ Ok n) × (drop (at + 4) bytes ≡ rest)
@@ -130,72 +99,30 @@ module _ (bytes : List ℕ) where
     behind_part bytes (little_bytes 4 n) rest at 4 (length-bytes_low_first 0 4 n) is,
   )
 
-  few-fit : (name : TableName) (n : ℕ) → n ≤ most_rows name → n < 256 ^ 4
-  few-fit table.Main n h = omega arith
-  few-fit table.Range n h = omega arith
-  few-fit table.Hasher n h = omega arith
-  few-fit table.Bitwise n h = omega arith
-  few-fit table.Memory n h = omega arith
-  few-fit table.Kernel n h = omega arith
-  few-fit table.Left n h = omega arith
+  module _ (of : TableName → ℕ) (may : (name : TableName) → IsCount name (of name)) where
+    counts-read : (names : List TableName) (at : ℕ) (rest : List ℕ) → drop at bytes ≡ parts_bytes count_bytes (map of names) ++ rest
+        → (counts_at bytes names at ≡ Ok (map of names)) × (drop (at + 4 * length names) bytes ≡ rest)
+    unfolding counts_at parts_bytes
+    counts-read [] at rest is = (refl, (let here : at + 4 * 0 ≡ at = omega arith in ap (λ (n : ℕ). drop n bytes) here ∙ is))
+    counts-read (name ∷ names) at rest is =
+        let more = parts_bytes count_bytes (map of names) in
+        let one =
+        field-read cause.Count (may_have name) at (of name) (more ++ rest) (few-fit name (of name) (may name).most)
+        (may_have_if name (of name) (may name)) (is ∙ append_assoc (count_bytes (of name)) more rest) in
+        let others = counts-read names (at + 4) rest one.1 in
+        let place : at + 4 * suc (length names) ≡ at + 4 + 4 * length names = omega arith in
+        (rw (one.0, others.0) refl, ap (λ (n : ℕ). drop n bytes) place ∙ others.1)
 
-  count-read : (name : TableName) (at n : ℕ) (more rest : List ℕ) → may_have name n ≡ true
-      → drop at bytes ≡ (count_bytes n ++ more) ++ rest → (count_at bytes name at ≡ Ok n) × (drop (at + 4) bytes ≡ more ++ rest)
-  count-read name at n more rest good is =
-      field-read cause.Count (may_have name) at n (more ++ rest) (few-fit name n (may-have name n good).1) good
-      (is ∙ append_assoc (count_bytes n) more rest)
-
-  -- counts that tables may have
-  pub record MayStand (c : RowCounts) : Type 0 where
-    pub main : may_have table.Main c.main ≡ true
-    pub range : may_have table.Range c.range ≡ true
-    pub hasher : may_have table.Hasher c.hasher ≡ true
-    pub bitwise : may_have table.Bitwise c.bitwise ≡ true
-    pub memory : may_have table.Memory c.memory ≡ true
-    pub kernel : may_have table.Kernel c.kernel ≡ true
-    pub left : may_have table.Left c.left ≡ true
-
-  -- a head's bytes read as it, and what follows stands behind it
-  pub head-read : (c : RowCounts) (rest : List ℕ) → MayStand c → bytes ≡ head_bytes c ++ rest → (head_of bytes ≡ Ok c) × (drop 36 bytes ≡ rest)
-  unfolding head_bytes head_of counts_of
-  head-read c rest may is =
-      let word =
-      field-read cause.Magic (λ n. n == magic) 0 magic
-      ((count_bytes 1 ++ (count_bytes c.main
-      ++ (count_bytes c.range ++ (count_bytes c.hasher
-      ++ (count_bytes c.bitwise ++ (count_bytes c.memory ++ (count_bytes c.kernel ++ count_bytes c.left))))))) ++ rest)
-      (omega arith) refl (is ∙ append_assoc (codes "MDTB")
-      (count_bytes 1 ++ (count_bytes c.main
-      ++ (count_bytes c.range ++ (count_bytes c.hasher
-      ++ (count_bytes c.bitwise ++ (count_bytes c.memory ++ (count_bytes c.kernel ++ count_bytes c.left))))))) rest) in
-      let version =
-      field-read cause.Version (λ n. n == 1) 4 1
-      ((count_bytes c.main ++ (count_bytes c.range
-      ++ (count_bytes c.hasher ++ (count_bytes c.bitwise
-      ++ (count_bytes c.memory ++ (count_bytes c.kernel ++ count_bytes c.left)))))) ++ rest) (omega arith) refl
-      (word.1 ∙ append_assoc (count_bytes 1)
-      (count_bytes c.main ++ (count_bytes c.range
-      ++ (count_bytes c.hasher ++ (count_bytes c.bitwise
-      ++ (count_bytes c.memory ++ (count_bytes c.kernel ++ count_bytes c.left)))))) rest) in
-      let main =
-      count-read table.Main 8 c.main
-      (count_bytes c.range ++ (count_bytes c.hasher
-      ++ (count_bytes c.bitwise ++ (count_bytes c.memory ++ (count_bytes c.kernel ++ count_bytes c.left))))) rest may.main
-      version.1 in
-      let range =
-      count-read table.Range 12 c.range
-      (count_bytes c.hasher ++ (count_bytes c.bitwise
-      ++ (count_bytes c.memory ++ (count_bytes c.kernel ++ count_bytes c.left)))) rest may.range main.1 in
-      let hasher =
-      count-read table.Hasher 16 c.hasher
-      (count_bytes c.bitwise ++ (count_bytes c.memory ++ (count_bytes c.kernel ++ count_bytes c.left))) rest may.hasher
-      range.1 in
-      let bitwise =
-      count-read table.Bitwise 20 c.bitwise (count_bytes c.memory ++ (count_bytes c.kernel ++ count_bytes c.left)) rest
-      may.bitwise hasher.1 in
-      let memory = count-read table.Memory 24 c.memory (count_bytes c.kernel ++ count_bytes c.left) rest may.memory bitwise.1 in
-      let kernel = count-read table.Kernel 28 c.kernel (count_bytes c.left) rest may.kernel memory.1 in
-      let left =
-      field-read cause.Count (may_have table.Left) 32 c.left rest
-      (few-fit table.Left c.left (may-have table.Left c.left may.left).1) may.left kernel.1 in
-      (rw (word.0, version.0, main.0, range.0, hasher.0, bitwise.0, memory.0, kernel.0, left.0) refl, left.1)
+    -- a head's bytes read as it, and what follows stands behind it
+    pub head-read : (rest : List ℕ) → bytes ≡ head_bytes (map of every_table) ++ rest
+        → (head_of bytes ≡ Ok (map of every_table)) × (drop 36 bytes ≡ rest)
+    unfolding head_bytes head_of
+    head-read rest is =
+        let counts = parts_bytes count_bytes (map of every_table) in
+        let word =
+        field-read cause.Magic (λ n. n == magic) 0 magic ((count_bytes 1 ++ counts) ++ rest) (omega arith) refl
+        (is ∙ append_assoc (codes "MDTB") (count_bytes 1 ++ counts) rest) in
+        let version =
+        field-read cause.Version (λ n. n == 1) 4 1 (counts ++ rest) (omega arith) refl (word.1 ∙ append_assoc (count_bytes 1) counts rest) in
+        let others = counts-read every_table 8 rest version.1 in
+        (rw (word.0, version.0) others.0, others.1)

@@ -7,6 +7,7 @@ mod PartBytes
 mod PartLaws
 mod TraceReading
 mod TableLaws
+mod TablesByName
 pub mod PartReading
 pub mod LeftLemmas
 pub mod PartTraces

@@ -1,24 +1,23 @@
 -- A reader of a table file: what a head, rows and further bytes leave of the file.
-use Rattle.std.proofs.Common.{◌≡◌, ℕ, ◌+◌, ◌≤◌, ◌==◌, Bool, true, false, List, [], ◌++◌, drop, take, length, Option, Some, None, Result, Ok, Err, inl, inr, refl, sym, ap, subst, ◌∙◌, arith, append_assoc, append-nil}
+use Rattle.std.proofs.Common.{◌≡◌, ℕ, ◌+◌, ◌*◌, ◌≤◌, ◌==◌, Bool, true, false, List, [], ◌∷◌, ◌++◌, drop, take, length, Option, Some, None, Result, Ok, Err, inl, inr, refl, sym, ap, subst, ◌∙◌, arith, append_assoc, append-nil}
 use Rattle.std.proofs.Math.Seq.{drop-append_seam, take-add}
 use Rattle.std.proofs.lemmas.Bool.{le-ltb}
 use Rattle.std.proofs.lemmas.List.{drop-append-le, length-append, length-drop, length-take-le, nil_from_length, take_all, take-append-drop}
 use Rattle.std.specs.Option.{is_some}
 use Rattle.byteorder.specs.Endian.{little_number}
-use Rattle.air_kit.specs.declared.trace.TableName.TheVariants as table
+use Rattle.air_kit.specs.Tables.{every_table}
+use Rattle.air_kit.specs.declared.trace.TableName.{TableName}
 use Rattle.air_kit.specs.declared.trace.Trace.{Trace}
 use Rattle.table_file.specs.declared.cause.FileCause.{FileCause}
 use Rattle.table_file.specs.declared.cause.FileCause.TheVariants as cause
 use Rattle.table_file.specs.declared.cause.FileError.{FileError}
-use Rattle.table_file.specs.declared.counts.RowCounts.{RowCounts}
 use Rattle.table_file.specs.declared.part_trace.PartTrace.{PartTrace}
 use Rattle.table_file.specs.Fields.{GivesRead, behind, number_at}
-use Rattle.table_file.specs.Files.{counts_of, head_of, magic, tables_of, trace_of}
-use Rattle.table_file.specs.Reading.{Advances, GoesFurther, ReadsBehind, HasRead, HasTaken, IsMissing, PlacesAreSmall, Reader, StandsAt, rest_of}
+use Rattle.table_file.specs.Files.{counts_at, head_of, magic, no_rows, tables_from, trace_of}
+use Rattle.table_file.specs.Reading.{Advances, GoesFurther, ReadsBehind, HasRead, HasTaken, IsMissing, IsReady, Reader, StandsAt, rest_of}
 use Rattle.air_kit.specs.Counts.{may_have}
 use Rattle.table_file.proofs.Chains.{bad-read, goes_past}
 use Rattle.table_file.proofs.HeadLaws.{head-says}
-use Rattle.table_file.proofs.NumberLaws.{number-says}
 use Rattle.table_file.proofs.PartReading.{little-front, stands_behind}
 
 module _ (head more : List ℕ) (whole : 36 ≤ length head) where
@@ -33,32 +32,31 @@ module _ (head more : List ℕ) (whole : 36 ≤ length head) where
       = ap (little_number 4) (drop-append-le at head more before) ∙ little-front 4 (drop at head) more long in
       rw (le-ltb (length (head ++ more)) (at + 4) there_too, le-ltb (length head) (at + 4) there, number) refl
 
+  counts_front : (names : List TableName) (at : ℕ) → at + 4 * length names ≤ 36 → counts_at (head ++ more) names at ≡ counts_at head names at
+  unfolding counts_at
+  counts_front [] at within = refl
+  counts_front (name ∷ names) at within =
+      rw (number_front cause.Count (may_have name) at (omega (arith, within)), counts_front names (at + 4) (omega (arith, within))) refl
+
   -- a head is that of its own bytes
   pub head_front : head_of (head ++ more) ≡ head_of head
-  unfolding head_of counts_of
+  unfolding head_of
   head_front =
       rw (
         number_front cause.Magic (λ n. n == magic) 0 (omega arith),
         number_front cause.Version (λ n. n == 1) 4 (omega arith),
-        number_front cause.Count (may_have table.Main) 8 (omega arith),
-        number_front cause.Count (may_have table.Range) 12 (omega arith),
-        number_front cause.Count (may_have table.Hasher) 16 (omega arith),
-        number_front cause.Count (may_have table.Bitwise) 20 (omega arith),
-        number_front cause.Count (may_have table.Memory) 24 (omega arith),
-        number_front cause.Count (may_have table.Kernel) 28 (omega arith),
-        number_front cause.Count (may_have table.Left) 32 (omega arith),
+        counts_front every_table 8 (omega arith),
       ) refl
 
 -- a good head is whole
-pub head_whole : (bytes : List ℕ) (c : RowCounts) → head_of bytes ≡ Ok c → 36 ≤ length bytes
-head_whole bytes c is =
-    let left = (head-says bytes c is).left in
-    (number-says bytes 4 cause.Count (may_have table.Left) 32 c.left left).0
+pub head_whole : (bytes counts : List ℕ) → head_of bytes ≡ Ok counts → 36 ≤ length bytes
+head_whole bytes counts is = (head-says bytes counts is).0.within
 
 -- a bad head is the file's answer
 pub head_bad : (bytes : List ℕ) (e : FileError) → Err e ≡ head_of bytes → GivesRead {A = Trace} (Err e) (trace_of bytes)
 unfolding trace_of
-head_bad bytes e is = bad-read (trace_of bytes) e (ap (λ (r : Result RowCounts FileError). behind r (tables_of bytes)) (sym is))
+head_bad bytes e is =
+    bad-read (trace_of bytes) e (ap (λ (r : Result (List ℕ) FileError). behind r (λ counts. tables_from bytes every_table counts 36 no_rows)) (sym is))
 
 module _ (bytes : List ℕ) (whole : 36 ≤ length bytes) where
   abbrev head : List ℕ
@@ -67,16 +65,16 @@ module _ (bytes : List ℕ) (whole : 36 ≤ length bytes) where
   head_long : length head ≡ 36
   head_long = length-take-le 36 bytes whole
 
-  pub head_goes : (c : RowCounts) (p : PartTrace) → Ok c ≡ head_of head → p.at ≡ 36 → PlacesAreSmall p → ((all : List ℕ) → tables_of all c ≡ rest_of all p)
-      → GoesFurther None (Some p) bytes 36
+  pub head_goes : (c : List ℕ) (p : PartTrace) → Ok c ≡ head_of head → p.at ≡ 36 → IsReady p
+      → ((all : List ℕ) → tables_from all every_table c 36 no_rows ≡ rest_of all p) → GoesFurther None (Some p) bytes 36
   unfolding trace_of
-  head_goes c p is at small begins = record {
+  head_goes c p is at ready begins = record {
     some = omega arith;
     within = whole;
-    small = small;
+    ready = ready;
     goes = λ done none. subst (λ (d : List ℕ). ReadsBehind (Some p) (d ++ head)) (sym none) (
       head_long ∙ sym at,
-      λ more. goes_past (head_of (head ++ more)) c (tables_of (head ++ more))
+      λ more. goes_past (head_of (head ++ more)) c (λ counts. tables_from (head ++ more) every_table counts 36 no_rows)
           (head_front head more (omega (arith, head_long)) ∙ sym is) ∙ begins (head ++ more),
     );
   }
@@ -93,7 +91,7 @@ pub rows_go : (p q : PartTrace) (bytes : List ℕ) (count : ℕ) → Advances p 
 rows_go p q bytes count a = record {
   some = a.some;
   within = a.within;
-  small = a.small;
+  ready = a.ready;
   goes = λ done on.
       let part = take count bytes in
       let within = a.within in (

@@ -1,8 +1,9 @@
 -- Table files (docs/FORMATS.md): the trace that bytes read as, and the bytes of a trace.
-use Rattle.std.specs.Prelude.{ℕ, ◌+◌, ◌*◌, ◌^◌, ◌≤◌, ◌==◌, nat_lt, if◌then◌else◌, List, ◌++◌, length, codes, Result, Ok, Err}
+use Rattle.std.specs.Prelude.{ℕ, ◌+◌, ◌*◌, ◌^◌, ◌≤◌, ◌==◌, nat_lt, if◌then◌else◌, List, [], ◌∷◌, ◌++◌, length, sum, codes, Result, Ok, Err}
 use Rattle.byteorder.specs.Endian.{little_number, little_bytes}
 use Rattle.vm_table.specs.Layout.{IsTable}
-use Rattle.air_kit.specs.Traces.{rows_of, most_rows}
+use Rattle.air_kit.specs.Tables.{columns, every_table}
+use Rattle.air_kit.specs.Traces.{lengths_of, rows_of}
 use Rattle.air_kit.specs.declared.trace.TableName.{TableName}
 use Rattle.air_kit.specs.declared.trace.TableName.TheVariants as table
 use Rattle.air_kit.specs.declared.trace.Trace.{Trace}
@@ -10,18 +11,7 @@ use Rattle.air_kit.specs.Counts.{may_have}
 use Rattle.table_file.specs.declared.cause.FileCause.TheVariants as cause
 use Rattle.table_file.specs.declared.cause.FileError.{FileError}
 use Rattle.table_file.specs.declared.cause.FileError.TheVariants.{Bad}
-use Rattle.table_file.specs.declared.counts.RowCounts.{RowCounts}
-use Rattle.table_file.specs.Fields.{behind, number_at, rows_at, table_bytes}
-
--- how many columns each table has
-abbrev pub columns : TableName → ℕ
-columns table.Main = 65
-columns table.Range = 2
-columns table.Hasher = 15
-columns table.Bitwise = 12
-columns table.Memory = 14
-columns table.Kernel = 5
-columns table.Left = 1
+use Rattle.table_file.specs.Fields.{behind, number_at, parts_bytes, rows_at, table_bytes}
 
 -- the rows of each table have its columns, and are made of elements
 abbrev pub AreTables : Trace → Type 0
@@ -35,103 +25,60 @@ magic = little_number 4 (codes "MDTB")
 abbrev pub count_at : List ℕ → TableName → ℕ → Result ℕ FileError
 count_at bytes name at = number_at bytes 4 cause.Count (may_have name) at
 
--- the seven row counts
-unfoldable pub counts_of : List ℕ → Result RowCounts FileError
-counts_of bytes =
-    behind (count_at bytes table.Main 8) (λ main.
-    behind (count_at bytes table.Range 12) (λ range.
-    behind (count_at bytes table.Hasher 16) (λ hasher.
-    behind (count_at bytes table.Bitwise 20) (λ bitwise.
-    behind (count_at bytes table.Memory 24) (λ memory.
-    behind (count_at bytes table.Kernel 28) (λ kernel.
-    behind (count_at bytes table.Left 32) (λ left.
-    Ok (record { main = main; range = range; hasher = hasher; bitwise = bitwise; memory = memory; kernel = kernel; left = left }))))))))
+-- the row counts of tables, one after the other
+unfoldable pub counts_at : List ℕ → List TableName → ℕ → Result (List ℕ) FileError
+counts_at bytes [] at = Ok []
+counts_at bytes (name ∷ names) at =
+    behind (count_at bytes name at) (λ count. behind (counts_at bytes names (at + 4)) (λ counts. Ok (count ∷ counts)))
 
 -- `MDTB`, the version 1, and the row counts
-unfoldable pub head_of : List ℕ → Result RowCounts FileError
+unfoldable pub head_of : List ℕ → Result (List ℕ) FileError
 head_of bytes =
     behind (number_at bytes 4 cause.Magic (λ n. n == magic) 0) (λ _.
-    behind (number_at bytes 4 cause.Version (λ n. n == 1) 4) (λ _. counts_of bytes))
-
--- where each table begins, and where the file ends
-abbrev pub range_place : RowCounts → ℕ
-range_place c = 36 + 8 * columns table.Main * c.main
-
-abbrev pub hasher_place : RowCounts → ℕ
-hasher_place c = range_place c + 8 * columns table.Range * c.range
-
-abbrev pub bitwise_place : RowCounts → ℕ
-bitwise_place c = hasher_place c + 8 * columns table.Hasher * c.hasher
-
-abbrev pub memory_place : RowCounts → ℕ
-memory_place c = bitwise_place c + 8 * columns table.Bitwise * c.bitwise
-
-abbrev pub kernel_place : RowCounts → ℕ
-kernel_place c = memory_place c + 8 * columns table.Memory * c.memory
-
-abbrev pub left_place : RowCounts → ℕ
-left_place c = kernel_place c + 8 * columns table.Kernel * c.kernel
-
-abbrev pub end_place : RowCounts → ℕ
-end_place c = left_place c + 8 * columns table.Left * c.left
+    behind (number_at bytes 4 cause.Version (λ n. n == 1) 4) (λ _. counts_at bytes every_table 8))
 
 -- a value, where no byte stands behind a place
 unfoldable pub ended_at : {A : Type 0} → List ℕ → ℕ → A → Result A FileError
 ended_at bytes at x = if nat_lt at (length bytes) then Err (Bad at cause.Extra) else Ok x
 
--- the seven tables, behind which no byte stands
-unfoldable pub tables_of : List ℕ → RowCounts → Result Trace FileError
-tables_of bytes c =
-    behind (rows_at bytes (columns table.Main) c.main 36) (λ main.
-    behind (rows_at bytes (columns table.Range) c.range (range_place c)) (λ range.
-    behind (rows_at bytes (columns table.Hasher) c.hasher (hasher_place c)) (λ hasher.
-    behind (rows_at bytes (columns table.Bitwise) c.bitwise (bitwise_place c)) (λ bitwise.
-    behind (rows_at bytes (columns table.Memory) c.memory (memory_place c)) (λ memory.
-    behind (rows_at bytes (columns table.Kernel) c.kernel (kernel_place c)) (λ kernel.
-    behind (rows_at bytes (columns table.Left) c.left (left_place c)) (λ left.
-    ended_at bytes (end_place c)
-    (record { main = main; range = range; hasher = hasher; bitwise = bitwise; memory = memory; kernel = kernel; left = left }))))))))
+-- a trace with no rows
+abbrev pub no_rows : Trace
+no_rows = record { main = []; range = []; hasher = []; bitwise = []; memory = []; kernel = []; left = [] }
+
+-- a trace whose rows of a table are these
+abbrev pub with_rows : TableName → List (List ℕ) → Trace → Trace
+with_rows table.Main rows t = record t { main = rows }
+with_rows table.Range rows t = record t { range = rows }
+with_rows table.Hasher rows t = record t { hasher = rows }
+with_rows table.Bitwise rows t = record t { bitwise = rows }
+with_rows table.Memory rows t = record t { memory = rows }
+with_rows table.Kernel rows t = record t { kernel = rows }
+with_rows table.Left rows t = record t { left = rows }
+
+-- The tables from a place on, each with so many rows, which go behind those of a trace. No byte stands behind the last table.
+unfoldable pub tables_from : List ℕ → List TableName → List ℕ → ℕ → Trace → Result Trace FileError
+tables_from bytes [] counts at t = ended_at bytes at t
+tables_from bytes (name ∷ names) [] at t = ended_at bytes at t
+tables_from bytes (name ∷ names) (count ∷ counts) at t =
+    behind (rows_at bytes (columns name) count at)
+    (λ rows. tables_from bytes names counts (at + 8 * columns name * count) (with_rows name (rows_of t name ++ rows) t))
 
 -- the trace that bytes read as, or the first bad field
 unfoldable pub trace_of : List ℕ → Result Trace FileError
-trace_of bytes = behind (head_of bytes) (tables_of bytes)
+trace_of bytes = behind (head_of bytes) (λ counts. tables_from bytes every_table counts 36 no_rows)
 
 -- a number of 32 bits, lowest byte first
 abbrev pub count_bytes : ℕ → List ℕ
 count_bytes n = little_bytes 4 n
 
--- the row counts of a trace
-abbrev pub counts_in : Trace → RowCounts
-counts_in t = record {
-  main = length t.main;
-  range = length t.range;
-  hasher = length t.hasher;
-  bitwise = length t.bitwise;
-  memory = length t.memory;
-  kernel = length t.kernel;
-  left = length t.left;
-}
-
 -- `MDTB`, the version and the row counts
-unfoldable pub head_bytes : RowCounts → List ℕ
-head_bytes c =
-    codes "MDTB" ++ count_bytes 1 ++ count_bytes c.main ++ count_bytes c.range ++ count_bytes c.hasher ++ count_bytes c.bitwise
-    ++ count_bytes c.memory ++ count_bytes c.kernel ++ count_bytes c.left
+unfoldable pub head_bytes : List ℕ → List ℕ
+head_bytes counts = codes "MDTB" ++ (count_bytes 1 ++ parts_bytes count_bytes counts)
 
 -- the table file of a trace
 unfoldable pub bytes_of : Trace → List ℕ
-bytes_of t =
-    head_bytes (counts_in t)
-    ++ (table_bytes t.main
-    ++ (table_bytes t.range
-    ++ (table_bytes t.hasher ++ (table_bytes t.bitwise ++ (table_bytes t.memory ++ (table_bytes t.kernel ++ table_bytes t.left))))))
+bytes_of t = head_bytes (lengths_of t) ++ parts_bytes (λ name. table_bytes (rows_of t name)) every_table
 
--- bounds of the row counts, by which places stay small
-pub record AreFew (c : RowCounts) : Type 0 where
-  pub main : c.main ≤ most_rows table.Main
-  pub range : c.range ≤ most_rows table.Range
-  pub hasher : c.hasher ≤ most_rows table.Hasher
-  pub bitwise : c.bitwise ≤ most_rows table.Bitwise
-  pub memory : c.memory ≤ most_rows table.Memory
-  pub kernel : c.kernel ≤ most_rows table.Kernel
-  pub left : c.left ≤ most_rows table.Left
+-- a bound of the row counts, by which places stay small
+abbrev pub AreFew : List ℕ → Type 0
+AreFew counts = sum counts ≤ 2 ^ 24

@@ -4,7 +4,7 @@ ghost use Rattle.table_file.specs.Fields.{number_at};
 ghost use Rattle.table_file.specs.Files.{AreFew, head_of, magic};
 
 use crate::cause::{FileCause, FileError, bad};
-use crate::counts::{RowCounts, read_counts};
+use crate::counts::read_counts;
 use byteorder::{ByteOrder, LittleEndian};
 
 /// The bytes `MDTB`, as a number of 32 bits whose lowest byte stands first.
@@ -18,7 +18,7 @@ pub(crate) const HEAD_BYTES: usize = 36;
 
 /// The row counts that the head of a file tells.
 #[tactic(auto, unfolding(crate::specs::Files::head_of))]
-pub(crate) fn read_head(bytes: &[u8]) -> Result<RowCounts, FileError>
+pub(crate) fn read_head(bytes: &[u8]) -> Result<[usize; 7], FileError>
     ensures is { result ≡ head_of bytes.now }
     ensures few { IfOk result AreFew }
 {

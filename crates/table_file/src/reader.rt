@@ -2,7 +2,7 @@ ghost use Rattle.std.specs.Prelude.{◌≡◌, ◌+◌, ◌<◌, ◌≤◌, ◌+
 ghost use Rattle.air_kit.specs.Traces.{HasCounts};
 ghost use Rattle.table_file.specs.Fields.{GivesRead};
 ghost use Rattle.table_file.specs.Files.{AreTables, trace_of};
-ghost use Rattle.table_file.specs.Reading.{GoesFurther, ReadsBehind, HasRead, HasTaken, IsMissing, PlacesAreSmall, wanted};
+ghost use Rattle.table_file.specs.Reading.{GoesFurther, ReadsBehind, HasRead, HasTaken, IsMissing, IsReady, wanted};
 
 use crate::cause::FileError;
 use crate::head::{HEAD_BYTES, read_head};
@@ -39,13 +39,13 @@ pub struct TableReader {
 
 impl Model for TableReader {
     ghost use Rattle.std.specs.Prelude.{◌<◌, length, IfSome};
-    ghost use Rattle.table_file.specs.Reading.{PlacesAreSmall, Reader, wanted};
+    ghost use Rattle.table_file.specs.Reading.{IsReady, Reader, wanted};
 
     ghost Value = { Reader };
 
     ghost view = { λ a. record { carried = a.carried.items; part = a.part; stop = a.stop } };
 
-    ghost invariant = { λ a. IfSome a.part PlacesAreSmall × (length a.carried.items < wanted a.part) };
+    ghost invariant = { λ a. IfSome a.part IsReady × (length a.carried.items < wanted a.part) };
 }
 
 impl TableReader {
@@ -100,7 +100,7 @@ impl TableReader {
     {
         match &self.part {
             None => HEAD_BYTES,
-            Some(part) => part.next_row().unwrap_or(1),
+            Some(part) => part.next_row(),
         }
     }
 
@@ -168,9 +168,9 @@ fn go_on(
     bytes: &[u8],
 ) -> usize
     requires going { stop.old ≡ None }
-    requires small { IfSome part.old PlacesAreSmall }
+    requires ready { IfSome part.old IsReady }
     requires enough { wanted part.old ≤ length bytes.now }
-    ensures small { IfSome part.new PlacesAreSmall }
+    ensures ready { IfSome part.new IsReady }
     ensures some { 1 ≤ result }
     ensures whole { wanted part.old ≤ result }
     ensures within { result ≤ length bytes.now }
@@ -189,7 +189,7 @@ fn go_on(
 // Reads the head, or rows of one table, and answers how many bytes they have.
 #[tactic(auto, using(crate::proofs::Readers::rows_go, crate::proofs::Readers::rows_stop))]
 fn advance(alloc: Global, part: &mut Option<PartTrace>, bytes: &[u8]) -> Result<usize, FileError>
-    requires small { IfSome part.old PlacesAreSmall }
+    requires ready { IfSome part.old IsReady }
     requires enough { wanted part.old ≤ length bytes.now }
     ensures ok { IfOk result (λ count. GoesFurther part.old part.new bytes.now count) }
     ensures err { IfErr result (λ error. (done more : List ℕ) → ReadsBehind part.old done

@@ -1,4 +1,4 @@
-ghost use Rattle.std.specs.Prelude.{◌≡◌, ◌+◌, ◌*◌, ◌^◌, ◌<◌, ◌≤◌, ℕ, List, drop, length, Ok, Err, IfOk, OnOk, IfErr};
+ghost use Rattle.std.specs.Prelude.{◌≡◌, IsTrue, ◌+◌, ◌*◌, ◌^◌, ◌<◌, ◌≤◌, ℕ, List, drop, length, Ok, Err, IfOk, OnOk, IfErr};
 ghost use Rattle.table_file.specs.Fields.{GivesRead, element_at, row_at, rows_at};
 ghost use Rattle.table_file.specs.Reading.{ReadsRows, StandsAt};
 
@@ -40,8 +40,56 @@ pub(crate) fn take_rows<const W: usize>(
 }
 
 // The row that these bytes are.
-#[inline(never)]
 fn read_row<const W: usize>(part: &[u8], at: usize, row: &mut [Felt; W]) -> Result<(), FileError>
+    requires narrow { W ≤ 65 }
+    requires place { at ≤ 2 ^ 35 }
+    requires whole { length part.now ≡ 8 * W }
+    ensures ok { OnOk result ((all : List ℕ) → StandsAt all at part.now → row_at all W at ≡ Ok row.new) }
+    ensures err { IfErr result (λ error. (all : List ℕ) → StandsAt all at part.now → row_at all W at ≡ Err error) }
+{
+    if are_elements(part, row) {
+        Ok(())
+    } else {
+        read_elements(part, at, row)
+    }
+}
+
+// Whether all elements of a row are elements, which it then is. It tests them with no stop on the way.
+#[inline(always)]
+fn are_elements<const W: usize>(part: &[u8], row: &mut [Felt; W]) -> bool
+    requires narrow { W ≤ 65 }
+    requires whole { length part.now ≡ 8 * W }
+    ensures { IsTrue result → (all : List ℕ) (at : ℕ) → StandsAt all at part.now → row_at all W at ≡ Ok row.new }
+{
+    let mut are = true;
+    for j in 0..W {
+        let (element, is_one) = element_or_zero(part, j);
+        row[j] = element;
+        are &= is_one;
+    }
+    are
+}
+
+// The element of this number, and true; 0, and false, where there is none.
+#[inline(always)]
+fn element_or_zero(part: &[u8], j: usize) -> (Felt, bool)
+    requires number { j < 65 }
+    requires inside { 8 * j + 8 ≤ length part.now }
+    ensures { IsTrue result.1 → (all : List ℕ) (at : ℕ) → StandsAt all at part.now → Ok result.0 ≡ element_at all (at + 8 * j) }
+{
+    match Felt::try_from_u64(LittleEndian::read_u64(part_from(part, ELEMENT_BYTES * j))) {
+        Ok(element) => (element, true),
+        Err(_) => (Felt::ZERO, false),
+    }
+}
+
+// The row that these bytes are, element by element.
+#[inline(never)]
+fn read_elements<const W: usize>(
+    part: &[u8],
+    at: usize,
+    row: &mut [Felt; W],
+) -> Result<(), FileError>
     requires narrow { W ≤ 65 }
     requires place { at ≤ 2 ^ 35 }
     requires whole { length part.now ≡ 8 * W }

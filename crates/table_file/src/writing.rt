@@ -1,13 +1,12 @@
-ghost use Rattle.std.specs.Prelude.{◌≡◌, ◌+◌, ◌*◌, ◌<◌, ◌≤◌, ◌++◌, [], false, true, drop, length, slice_index_or, IfOk};
-ghost use Rattle.air_kit.specs.Traces.{HasCounts};
+ghost use Rattle.std.specs.Prelude.{◌≡◌, ◌+◌, ◌*◌, ◌<◌, ◌≤◌, ◌++◌, [], true, drop, length, slice_index_or, IfOk};
+ghost use Rattle.air_kit.specs.Traces.{HasCounts, lengths_of, rows_of};
 ghost use Rattle.table_file.specs.Fields.{row_bytes, table_bytes};
-ghost use Rattle.table_file.specs.Files.{AreFew, bytes_of, count_bytes, head_bytes};
+ghost use Rattle.table_file.specs.Files.{bytes_of, count_bytes, head_bytes};
 ghost use Rattle.table_file.specs.Left.{left_of};
 
-use crate::counts::{NO_ROWS, RowCounts, counts_in};
 use crate::head::{MAGIC, VERSION};
 use crate::rows::ELEMENT_BYTES;
-use air_kit::Trace;
+use air_kit::{TableName, Trace};
 use byteorder::{ByteOrder, LittleEndian};
 use std::alloc::Global;
 use std::marker::Model;
@@ -33,8 +32,9 @@ pub struct TablePieces<'a> {
     trace: &'a Trace,
     // whether the head was given
     has_head: bool,
-    // how many rows of each table were given
-    given: RowCounts,
+    // the table and the row of it that come next
+    table: usize,
+    row: usize,
 }
 
 impl<'a> Model for TablePieces<'a> {
@@ -43,7 +43,7 @@ impl<'a> Model for TablePieces<'a> {
 
     ghost Value = { List ℕ };
 
-    ghost view = { λ a. left_of a.trace.now a.has_head a.given };
+    ghost view = { λ a. left_of a.trace.now a.has_head a.table a.row };
 
     ghost use Rattle.air_kit.specs.Traces.{HasCounts};
 
@@ -60,7 +60,8 @@ impl<'a> TablePieces<'a> {
         TablePieces {
             trace,
             has_head: false,
-            given: NO_ROWS,
+            table: 0,
+            row: 0,
         }
     }
 }
@@ -73,30 +74,39 @@ impl<'a> Pieces for TablePieces<'a> {
     fn next_piece(&mut self, room: &mut Piece) {
         room.clear();
         if self.has_head {
-            add_rows(room, self.trace, &mut self.given);
+            add_rows(room, self.trace, &mut self.table, &mut self.row);
         } else {
-            add_head(room, &counts_in(self.trace));
+            add_head(room, self.trace);
             self.has_head = true;
         }
     }
 }
 
-#[tactic(auto, unfolding(crate::specs::Files::head_bytes))]
-fn add_head(room: &mut Piece, counts: &RowCounts)
-    requires few { AreFew counts.now }
+#[tactic(auto, unfolding(crate::specs::Files::head_bytes, crate::specs::Fields::parts_bytes))]
+fn add_head(room: &mut Piece, trace: &Trace)
+    requires counts { HasCounts trace.now }
     requires empty { room.old.items ≡ [] }
-    ensures is { room.new.items ≡ head_bytes counts.now }
+    ensures is { room.new.items ≡ head_bytes (lengths_of trace.now) }
     ensures some { length room.new.items ≡ 36 }
 {
     add_u32(room, MAGIC);
     add_u32(room, VERSION);
-    add_u32(room, counts.main as u32);
-    add_u32(room, counts.range as u32);
-    add_u32(room, counts.hasher as u32);
-    add_u32(room, counts.bitwise as u32);
-    add_u32(room, counts.memory as u32);
-    add_u32(room, counts.kernel as u32);
-    add_u32(room, counts.left as u32);
+    add_count(room, trace, TableName::Main);
+    add_count(room, trace, TableName::Range);
+    add_count(room, trace, TableName::Hasher);
+    add_count(room, trace, TableName::Bitwise);
+    add_count(room, trace, TableName::Memory);
+    add_count(room, trace, TableName::Kernel);
+    add_count(room, trace, TableName::Left);
+}
+
+fn add_count(room: &mut Piece, trace: &Trace, table: TableName)
+    requires counts { HasCounts trace.now }
+    requires fits { length room.old.items + 4 ≤ 65536 }
+    ensures is { room.new.items ≡ room.old.items ++ count_bytes (length (rows_of trace.now table)) }
+    ensures long { length room.new.items ≡ length room.old.items + 4 }
+{
+    add_u32(room, trace.rows(table) as u32);
 }
 
 fn add_u32(room: &mut Piece, number: u32)
@@ -110,31 +120,41 @@ fn add_u32(room: &mut Piece, number: u32)
 }
 
 // Adds the next rows of the first table of which some are left.
-#[tactic(auto, using(crate::proofs::LeftLemmas::goes_behind))]
-fn add_rows(room: &mut Piece, trace: &Trace, given: &mut RowCounts)
+fn add_rows(room: &mut Piece, trace: &Trace, table: &mut usize, row: &mut usize)
     requires { room.old.items ≡ [] }
-    ensures given { left_of trace.now true given.old ≡ room.new.items ++ left_of trace.now true given.new }
-    ensures end { room.new.items ≡ [] → left_of trace.now true given.old ≡ [] }
+    ensures given { left_of trace.now true table.old row.old ≡ room.new.items ++ left_of trace.now true table.new row.new }
+    ensures end { room.new.items ≡ [] → left_of trace.now true table.old row.old ≡ [] }
 {
-    if given.main < trace.main.rows() {
-        given.main = add_table(room, &trace.main, given.main);
-    } else if given.range < trace.range.rows() {
-        given.range = add_table(room, &trace.range, given.range);
-    } else if given.hasher < trace.hasher.rows() {
-        given.hasher = add_table(room, &trace.hasher, given.hasher);
-    } else if given.bitwise < trace.bitwise.rows() {
-        given.bitwise = add_table(room, &trace.bitwise, given.bitwise);
-    } else if given.memory < trace.memory.rows() {
-        given.memory = add_table(room, &trace.memory, given.memory);
-    } else if given.kernel < trace.kernel.rows() {
-        given.kernel = add_table(room, &trace.kernel, given.kernel);
-    } else if given.left < trace.left.rows() {
-        given.left = add_table(room, &trace.left, given.left);
+    while *table < 7 {
+        let name = TableName::EVERY[*table];
+        if *row < trace.rows(name) {
+            *row = add_table_rows(room, trace, name, *row);
+            return;
+        }
+        *table += 1;
+        *row = 0;
+    }
+}
+
+// Adds rows of one table of a trace, as `add_table` does.
+fn add_table_rows(room: &mut Piece, trace: &Trace, table: TableName, first: usize) -> usize
+    requires inside { first < length (rows_of trace.now table) }
+    requires empty { room.old.items ≡ [] }
+    ensures given { table_bytes (drop first (rows_of trace.now table)) ≡ room.new.items ++ table_bytes (drop result (rows_of trace.now table)) }
+    ensures some { 0 < length room.new.items }
+{
+    match table {
+        TableName::Main => add_table(room, &trace.main, first),
+        TableName::Range => add_table(room, &trace.range, first),
+        TableName::Hasher => add_table(room, &trace.hasher, first),
+        TableName::Bitwise => add_table(room, &trace.bitwise, first),
+        TableName::Memory => add_table(room, &trace.memory, first),
+        TableName::Kernel => add_table(room, &trace.kernel, first),
+        TableName::Left => add_table(room, &trace.left, first),
     }
 }
 
 // Adds the rows from one on, as many as there is room for, and answers which one comes next.
-
 fn add_table<const W: usize>(room: &mut Piece, table: &Table<W>, first: usize) -> usize
     requires narrow { W ≤ 65 }
     requires inside { first < length table.now }

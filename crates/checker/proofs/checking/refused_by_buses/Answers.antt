@@ -1,5 +1,4 @@
 -- From the counts of all rows to what is answered of the buses.
-use Rattle.std.proofs.Common.{ap}
 use Rattle.checker.specs.Settings.{claim_in}
 use Rattle.checker.proofs.ApartLemmas.{accepted, refused_at, refused_with}
 use Rattle.checker.proofs.CountingLemmas.{all_readable}
@@ -11,12 +10,12 @@ count_all-requires-clause-readable c = all_readable _ c.args.trace.now c.rows.en
 pub returns-in-Some-first_apart : goal.returns-in-Some-first_apart
 returns-in-Some-first_apart c =
     refused_with c.args.public.now c.args.trace.now c.refused.result c.in-Some-first_apart.apart c.refused.ensures
-    (refused_at c.args.public.now c.args.trace.now (claim_in c.of-setting.result) c.of-setting.result.public.now.statement.digest
+    (refused_at c.args.public.now c.args.trace.now (claim_in c.of-setting.result)
     c.in-Some.tallies c.in-Some-first_apart.apart
-    c.of-setting.ensures.claim (ap (λ p. p.statement.digest) c.of-setting.ensures.public) c.in-Some.ensures c.requires.zero
+    c.of-setting.ensures.claim c.in-Some.ensures c.requires.zero
     c.in-Some-first_apart.ensures)
 
 pub returns : goal.returns
 returns c =
-    accepted c.args.public.now c.args.trace.now (claim_in c.of-setting.result) c.of-setting.result.public.now.statement.digest c.in-Some.tallies
-    c.of-setting.ensures.claim (ap (λ p. p.statement.digest) c.of-setting.ensures.public) c.in-Some.ensures c.requires.zero c.in-None.ensures
+    accepted c.args.public.now c.args.trace.now (claim_in c.of-setting.result) c.in-Some.tallies
+    c.of-setting.ensures.claim c.in-Some.ensures c.requires.zero c.in-None.ensures

@@ -4,4 +4,4 @@ use Rattle.checker.proofs.counting.count_table.Given as goal
 
 abbrev pub invariant-loop-row : goal.invariant-loop-row
 invariant-loop-row l =
-    AreRowsCounted (claim_in l.setting) l.setting.public.now.statement.digest l.trace l.name l.row l.initial.tallies l.tallies
+    AreRowsCounted (claim_in l.setting) l.trace l.name l.row l.initial.tallies l.tallies

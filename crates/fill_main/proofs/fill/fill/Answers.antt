@@ -8,7 +8,7 @@ use Rattle.air_kit.specs.declared.requests.Requests.{Requests}
 use Rattle.machine_cycles.specs.declared.event.Event.{Event}
 use Rattle.machine_cycles.specs.declared.event.Visible.{Visible}
 use Rattle.complete_rows.specs.Decoder.{Decoder, decoder_after}
-use Rattle.complete_rows.specs.Filling.{fill, row_of}
+use Rattle.complete_rows.specs.Filling.{deep_before, fill, row_of}
 use Rattle.complete_rows.specs.Numbers.{IsU16}
 use Rattle.complete_rows.specs.RunRequests.{accesses_of, bits_of, calls_of, perms_of, ranges_by, ranges_of}
 use Rattle.complete_rows.specs.Turns.{repeats}
@@ -26,13 +26,14 @@ loop-i-init c =
     let last = c.args.last.now in
     let events = c.args.events.now in
     let none = c.no_requests-requests.ensures in
+    let deep : ℕ = deep_before last events in
     record {
       rows =
           ap (λ done. done ++ fill last (decoder_in c.new-decoder.result) events) (c.reserve.ensures ∙ c.new-table.ensures.empty)
-          ∙ ap (λ (d : Decoder). fill last d events) c.new-decoder.ensures;
-      after = ap (λ (d : Decoder). decoder_after d events) c.new-decoder.ensures;
+          ∙ ap (λ (d : Decoder). fill last d events) (c.new-decoder.ensures deep);
+      after = ap (λ (d : Decoder). decoder_after d events) (c.new-decoder.ensures deep);
       turns = c.in_ok-turns.ensures;
-      small = subst (λ d. IsSmall d 0 events) (sym c.new-decoder.ensures) (small_start events c.requires.few);
+      small = subst (λ d. IsSmall d 0 events) (sym (c.new-decoder.ensures deep)) (small_start deep events c.requires.few);
       perms = ap (λ (r : Requests). r.perms ++ perms_of constants events) none;
       bits = ap (λ (r : Requests). r.bits ++ bits_of events) none;
       accesses = ap (λ (r : Requests). r.accesses ++ accesses_of events) none;

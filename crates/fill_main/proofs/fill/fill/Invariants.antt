@@ -1,6 +1,6 @@
 use Rattle.std.proofs.Common.{◌≡◌, ◌++◌, drop}
 use Rattle.complete_rows.specs.Decoder.{at_start, decoder_after}
-use Rattle.complete_rows.specs.Filling.{fill}
+use Rattle.complete_rows.specs.Filling.{deep_before, fill}
 use Rattle.complete_rows.specs.RunRequests.{accesses_of, bits_of, calls_of, perms_of, ranges_of}
 use Rattle.fill_main.specs.Turns.{turns_of}
 use Rattle.fill_decoder.specs.Bounds.{IsSmall}
@@ -9,8 +9,8 @@ use Rattle.fill_main.proofs.fill.fill.Given as goal
 
 abbrev pub invariant-loop-i : goal.invariant-loop-i
 invariant-loop-i l = record {
-  rows : l.table ++ fill l.last (decoder_in l.decoder) (drop l.i l.events) ≡ fill l.last at_start l.events;
-  after : decoder_after (decoder_in l.decoder) (drop l.i l.events) ≡ decoder_after at_start l.events;
+  rows : l.table ++ fill l.last (decoder_in l.decoder) (drop l.i l.events) ≡ fill l.last (at_start (deep_before l.last l.events)) l.events;
+  after : decoder_after (decoder_in l.decoder) (drop l.i l.events) ≡ decoder_after (at_start (deep_before l.last l.events)) l.events;
   turns : l.turns ≡ turns_of (drop l.i l.events);
   small : IsSmall (decoder_in l.decoder) l.i (drop l.i l.events);
   perms : l.requests.perms ++ perms_of l.fn.permutations (drop l.i l.events) ≡ perms_of l.fn.permutations l.events;

@@ -4,7 +4,7 @@ use Rattle.sound_evidence.proofs.Runs.{is_run}
 use Rattle.sound_evidence.proofs.extracting.run_of.Goals as goal
 
 pub overflow_cast-cycles : goal.overflow_cast-cycles
-overflow_cast-cycles c = omega (arith, c.rows.ensures.is, c.requires.known.whole.counts.most table.Main)
+overflow_cast-cycles c = omega (arith, c.rows.ensures.is, (c.requires.known.whole.counts table.Main).most)
 
 pub returns : goal.returns
 returns c =
