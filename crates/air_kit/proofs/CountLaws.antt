@@ -1,5 +1,5 @@
 -- What the test of a number of rows says.
-use Rattle.std.proofs.Common.{◌≡◌, ℕ, ◌+◌, ◌<◌, ◌%◌, ◌↔◌, Bool, true, IsTrue, ◌==◌, ◌&&◌, nat_le, length, slice_index_or, refl, subst, arith, lit<, inl, inr, eq-eqb}
+use Rattle.std.proofs.Common.{◌≡◌, ℕ, ◌+◌, ◌<◌, ◌%◌, ◌↔◌, true, IsTrue, ◌==◌, ◌&&◌, nat_le, length, slice_index_or, refl, subst, arith, lit<, inl, inr, eq-eqb}
 use Rattle.std.proofs.lemmas.Bool.{and_parts, cases_lt, leb-true, le-leb, eqb-true}
 use Rattle.air_kit.specs.Traces.{HasCounts, IsCount, least_rows, most_rows, rows_at_once, rows_of}
 use Rattle.air_kit.specs.Tables.{every_table}

@@ -1,5 +1,5 @@
 -- From the comparison of one bus to that of all, and to the refusal of a trace.
-use Rattle.std.proofs.Common.{◌≡◌, ℕ, zero, suc, ◌<◌, ◌≤◌, List, Option, Some, None, refl, sym, ap, subst, ◌∙◌, inl, inr, ltb, arith, lit<}
+use Rattle.std.proofs.Common.{◌≡◌, ℕ, zero, suc, ◌<◌, ◌≤◌, Option, Some, None, refl, sym, ap, subst, ◌∙◌, inl, inr, ltb, arith, lit<}
 use Rattle.std.proofs.lemmas.Bool.{cases_Bool, ltb-true, ltb-false}
 use Rattle.air_kit.specs.Acceptance.{AreZero, IsAccepted, IsBusRefusal}
 use Rattle.air_kit.specs.Places.{Claim}

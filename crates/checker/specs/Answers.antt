@@ -3,7 +3,6 @@ use Rattle.std.specs.Prelude.{◌≡◌, ◌≢◌, ℕ, ◌<◌, length, Option
 use Rattle.air_kit.specs.declared.fault.Fault.{Fault}
 use Rattle.air_kit.specs.declared.trace.TableName.{TableName}
 use Rattle.air_kit.specs.declared.trace.Trace.{Trace}
-use Rattle.air_kit.specs.Acceptance.{IsFirstFault}
 use Rattle.air_kit.specs.Places.{Claim}
 use Rattle.air_kit.specs.Tables.{table_number}
 use Rattle.air_kit.specs.Traces.{rows_of, value_at}

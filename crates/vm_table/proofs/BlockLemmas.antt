@@ -1,14 +1,13 @@
 -- Rows in blocks.
-use Rattle.std.proofs.Common.{◌≡◌, ◌≢◌, ℕ, suc, ◌+◌, ◌-◌, ◌*◌, ◌/◌, ◌%◌, ◌^◌, ◌<◌, ◌≤◌, min, List, [], ◌∷◌, ◌++◌, length, get_or, take, drop, map, refl, sym, ap, ap₂, subst, ◌∙◌, arith, inl, inr, lit<, length-take, length-drop}
+use Rattle.std.proofs.Common.{◌≡◌, ◌≢◌, ℕ, ◌+◌, ◌-◌, ◌*◌, ◌/◌, ◌%◌, ◌<◌, ◌≤◌, min, List, [], ◌∷◌, ◌++◌, length, get_or, take, drop, map, refl, sym, ap, ap₂, subst, ◌∙◌, arith, inl, inr, lit<, length-take, length-drop}
 use Rattle.std.proofs.Math.ListN.{set}
 use Rattle.std.proofs.lemmas.Bool.{cases_lt, cases_Bool, eqb-true, eqb-false}
 use Rattle.std.proofs.Common.{eqb}
 use Rattle.std.proofs.lemmas.List.{length-map, get_or-set_same, get_or-set_other, get_or_past, get_or-map, get_or-take, get_or-drop, ext_get_or, length-set}
 use Rattle.std.proofs.lemmas.List.FromFn.{length-map-range_with_len, get_or-map-range_with_len, map-range_with_len_more, fill_by_all}
-use Rattle.std.specs.List.{range_with_len}
 use Rattle.vm_field.specs.Field.{prime}
 use Rattle.vm_table.specs.Blocks.{block_row, row_in, rows_in, blocks_for}
-use Rattle.vm_table.specs.Layout.{IsTable, IsHeld, row_at}
+use Rattle.vm_table.specs.Layout.{IsHeld}
 
 -- a row of a block has a cell of each column
 pub row_length : (w : ℕ) (block : List (List ℕ)) (p : ℕ) → length (block_row w block p) ≡ w

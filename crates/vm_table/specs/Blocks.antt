@@ -1,5 +1,5 @@
 -- Rows in blocks of 256, in which a column's cells stand side by side.
-use Rattle.std.specs.Prelude.{◌≡◌, ℕ, ◌+◌, ◌*◌, ◌/◌, ◌%◌, ◌^◌, ◌<◌, ◌≤◌, List, [], length, map, slice_index, slice_index_or}
+use Rattle.std.specs.Prelude.{ℕ, ◌+◌, ◌/◌, ◌%◌, List, [], map, slice_index, slice_index_or}
 use Rattle.std.specs.List.{range_with_len}
 
 -- the cells of a row of a block, by its place

@@ -1,4 +1,4 @@
-use Rattle.std.proofs.Common.{◌<◌, ◌∙◌, sym, subst, refl, arith}
+use Rattle.std.proofs.Common.{◌∙◌, sym, subst, refl, arith}
 use Rattle.std.proofs.lemmas.Bool.{false≢true}
 use Rattle.air_kit.specs.Traces.{IsCount}
 use Rattle.air_kit.proofs.CountLaws.{all_counted, counted_next, is_count, may_have_if}

@@ -1,5 +1,5 @@
 use Rattle.std.proofs.Common.{subst, arith}
-use Rattle.checker.specs.Answers.{AreZeroBelow, IsTableAnswer}
+use Rattle.checker.specs.Answers.{AreZeroBelow}
 use Rattle.checker.specs.Settings.{claim_in}
 use Rattle.checker.proofs.RowLemmas.{all_zero, fault_at, none_below, zero_next}
 use Rattle.checker.proofs.rows.first_fault.Goals as goal

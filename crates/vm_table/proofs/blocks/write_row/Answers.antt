@@ -1,4 +1,4 @@
-use Rattle.std.proofs.Common.{sym, ◌∙◌, ◌<◌, ◌≤◌, length, get_or, [], arith}
+use Rattle.std.proofs.Common.{sym, ◌≤◌, arith}
 use Rattle.vm_table.proofs.BlockLemmas.{row_by_cells, same_row}
 use Rattle.vm_table.proofs.blocks.write_row.Goals as goal
 

@@ -1,7 +1,6 @@
-use Rattle.std.proofs.Common.{sym, ap, subst, ◌∙◌, ◌<◌, ◌≤◌, ◌≡◌, ◌/◌, ◌%◌, ◌*◌, ◌+◌, ◌-◌, length, get_or, [], arith, lit<}
-use Rattle.vm_table.specs.Blocks.{rows_in, block_row, blocks_for}
-use Rattle.vm_table.specs.Layout.{IsHeld}
-use Rattle.vm_table.proofs.BlockLemmas.{rows_none, rows_at, rows_set, rows_pushed, rows_length, rows_of_push, column_is, held_none, held_changed}
+use Rattle.std.proofs.Common.{ap, ◌≡◌, length, arith}
+use Rattle.vm_table.specs.Blocks.{blocks_for}
+use Rattle.vm_table.proofs.BlockLemmas.{rows_of_push}
 use Rattle.vm_table.proofs.table.Table.blocks.Goals as goal
 
 pub returns : goal.returns

@@ -1,9 +1,7 @@
-use Rattle.std.proofs.Common.{sym, ap, subst, ◌∙◌, ◌<◌, ◌≤◌, ◌≡◌, ◌/◌, ◌%◌, ◌*◌, ◌+◌, ◌-◌, length, get_or, [], ◌∷◌, ◌++◌, ◌≢◌, ℕ, map, take, drop, min, arith, lit<}
-use Rattle.vm_table.specs.Blocks.{rows_in, block_row, blocks_for}
-use Rattle.std.proofs.Math.ListN.{set}
-use Rattle.std.proofs.lemmas.List.{get_or_read, length-set}
-use Rattle.vm_table.specs.Layout.{IsHeld}
-use Rattle.vm_table.proofs.BlockLemmas.{rows_none, rows_at, rows_set, rows_pushed, rows_length, rows_of_push, column_is, held_none, held_changed}
+use Rattle.std.proofs.Common.{ap, subst, ◌∙◌, ◌<◌, ◌≡◌, ◌*◌, length, get_or, [], map, take, drop, arith}
+use Rattle.vm_table.specs.Blocks.{blocks_for}
+use Rattle.std.proofs.lemmas.List.{get_or_read}
+use Rattle.vm_table.proofs.BlockLemmas.{rows_of_push, column_is}
 use Rattle.vm_table.proofs.table.Table.column.Goals as goal
 
 pub overflow_mul-block : goal.overflow_mul-block

@@ -1,9 +1,8 @@
-use Rattle.std.proofs.Common.{sym, ap, subst, ◌∙◌, ◌<◌, ◌≤◌, ◌≡◌, ◌/◌, ◌%◌, ◌*◌, ◌+◌, ◌-◌, length, get_or, [], ◌∷◌, ◌++◌, ◌≢◌, ℕ, map, take, drop, min, arith, lit<}
-use Rattle.vm_table.specs.Blocks.{rows_in, block_row, blocks_for}
-use Rattle.std.proofs.Math.ListN.{set}
+use Rattle.std.proofs.Common.{sym, ap, subst, ◌∙◌, ◌<◌, ◌≡◌, ◌/◌, ◌+◌, length, get_or, [], ◌∷◌, ◌++◌, ℕ, arith}
+use Rattle.vm_table.specs.Blocks.{block_row, blocks_for}
 use Rattle.std.proofs.lemmas.List.{get_or_read, length-set}
 use Rattle.vm_table.specs.Layout.{IsHeld}
-use Rattle.vm_table.proofs.BlockLemmas.{rows_none, rows_at, rows_set, rows_pushed, rows_length, rows_of_push, column_is, held_none, held_changed}
+use Rattle.vm_table.proofs.BlockLemmas.{rows_pushed}
 use Rattle.vm_table.proofs.table.Table.push_row.Goals as goal
 use Rattle.vm_field.proofs.Elements.{elements-index}
 use Rattle.vm_table.proofs.LayoutLemmas.{held_with}
