@@ -11,12 +11,12 @@ static RUN: [&str; 8] = ["run", "z", "s", "i", "--out", "t", "--statement", "u"]
 static CHECK: [&str; 6] = ["check", "z", "t", "u", "--evidence", "e"];
 
 /// The element of this number.
-pub fn element(number: u64) -> Felt {
+pub(crate) fn element(number: u64) -> Felt {
     Felt::try_from_u64(number).unwrap_or(Felt::ZERO)
 }
 
 /// A shelf with constants that are all 0 and with what a run of this program without inputs writes.
-pub fn ran(alloc: Global, source: &str) -> Result<MemShelf, Memory> {
+pub(crate) fn ran(alloc: Global, source: &str) -> Result<MemShelf, Memory> {
     let mut shelf = MemShelf::new(alloc);
     shelf.put("z", zeros(alloc)?.as_slice())?;
     shelf.put("s", source.as_bytes())?;
@@ -26,7 +26,7 @@ pub fn ran(alloc: Global, source: &str) -> Result<MemShelf, Memory> {
 }
 
 /// 168 lines, each `0`.
-pub fn zeros(alloc: Global) -> Result<Vec<u8>, Memory> {
+pub(crate) fn zeros(alloc: Global) -> Result<Vec<u8>, Memory> {
     let mut text = Vec::new(alloc);
     for _ in 0..168 {
         text.push(b'0')?;
@@ -36,7 +36,7 @@ pub fn zeros(alloc: Global) -> Result<Vec<u8>, Memory> {
 }
 
 /// What `check` prints of the files of the shelf.
-pub fn checked(alloc: Global, shelf: &mut MemShelf) -> Result<Vec<u8>, Memory> {
+pub(crate) fn checked(alloc: Global, shelf: &mut MemShelf) -> Result<Vec<u8>, Memory> {
     said(alloc, shelf, &CHECK)
 }
 
@@ -59,12 +59,16 @@ fn said(alloc: Global, shelf: &mut MemShelf, texts: &[&str]) -> Result<Vec<u8>, 
 }
 
 /// The trace in the table file of the shelf, if there is one.
-pub fn trace_in(alloc: Global, shelf: &MemShelf) -> Option<Trace> {
+pub(crate) fn trace_in(alloc: Global, shelf: &MemShelf) -> Option<Trace> {
     decode(alloc, shelf.get("t")?).ok()
 }
 
 /// Puts the table file of a trace on the shelf, and answers whether it has as many rows as it may.
-pub fn put_trace(alloc: Global, shelf: &mut MemShelf, trace: &Trace) -> Result<bool, Memory> {
+pub(crate) fn put_trace(
+    alloc: Global,
+    shelf: &mut MemShelf,
+    trace: &Trace,
+) -> Result<bool, Memory> {
     if !has_counts(trace) {
         return Ok(false);
     }
@@ -73,7 +77,12 @@ pub fn put_trace(alloc: Global, shelf: &mut MemShelf, trace: &Trace) -> Result<b
 }
 
 /// Changes a cell, and answers whether there is one.
-pub fn set<const W: usize>(table: &mut Table<W>, row: usize, column: usize, number: u64) -> bool {
+pub(crate) fn set<const W: usize>(
+    table: &mut Table<W>,
+    row: usize,
+    column: usize,
+    number: u64,
+) -> bool {
     if row >= table.rows() || column >= W {
         return false;
     }
