@@ -1,0 +1,5 @@
+pub mod FollowLemmas
+pub mod NameLemmas
+pub mod ListLemmas
+pub mod TextLemmas
+pub mod ChainLemmas

@@ -1,0 +1,119 @@
+use run_chain::{chain_laws, follows};
+use std::alloc::Global;
+use std::test::Fail;
+use vm_field::{Felt, Felts, Memory, Word, Words};
+use vm_state::Statement;
+
+// The elements of these numbers.
+fn cells(alloc: Global, numbers: &[u64]) -> Result<Felts, Memory> {
+    let mut cells = Felts::new(alloc);
+    for number in numbers {
+        cells.push(Felt::try_from_u64(*number).unwrap_or(Felt::ZERO))?;
+    }
+    Ok(cells)
+}
+
+// A statement with these inputs and outputs, which are as many as a statement may have.
+fn statement(alloc: Global, inputs: &[u64], outputs: &[u64]) -> Result<Statement, Fail> {
+    let (inputs, outputs) = (cells(alloc, inputs)?, cells(alloc, outputs)?);
+    if inputs.len() > 16 || outputs.len() < 16 || outputs.len() > 17 {
+        return Err("not as many as a statement may have".into());
+    }
+    Ok(Statement::new(Word::ZERO, Words::new(alloc), inputs, outputs))
+}
+
+// The outputs of a statement, the inputs of the next one, and whether this follows that.
+struct Row {
+    outputs: &'static [u64],
+    inputs: &'static [u64],
+    follows: bool,
+}
+
+static ROWS: [Row; 14] = [
+    // sixteen zeros are what a run without inputs starts with, or with fewer zeros
+    Row {
+        outputs: &[0, 0, 0, 0, 0, 0, 0, 0, 0, 0, 0, 0, 0, 0, 0, 0],
+        inputs: &[],
+        follows: true,
+    },
+    Row {
+        outputs: &[0, 0, 0, 0, 0, 0, 0, 0, 0, 0, 0, 0, 0, 0, 0, 0],
+        inputs: &[0, 0],
+        follows: true,
+    },
+    Row {
+        outputs: &[0, 0, 0, 0, 0, 0, 0, 0, 0, 0, 0, 0, 0, 0, 0, 0],
+        inputs: &[1],
+        follows: false,
+    },
+    // inputs are filled up with zeros below
+    Row {
+        outputs: &[3, 4, 0, 0, 0, 0, 0, 0, 0, 0, 0, 0, 0, 0, 0, 0],
+        inputs: &[3, 4],
+        follows: true,
+    },
+    Row {
+        outputs: &[3, 4, 0, 0, 0, 0, 0, 0, 0, 0, 0, 0, 0, 0, 0, 0],
+        inputs: &[3, 4, 0, 0, 0, 0, 0, 0, 0, 0, 0, 0, 0, 0, 0, 0],
+        follows: true,
+    },
+    Row {
+        outputs: &[3, 4, 0, 0, 0, 0, 0, 0, 0, 0, 0, 0, 0, 0, 0, 0],
+        inputs: &[3],
+        follows: false,
+    },
+    Row {
+        outputs: &[3, 4, 0, 0, 0, 0, 0, 0, 0, 0, 0, 0, 0, 0, 0, 0],
+        inputs: &[4, 3],
+        follows: false,
+    },
+    Row {
+        outputs: &[3, 4, 0, 0, 0, 0, 0, 0, 0, 0, 0, 0, 0, 0, 0, 9],
+        inputs: &[3, 4],
+        follows: false,
+    },
+    // sixteen cells
+    Row {
+        outputs: &[1, 2, 3, 4, 5, 6, 7, 8, 9, 10, 11, 12, 13, 14, 15, 16],
+        inputs: &[1, 2, 3, 4, 5, 6, 7, 8, 9, 10, 11, 12, 13, 14, 15, 16],
+        follows: true,
+    },
+    Row {
+        outputs: &[1, 2, 3, 4, 5, 6, 7, 8, 9, 10, 11, 12, 13, 14, 15, 16],
+        inputs: &[1, 2, 3, 4, 5, 6, 7, 8, 9, 10, 11, 12, 13, 14, 15],
+        follows: false,
+    },
+    Row {
+        outputs: &[1, 2, 3, 4, 5, 6, 7, 8, 9, 10, 11, 12, 13, 14, 15, 16],
+        inputs: &[1, 2, 3, 4, 5, 6, 7, 8, 9, 10, 11, 12, 13, 14, 15, 17],
+        follows: false,
+    },
+    // a seventeenth cell is one too many, and be it a zero
+    Row {
+        outputs: &[0, 0, 0, 0, 0, 0, 0, 0, 0, 0, 0, 0, 0, 0, 0, 0, 0],
+        inputs: &[],
+        follows: false,
+    },
+    Row {
+        outputs: &[1, 2, 3, 4, 5, 6, 7, 8, 9, 10, 11, 12, 13, 14, 15, 16, 0],
+        inputs: &[1, 2, 3, 4, 5, 6, 7, 8, 9, 10, 11, 12, 13, 14, 15, 16],
+        follows: false,
+    },
+    Row {
+        outputs: &[1, 2, 3, 4, 5, 6, 7, 8, 9, 10, 11, 12, 13, 14, 15, 16, 17],
+        inputs: &[1, 2, 3, 4, 5, 6, 7, 8, 9, 10, 11, 12, 13, 14, 15, 16],
+        follows: false,
+    },
+];
+
+#[test]
+fn follows_where_the_stacks_agree(rt: HostRuntime) -> Result<(), Fail> {
+    let alloc = rt.alloc();
+    for row in &ROWS {
+        let first = statement(alloc, &[], row.outputs)?;
+        let second = statement(alloc, row.inputs, &[0; 16])?;
+        assert_eq!(rt; follows(&first, &second), row.follows);
+    }
+    chain_laws();
+    Ok(())
+}
