@@ -1,11 +1,12 @@
--- The words of `run` give its outputs names that no other file of it has.
+-- The words of `run` and of `make` give the outputs names that no other file of the command has.
 use Rattle.std.proofs.Common.{if◌then◌else◌, ◌≡◌, ◌≢◌, ℕ, Bool, true, false, not, ◌||◌, codes, List, [], ◌∷◌, Option, Some, None, refl, sym, subst}
 use Rattle.std.specs.List.{list_any}
 use Rattle.std.specs.Str.{bytes_eq}
 use Rattle.std.proofs.lemmas.Bool.{false≢true, and_parts}
 use Rattle.std.proofs.lemmas.Slice.Eq.{bytes_eq-Decides}
-use Rattle.cmd_words.specs.Words.{is_form, name_at, optional_name}
-use Rattle.cmd_kit.specs.Asked.{Asked, Outputs, nothing, hash, assemble, run, check, asked, are_apart, is_apart, given_name, check_words, hash_words, assemble_words, run_words, run_of_names, outputs_in, limit_in, check_of_names, hash_of_names, assemble_of_names}
+use Rattle.cmd_words.specs.Words.{is_form, name_at, number_at, optional_name}
+use Rattle.workloads.specs.Workloads.{most_turns}
+use Rattle.cmd_kit.specs.Asked.{Asked, MadeNames, Outputs, nothing, hash, assemble, run, check, make, asked, are_apart, are_made_apart, is_apart, given_name, check_words, hash_words, assemble_words, run_words, make_words, run_of_names, outputs_in, limit_in, pieces_in, check_of_names, hash_of_names, assemble_of_names, make_of_names, made_names_in}
 
 -- what is asked has outputs apart
 abbrev AreOutputsApart : Asked → Type 0
@@ -14,6 +15,7 @@ AreOutputsApart (hash params numbers) = Unit {0}
 AreOutputsApart (assemble params source kernel) = Unit {0}
 AreOutputsApart (run params source inputs outputs kernel limit) = are_apart outputs (params ∷ source ∷ inputs ∷ given_name kernel) ≡ true
 AreOutputsApart (check params table statement evidence) = Unit {0}
+AreOutputsApart (make params turns names) = are_made_apart names params ≡ true
 
 if_either : (b : Bool) (x y : Asked) → (b ≡ true → AreOutputsApart x) → AreOutputsApart y → AreOutputsApart (if b then x else y)
 if_either true x y then_it otherwise = then_it refl
@@ -30,15 +32,16 @@ of_assemble (Some params) (Some source) None = tt
 of_assemble (Some params) None kernel = tt
 of_assemble None source kernel = tt
 
-of_check : (params table statement : Option (List ℕ)) (evidence : Option (Option (List ℕ)))
-    → AreOutputsApart (check_of_names params table statement evidence)
-of_check (Some params) (Some table) (Some statement) (Some (Some evidence)) =
+of_check : (params table statement : Option (List ℕ)) (evidence : Option (Option (List ℕ))) (pieces : Option (Option ℕ))
+    → AreOutputsApart (check_of_names params table statement evidence pieces)
+of_check (Some params) (Some table) (Some statement) (Some (Some evidence)) (Some pieces) =
     if_either (is_apart evidence (params ∷ table ∷ statement ∷ [])) (check params table statement evidence) nothing (λ apart. tt) tt
-of_check (Some params) (Some table) (Some statement) (Some None) = tt
-of_check (Some params) (Some table) (Some statement) None = tt
-of_check (Some params) (Some table) None evidence = tt
-of_check (Some params) None statement evidence = tt
-of_check None table statement evidence = tt
+of_check (Some params) (Some table) (Some statement) (Some (Some evidence)) None = tt
+of_check (Some params) (Some table) (Some statement) (Some None) pieces = tt
+of_check (Some params) (Some table) (Some statement) None pieces = tt
+of_check (Some params) (Some table) None evidence pieces = tt
+of_check (Some params) None statement evidence pieces = tt
+of_check None table statement evidence pieces = tt
 
 of_run : (params source inputs : Option (List ℕ)) (outputs : Option Outputs) (kernel : Option (Option (List ℕ))) (limit : Option ℕ)
     → AreOutputsApart (run_of_names params source inputs outputs kernel limit)
@@ -52,6 +55,13 @@ of_run (Some params) (Some source) None outputs kernel limit = tt
 of_run (Some params) None inputs outputs kernel limit = tt
 of_run None source inputs outputs kernel limit = tt
 
+of_make : (params : Option (List ℕ)) (turns : Option ℕ) (names : Option MadeNames) → AreOutputsApart (make_of_names params turns names)
+of_make (Some params) (Some turns) (Some names) =
+    if_either (are_made_apart names params) (make params turns names) nothing (λ apart. apart) tt
+of_make (Some params) (Some turns) None = tt
+of_make (Some params) None names = tt
+of_make None turns names = tt
+
 behind_form : (b : Bool) (x : Asked) → AreOutputsApart x → AreOutputsApart (if b then x else nothing)
 behind_form b x h = if_either b x nothing (λ is. h) tt
 
@@ -62,16 +72,17 @@ all_apart (command ∷ words) =
     if_either (bytes_eq command (codes "check")) (check_words words) _ (λ is. of_check_words)
     (if_either (bytes_eq command (codes "hash")) (hash_words words) _ (λ is. of_hash_words)
     (if_either (bytes_eq command (codes "assemble")) (assemble_words words) _ (λ is. of_assemble_words)
-    (behind_form (bytes_eq command (codes "run")) (run_words words) of_run_words)))
+    (if_either (bytes_eq command (codes "run")) (run_words words) _ (λ is. of_run_words)
+    (behind_form (bytes_eq command (codes "make")) (make_words words) of_make_words))))
   where
     kernel : Option (Option (List ℕ))
     kernel = optional_name (codes "--kernel") words
 
     of_check_words : AreOutputsApart (check_words words)
     of_check_words =
-        behind_form (is_form 3 (codes "--evidence" ∷ []) words)
-        (check_of_names (name_at 0 words) (name_at 1 words) (name_at 2 words) (optional_name (codes "--evidence") words))
-        (of_check (name_at 0 words) (name_at 1 words) (name_at 2 words) (optional_name (codes "--evidence") words))
+        behind_form (is_form 3 (codes "--evidence" ∷ codes "--pieces" ∷ []) words)
+        (check_of_names (name_at 0 words) (name_at 1 words) (name_at 2 words) (optional_name (codes "--evidence") words) (pieces_in words))
+        (of_check (name_at 0 words) (name_at 1 words) (name_at 2 words) (optional_name (codes "--evidence") words) (pieces_in words))
 
     of_hash_words : AreOutputsApart (hash_words words)
     of_hash_words = behind_form (is_form 2 [] words) (hash_of_names (name_at 0 words) (name_at 1 words)) (of_hash (name_at 0 words) (name_at 1 words))
@@ -86,6 +97,12 @@ all_apart (command ∷ words) =
         behind_form (is_form 3 (codes "--out" ∷ codes "--statement" ∷ codes "--kernel" ∷ codes "--limit" ∷ []) words)
         (run_of_names (name_at 0 words) (name_at 1 words) (name_at 2 words) (outputs_in words) kernel (limit_in words))
         (of_run (name_at 0 words) (name_at 1 words) (name_at 2 words) (outputs_in words) kernel (limit_in words))
+
+    of_make_words : AreOutputsApart (make_words words)
+    of_make_words =
+        behind_form (is_form 2 (codes "--source" ∷ codes "--inputs" ∷ []) words)
+        (make_of_names (name_at 0 words) (number_at 1 most_turns 1 words) (made_names_in words))
+        (of_make (name_at 0 words) (number_at 1 most_turns 1 words) (made_names_in words))
 
 -- a name that is none of these is not the first of them, nor one behind it
 not_first : (output name : List ℕ) (names : List (List ℕ)) → is_apart output (name ∷ names) ≡ true → name ≢ output

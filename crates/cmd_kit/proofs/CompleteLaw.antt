@@ -1,5 +1,5 @@
 -- What `run` wrote is good for every `check` of it, which is so answered `Ok`.
-use Rattle.std.proofs.Common.{◌≡◌, ◌⊎◌, ℕ, List, Option, Some, sym, ap, subst, inl, inr, ◌∙◌}
+use Rattle.std.proofs.Common.{◌≡◌, ◌⊎◌, ℕ, List, Option, Some, sym, subst, inl, inr, ◌∙◌}
 use Rattle.std.specs.FinMap.{get, insert}
 use Rattle.vm_io.specs.Shelf.{Files, ShelfState}
 use Rattle.vm_io.specs.Sink.{SinkState}

@@ -2,7 +2,7 @@
 use Rattle.std.proofs.Common.{◌≡◌, ◌⊎◌, ℕ, Bool, List, Option, Some, None, Ok, Err, refl, sym, ap, ap₂, subst, inl, inr, ◌∙◌}
 use Rattle.std.specs.FinMap.{insert}
 use Rattle.std.specs.Option.{option_map}
-use Rattle.fill_files.specs.RunFiles.{most_table_bytes, most_statement_bytes}
+use Rattle.vm_field.specs.Limits.{most_cycles}
 use Rattle.vm_field.specs.Machine.{State, start}
 use Rattle.rpo_hash.specs.Constants.{constants_of}
 use Rattle.rpo_hash.specs.ParamText.{parameters_of}
@@ -13,7 +13,7 @@ use Rattle.number_files.specs.Grammar.{numbers_of}
 use Rattle.masm_link.specs.declared.refusal.AsmCause.{AsmCause}
 use Rattle.masm_link.specs.declared.refusal.AsmError.TheVariants.{Bad, Memory}
 use Rattle.masm_link.proofs.OneAnswer.{one_program}
-use Rattle.statement.specs.Inputs.{Given, inputs_of}
+use Rattle.statement.specs.Inputs.{Given}
 use Rattle.statement.specs.Statements as statements
 use Rattle.statement.specs.Statements.{Stated}
 use Rattle.air_kit.specs.Acceptance.{AreZero, IsAccepted, asked_on, given_on}
@@ -21,7 +21,6 @@ use Rattle.buses.specs.Counts.{AreAlike}
 use Rattle.air_kit.specs.Traces as traces
 use Rattle.air_kit.specs.declared.trace.Public.{Public}
 use Rattle.air_kit.specs.declared.trace.Trace.{Trace}
-use Rattle.table_file.specs.Files.{trace_of}
 use Rattle.vm_io.specs.Shelf.{Files, ShelfState}
 use Rattle.vm_io.specs.Sink.{SinkState}
 use Rattle.checker.specs.declared.refusal.Refused.{Refused}
@@ -30,8 +29,8 @@ use Rattle.cmd_kit.specs.declared.status.Status.{Status}
 use Rattle.cmd_kit.specs.declared.status.Status.TheVariants as status
 use Rattle.cmd_kit.specs.declared.answer.Answer.{Answer}
 use Rattle.cmd_kit.specs.Statuses.{StatusKind, planned, no_command, failed_read, failed_write, failed_print, no_memory, kind_of}
-use Rattle.cmd_kit.specs.Asked.{Asked, Outputs, nothing, hash, assemble, run, check, asked}
-use Rattle.cmd_kit.specs.Steps.{SourceFile, Steps, Verdict, accepted, refused, Course, course, checked, telling, assembly, reading, ending, ends_with}
+use Rattle.cmd_kit.specs.Asked.{Asked, MadeNames, Outputs, nothing, hash, assemble, run, check, make, asked}
+use Rattle.cmd_kit.specs.Steps.{SourceFile, Steps, Verdict, accepted, refused, Course, ran, course, checked, telling, assembly, ending, ends_with}
 use Rattle.cmd_kit.specs.SourceEnds.{AssemblesFiles}
 use Rattle.cmd_kit.specs.AssembleEnds as assembling
 use Rattle.cmd_kit.specs.AssembleEnds.{AnswersAssembly, assembled}
@@ -40,13 +39,14 @@ use Rattle.cmd_kit.specs.CheckEnds.{IsVerdictFor, IsWhy}
 use Rattle.cmd_kit.specs.RunEnds as ends
 use Rattle.cmd_kit.specs.RunEnds.{IsCourse, halted, trapped, unended, outcome_of}
 use Rattle.cmd_kit.specs.Commands.{EndsAs, steps_of}
-use Rattle.cmd_kit.specs.Starts.{most_params_bytes, most_inputs_bytes, with_params, with_inputs, with_trace, with_statement, params_steps, source_steps, kernel_steps, inputs_steps, trace_steps, statement_steps}
+use Rattle.cmd_kit.specs.Starts.{most_params_bytes, with_params, with_inputs, with_trace, with_statement, params_steps, source_steps, kernel_steps, inputs_steps, trace_steps, statement_steps}
 use Rattle.cmd_kit.specs.HashSteps.{hash_steps, numbers_steps}
 use Rattle.cmd_kit.specs.AssembleSteps.{assemble_steps}
 use Rattle.cmd_kit.specs.RunSteps.{run_steps, running_steps, course_steps}
 use Rattle.cmd_kit.specs.CheckSteps.{check_steps, judging_steps, found_steps}
+use Rattle.cmd_kit.specs.MakeSteps.{make_steps, making_steps, made_course_steps, made_source, made_given}
 use Rattle.cmd_kit.specs.Serving.{ComesWhere, ServesAs, Works, Ends}
-use Rattle.cmd_kit.specs.Completeness.{FileSays, HoldsSource, HoldsKernel, IsAcceptedFor, IsGood, IsGoodHash, IsGoodAssembly, IsGoodRun, IsGoodCheck, IsFault, GoodIsOk, OneVerdict}
+use Rattle.cmd_kit.specs.Completeness.{FileSays, HoldsKernel, IsAcceptedFor, IsGood, IsGoodHash, IsGoodAssembly, IsGoodRun, IsGoodCheck, IsGoodMake, IsFault, GoodIsOk, OneVerdict}
 use Rattle.cmd_kit.proofs.Walks as walks
 use Rattle.cmd_kit.proofs.Walks.{ended, read_on, was_found, was_written}
 
@@ -67,6 +67,27 @@ same_outcome constants source kernel p q given limit one other =
     let same = one_program constants source.text (option_map (λ k. k.text) kernel) p (Ok q) one other in
     ap₂ (λ words tree. execution.execution constants words limit tree (start given.stack given.advice)) same.2 same.0
 
+-- a program whose run ends
+record RunsOut (c : Course) : Type 0 where
+  program : Program
+  last : State
+  log : List execution.Event
+  is : c ≡ ran program last log
+
+-- is not stopped
+runs_out : (constants : List ℕ) (source : SourceFile) (kernel : Option SourceFile) (given : Given) (limit : ℕ) (program : Program) (last : State)
+    (log : List execution.Event) (c : Course)
+    → AssemblesFiles constants source kernel (Ok program) → outcome_of constants program given limit ≡ Done last log
+    → IsCourse constants source kernel given limit c → RunsOut c
+runs_out constants source kernel given limit program last log c is done (ends.refused in_kernel line column cause bad) =
+    absurd (bad_or_program constants source kernel program in_kernel line column cause is bad)
+runs_out constants source kernel given limit program last log c is done (halted other made b (trapped clock cause traps)) =
+    absurd (let eq = sym traps ∙ same_outcome constants source kernel program other given limit is made ∙ done in cc)
+runs_out constants source kernel given limit program last log c is done (halted other made b (unended out)) =
+    absurd (let eq = sym out ∙ same_outcome constants source kernel program other given limit is made ∙ done in cc)
+runs_out constants source kernel given limit program last log c is done (ends.ended other made end events r) =
+    record { program = other; last = end; log = events; is = refl }
+
 -- a trace that is accepted for what is claimed is accepted however the claim lies in memory
 same_accepted : (p q : Public) (t : Trace) → constants_of p.params ≡ constants_of q.params
     → statements.stated_of p.statement ≡ statements.stated_of q.statement → IsAccepted p t → IsAccepted q t
@@ -86,7 +107,7 @@ one_verdict constants claim t h p is =
     same_accepted h.against p t (h.is_public.params ∙ sym is.params) (h.is_public.statement ∙ sym is.statement) h.found
 
 -- no trace is refused that is accepted
-not_both : (p : Public) (t : Trace) (r : Refused) → IsAccepted p t → IsWhy p t r → ⊥
+pub not_both : (p : Public) (t : Trace) (r : Refused) → IsAccepted p t → IsWhy p t r → ⊥
 not_both p t (why.Fault f) is h = h.nonzero (h.value_is ∙ is.zero f.table f.row f.number h.within)
 not_both p t (why.Bus bus tuple asked given) is h = h.least.apart (h.least.asked_is ∙ is.buses bus tuple ∙ sym h.least.given_is)
 not_both p t why.Memory is h = h
@@ -135,14 +156,9 @@ module _ (a : Answer) (new : Option Files) (m : Files) where
       (program : Program) (last : State) (log : List execution.Event) (c : Course)
       → AssemblesFiles constants source kernel (Ok program) → outcome_of constants program given limit ≡ Done last log
       → IsCourse constants source kernel given limit c → Goes (course_steps outputs constants given c) → a.status ≡ status.Ok
-  course_ok constants source kernel outputs given limit program last log c is done (ends.refused in_kernel line column cause bad) goes =
-      absurd (bad_or_program constants source kernel program in_kernel line column cause is bad)
-  course_ok constants source kernel outputs given limit program last log c is done (halted other made b (trapped clock cause traps)) goes =
-      absurd (let eq = sym traps ∙ same_outcome constants source kernel program other given limit is made ∙ done in cc)
-  course_ok constants source kernel outputs given limit program last log c is done (halted other made b (unended out)) goes =
-      absurd (let eq = sym out ∙ same_outcome constants source kernel program other given limit is made ∙ done in cc)
-  course_ok constants source kernel outputs given limit program last log c is done (ends.ended other made end events r) goes =
-      let tables = was_written a new outputs.table _ _ m goes in
+  course_ok constants source kernel outputs given limit program last log c is done found goes =
+      let r = runs_out constants source kernel given limit program last log c is done found in
+      let tables = was_written a new outputs.table _ _ m (subst (λ x. Goes (course_steps outputs constants given x)) r.is goes) in
       let claims = was_written a new outputs.statement _ _ (insert m outputs.table tables.0) tables.2 in
       ap (λ (b : Answer). b.status) (ended a new _ (insert (insert m outputs.table tables.0) outputs.statement claims.0) claims.2).0
 
@@ -185,6 +201,17 @@ module _ (a : Answer) (new : Option Files) (m : Files) where
       let found = was_found a new (checked h.constants h.claim h.trace) (found_steps evidence h.constants h.claim h.trace) m fifth in
       verdict_ok evidence h.constants h.claim h.trace found.0 h.found found.1 found.2
 
+  made_well : (params : List ℕ) (turns : ℕ) (names : MadeNames) → IsGoodMake m params names.source turns → Goes (make_steps params turns names)
+      → a.status ≡ status.Ok
+  made_well params turns names h goes =
+      let source : SourceFile = made_source names.source turns in
+      let first = params_read params (making_steps names turns) h.constants h.params_say goes in
+      let found = was_found a new (course h.constants source None (made_given turns) most_cycles) (made_course_steps names turns) m first in
+      let r = runs_out h.constants source None (made_given turns) most_cycles h.program h.last h.log found.0 h.assembled h.done found.1 in
+      let text = was_written a new names.source _ _ m (subst (λ x. Goes (made_course_steps names turns x)) r.is found.2) in
+      let given = was_written a new names.inputs _ _ (insert m names.source text.0) text.2 in
+      ap (λ (b : Answer). b.status) (ended a new _ (insert (insert m names.source text.0) names.inputs given.0) given.2).0
+
 -- a command over good files that went to its end
 module _ (s : Status) (line : List ℕ) (new : Option Files) (m : Files) where
   abbrev Went : Steps → Type 0
@@ -200,6 +227,8 @@ module _ (s : Status) (line : List ℕ) (new : Option Files) (m : Files) where
       ran_well (ends_with s line) new m params source inputs outputs kernel limit good (subst Went (let e = are in cc) went)
   good_goes (check params table statement evidence) steps good are went =
       checked_well (ends_with s line) new m params table statement evidence good (subst Went (let e = are in cc) went)
+  good_goes (make params turns names) steps good are went =
+      made_well (ends_with s line) new m params turns names good (subst Went (let e = are in cc) went)
 
 good_ends : (c : Asked) (s : Status) (line : List ℕ) (old new : ShelfState) (m : Files) (steps : Steps) → steps_of c ≡ Some steps
     → old.files ≡ Some m → IsGood m c → Ends steps (ends_with s line) old new → s ≡ status.Ok
@@ -213,6 +242,7 @@ good_steps m (hash params numbers) good = (_, refl)
 good_steps m (assemble params source kernel) good = (_, refl)
 good_steps m (run params source inputs outputs kernel limit) good = (_, refl)
 good_steps m (check params table statement evidence) good = (_, refl)
+good_steps m (make params turns names) good = (_, refl)
 
 -- whatever is answered
 good_answers : (kind : StatusKind) (c : Asked) (s : Status) (old new : ShelfState) (before now : SinkState) (m : Files) (steps : Steps)

@@ -18,7 +18,7 @@ use Rattle.cmd_kit.specs.declared.status.Status.{Status}
 use Rattle.cmd_kit.specs.declared.status.Status.TheVariants as status
 use Rattle.cmd_kit.specs.declared.answer.Answer.{Answer}
 use Rattle.cmd_kit.specs.Statuses.{StatusKind, planned, no_command, failed_read, failed_write, failed_print, no_memory, kind_of}
-use Rattle.cmd_kit.specs.Asked.{Asked, Outputs, nothing, hash, assemble, run, check, asked}
+use Rattle.cmd_kit.specs.Asked.{Asked, MadeNames, Outputs, nothing, hash, assemble, run, check, make, asked}
 use Rattle.cmd_kit.specs.Steps.{Course, Verdict, SourceFile, assembly, Steps, reading, writing, asking, ending, accepted, refused, ran, stopped}
 use Rattle.cmd_kit.specs.Commands.{steps_of}
 use Rattle.cmd_kit.specs.Starts.{with_params, with_inputs, with_trace, with_statement, params_steps, source_steps, kernel_steps, inputs_steps, trace_steps, statement_steps}
@@ -26,6 +26,7 @@ use Rattle.cmd_kit.specs.HashSteps.{hash_steps, numbers_steps}
 use Rattle.cmd_kit.specs.AssembleSteps.{assemble_steps}
 use Rattle.cmd_kit.specs.RunSteps.{run_steps, running_steps, course_steps}
 use Rattle.cmd_kit.specs.CheckSteps.{check_steps, judging_steps, found_steps}
+use Rattle.cmd_kit.specs.MakeSteps.{make_steps, making_steps, made_course_steps}
 use Rattle.cmd_kit.specs.Serving.{Passes, none_yet, past_read, past_write, past_finding, ComesWhere, IsWriting, FrontWritten, Works, GivesUp, Prints, ServesAs}
 use Rattle.cmd_kit.specs.Laws.{WritesOnly, StayBeside, OtherFilesStay, CommandsWrite, UsageMeansNothing, NothingGivesUsage}
 
@@ -160,6 +161,12 @@ only_of_run outputs constants given (ran program last log) =
     ((0, omega arith, refl), λ _. ((1, omega arith, refl), λ _. tt))
 only_of_run outputs constants given (stopped a) = tt
 
+-- so have the source and the inputs that were made, where their run did
+only_of_make : (names : MadeNames) (turns : ℕ) (course : Course)
+    → WritesOnly (names.source ∷ names.inputs ∷ []) (made_course_steps names turns course)
+only_of_make names turns (ran program last log) = ((0, omega arith, refl), λ _. ((1, omega arith, refl), λ _. tt))
+only_of_make names turns (stopped a) = tt
+
 hash_writes : (params numbers : List ℕ) → WritesOnly [] (hash_steps params numbers)
 hash_writes params numbers = only_behind_params [] params (numbers_steps numbers) (λ constants text. tt)
 
@@ -191,6 +198,10 @@ check_writes params table statement evidence =
     with_table : List ℕ → Trace → Steps
     with_table constants trace = statement_steps statement (judging_steps evidence constants trace)
 
+make_writes : (params : List ℕ) (turns : ℕ) (names : MadeNames) → WritesOnly (names.source ∷ names.inputs ∷ []) (make_steps params turns names)
+make_writes params turns names =
+    only_behind_params (names.source ∷ names.inputs ∷ []) params (making_steps names turns) (λ constants course. only_of_make names turns course)
+
 pub commands_write : CommandsWrite
 commands_write nothing steps is = absurd (cc)
 commands_write (hash params numbers) steps is = subst (WritesOnly []) (some_steps _ _ is) (hash_writes params numbers)
@@ -199,6 +210,8 @@ commands_write (run params source inputs outputs kernel limit) steps is =
     subst (WritesOnly (outputs.table ∷ outputs.statement ∷ [])) (some_steps _ _ is) (run_writes params source inputs outputs kernel limit)
 commands_write (check params table statement evidence) steps is =
     subst (WritesOnly (evidence ∷ [])) (some_steps _ _ is) (check_writes params table statement evidence)
+commands_write (make params turns names) steps is =
+    subst (WritesOnly (names.source ∷ names.inputs ∷ [])) (some_steps _ _ is) (make_writes params turns names)
 
 are_steps : (steps : Steps) → Some steps ≡ None → ⊥
 are_steps steps none = cc
@@ -209,6 +222,7 @@ no_steps (hash params numbers) none = absurd (are_steps _ none)
 no_steps (assemble params source kernel) none = absurd (are_steps _ none)
 no_steps (run params source inputs outputs kernel limit) none = absurd (are_steps _ none)
 no_steps (check params table statement evidence) none = absurd (are_steps _ none)
+no_steps (make params turns names) none = absurd (are_steps _ none)
 
 pub usage_means_nothing : UsageMeansNothing
 usage_means_nothing words old new before now serves = no_steps (asked words) (go (steps_of (asked words)) serves)

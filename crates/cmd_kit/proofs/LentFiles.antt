@@ -2,7 +2,6 @@
 use Rattle.std.proofs.Common.{◌≡◌, Option, Some, None, Bor, ap}
 use Rattle.std.specs.Option.{option_copied, option_map}
 use Rattle.cmd_kit.specs.Sources.{file_of}
-use Rattle.cmd_kit.specs.Steps.{SourceFile}
 use Rattle.cmd_kit.specs.declared.source.SourceFile as held
 
 pub lent_files : (lent : Option (Bor held.SourceFile)) (file : Option held.SourceFile) → option_copied lent ≡ file

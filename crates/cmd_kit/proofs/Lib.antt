@@ -4,6 +4,8 @@ pub mod Completeness
 pub mod EvidenceLaw
 pub mod LawLemmas
 pub mod LentFiles
+pub mod MadeLaw
+pub mod MakeLaw
 pub mod RunLaw
 pub mod OutcomeLemmas
 pub mod ServingLemmas

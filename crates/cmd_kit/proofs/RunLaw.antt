@@ -1,19 +1,14 @@
 -- What `run` left where it answered `Ok`: its steps, walked one after the other.
-use Rattle.std.proofs.Common.{◌≡◌, ℕ, suc, ◌+◌, ◌≤◌, List, ◌++◌, length, Option, Some, None, Result, Ok, Err, refl, sym, ap, subst, ◌∙◌, arith}
-use Rattle.std.specs.FinMap.{get, insert}
+use Rattle.std.proofs.Common.{◌≡◌, ℕ, suc, List, ◌++◌, length, Option, Some, None, Result, Ok, Err, refl, sym, ap, subst, arith}
+use Rattle.std.specs.FinMap.{insert}
 use Rattle.vm_field.specs.Machine.{State}
-use Rattle.rpo_hash.specs.Constants.{constants_of}
 use Rattle.rpo_hash.specs.ParamText.{parameters_of}
 use Rattle.block_tree.specs.Execution as run
 use Rattle.block_tree.specs.TreeView.{tree_of}
 use Rattle.block_tree.specs.declared.program.Program.{Program}
-use Rattle.masm_link.specs.declared.refusal.AsmError.{AsmError}
 use Rattle.statement.specs.Inputs.{Given, inputs_of}
-use Rattle.statement.specs.Statements.{stated_of}
 use Rattle.statement.specs.declared.refusal.TextCause.{TextCause}
-use Rattle.air_kit.specs.Acceptance.{IsAccepted}
 use Rattle.air_kit.specs.RowStates.{tape_of}
-use Rattle.air_kit.specs.declared.trace.Public.{Public}
 use Rattle.complete_rows.specs.BlockRows.{IsWholeRun, filled}
 use Rattle.complete_rows.proofs.TableLemmas.{rows_counted}
 use Rattle.complete_requests.proofs.TapeLaw.{run_takes}
@@ -31,10 +26,10 @@ use Rattle.cmd_kit.specs.SourceEnds.{AssemblesFiles}
 use Rattle.cmd_kit.specs.RunEnds as ends
 use Rattle.cmd_kit.specs.RunEnds.{IsCourse, halted, trapped, unended, run_lines}
 use Rattle.cmd_kit.specs.Commands.{steps_of}
-use Rattle.cmd_kit.specs.Starts.{most_params_bytes, with_inputs, source_steps, inputs_steps, kernel_steps}
+use Rattle.cmd_kit.specs.Starts.{with_inputs, source_steps, inputs_steps, kernel_steps}
 use Rattle.cmd_kit.specs.RunSteps.{run_steps, running_steps, course_steps}
 use Rattle.cmd_kit.specs.Serving.{ComesWhere, Prints}
-use Rattle.cmd_kit.specs.Completeness.{FileSays, HoldsKernel, HoldsSource, IsGoodRun}
+use Rattle.cmd_kit.specs.Completeness.{HoldsKernel, HoldsSource, IsGoodRun}
 use Rattle.cmd_kit.specs.RunLaws.{AnsweredRunStands, RunStands, claim_of_good}
 use Rattle.cmd_kit.proofs.Walks.{Done, ended, not_ok, params_said, was_found, was_read, was_written}
 

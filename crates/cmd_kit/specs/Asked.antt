@@ -3,12 +3,18 @@ use Rattle.std.specs.Prelude.{ℕ, Bool, not, ◌&&◌, if◌then◌else◌, Lis
 use Rattle.std.specs.List.{list_any}
 use Rattle.std.specs.Str.{bytes_eq}
 use Rattle.vm_field.specs.Limits.{most_cycles}
-use Rattle.cmd_words.specs.Words.{is_form, name_at, optional_name, optional_number}
+use Rattle.cmd_words.specs.Words.{is_form, name_at, number_at, optional_name, optional_number}
+use Rattle.workloads.specs.Workloads.{most_turns}
 
 -- the names of the files that `run` writes
 pub record Outputs : Type 0 where
   pub table : List ℕ
   pub statement : List ℕ
+
+-- the names of the files that `make` writes
+pub record MadeNames : Type 0 where
+  pub source : List ℕ
+  pub inputs : List ℕ
 
 pub data Asked : Type 0 where
   nothing : Asked  -- the words are of no command
@@ -16,6 +22,7 @@ pub data Asked : Type 0 where
   assemble : (params source : List ℕ) (kernel : Option (List ℕ)) → Asked
   run : (params source inputs : List ℕ) (outputs : Outputs) (kernel : Option (List ℕ)) (limit : ℕ) → Asked
   check : (params table statement evidence : List ℕ) → Asked
+  make : (params : List ℕ) (turns : ℕ) (names : MadeNames) → Asked
 
 abbrev pub hash_of_names : Option (List ℕ) → Option (List ℕ) → Asked
 hash_of_names (Some params) (Some numbers) = hash params numbers
@@ -76,16 +83,51 @@ run_words words =
     (optional_name (codes "--kernel") words) (limit_in words)
     else nothing
 
-abbrev pub check_of_names : Option (List ℕ) → Option (List ℕ) → Option (List ℕ) → Option (Option (List ℕ)) → Asked
-check_of_names (Some params) (Some table) (Some statement) (Some (Some evidence)) =
-    if is_apart evidence (params ∷ table ∷ statement ∷ []) then check params table statement evidence else nothing
-check_of_names params table statement evidence = nothing
+-- the most pieces that a trace is checked in
+abbrev pub most_pieces : ℕ
+most_pieces = 64
 
--- `check`, the names of the parameters, the table file and the statement, and that of the evidence, which no other name is
+-- In how many pieces the words have the trace checked, if they say so. What is asked does not depend on it.
+abbrev pub pieces_in : List (List ℕ) → Option (Option ℕ)
+pieces_in words = optional_number 1 most_pieces (codes "--pieces") words
+
+abbrev pub check_of_names : Option (List ℕ) → Option (List ℕ) → Option (List ℕ) → Option (Option (List ℕ)) → Option (Option ℕ) → Asked
+check_of_names (Some params) (Some table) (Some statement) (Some (Some evidence)) (Some pieces) =
+    if is_apart evidence (params ∷ table ∷ statement ∷ []) then check params table statement evidence else nothing
+check_of_names params table statement evidence pieces = nothing
+
+-- `check`, the names of the parameters, the table file and the statement, that of the evidence, which no other name is, and a number of
+-- pieces where it is given
 abbrev pub check_words : List (List ℕ) → Asked
 check_words words =
-    if is_form 3 (codes "--evidence" ∷ []) words
-    then check_of_names (name_at 0 words) (name_at 1 words) (name_at 2 words) (optional_name (codes "--evidence") words) else nothing
+    if is_form 3 (codes "--evidence" ∷ codes "--pieces" ∷ []) words
+    then check_of_names (name_at 0 words) (name_at 1 words) (name_at 2 words) (optional_name (codes "--evidence") words) (pieces_in words)
+    else nothing
+
+abbrev pub made_names : Option (Option (List ℕ)) → Option (Option (List ℕ)) → Option MadeNames
+made_names (Some (Some source)) (Some (Some inputs)) = Some (record { source = source; inputs = inputs })
+made_names source inputs = None
+
+-- the files that the words name for what is made
+abbrev pub made_names_in : List (List ℕ) → Option MadeNames
+made_names_in words = made_names (optional_name (codes "--source") words) (optional_name (codes "--inputs") words)
+
+-- neither of them has the name of the other one or of the parameters
+abbrev pub are_made_apart : MadeNames → List ℕ → Bool
+are_made_apart names params = is_apart names.source (names.inputs ∷ params ∷ []) && is_apart names.inputs (params ∷ [])
+
+abbrev pub make_apart : List ℕ → ℕ → MadeNames → Asked
+make_apart params turns names = if are_made_apart names params then make params turns names else nothing
+
+abbrev pub make_of_names : Option (List ℕ) → Option ℕ → Option MadeNames → Asked
+make_of_names (Some params) (Some turns) (Some names) = make_apart params turns names
+make_of_names params turns names = nothing
+
+-- `make`, the name of the parameters, a number of turns, and the names of the source and of the inputs, which no other name is
+abbrev pub make_words : List (List ℕ) → Asked
+make_words words =
+    if is_form 2 (codes "--source" ∷ codes "--inputs" ∷ []) words
+    then make_of_names (name_at 0 words) (number_at 1 most_turns 1 words) (made_names_in words) else nothing
 
 unfoldable pub asked : List (List ℕ) → Asked
 asked [] = nothing
@@ -94,4 +136,5 @@ asked (command ∷ words) =
     else if bytes_eq command (codes "hash") then hash_words words
     else if bytes_eq command (codes "assemble") then assemble_words words
     else if bytes_eq command (codes "run") then run_words words
+    else if bytes_eq command (codes "make") then make_words words
     else nothing

@@ -2,11 +2,12 @@
 use Rattle.std.specs.Prelude.{◌≡◌, ℕ, List, Option, Some, None}
 use Rattle.cmd_kit.specs.declared.answer.Answer.{Answer}
 use Rattle.cmd_kit.specs.Asked as asked
-use Rattle.cmd_kit.specs.Asked.{Asked, nothing, hash, assemble, check}
+use Rattle.cmd_kit.specs.Asked.{Asked, nothing, hash, assemble, check, make}
 use Rattle.cmd_kit.specs.HashSteps.{hash_steps}
 use Rattle.cmd_kit.specs.AssembleSteps.{assemble_steps}
 use Rattle.cmd_kit.specs.RunSteps.{run_steps}
 use Rattle.cmd_kit.specs.CheckSteps.{check_steps}
+use Rattle.cmd_kit.specs.MakeSteps.{make_steps}
 use Rattle.cmd_kit.specs.Steps.{End, stop, assembly, telling, Right, exactly, tables_of, statement_of, evidence_for, Question, checked, course, Finding, Steps, ends_with}
 use Rattle.cmd_kit.specs.CheckEnds.{IsEvidenceText, IsVerdictFor, TellsEvidence}
 use Rattle.cmd_kit.specs.AssembleEnds.{AnswersAssembly}
@@ -20,6 +21,7 @@ steps_of (hash params numbers) = Some (hash_steps params numbers)
 steps_of (assemble params source kernel) = Some (assemble_steps params source kernel)
 steps_of (asked.run params source inputs outputs kernel limit) = Some (run_steps params source inputs outputs kernel limit)
 steps_of (check params table statement evidence) = Some (check_steps params table statement evidence)
+steps_of (make params turns names) = Some (make_steps params turns names)
 
 -- what a command may end with
 abbrev pub EndsAs : End → Answer → Type 0

@@ -3,7 +3,7 @@ use Rattle.std.specs.Prelude.{◌≡◌, ◌⊎◌, ℕ, ◌≤◌, List, length
 use Rattle.std.specs.FinMap.{get}
 use Rattle.fill_files.specs.RunFiles.{most_table_bytes, most_statement_bytes}
 use Rattle.rpo_hash.specs.ParamText.{parameters_of}
-use Rattle.vm_field.specs.Limits.{most_source_bytes}
+use Rattle.vm_field.specs.Limits.{most_cycles, most_source_bytes}
 use Rattle.vm_field.specs.Machine.{State}
 use Rattle.block_tree.specs.Execution as execution
 use Rattle.block_tree.specs.Execution.{Done}
@@ -20,13 +20,14 @@ use Rattle.vm_io.specs.Sink.{SinkState}
 use Rattle.cmd_kit.specs.declared.status.Status.{Status}
 use Rattle.cmd_kit.specs.declared.status.Status.TheVariants as status
 use Rattle.cmd_kit.specs.Statuses.{StatusKind, planned, no_command, failed_read, failed_write, failed_print, no_memory, kind_of}
-use Rattle.cmd_kit.specs.Asked.{Asked, nothing, hash, assemble, run, check, asked}
+use Rattle.cmd_kit.specs.Asked.{Asked, nothing, hash, assemble, run, check, make, asked}
 use Rattle.cmd_kit.specs.Steps.{SourceFile, accepted}
 use Rattle.cmd_kit.specs.SourceEnds.{AssemblesFiles}
 use Rattle.cmd_kit.specs.RunEnds.{outcome_of}
 use Rattle.cmd_kit.specs.CheckEnds.{IsPublic, IsVerdictFor}
 use Rattle.cmd_kit.specs.Starts.{most_params_bytes, most_inputs_bytes}
 use Rattle.cmd_kit.specs.HashSteps.{most_numbers_bytes}
+use Rattle.cmd_kit.specs.MakeSteps.{made_source, made_given}
 use Rattle.cmd_kit.specs.Serving.{Serves}
 
 -- a file stands under the name, is not too long, and reads as this
@@ -95,12 +96,23 @@ pub record IsGoodCheck (m : Files) (params table statement : List ℕ) : Type 0 
   pub statement_says : FileSays m statement most_statement_bytes statement_of claim
   pub found : IsAcceptedFor constants claim trace
 
+-- the source that is made has a program, and its run on the inputs that are made ends
+pub record IsGoodMake (m : Files) (params source : List ℕ) (turns : ℕ) : Type 0 where
+  pub constants : List ℕ
+  pub program : Program
+  pub last : State
+  pub log : List execution.Event
+  pub params_say : FileSays m params most_params_bytes parameters_of constants
+  pub assembled : AssemblesFiles constants (made_source source turns) None (Ok program)
+  pub done : outcome_of constants program (made_given turns) most_cycles ≡ Done last log
+
 abbrev pub IsGood : Files → Asked → Type 0
 IsGood m nothing = ⊥
 IsGood m (hash params numbers) = IsGoodHash m params numbers
 IsGood m (assemble params source kernel) = IsGoodAssembly m params source kernel
 IsGood m (run params source inputs outputs kernel limit) = IsGoodRun m params source inputs kernel limit
 IsGood m (check params table statement evidence) = IsGoodCheck m params table statement
+IsGood m (make params turns names) = IsGoodMake m params names.source turns
 
 -- a read, a write or a print failed, or memory was refused
 abbrev pub IsFault : StatusKind → Type 0

@@ -12,7 +12,7 @@ use Rattle.vm_io.specs.Sink.{SinkState, with_piece}
 use Rattle.cmd_kit.specs.declared.status.Status.{Status}
 use Rattle.cmd_kit.specs.declared.status.Status.TheVariants as status
 use Rattle.cmd_kit.specs.Statuses.{kind_of, planned}
-use Rattle.cmd_kit.specs.Asked.{Asked, Outputs, nothing, hash, assemble, run, check, asked}
+use Rattle.cmd_kit.specs.Asked.{Asked, Outputs, nothing, hash, assemble, run, check, make, asked}
 use Rattle.cmd_kit.specs.Steps.{Finding, accepted, Steps, reading, writing, asking, ending}
 use Rattle.cmd_kit.specs.CheckEnds.{IsEvidenceFor, IsVerdictFor, accepted_line}
 use Rattle.cmd_kit.specs.Commands.{steps_of}
@@ -36,13 +36,14 @@ OtherFilesStay =
     → Serves words s old new before now → steps_of (asked words) ≡ Some steps → WritesOnly outputs steps → old.files ≡ Some m
     → (n : Files) × (new.files ≡ Some n) × StayBeside outputs m n
 
--- the files that a command writes: `run` its tables and its statement, `check` its evidence
+-- the files that a command writes: `run` its tables and its statement, `check` its evidence, `make` its source and its inputs
 abbrev pub outputs_of : Asked → List (List ℕ)
 outputs_of nothing = []
 outputs_of (hash params numbers) = []
 outputs_of (assemble params source kernel) = []
 outputs_of (run params source inputs outputs kernel limit) = outputs.table ∷ outputs.statement ∷ []
 outputs_of (check params table statement evidence) = evidence ∷ []
+outputs_of (make params turns names) = names.source ∷ names.inputs ∷ []
 
 -- no command writes other files
 abbrev pub CommandsWrite : Type 0

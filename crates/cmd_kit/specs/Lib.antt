@@ -8,6 +8,9 @@ pub mod Completeness
 pub mod HashEnds
 pub mod HashSteps
 pub mod Laws
+pub mod MakeEnds
+pub mod MakeLaws
+pub mod MakeSteps
 pub mod Malformed
 pub mod Outcomes
 pub mod RefusalLines

@@ -1,5 +1,5 @@
 -- The ends of `run` (docs/FORMATS.md).
-use Rattle.std.specs.Prelude.{◌≡◌, ℕ, Bool, true, false, List, ◌++◌, codes, decimal, Option, Ok, Err}
+use Rattle.std.specs.Prelude.{◌≡◌, ℕ, Bool, List, ◌++◌, codes, decimal, Option, Ok, Err}
 use Rattle.std.specs.List.{flat_map}
 use Rattle.vm_field.specs.Machine.{State, start}
 use Rattle.decimal_text.specs.Decimals.{element_text}

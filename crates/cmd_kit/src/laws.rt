@@ -1,10 +1,11 @@
 ghost use Rattle.cmd_kit.specs.Completeness.{GoodIsOk, OneVerdict};
 ghost use Rattle.cmd_kit.specs.RunLaws.{AnsweredRunStands, RunLeavesGoodFiles};
 ghost use Rattle.cmd_kit.specs.Laws.{OtherFilesStay, CommandsWrite, UsageMeansNothing, NothingGivesUsage, AcceptedHasEvidence, WrittenRunIsAccepted};
+ghost use Rattle.cmd_kit.specs.MakeLaws.{AnsweredMakeStands, MakeIsNotRefused};
 
 /// Which files `serve` may change, over a shelf that tells its files: whatever the answer, those
 /// that the command writes and no others: `run` its tables and its statement, `check` its evidence,
-/// and no other command a file.
+/// `make` its source and its inputs, and no other command a file.
 pub fn other_files_stay()
     ensures stay { OtherFilesStay }
     ensures write { CommandsWrite }
@@ -48,10 +49,23 @@ pub fn written_run_is_accepted()
     ensures { WrittenRunIsAccepted }
 {}
 
+/// `make` is never answered `Refused`, over any shelf: the trace of a run is accepted, so that no step of it
+/// asks whether it is.
+pub fn make_is_not_refused()
+    ensures { MakeIsNotRefused }
+{}
+
+/// What stands where `make` answers `Ok`, over a shelf that tells its files: the source that is made has a program, which
+/// runs from the inputs that are made to an end; this source and the one text of these inputs stand under their names, and
+/// the cycles and the stack of that run were printed. The trace of the run is accepted, as the last line says.
+pub fn answered_make_stands()
+    ensures { AnsweredMakeStands }
+{}
+
 /// No command is refused what it can do, over a shelf that tells its files. Where its files are there,
 /// within their lengths and of their forms, and where the source of `assemble` has a program, that of `run`
-/// one that ends within the limit, and the trace of `check` is accepted, it is answered `Ok`, unless a
-/// read, a write, the sink or memory fails. A trace that is accepted with one value of the constants and of
+/// and that of `make` one that ends within the limit, and the trace of `check` is accepted, it is answered
+/// `Ok`, unless a read, a write, the sink or memory fails. A trace that is accepted with one value of the constants and of
 /// the claim is accepted with each.
 pub fn good_files_are_served()
     ensures served { GoodIsOk }

@@ -18,8 +18,9 @@ mod status;
 pub use answer::Answer;
 pub use bad_forms::malformed;
 pub use laws::{
-    accepted_has_evidence, answered_run_stands, good_files_are_served, other_files_stay,
-    run_leaves_good_files, usage_is_for_no_command, written_run_is_accepted,
+    accepted_has_evidence, answered_make_stands, answered_run_stands, good_files_are_served,
+    make_is_not_refused, other_files_stay, run_leaves_good_files, usage_is_for_no_command,
+    written_run_is_accepted,
 };
 pub use lines::append_word;
 pub use loading::load;

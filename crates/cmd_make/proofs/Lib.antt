@@ -1,0 +1,2 @@
+pub mod AcceptedRuns
+pub mod MakeLemmas
