@@ -120,6 +120,10 @@ within least most number = if nat_le least number && nat_le number most then Som
 abbrev pub number_of_word : ℕ → ℕ → List ℕ → Option ℕ
 number_of_word least most word = option_and_then (within least most) (element_of word)
 
+-- the number that stands as this positional
+abbrev pub number_at : ℕ → ℕ → ℕ → List (List ℕ) → Option ℕ
+number_at least most i words = option_and_then (number_of_word least most) (positional_at i (parts_from anything words))
+
 -- the number that an option gives, and none where its value is no such number
 abbrev pub optional_number : ℕ → ℕ → List ℕ → List (List ℕ) → Option (Option ℕ)
 optional_number least most option words = optional (number_of_word least most) (value_of option (parts_from anything words))

@@ -21,6 +21,7 @@ pub fn file_name(word: &[u8]) -> Option<&str>
 /// zero.
 pub fn number_in(least: u64, most: u64, word: &[u8]) -> Option<u64>
     ensures number { result ≡ number_of_word least most word.now }
+    ensures large { IfSome result (λ n. least ≤ n) }
     ensures small { IfSome result (λ n. n ≤ most) }
 {
     let number = Felt::read_decimal(word)?.value();

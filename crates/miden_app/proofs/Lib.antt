@@ -1,3 +1,3 @@
-pub mod CheckWords
+pub mod FormLaws
+pub mod ObeyLemmas
 pub mod PrintingLemmas
-pub mod RunWords

@@ -1,10 +1,12 @@
 -- What a read command asks for.
 use Rattle.std.specs.Prelude.{◌≤◌, length, option_map, IfSome}
 use Rattle.vm_field.specs.Limits.{most_cycles, most_name_bytes}
+use Rattle.workloads.specs.Workloads.{most_turns}
 use Rattle.cmd_run.specs.Naming.{AreNamed, outputs_from}
+use Rattle.cmd_make.specs.Naming as made
 use Rattle.miden_app.specs.declared.words.Command.{Command}
 use Rattle.miden_app.specs.declared.words.Command.TheVariants as command
-use Rattle.cmd_kit.specs.Asked.{Asked, nothing, hash, assemble, run, check}
+use Rattle.cmd_kit.specs.Asked.{Asked, nothing, hash, assemble, run, check, make, most_pieces}
 
 abbrev pub asks : Command → Asked
 asks command.Nothing = nothing
@@ -12,9 +14,10 @@ asks (command.Hash params numbers) = hash params.now numbers.now
 asks (command.Assemble params source kernel) = assemble params.now source.now (option_map (λ k. k.now) kernel)
 asks (command.Run params source inputs outputs kernel limit) =
     run params.now source.now inputs.now (outputs_from outputs) (option_map (λ k. k.now) kernel) limit
-asks (command.Check params table statement evidence) = check params.now table.now statement.now evidence.now
+asks (command.Check params table statement evidence pieces) = check params.now table.now statement.now evidence.now
+asks (command.Make params turns names) = make params.now turns (made.names_from names)
 
--- its names are those of files
+-- its names are those of files, and its numbers are in their bounds
 abbrev pub NamesFiles : Command → Type 0
 NamesFiles command.Nothing = Unit {0}
 NamesFiles (command.Hash params numbers) = (length params.now ≤ most_name_bytes) × (length numbers.now ≤ most_name_bytes)
@@ -23,5 +26,8 @@ NamesFiles (command.Assemble params source kernel) =
 NamesFiles (command.Run params source inputs outputs kernel limit) =
     (length params.now ≤ most_name_bytes) × (length source.now ≤ most_name_bytes) × (length inputs.now ≤ most_name_bytes) × AreNamed outputs
     × IfSome kernel (λ k. length k.now ≤ most_name_bytes) × (limit ≤ most_cycles)
-NamesFiles (command.Check params table statement evidence) =
-    (length params.now ≤ most_name_bytes) × (length table.now ≤ most_name_bytes) × (length statement.now ≤ most_name_bytes) × (length evidence.now ≤ most_name_bytes)
+NamesFiles (command.Check params table statement evidence pieces) =
+    (length params.now ≤ most_name_bytes) × (length table.now ≤ most_name_bytes) × (length statement.now ≤ most_name_bytes)
+    × (length evidence.now ≤ most_name_bytes) × (1 ≤ pieces) × (pieces ≤ most_pieces)
+NamesFiles (command.Make params turns names) =
+    (length params.now ≤ most_name_bytes) × (1 ≤ turns) × (turns ≤ most_turns) × made.AreNamed names

@@ -1,18 +1,30 @@
-//! What the words behind the program's name ask for.
-ghost use Rattle.std.specs.Prelude.{◌≡◌, ◌≤◌, ◌∷◌, length, option_map, Some, IfSome};
+//! What the words behind a command's name ask for.
+ghost use Rattle.std.specs.Prelude.{◌≡◌, ◌≤◌, ◌∷◌, length, map, option_map, Some, IfOk, IfSome};
 ghost use Rattle.std.specs.List.{list_any};
 ghost use Rattle.std.specs.Str.{bytes_eq};
 ghost use Rattle.vm_field.specs.Limits.{most_cycles, most_name_bytes};
-ghost use Rattle.cmd_words.specs.Words.{texts};
-ghost use Rattle.cmd_kit.specs.Asked.{nothing, hash, assemble, check, check_words, check_of_names, is_apart, hash_words, hash_of_names, assemble_words, assemble_of_names, run, run_words, run_of_names, run_apart, given_name, outputs_in, limit_in, asked};
+ghost use Rattle.cmd_reading.specs.Form.{AllText};
+ghost use Rattle.cmd_reading.specs.Meaning.{texts_read};
+ghost use Rattle.cmd_kit.specs.Asked.{check_of_names, given_name, make_apart, most_pieces, run_apart};
 ghost use Rattle.cmd_run.specs.Naming.{AreNamed, outputs_from};
+ghost use Rattle.cmd_make.specs.Naming as made;
+ghost use Rattle.workloads.specs.Workloads.{most_turns};
 ghost use Rattle.miden_app.specs.Asking.{asks, NamesFiles};
+ghost use Rattle.miden_app.specs.Forms.{asked_by, asked_in, assemble_in, check_in, hash_in, limit_read, made_names_read, make_in, outputs_read, run_in};
 
+use crate::names::{CommandName, form_of_command};
+use crate::texts::{free_name, free_number, needed_name, place_name, place_number};
+use cmd_make::MadeNames;
+use cmd_reading::{ReadWords, WordsStop, read_words};
 use cmd_run::Outputs;
-use cmd_words::{is_form, name_at, optional_name, optional_number};
-use vm_field::MOST_CYCLES;
+use std::alloc::Global;
+use vm_field::{MOST_CYCLES, Memory};
+use workloads::MOST_TURNS;
 
-/// What the words after the program's name ask for.
+/// The most pieces that a trace is checked in.
+const MOST_PIECES: u64 = 64;
+
+/// What words ask for.
 pub enum Command<'a> {
     /// The words are of no command.
     Nothing,
@@ -42,43 +54,82 @@ pub enum Command<'a> {
         table: &'a str,
         statement: &'a str,
         evidence: &'a str,
+        /// In how many pieces, from 1 to 64.
+        pieces: usize,
+    },
+    /// `make` of a workload of so many turns, into a source and inputs.
+    Make {
+        params: &'a str,
+        turns: u32,
+        names: MadeNames<'a>,
     },
 }
 
-/// Reads the words.
-#[tactic(auto, unfolding(cmd_kit::specs::Asked::asked))]
-pub fn command_of(words: &[Vec<u8>]) -> Command<'_>
-    ensures asks { asks result ≡ asked (texts words.now) }
+/// Reads the words behind the command's name.
+///
+/// Words of no such form, and words that name no files or other numbers, ask for nothing.
+pub fn command_of<'a>(
+    alloc: Global,
+    name: CommandName,
+    words: &'a [&'a str],
+) -> Result<Command<'a>, Memory>
+    requires text { AllText (map (λ s. s.now) words.now) }
+    ensures asks { IfOk result (λ c. asks c ≡ asked_by name (map (λ s. s.now) words.entry.now)) }
+    ensures named { IfOk result NamesFiles }
+{
+    let form = form_of_command(name);
+    match read_words(alloc, form.places, form.needed, form.free, words) {
+        Ok(read) => Ok(command_in(name, &read)),
+        Err(WordsStop::Usage) => Ok(Command::Nothing),
+        Err(WordsStop::Memory) => Err(Memory::Memory),
+    }
+}
+
+// The command of the texts that were read.
+fn command_in<'a>(name: CommandName, read: &ReadWords<'a>) -> Command<'a>
+    ensures asks { asks result ≡ asked_in name (texts_read read.now) }
     ensures named { NamesFiles result }
 {
-    match words {
-        [command, rest @ ..] if command.as_slice() == b"check".as_slice() => check_of(rest),
-        [command, rest @ ..] if command.as_slice() == b"hash".as_slice() => hash_of(rest),
-        [command, rest @ ..] if command.as_slice() == b"assemble".as_slice() => assemble_of(rest),
-        [command, rest @ ..] if command.as_slice() == b"run".as_slice() => run_of(rest),
+    match name {
+        CommandName::Check => check_of(read),
+        CommandName::Hash => hash_of(read),
+        CommandName::Assemble => assemble_of(read),
+        CommandName::Run => run_of(read),
+        CommandName::Make => make_of(read),
+    }
+}
+
+fn check_of<'a>(read: &ReadWords<'a>) -> Command<'a>
+    ensures asks { asks result ≡ check_in (texts_read read.now) }
+    ensures named { NamesFiles result }
+{
+    let Some(params) = place_name(read, 0) else {
+        return Command::Nothing;
+    };
+    let Some(table) = place_name(read, 1) else {
+        return Command::Nothing;
+    };
+    let Some(statement) = place_name(read, 2) else {
+        return Command::Nothing;
+    };
+    match (needed_name(read, 0), free_number(1, MOST_PIECES, read, 0)) {
+        (Some(Some(evidence)), Some(pieces)) => {
+            check_with(params, table, statement, evidence, pieces)
+        }
         _ => Command::Nothing,
     }
 }
 
-fn check_of(words: &[Vec<u8>]) -> Command<'_>
-    ensures asks { asks result ≡ check_words (texts words.entry.now) }
-    ensures named { NamesFiles result }
+// In how many pieces a trace is checked: one where the words do not say.
+fn pieces_of(said: Option<u64>) -> usize
+    requires some { IfSome said (λ n. 1 ≤ n) }
+    requires few { IfSome said (λ n. n ≤ most_pieces) }
+    ensures some { 1 ≤ result }
+    ensures few { result ≤ most_pieces }
 {
-    if !is_form(3, &["--evidence"], words) {
-        return Command::Nothing;
-    }
-    let Some(params) = name_at(0, words) else {
-        return Command::Nothing;
-    };
-    let Some(table) = name_at(1, words) else {
-        return Command::Nothing;
-    };
-    let Some(statement) = name_at(2, words) else {
-        return Command::Nothing;
-    };
-    match optional_name("--evidence", words) {
-        Some(Some(evidence)) => check_with(params, table, statement, evidence),
-        _ => Command::Nothing,
+    match said {
+        Some(pieces) => pieces as usize,
+        None => 1,
     }
 }
 
@@ -88,13 +139,16 @@ fn check_with<'a>(
     table: &'a str,
     statement: &'a str,
     evidence: &'a str,
+    pieces: Option<u64>,
 ) -> Command<'a>
     requires params { length params.now ≤ most_name_bytes }
     requires table { length table.now ≤ most_name_bytes }
     requires statement { length statement.now ≤ most_name_bytes }
     requires evidence { length evidence.now ≤ most_name_bytes }
+    requires some { IfSome pieces (λ n. 1 ≤ n) }
+    requires few { IfSome pieces (λ n. n ≤ most_pieces) }
     ensures asks { asks result ≡ check_of_names (Some params.entry.now) (Some table.entry.now) (Some statement.entry.now)
-        (Some (Some evidence.entry.now)) }
+        (Some (Some evidence.entry.now)) (Some pieces) }
     ensures named { NamesFiles result }
 {
     if evidence == params || evidence == table || evidence == statement {
@@ -105,36 +159,31 @@ fn check_with<'a>(
         table,
         statement,
         evidence,
+        pieces: pieces_of(pieces),
     }
 }
 
-fn hash_of(words: &[Vec<u8>]) -> Command<'_>
-    ensures asks { asks result ≡ hash_words (texts words.entry.now) }
+fn hash_of<'a>(read: &ReadWords<'a>) -> Command<'a>
+    ensures asks { asks result ≡ hash_in (texts_read read.now) }
     ensures named { NamesFiles result }
 {
-    if !is_form(2, &[], words) {
-        return Command::Nothing;
-    }
-    match (name_at(0, words), name_at(1, words)) {
+    match (place_name(read, 0), place_name(read, 1)) {
         (Some(params), Some(numbers)) => Command::Hash { params, numbers },
         _ => Command::Nothing,
     }
 }
 
-fn assemble_of(words: &[Vec<u8>]) -> Command<'_>
-    ensures asks { asks result ≡ assemble_words (texts words.entry.now) }
+fn assemble_of<'a>(read: &ReadWords<'a>) -> Command<'a>
+    ensures asks { asks result ≡ assemble_in (texts_read read.now) }
     ensures named { NamesFiles result }
 {
-    if !is_form(2, &["--kernel"], words) {
-        return Command::Nothing;
-    }
-    let Some(params) = name_at(0, words) else {
+    let Some(params) = place_name(read, 0) else {
         return Command::Nothing;
     };
-    let Some(source) = name_at(1, words) else {
+    let Some(source) = place_name(read, 1) else {
         return Command::Nothing;
     };
-    match optional_name("--kernel", words) {
+    match free_name(read, 0) {
         Some(kernel) => Command::Assemble {
             params,
             source,
@@ -144,40 +193,34 @@ fn assemble_of(words: &[Vec<u8>]) -> Command<'_>
     }
 }
 
-fn run_of(words: &[Vec<u8>]) -> Command<'_>
-    ensures asks { asks result ≡ run_words (texts words.entry.now) }
+fn run_of<'a>(read: &ReadWords<'a>) -> Command<'a>
+    ensures asks { asks result ≡ run_in (texts_read read.now) }
     ensures named { NamesFiles result }
 {
-    if !is_form(3, &["--out", "--statement", "--kernel", "--limit"], words) {
-        return Command::Nothing;
-    }
-    let Some(params) = name_at(0, words) else {
+    let Some(params) = place_name(read, 0) else {
         return Command::Nothing;
     };
-    let Some(source) = name_at(1, words) else {
+    let Some(source) = place_name(read, 1) else {
         return Command::Nothing;
     };
-    let Some(inputs) = name_at(2, words) else {
+    let Some(inputs) = place_name(read, 2) else {
         return Command::Nothing;
     };
-    let Some(outputs) = outputs_of(words) else {
+    let Some(outputs) = outputs_of(read) else {
         return Command::Nothing;
     };
-    match (optional_name("--kernel", words), limit_of(words)) {
+    match (free_name(read, 0), limit_of(read)) {
         (Some(kernel), Some(limit)) => run_with(params, source, inputs, outputs, kernel, limit),
         _ => Command::Nothing,
     }
 }
 
 // The names of the files that `run` writes.
-fn outputs_of(words: &[Vec<u8>]) -> Option<Outputs<'_>>
-    ensures is { option_map outputs_from result ≡ outputs_in (texts words.entry.now) }
+fn outputs_of<'a>(read: &ReadWords<'a>) -> Option<Outputs<'a>>
+    ensures is { option_map outputs_from result ≡ outputs_read (texts_read read.now) }
     ensures named { IfSome result AreNamed }
 {
-    match (
-        optional_name("--out", words),
-        optional_name("--statement", words),
-    ) {
+    match (needed_name(read, 0), needed_name(read, 1)) {
         (Some(Some(table)), Some(Some(statement))) => Some(Outputs { table, statement }),
         _ => None,
     }
@@ -231,13 +274,60 @@ fn is_read(name: &str, params: &str, source: &str, inputs: &str, kernel: Option<
 }
 
 // The limit of cycles that the words give, the most where they give none.
-fn limit_of(words: &[Vec<u8>]) -> Option<u32>
-    ensures is { result ≡ limit_in (texts words.now) }
+fn limit_of(read: &ReadWords<'_>) -> Option<u32>
+    ensures is { result ≡ limit_read (texts_read read.now) }
     ensures small { IfSome result (λ limit. limit ≤ most_cycles) }
 {
-    match optional_number(1, u64::from(MOST_CYCLES), "--limit", words) {
+    match free_number(1, u64::from(MOST_CYCLES), read, 1) {
         Some(Some(limit)) => Some(limit as u32),
         Some(None) => Some(MOST_CYCLES),
         None => None,
+    }
+}
+
+fn make_of<'a>(read: &ReadWords<'a>) -> Command<'a>
+    ensures asks { asks result ≡ make_in (texts_read read.now) }
+    ensures named { NamesFiles result }
+{
+    let Some(params) = place_name(read, 0) else {
+        return Command::Nothing;
+    };
+    let Some(turns) = place_number(1, u64::from(MOST_TURNS), read, 1) else {
+        return Command::Nothing;
+    };
+    match made_names_of(read) {
+        Some(names) => make_with(params, turns as u32, names),
+        None => Command::Nothing,
+    }
+}
+
+// The names of the files that `make` writes.
+fn made_names_of<'a>(read: &ReadWords<'a>) -> Option<MadeNames<'a>>
+    ensures is { option_map made.names_from result ≡ made_names_read (texts_read read.now) }
+    ensures named { IfSome result made.AreNamed }
+{
+    match (needed_name(read, 0), needed_name(read, 1)) {
+        (Some(Some(source)), Some(Some(inputs))) => Some(MadeNames { source, inputs }),
+        _ => None,
+    }
+}
+
+// Two files are written, so that neither may have the name of the other one or of the parameters.
+fn make_with<'a>(params: &'a str, turns: u32, names: MadeNames<'a>) -> Command<'a>
+    requires params { length params.now ≤ most_name_bytes }
+    requires some { 1 ≤ turns }
+    requires few { turns ≤ most_turns }
+    requires names { made.AreNamed names }
+    ensures asks { asks result ≡ make_apart params.entry.now turns (made.names_from names.entry) }
+    ensures named { NamesFiles result }
+{
+    let MadeNames { source, inputs } = names;
+    if source == inputs || source == params || inputs == params {
+        return Command::Nothing;
+    }
+    Command::Make {
+        params,
+        turns,
+        names,
     }
 }

@@ -43,6 +43,7 @@ fn main(rt: HostRuntime) -> ExitCode {
     let mut shelf = FolderShelf::new(&rt);
     let mut out = StdSink::new(&rt);
     let status = serve(
+        &rt,
         rt.alloc(),
         seed(&rt),
         words.as_slice(),

@@ -1,8 +1,13 @@
-use cmd_words::{is_form, name_at, optional_name, optional_number};
+use cmd_reading::{ReadWords, WordsStop, read_words, texts_of};
+use cmd_words::{file_name, number_in};
 use std::alloc::Global;
 use std::process::Abort;
 use std::test::Fail;
 use vm_field::Memory;
+
+static PLACES: [&str; 3] = ["params", "source", "inputs"];
+
+static FREE: [&str; 2] = ["kernel", "limit"];
 
 /// The words behind a command of three names, a name `--kernel` and a number `--limit` from 1 to
 /// 524,287, which is that where it is not given; the third name, the kernel's and the limit.
@@ -58,35 +63,49 @@ fn words_of(alloc: Global, texts: &[&str]) -> Result<Vec<Vec<u8>>, Memory> {
     Ok(words)
 }
 
-fn third_is(words: &[Vec<u8>], third: &str) -> bool {
-    match name_at(2, words) {
-        Some(name) => name == third,
-        None => false,
-    }
+// The third name, the kernel's and the limit, where the texts are names and a number.
+fn named<'a>(read: &ReadWords<'a>) -> Option<(&'a str, &'a str, u64)> {
+    let third = file_name(read.place(2)?.as_bytes())?;
+    let kernel = match read.free(0) {
+        Some(text) => file_name(text.as_bytes())?,
+        None => "",
+    };
+    let limit = match read.free(1) {
+        Some(text) => number_in(1, 524_287, text.as_bytes())?,
+        None => 524_287,
+    };
+    Some((third, kernel, limit))
 }
 
-// Whether the words are read so. A limit 0 says that they are refused.
-fn is_read(words: &[Vec<u8>], third: &str, kernel: &str, limit: u64) -> bool {
-    if !is_form(3, &["--kernel", "--limit"], words) {
-        return limit == 0;
-    }
-    let (Some(name), Some(number)) = (
-        optional_name("--kernel", words),
-        optional_number(1, 524_287, "--limit", words),
-    ) else {
-        return limit == 0;
+// Whether the words are read as these names and this number. A limit 0 says that they are refused.
+fn is_read(
+    alloc: Global,
+    words: &[Vec<u8>],
+    third: &str,
+    kernel: &str,
+    limit: u64,
+) -> Result<bool, Memory> {
+    let texts = match texts_of(alloc, words) {
+        Ok(texts) => texts,
+        Err(WordsStop::Usage) => return Ok(limit == 0),
+        Err(WordsStop::Memory) => return Err(Memory::Memory),
     };
-    if limit == 0 {
-        return name_at(2, words).is_none();
+    match read_words(alloc, &PLACES, &[], &FREE, texts.as_slice()) {
+        Ok(read) => Ok(match named(&read) {
+            Some((name, other, number)) => name == third && other == kernel && number == limit,
+            None => limit == 0,
+        }),
+        Err(WordsStop::Usage) => Ok(limit == 0),
+        Err(WordsStop::Memory) => Err(Memory::Memory),
     }
-    third_is(words, third) && name.unwrap_or("") == kernel && number.unwrap_or(524_287) == limit
 }
 
 fn all_read(rt: &(impl Abort + AllocGlobal), rows: &[Row]) -> Result<(), Fail> {
     for row in rows {
         let (texts, third, kernel, limit) = *row;
         let words = words_of(rt.alloc(), texts)?;
-        assert!(rt; is_read(words.as_slice(), third, kernel, limit));
+        let holds = is_read(rt.alloc(), words.as_slice(), third, kernel, limit)?;
+        assert!(rt; holds);
     }
     Ok(())
 }
@@ -94,7 +113,8 @@ fn all_read(rt: &(impl Abort + AllocGlobal), rows: &[Row]) -> Result<(), Fail> {
 fn all_refused(rt: &(impl Abort + AllocGlobal), rows: &[&[&str]]) -> Result<(), Fail> {
     for texts in rows {
         let words = words_of(rt.alloc(), texts)?;
-        assert!(rt; is_read(words.as_slice(), "", "", 0));
+        let holds = is_read(rt.alloc(), words.as_slice(), "", "", 0)?;
+        assert!(rt; holds);
     }
     Ok(())
 }

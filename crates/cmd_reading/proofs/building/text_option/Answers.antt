@@ -1,0 +1,9 @@
+use Rattle.std.proofs.Common.{◌∙◌, ap, Some}
+use Rattle.clap.specs.Words.{Rule, rule_of}
+use Rattle.cmd_reading.proofs.building.text_option.Goals as goal
+
+pub returns-clause-rule : goal.returns-clause-rule
+returns-clause-rule c =
+    ap rule_of c.required.ensures
+    ∙ ap (λ (r : Rule). record r { required = c.args.required })
+    (ap rule_of c.long.ensures ∙ ap (λ (r : Rule). record r { long = Some c.args.id.now }) c.new.ensures.rule)

@@ -1,0 +1,9 @@
+use Rattle.std.proofs.Common.{◌≡◌, map, take}
+use Rattle.std.specs.Option.{option_map}
+use Rattle.clap.specs.Words.{first_value, found_of}
+use Rattle.cmd_reading.proofs.reading.some_given.Given as goal
+
+abbrev pub invariant-loop-id : goal.invariant-loop-id
+invariant-loop-id l = record {
+  same : map (option_map (λ t. t.now)) l.texts.items ≡ map (λ id. first_value (found_of l.matches) id.now) (take l.id-index l.ids);
+}

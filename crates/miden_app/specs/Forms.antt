@@ -1,0 +1,87 @@
+-- The form of the words behind each command's name, and what the texts in them ask for.
+use Rattle.std.specs.Prelude.{ℕ, List, [], ◌∷◌, codes, Option, option_and_then, option_map, unwrap_or}
+use Rattle.vm_field.specs.Limits.{most_cycles}
+use Rattle.cmd_words.specs.Words.{file_name_of, number_of_word, optional}
+use Rattle.cmd_reading.specs.Form.{WordForm}
+use Rattle.cmd_reading.specs.Meaning.{FormTexts, text_at}
+use Rattle.miden_app.specs.declared.names.CommandName.{CommandName}
+use Rattle.miden_app.specs.declared.names.CommandName.TheVariants as name
+use Rattle.workloads.specs.Workloads.{most_turns}
+use Rattle.cmd_kit.specs.Asked.{Asked, MadeNames, Outputs, assemble_of_names, assemble_words, check_of_names, check_words, hash_of_names, hash_words, made_names, make_of_names, make_words, most_pieces, outputs_named, run_of_names, run_words}
+
+-- what the words behind the name ask for
+abbrev pub asked_by : CommandName → List (List ℕ) → Asked
+asked_by name.Check words = check_words words
+asked_by name.Hash words = hash_words words
+asked_by name.Assemble words = assemble_words words
+asked_by name.Run words = run_words words
+asked_by name.Make words = make_words words
+
+-- the names of what the command takes
+abbrev pub form_named : CommandName → WordForm
+form_named name.Check = record {
+  places = codes "params" ∷ codes "table" ∷ codes "statement" ∷ [];
+  needed = codes "evidence" ∷ [];
+  free = codes "pieces" ∷ [];
+}
+form_named name.Hash = record { places = codes "params" ∷ codes "numbers" ∷ []; needed = []; free = [] }
+form_named name.Assemble = record { places = codes "params" ∷ codes "source" ∷ []; needed = []; free = codes "kernel" ∷ [] }
+form_named name.Run = record {
+  places = codes "params" ∷ codes "source" ∷ codes "inputs" ∷ [];
+  needed = codes "out" ∷ codes "statement" ∷ [];
+  free = codes "kernel" ∷ codes "limit" ∷ [];
+}
+form_named name.Make = record {
+  places = codes "params" ∷ codes "turns" ∷ [];
+  needed = codes "source" ∷ codes "inputs" ∷ [];
+  free = [];
+}
+
+-- the file name at a place
+abbrev pub name_in : ℕ → List (Option (List ℕ)) → Option (List ℕ)
+name_in i texts = option_and_then file_name_of (text_at i texts)
+
+-- the number at a place
+abbrev pub number_in : ℕ → ℕ → ℕ → List (Option (List ℕ)) → Option ℕ
+number_in least most i texts = option_and_then (number_of_word least most) (text_at i texts)
+
+-- the file name that an option gives, and none where its text is no file name
+abbrev pub option_name : ℕ → List (Option (List ℕ)) → Option (Option (List ℕ))
+option_name i texts = optional file_name_of (text_at i texts)
+
+-- the number that an option gives, and none where its text is no such number
+abbrev pub option_number : ℕ → ℕ → ℕ → List (Option (List ℕ)) → Option (Option ℕ)
+option_number least most i texts = optional (number_of_word least most) (text_at i texts)
+
+-- what the texts behind the name ask for
+abbrev pub check_in : FormTexts → Asked
+check_in t =
+    check_of_names (name_in 0 t.places) (name_in 1 t.places) (name_in 2 t.places) (option_name 0 t.needed) (option_number 1 most_pieces 0 t.free)
+
+abbrev pub hash_in : FormTexts → Asked
+hash_in t = hash_of_names (name_in 0 t.places) (name_in 1 t.places)
+
+abbrev pub assemble_in : FormTexts → Asked
+assemble_in t = assemble_of_names (name_in 0 t.places) (name_in 1 t.places) (option_name 0 t.free)
+
+abbrev pub outputs_read : FormTexts → Option Outputs
+outputs_read t = outputs_named (option_name 0 t.needed) (option_name 1 t.needed)
+
+abbrev pub limit_read : FormTexts → Option ℕ
+limit_read t = option_map (λ limit. unwrap_or limit most_cycles) (option_number 1 most_cycles 1 t.free)
+
+abbrev pub run_in : FormTexts → Asked
+run_in t = run_of_names (name_in 0 t.places) (name_in 1 t.places) (name_in 2 t.places) (outputs_read t) (option_name 0 t.free) (limit_read t)
+
+abbrev pub made_names_read : FormTexts → Option MadeNames
+made_names_read t = made_names (option_name 0 t.needed) (option_name 1 t.needed)
+
+abbrev pub make_in : FormTexts → Asked
+make_in t = make_of_names (name_in 0 t.places) (number_in 1 most_turns 1 t.places) (made_names_read t)
+
+abbrev pub asked_in : CommandName → FormTexts → Asked
+asked_in name.Check t = check_in t
+asked_in name.Hash t = hash_in t
+asked_in name.Assemble t = assemble_in t
+asked_in name.Run t = run_in t
+asked_in name.Make t = make_in t
