@@ -31,6 +31,14 @@ impl<const N: usize, C: AddAssign + Copy + Default + From<u8> + Into<u128> + Par
         self.0.entry(tuple).or_default()[1] += count;
     }
 
+    fn absorb(&mut self, other: Counts<N, C>) {
+        for (tuple, [asked, given]) in other.0 {
+            let both = self.0.entry(tuple).or_default();
+            both[0] += asked;
+            both[1] += given;
+        }
+    }
+
     // The least tuple whose counts differ.
     fn apart(&self) -> Option<Apart> {
         let unequal = self.0.iter().filter(|(_, [asked, given])| asked != given);
@@ -55,6 +63,14 @@ impl Values {
 
     fn give(&mut self, value: u64, count: u64) {
         self.small[value as usize][1] += u128::from(count);
+    }
+
+    fn absorb(&mut self, other: Values) {
+        for (both, [asked, given]) in self.small.iter_mut().zip(other.small) {
+            both[0] += asked;
+            both[1] += given;
+        }
+        self.great.absorb(other.great);
     }
 
     fn apart(&self) -> Option<Apart> {
@@ -97,12 +113,10 @@ fn frame(x: &Row) -> [u64; 9] {
 }
 
 impl Buses {
-    pub fn new(digest: Word) -> Buses {
-        let mut children = Counts::new();
-        children.give(joined(&[0], &[&digest[..], &[0]].concat()));
+    pub fn new() -> Buses {
         Buses {
             blocks: Counts::new(),
-            children,
+            children: Counts::new(),
             loops: Counts::new(),
             groups: Counts::new(),
             overflow: Counts::new(),
@@ -115,6 +129,28 @@ impl Buses {
             range: Values { small: vec![[0; 2]; 65536], great: Counts::new() },
             kernel: Counts::new(),
         }
+    }
+
+    /// What the statement gives.
+    pub fn statement(&mut self, digest: Word) {
+        self.children.give(joined(&[0], &[&digest[..], &[0]].concat()));
+    }
+
+    /// Adds the counts of other rows.
+    pub fn absorb(&mut self, other: Buses) {
+        self.blocks.absorb(other.blocks);
+        self.children.absorb(other.children);
+        self.loops.absorb(other.loops);
+        self.groups.absorb(other.groups);
+        self.overflow.absorb(other.overflow);
+        self.hash_starts.absorb(other.hash_starts);
+        self.hash_blocks.absorb(other.hash_blocks);
+        self.hash_ends.absorb(other.hash_ends);
+        self.permutations.absorb(other.permutations);
+        self.bitwise.absorb(other.bitwise);
+        self.memory.absorb(other.memory);
+        self.range.absorb(other.range);
+        self.kernel.absorb(other.kernel);
     }
 
     /// What a row of the main table asks and gives, by its operation and that of the row behind it.

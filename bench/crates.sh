@@ -3,12 +3,13 @@
 # `work`, with what earlier checks left in their folders out/, so that they need not be proved again, and lists them in its crates.txt.
 copy_crates() {
     local crate below
+    # shellcheck disable=SC2154
+    cp "$top/HANDLES" "$work/"
     for crate in "$@"; do
-        # shellcheck disable=SC2154
         if [ ! -d "$top/crates/$crate" ] || [ -d "$work/crates/$crate" ]; then
             continue
         fi
-        below=$(sed -n "s/^$crate://p" "$top/crates.txt")
+        below=$(sed -nE "s/^$crate( [a-z_]+=[A-Za-z0-9+]+)*://p" "$top/crates.txt")
         mkdir -p "$work/crates/$crate"
         cp -r "$top/crates/$crate"/{src,specs,proofs,out} "$work/crates/$crate/" 2>/dev/null || true
         echo "$crate:$below" >>"$work/crates.txt"

@@ -1,5 +1,5 @@
--- Rows counted one after another, and tables.
-use Rattle.std.proofs.Common.{◌≡◌, ℕ, zero, suc, ◌+◌, ◌*◌, ◌^◌, ◌<◌, ◌≤◌, ◌==◌, true, false, List, [], ◌∷◌, take, length, slice_index_or, Option, Result, Ok, Err, OnOk, OnSome, refl, sym, subst, add-one, arith, lit≤}
+-- Rows counted one after another, tables, and pieces.
+use Rattle.std.proofs.Common.{◌≡◌, ℕ, zero, suc, ◌+◌, ◌*◌, ◌^◌, ◌<◌, ◌≤◌, ◌==◌, true, false, List, [], ◌∷◌, length, Option, Some, None, IfSome, Result, Ok, Err, OnOk, OnSome, refl, sym, ap, ap₂, ◌∙◌, subst, add-one, arith}
 use Rattle.std.proofs.lemmas.Bool.{eqb-true}
 use Rattle.std.specs.Result.{result_ok}
 use Rattle.air_kit.specs.Acceptance.{AreZero, asked_on, given_on, statement_given}
@@ -7,29 +7,32 @@ use Rattle.air_kit.specs.MainTuples.{main_given}
 use Rattle.air_kit.specs.MainValues.{main_values}
 use Rattle.air_kit.specs.Places.{Claim, Spot}
 use Rattle.air_kit.specs.Tables.{every_table, sum_over, table_number}
-use Rattle.air_kit.specs.Traces.{HasCounts, most_rows, rows_of, spot_of}
+use Rattle.air_kit.specs.Traces.{HasCounts, rows_of, spot_of}
 use Rattle.air_kit.specs.declared.trace.TableName.{TableName}
 use Rattle.air_kit.specs.declared.trace.TableName.TheVariants as table
 use Rattle.air_kit.specs.declared.trace.Trace.{Trace}
 use Rattle.buses.specs.Counts.{Counted, OfRow, at_row, counted, over_first, over_rows, total, with_next}
 use Rattle.buses.specs.declared.bus.Bus.{Bus}
 use Rattle.buses.proofs.Counting.{counted-append}
-use Rattle.bus_kit.specs.ByBus.{AreCounted, HaveRoom, asked_by, given_by}
+use Rattle.bus_kit.specs.ByBus.{AreCounted, HaveRoom, asked_by, both_by, given_by}
+use Rattle.bus_kit.specs.Counting.{FitTogether, summed}
 use Rattle.bus_kit.specs.declared.tallies.Tallies.{Tallies}
 use Rattle.bus_main.specs.RowTuples.{main_given_at}
 use Rattle.facts_main.proofs.BatchFacts.{batch_row}
 use Rattle.facts_main.proofs.OpcodeFacts.{main_parts, opcode_bits}
 use Rattle.facts_main.proofs.Zeros.{numbers_zero}
 use Rattle.vm_table.specs.Layout.{IsTable}
-use Rattle.checker.proofs.TableOrder.{number_at, table_at}
-use Rattle.checker.specs.Counting.{AreReadable, AreRowsCounted, AreTablesCounted, AreWithin, IsRowCounted, IsTableCounted, IsTraceCounted, asked_of, given_of, room_before, room_behind}
+use Rattle.checker.proofs.PieceLemmas.{all_end, all_start, below_all, below_none, ends_same, halves_meet, starts_same}
+use Rattle.checker.proofs.TableOrder.{number_at, sum_next, table_at, table_below}
+use Rattle.checker.specs.Counting.{AreReadable, AreRowsCounted, AreTablesCounted, AreWithin, IsPartCounted, IsRowCounted, IsTableCounted, IsTraceCounted, asked_below, asked_of, given_below, given_of, room_before, room_behind}
+use Rattle.checker.specs.Pieces.{all_rows, ends_at, rows_below, starts_at}
+use Rattle.checker.specs.declared.parts.Part.{Part}
 
 -- no row
-pub none_counted : (c : Claim) (t : Trace) (name : TableName) (a : Tallies) → AreRowsCounted c t name 0 a a
-unfolding over_first total
-none_counted c t name a = record {
-  asked_is = λ bus u. omega arith;
-  given_is = λ bus u. omega arith;
+pub none_counted : (c : Claim) (t : Trace) (name : TableName) (i : ℕ) (a : Tallies) → AreRowsCounted c t name i i a a
+none_counted c t name i a = record {
+  asked_is = λ bus u. refl;
+  given_is = λ bus u. refl;
   asked_grows = λ bus u. omega arith;
   given_grows = λ bus u. omega arith;
 }
@@ -44,9 +47,9 @@ unfolding over_first
 over_more tuples rows n u = total_more n (λ i. counted (at_row tuples rows i) u)
 
 -- one row more
-pub one_more_counted : (c : Claim) (t : Trace) (name : TableName) (n : ℕ) (a b e : Tallies)
-    → AreRowsCounted c t name n a b → IsRowCounted c t name n b e → AreRowsCounted c t name (n + 1) a e
-one_more_counted c t name n a b e p q = record {
+pub one_more_counted : (c : Claim) (t : Trace) (name : TableName) (i n : ℕ) (a b e : Tallies) → i ≤ n
+    → AreRowsCounted c t name i n a b → IsRowCounted c t name n b e → AreRowsCounted c t name i (n + 1) a e
+one_more_counted c t name i n a b e start p q = record {
   asked_is = λ bus u.
       let before = p.asked_is bus u in
       let row = (q bus).asked_is u in
@@ -57,48 +60,37 @@ one_more_counted c t name n a b e p q = record {
       let row = (q bus).given_is u in
       let more = over_more (given_of c bus name) (rows_of t name) n u in
       omega (arith, before, row, more);
-  asked_grows = λ bus u. let before = p.asked_grows bus u in let row = (q bus).asked_grows u in omega (arith, before, row);
-  given_grows = λ bus u. let before = p.given_grows bus u in let row = (q bus).given_grows u in omega (arith, before, row);
+  asked_grows = λ bus u. let before = p.asked_grows bus u in let row = (q bus).asked_grows u in omega (arith, before, row, start);
+  given_grows = λ bus u. let before = p.given_grows bus u in let row = (q bus).given_grows u in omega (arith, before, row, start);
 }
 
 number_small : (name : TableName) → table_number name ≤ 6
-number_small table.Main = lit≤ tt
-number_small table.Range = lit≤ tt
-number_small table.Hasher = lit≤ tt
-number_small table.Bitwise = lit≤ tt
-number_small table.Memory = lit≤ tt
-number_small table.Kernel = lit≤ tt
-number_small table.Left = lit≤ tt
+number_small name = let h = table_below name in omega (arith, h)
 
 -- there is room for one row more
-pub room_for_row : (c : Claim) (t : Trace) (name : TableName) (n : ℕ) (a b : Tallies)
-    → AreWithin (room_before name) a → AreRowsCounted c t name n a b → n < 2 ^ 32 → HaveRoom b
-room_for_row c t name n a b within p few bus u =
+pub room_for_row : (c : Claim) (t : Trace) (name : TableName) (i n : ℕ) (a b : Tallies)
+    → AreWithin (room_before name) a → AreRowsCounted c t name i n a b → n ≤ 2 ^ 22 → HaveRoom b
+room_for_row c t name i n a b within p few bus u =
     let start = within bus u in
     let number = number_small name in
     let asked = p.asked_grows bus u in
     let given = p.given_grows bus u in
     (omega (arith, start.0, number, asked, few), omega (arith, start.1, number, given, few))
 
-most_few : (name : TableName) → most_rows name ≤ 2 ^ 22
-most_few table.Main = lit≤ tt
-most_few table.Range = lit≤ tt
-most_few table.Hasher = lit≤ tt
-most_few table.Bitwise = lit≤ tt
-most_few table.Memory = lit≤ tt
-most_few table.Kernel = lit≤ tt
-most_few table.Left = lit≤ tt
-
 -- and behind the table for the next one
-pub room_for_table : (c : Claim) (t : Trace) (name : TableName) (a b : Tallies)
-    → HasCounts t → AreWithin (room_before name) a → IsTableCounted c t name a b → AreWithin (room_behind name) b
-room_for_table c t name a b counts within p bus u =
+pub room_for_table : (c : Claim) (t : Trace) (name : TableName) (i n : ℕ) (a b : Tallies)
+    → AreWithin (room_before name) a → AreRowsCounted c t name i n a b → n ≤ 2 ^ 22 → AreWithin (room_behind name) b
+room_for_table c t name i n a b within p few bus u =
     let start = within bus u in
-    let few = (counts name).most in
-    let most = most_few name in
     let asked = p.asked_grows bus u in
     let given = p.given_grows bus u in
-    (omega (arith, start.0, few, most, asked), omega (arith, start.1, few, most, given))
+    (omega (arith, start.0, few, asked), omega (arith, start.1, few, given))
+
+-- the rows that a table has in some pieces
+pub table_counted : (c : Claim) (t : Trace) (part : Part) (name : TableName) (i n : ℕ) (a b : Tallies) → i ≡ rows_below t name (starts_at t part)
+    → n ≡ rows_below t name (ends_at t part) → AreRowsCounted c t name i n a b → IsTableCounted c t part name a b
+table_counted c t part name i n a b start end p =
+    subst (λ k. AreRowsCounted c t name k (rows_below t name (ends_at t part)) a b) start (subst (λ k. AreRowsCounted c t name i k a b) end p)
 
 -- what was counted where there was memory
 pub as_option : {E : Type 0} (P : Type 0) (r : Result (Unit {0}) E) (o : Option (Unit {0})) → o ≡ result_ok r → OnOk r P → OnSome o P
@@ -140,51 +132,150 @@ main_given_rows : (c : Claim) (bus : Bus) (rows : List (List ℕ)) (n : ℕ) (u 
 main_given_rows c bus rows zero u some = absurd (omega (arith, some))
 main_given_rows c bus rows (suc n) u some = main_given_first c bus rows n u
 
-sum_next : (names : List TableName) (n : ℕ) (of : TableName → ℕ) → n < length names
-    → sum_over (take (suc n) names) of ≡ sum_over (take n names) of + of (slice_index_or names n table.Main)
-sum_next [] n of h = absurd (omega (arith, h))
-sum_next (name ∷ names) zero of h = omega arith
-sum_next (name ∷ names) (suc n) of h = let more = sum_next names n of (omega (arith, h)) in omega (arith, more)
+asked_next : (c : Claim) (t : Trace) (bus : Bus) (n m : ℕ) (u : List ℕ) → n < 7
+    → asked_below c t bus (suc n) m u
+    ≡ asked_below c t bus n m u + over_first (asked_of c bus (table_at n)) (rows_of t (table_at n)) (rows_below t (table_at n) m) u
+asked_next c t bus n m u h = sum_next every_table n (λ name. over_first (asked_of c bus name) (rows_of t name) (rows_below t name m) u) h
+
+given_next : (c : Claim) (t : Trace) (bus : Bus) (n m : ℕ) (u : List ℕ) → n < 7
+    → given_below c t bus (suc n) m u
+    ≡ given_below c t bus n m u + over_first (given_of c bus (table_at n)) (rows_of t (table_at n)) (rows_below t (table_at n) m) u
+given_next c t bus n m u h = sum_next every_table n (λ name. over_first (given_of c bus name) (rows_of t name) (rows_below t name m) u) h
 
 -- no table
-pub no_table_counted : (c : Claim) (t : Trace) (none : Tallies) → ((bus : Bus) (u : List ℕ) → asked_by none bus u ≡ 0)
-    → ((bus : Bus) (u : List ℕ) → given_by none bus u ≡ 0) → AreTablesCounted c t 0 none
-no_table_counted c t none asked given = record {
-  asked_is = asked;
-  given_is = given;
-  within = λ bus u. let a = asked bus u in let g = given bus u in (omega (arith, a), omega (arith, g));
+pub no_table_counted : (c : Claim) (t : Trace) (part : Part) (none : Tallies) → ((bus : Bus) (u : List ℕ) → both_by none bus u ≡ (0, 0))
+    → AreTablesCounted c t part 0 none
+no_table_counted c t part none empty = record {
+  asked_is = λ bus u. let a = ap (λ k. k.0) (empty bus u) in omega (arith, a);
+  given_is = λ bus u. let g = ap (λ k. k.1) (empty bus u) in omega (arith, g);
+  within = λ bus u. let a = ap (λ k. k.0) (empty bus u) in let g = ap (λ k. k.1) (empty bus u) in (omega (arith, a), omega (arith, g));
 }
 
 -- there is room for one table more, and it was counted
 pub room_at : (n : ℕ) (a : Tallies) → n < 7 → AreWithin (n * 2 ^ 90) a → AreWithin (room_before (table_at n)) a
 room_at n a h within = subst (λ (k : ℕ). AreWithin (k * 2 ^ 90) a) (sym (number_at n h)) within
 
-pub one_table_more : (c : Claim) (t : Trace) (n : ℕ) (a b : Tallies) → n < 7 → AreTablesCounted c t n a → IsTableCounted c t (table_at n) a b
-    → AreWithin (room_behind (table_at n)) b → AreTablesCounted c t (n + 1) b
-one_table_more c t n a b h before p within = rw add-one (record {
+pub one_table_more : (c : Claim) (t : Trace) (part : Part) (n : ℕ) (a b : Tallies) → n < 7 → AreTablesCounted c t part n a
+    → IsTableCounted c t part (table_at n) a b → AreWithin (room_behind (table_at n)) b → AreTablesCounted c t part (n + 1) b
+one_table_more c t part n a b h before p within = rw add-one (record {
   asked_is = λ bus u.
       let so_far = before.asked_is bus u in
       let table = p.asked_is bus u in
-      let all = sum_next every_table n (λ name. over_rows (asked_of c bus name) (rows_of t name) u) h in
-      omega (arith, so_far, table, all);
+      let first = asked_next c t bus n (starts_at t part) u h in
+      let last = asked_next c t bus n (ends_at t part) u h in
+      omega (arith, so_far, table, first, last);
   given_is = λ bus u.
       let so_far = before.given_is bus u in
       let table = p.given_is bus u in
-      let all = sum_next every_table n (λ name. over_rows (given_of c bus name) (rows_of t name) u) h in
-      omega (arith, so_far, table, all);
+      let first = given_next c t bus n (starts_at t part) u h in
+      let last = given_next c t bus n (ends_at t part) u h in
+      omega (arith, so_far, table, first, last);
   within = subst (λ (k : ℕ). AreWithin (suc k * 2 ^ 90) b) (number_at n h) within;
 })
 
 -- all tables
-pub trace_counted : (c : Claim) (t : Trace) (tallies : Tallies) → HasCounts t → AreTablesCounted c t 7 tallies → IsTraceCounted c t tallies
-unfolding asked_on given_on
-trace_counted c t tallies counts all = record {
-  asked = all.asked_is;
-  given = λ bus u.
-      let tables = all.given_is bus u in
-      let statement = main_given_rows c bus t.main (length t.main) u (counts table.Main).least in
-      omega (arith, tables, statement);
+pub part_counted : (c : Claim) (t : Trace) (part : Part) (tallies : Tallies) → AreTablesCounted c t part 7 tallies → IsPartCounted c t part tallies
+part_counted c t part tallies all = record {
+  asked_is = all.asked_is;
+  given_is = all.given_is;
+  within = λ bus u. let some = part.some in let h = all.within bus u in (omega (arith, some, h.0), omega (arith, some, h.1));
 }
+
+-- there is room for the sums of two halves
+pub halves_fit : (c : Claim) (t : Trace) (part lower upper : Part) (x y : Tallies) → lower.low ≡ part.low → lower.high ≡ upper.low → upper.high ≡ part.high
+    → IsPartCounted c t lower x → IsPartCounted c t upper y → (bus : Bus) (u : List ℕ) → FitTogether (both_by x bus u) (both_by y bus u)
+halves_fit c t part lower upper x y low middle high p q bus u =
+    let a = p.within bus u in
+    let b = q.within bus u in
+    let few : part.high ≤ 64 = let most = part.most in let within = part.within in omega (arith, most, within) in
+    let first = lower.some in
+    let second = upper.some in
+    (omega (arith, a.0, b.0, few, low, middle, high, first, second), omega (arith, a.1, b.1, few, low, middle, high, first, second))
+
+-- two halves, in one
+pub halves_counted : (c : Claim) (t : Trace) (part lower upper : Part) (x y z : Tallies) → (lower.pieces ≡ part.pieces) × (upper.pieces ≡ part.pieces)
+    → lower.low ≡ part.low → lower.high ≡ upper.low → upper.high ≡ part.high → IsPartCounted c t lower x → IsPartCounted c t upper y
+    → ((bus : Bus) (u : List ℕ) → both_by z bus u ≡ summed (both_by x bus u) (both_by y bus u)) → IsPartCounted c t part z
+halves_counted c t part lower upper x y z pieces low middle high p q sums =
+    let starts = starts_same t part lower pieces.0 low in
+    let meet = halves_meet t lower upper (pieces.0 ∙ sym pieces.1) middle in
+    let ends = ends_same t part upper pieces.1 high in
+    let first = lower.some in
+    let second = upper.some in
+    record {
+      asked_is = λ bus u.
+          let sum = ap (λ k. k.0) (sums bus u) in
+          let f = subst (λ m. asked_by x bus u + asked_below c t bus 7 (starts_at t lower) u ≡ asked_below c t bus 7 m u) meet (p.asked_is bus u) in
+          let g = q.asked_is bus u in
+          subst (λ m. asked_by z bus u + asked_below c t bus 7 m u ≡ asked_below c t bus 7 (ends_at t part) u) starts
+          (subst (λ m. asked_by z bus u + asked_below c t bus 7 (starts_at t lower) u ≡ asked_below c t bus 7 m u) ends (omega (arith, sum, f, g)));
+      given_is = λ bus u.
+          let sum = ap (λ k. k.1) (sums bus u) in
+          let f = subst (λ m. given_by x bus u + given_below c t bus 7 (starts_at t lower) u ≡ given_below c t bus 7 m u) meet (p.given_is bus u) in
+          let g = q.given_is bus u in
+          subst (λ m. given_by z bus u + given_below c t bus 7 m u ≡ given_below c t bus 7 (ends_at t part) u) starts
+          (subst (λ m. given_by z bus u + given_below c t bus 7 (starts_at t lower) u ≡ given_below c t bus 7 m u) ends (omega (arith, sum, f, g)));
+      within = λ bus u.
+          let sum_asked = ap (λ k. k.0) (sums bus u) in
+          let sum_given = ap (λ k. k.1) (sums bus u) in
+          let a = p.within bus u in
+          let b = q.within bus u in (
+            omega (arith, sum_asked, a.0, b.0, low, middle, high, first, second),
+            omega (arith, sum_given, a.1, b.1, low, middle, high, first, second),
+          );
+    }
+
+sum_same : (names : List TableName) (f g : TableName → ℕ) → ((name : TableName) → f name ≡ g name) → sum_over names f ≡ sum_over names g
+sum_same [] f g same = refl
+sum_same (name ∷ names) f g same = ap₂ ◌+◌ (same name) (sum_same names f g same)
+
+over_none : (tuples : OfRow) (rows : List (List ℕ)) (u : List ℕ) → over_first tuples rows 0 u ≡ 0
+unfolding over_first total
+over_none tuples rows u = refl
+
+-- no row has a number below 0
+none_below : (t : Trace) (tuples : TableName → OfRow) (u : List ℕ)
+    → sum_over every_table (λ name. over_first (tuples name) (rows_of t name) (rows_below t name 0) u) ≡ 0
+none_below t tuples u =
+    sum_same every_table (λ name. over_first (tuples name) (rows_of t name) (rows_below t name 0) u) (λ name. 0)
+    (λ name. ap (λ k. over_first (tuples name) (rows_of t name) k u) (below_none t name) ∙ over_none (tuples name) (rows_of t name) u)
+
+-- and each below the number of all
+all_below : (t : Trace) (tuples : TableName → OfRow) (u : List ℕ)
+    → sum_over every_table (λ name. over_first (tuples name) (rows_of t name) (rows_below t name (all_rows t)) u)
+    ≡ sum_over every_table (λ name. over_rows (tuples name) (rows_of t name) u)
+all_below t tuples u =
+    sum_same every_table (λ name. over_first (tuples name) (rows_of t name) (rows_below t name (all_rows t)) u)
+    (λ name. over_rows (tuples name) (rows_of t name) u) (λ name. ap (λ k. over_first (tuples name) (rows_of t name) k u) (below_all t name))
+
+-- all pieces
+pub trace_counted : (c : Claim) (t : Trace) (all : Part) (pieces : ℕ) (tallies : Tallies) → HasCounts t → all.pieces ≡ pieces → all.low ≡ 0
+    → all.high ≡ pieces → IsPartCounted c t all tallies → IsTraceCounted c t tallies
+unfolding asked_on given_on
+trace_counted c t all pieces tallies counts is low high p = record {
+  asked = λ bus u.
+      let rows = p.asked_is bus u in
+      let none = ap (λ k. asked_below c t bus 7 k u) (all_start t all pieces is low high) ∙ none_below t (asked_of c bus) u in
+      let whole = ap (λ k. asked_below c t bus 7 k u) (all_end t all pieces is low high) ∙ all_below t (asked_of c bus) u in
+      omega (arith, rows, none, whole);
+  given = λ bus u.
+      let rows = p.given_is bus u in
+      let none = ap (λ k. given_below c t bus 7 k u) (all_start t all pieces is low high) ∙ none_below t (given_of c bus) u in
+      let whole = ap (λ k. given_below c t bus 7 k u) (all_end t all pieces is low high) ∙ all_below t (given_of c bus) u in
+      let statement = main_given_rows c bus t.main (length t.main) u (counts table.Main).least in
+      omega (arith, rows, none, whole, statement);
+}
+
+-- the same where memory may have been refused
+pub if_all_counted : (c : Claim) (t : Trace) (all : Part) (pieces : ℕ) (r : Option Tallies) → HasCounts t → all.pieces ≡ pieces → all.low ≡ 0
+    → all.high ≡ pieces → IfSome r (IsPartCounted c t all) → IfSome r (IsTraceCounted c t)
+if_all_counted c t all pieces None counts is low high p = tt
+if_all_counted c t all pieces (Some tallies) counts is low high p = trace_counted c t all pieces tallies counts is low high p
+
+-- what was ensured where nothing was refused
+pub ok_given : {E : Type 0} (r : Result (Unit {0}) E) (o : Option (Unit {0})) (v : Unit {0}) (P : Type 0) → o ≡ result_ok r → o ≡ Some v → OnOk r P → P
+ok_given (Ok x) o v P e f h = h
+ok_given (Err x) o v P e f h = absurd (cc)
 
 -- a row that is counted under the table's name
 pub row_named : (o : Option (Unit {0})) (c : Claim) (t : Trace) (name other : TableName) (i : ℕ) (old new : Tallies)

@@ -1,4 +1,5 @@
 pub mod TableOrder
+pub mod PieceLemmas
 pub mod RowLemmas
 pub mod CountLemmas
 pub mod CountingLemmas

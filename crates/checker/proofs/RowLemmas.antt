@@ -1,12 +1,12 @@
 -- From the first fault of a row's list of values to what is answered of the row, its table and the trace.
-use Rattle.std.proofs.Common.{◌≡◌, ℕ, zero, suc, ◌+◌, ◌<◌, ◌≤◌, List, ◌++◌, length, slice_index, Option, Some, None, refl, sym, ap, subst, ◌∙◌, add-one, arith, lit<}
-use Rattle.std.proofs.Common.{inl, inr, ltb}
-use Rattle.std.proofs.lemmas.Bool.{cases_Bool, ltb-true, ltb-false}
+use Rattle.std.proofs.Common.{◌≡◌, ℕ, zero, suc, ◌+◌, ◌<◌, ◌≤◌, List, ◌++◌, length, slice_index, Option, Some, None, refl, sym, ap, subst, ◌∙◌, add-one, arith}
+use Rattle.std.proofs.Common.{inl, inr}
+use Rattle.std.proofs.lemmas.Bool.{cases_lt}
 use Rattle.air_kit.specs.declared.fault.Fault.{Fault}
 use Rattle.air_kit.specs.declared.trace.TableName.{TableName}
 use Rattle.air_kit.specs.declared.trace.TableName.TheVariants as table
 use Rattle.air_kit.specs.declared.trace.Trace.{Trace}
-use Rattle.air_kit.specs.Acceptance.{AreZero, IsBefore, by_table, by_row, by_number, IsFirstFault}
+use Rattle.air_kit.specs.Acceptance.{IsBefore, by_table, by_row, by_number}
 use Rattle.air_kit.specs.Places.{Claim, Spot, family, first_fault_of, at_number, or_next}
 use Rattle.air_kit.specs.Tables.{table_number}
 use Rattle.air_kit.specs.Traces.{rows_of, value_at, values_at}
@@ -18,8 +18,10 @@ use Rattle.air_kit.specs.StackValues.{stack_values, depth_values, cell_values, o
 use Rattle.air_kit.specs.U32Values.{u32_values}
 use Rattle.air_kit.specs.MainValues.{decoder_values, main_values}
 use Rattle.air_kit.proofs.FaultLemmas.{first_append, first_none, first_some}
-use Rattle.checker.proofs.TableOrder.{at_own_number, number_at, table_at}
-use Rattle.checker.specs.Answers.{IsRowAnswer, IsZeroTable, IsTableFault, IsTableAnswer, AreZeroBelow}
+use Rattle.checker.proofs.PieceLemmas.{lower_table, number_at_least, number_below, row_at_least, row_below}
+use Rattle.checker.proofs.TableOrder.{number_at, same_table, table_at, table_below}
+use Rattle.checker.specs.Answers.{AreZeroBelow, AreZeroBetween, IsPieceFault, IsRowAnswer, IsRowFault, IsTableAnswer, IsTableFault, IsZeroRow, IsZeroTable}
+use Rattle.checker.specs.Pieces.{number_of, rows_below}
 
 numbers_zero : (values : List ℕ) → ((k : ℕ) → slice_index values k ≡ 0) → (number : ℕ) → at_number values number ≡ 0
 unfolding at_number
@@ -76,67 +78,78 @@ pub main_of_parts : (c : Claim) (p : Spot) (decoder stack u32 whole : Option (�
     → whole ≡ or_next decoder (or_next stack u32) → whole ≡ first_fault_of 1 (main_values c p)
 main_of_parts c p decoder stack u32 whole d s u w = w ∙ rw (d, s, u) (main_joined c p)
 
-same_table : (a b : TableName) → table_number a ≡ table_number b → a ≡ b
-same_table a b e = sym (at_own_number a) ∙ ap table_at e ∙ at_own_number b
+-- the first row with a fault of those that a table has in the piece
+pub table_fault_at : (c : Claim) (t : Trace) (name : TableName) (a b start end row number value : ℕ) → start ≡ rows_below t name a → end ≡ rows_below t name b
+    → start ≤ row → row < end → ((i : ℕ) → start ≤ i → i < row → IsZeroRow c t name i) → IsRowFault c t name row (number, value)
+    → IsTableFault c t a b (record { table = name; row = row; number = number; value = value })
+table_fault_at c t name a b start end row number value first last from to zeros fault =
+    let inside = number_below t name row b (omega (arith, last, to)) in record {
+      within = inside.0;
+      from = number_at_least t name row a inside.0 (omega (arith, first, from));
+      to = inside.1;
+      row = fault;
+      earlier = λ i above. zeros i (let h = row_at_least t name i a above in omega (arith, first, h));
+    }
 
-table_below : (name : TableName) → table_number name < 7
-table_below table.Main = lit< tt
-table_below table.Range = lit< tt
-table_below table.Hasher = lit< tt
-table_below table.Bitwise = lit< tt
-table_below table.Memory = lit< tt
-table_below table.Kernel = lit< tt
-table_below table.Left = lit< tt
+-- no row of the piece has a fault
+pub table_zero : (c : Claim) (t : Trace) (name : TableName) (a b start end : ℕ) → start ≡ rows_below t name a → end ≡ rows_below t name b
+    → ((i : ℕ) → start ≤ i → i < end → IsZeroRow c t name i) → IsTableAnswer c t a b name None
+table_zero c t name a b start end first last zeros = λ row within from to.
+    zeros row (let h = row_at_least t name row a from in omega (arith, first, h))
+    (let h = row_below t name row b within to in omega (arith, last, h))
 
 -- one table more is 0
-zero_below_next : (c : Claim) (t : Trace) (name : TableName) → AreZeroBelow c t (table_number name) → IsZeroTable c t name
-    → AreZeroBelow c t (suc (table_number name))
-zero_below_next c t name below zeros other h =
-    elim (cases_Bool (ltb (table_number other) (table_number name))) [
-      | inl lower ↦ below other (ltb-true (table_number other) (table_number name) lower)
-      | inr not ↦
-          let high : table_number name ≤ table_number other = ltb-false (table_number other) (table_number name) not in
-          subst (IsZeroTable c t) (sym (same_table other name (omega (arith, h, high)))) zeros
-    ]
+zero_below_next : (c : Claim) (t : Trace) (a b : ℕ) (name : TableName) → AreZeroBelow c t a b (table_number name) → IsZeroTable c t a b name
+    → AreZeroBelow c t a b (suc (table_number name))
+zero_below_next c t a b name below zeros other h = elim (cases_lt (table_number other) (table_number name)) [
+  | inl lower ↦ below other lower
+  | inr high ↦ subst (IsZeroTable c t a b) (sym (same_table other name (omega (arith, h, high)))) zeros
+]
 
-first_of : (c : Claim) (t : Trace) (f : Fault) → IsTableFault c t f → AreZeroBelow c t (table_number f.table)
-    → (name : TableName) (row number : ℕ) → row < length (rows_of t name) → IsBefore name row number f
+first_of : (c : Claim) (t : Trace) (a b : ℕ) (f : Fault) → IsTableFault c t a b f → AreZeroBelow c t a b (table_number f.table)
+    → (name : TableName) (row number : ℕ) → row < length (rows_of t name) → a ≤ number_of t name row → IsBefore name row number f
     → value_at c t name row number ≡ 0
-first_of c t f fault below name row number h (by_table lower) = below name lower row h number
-first_of c t f fault below name row number h (by_row same lower) =
-    subst (λ x. value_at c t x row number ≡ 0) (sym same) (fault.earlier row lower number)
-first_of c t f fault below name row number h (by_number same at lower) =
+first_of c t a b f fault below name row number h from (by_table lower) =
+    let number_lower = lower_table t name f.table row f.row lower h in
+    let to = fault.to in
+    below name lower row h from (omega (arith, number_lower, to)) number
+first_of c t a b f fault below name row number h from (by_row same lower) =
+    subst (λ x. value_at c t x row number ≡ 0) (sym same) (fault.earlier row (subst (λ x. a ≤ number_of t x row) same from) lower number)
+first_of c t a b f fault below name row number h from (by_number same at lower) =
     subst (λ x. value_at c t x row number ≡ 0) (sym same) (subst (λ r. value_at c t f.table r number ≡ 0) (sym at) (fault.row.first number lower))
 
--- the first fault of a table behind tables that are 0 is that of the trace
-first_from_table : (c : Claim) (t : Trace) (f : Fault) → IsTableFault c t f → AreZeroBelow c t (table_number f.table) → IsFirstFault c t f
-first_from_table c t f fault below = record {
+-- the first fault of a table behind tables that are 0 is that of the piece
+first_from_table : (c : Claim) (t : Trace) (a b : ℕ) (f : Fault) → IsTableFault c t a b f → AreZeroBelow c t a b (table_number f.table)
+    → IsPieceFault c t a b f
+first_from_table c t a b f fault below = record {
   within = fault.within;
   value_is = fault.row.value_is;
   nonzero = fault.row.nonzero;
-  first = first_of c t f fault below;
+  from = fault.from;
+  to = fault.to;
+  first = first_of c t a b f fault below;
 }
 
 -- the tables before a place are 0, and so is the table at that place
-pub zero_next : (c : Claim) (t : Trace) (n : ℕ) → n < 7 → AreZeroBelow c t n → IsZeroTable c t (table_at n) → AreZeroBelow c t (n + 1)
-zero_next c t n h below zeros =
+pub zero_next : (c : Claim) (t : Trace) (a b n : ℕ) → n < 7 → AreZeroBelow c t a b n → IsZeroTable c t a b (table_at n) → AreZeroBelow c t a b (n + 1)
+zero_next c t a b n h below zeros =
     rw add-one
-    (subst (λ k. AreZeroBelow c t (suc k)) (number_at n h)
-    (zero_below_next c t (table_at n) (subst (AreZeroBelow c t) (sym (number_at n h)) below) zeros))
+    (subst (λ k. AreZeroBelow c t a b (suc k)) (number_at n h)
+    (zero_below_next c t a b (table_at n) (subst (AreZeroBelow c t a b) (sym (number_at n h)) below) zeros))
 
 -- or it has a fault
-pub fault_at : (c : Claim) (t : Trace) (n : ℕ) (f : Fault) → n < 7 → AreZeroBelow c t n → IsTableAnswer c t (table_at n) (Some f)
-    → IsFirstFault c t f
-fault_at c t n f h below fault =
-    first_from_table c t f fault.1 (subst (AreZeroBelow c t) (sym (ap table_number fault.0 ∙ number_at n h)) below)
+pub fault_at : (c : Claim) (t : Trace) (a b n : ℕ) (f : Fault) → n < 7 → AreZeroBelow c t a b n → IsTableAnswer c t a b (table_at n) (Some f)
+    → IsPieceFault c t a b f
+fault_at c t a b n f h below fault =
+    first_from_table c t a b f fault.1 (subst (AreZeroBelow c t a b) (sym (ap table_number fault.0 ∙ number_at n h)) below)
 
 -- all tables
-pub all_zero : (c : Claim) (t : Trace) → AreZeroBelow c t 7 → AreZero c t
-all_zero c t zeros = λ name row number h. zeros name (table_below name) row h number
+pub all_zero : (c : Claim) (t : Trace) (a b : ℕ) → AreZeroBelow c t a b 7 → AreZeroBetween c t a b
+all_zero c t a b zeros = λ name. zeros name (table_below name)
 
 -- before the first table
-pub none_below : (c : Claim) (t : Trace) → AreZeroBelow c t 0
-none_below c t name h = absurd (omega (arith, h))
+pub none_below : (c : Claim) (t : Trace) (a b : ℕ) → AreZeroBelow c t a b 0
+none_below c t a b name h = absurd (omega (arith, h))
 
 -- the table of cells left has no entries
 pub left_zero : (c : Claim) (t : Trace) (row number : ℕ) → value_at c t table.Left row number ≡ 0

@@ -1,6 +1,6 @@
--- The tables by their places in their order.
-use Rattle.std.proofs.Common.{◌≡◌, ℕ, zero, suc, ◌<◌, slice_index_or, refl, arith}
-use Rattle.air_kit.specs.Tables.{every_table, table_number}
+-- The tables by their places in their order, and sums over the first of them.
+use Rattle.std.proofs.Common.{◌≡◌, ℕ, zero, suc, ◌+◌, ◌<◌, List, [], ◌∷◌, length, take, slice_index_or, refl, sym, ap, ◌∙◌, arith, lit<}
+use Rattle.air_kit.specs.Tables.{every_table, sum_over, table_number}
 use Rattle.air_kit.specs.declared.trace.TableName.{TableName}
 use Rattle.air_kit.specs.declared.trace.TableName.TheVariants as table
 
@@ -26,3 +26,22 @@ at_own_number table.Bitwise = refl
 at_own_number table.Memory = refl
 at_own_number table.Kernel = refl
 at_own_number table.Left = refl
+
+pub same_table : (a b : TableName) → table_number a ≡ table_number b → a ≡ b
+same_table a b e = sym (at_own_number a) ∙ ap table_at e ∙ at_own_number b
+
+pub table_below : (name : TableName) → table_number name < 7
+table_below table.Main = lit< tt
+table_below table.Range = lit< tt
+table_below table.Hasher = lit< tt
+table_below table.Bitwise = lit< tt
+table_below table.Memory = lit< tt
+table_below table.Kernel = lit< tt
+table_below table.Left = lit< tt
+
+-- a sum over one table more
+pub sum_next : (names : List TableName) (n : ℕ) (of : TableName → ℕ) → n < length names
+    → sum_over (take (suc n) names) of ≡ sum_over (take n names) of + of (slice_index_or names n table.Main)
+sum_next [] n of h = absurd (omega (arith, h))
+sum_next (name ∷ names) zero of h = omega arith
+sum_next (name ∷ names) (suc n) of h = let more = sum_next names n of (omega (arith, h)) in omega (arith, more)

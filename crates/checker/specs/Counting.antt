@@ -1,5 +1,5 @@
 -- What it is to count the tuples of the rows of tables.
-use Rattle.std.specs.Prelude.{◌≡◌, ℕ, suc, ◌+◌, ◌*◌, ◌^◌, ◌<◌, ◌≤◌, List, [], length, take, slice_index_or}
+use Rattle.std.specs.Prelude.{◌≡◌, ℕ, suc, ◌+◌, ◌-◌, ◌*◌, ◌^◌, ◌<◌, ◌≤◌, List, [], length, take, slice_index_or}
 use Rattle.air_kit.specs.Acceptance.{asked_on, given_on}
 use Rattle.air_kit.specs.ChipTuples.{chip_asked, chip_given}
 use Rattle.air_kit.specs.Places.{Claim}
@@ -8,12 +8,14 @@ use Rattle.air_kit.specs.Traces.{rows_of}
 use Rattle.air_kit.specs.declared.trace.TableName.{TableName}
 use Rattle.air_kit.specs.declared.trace.TableName.TheVariants as table
 use Rattle.air_kit.specs.declared.trace.Trace.{Trace}
-use Rattle.buses.specs.Counts.{OfRow, at_row, over_first, over_rows}
+use Rattle.buses.specs.Counts.{OfRow, at_row, over_first}
 use Rattle.buses.specs.declared.bus.Bus.{Bus}
 use Rattle.bus_kit.specs.ByBus.{AreCounted, asked_by, given_by}
 use Rattle.bus_kit.specs.declared.tallies.Tallies.{Tallies}
 use Rattle.bus_main.specs.RowTuples.{IsReadable}
 use Rattle.bus_main.specs.RowTuples.{main_asked_at, main_given_at}
+use Rattle.checker.specs.Pieces.{ends_at, rows_below, starts_at}
+use Rattle.checker.specs.declared.parts.Part.{Part}
 
 -- what a row of a table asks on a bus
 abbrev pub asked_of : Claim → Bus → TableName → OfRow
@@ -40,16 +42,18 @@ abbrev pub IsRowCounted : Claim → Trace → TableName → ℕ → Tallies → 
 IsRowCounted c t name i old new =
     AreCounted (2 ^ 66) old new (λ bus. at_row (asked_of c bus name) (rows_of t name) i) (λ bus. at_row (given_of c bus name) (rows_of t name) i)
 
--- the first n rows of a table were counted
-pub record AreRowsCounted (c : Claim) (t : Trace) (name : TableName) (n : ℕ) (old new : Tallies) : Type 0 where
-  pub asked_is : (bus : Bus) (u : List ℕ) → asked_by new bus u ≡ asked_by old bus u + over_first (asked_of c bus name) (rows_of t name) n u
-  pub given_is : (bus : Bus) (u : List ℕ) → given_by new bus u ≡ given_by old bus u + over_first (given_of c bus name) (rows_of t name) n u
-  pub asked_grows : (bus : Bus) (u : List ℕ) → asked_by new bus u ≤ asked_by old bus u + n * 2 ^ 66
-  pub given_grows : (bus : Bus) (u : List ℕ) → given_by new bus u ≤ given_by old bus u + n * 2 ^ 66
+-- the rows of a table from row i on and below row j were counted
+pub record AreRowsCounted (c : Claim) (t : Trace) (name : TableName) (i j : ℕ) (old new : Tallies) : Type 0 where
+  pub asked_is : (bus : Bus) (u : List ℕ) → asked_by new bus u + over_first (asked_of c bus name) (rows_of t name) i u
+      ≡ asked_by old bus u + over_first (asked_of c bus name) (rows_of t name) j u
+  pub given_is : (bus : Bus) (u : List ℕ) → given_by new bus u + over_first (given_of c bus name) (rows_of t name) i u
+      ≡ given_by old bus u + over_first (given_of c bus name) (rows_of t name) j u
+  pub asked_grows : (bus : Bus) (u : List ℕ) → asked_by new bus u ≤ asked_by old bus u + (j - i) * 2 ^ 66
+  pub given_grows : (bus : Bus) (u : List ℕ) → given_by new bus u ≤ given_by old bus u + (j - i) * 2 ^ 66
 
--- all its rows were
-abbrev pub IsTableCounted : Claim → Trace → TableName → Tallies → Tallies → Type 0
-IsTableCounted c t name old new = AreRowsCounted c t name (length (rows_of t name)) old new
+-- its rows in some pieces were
+abbrev pub IsTableCounted : Claim → Trace → Part → TableName → Tallies → Tallies → Type 0
+IsTableCounted c t part name old new = AreRowsCounted c t name (rows_below t name (starts_at t part)) (rows_below t name (ends_at t part)) old new
 
 -- no count is above n
 abbrev pub AreWithin : ℕ → Tallies → Type 0
@@ -62,13 +66,25 @@ room_before name = table_number name * 2 ^ 90
 abbrev pub room_behind : TableName → ℕ
 room_behind name = suc (table_number name) * 2 ^ 90
 
--- the first n tables were counted, and no other
-pub record AreTablesCounted (c : Claim) (t : Trace) (n : ℕ) (tallies : Tallies) : Type 0 where
-  pub asked_is : (bus : Bus) (u : List ℕ)
-      → asked_by tallies bus u ≡ sum_over (take n every_table) (λ name. over_rows (asked_of c bus name) (rows_of t name) u)
-  pub given_is : (bus : Bus) (u : List ℕ)
-      → given_by tallies bus u ≡ sum_over (take n every_table) (λ name. over_rows (given_of c bus name) (rows_of t name) u)
+-- what the rows whose number is below m ask on a bus, in the first n tables
+abbrev pub asked_below : Claim → Trace → Bus → ℕ → ℕ → List ℕ → ℕ
+asked_below c t bus n m u = sum_over (take n every_table) (λ name. over_first (asked_of c bus name) (rows_of t name) (rows_below t name m) u)
+
+-- and what they give
+abbrev pub given_below : Claim → Trace → Bus → ℕ → ℕ → List ℕ → ℕ
+given_below c t bus n m u = sum_over (take n every_table) (λ name. over_first (given_of c bus name) (rows_of t name) (rows_below t name m) u)
+
+-- the rows of some pieces in the first n tables were counted, and no other
+pub record AreTablesCounted (c : Claim) (t : Trace) (part : Part) (n : ℕ) (tallies : Tallies) : Type 0 where
+  pub asked_is : (bus : Bus) (u : List ℕ) → asked_by tallies bus u + asked_below c t bus n (starts_at t part) u ≡ asked_below c t bus n (ends_at t part) u
+  pub given_is : (bus : Bus) (u : List ℕ) → given_by tallies bus u + given_below c t bus n (starts_at t part) u ≡ given_below c t bus n (ends_at t part) u
   pub within : AreWithin (n * 2 ^ 90) tallies
+
+-- all rows of some pieces were, and no other
+pub record IsPartCounted (c : Claim) (t : Trace) (part : Part) (tallies : Tallies) : Type 0 where
+  pub asked_is : (bus : Bus) (u : List ℕ) → asked_by tallies bus u + asked_below c t bus 7 (starts_at t part) u ≡ asked_below c t bus 7 (ends_at t part) u
+  pub given_is : (bus : Bus) (u : List ℕ) → given_by tallies bus u + given_below c t bus 7 (starts_at t part) u ≡ given_below c t bus 7 (ends_at t part) u
+  pub within : AreWithin ((part.high - part.low) * 2 ^ 93) tallies
 
 -- the tuples of each row of the main table can be read off
 abbrev pub AreReadable : List (List ℕ) → Type 0

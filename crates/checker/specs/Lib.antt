@@ -1,4 +1,5 @@
 pub mod Settings
+pub mod Pieces
 pub mod Answers
 pub mod Counting
 pub mod Refusals

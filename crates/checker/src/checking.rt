@@ -1,4 +1,4 @@
-ghost use Rattle.std.specs.Prelude.{◌≡◌, OnOk, IfOk, IfErr};
+ghost use Rattle.std.specs.Prelude.{◌≡◌, ◌≤◌, OnOk, IfOk, IfErr};
 ghost use Rattle.air_kit.specs.Acceptance.{AreZero, IsAccepted};
 ghost use Rattle.air_kit.specs.Traces.{HasCounts, claim_of};
 ghost use Rattle.checker.specs.Refusals.{IsBusesAnswer, IsRefusal};
@@ -10,6 +10,7 @@ use crate::setting::Setting;
 use air_kit::{Public, Trace};
 use bus_kit::Seed;
 use std::alloc::Global;
+use std::thread::Threads;
 use vm_io::Gate;
 
 /// A trace that is accepted for what it was checked against, with tables of as many rows as they may have.
@@ -43,8 +44,10 @@ impl Valid {
 /// Checks a trace: it is accepted exactly where each entry of each row is 0 and each bus has each tuple asked as often as given.
 /// Else the answer is the first fault by table, row and number; where there is none, the first bus that is apart, with the least
 /// tuple and both its counts. Memory is asked for only where no row has a fault. The rows are tested in so many pieces, of which
-/// each goes through the gate; there is one. The tuples' counts are hashed from the seed, on which no answer depends.
-pub fn check<G: Gate>(
+/// each goes through the gate, and where no row has a fault the tuples are counted in the same pieces, of which each goes through it
+/// again. The tuples' counts are hashed from the seed. No answer depends on the number of pieces or on the seed.
+pub fn check<R: Threads + Sync, G: Gate>(
+    rt: &R,
     alloc: Global,
     seed: Seed,
     trace: Trace,
@@ -53,31 +56,40 @@ pub fn check<G: Gate>(
     gate: &G,
 ) -> Result<Valid, Refused>
     requires counts { HasCounts trace }
-    requires pieces { pieces ≡ 1 }
+    requires pieces { (1 ≤ pieces) × (pieces ≤ 64) }
     ensures ok { OnOk result (IsAccepted public trace) }
     ensures trace { IfOk result (λ valid. valid.trace ≡ trace) }
     ensures public { IfOk result (λ valid. valid.public ≡ public) }
     ensures err { IfErr result (IsRefusal public trace) }
 {
-    if let Some(fault) = check_rows(&trace, &public, pieces, gate) {
+    if let Some(fault) = check_rows(rt, &trace, &public, pieces, gate) {
         return Err(Refused::Fault(fault));
     }
-    match refused_by_buses(alloc, seed, &trace, &public) {
+    match refused_by_buses(rt, alloc, seed, &trace, &public, pieces, gate) {
         None => Ok(Valid { trace, public }),
         Some(refused) => Err(refused),
     }
 }
 
 // Why the buses refuse a trace of which no row has a fault; none where they do not.
-fn refused_by_buses(alloc: Global, seed: Seed, trace: &Trace, public: &Public) -> Option<Refused>
+fn refused_by_buses<R: Threads + Sync, G: Gate>(
+    rt: &R,
+    alloc: Global,
+    seed: Seed,
+    trace: &Trace,
+    public: &Public,
+    pieces: usize,
+    gate: &G,
+) -> Option<Refused>
     requires counts { HasCounts trace.now }
+    requires pieces { (1 ≤ pieces) × (pieces ≤ 64) }
     requires zero { AreZero (claim_of public.now trace.now) trace.now }
     ensures { IsBusesAnswer public.now trace.now result }
 {
     // a table says of its rows that they are elements
     let _ = trace.main.rows();
     let setting = Setting::of(trace, public);
-    let Some(tallies) = count_all(alloc, seed, trace, &setting) else {
+    let Some(tallies) = count_all(rt, alloc, seed, trace, &setting, pieces, gate) else {
         return Some(Refused::Memory);
     };
     match first_apart(&tallies) {

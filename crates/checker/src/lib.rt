@@ -5,6 +5,8 @@
 mod checking;
 mod counting;
 mod crossing;
+mod numbering;
+mod parts;
 mod refusal;
 mod rows;
 mod setting;

@@ -1,34 +1,76 @@
-ghost use Rattle.std.specs.Prelude.{◌≡◌, ◌^◌, ◌<◌, length};
+ghost use Rattle.std.specs.Prelude.{◌≡◌, ◌^◌, ◌<◌, ◌≤◌, length};
+ghost use Rattle.std.specs.Thread.{IsSync};
 ghost use Rattle.air_kit.specs.Acceptance.{IsRowsAnswer};
 ghost use Rattle.air_kit.specs.Places.{first_fault_of};
 ghost use Rattle.air_kit.specs.Traces.{HasCounts, claim_of, rows_of, values_at};
 ghost use Rattle.air_kit.specs.declared.trace.TableName.TheVariants as table;
-ghost use Rattle.checker.specs.Answers.{IsRowAnswer, IsTableAnswer};
+ghost use Rattle.checker.specs.Answers.{IsPartAnswer, IsRowAnswer, IsTableAnswer};
+ghost use Rattle.checker.specs.Pieces.{ends_at, starts_at};
 ghost use Rattle.checker.specs.Settings.{claim_in};
 
+use crate::numbering::rows_of_part;
+use crate::parts::Part;
 use crate::setting::Setting;
 use air_kit::{Fault, Public, Seen, TableName, Trace};
+use std::ops::Range;
+use std::thread;
+use std::thread::Threads;
 use vm_field::Felt;
 use vm_io::Gate;
 
 /// The first entry of a trace that is not 0, by table, row and number, with its value; none where all are 0. The rows of all
-/// tables are tested in so many pieces, of which each goes through the gate; there is one.
-pub fn check_rows<G: Gate>(trace: &Trace, public: &Public, pieces: usize, gate: &G) -> Option<Fault>
+/// tables are tested in so many pieces, of which each goes through the gate.
+pub fn check_rows<R: Threads + Sync, G: Gate>(
+    rt: &R,
+    trace: &Trace,
+    public: &Public,
+    pieces: usize,
+    gate: &G,
+) -> Option<Fault>
     requires counts { HasCounts trace.now }
-    requires pieces { pieces ≡ 1 }
+    requires pieces { (1 ≤ pieces) × (pieces ≤ 64) }
     ensures exact { IsRowsAnswer (claim_of public.now trace.now) trace.now result }
 {
-    gate.enter(pieces - 1);
-    first_fault(trace, &Setting::of(trace, public))
+    let setting = Setting::of(trace, public);
+    part_fault(rt, gate, trace, &setting, Part::all(pieces))
+}
+
+// The first fault of some pieces: each half of them is tested by itself, at once.
+#[cycle(halves)]
+fn part_fault<R: Threads + Sync, G: Gate>(
+    rt: &R,
+    gate: &G,
+    trace: &Trace,
+    setting: &Setting<'_>,
+    part: Part,
+) -> Option<Fault>
+    requires counts { HasCounts trace.now }
+    ensures { IsPartAnswer (claim_in setting.now) trace.now part result }
+{
+    if part.is_single() {
+        gate.enter(part.low);
+        return first_fault(trace, setting, part);
+    }
+    let (lower, upper) = part.halves();
+    let front = move || -> Option<Fault>
+        requires { IsSync R.row × IsSync G.row × HasCounts trace.now }
+        ensures { IsPartAnswer (claim_in setting.entry.now) trace.entry.now lower result }
+    { part_fault(rt, gate, trace, setting, lower) };
+    let back = move || -> Option<Fault>
+        requires { IsSync R.row × IsSync G.row × HasCounts trace.now }
+        ensures { IsPartAnswer (claim_in setting.entry.now) trace.entry.now upper result }
+    { part_fault(rt, gate, trace, setting, upper) };
+    let (left, right) = thread::join(rt, front, back);
+    left.or(right)
 }
 
 // Table by table, in their order.
-fn first_fault(trace: &Trace, setting: &Setting<'_>) -> Option<Fault>
+fn first_fault(trace: &Trace, setting: &Setting<'_>, part: Part) -> Option<Fault>
     requires counts { HasCounts trace.now }
-    ensures { IsRowsAnswer (claim_in setting.now) trace.now result }
+    ensures { IsPartAnswer (claim_in setting.now) trace.now part result }
 {
     for name in TableName::EVERY {
-        if let Some(fault) = table_fault(trace, setting, name) {
+        if let Some(fault) = table_fault(trace, setting, part, name) {
             return Some(fault);
         }
     }
@@ -36,11 +78,12 @@ fn first_fault(trace: &Trace, setting: &Setting<'_>) -> Option<Fault>
 }
 
 // The first fault of a table.
-fn table_fault(trace: &Trace, setting: &Setting<'_>, name: TableName) -> Option<Fault>
+fn table_fault(trace: &Trace, setting: &Setting<'_>, part: Part, name: TableName) -> Option<Fault>
     requires counts { HasCounts trace.now }
-    ensures { IsTableAnswer (claim_in setting.now) trace.now name result }
+    ensures { IsTableAnswer (claim_in setting.now) trace.now (starts_at trace.now part) (ends_at trace.now part) name result }
 {
-    for row in 0..rows_in(trace, name) {
+    let Range { start, end } = rows_of_part(trace, name, part);
+    for row in start..end {
         if let Some((number, value)) = row_fault(trace, setting, name, row) {
             return Some(Fault {
                 table: name,
@@ -51,15 +94,6 @@ fn table_fault(trace: &Trace, setting: &Setting<'_>, name: TableName) -> Option<
         }
     }
     None
-}
-
-/// How many rows a table has.
-pub(crate) fn rows_in(trace: &Trace, name: TableName) -> usize
-    requires counts { HasCounts trace.now }
-    ensures is { result ≡ length (rows_of trace.now name) }
-    ensures few { result < 2 ^ 32 }
-{
-    trace.rows(name)
 }
 
 // The first fault of a row.

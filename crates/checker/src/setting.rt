@@ -5,7 +5,7 @@ ghost use Rattle.air_kit.specs.Traces.{HasCounts, claim_of, lengths_of, spot_of}
 ghost use Rattle.vm_table.specs.Rows.{row_cells};
 ghost use Rattle.checker.specs.Settings.{claim_in};
 
-use crate::rows::rows_in;
+use crate::numbering::rows_in;
 use air_kit::{Place, Public, TableName, Trace};
 use chip_columns::LeftView;
 use vm_field::Felt;

@@ -22,20 +22,24 @@ use decimal_text::append_number;
 use sound_evidence::extract;
 use statement::write_evidence;
 use std::alloc::Global;
+use std::thread::Threads;
 use vm_field::{Bytes, Memory};
 use vm_io::{Gate, Shelf};
 
-/// The files of `check` behind the parameters.
+/// The files of `check` behind the parameters, and in how many pieces the trace is checked.
 #[derive(Clone, Copy)]
 pub struct CheckNames<'a> {
     pub table: &'a str,
     pub statement: &'a str,
     /// The file that is written.
     pub evidence: &'a str,
+    /// From 1 to 64. No answer depends on it.
+    pub pieces: usize,
 }
 
 /// `check`: reads the parameters, the table file and the statement, and judges the trace.
-pub fn check_files<F: Shelf, G: Gate>(
+pub fn check_files<R: Threads + Sync, F: Shelf, G: Gate>(
+    rt: &R,
     alloc: Global,
     seed: Seed,
     shelf: &mut F,
@@ -47,16 +51,18 @@ pub fn check_files<F: Shelf, G: Gate>(
     requires table { length names.table.now ≤ most_name_bytes }
     requires statement { length names.statement.now ≤ most_name_bytes }
     requires evidence { length names.evidence.now ≤ most_name_bytes }
+    requires pieces { (1 ≤ names.pieces) × (names.pieces ≤ 64) }
     ensures { EndsIn (Some (check_steps params.now names.entry.table.now names.entry.statement.now names.entry.evidence.now)) result
         (F.state shelf.old) (F.state shelf.new) }
 {
-    match read_and_judge(alloc, seed, shelf, gate, params, names) {
+    match read_and_judge(rt, alloc, seed, shelf, gate, params, names) {
         Ok(end) | Err(end) => end,
     }
 }
 
 // Reads the files, one after another, and judges the trace.
-fn read_and_judge<F: Shelf, G: Gate>(
+fn read_and_judge<R: Threads + Sync, F: Shelf, G: Gate>(
+    rt: &R,
     alloc: Global,
     seed: Seed,
     shelf: &mut F,
@@ -68,6 +74,7 @@ fn read_and_judge<F: Shelf, G: Gate>(
     requires table { length names.table.now ≤ most_name_bytes }
     requires statement { length names.statement.now ≤ most_name_bytes }
     requires evidence { length names.evidence.now ≤ most_name_bytes }
+    requires pieces { (1 ≤ names.pieces) × (names.pieces ≤ 64) }
     ensures { EndsIn (Some (check_steps params.now names.entry.table.now names.entry.statement.now names.entry.evidence.now)) (either result)
         (F.state shelf.old) (F.state shelf.new) }
 {
@@ -75,26 +82,28 @@ fn read_and_judge<F: Shelf, G: Gate>(
     let trace = load_trace(alloc, shelf, names.table)?;
     let statement = load_statement(alloc, shelf, names.statement)?;
     let public = Public { params, statement };
-    Ok(judge(alloc, seed, shelf, gate, public, trace, names.evidence))
+    Ok(judge(rt, alloc, seed, shelf, gate, public, trace, names))
 }
 
 // Checks the trace: its evidence is written and told, or its refusal is told.
-fn judge<F: Shelf, G: Gate>(
+fn judge<R: Threads + Sync, F: Shelf, G: Gate>(
+    rt: &R,
     alloc: Global,
     seed: Seed,
     shelf: &mut F,
     gate: &G,
     public: Public,
     trace: Trace,
-    evidence: &str,
+    names: CheckNames<'_>,
 ) -> Outcome
     requires counts { HasCounts trace }
-    requires evidence { length evidence.now ≤ most_name_bytes }
-    ensures { EndsIn (Some (judging_steps evidence.now (constants_of public.params) trace (stated_of public.statement))) result
+    requires evidence { length names.evidence.now ≤ most_name_bytes }
+    requires pieces { (1 ≤ names.pieces) × (names.pieces ≤ 64) }
+    ensures { EndsIn (Some (judging_steps names.entry.evidence.now (constants_of public.params) trace (stated_of public.statement))) result
         (F.state shelf.old) (F.state shelf.new) }
 {
-    match check(alloc, seed, trace, public, 1, gate) {
-        Ok(valid) => accept(alloc, shelf, &valid, evidence),
+    match check(rt, alloc, seed, trace, public, names.pieces, gate) {
+        Ok(valid) => accept(alloc, shelf, &valid, names.evidence),
         Err(refused) => refuse(alloc, &refused),
     }
 }

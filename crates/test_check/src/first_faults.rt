@@ -1,9 +1,12 @@
+ghost use Rattle.std.specs.Prelude.{◌≤◌};
+
 use crate::making::{Change, are_within, public, trace};
 use crate::runs::Named;
 use air_kit::{Fault, Public, TableName, Trace};
 use checker::{check_rows, has_counts};
 use std::alloc::Global;
 use std::test::Fail;
+use std::thread::Threads;
 use vm_field::Memory;
 use vm_io::OpenGate;
 
@@ -87,30 +90,46 @@ fn is_fault(found: &Option<Fault>, fault: Option<(TableName, u32, u16)>) -> bool
     }
 }
 
-// Whether a case's trace has the cells that are changed, and the case's fault as its first.
-fn is_first(trace: &Trace, public: &Public, case: &Case) -> bool {
+// Whether a case's trace has the cells that are changed, and the case's fault as its first, in so many pieces.
+fn is_first(
+    rt: &(impl Threads + Sync),
+    trace: &Trace,
+    public: &Public,
+    pieces: usize,
+    case: &Case,
+) -> bool
+    requires { (1 ≤ pieces) × (pieces ≤ 64) }
+{
     are_within(trace, case.changes)
         && has_counts(trace)
-        && is_fault(&check_rows(trace, public, 1, &OpenGate), case.fault)
+        && is_fault(
+            &check_rows(rt, trace, public, pieces, &OpenGate),
+            case.fault,
+        )
 }
 
-fn finds(alloc: Global, case: &Case) -> Result<bool, Memory> {
+// Whether it is, in each number of pieces that there may be.
+fn finds(rt: &(impl Threads + Sync), alloc: Global, case: &Case) -> Result<bool, Memory> {
     let run = Named::NothingAsked.run();
     let public = public(alloc, &run, false)?;
     let trace = trace(alloc, &run, false, case.changes)?;
-    Ok(is_first(&trace, &public, case))
+    let mut all = true;
+    for pieces in 1..65usize {
+        all = is_first(rt, &trace, &public, pieces, case) && all;
+    }
+    Ok(all)
 }
 
-fn finds_all(alloc: Global, cases: &[Case]) -> Result<bool, Memory> {
+fn finds_all(rt: &(impl Threads + Sync), alloc: Global, cases: &[Case]) -> Result<bool, Memory> {
     let mut all = true;
     for case in cases {
-        all = finds(alloc, case)? && all;
+        all = finds(rt, alloc, case)? && all;
     }
     Ok(all)
 }
 
 #[test]
 fn the_first_fault_is_found(rt: HostRuntime) -> Result<(), Fail> {
-    assert!(rt; finds_all(rt.alloc(), &CASES)?);
+    assert!(rt; finds_all(&rt, rt.alloc(), &CASES)?);
     Ok(())
 }

@@ -6,6 +6,10 @@ mod cases;
 #[cfg(test)]
 mod first_faults;
 #[cfg(test)]
+mod gates;
+#[cfg(test)]
+mod in_pieces;
+#[cfg(test)]
 mod making;
 #[cfg(test)]
 mod programs;

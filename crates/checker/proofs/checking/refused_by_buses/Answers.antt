@@ -5,10 +5,10 @@ use Rattle.checker.proofs.CountingLemmas.{all_readable}
 use Rattle.checker.proofs.checking.refused_by_buses.Goals as goal
 
 pub count_all-requires-clause-readable : goal.count_all-requires-clause-readable
-count_all-requires-clause-readable c = all_readable _ c.args.trace.now c.rows.ensures.shape c.requires.zero
+count_all-requires-clause-readable g c = λ κs h. all_readable _ c.args.trace.now c.rows.ensures.shape c.requires.zero
 
 pub returns-in-Some-first_apart : goal.returns-in-Some-first_apart
-returns-in-Some-first_apart c =
+returns-in-Some-first_apart g c =
     refused_with c.args.public.now c.args.trace.now c.refused.result c.in-Some-first_apart.apart c.refused.ensures
     (refused_at c.args.public.now c.args.trace.now (claim_in c.of-setting.result)
     c.in-Some.tallies c.in-Some-first_apart.apart
@@ -16,6 +16,6 @@ returns-in-Some-first_apart c =
     c.in-Some-first_apart.ensures)
 
 pub returns : goal.returns
-returns c =
+returns g c =
     accepted c.args.public.now c.args.trace.now (claim_in c.of-setting.result) c.in-Some.tallies
     c.of-setting.ensures.claim c.in-Some.ensures c.requires.zero c.in-None.ensures

@@ -1,25 +1,9 @@
--- All tables, one after another.
-use Rattle.std.proofs.Common.{ap, subst, arith}
-use Rattle.checker.specs.Counting.{AreTablesCounted}
+-- All pieces are all rows.
 use Rattle.checker.specs.Settings.{claim_in}
-use Rattle.checker.proofs.CountingLemmas.{no_table_counted, one_table_more, room_at, trace_counted}
+use Rattle.checker.proofs.CountingLemmas.{if_all_counted}
 use Rattle.checker.proofs.counting.count_all.Goals as goal
 
-pub loop-name-init : goal.loop-name-init
-loop-name-init c =
-    no_table_counted (claim_in c.args.setting.now) c.args.trace.now c.new-tallies.result
-    (λ bus u. ap (λ k. k.0) (c.new-tallies.ensures bus u)) (λ bus u. ap (λ k. k.1) (c.new-tallies.ensures bus u))
-
-pub count_table-requires-clause-room : goal.count_table-requires-clause-room
-count_table-requires-clause-room c = room_at c.loop-name.name-index c.loop-name.tallies c.loop-name-test.true c.loop-name.invariant.within
-
-pub loop-name-preserved : goal.loop-name-preserved
-loop-name-preserved c =
-    one_table_more (claim_in c.args.setting.now) c.args.trace.now c.loop-name.name-index c.loop-name.tallies c.count_table.new.tallies
-    c.loop-name-test.true c.loop-name.invariant c.in_ok-count_table.ensures.counted c.in_ok-count_table.ensures.room
-
 pub returns : goal.returns
-returns c =
-    trace_counted (claim_in c.args.setting.now) c.args.trace.now c.loop-name.tallies c.requires.counts
-    (subst (λ n. AreTablesCounted (claim_in c.args.setting.now) c.args.trace.now n c.loop-name.tallies)
-    (omega (arith, c.loop-name-test.false, c.loop-name.auto.name-index-end)) c.loop-name.invariant)
+returns g c =
+    if_all_counted (claim_in c.args.setting.now) c.args.trace.now c.all.result c.args.pieces c.count_part.result c.requires.counts c.all.ensures.pieces
+    c.all.ensures.low c.all.ensures.high c.count_part.ensures

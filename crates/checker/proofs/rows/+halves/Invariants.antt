@@ -1,0 +1,12 @@
+-- Halves are less than the whole.
+use Rattle.std.proofs.Common.{◌+◌, ◌-◌, ◌*◌}
+use Rattle.checker.proofs.rows.+halves.Given as goal
+
+abbrev pub decreases-part_fault : goal.decreases-part_fault
+decreases-part_fault g l = 2 * (l.part.high - l.part.low)
+
+abbrev pub decreases-front : goal.decreases-front
+decreases-front g l = 2 * (l.lower.high - l.lower.low) + 1
+
+abbrev pub decreases-back : goal.decreases-back
+decreases-back g l = 2 * (l.upper.high - l.upper.low) + 1
