@@ -24,14 +24,14 @@ use vm_state::Inputs;
 
 /// A program and its run to the end.
 #[derive(Drop)]
-pub(crate) struct Course {
+pub struct Course {
     pub program: Program,
     pub run: Run,
 }
 
 /// Assembles a source and runs its program. An `Err` is how the command ends: the source is refused, or
 /// the run traps or does not end.
-pub(crate) fn course_of(
+pub fn course_of(
     alloc: Global,
     constants: &Params,
     source: &SourceFile<'_>,

@@ -8,5 +8,7 @@ mod ran;
 mod run_lines;
 mod running;
 
+pub use course::{Course, course_of};
 pub use outputs::Outputs;
+pub use run_lines::run_text;
 pub use running::{RunOptions, run_source_files};

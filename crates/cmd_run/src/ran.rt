@@ -18,12 +18,13 @@ use crate::outputs::Outputs;
 use crate::run_lines::run_text;
 use air_kit::Trace;
 use cmd_kit::{Outcome, Status, answered, save, save_pieces};
-use fill_files::{statement_file_of_run, trace_of_run};
+use fill_files::{FILL_PIECES, statement_file_of_run, trace_of_run};
 use rpo_hash::Params;
 use std::alloc::Global;
+use std::thread::Threads;
 use table_file::TablePieces;
 use vm_field::{Bytes, Memory};
-use vm_io::Shelf;
+use vm_io::{Gate, Shelf};
 use vm_state::Inputs;
 
 // What is written of a run, and its line.
@@ -35,9 +36,11 @@ struct Made {
 }
 
 /// Writes the tables of a run and then its statement, and tells its cycles and its outputs.
-pub fn save_run<F: Shelf>(
+pub fn save_run<R: Threads + Sync, F: Shelf, G: Gate>(
+    rt: &R,
     alloc: Global,
     shelf: &mut F,
+    gate: &G,
     constants: &Params,
     inputs: Inputs,
     course: Course,
@@ -48,7 +51,7 @@ pub fn save_run<F: Shelf>(
     ensures { EndsRun constants.now course.program course.run (outputs_from outputs.entry) (given_of inputs) result
         (F.state shelf.old) (F.state shelf.new) }
 {
-    match files_of(alloc, constants, inputs, course) {
+    match files_of(rt, alloc, gate, constants, inputs, course) {
         Ok(made) => save_made(alloc, shelf, made, outputs),
         Err(_) => Outcome::Memory,
     }
@@ -56,8 +59,10 @@ pub fn save_run<F: Shelf>(
 
 // Makes all that is written, before anything is.
 #[tactic(auto, using(crate::proofs::RunLemmas::claims_run))]
-fn files_of(
+fn files_of<R: Threads + Sync, G: Gate>(
+    rt: &R,
     alloc: Global,
+    gate: &G,
     constants: &Params,
     inputs: Inputs,
     course: Course,
@@ -70,7 +75,7 @@ fn files_of(
     ensures line { IfOk result (λ made. made.line ≡ run_lines (state_of course.run.state)) }
 {
     let Course { program, run } = course;
-    let (trace, end) = trace_of_run(alloc, constants, &program, run)?;
+    let (trace, end) = trace_of_run(rt, alloc, constants, &program, run, FILL_PIECES, gate)?;
     let line = run_text(alloc, &end.state)?;
     let statement = statement_file_of_run(alloc, program, inputs, &end)?;
     Ok(Made {

@@ -10,8 +10,12 @@ use std::alloc::Global;
 use vm_field::{Bytes, Memory};
 use vm_state::State;
 
-// `cycles N`, and `outputs O1 O2 ..`
-pub(crate) fn run_text(alloc: Global, state: &State) -> Result<Bytes, Memory>
+/// What is told of a run that ended in this state: `cycles N`, and `outputs O1 O2 ..` with each cell of its stack.
+///
+/// # Errors
+///
+/// `Memory` where the system gave none for the lines.
+pub fn run_text(alloc: Global, state: &State) -> Result<Bytes, Memory>
     ensures { IfOk result (λ text. text ≡ run_lines (state_of state.now)) }
 {
     let mut text = Bytes::copied(alloc, b"cycles ")?;

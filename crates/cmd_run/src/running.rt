@@ -10,7 +10,8 @@ use crate::outputs::Outputs;
 use crate::ran::save_run;
 use cmd_kit::{Outcome, load_inputs, load_kernel, load_params, load_source};
 use std::alloc::Global;
-use vm_io::Shelf;
+use std::thread::Threads;
+use vm_io::{Gate, Shelf};
 
 /// What the words of `run` give behind the source.
 #[derive(Clone, Copy)]
@@ -23,10 +24,13 @@ pub struct RunOptions<'a> {
 }
 
 /// `run`: reads the parameters, the source, the inputs and the kernel, if one is named, runs the
-/// program within so many cycles, and writes its tables and its statement.
-pub fn run_source_files<F: Shelf>(
+/// program within so many cycles, and writes its tables and its statement. The tables are filled in `FILL_PIECES` pieces at once, of
+/// which each goes through the gate.
+pub fn run_source_files<R: Threads + Sync, F: Shelf, G: Gate>(
+    rt: &R,
     alloc: Global,
     shelf: &mut F,
+    gate: &G,
     params: &str,
     source: &str,
     options: RunOptions<'_>,
@@ -37,15 +41,17 @@ pub fn run_source_files<F: Shelf>(
     ensures { EndsIn (Some (run_steps params.now source.now options.entry.inputs.now (outputs_from options.entry.outputs)
         (option_map (λ k. k.now) options.entry.kernel) options.entry.limit)) result (F.state shelf.old) (F.state shelf.new) }
 {
-    match read_and_run(alloc, shelf, params, source, options) {
+    match read_and_run(rt, alloc, shelf, gate, params, source, options) {
         Ok(end) | Err(end) => end,
     }
 }
 
 // Reads the files, one after another, runs the program and writes the files of its run.
-fn read_and_run<F: Shelf>(
+fn read_and_run<R: Threads + Sync, F: Shelf, G: Gate>(
+    rt: &R,
     alloc: Global,
     shelf: &mut F,
+    gate: &G,
     params: &str,
     source: &str,
     options: RunOptions<'_>,
@@ -68,5 +74,14 @@ fn read_and_run<F: Shelf>(
         &inputs,
         options.limit,
     )?;
-    Ok(save_run(alloc, shelf, &constants, inputs, course, options.outputs))
+    Ok(save_run(
+        rt,
+        alloc,
+        shelf,
+        gate,
+        &constants,
+        inputs,
+        course,
+        options.outputs,
+    ))
 }

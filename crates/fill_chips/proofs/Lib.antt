@@ -2,6 +2,7 @@ pub mod StepLemmas
 pub mod NextLemmas
 pub mod RowsFrom
 pub mod PermLemmas
+pub mod RoundLemmas
 pub mod KernelLemmas
 pub mod TimesLemmas
 pub mod GivenLemmas

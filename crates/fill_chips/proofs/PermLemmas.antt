@@ -50,3 +50,11 @@ row-is constants p k goes_on state e = ap (λ s. bit_of p.mode ∷ bit_of p.cont
 pub ok_then : {E : Type 0} {P Q : Type 0} (r : Result (Unit {0}) E) → (P → Q) → OnOk r P → OnOk r Q
 ok_then (Ok x) f h = f h
 ok_then (Err e) f h = tt
+
+-- the rows of permutations and more
+pub rows-append : (constants : List ℕ) (perms more : List Perm)
+    → rows_of_perms constants (perms ++ more) ≡ rows_of_perms constants perms ++ rows_of_perms constants more
+unfolding rows_of_perms
+rows-append constants [] more = refl
+rows-append constants (q ∷ perms) more =
+    ap (rows_before constants q) (rows-append constants perms more) ∙ before-append constants q (rows_of_perms constants perms) (rows_of_perms constants more)

@@ -2,3 +2,4 @@ pub mod RangeRows
 pub mod MemoryLimbs
 pub mod KernelRows
 pub mod Beside
+pub mod Rounds

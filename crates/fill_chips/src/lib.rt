@@ -9,6 +9,7 @@ mod laws;
 mod left;
 mod memory;
 mod range;
+mod rounds;
 #[cfg(test)]
 mod tests;
 

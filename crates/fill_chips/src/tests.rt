@@ -1,5 +1,7 @@
+ghost use Rattle.std.specs.Prelude.{◌≤◌};
+
 use crate::bitwise::bitwise_table;
-use crate::hasher::hasher_table;
+use crate::hasher::{ROUND, hasher_table};
 use crate::kernel::kernel_table;
 use crate::left::left_table;
 use crate::memory::memory_table;
@@ -8,8 +10,11 @@ use air_kit::{Access, BitOp, Perm};
 use perm_memo::Permutations;
 use rpo_hash::{Params, permute};
 use std::alloc::Global;
+use std::sync::atomic::{AtomicU64, Ordering};
 use std::test::Fail;
+use std::thread::Threads;
 use vm_field::{Felt, Memory, Word};
+use vm_io::{Gate, OpenGate};
 use vm_table::{Table, View};
 
 // Constants of zeros, under which zeros are permuted to zeros.
@@ -80,12 +85,15 @@ static FLAGS: [(usize, usize, u64); 8] = [
     (23, 1, 0),
 ];
 
-fn fills_hashes(alloc: Global) -> Result<bool, Memory> {
+fn fills_hashes<R: Threads + Sync>(rt: &R, alloc: Global, pieces: usize) -> Result<bool, Memory>
+    requires { (1 ≤ pieces) × (pieces ≤ 64) }
+{
     let first = perm(false, false, true, Felt::ONE);
     let second = perm(false, true, false, Felt::ZERO);
     let third = perm(true, false, false, Felt::ZERO);
-    let mut permutations = Permutations::new(alloc, &zeros());
-    let table = hasher_table(alloc, &mut permutations, &[first, second, third])?;
+    let perms = [first, second, third];
+    let permutations = Permutations::new(alloc, &zeros());
+    let table = hasher_table(rt, alloc, &permutations, &perms, pieces, &OpenGate)?;
     for (row, column, flag) in &FLAGS {
         if cell(&table, *row, *column) != Some(*flag) {
             return Ok(false);
@@ -196,7 +204,6 @@ fn fills_keys(alloc: Global) -> Result<bool, Memory> {
 
 #[test]
 fn fills_rows_of_requests(rt: HostRuntime) -> Result<(), Fail> {
-    assert!(rt; fills_hashes(rt.alloc())?);
     assert!(rt; fills_bits(rt.alloc())?);
     assert!(rt; fills_accesses(rt.alloc())?);
     Ok(())
@@ -207,5 +214,107 @@ fn fills_counts_and_keys(rt: HostRuntime) -> Result<(), Fail> {
     assert!(rt; fills_ranges(rt.alloc())?);
     assert!(rt; fills_calls(rt.alloc())?);
     assert!(rt; fills_keys(rt.alloc())?);
+    Ok(())
+}
+
+#[test]
+fn fills_hashes_in_pieces(rt: HostRuntime) -> Result<(), Fail> {
+    for pieces in [1, 2, 3, 4, 64] {
+        assert!(rt; fills_hashes(&rt, rt.alloc(), pieces)?);
+    }
+    Ok(())
+}
+
+// Two pieces, of which each waits at the gate until the other has entered.
+#[derive(Drop)]
+struct Meeting {
+    seen: [AtomicU64; 2],
+    opened: [AtomicU64; 2],
+}
+
+impl Gate for Meeting {
+    fn enter(&self, piece: usize) {
+        if piece >= 2 {
+            return;
+        }
+        self.seen[piece].store(1, Ordering::SeqCst);
+        for _ in 0..500_000_000u64 {
+            if self.seen[1 - piece].load(Ordering::SeqCst) == 1 {
+                self.opened[piece].store(1, Ordering::SeqCst);
+                return;
+            }
+        }
+    }
+}
+
+// A body that fills one piece after the other does not let them meet.
+#[test]
+fn two_pieces_meet(rt: HostRuntime) -> Result<(), Fail> {
+    let meeting = Meeting {
+        seen: [AtomicU64::new(0), AtomicU64::new(0)],
+        opened: [AtomicU64::new(0), AtomicU64::new(0)],
+    };
+    let gate = &meeting;
+    let perms = [
+        perm(true, false, false, Felt::ONE),
+        perm(true, false, false, Felt::ZERO),
+    ];
+    let permutations = Permutations::new(rt.alloc(), &zeros());
+    let table = hasher_table(&rt, rt.alloc(), &permutations, &perms, 2, gate)?;
+    assert!(rt; table.rows() == 16);
+    assert!(rt; gate.opened[0].load(Ordering::SeqCst) == 1);
+    assert!(rt; gate.opened[1].load(Ordering::SeqCst) == 1);
+    Ok(())
+}
+
+// How often each of three pieces entered, and last how often any other did.
+#[derive(Drop)]
+struct Counter {
+    entered: [AtomicU64; 4],
+}
+
+impl Gate for Counter {
+    fn enter(&self, piece: usize) {
+        let _ = self.entered[piece.min(3)].fetch_add(1, Ordering::SeqCst);
+    }
+}
+
+// Permutations of HPERM, of which each has its number in its state.
+fn numbered(alloc: Global, count: u32) -> Result<Vec<Perm>, Memory> {
+    let mut perms = Vec::new(alloc);
+    for number in 0..count {
+        perms.push(perm(true, false, false, Felt::from_u32(number)))?;
+    }
+    Ok(perms)
+}
+
+// Behind 4,096 permutations comes a round of one more: each piece enters in both, also where it has none.
+#[test]
+fn each_piece_enters_once_a_round(rt: HostRuntime) -> Result<(), Fail> {
+    let counter = Counter {
+        entered: [
+            AtomicU64::new(0),
+            AtomicU64::new(0),
+            AtomicU64::new(0),
+            AtomicU64::new(0),
+        ],
+    };
+    let gate = &counter;
+    let perms = numbered(rt.alloc(), ROUND as u32 + 1)?;
+    let permutations = Permutations::new(rt.alloc(), &zeros());
+    let alloc = rt.alloc();
+    assert!(rt; perms.len() == ROUND + 1);
+    let table = hasher_table(&rt, alloc, &permutations, perms.as_slice(), 3, gate)?;
+    assert!(rt; table.rows() == 8 * (ROUND + 1));
+    for piece in 0..3usize {
+        assert!(rt; gate.entered[piece].load(Ordering::SeqCst) == 2);
+    }
+    assert!(rt; gate.entered[3].load(Ordering::SeqCst) == 0);
+    for number in [0, 1365, 1366, ROUND - 1, ROUND] {
+        assert!(rt; cell(&table, 8 * number, 14) == Some(number as u64));
+        let start = perm(true, false, false, Felt::from_u32(number as u32)).start;
+        let behind = permute(&zeros(), start);
+        assert!(rt; cell(&table, 8 * number + 7, 3) == Some(behind[0].value()));
+    }
     Ok(())
 }

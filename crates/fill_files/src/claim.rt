@@ -29,8 +29,12 @@ pub fn statement_file_of_run(
     written(alloc, &statement)
 }
 
-// What is claimed of a run.
-fn statement_of_run(
+/// The statement of a run that left this, as `statement_file_of_run` writes it.
+///
+/// # Errors
+///
+/// `Memory` where the system gave none for the outputs.
+pub fn statement_of_run(
     alloc: Global,
     program: Program,
     inputs: Inputs,

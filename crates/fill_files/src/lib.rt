@@ -7,7 +7,7 @@ mod laws;
 mod tables;
 mod tracing;
 
-pub use claim::statement_file_of_run;
+pub use claim::{statement_file_of_run, statement_of_run};
 pub use laws::file_laws;
-pub use tables::trace_of_run;
+pub use tables::{FILL_PIECES, trace_of_run};
 pub use tracing::RunEnd;

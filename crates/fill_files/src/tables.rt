@@ -15,29 +15,40 @@ use block_tree::Program;
 use processor::Run;
 use rpo_hash::Params;
 use std::alloc::Global;
+use std::thread::Threads;
 use table_file::file_laws;
 use vm_field::Memory;
+use vm_io::Gate;
 
-/// The trace of a run that was executed, whose table file is one of the run, and what is left of the
-/// run. Its events are given up before the small tables are made.
+/// In how many pieces the commands have permutations filled.
+pub const FILL_PIECES: usize = 4;
+
+/// The trace of a run that was executed, whose table file is one of the run and reads as the trace, and
+/// what is left of the run. Its events are given up before the small tables are made. Permutations are filled in so many pieces at
+/// once, of which each goes through the gate in each round; nothing of what comes depends on the number.
 ///
 /// # Errors
 ///
 /// `Memory` where the system gave none for the tables.
-pub fn trace_of_run(
+pub fn trace_of_run<R: Threads + Sync, G: Gate>(
+    rt: &R,
     alloc: Global,
     params: &Params,
     program: &Program,
     run: Run,
+    pieces: usize,
+    gate: &G,
 ) -> Result<(Trace, RunEnd), Memory>
-    requires { WasExecuted params.now program.now run }
+    requires executed { WasExecuted params.now program.now run }
+    requires pieces { (1 ≤ pieces) × (pieces ≤ 64) }
     ensures file { IfOk result (λ r. IsFileOfRun params.now program.now run (bytes_of r.0)) }
+    ensures reads { IfOk result (λ r. trace_of (bytes_of r.0) ≡ Ok r.0) }
     ensures counts { IfOk result (λ r. HasCounts r.0) }
     ensures state { IfOk result (λ r. r.1.state ≡ run.state) }
     ensures digest { IfOk result (λ r. r.1.digest ≡ tree_digest (constants_of params.now) (tree_of program.now.tree)) }
     ensures depth { IfOk result (λ r. length r.1.state.stack ≤ most_outputs) }
 {
-    let (trace, end) = tables_of_run(alloc, params, program, run)?;
+    let (trace, end) = tables_of_run(rt, alloc, params, program, run, pieces, gate)?;
     known_file(&trace);
     Ok((trace, end))
 }

@@ -23,7 +23,9 @@ use perm_memo::Permutations;
 use processor::Run;
 use rpo_hash::{Params, known_constants};
 use std::alloc::Global;
+use std::thread::Threads;
 use vm_field::{Memory, Word};
+use vm_io::Gate;
 use vm_state::State;
 use vm_table::Table;
 
@@ -47,13 +49,17 @@ struct Filled {
 
 // The trace of a run, and what it leaves.
 #[tactic(auto, using(crate::proofs::RunLemmas::short_tables))]
-pub(crate) fn tables_of_run(
+pub(crate) fn tables_of_run<R: Threads + Sync, G: Gate>(
+    rt: &R,
     alloc: Global,
     params: &Params,
     program: &Program,
     run: Run,
+    pieces: usize,
+    gate: &G,
 ) -> Result<(Trace, RunEnd), Memory>
-    requires { WasExecuted params.now program.now run }
+    requires executed { WasExecuted params.now program.now run }
+    requires pieces { (1 ≤ pieces) × (pieces ≤ 64) }
     ensures trace { IfOk result (λ r. TracesRun params.now program.now run r.0) }
     ensures counts { IfOk result (λ r. HasCounts r.0) }
     ensures short { IfOk result (λ r. IsShort r.0) }
@@ -63,8 +69,15 @@ pub(crate) fn tables_of_run(
 {
     known_run(params, program, &run);
     let filled = fill_run(alloc, run)?;
-    let mut permutations = filled.permutations;
-    let chips = fill_chips(alloc, &mut permutations, &program.kernel, &filled.requests)?;
+    let chips = fill_chips(
+        rt,
+        alloc,
+        &filled.permutations,
+        &program.kernel,
+        &filled.requests,
+        pieces,
+        gate,
+    )?;
     Ok((trace_with(filled.main, chips), filled.end))
 }
 

@@ -7,3 +7,5 @@ mod files;
 mod greatest;
 #[cfg(test)]
 mod tests;
+#[cfg(test)]
+mod whole;

@@ -7,7 +7,9 @@ use perm_memo::Permutations;
 use rpo_hash::Params;
 use std::alloc::Global;
 use std::test::Fail;
+use std::thread::Threads;
 use vm_field::{Felt, Felts, Memory, Sequence, Words};
+use vm_io::OpenGate;
 use vm_table::{Table, View};
 
 // Constants of zeros, under which zeros are permuted to zeros.
@@ -102,10 +104,18 @@ fn counts(chips: &Chips) -> [usize; 6] {
     ]
 }
 
-fn fills_empty_program(alloc: Global) -> Result<bool, Memory> {
-    let mut permutations = Permutations::new(alloc, &zeros());
+fn fills_empty_program<R: Threads + Sync>(rt: &R, alloc: Global) -> Result<bool, Memory> {
+    let permutations = Permutations::new(alloc, &zeros());
     let requests = empty_program(alloc)?;
-    let chips = fill_chips(alloc, &mut permutations, &Words::new(alloc), &requests)?;
+    let chips = fill_chips(
+        rt,
+        alloc,
+        &permutations,
+        &Words::new(alloc),
+        &requests,
+        4,
+        &OpenGate,
+    )?;
     let asked = cell(&chips.range, 7, 0) == Some(1) && cell(&chips.range, 7, 1) == Some(1023);
     let digest = cell(&chips.hasher, 7, 7) == Some(0) && cell(&chips.hasher, 7, 2) == Some(0);
     Ok(counts(&chips) == [42, 8, 0, 0, 0, 0] && asked && digest)
@@ -126,10 +136,18 @@ static BITS: [(usize, usize, u64); 8] = [
 // The row of the write: its context is a new one, and nothing grows, since no row is before it.
 static STORED: [u64; 14] = [1, 0, 65538, 3, 7, 8, 9, 10, 1, 0, 0, 0, 2, 1];
 
-fn fills_store_and_bits(alloc: Global) -> Result<bool, Memory> {
-    let mut permutations = Permutations::new(alloc, &zeros());
+fn fills_store_and_bits<R: Threads + Sync>(rt: &R, alloc: Global) -> Result<bool, Memory> {
+    let permutations = Permutations::new(alloc, &zeros());
     let requests = store_and_bits(alloc)?;
-    let chips = fill_chips(alloc, &mut permutations, &Words::new(alloc), &requests)?;
+    let chips = fill_chips(
+        rt,
+        alloc,
+        &permutations,
+        &Words::new(alloc),
+        &requests,
+        4,
+        &OpenGate,
+    )?;
     let mut all = counts(&chips)[1..] == [0, 16, 1, 0, 0];
     for (row, column, value) in &BITS {
         all = all && cell(&chips.bitwise, *row, *column) == Some(*value);
@@ -142,13 +160,13 @@ fn fills_store_and_bits(alloc: Global) -> Result<bool, Memory> {
 
 #[test]
 fn fills_the_tables_of_a_store_and_bits(rt: HostRuntime) -> Result<(), Fail> {
-    assert!(rt; fills_store_and_bits(rt.alloc())?);
+    assert!(rt; fills_store_and_bits(&rt, rt.alloc())?);
     Ok(())
 }
 
 #[test]
 fn fills_the_tables_of_an_empty_program(rt: HostRuntime) -> Result<(), Fail> {
     range_laws();
-    assert!(rt; fills_empty_program(rt.alloc())?);
+    assert!(rt; fills_empty_program(&rt, rt.alloc())?);
     Ok(())
 }

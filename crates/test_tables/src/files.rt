@@ -171,6 +171,41 @@ fn comes_back(alloc: Global, case: &Case) -> Result<bool, FileError> {
     Ok(encode(alloc, &trace)? == bytes)
 }
 
+// Where a front of this many bytes ends: behind whole numbers of four bytes in the head, and behind whole elements after it.
+fn end_of(length: usize) -> usize {
+    if length < HEAD.len() {
+        length / 4 * 4
+    } else {
+        HEAD.len() + (length - HEAD.len()) / 8 * 8
+    }
+}
+
+// Whether each front of a file is refused where it ends.
+fn fronts_end(alloc: Global, case: &Case, size: usize) -> Result<bool, FileError>
+    requires { 0 < size }
+{
+    let bytes = file(alloc, case)?;
+    let all = bytes.as_slice();
+    for length in 0..all.len() {
+        let ended = FileError::Bad {
+            offset: end_of(length) as u64,
+            cause: FileCause::Ended,
+        };
+        match read(alloc, &all[..length], size) {
+            Err(error) if error == ended => {}
+            _ => return Ok(false),
+        }
+    }
+    Ok(true)
+}
+
+#[test]
+fn each_front_of_a_file_ends(rt: HostRuntime) -> Result<(), Fail> {
+    assert_eq!(rt; fronts_end(rt.alloc(), &CASES[0], 4096), Ok(true));
+    assert_eq!(rt; fronts_end(rt.alloc(), &CASES[6], 100), Ok(true));
+    Ok(())
+}
+
 #[test]
 fn reads_files(rt: HostRuntime) -> Result<(), Fail> {
     types_cross();

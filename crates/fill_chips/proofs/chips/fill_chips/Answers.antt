@@ -13,7 +13,7 @@ use Rattle.fill_chips.proofs.ChipAnswers.{filled-answers, filled-sizes}
 use Rattle.fill_chips.proofs.chips.fill_chips.Goals as goal
 
 pub range_table-requires : goal.range_table-requires
-range_table-requires c =
+range_table-requires g c =
     let r = c.args.requests.now in
     let memory = c.in_ok-memory.memory in
     let shown : ShowsAccesses r.accesses memory =
@@ -22,7 +22,7 @@ range_table-requires c =
     record { limbs = shown.limbs; few = omega (arith, shown.size, c.requires.fit.room.accesses) }
 
 pub returns-clause-answers : goal.returns-clause-answers
-returns-clause-answers c =
+returns-clause-answers g c =
     let constants = c.args.permutations.now in
     let kernel = c.args.kernel.now in
     let r = c.args.requests.now in
@@ -48,7 +48,7 @@ returns-clause-answers c =
     (subst (All (λ v. v < 65536)) c.as_slice-2.ensures.items c.range_table.ensures.small))
 
 pub returns-clause-sizes : goal.returns-clause-sizes
-returns-clause-sizes c =
+returns-clause-sizes g c =
     let constants = c.args.permutations.now in
     let kernel = c.args.kernel.now in
     let r = c.args.requests.now in

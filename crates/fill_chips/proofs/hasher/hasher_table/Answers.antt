@@ -1,34 +1,45 @@
-use Rattle.std.proofs.Common.{◌≡◌, ◌+◌, [], ◌∷◌, ◌++◌, take, All, refl, sym, subst, ap, ◌∙◌}
-use Rattle.std.proofs.lemmas.List.{take_more}
-use Rattle.std.proofs.lemmas.List.Elements.{All-append, All-cons, All-nil}
+use Rattle.std.proofs.Common.{◌≡◌, ◌+◌, ◌*◌, ◌<◌, ◌≤◌, ◌++◌, ◌-◌, ◌∙◌, All, drop, length, take, sym, subst, ap, arith}
+use Rattle.std.proofs.Math.Seq.{take_all}
+use Rattle.std.proofs.lemmas.List.Elements.{All-append, All-nil}
 use Rattle.rpo_hash.specs.States.{IsState}
-use Rattle.facts_hasher.specs.PermRows.{rows_before, rows_of_perms}
-use Rattle.fill_chips.proofs.PermLemmas.{rows-none, rows-push}
+use Rattle.facts_hasher.specs.PermRows.{rows_of_perms}
+use Rattle.fill_chips.proofs.PermLemmas.{rows-append, rows-none}
+use Rattle.fill_chips.proofs.RoundLemmas.{round_more}
 use Rattle.fill_chips.proofs.hasher.hasher_table.Goals as goal
 
-pub loop-perm-init : goal.loop-perm-init
-loop-perm-init c = record {
+pub loop-k-init : goal.loop-k-init
+loop-k-init g c = record {
   rows = c.reserve.ensures ∙ c.new-table.ensures.empty ∙ sym (rows-none c.args.permutations.now);
   states = All-nil (λ p. IsState p.start);
-  same = refl;
+  room = c.in_ok-resize.ensures.len ∙ c.min.ensures;
 }
 
-pub loop-perm-preserved : goal.loop-perm-preserved
-loop-perm-preserved c =
+pub loop-k-preserved : goal.loop-k-preserved
+loop-k-preserved g c =
     let constants = c.args.permutations.now in
     let perms = c.args.perms.now in
-    let i = c.loop-perm.perm-index in
-    let perm = c.perm-item.result in
-    let more : take (i + 1) perms ≡ take i perms ++ perm ∷ []
-    = take_more perms i perm c.loop-perm-test.true ∙ ap (λ p. take i perms ++ p ∷ []) (sym c.perm-item.is) in
+    let k = c.loop-k.k in
+    let inside : k * 4096 < length perms = omega arith in
+    let more = round_more k c.min-to.result perms inside c.min-to.ensures in
+    let round = take (c.min-to.result - k * 4096) (drop (k * 4096) perms) in
     record {
       rows =
-          c.in_ok-push_permutation.ensures.rows ∙ ap (λ constants. c.loop-perm.table ++ rows_before constants perm []) c.loop-perm.invariant.same
-          ∙ ap (λ table. table ++ rows_before constants perm []) c.loop-perm.invariant.rows
-          ∙ sym (rows-push constants (take i perms) perm) ∙ ap (rows_of_perms constants) (sym more);
+          c.in_ok-add_round.ensures.rows ∙ ap (λ rows. rows ++ rows_of_perms constants round) c.loop-k.invariant.rows
+          ∙ sym (rows-append constants (take (k * 4096) perms) round) ∙ ap (rows_of_perms constants) (sym more);
       states =
           subst (All (λ p. IsState p.start)) (sym more)
-          (All-append (λ p. IsState p.start) (take i perms) (perm ∷ []) c.loop-perm.invariant.states
-          (All-cons (λ p. IsState p.start) perm [] c.push_permutation.ensures.state (All-nil (λ p. IsState p.start))));
-      same = c.push_permutation.ensures.same ∙ c.loop-perm.invariant.same;
+          (All-append (λ p. IsState p.start) (take (k * 4096) perms) round c.loop-k.invariant.states c.in_ok-add_round.ensures.states);
+      room = c.add_round.ensures.room ∙ c.loop-k.invariant.room;
     }
+
+pub returns-clause-rows : goal.returns-clause-rows
+returns-clause-rows g c =
+    let perms = c.args.perms.now in
+    let all : length perms ≤ c.loop-k.k * 4096 = omega arith in
+    c.loop-k.invariant.rows ∙ ap (rows_of_perms c.args.permutations.now) (take_all (c.loop-k.k * 4096) perms all)
+
+pub returns-clause-states : goal.returns-clause-states
+returns-clause-states g c =
+    let perms = c.args.perms.now in
+    let all : length perms ≤ c.loop-k.k * 4096 = omega arith in
+    subst (All (λ p. IsState p.start)) (take_all (c.loop-k.k * 4096) perms all) c.loop-k.invariant.states

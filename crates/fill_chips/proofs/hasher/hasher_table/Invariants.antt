@@ -1,11 +1,11 @@
-use Rattle.std.proofs.Common.{◌≡◌, All, take}
+use Rattle.std.proofs.Common.{◌≡◌, ◌*◌, All, length, min, take, vec_len}
 use Rattle.rpo_hash.specs.States.{IsState}
 use Rattle.facts_hasher.specs.PermRows.{rows_of_perms}
 use Rattle.fill_chips.proofs.hasher.hasher_table.Given as goal
 
-abbrev pub invariant-loop-perm : goal.invariant-loop-perm
-invariant-loop-perm l = record {
-  rows : l.table ≡ rows_of_perms l.initial.permutations (take l.perm-index l.perms);
-  states : All (λ p. IsState p.start) (take l.perm-index l.perms);
-  same : l.permutations ≡ l.initial.permutations;
+abbrev pub invariant-loop-k : goal.invariant-loop-k
+invariant-loop-k g l = record {
+  rows : l.table ≡ rows_of_perms l.permutations (take (l.k * 4096) l.perms);
+  states : All (λ p. IsState p.start) (take (l.k * 4096) l.perms);
+  room : vec_len l.states ≡ min (length l.perms) 4096;
 }

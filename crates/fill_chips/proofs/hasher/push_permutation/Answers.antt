@@ -6,32 +6,25 @@ use Rattle.fill_chips.proofs.PermLemmas.{ok_then, first_rows, first-all, first-m
 use Rattle.fill_chips.proofs.hasher.push_permutation.Goals as goal
 
 pub loop-k-init : goal.loop-k-init
-loop-k-init c = sym (ap (λ rows. c.args.table.now ++ rows) (first-none _ c.args.perm.now) ∙ append-nil c.args.table.now)
+loop-k-init c = λ constants is. sym (ap (λ rows. c.args.table.now ++ rows) (first-none constants c.args.perm.now) ∙ append-nil c.args.table.now)
 
 pub loop-k-preserved : goal.loop-k-preserved
-loop-k-preserved c =
-    let constants = c.args.permutations.now in
+loop-k-preserved c = λ constants is.
     let perm = c.args.perm.now in
     let k = c.loop-k.k in
-    let state = round_states-at constants perm.start c.rounds-states.result k (omega arith) c.rounds-states.ensures.rounds in
-    let same = c.rounds-states.ensures.same in
-    let rows = c.loop-k.invariant ∙ ap (λ constants. c.args.table.now ++ first_rows constants perm k) same in
+    let state = round_states-at constants perm.start c.args.states.now k (omega arith) is in
     c.in_ok-push_row.ensures.ok
     ∙ ap (λ row. c.loop-k.table ++ row ∷ []) (c.row_of.ensures ∙ row-is constants perm k false _ state)
-    ∙ ap (λ table. table ++ perm_row constants perm k false ∷ []) rows
+    ∙ ap (λ table. table ++ perm_row constants perm k false ∷ []) (c.loop-k.invariant constants is)
     ∙ append_assoc c.args.table.now (first_rows constants perm k) (perm_row constants perm k false ∷ [])
     ∙ ap (λ rows. c.args.table.now ++ rows) (sym (first-more constants perm k) ∙ ap (first_rows constants perm) (sym (add-one k)))
-    ∙ ap (λ constants. c.args.table.now ++ first_rows constants perm (k + 1)) (sym same)
 
 pub returns-clause-rows : goal.returns-clause-rows
-returns-clause-rows c =
-    let constants = c.args.permutations.now in
+returns-clause-rows c = λ constants is.
     let perm = c.args.perm.now in
     let seven : c.loop-k.k ≡ 7 = omega arith in
-    let state = round_states-at constants perm.start c.rounds-states.result 7 (omega arith) c.rounds-states.ensures.rounds in
-    let rows =
-    c.loop-k.invariant ∙ ap (λ constants. c.args.table.now ++ first_rows constants perm c.loop-k.k) c.rounds-states.ensures.same
-    ∙ ap (λ n. c.args.table.now ++ first_rows constants perm n) seven in
+    let state = round_states-at constants perm.start c.args.states.now 7 (omega arith) is in
+    let rows = c.loop-k.invariant constants is ∙ ap (λ n. c.args.table.now ++ first_rows constants perm n) seven in
     ok_then c.push_row-2.result (λ ok.
     ok ∙ ap (λ row. c.loop-k.table ++ row ∷ []) (c.row_of-2.ensures ∙ row-is constants perm 7 perm.more _ state)
     ∙ ap (λ table. table ++ perm_row constants perm 7 perm.more ∷ []) rows

@@ -1,6 +1,8 @@
-use Rattle.std.proofs.Common.{◌≡◌, ◌++◌}
+use Rattle.std.proofs.Common.{◌≡◌, ◌++◌, ℕ, List}
+use Rattle.perm_memo.specs.RoundStates.{round_states}
 use Rattle.fill_chips.proofs.PermLemmas.{first_rows}
 use Rattle.fill_chips.proofs.hasher.push_permutation.Given as goal
 
 abbrev pub invariant-loop-k : goal.invariant-loop-k
-invariant-loop-k l = l.table ≡ l.initial.table ++ first_rows l.permutations l.perm l.k
+invariant-loop-k l = (constants : List ℕ) → l.states ≡ round_states constants l.perm.start
+    → l.table ≡ l.initial.table ++ first_rows constants l.perm l.k

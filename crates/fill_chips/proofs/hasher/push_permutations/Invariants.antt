@@ -1,0 +1,12 @@
+use Rattle.std.proofs.Common.{◌≡◌, ◌++◌, ℕ, List, All, take}
+use Rattle.rpo_hash.specs.States.{IsState}
+use Rattle.facts_hasher.specs.PermRows.{rows_of_perms}
+use Rattle.fill_chips.specs.Rounds.{states_of}
+use Rattle.fill_chips.proofs.hasher.push_permutations.Given as goal
+
+abbrev pub invariant-loop-i : goal.invariant-loop-i
+invariant-loop-i l = record {
+  rows : (constants : List ℕ) → l.states ≡ states_of constants l.perms
+      → l.table ≡ l.initial.table ++ rows_of_perms constants (take l.i l.perms);
+  states : All (λ p. IsState p.start) (take l.i l.perms);
+}
