@@ -1,6 +1,7 @@
 use crate::shelf::{checked, put_trace, ran, set, trace_in};
 use std::alloc::Global;
 use std::test::Fail;
+use std::thread::Threads;
 use vm_field::{Felt, Memory};
 use vm_table::View;
 
@@ -11,8 +12,12 @@ fn is_free(column: usize) -> bool {
 }
 
 // What is printed where a cell of this column in main row 3 is raised by 1; none where there is no such cell.
-fn raised(alloc: Global, column: usize) -> Result<Option<Vec<u8>>, Memory> {
-    let mut shelf = ran(alloc, "begin push.2 push.3 add push.7 end")?;
+fn raised(
+    rt: &(impl Threads + Sync),
+    alloc: Global,
+    column: usize,
+) -> Result<Option<Vec<u8>>, Memory> {
+    let mut shelf = ran(rt, alloc, "begin push.2 push.3 add push.7 end")?;
     let Some(mut trace) = trace_in(alloc, &shelf) else {
         return Ok(None);
     };
@@ -21,7 +26,7 @@ fn raised(alloc: Global, column: usize) -> Result<Option<Vec<u8>>, Memory> {
     }
     let number = (trace.main.row(3).cell(column) + Felt::ONE).value();
     if set(&mut trace.main, 3, column, number) && put_trace(alloc, &mut shelf, &trace)? {
-        Ok(Some(checked(alloc, &mut shelf)?))
+        Ok(Some(checked(rt, alloc, &mut shelf)?))
     } else {
         Ok(None)
     }
@@ -29,8 +34,8 @@ fn raised(alloc: Global, column: usize) -> Result<Option<Vec<u8>>, Memory> {
 
 // Whether a file in which the column is raised is accepted exactly where the column is free, and else refused at this row or the
 // one before it.
-fn is_right(alloc: Global, column: usize) -> Result<bool, Memory> {
-    let Some(said) = raised(alloc, column)? else {
+fn is_right(rt: &(impl Threads + Sync), alloc: Global, column: usize) -> Result<bool, Memory> {
+    let Some(said) = raised(rt, alloc, column)? else {
         return Ok(false);
     };
     Ok(if is_free(column) {
@@ -43,7 +48,7 @@ fn is_right(alloc: Global, column: usize) -> Result<bool, Memory> {
 #[test]
 fn each_column_is_used_or_free(rt: HostRuntime) -> Result<(), Fail> {
     for column in 0..65usize {
-        let is_right = is_right(rt.alloc(), column)?;
+        let is_right = is_right(&rt, rt.alloc(), column)?;
         assert!(rt; is_right, "{column}");
     }
     Ok(())

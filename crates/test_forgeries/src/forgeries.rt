@@ -3,6 +3,7 @@ use air_kit::Trace;
 use std::alloc::Global;
 use std::process::Abort;
 use std::test::Fail;
+use std::thread::Threads;
 use vm_field::Memory;
 use vm_io::MemShelf;
 use vm_table::Table;
@@ -135,8 +136,8 @@ fn one_output_less(alloc: Global, shelf: &MemShelf) -> Result<Option<Vec<u8>>, M
 }
 
 // Whether `check` of the forged files prints what the row says.
-fn is_right(alloc: Global, forgery: &Forgery) -> Result<bool, Memory> {
-    let mut shelf = ran(alloc, forgery.source)?;
+fn is_right(rt: &(impl Threads + Sync), alloc: Global, forgery: &Forgery) -> Result<bool, Memory> {
+    let mut shelf = ran(rt, alloc, forgery.source)?;
     let Some(mut trace) = trace_in(alloc, &shelf) else {
         return Ok(false);
     };
@@ -149,13 +150,16 @@ fn is_right(alloc: Global, forgery: &Forgery) -> Result<bool, Memory> {
     }
     Ok(
         put_trace(alloc, &mut shelf, &trace)?
-            && checked(alloc, &mut shelf)?.as_slice() == forgery.printed.as_bytes(),
+            && checked(rt, alloc, &mut shelf)?.as_slice() == forgery.printed.as_bytes(),
     )
 }
 
-fn all_right(rt: &(impl Abort + AllocGlobal), forgeries: &[Forgery]) -> Result<(), Fail> {
+fn all_right(
+    rt: &(impl Abort + AllocGlobal + Threads + Sync),
+    forgeries: &[Forgery],
+) -> Result<(), Fail> {
     for forgery in forgeries {
-        let is_right = is_right(rt.alloc(), forgery)?;
+        let is_right = is_right(rt, rt.alloc(), forgery)?;
         assert!(rt; is_right, "{}", forgery.printed);
     }
     Ok(())

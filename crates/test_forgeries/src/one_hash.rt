@@ -3,6 +3,7 @@ use air_kit::Trace;
 use rpo_hash::{Params, round};
 use std::alloc::Global;
 use std::test::Fail;
+use std::thread::Threads;
 use vm_field::{Felt, Memory, Word};
 use vm_io::MemShelf;
 use vm_table::Table;
@@ -197,19 +198,19 @@ fn claim(alloc: Global, digest: &[Felt; 4]) -> Result<Vec<u8>, Memory> {
 }
 
 // What `check` prints of it.
-fn said(alloc: Global) -> Result<Vec<u8>, Memory> {
+fn said(rt: &(impl Threads + Sync), alloc: Global) -> Result<Vec<u8>, Memory> {
     let last = join_states()[7];
     let digest = [last[4], last[5], last[6], last[7]];
     let mut shelf = MemShelf::new(alloc);
     shelf.put("z", zeros(alloc)?.as_slice())?;
     shelf.put("u", claim(alloc, &digest)?.as_slice())?;
     let _fits = put_trace(alloc, &mut shelf, &trace(alloc, &digest)?)?;
-    checked(alloc, &mut shelf)
+    checked(rt, alloc, &mut shelf)
 }
 
 #[test]
 fn one_hash_serves_one_block(rt: HostRuntime) -> Result<(), Fail> {
-    let said = said(rt.alloc())?;
+    let said = said(&rt, rt.alloc())?;
     assert_eq!(rt;
         said.as_slice(),
         b"refused bus hasher tuple 1 9 0 0 0 0 0 0 0 0 0 asked 2 given 1\n".as_slice()

@@ -1,6 +1,7 @@
 use air_kit::{Trace, has_counts};
 use miden_app::{Seed, serve};
 use std::alloc::Global;
+use std::thread::Threads;
 use table_file::{decode, encode};
 use vm_field::{Felt, Memory};
 use vm_io::{MemShelf, MemSink, OpenGate};
@@ -16,12 +17,16 @@ pub(crate) fn element(number: u64) -> Felt {
 }
 
 /// A shelf with constants that are all 0 and with what a run of this program without inputs writes.
-pub(crate) fn ran(alloc: Global, source: &str) -> Result<MemShelf, Memory> {
+pub(crate) fn ran(
+    rt: &(impl Threads + Sync),
+    alloc: Global,
+    source: &str,
+) -> Result<MemShelf, Memory> {
     let mut shelf = MemShelf::new(alloc);
     shelf.put("z", zeros(alloc)?.as_slice())?;
     shelf.put("s", source.as_bytes())?;
     shelf.put("i", br#"{"advice":[],"stack":[]}"#)?;
-    let _lines = said(alloc, &mut shelf, &RUN)?;
+    let _lines = said(rt, alloc, &mut shelf, &RUN)?;
     Ok(shelf)
 }
 
@@ -36,18 +41,28 @@ pub(crate) fn zeros(alloc: Global) -> Result<Vec<u8>, Memory> {
 }
 
 /// What `check` prints of the files of the shelf.
-pub(crate) fn checked(alloc: Global, shelf: &mut MemShelf) -> Result<Vec<u8>, Memory> {
-    said(alloc, shelf, &CHECK)
+pub(crate) fn checked(
+    rt: &(impl Threads + Sync),
+    alloc: Global,
+    shelf: &mut MemShelf,
+) -> Result<Vec<u8>, Memory> {
+    said(rt, alloc, shelf, &CHECK)
 }
 
 // What `serve` prints at these words.
-fn said(alloc: Global, shelf: &mut MemShelf, texts: &[&str]) -> Result<Vec<u8>, Memory> {
+fn said(
+    rt: &(impl Threads + Sync),
+    alloc: Global,
+    shelf: &mut MemShelf,
+    texts: &[&str],
+) -> Result<Vec<u8>, Memory> {
     let mut words = Vec::new(alloc);
     for text in texts {
         words.push(Vec::from_slice(alloc, text.as_bytes())?)?;
     }
     let mut sink = MemSink::new(alloc);
     let _status = serve(
+        rt,
         alloc,
         Seed::new(0),
         words.as_slice(),

@@ -1,5 +1,5 @@
 use crate::tests::content::Content;
-use crate::tests::row::{Row, all_hold, all_write};
+use crate::tests::row::{Row, all_hold_in_pieces, all_write};
 use std::test::Fail;
 
 // Table files that no run writes, filled by the constraints cell by cell.
@@ -837,5 +837,5 @@ fn a_pair_is_found(rt: HostRuntime) -> Result<(), Fail> {
 
 #[test]
 fn built_tables_are_refused(rt: HostRuntime) -> Result<(), Fail> {
-    all_hold(&rt, &REFUSED)
+    all_hold_in_pieces(&rt, &REFUSED)
 }

@@ -1,5 +1,5 @@
 use crate::tests::content::Content;
-use crate::tests::row::{Row, all_hold, all_write, all_wrong};
+use crate::tests::row::{Row, all_hold, all_hold_in_pieces, all_write, all_wrong};
 use std::test::Fail;
 
 // The statement of `begin end`.
@@ -228,7 +228,7 @@ static REFUSED: [Row; 14] = [
     },
 ];
 
-static WRONG: [&'static [&'static str]; 10] = [
+static WRONG: [&'static [&'static str]; 15] = [
     &[],
     &["--help"],
     &["check"],
@@ -238,7 +238,21 @@ static WRONG: [&'static [&'static str]; 10] = [
     &["check", "z", "t", "s", "--evidence", "t"],
     &["check", "z", "t", "s", "--evidence", "s"],
     &["check", "z", "t", "s", "--evidence", "z"],
-    &["check", "z", "t", "s", "--evidence", "e", "--pieces", "1"],
+    &["check", "z", "t", "s", "--evidence", "e", "--pieces"],
+    &["check", "z", "t", "s", "--evidence", "e", "--pieces", "0"],
+    &["check", "z", "t", "s", "--evidence", "e", "--pieces", "65"],
+    &["check", "z", "t", "s", "--evidence", "e", "--pieces", "01"],
+    &[
+        "check",
+        "z",
+        "t",
+        "s",
+        "--evidence",
+        "e",
+        "--pieces=1",
+        "--pieces=1",
+    ],
+    &["check", "z", "t", "s", "--pieces", "1"],
 ];
 
 #[test]
@@ -249,6 +263,12 @@ fn traces_are_accepted(rt: HostRuntime) -> Result<(), Fail> {
 #[test]
 fn traces_are_refused(rt: HostRuntime) -> Result<(), Fail> {
     all_hold(&rt, &REFUSED)
+}
+
+#[test]
+fn pieces_change_no_answer(rt: HostRuntime) -> Result<(), Fail> {
+    all_hold_in_pieces(&rt, &ACCEPTED[..1])?;
+    all_hold_in_pieces(&rt, &REFUSED)
 }
 
 #[test]

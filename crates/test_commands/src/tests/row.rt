@@ -3,6 +3,7 @@ use miden_app::{Seed, serve};
 use std::alloc::Global;
 use std::process::Abort;
 use std::test::Fail;
+use std::thread::Threads;
 use vm_field::Memory;
 use vm_io::{MemShelf, MemSink, OpenGate};
 
@@ -25,9 +26,12 @@ pub struct Row {
 }
 
 /// Fails at the first row that is not so.
-pub fn all_hold(rt: &(impl Abort + AllocGlobal), rows: &[Row]) -> Result<(), Fail> {
+pub fn all_hold(
+    rt: &(impl Abort + AllocGlobal + Threads + Sync),
+    rows: &[Row],
+) -> Result<(), Fail> {
     for row in rows {
-        let holds = holds(rt.alloc(), row)?;
+        let holds = holds(rt, rt.alloc(), row)?;
         assert!(rt; holds, "{}", row.printed);
     }
     Ok(())
@@ -35,7 +39,7 @@ pub fn all_hold(rt: &(impl Abort + AllocGlobal), rows: &[Row]) -> Result<(), Fai
 
 /// Fails at the first words that are those of a command.
 pub fn all_wrong(
-    rt: &(impl Abort + AllocGlobal),
+    rt: &(impl Abort + AllocGlobal + Threads + Sync),
     rows: &[&'static [&'static str]],
 ) -> Result<(), Fail> {
     for words in rows {
@@ -47,7 +51,7 @@ pub fn all_wrong(
             number: 2,
             printed: "usage\n",
         };
-        let holds = holds(rt.alloc(), &row)?;
+        let holds = holds(rt, rt.alloc(), &row)?;
         assert!(rt; holds, "{}", words.len());
     }
     Ok(())
@@ -55,27 +59,33 @@ pub fn all_wrong(
 
 /// Fails at the first row that is not so, or behind which the file does not stand that is written.
 pub fn all_write(
-    rt: &(impl Abort + AllocGlobal),
+    rt: &(impl Abort + AllocGlobal + Threads + Sync),
     rows: &[Row],
     name: &str,
     content: &Content,
 ) -> Result<(), Fail> {
     for row in rows {
-        let holds = writes(rt.alloc(), row, name, content)?;
+        let holds = writes(rt, rt.alloc(), row, name, content)?;
         assert!(rt; holds, "{}", row.printed);
     }
     Ok(())
 }
 
-fn writes(alloc: Global, row: &Row, name: &str, content: &Content) -> Result<bool, Memory> {
+fn writes(
+    rt: &(impl Threads + Sync),
+    alloc: Global,
+    row: &Row,
+    name: &str,
+    content: &Content,
+) -> Result<bool, Memory> {
     let mut shelf = shelf_of(alloc, row)?;
-    let is_answered = answers(alloc, row, &mut shelf)?;
+    let is_answered = answers(rt, alloc, row, &mut shelf)?;
     Ok(is_answered && stands(&shelf, name, bytes_of(alloc, content)?.as_slice()))
 }
 
 /// Fails at the first row that is not so, or behind which these words do not print that a run is accepted.
 pub fn all_accepted(
-    rt: &(impl Abort + AllocGlobal),
+    rt: &(impl Abort + AllocGlobal + Threads + Sync),
     rows: &[Row],
     words: &'static [&'static str],
 ) -> Result<(), Fail> {
@@ -88,37 +98,78 @@ pub fn all_accepted(
         printed: "accepted run\n",
     };
     for row in rows {
-        let holds = holds_then(rt.alloc(), row, &check)?;
+        let holds = holds_then(rt, rt.alloc(), row, &check)?;
         assert!(rt; holds, "{}", row.printed);
     }
     Ok(())
 }
 
-fn holds_then(alloc: Global, row: &Row, next: &Row) -> Result<bool, Memory> {
+fn holds_then(
+    rt: &(impl Threads + Sync),
+    alloc: Global,
+    row: &Row,
+    next: &Row,
+) -> Result<bool, Memory> {
     let mut shelf = shelf_of(alloc, row)?;
-    Ok(answers(alloc, row, &mut shelf)? && answers(alloc, next, &mut shelf)?)
+    Ok(answers(rt, alloc, row, &mut shelf)? && answers(rt, alloc, next, &mut shelf)?)
 }
 
-fn holds(alloc: Global, row: &Row) -> Result<bool, Memory> {
+fn holds(rt: &(impl Threads + Sync), alloc: Global, row: &Row) -> Result<bool, Memory> {
     let mut shelf = shelf_of(alloc, row)?;
-    answers(alloc, row, &mut shelf)
+    answers(rt, alloc, row, &mut shelf)
 }
 
-// Whether `serve` answers as the row says.
-fn answers(alloc: Global, row: &Row, shelf: &mut MemShelf) -> Result<bool, Memory> {
+/// Fails at the first row of `check` that is not so with its trace in one, two or sixty-four pieces.
+pub fn all_hold_in_pieces(
+    rt: &(impl Abort + AllocGlobal + Threads + Sync),
+    rows: &[Row],
+) -> Result<(), Fail> {
+    for pieces in ["1", "2", "64"] {
+        for row in rows {
+            let holds = holds_in_pieces(rt, rt.alloc(), row, pieces)?;
+            assert!(rt; holds, "{}", row.printed);
+        }
+    }
+    Ok(())
+}
+
+fn holds_in_pieces(
+    rt: &(impl Threads + Sync),
+    alloc: Global,
+    row: &Row,
+    pieces: &str,
+) -> Result<bool, Memory> {
+    let mut shelf = shelf_of(alloc, row)?;
+    let mut words = words_of(alloc, row.words)?;
+    words.push(Vec::from_slice(alloc, b"--pieces")?)?;
+    words.push(Vec::from_slice(alloc, pieces.as_bytes())?)?;
+    answers_words(rt, alloc, words.as_slice(), row, &mut shelf)
+}
+
+/// Whether `serve` answers as the row says.
+pub fn answers(
+    rt: &(impl Threads + Sync),
+    alloc: Global,
+    row: &Row,
+    shelf: &mut MemShelf,
+) -> Result<bool, Memory> {
+    let words = words_of(alloc, row.words)?;
+    answers_words(rt, alloc, words.as_slice(), row, shelf)
+}
+
+// Whether it answers these words so.
+fn answers_words(
+    rt: &(impl Threads + Sync),
+    alloc: Global,
+    words: &[Vec<u8>],
+    row: &Row,
+    shelf: &mut MemShelf,
+) -> Result<bool, Memory> {
     let mut sink = MemSink::new(alloc);
     if row.failing_write != 0 {
         sink.fail(row.failing_write)?;
     }
-    let words = words_of(alloc, row.words)?;
-    let status = serve(
-        alloc,
-        Seed::new(0),
-        words.as_slice(),
-        shelf,
-        &mut sink,
-        &OpenGate,
-    );
+    let status = serve(rt, alloc, Seed::new(0), words, shelf, &mut sink, &OpenGate);
     Ok(
         status.number() == row.number
             && sink.taken() == row.printed.as_bytes()
@@ -127,17 +178,20 @@ fn answers(alloc: Global, row: &Row, shelf: &mut MemShelf) -> Result<bool, Memor
 }
 
 /// Fails at the first row that is not so, or behind which a file stands that a run writes.
-pub fn all_stop(rt: &(impl Abort + AllocGlobal), rows: &[Row]) -> Result<(), Fail> {
+pub fn all_stop(
+    rt: &(impl Abort + AllocGlobal + Threads + Sync),
+    rows: &[Row],
+) -> Result<(), Fail> {
     for row in rows {
-        let holds = stops(rt.alloc(), row)?;
+        let holds = stops(rt, rt.alloc(), row)?;
         assert!(rt; holds, "{}", row.printed);
     }
     Ok(())
 }
 
-fn stops(alloc: Global, row: &Row) -> Result<bool, Memory> {
+fn stops(rt: &(impl Threads + Sync), alloc: Global, row: &Row) -> Result<bool, Memory> {
     let mut shelf = shelf_of(alloc, row)?;
-    let is_answered = answers(alloc, row, &mut shelf)?;
+    let is_answered = answers(rt, alloc, row, &mut shelf)?;
     Ok(is_answered && shelf.get("t").is_none() && shelf.get("u").is_none())
 }
 
@@ -166,19 +220,22 @@ pub struct Forgery {
 }
 
 /// Fails at the first row that is not so.
-pub fn all_forged(rt: &(impl Abort + AllocGlobal), rows: &[Forgery]) -> Result<(), Fail> {
+pub fn all_forged(
+    rt: &(impl Abort + AllocGlobal + Threads + Sync),
+    rows: &[Forgery],
+) -> Result<(), Fail> {
     for row in rows {
-        let holds = forged(rt.alloc(), row)?;
+        let holds = forged(rt, rt.alloc(), row)?;
         assert!(rt; holds, "{}", row.check.printed);
     }
     Ok(())
 }
 
-fn forged(alloc: Global, row: &Forgery) -> Result<bool, Memory> {
+fn forged(rt: &(impl Threads + Sync), alloc: Global, row: &Forgery) -> Result<bool, Memory> {
     let mut shelf = shelf_of(alloc, &row.run)?;
-    let is_answered = answers(alloc, &row.run, &mut shelf)?;
+    let is_answered = answers(rt, alloc, &row.run, &mut shelf)?;
     let is_forged = forge(alloc, &mut shelf, row.changes)?;
-    Ok(is_answered && is_forged && answers(alloc, &row.check, &mut shelf)?)
+    Ok(is_answered && is_forged && answers(rt, alloc, &row.check, &mut shelf)?)
 }
 
 // Whether each change was one of what stands there.
@@ -244,19 +301,23 @@ pub struct Outline {
 }
 
 /// Fails at the first row that is not so.
-pub fn all_run(rt: &(impl Abort + AllocGlobal), rows: &[Outline]) -> Result<(), Fail> {
+pub fn all_run(
+    rt: &(impl Abort + AllocGlobal + Threads + Sync),
+    rows: &[Outline],
+) -> Result<(), Fail> {
     for row in rows {
-        let holds = runs(rt.alloc(), row)?;
+        let holds = runs(rt, rt.alloc(), row)?;
         assert!(rt; holds, "{}", row.line);
     }
     Ok(())
 }
 
-fn runs(alloc: Global, row: &Outline) -> Result<bool, Memory> {
+fn runs(rt: &(impl Threads + Sync), alloc: Global, row: &Outline) -> Result<bool, Memory> {
     let mut shelf = shelf_of(alloc, &row.run)?;
     let mut sink = MemSink::new(alloc);
     let words = words_of(alloc, row.run.words)?;
     let status = serve(
+        rt,
         alloc,
         Seed::new(0),
         words.as_slice(),
@@ -266,7 +327,7 @@ fn runs(alloc: Global, row: &Outline) -> Result<bool, Memory> {
     );
     let is_run = status.number() == row.run.number
         && sink.taken().ends_with(row.run.printed.as_bytes());
-    Ok(is_run && answers(alloc, &row.check, &mut shelf)? && has_line(&shelf, row.line))
+    Ok(is_run && answers(rt, alloc, &row.check, &mut shelf)? && has_line(&shelf, row.line))
 }
 
 // Whether the evidence has the line.
@@ -282,7 +343,8 @@ fn has_line(shelf: &MemShelf, line: &str) -> bool {
     false
 }
 
-fn shelf_of(alloc: Global, row: &Row) -> Result<MemShelf, Memory> {
+/// The shelf of a row before its call.
+pub fn shelf_of(alloc: Global, row: &Row) -> Result<MemShelf, Memory> {
     let mut shelf = MemShelf::new(alloc);
     for (name, content) in row.files {
         shelf.put(name, bytes_of(alloc, content)?.as_slice())?;
