@@ -28,6 +28,10 @@ pub(crate) fn take_rows<const W: usize>(
     ensures err { IfErr result (λ error. (all : List ℕ) → StandsAt all at bytes.now → GivesRead (Err error) (rows_at all W left.old at)) }
 {
     let size = ELEMENT_BYTES * W;
+    // Room for all rows at once spares moving those that are read; a table that gets none grows by itself.
+    if table.rows() == 0 {
+        let _ = table.reserve(*left);
+    }
     let mut row = [Felt::ZERO; W];
     let mut used = 0;
     while 0 < *left && size <= bytes.len() - used {
