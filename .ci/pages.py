@@ -66,7 +66,7 @@ def at(name: str, line: int, message: str) -> str:
 
 def crates_in_order() -> dict[str, int]:
     """The crates of crates.txt, each with its line there."""
-    named = ((number, re.match(r"(\w+):", line)) for number, line in enumerate(lines_of(CRATES), 1))
+    named = ((number, re.match(r"(\w+)(?: \w+=\S+)*:", line)) for number, line in enumerate(lines_of(CRATES), 1))
     return {match[1]: number for number, match in named if match}
 
 

@@ -1,4 +1,4 @@
-"""Times a command of the program and plain Rust that does the same, in turn, for `run.sh` and `check.sh`:
+"""Times a command of the program and plain Rust that does the same, in turn, for `run.sh`, `check.sh` and `make.sh`:
 
     command.py NAME TIMES MEMORY FILE RUNS OURS -- PLAIN -- PAIR ..
 

@@ -43,6 +43,7 @@ use processor::execute;
 use rpo_hash::Params;
 use sound_evidence::extract;
 use statement::{read_inputs, read_statement, write_evidence};
+use std::thread::Threads;
 use std::time::Instant;
 use std::{env, fs};
 use table_file::{TablePieces, TableReader, decode};
@@ -73,6 +74,7 @@ fn time_reading(
 
 fn time(
     rt: &HostRuntime,
+    threads: &(impl Threads + Sync),
     params: &Params,
     source: &[u8],
     inputs: &[u8],
@@ -135,11 +137,11 @@ fn time(
     drop(bytes);
     let public = Public { params: *params, statement };
     start = Instant::now(rt)?;
-    if check_rows(&trace, &public, 1, &OpenGate).is_some() {
+    if check_rows(threads, &trace, &public, 1, &OpenGate).is_some() {
         println!(rt; "a fault in a row")?;
     }
     let testing = lap(rt, &mut start)?;
-    let Ok(valid) = check(alloc, Seed::new(0), trace, public, 1, &OpenGate) else {
+    let Ok(valid) = check(threads, alloc, Seed::new(0), trace, public, 1, &OpenGate) else {
         println!(rt; "not accepted")?;
         return Ok(());
     };
@@ -181,7 +183,7 @@ fn main(rt: HostRuntime) -> anyhow::Result<()> {
         println!(rt; "too long")?;
         return Ok(());
     }
-    time(&rt, &params, source, files[2].as_slice(), kernel)
+    time(&rt, &rt, &params, source, files[2].as_slice(), kernel)
 }
 END_MAIN
     cd "$work/crates/bench_parts"
