@@ -1,6 +1,7 @@
 pub mod FlagLemmas
 pub mod DecodeLemmas
 pub mod FaultLemmas
+pub mod InputKeys
 pub mod ZeroLemmas
 pub mod CountLaws
 pub mod NumberLemmas

@@ -10,6 +10,7 @@ use Rattle.air_kit.specs.declared.trace.Trace.{Trace}
 use Rattle.air_kit.specs.declared.fault.Fault.{Fault}
 use Rattle.air_kit.specs.Tables.{every_chip, sum_over, table_number}
 use Rattle.air_kit.specs.Places.{Claim}
+use Rattle.air_kit.specs.DeepCells.{tuples_at_start}
 use Rattle.air_kit.specs.Traces.{rows_of, claim_of, value_at}
 use Rattle.air_kit.specs.MainTuples.{child, main_given, main_asked}
 use Rattle.air_kit.specs.ChipTuples.{chip_given, chip_asked}
@@ -22,13 +23,13 @@ AreZero c t = (name : TableName) (row number : ℕ) → row < length (rows_of t 
 abbrev pub over_chips : (TableName → List (List ℕ) → ℕ) → Trace → ℕ
 over_chips count t = sum_over every_chip (λ name. count name (rows_of t name))
 
--- the statement gives its digest as the child of no block
+-- the statement gives its digest as the child of no block, and the inputs below the sixteenth
 abbrev pub statement_given : Bus → Claim → List Counted
 statement_given bus.Blocks c = []
 statement_given bus.Children c = child 0 c.digest 0 ∷ []
 statement_given bus.Loops c = []
 statement_given bus.Groups c = []
-statement_given bus.Overflow c = []
+statement_given bus.Overflow c = tuples_at_start c
 statement_given bus.Hasher c = []
 statement_given bus.Bitwise c = []
 statement_given bus.Memory c = []

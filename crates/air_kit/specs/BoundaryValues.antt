@@ -5,6 +5,7 @@ use Rattle.vm_field.specs.Signs.{◌⊟◌}
 use Rattle.vm_ops.specs.Codes.{is_start_op}
 use Rattle.vm_ops.specs.declared.op.Op.TheVariants as ops
 use Rattle.vm_table.specs.MainColumns.{addr, ctx, fmp, sys, f, lv, depth, key, s}
+use Rattle.air_kit.specs.DeepCells.{depth_at_start, key_at_start}
 use Rattle.air_kit.specs.Flags.{flags_of}
 use Rattle.air_kit.specs.Places.{Claim, RowEntry, Spot, at_first, at_last, family}
 use Rattle.air_kit.specs.Tables.{table_number}
@@ -39,16 +40,6 @@ entry_16 j fl x = f x j
 -- nothing was started
 unfoldable pub entry_20 : RowEntry
 entry_20 fl x = lv x
-
--- the cells below the sixteenth at the start, how deep the stack is then, and the key of the newest of those cells, 0 where there is none
-abbrev pub deep_at_start : Claim → List ℕ
-deep_at_start c = []
-
-abbrev pub depth_at_start : Claim → ℕ
-depth_at_start c = 16
-
-abbrev pub key_at_start : Claim → ℕ
-key_at_start c = 0
 
 -- the stack is as deep as it is at the start, with the same newest cell below the sixteenth
 unfoldable pub entry_21 : Claim → RowEntry

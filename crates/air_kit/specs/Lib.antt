@@ -1,6 +1,7 @@
 pub mod Flags
 pub mod Places
 pub mod OpcodeValues
+pub mod DeepCells
 pub mod BoundaryValues
 pub mod BlockValues
 pub mod SpanValues

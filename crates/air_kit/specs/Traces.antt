@@ -48,7 +48,7 @@ most_rows table.Hasher = 2 ^ 22
 most_rows table.Bitwise = 2 ^ 22
 most_rows table.Memory = 2 ^ 19
 most_rows table.Kernel = most_kernel
-most_rows table.Left = 2 ^ 19
+most_rows table.Left = 2 ^ 20
 
 -- by how many rows it grows at once
 abbrev pub rows_at_once : TableName → ℕ

@@ -35,7 +35,7 @@ fn limits_of(table: TableName) -> Limits
         TableName::Bitwise => from_to(0, 1 << 22, 8),
         TableName::Memory => from_to(0, 1 << 19, 1),
         TableName::Kernel => from_to(0, MOST_KERNEL, 1),
-        TableName::Left => from_to(0, 1 << 19, 1),
+        TableName::Left => from_to(0, 1 << 20, 1),
     }
 }
 

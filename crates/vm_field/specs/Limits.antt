@@ -24,11 +24,11 @@ least_depth = 16
 
 -- the cells of the stack at the start
 abbrev pub most_inputs : ℕ
-most_inputs = 16
+most_inputs = 1024
 
 -- those at the end: a cycle adds one at most
 abbrev pub most_outputs : ℕ
-most_outputs = most_cycles + least_depth
+most_outputs = most_cycles + most_inputs
 
 -- the elements of the tape
 abbrev pub most_advice : ℕ

@@ -16,7 +16,8 @@ mod word;
 pub use element::Felt;
 pub use laws::{field_laws, machine_laws, text_laws, types_cross};
 pub use limits::{
-    LEAST_DEPTH, MOST_CYCLES, MOST_KERNEL, MOST_NAME_BYTES, MOST_NESTING, MOST_OPERATIONS,
+    LEAST_DEPTH, MOST_CYCLES, MOST_INPUTS, MOST_KERNEL, MOST_NAME_BYTES, MOST_NESTING,
+    MOST_OPERATIONS,
 };
 pub use lists::{Bytes, Felts, Words, felt_at, known_elements, known_words};
 pub use powers::roots7;

@@ -7,6 +7,9 @@ pub const MOST_CYCLES: u32 = 524_287;
 /// So many cells has a stack at least.
 pub const LEAST_DEPTH: usize = 16;
 
+/// The most cells of the stack at the start (docs/FORMATS.md).
+pub const MOST_INPUTS: usize = 1_024;
+
 /// The most procedures of a kernel.
 pub const MOST_KERNEL: usize = 255;
 

@@ -2,7 +2,7 @@ ghost use Rattle.std.specs.Prelude.{◌≡◌, ◌≤◌, length};
 ghost use Rattle.vm_field.specs.Limits.{most_advice, most_inputs};
 ghost use Rattle.vm_field.specs.Field.{AreElements};
 
-use vm_field::Felts;
+use vm_field::{Felts, MOST_INPUTS};
 
 /// What a run is given: the stack at its start, top first, and the advice that its operations may
 /// take, in order.
@@ -18,7 +18,7 @@ pub struct Inputs {
 
 impl Inputs {
     /// At most so many elements stand on the stack at the start.
-    pub const MOST_STACK: usize = 16;
+    pub const MOST_STACK: usize = MOST_INPUTS;
 
     /// At most so many elements are on the tape.
     pub const MOST_ADVICE: usize = 1048576;

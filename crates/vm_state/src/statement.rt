@@ -6,7 +6,7 @@ ghost use Rattle.std.specs.List.{IsDistinct};
 ghost use Rattle.std.proofs.lemmas.Map.Keys.{IsDistinct-prop};
 ghost use lib.Pointwise.{pointwise};
 
-use vm_field::{Felts, LEAST_DEPTH, MOST_CYCLES, MOST_KERNEL, Word, Words};
+use vm_field::{Felts, LEAST_DEPTH, MOST_CYCLES, MOST_INPUTS, MOST_KERNEL, Word, Words};
 
 /// What a run proves: a tree of this digest, with this kernel, came from these inputs to these
 /// outputs. The kernel's digests differ; the lists of cells stand top first.
@@ -35,7 +35,7 @@ impl Statement {
     pub const LEAST_OUTPUTS: usize = LEAST_DEPTH;
 
     /// So many cells has a stack at most when a run has ended.
-    pub const MOST_OUTPUTS: usize = MOST_CYCLES as usize + LEAST_DEPTH;
+    pub const MOST_OUTPUTS: usize = MOST_CYCLES as usize + MOST_INPUTS;
 
     /// The statement of these parts.
     pub fn new(digest: Word, kernel: Words, inputs: Felts, outputs: Felts) -> Statement
