@@ -1,12 +1,13 @@
 //! Entries 11 to 59: the first row shows the start of a run from the inputs, the last one the end with the outputs.
 ghost use Rattle.std.specs.Prelude.{◌≡◌, ◌<◌, List, slice_index, length};
-ghost use Rattle.air_kit.specs.BoundaryValues.{entry_11, entry_12, entry_13, entry_14, entry_15, entry_16, entry_20, entry_21, entry_22, entry_23, entry_39, entry_40, entry_41, entry_42, entry_43, entry_44, depth_at_start, key_at_start, start_values, inputs_values, end_values, outputs_values, boundary_values};
+ghost use Rattle.air_kit.specs.BoundaryValues.{entry_11, entry_12, entry_13, entry_14, entry_15, entry_16, entry_20, entry_21, entry_22, entry_23, entry_39, entry_40, entry_41, entry_42, entry_43, entry_44, start_values, inputs_values, end_values, outputs_values, boundary_values};
+ghost use Rattle.air_kit.specs.DeepCells.{depth_at_start, key_at_start};
 ghost use Rattle.air_kit.specs.Places.{first_fault_of};
 ghost use Rattle.air_kit.specs.Rows.{claim_at, spot_at};
 ghost use Rattle.air_blocks.specs.Entries.{of_row};
 
-use air_kit::{OpSet, Place, Seen, TableName, first_nonzero, or_next};
-use vm_field::{Felt, Felts};
+use air_kit::{OpSet, Place, Seen, TableName, deep_inputs, first_nonzero, input_key, or_next};
+use vm_field::{Felt, Felts, LEAST_DEPTH};
 use vm_ops::Op;
 use vm_table::MainView;
 
@@ -94,17 +95,23 @@ fn entry_22<V: MainView>(place: &Place<'_, V>, x: &Seen<'_, V>) -> Felt
 }
 
 // How deep the stack is at the start.
-fn depth_at_start<V>(_place: &Place<'_, V>) -> Felt
-    ensures { result ≡ depth_at_start (claim_at _place.now) }
+fn depth_at_start<V>(place: &Place<'_, V>) -> Felt
+    ensures { result ≡ depth_at_start (claim_at place.now) }
 {
-    Felt::from_u32(16)
+    let _known = place.public.statement.inputs.len();
+    Felt::from_u32((LEAST_DEPTH + deep_inputs(place.public).len()) as u32)
 }
 
-// The key of the newest cell below the sixteenth at the start: there is none.
-fn key_at_start<V>(_place: &Place<'_, V>) -> Felt
-    ensures { result ≡ key_at_start (claim_at _place.now) }
+// The key of the newest cell below the sixteenth at the start, 0 where there is none.
+#[tactic(auto, unfolding(air_kit::specs::DeepCells::input_keys))]
+fn key_at_start<V>(place: &Place<'_, V>) -> Felt
+    ensures { result ≡ key_at_start (claim_at place.now) }
 {
-    Felt::ZERO
+    if deep_inputs(place.public).is_empty() {
+        Felt::ZERO
+    } else {
+        input_key(0)
+    }
 }
 
 // 23 to 38: cell j is input j.

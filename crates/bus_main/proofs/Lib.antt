@@ -1,3 +1,4 @@
+pub mod InputLemmas
 pub mod KernelLemmas
 pub mod LookupLemmas
 pub mod StepLemmas

@@ -1,5 +1,5 @@
 -- What a row gives and asks on all buses, from what it gives and asks on each.
-use Rattle.std.proofs.Common.{◌≡◌, ℕ, ◌^◌, ◌≤◌, ◌==◌, Bool, true, false, cond, List, [], ◌∷◌, ◌++◌, Option, Some, None, Result, Ok, Err, OnOk, refl, arith, lit≤}
+use Rattle.std.proofs.Common.{◌≡◌, ℕ, ◌+◌, ◌^◌, ◌≤◌, ◌==◌, Bool, true, false, cond, List, [], ◌∷◌, ◌++◌, Option, Some, None, Result, Ok, Err, OnOk, refl, arith, lit≤}
 use Rattle.buses.specs.Counts.{Counted, once, with_next}
 use Rattle.buses.specs.declared.bus.Bus.{Bus}
 use Rattle.buses.specs.declared.bus.Bus.TheVariants as bus
@@ -12,6 +12,7 @@ use Rattle.bus_kit.specs.declared.tallies.Tallies.{Tallies}
 use Rattle.bus_kit.specs.declared.tally.Tally.{Tally}
 use Rattle.bus_kit.specs.declared.values.ValueTally.{ValueTally}
 use Rattle.bus_kit.proofs.AddingLemmas.{counted_within, none_counted}
+use Rattle.air_kit.specs.DeepCells.{tuples_at_start}
 use Rattle.air_kit.specs.Flags.{is_op, op_of}
 use Rattle.air_kit.specs.Places.{Claim}
 use Rattle.air_kit.specs.MainTuples.{accesses_of, bitwise_asked, blocks_asked, blocks_given, children_asked, children_given, groups_asked, groups_given, hasher_asked, kernel_asked, loops_asked, loops_given, main_asked, main_given, memory_asked, overflow_asked, overflow_given, range_asked}
@@ -178,10 +179,21 @@ control_done x y op is t fails blocks children loops groups overflow hasher rang
     control_bus x y op is t fails blocks children loops groups overflow hasher range kernel p0 p1 p2 p3 p4 p5 p6 (p7 y)
 control_done x y op is t fails blocks children loops groups overflow hasher range kernel (Err e) p0 p1 p2 p3 p4 p5 p6 p7 = tt
 
--- What a row gives and asks in its place: the statement's digest first, then what it gives with the row behind it.
-module _ (k : Claim) (x : List ℕ) (next : Option (List ℕ)) (i : ℕ) (t : Tallies) (first : Tally 6) (now : Tallies)
-    (outermost : IsCounted 1 (tallied t.children) (tallied first) [] (cond (i == 0) (once (0 ∷ k.digest ++ 0 ∷ []) ∷ []) []))
-    (behind : AreCounted (2 ^ 65) (record t { children = first }) now (λ b. with_next (main_asked b) i x next)
+-- What the statement gives first, and behind it what the row gives and asks, on one bus.
+behind_first : (n : ℕ) (test : Bool) (a b c : Tallied) (first asked given : List Counted) → n + 2 ^ 65 ≤ 2 ^ 66
+    → IsCounted n a b [] (cond test first []) → IsCounted (2 ^ 65) b c asked given → IsCounted (2 ^ 66) a c asked (cond test (first ++ given) given)
+behind_first n true a b c first asked given few p q = given_first n (2 ^ 65) (2 ^ 66) a b c first asked given p q few
+behind_first n false a b c first asked given few p q = given_first n (2 ^ 65) (2 ^ 66) a b c [] asked given p q few
+
+-- what the statement gives on the two buses where it gives
+pub record IsFirst (k : Claim) (i : ℕ) (t : Tallies) (children : Tally 6) (overflow : Tally 3) : Type 0 where
+  pub digest : IsCounted 1 (tallied t.children) (tallied children) [] (cond (i == 0) (once (0 ∷ k.digest ++ 0 ∷ []) ∷ []) [])
+  pub inputs : IsCounted (2 ^ 20) (tallied t.overflow) (tallied overflow) [] (cond (i == 0) (tuples_at_start k) [])
+
+-- What a row gives and asks in its place: the statement's digest and its deep inputs first, then what it gives with the row behind it.
+module _ (k : Claim) (x : List ℕ) (next : Option (List ℕ)) (i : ℕ) (t : Tallies) (children : Tally 6) (overflow : Tally 3) (now : Tallies)
+    (first : IsFirst k i t children overflow)
+    (behind : AreCounted (2 ^ 65) (record t { children = children; overflow = overflow }) now (λ b. with_next (main_asked b) i x next)
     (λ b. with_next (main_given b) i x next)) where
   -- a bus on which the statement gives nothing
   elsewhere : (b : Bus) (before after : Tallied) (given : List Counted)
@@ -193,61 +205,64 @@ module _ (k : Claim) (x : List ℕ) (next : Option (List ℕ)) (i : ℕ) (t : Ta
       elim (i == 0) as (λ test. IsCounted (2 ^ 66) before after (with_next (main_asked b) i x next) (cond test ([] ++ given) given))
       [ true ↦ more | false ↦ more ]
 
-  here : (test : Bool) → IsCounted 1 (tallied t.children) (tallied first) [] (cond test (once (0 ∷ k.digest ++ 0 ∷ []) ∷ []) [])
-      → IsCounted (2 ^ 66) (tallied t.children) (tallied now.children) (with_next (main_asked bus.Children) i x next)
-      (cond test ((once (0 ∷ k.digest ++ 0 ∷ []) ∷ []) ++ with_next (main_given bus.Children) i x next) (with_next (main_given bus.Children) i x next))
-  here true p =
-      given_first 1 (2 ^ 65) (2 ^ 66) (tallied t.children) (tallied first) (tallied now.children) (once (0 ∷ k.digest ++ 0 ∷ []) ∷ []) (with_next (main_asked bus.Children) i x next)
-      (with_next (main_given bus.Children) i x next) p (behind bus.Children) (lit≤ tt)
-  here false p =
-      given_first 1 (2 ^ 65) (2 ^ 66) (tallied t.children) (tallied first) (tallied now.children) [] (with_next (main_asked bus.Children) i x next)
-      (with_next (main_given bus.Children) i x next) p (behind bus.Children) (lit≤ tt)
-
   pub placed : AreCounted (2 ^ 66) t now (λ b. main_asked_at b i x next) (λ b. main_given_at k b i x next)
   placed bus.Blocks = elsewhere bus.Blocks (tallied t.blocks) (tallied now.blocks) _ (behind bus.Blocks)
-  placed bus.Children = here (i == 0) outermost
+  placed bus.Children =
+      behind_first 1 (i == 0) (tallied t.children) (tallied children) (tallied now.children) (once (0 ∷ k.digest ++ 0 ∷ []) ∷ [])
+      (with_next (main_asked bus.Children) i x next) (with_next (main_given bus.Children) i x next) (lit≤ tt) first.digest (behind bus.Children)
   placed bus.Loops = elsewhere bus.Loops (tallied t.loops) (tallied now.loops) _ (behind bus.Loops)
   placed bus.Groups = elsewhere bus.Groups (tallied t.groups) (tallied now.groups) _ (behind bus.Groups)
-  placed bus.Overflow = elsewhere bus.Overflow (tallied t.overflow) (tallied now.overflow) _ (behind bus.Overflow)
+  placed bus.Overflow =
+      behind_first (2 ^ 20) (i == 0) (tallied t.overflow) (tallied overflow) (tallied now.overflow) (tuples_at_start k)
+      (with_next (main_asked bus.Overflow) i x next) (with_next (main_given bus.Overflow) i x next) (lit≤ tt) first.inputs (behind bus.Overflow)
   placed bus.Hasher = elsewhere bus.Hasher (steps_tallied t.hasher) (steps_tallied now.hasher) _ (behind bus.Hasher)
   placed bus.Bitwise = elsewhere bus.Bitwise (tallied t.bitwise) (tallied now.bitwise) _ (behind bus.Bitwise)
   placed bus.Memory = elsewhere bus.Memory (tallied t.memory) (tallied now.memory) _ (behind bus.Memory)
   placed bus.Range = elsewhere bus.Range (values_tallied t.range) (values_tallied now.range) _ (behind bus.Range)
   placed bus.Kernel = elsewhere bus.Kernel (tallied t.kernel) (tallied now.kernel) _ (behind bus.Kernel)
 
-pub placed_done : {E : Type 0} (k : Claim) (x y : List ℕ) (i : ℕ) (t : Tallies) (first : Tally 6) (now : Tallies) (r : Result (Unit {0}) E)
-    → IsCounted 1 (tallied t.children) (tallied first) [] (cond (i == 0) (once (0 ∷ k.digest ++ 0 ∷ []) ∷ []) [])
-    → OnOk r (AreCounted (2 ^ 65) (record t { children = first }) now (λ b. main_asked b x y) (λ b. main_given b x y))
+pub placed_done : {E : Type 0} (k : Claim) (x y : List ℕ) (i : ℕ) (t : Tallies) (children : Tally 6) (overflow : Tally 3) (now : Tallies)
+    (r : Result (Unit {0}) E)
+    → IsCounted 1 (tallied t.children) (tallied children) [] (cond (i == 0) (once (0 ∷ k.digest ++ 0 ∷ []) ∷ []) [])
+    → IsCounted (2 ^ 20) (tallied t.overflow) (tallied overflow) [] (cond (i == 0) (tuples_at_start k) [])
+    → OnOk r (AreCounted (2 ^ 65) (record t { children = children; overflow = overflow }) now (λ b. main_asked b x y) (λ b. main_given b x y))
     → OnOk r (AreCounted (2 ^ 66) t now (λ b. main_asked_at b i x (Some y)) (λ b. main_given_at k b i x (Some y)))
-placed_done k x y i t first now (Ok v) p q = placed k x (Some y) i t first now p q
-placed_done k x y i t first now (Err e) p q = tt
+placed_done k x y i t children overflow now (Ok v) p o q =
+    placed k x (Some y) i t children overflow now (record { digest = p; inputs = o }) q
+placed_done k x y i t children overflow now (Err e) p o q = tt
 
-pub placed_last : (k : Claim) (x : List ℕ) (i : ℕ) (t : Tallies) (first : Tally 6)
-    → IsCounted 1 (tallied t.children) (tallied first) [] (cond (i == 0) (once (0 ∷ k.digest ++ 0 ∷ []) ∷ []) [])
-    → AreCounted (2 ^ 66) t (record t { children = first }) (λ b. main_asked_at b i x None) (λ b. main_given_at k b i x None)
-placed_last k x i t first p = placed k x None i t first (record t { children = first }) p nothing
+pub placed_last : (k : Claim) (x : List ℕ) (i : ℕ) (t : Tallies) (children : Tally 6) (overflow : Tally 3)
+    → IsCounted 1 (tallied t.children) (tallied children) [] (cond (i == 0) (once (0 ∷ k.digest ++ 0 ∷ []) ∷ []) [])
+    → IsCounted (2 ^ 20) (tallied t.overflow) (tallied overflow) [] (cond (i == 0) (tuples_at_start k) [])
+    → AreCounted (2 ^ 66) t (record t { children = children; overflow = overflow }) (λ b. main_asked_at b i x None) (λ b. main_given_at k b i x None)
+placed_last k x i t children overflow p o =
+    placed k x None i t children overflow (record t { children = children; overflow = overflow }) (record { digest = p; inputs = o }) nothing
   where
     nothing : (b : Bus)
-        → IsCounted (2 ^ 65) (both_by (record t { children = first }) b) (both_by (record t { children = first }) b) [] []
-    nothing b = none_counted (2 ^ 65) (both_by (record t { children = first }) b)
+        → IsCounted (2 ^ 65) (both_by (record t { children = children; overflow = overflow }) b)
+        (both_by (record t { children = children; overflow = overflow }) b) [] []
+    nothing b = none_counted (2 ^ 65) (both_by (record t { children = children; overflow = overflow }) b)
 
--- counts that are below 2^127 have space, also behind one more tuple
+-- counts that are below 2^127 have space, also behind some more tuples
 has_space : (t : Tallied) → CanCount t → HasSpace t
 has_space t room u = let both = room u in (omega arith, omega arith)
 
-has_space_behind : (t now : Tallied) (xs : List Counted) → CanCount t → IsCounted 1 t now [] xs → HasSpace now
-has_space_behind t now xs room p u =
+has_space_behind : (n : ℕ) (t now : Tallied) (xs : List Counted) → n ≤ 2 ^ 20 → CanCount t → IsCounted n t now [] xs → HasSpace now
+has_space_behind n t now xs few room p u =
     let both = room u in let asked = p.asked_grows u in let given = p.given_grows u in (omega arith, omega arith)
 
-pub have_space : (t : Tallies) (first : Tally 6) (xs : List Counted) → HaveRoom t → IsCounted 1 (tallied t.children) (tallied first) [] xs
-    → HaveSpace (record t { children = first })
-have_space t first xs room p bus.Blocks = has_space (tallied t.blocks) (room bus.Blocks)
-have_space t first xs room p bus.Children = has_space_behind (tallied t.children) (tallied first) xs (room bus.Children) p
-have_space t first xs room p bus.Loops = has_space (tallied t.loops) (room bus.Loops)
-have_space t first xs room p bus.Groups = has_space (tallied t.groups) (room bus.Groups)
-have_space t first xs room p bus.Overflow = has_space (tallied t.overflow) (room bus.Overflow)
-have_space t first xs room p bus.Hasher = has_space (steps_tallied t.hasher) (room bus.Hasher)
-have_space t first xs room p bus.Bitwise = has_space (tallied t.bitwise) (room bus.Bitwise)
-have_space t first xs room p bus.Memory = has_space (tallied t.memory) (room bus.Memory)
-have_space t first xs room p bus.Range = has_space (values_tallied t.range) (room bus.Range)
-have_space t first xs room p bus.Kernel = has_space (tallied t.kernel) (room bus.Kernel)
+pub have_space : (t : Tallies) (children : Tally 6) (overflow : Tally 3) (xs ys : List Counted) → HaveRoom t
+    → IsCounted 1 (tallied t.children) (tallied children) [] xs → IsCounted (2 ^ 20) (tallied t.overflow) (tallied overflow) [] ys
+    → HaveSpace (record t { children = children; overflow = overflow })
+have_space t children overflow xs ys room p o bus.Blocks = has_space (tallied t.blocks) (room bus.Blocks)
+have_space t children overflow xs ys room p o bus.Children =
+    has_space_behind 1 (tallied t.children) (tallied children) xs (lit≤ tt) (room bus.Children) p
+have_space t children overflow xs ys room p o bus.Loops = has_space (tallied t.loops) (room bus.Loops)
+have_space t children overflow xs ys room p o bus.Groups = has_space (tallied t.groups) (room bus.Groups)
+have_space t children overflow xs ys room p o bus.Overflow =
+    has_space_behind (2 ^ 20) (tallied t.overflow) (tallied overflow) ys (lit≤ tt) (room bus.Overflow) o
+have_space t children overflow xs ys room p o bus.Hasher = has_space (steps_tallied t.hasher) (room bus.Hasher)
+have_space t children overflow xs ys room p o bus.Bitwise = has_space (tallied t.bitwise) (room bus.Bitwise)
+have_space t children overflow xs ys room p o bus.Memory = has_space (tallied t.memory) (room bus.Memory)
+have_space t children overflow xs ys room p o bus.Range = has_space (values_tallied t.range) (room bus.Range)
+have_space t children overflow xs ys room p o bus.Kernel = has_space (tallied t.kernel) (room bus.Kernel)

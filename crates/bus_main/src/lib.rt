@@ -4,6 +4,7 @@
 
 mod bitwise;
 mod hasher;
+mod inputs;
 mod kernel;
 mod memory;
 mod place;

@@ -1,19 +1,21 @@
-ghost use Rattle.std.specs.Prelude.{◌≡◌, ◌^◌, ◌==◌, ◌++◌, if◌then◌else◌, [], ◌∷◌, IfSome, OnOk, option_map};
+ghost use Rattle.std.specs.Prelude.{◌≡◌, ◌^◌, ◌==◌, ◌++◌, if◌then◌else◌, [], ◌∷◌, drop, length, IfSome, OnOk, option_map};
 ghost use Rattle.buses.specs.Counts.{once};
 ghost use Rattle.bus_kit.specs.Widths.{tallied};
 ghost use Rattle.bus_kit.specs.Adding.{CanCount, IsCounted};
 ghost use Rattle.bus_kit.specs.ByBus.{AreCounted, HaveRoom};
+ghost use Rattle.air_kit.specs.DeepCells.{cell_tuples, keys_at_start};
 ghost use Rattle.air_kit.specs.Flags.{HasBits};
 ghost use Rattle.air_kit.specs.Rows.{claim_at};
 ghost use Rattle.bus_main.specs.RowTuples.{IsReadable, main_asked_at, main_given_at};
 
+use crate::inputs::give_inputs;
 use crate::step::step;
-use air_kit::Place;
+use air_kit::{Place, Public, deep_inputs};
 use bus_kit::{Tallies, Tally, give};
 use vm_field::{Felt, Memory, Word};
 use vm_table::MainView;
 
-/// What a row of the main table gives and asks on each bus, with the statement's digest at the first row;
+/// What a row of the main table gives and asks on each bus, with the statement's digest and its deep inputs at the first row;
 /// nothing else in the last row. At `Memory` a part may be counted.
 pub fn tuples<V: MainView>(place: &Place<'_, V>, tallies: &mut Tallies) -> Result<(), Memory>
     requires readable { IsReadable (V.cells place.now.cur) }
@@ -28,6 +30,7 @@ pub fn tuples<V: MainView>(place: &Place<'_, V>, tallies: &mut Tallies) -> Resul
         &place.public.statement.digest,
         &mut tallies.children,
     )?;
+    deepest(place.row, place.public, &mut tallies.overflow)?;
     match &place.next {
         Some(next) => step(&place.cur, next, tallies),
         None => Ok(()),
@@ -42,6 +45,20 @@ fn outermost(row: u32, digest: &Word, tally: &mut Tally<6>) -> Result<(), Memory
 {
     if row == 0 {
         give(tally, &child_of_none(digest))
+    } else {
+        Ok(())
+    }
+}
+
+// The first row gives the inputs below the sixteenth.
+fn deepest(row: u32, public: &Public, tally: &mut Tally<3>) -> Result<(), Memory>
+    requires { CanCount (tallied tally.old) }
+    ensures { OnOk result (IsCounted (2 ^ 20) (tallied tally.old) (tallied tally.new) []
+        (if row == 0 then cell_tuples (keys_at_start (length (drop 16 public.now.statement.inputs))) (drop 16 public.now.statement.inputs) else [])) }
+{
+    if row == 0 {
+        let _known = public.statement.inputs.len();
+        give_inputs(deep_inputs(public), tally)
     } else {
         Ok(())
     }

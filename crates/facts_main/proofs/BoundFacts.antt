@@ -1,5 +1,7 @@
 -- What the entries 9 to 59 say where they are 0, one by one.
-use Rattle.std.proofs.Common.{◌≡◌, ℕ, ◌+◌, ◌^◌, ◌<◌, ◌≤◌, true, List, length, slice_index, ap, arith, lit<}
+use Rattle.std.proofs.Common.{◌≡◌, ℕ, zero, suc, ◌+◌, ◌-◌, ◌^◌, ◌<◌, ◌≤◌, true, List, length, slice_index, sym, ap, subst, arith, lit<}
+use Rattle.std.proofs.lemmas.List.{length-drop}
+use Rattle.vm_field.specs.Limits.{most_inputs}
 use Rattle.vm_field.specs.Field.{prime, felt_add, felt_sub}
 use Rattle.vm_ops.specs.Codes.{is_start_op}
 use Rattle.vm_ops.specs.declared.op.Op.{Op}
@@ -9,6 +11,8 @@ use Rattle.air_kit.specs.Flags.{is_op}
 use Rattle.air_kit.specs.Places.{Claim}
 use Rattle.air_kit.specs.OpcodeValues.{entry_9, entry_10}
 use Rattle.air_kit.specs.BoundaryValues.{entry_11, entry_12, entry_13, entry_14, entry_15, entry_16, entry_20, entry_21, entry_22, entry_23, entry_39, entry_40, entry_41, entry_42, entry_43, entry_44}
+use Rattle.air_kit.specs.DeepCells.{deep_at_start, depth_at_start, key_at_start, key_of, keys_at_start}
+use Rattle.air_kit.proofs.InputKeys.{input_key_low, key_of_none, key_of_some}
 use Rattle.facts_main.specs.Bounds.{IsLowClaim}
 use Rattle.facts_main.proofs.Says.{Says, says_of, says_as, rest_low, zero_says, sub_says, sub_twice_says, passes_says}
 use Rattle.facts_main.proofs.Hot.{hot, set_is}
@@ -50,13 +54,24 @@ pub says_20 : (op : Op) (x : List ℕ) → Low x → Says (entry_20 (hot op) x) 
 unfolding entry_20
 says_20 op x low = zero_says (lv x) (low 50)
 
-pub says_21 : (k : Claim) (op : Op) (x : List ℕ) → Low x → Says (entry_21 k (hot op) x) (depth x ≡ 16)
-unfolding entry_21
-says_21 k op x low = sub_says (depth x) 16 (low 46) (lit< tt)
+-- the depth at the start is an element
+few_cells : (n d : ℕ) → n ≤ most_inputs → d ≡ 16 + (n - 16) → d < prime
+few_cells n d few e = omega (arith, few, e)
 
-pub says_22 : (k : Claim) (op : Op) (x : List ℕ) → Low x → Says (entry_22 k (hot op) x) (key x ≡ 0)
+pub says_21 : (k : Claim) (op : Op) (x : List ℕ) → IsLowClaim k → Low x → Says (entry_21 k (hot op) x) (depth x ≡ depth_at_start k)
+unfolding entry_21
+says_21 k op x few low =
+    sub_says (depth x) (depth_at_start k) (low 46)
+    (few_cells (length k.inputs) (depth_at_start k) few.some_inputs (ap (λ n. 16 + n) (length-drop 16 k.inputs)))
+
+-- and so is a key
+key_low : (n : ℕ) → key_of (keys_at_start n) < prime
+key_low zero = subst (λ m. m < prime) (sym key_of_none) (lit< tt)
+key_low (suc n) = subst (λ m. m < prime) (sym (key_of_some (suc n) (omega arith))) (input_key_low 0)
+
+pub says_22 : (k : Claim) (op : Op) (x : List ℕ) → Low x → Says (entry_22 k (hot op) x) (key x ≡ key_at_start k)
 unfolding entry_22
-says_22 k op x low = sub_says (key x) 0 (low 47) (lit< tt)
+says_22 k op x low = sub_says (key x) (key_at_start k) (low 47) (key_low (length (deep_at_start k)))
 
 pub says_23 : (k : Claim) (op : Op) (x : List ℕ) (j : ℕ) → IsLowClaim k → Low x → Says (entry_23 k j (hot op) x) (s x j ≡ slice_index k.inputs j)
 unfolding entry_23

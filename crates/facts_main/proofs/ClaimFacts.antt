@@ -53,6 +53,7 @@ few_digests n h = omega (arith, h)
 pub claim_low : (public : Public) (trace : Trace) → HasCounts trace → IsTable 1 trace.left → IsLowClaim (claim_of public trace)
 claim_low public trace counts left = record {
   inputs = λ j. elements-index public.statement.inputs j public.statement.inputs_below;
+  some_inputs = public.statement.inputs_few;
   outputs = λ j. elements-index public.statement.outputs j public.statement.outputs_below;
   lengths = lengths_low trace counts;
   kernel = few_digests (length public.statement.kernel) public.statement.few;

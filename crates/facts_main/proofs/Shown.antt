@@ -231,9 +231,10 @@ pair_shown op p y r row opcode blocks spans e = record {
 
 -- ---- the first row and the last one
 
-starts_run : (k : Claim) (op : Op) (p : Spot) → HasOps op p → AllZero (opcode_values p) → AllZero (start_values k p) → p.row ≡ 0 → StartsRun op p.cur
+starts_run : (k : Claim) (op : Op) (p : Spot) → IsLowClaim k → HasOps op p → AllZero (opcode_values p) → AllZero (start_values k p) → p.row ≡ 0
+    → StartsRun k op p.cur
 unfolding opcode_values start_values family
-starts_run k op p r opcode zeros e = record {
+starts_run k op p few r opcode zeros e = record {
   starts = (first_at entry_11 r (says_11 op p.cur)).shown (zeros 0) e;
   clock = (first_at entry_9 r (says_9 op p.cur r.here.low)).shown (opcode 8) e;
   block = (first_at entry_12 r (says_12 op p.cur r.here.low)).shown (zeros 1) e;
@@ -242,7 +243,7 @@ starts_run k op p r opcode zeros e = record {
   syscall = (first_at entry_15 r (says_15 op p.cur r.here.low)).shown (zeros 4) e;
   digest = below_four (λ j. f p.cur j ≡ 0) (digest 0 (zeros 5)) (digest 1 (zeros 6)) (digest 2 (zeros 7)) (digest 3 (zeros 8));
   level = (first_at entry_20 r (says_20 op p.cur r.here.low)).shown (zeros 9) e;
-  depth_is = (first_at (entry_21 k) r (says_21 k op p.cur r.here.low)).shown (zeros 10) e;
+  depth_is = (first_at (entry_21 k) r (says_21 k op p.cur few r.here.low)).shown (zeros 10) e;
   key_is = (first_at (entry_22 k) r (says_22 k op p.cur r.here.low)).shown (zeros 11) e;
 }
   where
@@ -287,7 +288,7 @@ unfolding end_values
 first_shown k op p few r opcode zeros e =
     let b : Bounds k p = bounds_of k p zeros in
     record {
-      start = starts_run k op p r opcode b.start e;
+      start = starts_run k op p few r opcode b.start e;
       inputs = inputs_shown k op p few r b.inputs e;
       kernel = (first_at (entry_39 k) r (says_39 k op p.cur few)).shown (b.finish 0) e;
       left = (first_at (entry_40 k) r (says_40 k op p.cur few)).shown (b.finish 1) e;

@@ -49,9 +49,9 @@ opcode_zeros k op p r clock first =
       ),
     ))
 
-start_zeros : (k : Claim) (op : Op) (p : Spot) → HasOps op p → (p.row ≡ 0 → IsFirstRow k op p.cur) → AllZero (start_values k p)
+start_zeros : (k : Claim) (op : Op) (p : Spot) → IsLowClaim k → HasOps op p → (p.row ≡ 0 → IsFirstRow k op p.cur) → AllZero (start_values k p)
 unfolding start_values family
-start_zeros k op p r first =
+start_zeros k op p few r first =
     each_zero (start_values k p) (
       (first_at entry_11 r (says_11 op p.cur)).zero_where (λ e. (first e).start.starts),
       (
@@ -73,7 +73,7 @@ start_zeros k op p r first =
                       (
                         (first_at entry_20 r (says_20 op p.cur r.here.low)).zero_where (λ e. (first e).start.level),
                         (
-                          (first_at (entry_21 k) r (says_21 k op p.cur r.here.low)).zero_where (λ e. (first e).start.depth_is),
+                          (first_at (entry_21 k) r (says_21 k op p.cur few r.here.low)).zero_where (λ e. (first e).start.depth_is),
                           (
                             (first_at (entry_22 k) r (says_22 k op p.cur r.here.low)).zero_where (λ e. (first e).start.key_is),
                             tt,
@@ -132,7 +132,7 @@ boundary_zeros : (k : Claim) (op : Op) (p : Spot) → IsLowClaim k → HasOps op
     → AllZero (boundary_values k p)
 unfolding boundary_values
 boundary_zeros k op p few r first last =
-    zero_both (start_values k p) (inputs_values k p ++ (end_values k p ++ outputs_values k p)) (start_zeros k op p r first)
+    zero_both (start_values k p) (inputs_values k p ++ (end_values k p ++ outputs_values k p)) (start_zeros k op p few r first)
     (zero_both (inputs_values k p) (end_values k p ++ outputs_values k p) (inputs_zeros k op p few r first)
     (zero_both (end_values k p) (outputs_values k p) (end_zeros k op p few r first last) (outputs_zeros k op p few r last)))
 
