@@ -1,5 +1,5 @@
--- The cells that open calls have set aside: those of their starts.
-use Rattle.std.proofs.Common.{◌≡◌, inl, inr, ℕ, suc, ◌<◌, Bool, true, false, ◌&&◌, if◌then◌else◌, eqb, List, [], ◌∷◌, length, drop, refl, sym, ap, ap₂, ◌∙◌}
+-- The calls that are open, and the cells that they have set aside: those of their starts.
+use Rattle.std.proofs.Common.{◌≡◌, inl, inr, ℕ, suc, ◌<◌, Bool, true, false, ◌&&◌, eqb, List, [], ◌∷◌, length, map, drop, refl, sym, ap, ap₂, ◌∙◌}
 use Rattle.std.proofs.lemmas.Bool.{cases_Bool, eqb-true, cond-true, cond-false}
 use Rattle.vm_field.specs.Signs.{◌⊞◌}
 use Rattle.vm_ops.specs.Codes.{code_of, is_start_op}
@@ -13,26 +13,29 @@ use Rattle.vm_table.specs.Layout.{row_at}
 use Rattle.facts_main.specs.MainRows.{op_in}
 use Rattle.sound_buses.specs.Blocks.{Closes}
 use Rattle.sound_blocks.specs.Frames.{FrameFacts, IsBlock, open_at}
+use Rattle.sound_blocks.specs.Keys.{calls_among, open_calls}
 use Rattle.sound_blocks.specs.Lists.{below_at}
 use Rattle.sound_blocks.proofs.RowKinds.{call_flags}
 
+pub calls-call : (rows : List (List ℕ)) (j : ℕ) (js : List ℕ) → is_call_op (op_in rows j) ≡ true
+    → calls_among rows (j ∷ js) ≡ j ∷ calls_among rows js
+unfolding calls_among
+calls-call rows j js is = cond-true (is_call_op (op_in rows j)) _ _ is
+
+pub calls-other : (rows : List (List ℕ)) (j : ℕ) (js : List ℕ) → is_call_op (op_in rows j) ≡ false → calls_among rows (j ∷ js) ≡ calls_among rows js
+unfolding calls_among
+calls-other rows j js other = cond-false (is_call_op (op_in rows j)) _ _ other
+
 -- the cells of the starts of the calls among these blocks
-unfoldable pub asides : Claim → List (List ℕ) → List ℕ → List (List ℕ)
-asides k rows [] = []
-asides k rows (j ∷ js) = if is_call_op (op_in rows j) then below_at k rows j ∷ asides k rows js else asides k rows js
+abbrev pub asides : Claim → List (List ℕ) → List ℕ → List (List ℕ)
+asides k rows js = map (below_at k rows) (calls_among rows js)
 
 pub asides-call : (k : Claim) (rows : List (List ℕ)) (j : ℕ) (js : List ℕ) → is_call_op (op_in rows j) ≡ true
     → asides k rows (j ∷ js) ≡ below_at k rows j ∷ asides k rows js
-unfolding asides
-asides-call k rows j js is = cond-true (is_call_op (op_in rows j)) _ _ is
-
-pub asides-other : (k : Claim) (rows : List (List ℕ)) (j : ℕ) (js : List ℕ) → is_call_op (op_in rows j) ≡ false
-    → asides k rows (j ∷ js) ≡ asides k rows js
-unfolding asides
-asides-other k rows j js other = cond-false (is_call_op (op_in rows j)) _ _ other
+asides-call k rows j js is = ap (map (below_at k rows)) (calls-call rows j js is)
 
 pub asides-none : (k : Claim) (rows : List (List ℕ)) → asides k rows [] ≡ []
-unfolding asides
+unfolding calls_among
 asides-none k rows = refl
 
 -- ---- the blocks that are open behind a row
@@ -46,7 +49,7 @@ pub open_end : (rows : List (List ℕ)) (i : ℕ) → is_start_op (op_in rows i)
 unfolding open_at
 open_end rows i other is = cond-false (is_start_op (op_in rows i)) _ _ other ∙ cond-true (is_op (op_in rows i) ops.End) _ _ is
 
-open_same : (rows : List (List ℕ)) (i : ℕ) → is_start_op (op_in rows i) ≡ false → is_op (op_in rows i) ops.End ≡ false
+pub open_same : (rows : List (List ℕ)) (i : ℕ) → is_start_op (op_in rows i) ≡ false → is_op (op_in rows i) ops.End ≡ false
     → open_at rows (suc i) ≡ open_at rows i
 unfolding open_at
 open_same rows i other apart = cond-false (is_start_op (op_in rows i)) _ _ other ∙ cond-false (is_op (op_in rows i) ops.End) _ _ apart
@@ -63,17 +66,21 @@ pub block_of : (rows : List (List ℕ)) → FrameFacts rows → (e : ℕ) → su
 block_of rows frames e within is =
     frames.ends e (record { within = within; is = code_of-different (op_in rows e) ops.End (eqb-true (code_of (op_in rows e)) (code_of ops.End) is) })
 
--- a row that does not call and does not return leaves them
-pub asides_same : (k : Claim) (rows : List (List ℕ)) → FrameFacts rows → (i : ℕ) → suc i < length rows → is_call_op (op_in rows i) ≡ false
-    → row_returns (row_at rows i) ≡ false → asides k rows (open_at rows (suc i)) ≡ asides k rows (open_at rows i)
-asides_same k rows frames i within nc nt = elim (cases_Bool (is_start_op (op_in rows i))) [
-  | inl is ↦ ap (asides k rows) (open_start rows i is) ∙ asides-other k rows i (open_at rows i) nc
+-- a row that does not call and does not return leaves the open calls
+pub calls_same : (rows : List (List ℕ)) → FrameFacts rows → (i : ℕ) → suc i < length rows → is_call_op (op_in rows i) ≡ false
+    → row_returns (row_at rows i) ≡ false → open_calls rows (suc i) ≡ open_calls rows i
+calls_same rows frames i within nc nt = elim (cases_Bool (is_start_op (op_in rows i))) [
+  | inl is ↦ ap (calls_among rows) (open_start rows i is) ∙ calls-other rows i (open_at rows i) nc
   | inr other ↦ elim (cases_Bool (is_op (op_in rows i) ops.End)) [
     | inl is ↦
         let b = block_of rows frames i within is in
         let top : open_at rows i ≡ b.0 ∷ open_at rows b.0 = b.1.newest in
-        ap (asides k rows) (open_end rows i other is ∙ ap (λ js. drop 1 js) top)
-        ∙ sym (ap (asides k rows) top ∙ asides-other k rows b.0 (open_at rows b.0) (sym (returns_is rows b.0 i b.1.closes) ∙ nt))
-    | inr apart ↦ ap (asides k rows) (open_same rows i other apart)
+        ap (calls_among rows) (open_end rows i other is ∙ ap (λ js. drop 1 js) top)
+        ∙ sym (ap (calls_among rows) top ∙ calls-other rows b.0 (open_at rows b.0) (sym (returns_is rows b.0 i b.1.closes) ∙ nt))
+    | inr apart ↦ ap (calls_among rows) (open_same rows i other apart)
   ]
 ]
+
+pub asides_same : (k : Claim) (rows : List (List ℕ)) → FrameFacts rows → (i : ℕ) → suc i < length rows → is_call_op (op_in rows i) ≡ false
+    → row_returns (row_at rows i) ≡ false → asides k rows (open_at rows (suc i)) ≡ asides k rows (open_at rows i)
+asides_same k rows frames i within nc nt = ap (map (below_at k rows)) (calls_same rows frames i within nc nt)

@@ -1,9 +1,11 @@
 -- What holds of each row: its key's chain is what is below, its depth counts it, and its key is the clock of a row before.
-use Rattle.std.proofs.Common.{◌≡◌, ◌≢◌, ◌⊎◌, inl, inr, ℕ, zero, suc, ◌+◌, ◌<◌, ◌≤◌, ◌^◌, Bool, true, false, ◌||◌, not, List, [], ◌∷◌, length, drop, slice_index, refl, sym, ap, subst, ◌∙◌, arith}
+use Rattle.std.proofs.Common.{◌≡◌, ◌≢◌, ◌⊎◌, inl, inr, ℕ, zero, suc, ◌+◌, ◌-◌, ◌<◌, ◌≤◌, ◌^◌, Bool, true, false, ◌||◌, not, List, [], ◌∷◌, length, drop, slice_index, refl, sym, ap, subst, ◌∙◌, arith}
+use Rattle.std.proofs.lemmas.List.{drop_all}
+use Rattle.std.proofs.Math.Seq.{drop-cons}
 use Rattle.vm_field.specs.Signs.{◌⊞◌, ◌⊟◌}
-use Rattle.vm_field.specs.Field.{prime}
+use Rattle.vm_field.specs.Field.{prime, AreElements}
 use Rattle.vm_table.specs.MainColumns.{s, depth, key}
-use Rattle.air_kit.specs.BoundaryValues.{deep_at_start, depth_at_start, key_at_start}
+use Rattle.air_kit.specs.DeepCells.{deep_at_start, depth_at_start, input_key, input_keys, key_at_start, key_of}
 use Rattle.air_kit.specs.Flags.{is_right}
 use Rattle.air_kit.specs.MainTuples.{is_call_op, row_shifts_left}
 use Rattle.air_kit.specs.Places.{Claim}
@@ -13,11 +15,12 @@ use Rattle.facts_main.specs.MainRows.{ShowsRows, op_in}
 use Rattle.facts_main.specs.Stack.{MovesDepth}
 use Rattle.facts_main.proofs.RunFacts.{clock_is, shifts_left_is}
 use Rattle.facts_main.proofs.Says.{off}
-use Rattle.sound_buses.specs.Overflow.{OverflowFacts}
+use Rattle.sound_buses.specs.Overflow.{OverflowFacts, input, pushed}
 use Rattle.sound_blocks.specs.Frames.{FrameFacts, IsBlock}
 use Rattle.sound_blocks.specs.Lists.{below_at}
 use Rattle.sound_blocks.specs.Chains.{Chain, none, some, rank_of}
-use Rattle.sound_blocks.proofs.Chains.{Front, front_of, clock_falls, none_falls}
+use Rattle.sound_blocks.proofs.Chains.{KeysDiffer, Front, front_of}
+use Rattle.sound_blocks.proofs.Ranks.{clock_falls, inputs_fall, rank_inputs}
 use Rattle.sound_blocks.proofs.RowKinds.{Movement, right, flat, deeper, calls, returns, keeps, kind_of, behind_right, behind_flat, behind_deeper, behind_call, behind_same, returns_ends, start_apart}
 use Rattle.sound_blocks.proofs.Asides.{block_of, returns_is}
 use Rattle.sound_blocks.proofs.Returns.{overflow_in, next_is, return_back, aside_is}
@@ -27,7 +30,8 @@ pub record Known (k : Claim) (rows left_rows : List (List ℕ)) : Type 0 where
   pub shows : ShowsRows k rows
   pub few : length rows ≤ 2 ^ 19
   pub shallow : depth_at_start k ≤ 2 ^ 19
-  pub overflow : OverflowFacts rows left_rows k.outputs
+  pub inputs : AreElements (deep_at_start k)
+  pub overflow : OverflowFacts (deep_at_start k) rows left_rows k.outputs
   pub frames : FrameFacts rows
 
 -- a key that falls below that of each cell which a row from row i on pushes; the first row pushes none
@@ -84,13 +88,13 @@ fallen_early k rows under at i falls early r from more within =
     between : (l m n : ℕ) → l < m → m < n → l < n
     between l m n g h = omega (arith, g, h)
 
-before : (i l : ℕ) → suc i < l → i < l
+pub before : (i l : ℕ) → suc i < l → i < l
 before i l h = omega (arith, h)
 
 low_rows : (l : ℕ) → l ≤ 2 ^ 19 → l < prime
 low_rows l h = omega (arith, h)
 
-none_of : (t u v w : Bool) → t ≡ false → u ≡ false → v ≡ false → w ≡ false → not (t || u || v || w) ≡ true
+pub none_of : (t u v w : Bool) → t ≡ false → u ≡ false → v ≡ false → w ≡ false → not (t || u || v || w) ≡ true
 none_of t u v w a b c d = rw (a, b, c, d)
 
 -- few cells are below the sixteenth at the start
@@ -102,11 +106,15 @@ pub first_goes : {k : Claim} {rows left_rows : List (List ℕ)} → Known k rows
     → is_right (op_in rows 0) ≡ false
 first_goes {rows = rows} known h = start_apart (op_in rows 0) (known.shows.first h).start.starts
 
+-- so keys are those of one cell each
+pub differ_of : {k : Claim} {rows left_rows : List (List ℕ)} → Known k rows left_rows → 0 < length rows → KeysDiffer k rows
+differ_of known h = record { few = known.few; shallow = start_few known; goes = first_goes known h }
+
 some_rows : (i l : ℕ) → i < l → 0 < l
 some_rows i l h = omega (arith, h)
 
 -- so no row before the second one pushes a cell
-pushes_later : {k : Claim} {rows left_rows : List (List ℕ)} → Known k rows left_rows → (i : ℕ) → suc i < length rows
+pub pushes_later : {k : Claim} {rows left_rows : List (List ℕ)} → Known k rows left_rows → (i : ℕ) → suc i < length rows
     → is_right (op_in rows i) ≡ true → 0 < i
 pushes_later known zero h r = off (sym (first_goes known (some_rows 1 _ h)) ∙ r)
 pushes_later known (suc i) h r = omega arith
@@ -116,12 +124,19 @@ pub front_at : {k : Claim} {rows left_rows : List (List ℕ)} → Known k rows l
     → row_shifts_left (row_at rows i) ≡ true → depth (row_at rows i) ≢ 16
     → Front k rows (key (row_at rows i)) (s (row_at rows (suc i)) 15) (key (row_at rows (suc i))) (below_at k rows i)
 front_at {k = k} {rows = rows} known i within here l a =
-    front_of k rows (first_goes known (some_rows (suc i) (length rows) within)) (key (row_at rows i)) (below_at k rows i) here.chain
+    front_of k rows (differ_of known (some_rows (suc i) (length rows) within)) (key (row_at rows i)) (below_at k rows i) here.chain
     (s (row_at rows (suc i)) 15) (key (row_at rows (suc i))) (known.overflow.brought i within l a)
 
-moves_at : {k : Claim} {rows left_rows : List (List ℕ)} → Known k rows left_rows → (i : ℕ) → suc i < length rows
+pub moves_at : {k : Claim} {rows left_rows : List (List ℕ)} → Known k rows left_rows → (i : ℕ) → suc i < length rows
     → MovesDepth (op_in rows i) (row_at rows i) (row_at rows (suc i))
 moves_at known i within = (known.shows.pair_is i within).stack.depth_moves
+
+-- behind a row that pushes a cell, the key is its number
+pub pushed_key : {k : Claim} {rows left_rows : List (List ℕ)} → Known k rows left_rows → (i : ℕ) → suc i < length rows
+    → is_right (op_in rows i) ≡ true → key (row_at rows (suc i)) ≡ i
+pushed_key {k = k} {rows = rows} known i within r =
+    ((moves_at known i within).right r).1
+    ∙ clock_is k rows known.shows (low_rows (length rows) known.few) i (before i (length rows) within)
 
 below_next : (k : Claim) (rows : List (List ℕ)) (i : ℕ) (o : Overflow) → overflow_in k rows (suc i) ≡ o → below_at k rows (suc i) ≡ o.below
 below_next k rows i o e = ap (λ (v : Overflow). v.below) e
@@ -146,17 +161,16 @@ step : {k : Claim} {rows left_rows : List (List ℕ)} → Known k rows left_rows
     → ((j : ℕ) → j ≤ i → Holds k rows j) → Movement (row_at rows i) → Holds k rows (suc i)
 step {k = k} {rows = rows} known i within earlier (right r) =
     let here = earlier i (omega arith) in
-    let moves = (moves_at known i within).right r in
-    let clock = clock_is k rows known.shows (low_rows (length rows) known.few) i (before i (length rows) within) in
     holds_by k rows (suc i) (s (row_at rows i) 15 ∷ below_at k rows i) i (depth (row_at rows i) ⊞ 1)
-    (below_next k rows i _ (next_is k rows i ∙ behind_right (row_at rows i) (overflow_in k rows i) r)) (moves.1 ∙ clock) moves.0
+    (below_next k rows i _ (next_is k rows i ∙ behind_right (row_at rows i) (overflow_in k rows i) r)) (pushed_key known i within r)
+    ((moves_at known i within).right r).0
     (some i (s (row_at rows i) 15) (key (row_at rows i)) (below_at k rows i)
-    (record { within = within; right = r; cell_is = refl; below_is = refl })
+    (pushed (record { within = within; right = r; cell_is = refl; below_is = refl }))
     (here.early i (omega arith) (pushes_later known i within r) (before i (length rows) within)) here.chain)
     (one_deeper (depth (row_at rows i)) (length (below_at k rows i)) (length (deep_at_start k)) i (length rows) here.depth_is here.few
     (start_few known) within known.few)
     (one_more (length (below_at k rows i)) (length (deep_at_start k)) i here.few)
-    (λ r from more h. clock_falls k i r (length rows) from h known.few)
+    (λ r from more h. clock_falls k (start_few known) i r (length rows) from h known.few)
 step {k = k} {rows = rows} known i within earlier (flat nr l e) =
     let here = earlier i (omega arith) in
     let moves = (moves_at known i within).left_flat (sym (shifts_left_is (row_at rows i)) ∙ l) e in
@@ -179,7 +193,7 @@ step {k = k} {rows = rows} known i within earlier (deeper nr l a) =
 step {k = k} {rows = rows} known i within earlier (calls nr nl c) =
     let moves = (moves_at known i within).call c in
     holds_by k rows (suc i) [] 0 16 (below_next k rows i _ (next_is k rows i ∙ behind_call (row_at rows i) (overflow_in k rows i) nr nl c))
-    moves.1 moves.0 none refl (omega arith) (λ r from more h. none_falls k r (length rows) more h known.few)
+    moves.1 moves.0 none refl (omega arith) (λ r from more h. clock_falls k (start_few known) 0 r (length rows) more h known.few)
 step {k = k} {rows = rows} known i within earlier (returns nr nl nc t) =
     let b = block_of rows known.frames i within (returns_ends (row_at rows i) t) in
     let early : b.0 ≤ i = let h = b.1.later in omega (arith, h) in
@@ -198,17 +212,37 @@ below_first : (k : Claim) (rows : List (List ℕ)) → below_at k rows 0 ≡ dee
 unfolding overflow_at
 below_first k rows = refl
 
-start_chain : (k : Claim) (rows : List (List ℕ)) → Chain k rows (key_at_start k) (deep_at_start k)
-start_chain k rows = none
+-- the inputs from number i on are a chain
+chain_from : (k : Claim) (rows : List (List ℕ)) → length (deep_at_start k) ≤ 2 ^ 19 → (i n : ℕ) → i + n ≡ length (deep_at_start k)
+    → Chain k rows (key_of (input_keys i n)) (drop i (deep_at_start k))
+unfolding input_keys
+chain_from k rows shallow i zero e =
+    subst (Chain k rows 0) (sym (drop_all i (deep_at_start k) (let f : length (deep_at_start k) ≤ i = omega (arith, e) in f))) none
+chain_from k rows shallow i (suc n) e =
+    subst (Chain k rows (input_key i)) (sym (drop-cons (deep_at_start k) i 0 (let h : i < length (deep_at_start k) = omega (arith, e) in h)))
+    (some (input_key i) (slice_index (deep_at_start k) i) (key_of (input_keys (suc i) n)) (drop (suc i) (deep_at_start k))
+    (input (record {
+      number = i;
+      within = (omega (arith, e));
+      key_is = refl;
+      cell_is = refl;
+      below_is = ap (λ m. key_of (input_keys (suc i) m)) (let f : n ≡ length (deep_at_start k) - suc i = omega (arith, e) in f);
+    }))
+    (let later = rank_inputs k shallow (suc i) n (omega (arith, e)) in
+    let here = rank_inputs k shallow i (suc n) e in omega (arith, later, here))
+    (chain_from k rows shallow (suc i) n (omega (arith, e))))
 
-start_early : (k : Claim) (rows : List (List ℕ)) → length rows ≤ 2 ^ 19 → IsEarly k rows 0 (key_at_start k)
-start_early k rows few r from more h = none_falls k r (length rows) more h few
+start_chain : (k : Claim) (rows : List (List ℕ)) → length (deep_at_start k) ≤ 2 ^ 19 → Chain k rows (key_at_start k) (deep_at_start k)
+start_chain k rows shallow = chain_from k rows shallow 0 (length (deep_at_start k)) (omega arith)
+
+start_early : (k : Claim) (rows : List (List ℕ)) → length (deep_at_start k) ≤ 2 ^ 19 → length rows ≤ 2 ^ 19 → IsEarly k rows 0 (key_at_start k)
+start_early k rows shallow few r from more h = inputs_fall k shallow (length (deep_at_start k)) r (length rows) refl more h few
 
 first_holds : {k : Claim} {rows left_rows : List (List ℕ)} → Known k rows left_rows → 0 < length rows → Holds k rows 0
 first_holds {k = k} {rows = rows} known h =
     let start = (known.shows.first h).start in
-    holds_by k rows 0 (deep_at_start k) (key_at_start k) (depth_at_start k) (below_first k rows) start.key_is start.depth_is (start_chain k rows)
-    (start_depth k) (omega arith) (start_early k rows known.few)
+    holds_by k rows 0 (deep_at_start k) (key_at_start k) (depth_at_start k) (below_first k rows) start.key_is start.depth_is
+    (start_chain k rows (start_few known)) (start_depth k) (omega arith) (start_early k rows (start_few known) known.few)
 
 -- ---- each row
 

@@ -20,6 +20,7 @@ pub mod BatchReads
 pub mod SpanHashes
 pub mod SpanRows
 pub mod SpanLaw
+pub mod Ranks
 pub mod Chains
 pub mod RowKinds
 pub mod Asides
@@ -27,3 +28,4 @@ pub mod Returns
 pub mod Holds
 pub mod Outputs
 pub mod OverflowLaw
+pub mod Keys

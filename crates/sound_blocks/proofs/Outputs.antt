@@ -1,18 +1,17 @@
 -- The cells that the last row has below the sixteenth are the outputs behind the sixteenth, along the table of cells left.
-use Rattle.std.proofs.Common.{◌≡◌, ℕ, zero, suc, ◌+◌, ◌<◌, false, List, [], ◌∷◌, ◌++◌, length, drop, slice_index, slice_index_or, slice_get, get_or, sym, ap, subst, ◌∙◌, arith, lit<}
+use Rattle.std.proofs.Common.{◌≡◌, ℕ, zero, suc, ◌+◌, ◌<◌, List, [], ◌∷◌, ◌++◌, length, drop, slice_index, slice_index_or, slice_get, get_or, sym, ap, subst, ◌∙◌, arith, lit<}
 use Rattle.std.proofs.lemmas.List.{ext_get_or, get_or-drop}
 use Rattle.std.proofs.lemmas.Option.{slice_get-get_or}
 use Rattle.std.proofs.Math.Seq.{drop-cons}
 use Rattle.vm_table.specs.MainColumns.{s}
 use Rattle.chip_columns.specs.LeftColumns as left
 use Rattle.air_kit.specs.ChipTuples.{next_key}
-use Rattle.air_kit.specs.Flags.{is_right}
+use Rattle.air_kit.specs.DeepCells.{deep_at_start}
 use Rattle.air_kit.specs.Places.{Claim}
 use Rattle.air_kit.specs.StackValues.{cells}
-use Rattle.facts_main.specs.MainRows.{op_in}
 use Rattle.sound_buses.specs.Overflow.{OverflowFacts}
 use Rattle.sound_blocks.specs.Chains.{Chain}
-use Rattle.sound_blocks.proofs.Chains.{Front, front_of}
+use Rattle.sound_blocks.proofs.Chains.{KeysDiffer, Front, front_of}
 
 -- the key of a row of the table of cells left
 abbrev key_left : List (List ℕ) → ℕ → ℕ
@@ -20,8 +19,8 @@ key_left left_rows q = left.key (slice_index_or left_rows q [])
 
 -- what is left, and the first key of it
 pub record Leaves (k : Claim) (rows left_rows : List (List ℕ)) (below : List ℕ) : Type 0 where
-  pub goes : is_right (op_in rows 0) ≡ false
-  pub overflow : OverflowFacts rows left_rows k.outputs
+  pub differ : KeysDiffer k rows
+  pub overflow : OverflowFacts (deep_at_start k) rows left_rows k.outputs
   pub chain : 0 < length left_rows → Chain k rows (key_left left_rows 0) below
   pub size : length below ≡ length left_rows
 
@@ -32,7 +31,7 @@ front_left : {k : Claim} {rows left_rows : List (List ℕ)} {below : List ℕ} �
     → Chain k rows (key_left left_rows q) (drop q below)
     → Front k rows (key_left left_rows q) (slice_index k.outputs (16 + q)) (next_key (slice_get left_rows (suc q))) (drop q below)
 front_left {k = k} {rows = rows} {left_rows = left_rows} {below = below} l q h chain =
-    front_of k rows l.goes (key_left left_rows q) (drop q below) chain (slice_index k.outputs (16 + q)) (next_key (slice_get left_rows (suc q)))
+    front_of k rows l.differ (key_left left_rows q) (drop q below) chain (slice_index k.outputs (16 + q)) (next_key (slice_get left_rows (suc q)))
     (l.overflow.stays q h)
 
 one_on : (xs : List ℕ) (q cell : ℕ) (later : List ℕ) → q < length xs → drop q xs ≡ cell ∷ later → later ≡ drop (suc q) xs
@@ -65,14 +64,16 @@ cell_left {below = below} l q h =
 sixteen : (k : ℕ) → 16 + k ≡ suc (suc (suc (suc (suc (suc (suc (suc (suc (suc (suc (suc (suc (suc (suc (suc k)))))))))))))))
 sixteen k = omega arith
 
-all_size : (x below : List ℕ) → length (cells x ++ below) ≡ 16 + length below
+-- the sixteen cells of a row and those below are as many
+pub all_size : (x below : List ℕ) → length (cells x ++ below) ≡ 16 + length below
 unfolding cells
 all_size x below = sym (sixteen (length below))
 
 place_below : (k n : ℕ) → suc (suc (suc (suc (suc (suc (suc (suc (suc (suc (suc (suc (suc (suc (suc (suc k))))))))))))))) < 16 + n → k < n
 place_below k n h = omega (arith, h)
 
-each_is : (x below outputs : List ℕ) → ((j : ℕ) → j < 16 → s x j ≡ slice_index outputs j)
+-- and each of them is that of a stack, where the sixteen are and those below are
+pub each_is : (x below outputs : List ℕ) → ((j : ℕ) → j < 16 → s x j ≡ slice_index outputs j)
     → ((q : ℕ) → q < length below → get_or below q 0 ≡ slice_index outputs (16 + q))
     → (i : ℕ) → i < 16 + length below → get_or (cells x ++ below) i 0 ≡ get_or outputs i 0
 unfolding cells

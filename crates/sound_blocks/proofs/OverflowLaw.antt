@@ -1,8 +1,10 @@
 -- The law of the cells below the sixteenth.
-use Rattle.std.proofs.Common.{◌≡◌, ◌≢◌, ℕ, suc, ◌+◌, ◌<◌, ◌≤◌, true, List, [], ◌∷◌, ◌++◌, length, drop, sym, ap, subst, ◌∙◌, arith, lit≤}
+use Rattle.std.proofs.Common.{◌≡◌, ◌≢◌, ℕ, suc, ◌+◌, ◌<◌, ◌≤◌, ◌^◌, true, List, [], ◌∷◌, ◌++◌, length, length-drop, drop, sym, ap, subst, ◌∙◌, arith}
 use Rattle.std.proofs.lemmas.List.{nil_from_length}
+use Rattle.vm_field.specs.Limits.{most_inputs}
+use Rattle.vm_field.proofs.Elements.{elements-drop}
 use Rattle.vm_table.specs.MainColumns.{s, depth}
-use Rattle.air_kit.specs.BoundaryValues.{deep_at_start, depth_at_start}
+use Rattle.air_kit.specs.DeepCells.{deep_at_start, depth_at_start}
 use Rattle.air_kit.specs.MainTuples.{is_call_op, row_shifts_left}
 use Rattle.air_kit.specs.Places.{Claim}
 use Rattle.air_kit.specs.RowStates.{Overflow}
@@ -22,7 +24,7 @@ use Rattle.sound_blocks.proofs.Chains.{elements_of}
 use Rattle.sound_blocks.proofs.RowKinds.{behind_deeper, left_right_apart}
 use Rattle.sound_blocks.proofs.Asides.{returns_is}
 use Rattle.sound_blocks.proofs.Returns.{overflow_in, next_is, return_back, aside_is}
-use Rattle.sound_blocks.proofs.Holds.{Known, Holds, holds, front_at, first_goes, start_depth}
+use Rattle.sound_blocks.proofs.Holds.{Known, Holds, differ_of, holds, front_at, start_depth}
 use Rattle.sound_blocks.proofs.Outputs.{Leaves, stack_is, walk}
 
 before : (i l : ℕ) → suc i < l → i < l
@@ -80,7 +82,7 @@ module _ (p : Public) (t : Trace) (granted : Granted p t) (known : Known (claim_
 
   leaves : Leaves (claim_of p t) t.main t.left (below_at (claim_of p t) t.main i)
   leaves = record {
-    goes = first_goes known some;
+    differ = differ_of known some;
     overflow = granted.overflow;
     chain = λ more. subst (λ (n : ℕ). Chain (claim_of p t) t.main n (below_at (claim_of p t) t.main i)) last.key_is here.chain;
     size = counted (depth (row_at t.main i)) (length (below_at (claim_of p t) t.main i)) (length t.left) (length p.statement.outputs)
@@ -93,9 +95,19 @@ module _ (p : Public) (t : Trace) (granted : Granted p t) (known : Known (claim_
 few_deep : (d n m s i : ℕ) → d ≡ 16 + n → n ≤ m + i → s ≡ 16 + m → d ≤ s + i
 few_deep d n m s i e few start = omega (arith, e, few, start)
 
-known_of : (p : Public) (t : Trace) → Granted p t → FrameFacts t.main → Known (claim_of p t) t.main t.left
-known_of p t granted frames =
-    record { shows = granted.rows; few = granted.few; shallow = lit≤ tt; overflow = granted.overflow; frames = frames }
+-- few inputs are below the sixteenth
+pub few_inputs : (inputs : List ℕ) → length inputs ≤ most_inputs → 16 + length (drop 16 inputs) ≤ 2 ^ 19
+few_inputs inputs few = let e = length-drop 16 inputs in omega (arith, e, few)
+
+pub known_of : (p : Public) (t : Trace) → Granted p t → FrameFacts t.main → Known (claim_of p t) t.main t.left
+known_of p t granted frames = record {
+  shows = granted.rows;
+  few = granted.few;
+  shallow = few_inputs p.statement.inputs p.statement.inputs_few;
+  inputs = elements-drop 16 p.statement.inputs p.statement.inputs_below;
+  overflow = granted.overflow;
+  frames = frames;
+}
 
 pub overflow_law : GrantedOverflow
 overflow_law p t granted frames = record {
@@ -104,7 +116,7 @@ overflow_law p t granted frames = record {
       few_deep (depth (row_at t.main i)) (length (below_at (claim_of p t) t.main i)) (length (deep_at_start (claim_of p t)))
       (depth_at_start (claim_of p t)) i (holds known i h).depth_is (holds known i h).few (start_depth (claim_of p t));
   elements = λ i h.
-      elements_of (claim_of p t) t.main (λ r few. (granted.rows.row_is r few).reads.low 45) _ (below_at (claim_of p t) t.main i)
+      elements_of (claim_of p t) t.main known.inputs (λ r few. (granted.rows.row_is r few).reads.low 45) _ (below_at (claim_of p t) t.main i)
       (holds known i h).chain;
   deep = deep_at known;
   returns = returns_at known;

@@ -2,7 +2,7 @@
 use Rattle.std.proofs.Common.{◌≡◌, ℕ, zero, suc, ◌<◌, Bool, true, false, ◌&&◌, ◌||◌, cond, eqb, List, ◌∷◌, length, drop, refl, sym, ap, ◌∙◌, arith}
 use Rattle.vm_ops.specs.declared.op.Op.TheVariants as ops
 use Rattle.vm_table.specs.MainColumns.{h, s}
-use Rattle.air_kit.specs.BoundaryValues.{deep_at_start}
+use Rattle.air_kit.specs.DeepCells.{deep_at_start}
 use Rattle.air_kit.specs.Flags.{is_left, is_op, is_right}
 use Rattle.air_kit.specs.MainTuples.{is_call_op, row_shifts_left}
 use Rattle.air_kit.specs.Places.{Claim}

@@ -4,3 +4,4 @@ pub mod Items
 pub mod Spans
 pub mod Lists
 pub mod Chains
+pub mod Keys

@@ -2,7 +2,7 @@
 use Rattle.std.specs.Prelude.{◌≡◌, ◌≢◌, ℕ, suc, ◌+◌, ◌≤◌, ◌<◌, true, List, [], ◌∷◌, ◌++◌, length}
 use Rattle.vm_field.specs.Field.{AreElements}
 use Rattle.vm_table.specs.MainColumns.{s, depth}
-use Rattle.air_kit.specs.BoundaryValues.{deep_at_start, depth_at_start}
+use Rattle.air_kit.specs.DeepCells.{deep_at_start, depth_at_start}
 use Rattle.air_kit.specs.MainTuples.{is_call_op, row_shifts_left}
 use Rattle.air_kit.specs.Places.{Claim}
 use Rattle.air_kit.specs.RowStates.{overflow_at}

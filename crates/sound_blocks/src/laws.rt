@@ -1,5 +1,6 @@
 ghost use Rattle.sound_blocks.specs.Chains.{GrantedChains};
 ghost use Rattle.sound_blocks.specs.Frames.{GrantedFrames};
+ghost use Rattle.sound_blocks.specs.Keys.{GrantedKeys};
 ghost use Rattle.sound_blocks.specs.Lists.{GrantedOverflow};
 ghost use Rattle.sound_blocks.specs.Nesting.{GrantedNesting};
 ghost use Rattle.sound_blocks.specs.Spans.{GrantedSpans};
@@ -24,8 +25,10 @@ pub fn span_laws()
 /// The law of the cells below the sixteenth: those that the rows before a row have left there are as many as the row's depth says. A
 /// left shift brings the first of them into the sixteenth cell, the END of a call brings back those that the call set aside, and the
 /// last row has the outputs that stand behind the sixteen which it shows. They are a chain of keys, the clocks of the rows that pushed
-/// them, each of which stands there once; the table of cells left has the keys of those that are there at the end.
+/// them and those of inputs; the table of cells left has the keys of those that are there at the end. No two cells that there are at
+/// once have one key, also among those that calls have set aside.
 pub fn overflow_laws()
     ensures overflow { GrantedOverflow }
     ensures chains { GrantedChains }
+    ensures keys { GrantedKeys }
 {}

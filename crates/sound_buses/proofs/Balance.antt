@@ -5,6 +5,7 @@ use Rattle.buses.specs.declared.bus.Bus.TheVariants as bus
 use Rattle.buses.proofs.Counting.{counted-none}
 use Rattle.air_kit.specs.Acceptance.{IsAccepted, asked_on, given_on}
 use Rattle.air_kit.specs.ChipTuples.{chip_given, kernel_given, left_asked, memory_ranges, range_given}
+use Rattle.air_kit.specs.DeepCells.{tuples_at_start}
 use Rattle.air_kit.specs.MainTuples.{bitwise_asked, blocks_asked, blocks_given, children_asked, children_given, groups_asked, groups_given, hasher_asked, kernel_asked, loops_asked, loops_given, memory_asked, overflow_asked, overflow_given, range_asked}
 use Rattle.air_kit.specs.Traces.{claim_of}
 use Rattle.air_kit.specs.declared.trace.Public.{Public}
@@ -57,7 +58,8 @@ unfolding asked_on given_on
 groups_alike p t a u = let e = a.buses bus.Groups u in let n = none t u in omega (arith, e, n)
 
 pub overflow_alike : (p : Public) (t : Trace) → IsAccepted p t → (u : List ℕ)
-    → in_main overflow_asked t u + over_rows (left_asked (claim_of p t)) t.left u ≡ in_main overflow_given t u
+    → in_main overflow_asked t u + over_rows (left_asked (claim_of p t)) t.left u
+    ≡ counted (tuples_at_start (claim_of p t)) u + in_main overflow_given t u
 unfolding asked_on given_on
 overflow_alike p t a u = let e = a.buses bus.Overflow u in let n = none t u in omega (arith, e, n)
 

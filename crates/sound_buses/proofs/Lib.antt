@@ -14,6 +14,7 @@ pub mod LoopBus
 pub mod GroupPlaces
 pub mod GroupBus
 pub mod TableSums
+pub mod CellTuples
 pub mod OverflowBus
 pub mod KernelBus
 pub mod RangeRows

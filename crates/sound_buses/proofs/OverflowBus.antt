@@ -1,18 +1,20 @@
 -- Where the cells come from that a stack has below the sixteenth.
-use Rattle.std.proofs.Common.{◌≡◌, ◌≢◌, ℕ, suc, ◌+◌, ◌<◌, Bool, true, false, ◌==◌, cond, List, [], ◌∷◌, length, slice_index, slice_index_or, refl, sym, ap, subst, ◌∙◌, arith}
+use Rattle.std.proofs.Common.{◌≡◌, ◌≢◌, ℕ, suc, ◌+◌, ◌<◌, ⊎_elim, Bool, true, false, ◌==◌, cond, List, [], ◌∷◌, length, slice_index, slice_index_or, refl, sym, ap, subst, ◌∙◌, arith}
 use Rattle.std.specs.List.{slice_get}
 use Rattle.buses.specs.Counts.{at_row, counted, once, over_rows, with_next}
 use Rattle.vm_table.specs.MainColumns.{clk, depth, key, s}
 use Rattle.chip_columns.specs.LeftColumns as left
 use Rattle.air_kit.specs.ChipTuples.{left_asked, next_key}
+use Rattle.air_kit.specs.DeepCells.{deep_at_start, tuples_at_start}
 use Rattle.air_kit.specs.Flags.{is_right, op_of}
 use Rattle.air_kit.specs.MainTuples.{overflow_asked, overflow_given, row_shifts_left}
 use Rattle.air_kit.specs.Places.{Claim}
 use Rattle.vm_table.specs.Layout.{row_at}
 use Rattle.facts_main.specs.MainRows.{op_in}
-use Rattle.sound_buses.specs.Overflow.{IsPushed, OverflowFacts}
+use Rattle.sound_buses.specs.Overflow.{IsEntry, IsPushed, OverflowFacts, input, pushed}
+use Rattle.sound_buses.proofs.CellTuples.{input_of, parts}
 use Rattle.sound_buses.proofs.RowSums.{IsInRow, count_in, rows_have, rows_some}
-use Rattle.sound_buses.proofs.Splits.{not_equal}
+use Rattle.sound_buses.proofs.Splits.{not_equal, positive_part}
 use Rattle.sound_buses.proofs.TableSums.{IsInTable, table_has}
 use Rattle.sound_buses.proofs.Tuples.{single_self, tested_is}
 
@@ -28,16 +30,16 @@ brings_asks : (x y : List ℕ) → row_shifts_left x ≡ true → depth x ≢ 16
 unfolding overflow_asked
 brings_asks x y is deep = asks_if (row_shifts_left x) (depth x == 16) (key x ∷ s y 15 ∷ key y ∷ []) is (not_equal (depth x) 16 deep)
 
-parts : (a b c i j k : ℕ) → a ∷ b ∷ c ∷ [] ≡ i ∷ j ∷ k ∷ [] → (a ≡ i) × (b ≡ j) × (c ≡ k)
-parts a b c i j k e = (cc, cc, cc)
-
 module _ (k : Claim) (rows left_rows : List (List ℕ))
     (alike : (u : List ℕ) → over_rows (with_next overflow_asked) rows u + over_rows (left_asked k) left_rows u
-    ≡ over_rows (with_next overflow_given) rows u)
+    ≡ counted (tuples_at_start k) u + over_rows (with_next overflow_given) rows u)
     (clock : (i : ℕ) → i < length rows → clk (row_at rows i) ≡ i) where
-  -- a tuple that is given was pushed at the clock that it names
-  pushed : (at cell below : ℕ) → 0 < over_rows (with_next overflow_given) rows (at ∷ cell ∷ below ∷ []) → IsPushed rows at cell below
-  pushed at cell below some = subst (λ n. IsPushed rows n cell below) number (record {
+  abbrev Entry : ℕ → ℕ → ℕ → Type 0
+  Entry at cell below = IsEntry (deep_at_start k) rows at cell below
+
+  -- a tuple that a row gives was pushed at the clock that it names
+  pushed_by : (at cell below : ℕ) → 0 < over_rows (with_next overflow_given) rows (at ∷ cell ∷ below ∷ []) → IsPushed rows at cell below
+  pushed_by at cell below some = subst (λ n. IsPushed rows n cell below) number (record {
     within = found.1.within;
     right = given.0;
     cell_is = sym same.1;
@@ -59,9 +61,18 @@ module _ (k : Claim) (rows left_rows : List (List ℕ))
       number : i ≡ at
       number = sym (clock i (let h = found.1.within in omega (arith, h))) ∙ same.0
 
+  -- each tuple that is given is an entry's
+  entry_of : (at cell below : ℕ)
+      → 0 < counted (tuples_at_start k) (at ∷ cell ∷ below ∷ []) + over_rows (with_next overflow_given) rows (at ∷ cell ∷ below ∷ [])
+      → Entry at cell below
+  entry_of at cell below some =
+      ⊎_elim (λ given. input (input_of (deep_at_start k) at cell below given)) (λ given. pushed (pushed_by at cell below given))
+      (positive_part (counted (tuples_at_start k) (at ∷ cell ∷ below ∷ []))
+      (over_rows (with_next overflow_given) rows (at ∷ cell ∷ below ∷ [])) some)
+
   brought : (r : ℕ) → suc r < length rows → row_shifts_left (row_at rows r) ≡ true → depth (row_at rows r) ≢ 16
-      → IsPushed rows (key (row_at rows r)) (s (row_at rows (suc r)) 15) (key (row_at rows (suc r)))
-  brought r within is deep = pushed (key (row_at rows r)) (s (row_at rows (suc r)) 15) (key (row_at rows (suc r))) some
+      → Entry (key (row_at rows r)) (s (row_at rows (suc r)) 15) (key (row_at rows (suc r)))
+  brought r within is deep = entry_of (key (row_at rows r)) (s (row_at rows (suc r)) 15) (key (row_at rows (suc r))) some
     where
       u : List ℕ
       u = key (row_at rows r) ∷ s (row_at rows (suc r)) 15 ∷ key (row_at rows (suc r)) ∷ []
@@ -74,7 +85,7 @@ module _ (k : Claim) (rows left_rows : List (List ℕ))
             = ap (λ cs. counted cs u) (brings_asks (row_at rows r) (row_at rows (suc r)) is deep) ∙ single_self u in omega (arith, n));
       }
 
-      some : 0 < over_rows (with_next overflow_given) rows u
+      some : 0 < counted (tuples_at_start k) u + over_rows (with_next overflow_given) rows u
       some = let h = rows_have overflow_asked rows u r asked in let a = alike u in omega (arith, h, a)
 
   left_counts : (i : ℕ) → counted (at_row (left_asked k) left_rows i)
@@ -85,9 +96,9 @@ module _ (k : Claim) (rows left_rows : List (List ℕ))
       ∷ next_key (slice_get left_rows (suc i)) ∷ [])
 
   stays : (i : ℕ) → i < length left_rows
-      → IsPushed rows (left.key (slice_index_or left_rows i [])) (slice_index k.outputs (16 + i)) (next_key (slice_get left_rows (suc i)))
+      → Entry (left.key (slice_index_or left_rows i [])) (slice_index k.outputs (16 + i)) (next_key (slice_get left_rows (suc i)))
   stays i within =
-      pushed (left.key (slice_index_or left_rows i [])) (slice_index k.outputs (16 + i)) (next_key (slice_get left_rows (suc i))) some
+      entry_of (left.key (slice_index_or left_rows i [])) (slice_index k.outputs (16 + i)) (next_key (slice_get left_rows (suc i))) some
     where
       u : List ℕ
       u = left.key (slice_index_or left_rows i []) ∷ slice_index k.outputs (16 + i) ∷ next_key (slice_get left_rows (suc i)) ∷ []
@@ -95,8 +106,8 @@ module _ (k : Claim) (rows left_rows : List (List ℕ))
       asked : IsInTable (left_asked k) left_rows u i
       asked = record { within = within; positive = (let n = left_counts i in omega (arith, n)) }
 
-      some : 0 < over_rows (with_next overflow_given) rows u
+      some : 0 < counted (tuples_at_start k) u + over_rows (with_next overflow_given) rows u
       some = let h = table_has (left_asked k) left_rows u i asked in let a = alike u in omega (arith, h, a)
 
-  pub overflow_facts : OverflowFacts rows left_rows k.outputs
+  pub overflow_facts : OverflowFacts (deep_at_start k) rows left_rows k.outputs
   overflow_facts = record { brought = brought; stays = stays }

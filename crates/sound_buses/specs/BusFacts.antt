@@ -3,6 +3,7 @@ use Rattle.std.specs.Prelude.{◌≡◌, ◌≤◌, length}
 use Rattle.vm_field.specs.Limits.{number_of_constants}
 use Rattle.vm_table.specs.Layout.{IsTable}
 use Rattle.rpo_hash.specs.Constants.{constants_of}
+use Rattle.air_kit.specs.DeepCells.{deep_at_start}
 use Rattle.air_kit.specs.Traces.{HasCounts, claim_of, most_rows}
 use Rattle.air_kit.specs.declared.trace.TableName.TheVariants as table
 use Rattle.air_kit.specs.Acceptance.{IsAccepted}
@@ -33,7 +34,7 @@ pub record Granted (p : Public) (t : Trace) : Type 0 where
   pub blocks : BlockFacts t.main
   pub children : ChildFacts t.main p.statement.digest
   pub groups : GroupFacts t.main
-  pub overflow : OverflowFacts t.main t.left p.statement.outputs
+  pub overflow : OverflowFacts (deep_at_start (claim_of p t)) t.main t.left p.statement.outputs
   pub hashes : HashFacts (constants_of p.params) t.main t.hasher
   pub bits : BitFacts t.main
   pub memory : MemoryFacts t.main

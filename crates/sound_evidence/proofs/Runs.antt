@@ -7,7 +7,7 @@ use Rattle.block_tree.specs.TreeView.{tree_of}
 use Rattle.block_tree.specs.declared.tree.Tree as held
 use Rattle.block_tree.specs.declared.evidence.Evidence.TheVariants.{Run}
 use Rattle.block_tree.proofs.Refinement.{refines-refl}
-use Rattle.air_kit.specs.BoundaryValues.{deep_at_start}
+use Rattle.air_kit.specs.DeepCells.{deep_at_start}
 use Rattle.air_kit.specs.RowStates.{state_at, tape_of}
 use Rattle.air_kit.specs.Traces.{claim_of}
 use Rattle.air_kit.specs.declared.trace.Public.{Public}
@@ -33,7 +33,7 @@ shows : (p : Public) (t : Trace) → IsKnown p t → ShowRun (constants_of p.par
 shows p t k = cycles_law p t k.constants k.whole (granted p t k)
 
 ends : (p : Public) (t : Trace) → IsKnown p t → EndFacts (claim_of p t) t.main
-ends p t k = ends_law p t k.constants p.statement.inputs_few k.whole (granted p t k)
+ends p t k = ends_law p t k.constants k.whole (granted p t k)
 
 -- the tree goes from the first row to the last one
 goes : (p : Public) (t : Trace) (k : IsKnown p t) (found : Found) → IsWholeTree p t found

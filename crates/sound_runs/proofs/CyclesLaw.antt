@@ -1,5 +1,5 @@
 -- The laws of cycles and of ends.
-use Rattle.std.proofs.Common.{◌≡◌, ℕ, suc, ◌-◌, cond, eqb, List, length, refl, ap, ◌∙◌, lit≤}
+use Rattle.std.proofs.Common.{◌≡◌, ℕ, suc, ◌-◌, cond, eqb, List, length, refl, ap, ◌∙◌}
 use Rattle.vm_field.specs.Limits.{number_of_constants}
 use Rattle.vm_ops.specs.declared.op.Op.TheVariants as ops
 use Rattle.rpo_hash.specs.Constants.{constants_of}
@@ -13,7 +13,7 @@ use Rattle.block_tree.specs.Cycles.{Mark}
 use Rattle.block_tree.specs.Execution.{cycle}
 use Rattle.sound_buses.specs.BusFacts.{Granted}
 use Rattle.sound_blocks.proofs.FrameLaw.{frames_granted}
-use Rattle.sound_blocks.proofs.OverflowLaw.{overflow_law}
+use Rattle.sound_blocks.proofs.OverflowLaw.{few_inputs, overflow_law}
 use Rattle.sound_runs.specs.Running.{Goes, ShowRun, ShowsMark, span, join, split, loop, call, syscall, respan, repeat, operation, span_end, join_end, split_end, skipped_end, entered_end, call_end, syscall_end}
 use Rattle.sound_runs.specs.Cycles.{GrantedCycles}
 use Rattle.sound_runs.specs.Ends.{GrantedEnds}
@@ -32,7 +32,7 @@ known_of p t count granted = record {
   count = count;
   shows = granted.rows;
   few = granted.few;
-  shallow = lit≤ tt;
+  shallow = few_inputs p.statement.inputs p.statement.inputs_few;
   groups = granted.groups;
   ranges = granted.ranges;
   permutes = granted.hashes.permutes;
@@ -77,4 +77,4 @@ cycles_law p t count whole granted = show_run (known_of p t count granted)
 
 pub ends_law : GrantedEnds
 unfolding known_of
-ends_law p t count few whole granted = end_facts (known_of p t count granted) (whole.counts table.Main).least few
+ends_law p t count whole granted = end_facts (known_of p t count granted) (whole.counts table.Main).least

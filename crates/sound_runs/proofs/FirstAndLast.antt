@@ -1,6 +1,6 @@
 -- The states of the first row and of the last one.
-use Rattle.std.proofs.Common.{◌≡◌, ℕ, zero, suc, ◌-◌, ◌<◌, ◌≤◌, List, [], ◌∷◌, drop, eqb, length, max, slice_index, refl, ap, sym, subst, ◌∙◌, arith, append-nil, lit<}
-use Rattle.std.proofs.lemmas.Grind.{same_number_lists}
+use Rattle.std.proofs.Common.{◌≡◌, ℕ, zero, suc, ◌+◌, ◌-◌, ◌<◌, ◌≤◌, List, [], ◌∷◌, ◌++◌, drop, eqb, length, length-drop, max, slice_index, refl, ap, sym, subst, ◌∙◌, arith, lit<}
+use Rattle.std.proofs.lemmas.List.{ext_get_or, get_or-drop}
 use Rattle.vm_field.specs.Machine.{filled_up, start}
 use Rattle.vm_field.proofs.Elements.{length-filled_up}
 use Rattle.vm_ops.proofs.FrameLemmas.{index-filled_up}
@@ -11,39 +11,40 @@ use Rattle.air_kit.specs.StackValues.{cells, function_digest}
 use Rattle.facts_main.specs.Bounds.{IsFirstRow}
 use Rattle.vm_table.specs.Layout.{row_at}
 use Rattle.facts_main.specs.MainRows.{op_in}
-use Rattle.facts_steps.proofs.Seeing.{cells_index, length_cells}
+use Rattle.sound_blocks.proofs.Outputs.{all_size, each_is}
 use Rattle.sound_runs.specs.Ends.{EndFacts}
 use Rattle.sound_runs.proofs.Going.{same_state}
 use Rattle.sound_runs.proofs.Premises.{Known, clock_at, state_in}
 
 -- ---- the first row
 
-cells_filled : (x inputs : List ℕ) → length inputs ≤ 16 → ((j : ℕ) → j < 16 → s x j ≡ slice_index inputs j) → cells x ≡ filled_up inputs
-cells_filled x inputs few e = same_number_lists (cells x) (filled_up inputs) (length_cells x ∙ sym (sixteen inputs few)) each
+-- the sixteen cells of the row and the inputs below them are the inputs, filled up
+inputs_filled : (x inputs : List ℕ) → ((j : ℕ) → j < 16 → s x j ≡ slice_index inputs j) → cells x ++ drop 16 inputs ≡ filled_up inputs
+inputs_filled x inputs top =
+    ext_get_or 0 (cells x ++ drop 16 inputs) (filled_up inputs) size
+    (λ i h. each_is x (drop 16 inputs) inputs top (λ q few. get_or-drop 16 inputs q 0) i
+    (subst (λ (n : ℕ). i < n) (all_size x (drop 16 inputs)) h)
+    ∙ sym (index-filled_up inputs i))
   where
-    sixteen : (xs : List ℕ) → length xs ≤ 16 → length (filled_up xs) ≡ 16
-    sixteen xs h = length-filled_up xs ∙ most (length xs) h
-      where
-        most : (n : ℕ) → n ≤ 16 → max 16 n ≡ 16
-        most n h = omega (arith, h)
+    most : (n m : ℕ) → m ≡ n - 16 → 16 + m ≡ max 16 n
+    most n m e = omega (arith, e)
 
-    within : (k : ℕ) → k < length (cells x) → k < 16
-    within k h = subst (λ (n : ℕ). k < n) (length_cells x) h
-
-    each : (k : ℕ) → k < length (cells x) → slice_index (cells x) k ≡ slice_index (filled_up inputs) k
-    each k h = cells_index x k (within k h) ∙ e k (within k h) ∙ sym (index-filled_up inputs k)
+    size : length (cells x ++ drop 16 inputs) ≡ length (filled_up inputs)
+    size =
+        all_size x (drop 16 inputs) ∙ most (length inputs) (length (drop 16 inputs)) (length-drop 16 inputs)
+        ∙ sym (length-filled_up inputs)
 
 zero_digest : (x : List ℕ) → ((j : ℕ) → j < 4 → f x j ≡ 0) → function_digest x ≡ 0 ∷ 0 ∷ 0 ∷ 0 ∷ []
 unfolding function_digest
 zero_digest x e = λ i. e 0 (lit< tt) i ∷ e 1 (lit< tt) i ∷ e 2 (lit< tt) i ∷ e 3 (lit< tt) i ∷ []
 
-pub first_state : (k : Claim) (rows : List (List ℕ)) → length k.inputs ≤ 16 → IsFirstRow k (op_in rows 0) (row_at rows 0)
+pub first_state : (k : Claim) (rows : List (List ℕ)) → IsFirstRow k (op_in rows 0) (row_at rows 0)
     → state_in k rows 0 ≡ start k.inputs (tape_of rows)
 unfolding start overflow_at memory_at
-first_state k rows few first =
+first_state k rows first =
     same_state first.start.clock first.start.context first.start.frame (ap (λ n. eqb n 1) first.start.syscall)
     (zero_digest (row_at rows 0) first.start.digest) first.start.level
-    (append-nil (cells (row_at rows 0)) ∙ cells_filled (row_at rows 0) k.inputs few first.inputs) refl refl
+    (inputs_filled (row_at rows 0) k.inputs first.inputs) refl refl
 
 -- ---- the last row
 
@@ -61,9 +62,9 @@ last_within : (l : ℕ) → 1 ≤ l → l - 1 < l
 last_within l h = omega (arith, h)
 
 pub end_facts : {constants : List ℕ} {kernel rows : List (List ℕ)} {k : Claim} → Known constants kernel k rows → 1 ≤ length rows
-    → length k.inputs ≤ 16 → EndFacts k rows
-end_facts {rows = rows} {k = k} known some few = record {
-  starts = first_state k rows few (known.shows.first some);
+    → EndFacts k rows
+end_facts {rows = rows} {k = k} known some = record {
+  starts = first_state k rows (known.shows.first some);
   stands = record {
     stack = known.lists.stack_left (length rows - 1) (last_place (length rows) some);
     tape = nothing_taken rows (length rows - 1) (last_place (length rows) some);

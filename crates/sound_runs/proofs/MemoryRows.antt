@@ -8,7 +8,7 @@ use Rattle.vm_field.proofs.Elements.{word-of}
 use Rattle.vm_ops.specs.declared.op.Op.{Op}
 use Rattle.vm_ops.specs.declared.op.Op.TheVariants as ops
 use Rattle.vm_table.specs.MainColumns.{ctx, s, t}
-use Rattle.air_kit.specs.BoundaryValues.{deep_at_start}
+use Rattle.air_kit.specs.DeepCells.{deep_at_start}
 use Rattle.air_kit.specs.Places.{Claim}
 use Rattle.air_kit.specs.declared.requests.Access.{Access}
 use Rattle.air_kit.specs.RowStates.{elsewhere_at, memory_at, memory_behind, written_by}

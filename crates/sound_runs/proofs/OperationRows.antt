@@ -5,7 +5,7 @@ use Rattle.vm_ops.specs.Step.{act}
 use Rattle.vm_ops.specs.Values.{advice_of}
 use Rattle.vm_ops.specs.declared.op.Op.TheVariants as ops
 use Rattle.vm_table.specs.MainColumns.{clk, depth, s}
-use Rattle.air_kit.specs.BoundaryValues.{deep_at_start, depth_at_start}
+use Rattle.air_kit.specs.DeepCells.{deep_at_start, depth_at_start}
 use Rattle.air_kit.specs.Flags.{is_left}
 use Rattle.air_kit.specs.Places.{Claim}
 use Rattle.air_kit.specs.RowStates.{elsewhere_at}

@@ -6,7 +6,7 @@ use Rattle.vm_field.specs.Machine.{State}
 use Rattle.vm_field.specs.Permutation.{permuted}
 use Rattle.vm_ops.specs.declared.op.Op.TheVariants as ops
 use Rattle.vm_table.specs.MainColumns.{clk, ctx}
-use Rattle.air_kit.specs.BoundaryValues.{deep_at_start, depth_at_start}
+use Rattle.air_kit.specs.DeepCells.{deep_at_start, depth_at_start}
 use Rattle.air_kit.specs.MainTuples.{twelve}
 use Rattle.air_kit.specs.Places.{Claim}
 use Rattle.air_kit.specs.RowStates.{state_at}

@@ -2,7 +2,7 @@
 use Rattle.std.specs.Prelude.{◌≡◌, ◌-◌, length}
 use Rattle.vm_field.specs.Limits.{number_of_constants}
 use Rattle.rpo_hash.specs.Constants.{constants_of}
-use Rattle.air_kit.specs.BoundaryValues.{deep_at_start}
+use Rattle.air_kit.specs.DeepCells.{deep_at_start}
 use Rattle.air_kit.specs.RowStates.{state_at}
 use Rattle.air_kit.specs.Traces.{claim_of}
 use Rattle.air_kit.specs.declared.trace.Public.{Public}

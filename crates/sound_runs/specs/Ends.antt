@@ -1,8 +1,8 @@
 -- The states of the first row and of the last one.
-use Rattle.std.specs.Prelude.{◌≡◌, ℕ, ◌-◌, ◌≤◌, List, length}
-use Rattle.vm_field.specs.Limits.{most_inputs, number_of_constants}
+use Rattle.std.specs.Prelude.{◌≡◌, ℕ, ◌-◌, List, length}
+use Rattle.vm_field.specs.Limits.{number_of_constants}
 use Rattle.vm_field.specs.Machine.{Stands, start}
-use Rattle.air_kit.specs.BoundaryValues.{deep_at_start}
+use Rattle.air_kit.specs.DeepCells.{deep_at_start}
 use Rattle.air_kit.specs.Places.{Claim}
 use Rattle.air_kit.specs.RowStates.{state_at, tape_of}
 use Rattle.air_kit.specs.Traces.{claim_of}
@@ -19,5 +19,5 @@ pub record EndFacts (k : Claim) (rows : List (List ℕ)) : Type 0 where
   pub clock : (state_at (deep_at_start k) rows (length rows - 1)).core.clock ≡ length rows - 1
 
 abbrev pub GrantedEnds : Type 0
-GrantedEnds = (p : Public) (t : Trace) → length (constants_of p.params) ≡ number_of_constants → length p.statement.inputs ≤ most_inputs → HasTables t
-    → Granted p t → EndFacts (claim_of p t) t.main
+GrantedEnds = (p : Public) (t : Trace) → length (constants_of p.params) ≡ number_of_constants → HasTables t → Granted p t
+    → EndFacts (claim_of p t) t.main
