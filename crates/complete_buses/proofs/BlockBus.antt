@@ -7,11 +7,12 @@ use Rattle.vm_table.specs.MainColumns.{h}
 use Rattle.block_tree.specs.Cycles.{Mark, Do, frame_of}
 use Rattle.block_tree.specs.Steps.{Task, Block, Within, Turned, Closing, Returning, Leaving, Next, span, join, split_1, split_0, loop_1, loop_0, call, syscall, operation, respan, span_ends, repeats, loop_ends, closes, returns, leaves}
 use Rattle.block_tree.specs.Trees.{Loop, tree_digest}
+use Rattle.air_kit.specs.DeepCells.{key_of}
 use Rattle.air_kit.specs.MainTuples.{blocks_asked, blocks_given, no_frame}
 use Rattle.machine_cycles.specs.Events.{shown_between}
 use Rattle.machine_cycles.specs.declared.event.Event.{Event}
 use Rattle.complete_rows.specs.Agreement.{Agrees}
-use Rattle.complete_rows.specs.Decoder.{Decoder, Open, address_of, advance, hidden_of, key_of, keys_behind}
+use Rattle.complete_rows.specs.Decoder.{Decoder, Open, address_of, advance, hidden_of, keys_behind}
 use Rattle.complete_rows.proofs.AgreeLemmas as agree
 use Rattle.complete_rows.proofs.AgreeLemmas.{keys_by_flags, ordinary_advance}
 use Rattle.complete_rows.proofs.BlockLemmas.{behind_digest, no_block}

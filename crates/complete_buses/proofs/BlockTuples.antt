@@ -9,10 +9,10 @@ use Rattle.vm_ops.specs.declared.op.Op.TheVariants as ops
 use Rattle.vm_ops.specs.Values.{bit_of}
 use Rattle.vm_table.specs.MainColumns.{addr, ctx, depth, f, fmp, h, key, sys}
 use Rattle.block_tree.specs.Cycles.{Frame}
+use Rattle.air_kit.specs.DeepCells.{key_of}
 use Rattle.air_kit.specs.Flags as flags
 use Rattle.air_kit.specs.MainTuples as tuples
 use Rattle.air_kit.specs.MainTuples.{blocks_asked, blocks_given, is_call_op, kind_of_end, kind_of_start, no_frame}
-use Rattle.complete_rows.specs.Decoder.{key_of}
 use Rattle.complete_buses.proofs.Hits.{hit, one_count}
 
 -- the tuple of a block

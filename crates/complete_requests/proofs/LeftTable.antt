@@ -1,4 +1,4 @@
--- What the left table asks is the entries of its keys and of the outputs below the sixteenth.
+-- What the left table asks are the tuples of the outputs below the sixteenth with its keys.
 use Rattle.std.proofs.Common.{◌≡◌, ℕ, suc, ◌+◌, List, [], ◌∷◌, length, map, drop, slice_index, slice_index_or, refl, sym, ap, ◌∙◌, arith}
 use Rattle.std.proofs.lemmas.List.{drop-drop, get_or-drop}
 use Rattle.std.specs.List.{slice_get}
@@ -7,13 +7,12 @@ use Rattle.buses.specs.declared.bus.Bus.TheVariants as bus
 use Rattle.buses.proofs.Counting.{total-front}
 use Rattle.facts_hasher.proofs.Totals.{total-same}
 use Rattle.air_kit.specs.ChipTuples.{chip_asked, left_asked, next_key}
+use Rattle.air_kit.specs.DeepCells.{cell_tuples, key_of}
 use Rattle.air_kit.specs.Places.{Claim}
 use Rattle.air_kit.specs.declared.trace.TableName.TheVariants as table
 use Rattle.chip_columns.specs.LeftColumns as left
-use Rattle.complete_rows.specs.Decoder.{key_of}
-use Rattle.complete_requests.specs.Overflow.{entries}
 use Rattle.complete_requests.proofs.Chains.{hit}
-use Rattle.complete_requests.proofs.OverflowCells.{entries_more, entries_none}
+use Rattle.complete_requests.proofs.OverflowCells.{no_tuples, one_tuple}
 
 -- the key of the next row
 next_is : (x : List ℕ) (rows : List (List ℕ)) → next_key (slice_get (x ∷ rows) 1) ≡ key_of (map left.key rows)
@@ -25,9 +24,9 @@ abbrev cell_at : List ℕ → ℕ → List (List ℕ) → List ℕ → ℕ → �
 cell_at outputs j rows v i = hit (left.key (slice_index_or rows i []) ∷ slice_index outputs (16 + (j + i)) ∷ next_key (slice_get rows (suc i)) ∷ []) v
 
 cells_from : (outputs : List ℕ) (j : ℕ) (rows : List (List ℕ)) (v : List ℕ)
-    → total (length rows) (cell_at outputs j rows v) ≡ counted (entries (map left.key rows) (drop (16 + j) outputs)) v
+    → total (length rows) (cell_at outputs j rows v) ≡ counted (cell_tuples (map left.key rows) (drop (16 + j) outputs)) v
 unfolding total
-cells_from outputs j [] v = sym (entries_none (drop (16 + j) outputs) v)
+cells_from outputs j [] v = sym (no_tuples (drop (16 + j) outputs) v)
 cells_from outputs j (x ∷ rows) v =
     let front = total-front (length rows) (cell_at outputs j (x ∷ rows) v) in
     let first : cell_at outputs j (x ∷ rows) v 0 ≡ hit (left.key x ∷ slice_index (drop (16 + j) outputs) 0 ∷ key_of (map left.key rows) ∷ []) v
@@ -42,14 +41,14 @@ cells_from outputs j (x ∷ rows) v =
     let later = cells_from outputs (suc j) rows v in
     let behind : drop 1 (drop (16 + j) outputs) ≡ drop (16 + suc j) outputs
     = let place : 16 + j + 1 ≡ 16 + suc j = omega arith in drop-drop 1 (16 + j) outputs ∙ ap (λ n. drop n outputs) place in
-    let more = entries_more (left.key x) (map left.key rows) (drop (16 + j) outputs) v in
-    let moved : counted (entries (map left.key rows) (drop 1 (drop (16 + j) outputs))) v
-    ≡ counted (entries (map left.key rows) (drop (16 + suc j) outputs)) v
-    = ap (λ l. counted (entries (map left.key rows) l) v) behind in
+    let more = one_tuple (left.key x) (map left.key rows) (drop (16 + j) outputs) v in
+    let moved : counted (cell_tuples (map left.key rows) (drop 1 (drop (16 + j) outputs))) v
+    ≡ counted (cell_tuples (map left.key rows) (drop (16 + suc j) outputs)) v
+    = ap (λ l. counted (cell_tuples (map left.key rows) l) v) behind in
     omega (arith, front, first, others, later, more, moved)
 
 pub table_asks : (k : Claim) (rows : List (List ℕ)) (v : List ℕ)
-    → over_rows (chip_asked k bus.Overflow table.Left) rows v ≡ counted (entries (map left.key rows) (drop 16 k.outputs)) v
+    → over_rows (chip_asked k bus.Overflow table.Left) rows v ≡ counted (cell_tuples (map left.key rows) (drop 16 k.outputs)) v
 unfolding over_first left_asked
 table_asks k rows v =
     total-same (length rows)

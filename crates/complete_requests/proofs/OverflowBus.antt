@@ -17,7 +17,7 @@ use Rattle.machine_cycles.specs.declared.event.Event.{Event}
 use Rattle.complete_rows.specs.Decoder.{Decoder, advance, hidden_of, keys_behind}
 use Rattle.complete_rows.proofs.AgreeLemmas.{has_flags, keys_by_flags, ordinary_advance}
 use Rattle.complete_rows.proofs.BlockLemmas.{no_block}
-use Rattle.complete_requests.proofs.OverflowCells.{entries_none}
+use Rattle.complete_requests.proofs.OverflowCells.{no_tuples}
 use Rattle.complete_requests.proofs.OverflowSteps.{StackCells, come_back, condition, end_keeps, flag_of_loop, hidden, left_asked, loop_asked, none_asked, none_given, owed_cells, quiet, shifted}
 
 module _ (constants : List ℕ) (kernel : List (List ℕ)) (advice : List ℕ) (x y v : List ℕ) where
@@ -61,12 +61,12 @@ module _ (constants : List ℕ) (kernel : List (List ℕ)) (advice : List ℕ) (
   overflow_step (call {c = c}) d later todo b stack w allowed is op keyed cells =
       let given = none_given x y v ops.Call cells.op refl in
       let asked = none_asked x y v ops.Call cells.op refl refl in
-      let none = entries_none (drop 16 stack) v in
+      let none = no_tuples (drop 16 stack) v in
       omega (arith, given, asked, none)
   overflow_step (syscall {c = c}) d later todo b stack w allowed is op keyed cells =
       let given = none_given x y v ops.Syscall cells.op refl in
       let asked = none_asked x y v ops.Syscall cells.op refl refl in
-      let none = entries_none (drop 16 stack) v in
+      let none = no_tuples (drop 16 stack) v in
       omega (arith, given, asked, none)
   overflow_step (operation {c = c} {item = item}) d later todo b stack w allowed is op keyed cells =
       let moved =

@@ -1,5 +1,5 @@
 -- How the cells below the sixteenth and their keys move.
-use Rattle.std.proofs.Common.{if◌then◌else◌, ◌≡◌, ℕ, ◌+◌, ◌-◌, ◌≤◌, false, cond, eqb, ◌||◌, ◌&&◌, ◌==◌, List, [], ◌∷◌, length, drop, slice_index, refl, sym, ap, ◌∙◌, arith}
+use Rattle.std.proofs.Common.{if◌then◌else◌, ◌≡◌, ℕ, ◌+◌, ◌≤◌, false, cond, eqb, ◌||◌, ◌&&◌, ◌==◌, List, [], ◌∷◌, length, drop, slice_index, refl, sym, ap, ◌∙◌, arith}
 use Rattle.std.proofs.lemmas.Bool.{ne_eqb}
 use Rattle.std.proofs.lemmas.List.{drop-drop, get_or-drop}
 use Rattle.vm_field.specs.Machine.{filled_up}
@@ -9,23 +9,22 @@ use Rattle.vm_ops.proofs.FrameLemmas.{drop-filled_up, index-filled_up}
 use Rattle.vm_table.specs.MainColumns.{clk, depth, h, key, s}
 use Rattle.buses.specs.Counts.{Counted, counted, once}
 use Rattle.buses.proofs.Counting.{counted-none, counted-append}
+use Rattle.air_kit.specs.DeepCells.{cell_tuples, key_of}
 use Rattle.air_kit.specs.Flags as flags
 use Rattle.air_kit.specs.Flags.{is_left, is_op, is_right}
 use Rattle.air_kit.specs.MainTuples.{overflow_asked, overflow_given}
-use Rattle.complete_rows.specs.Decoder.{key_of}
-use Rattle.complete_requests.specs.Overflow.{entries}
 use Rattle.complete_requests.proofs.Chains.{hit}
 
--- ---- entries
+-- ---- the tuples of cells
 
-pub entries_none : (cells v : List ℕ) → counted (entries [] cells) v ≡ 0
-unfolding entries
-entries_none cells v = counted-none v
+pub no_tuples : (cells v : List ℕ) → counted (cell_tuples [] cells) v ≡ 0
+unfolding cell_tuples
+no_tuples cells v = counted-none v
 
-pub entries_more : (k : ℕ) (keys cells v : List ℕ)
-    → counted (entries (k ∷ keys) cells) v ≡ hit (k ∷ slice_index cells 0 ∷ key_of keys ∷ []) v + counted (entries keys (drop 1 cells)) v
-unfolding entries
-entries_more k keys cells v = counted-append (once (k ∷ slice_index cells 0 ∷ key_of keys ∷ []) ∷ []) (entries keys (drop 1 cells)) v
+pub one_tuple : (k : ℕ) (keys cells v : List ℕ)
+    → counted (cell_tuples (k ∷ keys) cells) v ≡ hit (k ∷ slice_index cells 0 ∷ key_of keys ∷ []) v + counted (cell_tuples keys (drop 1 cells)) v
+unfolding cell_tuples
+one_tuple k keys cells v = counted-append (once (k ∷ slice_index cells 0 ∷ key_of keys ∷ []) ∷ []) (cell_tuples keys (drop 1 cells)) v
 
 pub no_keys : (keys stack : List ℕ) → length keys + 16 ≡ length stack → length stack ≤ 16 → keys ≡ []
 no_keys [] stack keyed flat = refl
@@ -65,28 +64,28 @@ popped_cells stack after is = record {
 -- the keys move up with the cells
 pub pops : (keys stack after : List ℕ) (deep k cell below : ℕ) (v : List ℕ) → length keys + 16 ≡ length stack → IsPopped stack after
     → deep ≡ length stack → k ≡ key_of keys → cell ≡ slice_index after 15 → below ≡ key_of (drop 1 keys)
-    → counted (entries keys (drop 16 stack)) v
-    ≡ counted (taken_cell deep k cell below) v + counted (entries (drop 1 keys) (drop 16 after)) v
+    → counted (cell_tuples keys (drop 16 stack)) v
+    ≡ counted (taken_cell deep k cell below) v + counted (cell_tuples (drop 1 keys) (drop 16 after)) v
 pops [] stack after deep k cell below v keyed p is key_is cell_is below_is =
     let flat : deep ≡ 16 = omega (arith, is, keyed) in
     let asked : counted (taken_cell deep k cell below) v ≡ counted [] v = rw flat refl in
     let none = counted-none v in
-    let before = entries_none (drop 16 stack) v in
-    let behind = entries_none (drop 16 after) v in
+    let before = no_tuples (drop 16 stack) v in
+    let behind = no_tuples (drop 16 after) v in
     omega (arith, asked, none, before, behind)
 pops (first ∷ keys) stack after deep k cell below v keyed p is key_is cell_is below_is =
     let other : eqb deep 16 ≡ false = ne_eqb deep 16 (λ z. omega (arith, z, is, keyed)) in
     let tuple : counted (taken_cell deep k cell below) v ≡ hit (first ∷ slice_index (drop 16 stack) 0 ∷ key_of keys ∷ []) v
     = rw (other, key_is, cell_is, p.last, below_is) refl in
-    let before = entries_more first keys (drop 16 stack) v in
-    let behind : counted (entries keys (drop 16 after)) v ≡ counted (entries keys (drop 1 (drop 16 stack))) v
-    = ap (λ l. counted (entries keys l) v) p.below in
+    let before = one_tuple first keys (drop 16 stack) v in
+    let behind : counted (cell_tuples keys (drop 16 after)) v ≡ counted (cell_tuples keys (drop 1 (drop 16 stack))) v
+    = ap (λ l. counted (cell_tuples keys l) v) p.below in
     omega (arith, tuple, before, behind)
 
 -- one cell more
 pub pushes : (keys stack after : List ℕ) (clock k cell : ℕ) (v : List ℕ) → drop 16 after ≡ slice_index stack 15 ∷ drop 16 stack
     → k ≡ key_of keys → cell ≡ slice_index stack 15
-    → counted (entries (clock ∷ keys) (drop 16 after)) v ≡ hit (clock ∷ cell ∷ k ∷ []) v + counted (entries keys (drop 16 stack)) v
+    → counted (cell_tuples (clock ∷ keys) (drop 16 after)) v ≡ hit (clock ∷ cell ∷ k ∷ []) v + counted (cell_tuples keys (drop 16 stack)) v
 pushes keys stack after clock k cell v moved key_is cell_is =
-    ap (λ l. counted (entries (clock ∷ keys) l) v) moved ∙ entries_more clock keys (slice_index stack 15 ∷ drop 16 stack) v
+    ap (λ l. counted (cell_tuples (clock ∷ keys) l) v) moved ∙ one_tuple clock keys (slice_index stack 15 ∷ drop 16 stack) v
     ∙ rw (key_is, cell_is) refl

@@ -1,7 +1,8 @@
--- What the rows of a run give of overflow is what they and the cells that are left ask.
+-- What the inputs and the rows of a run give of overflow is what the rows and the cells that are left ask.
 use Rattle.std.proofs.Common.{◌≡◌, ℕ, ◌+◌, ◌-◌, ◌≤◌, List, [], ◌∷◌, ◌++◌, length, map, take, drop, refl, sym, ap, ◌∙◌, subst, arith, lit<}
+use Rattle.std.proofs.lemmas.List.{length-drop}
 use Rattle.vm_field.specs.Limits.{most_cycles, number_of_constants}
-use Rattle.vm_field.specs.Machine.{State}
+use Rattle.vm_field.specs.Machine.{State, start}
 use Rattle.block_tree.specs.Cycles.{advice_taken, effect_of}
 use Rattle.block_tree.specs.Execution as run
 use Rattle.block_tree.specs.Rows.{behind}
@@ -9,22 +10,22 @@ use Rattle.block_tree.specs.Steps.{Block, IsCycle}
 use Rattle.block_tree.specs.Trees.{Tree}
 use Rattle.block_tree.proofs.KeptLemmas.{cycle-step}
 use Rattle.buses.specs.Counts.{counted, over_rows, with_next}
-use Rattle.vm_ops.proofs.FrameLemmas.{step-below}
+use Rattle.vm_ops.proofs.FrameLemmas.{drop-filled_up, step-below}
+use Rattle.air_kit.specs.DeepCells.{cell_tuples, keys_at_start}
 use Rattle.air_kit.specs.MainTuples.{overflow_asked, overflow_given}
 use Rattle.chip_columns.specs.LeftColumns as left
 use Rattle.machine_cycles.specs.declared.event.Event.{Event}
 use Rattle.complete_rows.specs.BlockRows.{IsWholeRun, filled, keys_of}
 use Rattle.complete_rows.specs.Chains.{AreLinked}
-use Rattle.complete_rows.specs.Decoder.{advance, at_start, decoder_after, keys_at_start}
+use Rattle.complete_rows.specs.Decoder.{advance, at_start, decoder_after}
 use Rattle.complete_rows.specs.Moments.{IsMoment, event_at}
 use Rattle.complete_rows.proofs.ChainLemmas.{balanced, over_rows_pairs}
 use Rattle.complete_rows.proofs.MomentFacts.{core_after, known, moment_op, moment_shows, place_shows}
 use Rattle.complete_rows.proofs.TableLemmas.{is_linked}
-use Rattle.complete_requests.specs.Overflow.{OverflowIsEven, entries}
+use Rattle.complete_requests.specs.Overflow.{OverflowIsEven}
 use Rattle.complete_requests.proofs.LeftTable.{table_asks}
 use Rattle.complete_requests.proofs.MomentCells.{moment_eight}
 use Rattle.complete_requests.proofs.OverflowBus.{overflow_step}
-use Rattle.complete_requests.proofs.OverflowCells.{entries_none}
 use Rattle.complete_requests.proofs.OverflowSteps.{StackCells, owed_cells}
 
 module _ (constants : List ℕ) (len : length constants ≡ number_of_constants) (kernel : List (List ℕ)) (limit : ℕ) (within : limit ≤ most_cycles) where
@@ -57,30 +58,50 @@ module _ (constants : List ℕ) (len : length constants ≡ number_of_constants)
 
   rows_even : (u : State) (deep : ℕ) {tree : Tree} {s : State} {events : List Event} {rows : List (List ℕ)}
       → AreLinked constants kernel limit u (Block tree ∷ []) (at_start deep) s events rows → (v : List ℕ)
-      → over_rows (with_next overflow_given) rows v
-      ≡ over_rows (with_next overflow_asked) rows v + counted (entries (decoder_after (at_start deep) events).keys (drop 16 u.core.stack)) v
-  unfolding keys_at_start
+      → counted (cell_tuples (keys_at_start deep) (drop 16 s.core.stack)) v + over_rows (with_next overflow_given) rows v
+      ≡ over_rows (with_next overflow_asked) rows v + counted (cell_tuples (decoder_after (at_start deep) events).keys (drop 16 u.core.stack)) v
   rows_even u deep {s = s} {events = events} {rows = rows} linked v =
       let whole = balanced constants kernel limit (λ x y. counted (overflow_given x y) v) (λ x y. counted (overflow_asked x y) v)
       (λ todo d t later. owed_cells v todo d t.core.stack) (λ x y m. moment_even v x y m) linked in
       let given = over_rows_pairs overflow_given v rows in
       let asked = over_rows_pairs overflow_asked v rows in
-      let none = entries_none (drop 16 s.core.stack) v in
-      omega (arith, whole, given, asked, none)
+      omega (arith, whole, given, asked)
+
+-- what is owed at the start are the inputs below the sixteenth
+starts_with : (inputs tape : List ℕ)
+    → cell_tuples (keys_at_start (length inputs - 16)) (drop 16 (start inputs tape).core.stack)
+    ≡ cell_tuples (keys_at_start (length (drop 16 inputs))) (drop 16 inputs)
+unfolding start
+starts_with inputs tape =
+    ap (cell_tuples (keys_at_start (length inputs - 16))) (drop-filled_up inputs)
+    ∙ ap (λ n. cell_tuples (keys_at_start n) (drop 16 inputs)) (sym (length-drop 16 inputs))
 
 pub overflow_is_even : (constants : List ℕ) (kernel : List (List ℕ)) (limit : ℕ) (tree : Tree) (inputs tape : List ℕ) (u : State)
     (log : List run.Event)
     → IsWholeRun constants kernel limit tree inputs tape u log
-    → OverflowIsEven (filled constants kernel u log) (keys_of constants kernel inputs log) u
+    → OverflowIsEven (filled constants kernel u log) inputs (keys_of constants kernel inputs log) u
 overflow_is_even constants kernel limit tree inputs tape u log r =
-    let even = rows_even constants r.constants_are kernel limit r.within u (length inputs - 16)
-    (is_linked constants kernel limit tree inputs tape u log r) in
+    let even : (v : List ℕ)
+    → counted (cell_tuples (keys_at_start (length (drop 16 inputs))) (drop 16 inputs)) v
+    + over_rows (with_next overflow_given) (filled constants kernel u log) v
+    ≡ over_rows (with_next overflow_asked) (filled constants kernel u log) v
+    + counted (cell_tuples (keys_of constants kernel inputs log) (drop 16 u.core.stack)) v
+    = λ v.
+    subst
+    (λ cells. counted cells v + over_rows (with_next overflow_given) (filled constants kernel u log) v
+    ≡ over_rows (with_next overflow_asked) (filled constants kernel u log) v
+    + counted (cell_tuples (keys_of constants kernel inputs log) (drop 16 u.core.stack)) v)
+    (starts_with inputs tape)
+    (rows_even constants r.constants_are kernel limit r.within u (length inputs - 16)
+    (is_linked constants kernel limit tree inputs tape u log r) v) in
     record {
       cells = even;
-      table = λ k others outputs keys v.
+      table = λ k others given outputs keys v.
+          let begun = ap (λ xs. counted (cell_tuples (keys_at_start (length (drop 16 xs))) (drop 16 xs)) v) given in
           let asked = table_asks k others v in
-          let same : counted (entries (map left.key others) (drop 16 k.outputs)) v
-          ≡ counted (entries (keys_of constants kernel inputs log) (drop 16 u.core.stack)) v
+          let same : counted (cell_tuples (map left.key others) (drop 16 k.outputs)) v
+          ≡ counted (cell_tuples (keys_of constants kernel inputs log) (drop 16 u.core.stack)) v
           = rw (keys, outputs) refl in
-          even v ∙ ap (λ n. over_rows (with_next overflow_asked) (filled constants kernel u log) v + n) (sym (asked ∙ same));
+          let whole = even v in
+          omega (arith, begun, asked, same, whole);
     }

@@ -15,14 +15,14 @@ use Rattle.block_tree.specs.Rows.{hash_of, op_of_mark}
 use Rattle.block_tree.specs.Steps.{Task, Block, Within, Turned, Closing, Returning, Leaving}
 use Rattle.buses.specs.Counts.{counted}
 use Rattle.buses.proofs.Counting.{counted-none}
+use Rattle.air_kit.specs.DeepCells.{cell_tuples, key_of}
 use Rattle.air_kit.specs.Flags as flags
 use Rattle.air_kit.specs.Flags.{is_left, is_op, is_right, is_shift}
 use Rattle.air_kit.specs.MainTuples.{eight, overflow_asked, overflow_given}
-use Rattle.complete_rows.specs.Decoder.{Decoder, Open, hidden_of, key_of, keys_after}
+use Rattle.complete_rows.specs.Decoder.{Decoder, Open, hidden_of, keys_after}
 use Rattle.complete_rows.proofs.AgreeLemmas.{has_flags}
-use Rattle.complete_requests.specs.Overflow.{entries}
 use Rattle.complete_requests.proofs.Chains.{hit}
-use Rattle.complete_requests.proofs.OverflowCells.{asked_by, entries_none, given_by, no_keys, popped_cells, pops, pushes, taken_cell}
+use Rattle.complete_requests.proofs.OverflowCells.{asked_by, no_tuples, given_by, no_keys, popped_cells, pops, pushes, taken_cell}
 
 -- the cells that calls hide
 abbrev pub hidden : List Task → List Open → List ℕ → ℕ
@@ -31,12 +31,12 @@ hidden (Block tree ∷ todo) blocks v = hidden todo blocks v
 hidden (Within items later digest ∷ todo) blocks v = hidden todo (drop 1 blocks) v
 hidden (Turned body ∷ todo) blocks v = hidden todo (drop 1 blocks) v
 hidden (Closing digest ∷ todo) blocks v = hidden todo (drop 1 blocks) v
-hidden (Returning digest frame ∷ todo) blocks v = counted (entries (hidden_of blocks) frame.hidden) v + hidden todo (drop 1 blocks) v
-hidden (Leaving digest frame ∷ todo) blocks v = counted (entries (hidden_of blocks) frame.hidden) v + hidden todo (drop 1 blocks) v
+hidden (Returning digest frame ∷ todo) blocks v = counted (cell_tuples (hidden_of blocks) frame.hidden) v + hidden todo (drop 1 blocks) v
+hidden (Leaving digest frame ∷ todo) blocks v = counted (cell_tuples (hidden_of blocks) frame.hidden) v + hidden todo (drop 1 blocks) v
 
 -- what is still to be asked: the cells below the sixteenth, and those that calls hide
 abbrev pub owed_cells : List ℕ → List Task → Decoder → List ℕ → ℕ
-owed_cells v todo d stack = counted (entries d.keys (drop 16 stack)) v + hidden todo d.blocks v
+owed_cells v todo d stack = counted (cell_tuples d.keys (drop 16 stack)) v + hidden todo d.blocks v
 
 -- what a row and the row behind it show of cells
 pub record StackCells (mark : Mark) (c : Core) (stack : List ℕ) (d after : Decoder) (x y : List ℕ) : Type 0 where
@@ -68,53 +68,53 @@ module _ (x y v : List ℕ) where
 
   -- the stack stays, and the keys do
   pub quiet : (stack after : List ℕ) (keys new : List ℕ) → after ≡ stack → new ≡ keys
-      → counted (entries new (drop 16 after)) v ≡ counted (entries keys (drop 16 stack)) v
+      → counted (cell_tuples new (drop 16 after)) v ≡ counted (cell_tuples keys (drop 16 stack)) v
   quiet stack after keys new is same = rw (is, same) refl
 
   -- the call's cells come back
   pub come_back : (keys back stack hidden after new : List ℕ) → length keys + 16 ≡ length stack → length stack ≤ 16
       → after ≡ stack ++ hidden → new ≡ back
-      → counted (entries new (drop 16 after)) v ≡ counted (entries keys (drop 16 stack)) v + counted (entries back hidden) v
+      → counted (cell_tuples new (drop 16 after)) v ≡ counted (cell_tuples keys (drop 16 stack)) v + counted (cell_tuples back hidden) v
   come_back keys back stack hidden after new keyed flat is same =
       let none : keys ≡ [] = no_keys keys stack keyed flat in
-      let before : counted (entries keys (drop 16 stack)) v ≡ 0 = rw none (entries_none (drop 16 stack) v) in
+      let before : counted (cell_tuples keys (drop 16 stack)) v ≡ 0 = rw none (no_tuples (drop 16 stack) v) in
       let cells : drop 16 after ≡ hidden = ap (drop 16) is ∙ drop_at stack hidden 16 (omega (arith, keyed, flat)) in
-      let behind : counted (entries new (drop 16 after)) v ≡ counted (entries back hidden) v = rw (cells, same) refl in
+      let behind : counted (cell_tuples new (drop 16 after)) v ≡ counted (cell_tuples back hidden) v = rw (cells, same) refl in
       omega (arith, before, behind)
 
   -- a condition is popped
   pub condition : (op : Op) (mark : Mark) (c : Core) (stack : List ℕ) (d after : Decoder) → StackCells mark c stack d after x y → flags.op_of x ≡ op
       → is_right op ≡ false → counted (overflow_asked x y) v ≡ counted (taken_cell (depth x) (key x) (s y 15) (key y)) v
       → after.keys ≡ drop 1 d.keys → stack ≡ filled_up (drop 1 c.stack) → length d.keys + 16 ≡ length c.stack
-      → counted (overflow_given x y) v + counted (entries d.keys (drop 16 c.stack)) v
-      ≡ counted (overflow_asked x y) v + counted (entries after.keys (drop 16 stack)) v
+      → counted (overflow_given x y) v + counted (cell_tuples d.keys (drop 16 c.stack)) v
+      ≡ counted (overflow_asked x y) v + counted (cell_tuples after.keys (drop 16 stack)) v
   condition op mark c stack d after cells is stays asked keys popped keyed =
       let given = none_given op is stays in
       let moved = pops d.keys c.stack stack (depth x) (key x) (s y 15) (key y) v keyed (popped_cells c.stack stack popped) cells.deep cells.key_is
       cells.behind (cells.key_behind ∙ ap key_of keys) in
-      let behind : counted (entries after.keys (drop 16 stack)) v ≡ counted (entries (drop 1 d.keys) (drop 16 stack)) v
-      = ap (λ k. counted (entries k (drop 16 stack)) v) keys in
+      let behind : counted (cell_tuples after.keys (drop 16 stack)) v ≡ counted (cell_tuples (drop 1 d.keys) (drop 16 stack)) v
+      = ap (λ k. counted (cell_tuples k (drop 16 stack)) v) keys in
       omega (arith, given, asked, moved, behind)
 
   -- an operation of a shift
   pub shifted : (op : Op) (shift : Shift) → shift_of op ≡ shift → (mark : Mark) (c : Core) (stack : List ℕ) (d after : Decoder)
       → StackCells mark c stack d after x y → flags.op_of x ≡ op → is_op op ops.End ≡ false → ShiftedBelow shift c.stack stack
       → after.keys ≡ keys_after shift c.clock d.keys → length d.keys + 16 ≡ length c.stack
-      → counted (overflow_given x y) v + counted (entries d.keys (drop 16 c.stack)) v
-      ≡ counted (overflow_asked x y) v + counted (entries after.keys (drop 16 stack)) v
+      → counted (overflow_given x y) v + counted (cell_tuples d.keys (drop 16 c.stack)) v
+      ≡ counted (overflow_asked x y) v + counted (cell_tuples after.keys (drop 16 stack)) v
   shifted op Right e mark c stack d after cells is other below keys keyed =
       let asked = none_asked op is (ap (is_shift Left) e) other in
       let right : is_right op ≡ true = ap (is_shift Right) e in
       let given : counted (overflow_given x y) v ≡ hit (c.clock ∷ s x 15 ∷ key x ∷ []) v
       = given_by op x y v is ∙ rw (right, cells.clock) refl in
       let moved = pushes d.keys c.stack stack c.clock (key x) (s x 15) v below cells.key_is cells.last in
-      let behind : counted (entries after.keys (drop 16 stack)) v ≡ counted (entries (c.clock ∷ d.keys) (drop 16 stack)) v
-      = ap (λ k. counted (entries k (drop 16 stack)) v) keys in
+      let behind : counted (cell_tuples after.keys (drop 16 stack)) v ≡ counted (cell_tuples (c.clock ∷ d.keys) (drop 16 stack)) v
+      = ap (λ k. counted (cell_tuples k (drop 16 stack)) v) keys in
       omega (arith, asked, given, moved, behind)
   shifted op Stay e mark c stack d after cells is other below keys keyed =
       let asked = none_asked op is (ap (is_shift Left) e) other in
       let given = none_given op is (ap (is_shift Right) e) in
-      let behind : counted (entries after.keys (drop 16 stack)) v ≡ counted (entries d.keys (drop 16 c.stack)) v = rw (keys, below) refl in
+      let behind : counted (cell_tuples after.keys (drop 16 stack)) v ≡ counted (cell_tuples d.keys (drop 16 c.stack)) v = rw (keys, below) refl in
       omega (arith, asked, given, behind)
   shifted op Left e mark c stack d after cells is other below keys keyed =
       let asked = left_asked op is (ap (is_shift Left) e) in
@@ -122,8 +122,8 @@ module _ (x y v : List ℕ) where
       let moved = pops d.keys c.stack stack (depth x) (key x) (s y 15) (key y) v keyed
       (record { below = below.0 ∙ sym (drop-drop 1 16 c.stack); last = below.1 }) cells.deep cells.key_is cells.behind
       (cells.key_behind ∙ ap key_of keys) in
-      let behind : counted (entries after.keys (drop 16 stack)) v ≡ counted (entries (drop 1 d.keys) (drop 16 stack)) v
-      = ap (λ k. counted (entries k (drop 16 stack)) v) keys in
+      let behind : counted (cell_tuples after.keys (drop 16 stack)) v ≡ counted (cell_tuples (drop 1 d.keys) (drop 16 stack)) v
+      = ap (λ k. counted (cell_tuples k (drop 16 stack)) v) keys in
       omega (arith, asked, given, moved, behind)
 
   pub flag_of_loop : (digest : List ℕ) (i j k l : ℕ) → length digest ≡ 4 → eight x ≡ digest ++ i ∷ j ∷ k ∷ l ∷ [] → h x 4 ≡ i

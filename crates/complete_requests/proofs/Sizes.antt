@@ -1,7 +1,7 @@
 -- How many requests a run has: each cycle asks for one permutation, bitwise operation or access at most, where a span's further batches
 -- are asked for by their RESPANs.
 use Rattle.std.proofs.Common.{◌≡◌, ℕ, ◌+◌, ◌≤◌, false, List, [], ◌∷◌, length, arith, length-append}
-use Rattle.vm_field.specs.Limits.{most_cycles}
+use Rattle.vm_field.specs.Limits.{most_cycles, most_inputs}
 use Rattle.vm_field.specs.Machine.{State}
 use Rattle.vm_field.specs.Sponge.{begun}
 use Rattle.vm_ops.specs.Codes.{code_of}
@@ -90,7 +90,7 @@ module _ (constants : List ℕ) (kernel : List (List ℕ)) (limit : ℕ) (u : St
   events_few (chains.goes m later) = let whole = m.bounded.whole in omega (arith, whole)
 
   pub keys_few : {todo : List Task} {d : Decoder} {s : State} {events : List Event} {rows : List (List ℕ)}
-      → AreLinked constants kernel limit u todo d s events rows → length (decoder_after d events).keys ≤ most_cycles
+      → AreLinked constants kernel limit u todo d s events rows → length (decoder_after d events).keys + 16 ≤ most_cycles + most_inputs
   unfolding decoder_after
   keys_few (chains.ends e) =
       let keyed = e.agrees.keyed in let depth = e.small.depth in let whole = e.bounded.whole in omega (arith, keyed, depth, whole)

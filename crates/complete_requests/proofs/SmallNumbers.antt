@@ -96,15 +96,15 @@ module _ (constants : List ℕ) (kernel : List (List ℕ)) (limit : ℕ) where
         All-append HasU32Address (accesses_by (op_of_mark m.mark) (event_at constants kernel m.mark m.s)) (accesses_of m.later)
         (mark_accesses m.mark m.s m.t m.cycle) (addresses_fit later)
 
-    -- a stack is no deeper than cycles and the sixteen cells that it begins with
+    -- a stack is no deeper than cycles and the cells that it begins with
     pub depths_fit : {todo : List Task} {d : Decoder} {s : State} {events : List Event} {rows : List (List ℕ)}
-        → AreLinked constants kernel limit u todo d s events rows → All (λ e. e.before.depth < prime) events
-    depths_fit (chains.ends e) = All-nil (λ e. e.before.depth < prime)
+        → AreLinked constants kernel limit u todo d s events rows → All (λ e. e.before.depth < 2 ^ 32) events
+    depths_fit (chains.ends e) = All-nil (λ e. e.before.depth < 2 ^ 32)
     depths_fit (chains.goes m later) =
-        All-cons (λ e. e.before.depth < prime) (event_at constants kernel m.mark m.s) m.later
+        All-cons (λ e. e.before.depth < 2 ^ 32) (event_at constants kernel m.mark m.s) m.later
         (let depth = m.small.depth in let whole = m.bounded.whole in omega (arith, depth, whole)) (depths_fit later)
 
     pub depth_fits : {todo : List Task} {d : Decoder} {s : State} {events : List Event} {rows : List (List ℕ)}
-        → AreLinked constants kernel limit u todo d s events rows → length u.core.stack < prime
+        → AreLinked constants kernel limit u todo d s events rows → length u.core.stack < 2 ^ 32
     depth_fits (chains.ends e) = let depth = e.small.depth in let whole = e.bounded.whole in omega (arith, depth, whole)
     depth_fits (chains.goes m later) = depth_fits later

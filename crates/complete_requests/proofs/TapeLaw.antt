@@ -10,7 +10,7 @@ use Rattle.block_tree.specs.Trees.{Tree}
 use Rattle.air_kit.specs.Flags as flags
 use Rattle.air_kit.specs.RowStates.{tape_of, taken_by}
 use Rattle.machine_cycles.specs.declared.event.Event.{Event}
-use Rattle.complete_rows.specs.BlockRows.{IsWholeRun, events_of, filled}
+use Rattle.complete_rows.specs.BlockRows.{IsWholeRun, filled}
 use Rattle.complete_rows.specs.Chains as chains
 use Rattle.complete_rows.specs.Chains.{AreLinked}
 use Rattle.complete_rows.specs.Decoder.{Decoder}

@@ -6,7 +6,7 @@ use Rattle.block_tree.specs.Execution as run
 use Rattle.block_tree.specs.Trees.{Tree}
 use Rattle.air_kit.specs.Requests.{Fits}
 use Rattle.air_kit.specs.declared.requests.Requests.{Requests}
-use Rattle.complete_rows.specs.BlockRows.{IsWholeRun, events_of, filled}
+use Rattle.complete_rows.specs.BlockRows.{IsWholeRun, filled}
 use Rattle.complete_requests.specs.Asked.{requests}
 
 -- requests that fit, and that are fewer than so many rows

@@ -4,7 +4,7 @@ use Rattle.vm_field.specs.Machine.{State}
 use Rattle.block_tree.specs.Execution as run
 use Rattle.block_tree.specs.Trees.{Tree}
 use Rattle.air_kit.specs.RowStates.{tape_of}
-use Rattle.complete_rows.specs.BlockRows.{IsWholeRun, events_of, filled}
+use Rattle.complete_rows.specs.BlockRows.{IsWholeRun, filled}
 
 -- the elements that the rows take, and those that are left at the end
 abbrev pub RunTakes : Type 0

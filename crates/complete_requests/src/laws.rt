@@ -21,8 +21,8 @@ pub fn fit_laws()
     ensures fits { RunFits }
 {}
 
-/// The law of overflow: the cells that the rows of a run push below the sixteenth are those that its
-/// rows take from there, and those that the table of cells left asks at the end.
+/// The law of overflow: the inputs below the sixteenth and the cells that the rows of a run push there
+/// are those that its rows take from there, and those that the table of cells left asks at the end.
 pub fn overflow_laws()
     ensures overflow { RunKeepsOverflow }
 {}

@@ -1,5 +1,5 @@
 -- Addresses and keys stay within their bounds from cycle to cycle.
-use Rattle.std.proofs.Common.{All, ◌≡◌, ℕ, suc, ◌+◌, ◌*◌, ◌<◌, ◌≤◌, Bool, true, false, cond, List, [], ◌∷◌, length, drop, arith}
+use Rattle.std.proofs.Common.{All, ◌≡◌, ℕ, zero, suc, ◌+◌, ◌*◌, ◌<◌, ◌≤◌, Bool, true, false, cond, List, [], ◌∷◌, length, drop, arith}
 use Rattle.std.proofs.lemmas.List.Elements.{All-cons, All-drop, All-head, All-nil}
 use Rattle.vm_field.specs.Limits.{most_cycles}
 use Rattle.vm_field.specs.Field.{prime, AreElements}
@@ -8,10 +8,12 @@ use Rattle.vm_ops.specs.Moves.{shift_of}
 use Rattle.vm_ops.specs.declared.op.Op.TheVariants as ops
 use Rattle.vm_ops.specs.declared.op.Shift.{Shift}
 use Rattle.vm_ops.specs.declared.op.Shift.TheVariants.{Left, Stay, Right}
+use Rattle.air_kit.specs.DeepCells.{input_key, input_keys}
 use Rattle.air_kit.specs.Flags.{is_op}
+use Rattle.air_kit.proofs.InputKeys.{input_key_low}
 use Rattle.machine_cycles.specs.declared.event.Event.{Event}
 use Rattle.complete_rows.specs.Bounds.{IsBounded, IsLowBlock}
-use Rattle.complete_rows.specs.Decoder.{Open, Decoder, advance, advance_by, at_start, ends_call, ends_loop, hidden_of, keys_after, keys_at_start}
+use Rattle.complete_rows.specs.Decoder.{Open, Decoder, advance, advance_by, at_start, ends_call, ends_loop, hidden_of, keys_after}
 use Rattle.vm_ops.specs.declared.kind.Kind.TheVariants as kinds
 use Rattle.vm_ops.specs.declared.kind.Kind.{Kind}
 use Rattle.vm_ops.specs.Codes.{kind_of}
@@ -146,13 +148,18 @@ bounded_next d e later clock b is =
       whole = b.whole;
     })
 
+-- the keys of inputs are elements
+inputs_low : (i n : ℕ) → AreElements (input_keys i n)
+unfolding input_keys
+inputs_low i zero = elements-none
+inputs_low i (suc n) = elements-cons (input_key i) (input_keys (suc i) n) (input_key_low i) (inputs_low (suc i) n)
+
 pub bounded_start : (deep : ℕ) (events : List Event) → length events ≤ most_cycles → IsBounded (at_start deep) 0 events
-unfolding keys_at_start
 bounded_start deep events few = record {
   next = omega arith;
   ha = omega arith;
   blocks = All-nil IsLowBlock;
-  keys = elements-none;
+  keys = inputs_low 0 deep;
   whole = omega (arith, few);
 }
 

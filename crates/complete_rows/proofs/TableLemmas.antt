@@ -1,8 +1,8 @@
 -- The rows of a run show the facts of blocks, batches, groups and boundaries.
-use Rattle.std.proofs.Common.{◌≡◌, ◌⊎◌, inl, inr, ℕ, suc, ◌+◌, ◌-◌, ◌<◌, ◌≤◌, All, List, [], ◌∷◌, length, slice_index, refl, sym, ap, ◌∙◌, subst, arith, lit<}
+use Rattle.std.proofs.Common.{◌≡◌, ◌⊎◌, inl, inr, ℕ, suc, ◌+◌, ◌-◌, ◌<◌, ◌≤◌, All, List, [], ◌∷◌, length, drop, slice_index, refl, sym, ap, ◌∙◌, subst, arith, lit<}
 use Rattle.std.proofs.lemmas.Bool.{cases_eq, cases_lt}
-use Rattle.std.proofs.lemmas.List.{get_or_past, length-map}
-use Rattle.vm_field.specs.Limits.{most_cycles}
+use Rattle.std.proofs.lemmas.List.{get_or_past, length-drop, length-map}
+use Rattle.vm_field.specs.Limits.{most_cycles, most_inputs}
 use Rattle.vm_field.specs.Field.{prime}
 use Rattle.vm_field.specs.Machine.{State, IsWellFormed, filled_up, start, zero_word}
 use Rattle.vm_field.proofs.Elements.{length-filled_up}
@@ -15,6 +15,8 @@ use Rattle.block_tree.specs.Trees.{Tree}
 use Rattle.block_tree.proofs.AlongLemmas.{log-nested, steps-reached, steps-shallow}
 use Rattle.block_tree.proofs.RunSteps.{run-steps}
 use Rattle.block_tree.proofs.TaskLemmas.{steps-log}
+use Rattle.air_kit.proofs.InputKeys.{input_keys_length}
+use Rattle.air_kit.specs.DeepCells.{key_of, keys_at_start}
 use Rattle.air_kit.specs.Flags as flags
 use Rattle.air_kit.specs.Places.{Claim}
 use Rattle.machine_cycles.specs.Events.{shown, visible_of}
@@ -28,7 +30,7 @@ use Rattle.complete_rows.specs.Agreement.{Agrees}
 use Rattle.complete_rows.specs.BlockRows.{ClaimsRun, IsWholeRun, ShowsBlocks, decoder_behind, events_of, filled, keys_of}
 use Rattle.complete_rows.specs.Bounds.{IsSmallCore}
 use Rattle.complete_rows.specs.Chains.{AreLinked}
-use Rattle.complete_rows.specs.Decoder.{Decoder, advance, at_start, decoder_after, keys_at_start}
+use Rattle.complete_rows.specs.Decoder.{Decoder, advance, at_start, decoder_after}
 use Rattle.complete_rows.specs.Filling.{deep_before, fill, rows_of_run}
 use Rattle.complete_rows.specs.Lines.{Line, laid_out}
 use Rattle.complete_rows.specs.Moments.{AreMoments, IsLastMoment, IsRowAt}
@@ -43,18 +45,15 @@ use Rattle.complete_rows.proofs.MomentLemmas.{Filled, along, behind_is, end_at, 
 
 -- ---- the start
 
-depth_start : (inputs : List ℕ) → length inputs ≤ 16 → 16 ≡ length (filled_up inputs)
-depth_start inputs few = omega (arith, few, length-filled_up inputs)
-
-agrees_start : (tree : Tree) (inputs tape : List ℕ) → length inputs ≤ 16
-    → Agrees (Block tree ∷ []) (at_start (length inputs - 16)) (start inputs tape).core
-unfolding start keys_at_start
-agrees_start tree inputs tape few = record {
+-- a key for each cell below the sixteenth
+agrees_start : (tree : Tree) (inputs tape : List ℕ) → Agrees (Block tree ∷ []) (at_start (length inputs - 16)) (start inputs tape).core
+unfolding start
+agrees_start tree inputs tape = record {
   framed = refl;
   reads = (refl, tt);
   low = low_nothing;
   nesting = refl;
-  keyed = depth_start inputs few;
+  keyed = omega (arith, input_keys_length 0 (length inputs - 16), length-filled_up inputs);
 }
 
 -- ---- a run
@@ -72,8 +71,8 @@ module _ (constants : List ℕ) (kernel : List (List ℕ)) (limit : ℕ) where
       let steps = steps_of tree inputs tape u log r in
       let formed : IsWellFormed (start inputs tape) = start-IsWellFormed inputs tape r.inputs_are r.tape_is in
       let nested = log-nested constants kernel limit (steps-log constants kernel limit steps) (omega arith) in
-      let shallow = steps-shallow constants kernel limit r.constants_are 0 16 steps
-      (let deep = depth_start inputs r.few in omega (arith, deep), (r.whole, tt), formed) in
+      let shallow = steps-shallow constants kernel limit r.constants_are 0 most_inputs steps
+      (let few = r.few in omega (arith, few, length-filled_up inputs), (r.whole, tt), formed) in
       let reached = steps-reached constants kernel limit steps (omega arith, (tt, tt)) in (
         λ k d h. record {
           nesting = nested.0 k d h;
@@ -112,7 +111,7 @@ module _ (constants : List ℕ) (kernel : List (List ℕ)) (limit : ℕ) where
       (events_of constants kernel log) (fill (visible_of u.core) (at_start deep) (events_of constants kernel log)))
       (sym (deep_is tree inputs tape u log r))
       (along constants kernel limit r.constants_are steps (r.whole, tt) (start-IsWellFormed inputs tape r.inputs_are r.tape_is)
-      (at_start (length inputs - 16)) (agrees_start tree inputs tape r.few)
+      (at_start (length inputs - 16)) (agrees_start tree inputs tape)
       (bounded_start (length inputs - 16) (events_of constants kernel log) few) states.0 states.1)
 
 -- ---- each row
@@ -177,10 +176,11 @@ module _ (constants : List ℕ) (kernel : List (List ℕ)) (limit : ℕ) (within
 -- ---- the first row
 
 first_shown : (constants : List ℕ) (tree : Tree) (inputs tape : List ℕ) (u : State) (d : Decoder) (x : List ℕ) (k : Claim)
-    → IsRowAt constants (Block tree ∷ []) (at_start (length inputs - 16)) (start inputs tape).core x → length inputs ≤ 16
+    → IsRowAt constants (Block tree ∷ []) (at_start (length inputs - 16)) (start inputs tape).core x
     → ClaimsRun k inputs d.keys u → length d.keys + 16 ≡ length u.core.stack → IsFirstRow k (flags.op_of x) x
-unfolding start keys_at_start
-first_shown constants tree inputs tape u d x k at few claims keyed =
+unfolding start
+first_shown constants tree inputs tape u d x k at claims keyed =
+    let deep : length (drop 16 k.inputs) ≡ length inputs - 16 = ap (λ v. length (drop 16 v)) claims.inputs_are ∙ length-drop 16 inputs in
     let shows : Shows (flags.op_of x) (at_start (length inputs - 16)) (start inputs tape).core x = place_shows constants at in
     record {
       start = record {
@@ -192,8 +192,8 @@ first_shown constants tree inputs tape u d x k at few claims keyed =
         syscall = shows.syscall;
         digest = λ j low. shows.digest j low ∙ below_four (λ n. slice_index zero_word n ≡ 0) refl refl refl refl j low;
         level = shows.level;
-        depth_is = shows.deep ∙ sym (depth_start inputs few);
-        key_is = shows.key_is;
+        depth_is = let full = shows.deep in omega (arith, full, deep, length-filled_up inputs);
+        key_is = shows.key_is ∙ ap (λ n. key_of (keys_at_start n)) (sym deep);
       };
       inputs = λ j low. shows.cells j low ∙ index-filled_up inputs j ∙ ap (λ v. slice_index v j) (sym claims.inputs_are);
       kernel = claims.kernel_rows;
@@ -261,7 +261,7 @@ shows_blocks constants kernel limit tree inputs tape u log r k claims =
       pair_is = λ i h. moment_pair constants kernel limit r.within
           (moment_at constants kernel limit (decoder_behind constants kernel inputs log) u (filled constants kernel u log) m.0 i h);
       first = λ h. first_shown constants tree inputs tape u (decoder_behind constants kernel inputs log)
-          (row_at (filled constants kernel u log) 0) k m.1 r.few claims
+          (row_at (filled constants kernel u log) 0) k m.1 claims
           (last_keyed constants kernel limit (decoder_behind constants kernel inputs log) u (filled constants kernel u log) m.0 h);
       last = last_shown constants kernel limit r.within (decoder_behind constants kernel inputs log) u
           (filled constants kernel u log) m.0 k

@@ -9,6 +9,7 @@ use Rattle.block_tree.specs.Execution.{Done, execution}
 use Rattle.block_tree.specs.Steps.{Block}
 use Rattle.block_tree.specs.Trees.{Tree, IsWhole}
 use Rattle.air_kit.specs.BoundaryValues.{rows_in}
+use Rattle.air_kit.specs.DeepCells.{key_of}
 use Rattle.air_kit.specs.Places.{Claim}
 use Rattle.air_kit.specs.declared.trace.TableName.TheVariants as table
 use Rattle.machine_cycles.specs.Events.{shown, visible_of}
@@ -16,7 +17,7 @@ use Rattle.machine_cycles.specs.declared.event.Event.{Event}
 use Rattle.facts_main.specs.Bounds.{IsFirstRow, IsLastRow}
 use Rattle.facts_main.specs.MainRows.{op_in}
 use Rattle.facts_main.specs.RowFacts.{ReadsAs, IsRow, IsPair}
-use Rattle.complete_rows.specs.Decoder.{Decoder, at_start, decoder_after, key_of}
+use Rattle.complete_rows.specs.Decoder.{Decoder, at_start, decoder_after}
 use Rattle.complete_rows.specs.Filling.{rows_of_run}
 use Rattle.complete_rows.specs.Moments.{AreMoments, IsRowAt}
 

@@ -1,6 +1,6 @@
 -- How far addresses, keys and counts go at each place of a run.
-use Rattle.std.specs.Prelude.{◌≡◌, ℕ, ◌+◌, ◌*◌, ◌<◌, ◌≤◌, true, List, length, All}
-use Rattle.vm_field.specs.Limits.{most_cycles, most_nesting}
+use Rattle.std.specs.Prelude.{ℕ, ◌+◌, ◌*◌, ◌<◌, ◌≤◌, List, length, All}
+use Rattle.vm_field.specs.Limits.{most_cycles, most_inputs, most_nesting}
 use Rattle.vm_field.specs.Field.{prime, AreElements}
 use Rattle.vm_field.specs.Machine.{Core}
 use Rattle.machine_cycles.specs.declared.event.Event.{Event}
@@ -22,5 +22,5 @@ pub record IsBounded (d : Decoder) (clock : ℕ) (events : List Event) : Type 0 
 -- a state of a run from the start
 pub record IsSmallCore (c : Core) : Type 0 where
   pub nesting : c.nesting ≤ most_nesting
-  pub depth : length c.stack ≤ 16 + c.clock
+  pub depth : length c.stack ≤ most_inputs + c.clock
   pub context : c.context ≤ c.clock

@@ -6,6 +6,7 @@ use Rattle.vm_ops.specs.declared.op.Op.{Op}
 use Rattle.vm_ops.specs.declared.op.Op.TheVariants as ops
 use Rattle.vm_ops.specs.declared.op.Shift.{Shift}
 use Rattle.vm_ops.specs.declared.op.Shift.TheVariants.{Left, Stay, Right}
+use Rattle.air_kit.specs.DeepCells.{keys_at_start}
 use Rattle.air_kit.specs.Flags.{is_op}
 use Rattle.machine_cycles.specs.declared.event.Event.{Event}
 use Rattle.complete_rows.specs.Groups.{Unread, nothing_unread, batch_begun, taken_from}
@@ -35,10 +36,6 @@ address_of (block ∷ blocks) = block.address
 abbrev pub hidden_of : List Open → List ℕ
 hidden_of [] = []
 hidden_of (block ∷ blocks) = block.hidden
-
--- the key of the newest cell below the sixteenth; 0 where there is none
-abbrev pub key_of : List ℕ → ℕ
-key_of keys = slice_index keys 0
 
 -- a cell that is pushed below the sixteenth has the clock of its row as its key
 abbrev pub keys_after : Shift → ℕ → List ℕ → List ℕ
@@ -97,11 +94,7 @@ advance_by kinds.Halt d e later = d
 abbrev pub advance : Decoder → Event → List Event → Decoder
 advance d e later = advance_by (kind_of e.op) d e later
 
--- the keys of so many cells below the sixteenth before the first cycle, the newest first
-unfoldable pub keys_at_start : ℕ → List ℕ
-keys_at_start deep = []
-
--- Before the first cycle, with so many cells below the sixteenth. Addresses count from 1.
+-- Before the first cycle, with so many inputs below the sixteenth. Addresses count from 1.
 abbrev pub at_start : ℕ → Decoder
 at_start deep = record { blocks = []; next = 1; ha = 0; unread = nothing_unread; keys = keys_at_start deep }
 

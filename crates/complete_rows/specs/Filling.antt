@@ -5,7 +5,8 @@ use Rattle.vm_ops.specs.declared.op.Op.TheVariants as ops
 use Rattle.op_pack.specs.Reading.{positions_in_use}
 use Rattle.machine_cycles.specs.declared.event.Event.{Event}
 use Rattle.machine_cycles.specs.declared.event.Visible.{Visible}
-use Rattle.complete_rows.specs.Decoder.{Decoder, address_of, key_of, advance, at_start}
+use Rattle.air_kit.specs.DeepCells.{key_of}
+use Rattle.complete_rows.specs.Decoder.{Decoder, address_of, advance, at_start}
 use Rattle.vm_ops.specs.declared.kind.Kind.TheVariants as kinds
 use Rattle.vm_ops.specs.declared.kind.Kind.{Kind}
 use Rattle.vm_ops.specs.Codes.{kind_of}

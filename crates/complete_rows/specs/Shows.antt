@@ -5,7 +5,8 @@ use Rattle.vm_ops.specs.Codes.{is_ordinary_op}
 use Rattle.vm_ops.specs.declared.op.Op.{Op}
 use Rattle.vm_ops.specs.Values.{bit_of}
 use Rattle.vm_table.specs.MainColumns.{clk, fmp, ctx, sys, f, addr, h, gc, ox, s, depth, key, ha, lv}
-use Rattle.complete_rows.specs.Decoder.{Decoder, address_of, key_of}
+use Rattle.air_kit.specs.DeepCells.{key_of}
+use Rattle.complete_rows.specs.Decoder.{Decoder, address_of}
 
 pub record Shows (op : Op) (d : Decoder) (c : Core) (x : List ℕ) : Type 0 where
   pub clock : clk x ≡ c.clock

@@ -20,7 +20,8 @@ pub fn filled_laws()
 {}
 
 /// The law of keys, for such a run: before each cycle and behind the last one the keys of all cells below the
-/// sixteenth, those that calls hide among them, are clocks of past cycles that pushed, and no two are the same.
+/// sixteenth, those that calls hide among them, are those of inputs or clocks of past cycles that pushed, and no two
+/// are the same.
 #[tactic(auto, using(crate::proofs::DeepKeyLemmas::run_keeps_keys))]
 pub fn key_laws()
     ensures { RunKeepsDeepKeys }

@@ -14,12 +14,13 @@ use Rattle.vm_ops.specs.Moves.{takes_of, leaves_of}
 use Rattle.vm_ops.specs.declared.op.Op.{Op}
 use Rattle.vm_ops.specs.declared.op.Op.TheVariants as ops
 use Rattle.vm_table.specs.MainColumns.{depth, inv, s}
+use Rattle.air_kit.specs.DeepCells.{key_of}
 use Rattle.air_kit.specs.Flags.{is_left, is_right}
 use Rattle.air_kit.specs.MainTuples.{is_call_op}
 use Rattle.facts_main.proofs.Says.{never, off}
 use Rattle.facts_main.specs.Blocks.{ends_call}
 use Rattle.facts_main.specs.Stack.{IsStackRow, MovesStack, ShiftsCells, keeps_stack, mover}
-use Rattle.complete_rows.specs.Decoder.{Decoder, key_of}
+use Rattle.complete_rows.specs.Decoder.{Decoder}
 use Rattle.complete_rows.specs.Shows.{Shows}
 use Rattle.complete_trace.proofs.QuietOps.{apart, leaves_cells, right_off, top_off, two_off}
 

@@ -18,7 +18,8 @@ use Rattle.facts_main.specs.Blocks.{ends_call}
 use Rattle.facts_main.specs.Limbs.{IsLimbRow, MovesLimbs}
 use Rattle.facts_main.specs.Stack.{IsStackRow, MovesStack, mover}
 use Rattle.facts_steps.specs.Lookups.{LooksUpLimbs, LooksUpBits}
-use Rattle.complete_rows.specs.Decoder.{Decoder, advance, hidden_of, key_of, keys_behind}
+use Rattle.air_kit.specs.DeepCells.{key_of}
+use Rattle.complete_rows.specs.Decoder.{Decoder, advance, hidden_of, keys_behind}
 use Rattle.complete_rows.specs.Filling.{halted, line_of, row_of}
 use Rattle.complete_rows.specs.Shows.{Shows}
 use Rattle.complete_rows.proofs.AgreeLemmas.{has_flags, keys_by_flags}

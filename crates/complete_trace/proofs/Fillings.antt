@@ -20,6 +20,7 @@ use Rattle.block_tree.specs.Rows.{accessed, behind}
 use Rattle.block_tree.specs.Steps.{IsCycle}
 use Rattle.block_tree.proofs.BehindLemmas.{behind-cycle}
 use Rattle.block_tree.proofs.KeptLemmas.{cycle-step}
+use Rattle.air_kit.specs.DeepCells.{key_of}
 use Rattle.air_kit.specs.Flags.{is_shift}
 use Rattle.machine_cycles.specs.Events.{visible_of}
 use Rattle.machine_cycles.specs.declared.event.Event.{Event}
@@ -27,7 +28,7 @@ use Rattle.machine_cycles.specs.declared.event.Visible.{Visible}
 use Rattle.facts_main.proofs.Says.{never, off}
 use Rattle.facts_steps.specs.Filling.{FillsRows, elsewhere_of}
 use Rattle.facts_steps.proofs.Fills.{step_fills}
-use Rattle.complete_rows.specs.Decoder.{Decoder, advance, advance_by, key_of, keys_after}
+use Rattle.complete_rows.specs.Decoder.{Decoder, advance, advance_by, keys_after}
 use Rattle.complete_rows.specs.Filling.{line_of, row_of}
 use Rattle.vm_ops.specs.declared.kind.Kind.TheVariants as kinds
 use Rattle.complete_rows.specs.Limbs.{cell}

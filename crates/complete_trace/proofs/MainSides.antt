@@ -17,24 +17,25 @@ use Rattle.complete_requests.specs.Overflow.{OverflowIsEven}
 use Rattle.complete_requests.proofs.AskedLaw.{run_asks}
 use Rattle.complete_requests.proofs.OverflowLaw.{overflow_is_even}
 
-pub record AreSides (constants digest : List ℕ) (r : Requests) (u : State) (rows : List (List ℕ)) : Type 0 where
+pub record AreSides (constants digest inputs : List ℕ) (r : Requests) (u : State) (rows : List (List ℕ)) : Type 0 where
   pub blocks : (v : List ℕ) → over_rows (with_next blocks_given) rows v ≡ over_rows (with_next blocks_asked) rows v
   pub children : (v : List ℕ)
       → counted (child 0 digest 0 ∷ []) v + over_rows (with_next children_given) rows v ≡ over_rows (with_next children_asked) rows v
   pub loops : (v : List ℕ) → over_rows (with_next loops_given) rows v ≡ over_rows (with_next loops_asked) rows v
   pub groups : (v : List ℕ) → over_rows (with_next groups_given) rows v ≡ over_rows (with_next groups_asked) rows v
   pub asks : RowsAsk constants rows r
-  pub overflow : OverflowIsEven rows r.keys u
+  pub overflow : OverflowIsEven rows inputs r.keys u
 
 pub run_sides : (constants : List ℕ) (kernel : List (List ℕ)) (limit : ℕ) (tree : Tree) (inputs tape : List ℕ) (u : State) (log : List run.Event)
     → IsWholeRun constants kernel limit tree inputs tape u log
-    → AreSides constants (tree_digest constants tree) (requests constants kernel u log) u (filled constants kernel u log)
+    → AreSides constants (tree_digest constants tree) inputs (requests constants kernel u log) u (filled constants kernel u log)
 run_sides constants kernel limit tree inputs tape u log r = record {
   blocks = blocks_even constants kernel limit tree inputs tape u log r;
   children = children_even constants kernel limit tree inputs tape u log r;
   loops = loops_even constants kernel limit tree inputs tape u log r;
   groups = groups_even constants kernel limit tree inputs tape u log r;
   asks = run_asks constants kernel limit tree inputs tape u log r;
-  overflow = subst (λ keys. OverflowIsEven (filled constants kernel u log) keys u) (sym (keys_asked constants kernel limit tree inputs tape u log r))
+  overflow =
+      subst (λ keys. OverflowIsEven (filled constants kernel u log) inputs keys u) (sym (keys_asked constants kernel limit tree inputs tape u log r))
       (overflow_is_even constants kernel limit tree inputs tape u log r);
 }

@@ -2,8 +2,8 @@
 use Rattle.std.proofs.Common.{All, ◌≡◌, ℕ, ◌+◌, ◌-◌, ◌^◌, ◌<◌, ◌≤◌, cond, List, [], ◌∷◌, length, map, replicate, refl, sym, ◌∙◌, subst, arith}
 use Rattle.std.proofs.lemmas.List.{get_or_append_left, length-replicate}
 use Rattle.std.proofs.lemmas.List.Elements.{All-append, All-cons, All-from_get_or, All-head, All-nil, All-tail}
-use Rattle.vm_field.specs.Limits.{most_cycles, number_of_constants}
-use Rattle.vm_field.specs.Machine.{State, IsWellFormed, filled_up, start}
+use Rattle.vm_field.specs.Limits.{most_cycles, most_inputs, number_of_constants}
+use Rattle.vm_field.specs.Machine.{State, IsWellFormed, start}
 use Rattle.vm_field.proofs.Elements.{length-filled_up}
 use Rattle.vm_field.proofs.WellFormed.{start-IsWellFormed}
 use Rattle.vm_ops.specs.declared.item.Item.{Item}
@@ -59,7 +59,7 @@ enough_keys n deep = let count = keys_count (n - 16) in omega (arith, count, dee
 module _ (constants : List ℕ) (kernel : List (List ℕ)) (limit : ℕ) where
   -- the limbs of an operation, whatever the decoder shows
   limbs_low : (item : Item) (from to : State) → length constants ≡ number_of_constants → limit ≤ most_cycles → IsCycle constants kernel limit (Do item) from to
-      → IsWholeMark (Do item) → IsWellFormed from → IsWellFormed to → length from.core.stack ≤ 16 + from.core.clock
+      → IsWholeMark (Do item) → IsWellFormed from → IsWellFormed to → length from.core.stack ≤ most_inputs + from.core.clock
       → All Is16 (limbs_by item.op (visible_of from.core) (visible_of to.core))
   unfolding limbs_of
   limbs_low item from to len within cycle w h g few =
@@ -84,7 +84,7 @@ module _ (constants : List ℕ) (kernel : List (List ℕ)) (limit : ℕ) where
 
   -- what a cycle asks for
   ranges_low : (mark : Mark) (from to : State) → length constants ≡ number_of_constants → limit ≤ most_cycles → IsCycle constants kernel limit mark from to
-      → IsWholeMark mark → IsWellFormed from → IsWellFormed to → length from.core.stack ≤ 16 + from.core.clock
+      → IsWholeMark mark → IsWellFormed from → IsWellFormed to → length from.core.stack ≤ most_inputs + from.core.clock
       → All Is16 (ranges_by (event_at constants kernel mark from) (visible_of to.core))
   ranges_low (Do item) from to len within cycle w h g few =
       subst (λ b. All Is16 (cond b ((1024 - to.core.nesting) ∷ []) (limbs_by item.op (visible_of from.core) (visible_of to.core))))
@@ -113,20 +113,20 @@ module _ (constants : List ℕ) (kernel : List (List ℕ)) (limit : ℕ) where
 
   along : {todo : List Task} {s u : State} {log : List run.Event} → Steps constants kernel limit todo s log u
       → length constants ≡ number_of_constants → limit ≤ most_cycles
-      → AreWholeTasks todo → IsWellFormed s → All (λ e. length e.core.stack ≤ 16 + e.core.clock) log
+      → AreWholeTasks todo → IsWellFormed s → All (λ e. length e.core.stack ≤ most_inputs + e.core.clock) log
       → All Is16 (ranges_of (visible_of u.core) (map (shown constants kernel) log))
   unfolding ranges_of
   along ended len within w h shallow = All-nil Is16
   along (goes {rest = rest} {todo = todo} {mark = mark} {s = s} {t = t} {u = u} {events = log} first cycle later) len within w h shallow =
       let n = next-whole constants len first w.0 h.core in
       let kept = cycle-kept constants kernel limit mark s t len cycle n.0 h in
-      let few = All-head (λ e. length e.core.stack ≤ 16 + e.core.clock) (event_of mark (advice_taken mark) s) log shallow in
+      let few = All-head (λ e. length e.core.stack ≤ most_inputs + e.core.clock) (event_of mark (advice_taken mark) s) log shallow in
       let e : Event = event_at constants kernel mark s in
       All-append Is16 (ranges_by e (seen_behind (visible_of u.core) (map (shown constants kernel) log)))
       (ranges_of (visible_of u.core) (map (shown constants kernel) log))
       (subst (λ v. All Is16 (ranges_by e v)) (sym (behind_is later)) (ranges_low mark s t len within cycle n.0 h kept few))
       (along later len within (whole-append rest todo n.1 w.1) kept
-      (All-tail (λ e. length e.core.stack ≤ 16 + e.core.clock) (event_of mark (advice_taken mark) s) log shallow))
+      (All-tail (λ e. length e.core.stack ≤ most_inputs + e.core.clock) (event_of mark (advice_taken mark) s) log shallow))
 
   pub ranges_are_low : (tree : Tree) (inputs tape : List ℕ) (u : State) (log : List run.Event) → IsWholeRun constants kernel limit tree inputs tape u log
       → All Is16 (ranges_of (visible_of u.core) (events_of constants kernel log))
@@ -135,6 +135,6 @@ module _ (constants : List ℕ) (kernel : List (List ℕ)) (limit : ℕ) where
       let steps : Steps constants kernel limit (Block tree ∷ []) (start inputs tape) log u
       = run-steps constants kernel limit tree (start inputs tape) u log r.whole r.done in
       let formed : IsWellFormed (start inputs tape) = start-IsWellFormed inputs tape r.inputs_are r.tape_is in
-      let deep : 16 ≡ length (filled_up inputs) = (let few = r.few in omega (arith, few, length-filled_up inputs)) in
-      let shallow = steps-shallow constants kernel limit r.constants_are 0 16 steps (omega (arith, deep), (r.whole, tt), formed) in
+      let shallow = steps-shallow constants kernel limit r.constants_are 0 most_inputs steps
+      (let few = r.few in omega (arith, few, length-filled_up inputs), (r.whole, tt), formed) in
       along steps r.constants_are r.within (r.whole, tt) formed (λ k d low. (let few = shallow.0 k d low in omega (arith, few)))

@@ -5,6 +5,7 @@ use Rattle.vm_field.specs.Machine.{State}
 use Rattle.block_tree.specs.Execution as run
 use Rattle.block_tree.specs.Trees.{Tree}
 use Rattle.air_kit.specs.Acceptance.{AreZero}
+use Rattle.air_kit.specs.DeepCells.{key_of}
 use Rattle.air_kit.specs.Traces.{claim_of, rows_of, value_at}
 use Rattle.air_kit.specs.declared.trace.Public.{Public}
 use Rattle.air_kit.specs.declared.trace.TableName.{TableName}
@@ -15,7 +16,6 @@ use Rattle.chip_columns.specs.LeftColumns.{key}
 use Rattle.facts_main.specs.MainRows.{MainIsZero}
 use Rattle.facts_main.proofs.ClaimFacts.{claim_low}
 use Rattle.complete_rows.specs.BlockRows.{ClaimsRun, IsWholeRun, keys_of}
-use Rattle.complete_rows.specs.Decoder.{key_of}
 use Rattle.complete_rows.proofs.TableLemmas.{keys_asked}
 use Rattle.complete_trace.proofs.TableStacks.{has_zeros}
 use Rattle.complete_trace.specs.Acceptance.{IsStatementOf, IsTraceOf}

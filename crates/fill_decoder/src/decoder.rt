@@ -1,5 +1,6 @@
-ghost use Rattle.std.specs.Prelude.{◌≡◌, ℕ, ◌+◌, ◌*◌, ◌^◌, ◌<◌, drop, slice_get, slice_index, length, List, OnOk};
-ghost use Rattle.complete_rows.specs.Decoder.{address_of, at_start, called, closed, key_of, keys_after, next_after, opened, popped};
+ghost use Rattle.std.specs.Prelude.{◌≡◌, ◌+◌, ◌*◌, ◌^◌, ◌<◌, drop, slice_get, slice_index, length, List, IfOk, OnOk};
+ghost use Rattle.air_kit.specs.DeepCells.{key_of, keys_at_start};
+ghost use Rattle.complete_rows.specs.Decoder.{address_of, at_start, called, closed, keys_after, next_after, opened, popped};
 ghost use Rattle.complete_rows.specs.Groups.{batch_begun, taken_from};
 ghost use Rattle.vm_ops.specs.declared.kind.Kind.TheVariants as kinds;
 ghost use Rattle.vm_ops.specs.Moves.{shift_of};
@@ -8,6 +9,7 @@ ghost use Rattle.fill_decoder.specs.Views.{advance_as, decoder_in, unread_in};
 
 use crate::positions::positions_of;
 use crate::stack::Stack;
+use air_kit::input_key;
 use fill_requests::is_op;
 use machine_cycles::Event;
 use std::alloc::Global;
@@ -49,12 +51,18 @@ pub struct Decoder {
 }
 
 impl Decoder {
-    /// Before the first cycle, when no cell below the sixteenth has a key, however many there are.
-    #[tactic(auto, unfolding(complete_rows::specs::Decoder::keys_at_start))]
-    pub fn new(alloc: Global) -> Decoder
-        ensures { (deep : ℕ) → decoder_in result ≡ at_start deep }
+    /// Before the first cycle, on a stack with so many inputs below the sixteenth, where each has
+    /// its key.
+    ///
+    /// # Errors
+    ///
+    /// `Memory` where the system gave none for a key.
+    pub fn new(alloc: Global, deep: usize) -> Result<Decoder, Memory>
+        requires { deep < 2 ^ 32 }
+        ensures { IfOk result (λ d. decoder_in d ≡ at_start deep) }
     {
-        Decoder {
+        let keys = input_keys(alloc, deep)?;
+        Ok(Decoder {
             alloc,
             blocks: Stack::new(alloc),
             next: 1,
@@ -62,8 +70,8 @@ impl Decoder {
             number: Felt::ZERO,
             place: 0,
             positions: Stack::new(alloc),
-            keys: Stack::new(alloc),
-        }
+            keys,
+        })
     }
 
     /// The address of the newest block, and 0 where none is open.
@@ -239,6 +247,18 @@ impl Decoder {
             };
         }
     }
+}
+
+// The keys of so many inputs below the sixteenth, the newest first.
+fn input_keys(alloc: Global, count: usize) -> Result<Stack<Felt>, Memory>
+    requires { count < 2 ^ 32 }
+    ensures { IfOk result (λ keys. keys ≡ keys_at_start count) }
+{
+    let mut keys = Stack::new(alloc);
+    for i in (0..count).rev() {
+        keys.push(input_key(i as u32))?;
+    }
+    Ok(keys)
 }
 
 // The next hasher address behind an operation.

@@ -1,5 +1,5 @@
 -- The rows of events, one by one.
-use Rattle.std.proofs.Common.{All, ◌≡◌, ℕ, suc, ◌+◌, ◌<◌, ◌≤◌, List, [], ◌∷◌, ◌++◌, length, get_or, drop, slice_get, slice_index, unwrap_or, sym, refl, ap, ◌∙◌, append_assoc, arith}
+use Rattle.std.proofs.Common.{All, ◌≡◌, ℕ, suc, ◌+◌, ◌^◌, ◌<◌, ◌≤◌, List, [], ◌∷◌, ◌++◌, length, get_or, drop, slice_get, slice_index, unwrap_or, sym, refl, ap, ◌∙◌, append_assoc, arith}
 use Rattle.std.proofs.lemmas.List.{drop_all}
 use Rattle.std.proofs.lemmas.List.Elements.{All-cons, All-drop, All-head, All-nil}
 use Rattle.machine_cycles.specs.declared.event.Event.{Event}
@@ -9,6 +9,7 @@ use Rattle.complete_rows.specs.Filling.{deep_before, fill, halted, row_of, rows_
 use Rattle.vm_ops.specs.Codes.{kind_of}
 use Rattle.vm_ops.specs.declared.kind.Kind.TheVariants as kinds
 use Rattle.vm_ops.specs.declared.kind.Kind.{Kind}
+use Rattle.complete_rows.specs.Numbers.{HasSmallNumbers}
 use Rattle.complete_rows.specs.Turns.{repeats, repeats_by}
 use Rattle.fill_main.specs.Turns.{turns_of}
 use Rattle.fill_requests.proofs.LoopLemmas.{suffix}
@@ -25,6 +26,12 @@ fill-last last d = refl
 pub whole : (last : Visible) (events : List Event) → rows_of_run last events ≡ fill last (at_start (deep_before last events)) events
 unfolding rows_of_run
 whole last events = refl
+
+-- the cells below the sixteenth at the start are few
+pub deep-low : (last : Visible) (events : List Event) → HasSmallNumbers last events → deep_before last events < 2 ^ 32
+deep-low last [] small = let low = small.depth in omega (arith, low)
+deep-low last (e ∷ later) small =
+    let low = All-head (λ (x : Event). x.before.depth < 2 ^ 32) e later small.depths in omega (arith, low)
 
 pub rows-step : (last : Visible) (d after : Decoder) (events : List Event) (i : ℕ) (e : Event) (row : List ℕ) (done more : List (List ℕ))
     → i < length events → e ≡ get_or events i e → row ≡ row_of d e (seen_behind last (drop (i + 1) events)) (drop (i + 1) events)

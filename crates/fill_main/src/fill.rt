@@ -32,7 +32,8 @@ pub(crate) fn fill(
     ensures same { permutations.new ≡ permutations.old }
 {
     let mut turns = turns_of(alloc, events)?;
-    let mut decoder = Decoder::new(alloc);
+    let deep = seen_behind(last, events, 0).depth.saturating_sub(16);
+    let mut decoder = Decoder::new(alloc, deep)?;
     let mut inverses = Inverses::new(alloc);
     let mut requests = no_requests(alloc);
     let mut table = Table::new(alloc);

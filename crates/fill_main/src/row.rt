@@ -2,7 +2,8 @@ ghost use Rattle.std.specs.Prelude.{◌≡◌, ◌<◌, ◌≤◌, ◌+◌, ◌=
 ghost use Rattle.machine_cycles.specs.declared.event.Event as shown;
 ghost use Rattle.vm_field.specs.Field.{felt_inv, prime};
 ghost use Rattle.vm_field.specs.Signs.{◌⊟◌};
-ghost use Rattle.complete_rows.specs.Decoder.{address_of, key_of};
+ghost use Rattle.air_kit.specs.DeepCells.{key_of};
+ghost use Rattle.complete_rows.specs.Decoder.{address_of};
 ghost use Rattle.complete_rows.specs.Filling.{hash_by, in_use_by, row_of, witnesses_by};
 ghost use Rattle.vm_ops.specs.Values.{bit_of};
 ghost use Rattle.complete_rows.specs.Lines.{code_bit};

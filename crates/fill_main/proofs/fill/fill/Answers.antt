@@ -1,4 +1,4 @@
-use Rattle.std.proofs.Common.{All, ◌≡◌, ℕ, ◌+◌, ◌<◌, ◌≤◌, List, ◌++◌, [], drop, length, refl, sym, ap, ◌∙◌, arith, slice_index, subst, get_or, unwrap_or}
+use Rattle.std.proofs.Common.{All, ◌≡◌, ℕ, ◌+◌, ◌-◌, ◌^◌, ◌<◌, ◌≤◌, List, ◌++◌, [], drop, length, refl, sym, ap, ◌∙◌, arith, slice_index, subst, get_or, unwrap_or}
 use Rattle.std.proofs.lemmas.List.{length-drop}
 use Rattle.std.proofs.lemmas.List.Elements.{All-get_or}
 use Rattle.vm_field.specs.Limits.{most_cycles}
@@ -7,7 +7,7 @@ use Rattle.air_kit.specs.declared.requests.Perm.{Perm}
 use Rattle.air_kit.specs.declared.requests.Requests.{Requests}
 use Rattle.machine_cycles.specs.declared.event.Event.{Event}
 use Rattle.machine_cycles.specs.declared.event.Visible.{Visible}
-use Rattle.complete_rows.specs.Decoder.{Decoder, decoder_after}
+use Rattle.complete_rows.specs.Decoder.{Decoder, at_start, decoder_after}
 use Rattle.complete_rows.specs.Filling.{deep_before, fill, row_of}
 use Rattle.complete_rows.specs.Numbers.{IsU16}
 use Rattle.complete_rows.specs.RunRequests.{accesses_of, bits_of, calls_of, perms_of, ranges_by, ranges_of}
@@ -17,8 +17,14 @@ use Rattle.fill_decoder.specs.Bounds.{IsSmall}
 use Rattle.fill_decoder.specs.Views.{decoder_in}
 use Rattle.fill_decoder.proofs.BoundLemmas.{small_room, small_shows, small_start, small_step}
 use Rattle.fill_decoder.proofs.DecoderLemmas.{known}
-use Rattle.fill_main.proofs.FillLemmas.{decoder-end, decoder-step, few-repeats, rows-end, rows-step, turn-first, turns-here, turns-left, no-repeats, whole}
+use Rattle.fill_main.proofs.FillLemmas.{decoder-end, decoder-step, deep-low, few-repeats, rows-end, rows-step, turn-first, turns-here, turns-left, no-repeats, whole}
 use Rattle.fill_main.proofs.fill.fill.Goals as goal
+
+pub new-requires : goal.new-requires
+new-requires c =
+    let few = deep-low c.args.last.now c.args.events.now c.requires in
+    let is = ap (λ (v : Visible). v.depth - 16) c.seen_behind.ensures in
+    omega (arith, few, is)
 
 pub loop-i-init : goal.loop-i-init
 loop-i-init c =
@@ -26,14 +32,16 @@ loop-i-init c =
     let last = c.args.last.now in
     let events = c.args.events.now in
     let none = c.no_requests-requests.ensures in
-    let deep : ℕ = deep_before last events in
+    let deep : c.saturating_sub-deep.result ≡ deep_before last events
+    = c.saturating_sub-deep.ensures ∙ ap (λ (v : Visible). v.depth - 16) c.seen_behind.ensures in
+    let begun : decoder_in c.in_ok-decoder.decoder ≡ at_start (deep_before last events) = c.in_ok-decoder.ensures ∙ ap at_start deep in
     record {
       rows =
-          ap (λ done. done ++ fill last (decoder_in c.new-decoder.result) events) (c.reserve.ensures ∙ c.new-table.ensures.empty)
-          ∙ ap (λ (d : Decoder). fill last d events) (c.new-decoder.ensures deep);
-      after = ap (λ (d : Decoder). decoder_after d events) (c.new-decoder.ensures deep);
+          ap (λ done. done ++ fill last (decoder_in c.in_ok-decoder.decoder) events) (c.reserve.ensures ∙ c.new-table.ensures.empty)
+          ∙ ap (λ (d : Decoder). fill last d events) begun;
+      after = ap (λ (d : Decoder). decoder_after d events) begun;
       turns = c.in_ok-turns.ensures;
-      small = subst (λ d. IsSmall d 0 events) (sym (c.new-decoder.ensures deep)) (small_start deep events c.requires.few);
+      small = subst (λ d. IsSmall d 0 events) (sym begun) (small_start (deep_before last events) events c.requires.few);
       perms = ap (λ (r : Requests). r.perms ++ perms_of constants events) none;
       bits = ap (λ (r : Requests). r.bits ++ bits_of events) none;
       accesses = ap (λ (r : Requests). r.accesses ++ accesses_of events) none;
@@ -103,8 +111,9 @@ write_row-requires c =
     let few : length events ≤ most_cycles = c.requires.few in
     record {
       decoder = small_shows (decoder_in c.loop-i.decoder) i (drop i events) invariant.small;
-      depth = subst (λ (x : Event). x.before.depth < prime) (sym is)
-          (All-get_or (λ (x : Event). x.before.depth < prime) events i e (omega arith) c.requires.depths);
+      depth =
+          let low = All-get_or (λ (x : Event). x.before.depth < 2 ^ 32) events i e (omega arith) c.requires.depths in
+          subst (λ (x : Event). x.before.depth < prime) (sym is) (omega (arith, low));
       turns = omega (arith, turn, most, few, length-drop (i + 1) events);
     }
 
@@ -140,7 +149,7 @@ write_row-requires-2 c =
     let i = c.loop-i.i in
     record {
       decoder = small_shows (decoder_in c.loop-i.decoder) i (drop i events) c.loop-i.invariant.small;
-      depth = subst (λ (x : Event). x.before.depth < prime) (sym c.halted.ensures) c.requires.depth;
+      depth = let low = c.requires.depth in subst (λ (x : Event). x.before.depth < prime) (sym c.halted.ensures) (omega (arith, low));
       turns = omega arith;
     }
 
