@@ -10,7 +10,7 @@ use Rattle.air_kit.specs.declared.trace.TableName.{TableName}
 use Rattle.air_kit.specs.declared.trace.TableName.TheVariants as table
 use Rattle.air_kit.specs.declared.trace.Trace.{Trace}
 use Rattle.table_file.specs.Fields.{parts_bytes, row_bytes, table_bytes}
-use Rattle.table_file.specs.Files.{AreTables, bytes_of, head_bytes}
+use Rattle.table_file.specs.Files.{AreTables, bytes_in, bytes_of, head_bytes, this_version}
 use Rattle.fill_files.specs.Inside.{IsShort}
 use Rattle.fill_files.specs.RunFiles.{most_table_bytes}
 
@@ -61,12 +61,12 @@ sizes t shapes (name ∷ names) =
     length-append (table_bytes (rows_of t name)) (parts_bytes (λ other. table_bytes (rows_of t other)) names)
     ∙ ap₂ (λ (m n : ℕ). m + n) (table_size (columns name) (rows_of t name) (shapes name)) (sizes t shapes names)
 
-head_size : (t : Trace) → length (head_bytes (lengths_of t)) ≡ 36
+head_size : (t : Trace) → length (head_bytes this_version (lengths_of t)) ≡ 36
 unfolding head_bytes parts_bytes
 head_size t = refl
 
 pub short_file : (t : Trace) → HasCounts t → AreTables t → IsShort t → length (bytes_of t) ≤ most_table_bytes
-unfolding bytes_of
+unfolding bytes_in
 short_file t counts shapes short =
     omega (
       arith,
@@ -77,5 +77,5 @@ short_file t counts shapes short =
       (counts table.Range).most,
       (counts table.Kernel).most,
       (counts table.Left).most,
-      length-append (head_bytes (lengths_of t)) (parts_bytes (λ name. table_bytes (rows_of t name)) every_table),
+      length-append (head_bytes this_version (lengths_of t)) (parts_bytes (λ name. table_bytes (rows_of t name)) every_table),
     )

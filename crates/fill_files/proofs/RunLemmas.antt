@@ -4,7 +4,7 @@ use Rattle.std.proofs.Common.{◌≡◌, ℕ, ◌^◌, ◌≤◌, List, [], ◌�
 use Rattle.std.proofs.lemmas.List.{length-map}
 use Rattle.rpo_hash.specs.Constants.{constants_of}
 use Rattle.rpo_hash.specs.declared.params.Params.{Params}
-use Rattle.vm_field.specs.Limits.{most_cycles, most_outputs, number_of_constants}
+use Rattle.vm_field.specs.Limits.{most_cycles, most_inputs, most_outputs, number_of_constants}
 use Rattle.vm_field.specs.Machine.{State, IsWellFormed, filled_up, start}
 use Rattle.vm_field.proofs.Elements.{length-filled_up}
 use Rattle.vm_field.proofs.WellFormed.{start-IsWellFormed}
@@ -54,8 +54,8 @@ module _ (constants : List ℕ) (kernel : List (List ℕ)) (limit : ℕ) (tree :
   unfolding start
   depth_at_end =
       let formed : IsWellFormed (start inputs tape) = start-IsWellFormed inputs tape r.inputs_are r.tape_is in
-      let full : 16 ≡ length (filled_up inputs) = let few = r.few in omega (arith, few, length-filled_up inputs) in
-      let shallow = steps-shallow constants kernel limit r.constants_are 0 16 steps (omega (arith, full), (r.whole, tt), formed) in
+      let full : length (filled_up inputs) ≤ most_inputs = let few = r.few in omega (arith, few, length-filled_up inputs) in
+      let shallow = steps-shallow constants kernel limit r.constants_are 0 most_inputs steps (omega (arith, full), (r.whole, tt), formed) in
       let deep = shallow.1 in omega (arith, deep, clock_at_end, log_within)
 
   rows_within : length (rows_of_run (visible_of u.core) (events_of constants kernel log)) ≤ 2 ^ 19

@@ -3,7 +3,7 @@ use Rattle.std.proofs.Common.{ℕ, ◌+◌, ◌*◌, ◌<◌, ◌≤◌, List, [
 use Rattle.std.proofs.lemmas.List.{length-append}
 use Rattle.std.proofs.lemmas.List.Elements.{All-head, All-tail}
 use Rattle.std.proofs.lemmas.Fmt.{length-decimal-le}
-use Rattle.vm_field.specs.Limits.{most_outputs}
+use Rattle.vm_field.specs.Limits.{most_inputs, most_kernel, most_outputs}
 use Rattle.vm_field.specs.Field.{AreElements, prime}
 use Rattle.vm_field.specs.Machine.{IsWord}
 use Rattle.vm_field.specs.WordText.{word_hex}
@@ -43,33 +43,34 @@ joined : (a b : List ℕ) (x y : ℕ) → length a ≤ x → length b ≤ y → 
 joined a b x y first second = omega (arith, first, second, length-append a b)
 
 pub short_text : (claim : Stated) → IsWord claim.digest → All IsWord claim.kernel → AreElements claim.inputs → AreElements claim.outputs
-    → length claim.inputs ≤ 16 → length claim.kernel ≤ 255 → length claim.outputs ≤ most_outputs → length (statement_text claim) ≤ most_statement_bytes
+    → length claim.inputs ≤ most_inputs → length claim.kernel ≤ most_kernel → length claim.outputs ≤ most_outputs
+    → length (statement_text claim) ≤ most_statement_bytes
 unfolding statement_text
 short_text claim digest kernel inputs outputs few words deep =
     let of_digest : length (word_hex claim.digest) ≤ 64 = let four = digest.size in omega (arith, four, length-word_hex claim.digest) in
-    let of_inputs : length (listed claim.inputs) ≤ 336 = omega (arith, few, listed_size claim.inputs inputs) in
+    let of_inputs : length (listed claim.inputs) ≤ 21504 = omega (arith, few, listed_size claim.inputs inputs) in
     let of_kernel : length (words_listed claim.kernel) ≤ 17085 = omega (arith, words, words_size claim.kernel kernel) in
-    let of_outputs : length (listed claim.outputs) ≤ 11010363 = omega (arith, deep, listed_size claim.outputs outputs) in
+    let of_outputs : length (listed claim.outputs) ≤ 11031531 = omega (arith, deep, listed_size claim.outputs outputs) in
     let digest_on = joined (codes "{\"digest\":\"") (word_hex claim.digest) 11 64 (omega arith) of_digest in
     let inputs_name = joined (codes "{\"digest\":\"" ++ word_hex claim.digest) (codes "\",\"inputs\":[") 75 12 digest_on (omega arith) in
     let inputs_on =
-    joined (codes "{\"digest\":\"" ++ word_hex claim.digest ++ codes "\",\"inputs\":[") (listed claim.inputs) 87 336 inputs_name
+    joined (codes "{\"digest\":\"" ++ word_hex claim.digest ++ codes "\",\"inputs\":[") (listed claim.inputs) 87 21504 inputs_name
     of_inputs in
     let kernel_name =
     joined (codes "{\"digest\":\"" ++ word_hex claim.digest ++ codes "\",\"inputs\":[" ++ listed claim.inputs)
-    (codes "],\"kernel\":[") 423 12 inputs_on (omega arith) in
+    (codes "],\"kernel\":[") 21591 12 inputs_on (omega arith) in
     let kernel_on =
     joined (codes "{\"digest\":\"" ++ word_hex claim.digest ++ codes "\",\"inputs\":[" ++ listed claim.inputs
-    ++ codes "],\"kernel\":[") (words_listed claim.kernel) 435 17085 kernel_name of_kernel in
+    ++ codes "],\"kernel\":[") (words_listed claim.kernel) 21603 17085 kernel_name of_kernel in
     let outputs_name =
     joined (codes "{\"digest\":\"" ++ word_hex claim.digest ++ codes "\",\"inputs\":[" ++ listed claim.inputs
-    ++ codes "],\"kernel\":[" ++ words_listed claim.kernel) (codes "],\"outputs\":[") 17520 13 kernel_on (omega arith) in
+    ++ codes "],\"kernel\":[" ++ words_listed claim.kernel) (codes "],\"outputs\":[") 38688 13 kernel_on (omega arith) in
     let outputs_on =
     joined (codes "{\"digest\":\"" ++ word_hex claim.digest ++ codes "\",\"inputs\":[" ++ listed claim.inputs
-    ++ codes "],\"kernel\":[" ++ words_listed claim.kernel ++ codes "],\"outputs\":[") (listed claim.outputs) 17533 11010363
+    ++ codes "],\"kernel\":[" ++ words_listed claim.kernel ++ codes "],\"outputs\":[") (listed claim.outputs) 38701 11031531
     outputs_name of_outputs in
     let whole =
     joined (codes "{\"digest\":\"" ++ word_hex claim.digest ++ codes "\",\"inputs\":[" ++ listed claim.inputs
     ++ codes "],\"kernel\":[" ++ words_listed claim.kernel ++ codes "],\"outputs\":[" ++ listed claim.outputs) (codes "]}")
-    11027896 2 outputs_on (omega arith) in
+    11070232 2 outputs_on (omega arith) in
     omega (arith, whole)

@@ -7,6 +7,7 @@ use Rattle.serde_json.specs.Data.{Data, depth}
 use Rattle.serde_json.specs.Read.{read}
 use Rattle.serde_json.specs.Written.{compact_text, has_float}
 use Rattle.serde_json.proofs.OnLiterals.{serde_json_on_literals}
+use Rattle.vm_field.specs.Limits.{most_advice, most_inputs}
 use Rattle.vm_field.specs.Field.{prime}
 use Rattle.statement.specs.ToJson.{listed}
 use Rattle.statement.proofs.Written.{items_have_float-numbers_of, items_depth-numbers_of, items_text-numbers_of, are_numbers-numbers_of, elements_of-numbers_of}
@@ -31,8 +32,8 @@ compact_text-inputs_data stack advice =
 
 -- ---- what is read of it
 
-pub given_by-inputs_data : (stack advice : List ℕ) → All (λ x. x < prime) stack → All (λ x. x < prime) advice → length stack ≤ 16
-    → length advice ≤ 1048576
+pub given_by-inputs_data : (stack advice : List ℕ) → All (λ x. x < prime) stack → All (λ x. x < prime) advice → length stack ≤ most_inputs
+    → length advice ≤ most_advice
     → given_by (inputs_data stack advice) ≡ Ok (record { stack = stack; advice = advice })
 unfolding serde_json_on_literals
 given_by-inputs_data stack advice hs ha few short =

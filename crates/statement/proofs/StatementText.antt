@@ -11,7 +11,7 @@ use Rattle.serde_json.specs.Data.{Data, string, depth, items_depth}
 use Rattle.serde_json.specs.Read.{read}
 use Rattle.serde_json.specs.Written.{compact_text, items_text, has_float, items_have_float}
 use Rattle.serde_json.proofs.OnLiterals.{serde_json_on_literals}
-use Rattle.vm_field.specs.Limits.{most_outputs}
+use Rattle.vm_field.specs.Limits.{least_depth, most_inputs, most_kernel, most_outputs}
 use Rattle.vm_field.specs.Field.{AreElements}
 use Rattle.vm_field.specs.Machine.{IsWord}
 use Rattle.vm_field.specs.WordText.{hex_digits, word_hex, word_of_hex}
@@ -126,9 +126,9 @@ pub record IsGood (claim : Stated) : Type 0 where
   pub inputs : AreElements claim.inputs
   pub kernel : All IsWord claim.kernel
   pub outputs : AreElements claim.outputs
-  pub inputs_few : length claim.inputs ≤ 16
-  pub kernel_few : length claim.kernel ≤ 255
-  pub outputs_full : 16 ≤ length claim.outputs
+  pub inputs_few : length claim.inputs ≤ most_inputs
+  pub kernel_few : length claim.kernel ≤ most_kernel
+  pub outputs_full : least_depth ≤ length claim.outputs
   pub outputs_few : length claim.outputs ≤ most_outputs
   pub distinct : AreDistinct claim.kernel
 

@@ -15,7 +15,7 @@ use vm_state::Inputs;
 
 /// The inputs that a text writes: a JSON object of exactly the keys `advice` and `stack`, in any
 /// layout, each with an array of whole numbers below 2^64 - 2^32 + 1. The stack, top first, has at
-/// most 16 elements, the advice at most 1,048,576. A key that comes twice has its last value. A
+/// most 1,024 elements, the advice at most 1,048,576. A key that comes twice has its last value. A
 /// refusal names the first cause that the text has.
 pub fn read_inputs(alloc: Global, bytes: &[u8]) -> Result<Inputs, TextError>
     ensures { Gives given_of cause_in result (inputs_of bytes.now) }

@@ -21,7 +21,7 @@ use vm_state::{Inputs, Statement};
 /// The statement that a text writes: a JSON object of exactly the keys `digest`, `inputs`, `kernel`
 /// and `outputs`, in any layout. A digest is a word's text, in digits of either case; the kernel is
 /// an array of at most 255 such texts, no two of one word. The inputs and the outputs are arrays of
-/// whole numbers below 2^64 - 2^32 + 1, top first, at most 16 and 16 to 524,303. A key that comes
+/// whole numbers below 2^64 - 2^32 + 1, top first, at most 1,024 and 16 to 525,311. A key that comes
 /// twice has its last value. A refusal names the first cause that the text has.
 pub fn read_statement(alloc: Global, bytes: &[u8]) -> Result<Statement, TextError>
     ensures { Gives stated_of cause_in result (statement_of bytes.now) }

@@ -4,18 +4,20 @@ use Rattle.std.proofs.lemmas.Bool.{ltb-false, le-ltb}
 use Rattle.std.proofs.lemmas.List.{drop_all, length-drop}
 use Rattle.vm_table.specs.Layout.{IsTable}
 use Rattle.air_kit.specs.Tables.{columns, every_table}
-use Rattle.air_kit.specs.Traces.{HasCounts, IsCount, lengths_of, rows_of}
+use Rattle.air_kit.specs.Traces.{HasCounts, lengths_of, rows_of}
 use Rattle.air_kit.specs.declared.trace.TableName.{TableName}
+use Rattle.air_kit.specs.declared.trace.TableName.TheVariants as table
 use Rattle.air_kit.specs.declared.trace.Trace.{Trace}
 use Rattle.table_file.specs.declared.cause.FileCause.TheVariants as cause
 use Rattle.table_file.specs.declared.cause.FileError.{FileError}
 use Rattle.table_file.specs.declared.cause.FileError.TheVariants.{Bad}
 use Rattle.table_file.specs.Fields.{parts_bytes, rows_at, table_bytes}
-use Rattle.table_file.specs.Files.{AreTables, bytes_of, ended_at, head_bytes, head_of, no_rows, tables_from, trace_of, with_rows}
+use Rattle.table_file.specs.Files.{AreTables, FitsVersion, bytes_in, bytes_of, ended_at, head_bytes, head_of, is_version, no_rows, tables_from, this_version, trace_of, version_of, with_rows}
 use Rattle.table_file.proofs.Chains.{chain}
 use Rattle.table_file.proofs.NumberLaws.{AreBytes}
 use Rattle.table_file.proofs.HeadLaws.{head-says, head-read}
 use Rattle.table_file.proofs.TableLaws.{rows-count, rows-table, rows-written, rows-read}
+use Rattle.table_file.proofs.Versions.{IsCountIn}
 use Rattle.table_file.proofs.TablesByName.{Each, Rows, by_name, put, put_all}
 
 -- a table has its columns
@@ -66,35 +68,46 @@ module _ (bytes : List ℕ) where
 
   -- what a file says of its trace
   record TraceSays (t : Trace) : Type 0 where
-    counts : Each IsCount every_table (lengths_of t)
+    version : is_version (version_of bytes) ≡ true
+    counts : Each (IsCountIn (version_of bytes)) every_table (lengths_of t)
     shapes : Each Shaped every_table (map (rows_of t) every_table)
-    written : AreBytes bytes → head_bytes (lengths_of t) ++ parts_bytes table_bytes (map (rows_of t) every_table) ≡ bytes
+    written : AreBytes bytes → head_bytes (version_of bytes) (lengths_of t) ++ parts_bytes table_bytes (map (rows_of t) every_table) ≡ bytes
 
   trace-says : (t : Trace) → trace_of bytes ≡ Ok t → TraceSays t
   unfolding trace_of
   trace-says t e =
       let h = chain (head_of bytes) t (λ counts. tables_from bytes every_table counts 36 no_rows) e in
       let head = head-says bytes h.0 h.1 in
-      let say = tables-say every_table h.0 36 no_rows t head.0.each h.2 in
+      let say = tables-say every_table h.0 36 no_rows t head.counted.each h.2 in
       let same : say.tables ≡ map (rows_of t) every_table = sym (put_all say.tables say.each) ∙ ap (λ (x : Trace). map (rows_of x) every_table) say.are in
       let counts : h.0 ≡ lengths_of t = sym say.lengths ∙ ap (map length) same in
       record {
-        counts = subst (Each IsCount every_table) counts head.0.may;
+        version = head.version;
+        counts = subst (Each (IsCountIn (version_of bytes)) every_table) counts head.counted.may;
         shapes = subst (Each Shaped every_table) same say.shapes;
         written = λ low.
-            ap₂ (λ (ns : List ℕ) (ts : List Rows). head_bytes ns ++ parts_bytes table_bytes ts) (sym counts) (sym same)
-            ∙ ap (λ (bs : List ℕ). head_bytes h.0 ++ bs) (say.written low) ∙ head.1 low;
+            ap₂ (λ (ns : List ℕ) (ts : List Rows). head_bytes (version_of bytes) ns ++ parts_bytes table_bytes ts) (sym counts) (sym same)
+            ∙ ap (λ (bs : List ℕ). head_bytes (version_of bytes) h.0 ++ bs) (say.written low) ∙ head.written low;
       }
 
   pub tables-shaped : (t : Trace) → trace_of bytes ≡ Ok t → AreTables t
   tables-shaped t e = by_name Shaped (rows_of t) (trace-says t e).shapes
 
-  pub counts-may : (t : Trace) → trace_of bytes ≡ Ok t → HasCounts t
-  counts-may t e = by_name IsCount (λ name. length (rows_of t name)) (trace-says t e).counts
+  counted : (t : Trace) → trace_of bytes ≡ Ok t → (name : TableName) → IsCountIn (version_of bytes) name (length (rows_of t name))
+  counted t e = by_name (IsCountIn (version_of bytes)) (λ name. length (rows_of t name)) (trace-says t e).counts
 
-  -- the bytes of a good file are its trace's
-  pub one-spelling : AreBytes bytes → (t : Trace) → trace_of bytes ≡ Ok t → bytes ≡ bytes_of t
-  unfolding bytes_of parts_bytes
+  pub counts-may : (t : Trace) → trace_of bytes ≡ Ok t → HasCounts t
+  counts-may t e name = (counted t e name).is
+
+  pub fits-version : (t : Trace) → trace_of bytes ≡ Ok t → FitsVersion (version_of bytes) t
+  fits-version t e name = (counted t e name).fits
+
+  pub says-version : (t : Trace) → trace_of bytes ≡ Ok t → is_version (version_of bytes) ≡ true
+  says-version t e = (trace-says t e).version
+
+  -- the bytes of a good file are its trace's, in the version that they say
+  pub one-spelling : AreBytes bytes → (t : Trace) → trace_of bytes ≡ Ok t → bytes ≡ bytes_in (version_of bytes) t
+  unfolding bytes_in parts_bytes
   one-spelling low t e = sym ((trace-says t e).written low)
 
   tables-read : (t : Trace) → AreTables t → (names : List TableName) (at : ℕ) (t0 : Trace)
@@ -111,11 +124,28 @@ module _ (bytes : List ℕ) where
       (tables-read t shaped names (at + 8 * columns name * length (rows_of t name)) (with_rows name (rows_of t0 name ++ rows_of t name) t0) one.1)
 
 -- a file whose head and tables are those of a trace reads as it
-read-parts : (bytes : List ℕ) (t : Trace) → HasCounts t → AreTables t → bytes ≡ bytes_of t → trace_of bytes ≡ Ok t
-unfolding bytes_of trace_of
-read-parts bytes t has shaped is =
-    let head = head-read bytes (λ name. length (rows_of t name)) has (parts_bytes (λ name. table_bytes (rows_of t name)) every_table) is in
+read-parts : (version : ℕ) (bytes : List ℕ) (t : Trace) → is_version version ≡ true → FitsVersion version t → HasCounts t → AreTables t
+    → bytes ≡ bytes_in version t → trace_of bytes ≡ Ok t
+unfolding bytes_in trace_of
+read-parts version bytes t good fits has shaped is =
+    let head =
+    head-read bytes version (λ name. length (rows_of t name)) (λ name. record { is = has name; fits = fits name }) good
+    (parts_bytes (λ name. table_bytes (rows_of t name)) every_table) is in
     rw head.0 (tables-read bytes t shaped every_table 36 no_rows head.1)
 
+pub versions-read : (version : ℕ) (t : Trace) → is_version version ≡ true → FitsVersion version t → HasCounts t → AreTables t
+    → trace_of (bytes_in version t) ≡ Ok t
+versions-read version t good fits has shaped = read-parts version (bytes_in version t) t good fits has shaped refl
+
+-- this version has no limits of its own
+fits-this : (t : Trace) → HasCounts t → FitsVersion this_version t
+fits-this t has table.Main = (has table.Main).most
+fits-this t has table.Range = (has table.Range).most
+fits-this t has table.Hasher = (has table.Hasher).most
+fits-this t has table.Bitwise = (has table.Bitwise).most
+fits-this t has table.Memory = (has table.Memory).most
+fits-this t has table.Kernel = (has table.Kernel).most
+fits-this t has table.Left = (has table.Left).most
+
 pub read-back : (t : Trace) → HasCounts t → AreTables t → trace_of (bytes_of t) ≡ Ok t
-read-back t has shaped = read-parts (bytes_of t) t has shaped refl
+read-back t has shaped = versions-read this_version t refl (fits-this t has) has shaped

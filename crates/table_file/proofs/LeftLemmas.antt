@@ -6,17 +6,17 @@ use Rattle.air_kit.specs.Traces.{lengths_of, rows_of}
 use Rattle.air_kit.specs.declared.trace.TableName.{TableName}
 use Rattle.air_kit.specs.declared.trace.Trace.{Trace}
 use Rattle.table_file.specs.Fields.{parts_bytes, row_bytes, table_bytes}
-use Rattle.table_file.specs.Files.{bytes_of, head_bytes}
+use Rattle.table_file.specs.Files.{bytes_in, bytes_of, head_bytes, this_version}
 use Rattle.table_file.specs.Left.{left_of, rows_left}
 use Rattle.table_file.proofs.TablesByName.{Rows, name_at, tables_at}
 
 -- nothing was given
 pub all_left : (t : Trace) → left_of t false 0 0 ≡ bytes_of t
-unfolding left_of rows_left bytes_of parts_bytes
+unfolding left_of rows_left bytes_in parts_bytes
 all_left t = refl
 
 -- the head was given
-pub head_goes : (t : Trace) (table row : ℕ) (piece : List ℕ) → piece ≡ head_bytes (lengths_of t)
+pub head_goes : (t : Trace) (table row : ℕ) (piece : List ℕ) → piece ≡ head_bytes this_version (lengths_of t)
     → left_of t false table row ≡ piece ++ left_of t true table row
 unfolding left_of
 head_goes t table row piece is = ap (λ (bs : List ℕ). bs ++ left_of t true table row) (sym is)

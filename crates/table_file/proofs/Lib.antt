@@ -12,4 +12,5 @@ pub mod PartReading
 pub mod LeftLemmas
 pub mod PartTraces
 pub mod RowReading
+pub mod Versions
 pub mod Readers

@@ -13,10 +13,9 @@ use Rattle.table_file.specs.declared.cause.FileCause.TheVariants as cause
 use Rattle.table_file.specs.declared.cause.FileError.{FileError}
 use Rattle.table_file.specs.declared.part_trace.PartTrace.{PartTrace}
 use Rattle.table_file.specs.Fields.{GivesRead, behind, number_at}
-use Rattle.table_file.specs.Files.{counts_at, head_of, magic, no_rows, tables_from, trace_of}
+use Rattle.table_file.specs.Files.{counts_at, head_of, is_version, magic, may_have_in, no_rows, tables_from, trace_of}
 use Rattle.table_file.specs.Reading.{Advances, GoesFurther, ReadsBehind, HasRead, HasTaken, IsMissing, IsReady, Reader, StandsAt, rest_of}
-use Rattle.air_kit.specs.Counts.{may_have}
-use Rattle.table_file.proofs.Chains.{bad-read, goes_past}
+use Rattle.table_file.proofs.Chains.{bad-read, goes_past, same_next}
 use Rattle.table_file.proofs.HeadLaws.{head-says}
 use Rattle.table_file.proofs.PartReading.{little-front, stands_behind}
 
@@ -32,25 +31,30 @@ module _ (head more : List ℕ) (whole : 36 ≤ length head) where
       = ap (little_number 4) (drop-append-le at head more before) ∙ little-front 4 (drop at head) more long in
       rw (le-ltb (length (head ++ more)) (at + 4) there_too, le-ltb (length head) (at + 4) there, number) refl
 
-  counts_front : (names : List TableName) (at : ℕ) → at + 4 * length names ≤ 36 → counts_at (head ++ more) names at ≡ counts_at head names at
+  counts_front : (version : ℕ) (names : List TableName) (at : ℕ) → at + 4 * length names ≤ 36
+      → counts_at (head ++ more) version names at ≡ counts_at head version names at
   unfolding counts_at
-  counts_front [] at within = refl
-  counts_front (name ∷ names) at within =
-      rw (number_front cause.Count (may_have name) at (omega (arith, within)), counts_front names (at + 4) (omega (arith, within))) refl
+  counts_front version [] at within = refl
+  counts_front version (name ∷ names) at within =
+      rw (
+        number_front cause.Count (may_have_in version name) at (omega (arith, within)),
+        counts_front version names (at + 4) (omega (arith, within)),
+      ) refl
 
   -- a head is that of its own bytes
   pub head_front : head_of (head ++ more) ≡ head_of head
   unfolding head_of
   head_front =
-      rw (
-        number_front cause.Magic (λ n. n == magic) 0 (omega arith),
-        number_front cause.Version (λ n. n == 1) 4 (omega arith),
-        counts_front every_table 8 (omega arith),
-      ) refl
+      let counts : List ℕ → ℕ → Result (List ℕ) FileError = λ bytes version. counts_at bytes version every_table 8 in
+      rw (number_front cause.Magic (λ n. n == magic) 0 (omega arith), number_front cause.Version is_version 4 (omega arith))
+      (same_next (number_at head 4 cause.Magic (λ n. n == magic) 0) (λ _. behind (number_at head 4 cause.Version is_version 4) (counts (head ++ more)))
+      (λ _. behind (number_at head 4 cause.Version is_version 4) (counts head))
+      (λ _. same_next (number_at head 4 cause.Version is_version 4) (counts (head ++ more)) (counts head)
+      (λ version. counts_front version every_table 8 (omega arith))))
 
 -- a good head is whole
 pub head_whole : (bytes counts : List ℕ) → head_of bytes ≡ Ok counts → 36 ≤ length bytes
-head_whole bytes counts is = (head-says bytes counts is).0.within
+head_whole bytes counts is = (head-says bytes counts is).counted.within
 
 -- a bad head is the file's answer
 pub head_bad : (bytes : List ℕ) (e : FileError) → Err e ≡ head_of bytes → GivesRead {A = Trace} (Err e) (trace_of bytes)

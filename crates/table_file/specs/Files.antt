@@ -1,9 +1,9 @@
 -- Table files (docs/FORMATS.md): the trace that bytes read as, and the bytes of a trace.
-use Rattle.std.specs.Prelude.{ℕ, ◌+◌, ◌*◌, ◌^◌, ◌≤◌, ◌==◌, nat_lt, if◌then◌else◌, List, [], ◌∷◌, ◌++◌, length, sum, codes, Result, Ok, Err}
+use Rattle.std.specs.Prelude.{ℕ, ◌+◌, ◌*◌, ◌^◌, ◌≤◌, Bool, ◌==◌, ◌&&◌, ◌||◌, nat_le, nat_lt, if◌then◌else◌, List, [], ◌∷◌, ◌++◌, drop, length, sum, codes, Result, Ok, Err}
 use Rattle.byteorder.specs.Endian.{little_number, little_bytes}
 use Rattle.vm_table.specs.Layout.{IsTable}
 use Rattle.air_kit.specs.Tables.{columns, every_table}
-use Rattle.air_kit.specs.Traces.{lengths_of, rows_of}
+use Rattle.air_kit.specs.Traces.{lengths_of, most_rows, rows_of}
 use Rattle.air_kit.specs.declared.trace.TableName.{TableName}
 use Rattle.air_kit.specs.declared.trace.TableName.TheVariants as table
 use Rattle.air_kit.specs.declared.trace.Trace.{Trace}
@@ -21,21 +21,41 @@ AreTables t = (name : TableName) → IsTable (columns name) (rows_of t name)
 abbrev pub magic : ℕ
 magic = little_number 4 (codes "MDTB")
 
+-- the older version, which is read
+abbrev pub first_version : ℕ
+first_version = 1
+
+-- the version that is written, and read
+abbrev pub this_version : ℕ
+this_version = 2
+
+abbrev pub is_version : ℕ → Bool
+is_version n = n == first_version || n == this_version
+
+-- how many rows a table has at most in a file of a version; the first one has at most half as many cells left
+abbrev pub most_in : ℕ → TableName → ℕ
+most_in version table.Left = if version == first_version then 2 ^ 19 else most_rows table.Left
+most_in version name = most_rows name
+
+-- a table may have so many rows in a file of a version
+unfoldable pub may_have_in : ℕ → TableName → ℕ → Bool
+may_have_in version name count = may_have name count && nat_le count (most_in version name)
+
 -- the row count of a table
-abbrev pub count_at : List ℕ → TableName → ℕ → Result ℕ FileError
-count_at bytes name at = number_at bytes 4 cause.Count (may_have name) at
+abbrev pub count_at : List ℕ → ℕ → TableName → ℕ → Result ℕ FileError
+count_at bytes version name at = number_at bytes 4 cause.Count (may_have_in version name) at
 
 -- the row counts of tables, one after the other
-unfoldable pub counts_at : List ℕ → List TableName → ℕ → Result (List ℕ) FileError
-counts_at bytes [] at = Ok []
-counts_at bytes (name ∷ names) at =
-    behind (count_at bytes name at) (λ count. behind (counts_at bytes names (at + 4)) (λ counts. Ok (count ∷ counts)))
+unfoldable pub counts_at : List ℕ → ℕ → List TableName → ℕ → Result (List ℕ) FileError
+counts_at bytes version [] at = Ok []
+counts_at bytes version (name ∷ names) at =
+    behind (count_at bytes version name at) (λ count. behind (counts_at bytes version names (at + 4)) (λ counts. Ok (count ∷ counts)))
 
--- `MDTB`, the version 1, and the row counts
+-- `MDTB`, a version, and the row counts, of which the version has the limits
 unfoldable pub head_of : List ℕ → Result (List ℕ) FileError
 head_of bytes =
     behind (number_at bytes 4 cause.Magic (λ n. n == magic) 0) (λ _.
-    behind (number_at bytes 4 cause.Version (λ n. n == 1) 4) (λ _. counts_at bytes every_table 8))
+    behind (number_at bytes 4 cause.Version is_version 4) (λ version. counts_at bytes version every_table 8))
 
 -- a value, where no byte stands behind a place
 unfoldable pub ended_at : {A : Type 0} → List ℕ → ℕ → A → Result A FileError
@@ -72,12 +92,24 @@ abbrev pub count_bytes : ℕ → List ℕ
 count_bytes n = little_bytes 4 n
 
 -- `MDTB`, the version and the row counts
-unfoldable pub head_bytes : List ℕ → List ℕ
-head_bytes counts = codes "MDTB" ++ (count_bytes 1 ++ parts_bytes count_bytes counts)
+unfoldable pub head_bytes : ℕ → List ℕ → List ℕ
+head_bytes version counts = codes "MDTB" ++ (count_bytes version ++ parts_bytes count_bytes counts)
 
--- the table file of a trace
-unfoldable pub bytes_of : Trace → List ℕ
-bytes_of t = head_bytes (lengths_of t) ++ parts_bytes (λ name. table_bytes (rows_of t name)) every_table
+-- the table file of a trace that says a version
+unfoldable pub bytes_in : ℕ → Trace → List ℕ
+bytes_in version t = head_bytes version (lengths_of t) ++ parts_bytes (λ name. table_bytes (rows_of t name)) every_table
+
+-- the table file of a trace, as it is written
+abbrev pub bytes_of : Trace → List ℕ
+bytes_of t = bytes_in this_version t
+
+-- the version that bytes say
+abbrev pub version_of : List ℕ → ℕ
+version_of bytes = little_number 4 (drop 4 bytes)
+
+-- no table has more rows than files of a version have
+abbrev pub FitsVersion : ℕ → Trace → Type 0
+FitsVersion version t = (name : TableName) → length (rows_of t name) ≤ most_in version name
 
 -- a bound of the row counts, by which places stay small
 abbrev pub AreFew : List ℕ → Type 0

@@ -13,9 +13,9 @@ pub enum FileCause {
     Ended,
     /// The first four bytes are not `MDTB`.
     Magic,
-    /// The version is not 1.
+    /// The version is neither 1 nor 2.
     Version,
-    /// A table may not have so many rows.
+    /// A table may not have so many rows, in a file of this version.
     Count,
     /// A number is no element: it is 2^64 - 2^32 + 1 or more.
     Element,

@@ -1,7 +1,8 @@
 ghost use Rattle.std.specs.Prelude.{◌≡◌, ◌==◌, ◌+◌, ◌≤◌, drop, length, IfOk};
 ghost use Rattle.byteorder.specs.Endian.{little_number};
 ghost use Rattle.table_file.specs.Fields.{number_at};
-ghost use Rattle.table_file.specs.Files.{AreFew, head_of, magic};
+ghost use Rattle.table_file.specs.Files.{AreFew, head_of, is_version, magic};
+ghost use Rattle.table_file.specs.declared.cause.FileCause.TheVariants as cause;
 
 use crate::cause::{FileCause, FileError, bad};
 use crate::counts::read_counts;
@@ -10,8 +11,11 @@ use byteorder::{ByteOrder, LittleEndian};
 /// The bytes `MDTB`, as a number of 32 bits whose lowest byte stands first.
 pub(crate) const MAGIC: u32 = 0x4254_444d;
 
-/// The version of the format.
-pub(crate) const VERSION: u32 = 1;
+/// The first version of the format, which is still read.
+pub(crate) const FIRST_VERSION: u32 = 1;
+
+/// The version of the format that is written, and read.
+pub(crate) const VERSION: u32 = 2;
 
 /// How many bytes stand in front of the first row.
 pub(crate) const HEAD_BYTES: usize = 36;
@@ -22,25 +26,38 @@ pub(crate) fn read_head(bytes: &[u8]) -> Result<[usize; 7], FileError>
     ensures is { result ≡ head_of bytes.now }
     ensures few { IfOk result AreFew }
 {
-    read_number(bytes, MAGIC, FileCause::Magic, 0)?;
-    read_number(bytes, VERSION, FileCause::Version, 4)?;
-    read_counts(bytes)
+    read_magic(bytes)?;
+    let version = read_version(bytes)?;
+    read_counts(bytes, version)
 }
 
-// A number of 32 bits that has to be this one.
 #[tactic(auto, unfolding(crate::specs::Fields::number_at))]
-fn read_number(bytes: &[u8], wanted: u32, cause: FileCause, at: usize) -> Result<u32, FileError>
-    requires { at ≤ 100 }
-    ensures { result ≡ number_at bytes.now 4 cause (λ n. n == wanted) at }
+fn read_magic(bytes: &[u8]) -> Result<u32, FileError>
+    ensures { result ≡ number_at bytes.now 4 cause.Magic (λ n. n == magic) 0 }
 {
-    if bytes.len() < at + 4 {
-        return Err(bad(at, FileCause::Ended));
+    if bytes.len() < 4 {
+        return Err(bad(0, FileCause::Ended));
     }
-    let number = read_u32(bytes, at);
-    if number == wanted {
+    let number = read_u32(bytes, 0);
+    if number == MAGIC {
         Ok(number)
     } else {
-        Err(bad(at, cause))
+        Err(bad(0, FileCause::Magic))
+    }
+}
+
+#[tactic(auto, unfolding(crate::specs::Fields::number_at))]
+fn read_version(bytes: &[u8]) -> Result<u32, FileError>
+    ensures { result ≡ number_at bytes.now 4 cause.Version is_version 4 }
+{
+    if bytes.len() < 8 {
+        return Err(bad(4, FileCause::Ended));
+    }
+    let version = read_u32(bytes, 4);
+    if version == FIRST_VERSION || version == VERSION {
+        Ok(version)
+    } else {
+        Err(bad(4, FileCause::Version))
     }
 }
 

@@ -1,7 +1,7 @@
 ghost use Rattle.std.specs.Prelude.{◌≡◌, ◌+◌, ◌*◌, ◌<◌, ◌≤◌, ◌++◌, [], true, drop, length, slice_index_or, IfOk};
 ghost use Rattle.air_kit.specs.Traces.{HasCounts, lengths_of, rows_of};
 ghost use Rattle.table_file.specs.Fields.{row_bytes, table_bytes};
-ghost use Rattle.table_file.specs.Files.{bytes_of, count_bytes, head_bytes};
+ghost use Rattle.table_file.specs.Files.{bytes_of, count_bytes, head_bytes, this_version};
 ghost use Rattle.table_file.specs.Left.{left_of};
 
 use crate::head::{MAGIC, VERSION};
@@ -86,7 +86,7 @@ impl<'a> Pieces for TablePieces<'a> {
 fn add_head(room: &mut Piece, trace: &Trace)
     requires counts { HasCounts trace.now }
     requires empty { room.old.items ≡ [] }
-    ensures is { room.new.items ≡ head_bytes (lengths_of trace.now) }
+    ensures is { room.new.items ≡ head_bytes this_version (lengths_of trace.now) }
     ensures some { length room.new.items ≡ 36 }
 {
     add_u32(room, MAGIC);
