@@ -7,7 +7,7 @@ use air_kit::{Public, TableName, Trace};
 use rpo_hash::Params;
 use std::alloc::Global;
 use vm_field::{Felt, Felts, Memory, Word, Words};
-use vm_state::Statement;
+use vm_state::{Inputs, Statement};
 use vm_table::Table;
 
 // Constants that are all 0.
@@ -252,7 +252,10 @@ pub fn public(alloc: Global, run: &Run, has_kernel: bool) -> Result<Public, Memo
     let digest = Word([element(d0), element(d1), element(d2), element(d3)]);
     let inputs = elements(alloc, run.inputs)?;
     let outputs = elements(alloc, run.outputs)?;
-    if 16 < inputs.len() || outputs.len() < 16 || 524303 < outputs.len() {
+    if Inputs::MOST_STACK < inputs.len()
+        || outputs.len() < Statement::LEAST_OUTPUTS
+        || Statement::MOST_OUTPUTS < outputs.len()
+    {
         return Err(Memory::Memory);
     }
     Ok(Public {

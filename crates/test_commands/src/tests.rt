@@ -2,6 +2,7 @@ mod assemble;
 mod built;
 mod check;
 mod content;
+mod deep;
 mod faults;
 mod flow;
 mod hash;

@@ -1,4 +1,5 @@
 ghost use Rattle.std.specs.Prelude.{◌≤◌, length, IfOk};
+ghost use Rattle.vm_field.specs.Limits.{most_outputs};
 ghost use Rattle.air_kit.specs.Traces.{HasCounts};
 
 use crate::tests::{NO_CONSTANTS, inputs_of_ones, program};
@@ -44,7 +45,7 @@ fn tabled<R: Threads + Sync>(
     pieces: usize,
 ) -> Result<(usize, RunEnd), Stop>
     requires { (1 ≤ pieces) × (pieces ≤ 64) }
-    ensures depth { IfOk result (λ r. length r.1.state.stack ≤ 524303) }
+    ensures depth { IfOk result (λ r. length r.1.state.stack ≤ most_outputs) }
 {
     let run = execute(alloc, &NO_CONSTANTS, program, inputs, 100)?;
     let (trace, end) = trace_of_run(rt, alloc, &NO_CONSTANTS, program, run, pieces, &OpenGate)?;

@@ -65,7 +65,7 @@ pub fn inputs_of_ones(alloc: Global, ones: usize) -> Result<Inputs, Memory> {
     for _ in 0..ones {
         stack.push(Felt::ONE)?;
     }
-    if stack.len() > 16 {
+    if stack.len() > Inputs::MOST_STACK {
         return Err(Memory::Memory);
     }
     Ok(Inputs::new(stack, Felts::new(alloc)))

@@ -9,23 +9,47 @@ use vm_io::Taker;
 
 // `MDTB`, the version, and counts of 4, 42 and 8 rows; the other tables have none.
 const HEAD: [u8; 36] =
-    *b"MDTB\x01\0\0\0\x04\0\0\0\x2a\0\0\0\x08\0\0\0\0\0\0\0\0\0\0\0\0\0\0\0\0\0\0\0";
+    *b"MDTB\x02\0\0\0\x04\0\0\0\x2a\0\0\0\x08\0\0\0\0\0\0\0\0\0\0\0\0\0\0\0\0\0\0\0";
 
 // The same with the version 0.
 const OLD_HEAD: [u8; 36] =
     *b"MDTB\0\0\0\0\x04\0\0\0\x2a\0\0\0\x08\0\0\0\0\0\0\0\0\0\0\0\0\0\0\0\0\0\0\0";
 
+// With the first version, which is read too.
+const FIRST_HEAD: [u8; 36] =
+    *b"MDTB\x01\0\0\0\x04\0\0\0\x2a\0\0\0\x08\0\0\0\0\0\0\0\0\0\0\0\0\0\0\0\0\0\0\0";
+
+// With the version 3.
+const NEXT_HEAD: [u8; 36] =
+    *b"MDTB\x03\0\0\0\x04\0\0\0\x2a\0\0\0\x08\0\0\0\0\0\0\0\0\0\0\0\0\0\0\0\0\0\0\0";
+
+// With the first version, and 2^19 cells left, as many as it may have.
+const FIRST_MOST_HEAD: [u8; 36] =
+    *b"MDTB\x01\0\0\0\x04\0\0\0\x2a\0\0\0\x08\0\0\0\0\0\0\0\0\0\0\0\0\0\0\0\0\0\x08\0";
+
+// With one more.
+const FIRST_FULL_HEAD: [u8; 36] =
+    *b"MDTB\x01\0\0\0\x04\0\0\0\x2a\0\0\0\x08\0\0\0\0\0\0\0\0\0\0\0\0\0\0\0\x01\0\x08\0";
+
+// With as many, and not the first version, which may have them.
+const LEFT_HEAD: [u8; 36] =
+    *b"MDTB\x02\0\0\0\x04\0\0\0\x2a\0\0\0\x08\0\0\0\0\0\0\0\0\0\0\0\0\0\0\0\x01\0\x08\0";
+
+// With one cell left more than that may have.
+const FULL_LEFT_HEAD: [u8; 36] =
+    *b"MDTB\x02\0\0\0\x04\0\0\0\x2a\0\0\0\x08\0\0\0\0\0\0\0\0\0\0\0\0\0\0\0\x01\0\x10\0";
+
 // With two bitwise operations and three accesses of memory.
 const LONG_HEAD: [u8; 36] =
-    *b"MDTB\x01\0\0\0\x04\0\0\0\x2a\0\0\0\x08\0\0\0\x10\0\0\0\x03\0\0\0\0\0\0\0\0\0\0\0";
+    *b"MDTB\x02\0\0\0\x04\0\0\0\x2a\0\0\0\x08\0\0\0\x10\0\0\0\x03\0\0\0\0\0\0\0\0\0\0\0";
 
 // With nine rows of bitwise operations.
 const PART_HEAD: [u8; 36] =
-    *b"MDTB\x01\0\0\0\x04\0\0\0\x2a\0\0\0\x08\0\0\0\x09\0\0\0\0\0\0\0\0\0\0\0\0\0\0\0";
+    *b"MDTB\x02\0\0\0\x04\0\0\0\x2a\0\0\0\x08\0\0\0\x09\0\0\0\0\0\0\0\0\0\0\0\0\0\0\0";
 
 // With one access more than memory may have.
 const FULL_HEAD: [u8; 36] =
-    *b"MDTB\x01\0\0\0\x04\0\0\0\x2a\0\0\0\x08\0\0\0\0\0\0\0\x01\0\x08\0\0\0\0\0\0\0\0\0";
+    *b"MDTB\x02\0\0\0\x04\0\0\0\x2a\0\0\0\x08\0\0\0\0\0\0\0\x01\0\x08\0\0\0\0\0\0\0\0\0";
 
 // Where the last element of the file with the first of these heads begins.
 const LAST: usize = 3740;
@@ -40,7 +64,7 @@ struct Case {
 
 const ZERO: [u8; 8] = [0; 8];
 
-static CASES: [Case; 9] = [
+static CASES: [Case; 15] = [
     Case {
         length: 3748,
         head: HEAD,
@@ -116,6 +140,57 @@ static CASES: [Case; 9] = [
             cause: FileCause::Count,
         }),
     },
+    Case {
+        length: 3748,
+        head: FIRST_HEAD,
+        last: ZERO,
+        answer: Ok(4),
+    },
+    Case {
+        length: 3748,
+        head: NEXT_HEAD,
+        last: ZERO,
+        answer: Err(FileError::Bad {
+            offset: 4,
+            cause: FileCause::Version,
+        }),
+    },
+    Case {
+        length: 3748,
+        head: FIRST_MOST_HEAD,
+        last: ZERO,
+        answer: Err(FileError::Bad {
+            offset: 3748,
+            cause: FileCause::Ended,
+        }),
+    },
+    Case {
+        length: 3748,
+        head: FIRST_FULL_HEAD,
+        last: ZERO,
+        answer: Err(FileError::Bad {
+            offset: 32,
+            cause: FileCause::Count,
+        }),
+    },
+    Case {
+        length: 3748,
+        head: LEFT_HEAD,
+        last: ZERO,
+        answer: Err(FileError::Bad {
+            offset: 3748,
+            cause: FileCause::Ended,
+        }),
+    },
+    Case {
+        length: 3748,
+        head: FULL_LEFT_HEAD,
+        last: ZERO,
+        answer: Err(FileError::Bad {
+            offset: 32,
+            cause: FileCause::Count,
+        }),
+    },
 ];
 
 fn byte_of(case: &Case, i: usize) -> u8 {
@@ -165,10 +240,10 @@ fn all_answer(alloc: Global, cases: &[Case], size: usize) -> bool
     true
 }
 
-fn comes_back(alloc: Global, case: &Case) -> Result<bool, FileError> {
-    let bytes = file(alloc, case)?;
-    let trace = decode(alloc, bytes.as_slice())?;
-    Ok(encode(alloc, &trace)? == bytes)
+// Whether the trace of a file is written as the other one.
+fn is_written_as(alloc: Global, case: &Case, other: &Case) -> Result<bool, FileError> {
+    let trace = decode(alloc, file(alloc, case)?.as_slice())?;
+    Ok(encode(alloc, &trace)? == file(alloc, other)?)
 }
 
 // Where a front of this many bytes ends: behind whole numbers of four bytes in the head, and behind whole elements after it.
@@ -216,7 +291,11 @@ fn reads_files(rt: HostRuntime) -> Result<(), Fail> {
 
 #[test]
 fn writes_what_it_reads(rt: HostRuntime) -> Result<(), Fail> {
-    assert_eq!(rt; comes_back(rt.alloc(), &CASES[0]), Ok(true));
-    assert_eq!(rt; comes_back(rt.alloc(), &CASES[6]), Ok(true));
+    for (case, other) in [(0, 0), (6, 6), (9, 0)] {
+        assert_eq!(rt;
+            is_written_as(rt.alloc(), &CASES[case], &CASES[other]),
+            Ok(true)
+        );
+    }
     Ok(())
 }

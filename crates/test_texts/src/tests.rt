@@ -45,7 +45,7 @@ static TEXTS: &str = r#"{"advice":[1,4,9],"stack":[]} => {"advice":[1,4,9],"stac
 {"stack":[7],"advice":[],"stack":[8,9]} => {"advice":[],"stack":[8,9]}
 {"stack":null,"advice":[],"stack":[]} => {"advice":[],"stack":[]}
 {"stack":[18446744069414584320],"advice":[]} => {"advice":[],"stack":[18446744069414584320]}
-{"stack":[1,2,3,4,5,6,7,8,9,10,11,12,13,14,15,16],"advice":[]} => {"advice":[],"stack":[1,2,3,4,5,6,7,8,9,10,11,12,13,14,15,16]}
+{"stack":[1,2,3,4,5,6,7,8,9,10,11,12,13,14,15,16,17,18],"advice":[]} => {"advice":[],"stack":[1,2,3,4,5,6,7,8,9,10,11,12,13,14,15,16,17,18]}
  => NotJson
 {"stack":[1,],"advice":[]} => NotJson
 {"stack":[],"advice":[],} => NotJson
@@ -73,8 +73,6 @@ null => Shape
 {"stack":[18446744069414584321],"advice":[]} => Element
 {"stack":[],"advice":[18446744069414584321]} => Element
 {"stack":[],"advice":[18446744073709551616]} => Element
-{"stack":[1,2,3,4,5,6,7,8,9,10,11,12,13,14,15,16,17],"advice":[-1]} => Element
-{"stack":[1,2,3,4,5,6,7,8,9,10,11,12,13,14,15,16,17],"advice":[]} => Count
 "#;
 
 #[test]
@@ -104,14 +102,105 @@ fn answers_texts(rt: HostRuntime) -> Result<(), Fail> {
     Ok(())
 }
 
-// A text whose advice is that many zeros and whose stack is a 7.
-fn zeros(alloc: Global, count: usize) -> Result<String, AllocError> {
-    let mut text = String::from_str(alloc, "{\"stack\":[7],\"advice\":[0")?;
+// Text, that many zeros with commas between, and the rest.
+fn with_zeros(alloc: Global, front: &str, count: usize, rest: &str) -> Result<String, AllocError> {
+    let mut text = String::from_str(alloc, front)?;
+    text.push_str("0")?;
     for _ in 1..count {
         text.push_str(",0")?;
     }
-    text.push_str("]}")?;
+    text.push_str(rest)?;
     Ok(text)
+}
+
+// A text whose advice is that many zeros and whose stack is a 7.
+fn zeros(alloc: Global, count: usize) -> Result<String, AllocError> {
+    with_zeros(alloc, "{\"stack\":[7],\"advice\":[", count, "]}")
+}
+
+// A text with an array of zeros in it, and the cause of its refusal; none where it is written as it was read.
+struct Limit {
+    front: &'static str,
+    count: usize,
+    rest: &'static str,
+    cause: Option<&'static str>,
+}
+
+// As many elements on the stack as there may be, and one more, which decides behind an element that is none.
+static STACKS: [Limit; 3] = [
+    Limit {
+        front: r#"{"advice":[],"stack":["#,
+        count: 1024,
+        rest: r#"]}"#,
+        cause: None,
+    },
+    Limit {
+        front: r#"{"advice":[],"stack":["#,
+        count: 1025,
+        rest: r#"]}"#,
+        cause: Some("Count"),
+    },
+    Limit {
+        front: r#"{"advice":[-1],"stack":["#,
+        count: 1025,
+        rest: r#"]}"#,
+        cause: Some("Element"),
+    },
+];
+
+// The same of a statement's inputs, behind a digest that is none.
+static STATED: [Limit; 3] = [
+    Limit {
+        front: r#"{"digest":"0000000000000000000000000000000000000000000000000000000000000000","inputs":["#,
+        count: 1024,
+        rest: r#"],"kernel":[],"outputs":[0,0,0,0,0,0,0,0,0,0,0,0,0,0,0,0]}"#,
+        cause: None,
+    },
+    Limit {
+        front: r#"{"digest":"0000000000000000000000000000000000000000000000000000000000000000","inputs":["#,
+        count: 1025,
+        rest: r#"],"kernel":[],"outputs":[0,0,0,0,0,0,0,0,0,0,0,0,0,0,0,0]}"#,
+        cause: Some("Count"),
+    },
+    Limit {
+        front: r#"{"digest":"x","inputs":["#,
+        count: 1025,
+        rest: r#"],"kernel":[],"outputs":[0,0,0,0,0,0,0,0,0,0,0,0,0,0,0,0]}"#,
+        cause: Some("Digest"),
+    },
+];
+
+fn limit_text(alloc: Global, limit: &Limit) -> Result<String, AllocError> {
+    with_zeros(alloc, limit.front, limit.count, limit.rest)
+}
+
+fn stacks_are_limited(alloc: Global) -> Result<bool, AllocError> {
+    for limit in &STACKS {
+        let text = limit_text(alloc, limit)?;
+        if answer(alloc, text.as_bytes())?.as_str() != limit.cause.unwrap_or(text.as_str()) {
+            return Ok(false);
+        }
+    }
+    Ok(true)
+}
+
+fn stated_inputs_are_limited(alloc: Global) -> Result<bool, AllocError> {
+    for limit in &STATED {
+        let text = limit_text(alloc, limit)?;
+        if statement_answer(alloc, text.as_str())?.as_str()
+            != limit.cause.unwrap_or(text.as_str())
+        {
+            return Ok(false);
+        }
+    }
+    Ok(true)
+}
+
+#[test]
+fn limits_inputs(rt: HostRuntime) -> Result<(), Fail> {
+    assert!(rt; stacks_are_limited(rt.alloc())?);
+    assert!(rt; stated_inputs_are_limited(rt.alloc())?);
+    Ok(())
 }
 
 #[test]
@@ -169,9 +258,9 @@ static STATEMENTS: &str =
 {"digest":7,"inputs":[-1],"kernel":[],"outputs":[0,0,0,0,0,0,0,0,0,0,0,0,0,0,0,0]} => Shape
 {"digest":"0000000000000000000000000000000000000000000000000000000000000000","inputs":[],"kernel":[7],"outputs":[-1]} => Shape
 {"digest":"x","inputs":[],"kernel":[],"outputs":[-1]} => Element
-{"digest":"x","inputs":[1,1,1,1,1,1,1,1,1,1,1,1,1,1,1,1,1],"kernel":[],"outputs":[0,0,0,0,0,0,0,0,0,0,0,0,0,0,0,0]} => Digest
-{"digest":"0000000000000000000000000000000000000000000000000000000000000000","inputs":[1,1,1,1,1,1,1,1,1,1,1,1,1,1,1,1,1],"kernel":["x"],"outputs":[0,0,0,0,0,0,0,0,0,0,0,0,0,0,0,0]} => Digest
-{"digest":"0000000000000000000000000000000000000000000000000000000000000000","inputs":[1,1,1,1,1,1,1,1,1,1,1,1,1,1,1,1,1],"kernel":["0000000000000000000000000000000000000000000000000000000000000000","0000000000000000000000000000000000000000000000000000000000000000"],"outputs":[0,0,0,0,0,0,0,0,0,0,0,0,0,0,0,0]} => Count
+{"digest":"x","inputs":[],"kernel":[],"outputs":[0]} => Digest
+{"digest":"0000000000000000000000000000000000000000000000000000000000000000","inputs":[],"kernel":["x"],"outputs":[0]} => Digest
+{"digest":"0000000000000000000000000000000000000000000000000000000000000000","inputs":[],"kernel":["0000000000000000000000000000000000000000000000000000000000000000","0000000000000000000000000000000000000000000000000000000000000000"],"outputs":[0]} => Count
 {"digest":"0000000000000000000000000000000000000000000000000000000000000000","inputs":[],"kernel":[],"outputs":[0]} => Count
 {"digest":"0000000000000000000000000000000000000000000000000000000000000000","inputs":[],"kernel":["000000000000000000000000000000000000000000000000000000000000000a","000000000000000000000000000000000000000000000000000000000000000A"],"outputs":[0,0,0,0,0,0,0,0,0,0,0,0,0,0,0,0]} => Repeated
 "#;

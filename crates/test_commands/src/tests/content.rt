@@ -44,6 +44,10 @@ pub enum Content {
     Built([u64; 7], &'static [(usize, &'static [u64])]),
     /// The table file of `begin end` under constants that are all 0, with other elements in these places, as long as so many bytes.
     Table(&'static [Other], usize),
+    /// That file as the first version of the format has it.
+    FirstVersion,
+    /// Inputs of so many zeros, without advice.
+    Inputs(usize),
     /// So many lines, each `0`, but the line of this number is this one.
     Lines(usize, usize, &'static str),
     /// This text.
@@ -56,7 +60,9 @@ pub enum Content {
 pub fn bytes_of(alloc: Global, content: &Content) -> Result<Vec<u8>, Memory> {
     match content {
         Content::Built(rows, runs) => built(alloc, rows, runs),
-        Content::Table(others, size) => table(alloc, others, *size),
+        Content::Table(others, size) => table(alloc, 2, others, *size),
+        Content::FirstVersion => table(alloc, 1, &[], 3748),
+        Content::Inputs(count) => inputs(alloc, *count),
         Content::Lines(count, place, other) => lines(alloc, *count, *place, other),
         Content::Text(text) => Ok(Vec::from_slice(alloc, text.as_bytes())?),
         Content::Bytes(bytes) => Ok(Vec::from_slice(alloc, bytes)?),
@@ -68,7 +74,7 @@ static WIDTHS: [u64; 7] = [65, 2, 15, 12, 14, 5, 1];
 
 fn built(alloc: Global, rows: &[u64; 7], runs: &[(usize, &[u64])]) -> Result<Vec<u8>, Memory> {
     let mut bytes = Vec::from_slice(alloc, b"MDTB")?;
-    push_number(&mut bytes, 1, 4)?;
+    push_number(&mut bytes, 2, 4)?;
     let mut size = 0u64;
     for table in 0..7usize {
         push_number(&mut bytes, rows[table], 4)?;
@@ -93,9 +99,9 @@ fn fill_up(bytes: &mut Vec<u8>, place: usize) -> Result<(), Memory> {
 }
 
 // Four rows of the main table, 42 of the range table and a permutation of zeros.
-fn table(alloc: Global, others: &[Other], size: usize) -> Result<Vec<u8>, Memory> {
+fn table(alloc: Global, version: u64, others: &[Other], size: usize) -> Result<Vec<u8>, Memory> {
     let mut bytes = Vec::from_slice(alloc, b"MDTB")?;
-    for count in [1, 4, 42, 8, 0, 0, 0, 0] {
+    for count in [version, 4, 42, 8, 0, 0, 0, 0] {
         push_number(&mut bytes, count, 4)?;
     }
     let mut range = 0u64;
@@ -153,6 +159,19 @@ fn lines(alloc: Global, count: usize, place: usize, other: &str) -> Result<Vec<u
         let line = if i + 1 == place { other } else { "0" };
         push_line(&mut text, line)?;
     }
+    Ok(text)
+}
+
+fn inputs(alloc: Global, count: usize) -> Result<Vec<u8>, Memory> {
+    let mut text = Vec::from_slice(alloc, br#"{"advice":[],"stack":["#)?;
+    for i in 0..count {
+        if 0 < i {
+            text.push(b',')?;
+        }
+        text.push(b'0')?;
+    }
+    text.push(b']')?;
+    text.push(b'}')?;
     Ok(text)
 }
 

@@ -279,10 +279,7 @@ static STOPPED: [Row; 15] = [
         files: &[
             ("z", Content::Lines(168, 0, "")),
             ("s", Content::Text("begin end")),
-            (
-                "i",
-                Content::Text(r#"{"advice":[],"stack":[0,0,0,0,0,0,0,0,0,0,0,0,0,0,0,0,0]}"#),
-            ),
+            ("i", Content::Inputs(1025)),
         ],
         failing_call: 0,
         failing_write: 0,
