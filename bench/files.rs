@@ -90,7 +90,7 @@ pub fn encode(tables: &Tables) -> Vec<u8> {
     let counts = [main.len(), range.len(), hasher.len(), bitwise.len(), memory.len(), kernel.len(), left.len()];
     let cells: usize = counts.iter().zip([65, 2, 15, 12, 14, 5, 1]).map(|(count, width)| count * width).sum();
     let mut bytes = vec![0; 36 + 8 * cells];
-    bytes[..8].copy_from_slice(b"MDTB\x01\0\0\0");
+    bytes[..8].copy_from_slice(b"MDTB\x02\0\0\0");
     for (part, count) in bytes[8..36].chunks_exact_mut(4).zip(counts) {
         part.copy_from_slice(&(count as u32).to_le_bytes());
     }

@@ -4,6 +4,7 @@ import os
 import struct
 
 HEAD = 36
+VERSION = 2
 
 with open(os.path.join(os.path.dirname(os.path.abspath(__file__)), "schema.json"), encoding="utf-8") as schema:
     COLUMNS = {table["name"]: table["columns"] for table in json.load(schema)["tables"]}
@@ -41,7 +42,7 @@ def place_of(content, table, row, column):
 def written(path, tables):
     """Writes the rows of the seven tables as a table file."""
     with open(path, "wb") as file:
-        file.write(b"MDTB" + struct.pack("<8I", 1, *(len(table) for table in tables)))
+        file.write(b"MDTB" + struct.pack("<8I", VERSION, *(len(table) for table in tables)))
         for table in tables:
             for row in table:
                 file.write(struct.pack(f"<{len(row)}Q", *row))
