@@ -1,3 +1,5 @@
+ghost use Rattle.std.specs.Prelude.{◌≤◌};
+
 use crate::tests::NO_CONSTANTS;
 use block_tree::Program;
 use fill_files::trace_of_run;
