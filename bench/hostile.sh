@@ -25,12 +25,12 @@ sys.path.insert(0, sys.argv[1])
 from tables import COLUMNS, WIDTHS
 
 LEAST = (1, 1, 0, 0, 0, 0, 0)
-MOST = (2**19, 2**17, 2**22, 2**22, 2**19, 255, 2**19)
+MOST = (2**19, 2**17, 2**22, 2**22, 2**19, 255, 2**20)
 for number, name in enumerate(COLUMNS):
     counts = LEAST[:number] + MOST[number:number + 1] + LEAST[number + 1:]
     rows = list(zip(LEAST[:number], WIDTHS)) + [(1, WIDTHS[number])]
     with open(name, "wb") as file:
-        file.write(b"MDTB" + struct.pack("<8I", 1, *counts))
+        file.write(b"MDTB" + struct.pack("<8I", 2, *counts))
         for count, width in rows:
             file.write(bytes(8 * count * width))
 END
