@@ -62,7 +62,7 @@ fn rows<const N: usize>(bytes: &[u8], count: u32) -> Option<(Vec<[u64; N]>, &[u8
 }
 
 pub fn decode(bytes: &[u8]) -> Option<Tables> {
-    if number(bytes, 0)? != 0x4254_444d || number(bytes, 4)? != 1 {
+    if number(bytes, 0)? != 0x4254_444d || !matches!(number(bytes, 4)?, 1 | 2) {
         return None;
     }
     let count = |table: usize| number(bytes, 8 + 4 * table);
