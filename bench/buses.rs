@@ -3,7 +3,7 @@
 use crate::files::*;
 use crate::mixer::Mixing;
 use crate::ops::*;
-use crate::permute::{add, mul};
+use crate::permute::{PRIME, add, mul};
 use crate::values::difference;
 use std::collections::HashMap;
 use std::ops::AddAssign;
@@ -132,8 +132,13 @@ impl Buses {
     }
 
     /// What the statement gives.
-    pub fn statement(&mut self, digest: Word) {
-        self.children.give(joined(&[0], &[&digest[..], &[0]].concat()));
+    pub fn statement(&mut self, statement: &Statement) {
+        self.children.give(joined(&[0], &[&statement.digest[..], &[0]].concat()));
+        let deep = statement.inputs.get(16..).unwrap_or(&[]);
+        for (i, cell) in deep.iter().enumerate() {
+            let key = PRIME - 1 - i as u64;
+            self.overflow.give([key, *cell, if i + 1 < deep.len() { key - 1 } else { 0 }]);
+        }
     }
 
     /// Adds the counts of other rows.

@@ -64,7 +64,8 @@ fn difference(a: u64, b: u64) -> u64 {
 }
 
 impl Filler<'_> {
-    fn new<'a>(blocks: &'a [Block], accesses: &'a [Access]) -> Filler<'a> {
+    // The inputs below the sixteenth cell have the greatest elements as keys, the first one the greatest of them.
+    fn new<'a>(blocks: &'a [Block], accesses: &'a [Access], deep: u64) -> Filler<'a> {
         Filler {
             blocks,
             accesses: accesses.iter(),
@@ -79,7 +80,7 @@ impl Filler<'_> {
             place: 0,
             position: 0,
             left: 0,
-            keys: Vec::new(),
+            keys: (1..=deep).rev().map(|i| PRIME - i).collect(),
         }
     }
 
@@ -303,7 +304,8 @@ fn kernel_rows(kernel: &[Word], calls: &[Word]) -> Vec<[u64; 5]> {
 /// The tables of a run.
 pub fn fill(blocks: &[Block], kernel: &[Word], log: Log) -> Tables {
     let Log { events, mut accesses, hasher } = log;
-    let mut filler = Filler::new(blocks, &accesses);
+    let deep = events.first().map_or(0, |event| u64::from(event.depth) - 16);
+    let mut filler = Filler::new(blocks, &accesses, deep);
     let mut main = Vec::with_capacity(events.len());
     for (clock, event) in events.iter().enumerate() {
         let behind = &events[(clock + 1).min(events.len() - 1)].cells;

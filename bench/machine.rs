@@ -185,7 +185,8 @@ pub fn inverse(a: u64) -> u64 {
 impl<'a> Machine<'a> {
     pub fn new(params: &'a Params, blocks: &'a [Block], inputs: &[u64], tape: Vec<u64>) -> Machine<'a> {
         let mut top = [0; 16];
-        top[..inputs.len()].copy_from_slice(inputs);
+        let (first, deep) = inputs.split_at(inputs.len().min(16));
+        top[..first.len()].copy_from_slice(first);
         Machine {
             params,
             blocks,
@@ -197,7 +198,7 @@ impl<'a> Machine<'a> {
             function: 0,
             nesting: 0,
             top,
-            below: Vec::new(),
+            below: deep.iter().rev().copied().collect(),
             log: Log::default(),
         }
     }

@@ -75,7 +75,7 @@ impl<const TESTS: bool, const COUNTS: bool> Pass<'_, TESTS, COUNTS> {
         let part = self.part.next(main.len());
         let mut codes = Vec::with_capacity(part.len());
         if COUNTS && part.start == 0 && part.end > 0 {
-            self.buses.statement(self.claim.statement.digest);
+            self.buses.statement(self.claim.statement);
         }
         let mut own = main.get(part.start).and_then(code_in);
         for (i, x) in main.iter().enumerate().take(part.end).skip(part.start) {

@@ -2,7 +2,7 @@
 //! constraints that it can break are tested.
 use crate::files::*;
 use crate::ops::*;
-use crate::permute::{State, add, before_roots, mul, seventh_powers};
+use crate::permute::{PRIME, State, add, before_roots, mul, seventh_powers};
 use crate::values::{Claim, difference};
 
 /// The code that a row's bits spell; none where one of them is no bit, or where they spell none.
@@ -26,8 +26,8 @@ pub fn starts(claim: &Claim, x: &Row, code: u8) -> bool {
         && x[SYS] == 0
         && x[F..F + 4] == [0; 4]
         && x[LV] == 0
-        && x[DEPTH] == 16
-        && x[KEY] == 0
+        && x[DEPTH] == inputs.len().max(16) as u64
+        && x[KEY] == if inputs.len() > 16 { PRIME - 1 } else { 0 }
         && (0..16).all(|j| x[S + j] == inputs.get(j).copied().unwrap_or(0))
         && claim.kernel_rows == kernel.len()
         && claim.left_rows + 16 == outputs.len()

@@ -37,7 +37,8 @@ def show_progress(done, times):
 
 
 def try_many(script, words, changed, times):
-    """Has files checked that `changed` makes of the bytes of an accepted one and of a choice, and prints how often each answer came."""
+    """Has files checked that `changed` makes of the bytes of an accepted one and of a choice, and prints how often each answer came. Where
+    it makes a pair, the second is another statement's text."""
     if not 4 <= len(words) <= 6 or not all(word.isdecimal() for word in words[4:5]):
         print(f"usage: {script} MIDEN PARAMS TABLE STATEMENT [TIMES [SEED]]", file=sys.stderr)
         sys.exit(2)
@@ -47,15 +48,20 @@ def try_many(script, words, changed, times):
         content = file.read()
     answers = collections.Counter()
     with tempfile.TemporaryDirectory(dir=".") as folder:
-        name, evidence = os.path.join(os.path.relpath(folder), "changed"), os.path.join(os.path.relpath(folder), "evidence")
+        name, claim, evidence = (os.path.join(os.path.relpath(folder), it) for it in ("changed", "claim", "evidence"))
         files = miden, params, statement, evidence
         honest = answer(files, table)
         if honest != ACCEPTED:
             sys.exit(f"{table} is not accepted as it is: {honest}")
         for done in range(times):
+            made = changed(content, choice)
+            rows, text = made if isinstance(made, tuple) else (made, None)
             with open(name, "wb") as file:
-                file.write(changed(content, choice))
-            answers[answer(files, name)] += 1
+                file.write(rows)
+            if text is not None:
+                with open(claim, "w", encoding="utf-8") as file:
+                    file.write(text)
+            answers[answer((miden, params, statement if text is None else claim, evidence), name)] += 1
             show_progress(done + 1, times)
     for kind, count in sorted(answers.items()):
         print(count, kind)
