@@ -45,8 +45,8 @@ static CASES: [Case; 7] = [
     },
     Case {
         table: TableName::Left,
-        may: &[0, 1, 524288],
-        may_not: &[524289],
+        may: &[0, 1, 524288, 1048576],
+        may_not: &[1048577],
     },
 ];
 
