@@ -1,0 +1,5 @@
+pub mod Arithmetic
+pub mod Traps
+pub mod Running
+pub mod NameLemmas
+pub mod Packing

@@ -1,0 +1,20 @@
+ghost use Rattle.std.specs.Prelude.{◌≡◌, ℕ, List, length};
+ghost use Rattle.std_u64.specs.declared.names.U64Procedure.{U64Procedure};
+ghost use Rattle.masm_expand.specs.Packable.{ArePackable};
+ghost use Rattle.vm_field.specs.Limits.{number_of_constants};
+ghost use Rattle.vm_field.specs.Machine.{IsWellFormed, State};
+ghost use Rattle.vm_ops.specs.Runs.{run};
+ghost use Rattle.std_u64.specs.Lists.{operations};
+ghost use Rattle.std_u64.specs.Outcomes.{outcome};
+
+/// The laws of the procedures. The operations of each, run from a well-formed state, trap NotU32
+/// exactly where a limb is 2^32 or more, else AssertFailed exactly where a result that the procedure
+/// tests is out of range. Else they leave the result in place of the two numbers, and the rest of the
+/// stack and the state as they were, but for the clock, which counts the operations. Each has an
+/// operation, and each of its operations can be packed into a batch.
+pub fn procedure_laws()
+    ensures outcomes { (constants : List ℕ) (procedure : U64Procedure) (s : State)
+        → length constants ≡ number_of_constants → IsWellFormed s
+        → run constants (operations procedure) s ≡ outcome procedure s }
+    ensures packable { (procedure : U64Procedure) → ArePackable (operations procedure) }
+{}
