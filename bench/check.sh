@@ -8,7 +8,8 @@
 # table; or `loop` or `flow`, of some 430,000; or `calls`, of 20,000 calls on a stack of DEPTH cells; or `all`, of some
 # 79,000. TURNS is how often the source's outer body is
 # repeated, MIDEN the program in place of the one that the script `miden` builds, RUNS how often both run, and where
-# INSTRUCTIONS is set instructions are counted in place of times (command.py).
+# INSTRUCTIONS is set instructions are counted in place of times. LARGE_PAGES=ours runs the program as the script `miden` does, with large
+# pages, and LARGE_PAGES=both plain Rust as well (command.py).
 #
 # `check.sh crates` times the parts by the crates that the command stands on, over a run of one span: reading the file,
 # testing the rows of all its tables, and counting and comparing its buses, which is what `check` takes behind the rows.

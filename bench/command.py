@@ -6,7 +6,8 @@ NAME is the command's name. OURS and PLAIN are the words of the two sides. Each 
 the same, and so must be what both sides print. The ratio of the times is to be at most TIMES, and the program's peak memory at most
 MEMORY times FILE. Prints the least of RUNS times, by the clock and of the processor, the parts that plain Rust tells on standard
 error in microseconds, and the load of the machine, without which no time means much. Where INSTRUCTIONS is set, what is compared is
-how many instructions valgrind counts, once.
+how many instructions valgrind counts, once. Where LARGE_PAGES is `ours`, the program has large pages, for which the script `miden`
+asks the C library and no other caller does; where it is `both`, plain Rust has them as well.
 """
 import filecmp
 import os
@@ -28,11 +29,19 @@ def parts_of(words):
     return parts
 
 
-def run(words):
+def setting(side):
+    """The environment of one side."""
+    has_large_pages = {"the program": ("ours", "both"), "plain Rust": ("both",)}
+    if os.environ.get("LARGE_PAGES") in has_large_pages[side]:
+        return {**os.environ, "GLIBC_TUNABLES": "glibc.malloc.hugetlb=1"}
+    return None
+
+
+def run(words, environment=None):
     """Seconds by the clock and of the processor, kilobytes, and what is printed to both outputs."""
     with tempfile.TemporaryFile("w+") as out, tempfile.TemporaryFile("w+") as told:
         start = time.monotonic()
-        child = subprocess.Popen(words, stdout=out, stderr=told)
+        child = subprocess.Popen(words, stdout=out, stderr=told, env=environment)
         _, status, usage = os.wait4(child.pid, 0)
         seconds = time.monotonic() - start
         child.returncode = status
@@ -60,7 +69,7 @@ def same(pairs, printed):
 def main():
     (name, most, memory, file, runs, *ours), plain, pairs = parts_of(sys.argv[1:])
     sides = {"plain Rust": plain, "the program": ours}
-    came = {side: [run(words)] for side, words in sides.items()}
+    came = {side: [run(words, setting(side))] for side, words in sides.items()}
     same(pairs, [results[0][3] for results in came.values()])
     if "INSTRUCTIONS" in os.environ:
         counts = {side: instructions(words) for side, words in sides.items()}
@@ -69,7 +78,7 @@ def main():
         return
     for _ in range(int(runs) - 1):
         for side, words in sides.items():
-            came[side].append(run(words))
+            came[side].append(run(words, setting(side)))
     for kind, place in ("by the clock", 0), ("of the processor", 1):
         least = {side: min(result[place] for result in results) for side, results in came.items()}
         text = ", ".join(f"{side} {1000 * seconds:.0f} ms" for side, seconds in least.items())

@@ -1,11 +1,11 @@
 #!/bin/bash
 # What pieces save. Two benches over the table file of a run of one span, of nearly 2^19 main rows.
 #
-# `pieces.sh` times the whole command `check` in 4 pieces against plain Rust (check.rs, rustc -O), first in one thread and then in
-# the same 4 pieces, in turn; both write the same evidence. The ratio of the times is to be at most 1.5 where plain Rust has the
+# `pieces.sh`, or `pieces.sh CASE` over another program of sources.sh, times the whole command `check` in 4 pieces against plain Rust
+# (check.rs, rustc -O), first in one thread and then in the same 4 pieces, in turn; both write the same evidence. The ratio of the times is to be at most 1.5 where plain Rust has the
 # same pieces, and at most 1 where it has one thread and 4 processors are idle. The peak memory is to be at most 2.5 times the table
 # file. PIECES is another number of pieces, TURNS how often the source's outer body is repeated, MIDEN the program in place of the
-# one that the script `miden` builds, and RUNS how often both run.
+# one that the script `miden` builds, RUNS how often both run, and LARGE_PAGES which sides have large pages (command.py).
 #
 # `pieces.sh crates` times testing the rows, and counting and comparing the buses, by the crates that the command stands on, in one
 # piece and in 4, and prints the least time of each in microseconds and their ratio. The program over the crates is made in a
@@ -31,7 +31,7 @@ whole_command() {
     local program=${MIDEN:-$top/crates/miden_cli/out/miden_cli} params=$top/examples/params/derived
     [ -x "$program" ] || "$top/miden" >/dev/null || true
     cd "$work"
-    make_source span
+    make_source "$1"
     # shellcheck disable=SC2086
     ./fill "$params" program.masm inputs table statement $kernel >/dev/null 2>&1
     load
@@ -47,7 +47,7 @@ whole_command() {
 }
 
 if [ "$1" != crates ]; then
-    whole_command
+    whole_command "${1:-span}"
     exit
 fi
 # shellcheck source=bench/crates.sh

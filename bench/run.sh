@@ -8,7 +8,7 @@
 # `calls`, of 20,000 calls on a stack of DEPTH cells; or `all`, of some 79,000; or `permutations`, of 20,000 HPERMs, each of
 # which plain Rust computes once, so that the ratio of the times is to be at most 1.2. TURNS is how often the source's outer
 # body is repeated, MIDEN the program in place of the one that the script `miden` builds, RUNS how often both run, and where
-# INSTRUCTIONS is set instructions are counted in place of times (command.py).
+# INSTRUCTIONS is set instructions are counted in place of times. LARGE_PAGES says which sides have large pages (command.py).
 #
 # `run.sh crates` times a source of about 500,000 cycles, a loop with calls that read and write memory, by the crates that
 # the command stands on and by run.rs: the source is read, assembled and executed, and the cycles and the outputs are

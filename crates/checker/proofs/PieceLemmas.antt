@@ -1,6 +1,7 @@
 -- Rows of all tables by number, and pieces of them put together.
-use Rattle.std.proofs.Common.{◌≡◌, ℕ, zero, suc, ◌+◌, ◌-◌, ◌<◌, ◌≤◌, length, min, Option, Some, None, refl, sym, ap, ap₂, subst, ◌∙◌, arith, inl, inr}
+use Rattle.std.proofs.Common.{◌≡◌, ℕ, zero, suc, ◌+◌, ◌-◌, ◌*◌, ◌/◌, ◌<◌, ◌≤◌, length, min, Option, Some, None, refl, sym, ap, ap₂, subst, ◌∙◌, arith, inl, inr, lit<}
 use Rattle.std.specs.Option.{option_or}
+use Rattle.std.proofs.Math.Nat.{div-div-eq-div-mul, mul_assoc, mul-div_cancel_left}
 use Rattle.std.proofs.lemmas.Bool.{cases_lt}
 use Rattle.pieces.specs.Cuts.{cut_at}
 use Rattle.pieces.proofs.CutLemmas.{cut_ends, cut_grows, cut_starts}
@@ -174,6 +175,21 @@ halves_answered c t part lower upper r s pieces low middle high first second =
     (subst (λ k. starts_at t upper ≤ k) ends (part_grows t upper))
     (subst (λ k. IsPieceAnswer c t k (starts_at t upper) r) starts (subst (λ k. IsPieceAnswer c t (starts_at t lower) k r) meet first))
     (subst (λ k. IsPieceAnswer c t (starts_at t upper) k s) ends second)
+
+-- twice as many pieces begin where these do
+cut_doubled : (j n k : ℕ) → cut_at (2 * j) n (2 * k) ≡ cut_at j n k
+unfolding cut_at
+cut_doubled j n k =
+    sym (div-div-eq-div-mul (2 * j * n) 2 k)
+    ∙ ap (λ x. x / k) (ap (λ y. y / 2) (mul_assoc 2 j n) ∙ mul-div_cancel_left (j * n) (lit< tt))
+
+-- what is answered of them is answered of these
+pub doubled_answered : (c : Claim) (t : Trace) (part doubled : Part) (r : Option Fault) → doubled.pieces ≡ 2 * part.pieces → doubled.low ≡ 2 * part.low
+    → doubled.high ≡ 2 * part.high → IsPartAnswer c t doubled r → IsPartAnswer c t part r
+doubled_answered c t part doubled r pieces low high h =
+    let start : starts_at t doubled ≡ starts_at t part = ap₂ (λ x k. cut_at x (all_rows t) k) low pieces ∙ cut_doubled part.low (all_rows t) part.pieces in
+    let end : ends_at t doubled ≡ ends_at t part = ap₂ (λ x k. cut_at x (all_rows t) k) high pieces ∙ cut_doubled part.high (all_rows t) part.pieces in
+    subst (λ k. IsPieceAnswer c t k (ends_at t part) r) start (subst (λ k. IsPieceAnswer c t (starts_at t doubled) k r) end h)
 
 -- what is answered of a piece of all rows
 pub all_answered : (c : Claim) (t : Trace) (all : Part) (pieces : ℕ) (r : Option Fault) → all.pieces ≡ pieces → all.low ≡ 0 → all.high ≡ pieces

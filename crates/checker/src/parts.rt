@@ -1,4 +1,4 @@
-ghost use Rattle.std.specs.Prelude.{◌≡◌, ◌+◌, ◌^◌, ◌<◌, ◌≤◌, ◌==◌};
+ghost use Rattle.std.specs.Prelude.{◌≡◌, ◌+◌, ◌*◌, ◌^◌, ◌<◌, ◌≤◌, ◌==◌};
 ghost use Rattle.pieces.specs.Cuts.{cut_at};
 
 use pieces::cut;
@@ -60,6 +60,20 @@ impl Part {
             high: self.high,
         };
         (lower, upper)
+    }
+
+    /// The same rows, of twice as many pieces.
+    pub fn doubled(self) -> Part
+        requires { self.pieces ≤ 32 }
+        ensures pieces { result.pieces ≡ 2 * self.pieces }
+        ensures low { result.low ≡ 2 * self.low }
+        ensures high { result.high ≡ 2 * self.high }
+    {
+        Part {
+            pieces: 2 * self.pieces,
+            low: 2 * self.low,
+            high: 2 * self.high,
+        }
     }
 
     /// The numbers of its rows, of so many rows.

@@ -18,6 +18,9 @@ use std::thread::Threads;
 use vm_field::Felt;
 use vm_io::Gate;
 
+// The most pieces that are tested in halves.
+const HALVED_PIECES: usize = 32;
+
 /// The first entry of a trace that is not 0, by table, row and number, with its value; none where all are 0. The rows of all
 /// tables are tested in so many pieces, of which each goes through the gate.
 pub fn check_rows<R: Threads + Sync, G: Gate>(
@@ -49,7 +52,7 @@ fn part_fault<R: Threads + Sync, G: Gate>(
 {
     if part.is_single() {
         gate.enter(part.low);
-        return first_fault(trace, setting, part);
+        return piece_fault(rt, trace, setting, part);
     }
     let (lower, upper) = part.halves();
     let front = move || -> Option<Fault>
@@ -62,6 +65,33 @@ fn part_fault<R: Threads + Sync, G: Gate>(
     { part_fault(rt, gate, trace, setting, upper) };
     let (left, right) = thread::join(rt, front, back);
     left.or(right)
+}
+
+// The first fault of a piece. A row of the hasher's table takes several times as long as another one, and the cut counts rows: so where
+// there are several pieces, each is tested in two halves at once, and one of such rows alone does not keep the others waiting.
+fn piece_fault<R: Threads + Sync>(
+    rt: &R,
+    trace: &Trace,
+    setting: &Setting<'_>,
+    part: Part,
+) -> Option<Fault>
+    requires counts { HasCounts trace.now }
+    ensures { IsPartAnswer (claim_in setting.now) trace.now part result }
+{
+    if part.pieces == 1 || HALVED_PIECES < part.pieces {
+        return first_fault(trace, setting, part);
+    }
+    let (lower, upper) = part.doubled().halves();
+    let front = move || -> Option<Fault>
+        requires { HasCounts trace.now }
+        ensures { IsPartAnswer (claim_in setting.entry.now) trace.entry.now lower result }
+    { first_fault(trace, setting, lower) };
+    let back = move || -> Option<Fault>
+        requires { HasCounts trace.now }
+        ensures { IsPartAnswer (claim_in setting.entry.now) trace.entry.now upper result }
+    { first_fault(trace, setting, upper) };
+    let (first, second) = thread::join(rt, front, back);
+    first.or(second)
 }
 
 // Table by table, in their order.
