@@ -2,10 +2,11 @@
 # What pieces save. Two benches over the table file of a run of one span, of nearly 2^19 main rows.
 #
 # `pieces.sh`, or `pieces.sh CASE` over another program of sources.sh, times the whole command `check` in 4 pieces against plain Rust
-# (check.rs, rustc -O), first in one thread and then in the same 4 pieces, in turn; both write the same evidence. The ratio of the times is to be at most 1.5 where plain Rust has the
-# same pieces, and at most 1 where it has one thread and 4 processors are idle. The peak memory is to be at most 2.5 times the table
-# file. PIECES is another number of pieces, TURNS how often the source's outer body is repeated, MIDEN the program in place of the
-# one that the script `miden` builds, RUNS how often both run, and LARGE_PAGES which sides have large pages (command.py).
+# (check.rs, rustc -O), first in one thread and then in the same 4 pieces, in turn; both write the same evidence. The ratio of the
+# times is to be at most 1.5 where plain Rust has the same pieces, and at most 1 where it has one thread and 4 processors are idle. The
+# peak memory is to be at most 2.5 times the table file. PIECES is another number of pieces, TURNS how often the source's outer body is
+# repeated, MIDEN the program in place of the one that the script `miden` builds, RUNS how often both run, and LARGE_PAGES which sides
+# have large pages (command.py).
 #
 # `pieces.sh crates` times testing the rows, and counting and comparing the buses, by the crates that the command stands on, in one
 # piece and in 4, and prints the least time of each in microseconds and their ratio. The program over the crates is made in a
