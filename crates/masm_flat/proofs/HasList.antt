@@ -4,30 +4,31 @@ use Rattle.masm_expand.specs.Expansion.{expansion}
 use Rattle.masm_tree.specs.declared.terminal.Leaf.TheVariants as leaves
 use Rattle.masm_tree.specs.Trees.{Body, Empty, Leaf_then, If_then, While_then, Repeat_then, Procedure}
 use Rattle.masm_flat.specs.Blocks.{Block, Split, Loop, Call, Syscall, Piece, Operation, Whole, block_of}
-use Rattle.masm_flat.specs.Lists.{Exported, IsList, nothing, instr, exec, call, syscall, branches, loops, repeated, first_procedure, first_export, times, with_locals}
+use Rattle.masm_flat.specs.Lists.{Outside, ListOf, IsList, nothing, instr, exec, call, procref, syscall, branches, loops, repeated, first_export, times, block_digest, digest_items}
 use Rattle.masm_names.proofs.UsesOnly.{UsesOnly, SyscallsOnly}
 
-module _ {procs : List Procedure} {kernel : List Exported} (P Q : List ℕ → Type 0)
-    (own : (name : List ℕ) → P name → (p : Procedure) × (ys : List (Piece Block)) × (first_procedure procs name ≡ Some p)
-    × IsList procs kernel p.locals p.body ys)
-    (exported : (name : List ℕ) → Q name → (block : Block) × (first_export kernel name ≡ Some block)) where
-  pub has_list : (locals : ℕ) (b : Body) → UsesOnly P b → SyscallsOnly Q b → (xs : List (Piece Block)) × IsList procs kernel locals b xs
+module _ {procs : List Procedure} {out : Outside} (P Q : List ℕ → Type 0)
+    (used : (name : List ℕ) → P name → (ys : List (Piece Block)) × ListOf procs out name ys)
+    (exported : (name : List ℕ) → Q name → (block : Block) × (first_export out.exports name ≡ Some block)) where
+  pub has_list : (locals : ℕ) (b : Body) → UsesOnly P P b → SyscallsOnly Q b → (xs : List (Piece Block)) × IsList procs out locals b xs
   has_list locals Empty u s = ([], nothing)
   has_list locals (Leaf_then at (leaves.Instr i) rest) u s =
       let behind = has_list locals rest u s in (map Operation (expansion i.name i.numbers locals) ++ behind.0, instr at i behind.1)
   has_list locals (Leaf_then at (leaves.Exec name) rest) u s =
-      let used = own name u.0 in
-      let behind = has_list locals rest u.1 s in (with_locals used.0.locals used.1 ++ behind.0, exec at name used.2 used.3 behind.1)
+      let list = used name u.0 in
+      let behind = has_list locals rest u.1 s in (list.0 ++ behind.0, exec at name list.1 behind.1)
   has_list locals (Leaf_then at (leaves.Call name) rest) u s =
-      let used = own name u.0 in
-      let behind =
-      has_list locals rest u.1 s in (
-        Whole (Call (block_of (with_locals used.0.locals used.1))) ∷ behind.0,
-        call at name used.2 used.3 behind.1,
+      let list = used name u.0 in
+      let behind = has_list locals rest u.1 s in (Whole (Call (block_of list.0)) ∷ behind.0, call at name list.1 behind.1)
+  has_list locals (Leaf_then at (leaves.ProcRef name) rest) u s =
+      let list = used name u.0 in
+      let behind = has_list locals rest u.1 s in (
+        map Operation (digest_items (block_digest out.constants (block_of list.0))) ++ behind.0,
+        procref at name list.1 behind.1,
       )
   has_list locals (Leaf_then at (leaves.Syscall name) rest) u s =
-      let used = exported name s.0 in
-      let behind = has_list locals rest u s.1 in (Whole (Syscall used.0) ∷ behind.0, syscall at name used.1 behind.1)
+      let block = exported name s.0 in
+      let behind = has_list locals rest u s.1 in (Whole (Syscall block.0) ∷ behind.0, syscall at name block.1 behind.1)
   has_list locals (If_then at first second rest) u s =
       let on_one = has_list locals first u.0 s.0 in
       let on_zero = has_list locals second u.1 s.1 in

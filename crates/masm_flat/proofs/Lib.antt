@@ -1,3 +1,4 @@
+pub mod Digests
 pub mod Flattened
 pub mod HasList
 pub mod Levels

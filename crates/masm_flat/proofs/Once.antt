@@ -3,27 +3,27 @@ use Rattle.std.proofs.Common.{◌≡◌, ℕ, List, ◌∷◌, ◌++◌, map, Op
 use Rattle.masm_expand.specs.Expansion.{expansion}
 use Rattle.masm_tree.specs.Trees.{Body, Procedure}
 use Rattle.masm_flat.specs.Blocks.{Block, Split, Loop, Call, Syscall, Piece, Operation, Whole, block_of}
-use Rattle.masm_flat.specs.Lists.{Exported, IsList, nothing, instr, exec, call, syscall, branches, loops, repeated, times, with_locals}
+use Rattle.masm_flat.specs.Lists.{Outside, ListOf, own, IsList, nothing, instr, exec, call, procref, syscall, branches, loops, repeated, times, with_locals, block_digest, digest_items}
 
 same_some : {A : Type 0} {o : Option A} {x y : A} → o ≡ Some x → o ≡ Some y → x ≡ y
 same_some {x = x} p q = ap (λ o. unwrap_or o x) (sym p ∙ q)
 
-module _ (procs : List Procedure) (kernel : List Exported) where
-  pub list_once : {locals : ℕ} {b : Body} {xs ys : List (Piece Block)} → IsList procs kernel locals b xs → IsList procs kernel locals b ys → xs ≡ ys
-  list_once nothing nothing = refl
-  list_once {locals} (instr at i d) (instr _ _ e) = ap (λ zs. map Operation (expansion i.name i.numbers locals) ++ zs) (list_once d e)
-  list_once (exec at name {p} {ys = us} found d f) (exec _ _ {p = q} {ys = vs} found' e g) =
-      let same = same_some found found' in
-      ap₂ (λ us xs. us ++ xs) (ap₂ (λ r us. with_locals r.locals us) same
-      (list_once d (subst (λ r. IsList procs kernel r.locals r.body vs) (sym same) e))) (list_once f g)
-  list_once (call at name {p} {ys = us} found d f) (call _ _ {p = q} {ys = vs} found' e g) =
-      let same = same_some found found' in
-      ap₂ (λ us xs. Whole (Call (block_of us)) ∷ xs)
-      (ap₂ (λ r us. with_locals r.locals us) same
-      (list_once d (subst (λ r. IsList procs kernel r.locals r.body vs) (sym same) e))) (list_once f g)
-  list_once (syscall at name found f) (syscall _ _ found' g) = ap₂ (λ c xs. Whole (Syscall c) ∷ xs) (same_some found found') (list_once f g)
-  list_once (branches at a e f) (branches _ b g h) =
-      ap₂ (λ t xs. t ∷ xs) (ap₂ (λ ys zs. Whole (Split (block_of ys) (block_of zs))) (list_once a b) (list_once e g))
-      (list_once f h)
-  list_once (loops at d f) (loops _ e g) = ap₂ (λ ys xs. Whole (Loop (block_of ys)) ∷ xs) (list_once d e) (list_once f g)
-  list_once (repeated at n d f) (repeated _ _ e g) = ap₂ (λ ys xs. times n ys ++ xs) (list_once d e) (list_once f g)
+module _ (procs : List Procedure) (out : Outside) where
+  mutual
+    pub list_of_once : {name : List ℕ} {xs ys : List (Piece Block)} → ListOf procs out name xs → ListOf procs out name ys → xs ≡ ys
+    list_of_once (own name {p} {ys = us} found d) (own _ {p = q} {ys = vs} found' e) =
+        let same = same_some found found' in
+        ap₂ (λ r us. with_locals r.locals us) same (list_once d (subst (λ r. IsList procs out r.locals r.body vs) (sym same) e))
+
+    pub list_once : {locals : ℕ} {b : Body} {xs ys : List (Piece Block)} → IsList procs out locals b xs → IsList procs out locals b ys → xs ≡ ys
+    list_once nothing nothing = refl
+    list_once {locals} (instr at i d) (instr _ _ e) = ap (λ zs. map Operation (expansion i.name i.numbers locals) ++ zs) (list_once d e)
+    list_once (exec at name d f) (exec _ _ e g) = ap₂ (λ us xs. us ++ xs) (list_of_once d e) (list_once f g)
+    list_once (call at name d f) (call _ _ e g) = ap₂ (λ us xs. Whole (Call (block_of us)) ∷ xs) (list_of_once d e) (list_once f g)
+    list_once (procref at name d f) (procref _ _ e g) =
+        ap₂ (λ us xs. map Operation (digest_items (block_digest out.constants (block_of us))) ++ xs) (list_of_once d e) (list_once f g)
+    list_once (syscall at name found f) (syscall _ _ found' g) = ap₂ (λ c xs. Whole (Syscall c) ∷ xs) (same_some found found') (list_once f g)
+    list_once (branches at a e f) (branches _ b g h) =
+        ap₂ (λ t xs. t ∷ xs) (ap₂ (λ ys zs. Whole (Split (block_of ys) (block_of zs))) (list_once a b) (list_once e g)) (list_once f h)
+    list_once (loops at d f) (loops _ e g) = ap₂ (λ ys xs. Whole (Loop (block_of ys)) ∷ xs) (list_once d e) (list_once f g)
+    list_once (repeated at n d f) (repeated _ _ e g) = ap₂ (λ ys xs. times n ys ++ xs) (list_once d e) (list_once f g)

@@ -18,12 +18,12 @@ use Rattle.masm_flat.specs.declared.table.Table.{Table}
 use Rattle.masm_flat.specs.declared.piece.Piece as code
 use Rattle.masm_flat.specs.Blocks.{Piece, as_tree}
 use Rattle.masm_flat.specs.Flattening.{Known, flat_with}
-use Rattle.masm_flat.specs.KnownLists.{list_at, tree_at}
+use Rattle.masm_flat.specs.KnownLists.{list_at, digest_at, tree_at}
 use Rattle.masm_flat.specs.Taking.{left_at, TakesList, Keeps, Serves, ComesTo}
 use Rattle.masm_flat.specs.Views.{pieces_of}
 use Rattle.masm_names.specs.Names.{place_at}
 use Rattle.masm_names.specs.UsedPlaces.{place_used, places_used, times_among}
-use Rattle.masm_names.specs.Uses.{Use, Own, Kernel, use_at, uses_of}
+use Rattle.masm_names.specs.Uses.{Use, Own, Kernel, use_at, ref_at, uses_of}
 use Rattle.masm_names.proofs.TimesAmong.{times_yes, times_no, times_some}
 
 -- lists that stay
@@ -81,11 +81,12 @@ module _ (scope : Scope) (known : Known Tree) (rest : List Use) where
   later u v has = Contains-append_right (u ∷ []) rest v has
 
   -- a use that leads to no list
-  pub serves_none : (u : Use) (table : Table) → place_used own u.kind u.name ≡ None → Serves scope known table (u ∷ rest)
+  pub serves_none : (u : Use) (table : Table) → place_used own u.kind u.refers u.name ≡ None → Serves scope known table (u ∷ rest)
       → Serves scope known table rest
   serves_none u table none serves = record {
     exported = serves.exported;
-    lists = λ v has kind. serves.lists v (later u v has) kind;
+    lists = λ v has kind runs. serves.lists v (later u v has) kind runs;
+    digests = λ v has kind refers. serves.digests v (later u v has) kind refers;
     left = λ q. elim (serves.left q) [
       | inl stays ↦ inl stays
       | inr counted ↦ inr (counted ∙ ap (λ o. times_among (cons_option o (places_used own rest)) q) none)
@@ -93,7 +94,7 @@ module _ (scope : Scope) (known : Known Tree) (rest : List Use) where
   }
 
   -- a use of the list at a place
-  module _ (u : Use) (place : ℕ) (old new : Table) (leads : place_used own u.kind u.name ≡ Some place)
+  module _ (u : Use) (place : ℕ) (old new : Table) (leads : place_used own u.kind u.refers u.name ≡ Some place)
       (takes : TakesList place old new) (serves : Serves scope known old (u ∷ rest)) where
     counted_here : times_among (places_used own (u ∷ rest)) place ≡ 1 + times_among (places_used own rest) place
     counted_here = elim (eqb_tells place place) [
@@ -108,18 +109,19 @@ module _ (scope : Scope) (known : Known Tree) (rest : List Use) where
       | inr counted ↦ absurd (omega (arith, counted, one, more, counted_here))
     ]
 
-    list_of : (v : Use) → Contains rest v → v.kind ≡ Own → (o : Option ℕ) → own v.name ≡ o → list_at new.lists.items o ≡ list_at old.lists.items o
-    list_of v has kind None none = refl
-    list_of v has kind (Some q) found = elim (eqb_tells q place) [
+    list_of : (v : Use) → Contains rest v → v.kind ≡ Own → v.refers ≡ false → (o : Option ℕ) → own v.name ≡ o → list_at new.lists.items o ≡ list_at old.lists.items o
+    list_of v has kind runs None none = refl
+    list_of v has kind runs (Some q) found = elim (eqb_tells q place) [
       | inl same ↦
-          ap (λ lists. list_at lists.items (Some q)) (takes.stays (stays_for (times_some own rest v place has kind (found ∙ ap Some same.1))))
+          ap (λ lists. list_at lists.items (Some q)) (takes.stays (stays_for (times_some own rest v place has kind runs (found ∙ ap Some same.1))))
       | inr apart ↦ same_list old new q (takes.others q apart.1)
     ]
 
     pub serves_next : Serves scope known new rest
     serves_next = record {
       exported = serves.exported;
-      lists = λ v has kind. list_of v has kind (own v.name) refl ∙ serves.lists v (later u v has) kind;
+      lists = λ v has kind runs. list_of v has kind runs (own v.name) refl ∙ serves.lists v (later u v has) kind runs;
+      digests = λ v has kind refers. serves.digests v (later u v has) kind refers;
       left = λ q. elim (eqb_tells q place) [
         | inl same ↦ elim (serves.left place) [
           | inl none ↦ inl (let here = left_here place old new takes in let at = ap (left_at new) same.1 in omega arith)
@@ -172,7 +174,7 @@ comes_used scope at name place old new before after leads takes is = record {
   gives = λ known rest serves.
       let u = use_at at Own name in (
         is ∙ ap (λ xs. before ++ xs)
-            (ap (list_at old.lists.items) (sym leads) ∙ serves.lists u (0, omega arith, refl) refl),
+            (ap (list_at old.lists.items) (sym leads) ∙ serves.lists u (0, omega arith, refl) refl refl),
         serves_next scope known rest u place old new leads takes serves,
       );
   keeps = keeps_taking place old new takes;
@@ -185,7 +187,7 @@ comes_unused scope at name table before leads = record {
   gives = λ known rest serves.
       let u = use_at at Own name in (
         sym (append-nil before)
-            ∙ ap (λ xs. before ++ xs) (ap (list_at table.lists.items) (sym leads) ∙ serves.lists u (0, omega arith, refl) refl),
+            ∙ ap (λ xs. before ++ xs) (ap (list_at table.lists.items) (sym leads) ∙ serves.lists u (0, omega arith, refl) refl refl),
         serves_none scope known rest u table leads serves,
       );
   keeps = keeps_same table;
@@ -193,13 +195,23 @@ comes_unused scope at name table before leads = record {
 
 -- a system call, whose block the kernel has
 pub comes_exported : {A : Type 0} (scope : Scope) (at : Position) (name : List ℕ) (table : Table) (f : Tree → A) (result : A)
-    → result ≡ f (tree_at scope.kernel.now.procs.now name)
+    → result ≡ f (tree_at scope.outside.now.exports.now name)
     → ComesTo scope (use_at at Kernel name ∷ []) (λ known. f (known.exported name)) table table result
 comes_exported scope at name table f result is = record {
   gives = λ known rest serves. (
     is ∙ ap f (sym (serves.exported name)),
     serves_none scope known rest (use_at at Kernel name) table refl serves,
   );
+  keeps = keeps_same table;
+}
+
+-- a procref, whose digest is known
+pub comes_referred : (scope : Scope) (at : Position) (name : List ℕ) (table : Table)
+    → ComesTo scope (ref_at at name ∷ []) (λ known. known.digest name) table table (digest_at scope.digests.now (place_at scope.names.now name))
+comes_referred scope at name table = record {
+  gives = λ known rest serves.
+      let u = ref_at at name in
+      (serves.digests u (0, omega arith, refl) refl refl, serves_none scope known rest u table refl serves);
   keeps = keeps_same table;
 }
 

@@ -5,17 +5,17 @@ use Rattle.masm_tree.specs.declared.tree.Stmt.{Stmt}
 use Rattle.masm_tree.specs.declared.tree.Stmt.TheOpen.{Stmt-F}
 use Rattle.masm_tree.specs.declared.tree.Stmt.TheFolds.{fold_out-Stmt}
 use Rattle.masm_tree.specs.declared.tree.Position.{Position}
-use Rattle.masm_tree.specs.declared.tree.Stmt.TheVariants.{Instr, If, While, Repeat, Exec, Call, Syscall}
+use Rattle.masm_tree.specs.declared.tree.Stmt.TheVariants.{Instr, If, While, Repeat, Exec, Call, Syscall, ProcRef}
 use Rattle.masm_tree.specs.Trees.{Body, Empty, Leaf_then, If_then, While_then, Repeat_then}
-use Rattle.masm_tree.proofs.Mirror.{body_of_nil, view-Instr, view-If, view-While, view-Repeat, view-Exec, view-Call, view-Syscall}
+use Rattle.masm_tree.proofs.Mirror.{body_of_nil, view-Instr, view-If, view-While, view-Repeat, view-Exec, view-Call, view-Syscall, view-ProcRef}
 use Rattle.masm_instr.specs.Instructions.{Instruction, HasLocal}
 use Rattle.masm_expand.specs.Expansion.{expansion}
 use Rattle.masm_tree.specs.Views.{joined, add_step, stmt_view, body_of}
 use Rattle.masm_flat.specs.Blocks.{View, Piece, Operation, Whole, whole}
 use Rattle.masm_flat.specs.Flattening.{Known, flat_with}
 use Rattle.masm_tree.specs.Locals.{HasLocals}
-use Rattle.masm_flat.specs.Lists.{times}
-use Rattle.masm_names.specs.Uses.{Own, Kernel, use_at, uses_of}
+use Rattle.masm_flat.specs.Lists.{times, digest_items}
+use Rattle.masm_names.specs.Uses.{Own, Kernel, use_at, ref_at, uses_of}
 
 pub body_of_more : (s : Stmt) (ss : List Stmt) → body_of (s ∷ ss) ≡ stmt_view s (body_of ss)
 unfolding body_of
@@ -39,6 +39,7 @@ module _ {A : Type 0} (v : View A) (known : Known A) (locals : ℕ) where
   flat-step (Stmt-F.Exec at name) rest = padded (known.list name) (flat_with v known locals rest)
   flat-step (Stmt-F.Call at name) rest = refl
   flat-step (Stmt-F.Syscall at name) rest = refl
+  flat-step (Stmt-F.ProcRef at name) rest = padded (map Operation (digest_items (known.digest name))) (flat_with v known locals rest)
 
   pub flat-first : (s : Stmt) (rest : Body)
       → flat_with v known locals (stmt_view s rest) ≡ flat_with v known locals (stmt_view s Empty) ++ flat_with v known locals rest
@@ -62,6 +63,10 @@ module _ {A : Type 0} (v : View A) (known : Known A) (locals : ℕ) where
       → flat_with v known locals (stmt_view (Syscall at name) Empty) ≡ Whole (v.syscall (known.exported name)) ∷ []
   flat-Syscall at name = ap (flat_with v known locals) (view-Syscall at name Empty)
 
+  pub flat-ProcRef : (at : Position) (name : List ℕ)
+      → flat_with v known locals (stmt_view (ProcRef at name) Empty) ≡ map Operation (digest_items (known.digest name))
+  flat-ProcRef at name = ap (flat_with v known locals) (view-ProcRef at name Empty) ∙ append-nil _
+
   pub flat-If : (at : Position) (xs ys : Vec Stmt Global) → flat_with v known locals (stmt_view (If at xs ys) Empty)
       ≡ Whole (v.split (whole v (flat_with v known locals (body_of xs.items))) (whole v (flat_with v known locals (body_of ys.items)))) ∷ []
   flat-If at xs ys = ap (flat_with v known locals) (view-If at xs ys Empty)
@@ -74,7 +79,7 @@ module _ {A : Type 0} (v : View A) (known : Known A) (locals : ℕ) where
       ≡ times n (flat_with v known locals (body_of xs.items))
   flat-Repeat at n xs = ap (flat_with v known locals) (view-Repeat at n xs Empty) ∙ append-nil _
 
-pub ruleset lists = (flat-Instr, flat-Exec, flat-Call, flat-Syscall, flat-If, flat-While, flat-Repeat)
+pub ruleset lists = (flat-Instr, flat-Exec, flat-Call, flat-Syscall, flat-ProcRef, flat-If, flat-While, flat-Repeat)
 
 -- what is done, and then what is left, is the whole
 pub go_on : {A : Type 0} (old new xs more rest total : List A) → new ≡ old ++ more → xs ≡ more ++ rest → old ++ xs ≡ total → new ++ rest ≡ total
@@ -89,6 +94,7 @@ locals-step locals (Stmt-F.Repeat at times turn) rest h = ((h.0, tt), h.1)
 locals-step locals (Stmt-F.Exec at name) rest h = ((tt, tt), h.1)
 locals-step locals (Stmt-F.Call at name) rest h = ((tt, tt), h.1)
 locals-step locals (Stmt-F.Syscall at name) rest h = ((tt, tt), h.1)
+locals-step locals (Stmt-F.ProcRef at name) rest h = ((tt, tt), h.1)
 
 pub locals-first : (locals : ℕ) (s : Stmt) (rest : Body) → HasLocals locals (stmt_view s rest)
     → HasLocals locals (stmt_view s Empty) × HasLocals locals rest
@@ -135,6 +141,7 @@ weight-step (Stmt-F.Repeat at times turn) rest = omega arith
 weight-step (Stmt-F.Exec at name) rest = omega arith
 weight-step (Stmt-F.Call at name) rest = omega arith
 weight-step (Stmt-F.Syscall at name) rest = omega arith
+weight-step (Stmt-F.ProcRef at name) rest = omega arith
 
 pub weight-first : (s : Stmt) (rest : Body) → weight (stmt_view s rest) ≡ weight (stmt_view s Empty) + weight rest
 weight-first s rest = each (λ g. (rest : Body) → weight (g rest) ≡ weight (g Empty) + weight rest) weight-step s rest
@@ -163,6 +170,7 @@ uses-step (Stmt-F.Repeat at n turn) rest = ap (λ zs. zs ++ uses_of rest) (sym (
 uses-step (Stmt-F.Exec at name) rest = refl
 uses-step (Stmt-F.Call at name) rest = refl
 uses-step (Stmt-F.Syscall at name) rest = refl
+uses-step (Stmt-F.ProcRef at name) rest = refl
 
 pub uses-first : (s : Stmt) (rest : Body) → uses_of (stmt_view s rest) ≡ uses_of (stmt_view s Empty) ++ uses_of rest
 uses-first s rest = each (λ g. (rest : Body) → uses_of (g rest) ≡ uses_of (g Empty) ++ uses_of rest) uses-step s rest
@@ -178,6 +186,9 @@ uses-Call at name = ap uses_of (view-Call at name Empty)
 
 pub uses-Syscall : (at : Position) (name : List ℕ) → uses_of (stmt_view (Syscall at name) Empty) ≡ use_at at Kernel name ∷ []
 uses-Syscall at name = ap uses_of (view-Syscall at name Empty)
+
+pub uses-ProcRef : (at : Position) (name : List ℕ) → uses_of (stmt_view (ProcRef at name) Empty) ≡ ref_at at name ∷ []
+uses-ProcRef at name = ap uses_of (view-ProcRef at name Empty)
 
 pub uses-If : (at : Position) (xs ys : Vec Stmt Global)
     → uses_of (stmt_view (If at xs ys) Empty) ≡ uses_of (body_of xs.items) ++ uses_of (body_of ys.items)

@@ -1,6 +1,7 @@
 -- The list of operations and blocks that a body is flattened to (docs/ASSEMBLY.md, "Blocks").
 use Rattle.std.specs.Prelude.{◌≡◌, ℕ, zero, suc, ◌-◌, List, [], ◌∷◌, ◌++◌, map, Option, Some, None, bytes_eq, if◌then◌else◌}
 use Rattle.vm_field.specs.Field.{prime}
+use Rattle.vm_ops.specs.declared.item.Item.{Item}
 use Rattle.vm_ops.specs.declared.op.Op.TheVariants.{FmpUpdate}
 use Rattle.vm_ops.specs.Items.{plain_item}
 use Rattle.masm_instr.specs.declared.instr.Instr.{Instr}
@@ -8,12 +9,21 @@ use Rattle.masm_expand.specs.Expansion.{lit, expansion}
 use Rattle.masm_tree.specs.declared.terminal.Leaf.TheVariants as leaves
 use Rattle.masm_tree.specs.declared.tree.Position.{Position}
 use Rattle.masm_tree.specs.Trees.{Body, Empty, Leaf_then, If_then, While_then, Repeat_then, Procedure}
-use Rattle.masm_flat.specs.Blocks.{Block, Split, Loop, Call, Syscall, Piece, Operation, Whole, block_of}
+use Rattle.block_tree.specs.Trees.{tree_digest}
+use Rattle.masm_flat.specs.Blocks.{Block, Split, Loop, Call, Syscall, Piece, Operation, Whole, block_of, seen_as, as_tree}
 
 -- a procedure of the kernel that programs may call
 pub record Exported : Type 0 where
   pub name : List ℕ
   pub block : Block
+
+-- what lies outside a source, and its meaning rests on: the permutation's constants, and what the kernel exports
+pub record Outside : Type 0 where
+  pub constants : List ℕ
+  pub exports : List Exported
+
+abbrev pub outside_of : List ℕ → List Exported → Outside
+outside_of constants exports = record { constants = constants; exports = exports }
 
 abbrev pub first_procedure : List Procedure → List ℕ → Option Procedure
 first_procedure [] name = None
@@ -34,33 +44,47 @@ with_locals (suc n) pieces =
     Operation (lit (suc n)) ∷ Operation (plain_item FmpUpdate)
     ∷ (pieces ++ Operation (lit (prime - suc n)) ∷ Operation (plain_item FmpUpdate) ∷ [])
 
--- The list of a body in a procedure of so many locals. There is none where a procedure is not defined, is not the kernel's, or
--- uses itself.
-pub data IsList (procs : List Procedure) (kernel : List Exported) : ℕ → Body → List (Piece Block) → Type 0 where
-  nothing : {locals : ℕ} → IsList procs kernel locals Empty []
-  instr : (at : Position) (i : Instr) {locals : ℕ} {b : Body} {xs : List (Piece Block)} → IsList procs kernel locals b xs
-      → IsList procs kernel locals (Leaf_then at (leaves.Instr i) b) (map Operation (expansion i.name i.numbers locals) ++ xs)
-  exec : (at : Position) (name : List ℕ) {locals : ℕ} {p : Procedure} {b : Body} {ys xs : List (Piece Block)} → first_procedure procs name ≡ Some p
-      → IsList procs kernel p.locals p.body ys → IsList procs kernel locals b xs
-      → IsList procs kernel locals (Leaf_then at (leaves.Exec name) b) (with_locals p.locals ys ++ xs)
-  call : (at : Position) (name : List ℕ) {locals : ℕ} {p : Procedure} {b : Body} {ys xs : List (Piece Block)} → first_procedure procs name ≡ Some p
-      → IsList procs kernel p.locals p.body ys → IsList procs kernel locals b xs
-      → IsList procs kernel locals (Leaf_then at (leaves.Call name) b) (Whole (Call (block_of (with_locals p.locals ys))) ∷ xs)
-  syscall : (at : Position) (name : List ℕ) {locals : ℕ} {callee : Block} {b : Body} {xs : List (Piece Block)}
-      → first_export kernel name ≡ Some callee
-      → IsList procs kernel locals b xs
-      → IsList procs kernel locals (Leaf_then at (leaves.Syscall name) b) (Whole (Syscall callee) ∷ xs)
-  branches : (at : Position) {locals : ℕ} {a e b : Body} {ys zs xs : List (Piece Block)} → IsList procs kernel locals a ys
-      → IsList procs kernel locals e zs
-      → IsList procs kernel locals b xs
-      → IsList procs kernel locals (If_then at a e b) (Whole (Split (block_of ys) (block_of zs)) ∷ xs)
-  loops : (at : Position) {locals : ℕ} {a b : Body} {ys xs : List (Piece Block)} → IsList procs kernel locals a ys → IsList procs kernel locals b xs
-      → IsList procs kernel locals (While_then at a b) (Whole (Loop (block_of ys)) ∷ xs)
-  repeated : (at : Position) (n : ℕ) {locals : ℕ} {a b : Body} {ys xs : List (Piece Block)} → IsList procs kernel locals a ys
-      → IsList procs kernel locals b xs → IsList procs kernel locals (Repeat_then at n a b) (times n ys ++ xs)
+-- the digest of a block's tree
+abbrev pub block_digest : List ℕ → Block → List ℕ
+block_digest constants block = tree_digest constants (seen_as as_tree block)
+
+-- what puts a digest on the stack, its first element first
+abbrev pub digest_items : List ℕ → List Item
+digest_items digest = map lit digest
+
+mutual
+  -- The list of the procedure that a name means, with its locals. There is none where no procedure has the name, or it uses itself.
+  pub data ListOf (procs : List Procedure) (out : Outside) : List ℕ → List (Piece Block) → Type 0 where
+    own : (name : List ℕ) {p : Procedure} {ys : List (Piece Block)} → first_procedure procs name ≡ Some p
+        → IsList procs out p.locals p.body ys → ListOf procs out name (with_locals p.locals ys)
+
+  -- The list of a body in a procedure of so many locals. There is none where a procedure that it uses has none, or is not the
+  -- kernel's.
+  pub data IsList (procs : List Procedure) (out : Outside) : ℕ → Body → List (Piece Block) → Type 0 where
+    nothing : {locals : ℕ} → IsList procs out locals Empty []
+    instr : (at : Position) (i : Instr) {locals : ℕ} {b : Body} {xs : List (Piece Block)} → IsList procs out locals b xs
+        → IsList procs out locals (Leaf_then at (leaves.Instr i) b) (map Operation (expansion i.name i.numbers locals) ++ xs)
+    exec : (at : Position) (name : List ℕ) {locals : ℕ} {b : Body} {ys xs : List (Piece Block)} → ListOf procs out name ys
+        → IsList procs out locals b xs → IsList procs out locals (Leaf_then at (leaves.Exec name) b) (ys ++ xs)
+    call : (at : Position) (name : List ℕ) {locals : ℕ} {b : Body} {ys xs : List (Piece Block)} → ListOf procs out name ys
+        → IsList procs out locals b xs → IsList procs out locals (Leaf_then at (leaves.Call name) b) (Whole (Call (block_of ys)) ∷ xs)
+    procref : (at : Position) (name : List ℕ) {locals : ℕ} {b : Body} {ys xs : List (Piece Block)} → ListOf procs out name ys
+        → IsList procs out locals b xs
+        → IsList procs out locals (Leaf_then at (leaves.ProcRef name) b)
+            (map Operation (digest_items (block_digest out.constants (block_of ys))) ++ xs)
+    syscall : (at : Position) (name : List ℕ) {locals : ℕ} {callee : Block} {b : Body} {xs : List (Piece Block)}
+        → first_export out.exports name ≡ Some callee → IsList procs out locals b xs
+        → IsList procs out locals (Leaf_then at (leaves.Syscall name) b) (Whole (Syscall callee) ∷ xs)
+    branches : (at : Position) {locals : ℕ} {a e b : Body} {ys zs xs : List (Piece Block)} → IsList procs out locals a ys
+        → IsList procs out locals e zs → IsList procs out locals b xs
+        → IsList procs out locals (If_then at a e b) (Whole (Split (block_of ys) (block_of zs)) ∷ xs)
+    loops : (at : Position) {locals : ℕ} {a b : Body} {ys xs : List (Piece Block)} → IsList procs out locals a ys → IsList procs out locals b xs
+        → IsList procs out locals (While_then at a b) (Whole (Loop (block_of ys)) ∷ xs)
+    repeated : (at : Position) (n : ℕ) {locals : ℕ} {a b : Body} {ys xs : List (Piece Block)} → IsList procs out locals a ys
+        → IsList procs out locals b xs → IsList procs out locals (Repeat_then at n a b) (times n ys ++ xs)
 
 -- a procedure is this block
-pub record IsBlockOf (procs : List Procedure) (kernel : List Exported) (p : Procedure) (block : Block) : Type 0 where
+pub record IsBlockOf (procs : List Procedure) (out : Outside) (p : Procedure) (block : Block) : Type 0 where
   pub pieces : List (Piece Block)
-  pub flat : IsList procs kernel p.locals p.body pieces
+  pub flat : IsList procs out p.locals p.body pieces
   pub is : block ≡ block_of (with_locals p.locals pieces)

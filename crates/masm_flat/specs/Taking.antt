@@ -1,11 +1,11 @@
 -- Lists that are taken where they are used for the last time.
-use Rattle.std.specs.Prelude.{◌≡◌, ◌≢◌, ℕ, ◌-◌, List, ◌++◌, length, slice_get, slice_index, slice_set, ◌⊎◌}
+use Rattle.std.specs.Prelude.{◌≡◌, ◌≢◌, ℕ, ◌-◌, true, false, List, ◌++◌, length, slice_get, slice_index, slice_set, ◌⊎◌}
 use Rattle.std.specs.List.{Contains}
 use Rattle.block_tree.specs.Trees.{Tree}
 use Rattle.masm_flat.specs.declared.known.Scope.{Scope}
 use Rattle.masm_flat.specs.declared.table.Table.{Table}
 use Rattle.masm_flat.specs.Flattening.{Known}
-use Rattle.masm_flat.specs.KnownLists.{list_at, tree_at}
+use Rattle.masm_flat.specs.KnownLists.{list_at, digest_at, tree_at}
 use Rattle.masm_names.specs.Names.{place_at}
 use Rattle.masm_names.specs.UsedPlaces.{places_used, times_among}
 use Rattle.masm_names.specs.Uses.{Use, Own}
@@ -34,8 +34,11 @@ pub record Keeps (old new : Table) : Type 0 where
 -- The table has what is known for these uses, where names lead to these places, and each of its lists is taken by the last of
 -- them or stays.
 pub record Serves (scope : Scope) (known : Known Tree) (table : Table) (uses : List Use) : Type 0 where
-  pub exported : (name : List ℕ) → known.exported name ≡ tree_at scope.kernel.now.procs.now name
-  pub lists : (u : Use) → Contains uses u → u.kind ≡ Own → list_at table.lists.items (place_at scope.names.now u.name) ≡ known.list u.name
+  pub exported : (name : List ℕ) → known.exported name ≡ tree_at scope.outside.now.exports.now name
+  pub lists : (u : Use) → Contains uses u → u.kind ≡ Own → u.refers ≡ false
+      → list_at table.lists.items (place_at scope.names.now u.name) ≡ known.list u.name
+  pub digests : (u : Use) → Contains uses u → u.kind ≡ Own → u.refers ≡ true
+      → digest_at scope.digests.now (place_at scope.names.now u.name) ≡ known.digest u.name
   pub left : (place : ℕ) → (left_at table place ≡ 0)
       ⊎ (left_at table place ≡ times_among (places_used (place_at scope.names.now) uses) place)
 

@@ -3,7 +3,7 @@ ghost use Rattle.block_tree.specs.TreeView.{tree_of};
 ghost use Rattle.masm_instr.specs.Instructions.{HasLocal};
 ghost use Rattle.masm_expand.specs.Expansion.{expansion};
 ghost use Rattle.masm_flat.specs.Blocks as lists;
-ghost use Rattle.masm_flat.specs.Lists.{times};
+ghost use Rattle.masm_flat.specs.Lists.{digest_items, times};
 ghost use Rattle.masm_flat.specs.Views.{piece_of, pieces_of};
 
 use crate::piece::Piece;
@@ -11,7 +11,7 @@ use block_tree::{Tree, copy};
 use masm_expand::expand;
 use masm_instr::Instr;
 use std::alloc::Global;
-use vm_field::Memory;
+use vm_field::{Felt, Memory};
 use vm_ops::Item;
 
 // Operations at the end of a list.
@@ -20,6 +20,16 @@ pub fn add_items(items: &[Item], out: &mut Vec<Piece>) -> Result<(), Memory>
 {
     for item in items {
         out.push(Piece::of_item(item))?;
+    }
+    Ok(())
+}
+
+// Adds what puts a digest on the stack.
+pub(crate) fn add_digest(digest: &[Felt], out: &mut Vec<Piece>) -> Result<(), Memory>
+    ensures { OnOk result (pieces_of out.new.items ≡ pieces_of out.old.items ++ map lists.Operation (digest_items digest.now)) }
+{
+    for element in digest {
+        out.push(Piece::literal(*element))?;
     }
     Ok(())
 }

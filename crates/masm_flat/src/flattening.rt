@@ -1,18 +1,21 @@
-ghost use Rattle.std.specs.Prelude.{◌≡◌, ◌∷◌, [], ◌++◌, IfOk, OnOk};
+ghost use Rattle.std.specs.Prelude.{◌≡◌, ◌∷◌, [], ◌++◌, map, IfOk, OnOk};
 ghost use Rattle.block_tree.specs.Trees as trees;
 ghost use Rattle.block_tree.specs.TreeView.{tree_of};
 ghost use Rattle.masm_tree.specs.Trees.{Empty};
 ghost use Rattle.masm_tree.specs.declared.tree.Position.{Position};
 ghost use Rattle.masm_tree.specs.Views.{stmt_view, body_of};
 ghost use Rattle.masm_names.specs.Uses.{Own, use_at, uses_of};
+ghost use Rattle.masm_flat.specs.Blocks as lists;
 ghost use Rattle.masm_flat.specs.Blocks.{as_tree, whole};
+ghost use Rattle.masm_flat.specs.Lists.{digest_items};
+ghost use Rattle.masm_names.specs.Names.{place_at};
 ghost use Rattle.masm_flat.specs.Flattening.{flat_with};
 ghost use Rattle.masm_tree.specs.Locals.{HasLocals};
-ghost use Rattle.masm_flat.specs.KnownLists.{tree_at};
+ghost use Rattle.masm_flat.specs.KnownLists.{tree_at, digest_at};
 ghost use Rattle.masm_flat.specs.Taking.{ComesTo};
 ghost use Rattle.masm_flat.specs.Views.{pieces_of};
 
-use crate::appending::{add_instr, add_times, add_tree};
+use crate::appending::{add_digest, add_instr, add_times, add_tree};
 use crate::joining::tree_of_list;
 use crate::known::Scope;
 use crate::piece::Piece;
@@ -51,9 +54,17 @@ fn called(alloc: Global, scope: &Scope, table: &mut Table, name: &Bytes) -> Resu
 
 // A call of the kernel's procedure of that name.
 fn kernel_called(alloc: Global, scope: &Scope, name: &Bytes) -> Result<Tree, Memory>
-    ensures { IfOk result (λ tree. tree_of tree ≡ trees.Syscall (tree_at scope.now.kernel.now.procs.now name.now)) }
+    ensures { IfOk result (λ tree. tree_of tree ≡ trees.Syscall (tree_at scope.now.outside.now.exports.now name.now)) }
 {
     Ok(Tree::Syscall(Box::new(alloc, scope.exported(alloc, name)?)?))
+}
+
+// Adds what puts the digest of the procedure of that name on the stack.
+fn add_reference(scope: &Scope, name: &Bytes, out: &mut Vec<Piece>) -> Result<(), Memory>
+    ensures { OnOk result (pieces_of out.new.items ≡ pieces_of out.old.items ++ map lists.Operation (digest_items
+        (digest_at scope.now.digests.now (place_at scope.now.names.now name.now)))) }
+{
+    add_digest(&scope.digest(name).elements(), out)
 }
 
 // A block that takes the list of either of two bodies.
@@ -113,6 +124,7 @@ fn add_statement(
         Stmt::Exec(_, name) => add_used(alloc, scope, table, name, out),
         Stmt::Call(_, name) => add_tree(alloc, called(alloc, scope, table, name)?, out),
         Stmt::Syscall(_, name) => add_tree(alloc, kernel_called(alloc, scope, name)?, out),
+        Stmt::ProcRef(_, name) => add_reference(scope, name, out),
         Stmt::If(_, first, second) => {
             let on_one = list_of(alloc, scope, table, locals, first)?;
             let on_zero = list_of(alloc, scope, table, locals, second)?;

@@ -1,13 +1,13 @@
 //! What procedures are flattened to (docs/ASSEMBLY.md, "Blocks"): the lists of operations and blocks, the tree of such a list, and
-//! the procedures that a kernel exports.
+//! what lies outside a source.
 #![tactic(auto)]
 
 mod appending;
 mod extent;
 mod flattening;
 mod joining;
-mod kernel;
 mod known;
+mod outside;
 mod piece;
 mod procedure;
 mod table;
@@ -15,8 +15,8 @@ mod table;
 pub use appending::add_copies;
 pub use extent::Extent;
 pub use joining::tree_of_list;
-pub use kernel::{Kernel, KernelProc};
 pub use known::Scope;
+pub use outside::{KernelProc, Outside};
 pub use piece::Piece;
 pub use procedure::list_of_procedure;
 pub use table::Table;

@@ -1,4 +1,5 @@
 ghost use Rattle.std.specs.Prelude.{◌≡◌};
+ghost use Rattle.masm_expand.specs.Expansion.{lit};
 ghost use Rattle.masm_flat.specs.Blocks as lists;
 ghost use Rattle.masm_flat.specs.Views.{piece_of};
 
@@ -26,6 +27,17 @@ impl Piece {
         match item.imm {
             None => Piece::Plain(item.op),
             Some(imm) => Piece::Valued(item.op, imm),
+        }
+    }
+
+    // What puts an element on the stack.
+    pub(crate) fn literal(value: Felt) -> Piece
+        ensures { piece_of result ≡ lists.Operation (lit value) }
+    {
+        if value == Felt::ZERO {
+            Piece::Plain(Op::Pad)
+        } else {
+            Piece::Valued(Op::Push, value)
         }
     }
 }

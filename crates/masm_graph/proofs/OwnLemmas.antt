@@ -1,12 +1,12 @@
 -- The places of the source's own procedures to which the uses of a row lead.
-use Rattle.std.proofs.Common.{◌≡◌, ℕ, zero, suc, List, [], ◌∷◌, map, get_or, ◌⊎◌, inl, inr, refl, sym, ap, subst, ◌∙◌, arith}
+use Rattle.std.proofs.Common.{◌≡◌, ℕ, zero, suc, Bool, true, false, Option, Some, None, List, [], ◌∷◌, map, get_or, ◌⊎◌, inl, inr, refl, sym, ap, subst, ◌∙◌, arith}
 use Rattle.std.proofs.lemmas.List.Elements.{Contains-append_right}
 use Rattle.std.specs.List.{Contains, cons_option}
 use Rattle.graphs.specs.Graph.{Edge}
 use Rattle.masm_graph.specs.declared.links.Link.{Link}
 use Rattle.masm_graph.specs.declared.links.Target.{Target}
 use Rattle.masm_graph.specs.declared.links.Target.TheVariants as targets
-use Rattle.masm_graph.specs.Links.{own_place, own_places}
+use Rattle.masm_graph.specs.Links.{own_place, own_places, place_if, places_with}
 use Rattle.masm_graph.specs.Users.{HasOwn, UsesProcedure}
 use Rattle.masm_names.proofs.DoubleLemmas.{cons_cases, cons_here}
 
@@ -65,3 +65,66 @@ edge_goes rows a b h = places_own (get_or rows a []) b (subst (λ r. Contains r 
 
 pub goes_edge : (rows : List (List Link)) (a b : ℕ) → UsesProcedure rows a b → Edge (map own_places rows) a b
 goes_edge rows a b h = subst (λ r. Contains r b) (sym (row_of_places rows a)) (own_in_places (get_or rows a []) b h)
+
+-- those of the procrefs of a row, or of its other uses, are among them
+pub with_in_own : (wanted : Bool) (row : List Link) (b : ℕ) → Contains (places_with wanted row) b → Contains (own_places row) b
+with_in_own wanted [] b h = absurd (omega (arith, h.1))
+with_in_own wanted (link ∷ row) b h = by (λ k. with_in_own wanted row b k) wanted link.refers (own_place link.target) h
+  where
+    tail : (Contains (places_with wanted row) b → Contains (own_places row) b) → (o : Option ℕ) → Contains (places_with wanted row) b
+        → Contains (cons_option o (own_places row)) b
+    tail more None k = more k
+    tail more (Some place) k = cons_later place (own_places row) b (more k)
+
+    here : (Contains (places_with wanted row) b → Contains (own_places row) b) → (o : Option ℕ) → Contains (cons_option o (places_with wanted row)) b
+        → Contains (cons_option o (own_places row)) b
+    here more None k = more k
+    here more (Some place) k = elim (cons_cases place (places_with wanted row) b k) [
+      | inl same ↦ subst (λ q. Contains (place ∷ own_places row) q) same (cons_here place (own_places row))
+      | inr later ↦ cons_later place (own_places row) b (more later)
+    ]
+
+    by : (Contains (places_with wanted row) b → Contains (own_places row) b) → (w r : Bool) (o : Option ℕ)
+        → Contains (cons_option (place_if w r o) (places_with wanted row)) b → Contains (cons_option o (own_places row)) b
+    by more true true o k = here more o k
+    by more false false o k = here more o k
+    by more true false o k = tail more o k
+    by more false true o k = tail more o k
+
+-- a use leads to a place among those of its kind
+pub own_in_with : (wanted : Bool) (row : List Link) (link : Link) (b : ℕ) → Contains row link → link.refers ≡ wanted → link.target ≡ targets.Own b
+    → Contains (places_with wanted row) b
+own_in_with wanted [] link b has kind leads = absurd (omega (arith, has.1))
+own_in_with wanted (first ∷ row) link b has kind leads = elim (cons_cases first row link has) [
+  | inl same ↦
+      let is_kind : first.refers ≡ wanted = ap (λ l. l.refers) same ∙ kind in
+      let is_place : own_place first.target ≡ Some b = ap (λ l. own_place l.target) same ∙ ap own_place leads in
+      subst (λ o. Contains (cons_option o (places_with wanted row)) b)
+      (sym (ap (place_if wanted first.refers) is_place ∙ (ap (λ r. place_if wanted r (Some b)) is_kind ∙ kept wanted)))
+      (cons_here b (places_with wanted row))
+  | inr later ↦ more (place_if wanted first.refers (own_place first.target)) (own_in_with wanted row link b later kind leads)
+]
+  where
+    kept : (w : Bool) → place_if w w (Some b) ≡ Some b
+    kept true = refl
+    kept false = refl
+
+    more : (o : Option ℕ) → Contains (places_with wanted row) b → Contains (cons_option o (places_with wanted row)) b
+    more None k = k
+    more (Some place) k = cons_later place (places_with wanted row) b k
+
+row_of_with : (wanted : Bool) (rows : List (List Link)) (a : ℕ) → get_or (map (places_with wanted) rows) a [] ≡ places_with wanted (get_or rows a [])
+row_of_with wanted [] a = refl
+row_of_with wanted (row ∷ rows) zero = refl
+row_of_with wanted (row ∷ rows) (suc a) = row_of_with wanted rows a
+
+-- the edges of each kind are among all
+pub edge_with : (wanted : Bool) (rows : List (List Link)) (a b : ℕ) → Edge (map (places_with wanted) rows) a b → Edge (map own_places rows) a b
+edge_with wanted rows a b h =
+    subst (λ r. Contains r b) (sym (row_of_places rows a))
+    (with_in_own wanted (get_or rows a []) b (subst (λ r. Contains r b) (row_of_with wanted rows a) h))
+
+pub goes_with : (wanted : Bool) (rows : List (List Link)) (a b : ℕ) (link : Link) → Contains (get_or rows a []) link → link.refers ≡ wanted
+    → link.target ≡ targets.Own b → Edge (map (places_with wanted) rows) a b
+goes_with wanted rows a b link has kind leads =
+    subst (λ r. Contains r b) (sym (row_of_with wanted rows a)) (own_in_with wanted (get_or rows a []) link b has kind leads)

@@ -1,5 +1,5 @@
 -- The users of procedures, as uses come in.
-use Rattle.std.proofs.Common.{◌≡◌, ◌≢◌, ℕ, ◌+◌, ◌<◌, ◌≤◌, List, [], ◌∷◌, ◌++◌, take, length, get_or, set, replicate, Vec, Global, ◌⊎◌, inl, inr, ◌↔◌, sym, ap, subst, ◌∙◌, arith}
+use Rattle.std.proofs.Common.{◌≡◌, ◌≢◌, ℕ, false, ◌+◌, ◌<◌, ◌≤◌, List, [], ◌∷◌, ◌++◌, take, length, get_or, set, replicate, Vec, Global, ◌⊎◌, inl, inr, ◌↔◌, sym, ap, subst, ◌∙◌, arith}
 use Rattle.std.proofs.lemmas.Bool.{cases_lt}
 use Rattle.std.proofs.lemmas.Bool.Decides.{eqb_tells}
 use Rattle.std.proofs.lemmas.List.{map-set, length-map, take_more, get_or-map, get_or-set_same, get_or-set_other, get_or_past, get_or_default, get_or-replicate, length-replicate}
@@ -41,7 +41,7 @@ row_has row i link place within is leads = (i, link, within, sym is, leads)
 
 -- what a use is read as behind the end of a row
 abbrev pub no_link : Link
-no_link = record { at = record { line = 0; column = 0 }; target = targets.Own 0 }
+no_link = record { at = record { line = 0; column = 0 }; target = targets.Own 0; refers = false }
 
 pub row_itself : {X : Type 0} (rows : List (List X)) (i : ℕ) (row : List X) → i < length rows → row ≡ get_or rows i [] → row ≡ get_or rows i row
 row_itself rows i row within is = is ∙ get_or_default rows i [] row within

@@ -1,5 +1,5 @@
 -- Where the uses of procedures lead.
-use Rattle.std.specs.Prelude.{ℕ, List, [], map, Option, Some, None}
+use Rattle.std.specs.Prelude.{ℕ, Bool, true, false, List, [], map, Option, Some, None}
 use Rattle.std.specs.List.{filter_map}
 use Rattle.masm_tree.specs.declared.tree.Proc.{Proc}
 use Rattle.masm_tree.specs.Views.{body_of}
@@ -22,7 +22,7 @@ target_of own kernel Own name = own_target (own name)
 target_of own kernel Kernel name = kernel_target (kernel name)
 
 abbrev pub link_of : (own kernel : List ℕ → Option ℕ) → Use → Link
-link_of own kernel u = record { at = u.at; target = target_of own kernel u.kind u.name }
+link_of own kernel u = record { at = u.at; target = target_of own kernel u.kind u.name; refers = u.refers }
 
 -- the uses in a procedure's body
 abbrev pub links_in : (own kernel : List ℕ → Option ℕ) → Proc → List Link
@@ -42,3 +42,14 @@ own_place targets.NotInKernel = None
 
 abbrev pub own_places : List Link → List ℕ
 own_places row = filter_map (λ link. own_place link.target) row
+
+-- the same where this is to be a procref, or no procref
+abbrev pub place_if : (wanted refers : Bool) → Option ℕ → Option ℕ
+place_if true true place = place
+place_if false false place = place
+place_if true false place = None
+place_if false true place = None
+
+-- the places to which the procrefs of a row lead, or those to which its other uses do
+abbrev pub places_with : Bool → List Link → List ℕ
+places_with wanted row = filter_map (λ link. place_if wanted link.refers (own_place link.target)) row

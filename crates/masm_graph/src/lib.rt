@@ -9,6 +9,6 @@ mod settling;
 mod users;
 
 pub use links::{Link, Target, all_links, main_links};
-pub use own::{own_graph, own_places};
+pub use own::{graph_with, own_graph, own_places, places_with};
 pub use settling::settled;
 pub use users::users_of;

@@ -1,4 +1,4 @@
-ghost use Rattle.std.specs.Prelude.{◌≡◌, ◌∷◌, [], ◌++◌, map, IfOk, OnOk};
+ghost use Rattle.std.specs.Prelude.{◌≡◌, true, false, ◌∷◌, [], ◌++◌, map, IfOk, OnOk};
 ghost use Rattle.masm_tree.specs.Trees.{Empty};
 ghost use Rattle.masm_tree.specs.Views.{stmt_view, body_of};
 ghost use Rattle.graphs.specs.Graph.{rows_of};
@@ -29,6 +29,8 @@ pub enum Target {
 pub struct Link {
     pub at: Position,
     pub target: Target,
+    /// Whether it is a procref, which asks for the digest and runs nothing.
+    pub refers: bool,
 }
 
 fn own_target(names: &Names, name: &[u8]) -> Target
@@ -49,11 +51,35 @@ fn kernel_target(kernel: &Names, name: &[u8]) -> Target
     }
 }
 
-fn add_link(out: &mut Vec<Link>, at: Position, target: Target) -> Result<(), Memory>
-    ensures { OnOk result (out.new.items ≡ out.old.items ++ (record { at = at; target = target }) ∷ []) }
+fn add_link(out: &mut Vec<Link>, link: Link) -> Result<(), Memory>
+    ensures { OnOk result (out.new.items ≡ out.old.items ++ link ∷ []) }
 {
-    out.push(Link { at, target })?;
+    out.push(link)?;
     Ok(())
+}
+
+impl Link {
+    // An exec, call or syscall.
+    fn used(at: Position, target: Target) -> Link
+        ensures { result ≡ record { at = at; target = target; refers = false } }
+    {
+        Link {
+            at,
+            target,
+            refers: false,
+        }
+    }
+
+    // A procref.
+    fn reference(at: Position, target: Target) -> Link
+        ensures { result ≡ record { at = at; target = target; refers = true } }
+    {
+        Link {
+            at,
+            target,
+            refers: true,
+        }
+    }
 }
 
 #[cycle(linking)]
@@ -77,9 +103,14 @@ fn add_statement(
         }
         Stmt::While(_, turn) => add_body(out, names, kernel, turn),
         Stmt::Repeat(_, _, turn) => add_body(out, names, kernel, turn),
-        Stmt::Exec(at, name) => add_link(out, *at, own_target(names, name.as_slice())),
-        Stmt::Call(at, name) => add_link(out, *at, own_target(names, name.as_slice())),
-        Stmt::Syscall(at, name) => add_link(out, *at, kernel_target(kernel, name.as_slice())),
+        Stmt::Exec(at, name) => add_link(out, Link::used(*at, own_target(names, name.as_slice()))),
+        Stmt::Call(at, name) => add_link(out, Link::used(*at, own_target(names, name.as_slice()))),
+        Stmt::Syscall(at, name) => {
+            add_link(out, Link::used(*at, kernel_target(kernel, name.as_slice())))
+        }
+        Stmt::ProcRef(at, name) => {
+            add_link(out, Link::reference(*at, own_target(names, name.as_slice())))
+        }
     }
 }
 

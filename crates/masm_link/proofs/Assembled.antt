@@ -11,7 +11,7 @@ use Rattle.block_tree.specs.TreeView.{tree_of}
 use Rattle.masm_tree.specs.Trees.{Procedure, Source, position_of}
 use Rattle.masm_names.specs.declared.refusal.LinkCause.TheVariants as causes
 use Rattle.masm_names.specs.Naming.{one_export_more, exported_of}
-use Rattle.masm_flat.specs.declared.kernel.KernelProc.{KernelProc}
+use Rattle.masm_flat.specs.declared.outside.KernelProc.{KernelProc}
 use Rattle.masm_flat.specs.Blocks.{Block, seen_as, as_tree}
 use Rattle.masm_flat.specs.Lists.{Exported}
 use Rattle.masm_link.specs.declared.linking.Linked.{Linked}

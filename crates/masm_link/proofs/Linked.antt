@@ -24,7 +24,7 @@ use Rattle.masm_uses.specs.Plans as plans
 use Rattle.masm_names.specs.Naming.{Dangles, Doubles, IsClosed, exported_of}
 use Rattle.masm_names.proofs.LeastLemmas.{Either, FindsLeast-same, FindsLeast-earlier}
 use Rattle.masm_uses.proofs.UsedLemmas.{unmapped, mapped, contains_at}
-use Rattle.masm_flat.specs.declared.kernel.KernelProc.{KernelProc}
+use Rattle.masm_flat.specs.declared.outside.KernelProc.{KernelProc}
 use Rattle.masm_flat.specs.declared.piece.Piece as piece
 use Rattle.masm_flat.specs.declared.extent.Extent.{Extent}
 use Rattle.masm_size.specs.declared.shape.Size as shape

@@ -6,7 +6,7 @@ use Rattle.std.specs.Option.{option_map}
 use Rattle.block_tree.specs.TreeView.{tree_of}
 use Rattle.masm_tree.specs.declared.tree.Position.{Position}
 use Rattle.masm_tree.specs.Trees.{Procedure, Source}
-use Rattle.masm_flat.specs.declared.kernel.KernelProc.{KernelProc}
+use Rattle.masm_flat.specs.declared.outside.KernelProc.{KernelProc}
 use Rattle.masm_flat.specs.declared.piece.Piece as piece
 use Rattle.masm_size.specs.declared.shape.Size as shape
 use Rattle.masm_flat.specs.Blocks.{Block, seen_as, as_tree, as_operations, whole}

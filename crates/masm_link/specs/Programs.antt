@@ -4,7 +4,7 @@ use Rattle.std.specs.Global.{Global}
 use Rattle.block_tree.specs.declared.exports.Export.{Export}
 use Rattle.block_tree.specs.Trees.{tree_digest}
 use Rattle.block_tree.specs.TreeView.{tree_of}
-use Rattle.masm_flat.specs.declared.kernel.KernelProc.{KernelProc}
+use Rattle.masm_flat.specs.declared.outside.KernelProc.{KernelProc}
 use Rattle.masm_flat.specs.Lists.{Exported}
 use Rattle.masm_tree.specs.Trees.{Source}
 use Rattle.masm_link.specs.declared.linking.Linked.{Linked}

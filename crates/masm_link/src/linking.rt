@@ -78,15 +78,15 @@ pub(crate) struct Linked {
 fn sized(
     alloc: Global,
     ast: &Ast,
-    kernel: &Kernel<'_>,
+    outside: &Outside<'_>,
     names: Names,
     exported: &[Bytes],
 ) -> Result<Measured, Memory>
     requires names { (name : List ℕ) → place_at names name ≡ first_place (source_of ast.now).procs name }
     requires fits { SourceFits (source_of ast.now) }
-    requires exported { exported.now ≡ names_in kernel.now.procs.now }
-    requires closed { IsClosed (source_of ast.now) (names_in kernel.now.procs.now) }
-    ensures { IfOk result (IsMeasured (source_of ast.now) kernel.now.procs.now) }
+    requires exported { exported.now ≡ names_in outside.now.exports.now }
+    requires closed { IsClosed (source_of ast.now) (names_in outside.now.exports.now) }
+    ensures { IfOk result (IsMeasured (source_of ast.now) outside.now.exports.now) }
 {
     let Plan { order, steps, main } = use_plan(alloc, ast, &names, exported)?;
     let sizes = sizes_of(alloc, ast, &names, kernel, &order)?;
@@ -103,12 +103,12 @@ fn sized(
 fn first_oversized(
     alloc: Global,
     ast: &Ast,
-    kernel: &Kernel<'_>,
+    outside: &Outside<'_>,
     measured: &Measured,
 ) -> Result<Option<Refusal>, Memory>
     requires fits { SourceFits (source_of ast.now) }
-    requires measured { IsMeasured (source_of ast.now) kernel.now.procs.now measured.now }
-    ensures { IfOk result (λ first. (exports : List Exported) → AreExports exports kernel.now.procs.now
+    requires measured { IsMeasured (source_of ast.now) outside.now.exports.now measured.now }
+    ensures { IfOk result (λ first. (exports : List Exported) → AreExports exports outside.now.exports.now
         → FindsLeast (Oversized (source_of ast.now) exports) first) }
 {
     let procs = first_too_large(&ast.procs, &measured.sizes);
@@ -127,9 +127,9 @@ fn first_of(a: Option<Refusal>, b: Refusal) -> Refusal
 
 // The sizes of a source's lists, or its first refusal. Sizes are tested only where no use leads
 // nowhere or back.
-fn measure(alloc: Global, ast: &Ast, kernel: &Kernel<'_>) -> Result<Measured, Stop>
+fn measure(alloc: Global, ast: &Ast, outside: &Outside<'_>) -> Result<Measured, Stop>
     requires { SourceFits (source_of ast.now) }
-    ensures { Measures (source_of ast.now) kernel.now.procs.now result }
+    ensures { Measures (source_of ast.now) outside.now.exports.now result }
 {
     let names = procedure_names(alloc, ast)?;
     let exported = export_names(alloc, kernel.procs)?;
@@ -149,13 +149,13 @@ fn measure(alloc: Global, ast: &Ast, kernel: &Kernel<'_>) -> Result<Measured, St
 fn built(
     alloc: Global,
     ast: &Ast,
-    kernel: &Kernel<'_>,
+    outside: &Outside<'_>,
     measured: &Measured,
 ) -> Result<Linked, Memory>
     requires fits { SourceFits (source_of ast.now) }
-    requires measured { IsMeasured (source_of ast.now) kernel.now.procs.now measured.now }
-    requires clean { IsNeverRefused (source_of ast.now) kernel.now.procs.now }
-    ensures linked { IfOk result (λ linked. (exports : List Exported) → AreExports exports kernel.now.procs.now
+    requires measured { IsMeasured (source_of ast.now) outside.now.exports.now measured.now }
+    requires clean { IsNeverRefused (source_of ast.now) outside.now.exports.now }
+    ensures linked { IfOk result (λ linked. (exports : List Exported) → AreExports exports outside.now.exports.now
         → IsLinked (source_of ast.now) exports linked) }
     ensures main { IfOk result (λ linked. is_some linked.main ≡ is_some ast.now.main) }
 {

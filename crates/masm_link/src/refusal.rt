@@ -16,7 +16,7 @@ use thiserror::Error;
 pub enum AsmCause {
     /// A byte outside comments is neither a blank nor one of a token.
     Lexical,
-    /// A kernel has neither `begin` nor `call` nor `syscall`.
+    /// A kernel has no `begin`, `call`, `syscall` or `procref`.
     KernelBody,
     /// The instruction is one that this machine does not have.
     Unsupported,

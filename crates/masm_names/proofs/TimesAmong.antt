@@ -1,5 +1,5 @@
 -- How often a place stands in a list.
-use Rattle.std.proofs.Common.{◌≡◌, ℕ, ◌+◌, ◌<◌, ◌≤◌, Bool, true, false, cond, eqb, List, [], ◌∷◌, length, Option, Some, None, ◌⊎◌, inl, inr, refl, sym, ap, subst, ◌∙◌, zero-add, arith}
+use Rattle.std.proofs.Common.{◌≡◌, ℕ, ◌+◌, ◌<◌, ◌≤◌, Bool, true, false, cond, eqb, List, [], ◌∷◌, length, Option, Some, None, ◌⊎◌, inl, inr, refl, sym, ap, ap₂, subst, ◌∙◌, zero-add, arith}
 use Rattle.std.specs.Prelude.{filter, nat_eq}
 use Rattle.std.specs.List.{Contains, cons_option}
 use Rattle.std.proofs.lemmas.Bool.Decides.{eqb_tells}
@@ -42,20 +42,22 @@ module _ (p : ℕ → Bool) (q : ℕ) where
   ]
 
 -- the place of a use that is left stands among those of the uses
-pub times_some : (own : List ℕ → Option ℕ) (uses : List Use) (u : Use) (q : ℕ) → Contains uses u → u.kind ≡ Own → own u.name ≡ Some q
+pub times_some : (own : List ℕ → Option ℕ) (uses : List Use) (u : Use) (q : ℕ) → Contains uses u → u.kind ≡ Own → u.refers ≡ false
+    → own u.name ≡ Some q
     → 1 ≤ times_among (places_used own uses) q
-times_some own [] u q has kind leads = absurd (omega (arith, has.1))
-times_some own (v ∷ uses) u q has kind leads = elim (cons_cases v uses u has) [
+times_some own [] u q has kind runs leads = absurd (omega (arith, has.1))
+times_some own (v ∷ uses) u q has kind runs leads = elim (cons_cases v uses u has) [
   | inl same ↦
-      let first : place_used own v.kind v.name ≡ Some q =
-      ap (λ (w : Use). place_used own w.kind w.name) same ∙ (ap (λ k. place_used own k u.name) kind ∙ leads) in
+      let first : place_used own v.kind v.refers v.name ≡ Some q =
+      ap (λ (w : Use). place_used own w.kind w.refers w.name) same
+      ∙ (ap₂ (λ k r. place_used own k r u.name) kind runs ∙ leads) in
       let more = ap (λ o. times_among (cons_option o (places_used own uses)) q) first in
       let one = eqb_tells q q in
       elim one [
         | inl here ↦ let counted = times_yes q (places_used own uses) q here.0 in omega (arith, more, counted)
         | inr apart ↦ absurd (apart.1 refl)
       ]
-  | inr later ↦ at_most (place_used own v.kind v.name) (times_some own uses u q later kind leads)
+  | inr later ↦ at_most (place_used own v.kind v.refers v.name) (times_some own uses u q later kind runs leads)
 ]
   where
     at_most : (o : Option ℕ) → 1 ≤ times_among (places_used own uses) q → 1 ≤ times_among (cons_option o (places_used own uses)) q

@@ -1,5 +1,5 @@
 -- The uses of procedures in a source, and which procedures are reached by them.
-use Rattle.std.specs.Prelude.{◌≡◌, ℕ, ◌+◌, List, [], ◌∷◌, ◌++◌, Option, Some, None, bytes_eq, if◌then◌else◌, map, slice_get}
+use Rattle.std.specs.Prelude.{◌≡◌, ℕ, ◌+◌, Bool, true, false, List, [], ◌∷◌, ◌++◌, Option, Some, None, bytes_eq, if◌then◌else◌, map, slice_get}
 use Rattle.std.specs.List.{flat_map, Contains}
 use Rattle.std.specs.Option.{option_map, option_to_list}
 use Rattle.masm_tree.specs.declared.terminal.Leaf.TheVariants as leaves
@@ -11,14 +11,18 @@ pub data Owner : Type 0 where
   Own : Owner
   Kernel : Owner
 
--- an exec, call or syscall, with the place of its token
+-- an exec, call, syscall or procref, with the place of its token
 pub record Use : Type 0 where
   pub at : Position
   pub kind : Owner
+  pub refers : Bool  -- whether it is a procref, which asks for the digest and runs nothing
   pub name : List ℕ
 
 abbrev pub use_at : Position → Owner → List ℕ → Use
-use_at at kind name = record { at = at; kind = kind; name = name }
+use_at at kind name = record { at = at; kind = kind; refers = false; name = name }
+
+abbrev pub ref_at : Position → List ℕ → Use
+ref_at at name = record { at = at; kind = Own; refers = true; name = name }
 
 -- the uses in a body, in order
 abbrev pub uses_of : Body → List Use
@@ -27,6 +31,7 @@ uses_of (Leaf_then at (leaves.Instr instr) rest) = uses_of rest
 uses_of (Leaf_then at (leaves.Exec name) rest) = use_at at Own name ∷ uses_of rest
 uses_of (Leaf_then at (leaves.Call name) rest) = use_at at Own name ∷ uses_of rest
 uses_of (Leaf_then at (leaves.Syscall name) rest) = use_at at Kernel name ∷ uses_of rest
+uses_of (Leaf_then at (leaves.ProcRef name) rest) = ref_at at name ∷ uses_of rest
 uses_of (If_then at first second rest) = uses_of first ++ (uses_of second ++ uses_of rest)
 uses_of (While_then at turn rest) = uses_of turn ++ uses_of rest
 uses_of (Repeat_then at times turn rest) = uses_of turn ++ uses_of rest

@@ -48,6 +48,7 @@ fn add_leaf(body: &mut Vec<Stmt>, at: Position, leaf: Leaf) -> Result<(), AllocE
         Leaf::Exec(name) => Stmt::Exec(at, name),
         Leaf::Call(name) => Stmt::Call(at, name),
         Leaf::Syscall(name) => Stmt::Syscall(at, name),
+        Leaf::ProcRef(name) => Stmt::ProcRef(at, name),
     };
     body.push(stmt)?;
     Ok(())

@@ -1,15 +1,17 @@
 -- The size of a body that has a list is that of the list, where the sizes of the procedures that it uses are.
-use Rattle.std.proofs.Common.{◌≡◌, ℕ, zero, suc, ◌-◌, ◌<◌, ◌≤◌, ◌↔◌, min, List, [], ◌∷◌, ◌++◌, map, Some, refl, sym, ap, ap₂, subst, ◌∙◌, append_assoc, arith}
+use Rattle.std.proofs.Common.{◌≡◌, ℕ, zero, suc, ◌-◌, ◌<◌, ◌≤◌, ◌↔◌, min, List, [], ◌∷◌, ◌++◌, length, map, Some, refl, sym, ap, ap₂, subst, ◌∙◌, append_assoc, arith}
 use Rattle.std.proofs.lemmas.List.{append-nil}
 use Rattle.vm_ops.specs.declared.item.Item.{Item}
 use Rattle.vm_field.specs.Field.{prime}
+use Rattle.vm_field.specs.Limits.{number_of_constants}
 use Rattle.vm_ops.specs.declared.op.Op.TheVariants.{FmpUpdate}
 use Rattle.vm_ops.specs.Items.{plain_item}
 use Rattle.masm_expand.specs.Expansion.{lit, expansion}
 use Rattle.masm_tree.specs.Trees.{Body, Procedure}
 use Rattle.masm_flat.specs.declared.extent.Extent.{Extent}
 use Rattle.masm_flat.specs.Blocks.{Block, Span, Join, Split, Loop, Call, Syscall, Piece, Operation, Whole, seen_as, seen_pieces, block_of, as_operations, as_height}
-use Rattle.masm_flat.specs.Lists.{Exported, IsList, nothing, instr, exec, call, syscall, branches, loops, repeated, first_procedure, first_export, times, with_locals}
+use Rattle.masm_flat.specs.Lists.{Exported, Outside, ListOf, own, IsList, nothing, instr, exec, call, procref, syscall, branches, loops, repeated, first_export, times, with_locals, block_digest, digest_items}
+use Rattle.masm_flat.proofs.Digests.{four-items}
 use Rattle.masm_size.specs.Sizes.{as_extent, size_of, run_of, both, times_size, extent_of, block_size, Known_sizes, size_onto, procedure_size}
 use Rattle.masm_flat.proofs.Flattened.{seen-block, seen-append, seen-operations, seen-times}
 use Rattle.masm_names.proofs.UsesOnly.{UsesOnly}
@@ -48,6 +50,11 @@ solid-times : (n : ℕ) (xs : List (Piece Extent)) → IsSolid xs → IsSolid (t
 solid-times zero xs h = tt
 solid-times (suc n) xs h = solid-append xs (times n xs) h (solid-times n xs h)
 
+solid-run-before : (items : List Item) (xs : List (Piece Block)) → IsSolid (seen xs) → IsSolid (seen (map Operation items ++ xs))
+solid-run-before items xs h =
+    subst IsSolid (sym (seen-append as_extent (map Operation items) xs))
+    (solid-append (seen (map Operation items)) (seen xs) (subst IsSolid (sym (seen-operations as_extent items)) (solid-run items)) h)
+
 pub solid-locals : (n : ℕ) (xs : List (Piece Block)) → IsSolid (seen xs) → IsSolid (seen (with_locals n xs))
 solid-locals zero xs h = h
 solid-locals (suc n) xs h = subst IsSolid (sym (seen-append as_extent xs _)) (solid-append (seen xs) _ h tt)
@@ -61,82 +68,88 @@ some-whole xs h =
 abbrev pub HasOperations : List Exported → Type 0
 HasOperations kernel = (name : List ℕ) (block : Block) → first_export kernel name ≡ Some block → 1 ≤ seen_as as_operations block
 
-module _ {procs : List Procedure} {kernel : List Exported} where
-  pub list-solid : HasOperations kernel → {locals : ℕ} {b : Body} {xs : List (Piece Block)} → IsList procs kernel locals b xs → IsSolid (seen xs)
-  list-solid some nothing = tt
-  list-solid some {locals} (instr at i {xs} d) =
-      subst IsSolid (sym (seen-append as_extent (map Operation (expansion i.name i.numbers locals)) xs))
-      (solid-append (seen (map Operation (expansion i.name i.numbers locals))) (seen xs)
-      (subst IsSolid (sym (seen-operations as_extent (expansion i.name i.numbers locals)))
-      (solid-run (expansion i.name i.numbers locals))) (list-solid some d))
-  list-solid some (exec at name {p} {ys} {xs} found d f) =
-      subst IsSolid (sym (seen-append as_extent (with_locals p.locals ys) xs))
-      (solid-append (seen (with_locals p.locals ys)) (seen xs) (solid-locals p.locals ys (list-solid some d)) (list-solid some f))
-  list-solid some (call at name {p} {ys} found d f) =
-      let whole = some-whole (with_locals p.locals ys) (solid-locals p.locals ys (list-solid some d)) in
-      ((omega arith, omega arith, omega arith), list-solid some f)
-  list-solid some (syscall at name {callee} found f) =
-      let one = some name callee found in
-      let is = operations-block callee in
-      ((omega arith, omega arith, omega arith), list-solid some f)
-  list-solid some (branches at {ys} {zs} a e f) =
-      let first = some-whole ys (list-solid some a) in
-      let second = some-whole zs (list-solid some e) in
-      ((omega arith, omega arith, omega arith), list-solid some f)
-  list-solid some (loops at {ys} d f) =
-      let whole = some-whole ys (list-solid some d) in
-      ((omega arith, omega arith, omega arith), list-solid some f)
-  list-solid some (repeated at n {ys} {xs} d f) =
-      subst IsSolid (sym (seen-append as_extent (times n ys) xs))
-      (solid-append (seen (times n ys)) (seen xs)
-      (subst IsSolid (sym (seen-times as_extent n ys)) (solid-times n (seen ys) (list-solid some d))) (list-solid some f))
+module _ {procs : List Procedure} {out : Outside} (some : HasOperations out.exports) where
+  mutual
+    pub list-of-solid : {name : List ℕ} {ys : List (Piece Block)} → ListOf procs out name ys → IsSolid (seen ys)
+    list-of-solid (own name {p} {ys} found d) = solid-locals p.locals ys (list-solid d)
+
+    pub list-solid : {locals : ℕ} {b : Body} {xs : List (Piece Block)} → IsList procs out locals b xs → IsSolid (seen xs)
+    list-solid nothing = tt
+    list-solid {locals} (instr at i {xs} d) = solid-run-before (expansion i.name i.numbers locals) xs (list-solid d)
+    list-solid (exec at name {ys} {xs} d f) =
+        subst IsSolid (sym (seen-append as_extent ys xs)) (solid-append (seen ys) (seen xs) (list-of-solid d) (list-solid f))
+    list-solid (call at name {ys} d f) =
+        let whole = some-whole ys (list-of-solid d) in
+        ((omega arith, omega arith, omega arith), list-solid f)
+    list-solid (procref at name {ys} {xs} d f) = solid-run-before (digest_items (block_digest out.constants (block_of ys))) xs (list-solid f)
+    list-solid (syscall at name {callee} found f) =
+        let one = some name callee found in
+        let is = operations-block callee in
+        ((omega arith, omega arith, omega arith), list-solid f)
+    list-solid (branches at {ys} {zs} a e f) =
+        let first = some-whole ys (list-solid a) in
+        let second = some-whole zs (list-solid e) in
+        ((omega arith, omega arith, omega arith), list-solid f)
+    list-solid (loops at {ys} d f) =
+        let whole = some-whole ys (list-solid d) in
+        ((omega arith, omega arith, omega arith), list-solid f)
+    list-solid (repeated at n {ys} {xs} d f) =
+        subst IsSolid (sym (seen-append as_extent (times n ys) xs))
+        (solid-append (seen (times n ys)) (seen xs)
+        (subst IsSolid (sym (seen-times as_extent n ys)) (solid-times n (seen ys) (list-solid d))) (list-solid f))
 
 -- The given sizes are those of these procedures' lists, and the given extents those of the kernel's blocks.
-pub record SizesFit (procs : List Procedure) (kernel : List Exported) (P : List ℕ → Type 0) (known : Known_sizes) : Type 0 where
-  pub size : (name : List ℕ) (p : Procedure) (ys : List (Piece Block)) → P name → first_procedure procs name ≡ Some p
-      → IsList procs kernel p.locals p.body ys → known.size name ≡ size_of (seen (with_locals p.locals ys))
-  pub exported : (name : List ℕ) (block : Block) → first_export kernel name ≡ Some block → known.exported name ≡ seen_as as_extent block
+pub record SizesFit (procs : List Procedure) (out : Outside) (P : List ℕ → Type 0) (known : Known_sizes) : Type 0 where
+  pub size : (name : List ℕ) (ys : List (Piece Block)) → P name → ListOf procs out name ys → known.size name ≡ size_of (seen ys)
+  pub exported : (name : List ℕ) (block : Block) → first_export out.exports name ≡ Some block → known.exported name ≡ seen_as as_extent block
 
-module _ {procs : List Procedure} {kernel : List Exported} (some : HasOperations kernel) (P : List ℕ → Type 0) (known : Known_sizes)
-    (fits : SizesFit procs kernel P known) where
-  agree : {locals : ℕ} {b : Body} {xs : List (Piece Block)} → IsList procs kernel locals b xs
+module _ {procs : List Procedure} {out : Outside} (some : HasOperations out.exports) (count : length out.constants ≡ number_of_constants)
+    (P R : List ℕ → Type 0) (known : Known_sizes) (fits : SizesFit procs out P known) where
+  agree : {locals : ℕ} {b : Body} {xs : List (Piece Block)} → IsList procs out locals b xs
       → Agree (extent_of (size_of (seen xs))) (seen_as as_extent (block_of xs))
   agree {xs} d = subst (Agree (extent_of (size_of (seen xs)))) (sym (seen-block as_extent xs)) (extent-whole (seen xs) (list-solid some d))
 
-  agree-procedure : (name : List ℕ) (p : Procedure) (ys : List (Piece Block)) → P name → first_procedure procs name ≡ Some p
-      → IsList procs kernel p.locals p.body ys
-      → Agree (extent_of (known.size name)) (seen_as as_extent (block_of (with_locals p.locals ys)))
-  agree-procedure name p ys of found d =
-      let zs = with_locals p.locals ys in
-      subst (λ z. Agree (extent_of z) (seen_as as_extent (block_of zs))) (sym (fits.size name p ys of found d))
-      (subst (Agree (extent_of (size_of (seen zs)))) (sym (seen-block as_extent zs))
-      (extent-whole (seen zs) (solid-locals p.locals ys (list-solid some d))))
+  agree-procedure : (name : List ℕ) (ys : List (Piece Block)) → P name → ListOf procs out name ys
+      → Agree (extent_of (known.size name)) (seen_as as_extent (block_of ys))
+  agree-procedure name ys of d =
+      subst (λ z. Agree (extent_of z) (seen_as as_extent (block_of ys))) (sym (fits.size name ys of d))
+      (subst (Agree (extent_of (size_of (seen ys)))) (sym (seen-block as_extent ys)) (extent-whole (seen ys) (list-of-solid some d)))
 
   -- a block behind a list
   behind : (before : List (Piece Extent)) (e f : Extent) → block_size e ≡ block_size f
       → both (size_of before) (block_size e) ≡ size_of (before ++ Whole f ∷ [])
   behind before e f same = ap (both (size_of before)) (same ∙ sym (size-block f)) ∙ sym (size-append before (Whole f ∷ []))
 
-  pub sized-is : (before : List (Piece Extent)) {locals : ℕ} {b : Body} {xs : List (Piece Block)} → IsList procs kernel locals b xs → UsesOnly P b
+  -- a run behind a list, and the rest
+  sized-run : (before : List (Piece Extent)) (items : List Item) (locals : ℕ) (b : Body) (xs : List (Piece Block))
+      → size_onto known locals b (size_of (before ++ map Operation items)) ≡ size_of ((before ++ map Operation items) ++ seen xs)
+      → size_onto known locals b (both (size_of before) (run_of (length items))) ≡ size_of (before ++ seen (map Operation items ++ xs))
+  sized-run before items locals b xs rest =
+      ap (size_onto known locals b) (ap (both (size_of before)) (sym (size-run items)) ∙ sym (size-append before (map Operation items)))
+      ∙ rest
+      ∙ ap size_of (append_assoc before (map Operation items) (seen xs)
+      ∙ ap (λ zs. before ++ zs) (sym
+      (seen-append as_extent (map Operation items) xs ∙ ap (λ zs. zs ++ seen xs) (seen-operations as_extent items))))
+
+  pub sized-is : (before : List (Piece Extent)) {locals : ℕ} {b : Body} {xs : List (Piece Block)} → IsList procs out locals b xs → UsesOnly P R b
       → size_onto known locals b (size_of before) ≡ size_of (before ++ seen xs)
   sized-is before nothing of = ap size_of (sym (append-nil before))
   sized-is before {locals} (instr at i {b} {xs} d) of =
       let items = expansion i.name i.numbers locals in
-      ap (size_onto known locals b) (ap (both (size_of before)) (sym (size-run items)) ∙ sym (size-append before (map Operation items)))
-      ∙ sized-is (before ++ map Operation items) d of
-      ∙ ap size_of (append_assoc before (map Operation items) (seen xs)
-      ∙ ap (λ zs. before ++ zs) (sym
-      (seen-append as_extent (map Operation items) xs ∙ ap (λ zs. zs ++ seen xs) (seen-operations as_extent items))))
-  sized-is before {locals} (exec at name {p} {b} {ys} {xs} found d f) of =
-      let zs = with_locals p.locals ys in
-      ap (size_onto known locals b) (ap (both (size_of before)) (fits.size name p ys of.0 found d) ∙ sym (size-append before (seen zs)))
-      ∙ sized-is (before ++ seen zs) f of.1
-      ∙ ap size_of (append_assoc before (seen zs) (seen xs) ∙ ap (λ us. before ++ us) (sym (seen-append as_extent zs xs)))
-  sized-is before {locals} (call at name {p} {b} {ys} {xs} found d f) of =
-      let block = seen_as as_extent (block_of (with_locals p.locals ys)) in
-      ap (size_onto known locals b) (behind before _ _ (block-over (extent_of (known.size name)) block (agree-procedure name p ys of.0 found d)))
+      sized-run before items locals b xs (sized-is (before ++ map Operation items) d of)
+  sized-is before {locals} (exec at name {b} {ys} {xs} d f) of =
+      ap (size_onto known locals b) (ap (both (size_of before)) (fits.size name ys of.0 d) ∙ sym (size-append before (seen ys)))
+      ∙ sized-is (before ++ seen ys) f of.1
+      ∙ ap size_of (append_assoc before (seen ys) (seen xs) ∙ ap (λ us. before ++ us) (sym (seen-append as_extent ys xs)))
+  sized-is before {locals} (call at name {b} {ys} {xs} d f) of =
+      let block = seen_as as_extent (block_of ys) in
+      ap (size_onto known locals b) (behind before _ _ (block-over (extent_of (known.size name)) block (agree-procedure name ys of.0 d)))
       ∙ sized-is (before ++ Whole (as_extent.call block) ∷ []) f of.1
       ∙ ap size_of (append_assoc before (Whole (as_extent.call block) ∷ []) (seen xs))
+  sized-is before {locals} (procref at name {b} {ys} {xs} d f) of =
+      let items = digest_items (block_digest out.constants (block_of ys)) in
+      ap (λ n. size_onto known locals b (both (size_of before) (run_of n))) (sym (four-items out.constants (block_of ys) count))
+      ∙ sized-run before items locals b xs (sized-is (before ++ map Operation items) f of.1)
   sized-is before {locals} (syscall at name {callee} {b} {xs} found f) of =
       let block = seen_as as_extent callee in
       ap (size_onto known locals b) (behind before _ _ (ap (λ e. block_size (as_extent.syscall e)) (fits.exported name callee found)))
@@ -164,7 +177,7 @@ module _ {procs : List Procedure} {kernel : List Exported} (some : HasOperations
       ∙ ap (λ us. before ++ us) (sym
       (seen-append as_extent (times n ys) xs ∙ ap (λ us. us ++ seen xs) (seen-times as_extent n ys))))
 
-  locals-sized : (n : ℕ) (b : Body) (xs : List (Piece Block)) → IsList procs kernel n b xs → UsesOnly P b
+  locals-sized : (n : ℕ) (b : Body) (xs : List (Piece Block)) → IsList procs out n b xs → UsesOnly P R b
       → procedure_size known n b ≡ size_of (seen (with_locals n xs))
   locals-sized zero b xs d of = sized-is [] d of
   locals-sized (suc n) b xs d of =
@@ -177,11 +190,11 @@ module _ {procs : List Procedure} {kernel : List Exported} (some : HasOperations
       ∙ ap (λ us. map Operation up ++ us) (sym (seen-append as_extent xs (map Operation down))))
 
   -- the size of a procedure's list, and the extent of its block
-  pub procedure-sized : (p : Procedure) (xs : List (Piece Block)) → IsList procs kernel p.locals p.body xs → UsesOnly P p.body
+  pub procedure-sized : (p : Procedure) (xs : List (Piece Block)) → IsList procs out p.locals p.body xs → UsesOnly P R p.body
       → procedure_size known p.locals p.body ≡ size_of (seen (with_locals p.locals xs))
   procedure-sized p xs d of = locals-sized p.locals p.body xs d of
 
-  pub procedure-extent : (p : Procedure) (xs : List (Piece Block)) → IsList procs kernel p.locals p.body xs → UsesOnly P p.body
+  pub procedure-extent : (p : Procedure) (xs : List (Piece Block)) → IsList procs out p.locals p.body xs → UsesOnly P R p.body
       → Agree (extent_of (procedure_size known p.locals p.body)) (seen_as as_extent (block_of (with_locals p.locals xs)))
   procedure-extent p xs d of =
       let zs = with_locals p.locals xs in
@@ -190,7 +203,7 @@ module _ {procs : List Procedure} {kernel : List Exported} (some : HasOperations
       (extent-whole (seen zs) (solid-locals p.locals xs (list-solid some d))))
 
   -- whether the limits are passed, told by the extent
-  pub procedure-operations : (p : Procedure) (xs : List (Piece Block)) → IsList procs kernel p.locals p.body xs → UsesOnly P p.body
+  pub procedure-operations : (p : Procedure) (xs : List (Piece Block)) → IsList procs out p.locals p.body xs → UsesOnly P R p.body
       → (524288 < (extent_of (procedure_size known p.locals p.body)).operations)
       ↔ (524288 < seen_as as_operations (block_of (with_locals p.locals xs)))
   procedure-operations p xs d of =
@@ -198,7 +211,7 @@ module _ {procs : List Procedure} {kernel : List Exported} (some : HasOperations
       let is = operations-block (block_of (with_locals p.locals xs)) in
       (λ h. omega arith, λ h. omega arith)
 
-  pub procedure-height : (p : Procedure) (xs : List (Piece Block)) → IsList procs kernel p.locals p.body xs → UsesOnly P p.body
+  pub procedure-height : (p : Procedure) (xs : List (Piece Block)) → IsList procs out p.locals p.body xs → UsesOnly P R p.body
       → (extent_of (procedure_size known p.locals p.body)).operations ≤ 524288
       → (1024 < (extent_of (procedure_size known p.locals p.body)).height) ↔ (1024 < seen_as as_height (block_of (with_locals p.locals xs)))
   procedure-height p xs d of few =

@@ -2,7 +2,7 @@
 use Rattle.std.specs.Prelude.{ℕ, List, Option, unwrap_or, option_and_then, bytes_eq, slice_get}
 use Rattle.std.specs.List.{find}
 use Rattle.std.specs.Option.{option_map}
-use Rattle.masm_flat.specs.declared.kernel.KernelProc.{KernelProc}
+use Rattle.masm_flat.specs.declared.outside.KernelProc.{KernelProc}
 use Rattle.masm_size.specs.declared.known_sizes.Sizes as known
 use Rattle.masm_flat.specs.declared.extent.Extent.{Extent}
 use Rattle.masm_size.specs.declared.shape.Size as code
@@ -23,4 +23,4 @@ abbrev pub sizes_known : Names → List code.Size → List KernelProc → Known_
 sizes_known names sizes kernel = record { size = λ name. size_at sizes (place_at names name); exported = extent_at kernel }
 
 abbrev pub known_sizes_of : known.Sizes → Known_sizes
-known_sizes_of s = sizes_known s.names.now s.sizes.now s.kernel.now.procs.now
+known_sizes_of s = sizes_known s.names.now s.sizes.now s.outside.now.exports.now

@@ -230,6 +230,10 @@ extent_of s = record { operations = max 1 s.operations; height = row_height s.ro
 abbrev pub block_size : Extent → Size
 block_size e = limited e.operations (one_block e.height)
 
+-- a procref is one operation for each element of a digest
+abbrev pub digest_operations : ℕ
+digest_operations = 4
+
 -- What is known of procedures by their names: the sizes of the source's, the extents of the kernel's.
 pub record Known_sizes : Type 0 where
   pub size : List ℕ → Size
@@ -245,6 +249,7 @@ size_onto known locals (Leaf_then at (leaves.Call name) rest) before =
     size_onto known locals rest (both before (block_size (as_extent.call (extent_of (known.size name)))))
 size_onto known locals (Leaf_then at (leaves.Syscall name) rest) before =
     size_onto known locals rest (both before (block_size (as_extent.syscall (known.exported name))))
+size_onto known locals (Leaf_then at (leaves.ProcRef name) rest) before = size_onto known locals rest (both before (run_of digest_operations))
 size_onto known locals (If_then at first second rest) before =
     size_onto known locals rest (both before (block_size
     (as_extent.split (extent_of (size_onto known locals first nothing)) (extent_of (size_onto known locals second nothing)))))

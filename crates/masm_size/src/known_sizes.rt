@@ -4,7 +4,7 @@ ghost use Rattle.masm_size.specs.Sizes.{part_view};
 
 use crate::shape::{Part, Size};
 use crate::size::NO_PARTS;
-use masm_flat::{Extent, Kernel};
+use masm_flat::{Extent, Outside};
 use masm_names::Names;
 use vm_field::Bytes;
 
@@ -15,8 +15,8 @@ pub struct Sizes<'a> {
     pub names: &'a Names,
     /// The sizes of their lists, in order; of one that is missing it is that of the empty list.
     pub sizes: &'a [Size],
-    /// The procedures that the kernel exports.
-    pub kernel: &'a Kernel<'a>,
+    /// What lies outside the source.
+    pub outside: &'a Outside<'a>,
 }
 
 // The size of this number; it is that of the empty list where there is none.
@@ -49,7 +49,7 @@ impl<'a> Sizes<'a> {
     pub fn exported(&self, name: &Bytes) -> Extent
         ensures { result ≡ (known_sizes_of self.now).exported name.now }
     {
-        match self.kernel.first(name) {
+        match self.outside.first(name) {
             Some(proc) => proc.extent,
             None => Extent {
                 operations: 1,

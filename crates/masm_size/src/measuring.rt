@@ -13,6 +13,9 @@ use masm_tree::{Proc, Stmt};
 use std::alloc::Global;
 use vm_field::Memory;
 
+// A procref is one operation for each element of a digest.
+const DIGEST_OPERATIONS: usize = 4;
+
 /// The size of what stands before a body, and then the body, in a procedure of so many locals,
 /// where the sizes of the procedures that it uses are given.
 #[cycle(measuring)]
@@ -51,6 +54,7 @@ fn with_statement(
         Stmt::Exec(_, name) => both(before, sizes.size(name)),
         Stmt::Call(_, name) => with_block(before, over(extent_of(sizes.size(name)))),
         Stmt::Syscall(_, name) => with_block(before, over(sizes.exported(name))),
+        Stmt::ProcRef(_, _) => with_run(DIGEST_OPERATIONS, before),
         Stmt::If(_, first, second) => {
             let on_one = extent(alloc, sizes, locals, first)?;
             let on_zero = extent(alloc, sizes, locals, second)?;

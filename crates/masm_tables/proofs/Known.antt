@@ -23,7 +23,7 @@ use Rattle.masm_names.specs.Naming.{IsClosed}
 use Rattle.masm_uses.specs.Plans.{NeedsIn}
 use Rattle.masm_uses.specs.UseOrders.{IsUseOrder}
 use Rattle.masm_names.specs.Uses.{first_place}
-use Rattle.masm_flat.specs.declared.kernel.KernelProc.{KernelProc}
+use Rattle.masm_flat.specs.declared.outside.KernelProc.{KernelProc}
 use Rattle.masm_flat.specs.declared.piece.Piece as piece
 use Rattle.masm_size.specs.declared.shape.Size as shape
 use Rattle.masm_flat.specs.Blocks.{Block, Piece, Operation, seen_as, seen_pieces, as_tree}

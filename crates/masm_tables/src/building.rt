@@ -14,9 +14,10 @@ ghost use Rattle.masm_names.specs.Names.{place_at};
 ghost use Rattle.masm_uses.specs.Plans.{main_uses};
 ghost use Rattle.masm_tables.specs.Building.{AreBuilt};
 
+use crate::listing::Built;
 use block_tree::Tree;
 use masm_flat::{
-    Kernel, KernelProc, Piece, Scope, Table, add_copies, list_of_procedure, tree_of_list,
+    KernelProc, Outside, Piece, Scope, Table, add_copies, list_of_procedure, tree_of_list,
 };
 use masm_names::Names;
 use masm_size::{Size, extent_of};
@@ -64,27 +65,32 @@ pub fn exports_of(
     Ok(exports)
 }
 
-/// The tree of the body between `begin` and `end`, of which these are the places that it uses. Each list is taken by its last use,
-/// and what is left of the table is freed before the tree is built.
+/// The tree of the body between `begin` and `end`, of which these are the places of the lists that it uses. Each list is taken by its
+/// last use, and what is left of the table is freed before the tree is built.
 pub fn main_tree(
     alloc: Global,
     names: &Names,
-    kernel: &Kernel<'_>,
+    outside: &Outside<'_>,
     main: &Option<Proc>,
     uses: &[usize],
-    table: Table,
+    built: Built,
 ) -> Result<Option<Tree>, Memory>
     requires fits { MainFits (option_map procedure_of main.now) }
     requires uses { uses.now ≡ main_uses (place_at names.now) (option_map procedure_of main.now) }
-    requires none { HasNoneLeft table }
+    requires none { HasNoneLeft built.table }
     ensures { IfOk result (λ tree. option_map tree_of tree
         ≡ option_map (λ p. whole as_tree (with_locals p.locals
-        (flat_with as_tree (lists_known names.now table.lists.items kernel.now.procs.now) p.locals (body_of p.body.items)))) main.now) }
+        (flat_with as_tree (lists_known names.now built.table.lists.items built.digests.items outside.now.exports.now) p.locals (body_of p.body.items)))) main.now) }
 {
     let Some(procedure) = main else {
         return Ok(None);
     };
-    let scope = Scope { names, kernel };
+    let Built { table, digests } = built;
+    let scope = Scope {
+        names,
+        outside,
+        digests: digests.as_slice(),
+    };
     let mut table = table;
     table.expect(uses);
     let list = list_of_procedure(alloc, &scope, &mut table, procedure)?;

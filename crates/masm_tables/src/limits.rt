@@ -9,7 +9,7 @@ ghost use Rattle.masm_names.specs.Least.{FindsLeast};
 ghost use Rattle.masm_tree.specs.Trees.{position_of};
 ghost use Rattle.masm_tables.specs.Limits.{size_cause, ExceedsLimit};
 
-use masm_flat::{Extent, Kernel};
+use masm_flat::{Extent, Outside};
 use masm_names::{Defined, LinkCause, Names, Refusal, earlier};
 use masm_size::{Size, Sizes, extent_of, size_of_procedure};
 use masm_tree::{Position, Proc};
@@ -56,14 +56,14 @@ pub fn first_too_large(procs: &[Proc], sizes: &[Size]) -> Option<Refusal>
 pub fn main_too_large(
     alloc: Global,
     names: &Names,
-    kernel: &Kernel<'_>,
+    outside: &Outside<'_>,
     main: &Option<Proc>,
     sizes: &[Size],
 ) -> Result<Option<Refusal>, Memory>
     requires { MainFits (option_map procedure_of main.now) }
     ensures { IfOk result (λ first. MatchOption main.now (first ≡ None)
         (λ p. FindsLeast (ExceedsLimit (position_of (procedure_of p))
-        (extent_of (procedure_size (sizes_known names.now sizes.now kernel.now.procs.now) p.locals (body_of p.body.items)))) first)) }
+        (extent_of (procedure_size (sizes_known names.now sizes.now outside.now.exports.now) p.locals (body_of p.body.items)))) first)) }
 {
     let Some(procedure) = main else {
         return Ok(None);
@@ -71,7 +71,7 @@ pub fn main_too_large(
     let known = Sizes {
         names,
         sizes,
-        kernel,
+        outside,
     };
     let size = size_of_procedure(alloc, &known, procedure)?;
     Ok(too_large(procedure.at(), extent_of(size.part())))

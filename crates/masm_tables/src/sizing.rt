@@ -1,7 +1,7 @@
 ghost use Rattle.std.specs.Prelude.{◌≡◌, ℕ, ◌<◌, List, length, slice_set, IfOk, OnOk};
 ghost use Rattle.masm_size.specs.declared.shape.Size.{Size};
 ghost use Rattle.masm_size.specs.KnownSizes.{sizes_known};
-ghost use Rattle.masm_flat.specs.Lists.{Exported};
+ghost use Rattle.masm_flat.specs.Lists.{Outside};
 ghost use Rattle.masm_size.specs.Sizes.{size_view, procedure_size};
 ghost use Rattle.masm_tree.specs.Locals.{HasLocals, SourceFits};
 ghost use Rattle.masm_tree.specs.Views.{body_of, source_of};
@@ -9,10 +9,10 @@ ghost use Rattle.masm_names.specs.Names.{place_at};
 ghost use Rattle.masm_names.specs.Naming.{IsClosed};
 ghost use Rattle.masm_uses.specs.UseOrders.{IsUseOrder};
 ghost use Rattle.masm_names.specs.Uses.{first_place};
-ghost use Rattle.masm_tables.specs.Kernels.{AreExports, names_in};
+ghost use Rattle.masm_tables.specs.Kernels.{IsOutside, names_in};
 ghost use Rattle.masm_tables.specs.Tables.{AreSizes};
 
-use masm_flat::Kernel;
+use masm_flat::Outside;
 use masm_names::Names;
 use masm_size::{Size, Sizes, size_of_procedure};
 use masm_tree::{Ast, Proc};
@@ -34,7 +34,7 @@ fn empty_sizes(alloc: Global, count: usize) -> Result<Vec<Size>, AllocError>
 fn add_size(
     alloc: Global,
     names: &Names,
-    kernel: &Kernel<'_>,
+    outside: &Outside<'_>,
     procedure: &Proc,
     place: usize,
     sizes: &mut Vec<Size>,
@@ -42,13 +42,13 @@ fn add_size(
     requires place { place < length sizes.old.items }
     requires locals { HasLocals procedure.now.locals (body_of procedure.now.body.items) }
     ensures { OnOk result ((size : Size) × (sizes.new.items ≡ slice_set sizes.old.items place size)
-        × (size_view size ≡ procedure_size (sizes_known names.now sizes.old.items kernel.now.procs.now) procedure.now.locals
+        × (size_view size ≡ procedure_size (sizes_known names.now sizes.old.items outside.now.exports.now) procedure.now.locals
         (body_of procedure.now.body.items))) }
 {
     let known = Sizes {
         names,
         sizes: sizes.as_slice(),
-        kernel,
+        outside,
     };
     let size = size_of_procedure(alloc, &known, procedure)?;
     sizes[place] = size;
@@ -61,20 +61,20 @@ pub fn sizes_of(
     alloc: Global,
     ast: &Ast,
     names: &Names,
-    kernel: &Kernel<'_>,
+    outside: &Outside<'_>,
     order: &[usize],
 ) -> Result<Vec<Size>, Memory>
     requires names { (name : List ℕ) → place_at names.now name ≡ first_place (source_of ast.now).procs name }
     requires fits { SourceFits (source_of ast.now) }
-    requires closed { IsClosed (source_of ast.now) (names_in kernel.now.procs.now) }
+    requires closed { IsClosed (source_of ast.now) (names_in outside.now.exports.now) }
     requires order { IsUseOrder (source_of ast.now).procs order.now }
     ensures count { IfOk result (λ sizes. length sizes.items ≡ length (source_of ast.now).procs) }
-    ensures sizes { IfOk result (λ sizes. (exports : List Exported) → AreExports exports kernel.now.procs.now
-        → AreSizes (source_of ast.now).procs exports order.now sizes.items) }
+    ensures sizes { IfOk result (λ sizes. (out : Outside) → IsOutside outside.now.exports.now out
+        → AreSizes (source_of ast.now).procs out order.now sizes.items) }
 {
     let mut sizes = empty_sizes(alloc, ast.procs.len())?;
     for place in order {
-        add_size(alloc, names, kernel, &ast.procs[*place], *place, &mut sizes)?;
+        add_size(alloc, names, outside, &ast.procs[*place], *place, &mut sizes)?;
     }
     Ok(sizes)
 }

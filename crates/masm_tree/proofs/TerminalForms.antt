@@ -101,6 +101,7 @@ form-used : (k : Use) (name : List ℕ) → LeafIsInForm (used k name)
 form-used uses.Exec name = tt
 form-used uses.Call name = tt
 form-used uses.Syscall name = tt
+form-used uses.ProcRef name = tt
 
 form-usage : (k : Use) (at : Position) (parts : List (List ℕ)) → TerminalIsInFormIf (usage k at parts)
 unfolding usage
@@ -120,6 +121,7 @@ form-phrase context at parts keywords.Repeat = form-repetition context.consts at
 form-phrase context at parts keywords.Exec = form-usage uses.Exec at parts
 form-phrase context at parts keywords.Call = form-usage uses.Call at parts
 form-phrase context at parts keywords.Syscall = form-usage uses.Syscall at parts
+form-phrase context at parts keywords.ProcRef = form-usage uses.ProcRef at parts
 form-phrase context at parts keywords.End = form-alone terminals.End parts tt
 
 form-symbol : (refused : Terminal) (r : Result Terminal Cause) → TerminalIsInForm refused → TerminalIsInFormIf r
@@ -139,6 +141,7 @@ form-blank at keywords.Repeat = tt
 form-blank at keywords.Exec = tt
 form-blank at keywords.Call = tt
 form-blank at keywords.Syscall = tt
+form-blank at keywords.ProcRef = tt
 form-blank at keywords.End = tt
 
 form-keyword : (kernel : Bool) (context : Context) (at : Position) (parts : List (List ℕ)) (k : Keyword)

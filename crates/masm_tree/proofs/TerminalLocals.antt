@@ -101,6 +101,7 @@ none-used : (k : Use) (name : List ℕ) (locals : ℕ) → LeafFits locals (used
 none-used uses.Exec name locals = tt
 none-used uses.Call name locals = tt
 none-used uses.Syscall name locals = tt
+none-used uses.ProcRef name locals = tt
 
 none-usage : (k : Use) (at : Position) (parts : List (List ℕ)) → NamesNone (usage k at parts)
 unfolding usage
@@ -120,6 +121,7 @@ none-phrase context at parts keywords.Repeat = none-repetition context.consts at
 none-phrase context at parts keywords.Exec = none-usage uses.Exec at parts
 none-phrase context at parts keywords.Call = none-usage uses.Call at parts
 none-phrase context at parts keywords.Syscall = none-usage uses.Syscall at parts
+none-phrase context at parts keywords.ProcRef = none-usage uses.ProcRef at parts
 none-phrase context at parts keywords.End = none-alone terminals.End parts (λ n. tt)
 
 none-symbol_with : (locals : ℕ) (refused : Terminal) (r : Result Terminal Cause) → NamesNone r → SymbolFits locals (symbol_with refused r)

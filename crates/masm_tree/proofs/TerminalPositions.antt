@@ -101,6 +101,7 @@ at-phrase context at parts keywords.Repeat = at-repetition context.consts at par
 at-phrase context at parts keywords.Exec = at-usage uses.Exec at parts
 at-phrase context at parts keywords.Call = at-usage uses.Call at parts
 at-phrase context at parts keywords.Syscall = at-usage uses.Syscall at parts
+at-phrase context at parts keywords.ProcRef = at-usage uses.ProcRef at parts
 at-phrase context at parts keywords.End = at-alone at terminals.End parts (record { consts = inl refl; procs = inl refl })
 
 at-tested : (locals : ℕ) (at : Position) (r : Result Instruction InstrError) → IsAtIf at (local_tested locals at r)

@@ -116,11 +116,12 @@ unfoldable pub repetition : List Const → Position → List (List ℕ) → Resu
 repetition consts at (part ∷ []) = repeated at (parameter_of consts true part)
 repetition consts at other = Err causes.Syntax
 
--- exec.name, call.name, syscall.name
+-- exec.name, call.name, syscall.name, procref.name
 abbrev pub used : Use → List ℕ → Leaf
 used uses.Exec name = leaves.Exec name
 used uses.Call name = leaves.Call name
 used uses.Syscall name = leaves.Syscall name
+used uses.ProcRef name = leaves.ProcRef name
 
 unfoldable pub usage : Use → Position → List (List ℕ) → Result Terminal Cause
 usage use_of at (name ∷ []) = if is_name Lower name then Ok (terminals.Leaf at (used use_of name)) else Err causes.Syntax
@@ -139,6 +140,7 @@ phrase context at parts keywords.Repeat = repetition context.consts at parts
 phrase context at parts keywords.Exec = usage uses.Exec at parts
 phrase context at parts keywords.Call = usage uses.Call at parts
 phrase context at parts keywords.Syscall = usage uses.Syscall at parts
+phrase context at parts keywords.ProcRef = usage uses.ProcRef at parts
 phrase context at parts keywords.End = alone terminals.End parts
 
 -- another token is an instruction; a local that it names must be one of the procedure's
@@ -172,6 +174,7 @@ blank_of at keywords.Repeat = terminals.Repeat at 0
 blank_of at keywords.Exec = blank at
 blank_of at keywords.Call = blank at
 blank_of at keywords.Syscall = blank at
+blank_of at keywords.ProcRef = blank at
 blank_of at keywords.End = terminals.End
 
 abbrev pub symbol_with : Terminal → Result Terminal Cause → Symbol

@@ -11,6 +11,7 @@ LeafIsInForm (leaves.Instr instr) = IsInForm instr
 LeafIsInForm (leaves.Exec name) = Unit {0}
 LeafIsInForm (leaves.Call name) = Unit {0}
 LeafIsInForm (leaves.Syscall name) = Unit {0}
+LeafIsInForm (leaves.ProcRef name) = Unit {0}
 
 -- each instruction of the body is in form
 abbrev pub BodyIsInForm : Body → Type 0

@@ -15,10 +15,11 @@ pub(crate) enum Keyword {
     Exec,
     Call,
     Syscall,
+    ProcRef,
     End,
 }
 
-const KEYWORDS: [Keyword; 12] = [
+const KEYWORDS: [Keyword; 13] = [
     Keyword::Const,
     Keyword::Proc,
     Keyword::Export,
@@ -30,6 +31,7 @@ const KEYWORDS: [Keyword; 12] = [
     Keyword::Exec,
     Keyword::Call,
     Keyword::Syscall,
+    Keyword::ProcRef,
     Keyword::End,
 ];
 
@@ -49,6 +51,7 @@ impl Keyword {
             Keyword::Exec => b"exec",
             Keyword::Call => b"call",
             Keyword::Syscall => b"syscall",
+            Keyword::ProcRef => b"procref",
             Keyword::End => b"end",
         }
     }
@@ -57,14 +60,17 @@ impl Keyword {
     pub(crate) fn is_kept_from_kernels(self) -> bool
         ensures { result ≡ is_kept_from_kernels self }
     {
-        matches!(self, Keyword::Begin | Keyword::Call | Keyword::Syscall)
+        matches!(
+            self,
+            Keyword::Begin | Keyword::Call | Keyword::Syscall | Keyword::ProcRef
+        )
     }
 }
 
 // For each slot the place in `KEYWORDS` of the one keyword that may have it; 0 where there is none.
 const SLOTS: [u8; 32] = [
-    0, 5, 0, 0, 0, 0, 0, 0, 10, 0, 0, 0, 0, 8, 0, 7, 0, 0, 1, 6, 9, 2, 0, 4, 0, 0, 0, 3, 0, 0, 0,
-    11,
+    0, 5, 0, 0, 0, 0, 0, 0, 10, 0, 0, 0, 0, 8, 0, 7, 0, 0, 1, 6, 9, 2, 0, 4, 0, 0, 0, 3, 0, 0, 11,
+    12,
 ];
 
 // The byte at a place, and 0 behind the end.

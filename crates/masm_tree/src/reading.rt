@@ -141,7 +141,7 @@ fn read_repetition(consts: &Consts, at: Position, parts: &[&[u8]]) -> Result<Ter
     }
 }
 
-// exec.name, call.name, syscall.name
+// exec.name, call.name, syscall.name, procref.name
 #[tactic(auto, unfolding(crate::specs::Classify::usage))]
 fn read_usage(alloc: Global, use_of: Use, at: Position, parts: &[&[u8]]) -> Result<Terminal, Stop>
     ensures { GivesTerminal result (usage use_of at (map (λ part. part.now) parts.now)) }
@@ -157,6 +157,7 @@ fn read_usage(alloc: Global, use_of: Use, at: Position, parts: &[&[u8]]) -> Resu
         Use::Exec => Leaf::Exec(name),
         Use::Call => Leaf::Call(name),
         Use::Syscall => Leaf::Syscall(name),
+        Use::ProcRef => Leaf::ProcRef(name),
     };
     Ok(Terminal::Leaf(at, leaf))
 }
@@ -185,6 +186,7 @@ fn read_phrase(
         Keyword::Exec => read_usage(alloc, Use::Exec, at, parts),
         Keyword::Call => read_usage(alloc, Use::Call, at, parts),
         Keyword::Syscall => read_usage(alloc, Use::Syscall, at, parts),
+        Keyword::ProcRef => read_usage(alloc, Use::ProcRef, at, parts),
         Keyword::End => read_alone(Terminal::End, parts),
     }
 }
@@ -249,7 +251,7 @@ fn blank_of(alloc: Global, at: Position, keyword: Keyword) -> Terminal
         Keyword::Else => Terminal::Else,
         Keyword::While => Terminal::While(at),
         Keyword::Repeat => Terminal::Repeat(at, 0),
-        Keyword::Exec | Keyword::Call | Keyword::Syscall => blank(alloc, at),
+        Keyword::Exec | Keyword::Call | Keyword::Syscall | Keyword::ProcRef => blank(alloc, at),
         Keyword::End => Terminal::End,
     }
 }

@@ -43,6 +43,7 @@ pub(crate) enum Use {
     Exec,
     Call,
     Syscall,
+    ProcRef,
 }
 
 /// A statement that is one token.
@@ -56,6 +57,8 @@ pub enum Leaf {
     Call(Bytes),
     /// A call of the kernel's procedure of this name.
     Syscall(Bytes),
+    /// The digest of the procedure of this name.
+    ProcRef(Bytes),
 }
 
 /// What a token is to the grammar.

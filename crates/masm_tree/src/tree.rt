@@ -28,6 +28,8 @@ pub enum Stmt {
     Call(Position, Bytes),
     /// A call of the kernel's procedure of this name.
     Syscall(Position, Bytes),
+    /// The digest of the procedure of this name.
+    ProcRef(Position, Bytes),
 }
 
 /// A procedure, or the body between `begin` and `end`.

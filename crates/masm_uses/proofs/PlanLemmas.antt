@@ -85,29 +85,31 @@ step_ends graph step place row marks is_row is_place is_ended =
     (subst (λ xs. IsNoneOrAll xs row) (sym is_ended) (none_or_all (is_unmarked marks) row))
 
 -- More may be held and less needed and wanted.
-pub builds-more : (Needs Needs' : ℕ → ℕ → Type 0) (count count' : ℕ) (Wanted Wanted' Held Held' : ℕ → Type 0) (steps : List Step) → count ≡ count'
-    → ((i j : ℕ) → Needs' i j → Needs i j) → ((q : ℕ) → Wanted' q → Wanted q) → ((q : ℕ) → Held q → Held' q)
-    → Builds Needs count Wanted Held steps → Builds Needs' count' Wanted' Held' steps
-builds-more Needs Needs' count count' Wanted Wanted' Held Held' [] same fewer less more b = λ q h. more q (b q (less q h))
-builds-more Needs Needs' count count' Wanted Wanted' Held Held' (step ∷ steps) same fewer less more b = (
-  omega arith,
-  λ q h. more q (b.1 q (fewer step.place q h)),
-  builds-more Needs Needs' count count' Wanted Wanted' (HeldBehind Held step) (HeldBehind Held' step) steps same fewer less
-      (λ q h. (elim h.0 [ inl held ↦ inl (more q held) | inr here ↦ inr here ], h.1)) b.2,
-)
+module _ (makes : Step → Bool) (ends : Step → List ℕ) where
+  pub builds-more : (Needs Needs' : ℕ → ℕ → Type 0) (count count' : ℕ) (Wanted Wanted' Held Held' : ℕ → Type 0) (steps : List Step) → count ≡ count'
+      → ((i j : ℕ) → Needs' i j → Needs i j) → ((q : ℕ) → Wanted' q → Wanted q) → ((q : ℕ) → Held q → Held' q)
+      → Builds makes ends Needs count Wanted Held steps → Builds makes ends Needs' count' Wanted' Held' steps
+  builds-more Needs Needs' count count' Wanted Wanted' Held Held' [] same fewer less more b = λ q h. more q (b q (less q h))
+  builds-more Needs Needs' count count' Wanted Wanted' Held Held' (step ∷ steps) same fewer less more b = (
+    omega arith,
+    λ q h. more q (b.1 q (fewer step.place q h)),
+    builds-more Needs Needs' count count' Wanted Wanted' (HeldBehind makes ends Held step) (HeldBehind makes ends Held' step) steps same fewer less
+        (λ q h. (elim h.0 [ inl held ↦ inl (more q held) | inr here ↦ inr here ], h.1)) b.2,
+  )
 
 -- The places that have a mark and stand among the first of an order.
 abbrev pub Seen : List Bool → List ℕ → ℕ → ℕ → Type 0
 Seen marks order k place = (get_or marks place false ≡ true) × Contains (take k order) place
 
-module _ (graph : List (List ℕ)) (order : List ℕ) (is : IsOrder graph order) (Wanted : ℕ → Type 0) where
+module _ (makes : Step → Bool) (ends : Step → List ℕ) (graph : List (List ℕ)) (order : List ℕ) (is : IsOrder graph order)
+    (Wanted : ℕ → Type 0) where
   abbrev pub Served : List Bool → ℕ → List Step → Type 0
-  Served marks k steps = Builds (Edge graph) (length graph) Wanted (Seen marks order k) (reverse steps)
+  Served marks k steps = Builds makes ends (Edge graph) (length graph) Wanted (Seen marks order k) (reverse steps)
 
   pub served-step : (k place : ℕ) (row : List ℕ) (marks new : List Bool) (steps more : List Step) → k < length order → place ≡ get_or order k 0
-      → row ≡ get_or graph place [] → Served marks (k + 1) steps → StepsTo place row marks steps new more → Served new k more
+      → row ≡ get_or graph place [] → Served marks (k + 1) steps → StepsTo makes ends place row marks steps new more → Served new k more
   served-step k place row marks new steps more below here row_is before (passed unmarked) =
-      builds-more (Edge graph) (Edge graph) (length graph) (length graph) Wanted Wanted (Seen marks order (k + 1))
+      builds-more makes ends (Edge graph) (Edge graph) (length graph) (length graph) Wanted Wanted (Seen marks order (k + 1))
       (Seen marks order k) (reverse steps) refl
       (λ i j h. h) (λ q h. h)
       (λ q h. (
@@ -118,21 +120,21 @@ module _ (graph : List (List ℕ)) (order : List ℕ) (is : IsOrder graph order)
         ],
       ))
       before
-  served-step k place row marks new steps more below here row_is before (built step after marked at_place rows) =
-      subst (Builds (Edge graph) (length graph) Wanted (Seen after order k)) (sym (reverse-append steps (step ∷ []))) (
+  served-step k place row marks new steps more below here row_is before (built step after is_made at_place rows) =
+      subst (Builds makes ends (Edge graph) (length graph) Wanted (Seen after order k)) (sym (reverse-append steps (step ∷ []))) (
         subst (λ p. p < length graph) (sym (at_place ∙ here)) (is.within k below),
         λ q edge.
             let edge' = subst (λ p. Edge graph p q) at_place edge in
             (rows.marked q (subst (λ xs. Contains xs q) (sym row_is) edge'), is.behind k q below (subst (λ p. Edge graph p q) here edge')),
-        builds-more (Edge graph) (Edge graph) (length graph) (length graph) Wanted Wanted (Seen marks order (k + 1))
-            (HeldBehind (Seen after order k) step) (reverse steps) refl
+        builds-more makes ends (Edge graph) (Edge graph) (length graph) (length graph) Wanted Wanted (Seen marks order (k + 1))
+            (HeldBehind makes ends (Seen after order k) step) (reverse steps) refl
             (λ i j h. h) (λ q h. h) (λ q h. (held q h, λ fresh. false≢true (sym (rows.fresh_were q fresh) ∙ h.0))) before,
       )
     where
-      held : (q : ℕ) → Seen marks order (k + 1) q → Seen after order k q ⊎ (q ≡ step.place)
+      held : (q : ℕ) → Seen marks order (k + 1) q → Seen after order k q ⊎ ((q ≡ step.place) × (makes step ≡ true))
       held q h = elim (Contains-push_cases (take k order) (get_or order k 0) q (subst (λ xs. Contains xs q) (take_more order k 0 below) h.1)) [
         | inl early ↦ inl (rows.keeps q h.0, early)
-        | inr at ↦ inr (sym (at_place ∙ (here ∙ at)))
+        | inr at ↦ inr (sym (at_place ∙ (here ∙ at)), is_made ∙ (ap (λ p. get_or marks p false) (here ∙ at) ∙ h.0))
       ]
 
 marked_low : (marks : List Bool) (q : ℕ) → get_or marks q false ≡ true → q < length marks
@@ -141,14 +143,14 @@ marked_low marks q h = elim (cases_lt q (length marks)) [
   | inr past ↦ absurd (false≢true (sym (get_or_past marks q false past) ∙ h))
 ]
 
-pub served-none : (graph : List (List ℕ)) (order : List ℕ) (is : IsOrder graph order) (marks : List Bool) (n : ℕ) → length marks ≡ length graph
-    → length order ≤ n → Served graph order is (λ q. get_or marks q false ≡ true) marks n []
-served-none graph order is marks n count all = λ q h.
-    (h, subst (λ xs. Contains xs q) (sym (take_all n order all)) (is.all q (omega (arith, marked_low marks q h))))
+module _ (makes : Step → Bool) (ends : Step → List ℕ) (graph : List (List ℕ)) (order : List ℕ) (is : IsOrder graph order) where
+  pub served-none : (marks : List Bool) (n : ℕ) → length marks ≡ length graph → length order ≤ n
+      → Served makes ends graph order is (λ q. get_or marks q false ≡ true) marks n []
+  served-none marks n count all = λ q h.
+      (h, subst (λ xs. Contains xs q) (sym (take_all n order all)) (is.all q (omega (arith, marked_low marks q h))))
 
-pub served-all : (graph : List (List ℕ)) (order : List ℕ) (is : IsOrder graph order) (Wanted : ℕ → Type 0) (marks : List Bool)
-    (k : ℕ) (steps : List Step)
-    → k ≡ 0 → Served graph order is Wanted marks k steps → Builds (Edge graph) (length graph) Wanted (λ q. ⊥) (reverse steps)
-served-all graph order is Wanted marks k steps none served =
-    builds-more (Edge graph) (Edge graph) (length graph) (length graph) Wanted Wanted (Seen marks order k) (λ q. ⊥) (reverse steps) refl
-    (λ i j h. h) (λ q h. h) (λ q h. contains_none q (subst (λ n. Contains (take n order) q) none h.1)) served
+  pub served-all : (Wanted : ℕ → Type 0) (marks : List Bool) (k : ℕ) (steps : List Step) → k ≡ 0 → Served makes ends graph order is Wanted marks k steps
+      → Builds makes ends (Edge graph) (length graph) Wanted (λ q. ⊥) (reverse steps)
+  served-all Wanted marks k steps none served =
+      builds-more makes ends (Edge graph) (Edge graph) (length graph) (length graph) Wanted Wanted (Seen marks order k) (λ q. ⊥) (reverse steps) refl
+      (λ i j h. h) (λ q h. h) (λ q h. contains_none q (subst (λ n. Contains (take n order) q) none h.1)) served

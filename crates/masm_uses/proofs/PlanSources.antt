@@ -1,5 +1,5 @@
 -- A plan of a graph of uses is one of the source.
-use Rattle.std.proofs.Common.{◌≡◌, ℕ, ◌<◌, Bool, true, false, List, [], ◌∷◌, map, length, get_or, slice_get, Option, Some, None, refl, sym, ap, ap₂, subst, ◌∙◌, arith}
+use Rattle.std.proofs.Common.{◌≡◌, ℕ, ◌<◌, Bool, true, false, List, [], ◌∷◌, map, length, get_or, slice_get, Option, Some, None, ◌⊎◌, inl, inr, refl, sym, ap, ap₂, subst, ◌∙◌, arith}
 use Rattle.std.specs.Prelude.{reverse}
 use Rattle.std.proofs.lemmas.List.{length-map}
 use Rattle.std.proofs.lemmas.List.Elements.{Contains-get_or}
@@ -11,26 +11,27 @@ use Rattle.masm_tree.specs.declared.tree.Proc.{Proc}
 use Rattle.masm_tree.specs.Trees.{Procedure, Source}
 use Rattle.masm_tree.specs.Views.{procedure_of, body_of}
 use Rattle.masm_uses.specs.declared.planning.Step.{Step}
-use Rattle.graphs.specs.Graph.{Edge}
-use Rattle.masm_graph.specs.Links.{link_of, links_in, main_links_in, own_place, own_places, own_target, kernel_target, target_of}
-use Rattle.masm_uses.specs.Plans.{Builds, IsWanted, exported, of_main, NeedsIn, IsPlan, IsNoneOrAll, EndsInGraph, EndsInFull, main_uses}
+use Rattle.graphs.specs.Graph.{Edge, IsGraph}
+use Rattle.graphs.specs.Orders.{IsOrder}
+use Rattle.masm_graph.specs.Links.{link_of, links_in, main_links_in, own_place, own_places, place_if, places_with, own_target, kernel_target, target_of}
+use Rattle.masm_uses.specs.Plans.{Builds, IsWanted, exported, of_main, IsReferred, by_main, NeedsIn, keeps_list, ended_lists, makes_digest, no_ends, IsNoneOrAll, EndsInGraph, EndsInFull, main_uses}
 use Rattle.masm_names.specs.Uses.{Use, Owner, Own, Kernel, uses_of, first_place}
 use Rattle.masm_names.specs.UsedPlaces.{place_used, places_used}
 use Rattle.masm_uses.proofs.PlanLemmas.{builds-more}
 use Rattle.graphs.proofs.SortLemmas.{contains_none}
-use Rattle.masm_uses.proofs.UsedLemmas.{contains_at, at_contains, mapped, unmapped, place_within, leads_by, leads_own, used_goes}
-use Rattle.masm_uses.proofs.UseOrderLemmas.{counts}
-use Rattle.masm_graph.proofs.OwnLemmas.{places_own, own_in_places, goes_edge}
+use Rattle.masm_uses.proofs.UsedLemmas.{contains_at, at_contains, mapped, unmapped, place_within, leads_by, leads_own, link_used}
+use Rattle.masm_uses.proofs.UseOrderLemmas.{counts, is-graph}
+use Rattle.masm_graph.proofs.OwnLemmas.{places_own, with_in_own, own_in_with, edge_with, goes_with}
 
 module _ (own kernel : List ℕ → Option ℕ) (procs : List Proc) (places : (name : List ℕ) → own name ≡ first_place (map procedure_of procs) name) where
-  abbrev graph : List (List ℕ)
-  graph = map own_places (map (links_in own kernel) procs)
+  abbrev graph : Bool → List (List ℕ)
+  graph refers = map (places_with refers) (map (links_in own kernel) procs)
 
   -- the uses between begin and end
-  main_within : (main : Option Proc) (q : ℕ) → Contains (own_places (main_links_in own kernel main)) q → q < length procs
-  main_within None q h = absurd (contains_none q h)
-  main_within (Some p) q h =
-      let has = places_own (links_in own kernel p) q h in
+  main_within : (refers : Bool) (main : Option Proc) (q : ℕ) → Contains (places_with refers (main_links_in own kernel main)) q → q < length procs
+  main_within refers None q h = absurd (contains_none q h)
+  main_within refers (Some p) q h =
+      let has = places_own (links_in own kernel p) q (with_in_own refers (links_in own kernel p) q h) in
       let link = has.1 in
       let at_k : slice_get (links_in own kernel p) has.0 ≡ Some link = slice_get-get_or _ has.0 link has.2 ∙ ap Some has.3 in
       let found = unmapped (link_of own kernel) (uses_of (body_of p.body.items)) has.0 link at_k in
@@ -40,49 +41,86 @@ module _ (own kernel : List ℕ → Option ℕ) (procs : List Proc) (places : (n
       let count = length-map procs procedure_of in
       omega arith
 
-  pub row_within : (main : Option Proc) (row : List ℕ) → row ≡ own_places (main_links_in own kernel main) → All (λ q. q < length procs) row
-  row_within main row is k d below = main_within main (get_or row k d) (subst (λ xs. Contains xs (get_or row k d)) is (Contains-get_or row k d below))
+  pub row_within : (refers : Bool) (main : Option Proc) → All (λ q. q < length procs) (places_with refers (main_links_in own kernel main))
+  row_within refers main k d below =
+      let row = places_with refers (main_links_in own kernel main) in
+      main_within refers main (get_or row k d) (Contains-get_or row k d below)
 
-  used_in_main : (main : Option Proc) (p : Procedure) (u : Use) (q : ℕ) → option_map procedure_of main ≡ Some p
-      → Contains (uses_of p.body) u → u.kind ≡ Own
-      → first_place (map procedure_of procs) u.name ≡ Some q → Contains (own_places (main_links_in own kernel main)) q
-  used_in_main None p u q is has own_use leads = cc
-  used_in_main (Some x) p u q is has own_use leads =
-      let same : procedure_of x ≡ p = some_same (procedure_of x) p is in
-      let at_k = at_contains (uses_of (body_of x.body.items)) u (subst (λ r. Contains (uses_of r.body) u) (sym same) has) in
+  used_in_main : (refers : Bool) (main : Option Proc) (p : Procedure) (u : Use) (q : ℕ) → option_map procedure_of main ≡ Some p
+      → Contains (uses_of p.body) u → u.kind ≡ Own → u.refers ≡ refers
+      → first_place (map procedure_of procs) u.name ≡ Some q → Contains (places_with refers (main_links_in own kernel main)) q
+  used_in_main refers None p u q is has own_use same leads = cc
+  used_in_main refers (Some x) p u q is has own_use same leads =
+      let same_main : procedure_of x ≡ p = some_same (procedure_of x) p is in
+      let at_k = at_contains (uses_of (body_of x.body.items)) u (subst (λ r. Contains (uses_of r.body) u) (sym same_main) has) in
       let there = contains_at (links_in own kernel x) at_k.0 (link_of own kernel u) (mapped (link_of own kernel) _ at_k.0 u at_k.1) in
-      own_in_places (links_in own kernel x) q
-      (there.0, link_of own kernel u, there.1, there.2, leads_own own kernel u.kind u.name q own_use (places u.name ∙ leads))
+      own_in_with refers (links_in own kernel x) (link_of own kernel u) q there same
+      (leads_own own kernel u.kind u.name q own_use (places u.name ∙ leads))
     where
       some_same : (a b : Procedure) → Some a ≡ Some b → a ≡ b
       some_same a b e = cc
+
+  -- what a procedure needs is told by its row
+  needs_edge : (refers : Bool) (i j : ℕ) → NeedsIn (map procedure_of procs) refers i j → Edge (graph refers) i j
+  needs_edge refers i j need =
+      let there = link_used own kernel procs places i need.0 j need.1 in
+      goes_with refers (map (links_in own kernel) procs) i j (link_of own kernel need.0) there.0 need.2 there.1
+
+  pub counts_with : (refers : Bool) → length (graph refers) ≡ length procs
+  counts_with refers = length-map (map (links_in own kernel) procs) (places_with refers) ∙ length-map procs (links_in own kernel)
+
+  -- orders of all uses are orders of either kind
+  pub graph_with_is : (refers : Bool) → IsGraph (graph refers)
+  graph_with_is refers a b edge =
+      let below = is-graph own kernel procs places a b (edge_with refers (map (links_in own kernel) procs) a b edge) in
+      let all = counts own kernel procs places in
+      let same = counts_with refers in
+      omega arith
+
+  pub order_with : (refers : Bool) (order : List ℕ) → IsOrder (map own_places (map (links_in own kernel) procs)) order → IsOrder (graph refers) order
+  order_with refers order is = record {
+    within = λ k below. let low = is.within k below in let all = counts own kernel procs places in let same = counts_with refers in omega arith;
+    all = λ place below. is.all place (let all = counts own kernel procs places in let same = counts_with refers in omega arith);
+    behind = λ k b below edge. is.behind k b below (edge_with refers (map (links_in own kernel) procs) _ b edge);
+  }
 
   module _ (consts : List Const) (main : Option Proc) where
     abbrev the_source : Source
     the_source = record { consts = consts; procs = map procedure_of procs; main = option_map procedure_of main }
 
-    wanted : (row : List ℕ) (marks : List Bool) → row ≡ own_places (main_links_in own kernel main)
-        → ((q : ℕ) → get_or (map (λ (p : Proc). p.exported) procs) q false ≡ true → get_or marks q false ≡ true)
-        → ((q : ℕ) → Contains row q → get_or marks q false ≡ true) → (q : ℕ) → IsWanted the_source q → get_or marks q false ≡ true
-    wanted row marks is exports used q (exported p here is_so) =
+    wanted : (q : ℕ) → IsWanted the_source q
+        → (get_or (map (λ (p : Proc). p.exported) procs) q false ≡ true) ⊎ Contains (places_with false (main_links_in own kernel main)) q
+    wanted q (exported p here is_so) =
         let found = unmapped procedure_of procs q p here in
-        exports q (get_or_from_slice_get (map (λ (r : Proc). r.exported) procs) q found.0.exported false
+        inl (get_or_from_slice_get (map (λ (r : Proc). r.exported) procs) q found.0.exported false
         (mapped (λ (r : Proc). r.exported) procs q found.0 found.1)
         ∙ (sym (ap (λ (r : Procedure). r.exported) found.2) ∙ is_so))
-    wanted row marks is exports used q (of_main p u main_is has own_use leads) =
-        used q (subst (λ xs. Contains xs q) (sym is) (used_in_main main p u q main_is has own_use leads))
+    wanted q (of_main p u main_is has own_use runs leads) = inr (used_in_main false main p u q main_is has own_use runs leads)
 
-    pub plan-is : (row : List ℕ) (marks : List Bool) (steps : List Step) → row ≡ own_places (main_links_in own kernel main)
-        → ((q : ℕ) → get_or (map (λ (p : Proc). p.exported) procs) q false ≡ true → get_or marks q false ≡ true)
-        → ((q : ℕ) → Contains row q → get_or marks q false ≡ true)
-        → Builds (Edge graph) (length graph) (λ q. get_or marks q false ≡ true) (λ q. ⊥) (reverse steps) → IsPlan the_source steps
-    plan-is row marks steps is exports used b =
-        builds-more (Edge graph) (NeedsIn (map procedure_of procs)) (length graph) (length (map procedure_of procs))
-        (λ q. get_or marks q false ≡ true)
+    referred : (q : ℕ) → IsReferred the_source q → Contains (places_with true (main_links_in own kernel main)) q
+    referred q (by_main p u main_is has own_use refers leads) = used_in_main true main p u q main_is has own_use refers leads
+
+    pub plan-lists : (steps : List Step)
+        → Builds keeps_list ended_lists (Edge (graph false)) (length (graph false))
+        (λ q. (get_or (map (λ (p : Proc). p.exported) procs) q false ≡ true) ⊎ Contains (places_with false (main_links_in own kernel main)) q)
+        (λ q. ⊥) (reverse steps)
+        → Builds keeps_list ended_lists (NeedsIn the_source.procs false) (length the_source.procs) (IsWanted the_source) (λ q. ⊥) (reverse steps)
+    plan-lists steps b =
+        builds-more keeps_list ended_lists (Edge (graph false)) (NeedsIn (map procedure_of procs) false) (length (graph false))
+        (length (map procedure_of procs))
+        (λ q. (get_or (map (λ (p : Proc). p.exported) procs) q false ≡ true) ⊎ Contains (places_with false (main_links_in own kernel main)) q)
         (IsWanted the_source) (λ q. ⊥) (λ q. ⊥) (reverse steps)
-        (counts own kernel procs places ∙ sym (length-map procs procedure_of))
-        (λ i j h. goes_edge (map (links_in own kernel) procs) i j (used_goes own kernel procs places i h.0 j h.1))
-        (wanted row marks is exports used) (λ q h. h) b
+        (counts_with false ∙ sym (length-map procs procedure_of)) (needs_edge false) wanted (λ q h. h) b
+
+    pub plan-digests : (steps : List Step)
+        → Builds makes_digest no_ends (Edge (graph true)) (length (graph true))
+        (λ q. Contains (places_with true (main_links_in own kernel main)) q) (λ q. ⊥) (reverse steps)
+        → Builds makes_digest no_ends (NeedsIn the_source.procs true) (length the_source.procs) (IsReferred the_source) (λ q. ⊥) (reverse steps)
+    plan-digests steps b =
+        builds-more makes_digest no_ends (Edge (graph true)) (NeedsIn (map procedure_of procs) true) (length (graph true))
+        (length (map procedure_of procs)) (λ q. Contains (places_with true (main_links_in own kernel main)) q)
+        (IsReferred the_source) (λ q. ⊥) (λ q. ⊥) (reverse steps)
+        (counts_with true ∙ sym (length-map procs procedure_of)) (needs_edge true) referred (λ q h. h) b
 
 -- rows of uses by the places to which they lead
 module _ (own kernel : List ℕ → Option ℕ) where
@@ -94,26 +132,30 @@ module _ (own kernel : List ℕ → Option ℕ) where
   kernel_is None = refl
   kernel_is (Some place) = refl
 
-  target_is : (kind : Owner) (name : List ℕ) → own_place (target_of own kernel kind name) ≡ place_used own kind name
-  target_is Own name = own_is (own name)
-  target_is Kernel name = kernel_is (kernel name)
+  -- where a use leads, if its list is used
+  used_is : (kind : Owner) (refers : Bool) (name : List ℕ)
+      → place_if false refers (own_place (target_of own kernel kind name)) ≡ place_used own kind refers name
+  used_is Own false name = own_is (own name)
+  used_is Own true name = refl
+  used_is Kernel false name = kernel_is (kernel name)
+  used_is Kernel true name = refl
 
-  row_used : (us : List Use) → own_places (map (link_of own kernel) us) ≡ places_used own us
+  row_used : (us : List Use) → places_with false (map (link_of own kernel) us) ≡ places_used own us
   row_used [] = refl
-  row_used (u ∷ us) = ap₂ cons_option (target_is u.kind u.name) (row_used us)
+  row_used (u ∷ us) = ap₂ cons_option (used_is u.kind u.refers u.name) (row_used us)
 
-  pub steps_end : (procs : List Proc) (steps : List Step) → All (EndsInGraph (map own_places (map (links_in own kernel) procs))) steps
+  pub steps_end : (procs : List Proc) (steps : List Step) → All (EndsInGraph (map (places_with false) (map (links_in own kernel) procs))) steps
       → All (EndsInFull own (map procedure_of procs)) steps
   steps_end procs steps all k d below p here =
       let step = get_or steps k d in
       let found = unmapped procedure_of procs step.place p here in
-      let row = get_or_from_slice_get (map own_places (map (links_in own kernel) procs)) step.place _ []
-      (mapped own_places (map (links_in own kernel) procs) step.place _ (mapped (links_in own kernel) procs step.place found.0 found.1)) in
+      let row = get_or_from_slice_get (map (places_with false) (map (links_in own kernel) procs)) step.place _ []
+      (mapped (places_with false) (map (links_in own kernel) procs) step.place _ (mapped (links_in own kernel) procs step.place found.0 found.1)) in
       subst (IsNoneOrAll step.ended.items)
       (row ∙ (row_used (uses_of (body_of found.0.body.items)) ∙ ap (λ (q : Procedure). places_used own (uses_of q.body)) (sym found.2)))
       (all k d below)
 
-  pub main_used : (main : Option Proc) (row : List ℕ) → row ≡ own_places (main_links_in own kernel main)
+  pub main_used : (main : Option Proc) (row : List ℕ) → row ≡ places_with false (main_links_in own kernel main)
       → row ≡ main_uses own (option_map procedure_of main)
   main_used None row is = is
   main_used (Some p) row is = is ∙ row_used (uses_of (body_of p.body.items))

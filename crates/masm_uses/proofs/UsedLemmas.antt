@@ -177,16 +177,22 @@ module _ (own kernel : List ℕ → Option ℕ) (procs : List Proc) (places : (n
       let count = length-map procs procedure_of in
       omega arith
 
-  pub used_goes : (i : ℕ) (u : Use) (j : ℕ) → UsedIn (map procedure_of procs) i u j → UsesProcedure (map (links_in own kernel) procs) i j
-  used_goes i u j is =
+  -- the link of a use stands in the row of its procedure
+  pub link_used : (i : ℕ) (u : Use) (j : ℕ) → UsedIn (map procedure_of procs) i u j
+      → Contains (get_or (map (links_in own kernel) procs) i []) (link_of own kernel u) × (target_of own kernel u.kind u.name ≡ targets.Own j)
+  link_used i u j is =
       let by = used_by i u j is in
       let p = by.0 in
       let row_is : get_or (map (links_in own kernel) procs) i [] ≡ links_in own kernel p =
       get_or_from_slice_get _ i (links_in own kernel p) [] (mapped (links_in own kernel) procs i p by.1) in
       let at_k = at_contains (uses_of (body_of p.body.items)) u by.2 in
       let link_at = contains_at (links_in own kernel p) at_k.0 (link_of own kernel u) (mapped (link_of own kernel) _ at_k.0 u at_k.1) in
-      let there = subst (λ r. Contains r (link_of own kernel u)) (sym row_is) link_at in
-      (there.0, link_of own kernel u, there.1, there.2, by.3)
+      (subst (λ r. Contains r (link_of own kernel u)) (sym row_is) link_at, by.3)
+
+  pub used_goes : (i : ℕ) (u : Use) (j : ℕ) → UsedIn (map procedure_of procs) i u j → UsesProcedure (map (links_in own kernel) procs) i j
+  used_goes i u j is =
+      let there = link_used i u j is in
+      (there.0.0, link_of own kernel u, there.0.1, there.0.2, there.1)
 
   module _ (users : List (List ℕ)) (are : AreUsers (map (links_in own kernel) procs) users) where
     reaches_push : (a b c : ℕ) (u : Use) → Reaches (map procedure_of procs) a b → UsedIn (map procedure_of procs) b u c

@@ -6,30 +6,51 @@ use Rattle.masm_uses.specs.declared.planning.Step.{Step}
 use Rattle.masm_names.specs.Uses.{Use, Own, uses_of, first_place, UsedIn}
 use Rattle.masm_names.specs.UsedPlaces.{places_used, times_among}
 
--- what is held behind a step
-abbrev pub HeldBehind : (ℕ → Type 0) → Step → ℕ → Type 0
-HeldBehind Held step place = (Held place ⊎ (place ≡ step.place)) × ¬ (Contains step.ended.items place)
+-- A step makes what is told by its place, or does not, and some of what was made ends with it.
+module _ (makes : Step → Bool) (ends : Step → List ℕ) where
+  -- what is held behind a step
+  abbrev pub HeldBehind : (ℕ → Type 0) → Step → ℕ → Type 0
+  HeldBehind Held step place = (Held place ⊎ ((place ≡ step.place) × (makes step ≡ true))) × ¬ (Contains (ends step) place)
 
--- Where some lists are held, the steps build what is wanted: each list when those that it needs are held, so that at the end all
--- that are wanted are.
-abbrev pub Builds : (Needs : ℕ → ℕ → Type 0) (count : ℕ) (Wanted Held : ℕ → Type 0) → List Step → Type 0
-Builds Needs count Wanted Held [] = (place : ℕ) → Wanted place → Held place
-Builds Needs count Wanted Held (step ∷ steps) =
-    (step.place < count) × ((place : ℕ) → Needs step.place place → Held place) × Builds Needs count Wanted (HeldBehind Held step) steps
+  -- Where some is held, the steps make what is wanted: each step when what it needs is held, so that at the end all that is
+  -- wanted is.
+  abbrev pub Builds : (Needs : ℕ → ℕ → Type 0) (count : ℕ) (Wanted Held : ℕ → Type 0) → List Step → Type 0
+  Builds Needs count Wanted Held [] = (place : ℕ) → Wanted place → Held place
+  Builds Needs count Wanted Held (step ∷ steps) =
+      (step.place < count) × ((place : ℕ) → Needs step.place place → Held place) × Builds Needs count Wanted (HeldBehind Held step) steps
 
--- the list of a procedure is wanted in the end: it is exported, or used between begin and end
+-- the list of a procedure is wanted in the end: it is exported, or there is an exec or a call of it between begin and end
 pub data IsWanted (source : Source) (place : ℕ) : Type 0 where
   exported : (p : Procedure) → slice_get source.procs place ≡ Some p → p.exported ≡ true → IsWanted source place
-  of_main : (p : Procedure) (u : Use) → source.main ≡ Some p → Contains (uses_of p.body) u → u.kind ≡ Own
+  of_main : (p : Procedure) (u : Use) → source.main ≡ Some p → Contains (uses_of p.body) u → u.kind ≡ Own → u.refers ≡ false
       → first_place source.procs u.name ≡ Some place → IsWanted source place
 
--- one procedure uses another
-abbrev pub NeedsIn : List Procedure → ℕ → ℕ → Type 0
-NeedsIn procs i j = (u : Use) × UsedIn procs i u j
+-- the digest of a procedure is wanted in the end: there is a procref of it between begin and end
+pub data IsReferred (source : Source) (place : ℕ) : Type 0 where
+  by_main : (p : Procedure) (u : Use) → source.main ≡ Some p → Contains (uses_of p.body) u → u.kind ≡ Own → u.refers ≡ true
+      → first_place source.procs u.name ≡ Some place → IsReferred source place
+
+-- one procedure uses another, by a procref or by no procref
+abbrev pub NeedsIn : List Procedure → Bool → ℕ → ℕ → Type 0
+NeedsIn procs refers i j = (u : Use) × UsedIn procs i u j × (u.refers ≡ refers)
+
+-- what a step makes and ends: lists that later steps or the end need, and digests, which stay
+abbrev pub keeps_list : Step → Bool
+keeps_list step = step.kept
+
+abbrev pub ended_lists : Step → List ℕ
+ended_lists step = step.ended.items
+
+abbrev pub makes_digest : Step → Bool
+makes_digest step = step.referred
+
+abbrev pub no_ends : Step → List ℕ
+no_ends step = []
 
 -- a plan for a source, whose last step stands first
-abbrev pub IsPlan : Source → List Step → Type 0
-IsPlan source steps = Builds (NeedsIn source.procs) (length source.procs) (IsWanted source) (λ place. ⊥) (reverse steps)
+pub record IsPlan (source : Source) (steps : List Step) : Type 0 where
+  pub lists : Builds keeps_list ended_lists (NeedsIn source.procs false) (length source.procs) (IsWanted source) (λ place. ⊥) (reverse steps)
+  pub digests : Builds makes_digest no_ends (NeedsIn source.procs true) (length source.procs) (IsReferred source) (λ place. ⊥) (reverse steps)
 
 -- the places of a row are marked; these were not
 pub record MarksRow (old : List Bool) (row : List ℕ) (new : List Bool) (fresh : List ℕ) : Type 0 where
@@ -38,12 +59,13 @@ pub record MarksRow (old : List Bool) (row : List ℕ) (new : List Bool) (fresh 
   pub fresh_were : (place : ℕ) → Contains fresh place → slice_index_or old place false ≡ false
   pub count : length new ≡ length old
 
--- A place that has a mark is built behind what is done, where steps stand last first; the places of its row that had no mark
--- then have one, and end with it.
-pub data StepsTo (place : ℕ) (row : List ℕ) (marks : List Bool) (steps : List Step) : List Bool → List Step → Type 0 where
-  passed : slice_index_or marks place false ≡ false → StepsTo place row marks steps marks steps
-  built : (step : Step) (new : List Bool) → slice_index_or marks place false ≡ true → step.place ≡ place
-      → MarksRow marks row new step.ended.items → StepsTo place row marks steps new (steps ++ step ∷ [])
+-- A place that has a mark is made behind what is done, where steps stand last first; the places of its row then have one, and
+-- those that had none end with it. A step may also stand there for a place that has no mark, and then does not make it.
+pub data StepsTo (makes : Step → Bool) (ends : Step → List ℕ) (place : ℕ) (row : List ℕ) (marks : List Bool) (steps : List Step)
+    : List Bool → List Step → Type 0 where
+  passed : slice_index_or marks place false ≡ false → StepsTo makes ends place row marks steps marks steps
+  built : (step : Step) (new : List Bool) → makes step ≡ slice_index_or marks place false → step.place ≡ place
+      → MarksRow marks row new (ends step) → StepsTo makes ends place row marks steps new (steps ++ step ∷ [])
 
 -- a place stands in a list as often as it does in these, or not at all
 abbrev pub IsNoneOrAll : List ℕ → List ℕ → Type 0
@@ -53,12 +75,12 @@ IsNoneOrAll places all = (place : ℕ) → (times_among places place ≡ 0) ⊎ 
 abbrev pub EndsInGraph : List (List ℕ) → Step → Type 0
 EndsInGraph graph step = IsNoneOrAll step.ended.items (slice_index_or graph step.place [])
 
--- what ends with a step stands there once for each use that the procedure makes of it, where names lead to these places
+-- what ends with a step stands there once for each exec or call that the procedure has of it, where names lead to these places
 abbrev pub EndsInFull : (List ℕ → Option ℕ) → List Procedure → Step → Type 0
 EndsInFull own procs step =
     (p : Procedure) → slice_get procs step.place ≡ Some p → IsNoneOrAll step.ended.items (places_used own (uses_of p.body))
 
--- the places of the procedures that are used between begin and end, one for each use
+-- the places of the procedures whose lists are used between begin and end, one for each use
 abbrev pub main_uses : (List ℕ → Option ℕ) → Option Procedure → List ℕ
 main_uses own None = []
 main_uses own (Some p) = places_used own (uses_of p.body)

@@ -1,17 +1,20 @@
-ghost use Rattle.std.specs.Prelude.{◌≡◌, ℕ, List, IfOk};
-ghost use Rattle.std.specs.List.{All};
+ghost use Rattle.std.specs.Prelude.{◌≡◌, ℕ, ◌<◌, Bool, true, false, List, length, map, reverse, slice_index_or, ◌⊎◌, IfOk};
+ghost use Rattle.std.specs.List.{All, Contains};
+ghost use Rattle.graphs.specs.Graph.{rows_of, Edge, IsGraph};
+ghost use Rattle.graphs.specs.Orders.{IsOrder};
+ghost use Rattle.masm_graph.specs.Links.{places_with};
 ghost use Rattle.masm_tree.specs.Views.{source_of};
 ghost use Rattle.masm_names.specs.Names.{place_at};
 ghost use Rattle.masm_names.specs.Naming.{IsClosed};
-ghost use Rattle.masm_uses.specs.Plans.{EndsInFull, IsPlan, main_uses};
+ghost use Rattle.masm_uses.specs.Plans.{Builds, EndsInFull, EndsInGraph, IsPlan, ended_lists, keeps_list, main_uses, makes_digest, no_ends};
 ghost use Rattle.masm_uses.specs.UseOrders.{IsUseOrder};
 ghost use Rattle.masm_names.specs.Uses.{first_place};
 
-use crate::planning::{Step, steps_of, wanted_marks};
+use crate::planning::{Step, needed_at_end, steps_of};
 use graphs::order;
-use masm_graph::{all_links, main_links, own_graph, own_places};
+use masm_graph::{Link, all_links, graph_with, main_links, own_graph, places_with};
 use masm_names::Names;
-use masm_tree::Ast;
+use masm_tree::{Ast, Proc};
 use std::alloc::Global;
 use vm_field::{Bytes, Memory};
 
@@ -21,10 +24,51 @@ pub struct Plan {
     /// The places of the procedures, each behind those that the procedure uses.
     pub order: Vec<usize>,
     /// The steps that build the lists of the procedures that are exported or used between `begin`
-    /// and `end`, and of those that these reach. The last step stands first.
+    /// and `end`, and of those that these reach, and that make the digests of those that procrefs of
+    /// these name. The last step stands first.
     pub steps: Vec<Step>,
-    /// The places of the procedures that are used between `begin` and `end`, one for each use.
+    /// The places of the procedures whose lists are used between `begin` and `end`, one for each
+    /// use.
     pub main: Vec<usize>,
+}
+
+// The plan of an order of procedures, where each procedure has a row of its uses, and these are those
+// between `begin` and `end`.
+fn planned(
+    alloc: Global,
+    procs: &[Proc],
+    rows: &[Vec<Link>],
+    main: &[Link],
+    order: Vec<usize>,
+) -> Result<Plan, Memory>
+    requires count { length rows.now ≡ length procs.now }
+    requires graph { (refers : Bool) → IsGraph (map (places_with refers) (rows_of rows.now)) }
+    requires order { (refers : Bool) → IsOrder (map (places_with refers) (rows_of rows.now)) order.items }
+    requires main { (refers : Bool) → All (λ place. place < length procs.now) (places_with refers main.now) }
+    ensures order { IfOk result (λ plan. plan.order ≡ order) }
+    ensures lists { IfOk result (λ plan. Builds keeps_list ended_lists (Edge (map (places_with false) (rows_of rows.now)))
+        (length (map (places_with false) (rows_of rows.now)))
+        (λ place. (slice_index_or (map (λ p. p.exported) procs.now) place false ≡ true) ⊎ Contains (places_with false main.now) place)
+        (λ place. ⊥) (reverse plan.steps.items)) }
+    ensures digests { IfOk result (λ plan. Builds makes_digest no_ends (Edge (map (places_with true) (rows_of rows.now)))
+        (length (map (places_with true) (rows_of rows.now))) (λ place. Contains (places_with true main.now) place)
+        (λ place. ⊥) (reverse plan.steps.items)) }
+    ensures ended { IfOk result (λ plan. All (EndsInGraph (map (places_with false) (rows_of rows.now))) plan.steps.items) }
+    ensures main { IfOk result (λ plan. plan.main.items ≡ places_with false main.now) }
+{
+    let used = places_with(alloc, false, main)?;
+    let referred = places_with(alloc, true, main)?;
+    let needed = needed_at_end(alloc, procs, used.as_slice(), referred.as_slice())?;
+    let lists = graph_with(alloc, false, rows)?;
+    let lists = lists.as_slice();
+    let digests = graph_with(alloc, true, rows)?;
+    let digests = digests.as_slice();
+    let steps = steps_of(alloc, lists, digests, order.as_slice(), needed)?;
+    Ok(Plan {
+        order,
+        steps,
+        main: used,
+    })
 }
 
 /// An order of a source's procedures and the steps that build their lists, where the kernel exports
@@ -40,16 +84,12 @@ pub fn use_plan(alloc: Global, ast: &Ast, names: &Names, kernel: &[Bytes]) -> Re
     let exports = Names::of(alloc, kernel)?;
     let procs = ast.procs.as_slice();
     let rows = all_links(alloc, names, &exports, procs)?;
+    let rows = rows.as_slice();
     let main = main_links(alloc, names, &exports, &ast.main)?;
-    let row = own_places(alloc, main.as_slice())?;
-    let wanted = wanted_marks(alloc, procs, row.as_slice())?;
-    let graph = own_graph(alloc, rows.as_slice())?;
+    let main = main.as_slice();
+    let graph = own_graph(alloc, rows)?;
     let graph = graph.as_slice();
     let order = order(alloc, graph)?;
-    let steps = steps_of(alloc, graph, order.as_slice(), wanted)?;
-    Ok(Plan {
-        order,
-        steps,
-        main: row,
-    })
+    let plan = planned(alloc, procs, rows, main, order)?;
+    Ok(plan)
 }

@@ -6,15 +6,17 @@ use Rattle.masm_tree.proofs.Mirror.{body_of_nil}
 use Rattle.block_tree.specs.Trees as trees
 use Rattle.block_tree.specs.TreeView.{tree_of}
 use Rattle.masm_flat.specs.Blocks.{as_tree, whole, Operation, Whole}
-use Rattle.masm_flat.specs.Lists.{times}
+use Rattle.masm_flat.specs.Lists.{times, digest_items}
+use Rattle.masm_flat.specs.KnownLists.{digest_at}
+use Rattle.masm_names.specs.Names.{place_at}
 use Rattle.masm_flat.specs.Flattening.{flat_with}
 use Rattle.masm_tree.specs.Locals.{HasLocals}
 use Rattle.masm_flat.specs.Taking.{Serves}
-use Rattle.masm_names.specs.Uses.{Own, Kernel, use_at, uses_of}
+use Rattle.masm_names.specs.Uses.{Own, Kernel, use_at, ref_at, uses_of}
 use Rattle.masm_expand.specs.Expansion.{expansion}
 use Rattle.masm_flat.specs.Views.{pieces_of}
-use Rattle.masm_flat.proofs.Statements.{body_of_more, flat-first, uses-first, flat-Instr, flat-Exec, flat-Call, flat-Syscall, flat-If, flat-While, flat-Repeat, uses-Instr, uses-Exec, uses-Call, uses-Syscall, uses-If, uses-While, uses-Repeat, locals-first, go_on, locals-Instr, locals-If, locals-While, locals-Repeat, weight, weight-first, weight-If, weight-While, weight-Repeat}
-use Rattle.masm_flat.proofs.Served.{keeps_then, on_ok, comes_same, comes_as, comes_then, comes_statement, comes_body, comes_exported}
+use Rattle.masm_flat.proofs.Statements.{body_of_more, flat-first, uses-first, flat-Instr, flat-Exec, flat-Call, flat-Syscall, flat-ProcRef, flat-If, flat-While, flat-Repeat, uses-Instr, uses-Exec, uses-Call, uses-Syscall, uses-ProcRef, uses-If, uses-While, uses-Repeat, locals-first, go_on, locals-Instr, locals-If, locals-While, locals-Repeat, weight, weight-first, weight-If, weight-While, weight-Repeat}
+use Rattle.masm_flat.proofs.Served.{keeps_then, on_ok, comes_same, comes_as, comes_then, comes_statement, comes_body, comes_exported, comes_referred}
 use Rattle.masm_flat.proofs.flattening.+flattening.Goals as goal
 
 pub add_statement-add_instr-requires : goal.add_statement-add_instr-requires
@@ -106,6 +108,21 @@ add_statement-returns-in_ok-kernel_called-in-Syscall t c =
     (λ known. ap (λ s. flat_with as_tree known locals (stmt_view s Empty)) c.in-Syscall.is ∙ flat-Syscall as_tree known locals at name)
     is (comes_exported c.args.scope.now at name c.args.table.now trees.Syscall tree c.in_ok-kernel_called-in-Syscall.ensures))
     c.add_tree-in-Syscall.ensures
+
+pub add_statement-returns-in-ProcRef : goal.add_statement-returns-in-ProcRef
+add_statement-returns-in-ProcRef t c =
+    let locals = c.args.locals in
+    let scope = c.args.scope.now in
+    let at = c.in-ProcRef.field-0 in
+    let name = c.in-ProcRef.name in
+    let table = c.args.table.now in
+    on_ok c.add_reference.result _ _ (λ is.
+    comes_statement scope locals c.args.stmt.now (ref_at at name ∷ []) (λ known. known.digest name)
+    (λ digest. map Operation (digest_items digest)) table table (pieces_of c.args.out.now.items) (pieces_of c.add_reference.new.out.items)
+    (digest_at scope.digests.now (place_at scope.names.now name))
+    (ap (λ s. uses_of (stmt_view s Empty)) c.in-ProcRef.is ∙ uses-ProcRef at name)
+    (λ known. ap (λ s. flat_with as_tree known locals (stmt_view s Empty)) c.in-ProcRef.is ∙ flat-ProcRef as_tree known locals at name)
+    is (comes_referred scope at name table)) c.add_reference.ensures
 
 pub add_statement-returns-in_ok-split-in-If : goal.add_statement-returns-in_ok-split-in-If
 add_statement-returns-in_ok-split-in-If t c =

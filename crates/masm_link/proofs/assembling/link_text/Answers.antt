@@ -1,6 +1,6 @@
 use Rattle.std.proofs.Common.{◌≡◌, ℕ, Bool, List, Err, inl, inr, refl, sym, subst}
 use Rattle.answers.specs.Gives.{Gives}
-use Rattle.masm_flat.specs.declared.kernel.KernelProc.{KernelProc}
+use Rattle.masm_flat.specs.declared.outside.KernelProc.{KernelProc}
 use Rattle.masm_tree.specs.Views.{source_of}
 use Rattle.masm_link.specs.declared.linking.Stop.TheVariants as stops
 use Rattle.masm_link.specs.declared.refusal.AsmError.{AsmError}

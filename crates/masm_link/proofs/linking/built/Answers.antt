@@ -22,7 +22,7 @@ pub returns-clause-linked : goal.returns-clause-linked
 returns-clause-linked c = λ exports are.
     let ast = c.args.ast.now in
     let m = c.args.measured.now in
-    let kernel = c.args.kernel.now.procs.now in
+    let kernel = c.args.outside.now.exports.now in
     let lists = c.in_ok-table.table.lists.items in
     let out = c.in_ok-exports.exports.items in
     let known : AreLists (source_of ast) exports lists = c.in_ok-table.ensures.lists exports are in
@@ -37,6 +37,6 @@ pub returns-clause-main : goal.returns-clause-main
 returns-clause-main c =
     some_same tree_of
     (λ p. whole as_tree (with_locals p.locals
-    (flat_with as_tree (lists_known c.args.measured.now.names c.in_ok-table.table.lists.items c.args.kernel.now.procs.now)
+    (flat_with as_tree (lists_known c.args.measured.now.names c.in_ok-table.table.lists.items c.args.outside.now.exports.now)
     p.locals (body_of p.body.items))))
     c.in_ok-main.main c.args.ast.now.main c.in_ok-main.ensures

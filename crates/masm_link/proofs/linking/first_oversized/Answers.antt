@@ -14,7 +14,7 @@ pub returns : goal.returns
 returns c = λ exports are.
     let ast = c.args.ast.now in
     let m = c.args.measured.now in
-    let kernel = c.args.kernel.now.procs.now in
+    let kernel = c.args.outside.now.exports.now in
     let procs =
     subst (λ ss. FindsLeast (Among (λ place p. ExceedsLimit (position_of (procedure_of p)) (extent_of (size_at ss
     (Some place)))) ast.procs.items) c.first_too_large-procs.result) c.deref-2.ensures.value

@@ -11,7 +11,7 @@ use Rattle.masm_link.proofs.linking.measure.Goals as goal
 pub returns-in-Some : goal.returns-in-Some
 returns-in-Some c = λ exports are.
     let source = source_of c.args.ast.now in
-    let names = c.deref.ensures.value ∙ c.in_ok-exported.ensures ∙ names_same exports c.args.kernel.now.procs.now are in
+    let names = c.deref.ensures.value ∙ c.in_ok-exported.ensures ∙ names_same exports c.args.outside.now.exports.now are in
     let dangling =
     subst (FindsLeast (Dangles source (names_of exports))) c.in-Some.is (subst (λ ns. FindsLeast
     (Dangles source ns) c.in_ok-refusal.field-0) names c.in_ok-refusal.ensures) in
@@ -20,7 +20,7 @@ returns-in-Some c = λ exports are.
 pub returns-in-Some-earlier : goal.returns-in-Some-earlier
 returns-in-Some-earlier c = λ exports are.
     let source = source_of c.args.ast.now in
-    let closed = closed_names source exports c.args.kernel.now.procs.now are c.in_ok-measured.ensures.closed in
+    let closed = closed_names source exports c.args.outside.now.exports.now are c.in_ok-measured.ensures.closed in
     subst (FindsLeast (RefusesAt source exports)) (sym c.earlier.ensures ∙ c.in-Some-earlier.is)
     (refused_size source exports closed c.in_ok-double.double c.in_ok-oversized.oversized c.in_ok-double.ensures
     (c.in_ok-oversized.ensures exports are))
@@ -30,7 +30,7 @@ returns c = (
   c.in_ok-measured.ensures,
   λ exports are.
       let source = source_of c.args.ast.now in
-      let closed = closed_names source exports c.args.kernel.now.procs.now are c.in_ok-measured.ensures.closed in
+      let closed = closed_names source exports c.args.outside.now.exports.now are c.in_ok-measured.ensures.closed in
       subst (FindsLeast (RefusesAt source exports)) (sym c.earlier.ensures ∙ c.in-None.is)
       (refused_size source exports closed c.in_ok-double.double c.in_ok-oversized.oversized c.in_ok-double.ensures
       (c.in_ok-oversized.ensures exports are)),

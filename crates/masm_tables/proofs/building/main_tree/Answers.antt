@@ -4,7 +4,7 @@ use Rattle.block_tree.specs.Trees.{Tree}
 use Rattle.masm_tree.specs.declared.tree.Proc.{Proc}
 use Rattle.masm_tree.specs.Views.{body_of, procedure_of}
 use Rattle.masm_names.specs.declared.names.Names.{Names}
-use Rattle.masm_flat.specs.declared.kernel.KernelProc.{KernelProc}
+use Rattle.masm_flat.specs.declared.outside.KernelProc.{KernelProc}
 use Rattle.masm_flat.specs.Blocks.{Piece, as_tree, whole}
 use Rattle.masm_flat.specs.declared.known.Scope.{Scope}
 use Rattle.masm_flat.specs.Flattening.{Known, flat_with}
@@ -39,9 +39,9 @@ returns c =
     let uses = uses_of (body_of p.body.items) in
     let all = c.requires.uses ∙ ap (λ main. main_uses (place_at c.args.names.now) (option_map procedure_of main)) c.in-Some.is in
     let counted = counted_in c.args.table mid c.args.uses.now c.args.uses.now c.expect.ensures.count refl c.expect.ensures.left in
-    let known : Known Tree = lists_known c.args.names.now mid.lists.items c.args.kernel.now.procs.now in
+    let known : Known Tree = lists_known c.args.names.now mid.lists.items c.args.outside.now.exports.now in
     let ends : IsNoneOrAll c.args.uses.now (places_used (place_at c.args.names.now) uses) =
     subst (IsNoneOrAll c.args.uses.now) all (all_of c.args.uses.now) in
     let gives = c.in_ok-list.ensures.gives known [] (serves_start mid c.args.uses.now counted scope uses ends) in
-    tree_is c.args.main.now _ c.args.names.now c.args.kernel.now.procs.now mid.lists.items c.args.table.lists.items _ _ c.in-Some.is
+    tree_is c.args.main.now _ c.args.names.now c.args.outside.now.exports.now mid.lists.items c.args.table.lists.items _ _ c.in-Some.is
     (ap (λ v. v.items) c.expect.ensures.lists) gives.0 c.in_ok-tree_of_list.ensures

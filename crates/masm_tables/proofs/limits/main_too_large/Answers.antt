@@ -13,6 +13,6 @@ returns c =
     let extent = c.extent_of.ensures ∙ ap extent_of (c.part.ensures ∙ c.in_ok-size.ensures) in
     subst (λ o. MatchOption o (c.too_large.result ≡ None)
     (λ p. FindsLeast (ExceedsLimit (position_of (procedure_of p))
-    (extent_of (procedure_size (sizes_known c.args.names.now c.args.sizes.now c.args.kernel.now.procs.now)
+    (extent_of (procedure_size (sizes_known c.args.names.now c.args.sizes.now c.args.outside.now.exports.now)
     p.locals (body_of p.body.items)))) c.too_large.result))
     (sym c.in-Some.is) (over_same _ _ _ _ c.too_large.result c.at.ensures extent c.too_large.ensures)

@@ -22,7 +22,7 @@ returns-clause-list c =
     let new = c.list_of_procedure.new.table in
     let counted = counted_in c.args.table.now mid c.deref.result.now c.args.step.now.ended.items c.expect.ensures.count c.deref.ensures.value
     c.expect.ensures.left in
-    let known : Known Tree = lists_known scope.names.now mid.lists.items scope.kernel.now.procs.now in
+    let known : Known Tree = lists_known scope.names.now mid.lists.items scope.outside.now.exports.now in
     let serves = serves_start mid c.args.step.now.ended.items counted scope (uses_of (body_of p.body.items)) c.requires.ended in
     let gives = c.in_ok-list.ensures.gives known [] serves in
     let count = ap (λ v. length v.items) c.expect.ensures.lists in
@@ -30,7 +30,7 @@ returns-clause-list c =
       c.kept.result,
       got_same new.lists.items c.args.step.now.place c.kept.result within,
       ap pieces_of c.kept.ensures ∙ (gives.0 ∙ ap (λ lists. with_locals p.locals (flat_with as_tree (lists_known scope.names.now lists.items
-          scope.kernel.now.procs.now) p.locals (body_of p.body.items))) c.expect.ensures.lists),
+          scope.outside.now.exports.now) p.locals (body_of p.body.items))) c.expect.ensures.lists),
     )
 
 pub returns-clause-others : goal.returns-clause-others
@@ -50,6 +50,6 @@ returns-clause-none c = λ q.
     let mid = c.expect.new.self in
     let counted = counted_in c.args.table.now mid c.deref.result.now c.args.step.now.ended.items c.expect.ensures.count c.deref.ensures.value
     c.expect.ensures.left in
-    let known : Known Tree = lists_known scope.names.now mid.lists.items scope.kernel.now.procs.now in
+    let known : Known Tree = lists_known scope.names.now mid.lists.items scope.outside.now.exports.now in
     let serves = serves_start mid c.args.step.now.ended.items counted scope (uses_of (body_of p.body.items)) c.requires.ended in
     none_end scope known c.list_of_procedure.new.table (c.in_ok-list.ensures.gives known [] serves).1 q

@@ -79,7 +79,7 @@ loop-k-preserved c =
       builds = λ exports are.
           let builds = before.builds exports are in
           builds-next source steps k n step below c.index-steps-k.is next exports old new builds (λ q held.
-          list_step source exports c.args.kernel.now.procs.now are c.args.names.now c.requires.names (names_in c.args.kernel.now.procs.now)
+          list_step source exports c.args.outside.now.exports.now are c.args.names.now c.requires.names (names_in c.args.outside.now.exports.now)
           c.requires.closed step.place (procedure_of c.index.result.now) here old new added.list.0 added.list.1
           (needs-next source steps k n step below c.index-steps-k.is next exports old builds) added.list.2 q held.0
           (λ apart. added.others q apart held.1));

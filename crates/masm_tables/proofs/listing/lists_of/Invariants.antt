@@ -14,7 +14,7 @@ invariant-loop-k l = record {
   none : HasNoneLeft l.table;
   places : Builds (λ i j. ⊥) (length (source_of l.ast).procs) (λ q. ⊥) (λ q. Unit {0}) (reverse (take l.k l.steps));
   builds :
-      (exports : List Exported) → AreExports exports l.scope.kernel.now.procs.now
+      (exports : List Exported) → AreExports exports l.scope.outside.now.exports.now
       → Builds (NeedsIn (source_of l.ast).procs) (length (source_of l.ast).procs) (IsWanted (source_of l.ast))
       (IsListAt (source_of l.ast).procs exports l.table.lists.items) (reverse (take l.k l.steps));
 }

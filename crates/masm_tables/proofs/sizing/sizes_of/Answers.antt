@@ -29,8 +29,8 @@ loop-place-preserved c =
     let old = c.loop-place.sizes.items in
     let count = c.loop-place.invariant.0 in (
       ap length added.1 ∙ length-set old place added.0 ∙ count,
-      λ exports are. sizes_more (source_of ast) exports c.args.kernel.now.procs.now are c.args.names.now c.requires.names
-          (names_in c.args.kernel.now.procs.now)
+      λ exports are. sizes_more (source_of ast) exports c.args.outside.now.exports.now are c.args.names.now c.requires.names
+          (names_in c.args.outside.now.exports.now)
           c.requires.closed
           order c.requires.order k (procedure_of c.index.result.now) old _ added.0 below here (c.loop-place.invariant.1 exports are) added.1
           (omega arith) added.2,

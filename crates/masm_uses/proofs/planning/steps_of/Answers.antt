@@ -1,51 +1,85 @@
-use Rattle.std.proofs.Common.{◌≡◌, ◌+◌, ◌-◌, ◌<◌, ℕ, true, false, Vec, Global, [], length, get_or, refl, sym, subst, ◌∙◌, arith}
+use Rattle.std.proofs.Common.{◌≡◌, ◌+◌, ◌-◌, ◌<◌, ℕ, Bool, true, false, List, Vec, Global, [], length, get_or, refl, sym, subst, ◌∙◌, arith}
 use Rattle.std.specs.Prelude.{reverse}
 use Rattle.std.proofs.lemmas.List.{length-map}
 use Rattle.graphs.specs.Graph.{rows_of, Edge}
+use Rattle.graphs.specs.Orders.{IsOrder}
 use Rattle.std.proofs.lemmas.List.Elements.{All-nil}
 use Rattle.std.specs.List.{All}
-use Rattle.masm_uses.specs.Plans.{Builds, EndsInGraph}
+use Rattle.masm_uses.specs.declared.planning.Step.{Step}
+use Rattle.masm_uses.specs.Plans.{Builds, EndsInGraph, StepsTo, keeps_list, ended_lists, makes_digest, no_ends}
 use Rattle.masm_uses.proofs.PlanLemmas.{Seen, served-step, served-none, served-all}
 use Rattle.graphs.proofs.WalkLemmas.{within_marks}
 use Rattle.masm_uses.proofs.planning.steps_of.Goals as goal
 
-pub loop-k-init : goal.loop-k-init
-loop-k-init c =
-    let graph = rows_of c.args.graph.now in
-    let order = c.args.order.now in
-    let marks = c.args.wanted.items in
-    let count : length marks ≡ length graph = c.requires.count ∙ sym (length-map c.args.graph.now (λ (v : Vec ℕ Global). v.items)) in record {
-      builds = subst (λ steps. Builds (Edge graph) (length graph) (λ q. get_or marks q false ≡ true) (Seen marks order (length order)) (reverse steps))
-          (sym c.new-steps.ensures.items) (served-none graph order c.requires.order marks (length order) count (omega arith));
-      count = c.requires.count;
-      ended = subst (All (EndsInGraph graph)) (sym c.new-steps.ensures.items) (All-nil (EndsInGraph graph));
-    }
+-- before the first step
+module _ (makes : Step → Bool) (ends : Step → List ℕ) (graph : List (Vec ℕ Global)) (order : List ℕ) (is : IsOrder (rows_of graph) order)
+    (marks : List Bool) (count : length marks ≡ length graph) where
+  begun : (steps : List Step) → steps ≡ []
+      → Builds makes ends (Edge (rows_of graph)) (length (rows_of graph)) (λ q. get_or marks q false ≡ true) (Seen marks order (length order)) (reverse steps)
+  begun steps none =
+      subst (λ steps. Builds makes ends (Edge (rows_of graph)) (length (rows_of graph)) (λ q. get_or marks q false ≡ true)
+      (Seen marks order (length order)) (reverse steps)) (sym none)
+      (served-none makes ends (rows_of graph) order is marks (length order) (count ∙ sym (length-map graph (λ (v : Vec ℕ Global). v.items))) (omega arith))
 
-pub add_step-requires : goal.add_step-requires
-add_step-requires c = λ k d below.
-    within_marks (rows_of c.args.graph.now) c.row_at.result.now (get_or c.args.order.now (c.loop-k.k - 1) 0) k d _ c.requires.graph c.row_at.ensures
-    (c.loop-k.invariant.count ∙ sym (length-map c.args.graph.now (λ (v : Vec ℕ Global). v.items))) below
+  -- and behind each
+  stepped : (k n : ℕ) (row : List ℕ) (old new : List Bool) (steps more : List Step) → n ≡ k + 1 → k < length order
+      → row ≡ get_or (rows_of graph) (get_or order k 0) []
+      → Builds makes ends (Edge (rows_of graph)) (length (rows_of graph)) (λ q. get_or marks q false ≡ true) (Seen old order n) (reverse steps)
+      → StepsTo makes ends (get_or order k 0) row old steps new more
+      → Builds makes ends (Edge (rows_of graph)) (length (rows_of graph)) (λ q. get_or marks q false ≡ true) (Seen new order k) (reverse more)
+  stepped k n row old new steps more same below row_is before step =
+      served-step makes ends (rows_of graph) order is (λ q. get_or marks q false ≡ true) k (get_or order k 0) row old new steps more below refl row_is
+      (subst (λ m. Builds makes ends (Edge (rows_of graph)) (length (rows_of graph)) (λ q. get_or marks q false ≡ true) (Seen old order m)
+      (reverse steps)) same before) step
+
+pub loop-k-init : goal.loop-k-init
+loop-k-init c = record {
+  lists = begun keeps_list ended_lists c.args.lists.now c.args.order.now c.requires.lists_order c.args.needed.lists.items c.requires.lists_count
+      _ c.new-steps.ensures.items;
+  digests = begun makes_digest no_ends c.args.digests.now c.args.order.now c.requires.digests_order c.args.needed.digests.items
+      c.requires.digests_count _ c.new-steps.ensures.items;
+  lists_count = c.requires.lists_count;
+  digests_count = c.requires.digests_count;
+  ended = subst (All (EndsInGraph (rows_of c.args.lists.now))) (sym c.new-steps.ensures.items) (All-nil (EndsInGraph (rows_of c.args.lists.now)));
+}
+
+pub add_step-requires-clause-lists : goal.add_step-requires-clause-lists
+add_step-requires-clause-lists c = λ k d below.
+    within_marks (rows_of c.args.lists.now) c.row_at-list_row.result.now (get_or c.args.order.now (c.loop-k.k - 1) 0) k d _ c.requires.lists
+    c.row_at-list_row.ensures (c.loop-k.invariant.lists_count ∙ sym (length-map c.args.lists.now (λ (v : Vec ℕ Global). v.items))) below
+
+pub add_step-requires-clause-digests : goal.add_step-requires-clause-digests
+add_step-requires-clause-digests c = λ k d below.
+    within_marks (rows_of c.args.digests.now) c.row_at-digest_row.result.now (get_or c.args.order.now (c.loop-k.k - 1) 0) k d _ c.requires.digests
+    c.row_at-digest_row.ensures (c.loop-k.invariant.digests_count ∙ sym (length-map c.args.digests.now (λ (v : Vec ℕ Global). v.items))) below
 
 pub loop-k-preserved : goal.loop-k-preserved
 loop-k-preserved c =
-    let graph = rows_of c.args.graph.now in
     let order = c.args.order.now in
-    let wanted = c.args.wanted.items in
     let k = c.loop-k.k - 1 in
     let old = c.loop-k in
+    let new = c.add_step.new in
     let same : c.loop-k.k ≡ k + 1 = omega arith in
     let below : k < length order = omega arith in record {
-      builds = served-step graph order c.requires.order (λ q. get_or wanted q false ≡ true) k (get_or order k 0) c.row_at.result.now old.marks.items
-          c.add_step.new.marks.items old.steps.items c.add_step.new.steps.items below refl c.row_at.ensures
-          (subst (λ n. Builds (Edge graph) (length graph) (λ q. get_or wanted q false ≡ true) (Seen old.marks.items order n)
-          (reverse old.steps.items)) same
-          old.invariant.builds) c.in_ok-add_step.ensures.steps;
-      count = c.in_ok-add_step.ensures.count ∙ old.invariant.count;
-      ended = c.in_ok-add_step.ensures.ended graph (sym c.row_at.ensures) old.invariant.ended;
+      lists = stepped keeps_list ended_lists c.args.lists.now order c.requires.lists_order c.args.needed.lists.items c.requires.lists_count k old.k
+          c.row_at-list_row.result.now old.needs.lists.items new.needed.lists.items old.steps.items new.steps.items same below
+          c.row_at-list_row.ensures old.invariant.lists c.in_ok-add_step.ensures.lists;
+      digests = stepped makes_digest no_ends c.args.digests.now order c.requires.digests_order c.args.needed.digests.items c.requires.digests_count
+          k old.k c.row_at-digest_row.result.now old.needs.digests.items new.needed.digests.items old.steps.items new.steps.items same below
+          c.row_at-digest_row.ensures old.invariant.digests c.in_ok-add_step.ensures.digests;
+      lists_count = c.in_ok-add_step.ensures.lists_count ∙ old.invariant.lists_count;
+      digests_count = c.in_ok-add_step.ensures.digests_count ∙ old.invariant.digests_count;
+      ended = c.in_ok-add_step.ensures.ended (rows_of c.args.lists.now) (sym c.row_at-list_row.ensures) old.invariant.ended;
     }
 
-pub returns-clause-builds : goal.returns-clause-builds
-returns-clause-builds c =
-    served-all (rows_of c.args.graph.now) c.args.order.now c.requires.order (λ q. get_or c.args.wanted.items q false ≡ true)
-    c.loop-k.marks.items c.loop-k.k
-    c.loop-k.steps.items (omega arith) c.loop-k.invariant.builds
+pub returns-clause-lists : goal.returns-clause-lists
+returns-clause-lists c =
+    served-all keeps_list ended_lists (rows_of c.args.lists.now) c.args.order.now c.requires.lists_order
+    (λ q. get_or c.args.needed.lists.items q false ≡ true) c.loop-k.needs.lists.items c.loop-k.k c.loop-k.steps.items (omega arith)
+    c.loop-k.invariant.lists
+
+pub returns-clause-digests : goal.returns-clause-digests
+returns-clause-digests c =
+    served-all makes_digest no_ends (rows_of c.args.digests.now) c.args.order.now c.requires.digests_order
+    (λ q. get_or c.args.needed.digests.items q false ≡ true) c.loop-k.needs.digests.items c.loop-k.k c.loop-k.steps.items (omega arith)
+    c.loop-k.invariant.digests

@@ -2,15 +2,19 @@ use Rattle.std.proofs.Common.{◌≡◌, length, true, false, get_or}
 use Rattle.std.specs.Prelude.{reverse}
 use Rattle.graphs.specs.Graph.{rows_of, Edge}
 use Rattle.std.specs.List.{All}
-use Rattle.masm_uses.specs.Plans.{Builds, EndsInGraph}
+use Rattle.masm_uses.specs.Plans.{Builds, EndsInGraph, keeps_list, ended_lists, makes_digest, no_ends}
 use Rattle.masm_uses.proofs.PlanLemmas.{Seen}
 use Rattle.masm_uses.proofs.planning.steps_of.Given as goal
 
 abbrev pub invariant-loop-k : goal.invariant-loop-k
 invariant-loop-k l = record {
-  builds :
-      Builds (Edge (rows_of l.graph)) (length (rows_of l.graph)) (λ place. get_or l.fn.wanted.items place false ≡ true) (Seen l.marks.items l.order l.k)
-      (reverse l.steps.items);
-  count : length l.marks.items ≡ length l.graph;
-  ended : All (EndsInGraph (rows_of l.graph)) l.steps.items;
+  lists :
+      Builds keeps_list ended_lists (Edge (rows_of l.lists)) (length (rows_of l.lists)) (λ place. get_or l.fn.needed.lists.items place false ≡ true)
+      (Seen l.needs.lists.items l.order l.k) (reverse l.steps.items);
+  digests :
+      Builds makes_digest no_ends (Edge (rows_of l.digests)) (length (rows_of l.digests)) (λ place. get_or l.fn.needed.digests.items place false ≡ true)
+      (Seen l.needs.digests.items l.order l.k) (reverse l.steps.items);
+  lists_count : length l.needs.lists.items ≡ length l.lists;
+  digests_count : length l.needs.digests.items ≡ length l.digests;
+  ended : All (EndsInGraph (rows_of l.lists)) l.steps.items;
 }

@@ -28,30 +28,30 @@ impl Named for KernelProc {
     }
 }
 
-/// The procedures that a kernel exports, found by their names.
+/// What lies outside a source: the procedures that its kernel exports, found by their names.
 #[derive(Drop)]
-pub struct Kernel<'a> {
-    /// What it exports, in order.
-    pub procs: &'a [KernelProc],
+pub struct Outside<'a> {
+    /// What the kernel exports, in order.
+    pub exports: &'a [KernelProc],
     // The places of their names.
     names: Names,
-    ghost indexed: { (name : List ℕ) → place_at names name ≡ place_in (map (λ p. p.name) procs.now) name },
+    ghost indexed: { (name : List ℕ) → place_at names name ≡ place_in (map (λ p. p.name) exports.now) name },
 }
 
-impl<'a> Kernel<'a> {
-    /// A kernel that exports these procedures.
-    pub fn of(alloc: Global, procs: &'a [KernelProc]) -> Result<Kernel<'a>, Memory>
-        ensures { IfOk result (λ kernel. kernel.procs.now ≡ procs.now) }
+impl<'a> Outside<'a> {
+    /// What lies outside a source whose kernel exports these procedures.
+    pub fn of(alloc: Global, exports: &'a [KernelProc]) -> Result<Outside<'a>, Memory>
+        ensures { IfOk result (λ outside. outside.exports.now ≡ exports.now) }
     {
-        let names = Names::of(alloc, procs)?;
-        Ok(Kernel { procs, names })
+        let names = Names::of(alloc, exports)?;
+        Ok(Outside { exports, names })
     }
 
-    /// Its first procedure of that name.
+    /// The kernel's first procedure of that name.
     pub fn first(&self, name: &Bytes) -> Option<&'a KernelProc>
-        ensures { option_copied result ≡ find (λ p. bytes_eq p.name name.now) self.now.procs.now }
+        ensures { option_copied result ≡ find (λ p. bytes_eq p.name name.now) self.now.exports.now }
     {
         let place = self.names.place(name.as_slice())?;
-        self.procs.get(place)
+        self.exports.get(place)
     }
 }

@@ -1,0 +1,8 @@
+use Rattle.std.proofs.Common.{◌≡◌, ◌++◌, map, take}
+use Rattle.masm_flat.specs.Blocks.{Operation}
+use Rattle.masm_flat.specs.Lists.{digest_items}
+use Rattle.masm_flat.specs.Views.{pieces_of}
+use Rattle.masm_flat.proofs.appending.add_digest.Given as goal
+
+abbrev pub invariant-loop-element : goal.invariant-loop-element
+invariant-loop-element l = pieces_of l.out.items ≡ pieces_of l.fn.out.items ++ map Operation (digest_items (take l.element-index l.digest))

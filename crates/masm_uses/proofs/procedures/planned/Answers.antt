@@ -1,0 +1,86 @@
+use Rattle.std.proofs.Common.{◌≡◌, ℕ, ◌<◌, Bool, true, false, List, Vec, Global, map, length, get_or, inl, inr, refl, sym, ap, subst, ◌∙◌, arith}
+use Rattle.std.specs.Prelude.{reverse}
+use Rattle.std.proofs.lemmas.List.{length-map}
+use Rattle.std.specs.List.{All, Contains}
+use Rattle.graphs.specs.Graph.{rows_of, Edge, IsGraph}
+use Rattle.graphs.specs.Orders.{IsOrder}
+use Rattle.masm_graph.specs.declared.links.Link.{Link}
+use Rattle.masm_graph.specs.Links.{places_with}
+use Rattle.masm_uses.specs.Plans.{Builds, EndsInGraph, keeps_list, ended_lists, makes_digest, no_ends}
+use Rattle.masm_uses.proofs.PlanLemmas.{builds-more}
+use Rattle.masm_uses.proofs.procedures.planned.Goals as goal
+
+-- a graph of uses of one kind, as it is lent
+graph_is : (refers : Bool) (rows : List (Vec Link Global)) (graph lent : List (Vec ℕ Global)) → lent ≡ graph
+    → rows_of graph ≡ map (places_with refers) (rows_of rows) → rows_of lent ≡ map (places_with refers) (rows_of rows)
+graph_is refers rows graph lent same is = ap rows_of same ∙ is
+
+count_is : (refers : Bool) (rows : List (Vec Link Global)) (lent : List (Vec ℕ Global)) (n m : ℕ) → rows_of lent ≡ map (places_with refers) (rows_of rows)
+    → n ≡ m → length rows ≡ m → n ≡ length lent
+count_is refers rows lent n m is marks count =
+    let vecs = length-map lent (λ (v : Vec ℕ Global). v.items) in
+    let mapped = length-map (rows_of rows) (places_with refers) in
+    let links = length-map rows (λ (v : Vec Link Global). v.items) in
+    let same = ap length is in
+    omega arith
+
+pub steps_of-requires-clause-lists : goal.steps_of-requires-clause-lists
+steps_of-requires-clause-lists c =
+    subst IsGraph (sym (graph_is false c.args.rows.now _ _ c.as_slice-lists.ensures.value c.in_ok-lists.ensures)) (c.requires.graph false)
+
+pub steps_of-requires-clause-digests : goal.steps_of-requires-clause-digests
+steps_of-requires-clause-digests c =
+    subst IsGraph (sym (graph_is true c.args.rows.now _ _ c.as_slice-digests.ensures.value c.in_ok-digests.ensures)) (c.requires.graph true)
+
+pub steps_of-requires-clause-lists_order : goal.steps_of-requires-clause-lists_order
+steps_of-requires-clause-lists_order c =
+    subst (λ g. IsOrder g c.as_slice-3.result.now) (sym (graph_is false c.args.rows.now _ _ c.as_slice-lists.ensures.value c.in_ok-lists.ensures))
+    (subst (IsOrder (map (places_with false) (rows_of c.args.rows.now))) (sym c.as_slice-3.ensures.value) (c.requires.order false))
+
+pub steps_of-requires-clause-digests_order : goal.steps_of-requires-clause-digests_order
+steps_of-requires-clause-digests_order c =
+    subst (λ g. IsOrder g c.as_slice-3.result.now) (sym (graph_is true c.args.rows.now _ _ c.as_slice-digests.ensures.value c.in_ok-digests.ensures))
+    (subst (IsOrder (map (places_with true) (rows_of c.args.rows.now))) (sym c.as_slice-3.ensures.value) (c.requires.order true))
+
+pub steps_of-requires-clause-lists_count : goal.steps_of-requires-clause-lists_count
+steps_of-requires-clause-lists_count c =
+    count_is false c.args.rows.now c.as_slice-lists.result.now _ _
+    (graph_is false c.args.rows.now _ _ c.as_slice-lists.ensures.value c.in_ok-lists.ensures) c.in_ok-needed.ensures.lists_count c.requires.count
+
+pub steps_of-requires-clause-digests_count : goal.steps_of-requires-clause-digests_count
+steps_of-requires-clause-digests_count c =
+    count_is true c.args.rows.now c.as_slice-digests.result.now _ _
+    (graph_is true c.args.rows.now _ _ c.as_slice-digests.ensures.value c.in_ok-digests.ensures) c.in_ok-needed.ensures.digests_count c.requires.count
+
+pub returns-clause-lists : goal.returns-clause-lists
+returns-clause-lists c =
+    let graph = graph_is false c.args.rows.now _ _ c.as_slice-lists.ensures.value c.in_ok-lists.ensures in
+    let row = c.as_slice.ensures.value ∙ c.in_ok-used.ensures in
+    let needed = c.in_ok-needed.ensures in
+    let steps = c.in_ok-steps.steps.items in
+    let marks = c.in_ok-needed.needed.lists.items in
+    let places = map (places_with false) (rows_of c.args.rows.now) in
+    builds-more keeps_list ended_lists (Edge places) (Edge places) (length places) (length places) (λ q. get_or marks q false ≡ true) _ (λ q. ⊥) (λ q. ⊥)
+    (reverse steps) refl (λ i j h. h)
+    (λ q h. elim h [ inl exported ↦ needed.exported q exported | inr has ↦ needed.used q (subst (λ xs. Contains xs q) (sym row) has) ])
+    (λ q h. h)
+    (subst (λ g. Builds keeps_list ended_lists (Edge g) (length g) (λ q. get_or marks q false ≡ true) (λ q. ⊥) (reverse steps)) graph
+    c.in_ok-steps.ensures.lists)
+
+pub returns-clause-digests : goal.returns-clause-digests
+returns-clause-digests c =
+    let graph = graph_is true c.args.rows.now _ _ c.as_slice-digests.ensures.value c.in_ok-digests.ensures in
+    let row = c.as_slice-2.ensures.value ∙ c.in_ok-referred.ensures in
+    let needed = c.in_ok-needed.ensures in
+    let steps = c.in_ok-steps.steps.items in
+    let marks = c.in_ok-needed.needed.digests.items in
+    let places = map (places_with true) (rows_of c.args.rows.now) in
+    builds-more makes_digest no_ends (Edge places) (Edge places) (length places) (length places) (λ q. get_or marks q false ≡ true) _ (λ q. ⊥) (λ q. ⊥)
+    (reverse steps) refl (λ i j h. h) (λ q has. needed.referred q (subst (λ xs. Contains xs q) (sym row) has)) (λ q h. h)
+    (subst (λ g. Builds makes_digest no_ends (Edge g) (length g) (λ q. get_or marks q false ≡ true) (λ q. ⊥) (reverse steps)) graph
+    c.in_ok-steps.ensures.digests)
+
+pub returns-clause-ended : goal.returns-clause-ended
+returns-clause-ended c =
+    subst (λ g. All (EndsInGraph g) c.in_ok-steps.steps.items)
+    (graph_is false c.args.rows.now _ _ c.as_slice-lists.ensures.value c.in_ok-lists.ensures) c.in_ok-steps.ensures.ended
