@@ -15,7 +15,7 @@ use Rattle.masm_tree.specs.declared.tree.Position.{Position}
 use Rattle.masm_parse.specs.Machine.{parsed}
 use Rattle.masm_tree.specs.Trees.{Source}
 use Rattle.masm_flat.specs.Blocks.{Block, seen_as, as_tree}
-use Rattle.masm_flat.specs.Lists.{Exported}
+use Rattle.masm_flat.specs.Lists.{Exported, Outside, outside_of}
 use Rattle.masm_names.specs.declared.refusal.LinkCause.{LinkCause}
 use Rattle.masm_names.specs.Least.{IsLeast}
 use Rattle.masm_link.specs.declared.refusal.AsmCause.TheVariants.{Lexical}
@@ -48,21 +48,22 @@ unfoldable pub reads : Bool → List ℕ → Result Source AsmError
 reads is_kernel text = read_tokens is_kernel text (lexed text)
 
 -- a source is refused: it is not read, or it is read and then refused
-pub data Refuses (is_kernel : Bool) (text : List ℕ) (kernel : List Exported) : AsmError → Type 0 where
-  unread : (refusal : AsmError) → reads is_kernel text ≡ Err refusal → Refuses is_kernel text kernel refusal
+pub data Refuses (is_kernel : Bool) (text : List ℕ) (out : Outside) : AsmError → Type 0 where
+  unread : (refusal : AsmError) → reads is_kernel text ≡ Err refusal → Refuses is_kernel text out refusal
   unlinked : (source : Source) (at : Position) (cause : LinkCause) → reads is_kernel text ≡ Ok source
-      → IsLeast (RefusesAt source kernel) at cause → Refuses is_kernel text kernel (link_refusal is_kernel at cause)
+      → IsLeast (RefusesAt source out) at cause → Refuses is_kernel text out (link_refusal is_kernel at cause)
 
 -- a source links to the blocks of its exports and to that of the body between begin and end
-pub record LinksText (is_kernel : Bool) (text : List ℕ) (kernel : List Exported) (exports : List Exported) (main : Option Block) : Type 0 where
+pub record LinksText (is_kernel : Bool) (text : List ℕ) (out : Outside) (exports : List Exported) (main : Option Block) : Type 0 where
   pub source : Source
   pub read : reads is_kernel text ≡ Ok source
-  pub links : Links source kernel exports main
+  pub links : Links source out exports main
 
 -- what a kernel that is not refused exports
-pub data KernelExports : Option (List ℕ) → List Exported → Type 0 where
-  no_kernel : KernelExports None []
-  of_kernel : (text : List ℕ) (exports : List Exported) → LinksText true text [] exports None → KernelExports (Some text) exports
+pub data KernelExports (constants : List ℕ) : Option (List ℕ) → List Exported → Type 0 where
+  no_kernel : KernelExports constants None []
+  of_kernel : (text : List ℕ) (exports : List Exported) → LinksText true text (outside_of constants []) exports None
+      → KernelExports constants (Some text) exports
 
 -- words that came before are left out
 abbrev pub add_word : List (List ℕ) → List ℕ → List (List ℕ)
@@ -85,9 +86,11 @@ pub record IsProgram (constants : List ℕ) (procedures : List Exported) (block 
 
 -- What is answered for a source and a kernel: the program, or the first refusal, that of the kernel first.
 pub data Assembles (constants : List ℕ) (text : List ℕ) : Option (List ℕ) → Result Program AsmError → Type 0 where
-  assembled : {kernel : Option (List ℕ)} (exports own : List Exported) (block : Block) (program : Program) → KernelExports kernel exports
-      → LinksText false text exports own (Some block) → IsProgram constants exports block program → Assembles constants text kernel (Ok program)
-  kernel_refused : (kernel : List ℕ) (refusal : AsmError) → Refuses true kernel [] refusal → Assembles constants text (Some kernel) (Err refusal)
-  refused : {kernel : Option (List ℕ)} (exports : List Exported) (refusal : AsmError) → KernelExports kernel exports
-      → Refuses false text exports refusal → Assembles constants text kernel (Err refusal)
+  assembled : {kernel : Option (List ℕ)} (exports own : List Exported) (block : Block) (program : Program) → KernelExports constants kernel exports
+      → LinksText false text (outside_of constants exports) own (Some block) → IsProgram constants exports block program
+      → Assembles constants text kernel (Ok program)
+  kernel_refused : (kernel : List ℕ) (refusal : AsmError) → Refuses true kernel (outside_of constants []) refusal
+      → Assembles constants text (Some kernel) (Err refusal)
+  refused : {kernel : Option (List ℕ)} (exports : List Exported) (refusal : AsmError) → KernelExports constants kernel exports
+      → Refuses false text (outside_of constants exports) refusal → Assembles constants text kernel (Err refusal)
   no_memory : {kernel : Option (List ℕ)} → Assembles constants text kernel (Err Memory)

@@ -12,7 +12,7 @@ use Rattle.masm_size.specs.declared.shape.Size as shape
 use Rattle.masm_flat.specs.Blocks.{Block, seen_as, as_tree, as_operations, whole}
 use Rattle.masm_flat.specs.KnownLists.{list_at}
 use Rattle.masm_size.specs.KnownSizes.{size_at}
-use Rattle.masm_flat.specs.Lists.{Exported, IsBlockOf}
+use Rattle.masm_flat.specs.Lists.{Exported, Outside, IsBlockOf}
 use Rattle.masm_size.specs.Sizes.{as_extent, extent_of}
 use Rattle.masm_names.specs.declared.refusal.LinkCause.{LinkCause}
 use Rattle.masm_names.specs.declared.refusal.Refusal.{Refusal}
@@ -26,7 +26,7 @@ use Rattle.masm_link.specs.declared.linking.Linked.{Linked}
 use Rattle.masm_link.specs.declared.linking.Measured.{Measured}
 use Rattle.masm_link.specs.declared.linking.Stop.{Stop}
 use Rattle.masm_link.specs.declared.linking.Stop.TheVariants.{Refused, Memory}
-use Rattle.masm_tables.specs.Kernels.{AreExports, names_in}
+use Rattle.masm_tables.specs.Kernels.{AreExports, IsOutside, names_in}
 use Rattle.masm_link.specs.Refusals.{RefusesAt, Links}
 use Rattle.masm_tables.specs.Tables.{AreSizes}
 
@@ -39,16 +39,16 @@ pub record IsMeasured (source : Source) (kernel : List KernelProc) (m : Measured
   pub ended : All (EndsInFull (place_at m.names) source.procs) m.steps.items
   pub uses : m.uses.items ≡ main_uses (place_at m.names) source.main
   pub count : length m.sizes.items ≡ length source.procs
-  pub sizes : (exports : List Exported) → AreExports exports kernel → AreSizes source.procs exports m.order.items m.sizes.items
+  pub sizes : (out : Outside) → IsOutside kernel out → AreSizes source.procs out m.order.items m.sizes.items
 
--- nothing is refused, whatever the kernel's exports in memory are
+-- nothing is refused, whatever the constants and the kernel's exports in memory are
 abbrev pub IsNeverRefused : Source → List KernelProc → Type 0
 IsNeverRefused source kernel =
-    (exports : List Exported) → AreExports exports kernel → (at : Position) (cause : LinkCause) → ¬ (RefusesAt source exports at cause)
+    (out : Outside) → IsOutside kernel out → (at : Position) (cause : LinkCause) → ¬ (RefusesAt source out at cause)
 
 abbrev pub IsFirstRefused : Source → List KernelProc → Refusal → Type 0
 IsFirstRefused source kernel refusal =
-    (exports : List Exported) → AreExports exports kernel → IsLeast (RefusesAt source exports) refusal.at refusal.cause
+    (out : Outside) → IsOutside kernel out → IsLeast (RefusesAt source out) refusal.at refusal.cause
 
 -- the sizes where nothing is refused, and else the least refusal
 abbrev pub Measures : Source → List KernelProc → Result Measured Stop → Type 0
@@ -57,22 +57,23 @@ Measures source kernel (Err (Refused refusal)) = IsFirstRefused source kernel re
 Measures source kernel (Err Memory) = Unit {0}
 
 -- the table of lists and that of sizes tell the block of each procedure that is exported
-abbrev pub AreReady : Source → List Exported → List shape.Size → List (Vec piece.Piece Global) → Type 0
-AreReady source exports sizes lists =
+abbrev pub AreReady : Source → Outside → List shape.Size → List (Vec piece.Piece Global) → Type 0
+AreReady source out sizes lists =
     (place : ℕ) (p : Procedure) → slice_get source.procs place ≡ Some p → p.exported ≡ true
-    → (block : Block) × IsBlockOf source.procs exports p block × (whole as_tree (list_at lists (Some place)) ≡ seen_as as_tree block)
+    → (block : Block) × IsBlockOf source.procs out p block × (whole as_tree (list_at lists (Some place)) ≡ seen_as as_tree block)
     × (extent_of (size_at sizes (Some place)) ≡ seen_as as_extent block) × (1 ≤ seen_as as_operations block)
 
 -- what a source links to, in memory
-pub record IsLinked (source : Source) (kernel : List Exported) (linked : Linked) : Type 0 where
+pub record IsLinked (source : Source) (out : Outside) (linked : Linked) : Type 0 where
   pub exports : List Exported
   pub main : Option Block
-  pub links : Links source kernel exports main
+  pub links : Links source out exports main
   pub are : AreExports exports linked.exports.items
   pub tree : option_map tree_of linked.main ≡ option_map (seen_as as_tree) main
 
--- what a source links to where nothing is refused, and else the least refusal
-abbrev pub LinksTo : Source → List KernelProc → Result Linked Stop → Type 0
-LinksTo source kernel (Ok linked) = (exports : List Exported) → AreExports exports kernel → IsLinked source exports linked
-LinksTo source kernel (Err (Refused refusal)) = IsFirstRefused source kernel refusal
-LinksTo source kernel (Err Memory) = Unit {0}
+-- what a source links to under these constants where nothing is refused, and else the least refusal
+abbrev pub LinksTo : List ℕ → Source → List KernelProc → Result Linked Stop → Type 0
+LinksTo constants source kernel (Ok linked) =
+    (out : Outside) → out.constants ≡ constants → IsOutside kernel out → IsLinked source out linked
+LinksTo constants source kernel (Err (Refused refusal)) = IsFirstRefused source kernel refusal
+LinksTo constants source kernel (Err Memory) = Unit {0}

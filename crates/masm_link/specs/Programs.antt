@@ -5,7 +5,7 @@ use Rattle.block_tree.specs.declared.exports.Export.{Export}
 use Rattle.block_tree.specs.Trees.{tree_digest}
 use Rattle.block_tree.specs.TreeView.{tree_of}
 use Rattle.masm_flat.specs.declared.outside.KernelProc.{KernelProc}
-use Rattle.masm_flat.specs.Lists.{Exported}
+use Rattle.masm_flat.specs.Lists.{Exported, outside_of}
 use Rattle.masm_tree.specs.Trees.{Source}
 use Rattle.masm_link.specs.declared.linking.Linked.{Linked}
 use Rattle.masm_link.specs.declared.refusal.AsmError.{AsmError}
@@ -20,16 +20,19 @@ refusal_in (Bad in_kernel line column cause) = Some (Bad in_kernel line column c
 refusal_in Memory = None
 
 -- what a source links to with a kernel's exports in memory, or its first refusal, or the want of memory
-abbrev pub LinksIn : Bool → List ℕ → List KernelProc → Result Linked AsmError → Type 0
-LinksIn is_kernel text kernel (Ok linked) =
-    (exports : List Exported) → AreExports exports kernel → (source : Source) × (reads is_kernel text ≡ Ok source) × IsLinked source exports linked
-LinksIn is_kernel text kernel (Err refusal) =
-    (refusal ≡ Memory) ⊎ ((exports : List Exported) → AreExports exports kernel → Refuses is_kernel text exports refusal)
+abbrev pub LinksIn : List ℕ → Bool → List ℕ → List KernelProc → Result Linked AsmError → Type 0
+LinksIn constants is_kernel text kernel (Ok linked) =
+    (exports : List Exported) → AreExports exports kernel
+    → (source : Source) × (reads is_kernel text ≡ Ok source) × IsLinked source (outside_of constants exports) linked
+LinksIn constants is_kernel text kernel (Err refusal) =
+    (refusal ≡ Memory)
+    ⊎ ((exports : List Exported) → AreExports exports kernel → Refuses is_kernel text (outside_of constants exports) refusal)
 
 -- a kernel's exports in memory, or the kernel's first refusal, or the want of memory
-abbrev pub ExportsIn : Option (List ℕ) → Result (Vec KernelProc Global) AsmError → Type 0
-ExportsIn kernel (Ok procs) = (exports : List Exported) × KernelExports kernel exports × AreExports exports procs.items
-ExportsIn kernel (Err refusal) = (refusal ≡ Memory) ⊎ ((text : List ℕ) × (kernel ≡ Some text) × Refuses true text [] refusal)
+abbrev pub ExportsIn : List ℕ → Option (List ℕ) → Result (Vec KernelProc Global) AsmError → Type 0
+ExportsIn constants kernel (Ok procs) = (exports : List Exported) × KernelExports constants kernel exports × AreExports exports procs.items
+ExportsIn constants kernel (Err refusal) =
+    (refusal ≡ Memory) ⊎ ((text : List ℕ) × (kernel ≡ Some text) × Refuses true text (outside_of constants []) refusal)
 
 abbrev pub digest_in : List ℕ → KernelProc → List ℕ
 digest_in constants p = tree_digest constants (tree_of p.tree)

@@ -10,28 +10,28 @@ use Rattle.masm_tree.specs.Trees.{Procedure, Source}
 use Rattle.masm_names.specs.declared.refusal.LinkCause.{LinkCause}
 use Rattle.masm_names.specs.declared.refusal.LinkCause.TheVariants as causes
 use Rattle.masm_flat.specs.Blocks.{Block, seen_as, as_operations, as_height}
-use Rattle.masm_flat.specs.Lists.{Exported, IsBlockOf}
+use Rattle.masm_flat.specs.Lists.{Exported, Outside, IsBlockOf}
 use Rattle.masm_names.specs.Uses.{bodies_of}
 use Rattle.masm_tables.specs.Kernels.{names_of}
 
 -- a procedure whose tree is too large
-pub data IsTooLarge (procs : List Procedure) (kernel : List Exported) (p : Procedure) : Position → LinkCause → Type 0 where
-  too_many_operations : (block : Block) → IsBlockOf procs kernel p block → most_operations < seen_as as_operations block
-      → IsTooLarge procs kernel p (position_of p) causes.TooManyOps
-  too_deep : (block : Block) → IsBlockOf procs kernel p block → most_nesting < seen_as as_height block
-      → IsTooLarge procs kernel p (position_of p) causes.TooDeep
+pub data IsTooLarge (procs : List Procedure) (out : Outside) (p : Procedure) : Position → LinkCause → Type 0 where
+  too_many_operations : (block : Block) → IsBlockOf procs out p block → most_operations < seen_as as_operations block
+      → IsTooLarge procs out p (position_of p) causes.TooManyOps
+  too_deep : (block : Block) → IsBlockOf procs out p block → most_nesting < seen_as as_height block
+      → IsTooLarge procs out p (position_of p) causes.TooDeep
 
-abbrev pub Oversized : Source → List Exported → Position → LinkCause → Type 0
-Oversized source kernel at cause = Any (λ p. IsTooLarge source.procs kernel p at cause) (bodies_of source)
+abbrev pub Oversized : Source → Outside → Position → LinkCause → Type 0
+Oversized source out at cause = Any (λ p. IsTooLarge source.procs out p at cause) (bodies_of source)
 
 -- The places and causes of a source that is refused. Sizes are tested only where no use leads nowhere or back.
-pub data RefusesAt (source : Source) (kernel : List Exported) (at : Position) (cause : LinkCause) : Type 0 where
-  double : Doubles source at cause → RefusesAt source kernel at cause
-  dangling : Dangles source (names_of kernel) at cause → RefusesAt source kernel at cause
-  oversized : IsClosed source (names_of kernel) → Oversized source kernel at cause → RefusesAt source kernel at cause
+pub data RefusesAt (source : Source) (out : Outside) (at : Position) (cause : LinkCause) : Type 0 where
+  double : Doubles source at cause → RefusesAt source out at cause
+  dangling : Dangles source (names_of out.exports) at cause → RefusesAt source out at cause
+  oversized : IsClosed source (names_of out.exports) → Oversized source out at cause → RefusesAt source out at cause
 
 -- A source that is not refused: the blocks of its exports, in their order, and that of the body between begin and end.
-pub record Links (source : Source) (kernel : List Exported) (exports : List Exported) (main : Option Block) : Type 0 where
-  pub clean : (at : Position) (cause : LinkCause) → ¬ (RefusesAt source kernel at cause)
-  pub exported : AllZip (λ p e. (e.name ≡ p.name) × IsBlockOf source.procs kernel p e.block) (exported_of source.procs) exports
-  pub body : MatchOption source.main (main ≡ None) (λ p. (block : Block) × (main ≡ Some block) × IsBlockOf source.procs kernel p block)
+pub record Links (source : Source) (out : Outside) (exports : List Exported) (main : Option Block) : Type 0 where
+  pub clean : (at : Position) (cause : LinkCause) → ¬ (RefusesAt source out at cause)
+  pub exported : AllZip (λ p e. (e.name ≡ p.name) × IsBlockOf source.procs out p e.block) (exported_of source.procs) exports
+  pub body : MatchOption source.main (main ≡ None) (λ p. (block : Block) × (main ≡ Some block) × IsBlockOf source.procs out p block)

@@ -3,6 +3,7 @@ ghost use Rattle.std.specs.Option.{option_map};
 ghost use Rattle.masm_link.specs.Assembling.{Assembles};
 ghost use Rattle.masm_link.specs.Programs.{LinksIn, ExportsIn};
 ghost use Rattle.rpo_hash.specs.Constants.{constants_of};
+ghost use Rattle.vm_field.specs.Limits.{number_of_constants};
 
 use crate::linking::{Linked, Stop, link};
 use crate::program::program_of;
@@ -11,8 +12,10 @@ use crate::refusal::{AsmError, link_refusal};
 use block_tree::Program;
 use masm_flat::KernelProc;
 use masm_lex::MAX_SOURCE;
-use rpo_hash::Params;
+use perm_memo::Permutations;
+use rpo_hash::{Params, known_constants};
 use std::alloc::Global;
+use tree_hash::Digests;
 use vm_field::Memory;
 
 // What a source links to, a kernel or a program, or its first refusal.
@@ -21,16 +24,19 @@ fn link_text(
     text: &[u8],
     is_kernel: bool,
     kernel: &[KernelProc],
+    digests: &mut Digests,
 ) -> Result<Linked, AsmError>
-    requires { length text.now ≤ MAX_SOURCE }
-    ensures links { LinksIn is_kernel text.now kernel.now result }
+    requires text { length text.now ≤ MAX_SOURCE }
+    requires constants { length digests.old.permutations ≡ number_of_constants }
+    ensures links { LinksIn digests.old.permutations is_kernel text.now kernel.now result }
     ensures main { IfOk result (λ linked. is_some linked.main ≡ not is_kernel) }
+    ensures permutations { digests.new.permutations ≡ digests.old.permutations }
 {
     let ast = match read(alloc, text, is_kernel) {
         Ok(ast) => ast,
         Err(error) => return Err(error),
     };
-    match link(alloc, &ast, kernel) {
+    match link(alloc, &ast, kernel, digests) {
         Ok(linked) => Ok(linked),
         Err(Stop::Refused(refusal)) => Err(link_refusal(is_kernel, refusal)),
         Err(Stop::Memory) => Err(AsmError::Memory),
@@ -38,23 +44,35 @@ fn link_text(
 }
 
 // What a kernel of this text exports.
-fn text_exports(alloc: Global, text: &[u8]) -> Result<Vec<KernelProc>, AsmError>
-    requires { length text.now ≤ MAX_SOURCE }
-    ensures { ExportsIn (Some text.now) result }
+fn text_exports(
+    alloc: Global,
+    text: &[u8],
+    digests: &mut Digests,
+) -> Result<Vec<KernelProc>, AsmError>
+    requires text { length text.now ≤ MAX_SOURCE }
+    requires constants { length digests.old.permutations ≡ number_of_constants }
+    ensures exports { ExportsIn digests.old.permutations (Some text.now) result }
+    ensures permutations { digests.new.permutations ≡ digests.old.permutations }
 {
-    match link_text(alloc, text, true, &[]) {
+    match link_text(alloc, text, true, &[], digests) {
         Ok(linked) => Ok(linked.exports),
         Err(error) => Err(error),
     }
 }
 
 // What a kernel exports; nothing where there is none.
-fn kernel_exports(alloc: Global, kernel: Option<&[u8]>) -> Result<Vec<KernelProc>, AsmError>
-    requires { IfSome kernel (λ text. length text.now ≤ MAX_SOURCE) }
-    ensures { ExportsIn (option_map (λ text. text.now) kernel.entry) result }
+fn kernel_exports(
+    alloc: Global,
+    kernel: Option<&[u8]>,
+    digests: &mut Digests,
+) -> Result<Vec<KernelProc>, AsmError>
+    requires text { IfSome kernel (λ text. length text.now ≤ MAX_SOURCE) }
+    requires constants { length digests.old.permutations ≡ number_of_constants }
+    ensures exports { ExportsIn digests.old.permutations (option_map (λ text. text.now) kernel.entry) result }
+    ensures permutations { digests.new.permutations ≡ digests.old.permutations }
 {
     match kernel {
-        Some(text) => text_exports(alloc, text),
+        Some(text) => text_exports(alloc, text, digests),
         None => Ok(Vec::new(alloc)),
     }
 }
@@ -75,15 +93,18 @@ pub fn assemble(
     requires kernel { IfSome kernel (λ text. length text.now ≤ MAX_SOURCE) }
     ensures { Assembles (constants_of params.now) source.now (option_map (λ text. text.now) kernel.entry) result }
 {
-    let exports = match kernel_exports(alloc, kernel) {
+    known_constants(params);
+    // No permutation is kept, since an input that is known is not permuted again.
+    let mut digests = Digests::new(alloc, Permutations::keeping_none(alloc, params));
+    let exports = match kernel_exports(alloc, kernel, &mut digests) {
         Ok(exports) => exports,
         Err(error) => return Err(error),
     };
-    let tree = match link_text(alloc, source, false, &exports) {
+    let tree = match link_text(alloc, source, false, &exports, &mut digests) {
         Ok(linked) => linked.main.unwrap(),
         Err(error) => return Err(error),
     };
-    match program_of(alloc, params, tree, &exports) {
+    match program_of(alloc, &mut digests, tree, &exports) {
         Ok(program) => Ok(program),
         Err(Memory::Memory) => Err(AsmError::Memory),
     }

@@ -1,7 +1,7 @@
 ghost use Rattle.std.specs.Prelude.{◌≡◌, ℕ, List, Some, is_some, IfOk};
-ghost use Rattle.masm_flat.specs.Lists.{Exported};
+ghost use Rattle.masm_flat.specs.Lists.{Outside};
 ghost use Rattle.masm_link.specs.declared.linking.Stop.TheVariants as stops;
-ghost use Rattle.masm_tables.specs.Kernels.{AreExports, names_in};
+ghost use Rattle.masm_tables.specs.Kernels.{IsOutside, names_in};
 ghost use Rattle.masm_link.specs.Measures.{IsMeasured, IsNeverRefused, Measures, IsLinked, LinksTo};
 ghost use Rattle.masm_link.specs.Refusals.{Oversized};
 ghost use Rattle.masm_tree.specs.Locals.{SourceFits};
@@ -13,7 +13,7 @@ ghost use Rattle.masm_names.specs.Naming.{IsClosed};
 ghost use Rattle.masm_names.specs.Uses.{first_place};
 
 use block_tree::Tree;
-use masm_flat::{Kernel, KernelProc};
+use masm_flat::{KernelProc, Outside};
 use masm_names::{Names, Refusal, earlier, first_double, procedure_names};
 use masm_size::Size;
 use masm_tables::{
@@ -23,6 +23,7 @@ use masm_tree::Ast;
 use masm_uses::{Plan, Step, first_dangling, use_plan};
 use std::alloc::{AllocError, Global};
 use thiserror::Error;
+use tree_hash::Digests;
 use vm_field::{Bytes, Memory};
 
 // Why a source is not linked.
@@ -89,7 +90,7 @@ fn sized(
     ensures { IfOk result (IsMeasured (source_of ast.now) outside.now.exports.now) }
 {
     let Plan { order, steps, main } = use_plan(alloc, ast, &names, exported)?;
-    let sizes = sizes_of(alloc, ast, &names, kernel, &order)?;
+    let sizes = sizes_of(alloc, ast, &names, outside, &order)?;
     Ok(Measured {
         names,
         order,
@@ -108,11 +109,11 @@ fn first_oversized(
 ) -> Result<Option<Refusal>, Memory>
     requires fits { SourceFits (source_of ast.now) }
     requires measured { IsMeasured (source_of ast.now) outside.now.exports.now measured.now }
-    ensures { IfOk result (λ first. (exports : List Exported) → AreExports exports outside.now.exports.now
-        → FindsLeast (Oversized (source_of ast.now) exports) first) }
+    ensures { IfOk result (λ first. (out : Outside) → IsOutside outside.now.exports.now out
+        → FindsLeast (Oversized (source_of ast.now) out) first) }
 {
     let procs = first_too_large(&ast.procs, &measured.sizes);
-    let main = main_too_large(alloc, &measured.names, kernel, &ast.main, &measured.sizes)?;
+    let main = main_too_large(alloc, &measured.names, outside, &ast.main, &measured.sizes)?;
     Ok(earlier(procs, main))
 }
 
@@ -132,13 +133,13 @@ fn measure(alloc: Global, ast: &Ast, outside: &Outside<'_>) -> Result<Measured, 
     ensures { Measures (source_of ast.now) outside.now.exports.now result }
 {
     let names = procedure_names(alloc, ast)?;
-    let exported = export_names(alloc, kernel.procs)?;
+    let exported = export_names(alloc, outside.exports)?;
     let double = first_double(alloc, ast)?;
     if let Some(refusal) = first_dangling(alloc, ast, &names, &exported)? {
         return Err(Stop::Refused(first_of(double, refusal)));
     }
-    let measured = sized(alloc, ast, kernel, names, &exported)?;
-    let oversized = first_oversized(alloc, ast, kernel, &measured)?;
+    let measured = sized(alloc, ast, outside, names, &exported)?;
+    let oversized = first_oversized(alloc, ast, outside, &measured)?;
     match earlier(double, oversized) {
         Some(refusal) => Err(Stop::Refused(refusal)),
         None => Ok(measured),
@@ -151,29 +152,38 @@ fn built(
     ast: &Ast,
     outside: &Outside<'_>,
     measured: &Measured,
+    digests: &mut Digests,
 ) -> Result<Linked, Memory>
     requires fits { SourceFits (source_of ast.now) }
     requires measured { IsMeasured (source_of ast.now) outside.now.exports.now measured.now }
     requires clean { IsNeverRefused (source_of ast.now) outside.now.exports.now }
-    ensures linked { IfOk result (λ linked. (exports : List Exported) → AreExports exports outside.now.exports.now
-        → IsLinked (source_of ast.now) exports linked) }
+    ensures linked { IfOk result (λ linked. (out : Outside) → out.constants ≡ digests.old.permutations → IsOutside outside.now.exports.now out
+        → IsLinked (source_of ast.now) out linked) }
     ensures main { IfOk result (λ linked. is_some linked.main ≡ is_some ast.now.main) }
+    ensures permutations { digests.new.permutations ≡ digests.old.permutations }
 {
-    let table = lists_of(alloc, ast, &measured.names, kernel, &measured.steps)?;
-    let exports = exports_of(alloc, &ast.procs, &measured.sizes, &table.lists)?;
     let names = &measured.names;
-    let main = main_tree(alloc, names, kernel, &ast.main, &measured.uses, table)?;
+    let built = lists_of(alloc, ast, names, outside, &measured.steps, digests)?;
+    let exports = exports_of(alloc, &ast.procs, &measured.sizes, &built.table.lists)?;
+    let main = main_tree(alloc, names, outside, &ast.main, &measured.uses, built)?;
     Ok(Linked { exports, main })
 }
 
-// What a source links to with a kernel's exports, or its first refusal.
-pub(crate) fn link(alloc: Global, ast: &Ast, kernel: &[KernelProc]) -> Result<Linked, Stop>
+// What a source links to with a kernel's exports, or its first refusal. The digests that procrefs ask
+// for are computed with these.
+pub(crate) fn link(
+    alloc: Global,
+    ast: &Ast,
+    kernel: &[KernelProc],
+    digests: &mut Digests,
+) -> Result<Linked, Stop>
     requires { SourceFits (source_of ast.now) }
-    ensures linked { LinksTo (source_of ast.now) kernel.now result }
+    ensures linked { LinksTo digests.old.permutations (source_of ast.now) kernel.now result }
     ensures main { IfOk result (λ linked. is_some linked.main ≡ is_some ast.now.main) }
+    ensures permutations { digests.new.permutations ≡ digests.old.permutations }
 {
-    let kernel = Kernel::of(alloc, kernel)?;
-    let measured = measure(alloc, ast, &kernel)?;
-    let linked = built(alloc, ast, &kernel, &measured)?;
+    let outside = Outside::of(alloc, kernel)?;
+    let measured = measure(alloc, ast, &outside)?;
+    let linked = built(alloc, ast, &outside, &measured, digests)?;
     Ok(linked)
 }

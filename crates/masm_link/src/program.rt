@@ -1,13 +1,10 @@
 ghost use Rattle.std.specs.Prelude.{◌≡◌, ◌≤◌, length, map, IfOk, OnOk};
 ghost use Rattle.block_tree.specs.Kernels.{AreDistinct};
-ghost use Rattle.rpo_hash.specs.Constants.{constants_of};
 ghost use Rattle.masm_link.specs.Assembling.{add_word, without_repeats};
 ghost use Rattle.masm_link.specs.Programs.{digest_in, export_in};
 
 use block_tree::{Export, Exports, Program, Tree};
 use masm_flat::KernelProc;
-use perm_memo::Permutations;
-use rpo_hash::Params;
 use std::alloc::Global;
 use tree_hash::Digests;
 use vm_field::{Bytes, Memory, Word, Words};
@@ -35,12 +32,15 @@ fn kernel_words(alloc: Global, exports: &[Export]) -> Result<Words, Memory>
     Ok(words)
 }
 
-// What a kernel exports, with the digests of the trees. A block that several exports have is hashed
-// once. No permutation is kept, since an input that is known is not permuted again.
-fn exports_of(alloc: Global, params: &Params, kernel: &[KernelProc]) -> Result<Exports, Memory>
-    ensures { IfOk result (λ exports. exports ≡ map (export_in (constants_of params.now)) kernel.now) }
+// What a kernel exports, with the digests of the trees. A block that several exports have, or that was
+// hashed before, is hashed once.
+fn exports_of(
+    alloc: Global,
+    digests: &mut Digests,
+    kernel: &[KernelProc],
+) -> Result<Exports, Memory>
+    ensures { IfOk result (λ exports. exports ≡ map (export_in digests.old.permutations) kernel.now) }
 {
-    let mut digests = Digests::new(alloc, Permutations::keeping_none(alloc, params));
     let mut exports = Exports::new(alloc);
     for procedure in kernel {
         exports.push(Export {
@@ -54,16 +54,16 @@ fn exports_of(alloc: Global, params: &Params, kernel: &[KernelProc]) -> Result<E
 // The program of a tree, with a kernel.
 pub(crate) fn program_of(
     alloc: Global,
-    params: &Params,
+    digests: &mut Digests,
     tree: Tree,
     kernel: &[KernelProc],
 ) -> Result<Program, Memory>
     requires { length kernel.now ≤ 255 }
     ensures tree { IfOk result (λ program. program.tree ≡ tree) }
-    ensures exports { IfOk result (λ program. program.exports ≡ map (export_in (constants_of params.now)) kernel.now) }
-    ensures kernel { IfOk result (λ program. program.kernel ≡ without_repeats (map (digest_in (constants_of params.now)) kernel.now)) }
+    ensures exports { IfOk result (λ program. program.exports ≡ map (export_in digests.old.permutations) kernel.now) }
+    ensures kernel { IfOk result (λ program. program.kernel ≡ without_repeats (map (digest_in digests.old.permutations) kernel.now)) }
 {
-    let exports = exports_of(alloc, params, kernel)?;
+    let exports = exports_of(alloc, digests, kernel)?;
     let words = kernel_words(alloc, exports.as_slice())?;
     Ok(Program::new(tree, words, exports))
 }
