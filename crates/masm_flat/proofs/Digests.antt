@@ -1,7 +1,8 @@
 -- The digest of a block's tree: its elements, and how many they are.
 use Rattle.std.proofs.Common.{◌≡◌, ℕ, zero, suc, ◌<◌, List, [], ◌∷◌, ◌++◌, length, map, take, drop, refl, ◌∙◌, arith}
 use Rattle.std.proofs.lemmas.List.{length-map}
-use Rattle.vm_field.specs.Field.{AreElements}
+use Rattle.std.proofs.lemmas.List.Elements.{All-from_recursion}
+use Rattle.vm_field.specs.Field.{prime, AreElements}
 use Rattle.vm_field.specs.Limits.{number_of_constants}
 use Rattle.vm_field.specs.Machine.{IsWord}
 use Rattle.vm_field.specs.Permutation.{round, rounds, permuted}
@@ -29,7 +30,10 @@ after-elements constants state block (next ∷ blocks) = after-elements constant
 
 -- the digest of no blocks
 zeros-word : (domain : ℕ) → IsWord (squeezed (begun domain))
-zeros-word domain = record { size = refl; below = λ k d below. omega arith }
+zeros-word domain = record {
+  size = refl;
+  below = All-from_recursion (λ e. e < prime) (0 ∷ 0 ∷ 0 ∷ 0 ∷ []) (omega arith, (omega arith, (omega arith, (omega arith, tt))));
+}
 
 hashed-elements : (constants : List ℕ) (domain : ℕ) (blocks : List (List ℕ)) → AreElements (hashed constants domain blocks)
 unfolding hashed

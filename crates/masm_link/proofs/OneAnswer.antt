@@ -9,7 +9,7 @@ use Rattle.masm_names.specs.Causes.{order}
 use Rattle.masm_names.specs.Least.{ComesBefore, IsLeast}
 use Rattle.masm_names.specs.Naming.{exported_of}
 use Rattle.masm_flat.specs.Blocks.{Block, block_of, seen_as, as_tree}
-use Rattle.masm_flat.specs.Lists.{Exported, IsBlockOf, with_locals}
+use Rattle.masm_flat.specs.Lists.{Exported, Outside, outside_of, IsBlockOf, with_locals}
 use Rattle.masm_flat.proofs.Once.{list_once}
 use Rattle.masm_link.specs.declared.refusal.AsmError.{AsmError}
 use Rattle.masm_link.specs.Assembling.{reads, link_refusal, LinksText, Refuses, unread, unlinked, KernelExports, no_kernel, of_kernel, export_of, export_digest, without_repeats, assembled, kernel_refused, refused, no_memory}
@@ -17,17 +17,16 @@ use Rattle.masm_link.specs.Refusals.{Links, RefusesAt}
 use Rattle.masm_link.specs.Laws.{OneProgram, OneRefusal}
 
 -- a procedure is one block
-block_once : (procs : List Procedure) (kernel : List Exported) (p : Procedure) (a b : Block) → IsBlockOf procs kernel p a
-    → IsBlockOf procs kernel p b → a ≡ b
-block_once procs kernel p a b one other =
-    one.is ∙ ap (λ pieces. block_of (with_locals p.locals pieces)) (list_once procs kernel one.flat other.flat) ∙ sym other.is
+block_once : (procs : List Procedure) (out : Outside) (p : Procedure) (a b : Block) → IsBlockOf procs out p a → IsBlockOf procs out p b → a ≡ b
+block_once procs out p a b one other =
+    one.is ∙ ap (λ pieces. block_of (with_locals p.locals pieces)) (list_once procs out one.flat other.flat) ∙ sym other.is
 
 same_source : (a b : Source) (r : Result Source AsmError) → r ≡ Ok a → r ≡ Ok b → a ≡ b
 same_source a b r one other = cc
 
-module _ (procs : List Procedure) (kernel : List Exported) where
+module _ (procs : List Procedure) (out : Outside) where
   abbrev IsExportOf : Procedure → Exported → Type 0
-  IsExportOf p e = (e.name ≡ p.name) × IsBlockOf procs kernel p e.block
+  IsExportOf p e = (e.name ≡ p.name) × IsBlockOf procs out p e.block
 
   exports_once : (ps : List Procedure) (xs ys : List Exported) → AllZip IsExportOf ps xs → AllZip IsExportOf ps ys → xs ≡ ys
   exports_once [] [] [] one other = refl
@@ -37,39 +36,40 @@ module _ (procs : List Procedure) (kernel : List Exported) where
   exports_once (p ∷ ps) (x ∷ xs) [] one other = absurd other
   exports_once (p ∷ ps) (x ∷ xs) (y ∷ ys) one other =
       let name : x.name ≡ y.name = one.0.0 ∙ sym other.0.0 in
-      let block : x.block ≡ y.block = block_once procs kernel p x.block y.block one.0.1 other.0.1 in
+      let block : x.block ≡ y.block = block_once procs out p x.block y.block one.0.1 other.0.1 in
       ap₂ (λ e es. e ∷ es) (ap₂ (λ n b. record { name = n; block = b }) name block) (exports_once ps xs ys one.1 other.1)
 
   abbrev IsBodyOf : Option Procedure → Option Block → Type 0
-  IsBodyOf main found = MatchOption main (found ≡ None) (λ p. (block : Block) × (found ≡ Some block) × IsBlockOf procs kernel p block)
+  IsBodyOf main found = MatchOption main (found ≡ None) (λ p. (block : Block) × (found ≡ Some block) × IsBlockOf procs out p block)
 
   body_once : (main : Option Procedure) (a b : Option Block) → IsBodyOf main a → IsBodyOf main b → a ≡ b
   body_once None a b one other = one ∙ sym other
-  body_once (Some p) a b one other = one.1 ∙ ap Some (block_once procs kernel p one.0 other.0 one.2 other.2) ∙ sym other.1
+  body_once (Some p) a b one other = one.1 ∙ ap Some (block_once procs out p one.0 other.0 one.2 other.2) ∙ sym other.1
 
 -- a text links to the same, whenever it links
-pub links_once : {is_kernel : Bool} {text : List ℕ} {kernel xs ys : List Exported} {a b : Option Block}
-    → LinksText is_kernel text kernel xs a → LinksText is_kernel text kernel ys b → (xs ≡ ys) × (a ≡ b)
-links_once {is_kernel} {text} {kernel} {xs} {ys} {a} {b} one other =
+pub links_once : {is_kernel : Bool} {text : List ℕ} {out : Outside} {xs ys : List Exported} {a b : Option Block}
+    → LinksText is_kernel text out xs a → LinksText is_kernel text out ys b → (xs ≡ ys) × (a ≡ b)
+links_once {is_kernel} {text} {out} {xs} {ys} {a} {b} one other =
     let same = same_source other.source one.source (reads is_kernel text) other.read one.read in
-    let links = subst (λ s. Links s kernel ys b) same other.links in (
-      exports_once one.source.procs kernel (exported_of one.source.procs) xs ys one.links.exported links.exported,
-      body_once one.source.procs kernel one.source.main a b one.links.body links.body,
+    let links = subst (λ s. Links s out ys b) same other.links in (
+      exports_once one.source.procs out (exported_of one.source.procs) xs ys one.links.exported links.exported,
+      body_once one.source.procs out one.source.main a b one.links.body links.body,
     )
 
 read_or_refused : (source : Source) (refusal : AsmError) (r : Result Source AsmError) → r ≡ Ok source → r ≡ Err refusal → ⊥
 read_or_refused source refusal r one other = cc
 
 -- and is not refused
-pub links_or_refused : {is_kernel : Bool} {text : List ℕ} {kernel xs : List Exported} {a : Option Block} {refusal : AsmError}
-    → LinksText is_kernel text kernel xs a → Refuses is_kernel text kernel refusal → ⊥
+pub links_or_refused : {is_kernel : Bool} {text : List ℕ} {out : Outside} {xs : List Exported} {a : Option Block} {refusal : AsmError}
+    → LinksText is_kernel text out xs a → Refuses is_kernel text out refusal → ⊥
 links_or_refused {is_kernel} {text} links (unread refusal read) = read_or_refused links.source refusal (reads is_kernel text) links.read read
-links_or_refused {is_kernel} {text} {kernel} {xs} {a} links (unlinked source at cause read least) =
+links_or_refused {is_kernel} {text} {out} {xs} {a} links (unlinked source at cause read least) =
     let same = same_source links.source source (reads is_kernel text) links.read read in
-    let clean = subst (λ s. Links s kernel xs a) same links.links in
+    let clean = subst (λ s. Links s out xs a) same links.links in
     clean.clean at cause least.stands
 
-kernels_once : {kernel : Option (List ℕ)} {xs ys : List Exported} → KernelExports kernel xs → KernelExports kernel ys → xs ≡ ys
+kernels_once : {constants : List ℕ} {kernel : Option (List ℕ)} {xs ys : List Exported} → KernelExports constants kernel xs
+    → KernelExports constants kernel ys → xs ≡ ys
 kernels_once no_kernel no_kernel = refl
 kernels_once (of_kernel text xs one) (of_kernel _ ys other) = (links_once one other).0
 
@@ -79,7 +79,7 @@ same_block a b eq = cc
 pub one_program : OneProgram
 one_program constants text _ program _ (assembled xs own block _ given links is) (assembled ys owns other program' given' links' is') =
     let exports = kernels_once given' given in
-    let both = links_once links (subst (λ e. LinksText false text e owns (Some other)) exports links') in
+    let both = links_once links (subst (λ e. LinksText false text (outside_of constants e) owns (Some other)) exports links') in
     let blocks = same_block block other both.1 in (
       is'.tree ∙ ap (seen_as as_tree) (sym blocks) ∙ sym is.tree,
       is'.exports ∙ ap (map (export_of constants)) exports ∙ sym is.exports,
@@ -89,7 +89,7 @@ one_program constants text _ program _ (assembled xs own block _ (of_kernel _ _ 
     absurd (links_or_refused exports refuses)
 one_program constants text _ program _ (assembled xs own block _ given links is) (refused ys refusal given' refuses) =
     let exports = kernels_once given' given in
-    absurd (links_or_refused links (subst (λ e. Refuses false text e refusal) exports refuses))
+    absurd (links_or_refused links (subst (λ e. Refuses false text (outside_of constants e) refusal) exports refuses))
 one_program constants text _ program _ (assembled xs own block _ given links is) no_memory = refl
 
 -- the cause of each number in their order
@@ -133,17 +133,17 @@ least_once Refused a b x y one other =
     (same.0, order_once x y same.1)
 
 -- a text is refused once
-refuses_once : {is_kernel : Bool} {text : List ℕ} {kernel : List Exported} {a b : AsmError}
-    → Refuses is_kernel text kernel a → Refuses is_kernel text kernel b → a ≡ b
+refuses_once : {is_kernel : Bool} {text : List ℕ} {out : Outside} {a b : AsmError}
+    → Refuses is_kernel text out a → Refuses is_kernel text out b → a ≡ b
 refuses_once {is_kernel} {text} (unread a one) (unread b other) = same_refusal a b (reads is_kernel text) one other
   where
     same_refusal : (a b : AsmError) (r : Result Source AsmError) → r ≡ Err a → r ≡ Err b → a ≡ b
     same_refusal a b r one other = cc
 refuses_once {is_kernel} {text} (unread a one) (unlinked source at cause read least) = absurd (read_or_refused source a (reads is_kernel text) read one)
 refuses_once {is_kernel} {text} (unlinked source at cause read least) (unread b other) = absurd (read_or_refused source b (reads is_kernel text) read other)
-refuses_once {is_kernel} {text} {kernel} (unlinked source at cause read least) (unlinked again at' cause' read' least') =
+refuses_once {is_kernel} {text} {out} (unlinked source at cause read least) (unlinked again at' cause' read' least') =
     let same = same_source again source (reads is_kernel text) read' read in
-    let once = least_once (RefusesAt source kernel) at at' cause cause' least (subst (λ s. IsLeast (RefusesAt s kernel) at' cause') same least') in
+    let once = least_once (RefusesAt source out) at at' cause cause' least (subst (λ s. IsLeast (RefusesAt s out) at' cause') same least') in
     ap₂ (link_refusal is_kernel) once.0 once.1
 
 pub one_refusal : OneRefusal
@@ -153,6 +153,6 @@ one_refusal constants text _ _ _ some some' (kernel_refused kernel one refuses) 
 one_refusal constants text _ _ _ some some' (refused _ one (of_kernel _ _ exports) refuses) (kernel_refused kernel other refuses') =
     absurd (links_or_refused exports refuses')
 one_refusal constants text _ _ _ some some' (refused xs one given refuses) (refused ys other given' refuses') =
-    refuses_once refuses (subst (λ e. Refuses false text e other) (kernels_once given' given) refuses')
+    refuses_once refuses (subst (λ e. Refuses false text (outside_of constants e) other) (kernels_once given' given) refuses')
 one_refusal constants text _ _ _ some some' no_memory answer = absurd (some refl)
 one_refusal constants text _ _ _ some some' answer no_memory = absurd (some' refl)

@@ -19,7 +19,7 @@ use Rattle.masm_uses.proofs.UsedLemmas.{contains_at, at_contains}
 use Rattle.masm_names.proofs.DoubleLemmas.{cons_here}
 use Rattle.masm_flat.specs.declared.extent.Extent.{Extent}
 use Rattle.masm_flat.specs.Blocks.{Block, Piece, seen_as, seen_pieces, block_of, as_operations, as_height}
-use Rattle.masm_flat.specs.Lists.{Exported, IsList, IsBlockOf, with_locals}
+use Rattle.masm_flat.specs.Lists.{Outside, IsList, IsBlockOf, with_locals}
 use Rattle.masm_size.specs.Sizes.{as_extent, extent_of, size_of}
 use Rattle.masm_flat.proofs.Flattened.{seen-block}
 use Rattle.masm_flat.proofs.Once.{list_once}
@@ -52,8 +52,8 @@ over_none e few low = grind (arith, nat_tests)
 same_cause : (o : Option LinkCause) (a b : LinkCause) → o ≡ Some a → o ≡ Some b → b ≡ a
 same_cause o a b e f = ap (λ o. unwrap_or o a) (sym f ∙ e)
 
-module _ (procs : List Procedure) (exports : List Exported) (some : HasOperations exports) (p : Procedure) (xs : List (Piece Block))
-    (d : IsList procs exports p.locals p.body xs) where
+module _ (procs : List Procedure) (out : Outside) (some : HasOperations out.exports) (p : Procedure) (xs : List (Piece Block))
+    (d : IsList procs out p.locals p.body xs) where
   abbrev the_block : Block
   the_block = block_of (with_locals p.locals xs)
 
@@ -73,11 +73,11 @@ module _ (procs : List Procedure) (exports : List Exported) (some : HasOperation
       let one = whole.0 in
       omega arith
 
-  pub the_block_is : IsBlockOf procs exports p the_block
+  pub the_block_is : IsBlockOf procs out p the_block
   the_block_is = record { pieces = xs; flat = d; is = refl }
 
-  pub block_once : (block : Block) → IsBlockOf procs exports p block → block ≡ the_block
-  block_once block is = is.is ∙ ap (λ ys. block_of (with_locals p.locals ys)) (list_once procs exports is.flat d)
+  pub block_once : (block : Block) → IsBlockOf procs out p block → block ≡ the_block
+  block_once block is = is.is ∙ ap (λ ys. block_of (with_locals p.locals ys)) (list_once procs out is.flat d)
 
   many : (524288 < the_extent.operations) ↔ (524288 < seen_as as_operations the_block)
   many =
@@ -91,7 +91,7 @@ module _ (procs : List Procedure) (exports : List Exported) (some : HasOperation
       let is = height-block the_block in
       (λ h. omega arith, λ h. omega arith)
 
-  pub over_large : (at : Position) (cause : LinkCause) → ExceedsLimit (position_of p) the_extent at cause → IsTooLarge procs exports p at cause
+  pub over_large : (at : Position) (cause : LinkCause) → ExceedsLimit (position_of p) the_extent at cause → IsTooLarge procs out p at cause
   over_large at cause over = elim (cases_lt 524288 the_extent.operations) [
     | inl more ↦
         moved causes.TooManyOps (same_cause _ _ _ (over_operations the_extent more) over.1)
@@ -104,10 +104,10 @@ module _ (procs : List Procedure) (exports : List Exported) (some : HasOperation
     ]
   ]
     where
-      moved : (why : LinkCause) → cause ≡ why → IsTooLarge procs exports p (position_of p) why → IsTooLarge procs exports p at cause
-      moved why is h = subst (λ a. IsTooLarge procs exports p a cause) (sym over.0) (subst (IsTooLarge procs exports p (position_of p)) (sym is) h)
+      moved : (why : LinkCause) → cause ≡ why → IsTooLarge procs out p (position_of p) why → IsTooLarge procs out p at cause
+      moved why is h = subst (λ a. IsTooLarge procs out p a cause) (sym over.0) (subst (IsTooLarge procs out p (position_of p)) (sym is) h)
 
-  pub large_over : (at : Position) (cause : LinkCause) → IsTooLarge procs exports p at cause
+  pub large_over : (at : Position) (cause : LinkCause) → IsTooLarge procs out p at cause
       → (first : LinkCause) × ExceedsLimit (position_of p) the_extent at first × (order first ≤ order cause)
   large_over at cause (too_many_operations block is more) = (
     causes.TooManyOps,
@@ -132,9 +132,9 @@ module _ (procs : List Procedure) (exports : List Exported) (some : HasOperation
   ]
 
 -- the trees of a source's procedures, and that of its main body
-module _ (source : Source) (exports : List Exported) where
+module _ (source : Source) (out : Outside) where
   abbrev Large : Procedure → Position → LinkCause → Type 0
-  Large p at cause = IsTooLarge source.procs exports p at cause
+  Large p at cause = IsTooLarge source.procs out p at cause
 
   abbrev LargeProcs : Position → LinkCause → Type 0
   LargeProcs = Among (λ place p. Large p) source.procs
@@ -142,7 +142,7 @@ module _ (source : Source) (exports : List Exported) where
   abbrev LargeMain : Position → LinkCause → Type 0
   LargeMain at cause = (p : Procedure) × (source.main ≡ Some p) × Large p at cause
 
-  large_either : (at : Position) (cause : LinkCause) → Either LargeProcs LargeMain at cause → Oversized source exports at cause
+  large_either : (at : Position) (cause : LinkCause) → Either LargeProcs LargeMain at cause → Oversized source out at cause
   large_either at cause (inl h) =
       let there = Contains-append_left source.procs (option_to_list source.main) h.1.0 (contains_at source.procs h.0 h.1.0 h.1.1) in
       (there.0, h.1.0, there.1, there.2, h.1.2)
@@ -162,12 +162,12 @@ module _ (source : Source) (exports : List Exported) where
       one_is q p (zero, within, is) = is
       one_is q p (suc k, within, is) = absurd (omega arith)
 
-  either_large : (at : Position) (cause : LinkCause) → Oversized source exports at cause → Either LargeProcs LargeMain at cause
+  either_large : (at : Position) (cause : LinkCause) → Oversized source out at cause → Either LargeProcs LargeMain at cause
   either_large at cause h = elim (Contains-append_cases source.procs (option_to_list source.main) h.1 (h.0, h.2, h.3)) [
     | inl here ↦ let there = at_contains source.procs h.1 here in inl (there.0, (h.1, there.1, h.4))
     | inr main ↦ inr (h.1, in_main source.main h.1 main, h.4)
   ]
 
-  pub FindsLeast-oversized : (a b : Option Refusal) → FindsLeast LargeProcs a → FindsLeast LargeMain b → FindsLeast (Oversized source exports) (earlier a b)
-  FindsLeast-oversized a b p q = FindsLeast-same (Either LargeProcs LargeMain) (Oversized source exports) (earlier a b) large_either either_large
+  pub FindsLeast-oversized : (a b : Option Refusal) → FindsLeast LargeProcs a → FindsLeast LargeMain b → FindsLeast (Oversized source out) (earlier a b)
+  FindsLeast-oversized a b p q = FindsLeast-same (Either LargeProcs LargeMain) (Oversized source out) (earlier a b) large_either either_large
       (FindsLeast-earlier LargeProcs LargeMain a b p q)

@@ -14,7 +14,7 @@ use Rattle.masm_names.specs.declared.refusal.LinkCause.{LinkCause}
 use Rattle.masm_names.specs.declared.refusal.LinkCause.TheVariants as causes
 use Rattle.masm_names.proofs.DoubleLemmas.{cons_here}
 use Rattle.masm_flat.specs.Blocks.{Block, Span, Join, Split, Loop, Call, Syscall, seen_as, as_tree, as_operations, as_height}
-use Rattle.masm_flat.specs.Lists.{Exported, IsBlockOf}
+use Rattle.masm_flat.specs.Lists.{Exported, Outside, outside_of, IsBlockOf}
 use Rattle.masm_link.specs.Assembling.{assembled}
 use Rattle.masm_link.specs.Laws.{IsWithinLimits, AssembledTrees}
 use Rattle.masm_link.specs.Refusals.{IsTooLarge, too_many_operations, too_deep, dangling, oversized, Links}
@@ -36,17 +36,17 @@ seen_height (Loop a) = ap (λ n. 1 + n) (seen_height a)
 seen_height (Call a) = ap (λ n. 1 + n) (seen_height a)
 seen_height (Syscall a) = ap (λ n. 1 + n) (seen_height a)
 
-module _ (source : Source) (exports own : List Exported) (block : Block) (links : Links source exports own (Some block)) where
+module _ (source : Source) (out : Outside) (own : List Exported) (block : Block) (links : Links source out own (Some block)) where
   main_of : (main : Option Procedure) → source.main ≡ main
-      → MatchOption main (Some block ≡ None) (λ p. (b : Block) × (Some block ≡ Some b) × IsBlockOf source.procs exports p b)
-      → (p : Procedure) × (source.main ≡ Some p) × IsBlockOf source.procs exports p block
+      → MatchOption main (Some block ≡ None) (λ p. (b : Block) × (Some block ≡ Some b) × IsBlockOf source.procs out p b)
+      → (p : Procedure) × (source.main ≡ Some p) × IsBlockOf source.procs out p block
   main_of None is h = cc
-  main_of (Some p) is h = (p, is, subst (IsBlockOf source.procs exports p) (sym (same_Some block h.0 h.1)) h.2)
+  main_of (Some p) is h = (p, is, subst (IsBlockOf source.procs out p) (sym (same_Some block h.0 h.1)) h.2)
 
-  found : (p : Procedure) × (source.main ≡ Some p) × IsBlockOf source.procs exports p block
+  found : (p : Procedure) × (source.main ≡ Some p) × IsBlockOf source.procs out p block
   found = main_of source.main refl links.body
 
-  not_large : (at : Position) (cause : LinkCause) → ¬ (IsTooLarge source.procs exports found.0 at cause)
+  not_large : (at : Position) (cause : LinkCause) → ¬ (IsTooLarge source.procs out found.0 at cause)
   not_large at cause large =
       let p = found.0 in
       let there = Contains-append_right source.procs (option_to_list source.main) p (subst (λ o. Contains (option_to_list o) p) (sym found.1)
@@ -75,4 +75,4 @@ module _ (source : Source) (exports own : List Exported) (block : Block) (links 
 
 pub assembled-trees : AssembledTrees
 assembled-trees constants text kernel program (assembled exports own block _ k links is) =
-    (block, within links.source exports own block links.links (tree_of program.tree) is.tree)
+    (block, within links.source (outside_of constants exports) own block links.links (tree_of program.tree) is.tree)

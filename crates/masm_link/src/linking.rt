@@ -1,5 +1,5 @@
 ghost use Rattle.std.specs.Prelude.{◌≡◌, ℕ, List, Some, is_some, IfOk};
-ghost use Rattle.masm_flat.specs.Lists.{Outside};
+ghost use Rattle.masm_flat.specs.Lists as lists;
 ghost use Rattle.masm_link.specs.declared.linking.Stop.TheVariants as stops;
 ghost use Rattle.masm_tables.specs.Kernels.{IsOutside, names_in};
 ghost use Rattle.masm_link.specs.Measures.{IsMeasured, IsNeverRefused, Measures, IsLinked, LinksTo};
@@ -109,7 +109,7 @@ fn first_oversized(
 ) -> Result<Option<Refusal>, Memory>
     requires fits { SourceFits (source_of ast.now) }
     requires measured { IsMeasured (source_of ast.now) outside.now.exports.now measured.now }
-    ensures { IfOk result (λ first. (out : Outside) → IsOutside outside.now.exports.now out
+    ensures { IfOk result (λ first. (out : lists.Outside) → IsOutside outside.now.exports.now out
         → FindsLeast (Oversized (source_of ast.now) out) first) }
 {
     let procs = first_too_large(&ast.procs, &measured.sizes);
@@ -157,7 +157,7 @@ fn built(
     requires fits { SourceFits (source_of ast.now) }
     requires measured { IsMeasured (source_of ast.now) outside.now.exports.now measured.now }
     requires clean { IsNeverRefused (source_of ast.now) outside.now.exports.now }
-    ensures linked { IfOk result (λ linked. (out : Outside) → out.constants ≡ digests.old.permutations → IsOutside outside.now.exports.now out
+    ensures linked { IfOk result (λ linked. (out : lists.Outside) → out.constants ≡ digests.old.permutations → IsOutside outside.now.exports.now out
         → IsLinked (source_of ast.now) out linked) }
     ensures main { IfOk result (λ linked. is_some linked.main ≡ is_some ast.now.main) }
     ensures permutations { digests.new.permutations ≡ digests.old.permutations }

@@ -1,9 +1,9 @@
 -- The trees of assembled programs are ready: their operations can be packed, and what is packed has a reading.
-use Rattle.std.proofs.Common.{◌≡◌, ◌≢◌, ℕ, zero, suc, ◌-◌, ◌≤◌, Bool, true, false, cond, List, [], ◌∷◌, ◌++◌, length, map, Option, Some, None, MatchOption, option_map, option_and_then, Result, Ok, Err, refl, sym, ap, subst, bytes_eq, arith}
-use Rattle.std.proofs.lemmas.List.Elements.{All-from_recursion}
+use Rattle.std.proofs.Common.{◌≡◌, ◌≢◌, ℕ, zero, suc, ◌-◌, ◌<◌, ◌≤◌, Bool, true, false, cond, List, [], ◌∷◌, ◌++◌, length, map, Option, Some, None, MatchOption, option_map, option_and_then, Result, Ok, Err, refl, sym, ap, subst, bytes_eq, arith}
+use Rattle.std.proofs.lemmas.List.Elements.{All-from_recursion, All-head, All-tail}
 use Rattle.std.proofs.lemmas.Option.{same_Some}
 use Rattle.std.specs.List.{All, AllByRecursion, AllZip}
-use Rattle.vm_field.specs.Field.{prime}
+use Rattle.vm_field.specs.Field.{prime, AreElements}
 use Rattle.vm_ops.specs.declared.item.Item.{Item}
 use Rattle.vm_ops.specs.declared.op.Op.{Op}
 use Rattle.vm_ops.specs.declared.op.Op.TheVariants as ops
@@ -27,7 +27,9 @@ use Rattle.masm_tree.specs.Trees.{Body, Procedure, Source}
 use Rattle.masm_parse.proofs.Fitting.{locals-fit}
 use Rattle.masm_parse.proofs.Forming.{trees_are_in_form}
 use Rattle.masm_flat.specs.Blocks.{Block, Span, Join, Split, Loop, Call, Syscall, Piece, Operation, Whole, span_before, blocks_behind, paired, joined, all_joined, whole_of, block_of, seen_as, as_tree}
-use Rattle.masm_flat.specs.Lists.{Exported, IsList, nothing, instr, exec, call, syscall, branches, loops, repeated, first_procedure, first_export, times, with_locals, IsBlockOf}
+use Rattle.masm_flat.specs.Lists.{Exported, Outside, outside_of, ListOf, IsList, nothing, instr, exec, call, procref, syscall, branches, loops, repeated, first_procedure, first_export, times, with_locals, block_digest, digest_items, IsBlockOf}
+use Rattle.masm_flat.specs.Lists as lists
+use Rattle.masm_flat.proofs.Digests.{block-elements}
 use Rattle.masm_names.specs.Naming.{exported_of}
 use Rattle.masm_link.specs.Assembling.{reads, read_tokens, read_parsed, KernelExports, no_kernel, of_kernel, assembled}
 use Rattle.block_tree.specs.KnownTrees.{IsReady}
@@ -150,29 +152,41 @@ found-good (q ∷ procs) name p h e = by (λ is. found-good procs name p h.1 is)
     by later true is = subst IsGood (same_Some q p is) h.0
     by later false is = later is
 
-module _ (procs : List Procedure) (kernel : List Exported) (good : AllByRecursion IsGood procs)
-    (packs : (name : List ℕ) (block : Block) → first_export kernel name ≡ Some block → Packs block) where
-  packs-list : {locals : ℕ} {b : Body} {xs : List (Piece Block)} → IsList procs kernel locals b xs → HasLocals locals b
-      → BodyIsInForm b → AllByRecursion PiecePacks xs
-  packs-list nothing h k = tt
-  packs-list {locals} (instr at i {xs} d) h k =
-      all-append PiecePacks (map Operation (expansion i.name i.numbers locals)) xs
-      (packs-operations (expansion i.name i.numbers locals) (all-recursion (expansion i.name i.numbers locals)
-      (expansions_are_packable i.name i.numbers locals k.0 h.0).each)) (packs-list d h.1 k.1)
-  packs-list (exec at name {p} {ys} {xs} found d f) h k =
-      let is = found-good procs name p good found in
-      all-append PiecePacks (with_locals p.locals ys) xs (packs-locals p.locals ys is.1.0 (packs-list d is.0 is.1.1)) (packs-list f h.1 k.1)
-  packs-list (call at name {p} {ys} found d f) h k =
-      let is = found-good procs name p good found in
-      (packs-block (with_locals p.locals ys) (packs-locals p.locals ys is.1.0 (packs-list d is.0 is.1.1)), packs-list f h.1 k.1)
-  packs-list (syscall at name {callee} found f) h k = (packs name callee found, packs-list f h.1 k.1)
-  packs-list (branches at {ys} {zs} a e f) h k =
-      ((packs-block ys (packs-list a h.0 k.0), packs-block zs (packs-list e h.1 k.1)), packs-list f h.2 k.2)
-  packs-list (loops at {ys} d f) h k = (packs-block ys (packs-list d h.0 k.0), packs-list f h.1 k.1)
-  packs-list (repeated at n {ys} {xs} d f) h k =
-      all-append PiecePacks (times n ys) xs (packs-times n ys (packs-list d h.0 k.0)) (packs-list f h.1 k.1)
+-- what puts elements on the stack
+packs-literals : (elements : List ℕ) → AreElements elements → AllByRecursion PiecePacks (map Operation (digest_items elements))
+packs-literals [] h = tt
+packs-literals (v ∷ elements) h =
+    (lit_packs v (All-head (λ e. e < prime) v elements h), packs-literals elements (All-tail (λ e. e < prime) v elements h))
 
-  packs-procedure : (p : Procedure) (block : Block) → IsGood p → IsBlockOf procs kernel p block → Packs block
+module _ (procs : List Procedure) (out : Outside) (good : AllByRecursion IsGood procs)
+    (packs : (name : List ℕ) (block : Block) → first_export out.exports name ≡ Some block → Packs block) where
+  mutual
+    packs-list-of : {name : List ℕ} {ys : List (Piece Block)} → ListOf procs out name ys → AllByRecursion PiecePacks ys
+    packs-list-of (lists.own name {p} {ys} found d) =
+        let is = found-good procs name p good found in
+        packs-locals p.locals ys is.1.0 (packs-list d is.0 is.1.1)
+
+    packs-list : {locals : ℕ} {b : Body} {xs : List (Piece Block)} → IsList procs out locals b xs → HasLocals locals b
+        → BodyIsInForm b → AllByRecursion PiecePacks xs
+    packs-list nothing h k = tt
+    packs-list {locals} (instr at i {xs} d) h k =
+        all-append PiecePacks (map Operation (expansion i.name i.numbers locals)) xs
+        (packs-operations (expansion i.name i.numbers locals) (all-recursion (expansion i.name i.numbers locals)
+        (expansions_are_packable i.name i.numbers locals k.0 h.0).each)) (packs-list d h.1 k.1)
+    packs-list (exec at name {ys} {xs} d f) h k = all-append PiecePacks ys xs (packs-list-of d) (packs-list f h.1 k.1)
+    packs-list (call at name {ys} d f) h k = (packs-block ys (packs-list-of d), packs-list f h.1 k.1)
+    packs-list (procref at name {ys} {xs} d f) h k =
+        let digest = block_digest out.constants (block_of ys) in
+        all-append PiecePacks (map Operation (digest_items digest)) xs (packs-literals digest (block-elements out.constants (block_of ys)))
+        (packs-list f h.1 k.1)
+    packs-list (syscall at name {callee} found f) h k = (packs name callee found, packs-list f h.1 k.1)
+    packs-list (branches at {ys} {zs} a e f) h k =
+        ((packs-block ys (packs-list a h.0 k.0), packs-block zs (packs-list e h.1 k.1)), packs-list f h.2 k.2)
+    packs-list (loops at {ys} d f) h k = (packs-block ys (packs-list d h.0 k.0), packs-list f h.1 k.1)
+    packs-list (repeated at n {ys} {xs} d f) h k =
+        all-append PiecePacks (times n ys) xs (packs-times n ys (packs-list d h.0 k.0)) (packs-list f h.1 k.1)
+
+  packs-procedure : (p : Procedure) (block : Block) → IsGood p → IsBlockOf procs out p block → Packs block
   packs-procedure p block is built =
       subst Packs (sym built.is)
       (packs-block (with_locals p.locals built.pieces) (packs-locals p.locals built.pieces is.1.0 (packs-list built.flat is.0 is.1.1)))
@@ -216,12 +230,12 @@ good-exported (p ∷ procs) h = by (good-exported procs h.1) p.exported
     by others true = (h.0, others)
     by others false = others
 
-module _ (procs : List Procedure) (good : AllByRecursion IsGood procs) where
+module _ (constants : List ℕ) (procs : List Procedure) (good : AllByRecursion IsGood procs) where
   none-found : (name : List ℕ) (block : Block) → first_export [] name ≡ Some block → Packs block
   none-found name block e = cc
 
   exports-pack : (own : List Procedure) (exports : List Exported) → AllByRecursion IsGood own
-      → AllZip (λ p e. (e.name ≡ p.name) × IsBlockOf procs [] p e.block) own exports
+      → AllZip (λ p e. (e.name ≡ p.name) × IsBlockOf procs (outside_of constants []) p e.block) own exports
       → (name : List ℕ) (block : Block) → first_export exports name ≡ Some block → Packs block
   exports-pack [] [] h z name block found = cc
   exports-pack [] (e ∷ exports) h z name block found = absurd z
@@ -231,31 +245,31 @@ module _ (procs : List Procedure) (good : AllByRecursion IsGood procs) where
     where
       by : (first_export exports name ≡ Some block → Packs block) → (b : Bool) → cond b (Some e.block) (first_export exports name) ≡ Some block
           → Packs block
-      by later true is = subst Packs (same_Some e.block block is) (packs-procedure procs [] good none-found p e.block h.0 z.0.1)
+      by later true is = subst Packs (same_Some e.block block is) (packs-procedure procs (outside_of constants []) good none-found p e.block h.0 z.0.1)
       by later false is = later is
 
-kernel-packs : (kernel : Option (List ℕ)) (exports : List Exported) → KernelExports kernel exports
+kernel-packs : (constants : List ℕ) (kernel : Option (List ℕ)) (exports : List Exported) → KernelExports constants kernel exports
     → (name : List ℕ) (block : Block) → first_export exports name ≡ Some block → Packs block
-kernel-packs kernel exports no_kernel name block found = cc
-kernel-packs kernel exports (of_kernel text own links) name block found =
+kernel-packs constants kernel exports no_kernel name block found = cc
+kernel-packs constants kernel exports (of_kernel text own links) name block found =
     let good = good-procs true text links.source links.read in
-    exports-pack links.source.procs good (exported_of links.source.procs) own (good-exported links.source.procs good)
+    exports-pack constants links.source.procs good (exported_of links.source.procs) own (good-exported links.source.procs good)
     links.links.exported name block found
 
 -- the body between begin and end
 
-main-packs : (source : Source) (kernel own : List Exported) (block : Block) → AllByRecursion IsGood source.procs
-    → ((name : List ℕ) (callee : Block) → first_export kernel name ≡ Some callee → Packs callee)
+main-packs : (source : Source) (out : Outside) (own : List Exported) (block : Block) → AllByRecursion IsGood source.procs
+    → ((name : List ℕ) (callee : Block) → first_export out.exports name ≡ Some callee → Packs callee)
     → (main : Option Procedure) → ((p : Procedure) → main ≡ Some p → IsGood p)
-    → MatchOption main (Some block ≡ None) (λ p. (b : Block) × (Some block ≡ Some b) × IsBlockOf source.procs kernel p b) → Packs block
-main-packs source kernel own block good packs None fits h = cc
-main-packs source kernel own block good packs (Some p) fits h =
-    subst Packs (sym (same_Some block h.0 h.1)) (packs-procedure source.procs kernel good packs p h.0 (fits p refl) h.2)
+    → MatchOption main (Some block ≡ None) (λ p. (b : Block) × (Some block ≡ Some b) × IsBlockOf source.procs out p b) → Packs block
+main-packs source out own block good packs None fits h = cc
+main-packs source out own block good packs (Some p) fits h =
+    subst Packs (sym (same_Some block h.0 h.1)) (packs-procedure source.procs out good packs p h.0 (fits p refl) h.2)
 
 pub assembled-ready : AssembledIsReady
 assembled-ready constants text kernel program (assembled exports own block _ k links is) =
     let source = links.source in
     subst IsReady (sym is.tree)
     (ready-block block
-    (main-packs source exports own block (good-procs false text source links.read) (kernel-packs kernel exports k) source.main
+    (main-packs source (outside_of constants exports) own block (good-procs false text source links.read) (kernel-packs constants kernel exports k) source.main
     (λ p there. good-main false text source p links.read there) links.links.body))

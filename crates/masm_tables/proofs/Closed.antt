@@ -1,14 +1,14 @@
 -- The uses of a source of which none leads nowhere or back.
-use Rattle.std.proofs.Common.{◌≡◌, ℕ, ◌<◌, List, [], length, get_or, take, map, slice_get, Option, Some, None, refl, sym, subst, arith}
+use Rattle.std.proofs.Common.{◌≡◌, ℕ, ◌<◌, true, false, List, [], length, get_or, take, map, slice_get, Option, Some, None, refl, sym, subst, arith}
 use Rattle.std.proofs.lemmas.Grind.{flat_map-append}
 use Rattle.std.proofs.lemmas.List.{length-map}
 use Rattle.std.proofs.lemmas.List.Elements.{Contains-append_left, Contains-append_right}
 use Rattle.std.specs.List.{flat_map, Contains}
 use Rattle.std.specs.Option.{option_to_list}
-use Rattle.masm_tree.specs.Trees.{Procedure, Source}
+use Rattle.masm_tree.specs.Trees.{Body, Procedure, Source}
 use Rattle.masm_names.specs.declared.refusal.LinkCause.TheVariants as causes
 use Rattle.masm_names.specs.Naming.{IsClosed, unknown, not_in_kernel}
-use Rattle.masm_uses.specs.Plans.{NeedsIn, IsWanted, of_main}
+use Rattle.masm_uses.specs.Plans.{NeedsIn, IsWanted, of_main, IsReferred, by_main}
 use Rattle.masm_uses.specs.UseOrders.{IsUseOrder}
 use Rattle.masm_names.specs.Uses.{Use, Own, Kernel, uses_of, all_uses, first_place}
 use Rattle.masm_uses.proofs.UsedLemmas.{in_all, place_within}
@@ -59,34 +59,53 @@ module _ (source : Source) where
             (λ ns. Contains ns u.name) same h))))
         by (Some block) is = (block, is)
 
+    -- each use in a body leads to a place of which this holds
+    leads_in : (Done : ℕ → Type 0) (b : Body) → ((u : Use) → Contains (uses_of b) u → Contains (all_uses source) u)
+        → ((u : Use) (j : ℕ) → Contains (uses_of b) u → u.kind ≡ Own → first_place source.procs u.name ≡ Some j → Done j)
+        → (u : Use) → Contains (uses_of b) u → u.kind ≡ Own → Behind source.procs Done u.name
+    leads_in Done b among done u has own =
+        let leads = own_leads u (among u has) own in
+        (leads.0, leads.1, done u leads.0 has own leads.1)
+
     pub uses_behind : (order : List ℕ) → IsUseOrder source.procs order → (k : ℕ) (p : Procedure) → k < length order
-        → slice_get source.procs (get_or order k 0) ≡ Some p → UsesOnly (Behind source.procs (Contains (take k order))) p.body
+        → slice_get source.procs (get_or order k 0) ≡ Some p
+        → UsesOnly (Behind source.procs (Contains (take k order))) (Behind source.procs (Contains (take k order))) p.body
     uses_behind order is k p below here =
-        uses_only (Behind source.procs (Contains (take k order))) p.body (λ u has own.
-        let leads = own_leads u (among_procs (get_or order k 0) p u here has) own in
-        (leads.0, leads.1, is.behind k u leads.0 below (record { procedure = p; here = here; among = has; own = own; target = leads.1 })))
+        let leads = leads_in (Contains (take k order)) p.body (λ u has. among_procs (get_or order k 0) p u here has)
+        (λ u j has own to. is.behind k u j below (record { procedure = p; here = here; among = has; own = own; target = to })) in
+        uses_only (Behind source.procs (Contains (take k order))) (Behind source.procs (Contains (take k order))) p.body
+        (λ u has own runs. leads u has own) (λ u has own refers. leads u has own)
 
     pub uses_main : (order : List ℕ) → IsUseOrder source.procs order → (p : Procedure) → source.main ≡ Some p
-        → UsesOnly (Behind source.procs (Contains order)) p.body
+        → UsesOnly (Behind source.procs (Contains order)) (Behind source.procs (Contains order)) p.body
     uses_main order is p main =
-        uses_only (Behind source.procs (Contains order)) p.body (λ u has own.
-        let leads = own_leads u (among_main p u main has) own in
-        let below = place_within (map (λ (q : Procedure). q.name) source.procs) u.name leads.0 leads.1 in
+        let leads = leads_in (Contains order) p.body (λ u has. among_main p u main has)
+        (λ u j has own to. is.all j
+        (let below = place_within (map (λ (q : Procedure). q.name) source.procs) u.name j to in
         let count = length-map source.procs (λ (q : Procedure). q.name) in
-        (leads.0, leads.1, is.all leads.0 (omega arith)))
+        omega arith)) in
+        uses_only (Behind source.procs (Contains order)) (Behind source.procs (Contains order)) p.body
+        (λ u has own runs. leads u has own) (λ u has own refers. leads u has own)
 
-    -- the same where the procedures that are used have these places
-    pub uses_held : (Held : ℕ → Type 0) (place : ℕ) (p : Procedure) → slice_get source.procs place ≡ Some p
-        → ((j : ℕ) → NeedsIn source.procs place j → Held j) → UsesOnly (Behind source.procs Held) p.body
-    uses_held Held place p here held =
-        uses_only (Behind source.procs Held) p.body (λ u has own.
+    -- the same where the lists of the procedures that are used, and the digests, have these places
+    pub uses_held : (Held Known : ℕ → Type 0) (place : ℕ) (p : Procedure) → slice_get source.procs place ≡ Some p
+        → ((j : ℕ) → NeedsIn source.procs false place j → Held j) → ((j : ℕ) → NeedsIn source.procs true place j → Known j)
+        → UsesOnly (Behind source.procs Held) (Behind source.procs Known) p.body
+    uses_held Held Known place p here held known =
+        uses_only (Behind source.procs Held) (Behind source.procs Known) p.body
+        (λ u has own runs.
         let leads = own_leads u (among_procs place p u here has) own in
-        (leads.0, leads.1, held leads.0 (u, record { procedure = p; here = here; among = has; own = own; target = leads.1 })))
+        (leads.0, leads.1, held leads.0 (u, record { procedure = p; here = here; among = has; own = own; target = leads.1 }, runs)))
+        (λ u has own refers.
+        let leads = own_leads u (among_procs place p u here has) own in
+        (leads.0, leads.1, known leads.0 (u, record { procedure = p; here = here; among = has; own = own; target = leads.1 }, refers)))
 
-    pub uses_wanted : (p : Procedure) → source.main ≡ Some p → UsesOnly (Behind source.procs (IsWanted source)) p.body
+    pub uses_wanted : (p : Procedure) → source.main ≡ Some p
+        → UsesOnly (Behind source.procs (IsWanted source)) (Behind source.procs (IsReferred source)) p.body
     uses_wanted p main =
-        uses_only (Behind source.procs (IsWanted source)) p.body (λ u has own.
-        let leads = own_leads u (among_main p u main has) own in (leads.0, leads.1, of_main p u main has own leads.1))
+        uses_only (Behind source.procs (IsWanted source)) (Behind source.procs (IsReferred source)) p.body
+        (λ u has own runs. let leads = own_leads u (among_main p u main has) own in (leads.0, leads.1, of_main p u main has own runs leads.1))
+        (λ u has own refers. let leads = own_leads u (among_main p u main has) own in (leads.0, leads.1, by_main p u main has own refers leads.1))
 
     pub syscalls_procs : (exports : List Exported) → names ≡ names_of exports → (place : ℕ) (p : Procedure) → slice_get source.procs place ≡ Some p
         → SyscallsOnly (IsExportName exports) p.body

@@ -7,7 +7,7 @@ use Rattle.masm_tree.specs.Trees.{Procedure, Source}
 use Rattle.masm_names.specs.Naming.{IsClosed}
 use Rattle.masm_uses.specs.UseOrders.{IsUseOrder}
 use Rattle.masm_flat.specs.Blocks.{Block, Piece}
-use Rattle.masm_flat.specs.Lists.{Exported, IsList}
+use Rattle.masm_flat.specs.Lists.{Outside, own, IsList, with_locals}
 use Rattle.masm_flat.proofs.HasList.{has_list}
 use Rattle.masm_tables.specs.Kernels.{names_of}
 use Rattle.masm_tables.proofs.Closed.{Behind, IsExportName, uses_behind, uses_main, syscalls_procs, syscalls_main}
@@ -21,23 +21,23 @@ in_front k xs x within h =
     let low_too : h.0 < length xs = omega arith in
     (h.0, low, get_or_default xs h.0 0 x low_too ∙ sym (get_or-take k xs h.0 x low) ∙ h.2)
 
-module _ (source : Source) (names : List (List ℕ)) (closed : IsClosed source names) (exports : List Exported) (same : names ≡ names_of exports)
+module _ (source : Source) (names : List (List ℕ)) (closed : IsClosed source names) (out : Outside) (same : names ≡ names_of out.exports)
     (order : List ℕ) (is : IsUseOrder source.procs order) where
   abbrev HasListOf : Procedure → Type 0
-  HasListOf p = (xs : List (Piece Block)) × IsList source.procs exports p.locals p.body xs
+  HasListOf p = (xs : List (Piece Block)) × IsList source.procs out p.locals p.body xs
 
   exist : (n k : ℕ) → k < n → n ≤ length order → (p : Procedure) → slice_get source.procs (get_or order k 0) ≡ Some p → HasListOf p
   exist zero k low within p here = absurd (omega arith)
   exist (suc n) k low within p here =
-      has_list (Behind source.procs (Contains (take k order))) (IsExportName exports)
+      has_list (Behind source.procs (Contains (take k order))) (IsExportName out.exports)
       (λ name behind.
       let found = procedure_found source.procs name behind.0 behind.1 in
       let before = in_front k order behind.0 (omega arith) behind.2 in
       let below : before.0 < n = let l = before.1 in omega arith in
       let list = exist n before.0 below (omega arith) found.0 (ap (slice_get source.procs) before.2 ∙ found.1) in
-      (found.0, list.0, found.2, list.1))
+      (with_locals found.0.locals list.0, own name found.2 list.1))
       (λ name has. has) p.locals p.body
-      (uses_behind source names closed order is k p (omega arith) here) (syscalls_procs source names closed exports same (get_or order k 0) p here)
+      (uses_behind source names closed order is k p (omega arith) here) (syscalls_procs source names closed out.exports same (get_or order k 0) p here)
 
   pub list_of_procedure : (place : ℕ) (p : Procedure) → slice_get source.procs place ≡ Some p → HasListOf p
   list_of_procedure place p here =
@@ -47,9 +47,9 @@ module _ (source : Source) (names : List (List ℕ)) (closed : IsClosed source n
 
   pub list_of_main : (p : Procedure) → source.main ≡ Some p → HasListOf p
   list_of_main p main =
-      has_list (Behind source.procs (Contains order)) (IsExportName exports)
+      has_list (Behind source.procs (Contains order)) (IsExportName out.exports)
       (λ name behind.
       let found = procedure_found source.procs name behind.0 behind.1 in
       let list = list_of_procedure behind.0 found.0 found.1 in
-      (found.0, list.0, found.2, list.1))
-      (λ name has. has) p.locals p.body (uses_main source names closed order is p main) (syscalls_main source names closed exports same p main)
+      (with_locals found.0.locals list.0, own name found.2 list.1))
+      (λ name has. has) p.locals p.body (uses_main source names closed order is p main) (syscalls_main source names closed out.exports same p main)

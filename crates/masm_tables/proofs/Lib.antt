@@ -2,7 +2,9 @@ pub mod Built
 pub mod Closed
 pub mod Exist
 pub mod Finding
+pub mod Got
 pub mod Known
 pub mod Over
+pub mod Put
 pub mod Steps
 pub mod Taken

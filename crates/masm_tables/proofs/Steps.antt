@@ -1,73 +1,65 @@
 -- The steps of a plan, one behind the other.
-use Rattle.std.proofs.Common.{◌≡◌, ℕ, ◌+◌, ◌<◌, ◌≤◌, List, [], ◌∷◌, ◌++◌, length, take, get_or, Vec, Global, refl, sym, ap, subst, ◌∙◌}
+use Rattle.std.proofs.Common.{◌≡◌, ℕ, ◌+◌, ◌<◌, ◌≤◌, Bool, true, false, List, [], ◌∷◌, ◌++◌, length, take, get_or, Vec, Global, refl, sym, ap, subst, ◌∙◌}
 use Rattle.std.specs.Prelude.{reverse}
 use Rattle.std.proofs.lemmas.List.{take_more, take_all, reverse-append}
 use Rattle.masm_tree.specs.Trees.{Source}
 use Rattle.masm_uses.specs.declared.planning.Step.{Step}
-use Rattle.masm_uses.specs.Plans.{HeldBehind, Builds, IsPlan, IsWanted, NeedsIn}
+use Rattle.masm_uses.specs.Plans.{HeldBehind, Builds, IsPlan, IsWanted, IsReferred, NeedsIn, keeps_list, ended_lists, makes_digest, no_ends}
 use Rattle.masm_uses.proofs.PlanLemmas.{builds-more}
 use Rattle.masm_flat.specs.declared.piece.Piece as piece
-use Rattle.masm_flat.specs.Lists.{Exported}
-use Rattle.masm_tables.specs.Tables.{IsListAt, AreLists}
+use Rattle.masm_flat.specs.Lists.{Outside}
+use Rattle.masm_tables.specs.Tables.{IsListAt, IsDigestAt}
 
 -- the places of steps, which are those of procedures
 abbrev pub ArePlaces : ℕ → List Step → Type 0
-ArePlaces count steps = Builds (λ i j. ⊥) count (λ q. ⊥) (λ q. Unit {0}) steps
+ArePlaces count steps = Builds keeps_list ended_lists (λ i j. ⊥) count (λ q. ⊥) (λ q. Unit {0}) steps
 
 -- the steps build the lists that are wanted, where these lists are built
-abbrev pub BuildsLists : Source → List Exported → List (Vec piece.Piece Global) → List Step → Type 0
-BuildsLists source exports lists steps =
-    Builds (NeedsIn source.procs) (length source.procs) (IsWanted source) (IsListAt source.procs exports lists) steps
+abbrev pub BuildsLists : Source → Outside → List (Vec piece.Piece Global) → List Step → Type 0
+BuildsLists source out lists steps =
+    Builds keeps_list ended_lists (NeedsIn source.procs false) (length source.procs) (IsWanted source) (IsListAt source.procs out lists) steps
 
-module _ (source : Source) where
-  pub places-all : (steps : List Step) (n : ℕ) → length steps ≤ n → IsPlan source steps → ArePlaces (length source.procs) (reverse (take n steps))
-  places-all steps n all plan =
-      subst (λ xs. ArePlaces (length source.procs) (reverse xs)) (sym (take_all n steps all))
-      (builds-more (NeedsIn source.procs) (λ i j. ⊥) (length source.procs) (length source.procs) (IsWanted source) (λ q. ⊥) (λ q. ⊥)
-      (λ q. Unit {0}) (reverse steps)
-      refl (λ i j h. absurd h) (λ q h. absurd h) (λ q h. absurd h) plan)
+-- and the digests, where these are made
+abbrev pub BuildsDigests : Source → Outside → List (List ℕ) → List Step → Type 0
+BuildsDigests source out digests steps =
+    Builds makes_digest no_ends (NeedsIn source.procs true) (length source.procs) (IsReferred source) (IsDigestAt source.procs out digests) steps
 
-  pub builds-all : (exports : List Exported) (lists : List (Vec piece.Piece Global)) (steps : List Step) (n : ℕ) → length steps ≤ n
-      → IsPlan source steps
-      → BuildsLists source exports lists (reverse (take n steps))
-  builds-all exports lists steps n all plan =
-      subst (λ xs. BuildsLists source exports lists (reverse xs)) (sym (take_all n steps all))
-      (builds-more (NeedsIn source.procs) (NeedsIn source.procs) (length source.procs) (length source.procs) (IsWanted source)
-      (IsWanted source) (λ q. ⊥)
-      (IsListAt source.procs exports lists) (reverse steps) refl (λ i j h. h) (λ q h. h) (λ q h. absurd h) plan)
+-- the next step stands last
+steps_more : (steps : List Step) (k : ℕ) (step : Step) → k < length steps → step ≡ get_or steps k step
+    → reverse (take (k + 1) steps) ≡ step ∷ reverse (take k steps)
+steps_more steps k step below is =
+    ap reverse (take_more steps k step below ∙ ap (λ s. take k steps ++ s ∷ []) (sym is)) ∙ reverse-append (take k steps) (step ∷ [])
 
-  -- the next step stands last
-  steps_more : (steps : List Step) (k : ℕ) (step : Step) → k < length steps → step ≡ get_or steps k step
-      → reverse (take (k + 1) steps) ≡ step ∷ reverse (take k steps)
-  steps_more steps k step below is =
-      ap reverse (take_more steps k step below ∙ ap (λ s. take k steps ++ s ∷ []) (sym is)) ∙ reverse-append (take k steps) (step ∷ [])
+-- Steps of either kind, where something is held.
+module _ (makes : Step → Bool) (ends : Step → List ℕ) (Needs : ℕ → ℕ → Type 0) (count : ℕ) (Wanted : ℕ → Type 0) (steps : List Step) where
+  abbrev pub Holds : (ℕ → Type 0) → ℕ → Type 0
+  Holds Held n = Builds makes ends Needs count Wanted Held (reverse (take n steps))
 
-  module _ (steps : List Step) (k n : ℕ) (step : Step) (below : k < length steps) (is : step ≡ get_or steps k step) (count : n ≡ k + 1) where
+  pub holds-all : (Held : ℕ → Type 0) (n : ℕ) → length steps ≤ n → Builds makes ends Needs count Wanted (λ q. ⊥) (reverse steps) → Holds Held n
+  holds-all Held n all plan =
+      subst (λ xs. Builds makes ends Needs count Wanted Held (reverse xs)) (sym (take_all n steps all))
+      (builds-more makes ends Needs Needs count count Wanted Wanted (λ q. ⊥) Held (reverse steps) refl (λ i j h. h) (λ q h. h) (λ q h. absurd h) plan)
+
+  module _ (k n : ℕ) (step : Step) (below : k < length steps) (is : step ≡ get_or steps k step) (next : n ≡ k + 1) where
     longer : reverse (take n steps) ≡ step ∷ reverse (take k steps)
-    longer = ap (λ m. reverse (take m steps)) count ∙ steps_more steps k step below is
+    longer = ap (λ m. reverse (take m steps)) next ∙ steps_more steps k step below is
 
-    pub place-next : ArePlaces (length source.procs) (reverse (take n steps)) → step.place < length source.procs
-    place-next places = (subst (ArePlaces (length source.procs)) longer places).0
+    pub holds-needs : (Held : ℕ → Type 0) → Holds Held n → (q : ℕ) → Needs step.place q → Held q
+    holds-needs Held builds = (subst (Builds makes ends Needs count Wanted Held) longer builds).1
 
-    pub places-next : ArePlaces (length source.procs) (reverse (take n steps)) → ArePlaces (length source.procs) (reverse (take k steps))
-    places-next places =
-        builds-more (λ i j. ⊥) (λ i j. ⊥) (length source.procs) (length source.procs) (λ q. ⊥) (λ q. ⊥)
-        (HeldBehind (λ q. Unit {0}) step) (λ q. Unit {0})
-        (reverse (take k steps)) refl (λ i j h. h) (λ q h. h) (λ q h. tt) (subst (ArePlaces (length source.procs)) longer places).2
+    pub holds-place : (Held : ℕ → Type 0) → Holds Held n → step.place < count
+    holds-place Held builds = (subst (Builds makes ends Needs count Wanted Held) longer builds).0
 
-    pub needs-next : (exports : List Exported) (lists : List (Vec piece.Piece Global)) → BuildsLists source exports lists (reverse (take n steps))
-        → (q : ℕ) → NeedsIn source.procs step.place q → IsListAt source.procs exports lists q
-    needs-next exports lists builds = (subst (BuildsLists source exports lists) longer builds).1
+    pub holds-next : (Held Held' : ℕ → Type 0) → Holds Held n → ((q : ℕ) → HeldBehind makes ends Held step q → Held' q) → Holds Held' k
+    holds-next Held Held' builds held =
+        builds-more makes ends Needs Needs count count Wanted Wanted (HeldBehind makes ends Held step) Held' (reverse (take k steps)) refl
+        (λ i j h. h) (λ q h. h) held (subst (Builds makes ends Needs count Wanted Held) longer builds).2
 
-    pub builds-next : (exports : List Exported) (old new : List (Vec piece.Piece Global)) → BuildsLists source exports old (reverse (take n steps))
-        → ((q : ℕ) → HeldBehind (IsListAt source.procs exports old) step q → IsListAt source.procs exports new q)
-        → BuildsLists source exports new (reverse (take k steps))
-    builds-next exports old new builds held =
-        builds-more (NeedsIn source.procs) (NeedsIn source.procs) (length source.procs) (length source.procs) (IsWanted source) (IsWanted source)
-        (HeldBehind (IsListAt source.procs exports old) step) (IsListAt source.procs exports new) (reverse (take k steps)) refl
-        (λ i j h. h) (λ q h. h) held
-        (subst (BuildsLists source exports old) longer builds).2
+  pub holds-end : (Held : ℕ → Type 0) (n : ℕ) → n ≡ 0 → Holds Held n → (q : ℕ) → Wanted q → Held q
+  holds-end Held n none builds = subst (λ m. Builds makes ends Needs count Wanted Held (reverse (take m steps))) none builds
 
-  pub lists-end : (exports : List Exported) (lists : List (Vec piece.Piece Global)) (steps : List Step) (n : ℕ) → n ≡ 0
-      → BuildsLists source exports lists (reverse (take n steps)) → AreLists source exports lists
-  lists-end exports lists steps n none builds = subst (λ m. BuildsLists source exports lists (reverse (take m steps))) none builds
+-- the places of a plan
+pub plan-places : (source : Source) (steps : List Step) → IsPlan source steps → ArePlaces (length source.procs) (reverse steps)
+plan-places source steps plan =
+    builds-more keeps_list ended_lists (NeedsIn source.procs false) (λ i j. ⊥) (length source.procs) (length source.procs) (IsWanted source)
+    (λ q. ⊥) (λ q. ⊥) (λ q. Unit {0}) (reverse steps) refl (λ i j h. absurd h) (λ q h. absurd h) (λ q h. absurd h) plan.lists

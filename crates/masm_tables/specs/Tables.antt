@@ -9,7 +9,7 @@ use Rattle.masm_tree.specs.Views.{body_of}
 use Rattle.masm_names.specs.declared.names.Names.{Names}
 use Rattle.masm_flat.specs.declared.outside.KernelProc.{KernelProc}
 use Rattle.masm_flat.specs.Flattening.{flat_with}
-use Rattle.masm_tables.specs.declared.listing.Built.{Built}
+use Rattle.masm_tables.specs.declared.listing.Listings.{Listings}
 use Rattle.masm_uses.specs.Plans.{IsWanted, IsReferred}
 use Rattle.masm_flat.specs.declared.piece.Piece as piece
 use Rattle.masm_size.specs.declared.shape.Size as shape
@@ -52,6 +52,6 @@ abbrev pub AreDigests : Source → Outside → List (List ℕ) → Type 0
 AreDigests source out digests = (place : ℕ) → IsReferred source place → IsDigestAt source.procs out digests place
 
 -- the list of a procedure, with the lists and digests that are kept
-abbrev pub listed : Names → Built → List KernelProc → Proc → List (Piece Tree)
+abbrev pub listed : Names → Listings → List KernelProc → Proc → List (Piece Tree)
 listed names built kernel p =
     with_locals p.locals (flat_with as_tree (lists_known names built.table.lists.items built.digests.items kernel) p.locals (body_of p.body.items))

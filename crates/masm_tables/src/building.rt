@@ -14,7 +14,7 @@ ghost use Rattle.masm_names.specs.Names.{place_at};
 ghost use Rattle.masm_uses.specs.Plans.{main_uses};
 ghost use Rattle.masm_tables.specs.Building.{AreBuilt};
 
-use crate::listing::Built;
+use crate::listing::Listings;
 use block_tree::Tree;
 use masm_flat::{
     KernelProc, Outside, Piece, Scope, Table, add_copies, list_of_procedure, tree_of_list,
@@ -73,7 +73,7 @@ pub fn main_tree(
     outside: &Outside<'_>,
     main: &Option<Proc>,
     uses: &[usize],
-    built: Built,
+    built: Listings,
 ) -> Result<Option<Tree>, Memory>
     requires fits { MainFits (option_map procedure_of main.now) }
     requires uses { uses.now ≡ main_uses (place_at names.now) (option_map procedure_of main.now) }
@@ -85,7 +85,7 @@ pub fn main_tree(
     let Some(procedure) = main else {
         return Ok(None);
     };
-    let Built { table, digests } = built;
+    let Listings { table, digests } = built;
     let scope = Scope {
         names,
         outside,

@@ -11,5 +11,5 @@ mod sizing;
 pub use building::{exports_of, main_tree};
 pub use kernel::export_names;
 pub use limits::{first_too_large, main_too_large};
-pub use listing::{Built, lists_of};
+pub use listing::{Listings, lists_of};
 pub use sizing::sizes_of;

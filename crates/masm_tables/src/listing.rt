@@ -6,7 +6,8 @@ ghost use Rattle.block_tree.specs.Trees.{tree_digest};
 ghost use Rattle.masm_flat.specs.Blocks.{as_tree, whole};
 ghost use Rattle.masm_flat.specs.Flattening.{flat_with};
 ghost use Rattle.masm_flat.specs.KnownLists.{lists_known};
-ghost use Rattle.masm_flat.specs.Lists.{Outside, with_locals};
+ghost use Rattle.masm_flat.specs.Lists as lists;
+ghost use Rattle.masm_flat.specs.Lists.{with_locals};
 ghost use Rattle.masm_flat.specs.Views.{pieces_of};
 ghost use Rattle.masm_tree.specs.Locals.{HasLocals, SourceFits};
 ghost use Rattle.masm_tree.specs.Views.{body_of, source_of};
@@ -17,6 +18,7 @@ ghost use Rattle.masm_uses.specs.Plans.{EndsInFull, IsNoneOrAll, IsPlan};
 ghost use Rattle.masm_names.specs.UsedPlaces.{places_used};
 ghost use Rattle.masm_names.specs.Uses.{first_place, uses_of};
 ghost use Rattle.masm_tables.specs.Kernels.{AreExports, names_in};
+ghost use Rattle.masm_tables.specs.Putting.{Puts};
 ghost use Rattle.masm_tables.specs.Tables.{AreLists, AreDigests, listed};
 
 use masm_flat::{
@@ -26,6 +28,7 @@ use masm_names::Names;
 use masm_tree::{Ast, Proc};
 use masm_uses::Step;
 use std::alloc::{AllocError, Global};
+use std::mem;
 use tree_hash::Digests;
 use vm_field::{Memory, Word};
 
@@ -63,89 +66,83 @@ fn list_of_step(
     ensures count { IfOk result (λ list. length table.new.lists.items ≡ length table.old.lists.items) }
 {
     table.expect(&step.ended);
-    list_of_procedure(alloc, scope, table, procedure)
+    let list = list_of_procedure(alloc, scope, table, procedure)?;
+    Ok(list)
 }
 
-// The digest of the tree of a list.
-fn digest_of_list(alloc: Global, digests: &mut Digests, list: Vec<Piece>) -> Result<Word, Memory>
-    ensures digest { IfOk result (λ digest. digest ≡ tree_digest digests.old.permutations (whole as_tree (pieces_of list.items))) }
-    ensures permutations { digests.new.permutations ≡ digests.old.permutations }
+// The list of which a digest is made: a copy where it is kept, and else the list itself.
+fn hashed_list(alloc: Global, list: &mut Vec<Piece>, kept: bool) -> Result<Vec<Piece>, Memory>
+    ensures list { IfOk result (λ hashed. pieces_of hashed.items ≡ pieces_of list.old.items) }
+    ensures kept { kept ≡ true → list.new.items ≡ list.old.items }
 {
-    let tree = tree_of_list(alloc, list)?;
-    digests.of_tree(alloc, &tree)
-}
-
-// The digest of the tree of a list that is kept.
-fn digest_of_kept(alloc: Global, digests: &mut Digests, list: &[Piece]) -> Result<Word, Memory>
-    ensures digest { IfOk result (λ digest. digest ≡ tree_digest digests.old.permutations (whole as_tree (pieces_of list.now))) }
-    ensures permutations { digests.new.permutations ≡ digests.old.permutations }
-{
+    if !kept {
+        return Ok(mem::replace(list, Vec::new(alloc)));
+    }
     let mut copy = Vec::new(alloc);
     add_copies(alloc, list, &mut copy)?;
-    digest_of_list(alloc, digests, copy)
+    Ok(copy)
+}
+
+// Puts the digest of the tree of a list at its place, where later steps or the end need it.
+fn put_digest(
+    alloc: Global,
+    step: &Step,
+    list: &mut Vec<Piece>,
+    digests: &mut Digests,
+    known: &mut Vec<Word>,
+) -> Result<(), Memory>
+    requires { step.now.place < length known.old.items }
+    ensures digest { OnOk result (Puts step.now.referred step.now.place
+        (λ digest. digest ≡ tree_digest digests.old.permutations (whole as_tree (pieces_of list.old.items))) (λ q. Unit {0})
+        known.old.items known.new.items) }
+    ensures kept { OnOk result (step.now.kept ≡ true → list.new.items ≡ list.old.items) }
+    ensures permutations { digests.new.permutations ≡ digests.old.permutations }
+{
+    if !step.referred {
+        return Ok(());
+    }
+    let hashed = hashed_list(alloc, list, step.kept)?;
+    let tree = tree_of_list(alloc, hashed)?;
+    let digest = digests.of_tree(alloc, &tree)?;
+    known[step.place] = digest;
+    Ok(())
+}
+
+// Puts a list at its place, where later steps or the end need it.
+fn put_list(step: &Step, list: Vec<Piece>, table: &mut Table)
+    requires place { step.now.place < length table.old.lists.items }
+    requires none { HasNoneLeft table.old }
+    ensures list { Puts step.now.kept step.now.place (λ put. put.items ≡ list.items) (λ q. Unit {0}) table.old.lists.items table.new.lists.items }
+    ensures none { HasNoneLeft table.new }
+{
+    if step.kept {
+        table.lists[step.place] = kept(list, step);
+    }
 }
 
 /// What is kept of procedures, by their places.
 #[derive(Drop)]
-pub struct Built {
+pub struct Listings {
     /// The lists that are needed.
     pub table: Table,
     /// The digests of the trees that procrefs ask for; others are zeros.
     pub digests: Vec<Word>,
 }
 
-impl Built {
+impl Listings {
     // Nothing is kept of so many procedures.
-    fn new(alloc: Global, count: usize) -> Result<Built, AllocError>
+    fn new(alloc: Global, count: usize) -> Result<Listings, AllocError>
         ensures lists { IfOk result (λ built. length built.table.lists.items ≡ count) }
         ensures digests { IfOk result (λ built. length built.digests.items ≡ count) }
         ensures none { IfOk result (λ built. HasNoneLeft built.table) }
     {
-        Ok(Built {
+        Ok(Listings {
             table: Table::new(alloc, count)?,
             digests: vec![in alloc; Word::ZERO; count]?,
         })
     }
 
-    // Keeps of a procedure's list what later steps or the end need: the list, the digest of its
-    // tree, or both.
-    fn keep(
-        &mut self,
-        alloc: Global,
-        digests: &mut Digests,
-        step: &Step,
-        list: Vec<Piece>,
-    ) -> Result<(), Memory>
-        requires lists { step.now.place < length self.old.table.lists.items }
-        requires digests { step.now.place < length self.old.digests.items }
-        requires none { HasNoneLeft self.old.table }
-        ensures list { OnOk result (step.now.kept ≡ true → (kept : Vec Piece Global)
-            × (slice_get self.new.table.lists.items step.now.place ≡ Some kept) × (kept.items ≡ list.items)) }
-        ensures digest { OnOk result (step.now.referred ≡ true → slice_get self.new.digests.items step.now.place
-            ≡ Some (tree_digest digests.old.permutations (whole as_tree (pieces_of list.items)))) }
-        ensures lists { OnOk result ((place : ℕ) → place ≢ step.now.place
-            → slice_get self.new.table.lists.items place ≡ slice_get self.old.table.lists.items place) }
-        ensures digests { OnOk result ((place : ℕ) → place ≢ step.now.place
-            → slice_get self.new.digests.items place ≡ slice_get self.old.digests.items place) }
-        ensures none { OnOk result (HasNoneLeft self.new.table) }
-        ensures lists_count { OnOk result (length self.new.table.lists.items ≡ length self.old.table.lists.items) }
-        ensures digests_count { OnOk result (length self.new.digests.items ≡ length self.old.digests.items) }
-        ensures permutations { digests.new.permutations ≡ digests.old.permutations }
-    {
-        if !step.kept {
-            let digest = digest_of_list(alloc, digests, list)?;
-            self.digests[step.place] = digest;
-            return Ok(());
-        }
-        if step.referred {
-            let digest = digest_of_kept(alloc, digests, &list)?;
-            self.digests[step.place] = digest;
-        }
-        self.table.lists[step.place] = kept(list, step);
-        Ok(())
-    }
-
-    // Builds the list of a procedure, and keeps of it what is needed.
+    // Builds the list of a procedure, and keeps of it what later steps or the end need.
     fn add_step(
         &mut self,
         alloc: Global,
@@ -161,18 +158,14 @@ impl Built {
         requires none { HasNoneLeft self.old.table }
         requires ended { IsNoneOrAll step.now.ended.items
             (places_used (place_at names.now) (uses_of (body_of procedure.now.body.items))) }
-        ensures list { OnOk result (step.now.kept ≡ true → (list : Vec Piece Global)
-            × (slice_get self.new.table.lists.items step.now.place ≡ Some list)
-            × (pieces_of list.items ≡ listed names.now self.old outside.now.exports.now procedure.now)) }
-        ensures digest { OnOk result (step.now.referred ≡ true → slice_get self.new.digests.items step.now.place
-            ≡ Some (tree_digest digests.old.permutations (whole as_tree (listed names.now self.old outside.now.exports.now procedure.now)))) }
-        ensures lists { OnOk result ((place : ℕ) → place ≢ step.now.place → ¬ (Contains step.now.ended.items place)
-            → slice_get self.new.table.lists.items place ≡ slice_get self.old.table.lists.items place) }
-        ensures digests { OnOk result ((place : ℕ) → place ≢ step.now.place
-            → slice_get self.new.digests.items place ≡ slice_get self.old.digests.items place) }
+        ensures list { OnOk result (Puts step.now.kept step.now.place
+            (λ list. pieces_of list.items ≡ listed names.now self.old outside.now.exports.now procedure.now)
+            (λ q. ¬ (Contains step.now.ended.items q)) self.old.table.lists.items self.new.table.lists.items) }
+        ensures digest { OnOk result (Puts step.now.referred step.now.place
+            (λ digest. digest ≡ tree_digest digests.old.permutations
+            (whole as_tree (listed names.now self.old outside.now.exports.now procedure.now)))
+            (λ q. Unit {0}) self.old.digests.items self.new.digests.items) }
         ensures none { OnOk result (HasNoneLeft self.new.table) }
-        ensures lists_count { OnOk result (length self.new.table.lists.items ≡ length self.old.table.lists.items) }
-        ensures digests_count { OnOk result (length self.new.digests.items ≡ length self.old.digests.items) }
         ensures permutations { digests.new.permutations ≡ digests.old.permutations }
     {
         let scope = Scope {
@@ -180,8 +173,10 @@ impl Built {
             outside,
             digests: self.digests.as_slice(),
         };
-        let list = list_of_step(alloc, &scope, procedure, step, &mut self.table)?;
-        self.keep(alloc, digests, step, list)
+        let mut list = list_of_step(alloc, &scope, procedure, step, &mut self.table)?;
+        put_digest(alloc, step, &mut list, digests, &mut self.digests)?;
+        put_list(step, list, &mut self.table);
+        Ok(())
     }
 }
 
@@ -195,25 +190,24 @@ pub fn lists_of(
     outside: &Outside<'_>,
     steps: &[Step],
     digests: &mut Digests,
-) -> Result<Built, Memory>
+) -> Result<Listings, Memory>
     requires names { (name : List ℕ) → place_at names.now name ≡ first_place (source_of ast.now).procs name }
     requires fits { SourceFits (source_of ast.now) }
     requires closed { IsClosed (source_of ast.now) (names_in outside.now.exports.now) }
     requires steps { IsPlan (source_of ast.now) steps.now }
     requires ended { All (EndsInFull (place_at names.now) (source_of ast.now).procs) steps.now }
     ensures count { IfOk result (λ built. length built.table.lists.items ≡ length (source_of ast.now).procs) }
-    ensures lists { IfOk result (λ built. (out : Outside) → out.constants ≡ digests.old.permutations → AreExports out.exports outside.now.exports.now
+    ensures lists { IfOk result (λ built. (out : lists.Outside) → out.constants ≡ digests.old.permutations → AreExports out.exports outside.now.exports.now
         → AreLists (source_of ast.now) out built.table.lists.items) }
-    ensures digests { IfOk result (λ built. (out : Outside) → out.constants ≡ digests.old.permutations → AreExports out.exports outside.now.exports.now
+    ensures digests { IfOk result (λ built. (out : lists.Outside) → out.constants ≡ digests.old.permutations → AreExports out.exports outside.now.exports.now
         → AreDigests (source_of ast.now) out built.digests.items) }
     ensures none { IfOk result (λ built. HasNoneLeft built.table) }
     ensures permutations { digests.new.permutations ≡ digests.old.permutations }
 {
-    let mut built = Built::new(alloc, ast.procs.len())?;
+    let mut built = Listings::new(alloc, ast.procs.len())?;
     for k in (0..steps.len()).rev() {
         let step = &steps[k];
-        let procedure = &ast.procs[step.place];
-        built.add_step(alloc, names, outside, digests, procedure, step)?;
+        built.add_step(alloc, names, outside, digests, &ast.procs[step.place], step)?;
     }
     Ok(built)
 }

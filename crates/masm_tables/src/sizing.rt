@@ -1,7 +1,7 @@
 ghost use Rattle.std.specs.Prelude.{◌≡◌, ℕ, ◌<◌, List, length, slice_set, IfOk, OnOk};
 ghost use Rattle.masm_size.specs.declared.shape.Size.{Size};
 ghost use Rattle.masm_size.specs.KnownSizes.{sizes_known};
-ghost use Rattle.masm_flat.specs.Lists.{Outside};
+ghost use Rattle.masm_flat.specs.Lists as lists;
 ghost use Rattle.masm_size.specs.Sizes.{size_view, procedure_size};
 ghost use Rattle.masm_tree.specs.Locals.{HasLocals, SourceFits};
 ghost use Rattle.masm_tree.specs.Views.{body_of, source_of};
@@ -69,7 +69,7 @@ pub fn sizes_of(
     requires closed { IsClosed (source_of ast.now) (names_in outside.now.exports.now) }
     requires order { IsUseOrder (source_of ast.now).procs order.now }
     ensures count { IfOk result (λ sizes. length sizes.items ≡ length (source_of ast.now).procs) }
-    ensures sizes { IfOk result (λ sizes. (out : Outside) → IsOutside outside.now.exports.now out
+    ensures sizes { IfOk result (λ sizes. (out : lists.Outside) → IsOutside outside.now.exports.now out
         → AreSizes (source_of ast.now).procs out order.now sizes.items) }
 {
     let mut sizes = empty_sizes(alloc, ast.procs.len())?;

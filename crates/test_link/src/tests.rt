@@ -1,4 +1,5 @@
 mod kernels;
+mod references;
 mod refusals;
 mod trees;
 

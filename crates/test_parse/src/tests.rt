@@ -41,7 +41,7 @@ static PROGRAMS: [&[u8]; 31] = [
 ];
 
 // Programs that are refused, each with the line, the column and the cause.
-static BAD_PROGRAMS: [(&[u8], u32, u32, Cause); 69] = [
+static BAD_PROGRAMS: [(&[u8], u32, u32, Cause); 74] = [
     (b"", 1, 1, Cause::Syntax),
     (b"begin", 1, 6, Cause::Syntax),
     (b"# only", 1, 7, Cause::Syntax),
@@ -156,6 +156,11 @@ static BAD_PROGRAMS: [(&[u8], u32, u32, Cause); 69] = [
     (b"loc_load.9", 1, 1, Cause::Syntax),
     (b"begin if.false end end", 1, 7, Cause::Syntax),
     (b"begin call.f.g end", 1, 7, Cause::Syntax),
+    (b"begin procref end", 1, 7, Cause::Syntax),
+    (b"begin procref.f.g end", 1, 7, Cause::Syntax),
+    (b"begin procref.F end", 1, 7, Cause::Syntax),
+    (b"begin procreff.f end", 1, 7, Cause::UnknownInstruction),
+    (b"begin dynexec end", 1, 7, Cause::Unsupported),
     (b"begin exec.F end", 1, 7, Cause::Syntax),
     (b"begin ADD end", 1, 7, Cause::UnknownInstruction),
     (b"begin mem_store.4294967296 end", 1, 7, Cause::NumberRange),
@@ -181,7 +186,7 @@ static KERNELS: [&[u8]; 5] = [
     b"proc.f if.true end end",
 ];
 
-static BAD_KERNELS: [(&[u8], u32, u32, Cause); 7] = [
+static BAD_KERNELS: [(&[u8], u32, u32, Cause); 9] = [
     (b"begin end", 1, 1, Cause::KernelBody),
     (b"proc.f call.f end", 1, 8, Cause::KernelBody),
     (b"call", 1, 1, Cause::KernelBody),
@@ -189,6 +194,8 @@ static BAD_KERNELS: [(&[u8], u32, u32, Cause); 7] = [
     (b"export.k", 1, 9, Cause::Syntax),
     (b"const.A=1 export.a.A end", 1, 11, Cause::Syntax),
     (b"call.", 1, 1, Cause::KernelBody),
+    (b"proc.f procref.g end", 1, 8, Cause::KernelBody),
+    (b"procref", 1, 1, Cause::KernelBody),
 ];
 
 fn is_read(alloc: Global, source: &[u8], kernel: bool) -> bool {

@@ -6,7 +6,7 @@ use std::test::Fail;
 // A source that is refused on its first line, by the column and the cause. Its kernel exports `k`.
 type Row = (&'static [u8], u32, AsmCause);
 
-static PROGRAMS: [Row; 28] = [
+static PROGRAMS: [Row; 35] = [
     (b"begin mtree_get end", 7, AsmCause::Unsupported),
     (b"begin frob end", 7, AsmCause::UnknownInstruction),
     (b"begin repeat.0 neg end end", 7, AsmCause::RepeatRange),
@@ -98,6 +98,33 @@ static PROGRAMS: [Row; 28] = [
         45,
         AsmCause::UnknownProcedure,
     ),
+    (b"begin procref.g end", 7, AsmCause::UnknownProcedure),
+    (
+        b"begin procref.zz syscall.j end",
+        7,
+        AsmCause::UnknownProcedure,
+    ),
+    (b"proc.f procref.f end begin end", 8, AsmCause::Recursive),
+    (
+        b"proc.f procref.g end proc.g exec.f end begin end",
+        8,
+        AsmCause::Recursive,
+    ),
+    (
+        b"proc.h procref.f end proc.f call.g end proc.g procref.f end begin end",
+        29,
+        AsmCause::Recursive,
+    ),
+    (
+        b"proc.f end begin repeat.10000 repeat.13 procref.f end end repeat.1072 procref.f end neg end",
+        12,
+        AsmCause::TooManyOps,
+    ),
+    (
+        b"proc.f repeat.10000 repeat.10000 neg end end end begin procref.f end",
+        1,
+        AsmCause::TooManyOps,
+    ),
     (
         b"proc.f end proc.f repeat.10000 repeat.10000 neg end end end begin end",
         12,
@@ -105,12 +132,15 @@ static PROGRAMS: [Row; 28] = [
     ),
 ];
 
-static ACCEPTED: [&str; 5] = [
+static ACCEPTED: [&str; 8] = [
     "begin end",
     "begin syscall.k end",
     "proc.f.65535 end begin exec.f end",
     "proc.end end begin exec.end end",
     "proc.a exec.b end proc.b exec.c exec.d end proc.c exec.d end proc.d end begin exec.a end",
+    "proc.a procref.b end proc.b procref.c exec.d end proc.c call.d end proc.d end begin procref.a exec.b end",
+    "proc.f procref.g end proc.g repeat.10000 repeat.52 neg end end end begin end",
+    "proc.f end begin repeat.10000 repeat.13 procref.f end end repeat.1072 procref.f end end",
 ];
 
 fn is_program_refused(alloc: Global, row: &Row) -> bool {

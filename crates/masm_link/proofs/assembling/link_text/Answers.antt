@@ -5,28 +5,37 @@ use Rattle.masm_tree.specs.Views.{source_of}
 use Rattle.masm_link.specs.declared.linking.Stop.TheVariants as stops
 use Rattle.masm_link.specs.declared.refusal.AsmError.{AsmError}
 use Rattle.masm_link.specs.declared.refusal.AsmError.TheVariants.{Bad, Memory}
+use Rattle.masm_flat.specs.Lists.{outside_of}
 use Rattle.masm_link.specs.Assembling.{reads, Refuses, unread, unlinked}
 use Rattle.masm_link.specs.Measures.{IsFirstRefused, LinksTo}
 use Rattle.masm_link.specs.Programs.{LinksIn, refusal_in}
 use Rattle.masm_link.proofs.assembling.link_text.Goals as goal
 
 -- a source that is not read is refused, or memory was
-not_read : (is_kernel : Bool) (text : List ℕ) (kernel : List KernelProc) (error : AsmError)
-    → Gives source_of refusal_in (Err error) (reads is_kernel text) → LinksIn is_kernel text kernel (Err error)
-not_read is_kernel text kernel (Bad in_kernel line column cause) is = inr (λ exports are. unread (Bad in_kernel line column cause) is)
-not_read is_kernel text kernel Memory is = inl refl
+not_read : (constants : List ℕ) (is_kernel : Bool) (text : List ℕ) (kernel : List KernelProc) (error : AsmError)
+    → Gives source_of refusal_in (Err error) (reads is_kernel text) → LinksIn constants is_kernel text kernel (Err error)
+not_read constants is_kernel text kernel (Bad in_kernel line column cause) is = inr (λ exports are. unread (Bad in_kernel line column cause) is)
+not_read constants is_kernel text kernel Memory is = inl refl
 
 pub returns-in-Err-clause-links : goal.returns-in-Err-clause-links
 returns-in-Err-clause-links c =
-    not_read c.args.is_kernel c.args.text.now c.args.kernel.now c.in-Err.error c.in-Err.ensures.reads
+    not_read c.args.digests.now.permutations c.args.is_kernel c.args.text.now c.args.kernel.now c.in-Err.error c.in-Err.ensures.reads
 
 pub returns-in-Err-Refused-clause-links : goal.returns-in-Err-Refused-clause-links
 returns-in-Err-Refused-clause-links c =
     let source = source_of c.in-Ok.ast in
     let refusal = c.in-Err-Refused.refusal in
     let is : c.in-Err-Refused.field-0 ≡ stops.Refused refusal = cc in
-    let first : IsFirstRefused source c.args.kernel.now refusal = subst (λ stop. LinksTo source c.args.kernel.now
+    let first : IsFirstRefused source c.args.kernel.now refusal = subst (λ stop. LinksTo c.args.digests.now.permutations source c.args.kernel.now
     (Err stop)) is c.in-Err-Refused.ensures.linked in
     inr (λ exports are.
-    subst (Refuses c.args.is_kernel c.args.text.now exports) (sym c.link_refusal.ensures)
-    (unlinked source refusal.at refusal.cause c.in-Ok.ensures.reads (first exports are)))
+    subst (Refuses c.args.is_kernel c.args.text.now (outside_of c.args.digests.now.permutations exports)) (sym c.link_refusal.ensures)
+    (unlinked source refusal.at refusal.cause c.in-Ok.ensures.reads (first (outside_of c.args.digests.now.permutations exports) (record { count = c.requires.constants; exports = are }))))
+
+pub returns-in-Ok-link-clause-links : goal.returns-in-Ok-link-clause-links
+returns-in-Ok-link-clause-links c = λ exports are.
+    let out = outside_of c.args.digests.now.permutations exports in (
+      source_of c.in-Ok.ast,
+      c.in-Ok.ensures.reads,
+      c.in-Ok-link.ensures.linked out refl (record { count = c.requires.constants; exports = are }),
+    )

@@ -11,7 +11,7 @@ use Rattle.masm_link.proofs.Linked.{FindsLeast-large}
 use Rattle.masm_link.proofs.linking.first_oversized.Goals as goal
 
 pub returns : goal.returns
-returns c = λ exports are.
+returns c = λ out is.
     let ast = c.args.ast.now in
     let m = c.args.measured.now in
     let kernel = c.args.outside.now.exports.now in
@@ -26,5 +26,5 @@ returns c = λ exports are.
     (λ p. FindsLeast (ExceedsLimit (position_of (procedure_of p)) (extent_of (procedure_size (sizes_known m.names ss kernel) p.locals
     (body_of p.body.items)))) c.in_ok-main.main))
     c.deref-3.ensures.value c.in_ok-main.ensures in
-    subst (FindsLeast (Oversized (source_of ast) exports)) (sym c.earlier.ensures) (FindsLeast-large ast kernel m c.requires.measured exports are
+    subst (FindsLeast (Oversized (source_of ast) out)) (sym c.earlier.ensures) (FindsLeast-large ast kernel m c.requires.measured out is
     c.first_too_large-procs.result c.in_ok-main.main procs main)

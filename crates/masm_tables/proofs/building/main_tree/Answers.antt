@@ -1,4 +1,4 @@
-use Rattle.std.proofs.Common.{◌≡◌, List, [], refl, subst, Option, Some, Vec, Global, sym, ap, ◌∙◌}
+use Rattle.std.proofs.Common.{◌≡◌, ℕ, List, [], refl, subst, Option, Some, Vec, Global, sym, ap, ap₂, ◌∙◌}
 use Rattle.std.specs.Option.{option_map}
 use Rattle.block_tree.specs.Trees.{Tree}
 use Rattle.masm_tree.specs.declared.tree.Proc.{Proc}
@@ -20,28 +20,28 @@ use Rattle.masm_tables.proofs.building.main_tree.Goals as goal
 
 -- the tree of a list that is built with lists that are lent
 tree_is : (main : Option Proc) (p : Proc) (names : Names) (kernel : List KernelProc) (lent lists : List (Vec piece.Piece Global))
-    (pieces : List (Piece Tree))
-    (tree : Tree) → main ≡ Some p → lent ≡ lists
-    → pieces ≡ with_locals p.locals (flat_with as_tree (lists_known names lent kernel) p.locals (body_of p.body.items)) → tree ≡ whole as_tree pieces
-    → Some tree ≡ option_map (λ (q : Proc). whole as_tree (with_locals q.locals (flat_with as_tree (lists_known names lists kernel) q.locals
+    (lent_digests digests : List (List ℕ)) (pieces : List (Piece Tree))
+    (tree : Tree) → main ≡ Some p → lent ≡ lists → lent_digests ≡ digests
+    → pieces ≡ with_locals p.locals (flat_with as_tree (lists_known names lent lent_digests kernel) p.locals (body_of p.body.items)) → tree ≡ whole as_tree pieces
+    → Some tree ≡ option_map (λ (q : Proc). whole as_tree (with_locals q.locals (flat_with as_tree (lists_known names lists digests kernel) q.locals
     (body_of q.body.items)))) main
-tree_is main p names kernel lent lists pieces tree there same listed built =
-    ap Some (built ∙ ap (whole as_tree) (listed ∙ ap (λ (ls : List (Vec piece.Piece Global)). with_locals p.locals (flat_with as_tree
-    (lists_known names ls kernel) p.locals (body_of p.body.items))) same))
-    ∙ ap (option_map (λ (q : Proc). whole as_tree (with_locals q.locals (flat_with as_tree (lists_known names lists kernel) q.locals
+tree_is main p names kernel lent lists lent_digests digests pieces tree there same same_digests listed built =
+    ap Some (built ∙ ap (whole as_tree) (listed ∙ ap₂ (λ (ls : List (Vec piece.Piece Global)) ds. with_locals p.locals (flat_with as_tree
+    (lists_known names ls ds kernel) p.locals (body_of p.body.items))) same same_digests))
+    ∙ ap (option_map (λ (q : Proc). whole as_tree (with_locals q.locals (flat_with as_tree (lists_known names lists digests kernel) q.locals
     (body_of q.body.items))))) (sym there)
 
 pub returns : goal.returns
 returns c =
-    let scope : Scope = record { names = c.args.names; kernel = c.args.kernel } in
+    let scope : Scope = record { names = c.args.names; outside = c.args.outside; digests = c.as_slice.result } in
     let p = c.in-Some.procedure in
     let mid = c.expect.new.self in
     let uses = uses_of (body_of p.body.items) in
     let all = c.requires.uses ∙ ap (λ main. main_uses (place_at c.args.names.now) (option_map procedure_of main)) c.in-Some.is in
-    let counted = counted_in c.args.table mid c.args.uses.now c.args.uses.now c.expect.ensures.count refl c.expect.ensures.left in
-    let known : Known Tree = lists_known c.args.names.now mid.lists.items c.args.outside.now.exports.now in
+    let counted = counted_in c.args.built.table mid c.args.uses.now c.args.uses.now c.expect.ensures.count refl c.expect.ensures.left in
+    let known : Known Tree = lists_known c.args.names.now mid.lists.items c.as_slice.result.now c.args.outside.now.exports.now in
     let ends : IsNoneOrAll c.args.uses.now (places_used (place_at c.args.names.now) uses) =
     subst (IsNoneOrAll c.args.uses.now) all (all_of c.args.uses.now) in
     let gives = c.in_ok-list.ensures.gives known [] (serves_start mid c.args.uses.now counted scope uses ends) in
-    tree_is c.args.main.now _ c.args.names.now c.args.outside.now.exports.now mid.lists.items c.args.table.lists.items _ _ c.in-Some.is
-    (ap (λ v. v.items) c.expect.ensures.lists) gives.0 c.in_ok-tree_of_list.ensures
+    tree_is c.args.main.now _ c.args.names.now c.args.outside.now.exports.now mid.lists.items c.args.built.table.lists.items c.as_slice.result.now
+    c.args.built.digests.items _ _ c.in-Some.is (ap (λ v. v.items) c.expect.ensures.lists) c.as_slice.ensures.value gives.0 c.in_ok-tree_of_list.ensures

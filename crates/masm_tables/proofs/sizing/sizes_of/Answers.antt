@@ -29,16 +29,16 @@ loop-place-preserved c =
     let old = c.loop-place.sizes.items in
     let count = c.loop-place.invariant.0 in (
       ap length added.1 ∙ length-set old place added.0 ∙ count,
-      λ exports are. sizes_more (source_of ast) exports c.args.outside.now.exports.now are c.args.names.now c.requires.names
+      λ out is. sizes_more (source_of ast) out c.args.outside.now.exports.now is.exports c.args.names.now c.requires.names is.count
           (names_in c.args.outside.now.exports.now)
           c.requires.closed
-          order c.requires.order k (procedure_of c.index.result.now) old _ added.0 below here (c.loop-place.invariant.1 exports are) added.1
+          order c.requires.order k (procedure_of c.index.result.now) old _ added.0 below here (c.loop-place.invariant.1 out is) added.1
           (omega arith) added.2,
     )
 
 pub returns-clause-sizes : goal.returns-clause-sizes
-returns-clause-sizes c = λ exports are.
+returns-clause-sizes c = λ out is.
     let order = c.args.order.now in
     let ended : length order ≤ c.loop-place.place-index = search rules in
-    subst (λ xs. AreSizes (source_of c.args.ast.now).procs exports xs c.loop-place.sizes.items) (take_all c.loop-place.place-index order ended)
-    (c.loop-place.invariant.1 exports are)
+    subst (λ xs. AreSizes (source_of c.args.ast.now).procs out xs c.loop-place.sizes.items) (take_all c.loop-place.place-index order ended)
+    (c.loop-place.invariant.1 out is)

@@ -1,12 +1,12 @@
-use Rattle.std.proofs.Common.{◌≡◌, List, length, take}
-use Rattle.masm_flat.specs.Lists.{Exported}
+use Rattle.std.proofs.Common.{◌≡◌, length, take}
+use Rattle.masm_flat.specs.Lists.{Outside}
 use Rattle.masm_tree.specs.Views.{source_of}
-use Rattle.masm_tables.specs.Kernels.{AreExports}
+use Rattle.masm_tables.specs.Kernels.{IsOutside}
 use Rattle.masm_tables.specs.Tables.{AreSizes}
 use Rattle.masm_tables.proofs.sizing.sizes_of.Given as goal
 
 abbrev pub invariant-loop-place : goal.invariant-loop-place
 invariant-loop-place l =
     (length l.sizes.items ≡ length (source_of l.ast).procs)
-    × ((exports : List Exported) → AreExports exports l.kernel.procs.now
-    → AreSizes (source_of l.ast).procs exports (take l.place-index l.order) l.sizes.items)
+    × ((out : Outside) → IsOutside l.outside.exports.now out
+    → AreSizes (source_of l.ast).procs out (take l.place-index l.order) l.sizes.items)

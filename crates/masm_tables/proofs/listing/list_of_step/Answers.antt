@@ -4,44 +4,31 @@ use Rattle.masm_flat.specs.Blocks.{as_tree}
 use Rattle.masm_flat.specs.Flattening.{Known, flat_with}
 use Rattle.masm_flat.specs.KnownLists.{lists_known}
 use Rattle.masm_flat.specs.Lists.{with_locals}
-use Rattle.masm_flat.specs.Taking.{left_at}
-use Rattle.masm_flat.specs.Views.{pieces_of}
-use Rattle.masm_flat.proofs.Served.{got_other}
-use Rattle.masm_names.specs.UsedPlaces.{times_among}
 use Rattle.masm_names.specs.Uses.{uses_of}
 use Rattle.masm_tree.specs.Views.{body_of}
-use Rattle.masm_tables.proofs.Known.{got_same}
 use Rattle.masm_tables.proofs.Taken.{counted_in, none_left, serves_start, none_end}
-use Rattle.masm_tables.proofs.listing.add_list.Goals as goal
+use Rattle.masm_tables.proofs.listing.list_of_step.Goals as goal
 
 pub returns-clause-list : goal.returns-clause-list
 returns-clause-list c =
     let scope = c.args.scope.now in
     let p = c.args.procedure.now in
     let mid = c.expect.new.self in
-    let new = c.list_of_procedure.new.table in
     let counted = counted_in c.args.table.now mid c.deref.result.now c.args.step.now.ended.items c.expect.ensures.count c.deref.ensures.value
     c.expect.ensures.left in
-    let known : Known Tree = lists_known scope.names.now mid.lists.items scope.outside.now.exports.now in
+    let known : Known Tree = lists_known scope.names.now mid.lists.items scope.digests.now scope.outside.now.exports.now in
     let serves = serves_start mid c.args.step.now.ended.items counted scope (uses_of (body_of p.body.items)) c.requires.ended in
     let gives = c.in_ok-list.ensures.gives known [] serves in
-    let count = ap (λ v. length v.items) c.expect.ensures.lists in
-    let within : c.args.step.now.place < length new.lists.items = omega (arith, c.in_ok-list.ensures.keeps.count, count, c.requires.place) in (
-      c.kept.result,
-      got_same new.lists.items c.args.step.now.place c.kept.result within,
-      ap pieces_of c.kept.ensures ∙ (gives.0 ∙ ap (λ lists. with_locals p.locals (flat_with as_tree (lists_known scope.names.now lists.items
-          scope.outside.now.exports.now) p.locals (body_of p.body.items))) c.expect.ensures.lists),
-    )
+    gives.0 ∙ ap (λ lists. with_locals p.locals (flat_with as_tree (lists_known scope.names.now lists.items scope.digests.now
+    scope.outside.now.exports.now) p.locals (body_of p.body.items))) c.expect.ensures.lists
 
 pub returns-clause-others : goal.returns-clause-others
-returns-clause-others c = λ q apart none.
+returns-clause-others c = λ q none.
     let mid = c.expect.new.self in
-    let new = c.list_of_procedure.new.table in
     let counted = counted_in c.args.table.now mid c.deref.result.now c.args.step.now.ended.items c.expect.ensures.count c.deref.ensures.value
     c.expect.ensures.left in
-    got_other new.lists.items c.args.step.now.place q c.kept.result apart
-    ∙ (c.in_ok-list.ensures.keeps.lists q (none_left mid c.args.step.now.ended.items counted q none)
-    ∙ ap (λ v. slice_get v.items q) c.expect.ensures.lists)
+    c.in_ok-list.ensures.keeps.lists q (none_left mid c.args.step.now.ended.items counted q none)
+    ∙ ap (λ v. slice_get v.items q) c.expect.ensures.lists
 
 pub returns-clause-none : goal.returns-clause-none
 returns-clause-none c = λ q.
@@ -50,6 +37,9 @@ returns-clause-none c = λ q.
     let mid = c.expect.new.self in
     let counted = counted_in c.args.table.now mid c.deref.result.now c.args.step.now.ended.items c.expect.ensures.count c.deref.ensures.value
     c.expect.ensures.left in
-    let known : Known Tree = lists_known scope.names.now mid.lists.items scope.outside.now.exports.now in
+    let known : Known Tree = lists_known scope.names.now mid.lists.items scope.digests.now scope.outside.now.exports.now in
     let serves = serves_start mid c.args.step.now.ended.items counted scope (uses_of (body_of p.body.items)) c.requires.ended in
     none_end scope known c.list_of_procedure.new.table (c.in_ok-list.ensures.gives known [] serves).1 q
+
+pub returns-clause-count : goal.returns-clause-count
+returns-clause-count c = c.in_ok-list.ensures.keeps.count ∙ ap (λ v. length v.items) c.expect.ensures.lists

@@ -1,0 +1,22 @@
+use Rattle.std.proofs.Common.{◌≡◌, Vec, Global, sym, ap, ◌∙◌}
+use Rattle.masm_flat.specs.Blocks.{as_tree}
+use Rattle.masm_flat.specs.declared.piece.Piece.{Piece}
+use Rattle.masm_flat.specs.Flattening.{flat_with}
+use Rattle.masm_flat.specs.KnownLists.{lists_known}
+use Rattle.masm_flat.specs.Lists.{with_locals}
+use Rattle.masm_flat.specs.Views.{pieces_of}
+use Rattle.masm_tree.specs.Views.{body_of}
+use Rattle.masm_tables.proofs.Put.{puts_as}
+use Rattle.masm_tables.proofs.listing.Listings.add_step.Goals as goal
+
+pub returns-clause-list : goal.returns-clause-list
+returns-clause-list c =
+    let a = c.args in
+    let p = a.procedure.now in
+    let old = a.self.now in
+    let made = c.in_ok-list.ensures in
+    let listed_is = made.list ∙ ap (λ ds. with_locals p.locals (flat_with as_tree (lists_known a.names.now old.table.lists.items ds
+    a.outside.now.exports.now) p.locals (body_of p.body.items))) c.as_slice.ensures.value in
+    puts_as a.step.now.kept a.step.now.place (λ (put : Vec Piece Global). put.items ≡ c.put_digest.new.list.items) _ _ _ old.table.lists.items
+    c.list_of_step.new.table.lists.items _ (λ q none. tt) made.others made.count
+    (λ is_so x is. ap pieces_of (is ∙ c.in_ok-put_digest.ensures.kept is_so) ∙ listed_is) c.put_list.ensures.list
