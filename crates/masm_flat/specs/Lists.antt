@@ -71,7 +71,7 @@ mutual
     procref : (at : Position) (name : List ℕ) {locals : ℕ} {b : Body} {ys xs : List (Piece Block)} → ListOf procs out name ys
         → IsList procs out locals b xs
         → IsList procs out locals (Leaf_then at (leaves.ProcRef name) b)
-            (map Operation (digest_items (block_digest out.constants (block_of ys))) ++ xs)
+        (map Operation (digest_items (block_digest out.constants (block_of ys))) ++ xs)
     syscall : (at : Position) (name : List ℕ) {locals : ℕ} {callee : Block} {b : Body} {xs : List (Piece Block)}
         → first_export out.exports name ≡ Some callee → IsList procs out locals b xs
         → IsList procs out locals (Leaf_then at (leaves.Syscall name) b) (Whole (Syscall callee) ∷ xs)

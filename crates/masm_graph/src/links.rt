@@ -109,7 +109,10 @@ fn add_statement(
             add_link(out, Link::used(*at, kernel_target(kernel, name.as_slice())))
         }
         Stmt::ProcRef(at, name) => {
-            add_link(out, Link::reference(*at, own_target(names, name.as_slice())))
+            add_link(
+                out,
+                Link::reference(*at, own_target(names, name.as_slice())),
+            )
         }
     }
 }

@@ -22,11 +22,7 @@ fn place_if(wanted: bool, refers: bool, place: Option<usize>) -> Option<usize>
 
 /// The source's own procedures to which the procrefs among these uses lead, or to which the others
 /// do.
-pub fn places_with(
-    alloc: Global,
-    wanted: bool,
-    row: &[Link],
-) -> Result<Vec<usize>, AllocError>
+pub fn places_with(alloc: Global, wanted: bool, row: &[Link]) -> Result<Vec<usize>, AllocError>
     ensures { IfOk result (λ places. places.items ≡ places_with wanted row.now) }
 {
     row.iter()

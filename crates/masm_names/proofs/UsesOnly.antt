@@ -51,15 +51,13 @@ pub uses_only : (P R : List ℕ → Type 0) (b : Body) → ((u : Use) → Contai
 uses_only P R Empty h g = tt
 uses_only P R (Leaf_then at (leaves.Instr i) rest) h g = uses_only P R rest h g
 uses_only P R (Leaf_then at (leaves.Exec name) rest) h g =
-    let here = use_at at Own name in
-    (
+    let here = use_at at Own name in (
       h here (among_first here (uses_of rest)) refl refl,
       uses_only P R rest (λ u k. h u (Contains-append_right (here ∷ []) (uses_of rest) u k))
           (λ u k. g u (Contains-append_right (here ∷ []) (uses_of rest) u k)),
     )
 uses_only P R (Leaf_then at (leaves.Call name) rest) h g =
-    let here = use_at at Own name in
-    (
+    let here = use_at at Own name in (
       h here (among_first here (uses_of rest)) refl refl,
       uses_only P R rest (λ u k. h u (Contains-append_right (here ∷ []) (uses_of rest) u k))
           (λ u k. g u (Contains-append_right (here ∷ []) (uses_of rest) u k)),
@@ -68,8 +66,7 @@ uses_only P R (Leaf_then at (leaves.Syscall name) rest) h g =
     uses_only P R rest (λ u k. h u (Contains-append_right (use_at at Kernel name ∷ []) (uses_of rest) u k))
     (λ u k. g u (Contains-append_right (use_at at Kernel name ∷ []) (uses_of rest) u k))
 uses_only P R (Leaf_then at (leaves.ProcRef name) rest) h g =
-    let here = ref_at at name in
-    (
+    let here = ref_at at name in (
       g here (among_first here (uses_of rest)) refl refl,
       uses_only P R rest (λ u k. h u (Contains-append_right (here ∷ []) (uses_of rest) u k))
           (λ u k. g u (Contains-append_right (here ∷ []) (uses_of rest) u k)),

@@ -21,9 +21,7 @@ ghost use Rattle.masm_tables.specs.Kernels.{AreExports, names_in};
 ghost use Rattle.masm_tables.specs.Putting.{Puts};
 ghost use Rattle.masm_tables.specs.Tables.{AreLists, AreDigests, listed};
 
-use masm_flat::{
-    Outside, Piece, Scope, Table, add_copies, list_of_procedure, tree_of_list,
-};
+use masm_flat::{Outside, Piece, Scope, Table, add_copies, list_of_procedure, tree_of_list};
 use masm_names::Names;
 use masm_tree::{Ast, Proc};
 use masm_uses::Step;

@@ -74,7 +74,14 @@ pub fn sizes_of(
 {
     let mut sizes = empty_sizes(alloc, ast.procs.len())?;
     for place in order {
-        add_size(alloc, names, outside, &ast.procs[*place], *place, &mut sizes)?;
+        add_size(
+            alloc,
+            names,
+            outside,
+            &ast.procs[*place],
+            *place,
+            &mut sizes,
+        )?;
     }
     Ok(sizes)
 }

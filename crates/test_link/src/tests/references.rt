@@ -41,9 +41,21 @@ fn called_digest(alloc: Global, procedures: &str) -> Result<Option<Word>, AsmErr
 // Whether a tree is one batch of four PUSH, of these elements in their order.
 fn pushes(tree: &Tree, word: Word) -> bool {
     let [a, b, c, d] = word.elements();
-    let wanted = [Felt::reduced(u128::from(FOUR_PUSHES)), a, b, c, d, Felt::ZERO, Felt::ZERO, Felt::ZERO];
+    let wanted = [
+        Felt::reduced(u128::from(FOUR_PUSHES)),
+        a,
+        b,
+        c,
+        d,
+        Felt::ZERO,
+        Felt::ZERO,
+        Felt::ZERO,
+    ];
     match tree {
-        Tree::Span(batches) => batches.as_slice() == [wanted],
+        Tree::Span(batches) => batches
+            .as_slice()
+            .first()
+            .is_some_and(|batch| *batch == wanted),
         _ => false,
     }
 }
@@ -67,10 +79,12 @@ fn puts_the_digest_of_a_called_tree(rt: HostRuntime) -> Result<(), Fail> {
 
 fn is_padded(alloc: Global, source: &str) -> Result<bool, AsmError> {
     match assembled(alloc, None, source.as_bytes())?.tree {
-        Tree::Span(batches) => Ok(batches
-            .as_slice()
-            .first()
-            .is_some_and(|batch| batch[0].value() == FOUR_PADS)),
+        Tree::Span(batches) => Ok(
+            batches
+                .as_slice()
+                .first()
+                .is_some_and(|batch| batch[0].value() == FOUR_PADS),
+        ),
         _ => Ok(false),
     }
 }
