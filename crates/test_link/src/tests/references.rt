@@ -27,13 +27,14 @@ fn tree_of(alloc: Global, procedures: &str, body: &str) -> Result<Tree, AsmError
     source.push_str(" begin ")?;
     source.push_str(body)?;
     source.push_str(" end")?;
-    Ok(assembled(alloc, Some(b"export.k add end"), source.as_bytes())?.tree)
+    let program = assembled(alloc, Some(b"export.k add end"), source.as_bytes())?;
+    Ok(program.tree)
 }
 
 // The digest of the tree that a call of `f` runs.
 fn called_digest(alloc: Global, procedures: &str) -> Result<Option<Word>, AsmError> {
-    match tree_of(alloc, procedures, "call.f")? {
-        Tree::Call(callee) => Ok(Some(digest(&NO_CONSTANTS, &callee))),
+    match &tree_of(alloc, procedures, "call.f")? {
+        Tree::Call(callee) => Ok(Some(digest(&NO_CONSTANTS, callee))),
         _ => Ok(None),
     }
 }
@@ -78,7 +79,8 @@ fn puts_the_digest_of_a_called_tree(rt: HostRuntime) -> Result<(), Fail> {
 }
 
 fn is_padded(alloc: Global, source: &str) -> Result<bool, AsmError> {
-    match assembled(alloc, None, source.as_bytes())?.tree {
+    let program = assembled(alloc, None, source.as_bytes())?;
+    match &program.tree {
         Tree::Span(batches) => Ok(
             batches
                 .as_slice()
