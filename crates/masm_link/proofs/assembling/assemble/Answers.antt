@@ -1,4 +1,4 @@
-use Rattle.std.proofs.Common.{◌≡◌, ◌≤◌, false, Some, Ok, Err, length, map, sym, ap, ap₂, subst, ◌∙◌, rules}
+use Rattle.std.proofs.Common.{◌≡◌, ◌≤◌, false, Some, Ok, Err, length, map, sym, ap₂, subst, ◌∙◌, rules}
 use Rattle.std.specs.Option.{option_map}
 use Rattle.rpo_hash.specs.Constants.{constants_of}
 use Rattle.masm_link.specs.Assembling.{no_memory, without_repeats}

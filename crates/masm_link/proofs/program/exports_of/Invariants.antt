@@ -1,5 +1,4 @@
 use Rattle.std.proofs.Common.{◌≡◌, map, take}
-use Rattle.rpo_hash.specs.Constants.{constants_of}
 use Rattle.masm_link.specs.Programs.{export_in}
 use Rattle.masm_link.proofs.program.exports_of.Given as goal
 

@@ -1,4 +1,4 @@
-use Rattle.std.proofs.Common.{◌≡◌, ◌<◌, List, [], ◌++◌, ℕ, length, slice_get, sym, ap, subst, ◌∙◌, arith}
+use Rattle.std.proofs.Common.{◌≡◌, List, [], length, slice_get, ap, ◌∙◌, arith}
 use Rattle.block_tree.specs.Trees.{Tree}
 use Rattle.masm_flat.specs.Blocks.{as_tree}
 use Rattle.masm_flat.specs.Flattening.{Known, flat_with}

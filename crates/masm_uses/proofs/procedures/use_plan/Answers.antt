@@ -1,4 +1,4 @@
-use Rattle.std.proofs.Common.{◌≡◌, ◌<◌, ℕ, Bool, true, false, List, Option, Vec, Global, map, length, get_or, ◌⊎◌, sym, ap, refl, subst, ◌∙◌, arith}
+use Rattle.std.proofs.Common.{◌≡◌, ◌<◌, ℕ, true, false, List, Option, Vec, Global, map, length, get_or, ◌⊎◌, sym, ap, refl, subst, ◌∙◌, arith}
 use Rattle.std.specs.Prelude.{reverse}
 use Rattle.std.proofs.lemmas.List.{length-map}
 use Rattle.masm_graph.specs.declared.links.Link.{Link}
@@ -7,7 +7,6 @@ use Rattle.masm_graph.specs.Links.{links_in, main_links_in, own_places, places_w
 use Rattle.masm_names.specs.Names.{place_at}
 use Rattle.graphs.specs.Orders.{IsAcyclic, IsOrder}
 use Rattle.std.specs.List.{All, Contains}
-use Rattle.masm_uses.specs.declared.planning.Step.{Step}
 use Rattle.masm_uses.specs.Plans.{Builds, EndsInGraph, keeps_list, ended_lists, makes_digest, no_ends}
 use Rattle.masm_tree.specs.declared.tree.Proc.{Proc}
 use Rattle.masm_tree.specs.Views.{source_of}

@@ -1,4 +1,4 @@
-use Rattle.std.proofs.Common.{◌≡◌, Vec, Global, sym, ap, ◌∙◌}
+use Rattle.std.proofs.Common.{◌≡◌, Vec, Global, ap, ◌∙◌}
 use Rattle.masm_flat.specs.Blocks.{as_tree}
 use Rattle.masm_flat.specs.declared.piece.Piece.{Piece}
 use Rattle.masm_flat.specs.Flattening.{flat_with}
