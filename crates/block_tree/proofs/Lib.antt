@@ -1,4 +1,5 @@
 pub mod Parts
+pub mod ViewLemmas
 pub mod Keeping
 pub mod Limits
 pub mod WholeTrees

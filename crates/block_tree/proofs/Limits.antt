@@ -4,7 +4,7 @@ use Rattle.std.proofs.lemmas.Bool.{cases_lt}
 use Rattle.vm_field.specs.Machine.{State}
 use Rattle.vm_ops.specs.declared.item.Item.{Item}
 use Rattle.op_pack.specs.Reading.{reading}
-use Rattle.block_tree.specs.Trees.{Tree, Opaque, Span, Join, Split, Loop, Call, Syscall}
+use Rattle.block_tree.specs.Trees.{Tree, Opaque, Span, Join, Split, Loop, Call, Syscall, Dyn}
 use Rattle.block_tree.specs.Cycles.{Mark, StartOpaque, StartSpan, Respan, Repeat, Do, EndLoop, top, effect_of, advice_taken}
 use Rattle.block_tree.specs.Execution.{Event, Outcome, Done, OutOfCycles, Part, skip, seq, at_bit, cycle, operations, read_operations, batches_from, turns, execution}
 use Rattle.block_tree.proofs.Parts.{Between, Cycled, done-not_late, seq-inv, seq-done, seq-late, seq-late_second, skip-done, skip-inv, taking-inv, taking-late, taking-again}
@@ -147,6 +147,7 @@ module _ (constants : List ℕ) (kernel : List (List ℕ)) (j k : ℕ) where
 
   agree-execution : (t : Tree) (s : State) → Agree j s (execution constants kernel k t s) (execution constants kernel j t s)
   agree-execution (Opaque digest) s = agree-cycle StartOpaque s
+  agree-execution (Dyn targets) s = agree-cycle StartOpaque s
   agree-execution (Span batches) s =
       agree-then j _ _ _ _ s (agree-batches batches StartSpan s) (λ u es e. agree-cycle _ u)
   agree-execution (Join a b) s =
@@ -171,6 +172,7 @@ module _ (constants : List ℕ) (kernel : List (List ℕ)) (j k : ℕ) where
   -- a limit that has been reached cuts each tree off
   pub execution-late : (t : Tree) (s : State) → j ≤ s.core.clock → execution constants kernel j t s ≡ OutOfCycles
   execution-late (Opaque digest) s late = taking-late j _ _ _ s late
+  execution-late (Dyn targets) s late = taking-late j _ _ _ s late
   execution-late (Span []) s late = seq-late_second _ _ s s [] (skip-done s) (taking-late j _ _ _ s late)
   execution-late (Span (batch ∷ later)) s late = seq-late _ _ s (seq-late _ _ s (taking-late j _ _ _ s late))
   execution-late (Join a b) s late = seq-late _ _ s (taking-late j _ _ _ s late)

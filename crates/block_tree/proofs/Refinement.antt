@@ -1,11 +1,12 @@
 -- Refinement is reflexive and transitive, keeps the digest, and does what was done.
-use Rattle.std.proofs.Common.{◌≡◌, ℕ, zero, suc, ◌-◌, Bool, true, false, cond, ltb, List, Option, Some, None, Result, Ok, Err, sym, refl, ap, subst, ◌∙◌}
+use Rattle.std.proofs.Common.{◌≡◌, ℕ, zero, suc, ◌-◌, Bool, true, false, cond, ltb, List, Option, Some, None, Result, Ok, Err, nat_eq, sym, refl, ap, subst, ◌∙◌}
 use Rattle.vm_field.specs.Machine.{Core, State}
 use Rattle.vm_ops.specs.declared.cause.Cause.{Cause}
 use Rattle.vm_ops.specs.declared.cause.Cause.TheVariants.{NestedTooDeep, OpaqueBlock}
 use Rattle.vm_field.specs.Sponge.{HashInput, digest_of_input}
 use Rattle.vm_ops.specs.declared.op.Op.TheVariants as op
-use Rattle.block_tree.specs.Trees.{Tree, Opaque, Span, Join, Split, Loop, Call, Syscall, Refines, opaque, span, join, split, loop, call, syscall, tree_digest, input_of, input_of_one, input_of_two}
+use lib.Pointwise.{pointwise}
+use Rattle.block_tree.specs.Trees.{Tree, Targets, Opaque, Span, Join, Split, Loop, Call, Syscall, Dyn, no_target, target, Refines, opaque, span, join, split, loop, call, syscall, dyn, RefinesFirst, none, some, first_target, tree_digest, input_of, input_of_one, input_of_two}
 use Rattle.block_tree.specs.Cycles.{StartOpaque, top, opens, effect_of}
 use Rattle.block_tree.specs.Execution.{Event, Outcome, Done, OutOfCycles, Part, seq, at_bit, cycle, turns, execution}
 use Rattle.block_tree.proofs.Parts.{Between, Cycled, seq-inv, seq-done, taking-inv}
@@ -17,6 +18,14 @@ input_in d None = d
 abbrev HasInput : Option HashInput → Type 0
 HasInput (Some input) = Unit {0}
 HasInput None = ⊥
+
+abbrev tree_or : Tree → Option Tree → Tree
+tree_or d (Some tree) = tree
+tree_or d None = d
+
+abbrev IsSome : Option Tree → Type 0
+IsSome (Some tree) = Unit {0}
+IsSome None = ⊥
 
 same-digest : (constants : List ℕ) (input other : HashInput) → Some input ≡ Some other
     → digest_of_input constants input ≡ digest_of_input constants other
@@ -31,15 +40,30 @@ module _ (constants : List ℕ) where
   digest-input (Loop a) input e = same-digest constants _ input e
   digest-input (Call a) input e = same-digest constants _ input e
   digest-input (Syscall a) input e = same-digest constants _ input e
+  digest-input (Dyn ts) input e = same-digest constants _ input e
 
-  pub refines-refl : (t : Tree) → Refines constants t t
-  refines-refl (Opaque digest) = opaque refl
-  refines-refl (Span batches) = span
-  refines-refl (Join a b) = join (refines-refl a) (refines-refl b)
-  refines-refl (Split a b) = split (refines-refl a) (refines-refl b)
-  refines-refl (Loop a) = loop (refines-refl a)
-  refines-refl (Call a) = call (refines-refl a)
-  refines-refl (Syscall a) = syscall (refines-refl a)
+  -- the first target of a digest, or what is found behind, refines itself
+  first-cond : (b : Bool) (t : Tree) (o : Option Tree) → Refines constants t t → RefinesFirst constants o o
+      → RefinesFirst constants (cond b (Some t) o) (cond b (Some t) o)
+  first-cond true t o h h' = some h
+  first-cond false t o h h' = h'
+
+  mutual
+    pub refines-refl : (t : Tree) → Refines constants t t
+    refines-refl (Opaque digest) = opaque refl
+    refines-refl (Span batches) = span
+    refines-refl (Join a b) = join (refines-refl a) (refines-refl b)
+    refines-refl (Split a b) = split (refines-refl a) (refines-refl b)
+    refines-refl (Loop a) = loop (refines-refl a)
+    refines-refl (Call a) = call (refines-refl a)
+    refines-refl (Syscall a) = syscall (refines-refl a)
+    refines-refl (Dyn ts) = dyn (λ digest. first-refl digest ts)
+
+    pub first-refl : (digest : List ℕ) (ts : Targets)
+        → RefinesFirst constants (first_target constants digest ts) (first_target constants digest ts)
+    first-refl digest no_target = none
+    first-refl digest (target t ts) =
+        first-cond (pointwise nat_eq (tree_digest constants t) digest) t (first_target constants digest ts) (refines-refl t) (first-refl digest ts)
 
   pub refines-digest : {t u : Tree} → Refines constants t u → tree_digest constants t ≡ tree_digest constants u
   refines-digest (opaque e) = e
@@ -49,15 +73,31 @@ module _ (constants : List ℕ) where
   refines-digest (loop a) = λ i. digest_of_input constants (input_of_one op.Loop (refines-digest a i))
   refines-digest (call a) = λ i. digest_of_input constants (input_of_one op.Call (refines-digest a i))
   refines-digest (syscall a) = λ i. digest_of_input constants (input_of_one op.Syscall (refines-digest a i))
+  refines-digest (dyn f) = refl
 
-  pub refines-trans : {t u v : Tree} → Refines constants t u → Refines constants u v → Refines constants t v
-  refines-trans a (opaque e) = opaque (refines-digest a ∙ e)
-  refines-trans a span = a
-  refines-trans (join a b) (join c d) = join (refines-trans a c) (refines-trans b d)
-  refines-trans (split a b) (split c d) = split (refines-trans a c) (refines-trans b d)
-  refines-trans (loop a) (loop c) = loop (refines-trans a c)
-  refines-trans (call a) (call c) = call (refines-trans a c)
-  refines-trans (syscall a) (syscall c) = syscall (refines-trans a c)
+  mutual
+    pub refines-trans : {t u v : Tree} → Refines constants t u → Refines constants u v → Refines constants t v
+    refines-trans a (opaque e) = opaque (refines-digest a ∙ e)
+    refines-trans a span = a
+    refines-trans (join a b) (join c d) = join (refines-trans a c) (refines-trans b d)
+    refines-trans (split a b) (split c d) = split (refines-trans a c) (refines-trans b d)
+    refines-trans (loop a) (loop c) = loop (refines-trans a c)
+    refines-trans (call a) (call c) = call (refines-trans a c)
+    refines-trans (syscall a) (syscall c) = syscall (refines-trans a c)
+    refines-trans (dyn f) (dyn g) = dyn (λ digest. first-trans (f digest) (g digest))
+
+    pub first-trans : {o p q : Option Tree} → RefinesFirst constants o p → RefinesFirst constants p q → RefinesFirst constants o q
+    first-trans f none = none
+    first-trans (some a) (some b) = some (refines-trans a b)
+
+  first-some : {o p : Option Tree} → RefinesFirst constants o p → (u : Tree) → p ≡ Some u → (t : Tree) × (o ≡ Some t) × Refines constants t u
+  first-some none u e = absurd (subst IsSome (sym e) tt)
+  first-some (some {t} {u = v} a) u e = (t, refl, subst (Refines constants t) (ap (tree_or v) e) a)
+
+  pub first-refined : (ts us : Targets) → Refines constants (Dyn ts) (Dyn us) → (digest : List ℕ) (u : Tree)
+      → first_target constants digest us ≡ Some u
+      → (t : Tree) × (first_target constants digest ts ≡ Some t) × Refines constants t u
+  first-refined ts us (dyn f) digest u e = first-some (f digest) u e
 
 abbrev IsFine : Result Core Cause → Type 0
 IsFine (Ok c) = Unit {0}
@@ -121,3 +161,4 @@ module _ (constants : List ℕ) (kernel : List (List ℕ)) (limit : ℕ) where
       (keep-then _ _ _ _ s (keep-refl _) (λ u. keep-then _ _ _ _ u (keep-execution a u) (λ v. keep-refl _)))
   keep-execution (syscall a) s = rw (refines-digest constants a)
       (keep-then _ _ _ _ s (keep-refl _) (λ u. keep-then _ _ _ _ u (keep-execution a u) (λ v. keep-refl _)))
+  keep-execution (dyn f) s = keep-refl _

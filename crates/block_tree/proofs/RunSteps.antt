@@ -3,7 +3,7 @@ use Rattle.std.proofs.Common.{◌≡◌, ℕ, zero, suc, ◌<◌, List, [], ◌�
 use Rattle.vm_field.specs.Machine.{State}
 use Rattle.vm_ops.specs.declared.item.Item.{Item}
 use Rattle.op_pack.specs.Reading.{reading}
-use Rattle.block_tree.specs.Trees.{Tree, Opaque, Span, Join, Split, Loop, Call, Syscall, IsWhole, tree_digest}
+use Rattle.block_tree.specs.Trees.{Tree, Opaque, Span, Join, Split, Loop, Call, Syscall, Dyn, IsWhole, tree_digest}
 use Rattle.block_tree.specs.Cycles.{Mark, StartOpaque, StartSpan, StartJoin, StartSplit, StartLoop, Respan, Repeat, Do, End, EndSpan, EndLoop, top, effect_of, advice_taken}
 use Rattle.block_tree.specs.Behind.{HasReading, IsAllowed}
 use Rattle.block_tree.specs.Execution.{Event, Done, Part, seq, at_bit, cycle, operations, read_operations, batches_from, turns, execution}
@@ -211,6 +211,7 @@ module _ (constants : List ℕ) (kernel : List (List ℕ)) (limit : ℕ) where
 
   goes-tree : (tree : Tree) → IsWhole tree → (s t : State) (es : List Event) → run_of tree s ≡ Done t es → Goes (Block tree ∷ []) s t es
   goes-tree (Opaque digest) w s t es e = absurd (cycle-allowed StartOpaque s t es e).1
+  goes-tree (Dyn targets) w s t es e = absurd (cycle-allowed StartOpaque s t es e).1
   goes-tree (Span []) w s t es e = absurd (w.0 refl)
   goes-tree (Span (batch ∷ later)) w s t es e = goes-span batch later s t es e
   goes-tree (Join a b) w s t es e = goes-join a b (goes-tree a w.0) (goes-tree b w.1) s t es e

@@ -3,7 +3,7 @@ use Rattle.std.proofs.Common.{◌≡◌, ℕ, zero, suc, ◌+◌, ◌-◌, ◌<�
 use Rattle.vm_field.specs.Machine.{Core, State}
 use Rattle.vm_ops.specs.declared.item.Item.{Item}
 use Rattle.op_pack.specs.Reading.{reading}
-use Rattle.block_tree.specs.Trees.{Tree, Opaque, Span, Join, Split, Loop, Call, Syscall, tree_digest}
+use Rattle.block_tree.specs.Trees.{Tree, Targets, Opaque, Span, Join, Split, Loop, Call, Syscall, Dyn, tree_digest}
 use Rattle.block_tree.specs.Cycles.{Frame, Mark, StartSpan, StartJoin, StartSplit, StartLoop, StartCall, StartSyscall, Respan, Repeat, Do, End, EndSpan, EndLoop, EndCall, EndSyscall, frame_of, top, effect_of, advice_taken}
 use Rattle.block_tree.specs.Execution.{Event, Done, Part, event_of, skip, seq, at_bit, cycle, operations, read_operations, batches_from, turns, execution}
 use Rattle.block_tree.specs.Steps.{Task, Block, Within, Turned, Closing, Returning, Leaving, Next, span, join, split_1, split_0, loop_1, loop_0, call, syscall, operation, respan, span_ends, repeats, loop_ends, closes, returns, leaves, IsCycle, Steps, ended, goes}
@@ -207,15 +207,19 @@ module _ (constants : List ℕ) (kernel : List (List ℕ)) (limit : ℕ) where
       seq (cycle_of (StartLoop (digest_of a)))
       (at_bit n (cycle_of (End (digest_of (Loop a)))) (turns_of a m))
 
-  -- no cycle comes next at an opaque block, nor at a span without a batch
+  -- no cycle comes next at an opaque block, a dynamic one, or a span without a batch
   no-opaque : (digest : List ℕ) (c : Core) (mark : Mark) (rest : List Task) → Next constants (Block (Opaque digest)) c mark rest → ⊥
   no-opaque digest c mark rest h = elim h [ ]
+
+  no-dynamic : (targets : Targets) (c : Core) (mark : Mark) (rest : List Task) → Next constants (Block (Dyn targets)) c mark rest → ⊥
+  no-dynamic targets c mark rest h = elim h [ ]
 
   no-empty : (c : Core) (mark : Mark) (rest : List Task) → Next constants (Block (Span [])) c mark rest → ⊥
   no-empty c mark rest h = elim h [ ]
 
   parted-tree : (tree : Tree) → IsPartOf (run_of tree) (Block tree)
   parted-tree (Opaque digest) todo s u es (goes first c more) = absurd (no-opaque digest s.core _ _ first)
+  parted-tree (Dyn targets) todo s u es (goes first c more) = absurd (no-dynamic targets s.core _ _ first)
   parted-tree (Span []) todo s u es (goes first c more) = absurd (no-empty s.core _ _ first)
   parted-tree (Span (batch ∷ later)) todo s u es (goes {t = t} {events = events} (span {items = items} read) c more) =
       let digest : List ℕ = digest_of (Span (batch ∷ later)) in

@@ -5,7 +5,7 @@ use Rattle.std.proofs.Math.Seq.{take-append_seam, drop-append_seam}
 use Rattle.vm_field.specs.Machine.{Core, State}
 use Rattle.vm_ops.specs.declared.item.Item.{Item}
 use Rattle.op_pack.specs.Reading.{reading}
-use Rattle.block_tree.specs.Trees.{Tree, Opaque, Span, Join, Split, Loop, Call, Syscall, tree_digest}
+use Rattle.block_tree.specs.Trees.{Tree, Opaque, Span, Join, Split, Loop, Call, Syscall, Dyn, tree_digest}
 use Rattle.block_tree.specs.Cycles.{Cycle, Mark, StartOpaque, StartSpan, StartSplit, StartLoop, StartCall, StartSyscall, Respan, Repeat, Do, End, EndLoop, EndCall, EndSyscall, frame_of, top, effect_of, advice_taken}
 use Rattle.block_tree.specs.Execution.{Event, Done, Part, skip, seq, at_bit, taking, cycle, operations, read_operations, batches_from, turns, execution}
 use Rattle.block_tree.specs.Laws.{tape_taken, with_tape}
@@ -136,6 +136,7 @@ module _ (constants : List ℕ) (kernel : List (List ℕ)) (limit : ℕ) where
   pub fed-execution : (u : Tree) (s t : State) (es : List Event)
       → execution constants kernel limit u s ≡ Done t es → Fed (execution constants kernel limit u) s t es
   fed-execution (Opaque digest) s t es e = fed-cycle StartOpaque s t es e
+  fed-execution (Dyn targets) s t es e = fed-cycle StartOpaque s t es e
   fed-execution (Span batches) s t es e = fed-then _ _ s t es e (fed-batches batches StartSpan s) (λ u fs d. fed-cycle _ u t fs d)
   fed-execution (Join a b) s t es e =
       fed-then _ _ s t es e (fed-cycle _ s)

@@ -5,7 +5,7 @@ use Rattle.vm_ops.specs.declared.item.Item.{Item}
 use Rattle.vm_ops.specs.declared.cause.Cause.{Cause}
 use Rattle.vm_ops.specs.Step.{cycle_taking}
 use Rattle.op_pack.specs.Reading.{reading}
-use Rattle.block_tree.specs.Trees.{Tree, Opaque, Span, Join, Split, Loop, Call, Syscall, tree_digest}
+use Rattle.block_tree.specs.Trees.{Tree, Opaque, Span, Join, Split, Loop, Call, Syscall, Dyn, tree_digest}
 use Rattle.block_tree.specs.Cycles.{Cycle, Mark, StartOpaque, StartSpan, StartJoin, StartSplit, StartLoop, StartCall, StartSyscall, Respan, Repeat, Do, End, EndSpan, EndLoop, EndCall, EndSyscall, frame_of, top, effect_of, advice_taken}
 
 -- One cycle of a run: what it is, the state before it but for the tape, and what it takes of the tape.
@@ -91,7 +91,8 @@ module _ (constants : List ℕ) (kernel : List (List ℕ)) (limit : ℕ) where
       (cycle (EndLoop digest))
       (seq (cycle (Repeat body_digest)) (turns digest body_digest n body)) t) s
 
-  -- The run of a tree. Each turn of a loop takes a cycle at least, so that no loop makes more turns than cycles are left.
+  -- The run of a tree. Each turn of a loop takes a cycle at least, so that no loop makes more turns than cycles are left. No
+  -- operation starts a dynamic block, so that one traps as an opaque block does.
   abbrev pub execution : Tree → Part
   execution (Opaque digest) = cycle StartOpaque
   execution (Span batches) = seq (batches_from StartSpan batches) (cycle (EndSpan (tree_digest constants (Span batches))))
@@ -112,3 +113,4 @@ module _ (constants : List ℕ) (kernel : List (List ℕ)) (limit : ℕ) where
   execution (Syscall callee) = λ s.
       seq (cycle (StartSyscall (tree_digest constants callee)))
       (seq (execution callee) (cycle (EndSyscall (tree_digest constants (Syscall callee)) (frame_of s.core)))) s
+  execution (Dyn targets) = cycle StartOpaque

@@ -3,7 +3,7 @@ use Rattle.std.specs.Prelude.{◌≡◌, ℕ, ◌<◌, ◌≤◌, List, [], ◌�
 use Rattle.vm_field.specs.Limits.{number_of_constants}
 use Rattle.vm_field.specs.Machine.{State, IsWord}
 use Rattle.vm_field.specs.Sponge.{HashInput, digest_of_input}
-use Rattle.block_tree.specs.Trees.{Tree, IsWhole, Refines, input_of, tree_digest}
+use Rattle.block_tree.specs.Trees.{Tree, Targets, Dyn, IsWhole, Refines, first_target, input_of, tree_digest}
 use Rattle.block_tree.specs.Execution.{Event, Done, OutOfCycles, execution}
 
 -- what a run's cycles took of the tape, in order
@@ -35,6 +35,12 @@ RefinesThrough = (constants : List ℕ) (t u v : Tree) → Refines constants t u
 -- a tree has the digest of each tree that it refines
 abbrev pub RefinedDigest : Type 0
 RefinedDigest = (constants : List ℕ) (t u : Tree) → Refines constants t u → tree_digest constants t ≡ tree_digest constants u
+
+-- what refines a dynamic block has a target of each digest that the block has one of, and its first refines the block's first
+abbrev pub FirstTargetRefined : Type 0
+FirstTargetRefined = (constants : List ℕ) (ts us : Targets) → Refines constants (Dyn ts) (Dyn us)
+    → (digest : List ℕ) (u : Tree) → first_target constants digest us ≡ Some u
+    → (t : Tree) × (first_target constants digest ts ≡ Some t) × Refines constants t u
 
 -- where a tree is done, each tree that refines it is done in the same state with the same events
 abbrev pub RefinedRun : Type 0

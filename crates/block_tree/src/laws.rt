@@ -1,16 +1,17 @@
 ghost use Rattle.block_tree.specs.CycleLaws.{DoneWhereAllowed, RunIsSteps, StepsAreRun};
-ghost use Rattle.block_tree.specs.Laws.{DigestOfInput, DigestIsWord, RefinesItself, RefinesThrough, RefinedDigest, RefinedRun, SameAtLaterLimits, OutAtEarlierLimits, TakesPrefix, SameOnWhatItTook};
+ghost use Rattle.block_tree.specs.Laws.{DigestOfInput, DigestIsWord, FirstTargetRefined, RefinesItself, RefinesThrough, RefinedDigest, RefinedRun, SameAtLaterLimits, OutAtEarlierLimits, TakesPrefix, SameOnWhatItTook};
 ghost use Rattle.block_tree.specs.LogLaws.{LogCounts, RunIsLogged, RunIsShallow, RunIsWhole, RunIsWithinContexts, RunNests};
 ghost use Rattle.block_tree.specs.RowLaws.{AccessedIsWord, FourAreWord, HashIsBatch, ShownBehind, TakesAtMostFour};
 
 use crate::evidence::Evidence;
 use crate::exports::Exports;
 use crate::program::Program;
-use crate::tree::Tree;
+use crate::tree::{Tree, Trees};
 
 /// A tree's digest is that of its hash input, and that of a whole tree is a word. A tree refines
 /// itself and what the trees that it refines refine, has the digest of each of them, and does what
-/// they were done with.
+/// they were done with. Of each digest that a dynamic block has a target of, what refines the block
+/// has one too, and its first target refines the block's first.
 pub fn tree_laws()
     ensures input { DigestOfInput }
     ensures word { DigestIsWord }
@@ -18,6 +19,7 @@ pub fn tree_laws()
     ensures transitive { RefinesThrough }
     ensures digest { RefinedDigest }
     ensures run { RefinedRun }
+    ensures first { FirstTargetRefined }
 {}
 
 /// The laws of runs: the limit of cycles only cuts a run off, and a run depends on no more of the
@@ -65,6 +67,7 @@ fn crosses<T: Send + Sync>() {}
 /// Trees, programs and evidence may be sent to other threads and read by several.
 pub fn types_cross() {
     crosses::<Tree>();
+    crosses::<Trees>();
     crosses::<Program>();
     crosses::<Exports>();
     crosses::<Evidence>();
