@@ -100,14 +100,14 @@ pub fn digest(params: &Params, tree: &Tree) -> Word
     }
 }
 
-// The domain of a dynamic block's hash input: the code of its operation.
-const DYNAMIC: u64 = 80;
+/// The domain of a dynamic block's hash input: the code of the operation that starts one.
+pub const DYN_CODE: u64 = 80;
 
 /// The digest of a dynamic block, which does not depend on its targets.
 pub fn digest_of_dynamic(params: &Params) -> Word
     ensures is { result ≡ digest_of_input (constants_of params.now) input_of_dyn }
 {
-    digest_of(params, Felt::reduced(u128::from(DYNAMIC)), &[[Felt::ZERO; 8]])
+    digest_of(params, Felt::reduced(u128::from(DYN_CODE)), &[[Felt::ZERO; 8]])
 }
 
 /// The digest of a block with two children, of which these are the digests.

@@ -24,7 +24,8 @@ pub(crate) fn block(runner: &mut Runner, setting: &Setting, node: &Node) -> Resu
     ensures same { runner.new.permutations ≡ runner.old.permutations }
 {
     match node {
-        Node::Opaque(_) => cycle(runner, setting, Mark::StartOpaque),
+        // no operation starts a dynamic block
+        Node::Opaque(_) | Node::Dyn(_, _) => cycle(runner, setting, Mark::StartOpaque),
         Node::Span(digest, batches) => span(runner, setting, digest, batches.as_slice()),
         Node::Join(digest, first, second) => join(runner, setting, digest, first, second),
         Node::Split(digest, on_one, on_zero) => split(runner, setting, digest, on_one, on_zero),

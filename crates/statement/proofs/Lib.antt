@@ -1,3 +1,4 @@
+pub mod TargetLemmas
 pub mod Steps
 pub mod Written
 pub mod InputsText

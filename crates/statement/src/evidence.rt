@@ -1,6 +1,6 @@
 ghost use Rattle.std.specs.Prelude.{◌≡◌, ◌++◌, IfOk, OnOk};
-ghost use Rattle.block_tree.specs.TreeView.{tree_of};
-ghost use Rattle.statement.specs.EvidenceText.{batch_text, cycles_text, evidence_text, opaque_text, pair_text, span_text, tape_text, tree_text};
+ghost use Rattle.block_tree.specs.TreeView.{targets_of, tree_of};
+ghost use Rattle.statement.specs.EvidenceText.{batch_text, cycles_text, dyn_text, evidence_text, opaque_text, pair_text, span_text, tape_text, targets_text, tree_text};
 
 use block_tree::{Evidence, Tree};
 use decimal_text::{append_elements, append_number};
@@ -9,7 +9,8 @@ use vm_field::{Bytes, Felt, Memory, Word};
 
 /// The one text that is written of evidence: the line `pair` with the two places, or the lines
 /// `run`, `cycles` and `tape`, and a line for each block of the tree and each batch, in preorder.
-/// Numbers are in decimal, and digests have lower-case digits.
+/// A dynamic block's line has the number of its targets, which follow. Numbers are in decimal, and
+/// digests have lower-case digits.
 pub fn write_evidence(alloc: Global, evidence: &Evidence) -> Result<Bytes, Memory>
     ensures { IfOk result (λ bytes. bytes ≡ evidence_text evidence.now) }
 {
@@ -52,6 +53,8 @@ fn append_pair(text: &mut Bytes, first: u32, second: u32) -> Result<(), Memory>
     text.push(b'\n')
 }
 
+#[cycle(trees)]
+#[tactic(auto, using(block_tree::proofs::ViewLemmas::views, crate::proofs::TargetLemmas::counts))]
 fn append_tree(alloc: Global, text: &mut Bytes, tree: &Tree) -> Result<(), Memory>
     ensures { OnOk result (text.new ≡ text.old ++ tree_text (tree_of tree.now)) }
 {
@@ -80,7 +83,29 @@ fn append_tree(alloc: Global, text: &mut Bytes, tree: &Tree) -> Result<(), Memor
             text.append(b"syscall\n")?;
             append_tree(alloc, text, callee)
         }
+        Tree::Dyn(targets) => {
+            append_dyn(text, targets.as_slice().len())?;
+            append_trees(alloc, text, targets.as_slice())
+        }
     }
+}
+
+#[cycle(trees)]
+fn append_trees(alloc: Global, text: &mut Bytes, trees: &[Tree]) -> Result<(), Memory>
+    ensures { OnOk result (text.new ≡ text.old ++ targets_text (targets_of trees.now)) }
+{
+    for tree in trees {
+        append_tree(alloc, text, tree)?;
+    }
+    Ok(())
+}
+
+fn append_dyn(text: &mut Bytes, targets: usize) -> Result<(), Memory>
+    ensures { OnOk result (text.new ≡ text.old ++ dyn_text targets) }
+{
+    text.append(b"dyn ")?;
+    append_number(text, targets as u64)?;
+    text.push(b'\n')
 }
 
 fn append_opaque(alloc: Global, text: &mut Bytes, digest: &Word) -> Result<(), Memory>

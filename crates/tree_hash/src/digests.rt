@@ -1,12 +1,12 @@
 ghost use Rattle.std.specs.Prelude.{◌≡◌, ◌++◌, All, IfOk, IfSome};
-ghost use Rattle.block_tree.specs.Trees.{input_of_batches, input_of_two, tree_digest};
+ghost use Rattle.block_tree.specs.Trees.{input_of_batches, input_of_dyn, input_of_two, tree_digest};
 ghost use Rattle.block_tree.specs.TreeView.{tree_of};
 ghost use Rattle.vm_field.specs.Sponge.{digest_of_input, hashed};
 ghost use Rattle.vm_ops.specs.Codes.{code_of};
 ghost use Rattle.tree_hash.specs.Digests.{IsDigest};
 
 use crate::sponge::digest_of;
-use block_tree::Tree;
+use block_tree::{DYN_CODE, Tree};
 use op_pack::Batches;
 use perm_memo::Permutations;
 use std::alloc::Global;
@@ -54,6 +54,7 @@ impl Digests {
 
     /// The digest of a tree. A block that was hashed before, in this tree or in an earlier one, is
     /// looked up. The only error is that memory is refused; the same tree may then be asked again.
+    #[tactic(auto, using(block_tree::proofs::ViewLemmas::views))]
     pub fn of_tree(&mut self, alloc: Global, tree: &Tree) -> Result<Word, Memory>
         ensures digest { IfOk result (λ digest. digest ≡ tree_digest self.old.permutations (tree_of tree.now)) }
         ensures permutations { self.new.permutations ≡ self.old.permutations }
@@ -83,6 +84,7 @@ impl Digests {
                 let callee = self.of_tree(alloc, callee)?;
                 self.of_two(alloc, Op::Syscall, callee, Word::ZERO)?
             }
+            Tree::Dyn(_) => self.of_dynamic(alloc)?,
         })
     }
 
@@ -106,6 +108,15 @@ impl Digests {
         ensures permutations { self.new.permutations ≡ self.old.permutations }
     {
         self.of(alloc, domain_of(start), &[pair(&first, &second)])
+    }
+
+    // The digest of a dynamic block, whatever its targets are.
+    pub(crate) fn of_dynamic(&mut self, alloc: Global) -> Result<Word, Memory>
+        ensures digest { IfOk result (λ digest. digest ≡ digest_of_input self.old.permutations input_of_dyn) }
+        ensures permutations { self.new.permutations ≡ self.old.permutations }
+    {
+        let domain = Felt::reduced(u128::from(DYN_CODE));
+        self.of(alloc, domain, &[pair(&Word::ZERO, &Word::ZERO)])
     }
 
     // The digest of blocks of eight elements under a domain.

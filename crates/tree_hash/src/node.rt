@@ -1,7 +1,10 @@
-ghost use Rattle.std.specs.Prelude.{◌≡◌, ℕ, List, IfOk};
+ghost use Rattle.std.specs.Prelude.{◌≡◌, ℕ, List, All, IfOk};
+ghost use Rattle.block_tree.specs.TreeView as view;
 ghost use Rattle.block_tree.specs.TreeView.{tree_of};
-ghost use Rattle.block_tree.specs.Trees.{tree_digest};
-ghost use Rattle.tree_hash.specs.Nodes.{IsHashed, digest_in, node_tree};
+ghost use Rattle.block_tree.specs.Trees as blocks;
+ghost use Rattle.block_tree.specs.Trees.{input_of_dyn, tree_digest};
+ghost use Rattle.vm_field.specs.Sponge.{digest_of_input};
+ghost use Rattle.tree_hash.specs.Nodes.{IsHashed, digest_in, node_tree, targets_of};
 
 use crate::batch::ReadBatch;
 use crate::digests::Digests;
@@ -15,6 +18,7 @@ use vm_ops::Op;
 /// A block with its digest in front, so that each digest is computed once, and with its batches as
 /// they are read, so that each is read once.
 #[derive(Drop)]
+#[cycle(node)]
 pub enum Node {
     Opaque(Word),
     Span(Word, Vec<ReadBatch>),
@@ -23,6 +27,7 @@ pub enum Node {
     Loop(Word, Box<Node>),
     Call(Word, Box<Node>),
     Syscall(Word, Box<Node>),
+    Dyn(Word, Vec<Node>),
 }
 
 impl Node {
@@ -38,7 +43,8 @@ impl Node {
             | Node::Split(digest, _, _)
             | Node::Loop(digest, _)
             | Node::Call(digest, _)
-            | Node::Syscall(digest, _) => *digest,
+            | Node::Syscall(digest, _)
+            | Node::Dyn(digest, _) => *digest,
         }
     }
 }
@@ -61,44 +67,74 @@ pub fn hashed(
 }
 
 // The tree with its digests, of which some may be known.
+#[cycle(nodes)]
+#[tactic(auto, using(crate::proofs::NodeLemmas::views, block_tree::proofs::ViewLemmas::views))]
 fn node_of(alloc: Global, digests: &mut Digests, tree: &Tree) -> Result<Node, Memory>
     ensures hashed { IfOk result (λ node. IsHashed digests.old.permutations node) }
     ensures tree { IfOk result (λ node. node_tree node ≡ tree_of tree.now) }
     ensures digest { IfOk result (λ node. digest_in node ≡ tree_digest digests.old.permutations (tree_of tree.now)) }
     ensures permutations { digests.new.permutations ≡ digests.old.permutations }
 {
-    Ok(match tree {
-        Tree::Opaque(digest) => Node::Opaque(*digest),
+    match tree {
+        Tree::Opaque(digest) => Ok(Node::Opaque(*digest)),
         Tree::Span(batches) => {
             let digest = digests.of_span(alloc, batches)?;
-            Node::Span(digest, read_batches(alloc, batches)?)
+            Ok(Node::Span(digest, read_batches(alloc, batches)?))
         }
         Tree::Join(first, second) => {
             let first = node_of(alloc, digests, first)?;
             let second = node_of(alloc, digests, second)?;
             let digest = digests.of_two(alloc, Op::Join, first.digest(), second.digest())?;
-            Node::Join(digest, Box::new(alloc, first)?, Box::new(alloc, second)?)
+            Ok(Node::Join(digest, Box::new(alloc, first)?, Box::new(alloc, second)?))
         }
         Tree::Split(on_one, on_zero) => {
             let on_one = node_of(alloc, digests, on_one)?;
             let on_zero = node_of(alloc, digests, on_zero)?;
             let digest = digests.of_two(alloc, Op::Split, on_one.digest(), on_zero.digest())?;
-            Node::Split(digest, Box::new(alloc, on_one)?, Box::new(alloc, on_zero)?)
+            Ok(Node::Split(digest, Box::new(alloc, on_one)?, Box::new(alloc, on_zero)?))
         }
         Tree::Loop(body) => {
             let body = node_of(alloc, digests, body)?;
             let digest = digests.of_two(alloc, Op::Loop, body.digest(), Word::ZERO)?;
-            Node::Loop(digest, Box::new(alloc, body)?)
+            Ok(Node::Loop(digest, Box::new(alloc, body)?))
         }
         Tree::Call(callee) => {
             let callee = node_of(alloc, digests, callee)?;
             let digest = digests.of_two(alloc, Op::Call, callee.digest(), Word::ZERO)?;
-            Node::Call(digest, Box::new(alloc, callee)?)
+            Ok(Node::Call(digest, Box::new(alloc, callee)?))
         }
         Tree::Syscall(callee) => {
             let callee = node_of(alloc, digests, callee)?;
             let digest = digests.of_two(alloc, Op::Syscall, callee.digest(), Word::ZERO)?;
-            Node::Syscall(digest, Box::new(alloc, callee)?)
+            Ok(Node::Syscall(digest, Box::new(alloc, callee)?))
         }
-    })
+        Tree::Dyn(targets) => {
+            let digest = digests.of_dynamic(alloc)?;
+            Ok(dynamic(digest, nodes_of(alloc, digests, targets.as_slice())?))
+        }
+    }
+}
+
+// The dynamic block of this digest with these targets.
+fn dynamic(digest: Word, targets: Vec<Node>) -> Node
+    ensures tree { node_tree result ≡ blocks.Dyn (targets_of targets.items) }
+    ensures digest { digest_in result ≡ digest }
+    ensures hashed { (constants : List ℕ) → digest ≡ digest_of_input constants input_of_dyn → All (IsHashed constants) targets.items
+        → IsHashed constants result }
+{
+    Node::Dyn(digest, targets)
+}
+
+// Trees with their digests.
+#[cycle(nodes)]
+fn nodes_of(alloc: Global, digests: &mut Digests, trees: &[Tree]) -> Result<Vec<Node>, Memory>
+    ensures hashed { IfOk result (λ nodes. All (IsHashed digests.old.permutations) nodes.items) }
+    ensures tree { IfOk result (λ nodes. targets_of nodes.items ≡ view.targets_of trees.now) }
+    ensures permutations { digests.new.permutations ≡ digests.old.permutations }
+{
+    let mut nodes = Vec::new(alloc);
+    for tree in trees {
+        nodes.push(node_of(alloc, digests, tree)?)?;
+    }
+    Ok(nodes)
 }
