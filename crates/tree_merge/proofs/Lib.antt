@@ -4,3 +4,7 @@ pub mod FirstBlockLemmas
 pub mod ChildLemmas
 pub mod RootLemmas
 pub mod MergeLemmas
+pub mod ViewLemmas
+pub mod Covers
+pub mod DistinctLemmas
+pub mod TargetLemmas

@@ -4,8 +4,8 @@ use Rattle.vm_field.specs.Sponge.{HashInput, digest_of_input}
 use Rattle.block_tree.specs.Trees as blocks
 use Rattle.block_tree.specs.Trees.{Refines, input_of_batches}
 use Rattle.block_tree.proofs.Refinement.{refines-refl}
-use Rattle.tree_merge.specs.Placed.{PlacedTree, Opaque, Span, Join, Split, Loop, Call, Syscall, placed_digest, plain, at_of, kind_of}
-use Rattle.tree_merge.specs.Merging.{Good, Mergeable, Merged, opaque, span, join, split, loop, call, syscall}
+use Rattle.tree_merge.specs.Placed.{PlacedTree, Opaque, Span, Join, Split, Loop, Call, Syscall, Dyn, placed_digest, plain, at_of, kind_of}
+use Rattle.tree_merge.specs.Merging.{Good, Mergeable, Merged, opaque, span, join, split, loop, call, syscall, dyn}
 use Rattle.tree_merge.specs.Pairs.{Differs}
 
 module _ (constants : List ℕ) (comp : ℕ → Option HashInput) where
@@ -19,6 +19,7 @@ module _ (constants : List ℕ) (comp : ℕ → Option HashInput) where
   refines-opaque (Loop at x) b k e = absurd (omega (arith, k))
   refines-opaque (Call at x) b k e = absurd (omega (arith, k))
   refines-opaque (Syscall at x) b k e = absurd (omega (arith, k))
+  refines-opaque (Dyn at ts) b k e = absurd (omega (arith, k))
 
   pub opaque-first : (a b : PlacedTree) → Mergeable constants comp a b → kind_of a ≡ 0 → Merged constants comp a b b
   opaque-first a b m k = record {
@@ -51,6 +52,7 @@ module _ (constants : List ℕ) (comp : ℕ → Option HashInput) where
   has-input (loop e l g) k = record { input = _; at = e; kind = refl; digest = refl }
   has-input (call e l g) k = record { input = _; at = e; kind = refl; digest = refl }
   has-input (syscall e l g) k = record { input = _; at = e; kind = refl; digest = refl }
+  has-input (dyn e g) k = record { input = _; at = e; kind = refl; digest = refl }
 
   pub unlike-differ : (a b : PlacedTree) → Mergeable constants comp a b → (kind_of a ≡ 0 → ⊥) → (kind_of b ≡ 0 → ⊥)
       → (kind_of a ≡ kind_of b → ⊥) → Differs constants comp (at_of a) (at_of b)

@@ -2,6 +2,7 @@ ghost use Rattle.std.specs.Prelude.{◌≡◌};
 ghost use Rattle.tree_merge.specs.AddrView.{placed_of};
 ghost use Rattle.tree_merge.specs.Placed.{at_of, kind_of};
 
+use block_tree::DYN_CODE;
 use op_pack::Batches;
 use thiserror::Error;
 use vm_field::{Memory, Word};
@@ -10,6 +11,7 @@ use vm_ops::{Op, opcode};
 /// A tree of blocks, each with the address of its hash in the hasher's table. Contracts speak of it
 /// by `placed_of`.
 #[derive(Drop)]
+#[cycle(placed)]
 pub enum AddrTree {
     /// A block of which only the digest is known.
     Opaque(Word),
@@ -25,6 +27,20 @@ pub enum AddrTree {
     Call(u32, Box<AddrTree>),
     /// A block of the kernel.
     Syscall(u32, Box<AddrTree>),
+    /// A block whose child is the target whose digest is the word on top of the stack.
+    Dyn(u32, AddrTrees),
+}
+
+/// The targets of a dynamic block, in order.
+pub type AddrTrees = Vec<Target>;
+
+/// One of a dynamic block's targets, with its digest beside it, so that nothing is hashed where two
+/// such blocks are merged.
+#[derive(Drop)]
+#[cycle(placed)]
+pub struct Target {
+    pub digest: Word,
+    pub tree: AddrTree,
 }
 
 /// Why there is no tree.
@@ -60,7 +76,8 @@ pub(crate) fn address(tree: &AddrTree) -> u32
         | AddrTree::Split(at, _, _)
         | AddrTree::Loop(at, _)
         | AddrTree::Call(at, _)
-        | AddrTree::Syscall(at, _) => *at,
+        | AddrTree::Syscall(at, _)
+        | AddrTree::Dyn(at, _) => *at,
     }
 }
 
@@ -77,5 +94,6 @@ pub(crate) fn kind(tree: &AddrTree) -> u8
         AddrTree::Loop(_, _) => 1 + opcode(Op::Loop),
         AddrTree::Call(_, _) => 1 + opcode(Op::Call),
         AddrTree::Syscall(_, _) => 1 + opcode(Op::Syscall),
+        AddrTree::Dyn(_, _) => 1 + DYN_CODE as u8,
     }
 }

@@ -7,8 +7,9 @@ mod blocks;
 mod laws;
 mod merging;
 mod plain;
+mod targets;
 
-pub use addr_tree::{AddrTree, MergeStop};
+pub use addr_tree::{AddrTree, AddrTrees, MergeStop, Target};
 pub use laws::{pair_laws, run_laws};
 pub use merging::merge;
 pub use plain::into_tree;

@@ -1,8 +1,12 @@
-ghost use Rattle.std.specs.Prelude.{IfOk, IfErr};
-ghost use Rattle.tree_merge.specs.Merges.{AreMergeable, DifferAt, HaveOne, HaveTwo, IsMerged, IsStop};
+ghost use Rattle.std.specs.Prelude.{◌≡◌, ◌≢◌, IfOk, IfErr, OnOk};
+ghost use Rattle.tree_merge.specs.AddrView.{entries_of, placed_of};
+ghost use Rattle.tree_merge.specs.Merging.{IsFirstAt};
+ghost use Rattle.tree_merge.specs.Merges.{AreGoodTargets, AreMergeable, AreTargetsMerged, DifferAt, HaveOne, HaveTwo, IsGoodTarget, IsMerged, IsStop, IsTargetAdded};
+ghost use Rattle.tree_merge.specs.Placed.{kind_of};
 
-use crate::addr_tree::{AddrTree, MergeStop, address, kind};
+use crate::addr_tree::{AddrTree, AddrTrees, MergeStop, Target, address, kind};
 use crate::blocks::same_block;
+use crate::targets::{place, push};
 use air_kit::Trace;
 use op_pack::Batches;
 use rpo_hash::Params;
@@ -12,7 +16,10 @@ use vm_field::Word;
 /// One tree that refines both of two trees of one digest, with addresses of the hashes of its blocks
 /// again. Or two hashes of the trace of different inputs and one digest; then both trees are given up.
 /// Whether two blocks agree is read in the trace, so that nothing is hashed and nothing is copied.
-/// It goes down both trees at once, no deeper than the lower one is high, by three calls a level.
+/// Of two dynamic blocks the first one's targets come first, each merged with the second's of its
+/// digest, and then those of the second whose digests the first has not: they take memory, and nothing
+/// else does. It goes down both trees at once, no deeper than the lower one is high, by four calls a
+/// level, or five where the blocks are dynamic.
 #[cycle(merging)]
 pub fn merge(
     params: &Params,
@@ -33,26 +40,59 @@ pub fn merge(
     if kind(&a) != kind(&b) {
         return Err(pair(params, trace, address(&a), address(&b)));
     }
-    match (a, b) {
-        (AddrTree::Span(p, a), AddrTree::Span(q, b)) => span(params, trace, p, a, q, b),
-        (AddrTree::Join(p, a, b), AddrTree::Join(q, c, d)) => {
-            let (a, b) = two(params, trace, p, a, b, q, c, d)?;
-            Ok(AddrTree::Join(p, a, b))
-        }
-        (AddrTree::Split(p, a, b), AddrTree::Split(q, c, d)) => {
-            let (a, b) = two(params, trace, p, a, b, q, c, d)?;
-            Ok(AddrTree::Split(p, a, b))
-        }
-        (AddrTree::Loop(p, a), AddrTree::Loop(q, c)) => {
-            Ok(AddrTree::Loop(p, one(params, trace, p, a, q, c)?))
-        }
-        (AddrTree::Call(p, a), AddrTree::Call(q, c)) => {
-            Ok(AddrTree::Call(p, one(params, trace, p, a, q, c)?))
-        }
-        (AddrTree::Syscall(p, a), AddrTree::Syscall(q, c)) => {
-            Ok(AddrTree::Syscall(p, one(params, trace, p, a, q, c)?))
-        }
-        (_, _) => unreachable!(),
+    of_one_kind(params, trace, a, b)
+}
+
+// Two blocks of one kind.
+#[cycle(merging)]
+fn of_one_kind(
+    params: &Params,
+    trace: &Trace,
+    a: AddrTree,
+    b: AddrTree,
+) -> Result<AddrTree, MergeStop>
+    requires mergeable { AreMergeable params.now trace.now a b }
+    requires known { kind_of (placed_of a) ≢ 0 }
+    requires one_kind { kind_of (placed_of a) ≡ kind_of (placed_of b) }
+    ensures ok { IfOk result (λ m. IsMerged params.now trace.now a b m) }
+    ensures err { IfErr result (λ stop. IsStop params.now trace.now stop) }
+{
+    match a {
+        AddrTree::Opaque(_) => unreachable!(),
+        AddrTree::Span(p, x) => match b {
+            AddrTree::Span(q, y) => span(params, trace, p, x, q, y),
+            _ => unreachable!(),
+        },
+        AddrTree::Join(p, x, y) => match b {
+            AddrTree::Join(q, z, w) => {
+                let (x, y) = two(params, trace, p, x, y, q, z, w)?;
+                Ok(AddrTree::Join(p, x, y))
+            }
+            _ => unreachable!(),
+        },
+        AddrTree::Split(p, x, y) => match b {
+            AddrTree::Split(q, z, w) => {
+                let (x, y) = two(params, trace, p, x, y, q, z, w)?;
+                Ok(AddrTree::Split(p, x, y))
+            }
+            _ => unreachable!(),
+        },
+        AddrTree::Loop(p, x) => match b {
+            AddrTree::Loop(q, y) => Ok(AddrTree::Loop(p, one(params, trace, p, x, q, y)?)),
+            _ => unreachable!(),
+        },
+        AddrTree::Call(p, x) => match b {
+            AddrTree::Call(q, y) => Ok(AddrTree::Call(p, one(params, trace, p, x, q, y)?)),
+            _ => unreachable!(),
+        },
+        AddrTree::Syscall(p, x) => match b {
+            AddrTree::Syscall(q, y) => Ok(AddrTree::Syscall(p, one(params, trace, p, x, q, y)?)),
+            _ => unreachable!(),
+        },
+        AddrTree::Dyn(p, x) => match b {
+            AddrTree::Dyn(_, y) => Ok(AddrTree::Dyn(p, merge_targets(params, trace, x, y)?)),
+            _ => unreachable!(),
+        },
     }
 }
 
@@ -133,6 +173,66 @@ fn boxed(
     let first = mem::replace(&mut *a, AddrTree::Opaque(Word::ZERO));
     *a = merge(params, trace, first, Box::into_inner(b))?;
     Ok(a)
+}
+
+// The targets of the first list, with those of the second merged in, in their order.
+#[cycle(merging)]
+fn merge_targets(
+    params: &Params,
+    trace: &Trace,
+    a: AddrTrees,
+    b: AddrTrees,
+) -> Result<AddrTrees, MergeStop>
+    requires first { AreGoodTargets params.now trace.now a.items }
+    requires second { AreGoodTargets params.now trace.now b.items }
+    ensures ok { IfOk result (λ m. AreTargetsMerged params.now trace.now a.items b.items m.items) }
+    ensures err { IfErr result (λ stop. IsStop params.now trace.now stop) }
+{
+    let mut merged = a;
+    for target in b {
+        add_target(params, trace, &mut merged, target)?;
+    }
+    Ok(merged)
+}
+
+// One target merged in: with the first of its digest, in its place, or else at the end.
+#[cycle(merging)]
+fn add_target(
+    params: &Params,
+    trace: &Trace,
+    targets: &mut AddrTrees,
+    target: Target,
+) -> Result<(), MergeStop>
+    requires old { AreGoodTargets params.now trace.now targets.now.items }
+    requires one { IsGoodTarget params.now trace.now target }
+    ensures ok { OnOk result (IsTargetAdded params.now trace.now targets.old.items target targets.new.items) }
+    ensures err { IfErr result (λ stop. IsStop params.now trace.now stop) }
+{
+    match place(targets.as_slice(), target.digest) {
+        Some(i) => merge_at(params, trace, targets, i, target),
+        None => push(targets, target),
+    }
+}
+
+// A target merged with the first of its digest, which has so many before it.
+#[cycle(merging)]
+fn merge_at(
+    params: &Params,
+    trace: &Trace,
+    targets: &mut AddrTrees,
+    i: usize,
+    target: Target,
+) -> Result<(), MergeStop>
+    requires old { AreGoodTargets params.now trace.now targets.now.items }
+    requires one { IsGoodTarget params.now trace.now target }
+    requires place { IsFirstAt (entries_of targets.now.items) target.digest i }
+    ensures ok { OnOk result (IsTargetAdded params.now trace.now targets.old.items target targets.new.items) }
+    ensures err { IfErr result (λ stop. IsStop params.now trace.now stop) }
+{
+    let slot = &mut targets[i];
+    let first = mem::replace(&mut slot.tree, AddrTree::Opaque(Word::ZERO));
+    slot.tree = merge(params, trace, first, target.tree)?;
+    Ok(())
 }
 
 // Two addresses at which different inputs of one digest are hashed.

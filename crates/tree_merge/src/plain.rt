@@ -1,10 +1,12 @@
-ghost use Rattle.std.specs.Prelude.{◌≡◌, IfOk};
+ghost use Rattle.std.specs.Prelude.{◌≡◌, map, IfOk};
+ghost use Rattle.block_tree.specs.TreeView as view;
 ghost use Rattle.block_tree.specs.TreeView.{tree_of};
-ghost use Rattle.tree_merge.specs.AddrView.{placed_of};
+ghost use Rattle.tree_merge.specs.AddrView.{entries_of, placed_of};
+ghost use Rattle.tree_merge.specs.Merging.{trees_in};
 ghost use Rattle.tree_merge.specs.Placed.{plain};
 
-use crate::addr_tree::AddrTree;
-use block_tree::Tree;
+use crate::addr_tree::{AddrTree, AddrTrees};
+use block_tree::{Tree, Trees, dynamic};
 use std::alloc::Global;
 use vm_field::Memory;
 
@@ -26,6 +28,7 @@ pub fn into_tree(alloc: Global, tree: AddrTree) -> Result<Tree, Memory>
         AddrTree::Loop(_, body) => Ok(Tree::Loop(child(alloc, body)?)),
         AddrTree::Call(_, callee) => Ok(Tree::Call(child(alloc, callee)?)),
         AddrTree::Syscall(_, callee) => Ok(Tree::Syscall(child(alloc, callee)?)),
+        AddrTree::Dyn(_, targets) => Ok(dynamic(bare_targets(alloc, targets)?)),
     }
 }
 
@@ -36,4 +39,16 @@ fn child(alloc: Global, tree: Box<AddrTree>) -> Result<Box<Tree>, Memory>
 {
     let bare = into_tree(alloc, Box::into_inner(tree))?;
     Ok(Box::new(alloc, bare)?)
+}
+
+// Targets without their addresses.
+#[cycle(bare)]
+fn bare_targets(alloc: Global, targets: AddrTrees) -> Result<Trees, Memory>
+    ensures same { IfOk result (λ trees. map tree_of (view.trees_in trees) ≡ trees_in (entries_of targets.items)) }
+{
+    let mut trees = Trees::new(alloc);
+    for target in targets {
+        trees.push(into_tree(alloc, target.tree)?)?;
+    }
+    Ok(trees)
 }

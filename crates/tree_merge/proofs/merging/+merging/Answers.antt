@@ -1,15 +1,22 @@
-use Rattle.std.proofs.Common.{◌≡◌, ℕ, List, Option, ap, sym, ◌∙◌, arith}
+use Rattle.std.proofs.Common.{◌≡◌, ℕ, List, ◌∷◌, ◌++◌, [], Option, ap, set, sym, subst, ◌∙◌, arith, append_assoc, OnOk, Result, Ok, Err}
+use Rattle.std.specs.Vec.Iter.{into_iter_items}
+use Rattle.std.proofs.lemmas.List.{map-append, map-set}
+use Rattle.std.proofs.lemmas.List.Elements.{All-same}
 use Rattle.std.proofs.Math.Path.{subst₂}
 use Rattle.vm_field.specs.Sponge.{HashInput}
-use Rattle.tree_merge.specs.AddrView.{placed_of}
-use Rattle.block_tree.specs.Trees.{tree_height}
-use Rattle.tree_merge.specs.Placed.{PlacedTree, plain}
+use Rattle.rpo_hash.specs.Constants.{constants_of}
+use Rattle.air_kit.specs.Hashes.{computation_at}
+use Rattle.block_tree.specs.Trees.{tree_height, targets_height, targets_from}
+use Rattle.tree_merge.specs.AddrView.{placed_of, entry_of, entries_of}
+use Rattle.tree_merge.specs.Placed.{PlacedTree, Entry, plain}
 use Rattle.tree_merge.specs.declared.addr_tree.AddrTree.{AddrTree}
-use Rattle.tree_merge.specs.Merging.{Mergeable, Merged}
+use Rattle.tree_merge.specs.Merging.{Mergeable, Merged, IsGoodEntry, IsAdded, AreMerged, HasNone, trees_in}
 use Rattle.tree_merge.specs.Pairs.{Differs}
 use Rattle.tree_merge.proofs.ChildLemmas.{twos-second}
 use Rattle.tree_merge.proofs.RootLemmas.{opaque-first, opaque-second, unlike-differ}
+use Rattle.tree_merge.proofs.ViewLemmas.{placed-Dyn, plain-targets, get-entries}
 use Rattle.tree_merge.proofs.MergeLemmas.{join-twos, split-twos, loop-ones, call-ones, syscall-ones, join-merged, split-merged, loop-merged, call-merged, syscall-merged}
+use Rattle.tree_merge.proofs.TargetLemmas.{dyn-first, dyn-second, dyn-merged, added-push, merged-none, merged-more, height-inside, good-inside, mergeable-place, added-set, at-place}
 use Rattle.tree_merge.proofs.merging.+merging.Goals as goal
 
 -- what is known of two trees is known of what they were found to be, and the other way round
@@ -39,80 +46,189 @@ merge-pair-requires t c =
     (unlike-differ _ _ _ _ c.requires (λ e. c.if-kind-eq0.false (c.kind.ensures.is ∙ e)) (λ e. c.if-kind-eq0-2.false (c.kind-2.ensures.is ∙ e))
     (λ e. c.if-kind.true (c.kind-3.ensures.is ∙ e ∙ sym c.kind-4.ensures.is)))
 
-pub merge-two-requires : goal.merge-two-requires
-merge-two-requires t c =
-    let e = ap tall c.in-Join-Join.is-0 in
-    let d = c.decreases in (
-      omega (arith, e, d),
-      join-twos _ _ _ _ _ _ _ _
-          (found _ _ _ _ _ _ (ap placed_of c.in-Join-Join.is-0) (ap placed_of c.in-Join-Join.is-1) c.requires),
-    )
+pub merge-of_one_kind-requires : goal.merge-of_one_kind-requires
+merge-of_one_kind-requires t c = (
+  omega arith,
+  (
+    c.requires,
+    (λ e. c.if-kind-eq0.false (c.kind.ensures.is ∙ e), sym c.kind-3.ensures.is ∙ c.if-kind.false ∙ c.kind-4.ensures.is),
+  ),
+)
 
-pub merge-returns-in_ok-a-in-Join-Join-clause-ok :
-    goal.merge-returns-in_ok-a-in-Join-Join-clause-ok
-merge-returns-in_ok-a-in-Join-Join-clause-ok t c =
-    made _ _ _ _ _ _ _ (ap placed_of c.in-Join-Join.is-0) (ap placed_of c.in-Join-Join.is-1)
-    (join-merged _ _ _ _ _ _ _ _ _ _ (found _ _ _ _ _ _ (ap placed_of c.in-Join-Join.is-0) (ap placed_of c.in-Join-Join.is-1) c.requires)
-    c.in_ok-a-in-Join-Join.ensures.first c.in_ok-a-in-Join-Join.ensures.second)
+pub of_one_kind-span-requires : goal.of_one_kind-span-requires
+of_one_kind-span-requires t c = found _ _ _ _ _ _ (ap placed_of c.in-Span.is) (ap placed_of c.in-Span-b.is) c.requires.mergeable
 
-pub merge-two-requires-in-Split-Split : goal.merge-two-requires-in-Split-Split
-merge-two-requires-in-Split-Split t c =
-    let e = ap tall c.in-Split-Split.is-0 in
-    let d = c.decreases in (
-      omega (arith, e, d),
-      split-twos _ _ _ _ _ _ _ _
-          (found _ _ _ _ _ _ (ap placed_of c.in-Split-Split.is-0) (ap placed_of c.in-Split-Split.is-1) c.requires),
-    )
-
-pub merge-returns-in_ok-a-in-Split-Split-clause-ok :
-    goal.merge-returns-in_ok-a-in-Split-Split-clause-ok
-merge-returns-in_ok-a-in-Split-Split-clause-ok t c =
-    made _ _ _ _ _ _ _ (ap placed_of c.in-Split-Split.is-0) (ap placed_of c.in-Split-Split.is-1)
-    (split-merged _ _ _ _ _ _ _ _ _ _ (found _ _ _ _ _ _ (ap placed_of c.in-Split-Split.is-0) (ap placed_of c.in-Split-Split.is-1) c.requires)
-    c.in_ok-a-in-Split-Split.ensures.first c.in_ok-a-in-Split-Split.ensures.second)
-
-pub merge-one-requires : goal.merge-one-requires
-merge-one-requires t c =
-    let e = ap tall c.in-Loop-Loop.is-0 in
+pub of_one_kind-two-requires : goal.of_one_kind-two-requires
+of_one_kind-two-requires t c =
+    let e = ap tall c.in-Join-b.is in
     let d = c.decreases in
-    (omega (arith, e, d), loop-ones _ _ _ _ _ _ (found _ _ _ _ _ _ (ap placed_of c.in-Loop-Loop.is-0) (ap placed_of c.in-Loop-Loop.is-1) c.requires))
+    (omega (arith, e, d), join-twos _ _ _ _ _ _ _ _ (found _ _ _ _ _ _ (ap placed_of c.in-Join.is) (ap placed_of c.in-Join-b.is) c.requires.mergeable))
 
-pub merge-returns-in_ok-one-in-Loop-Loop-clause-ok :
-    goal.merge-returns-in_ok-one-in-Loop-Loop-clause-ok
-merge-returns-in_ok-one-in-Loop-Loop-clause-ok t c =
-    made _ _ _ _ _ _ _ (ap placed_of c.in-Loop-Loop.is-0) (ap placed_of c.in-Loop-Loop.is-1)
-    (loop-merged _ _ _ _ _ _ _ (found _ _ _ _ _ _ (ap placed_of c.in-Loop-Loop.is-0) (ap placed_of c.in-Loop-Loop.is-1) c.requires)
-    c.in_ok-one-in-Loop-Loop.ensures.ok)
+pub of_one_kind-returns-in_ok-x-in-Join-b-clause-ok : goal.of_one_kind-returns-in_ok-x-in-Join-b-clause-ok
+of_one_kind-returns-in_ok-x-in-Join-b-clause-ok t c =
+    let first = ap placed_of c.in-Join.is in
+    let second = ap placed_of c.in-Join-b.is in
+    made _ _ _ _ _ _ _ first second (
+    join-merged _ _ _ _ _ _ _ _ _ _ (found _ _ _ _ _ _ first second c.requires.mergeable)
+    c.in_ok-x-in-Join-b.ensures.first c.in_ok-x-in-Join-b.ensures.second)
 
-pub merge-one-requires-in-Call-Call : goal.merge-one-requires-in-Call-Call
-merge-one-requires-in-Call-Call t c =
-    let e = ap tall c.in-Call-Call.is-0 in
+pub of_one_kind-two-requires-in-Split-b : goal.of_one_kind-two-requires-in-Split-b
+of_one_kind-two-requires-in-Split-b t c =
+    let e = ap tall c.in-Split-b.is in
     let d = c.decreases in
-    (omega (arith, e, d), call-ones _ _ _ _ _ _ (found _ _ _ _ _ _ (ap placed_of c.in-Call-Call.is-0) (ap placed_of c.in-Call-Call.is-1) c.requires))
+    (omega (arith, e, d), split-twos _ _ _ _ _ _ _ _ (found _ _ _ _ _ _ (ap placed_of c.in-Split.is) (ap placed_of c.in-Split-b.is) c.requires.mergeable))
 
-pub merge-returns-in_ok-one-in-Call-Call-clause-ok :
-    goal.merge-returns-in_ok-one-in-Call-Call-clause-ok
-merge-returns-in_ok-one-in-Call-Call-clause-ok t c =
-    made _ _ _ _ _ _ _ (ap placed_of c.in-Call-Call.is-0) (ap placed_of c.in-Call-Call.is-1)
-    (call-merged _ _ _ _ _ _ _ (found _ _ _ _ _ _ (ap placed_of c.in-Call-Call.is-0) (ap placed_of c.in-Call-Call.is-1) c.requires)
-    c.in_ok-one-in-Call-Call.ensures.ok)
+pub of_one_kind-returns-in_ok-x-in-Split-b-clause-ok : goal.of_one_kind-returns-in_ok-x-in-Split-b-clause-ok
+of_one_kind-returns-in_ok-x-in-Split-b-clause-ok t c =
+    let first = ap placed_of c.in-Split.is in
+    let second = ap placed_of c.in-Split-b.is in
+    made _ _ _ _ _ _ _ first second (
+    split-merged _ _ _ _ _ _ _ _ _ _ (found _ _ _ _ _ _ first second c.requires.mergeable)
+    c.in_ok-x-in-Split-b.ensures.first c.in_ok-x-in-Split-b.ensures.second)
 
-pub merge-one-requires-in-Syscall-Syscall : goal.merge-one-requires-in-Syscall-Syscall
-merge-one-requires-in-Syscall-Syscall t c =
-    let e = ap tall c.in-Syscall-Syscall.is-0 in
-    let d = c.decreases in (
-      omega (arith, e, d),
-      syscall-ones _ _ _ _ _ _ (found _ _ _ _ _ _ (ap placed_of c.in-Syscall-Syscall.is-0) (ap placed_of c.in-Syscall-Syscall.is-1) c.requires),
-    )
+pub of_one_kind-one-requires : goal.of_one_kind-one-requires
+of_one_kind-one-requires t c =
+    let e = ap tall c.in-Loop-b.is in
+    let d = c.decreases in
+    (omega (arith, e, d), loop-ones _ _ _ _ _ _ (found _ _ _ _ _ _ (ap placed_of c.in-Loop.is) (ap placed_of c.in-Loop-b.is) c.requires.mergeable))
 
-pub merge-returns-in_ok-one-in-Syscall-Syscall-clause-ok :
-    goal.merge-returns-in_ok-one-in-Syscall-Syscall-clause-ok
-merge-returns-in_ok-one-in-Syscall-Syscall-clause-ok t c =
-    made _ _ _ _ _ _ _ (ap placed_of c.in-Syscall-Syscall.is-0) (ap placed_of c.in-Syscall-Syscall.is-1)
-    (syscall-merged _ _ _ _ _ _ _ (found _ _ _ _ _ _ (ap placed_of c.in-Syscall-Syscall.is-0) (ap placed_of c.in-Syscall-Syscall.is-1) c.requires)
-    c.in_ok-one-in-Syscall-Syscall.ensures.ok)
+pub of_one_kind-returns-in_ok-one-in-Loop-b-clause-ok : goal.of_one_kind-returns-in_ok-one-in-Loop-b-clause-ok
+of_one_kind-returns-in_ok-one-in-Loop-b-clause-ok t c =
+    let first = ap placed_of c.in-Loop.is in
+    let second = ap placed_of c.in-Loop-b.is in
+    made _ _ _ _ _ _ _ first second
+    (loop-merged _ _ _ _ _ _ _ (found _ _ _ _ _ _ first second c.requires.mergeable) c.in_ok-one-in-Loop-b.ensures.ok)
+
+pub of_one_kind-one-requires-in-Call-b : goal.of_one_kind-one-requires-in-Call-b
+of_one_kind-one-requires-in-Call-b t c =
+    let e = ap tall c.in-Call-b.is in
+    let d = c.decreases in
+    (omega (arith, e, d), call-ones _ _ _ _ _ _ (found _ _ _ _ _ _ (ap placed_of c.in-Call.is) (ap placed_of c.in-Call-b.is) c.requires.mergeable))
+
+pub of_one_kind-returns-in_ok-one-in-Call-b-clause-ok : goal.of_one_kind-returns-in_ok-one-in-Call-b-clause-ok
+of_one_kind-returns-in_ok-one-in-Call-b-clause-ok t c =
+    let first = ap placed_of c.in-Call.is in
+    let second = ap placed_of c.in-Call-b.is in
+    made _ _ _ _ _ _ _ first second
+    (call-merged _ _ _ _ _ _ _ (found _ _ _ _ _ _ first second c.requires.mergeable) c.in_ok-one-in-Call-b.ensures.ok)
+
+pub of_one_kind-one-requires-in-Syscall-b : goal.of_one_kind-one-requires-in-Syscall-b
+of_one_kind-one-requires-in-Syscall-b t c =
+    let e = ap tall c.in-Syscall-b.is in
+    let d = c.decreases in
+    (omega (arith, e, d), syscall-ones _ _ _ _ _ _ (found _ _ _ _ _ _ (ap placed_of c.in-Syscall.is) (ap placed_of c.in-Syscall-b.is) c.requires.mergeable))
+
+pub of_one_kind-returns-in_ok-one-in-Syscall-b-clause-ok : goal.of_one_kind-returns-in_ok-one-in-Syscall-b-clause-ok
+of_one_kind-returns-in_ok-one-in-Syscall-b-clause-ok t c =
+    let first = ap placed_of c.in-Syscall.is in
+    let second = ap placed_of c.in-Syscall-b.is in
+    made _ _ _ _ _ _ _ first second
+    (syscall-merged _ _ _ _ _ _ _ (found _ _ _ _ _ _ first second c.requires.mergeable) c.in_ok-one-in-Syscall-b.ensures.ok)
+
+pub of_one_kind-merge_targets-requires : goal.of_one_kind-merge_targets-requires
+of_one_kind-merge_targets-requires t c =
+    let first = ap placed_of c.in-Dyn.is ∙ placed-Dyn _ _ in
+    let second = ap placed_of c.in-Dyn-b.is ∙ placed-Dyn _ _ in
+    let known = found _ _ _ _ _ _ first second c.requires.mergeable in
+    let e = ap (λ x. tree_height (plain x)) second in
+    let same = ap targets_height (plain-targets (entries_of c.in-Dyn-b.y.items)) in
+    let d = c.decreases in
+    (omega (arith, e, same, d), (dyn-first _ _ _ _ _ _ known, dyn-second _ _ _ _ _ _ known))
+
+pub of_one_kind-returns-in_ok-merge_targets-in-Dyn-b-clause-ok : goal.of_one_kind-returns-in_ok-merge_targets-in-Dyn-b-clause-ok
+of_one_kind-returns-in_ok-merge_targets-in-Dyn-b-clause-ok t c =
+    let first = ap placed_of c.in-Dyn.is ∙ placed-Dyn _ _ in
+    let second = ap placed_of c.in-Dyn-b.is ∙ placed-Dyn _ _ in
+    let known = found _ _ _ _ _ _ first second c.requires.mergeable in
+    let m = dyn-merged _ _ _ _ _ _ known _ c.in_ok-merge_targets-in-Dyn-b.ensures.ok in
+    made _ _ _ _ _ _ _ first second (subst (Merged _ _ _ _) (sym (placed-Dyn _ _)) m)
 
 pub two-boxed-requires-2 : goal.two-boxed-requires-2
 two-boxed-requires-2 t c =
     let d = c.decreases in
     (omega (arith, d), twos-second _ _ _ _ _ _ _ _ c.requires (c.same_block.ensures.is.0 c.if-not-same_block.false))
+
+OnOk-map : {E : Type 0} (P Q : Type 0) (r : Result (Unit {0}) E) → (P → Q) → OnOk r P → OnOk r Q
+OnOk-map P Q (Ok x) f p = f p
+OnOk-map P Q (Err x) f p = p
+
+pub add_target-returns-in-None-clause-ok : goal.add_target-returns-in-None-clause-ok
+add_target-returns-in-None-clause-ok t c =
+    let targets = c.args.targets.now.items in
+    OnOk-map _ _ c.push.result (λ e.
+    subst (IsAdded _ _ (entries_of targets) (entry_of c.args.target))
+    (sym (ap entries_of e ∙ map-append entry_of targets (c.args.target ∷ [])))
+    (added-push _ _ (entry_of c.args.target) c.requires.one (entries_of targets) c.requires.old
+    (subst (λ ts. HasNone c.args.target.digest (entries_of ts)) c.as_slice.ensures.value c.in-None.ensures.none))) c.push.ensures.ok
+
+pub merge_at-merge-requires : goal.merge_at-merge-requires
+merge_at-merge-requires t c =
+    let slot = c.index_mut-slot.result.now in
+    let entry = ap entry_of c.index_mut-slot.ensures.value ∙ sym (get-entries c.args.targets.now.items c.args.i slot)
+    ∙ at-place _ _ _ c.requires.place (entry_of slot) in
+    let same = ap placed_of c.replace-first.ensures.value ∙ ap (λ (e : Entry). e.tree) entry in
+    let d = c.decreases in (
+      omega arith,
+      subst (λ x. Mergeable (constants_of c.args.params.now) (computation_at c.args.trace.now.hasher) x (placed_of c.args.target.tree)) (sym same)
+          (mergeable-place _ _ _ (entry_of c.args.target) _ c.requires.place c.requires.old c.requires.one),
+    )
+
+pub merge_at-returns-clause-ok : goal.merge_at-returns-clause-ok
+merge_at-returns-clause-ok t c =
+    let targets = c.args.targets.now.items in
+    let slot = c.index_mut-slot.result.now in
+    let entry = ap entry_of c.index_mut-slot.ensures.value ∙ sym (get-entries targets c.args.i slot) ∙ at-place _ _ _ c.requires.place (entry_of slot) in
+    let same = ap placed_of c.replace-first.ensures.value ∙ ap (λ (e : Entry). e.tree) entry in
+    let m = placed_of c.in_ok-slot.field-0 in
+    let merged = subst (λ x. Merged (constants_of c.args.params.now) (computation_at c.args.trace.now.hasher) x (placed_of c.args.target.tree) m) same c.in_ok-slot.ensures.ok in
+    let added = added-set _ _ _ (entry_of c.args.target) _ c.requires.place c.requires.old c.requires.one m merged in
+    let back : set (entries_of targets) c.args.i (record { digest = c.requires.place.entry.digest; tree = m })
+    ≡ entries_of (set targets c.args.i (record { digest = slot.digest; tree = c.in_ok-slot.field-0 }))
+    = ap (λ w. set (entries_of targets) c.args.i (record { digest = w; tree = m })) (sym (ap (λ (e : Entry). e.digest) entry))
+    ∙ sym (map-set entry_of targets c.args.i _) in
+    subst (IsAdded _ _ (entries_of targets) (entry_of c.args.target)) back added
+
+pub merge_targets-loop-target-init : goal.merge_targets-loop-target-init
+merge_targets-loop-target-init t c = record { all = c.into_iter-target-iterator.ensures.into_iter_gives.0; merged = merged-none _ _ _ c.requires.first }
+
+pub merge_targets-add_target-requires : goal.merge_targets-add_target-requires
+merge_targets-add_target-requires t c =
+    let before = c.loop-target.yielded in
+    let behind = into_iter_items c.next.new.self in
+    let here = ap (λ ys. before ++ ys) (sym c.in-Some.ensures.steps.0) ∙ c.loop-target.invariant.all in
+    let split = sym (map-append entry_of before (c.in-Some.target ∷ behind)) ∙ ap entries_of here in
+    let lower = height-inside (entries_of before) (entry_of c.in-Some.target) (entries_of behind) in
+    let same = ap (λ es. targets_height (targets_from (trees_in es))) split in
+    let d = c.decreases in (
+      omega (arith, lower, same),
+      (
+        c.loop-target.invariant.merged.good,
+        good-inside _ _ (entries_of before) (entry_of c.in-Some.target) (entries_of behind)
+            (All-same (IsGoodEntry _ _) _ _ split c.requires.second),
+      ),
+    )
+
+pub merge_targets-loop-target-preserved : goal.merge_targets-loop-target-preserved
+merge_targets-loop-target-preserved t c =
+    let before = c.loop-target.yielded in
+    let behind = into_iter_items c.next.new.self in
+    let here = ap (λ ys. before ++ ys) (sym c.in-Some.ensures.steps.0) ∙ c.loop-target.invariant.all in
+    let split = sym (map-append entry_of before (c.in-Some.target ∷ behind)) ∙ ap entries_of here in
+    let good = good-inside _ _ (entries_of before) (entry_of c.in-Some.target) (entries_of behind)
+    (All-same (IsGoodEntry _ _) _ _ split c.requires.second) in
+    record {
+      all = append_assoc before (c.in-Some.target ∷ []) behind ∙ here;
+      merged = subst
+          (λ es. AreMerged (constants_of c.args.params.now) (computation_at c.args.trace.now.hasher) (entries_of c.args.a.items) es
+          (entries_of c.add_target.new.targets.items))
+          (sym (map-append entry_of before (c.in-Some.target ∷ [])))
+          (merged-more _ _ _ (entries_of before) _ _ (entry_of c.in-Some.target) good c.loop-target.invariant.merged c.in_ok-add_target.ensures.ok);
+    }
+
+pub boxed-merge-requires : goal.boxed-merge-requires
+boxed-merge-requires t c =
+    let first = ap placed_of (c.replace-first.ensures.value ∙ c.deref_mut.ensures.value) in
+    let second = ap placed_of c.into_inner.ensures in
+    let d = c.decreases in
+    let e = ap (λ x. tree_height (plain x)) second in
+    (omega (arith, e, d), found _ _ _ _ _ _ (sym first) (sym second) c.requires)

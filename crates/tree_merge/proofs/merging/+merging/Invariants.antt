@@ -1,18 +1,39 @@
--- Each call goes down both trees, and the first one's height falls; within a level `merge` calls `two` or `one`, and these `boxed`.
-use Rattle.std.proofs.Common.{◌+◌, ◌*◌, max}
-use Rattle.block_tree.specs.Trees.{tree_height}
-use Rattle.tree_merge.specs.AddrView.{placed_of}
+-- Each call goes down both trees, and the second one's height falls; the first one's may not, since targets are put into it.
+use Rattle.std.proofs.Common.{◌≡◌, ◌+◌, ◌*◌, ◌++◌, max}
+use Rattle.std.specs.Vec.Iter.{into_iter_items}
+use Rattle.block_tree.specs.Trees.{tree_height, targets_height, targets_from}
+use Rattle.tree_merge.specs.AddrView.{placed_of, entries_of}
 use Rattle.tree_merge.specs.Placed.{plain}
+use Rattle.tree_merge.specs.Merging.{trees_in}
+use Rattle.tree_merge.specs.Merges.{AreTargetsMerged}
 use Rattle.tree_merge.proofs.merging.+merging.Given as goal
 
+abbrev pub invariant-merge_targets-loop-target : goal.invariant-merge_targets-loop-target
+invariant-merge_targets-loop-target l = record {
+  all : l.yielded ++ into_iter_items l.target-iterator ≡ l.fn.b.items;
+  merged : AreTargetsMerged l.params l.trace l.fn.a.items l.yielded l.merged.items;
+}
+
 abbrev pub decreases-merge : goal.decreases-merge
-decreases-merge l = 3 * tree_height (plain (placed_of l.a))
+decreases-merge l = 5 * tree_height (plain (placed_of l.b)) + 1
+
+abbrev pub decreases-of_one_kind : goal.decreases-of_one_kind
+decreases-of_one_kind l = 5 * tree_height (plain (placed_of l.b))
 
 abbrev pub decreases-two : goal.decreases-two
-decreases-two l = 3 * max (tree_height (plain (placed_of l.a.value))) (tree_height (plain (placed_of l.b.value))) + 2
+decreases-two l = 5 * max (tree_height (plain (placed_of l.c.value))) (tree_height (plain (placed_of l.d.value))) + 3
 
 abbrev pub decreases-one : goal.decreases-one
-decreases-one l = 3 * tree_height (plain (placed_of l.a.value)) + 2
+decreases-one l = 5 * tree_height (plain (placed_of l.c.value)) + 3
 
 abbrev pub decreases-boxed : goal.decreases-boxed
-decreases-boxed l = 3 * tree_height (plain (placed_of l.a.value)) + 1
+decreases-boxed l = 5 * tree_height (plain (placed_of l.b.value)) + 2
+
+abbrev pub decreases-merge_targets : goal.decreases-merge_targets
+decreases-merge_targets l = 5 * targets_height (targets_from (trees_in (entries_of l.b.items))) + 4
+
+abbrev pub decreases-add_target : goal.decreases-add_target
+decreases-add_target l = 5 * tree_height (plain (placed_of l.target.tree)) + 3
+
+abbrev pub decreases-merge_at : goal.decreases-merge_at
+decreases-merge_at l = 5 * tree_height (plain (placed_of l.target.tree)) + 2
