@@ -1,15 +1,15 @@
 -- What is hashed in the table, and that the trees are merged.
-use Rattle.std.proofs.Common.{◌≡◌, ℕ, List, [], ◌∷◌, length, Some, refl, sym, subst, ◌∙◌}
+use Rattle.std.proofs.Common.{◌≡◌, ◌≢◌, ℕ, List, [], ◌∷◌, length, get_or, Some, refl, sym, ap, subst, ◌∙◌, arith}
 use Rattle.std.proofs.Math.Path.{subst₂}
 use Rattle.vm_field.specs.Machine.{zero_word}
 use Rattle.vm_field.specs.Sponge.{digest_of_input}
 use Rattle.vm_ops.specs.declared.op.Op.TheVariants as op
-use Rattle.block_tree.specs.Trees.{input_of_batches, input_of_one, input_of_two}
+use Rattle.block_tree.specs.Trees.{input_of_batches, input_of_dyn, input_of_one, input_of_two}
 use Rattle.air_kit.specs.Hashes.{blocks_from, computation_at}
-use Rattle.tree_merge.specs.Placed.{PlacedTree}
-use Rattle.tree_merge.specs.Merging.{Good, Mergeable, opaque, span, split, loop}
+use Rattle.tree_merge.specs.Placed.{PlacedTree, placed_digest}
+use Rattle.tree_merge.specs.Merging.{Good, Mergeable, opaque, span, split, loop, dyn, none, more}
 use Rattle.test_merge.specs.Hashes.{AreZeros, hasher_rows, zeros}
-use Rattle.test_merge.specs.Trees.{one_batch, two_batches, first_ran, second_ran, not_entered, entered}
+use Rattle.test_merge.specs.Trees.{one_batch, two_batches, first_ran, second_ran, not_entered, entered, ones, one_in_front, none_taken, second_taken, taken_with}
 
 at_9 : computation_at hasher_rows 9 ≡ Some (input_of_batches (zeros ∷ []))
 unfolding blocks_from
@@ -26,6 +26,14 @@ at_33 = refl
 at_41 : computation_at hasher_rows 41 ≡ Some (input_of_one op.Loop zero_word)
 unfolding blocks_from
 at_41 = refl
+
+at_49 : computation_at hasher_rows 49 ≡ Some input_of_dyn
+unfolding blocks_from
+at_49 = refl
+
+-- words with other first elements differ
+other_first : (v w : List ℕ) → (get_or v 0 0 ≡ get_or w 0 0 → ⊥) → v ≢ w
+other_first v w differ e = differ (ap (λ word. get_or word 0 0) e)
 
 -- trees that are those, by the rows that are those
 pub mergeable-by : (constants : List ℕ) (rows : List (List ℕ)) (x y u v : PlacedTree) → rows ≡ hasher_rows → x ≡ u → y ≡ v
@@ -62,4 +70,23 @@ module _ (constants : List ℕ) (z : AreZeros constants) where
     first = loop at_41 refl opaque;
     second = loop (at_41 ∙ sym (λ i. Some (input_of_one op.Loop (z.one i)))) (λ i. length (z.one i)) good-one;
     digest = λ i. digest_of_input constants (input_of_one op.Loop (sym z.one i));
+  }
+
+  taken_good : (tree : PlacedTree) → zero_word ≡ placed_digest constants tree → Good constants (computation_at hasher_rows) tree
+      → Good constants (computation_at hasher_rows) (taken_with tree)
+  taken_good tree is good = dyn at_49 (more is good tt none)
+
+  pub dynamics-mergeable : Mergeable constants (computation_at hasher_rows) none_taken second_taken
+  dynamics-mergeable = record {
+    first = dyn at_49 (more refl opaque (other_first ones zero_word (λ e. omega (arith, e)), tt) (more refl opaque tt none));
+    second = dyn at_49
+        (more refl opaque (other_first zero_word one_in_front (λ e. omega (arith, e)), tt) (more (sym z.one) good-one tt none));
+    digest = refl;
+  }
+
+  pub taken-mergeable : Mergeable constants (computation_at hasher_rows) (taken_with one_batch) (taken_with two_batches)
+  taken-mergeable = record {
+    first = taken_good one_batch (sym z.one) good-one;
+    second = taken_good two_batches (sym z.two) good-two;
+    digest = refl;
   }

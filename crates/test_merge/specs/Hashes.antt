@@ -4,6 +4,7 @@ use Rattle.vm_field.specs.Machine.{zero_word}
 use Rattle.vm_field.specs.Sponge.{hashed}
 use Rattle.vm_ops.specs.declared.op.Op.TheVariants as op
 use Rattle.vm_ops.specs.Codes.{code_of}
+use Rattle.block_tree.specs.Trees.{dyn_code}
 
 abbrev pub zeros : List ℕ
 zeros = zero_word ++ zero_word
@@ -18,11 +19,12 @@ rows_of cont more domain =
     row_of cont more domain ∷ row_of cont more domain ∷ row_of cont more domain ∷ row_of cont more domain
     ∷ row_of cont more domain ∷ row_of cont more domain ∷ row_of cont more domain ∷ row_of cont more domain ∷ []
 
--- At the addresses 1 and 9 the hash of one batch of zeros, at 17 that of two, at 33 that of a split of two digests of zeros, and
--- at 41 that of a loop of one.
+-- At the addresses 1 and 9 the hash of one batch of zeros, at 17 that of two, at 33 that of a split of two digests of zeros, at 41
+-- that of a loop of one, and at 49 that of a dynamic block.
 abbrev pub hasher_rows : List (List ℕ)
 hasher_rows =
     rows_of 0 0 0 ++ rows_of 0 0 0 ++ rows_of 0 1 0 ++ rows_of 1 0 0 ++ rows_of 0 0 (code_of op.Split) ++ rows_of 0 0 (code_of op.Loop)
+    ++ rows_of 0 0 dyn_code
 
 -- one batch of zeros and two have digests of zeros
 pub record AreZeros (constants : List ℕ) : Type 0 where

@@ -1,6 +1,7 @@
 ghost use Rattle.std.specs.Prelude.{◌≡◌};
-ghost use Rattle.tree_merge.specs.AddrView.{placed_of};
-ghost use Rattle.tree_merge.specs.Placed.{at_of, kind_of};
+ghost use Rattle.tree_merge.specs.AddrView.{entries_of, placed_of};
+ghost use Rattle.tree_merge.specs.Placed as places;
+ghost use Rattle.tree_merge.specs.Placed.{at_of, kind_of, placed_from};
 
 use block_tree::DYN_CODE;
 use op_pack::Batches;
@@ -63,6 +64,13 @@ impl From<Memory> for MergeStop {
     fn from(_error: Memory) -> MergeStop {
         MergeStop::Memory
     }
+}
+
+/// The dynamic block that is hashed at this address and has these targets.
+pub fn dynamic(at: u32, targets: AddrTrees) -> AddrTree
+    ensures is { placed_of result ≡ places.Dyn at (placed_from (entries_of targets.items)) }
+{
+    AddrTree::Dyn(at, targets)
 }
 
 // The address of the root's hash, and 0 where only the root's digest is known.

@@ -9,7 +9,7 @@ mod merging;
 mod plain;
 mod targets;
 
-pub use addr_tree::{AddrTree, AddrTrees, MergeStop, Target};
+pub use addr_tree::{AddrTree, AddrTrees, MergeStop, Target, dynamic};
 pub use laws::{pair_laws, run_laws};
 pub use merging::merge;
 pub use plain::into_tree;

@@ -17,9 +17,9 @@ use vm_field::Word;
 /// again. Or two hashes of the trace of different inputs and one digest; then both trees are given up.
 /// Whether two blocks agree is read in the trace, so that nothing is hashed and nothing is copied.
 /// Of two dynamic blocks the first one's targets come first, each merged with the second's of its
-/// digest, and then those of the second whose digests the first has not: they take memory, and nothing
-/// else does. It goes down both trees at once, no deeper than the lower one is high, by four calls a
-/// level, or five where the blocks are dynamic.
+/// digest, and then those of the second whose digests the first has not, in their order. Putting them
+/// there takes memory, and nothing else does: `Memory` where it was refused. It goes down both trees
+/// at once, no deeper than the lower one is high, by four calls a level, or five at a dynamic block.
 #[cycle(merging)]
 pub fn merge(
     params: &Params,

@@ -180,7 +180,9 @@ merge_at-returns-clause-ok t c =
     let entry = ap entry_of c.index_mut-slot.ensures.value ∙ sym (get-entries targets c.args.i slot) ∙ at-place _ _ _ c.requires.place (entry_of slot) in
     let same = ap placed_of c.replace-first.ensures.value ∙ ap (λ (e : Entry). e.tree) entry in
     let m = placed_of c.in_ok-slot.field-0 in
-    let merged = subst (λ x. Merged (constants_of c.args.params.now) (computation_at c.args.trace.now.hasher) x (placed_of c.args.target.tree) m) same c.in_ok-slot.ensures.ok in
+    let merged = subst
+    (λ x. Merged (constants_of c.args.params.now) (computation_at c.args.trace.now.hasher) x (placed_of c.args.target.tree) m) same
+    c.in_ok-slot.ensures.ok in
     let added = added-set _ _ _ (entry_of c.args.target) _ c.requires.place c.requires.old c.requires.one m merged in
     let back : set (entries_of targets) c.args.i (record { digest = c.requires.place.entry.digest; tree = m })
     ≡ entries_of (set targets c.args.i (record { digest = slot.digest; tree = c.in_ok-slot.field-0 }))
