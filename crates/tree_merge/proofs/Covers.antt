@@ -3,7 +3,7 @@ use Rattle.std.proofs.Common.{◌≡◌, ℕ, Bool, true, false, cond, nat_eq, L
 use lib.Pointwise.{pointwise, bytes_decides}
 use Rattle.block_tree.specs.Trees.{Tree, tree_digest, targets_from, first_target, Refines, RefinesFirst, none, some}
 use Rattle.block_tree.proofs.Refinement.{refines-refl, refines-digest, first-refl, first-trans}
-use Rattle.tree_merge.specs.Merging.{Covers}
+use Rattle.tree_merge.specs.Targets.{Covers}
 
 abbrev or_else : Option Tree → Option Tree → Option Tree
 or_else None p = p

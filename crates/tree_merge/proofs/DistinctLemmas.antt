@@ -2,7 +2,7 @@
 use Rattle.std.proofs.Common.{◌≡◌, ◌≢◌, ℕ, List, [], ◌∷◌, ◌++◌, sym}
 use Rattle.std.proofs.lemmas.List.Elements.{All-nil, All-cons, All-head, All-tail, All-append}
 use Rattle.tree_merge.specs.Placed.{PlacedTree, Entry, placed_from, Absent}
-use Rattle.tree_merge.specs.Merging.{HasNone, Distinct}
+use Rattle.tree_merge.specs.Targets.{HasNone, Distinct}
 
 -- its digest is another one
 abbrev pub IsOther : List ℕ → Entry → Type 0

@@ -9,7 +9,8 @@ use Rattle.block_tree.specs.Trees as blocks
 use Rattle.block_tree.specs.Trees.{Tree, tree_digest, tree_height, targets_height, targets_from, Refines, RefinesFirst, some, input_of_dyn}
 use Rattle.block_tree.proofs.Refinement.{refines-refl, refines-digest}
 use Rattle.tree_merge.specs.Placed.{PlacedTree, PlacedTargets, Dyn, plain, plain_targets, Entry, placed_from}
-use Rattle.tree_merge.specs.Merging.{Good, AreGood, dyn, none, more, trees_in, Covers, HasNone, Distinct, IsFirstAt, IsGoodEntry, Mergeable, Merged, IsAdded, AreMerged}
+use Rattle.tree_merge.specs.Merging.{Good, AreGood, dyn, none, more, Mergeable, Merged}
+use Rattle.tree_merge.specs.Targets.{trees_in, Covers, HasNone, Distinct, IsFirstAt, IsGoodEntry, IsAdded, AreMerged}
 use Rattle.tree_merge.proofs.ViewLemmas.{plain-targets}
 use Rattle.tree_merge.proofs.Covers.{first_in, covers-refl, covers-trans, covers-none, covers-push, covers-more, covers-at, first-here}
 use Rattle.tree_merge.proofs.DistinctLemmas.{IsOther, with_tree, distinct-push, distinct-at, absent-none, none-absent}

@@ -4,6 +4,7 @@ pub mod EvidenceLaws
 pub mod Placed
 pub mod AddrView
 pub mod Merging
+pub mod Targets
 pub mod Merges
 pub mod Children
 pub mod FirstBlocks

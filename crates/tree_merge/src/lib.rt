@@ -4,12 +4,14 @@
 
 mod addr_tree;
 mod blocks;
+mod hashes;
 mod laws;
 mod merging;
 mod plain;
 mod targets;
 
 pub use addr_tree::{AddrTree, AddrTrees, MergeStop, Target, dynamic};
+pub use hashes::Hashes;
 pub use laws::{pair_laws, run_laws};
-pub use merging::merge;
+pub use merging::{merge, merge_in};
 pub use plain::into_tree;

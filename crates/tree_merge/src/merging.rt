@@ -1,11 +1,12 @@
 ghost use Rattle.std.specs.Prelude.{◌≡◌, ◌≢◌, IfOk, IfErr, OnOk};
 ghost use Rattle.tree_merge.specs.AddrView.{entries_of, placed_of};
-ghost use Rattle.tree_merge.specs.Merging.{IsFirstAt};
-ghost use Rattle.tree_merge.specs.Merges.{AreGoodTargets, AreMergeable, AreTargetsMerged, DifferAt, HaveOne, HaveTwo, IsGoodTarget, IsMerged, IsStop, IsTargetAdded};
+ghost use Rattle.tree_merge.specs.Targets.{IsFirstAt};
+ghost use Rattle.tree_merge.specs.Merges.{AreGoodTargets, AreMergeable, AreMergeableBy, AreTargetsMerged, DifferAt, HaveOne, HaveTwo, IsGoodTarget, IsMerged, IsMergedBy, IsStop, IsStopBy, IsTargetAdded};
 ghost use Rattle.tree_merge.specs.Placed.{kind_of};
 
 use crate::addr_tree::{AddrTree, AddrTrees, MergeStop, Target, address, kind};
 use crate::blocks::same_block;
+use crate::hashes::Hashes;
 use crate::targets::{place, push};
 use air_kit::Trace;
 use op_pack::Batches;
@@ -13,14 +14,8 @@ use rpo_hash::Params;
 use std::mem;
 use vm_field::Word;
 
-/// One tree that refines both of two trees of one digest, with addresses of the hashes of its blocks
-/// again. Or two hashes of the trace of different inputs and one digest; then both trees are given up.
-/// Whether two blocks agree is read in the trace, so that nothing is hashed and nothing is copied.
-/// Of two dynamic blocks the first one's targets come first, each merged with the second's of its
-/// digest, and then those of the second whose digests the first has not, in their order. Putting them
-/// there takes memory, and nothing else does: `Memory` where it was refused. It goes down both trees
-/// at once, no deeper than the lower one is high, by four calls a level, or five at a dynamic block.
-#[cycle(merging)]
+/// One tree that refines both of two trees of one digest whose blocks are hashed in a trace, as
+/// `merge_in` has it.
 pub fn merge(
     params: &Params,
     trace: &Trace,
@@ -31,6 +26,27 @@ pub fn merge(
     ensures ok { IfOk result (λ m. IsMerged params.now trace.now a b m) }
     ensures err { IfErr result (λ stop. IsStop params.now trace.now stop) }
 {
+    merge_in(params, trace, a, b)
+}
+
+/// One tree that refines both of two trees of one digest, with addresses of the hashes of its blocks
+/// again. Or two hashes of different inputs and one digest; then both trees are given up. Whether two
+/// blocks agree is read where the hashes stand, so that nothing is hashed and nothing is copied.
+/// Of two dynamic blocks the first one's targets come first, each merged with the second's of its
+/// digest, and then those of the second whose digests the first has not, in their order. Putting them
+/// there takes memory, and nothing else does: `Memory` where it was refused. It goes down both trees
+/// at once, no deeper than the lower one is high, by four calls a level, or five at a dynamic block.
+#[cycle(merging)]
+pub fn merge_in<H: Hashes>(
+    params: &Params,
+    hashes: &H,
+    a: AddrTree,
+    b: AddrTree,
+) -> Result<AddrTree, MergeStop>
+    requires { AreMergeableBy params.now (H.hashed_at hashes.now) a b }
+    ensures ok { IfOk result (λ m. IsMergedBy params.now (H.hashed_at hashes.now) a b m) }
+    ensures err { IfErr result (λ stop. IsStopBy params.now (H.hashed_at hashes.now) stop) }
+{
     if kind(&a) == 0 {
         return Ok(b);
     }
@@ -38,88 +54,88 @@ pub fn merge(
         return Ok(a);
     }
     if kind(&a) != kind(&b) {
-        return Err(pair(params, trace, address(&a), address(&b)));
+        return Err(pair(params, hashes, address(&a), address(&b)));
     }
-    of_one_kind(params, trace, a, b)
+    of_one_kind(params, hashes, a, b)
 }
 
 // Two blocks of one kind.
 #[cycle(merging)]
-fn of_one_kind(
+fn of_one_kind<H: Hashes>(
     params: &Params,
-    trace: &Trace,
+    hashes: &H,
     a: AddrTree,
     b: AddrTree,
 ) -> Result<AddrTree, MergeStop>
-    requires mergeable { AreMergeable params.now trace.now a b }
+    requires mergeable { AreMergeableBy params.now (H.hashed_at hashes.now) a b }
     requires known { kind_of (placed_of a) ≢ 0 }
     requires one_kind { kind_of (placed_of a) ≡ kind_of (placed_of b) }
-    ensures ok { IfOk result (λ m. IsMerged params.now trace.now a b m) }
-    ensures err { IfErr result (λ stop. IsStop params.now trace.now stop) }
+    ensures ok { IfOk result (λ m. IsMergedBy params.now (H.hashed_at hashes.now) a b m) }
+    ensures err { IfErr result (λ stop. IsStopBy params.now (H.hashed_at hashes.now) stop) }
 {
     match a {
         AddrTree::Opaque(_) => unreachable!(),
         AddrTree::Span(p, x) => match b {
-            AddrTree::Span(q, y) => span(params, trace, p, x, q, y),
+            AddrTree::Span(q, y) => span(params, hashes, p, x, q, y),
             _ => unreachable!(),
         },
         AddrTree::Join(p, x, y) => match b {
             AddrTree::Join(q, z, w) => {
-                let (x, y) = two(params, trace, p, x, y, q, z, w)?;
+                let (x, y) = two(params, hashes, p, x, y, q, z, w)?;
                 Ok(AddrTree::Join(p, x, y))
             }
             _ => unreachable!(),
         },
         AddrTree::Split(p, x, y) => match b {
             AddrTree::Split(q, z, w) => {
-                let (x, y) = two(params, trace, p, x, y, q, z, w)?;
+                let (x, y) = two(params, hashes, p, x, y, q, z, w)?;
                 Ok(AddrTree::Split(p, x, y))
             }
             _ => unreachable!(),
         },
         AddrTree::Loop(p, x) => match b {
-            AddrTree::Loop(q, y) => Ok(AddrTree::Loop(p, one(params, trace, p, x, q, y)?)),
+            AddrTree::Loop(q, y) => Ok(AddrTree::Loop(p, one(params, hashes, p, x, q, y)?)),
             _ => unreachable!(),
         },
         AddrTree::Call(p, x) => match b {
-            AddrTree::Call(q, y) => Ok(AddrTree::Call(p, one(params, trace, p, x, q, y)?)),
+            AddrTree::Call(q, y) => Ok(AddrTree::Call(p, one(params, hashes, p, x, q, y)?)),
             _ => unreachable!(),
         },
         AddrTree::Syscall(p, x) => match b {
-            AddrTree::Syscall(q, y) => Ok(AddrTree::Syscall(p, one(params, trace, p, x, q, y)?)),
+            AddrTree::Syscall(q, y) => Ok(AddrTree::Syscall(p, one(params, hashes, p, x, q, y)?)),
             _ => unreachable!(),
         },
         AddrTree::Dyn(p, x) => match b {
-            AddrTree::Dyn(_, y) => Ok(AddrTree::Dyn(p, merge_targets(params, trace, x, y)?)),
+            AddrTree::Dyn(_, y) => Ok(AddrTree::Dyn(p, merge_targets(params, hashes, x, y)?)),
             _ => unreachable!(),
         },
     }
 }
 
 // Two spans of one digest.
-fn span(
+fn span<H: Hashes>(
     params: &Params,
-    trace: &Trace,
+    hashes: &H,
     p: u32,
     a: Batches,
     q: u32,
     b: Batches,
 ) -> Result<AddrTree, MergeStop>
-    requires { AreMergeable params.now trace.now (AddrTree.Span p a) (AddrTree.Span q b) }
-    ensures ok { IfOk result (λ m. IsMerged params.now trace.now (AddrTree.Span p a) (AddrTree.Span q b) m) }
-    ensures err { IfErr result (λ stop. IsStop params.now trace.now stop) }
+    requires { AreMergeableBy params.now (H.hashed_at hashes.now) (AddrTree.Span p a) (AddrTree.Span q b) }
+    ensures ok { IfOk result (λ m. IsMergedBy params.now (H.hashed_at hashes.now) (AddrTree.Span p a) (AddrTree.Span q b) m) }
+    ensures err { IfErr result (λ stop. IsStopBy params.now (H.hashed_at hashes.now) stop) }
 {
     if a.as_slice() != b.as_slice() {
-        return Err(pair(params, trace, p, q));
+        return Err(pair(params, hashes, p, q));
     }
     Ok(AddrTree::Span(p, a))
 }
 
 // The children of two blocks with two children each.
 #[cycle(merging)]
-fn two(
+fn two<H: Hashes>(
     params: &Params,
-    trace: &Trace,
+    hashes: &H,
     p: u32,
     a: Box<AddrTree>,
     b: Box<AddrTree>,
@@ -127,118 +143,118 @@ fn two(
     c: Box<AddrTree>,
     d: Box<AddrTree>,
 ) -> Result<(Box<AddrTree>, Box<AddrTree>), MergeStop>
-    requires { HaveTwo params.now trace.now p q a.value b.value c.value d.value }
-    ensures first { IfOk result (λ m. IsMerged params.now trace.now a.value c.value m.0.value) }
-    ensures second { IfOk result (λ m. IsMerged params.now trace.now b.value d.value m.1.value) }
-    ensures err { IfErr result (λ stop. IsStop params.now trace.now stop) }
+    requires { HaveTwo params.now (H.hashed_at hashes.now) p q a.value b.value c.value d.value }
+    ensures first { IfOk result (λ m. IsMergedBy params.now (H.hashed_at hashes.now) a.value c.value m.0.value) }
+    ensures second { IfOk result (λ m. IsMergedBy params.now (H.hashed_at hashes.now) b.value d.value m.1.value) }
+    ensures err { IfErr result (λ stop. IsStopBy params.now (H.hashed_at hashes.now) stop) }
 {
-    if !same_block(trace, p, q) {
-        return Err(pair(params, trace, p, q));
+    if !same_block(hashes, p, q) {
+        return Err(pair(params, hashes, p, q));
     }
-    Ok((boxed(params, trace, a, c)?, boxed(params, trace, b, d)?))
+    Ok((boxed(params, hashes, a, c)?, boxed(params, hashes, b, d)?))
 }
 
 // The children of two blocks with one child each.
 #[cycle(merging)]
-fn one(
+fn one<H: Hashes>(
     params: &Params,
-    trace: &Trace,
+    hashes: &H,
     p: u32,
     a: Box<AddrTree>,
     q: u32,
     c: Box<AddrTree>,
 ) -> Result<Box<AddrTree>, MergeStop>
-    requires { HaveOne params.now trace.now p q a.value c.value }
-    ensures ok { IfOk result (λ m. IsMerged params.now trace.now a.value c.value m.value) }
-    ensures err { IfErr result (λ stop. IsStop params.now trace.now stop) }
+    requires { HaveOne params.now (H.hashed_at hashes.now) p q a.value c.value }
+    ensures ok { IfOk result (λ m. IsMergedBy params.now (H.hashed_at hashes.now) a.value c.value m.value) }
+    ensures err { IfErr result (λ stop. IsStopBy params.now (H.hashed_at hashes.now) stop) }
 {
-    if same_block(trace, p, q) {
-        return boxed(params, trace, a, c);
+    if same_block(hashes, p, q) {
+        return boxed(params, hashes, a, c);
     }
-    Err(pair(params, trace, p, q))
+    Err(pair(params, hashes, p, q))
 }
 
 // Two trees in boxes, merged in the first box.
 #[cycle(merging)]
-fn boxed(
+fn boxed<H: Hashes>(
     params: &Params,
-    trace: &Trace,
+    hashes: &H,
     mut a: Box<AddrTree>,
     b: Box<AddrTree>,
 ) -> Result<Box<AddrTree>, MergeStop>
-    requires { AreMergeable params.now trace.now a.value b.value }
-    ensures ok { IfOk result (λ m. IsMerged params.now trace.now a.value b.value m.value) }
-    ensures err { IfErr result (λ stop. IsStop params.now trace.now stop) }
+    requires { AreMergeableBy params.now (H.hashed_at hashes.now) a.value b.value }
+    ensures ok { IfOk result (λ m. IsMergedBy params.now (H.hashed_at hashes.now) a.value b.value m.value) }
+    ensures err { IfErr result (λ stop. IsStopBy params.now (H.hashed_at hashes.now) stop) }
 {
     let first = mem::replace(&mut *a, AddrTree::Opaque(Word::ZERO));
-    *a = merge(params, trace, first, Box::into_inner(b))?;
+    *a = merge_in(params, hashes, first, Box::into_inner(b))?;
     Ok(a)
 }
 
 // The targets of the first list, with those of the second merged in, in their order.
 #[cycle(merging)]
-fn merge_targets(
+fn merge_targets<H: Hashes>(
     params: &Params,
-    trace: &Trace,
+    hashes: &H,
     a: AddrTrees,
     b: AddrTrees,
 ) -> Result<AddrTrees, MergeStop>
-    requires first { AreGoodTargets params.now trace.now a.items }
-    requires second { AreGoodTargets params.now trace.now b.items }
-    ensures ok { IfOk result (λ m. AreTargetsMerged params.now trace.now a.items b.items m.items) }
-    ensures err { IfErr result (λ stop. IsStop params.now trace.now stop) }
+    requires first { AreGoodTargets params.now (H.hashed_at hashes.now) a.items }
+    requires second { AreGoodTargets params.now (H.hashed_at hashes.now) b.items }
+    ensures ok { IfOk result (λ m. AreTargetsMerged params.now (H.hashed_at hashes.now) a.items b.items m.items) }
+    ensures err { IfErr result (λ stop. IsStopBy params.now (H.hashed_at hashes.now) stop) }
 {
     let mut merged = a;
     for target in b {
-        add_target(params, trace, &mut merged, target)?;
+        add_target(params, hashes, &mut merged, target)?;
     }
     Ok(merged)
 }
 
 // One target merged in: with the first of its digest, in its place, or else at the end.
 #[cycle(merging)]
-fn add_target(
+fn add_target<H: Hashes>(
     params: &Params,
-    trace: &Trace,
+    hashes: &H,
     targets: &mut AddrTrees,
     target: Target,
 ) -> Result<(), MergeStop>
-    requires old { AreGoodTargets params.now trace.now targets.now.items }
-    requires one { IsGoodTarget params.now trace.now target }
-    ensures ok { OnOk result (IsTargetAdded params.now trace.now targets.old.items target targets.new.items) }
-    ensures err { IfErr result (λ stop. IsStop params.now trace.now stop) }
+    requires old { AreGoodTargets params.now (H.hashed_at hashes.now) targets.now.items }
+    requires one { IsGoodTarget params.now (H.hashed_at hashes.now) target }
+    ensures ok { OnOk result (IsTargetAdded params.now (H.hashed_at hashes.now) targets.old.items target targets.new.items) }
+    ensures err { IfErr result (λ stop. IsStopBy params.now (H.hashed_at hashes.now) stop) }
 {
     match place(targets.as_slice(), target.digest) {
-        Some(i) => merge_at(params, trace, targets, i, target),
+        Some(i) => merge_at(params, hashes, targets, i, target),
         None => push(targets, target),
     }
 }
 
 // A target merged with the first of its digest, which has so many before it.
 #[cycle(merging)]
-fn merge_at(
+fn merge_at<H: Hashes>(
     params: &Params,
-    trace: &Trace,
+    hashes: &H,
     targets: &mut AddrTrees,
     i: usize,
     target: Target,
 ) -> Result<(), MergeStop>
-    requires old { AreGoodTargets params.now trace.now targets.now.items }
-    requires one { IsGoodTarget params.now trace.now target }
+    requires old { AreGoodTargets params.now (H.hashed_at hashes.now) targets.now.items }
+    requires one { IsGoodTarget params.now (H.hashed_at hashes.now) target }
     requires place { IsFirstAt (entries_of targets.now.items) target.digest i }
-    ensures ok { OnOk result (IsTargetAdded params.now trace.now targets.old.items target targets.new.items) }
-    ensures err { IfErr result (λ stop. IsStop params.now trace.now stop) }
+    ensures ok { OnOk result (IsTargetAdded params.now (H.hashed_at hashes.now) targets.old.items target targets.new.items) }
+    ensures err { IfErr result (λ stop. IsStopBy params.now (H.hashed_at hashes.now) stop) }
 {
     let slot = &mut targets[i];
     let first = mem::replace(&mut slot.tree, AddrTree::Opaque(Word::ZERO));
-    slot.tree = merge(params, trace, first, target.tree)?;
+    slot.tree = merge_in(params, hashes, first, target.tree)?;
     Ok(())
 }
 
 // Two addresses at which different inputs of one digest are hashed.
-fn pair(params: &Params, trace: &Trace, p: u32, q: u32) -> MergeStop
-    requires { DifferAt params.now trace.now p q }
-    ensures { IsStop params.now trace.now result }
+fn pair<H: Hashes>(params: &Params, hashes: &H, p: u32, q: u32) -> MergeStop
+    requires { DifferAt params.now (H.hashed_at hashes.now) p q }
+    ensures { IsStopBy params.now (H.hashed_at hashes.now) result }
 {
     MergeStop::Pair {
         first: p.min(q),

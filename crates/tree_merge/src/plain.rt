@@ -2,7 +2,7 @@ ghost use Rattle.std.specs.Prelude.{◌≡◌, map, IfOk};
 ghost use Rattle.block_tree.specs.TreeView as view;
 ghost use Rattle.block_tree.specs.TreeView.{tree_of};
 ghost use Rattle.tree_merge.specs.AddrView.{entries_of, placed_of};
-ghost use Rattle.tree_merge.specs.Merging.{trees_in};
+ghost use Rattle.tree_merge.specs.Targets.{trees_in};
 ghost use Rattle.tree_merge.specs.Placed.{plain};
 
 use crate::addr_tree::{AddrTree, AddrTrees};

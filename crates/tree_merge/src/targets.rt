@@ -1,6 +1,6 @@
 ghost use Rattle.std.specs.Prelude.{◌≡◌, ◌++◌, ◌∷◌, [], OnOk, IfErr, IfSome, IfNone};
 ghost use Rattle.tree_merge.specs.AddrView.{entries_of};
-ghost use Rattle.tree_merge.specs.Merging.{HasNone, IsFirstAt};
+ghost use Rattle.tree_merge.specs.Targets.{HasNone, IsFirstAt};
 ghost use Rattle.tree_merge.specs.declared.addr_tree.MergeStop.TheVariants.{Memory};
 
 use crate::addr_tree::{AddrTrees, MergeStop, Target};

@@ -5,12 +5,12 @@ use Rattle.std.proofs.lemmas.List.Elements.{All-same}
 use Rattle.std.proofs.Math.Path.{subst₂}
 use Rattle.vm_field.specs.Sponge.{HashInput}
 use Rattle.rpo_hash.specs.Constants.{constants_of}
-use Rattle.air_kit.specs.Hashes.{computation_at}
 use Rattle.block_tree.specs.Trees.{tree_height, targets_height, targets_from}
 use Rattle.tree_merge.specs.AddrView.{placed_of, entry_of, entries_of}
 use Rattle.tree_merge.specs.Placed.{PlacedTree, Entry, plain}
 use Rattle.tree_merge.specs.declared.addr_tree.AddrTree.{AddrTree}
-use Rattle.tree_merge.specs.Merging.{Mergeable, Merged, IsGoodEntry, IsAdded, AreMerged, HasNone, trees_in}
+use Rattle.tree_merge.specs.Merging.{Mergeable, Merged}
+use Rattle.tree_merge.specs.Targets.{IsGoodEntry, IsAdded, AreMerged, HasNone, trees_in}
 use Rattle.tree_merge.specs.Pairs.{Differs}
 use Rattle.tree_merge.proofs.ChildLemmas.{twos-second}
 use Rattle.tree_merge.proofs.RootLemmas.{opaque-first, opaque-second, unlike-differ}
@@ -34,38 +34,41 @@ moved constants comp p q r s e f d = subst₂ (λ x y. Differs constants comp x 
 abbrev tall : AddrTree → ℕ
 tall x = tree_height (plain (placed_of x))
 
-pub merge-returns-then-kind-eq0-clause-ok : goal.merge-returns-then-kind-eq0-clause-ok
-merge-returns-then-kind-eq0-clause-ok t c = opaque-first _ _ _ _ c.requires (sym c.kind.ensures.is ∙ c.if-kind-eq0.true)
+pub merge_in-returns-then-kind-eq0-clause-ok : goal.merge_in-returns-then-kind-eq0-clause-ok
+merge_in-returns-then-kind-eq0-clause-ok g t c = opaque-first _ _ _ _ c.requires (sym c.kind.ensures.is ∙ c.if-kind-eq0.true)
 
-pub merge-returns-then-kind-eq0-2-clause-ok : goal.merge-returns-then-kind-eq0-2-clause-ok
-merge-returns-then-kind-eq0-2-clause-ok t c = opaque-second _ _ _ _ c.requires (sym c.kind-2.ensures.is ∙ c.if-kind-eq0-2.true)
+pub merge_in-returns-then-kind-eq0-2-clause-ok : goal.merge_in-returns-then-kind-eq0-2-clause-ok
+merge_in-returns-then-kind-eq0-2-clause-ok g t c = opaque-second _ _ _ _ c.requires (sym c.kind-2.ensures.is ∙ c.if-kind-eq0-2.true)
 
-pub merge-pair-requires : goal.merge-pair-requires
-merge-pair-requires t c =
+pub merge_in-pair-requires : goal.merge_in-pair-requires
+merge_in-pair-requires g t c =
     moved _ _ _ _ _ _ c.address.ensures.is c.address-then-kind.ensures.is
     (unlike-differ _ _ _ _ c.requires (λ e. c.if-kind-eq0.false (c.kind.ensures.is ∙ e)) (λ e. c.if-kind-eq0-2.false (c.kind-2.ensures.is ∙ e))
     (λ e. c.if-kind.true (c.kind-3.ensures.is ∙ e ∙ sym c.kind-4.ensures.is)))
 
-pub merge-of_one_kind-requires : goal.merge-of_one_kind-requires
-merge-of_one_kind-requires t c = (
+pub merge_in-of_one_kind-requires : goal.merge_in-of_one_kind-requires
+merge_in-of_one_kind-requires g t c = λ κs within. (
   omega arith,
   (
-    c.requires,
-    (λ e. c.if-kind-eq0.false (c.kind.ensures.is ∙ e), sym c.kind-3.ensures.is ∙ c.if-kind.false ∙ c.kind-4.ensures.is),
+    within,
+    (
+      c.requires,
+      (λ e. c.if-kind-eq0.false (c.kind.ensures.is ∙ e), sym c.kind-3.ensures.is ∙ c.if-kind.false ∙ c.kind-4.ensures.is),
+    ),
   ),
 )
 
 pub of_one_kind-span-requires : goal.of_one_kind-span-requires
-of_one_kind-span-requires t c = found _ _ _ _ _ _ (ap placed_of c.in-Span.is) (ap placed_of c.in-Span-b.is) c.requires.mergeable
+of_one_kind-span-requires g t c = found _ _ _ _ _ _ (ap placed_of c.in-Span.is) (ap placed_of c.in-Span-b.is) c.requires.mergeable
 
 pub of_one_kind-two-requires : goal.of_one_kind-two-requires
-of_one_kind-two-requires t c =
+of_one_kind-two-requires g t c =
     let e = ap tall c.in-Join-b.is in
     let d = c.decreases in
-    (omega (arith, e, d), join-twos _ _ _ _ _ _ _ _ (found _ _ _ _ _ _ (ap placed_of c.in-Join.is) (ap placed_of c.in-Join-b.is) c.requires.mergeable))
+    λ κs within. (omega (arith, e, d), (within, join-twos _ _ _ _ _ _ _ _ (found _ _ _ _ _ _ (ap placed_of c.in-Join.is) (ap placed_of c.in-Join-b.is) c.requires.mergeable)))
 
 pub of_one_kind-returns-in_ok-x-in-Join-b-clause-ok : goal.of_one_kind-returns-in_ok-x-in-Join-b-clause-ok
-of_one_kind-returns-in_ok-x-in-Join-b-clause-ok t c =
+of_one_kind-returns-in_ok-x-in-Join-b-clause-ok g t c =
     let first = ap placed_of c.in-Join.is in
     let second = ap placed_of c.in-Join-b.is in
     made _ _ _ _ _ _ _ first second (
@@ -73,13 +76,13 @@ of_one_kind-returns-in_ok-x-in-Join-b-clause-ok t c =
     c.in_ok-x-in-Join-b.ensures.first c.in_ok-x-in-Join-b.ensures.second)
 
 pub of_one_kind-two-requires-in-Split-b : goal.of_one_kind-two-requires-in-Split-b
-of_one_kind-two-requires-in-Split-b t c =
+of_one_kind-two-requires-in-Split-b g t c =
     let e = ap tall c.in-Split-b.is in
     let d = c.decreases in
-    (omega (arith, e, d), split-twos _ _ _ _ _ _ _ _ (found _ _ _ _ _ _ (ap placed_of c.in-Split.is) (ap placed_of c.in-Split-b.is) c.requires.mergeable))
+    λ κs within. (omega (arith, e, d), (within, split-twos _ _ _ _ _ _ _ _ (found _ _ _ _ _ _ (ap placed_of c.in-Split.is) (ap placed_of c.in-Split-b.is) c.requires.mergeable)))
 
 pub of_one_kind-returns-in_ok-x-in-Split-b-clause-ok : goal.of_one_kind-returns-in_ok-x-in-Split-b-clause-ok
-of_one_kind-returns-in_ok-x-in-Split-b-clause-ok t c =
+of_one_kind-returns-in_ok-x-in-Split-b-clause-ok g t c =
     let first = ap placed_of c.in-Split.is in
     let second = ap placed_of c.in-Split-b.is in
     made _ _ _ _ _ _ _ first second (
@@ -87,56 +90,56 @@ of_one_kind-returns-in_ok-x-in-Split-b-clause-ok t c =
     c.in_ok-x-in-Split-b.ensures.first c.in_ok-x-in-Split-b.ensures.second)
 
 pub of_one_kind-one-requires : goal.of_one_kind-one-requires
-of_one_kind-one-requires t c =
+of_one_kind-one-requires g t c =
     let e = ap tall c.in-Loop-b.is in
     let d = c.decreases in
-    (omega (arith, e, d), loop-ones _ _ _ _ _ _ (found _ _ _ _ _ _ (ap placed_of c.in-Loop.is) (ap placed_of c.in-Loop-b.is) c.requires.mergeable))
+    λ κs within. (omega (arith, e, d), (within, loop-ones _ _ _ _ _ _ (found _ _ _ _ _ _ (ap placed_of c.in-Loop.is) (ap placed_of c.in-Loop-b.is) c.requires.mergeable)))
 
 pub of_one_kind-returns-in_ok-one-in-Loop-b-clause-ok : goal.of_one_kind-returns-in_ok-one-in-Loop-b-clause-ok
-of_one_kind-returns-in_ok-one-in-Loop-b-clause-ok t c =
+of_one_kind-returns-in_ok-one-in-Loop-b-clause-ok g t c =
     let first = ap placed_of c.in-Loop.is in
     let second = ap placed_of c.in-Loop-b.is in
     made _ _ _ _ _ _ _ first second
     (loop-merged _ _ _ _ _ _ _ (found _ _ _ _ _ _ first second c.requires.mergeable) c.in_ok-one-in-Loop-b.ensures.ok)
 
 pub of_one_kind-one-requires-in-Call-b : goal.of_one_kind-one-requires-in-Call-b
-of_one_kind-one-requires-in-Call-b t c =
+of_one_kind-one-requires-in-Call-b g t c =
     let e = ap tall c.in-Call-b.is in
     let d = c.decreases in
-    (omega (arith, e, d), call-ones _ _ _ _ _ _ (found _ _ _ _ _ _ (ap placed_of c.in-Call.is) (ap placed_of c.in-Call-b.is) c.requires.mergeable))
+    λ κs within. (omega (arith, e, d), (within, call-ones _ _ _ _ _ _ (found _ _ _ _ _ _ (ap placed_of c.in-Call.is) (ap placed_of c.in-Call-b.is) c.requires.mergeable)))
 
 pub of_one_kind-returns-in_ok-one-in-Call-b-clause-ok : goal.of_one_kind-returns-in_ok-one-in-Call-b-clause-ok
-of_one_kind-returns-in_ok-one-in-Call-b-clause-ok t c =
+of_one_kind-returns-in_ok-one-in-Call-b-clause-ok g t c =
     let first = ap placed_of c.in-Call.is in
     let second = ap placed_of c.in-Call-b.is in
     made _ _ _ _ _ _ _ first second
     (call-merged _ _ _ _ _ _ _ (found _ _ _ _ _ _ first second c.requires.mergeable) c.in_ok-one-in-Call-b.ensures.ok)
 
 pub of_one_kind-one-requires-in-Syscall-b : goal.of_one_kind-one-requires-in-Syscall-b
-of_one_kind-one-requires-in-Syscall-b t c =
+of_one_kind-one-requires-in-Syscall-b g t c =
     let e = ap tall c.in-Syscall-b.is in
     let d = c.decreases in
-    (omega (arith, e, d), syscall-ones _ _ _ _ _ _ (found _ _ _ _ _ _ (ap placed_of c.in-Syscall.is) (ap placed_of c.in-Syscall-b.is) c.requires.mergeable))
+    λ κs within. (omega (arith, e, d), (within, syscall-ones _ _ _ _ _ _ (found _ _ _ _ _ _ (ap placed_of c.in-Syscall.is) (ap placed_of c.in-Syscall-b.is) c.requires.mergeable)))
 
 pub of_one_kind-returns-in_ok-one-in-Syscall-b-clause-ok : goal.of_one_kind-returns-in_ok-one-in-Syscall-b-clause-ok
-of_one_kind-returns-in_ok-one-in-Syscall-b-clause-ok t c =
+of_one_kind-returns-in_ok-one-in-Syscall-b-clause-ok g t c =
     let first = ap placed_of c.in-Syscall.is in
     let second = ap placed_of c.in-Syscall-b.is in
     made _ _ _ _ _ _ _ first second
     (syscall-merged _ _ _ _ _ _ _ (found _ _ _ _ _ _ first second c.requires.mergeable) c.in_ok-one-in-Syscall-b.ensures.ok)
 
 pub of_one_kind-merge_targets-requires : goal.of_one_kind-merge_targets-requires
-of_one_kind-merge_targets-requires t c =
+of_one_kind-merge_targets-requires g t c =
     let first = ap placed_of c.in-Dyn.is ∙ placed-Dyn _ _ in
     let second = ap placed_of c.in-Dyn-b.is ∙ placed-Dyn _ _ in
     let known = found _ _ _ _ _ _ first second c.requires.mergeable in
     let e = ap (λ x. tree_height (plain x)) second in
     let same = ap targets_height (plain-targets (entries_of c.in-Dyn-b.y.items)) in
     let d = c.decreases in
-    (omega (arith, e, same, d), (dyn-first _ _ _ _ _ _ known, dyn-second _ _ _ _ _ _ known))
+    λ κs within. (omega (arith, e, same, d), (within, (dyn-first _ _ _ _ _ _ known, dyn-second _ _ _ _ _ _ known)))
 
 pub of_one_kind-returns-in_ok-merge_targets-in-Dyn-b-clause-ok : goal.of_one_kind-returns-in_ok-merge_targets-in-Dyn-b-clause-ok
-of_one_kind-returns-in_ok-merge_targets-in-Dyn-b-clause-ok t c =
+of_one_kind-returns-in_ok-merge_targets-in-Dyn-b-clause-ok g t c =
     let first = ap placed_of c.in-Dyn.is ∙ placed-Dyn _ _ in
     let second = ap placed_of c.in-Dyn-b.is ∙ placed-Dyn _ _ in
     let known = found _ _ _ _ _ _ first second c.requires.mergeable in
@@ -144,16 +147,16 @@ of_one_kind-returns-in_ok-merge_targets-in-Dyn-b-clause-ok t c =
     made _ _ _ _ _ _ _ first second (subst (Merged _ _ _ _) (sym (placed-Dyn _ _)) m)
 
 pub two-boxed-requires-2 : goal.two-boxed-requires-2
-two-boxed-requires-2 t c =
+two-boxed-requires-2 g t c =
     let d = c.decreases in
-    (omega (arith, d), twos-second _ _ _ _ _ _ _ _ c.requires (c.same_block.ensures.is.0 c.if-not-same_block.false))
+    λ κs within. (omega (arith, d), (within, twos-second _ _ _ _ _ _ _ _ c.requires (c.same_block.ensures.is.0 c.if-not-same_block.false)))
 
 OnOk-map : {E : Type 0} (P Q : Type 0) (r : Result (Unit {0}) E) → (P → Q) → OnOk r P → OnOk r Q
 OnOk-map P Q (Ok x) f p = f p
 OnOk-map P Q (Err x) f p = p
 
 pub add_target-returns-in-None-clause-ok : goal.add_target-returns-in-None-clause-ok
-add_target-returns-in-None-clause-ok t c =
+add_target-returns-in-None-clause-ok g t c =
     let targets = c.args.targets.now.items in
     OnOk-map _ _ c.push.result (λ e.
     subst (IsAdded _ _ (entries_of targets) (entry_of c.args.target))
@@ -161,27 +164,30 @@ add_target-returns-in-None-clause-ok t c =
     (added-push _ _ (entry_of c.args.target) c.requires.one (entries_of targets) c.requires.old
     (subst (λ ts. HasNone c.args.target.digest (entries_of ts)) c.as_slice.ensures.value c.in-None.ensures.none))) c.push.ensures.ok
 
-pub merge_at-merge-requires : goal.merge_at-merge-requires
-merge_at-merge-requires t c =
+pub merge_at-merge_in-requires : goal.merge_at-merge_in-requires
+merge_at-merge_in-requires g t c =
     let slot = c.index_mut-slot.result.now in
     let entry = ap entry_of c.index_mut-slot.ensures.value ∙ sym (get-entries c.args.targets.now.items c.args.i slot)
     ∙ at-place _ _ _ c.requires.place (entry_of slot) in
     let same = ap placed_of c.replace-first.ensures.value ∙ ap (λ (e : Entry). e.tree) entry in
-    let d = c.decreases in (
+    λ κs within. (
       omega arith,
-      subst (λ x. Mergeable (constants_of c.args.params.now) (computation_at c.args.trace.now.hasher) x (placed_of c.args.target.tree)) (sym same)
-          (mergeable-place _ _ _ (entry_of c.args.target) _ c.requires.place c.requires.old c.requires.one),
+      (
+        within,
+        subst (λ x. Mergeable (constants_of c.args.params.now) (g.H.Hashes.hashed_at c.args.hashes.now) x (placed_of c.args.target.tree)) (sym same)
+            (mergeable-place _ _ _ (entry_of c.args.target) _ c.requires.place c.requires.old c.requires.one),
+      ),
     )
 
 pub merge_at-returns-clause-ok : goal.merge_at-returns-clause-ok
-merge_at-returns-clause-ok t c =
+merge_at-returns-clause-ok g t c =
     let targets = c.args.targets.now.items in
     let slot = c.index_mut-slot.result.now in
     let entry = ap entry_of c.index_mut-slot.ensures.value ∙ sym (get-entries targets c.args.i slot) ∙ at-place _ _ _ c.requires.place (entry_of slot) in
     let same = ap placed_of c.replace-first.ensures.value ∙ ap (λ (e : Entry). e.tree) entry in
     let m = placed_of c.in_ok-slot.field-0 in
     let merged = subst
-    (λ x. Merged (constants_of c.args.params.now) (computation_at c.args.trace.now.hasher) x (placed_of c.args.target.tree) m) same
+    (λ x. Merged (constants_of c.args.params.now) (g.H.Hashes.hashed_at c.args.hashes.now) x (placed_of c.args.target.tree) m) same
     c.in_ok-slot.ensures.ok in
     let added = added-set _ _ _ (entry_of c.args.target) _ c.requires.place c.requires.old c.requires.one m merged in
     let back : set (entries_of targets) c.args.i (record { digest = c.requires.place.entry.digest; tree = m })
@@ -191,27 +197,30 @@ merge_at-returns-clause-ok t c =
     subst (IsAdded _ _ (entries_of targets) (entry_of c.args.target)) back added
 
 pub merge_targets-loop-target-init : goal.merge_targets-loop-target-init
-merge_targets-loop-target-init t c = record { all = c.into_iter-target-iterator.ensures.into_iter_gives.0; merged = merged-none _ _ _ c.requires.first }
+merge_targets-loop-target-init g t c = record { all = c.into_iter-target-iterator.ensures.into_iter_gives.0; merged = merged-none _ _ _ c.requires.first }
 
 pub merge_targets-add_target-requires : goal.merge_targets-add_target-requires
-merge_targets-add_target-requires t c =
+merge_targets-add_target-requires g t c =
     let before = c.loop-target.yielded in
     let behind = into_iter_items c.next.new.self in
     let here = ap (λ ys. before ++ ys) (sym c.in-Some.ensures.steps.0) ∙ c.loop-target.invariant.all in
     let split = sym (map-append entry_of before (c.in-Some.target ∷ behind)) ∙ ap entries_of here in
     let lower = height-inside (entries_of before) (entry_of c.in-Some.target) (entries_of behind) in
     let same = ap (λ es. targets_height (targets_from (trees_in es))) split in
-    let d = c.decreases in (
+    λ κs within. (
       omega (arith, lower, same),
       (
-        c.loop-target.invariant.merged.good,
-        good-inside _ _ (entries_of before) (entry_of c.in-Some.target) (entries_of behind)
-            (All-same (IsGoodEntry _ _) _ _ split c.requires.second),
+        within,
+        (
+          c.loop-target.invariant.merged.good,
+          good-inside _ _ (entries_of before) (entry_of c.in-Some.target) (entries_of behind)
+              (All-same (IsGoodEntry _ _) _ _ split c.requires.second),
+        ),
       ),
     )
 
 pub merge_targets-loop-target-preserved : goal.merge_targets-loop-target-preserved
-merge_targets-loop-target-preserved t c =
+merge_targets-loop-target-preserved g t c =
     let before = c.loop-target.yielded in
     let behind = into_iter_items c.next.new.self in
     let here = ap (λ ys. before ++ ys) (sym c.in-Some.ensures.steps.0) ∙ c.loop-target.invariant.all in
@@ -221,16 +230,16 @@ merge_targets-loop-target-preserved t c =
     record {
       all = append_assoc before (c.in-Some.target ∷ []) behind ∙ here;
       merged = subst
-          (λ es. AreMerged (constants_of c.args.params.now) (computation_at c.args.trace.now.hasher) (entries_of c.args.a.items) es
+          (λ es. AreMerged (constants_of c.args.params.now) (g.H.Hashes.hashed_at c.args.hashes.now) (entries_of c.args.a.items) es
           (entries_of c.add_target.new.targets.items))
           (sym (map-append entry_of before (c.in-Some.target ∷ [])))
           (merged-more _ _ _ (entries_of before) _ _ (entry_of c.in-Some.target) good c.loop-target.invariant.merged c.in_ok-add_target.ensures.ok);
     }
 
-pub boxed-merge-requires : goal.boxed-merge-requires
-boxed-merge-requires t c =
+pub boxed-merge_in-requires : goal.boxed-merge_in-requires
+boxed-merge_in-requires g t c =
     let first = ap placed_of (c.replace-first.ensures.value ∙ c.deref_mut.ensures.value) in
     let second = ap placed_of c.into_inner.ensures in
     let d = c.decreases in
     let e = ap (λ x. tree_height (plain x)) second in
-    (omega (arith, e, d), found _ _ _ _ _ _ (sym first) (sym second) c.requires)
+    λ κs within. (omega (arith, e, d), (within, found _ _ _ _ _ _ (sym first) (sym second) c.requires))

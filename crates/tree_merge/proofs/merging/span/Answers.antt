@@ -8,11 +8,11 @@ is-true true e = refl
 is-true false e = sym e
 
 pub pair-requires : goal.pair-requires
-pair-requires c = spans-differ _ _ c.args.p c.args.q c.args.a c.args.b c.requires
+pair-requires g c = spans-differ _ _ c.args.p c.args.q c.args.a c.args.b c.requires
     (λ e. true≢false (sym c.if-ne.true ∙ c.ne.ensures ∙ ap not
     ((pointwise_decides bytes_decides _ _).1 (c.as_slice.ensures.items ∙ e ∙ sym c.as_slice-2.ensures.items))))
 
 pub returns-clause-ok : goal.returns-clause-ok
-returns-clause-ok c = span-merged _ _ c.args.p c.args.q c.args.a c.args.b c.requires
+returns-clause-ok g c = span-merged _ _ c.args.p c.args.q c.args.a c.args.b c.requires
     (sym c.as_slice.ensures.items ∙ (pointwise_decides bytes_decides _ _).0 (is-true _ (sym c.ne.ensures ∙ c.if-ne.false))
     ∙ c.as_slice-2.ensures.items)

@@ -3,7 +3,7 @@ use Rattle.std.specs.Vec.Iter.{into_iter_items}
 use Rattle.block_tree.specs.TreeView as view
 use Rattle.block_tree.specs.TreeView.{tree_of}
 use Rattle.tree_merge.specs.AddrView.{entries_of}
-use Rattle.tree_merge.specs.Merging.{trees_in}
+use Rattle.tree_merge.specs.Targets.{trees_in}
 use Rattle.tree_merge.proofs.plain.+bare.Given as goal
 
 abbrev pub invariant-bare_targets-loop-target : goal.invariant-bare_targets-loop-target
