@@ -65,7 +65,8 @@ pub of_one_kind-two-requires : goal.of_one_kind-two-requires
 of_one_kind-two-requires g t c =
     let e = ap tall c.in-Join-b.is in
     let d = c.decreases in
-    λ κs within. (omega (arith, e, d), (within, join-twos _ _ _ _ _ _ _ _ (found _ _ _ _ _ _ (ap placed_of c.in-Join.is) (ap placed_of c.in-Join-b.is) c.requires.mergeable)))
+    let known = found _ _ _ _ _ _ (ap placed_of c.in-Join.is) (ap placed_of c.in-Join-b.is) c.requires.mergeable in
+    λ κs within. (omega (arith, e, d), (within, join-twos _ _ _ _ _ _ _ _ known))
 
 pub of_one_kind-returns-in_ok-x-in-Join-b-clause-ok : goal.of_one_kind-returns-in_ok-x-in-Join-b-clause-ok
 of_one_kind-returns-in_ok-x-in-Join-b-clause-ok g t c =
@@ -79,7 +80,8 @@ pub of_one_kind-two-requires-in-Split-b : goal.of_one_kind-two-requires-in-Split
 of_one_kind-two-requires-in-Split-b g t c =
     let e = ap tall c.in-Split-b.is in
     let d = c.decreases in
-    λ κs within. (omega (arith, e, d), (within, split-twos _ _ _ _ _ _ _ _ (found _ _ _ _ _ _ (ap placed_of c.in-Split.is) (ap placed_of c.in-Split-b.is) c.requires.mergeable)))
+    let known = found _ _ _ _ _ _ (ap placed_of c.in-Split.is) (ap placed_of c.in-Split-b.is) c.requires.mergeable in
+    λ κs within. (omega (arith, e, d), (within, split-twos _ _ _ _ _ _ _ _ known))
 
 pub of_one_kind-returns-in_ok-x-in-Split-b-clause-ok : goal.of_one_kind-returns-in_ok-x-in-Split-b-clause-ok
 of_one_kind-returns-in_ok-x-in-Split-b-clause-ok g t c =
@@ -93,7 +95,8 @@ pub of_one_kind-one-requires : goal.of_one_kind-one-requires
 of_one_kind-one-requires g t c =
     let e = ap tall c.in-Loop-b.is in
     let d = c.decreases in
-    λ κs within. (omega (arith, e, d), (within, loop-ones _ _ _ _ _ _ (found _ _ _ _ _ _ (ap placed_of c.in-Loop.is) (ap placed_of c.in-Loop-b.is) c.requires.mergeable)))
+    let known = found _ _ _ _ _ _ (ap placed_of c.in-Loop.is) (ap placed_of c.in-Loop-b.is) c.requires.mergeable in
+    λ κs within. (omega (arith, e, d), (within, loop-ones _ _ _ _ _ _ known))
 
 pub of_one_kind-returns-in_ok-one-in-Loop-b-clause-ok : goal.of_one_kind-returns-in_ok-one-in-Loop-b-clause-ok
 of_one_kind-returns-in_ok-one-in-Loop-b-clause-ok g t c =
@@ -106,7 +109,8 @@ pub of_one_kind-one-requires-in-Call-b : goal.of_one_kind-one-requires-in-Call-b
 of_one_kind-one-requires-in-Call-b g t c =
     let e = ap tall c.in-Call-b.is in
     let d = c.decreases in
-    λ κs within. (omega (arith, e, d), (within, call-ones _ _ _ _ _ _ (found _ _ _ _ _ _ (ap placed_of c.in-Call.is) (ap placed_of c.in-Call-b.is) c.requires.mergeable)))
+    let known = found _ _ _ _ _ _ (ap placed_of c.in-Call.is) (ap placed_of c.in-Call-b.is) c.requires.mergeable in
+    λ κs within. (omega (arith, e, d), (within, call-ones _ _ _ _ _ _ known))
 
 pub of_one_kind-returns-in_ok-one-in-Call-b-clause-ok : goal.of_one_kind-returns-in_ok-one-in-Call-b-clause-ok
 of_one_kind-returns-in_ok-one-in-Call-b-clause-ok g t c =
@@ -119,7 +123,8 @@ pub of_one_kind-one-requires-in-Syscall-b : goal.of_one_kind-one-requires-in-Sys
 of_one_kind-one-requires-in-Syscall-b g t c =
     let e = ap tall c.in-Syscall-b.is in
     let d = c.decreases in
-    λ κs within. (omega (arith, e, d), (within, syscall-ones _ _ _ _ _ _ (found _ _ _ _ _ _ (ap placed_of c.in-Syscall.is) (ap placed_of c.in-Syscall-b.is) c.requires.mergeable)))
+    let known = found _ _ _ _ _ _ (ap placed_of c.in-Syscall.is) (ap placed_of c.in-Syscall-b.is) c.requires.mergeable in
+    λ κs within. (omega (arith, e, d), (within, syscall-ones _ _ _ _ _ _ known))
 
 pub of_one_kind-returns-in_ok-one-in-Syscall-b-clause-ok : goal.of_one_kind-returns-in_ok-one-in-Syscall-b-clause-ok
 of_one_kind-returns-in_ok-one-in-Syscall-b-clause-ok g t c =
