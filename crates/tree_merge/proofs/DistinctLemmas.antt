@@ -20,6 +20,20 @@ distinct-push (x ∷ xs) e h d =
       distinct-push xs e (All-tail (IsOther e.digest) x xs h) d.1,
     )
 
+none-before : (w : List ℕ) (es : List Entry) (e : Entry) → HasNone w (es ++ e ∷ []) → HasNone w es × IsOther w e
+none-before w [] e h = (All-nil (IsOther w), All-head (IsOther w) e [] h)
+none-before w (x ∷ xs) e h =
+    let more = none-before w xs e (All-tail (IsOther w) x (xs ++ e ∷ []) h) in
+    (All-cons (IsOther w) x xs (All-head (IsOther w) x (xs ++ e ∷ []) h) more.0, more.1)
+
+-- those before the last one are distinct, and have not its digest
+pub distinct-before : (es : List Entry) (e : Entry) → Distinct (es ++ e ∷ []) → Distinct es × HasNone e.digest es
+distinct-before [] e d = (tt, All-nil (IsOther e.digest))
+distinct-before (x ∷ xs) e d =
+    let first = none-before x.digest xs e d.0 in
+    let more = distinct-before xs e d.1 in
+    ((first.0, more.0), All-cons (IsOther e.digest) x xs (λ same. first.1 (sym same)) more.1)
+
 none-at : (w : List ℕ) (before : List Entry) (f : Entry) (m : PlacedTree) (behind : List Entry) → HasNone w (before ++ f ∷ behind)
     → HasNone w (before ++ with_tree f m ∷ behind)
 none-at w [] f m behind h = All-cons (IsOther w) (with_tree f m) behind (All-head (IsOther w) f behind h) (All-tail (IsOther w) f behind h)

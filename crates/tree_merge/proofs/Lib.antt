@@ -7,4 +7,5 @@ pub mod MergeLemmas
 pub mod ViewLemmas
 pub mod Covers
 pub mod DistinctLemmas
+pub mod OrderLemmas
 pub mod TargetLemmas

@@ -1,5 +1,5 @@
 -- Merging two trees of one digest whose roots have children: what is known of the children, and the block of the merged ones.
-use Rattle.std.proofs.Common.{◌≡◌, ℕ, List, length, Option, Some, sym, ap, ◌∙◌}
+use Rattle.std.proofs.Common.{◌≡◌, ℕ, List, length, Option, Some, refl, sym, ap, ◌∙◌}
 use Rattle.vm_field.specs.Sponge.{HashInput}
 use Rattle.vm_ops.specs.declared.op.Op.{Op}
 use Rattle.vm_ops.specs.declared.op.Op.TheVariants as op
@@ -141,6 +141,7 @@ module _ (constants : List ℕ) (comp : ℕ → Option HashInput) where
       first = blocks.join u.first v.first;
       second = blocks.join u.second v.second;
       good = good-join m.first u.first v.first u.good v.good;
+      order = refl;
     }
 
     pub split-merged : Mergeable constants comp (Split p a b) (Split q c d) → Merged constants comp a c x → Merged constants comp b d y
@@ -149,17 +150,18 @@ module _ (constants : List ℕ) (comp : ℕ → Option HashInput) where
       first = blocks.split u.first v.first;
       second = blocks.split u.second v.second;
       good = good-split m.first u.first v.first u.good v.good;
+      order = refl;
     }
 
   module _ (p q : ℕ) (a c x : PlacedTree) where
     pub loop-merged : Mergeable constants comp (Loop p a) (Loop q c) → Merged constants comp a c x
         → Merged constants comp (Loop p a) (Loop q c) (Loop p x)
-    loop-merged m u = record { first = blocks.loop u.first; second = blocks.loop u.second; good = good-loop m.first u.first u.good }
+    loop-merged m u = record { first = blocks.loop u.first; second = blocks.loop u.second; good = good-loop m.first u.first u.good; order = refl }
 
     pub call-merged : Mergeable constants comp (Call p a) (Call q c) → Merged constants comp a c x
         → Merged constants comp (Call p a) (Call q c) (Call p x)
-    call-merged m u = record { first = blocks.call u.first; second = blocks.call u.second; good = good-call m.first u.first u.good }
+    call-merged m u = record { first = blocks.call u.first; second = blocks.call u.second; good = good-call m.first u.first u.good; order = refl }
 
     pub syscall-merged : Mergeable constants comp (Syscall p a) (Syscall q c) → Merged constants comp a c x
         → Merged constants comp (Syscall p a) (Syscall q c) (Syscall p x)
-    syscall-merged m u = record { first = blocks.syscall u.first; second = blocks.syscall u.second; good = good-syscall m.first u.first u.good }
+    syscall-merged m u = record { first = blocks.syscall u.first; second = blocks.syscall u.second; good = good-syscall m.first u.first u.good; order = refl }

@@ -7,6 +7,7 @@ use Rattle.block_tree.proofs.Refinement.{refines-refl}
 use Rattle.tree_merge.specs.Placed.{PlacedTree, Opaque, Span, Join, Split, Loop, Call, Syscall, Dyn, placed_digest, plain, at_of, kind_of}
 use Rattle.tree_merge.specs.Merging.{Good, Mergeable, Merged, opaque, span, join, split, loop, call, syscall, dyn}
 use Rattle.tree_merge.specs.Pairs.{Differs}
+use Rattle.tree_merge.proofs.OrderLemmas.{opaque-first_order, opaque-second_order}
 
 module _ (constants : List ℕ) (comp : ℕ → Option HashInput) where
   -- ---- one of the two is opaque
@@ -26,6 +27,7 @@ module _ (constants : List ℕ) (comp : ℕ → Option HashInput) where
     first = refines-opaque a b k m.digest;
     second = refines-refl constants (plain b);
     good = m.second;
+    order = opaque-first_order a b k;
   }
 
   pub opaque-second : (a b : PlacedTree) → Mergeable constants comp a b → kind_of b ≡ 0 → Merged constants comp a b a
@@ -33,6 +35,7 @@ module _ (constants : List ℕ) (comp : ℕ → Option HashInput) where
     first = refines-refl constants (plain a);
     second = refines-opaque b a k (sym m.digest);
     good = m.first;
+    order = opaque-second_order a b k;
   }
 
   -- ---- two kinds
@@ -79,6 +82,7 @@ module _ (constants : List ℕ) (comp : ℕ → Option HashInput) where
       first = blocks.span;
       second = subst (λ zs. Refines constants (blocks.Span xs) (blocks.Span zs)) e blocks.span;
       good = m.first;
+      order = refl;
     }
 
     pub spans-differ : Mergeable constants comp (Span p xs) (Span q ys) → (xs ≡ ys → ⊥) → Differs constants comp p q

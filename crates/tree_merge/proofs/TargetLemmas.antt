@@ -1,7 +1,7 @@
 -- Merging the targets of two dynamic blocks of one digest.
 use Rattle.std.proofs.Common.{◌≡◌, ℕ, suc, ◌+◌, ◌≤◌, Bool, true, false, cond, nat_eq, List, [], ◌∷◌, ◌++◌, take, drop, get_or, set, Option, Some, None, All, refl, sym, ap, subst, ◌∙◌, arith}
 use lib.Pointwise.{pointwise, bytes_decides}
-use Rattle.std.proofs.lemmas.List.{map-append, take-append-drop, set_split, drop_more}
+use Rattle.std.proofs.lemmas.List.{append-nil, map-append, take-append-drop, set_split, drop_more}
 use Rattle.std.proofs.lemmas.List.Elements.{All-nil, All-cons, All-head, All-tail, All-append, All-same, All-take, All-drop}
 use Rattle.std.proofs.Math.Path.{subst₂}
 use Rattle.vm_field.specs.Sponge.{HashInput}
@@ -10,10 +10,11 @@ use Rattle.block_tree.specs.Trees.{Tree, tree_digest, tree_height, targets_heigh
 use Rattle.block_tree.proofs.Refinement.{refines-refl, refines-digest}
 use Rattle.tree_merge.specs.Placed.{PlacedTree, PlacedTargets, Dyn, plain, plain_targets, Entry, placed_from}
 use Rattle.tree_merge.specs.Merging.{Good, AreGood, dyn, none, more, Mergeable, Merged}
-use Rattle.tree_merge.specs.Targets.{trees_in, Covers, HasNone, Distinct, IsFirstAt, IsGoodEntry, IsAdded, AreMerged}
+use Rattle.tree_merge.specs.Targets.{digests_in, trees_in, Covers, HasNone, Distinct, IsFirstAt, IsGoodEntry, IsAdded, AreMerged}
 use Rattle.tree_merge.proofs.ViewLemmas.{plain-targets}
 use Rattle.tree_merge.proofs.Covers.{first_in, covers-refl, covers-trans, covers-none, covers-push, covers-more, covers-at, first-here}
-use Rattle.tree_merge.proofs.DistinctLemmas.{IsOther, with_tree, distinct-push, distinct-at, absent-none, none-absent}
+use Rattle.tree_merge.proofs.OrderLemmas.{push-order, place-order, more-order, noted-from}
+use Rattle.tree_merge.proofs.DistinctLemmas.{IsOther, with_tree, distinct-push, distinct-at, distinct-before, absent-none, none-absent}
 
 abbrev bare : Entry → Tree
 bare entry = plain entry.tree
@@ -73,6 +74,7 @@ module _ (constants : List ℕ) (comp : ℕ → Option HashInput) where
           (some (refines-refl constants (plain e.tree)));
       good = All-append IsFine es (e ∷ []) g (All-cons IsFine e [] good (All-nil IsFine));
       distinct = distinct-push es e h;
+      order = push-order es e h;
     }
 
     module _ (f : Entry) (m : PlacedTree) (before behind : List Entry) (same : f.digest ≡ e.digest) (h : HasNone e.digest before)
@@ -96,6 +98,7 @@ module _ (constants : List ℕ) (comp : ℕ → Option HashInput) where
         good = All-append IsFine before (with_tree f m ∷ behind) gs
             (All-cons IsFine (with_tree f m) behind (record { noted = noted-m; good = r.good }) hs);
         distinct = distinct-at before f m behind;
+        order = place-order before f m behind e.digest same;
       }
 
   good-place : (es : List Entry) (w : List ℕ) (i : ℕ) (p : IsFirstAt es w i) → All IsFine es → IsFine p.entry
@@ -121,6 +124,7 @@ module _ (constants : List ℕ) (comp : ℕ → Option HashInput) where
     second = covers-none constants (trees_in xs);
     good = g;
     distinct = λ d. d;
+    order = λ d. sym (append-nil (digests_in xs));
   }
 
   -- and one more
@@ -134,6 +138,9 @@ module _ (constants : List ℕ) (comp : ℕ → Option HashInput) where
         (subst (λ w. RefinesFirst constants (first_in constants w (trees_in ms')) (Some (plain e.tree))) good.noted b.has));
     good = b.good;
     distinct = λ d. b.distinct (a.distinct d);
+    order = λ d.
+        let before = distinct-before ys e d in
+        more-order xs ys ms ms' e before.1 (a.order before.0) b.order;
   }
 
   -- ---- what is known of the targets of good blocks
@@ -170,6 +177,7 @@ module _ (constants : List ℕ) (comp : ℕ → Option HashInput) where
       first = dyns ms xs a.first;
       second = dyns ms ys a.second;
       good = dyn (dyn-at m.first) (to-good ms a.good (a.distinct (from-good-distinct xs (dyn-targets m.first))));
+      order = rw (noted-from ms, noted-from xs, noted-from ys) (a.order (from-good-distinct ys (dyn-targets m.second)));
     }
       where
         dyns : (es fs : List Entry) → Covers constants (trees_in es) (trees_in fs)

@@ -1,10 +1,21 @@
 -- Trees whose addresses are those of their hashes, and what it is to merge two of one digest. The permutation's constants are an
 -- argument throughout, and so is what is hashed at an address, where a hash begins there.
-use Rattle.std.specs.Prelude.{◌≡◌, ℕ, List, length, Option, Some}
+use Rattle.std.specs.Prelude.{◌≡◌, ℕ, nat_eq, if◌then◌else◌, Bool, true, false, List, [], ◌∷◌, ◌++◌, length, Option, Some}
+use lib.Pointwise.{pointwise}
 use Rattle.vm_field.specs.Sponge.{HashInput}
 use Rattle.vm_ops.specs.declared.op.Op.TheVariants as op
 use Rattle.block_tree.specs.Trees.{Refines, input_of_batches, input_of_dyn, input_of_one, input_of_two}
-use Rattle.tree_merge.specs.Placed.{PlacedTree, PlacedTargets, Opaque, Span, Join, Split, Loop, Call, Syscall, Dyn, no_placed, placed, placed_digest, plain, Absent}
+use Rattle.tree_merge.specs.Placed.{PlacedTree, PlacedTargets, Opaque, Span, Join, Split, Loop, Call, Syscall, Dyn, no_placed, placed, placed_digest, plain, noted_at, Absent}
+
+-- whether a digest is one of these
+abbrev pub is_among : List ℕ → List (List ℕ) → Bool
+is_among digest [] = false
+is_among digest (other ∷ others) = if pointwise nat_eq other digest then true else is_among digest others
+
+-- those of the second list that are not in the first, in order
+abbrev pub not_among : List (List ℕ) → List (List ℕ) → List (List ℕ)
+not_among known [] = []
+not_among known (digest ∷ digests) = if is_among digest known then not_among known digests else digest ∷ not_among known digests
 
 module _ (constants : List ℕ) (comp : ℕ → Option HashInput) where
   mutual
@@ -36,8 +47,10 @@ module _ (constants : List ℕ) (comp : ℕ → Option HashInput) where
     pub second : Good b
     pub digest : placed_digest constants a ≡ placed_digest constants b
 
-  -- such a tree that refines both
+  -- Such a tree that refines both. If the roots have targets, those of the first come first, and then those of the second whose digests
+  -- the first has not.
   pub record Merged (a b m : PlacedTree) : Type 0 where
     pub first : Refines constants (plain m) (plain a)
     pub second : Refines constants (plain m) (plain b)
     pub good : Good m
+    pub order : noted_at m ≡ noted_at a ++ not_among (noted_at a) (noted_at b)

@@ -63,6 +63,22 @@ kind_of (Call at callee) = 1 + code_of op.Call
 kind_of (Syscall at callee) = 1 + code_of op.Syscall
 kind_of (Dyn at targets) = 1 + dyn_code
 
+-- the digests that are noted beside targets, in order
+abbrev pub noted_in : PlacedTargets → List (List ℕ)
+noted_in no_placed = []
+noted_in (placed digest first more) = digest ∷ noted_in more
+
+-- those beside the targets of the root, if it has any
+abbrev pub noted_at : PlacedTree → List (List ℕ)
+noted_at (Opaque digest) = []
+noted_at (Span at batches) = []
+noted_at (Join at first second) = []
+noted_at (Split at on_one on_zero) = []
+noted_at (Loop at body) = []
+noted_at (Call at callee) = []
+noted_at (Syscall at callee) = []
+noted_at (Dyn at targets) = noted_in targets
+
 -- no target has this digest noted beside it
 abbrev pub Absent : List ℕ → PlacedTargets → Type 0
 Absent digest no_placed = Unit {0}

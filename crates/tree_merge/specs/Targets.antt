@@ -1,14 +1,18 @@
 -- Targets of dynamic blocks, with the digests that are noted beside them, and what it is to merge those of two blocks. The permutation's
 -- constants are an argument throughout, and so is what is hashed at an address, where a hash begins there.
-use Rattle.std.specs.Prelude.{◌≡◌, ◌≢◌, ℕ, ◌+◌, ◌<◌, List, [], ◌∷◌, length, map, take, drop, All, Option, Some}
+use Rattle.std.specs.Prelude.{◌≡◌, ◌≢◌, ℕ, ◌+◌, ◌<◌, List, [], ◌∷◌, ◌++◌, length, map, take, drop, All, Option, Some}
 use Rattle.vm_field.specs.Sponge.{HashInput}
 use Rattle.block_tree.specs.Trees.{Tree, RefinesFirst, first_target, targets_from}
 use Rattle.tree_merge.specs.Placed.{Entry, placed_digest, plain}
-use Rattle.tree_merge.specs.Merging.{Good}
+use Rattle.tree_merge.specs.Merging.{Good, not_among}
 
 -- the targets alone, without addresses
 abbrev pub trees_in : List Entry → List Tree
 trees_in entries = map (λ (entry : Entry). plain entry.tree) entries
+
+-- the digests that are noted beside them
+abbrev pub digests_in : List Entry → List (List ℕ)
+digests_in entries = map (λ (entry : Entry). entry.digest) entries
 
 -- no target has this digest noted beside it
 abbrev pub HasNone : List ℕ → List Entry → Type 0
@@ -44,6 +48,7 @@ module _ (constants : List ℕ) (comp : ℕ → Option HashInput) where
     pub has : RefinesFirst constants (first_target constants entry.digest (targets_from (trees_in new))) (Some (plain entry.tree))
     pub good : All IsGoodEntry new
     pub distinct : Distinct old → Distinct new
+    pub order : digests_in new ≡ digests_in old ++ not_among (digests_in old) (entry.digest ∷ [])
 
   -- the targets of the second list are merged into those of the first
   pub record AreMerged (xs ys ms : List Entry) : Type 0 where
@@ -51,3 +56,4 @@ module _ (constants : List ℕ) (comp : ℕ → Option HashInput) where
     pub second : Covers constants (trees_in ms) (trees_in ys)
     pub good : All IsGoodEntry ms
     pub distinct : Distinct xs → Distinct ms
+    pub order : Distinct ys → digests_in ms ≡ digests_in xs ++ not_among (digests_in xs) (digests_in ys)
