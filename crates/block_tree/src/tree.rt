@@ -107,7 +107,11 @@ pub const DYN_CODE: u64 = 80;
 pub fn digest_of_dynamic(params: &Params) -> Word
     ensures is { result ≡ digest_of_input (constants_of params.now) input_of_dyn }
 {
-    digest_of(params, Felt::reduced(u128::from(DYN_CODE)), &[[Felt::ZERO; 8]])
+    digest_of(
+        params,
+        Felt::reduced(u128::from(DYN_CODE)),
+        &[[Felt::ZERO; 8]],
+    )
 }
 
 /// The digest of a block with two children, of which these are the digests.

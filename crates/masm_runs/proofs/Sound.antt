@@ -13,7 +13,7 @@ use Rattle.op_pack.specs.Reading.{reading}
 use Rattle.block_tree.specs.Behind.{HasReading}
 use Rattle.block_tree.specs.Cycles.{Cycle, Frame, Mark, StartOpaque, StartSpan, StartJoin, StartSplit, StartLoop, StartCall, StartSyscall, Respan, Repeat, Do, End, EndSpan, EndLoop, EndCall, EndSyscall, frame_of, pops_bit, opens, closes, and_then, reads, enters_call, is_in_kernel, enters_syscall, returns_to, effect_of, advice_taken, top}
 use Rattle.block_tree.specs.Execution.{Event, Outcome, Done, Trap, OutOfCycles, Part, logged, then_do, skip, seq, cycle_outcome, taking, at_bit, cycle, operations, read_operations, batches_from, turns, execution}
-use Rattle.block_tree.specs.Trees.{Tree, Opaque, Span, Join, Split, Loop, Call, Syscall, tree_digest, tree_height}
+use Rattle.block_tree.specs.Trees.{Tree, Opaque, Span, Join, Split, Loop, Call, Syscall, Dyn, tree_digest, tree_height}
 use Rattle.block_tree.specs.KnownTrees.{IsReady}
 use Rattle.masm_runs.specs.Runs.{IsOfValues, TrapsForValues, ReadyRuns}
 
@@ -250,6 +250,7 @@ module _ (constants : List ℕ) (kernel : List (List ℕ)) where
     sound-run : (tree : Tree) (n : ℕ) (s : State) → s.core.nesting ≡ n → IsReady tree → n + tree_height tree ≤ 1024
         → SoundOut n (execution constants kernel limit tree s)
     sound-run (Opaque digest) n s e h low = absurd h
+    sound-run (Dyn targets) n s e h low = absurd h
     sound-run (Span []) n s e h low = absurd (h.0 refl)
     sound-run (Span (batch ∷ later)) n s e h low =
         sound-seq (n + 1) n _ (cycle constants kernel limit (EndSpan (tree_digest constants (Span (batch ∷ later))))) s

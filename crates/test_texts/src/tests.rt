@@ -1,4 +1,4 @@
-use block_tree::{Evidence, Tree};
+use block_tree::{Evidence, Tree, Trees, dynamic};
 use op_pack::Batches;
 use statement::{
     TextCause, TextError, cause_text, read_inputs, read_statement, write_evidence, write_inputs,
@@ -300,6 +300,14 @@ fn writes_evidence(rt: HostRuntime) -> Result<(), Fail> {
     assert_eq!(rt;
         found.as_str(),
         "run\ncycles 3\ntape 1 0\nloop\nopaque 0000000000000000000000000000000000000000000000000000000000000000\n"
+    );
+    let mut targets = Trees::new(alloc);
+    targets.push(Tree::Opaque(Word::ZERO))?;
+    targets.push(dynamic(Trees::new(alloc)))?;
+    let found = run_answer(alloc, dynamic(targets), &[])?;
+    assert_eq!(rt;
+        found.as_str(),
+        "run\ncycles 3\ntape\ndyn 2\nopaque 0000000000000000000000000000000000000000000000000000000000000000\ndyn 0\n"
     );
     let pair = write_evidence(
         alloc,

@@ -1,6 +1,6 @@
 use block_tree::{
-    Evidence, Export, Exports, Program, Tree, are_distinct, copy, cycle_laws, digest, height,
-    known_whole, log_laws, row_laws, run_laws, tree_laws, types_cross,
+    Evidence, Export, Exports, Program, Tree, Trees, are_distinct, copy, cycle_laws, digest,
+    dynamic, height, known_whole, log_laws, row_laws, run_laws, tree_laws, types_cross,
 };
 use op_pack::Batches;
 use perm_memo::Permutations;
@@ -24,7 +24,7 @@ struct Row {
     digest: [u64; 4],
 }
 
-static ROWS: [Row; 8] = [
+static ROWS: [Row; 11] = [
     Row {
         which: 0,
         height: 1,
@@ -100,6 +100,36 @@ static ROWS: [Row; 8] = [
             10234094566374212418,
         ],
     },
+    Row {
+        which: 8,
+        height: 1,
+        digest: [
+            16684169599729524335,
+            15900862114931369809,
+            9356279583612877890,
+            7580913588315533889,
+        ],
+    },
+    Row {
+        which: 9,
+        height: 4,
+        digest: [
+            16684169599729524335,
+            15900862114931369809,
+            9356279583612877890,
+            7580913588315533889,
+        ],
+    },
+    Row {
+        which: 10,
+        height: 5,
+        digest: [
+            9205513874276943882,
+            841889069272053070,
+            15080371814876700703,
+            5975335895913031170,
+        ],
+    },
 ];
 
 fn felt(number: u64) -> Felt {
@@ -142,11 +172,29 @@ fn made(alloc: Global, which: usize) -> Result<Tree, Memory> {
         4 => Tree::Loop(opaque(alloc, a)?),
         5 => Tree::Call(opaque(alloc, a)?),
         6 => Tree::Syscall(opaque(alloc, a)?),
+        7 => spans_and_loop(alloc)?,
+        8 => dynamic(Trees::new(alloc)),
+        9 => with_targets(alloc)?,
         _ => Tree::Join(
-            Box::new(alloc, span(alloc)?)?,
-            Box::new(alloc, Tree::Loop(opaque(alloc, a)?))?,
+            Box::new(alloc, with_targets(alloc)?)?,
+            Box::new(alloc, dynamic(Trees::new(alloc)))?,
         ),
     })
+}
+
+fn spans_and_loop(alloc: Global) -> Result<Tree, Memory> {
+    Ok(Tree::Join(
+        Box::new(alloc, span(alloc)?)?,
+        Box::new(alloc, Tree::Loop(opaque(alloc, [1, 2, 3, 4])?))?,
+    ))
+}
+
+// A dynamic block with two targets, of which the second is the higher.
+fn with_targets(alloc: Global) -> Result<Tree, Memory> {
+    let mut targets = Trees::new(alloc);
+    targets.push(span(alloc)?)?;
+    targets.push(spans_and_loop(alloc)?)?;
+    Ok(dynamic(targets))
 }
 
 fn is_as(tree: &Tree, row: &Row) -> bool {

@@ -93,6 +93,7 @@ fn shape(alloc: Global, tree: &Tree) -> Result<String, AllocError> {
             let a = shape(alloc, a)?;
             format!(in alloc; "K{a}")
         }
+        Tree::Dyn(_) => format!(in alloc; "D"),
     }
 }
 
