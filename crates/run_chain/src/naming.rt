@@ -7,7 +7,7 @@ use std::alloc::{AllocError, Global};
 
 /// What becomes of the file of a name.
 #[derive(Clone, Copy, Debug, PartialEq, Eq)]
-pub(crate) enum Role {
+pub enum Role {
     /// It is read.
     Input,
     /// It is written.
