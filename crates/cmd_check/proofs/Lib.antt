@@ -1,1 +1,3 @@
+pub mod ChainLemmas
 pub mod CheckLemmas
+pub mod LineLemmas

@@ -1,7 +1,11 @@
-//! The command `check`: a trace is tested against a statement; its evidence is written, or its refusal told.
+//! The commands `check` and `chain`: a trace is tested against a statement; its evidence is written, or its refusal told. A
+//! chain is tested link by link.
 #![tactic(auto)]
 
+mod chaining;
 mod checking;
+mod judging;
 
+pub use chaining::{ChainNames, chain_files};
 pub use checker::Seed;
 pub use checking::{CheckNames, check_files};

@@ -6,7 +6,7 @@ use Rattle.std.proofs.lemmas.Bool.{false≢true, and_parts}
 use Rattle.std.proofs.lemmas.Slice.Eq.{bytes_eq-Decides}
 use Rattle.cmd_words.specs.Words.{is_form, name_at, number_at, optional_name}
 use Rattle.workloads.specs.Workloads.{most_turns}
-use Rattle.cmd_kit.specs.Asked.{Asked, MadeNames, Outputs, nothing, hash, assemble, run, check, make, asked, are_apart, are_made_apart, is_apart, given_name, check_words, hash_words, assemble_words, run_words, make_words, run_of_names, outputs_in, limit_in, pieces_in, check_of_names, hash_of_names, assemble_of_names, make_of_names, made_names_in}
+use Rattle.cmd_kit.specs.Asked.{Asked, MadeNames, Outputs, nothing, hash, assemble, run, check, make, chain, runs, asked, are_apart, are_made_apart, is_apart, given_name, check_words, hash_words, assemble_words, run_words, make_words, run_of_names, outputs_in, limit_in, pieces_in, check_of_names, hash_of_names, assemble_of_names, make_of_names, made_names_in, chain_of_names, chain_words, runs_of_names, runs_words}
 
 -- what is asked has outputs apart
 abbrev AreOutputsApart : Asked → Type 0
@@ -16,6 +16,8 @@ AreOutputsApart (assemble params source kernel) = Unit {0}
 AreOutputsApart (run params source inputs outputs kernel limit) = are_apart outputs (params ∷ source ∷ inputs ∷ given_name kernel) ≡ true
 AreOutputsApart (check params table statement evidence) = Unit {0}
 AreOutputsApart (make params turns names) = are_made_apart names params ≡ true
+AreOutputsApart (chain params list evidence) = is_apart evidence (params ∷ list ∷ []) ≡ true
+AreOutputsApart (runs params list) = Unit {0}
 
 if_either : (b : Bool) (x y : Asked) → (b ≡ true → AreOutputsApart x) → AreOutputsApart y → AreOutputsApart (if b then x else y)
 if_either true x y then_it otherwise = then_it refl
@@ -62,6 +64,21 @@ of_make (Some params) (Some turns) None = tt
 of_make (Some params) None names = tt
 of_make None turns names = tt
 
+of_chain : (params list : Option (List ℕ)) (evidence : Option (Option (List ℕ))) (pieces : Option (Option ℕ))
+    → AreOutputsApart (chain_of_names params list evidence pieces)
+of_chain (Some params) (Some list) (Some (Some evidence)) (Some pieces) =
+    if_either (is_apart evidence (params ∷ list ∷ [])) (chain params list evidence) nothing (λ apart. apart) tt
+of_chain (Some params) (Some list) (Some (Some evidence)) None = tt
+of_chain (Some params) (Some list) (Some None) pieces = tt
+of_chain (Some params) (Some list) None pieces = tt
+of_chain (Some params) None evidence pieces = tt
+of_chain None list evidence pieces = tt
+
+of_runs : (params list : Option (List ℕ)) → AreOutputsApart (runs_of_names params list)
+of_runs (Some params) (Some list) = tt
+of_runs (Some params) None = tt
+of_runs None list = tt
+
 behind_form : (b : Bool) (x : Asked) → AreOutputsApart x → AreOutputsApart (if b then x else nothing)
 behind_form b x h = if_either b x nothing (λ is. h) tt
 
@@ -73,7 +90,9 @@ all_apart (command ∷ words) =
     (if_either (bytes_eq command (codes "hash")) (hash_words words) _ (λ is. of_hash_words)
     (if_either (bytes_eq command (codes "assemble")) (assemble_words words) _ (λ is. of_assemble_words)
     (if_either (bytes_eq command (codes "run")) (run_words words) _ (λ is. of_run_words)
-    (behind_form (bytes_eq command (codes "make")) (make_words words) of_make_words))))
+    (if_either (bytes_eq command (codes "make")) (make_words words) _ (λ is. of_make_words)
+    (if_either (bytes_eq command (codes "chain")) (chain_words words) _ (λ is. of_chain_words)
+    (behind_form (bytes_eq command (codes "runs")) (runs_words words) of_runs_words))))))
   where
     kernel : Option (Option (List ℕ))
     kernel = optional_name (codes "--kernel") words
@@ -103,6 +122,15 @@ all_apart (command ∷ words) =
         behind_form (is_form 2 (codes "--source" ∷ codes "--inputs" ∷ []) words)
         (make_of_names (name_at 0 words) (number_at 1 most_turns 1 words) (made_names_in words))
         (of_make (name_at 0 words) (number_at 1 most_turns 1 words) (made_names_in words))
+
+    of_chain_words : AreOutputsApart (chain_words words)
+    of_chain_words =
+        behind_form (is_form 2 (codes "--evidence" ∷ codes "--pieces" ∷ []) words)
+        (chain_of_names (name_at 0 words) (name_at 1 words) (optional_name (codes "--evidence") words) (pieces_in words))
+        (of_chain (name_at 0 words) (name_at 1 words) (optional_name (codes "--evidence") words) (pieces_in words))
+
+    of_runs_words : AreOutputsApart (runs_words words)
+    of_runs_words = behind_form (is_form 2 [] words) (runs_of_names (name_at 0 words) (name_at 1 words)) (of_runs (name_at 0 words) (name_at 1 words))
 
 -- a name that is none of these is not the first of them, nor one behind it
 not_first : (output name : List ℕ) (names : List (List ℕ)) → is_apart output (name ∷ names) ≡ true → name ≢ output
@@ -137,3 +165,10 @@ run_apart_names words params source inputs outputs kernel limit is =
       params_statement = not_first outputs.statement params others apart.1;
       table_statement = λ same. not_first outputs.table outputs.statement (params ∷ others) apart.0 (sym same);
     }
+
+-- and the evidence of a chain is neither its parameters nor its list
+pub chain_apart_names : (words : List (List ℕ)) (params list evidence : List ℕ) → asked words ≡ chain params list evidence
+    → (params ≢ evidence) × (list ≢ evidence)
+chain_apart_names words params list evidence is =
+    let apart = subst AreOutputsApart is (all_apart words) in
+    (not_first evidence params (list ∷ []) apart, not_first evidence list [] (not_behind evidence params (list ∷ []) apart))

@@ -56,7 +56,7 @@ run_leaves_good_files words old new before now params source inputs outputs kern
     (files_behind params source inputs outputs kernel limit m new before now s, s.files, λ evidence. good)
 
 -- a status that is planned is no fault
-no_fault : (s : Status) (kind : StatusKind) → kind ≡ planned → (s ≡ status.Ok) ⊎ IsFault kind → s ≡ status.Ok
+pub no_fault : (s : Status) (kind : StatusKind) → kind ≡ planned → (s ≡ status.Ok) ⊎ IsFault kind → s ≡ status.Ok
 no_fault s kind is (inl ok) = ok
 no_fault s planned is (inr fault) = absurd fault
 no_fault s no_command is (inr fault) = absurd fault

@@ -29,7 +29,7 @@ use Rattle.cmd_kit.specs.declared.status.Status.{Status}
 use Rattle.cmd_kit.specs.declared.status.Status.TheVariants as status
 use Rattle.cmd_kit.specs.declared.answer.Answer.{Answer}
 use Rattle.cmd_kit.specs.Statuses.{StatusKind, planned, no_command, failed_read, failed_write, failed_print, no_memory, kind_of}
-use Rattle.cmd_kit.specs.Asked.{Asked, MadeNames, Outputs, nothing, hash, assemble, run, check, make, asked}
+use Rattle.cmd_kit.specs.Asked.{Asked, MadeNames, Outputs, nothing, hash, assemble, run, check, make, chain, runs, asked}
 use Rattle.cmd_kit.specs.Steps.{SourceFile, Steps, Verdict, accepted, refused, Course, ran, course, checked, telling, assembly, ending, ends_with}
 use Rattle.cmd_kit.specs.SourceEnds.{AssemblesFiles}
 use Rattle.cmd_kit.specs.AssembleEnds as assembling
@@ -48,69 +48,11 @@ use Rattle.cmd_kit.specs.MakeSteps.{make_steps, making_steps, made_course_steps,
 use Rattle.cmd_kit.specs.Serving.{ComesWhere, ServesAs, Works, Ends}
 use Rattle.cmd_kit.specs.Completeness.{FileSays, HoldsKernel, IsAcceptedFor, IsGood, IsGoodHash, IsGoodAssembly, IsGoodRun, IsGoodCheck, IsGoodMake, IsFault, GoodIsOk, OneVerdict}
 use Rattle.cmd_kit.proofs.Walks as walks
+use Rattle.cmd_kit.proofs.ChainComplete.{chained_well}
+use Rattle.cmd_kit.proofs.Courses.{bad_or_program, runs_out}
+use Rattle.cmd_kit.proofs.RunsComplete.{runs_well}
+use Rattle.cmd_kit.proofs.Verdicts.{not_both}
 use Rattle.cmd_kit.proofs.Walks.{ended, read_on, was_found, was_written}
-
--- what an assembled source comes to once more
-bad_or_program : (constants : List ℕ) (source : SourceFile) (kernel : Option SourceFile) (program : Program) (in_kernel : Bool) (line column : ℕ)
-    (cause : AsmCause) → AssemblesFiles constants source kernel (Ok program)
-    → AssemblesFiles constants source kernel (Err (Bad in_kernel line column cause)) → ⊥
-bad_or_program constants source kernel program in_kernel line column cause is bad =
-    apart (one_program constants source.text (option_map (λ k. k.text) kernel) program (Err (Bad in_kernel line column cause)) is bad)
-  where
-    apart : Bad in_kernel line column cause ≡ Memory → ⊥
-    apart eq = cc
-
-same_outcome : (constants : List ℕ) (source : SourceFile) (kernel : Option SourceFile) (p q : Program) (given : Given) (limit : ℕ)
-    → AssemblesFiles constants source kernel (Ok p) → AssemblesFiles constants source kernel (Ok q)
-    → outcome_of constants q given limit ≡ outcome_of constants p given limit
-same_outcome constants source kernel p q given limit one other =
-    let same = one_program constants source.text (option_map (λ k. k.text) kernel) p (Ok q) one other in
-    ap₂ (λ words tree. execution.execution constants words limit tree (start given.stack given.advice)) same.2 same.0
-
--- a program whose run ends
-record RunsOut (c : Course) : Type 0 where
-  program : Program
-  last : State
-  log : List execution.Event
-  is : c ≡ ran program last log
-
--- is not stopped
-runs_out : (constants : List ℕ) (source : SourceFile) (kernel : Option SourceFile) (given : Given) (limit : ℕ) (program : Program) (last : State)
-    (log : List execution.Event) (c : Course)
-    → AssemblesFiles constants source kernel (Ok program) → outcome_of constants program given limit ≡ Done last log
-    → IsCourse constants source kernel given limit c → RunsOut c
-runs_out constants source kernel given limit program last log c is done (ends.refused in_kernel line column cause bad) =
-    absurd (bad_or_program constants source kernel program in_kernel line column cause is bad)
-runs_out constants source kernel given limit program last log c is done (halted other made b (trapped clock cause traps)) =
-    absurd (let eq = sym traps ∙ same_outcome constants source kernel program other given limit is made ∙ done in cc)
-runs_out constants source kernel given limit program last log c is done (halted other made b (unended out)) =
-    absurd (let eq = sym out ∙ same_outcome constants source kernel program other given limit is made ∙ done in cc)
-runs_out constants source kernel given limit program last log c is done (ends.ended other made end events r) =
-    record { program = other; last = end; log = events; is = refl }
-
--- a trace that is accepted for what is claimed is accepted however the claim lies in memory
-same_accepted : (p q : Public) (t : Trace) → constants_of p.params ≡ constants_of q.params
-    → statements.stated_of p.statement ≡ statements.stated_of q.statement → IsAccepted p t → IsAccepted q t
-same_accepted p q t params claims is =
-    let digest : p.statement.digest ≡ q.statement.digest = ap (λ (c : Stated). c.digest) claims in
-    let kernel : p.statement.kernel ≡ q.statement.kernel = ap (λ (c : Stated). c.kernel) claims in
-    let inputs : p.statement.inputs ≡ q.statement.inputs = ap (λ (c : Stated). c.inputs) claims in
-    let outputs : p.statement.outputs ≡ q.statement.outputs = ap (λ (c : Stated). c.outputs) claims in
-    let same : traces.claim_of p t ≡ traces.claim_of q t = rw (params, digest, kernel, inputs, outputs) refl in
-    record {
-      zero = subst (λ c. AreZero c t) same is.zero;
-      buses = λ bus. subst (λ c. AreAlike (asked_on c t bus) (given_on c t bus)) same (is.buses bus);
-    }
-
-pub one_verdict : OneVerdict
-one_verdict constants claim t h p is =
-    same_accepted h.against p t (h.is_public.params ∙ sym is.params) (h.is_public.statement ∙ sym is.statement) h.found
-
--- no trace is refused that is accepted
-pub not_both : (p : Public) (t : Trace) (r : Refused) → IsAccepted p t → IsWhy p t r → ⊥
-not_both p t (why.Fault f) is h = h.nonzero (h.value_is ∙ is.zero f.table f.row f.number h.within)
-not_both p t (why.Bus bus tuple asked given) is h = h.least.apart (h.least.asked_is ∙ is.buses bus tuple ∙ sym h.least.given_is)
-not_both p t why.Memory is h = h
 
 -- steps over these files that ended with an answer
 module _ (a : Answer) (new : Option Files) (m : Files) where
@@ -229,6 +171,10 @@ module _ (s : Status) (line : List ℕ) (new : Option Files) (m : Files) where
       checked_well (ends_with s line) new m params table statement evidence good (subst Went (let e = are in cc) went)
   good_goes (make params turns names) steps good are went =
       made_well (ends_with s line) new m params turns names good (subst Went (let e = are in cc) went)
+  good_goes (chain params list evidence) steps good are went =
+      chained_well (ends_with s line) new m params list evidence good (subst Went (let e = are in cc) went)
+  good_goes (runs params list) steps good are went =
+      runs_well (ends_with s line) new m params list good (subst Went (let e = are in cc) went)
 
 good_ends : (c : Asked) (s : Status) (line : List ℕ) (old new : ShelfState) (m : Files) (steps : Steps) → steps_of c ≡ Some steps
     → old.files ≡ Some m → IsGood m c → Ends steps (ends_with s line) old new → s ≡ status.Ok
@@ -243,6 +189,8 @@ good_steps m (assemble params source kernel) good = (_, refl)
 good_steps m (run params source inputs outputs kernel limit) good = (_, refl)
 good_steps m (check params table statement evidence) good = (_, refl)
 good_steps m (make params turns names) good = (_, refl)
+good_steps m (chain params list evidence) good = (_, refl)
+good_steps m (runs params list) good = (_, refl)
 
 -- whatever is answered
 good_answers : (kind : StatusKind) (c : Asked) (s : Status) (old new : ShelfState) (before now : SinkState) (m : Files) (steps : Steps)

@@ -32,7 +32,7 @@ module _ (line : List ℕ) (new : Option Files) where
   abbrev Done : Steps → Option Files → Type 0
   Done = walks.Done (ends_with status.Ok line) new
 
-  trace_said : (name : List ℕ) (next : Trace → Steps) (read : Result Trace FileError) (m : Files) → ComesWhere (with_trace name next read) Done (Some m)
+  pub trace_said : (name : List ℕ) (next : Trace → Steps) (read : Result Trace FileError) (m : Files) → ComesWhere (with_trace name next read) Done (Some m)
       → (trace : Trace) × (read ≡ Ok trace) × ComesWhere (next trace) Done (Some m)
   trace_said name next (Ok trace) m h = (trace, refl, h)
   trace_said name next (Err (Bad offset cause)) m h =
@@ -40,7 +40,7 @@ module _ (line : List ℕ) (new : Option Files) where
   trace_said name next (Err file_error.Memory) m h =
       absurd (not_ok status.Memory line _ (λ same. cc) (walks.ended (ends_with status.Ok line) new _ m h).0)
 
-  claim_said : (name : List ℕ) (next : Stated → Steps) (read : Result Stated TextCause) (m : Files)
+  pub claim_said : (name : List ℕ) (next : Stated → Steps) (read : Result Stated TextCause) (m : Files)
       → ComesWhere (with_statement name next read) Done (Some m)
       → (claim : Stated) × (read ≡ Ok claim) × ComesWhere (next claim) Done (Some m)
   claim_said name next (Ok claim) m h = (claim, refl, h)
@@ -60,7 +60,7 @@ written_as : (now : Option Files) (m : Files) (output written text : List ℕ) �
     → now ≡ Some (insert m output text)
 written_as now m output written text stands is = subst (λ bytes. now ≡ Some (insert m output bytes)) is stands
 
-printed_as : (before now : SinkState) (line text : List ℕ) → now ≡ record before { taken = with_piece before.taken line }
+pub printed_as : (before now : SinkState) (line text : List ℕ) → now ≡ record before { taken = with_piece before.taken line }
     → ends_with status.Ok line ≡ ends_with status.Ok text → now ≡ record before { taken = with_piece before.taken text }
 printed_as before now line text taken same =
     subst (λ (l : List ℕ). now ≡ record before { taken = with_piece before.taken l }) (ap (λ (a : Answer). a.line) same) taken

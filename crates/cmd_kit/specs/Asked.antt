@@ -23,6 +23,8 @@ pub data Asked : Type 0 where
   run : (params source inputs : List ℕ) (outputs : Outputs) (kernel : Option (List ℕ)) (limit : ℕ) → Asked
   check : (params table statement evidence : List ℕ) → Asked
   make : (params : List ℕ) (turns : ℕ) (names : MadeNames) → Asked
+  chain : (params list evidence : List ℕ) → Asked
+  runs : (params list : List ℕ) → Asked
 
 abbrev pub hash_of_names : Option (List ℕ) → Option (List ℕ) → Asked
 hash_of_names (Some params) (Some numbers) = hash params numbers
@@ -129,6 +131,26 @@ make_words words =
     if is_form 2 (codes "--source" ∷ codes "--inputs" ∷ []) words
     then make_of_names (name_at 0 words) (number_at 1 most_turns 1 words) (made_names_in words) else nothing
 
+abbrev pub chain_of_names : Option (List ℕ) → Option (List ℕ) → Option (Option (List ℕ)) → Option (Option ℕ) → Asked
+chain_of_names (Some params) (Some list) (Some (Some evidence)) (Some pieces) =
+    if is_apart evidence (params ∷ list ∷ []) then chain params list evidence else nothing
+chain_of_names params list evidence pieces = nothing
+
+-- `chain`, the names of the parameters and of the list, that of the evidence, which no other name is, and a number of pieces where it is
+-- given
+abbrev pub chain_words : List (List ℕ) → Asked
+chain_words words =
+    if is_form 2 (codes "--evidence" ∷ codes "--pieces" ∷ []) words
+    then chain_of_names (name_at 0 words) (name_at 1 words) (optional_name (codes "--evidence") words) (pieces_in words) else nothing
+
+abbrev pub runs_of_names : Option (List ℕ) → Option (List ℕ) → Asked
+runs_of_names (Some params) (Some list) = runs params list
+runs_of_names params list = nothing
+
+-- `runs` and the names of the parameters and of the list
+abbrev pub runs_words : List (List ℕ) → Asked
+runs_words words = if is_form 2 [] words then runs_of_names (name_at 0 words) (name_at 1 words) else nothing
+
 unfoldable pub asked : List (List ℕ) → Asked
 asked [] = nothing
 asked (command ∷ words) =
@@ -137,4 +159,6 @@ asked (command ∷ words) =
     else if bytes_eq command (codes "assemble") then assemble_words words
     else if bytes_eq command (codes "run") then run_words words
     else if bytes_eq command (codes "make") then make_words words
+    else if bytes_eq command (codes "chain") then chain_words words
+    else if bytes_eq command (codes "runs") then runs_words words
     else nothing

@@ -2,14 +2,17 @@
 use Rattle.std.specs.Prelude.{◌≡◌, ℕ, List, Option, Some, None}
 use Rattle.cmd_kit.specs.declared.answer.Answer.{Answer}
 use Rattle.cmd_kit.specs.Asked as asked
-use Rattle.cmd_kit.specs.Asked.{Asked, nothing, hash, assemble, check, make}
+use Rattle.cmd_kit.specs.Asked.{Asked, nothing, hash, assemble, check, make, chain, runs}
 use Rattle.cmd_kit.specs.HashSteps.{hash_steps}
 use Rattle.cmd_kit.specs.AssembleSteps.{assemble_steps}
 use Rattle.cmd_kit.specs.RunSteps.{run_steps}
 use Rattle.cmd_kit.specs.CheckSteps.{check_steps}
 use Rattle.cmd_kit.specs.MakeSteps.{make_steps}
-use Rattle.cmd_kit.specs.Steps.{End, stop, assembly, telling, Right, exactly, tables_of, statement_of, evidence_for, Question, checked, course, Finding, Steps, ends_with}
+use Rattle.cmd_kit.specs.ChainSteps.{chain_steps}
+use Rattle.cmd_kit.specs.RunsSteps.{runs_steps}
+use Rattle.cmd_kit.specs.Steps.{End, stop, assembly, telling, Right, exactly, tables_of, statement_of, evidence_for, chain_evidence, Question, checked, course, Finding, Steps, ends_with}
 use Rattle.cmd_kit.specs.CheckEnds.{IsEvidenceText, IsVerdictFor, TellsEvidence}
+use Rattle.cmd_kit.specs.ChainEnds.{IsChainText}
 use Rattle.cmd_kit.specs.AssembleEnds.{AnswersAssembly}
 use Rattle.cmd_kit.specs.RunEnds.{IsCourse}
 use Rattle.fill_files.specs.RunFiles.{IsTableFileOf, IsStatementFileOf}
@@ -22,6 +25,8 @@ steps_of (assemble params source kernel) = Some (assemble_steps params source ke
 steps_of (asked.run params source inputs outputs kernel limit) = Some (run_steps params source inputs outputs kernel limit)
 steps_of (check params table statement evidence) = Some (check_steps params table statement evidence)
 steps_of (make params turns names) = Some (make_steps params turns names)
+steps_of (chain params list evidence) = Some (chain_steps params list evidence)
+steps_of (runs params list) = Some (runs_steps params list)
 
 -- what a command may end with
 abbrev pub EndsAs : End → Answer → Type 0
@@ -35,6 +40,7 @@ IsRight (exactly bytes) written = written ≡ bytes
 IsRight (tables_of constants kernel last log) written = IsTableFileOf constants kernel last log written
 IsRight (statement_of claim) written = IsStatementFileOf claim written
 IsRight (evidence_for constants claim trace) written = IsEvidenceText constants claim trace written
+IsRight (chain_evidence constants judged) written = IsChainText constants judged written
 
 -- what may be found
 abbrev pub Finds : (question : Question) → Finding question → Type 0

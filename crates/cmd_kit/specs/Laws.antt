@@ -1,6 +1,8 @@
 -- What follows from the contract of `serve`, whatever the command.
-use Rattle.std.specs.Prelude.{◌≡◌, ◌⊎◌, ℕ, List, [], ◌∷◌, Contains, Option, Some, IsSomeAnd, Ok}
+use Rattle.std.specs.Prelude.{◌≡◌, ◌⊎◌, ℕ, List, [], ◌∷◌, Contains, Option, Some, None, IsSomeAnd, Ok, Err}
 use Rattle.std.specs.FinMap.{get, insert}
+use Rattle.std.specs.List.{flat_map}
+use Rattle.run_chain.specs.Lists.{Links, links_of}
 use Rattle.rpo_hash.specs.ParamText.{parameters_of}
 use Rattle.block_tree.specs.declared.evidence.Evidence.{Evidence}
 use Rattle.statement.specs.Statements.{Stated, statement_of}
@@ -12,18 +14,19 @@ use Rattle.vm_io.specs.Sink.{SinkState, with_piece}
 use Rattle.cmd_kit.specs.declared.status.Status.{Status}
 use Rattle.cmd_kit.specs.declared.status.Status.TheVariants as status
 use Rattle.cmd_kit.specs.Statuses.{kind_of, planned}
-use Rattle.cmd_kit.specs.Asked.{Asked, Outputs, nothing, hash, assemble, run, check, make, asked}
+use Rattle.cmd_kit.specs.Asked.{Asked, Outputs, nothing, hash, assemble, run, check, make, chain, runs, asked}
 use Rattle.cmd_kit.specs.Steps.{Finding, accepted, Steps, reading, writing, asking, ending}
 use Rattle.cmd_kit.specs.CheckEnds.{IsEvidenceFor, IsVerdictFor, accepted_line}
 use Rattle.cmd_kit.specs.Commands.{steps_of}
+use Rattle.cmd_kit.specs.RunsSteps.{run_link, runs_given}
 use Rattle.cmd_kit.specs.Serving.{Serves}
 
--- The steps write under no names but these.
-abbrev pub WritesOnly : List (List ℕ) → Steps → Type 0
-WritesOnly outputs (reading name most next) = (bytes : List ℕ) → WritesOnly outputs (next bytes)
-WritesOnly outputs (writing name right next) = Contains outputs name × ((bytes : List ℕ) → WritesOnly outputs (next bytes))
-WritesOnly outputs (asking question next) = (finding : Finding question) → WritesOnly outputs (next finding)
-WritesOnly outputs (ending end) = Unit {0}
+-- Over the files of m, with what was written before, the steps write under no names but these.
+abbrev pub WritesOnly : List (List ℕ) → Steps → Files → Type 0
+WritesOnly outputs (reading name most next) m = (bytes : List ℕ) → get m name ≡ Some bytes → WritesOnly outputs (next bytes) m
+WritesOnly outputs (writing name right next) m = Contains outputs name × ((bytes : List ℕ) → WritesOnly outputs (next bytes) (insert m name bytes))
+WritesOnly outputs (asking question next) m = (finding : Finding question) → WritesOnly outputs (next finding) m
+WritesOnly outputs (ending end) m = Unit {0}
 
 -- the files of m stay in n, but under these names
 abbrev pub StayBeside : List (List ℕ) → Files → Files → Type 0
@@ -33,21 +36,35 @@ StayBeside outputs m n = (name : List ℕ) → (Contains outputs name → ⊥) �
 abbrev pub OtherFilesStay : Type 0
 OtherFilesStay =
     (words : List (List ℕ)) (s : Status) (old new : ShelfState) (before now : SinkState) (steps : Steps) (outputs : List (List ℕ)) (m : Files)
-    → Serves words s old new before now → steps_of (asked words) ≡ Some steps → WritesOnly outputs steps → old.files ≡ Some m
+    → Serves words s old new before now → steps_of (asked words) ≡ Some steps → WritesOnly outputs steps m → old.files ≡ Some m
     → (n : Files) × (new.files ≡ Some n) × StayBeside outputs m n
 
--- the files that a command writes: `run` its tables and its statement, `check` its evidence, `make` its source and its inputs
-abbrev pub outputs_of : Asked → List (List ℕ)
-outputs_of nothing = []
-outputs_of (hash params numbers) = []
-outputs_of (assemble params source kernel) = []
-outputs_of (run params source inputs outputs kernel limit) = outputs.table ∷ outputs.statement ∷ []
-outputs_of (check params table statement evidence) = evidence ∷ []
-outputs_of (make params turns names) = names.source ∷ names.inputs ∷ []
+-- the names of the files that `runs` writes, line by line, where the list reads as these lines
+abbrev pub names_of_outputs : Links → List (List ℕ)
+names_of_outputs (Ok lines) = flat_map (λ names. (run_link names).outputs.table ∷ (run_link names).outputs.statement ∷ []) lines
+names_of_outputs (Err fault) = []
+
+-- the same, of the file that stands under the list's name, if there is one
+abbrev pub listed_outputs : List ℕ → List ℕ → Option (List ℕ) → List (List ℕ)
+listed_outputs params list None = []
+listed_outputs params list (Some bytes) = names_of_outputs (links_of (runs_given params list) bytes)
+
+-- the files that a command writes: `run` its tables and its statement, `check` its evidence, `make` its source and its inputs, `chain` its
+-- evidence, and `runs`, over the files of m, those that its list names
+abbrev pub outputs_of : Files → Asked → List (List ℕ)
+outputs_of m nothing = []
+outputs_of m (hash params numbers) = []
+outputs_of m (assemble params source kernel) = []
+outputs_of m (run params source inputs outputs kernel limit) = outputs.table ∷ outputs.statement ∷ []
+outputs_of m (check params table statement evidence) = evidence ∷ []
+outputs_of m (make params turns names) = names.source ∷ names.inputs ∷ []
+outputs_of m (chain params list evidence) = evidence ∷ []
+outputs_of m (runs params list) = listed_outputs params list (get m list)
 
 -- no command writes other files
 abbrev pub CommandsWrite : Type 0
-CommandsWrite = (command : Asked) (steps : Steps) → steps_of command ≡ Some steps → WritesOnly (outputs_of command) steps
+CommandsWrite =
+    (command : Asked) (steps : Steps) (m : Files) → steps_of command ≡ Some steps → WritesOnly (outputs_of m command) steps m
 
 -- `Usage` comes of no words but those of no command,
 abbrev pub UsageMeansNothing : Type 0

@@ -1,6 +1,9 @@
 pub mod Asked
 pub mod AssembleEnds
 pub mod AssembleSteps
+pub mod ChainEnds
+pub mod ChainLaws
+pub mod ChainSteps
 pub mod CheckEnds
 pub mod CheckSteps
 pub mod Commands
@@ -8,6 +11,7 @@ pub mod Completeness
 pub mod HashEnds
 pub mod HashSteps
 pub mod Laws
+pub mod Links
 pub mod MakeEnds
 pub mod MakeLaws
 pub mod MakeSteps
@@ -17,6 +21,9 @@ pub mod RefusalLines
 pub mod RunEnds
 pub mod RunLaws
 pub mod RunSteps
+pub mod RunsLaws
+pub mod RunsNames
+pub mod RunsSteps
 pub mod Serving
 pub mod SourceEnds
 pub mod Sources

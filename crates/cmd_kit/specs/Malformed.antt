@@ -2,6 +2,8 @@
 use Rattle.std.specs.Prelude.{ℕ, List, [], ◌++◌, codes, decimal}
 use Rattle.rpo_hash.specs.CauseText.{cause_text}
 use Rattle.rpo_hash.specs.declared.params.ParamError.{ParamError}
+use Rattle.run_chain.specs.Causes as link_cause
+use Rattle.run_chain.specs.Lists.{LinkFault}
 use Rattle.statement.specs.Causes.{text_of_cause}
 use Rattle.statement.specs.declared.refusal.TextCause.{TextCause}
 use Rattle.table_file.specs.Causes as file_cause
@@ -38,3 +40,7 @@ bad_table name file_error.Memory = stop status.Memory []
 -- a JSON file of inputs is of no good form
 abbrev pub bad_inputs : List ℕ → TextCause → End
 bad_inputs name cause = stop status.Malformed (malformed_text_line name cause)
+
+-- a list of links is of no good form
+abbrev pub bad_list : List ℕ → LinkFault → End
+bad_list name fault = stop status.Malformed (malformed_line name fault.line (link_cause.text_of_cause fault.cause))

@@ -24,6 +24,11 @@ pub data End : Type 0 where
   -- it is told what evidence was written for a trace, under these constants, of what is claimed
   telling : (constants : List ℕ) (claim : Stated) (trace : Trace) (written : List ℕ) → End
 
+-- a trace, and what is claimed of it
+pub record Judged : Type 0 where
+  pub claim : Stated
+  pub trace : Trace
+
 -- Which bytes are right for a file that is written. There may be several.
 pub data Right : Type 0 where
   -- these and no others
@@ -34,6 +39,8 @@ pub data Right : Type 0 where
   statement_of : (claim : Stated) → Right
   -- the text of evidence for a trace, under these constants, of what is claimed
   evidence_for : (constants : List ℕ) (claim : Stated) (trace : Trace) → Right
+  -- the text of evidence for each link of a chain, in order, under these constants
+  chain_evidence : (constants : List ℕ) (judged : List Judged) → Right
 
 -- What is looked into between two steps, with no call of the shelf.
 pub data Question : Type 0 where

@@ -1,11 +1,14 @@
+ghost use Rattle.cmd_kit.specs.ChainLaws.{ChainHasEvidence};
 ghost use Rattle.cmd_kit.specs.Completeness.{GoodIsOk, OneVerdict};
 ghost use Rattle.cmd_kit.specs.RunLaws.{AnsweredRunStands, RunLeavesGoodFiles};
 ghost use Rattle.cmd_kit.specs.Laws.{OtherFilesStay, CommandsWrite, UsageMeansNothing, NothingGivesUsage, AcceptedHasEvidence, WrittenRunIsAccepted};
 ghost use Rattle.cmd_kit.specs.MakeLaws.{AnsweredMakeStands, MakeIsNotRefused};
+ghost use Rattle.cmd_kit.specs.RunsLaws.{AnsweredRunsStand, RunsLeaveLinks, RunsLeaveWholeLinks, RunsMakeAChain};
 
 /// Which files `serve` may change, over a shelf that tells its files: whatever the answer, those
 /// that the command writes and no others: `run` its tables and its statement, `check` its evidence,
-/// `make` its source and its inputs, and no other command a file.
+/// `make` its source and its inputs, `chain` its evidence, `runs` the table files and the statements that its list
+/// names, and no other command a file.
 pub fn other_files_stay()
     ensures stay { OtherFilesStay }
     ensures write { CommandsWrite }
@@ -25,6 +28,14 @@ pub fn usage_is_for_no_command()
 /// file that have different inputs and one digest.
 pub fn accepted_has_evidence()
     ensures { AcceptedHasEvidence }
+{}
+
+/// What `chain` vouches for, over a shelf that tells its files: where it answers `Ok`, each statement of its list
+/// follows the one before, each table file is accepted for its statement under the parameters, and what stands under
+/// the evidence's name is the text of evidence for each link, in order. Files that are such a chain are answered `Ok`,
+/// which `good_files_are_served` says.
+pub fn chain_has_evidence()
+    ensures { ChainHasEvidence }
 {}
 
 /// What stands where `run` answers `Ok`, over a shelf that tells its files: the source has a program, which runs from
@@ -62,9 +73,32 @@ pub fn answered_make_stands()
     ensures { AnsweredMakeStands }
 {}
 
+/// What stands where `runs` answers `Ok`, over a shelf that tells its files: each source of the list has a program,
+/// which runs to an end from what the run before it left; the table file and the statement of each stand under their
+/// names, and the one is accepted for the other. The number of the links and the stack that the last one left were printed.
+pub fn answered_runs_stand()
+    ensures { AnsweredRunsStand }
+{}
+
+/// What `runs` vouches for, over a shelf that tells its files: where it answers `Ok`, `chain` of the files that it wrote, under
+/// the same parameters, by a list of their names and into another file, is answered `Ok`, unless a read, a write, the sink
+/// or memory fails.
+pub fn runs_make_a_chain()
+    ensures { RunsMakeAChain }
+{}
+
+/// What stands whatever `runs` answers, over a shelf that tells its files: the files of the links before one of them,
+/// whole, and no other file was changed but that link's own two, of which a front may stand. Where the command itself answers, or
+/// a read failed, nothing of that link stands.
+pub fn runs_leave_whole_links()
+    ensures whole { RunsLeaveWholeLinks }
+    ensures left { RunsLeaveLinks }
+{}
+
 /// No command is refused what it can do, over a shelf that tells its files. Where its files are there,
 /// within their lengths and of their forms, and where the source of `assemble` has a program, that of `run`
-/// and that of `make` one that ends within the limit, and the trace of `check` is accepted, it is answered
+/// and that of `make` one that ends within the limit, the trace of `check` is accepted, those of `chain` are and each
+/// statement follows the one before, and the programs of `runs` end, each from what the one before left, it is answered
 /// `Ok`, unless a read, a write, the sink or memory fails. A trace that is accepted with one value of the constants and of
 /// the claim is accepted with each.
 pub fn good_files_are_served()

@@ -6,6 +6,7 @@ mod answer;
 mod bad_forms;
 mod laws;
 mod lines;
+mod links;
 mod loading;
 mod outcome;
 mod refusals;
@@ -16,13 +17,15 @@ mod starts;
 mod status;
 
 pub use answer::Answer;
-pub use bad_forms::malformed;
+pub use bad_forms::{malformed, malformed_text};
 pub use laws::{
-    accepted_has_evidence, answered_make_stands, answered_run_stands, good_files_are_served,
-    make_is_not_refused, other_files_stay, run_leaves_good_files, usage_is_for_no_command,
+    accepted_has_evidence, answered_make_stands, answered_run_stands, answered_runs_stand,
+    chain_has_evidence, good_files_are_served, make_is_not_refused, other_files_stay,
+    run_leaves_good_files, runs_leave_whole_links, runs_make_a_chain, usage_is_for_no_command,
     written_run_is_accepted,
 };
 pub use lines::append_word;
+pub use links::{MOST_LIST_BYTES, broken_link, lines_of_list, text_of_link};
 pub use loading::load;
 pub use outcome::{Outcome, answered, named_answer};
 pub use refusals::refused_line;

@@ -33,6 +33,8 @@ pub enum Status {
     TooLong,
     /// Memory was refused.
     Memory,
+    /// A link of a chain does not follow the one before it, or cannot be followed.
+    Broken,
 }
 
 impl Status {
@@ -54,6 +56,7 @@ impl Status {
             Status::Malformed => 10,
             Status::TooLong => 11,
             Status::Memory => 12,
+            Status::Broken => 15,
         }
     }
 

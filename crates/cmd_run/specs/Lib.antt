@@ -1,3 +1,4 @@
 pub mod Courses
+pub mod Linking
 pub mod Naming
 pub mod Saves

@@ -14,7 +14,7 @@ use Rattle.cmd_reading.specs.Form.{AllText, IsForm, IsPlain, dashed, options_of}
 use Rattle.cmd_reading.specs.Meaning.{AreThere, IsThere, MayBeMeant, MayStand, HasForm, texts_in}
 use Rattle.cmd_reading.proofs.PlainParts.{Texts, meant-text}
 use Rattle.cmd_reading.proofs.PlainTexts.{by_free, by_needed, by_place, plain_name, plain_number}
-use Rattle.cmd_kit.specs.Asked.{Asked, assemble_of_names, check_of_names, hash_of_names, made_names, make_of_names, most_pieces, nothing, outputs_named, run_of_names}
+use Rattle.cmd_kit.specs.Asked.{Asked, assemble_of_names, chain_of_names, check_of_names, hash_of_names, made_names, make_of_names, most_pieces, nothing, outputs_named, run_of_names, runs_of_names}
 use Rattle.miden_app.specs.declared.names.CommandName.{CommandName}
 use Rattle.miden_app.specs.declared.names.CommandName.TheVariants as name
 use Rattle.miden_app.specs.Forms.{asked_by, asked_in, form_named}
@@ -103,6 +103,21 @@ no_make p n s i h =
     at_needed i (λ x. make_of_names (Some a) (Some b) (made_names (Some (Some c)) x)) refl refl (λ d i_there.
     absurd (h (p_there, (n_there, tt)) (s_there, (i_there, tt)) tt)))))
 
+no_chain : (p l e n : Option Text) → Unmeant (p ∷ l ∷ []) (e ∷ []) (n ∷ []) → chain_of_names (place p) (place l) (option e) (pieces n) ≡ nothing
+no_chain p l e n h =
+    at_place p (λ x. chain_of_names x (place l) (option e) (pieces n)) refl (λ a p_there.
+    at_place l (λ x. chain_of_names (Some a) x (option e) (pieces n)) refl (λ b l_there.
+    at_needed e (λ x. chain_of_names (Some a) (Some b) x (pieces n)) refl refl (λ c e_there.
+    by_free (number_of_word 1 most_pieces) (plain_number 1 most_pieces) nothing n
+    (λ x. chain_of_names (Some a) (Some b) (Some (Some c)) x) refl (λ m n_may.
+    absurd (h (p_there, (l_there, tt)) (e_there, tt) (n_may, tt))))))
+
+no_runs : (p l : Option Text) → Unmeant (p ∷ l ∷ []) [] [] → runs_of_names (place p) (place l) ≡ nothing
+no_runs p l h =
+    at_place p (λ x. runs_of_names x (place l)) refl (λ a p_there.
+    at_place l (λ x. runs_of_names (Some a) x) refl (λ b l_there.
+    absurd (h (p_there, (l_there, tt)) tt tt)))
+
 no_texts : (n : CommandName) (words : List Text)
     → Unmeant (texts_in (form_named n) words).places (texts_in (form_named n) words).needed (texts_in (form_named n) words).free
     → asked_in n (texts_in (form_named n) words) ≡ nothing
@@ -111,6 +126,8 @@ no_texts name.Hash words h = no_hash _ _ h
 no_texts name.Assemble words h = no_assemble _ _ _ h
 no_texts name.Run words h = no_run _ _ _ _ _ _ _ h
 no_texts name.Make words h = no_make _ _ _ _ h
+no_texts name.Chain words h = no_chain _ _ _ _ h
+no_texts name.Runs words h = no_runs _ _ h
 
 -- ---- each command: its words have a form, whose names are apart, and text
 
@@ -122,6 +139,8 @@ asks_by_form name.Hash words = refl
 asks_by_form name.Assemble words = refl
 asks_by_form name.Run words = refl
 asks_by_form name.Make words = refl
+asks_by_form name.Chain words = refl
+asks_by_form name.Runs words = refl
 
 pub is_form_named : (n : CommandName) → IsForm (form_named n)
 is_form_named name.Check = record { distinct = refl; few = lit< tt }
@@ -129,6 +148,8 @@ is_form_named name.Hash = record { distinct = refl; few = lit< tt }
 is_form_named name.Assemble = record { distinct = refl; few = lit< tt }
 is_form_named name.Run = record { distinct = refl; few = lit< tt }
 is_form_named name.Make = record { distinct = refl; few = lit< tt }
+is_form_named name.Chain = record { distinct = refl; few = lit< tt }
+is_form_named name.Runs = record { distinct = refl; few = lit< tt }
 
 ascii_names : (n : CommandName) → list_all (list_all (λ b. nat_lt b 128)) (options_of (form_named n)) ≡ true
 ascii_names name.Check = refl
@@ -136,6 +157,8 @@ ascii_names name.Hash = refl
 ascii_names name.Assemble = refl
 ascii_names name.Run = refl
 ascii_names name.Make = refl
+ascii_names name.Chain = refl
+ascii_names name.Runs = refl
 
 -- ---- all commands
 

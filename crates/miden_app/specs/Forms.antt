@@ -7,7 +7,7 @@ use Rattle.cmd_reading.specs.Meaning.{FormTexts, text_at}
 use Rattle.miden_app.specs.declared.names.CommandName.{CommandName}
 use Rattle.miden_app.specs.declared.names.CommandName.TheVariants as name
 use Rattle.workloads.specs.Workloads.{most_turns}
-use Rattle.cmd_kit.specs.Asked.{Asked, MadeNames, Outputs, assemble_of_names, assemble_words, check_of_names, check_words, hash_of_names, hash_words, made_names, make_of_names, make_words, most_pieces, outputs_named, run_of_names, run_words}
+use Rattle.cmd_kit.specs.Asked.{Asked, MadeNames, Outputs, assemble_of_names, assemble_words, chain_of_names, chain_words, check_of_names, check_words, hash_of_names, hash_words, made_names, make_of_names, make_words, most_pieces, outputs_named, run_of_names, run_words, runs_of_names, runs_words}
 
 -- what the words behind the name ask for
 abbrev pub asked_by : CommandName → List (List ℕ) → Asked
@@ -16,6 +16,8 @@ asked_by name.Hash words = hash_words words
 asked_by name.Assemble words = assemble_words words
 asked_by name.Run words = run_words words
 asked_by name.Make words = make_words words
+asked_by name.Chain words = chain_words words
+asked_by name.Runs words = runs_words words
 
 -- the names of what the command takes
 abbrev pub form_named : CommandName → WordForm
@@ -36,6 +38,12 @@ form_named name.Make = record {
   needed = codes "source" ∷ codes "inputs" ∷ [];
   free = [];
 }
+form_named name.Chain = record {
+  places = codes "params" ∷ codes "list" ∷ [];
+  needed = codes "evidence" ∷ [];
+  free = codes "pieces" ∷ [];
+}
+form_named name.Runs = record { places = codes "params" ∷ codes "list" ∷ []; needed = []; free = [] }
 
 -- the file name at a place
 abbrev pub name_in : ℕ → List (Option (List ℕ)) → Option (List ℕ)
@@ -79,9 +87,17 @@ made_names_read t = made_names (option_name 0 t.needed) (option_name 1 t.needed)
 abbrev pub make_in : FormTexts → Asked
 make_in t = make_of_names (name_in 0 t.places) (number_in 1 most_turns 1 t.places) (made_names_read t)
 
+abbrev pub chain_in : FormTexts → Asked
+chain_in t = chain_of_names (name_in 0 t.places) (name_in 1 t.places) (option_name 0 t.needed) (option_number 1 most_pieces 0 t.free)
+
+abbrev pub runs_in : FormTexts → Asked
+runs_in t = runs_of_names (name_in 0 t.places) (name_in 1 t.places)
+
 abbrev pub asked_in : CommandName → FormTexts → Asked
 asked_in name.Check t = check_in t
 asked_in name.Hash t = hash_in t
 asked_in name.Assemble t = assemble_in t
 asked_in name.Run t = run_in t
 asked_in name.Make t = make_in t
+asked_in name.Chain t = chain_in t
+asked_in name.Runs t = runs_in t

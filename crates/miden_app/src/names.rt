@@ -13,6 +13,8 @@ pub enum CommandName {
     Assemble,
     Run,
     Make,
+    Chain,
+    Runs,
 }
 
 /// The names of what a command takes, as the reader of words wants them: of its places, of the
@@ -42,6 +44,12 @@ pub fn command_named(words: &[Vec<u8>]) -> Option<(CommandName, &[Vec<u8>])>
         [name, rest @ ..] if name.as_slice() == b"run".as_slice() => Some((CommandName::Run, rest)),
         [name, rest @ ..] if name.as_slice() == b"make".as_slice() => {
             Some((CommandName::Make, rest))
+        }
+        [name, rest @ ..] if name.as_slice() == b"chain".as_slice() => {
+            Some((CommandName::Chain, rest))
+        }
+        [name, rest @ ..] if name.as_slice() == b"runs".as_slice() => {
+            Some((CommandName::Runs, rest))
         }
         _ => None,
     }
@@ -75,6 +83,16 @@ pub fn form_of_command(name: CommandName) -> CommandForm
         CommandName::Make => CommandForm {
             places: &["params", "turns"],
             needed: &["source", "inputs"],
+            free: &[],
+        },
+        CommandName::Chain => CommandForm {
+            places: &["params", "list"],
+            needed: &["evidence"],
+            free: &["pieces"],
+        },
+        CommandName::Runs => CommandForm {
+            places: &["params", "list"],
+            needed: &[],
             free: &[],
         },
     }

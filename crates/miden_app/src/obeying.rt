@@ -10,11 +10,11 @@ use crate::hash::hash_files;
 use crate::names::command_named;
 use crate::words::{Command, command_of};
 use cmd_assemble::assemble_files;
-use cmd_check::{CheckNames, Seed, check_files};
+use cmd_check::{ChainNames, CheckNames, Seed, chain_files, check_files};
 use cmd_kit::{Outcome, Status, answered};
 use cmd_make::make_files;
 use cmd_reading::{WordsStop, texts_of};
-use cmd_run::{RunOptions, run_source_files};
+use cmd_run::{RunOptions, run_linked_files, run_source_files};
 use std::alloc::Global;
 use std::thread::Threads;
 use vm_field::{Bytes, Memory};
@@ -112,6 +112,25 @@ fn work_of<R: Threads + Sync, F: Shelf, G: Gate>(
             turns,
             names,
         } => make_files(rt, alloc, seed, shelf, gate, params, turns, names),
+        Command::Chain {
+            params,
+            list,
+            evidence,
+            pieces,
+        } => chain_files(
+            rt,
+            alloc,
+            seed,
+            shelf,
+            gate,
+            params,
+            ChainNames {
+                list,
+                evidence,
+                pieces,
+            },
+        ),
+        Command::Runs { params, list } => { run_linked_files(rt, alloc, shelf, gate, params, list) }
         Command::Nothing => usage(alloc),
     }
 }

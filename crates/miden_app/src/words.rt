@@ -5,12 +5,12 @@ ghost use Rattle.std.specs.Str.{bytes_eq};
 ghost use Rattle.vm_field.specs.Limits.{most_cycles, most_name_bytes};
 ghost use Rattle.cmd_reading.specs.Form.{AllText};
 ghost use Rattle.cmd_reading.specs.Meaning.{texts_read};
-ghost use Rattle.cmd_kit.specs.Asked.{check_of_names, given_name, make_apart, most_pieces, run_apart};
+ghost use Rattle.cmd_kit.specs.Asked.{chain_of_names, check_of_names, given_name, make_apart, most_pieces, run_apart};
 ghost use Rattle.cmd_run.specs.Naming.{AreNamed, outputs_from};
 ghost use Rattle.cmd_make.specs.Naming as made;
 ghost use Rattle.workloads.specs.Workloads.{most_turns};
 ghost use Rattle.miden_app.specs.Asking.{asks, NamesFiles};
-ghost use Rattle.miden_app.specs.Forms.{asked_by, asked_in, assemble_in, check_in, hash_in, limit_read, made_names_read, make_in, outputs_read, run_in};
+ghost use Rattle.miden_app.specs.Forms.{asked_by, asked_in, assemble_in, chain_in, check_in, hash_in, limit_read, made_names_read, make_in, outputs_read, run_in, runs_in};
 
 use crate::names::{CommandName, form_of_command};
 use crate::texts::{free_name, free_number, needed_name, place_name, place_number};
@@ -63,6 +63,19 @@ pub enum Command<'a> {
         turns: u32,
         names: MadeNames<'a>,
     },
+    /// `chain` of the links that a list names, with the name of the evidence.
+    Chain {
+        params: &'a str,
+        list: &'a str,
+        evidence: &'a str,
+        /// In how many pieces, from 1 to 64.
+        pieces: usize,
+    },
+    /// `runs` of the links that a list names, one from what the other left.
+    Runs {
+        params: &'a str,
+        list: &'a str,
+    },
 }
 
 /// Reads the words behind the command's name.
@@ -96,6 +109,8 @@ fn command_in<'a>(name: CommandName, read: &ReadWords<'a>) -> Command<'a>
         CommandName::Assemble => assemble_of(read),
         CommandName::Run => run_of(read),
         CommandName::Make => make_of(read),
+        CommandName::Chain => chain_of(read),
+        CommandName::Runs => runs_of(read),
     }
 }
 
@@ -329,5 +344,57 @@ fn make_with<'a>(params: &'a str, turns: u32, names: MadeNames<'a>) -> Command<'
         params,
         turns,
         names,
+    }
+}
+
+fn chain_of<'a>(read: &ReadWords<'a>) -> Command<'a>
+    ensures asks { asks result ≡ chain_in (texts_read read.now) }
+    ensures named { NamesFiles result }
+{
+    let Some(params) = place_name(read, 0) else {
+        return Command::Nothing;
+    };
+    let Some(list) = place_name(read, 1) else {
+        return Command::Nothing;
+    };
+    match (needed_name(read, 0), free_number(1, MOST_PIECES, read, 0)) {
+        (Some(Some(evidence)), Some(pieces)) => chain_with(params, list, evidence, pieces),
+        _ => Command::Nothing,
+    }
+}
+
+// The evidence is written, so that neither other file may have its name.
+fn chain_with<'a>(
+    params: &'a str,
+    list: &'a str,
+    evidence: &'a str,
+    pieces: Option<u64>,
+) -> Command<'a>
+    requires params { length params.now ≤ most_name_bytes }
+    requires list { length list.now ≤ most_name_bytes }
+    requires evidence { length evidence.now ≤ most_name_bytes }
+    requires some { IfSome pieces (λ n. 1 ≤ n) }
+    requires few { IfSome pieces (λ n. n ≤ most_pieces) }
+    ensures asks { asks result ≡ chain_of_names (Some params.entry.now) (Some list.entry.now) (Some (Some evidence.entry.now)) (Some pieces) }
+    ensures named { NamesFiles result }
+{
+    if evidence == params || evidence == list {
+        return Command::Nothing;
+    }
+    Command::Chain {
+        params,
+        list,
+        evidence,
+        pieces: pieces_of(pieces),
+    }
+}
+
+fn runs_of<'a>(read: &ReadWords<'a>) -> Command<'a>
+    ensures asks { asks result ≡ runs_in (texts_read read.now) }
+    ensures named { NamesFiles result }
+{
+    match (place_name(read, 0), place_name(read, 1)) {
+        (Some(params), Some(list)) => Command::Runs { params, list },
+        _ => Command::Nothing,
     }
 }

@@ -1,5 +1,6 @@
 mod assemble;
 mod built;
+mod chain;
 mod check;
 mod content;
 mod deep;
@@ -9,4 +10,5 @@ mod hash;
 mod make;
 mod row;
 mod run;
+mod runs;
 mod words;

@@ -50,6 +50,8 @@ pub enum Content {
     Inputs(usize),
     /// So many lines, each `0`, but the line of this number is this one.
     Lines(usize, usize, &'static str),
+    /// This text, so many times.
+    Repeated(usize, &'static str),
     /// This text.
     Text(&'static str),
     /// These bytes.
@@ -64,6 +66,7 @@ pub fn bytes_of(alloc: Global, content: &Content) -> Result<Vec<u8>, Memory> {
         Content::FirstVersion => table(alloc, 1, &[], 3748),
         Content::Inputs(count) => inputs(alloc, *count),
         Content::Lines(count, place, other) => lines(alloc, *count, *place, other),
+        Content::Repeated(count, text) => repeated(alloc, *count, text),
         Content::Text(text) => Ok(Vec::from_slice(alloc, text.as_bytes())?),
         Content::Bytes(bytes) => Ok(Vec::from_slice(alloc, bytes)?),
     }
@@ -181,4 +184,12 @@ fn push_line(text: &mut Vec<u8>, line: &str) -> Result<(), Memory> {
     }
     text.push(b'\n')?;
     Ok(())
+}
+
+fn repeated(alloc: Global, count: usize, text: &str) -> Result<Vec<u8>, Memory> {
+    let mut bytes = Vec::new(alloc);
+    for _ in 0..count {
+        bytes.extend_from_slice(text.as_bytes())?;
+    }
+    Ok(bytes)
 }

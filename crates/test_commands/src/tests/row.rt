@@ -119,6 +119,67 @@ fn holds(rt: &(impl Threads + Sync), alloc: Global, row: &Row) -> Result<bool, M
     answers(rt, alloc, row, &mut shelf)
 }
 
+/// A call of `serve`, and a second one over what the first one leaves and the files of its own row.
+#[derive(Drop)]
+pub struct Linked {
+    pub first: Row,
+    pub next: Row,
+}
+
+/// Fails at the first two calls that are not so.
+pub fn all_in_turn(
+    rt: &(impl Abort + AllocGlobal + Threads + Sync),
+    rows: &[Linked],
+) -> Result<(), Fail> {
+    for row in rows {
+        let holds = hold_in_turn(rt, rt.alloc(), row)?;
+        assert!(rt; holds, "{}", row.next.printed);
+    }
+    Ok(())
+}
+
+fn hold_in_turn(rt: &(impl Threads + Sync), alloc: Global, row: &Linked) -> Result<bool, Memory> {
+    let mut shelf = shelf_of(alloc, &row.first)?;
+    let is_first = answers(rt, alloc, &row.first, &mut shelf)?;
+    for (name, content) in row.next.files {
+        shelf.put(name, bytes_of(alloc, content)?.as_slice())?;
+    }
+    Ok(is_first && answers(rt, alloc, &row.next, &mut shelf)?)
+}
+
+/// Fails at the first row that is not so, or behind which one of the first files is missing or one of the others stands.
+pub fn all_leave(
+    rt: &(impl Abort + AllocGlobal + Threads + Sync),
+    rows: &[Row],
+    there: &[&str],
+    missing: &[&str],
+) -> Result<(), Fail> {
+    for row in rows {
+        let holds = leaves(rt, rt.alloc(), row, there, missing)?;
+        assert!(rt; holds, "{}", row.printed);
+    }
+    Ok(())
+}
+
+fn leaves(
+    rt: &(impl Threads + Sync),
+    alloc: Global,
+    row: &Row,
+    there: &[&str],
+    missing: &[&str],
+) -> Result<bool, Memory> {
+    let mut shelf = shelf_of(alloc, row)?;
+    let is_answered = answers(rt, alloc, row, &mut shelf)?;
+    let mut all = is_answered;
+    for name in there {
+        all = all && shelf.get(name).is_some();
+    }
+    for name in missing {
+        all = all && shelf.get(name).is_none();
+    }
+    Ok(all)
+}
+
 /// Fails at the first row of `check` that is not so with its trace in one, two or sixty-four pieces.
 pub fn all_hold_in_pieces(
     rt: &(impl Abort + AllocGlobal + Threads + Sync),

@@ -1,4 +1,5 @@
-use Rattle.cmd_kit.proofs.Completeness.{good_is_ok, one_verdict}
+use Rattle.cmd_kit.proofs.Completeness.{good_is_ok}
+use Rattle.cmd_kit.proofs.Verdicts.{one_verdict}
 use Rattle.cmd_kit.proofs.laws.good_files_are_served.Goals as goal
 
 pub returns-clause-served : goal.returns-clause-served

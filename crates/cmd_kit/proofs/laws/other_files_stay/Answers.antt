@@ -1,4 +1,5 @@
-use Rattle.cmd_kit.proofs.LawLemmas.{other_files_stay, commands_write}
+use Rattle.cmd_kit.proofs.LawLemmas.{other_files_stay}
+use Rattle.cmd_kit.proofs.WriteLaw.{commands_write}
 use Rattle.cmd_kit.proofs.laws.other_files_stay.Goals as goal
 
 pub returns-clause-stay : goal.returns-clause-stay

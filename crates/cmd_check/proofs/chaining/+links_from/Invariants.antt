@@ -1,0 +1,5 @@
+use Rattle.std.proofs.Common.{◌-◌, length}
+use Rattle.cmd_check.proofs.chaining.+links_from.Given as goal
+
+abbrev pub decreases-links_from : goal.decreases-links_from
+decreases-links_from g l = length l.chain.now.links - l.before

@@ -1,0 +1,34 @@
+-- What holds at each place to which steps come over told files.
+use Rattle.std.proofs.Common.{◌≡◌, ℕ, ◌≤◌, List, length, Option, Some, ap, subst}
+use Rattle.std.specs.FinMap.{get, insert}
+use Rattle.vm_io.specs.Shelf.{Files, with_file}
+use Rattle.cmd_kit.specs.Commands.{Finds, IsRight}
+use Rattle.cmd_kit.specs.Serving.{Holds, Passes, none_yet, past_read, past_write, past_finding}
+use Rattle.cmd_kit.specs.Steps.{Finding, Steps, reading, writing, asking, ending}
+
+module _ (P : Steps → Files → Type 0) where
+  -- here, and wherever the steps lead from here without a fault
+  abbrev pub Along : Steps → Files → Type 0
+  Along (reading name most next) m =
+      P (reading name most next) m × ((bytes : List ℕ) → get m name ≡ Some bytes → length bytes ≤ most → Along (next bytes) m)
+  Along (writing name right next) m =
+      P (writing name right next) m × ((bytes : List ℕ) → IsRight right bytes → Along (next bytes) (insert m name bytes))
+  Along (asking question next) m =
+      P (asking question next) m × ((finding : Finding question) → Finds question finding → Along (next finding) m)
+  Along (ending end) m = P (ending end) m
+
+  at_first : (steps : Steps) (m : Files) → Along steps m → P steps m
+  at_first (reading name most next) m h = h.0
+  at_first (writing name right next) m h = h.0
+  at_first (asking question next) m h = h.0
+  at_first (ending end) m h = h
+
+  pub at_place : (steps left : Steps) (told now : Option Files) (m : Files) → Passes steps told left now → told ≡ Some m → Along steps m
+      → (n : Files) × (now ≡ Some n) × P left n
+  at_place steps left told now m none_yet is h = (m, is, at_first steps m h)
+  at_place steps left told now m (past_read name most next bytes held short rest) is h =
+      at_place (next bytes) left told now m rest is (h.1 bytes (subst (λ o. Holds o name (Some bytes)) is held) short)
+  at_place steps left told now m (past_finding question next finding found rest) is h =
+      at_place (next finding) left told now m rest is (h.1 finding found)
+  at_place steps left told now m (past_write name right next bytes fit rest) is h =
+      at_place (next bytes) left (with_file told name bytes) now (insert m name bytes) rest (ap (λ o. with_file o name bytes) is) (h.1 bytes fit)
