@@ -68,6 +68,7 @@ fn entry_62<V: MainView>(x: &Seen<'_, V>, y: &Seen<'_, V>) -> Felt
         + x.one(Op::Split)
         + x.calls()
         + x.one(Op::Repeat)
+        + x.one(Op::Dyn)
         + x.one(Op::Loop) * x.row.s(0))
         * (Felt::ONE - starts(y))
 }
@@ -145,13 +146,13 @@ fn entry_74<V: MainView>(x: &Seen<'_, V>) -> Felt
     x.one(Op::End) * kind_flags(x) * (kind_flags(x) - Felt::ONE)
 }
 
-// 75 to 78: behind a single child's digest stand zeros.
+// 75 to 78: behind a single child's digest stand zeros; a dynamic block is hashed as zeros throughout (148 to 151).
 #[tactic(auto, unfolding(air_kit::specs::BlockValues::entry_75))]
 fn entry_75<V: MainView>(j: usize, x: &Seen<'_, V>) -> Felt
     requires { j < 4 }
     ensures { result ≡ of_row (entry_75 j) (V.cells x.now.row.now) }
 {
-    (x.one(Op::Loop) + x.calls()) * x.row.h(4 + j)
+    (x.one(Op::Loop) + x.calls() + x.one(Op::Dyn)) * x.row.h(4 + j)
 }
 
 // No call inside a syscall.

@@ -26,6 +26,7 @@ record BlockFlags (fl : Flags) (op : Op) : Type 0 where
   loop : fl ops.Loop ≡ 0
   call : fl ops.Call ≡ 0
   syscall : fl ops.Syscall ≡ 0
+  dyn : fl ops.Dyn ≡ 0
   halt : fl ops.Halt ≡ 0
   caller : fl ops.Caller ≡ 0
   update : fl ops.FmpUpdate ≡ 0
@@ -34,10 +35,10 @@ record BlockFlags (fl : Flags) (op : Op) : Type 0 where
   ordinary : flags_of is_ordinary_op fl ≡ 0
 
 block_flags : (x : List ℕ) (op : Op) → HasOp x op → one_hot op ops.Loop ≡ 0 → one_hot op ops.Call ≡ 0 → one_hot op ops.Syscall ≡ 0
-    → one_hot op ops.Halt ≡ 0
+    → one_hot op ops.Dyn ≡ 0 → one_hot op ops.Halt ≡ 0
     → one_hot op ops.Caller ≡ 0 → one_hot op ops.FmpUpdate ≡ 0 → one_hot op ops.Span ≡ 0 → one_hot op ops.Respan ≡ 0 → is_ordinary_op op ≡ false
     → BlockFlags (flag x) op
-block_flags x op has loop call syscall halt caller update span respan control = record {
+block_flags x op has loop call syscall dyn halt caller update span respan control = record {
   split = has.flags ops.Split;
   again = has.flags ops.Repeat;
   end = has.flags ops.End;
@@ -45,6 +46,7 @@ block_flags x op has loop call syscall halt caller update span respan control = 
   loop = has.flags ops.Loop ∙ loop;
   call = has.flags ops.Call ∙ call;
   syscall = has.flags ops.Syscall ∙ syscall;
+  dyn = has.flags ops.Dyn ∙ dyn;
   halt = has.flags ops.Halt ∙ halt;
   caller = has.flags ops.Caller ∙ caller;
   update = has.flags ops.FmpUpdate ∙ update;
@@ -129,19 +131,19 @@ opening_clean x y op b other once start outside bit k =
     let end : flag x ops.End ≡ 0 = b.end ∙ other in
     block_clean x y
     (follow_zeros x y op b outside (child_starts x y k.child) (not_behind x y end) bit (not_repeating x (b.again ∙ once)) (not_ending x end))
-    (no_kinds x y end b.loop b.call b.syscall b.caller b.halt)
+    (no_kinds x y end b.loop b.call b.syscall b.dyn b.caller b.halt)
     (opening_kept x y op b other start outside k)
 
 pub join_clean : (x y : List ℕ) (op : Op) → HasOp x op → code_of op ≡ 70 → sp x ≡ 0 → IsOpening x y
     → first_fault_of 60 (block_values (spot_with 0 x (Some y))) ≡ None
 join_clean x y op has is outside k =
-    let b = block_flags x ops.Join (subst (HasOp x) (code_of-different op ops.Join is) has) refl refl refl refl refl refl refl refl refl in
+    let b = block_flags x ops.Join (subst (HasOp x) (code_of-different op ops.Join is) has) refl refl refl refl refl refl refl refl refl refl in
     opening_clean x y ops.Join b refl refl refl outside (no_condition x b.split b.loop) k
 
 pub split_clean : (x y : List ℕ) (op : Op) → HasOp x op → code_of op ≡ 71 → sp x ≡ 0 → s x 0 < 2 → IsOpening x y
     → first_fault_of 60 (block_values (spot_with 0 x (Some y))) ≡ None
 split_clean x y op has is outside bit k =
-    let b = block_flags x ops.Split (subst (HasOp x) (code_of-different op ops.Split is) has) refl refl refl refl refl refl refl refl refl in
+    let b = block_flags x ops.Split (subst (HasOp x) (code_of-different op ops.Split is) has) refl refl refl refl refl refl refl refl refl refl in
     opening_clean x y ops.Split b refl refl refl outside (condition_is x b.split b.loop bit) k
 
 repeats_is : (x : List ℕ) → flag x ops.Repeat ≡ 1 → felt_sub (s x 0) 1 ≡ 0 → of_row entry_68 x ≡ 0
@@ -157,18 +159,18 @@ repeat_kept x y b outside k =
 pub repeat_clean : (x y : List ℕ) (op : Op) → HasOp x op → code_of op ≡ 77 → sp x ≡ 0 → IsRepeat x y
     → first_fault_of 60 (block_values (spot_with 0 x (Some y))) ≡ None
 repeat_clean x y op has is outside k =
-    let b = block_flags x ops.Repeat (subst (HasOp x) (code_of-different op ops.Repeat is) has) refl refl refl refl refl refl refl refl refl in
+    let b = block_flags x ops.Repeat (subst (HasOp x) (code_of-different op ops.Repeat is) has) refl refl refl refl refl refl refl refl refl refl in
     block_clean x y
     (follow_zeros x y ops.Repeat b outside (child_starts x y k.child) (not_behind x y b.end) (no_condition x b.split b.loop)
     (repeats_is x b.again k.holds)
     (not_ending x b.end))
-    (no_kinds x y b.end b.loop b.call b.syscall b.caller b.halt)
+    (no_kinds x y b.end b.loop b.call b.syscall b.dyn b.caller b.halt)
     (repeat_kept x y b outside k)
 
 -- END.
 no_child : (x y : List ℕ) → BlockFlags (flag x) ops.End → flag x ops.Join ≡ 0 → of_pair entry_62 x y ≡ 0
 unfolding entry_62 calls
-no_child x y b join = rw (join, b.split, b.call, b.syscall, b.again, b.loop) (simp zero-mul)
+no_child x y b join = rw (join, b.split, b.call, b.syscall, b.again, b.dyn, b.loop) (simp zero-mul)
 
 behind_is : (x y : List ℕ) → flag x ops.End ≡ 1
     → felt_sub (felt_sub (felt_sub (felt_sub 1 (starts (flag y))) (flag y ops.End)) (flag y ops.Repeat)) (flag y ops.Halt) ≡ 0
@@ -215,9 +217,9 @@ pub end_clean : (x y : List ℕ) (op : Op) → HasOp x op → code_of op ≡ 76 
     → first_fault_of 60 (block_values (spot_with 0 x (Some y))) ≡ None
 end_clean x y op has is outside k =
     let here : HasOp x ops.End = subst (HasOp x) (code_of-different op ops.End is) has in
-    let b = block_flags x ops.End here refl refl refl refl refl refl refl refl refl in
+    let b = block_flags x ops.End here refl refl refl refl refl refl refl refl refl refl in
     block_clean x y
     (follow_zeros x y ops.End b outside (no_child x y b (here.flags ops.Join)) (behind_is x y b.end k.follows) (no_condition x b.split b.loop)
     (not_repeating x b.again) (ends_is x b.end k.kind.bit_4 k.condition))
-    (shown_zeros x y b.loop b.call b.syscall b.caller b.halt (λ j low. end_bits x b j (four_bits x k.kind j low)) (end_kinds x b k.kind.one))
+    (shown_zeros x y b.loop b.call b.syscall b.dyn b.caller b.halt (λ j low. end_bits x b j (four_bits x k.kind j low)) (end_kinds x b k.kind.one))
     (end_kept x y b outside k)

@@ -1,3 +1,4 @@
 pub mod FaultLemmas
 pub mod QuickLemmas
 pub mod BlockLemmas
+pub mod DynLemmas

@@ -2,7 +2,6 @@
 use Rattle.std.proofs.Common.{◌≡◌, ◌≢◌, ℕ, zero, suc, ◌+◌, ◌*◌, ◌<◌, ◌≤◌, true, false, cond, eqb, List, ◌++◌, length, Option, Some, None, refl, sym, ap, subst, ◌∙◌, inl, inr, arith, zero-mul}
 use Rattle.std.proofs.Math.Nat.{mul-zero}
 use Rattle.std.proofs.lemmas.Bool.{cases_Bool, eqb-true, lt-ltb}
-use Rattle.std.proofs.lemmas.Bool.Decides.{nat_tests}
 use Rattle.vm_field.specs.Field.{felt_add, felt_sub, felt_mul}
 use Rattle.vm_field.proofs.Algebra.{felt_mul-zero_first, felt_mul-zero_second}
 use Rattle.vm_ops.specs.Codes.{code_of, every_op, is_ordinary_op, is_start_op, kind_of}
@@ -32,6 +31,7 @@ record QuietFlags (fl : Flags) : Type 0 where
   loop : fl ops.Loop ≡ 0
   call : fl ops.Call ≡ 0
   syscall : fl ops.Syscall ≡ 0
+  dyn : fl ops.Dyn ≡ 0
   end : fl ops.End ≡ 0
   repeat : fl ops.Repeat ≡ 0
   halt : fl ops.Halt ≡ 0
@@ -48,7 +48,7 @@ record RowFlags (fl : Flags) (first again plain : ℕ) : Type 0 where
 
 quiet_flags : (x : List ℕ) (op : Op) → HasOp x op
     → ((n : ℕ) → code_of op ≡ n → (n ≢ 70) × (n ≢ 71) × (n ≢ 72) × (n ≢ 74) × (n ≢ 75) × (n ≢ 76) × (n ≢ 77) × (n ≢ 79) × (n ≢ 9)
-    × (n ≢ 49))
+    × (n ≢ 49) × (n ≢ 80))
     → QuietFlags (flag x)
 quiet_flags x op has other =
     let o = other (code_of op) refl in
@@ -58,6 +58,7 @@ quiet_flags x op has other =
       loop = flag_apart x op ops.Loop has (λ e. o.2 (sym e));
       call = flag_apart x op ops.Call has (λ e. o.3 (sym e));
       syscall = flag_apart x op ops.Syscall has (λ e. o.4 (sym e));
+      dyn = flag_apart x op ops.Dyn has (λ e. o.10 (sym e));
       end = flag_apart x op ops.End has (λ e. o.5 (sym e));
       repeat = flag_apart x op ops.Repeat has (λ e. o.6 (sym e));
       halt = flag_apart x op ops.Halt has (λ e. o.7 (sym e));
@@ -86,6 +87,7 @@ plain_flags x op has p =
         λ e. omega (arith, e, is, low),
         λ e. p.not_caller (is ∙ e),
         λ e. p.not_update (is ∙ e),
+        λ e. omega (arith, e, is, low),
       ));
       span = flag_apart x op ops.Span has (λ e. omega (arith, e, low));
       respan = flag_apart x op ops.Respan has (λ e. omega (arith, e, low));
@@ -106,6 +108,7 @@ span_flags x has = record {
     λ e. omega (arith, e, is),
     λ e. omega (arith, e, is),
     λ e. omega (arith, e, is),
+    λ e. omega (arith, e, is),
   ));
   span = has.flags ops.Span;
   respan = has.flags ops.Respan;
@@ -116,6 +119,7 @@ span_flags x has = record {
 respan_flags : (x : List ℕ) → HasOp x ops.Respan → RowFlags (flag x) 0 1 0
 respan_flags x has = record {
   quiet = quiet_flags x ops.Respan has (λ n is. (
+    λ e. omega (arith, e, is),
     λ e. omega (arith, e, is),
     λ e. omega (arith, e, is),
     λ e. omega (arith, e, is),
@@ -186,7 +190,7 @@ follow_clean x y r t =
       (
         rw (t.inside, r.ordinary) refl,
         (
-          rw (q.join, q.split, q.call, q.syscall, q.repeat, q.loop) (simp zero-mul),
+          rw (q.join, q.split, q.call, q.syscall, q.repeat, q.dyn, q.loop) (simp zero-mul),
           (
             rw (q.loop) (simp zero-mul),
             (
@@ -213,7 +217,7 @@ batch_follow_clean x y first again r outside inside =
       (
         rw (outside, r.ordinary) refl,
         (
-          rw (q.join, q.split, q.call, q.syscall, q.repeat, q.loop) (simp zero-mul),
+          rw (q.join, q.split, q.call, q.syscall, q.repeat, q.dyn, q.loop) (simp zero-mul),
           (
             rw (q.loop) (simp zero-mul),
             (
@@ -231,10 +235,11 @@ batch_follow_clean x y first again r outside inside =
       ),
     )
 
-pub shown_zeros : (x y : List ℕ) → flag x ops.Loop ≡ 0 → flag x ops.Call ≡ 0 → flag x ops.Syscall ≡ 0 → flag x ops.Caller ≡ 0 → flag x ops.Halt ≡ 0
+pub shown_zeros : (x y : List ℕ) → flag x ops.Loop ≡ 0 → flag x ops.Call ≡ 0 → flag x ops.Syscall ≡ 0 → flag x ops.Dyn ≡ 0
+    → flag x ops.Caller ≡ 0 → flag x ops.Halt ≡ 0
     → ((j : ℕ) → j < 4 → of_row (entry_70 j) x ≡ 0) → of_row entry_74 x ≡ 0 → Zeros (shown_values (spot_with 0 x (Some y)))
 unfolding shown_values family calls entry_75 entry_79 entry_80 entry_81
-shown_zeros x y loop call syscall caller halt bits kinds = (
+shown_zeros x y loop call syscall dyn caller halt bits kinds = (
   bits 0 (omega arith),
   (
     bits 1 (omega arith),
@@ -245,13 +250,13 @@ shown_zeros x y loop call syscall caller halt bits kinds = (
         (
           kinds,
           (
-            rw (loop, call, syscall) (simp zero-mul),
+            rw (loop, call, syscall, dyn) (simp zero-mul),
             (
-              rw (loop, call, syscall) (simp zero-mul),
+              rw (loop, call, syscall, dyn) (simp zero-mul),
               (
-                rw (loop, call, syscall) (simp zero-mul),
+                rw (loop, call, syscall, dyn) (simp zero-mul),
                 (
-                  rw (loop, call, syscall) (simp zero-mul),
+                  rw (loop, call, syscall, dyn) (simp zero-mul),
                   (rw (call, syscall) (simp zero-mul), (rw caller (simp zero-mul), (rw halt (simp zero-mul), tt))),
                 ),
               ),
@@ -263,14 +268,14 @@ shown_zeros x y loop call syscall caller halt bits kinds = (
   ),
 )
 
-pub no_kinds : (x y : List ℕ) → flag x ops.End ≡ 0 → flag x ops.Loop ≡ 0 → flag x ops.Call ≡ 0 → flag x ops.Syscall ≡ 0 → flag x ops.Caller ≡ 0
-    → flag x ops.Halt ≡ 0 → Zeros (shown_values (spot_with 0 x (Some y)))
+pub no_kinds : (x y : List ℕ) → flag x ops.End ≡ 0 → flag x ops.Loop ≡ 0 → flag x ops.Call ≡ 0 → flag x ops.Syscall ≡ 0 → flag x ops.Dyn ≡ 0
+    → flag x ops.Caller ≡ 0 → flag x ops.Halt ≡ 0 → Zeros (shown_values (spot_with 0 x (Some y)))
 unfolding entry_70 entry_74
-no_kinds x y end loop call syscall caller halt =
-    shown_zeros x y loop call syscall caller halt (λ j low. rw end (simp zero-mul)) (rw end (simp zero-mul))
+no_kinds x y end loop call syscall dyn caller halt =
+    shown_zeros x y loop call syscall dyn caller halt (λ j low. rw end (simp zero-mul)) (rw end (simp zero-mul))
 
 shown_clean : (x y : List ℕ) → QuietFlags (flag x) → Zeros (shown_values (spot_with 0 x (Some y)))
-shown_clean x y q = no_kinds x y q.end q.loop q.call q.syscall q.caller q.halt
+shown_clean x y q = no_kinds x y q.end q.loop q.call q.syscall q.dyn q.caller q.halt
 
 inside_is : (x : List ℕ) (return : ℕ) → flag x ops.Call ≡ 0 → flag x ops.Syscall ≡ 0 → returns (flag x) x ≡ return
     → stays_inside (flag x) x ≡ felt_sub (felt_sub 1 0) return

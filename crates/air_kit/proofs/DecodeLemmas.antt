@@ -79,12 +79,12 @@ from_code [] i op e = absurd (cc)
 from_code (o ∷ ops) zero op e = let same : o ≡ op = cc in ap (λ x. x ∷ ops) same
 from_code (o ∷ ops) (suc i) op e = from_code ops i op e
 
-pub no_code : drop 80 every_op ≡ []
+pub no_code : drop 81 every_op ≡ []
 unfolding every_op
 no_code = refl
 
 -- one more term of a sum over the operations from a code on
-pub sum_step : (value : Op → ℕ) (code next term rest : ℕ) → next ≡ suc code → code < 80
+pub sum_step : (value : Op → ℕ) (code next term rest : ℕ) → next ≡ suc code → code < 81
     → IfSome (op_at code) (λ op. term ≡ value op) → rest ≡ sum_of (drop next every_op) value
     → felt_add term rest ≡ sum_of (drop code every_op) value
 unfolding sum_of op_at

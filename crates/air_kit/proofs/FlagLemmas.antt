@@ -86,7 +86,7 @@ every_numbered : numbered every_op 0 ≡ true
 unfolding every_op
 every_numbered = refl
 
-every_length : length every_op ≡ 80
+every_length : length every_op ≡ 81
 unfolding every_op
 every_length = refl
 

@@ -1,5 +1,5 @@
 -- The keys of inputs: elements that are greater than each clock, one for each input, and each less than the one before it.
-use Rattle.std.proofs.Common.{◌≡◌, ℕ, zero, suc, ◌+◌, ◌-◌, ◌<◌, ◌≤◌, ◌^◌, List, [], ◌∷◌, length, drop, slice_index, refl, ap, ◌∙◌, arith}
+use Rattle.std.proofs.Common.{◌≡◌, ℕ, zero, suc, ◌+◌, ◌<◌, ◌≤◌, ◌^◌, length, drop, slice_index, refl, ap, ◌∙◌, arith}
 use Rattle.vm_field.specs.Field.{prime}
 use Rattle.air_kit.specs.DeepCells.{input_key, input_keys, keys_at_start, key_of}
 

@@ -9,12 +9,13 @@ use Rattle.air_kit.specs.BlockValues.{entry_70, entry_75, entry_85, block_values
 use Rattle.air_kit.specs.SpanValues.{entry_92, entry_96, batch_values, group_values, span_values}
 use Rattle.air_kit.specs.StackValues.{entry_119, cell_values, depth_values, operand_values, stack_values}
 use Rattle.air_kit.specs.U32Values.{u32_values}
+use Rattle.air_kit.specs.DynValues.{entry_148, dyn_values}
 use Rattle.air_kit.proofs.NumberLemmas.{family_at}
 
 pub main_numbers : (c : Claim) (p : Spot) → HasMainNumbers c p
 unfolding at_number family main_values decoder_values opcode_values boundary_values end_values inputs_values outputs_values start_values
     block_values follow_values kept_values shown_values batch_values group_values span_values cell_values depth_values operand_values
-    stack_values u32_values
+    stack_values u32_values dyn_values
 main_numbers c p = record {
   count = refl;
   number_1 = family_at (main_values c p) 0 7 (λ j. on_row (entry_1 j) p) refl;
@@ -93,4 +94,5 @@ main_numbers c p = record {
   number_145 = refl;
   number_146 = refl;
   number_147 = refl;
+  number_148 = family_at (main_values c p) 147 4 (λ j. on_row (entry_148 j) p) refl;
 }

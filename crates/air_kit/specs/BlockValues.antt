@@ -38,7 +38,7 @@ entry_61 fl x = sp x ⊟ flags_of is_ordinary_op fl
 -- a child, or a body, starts behind the block's row
 unfoldable pub entry_62 : PairEntry
 entry_62 fl gl x y =
-    (fl ops.Join ⊞ fl ops.Split ⊞ calls fl ⊞ fl ops.Repeat ⊞ fl ops.Loop ⊠ s x 0) ⊠ (1 ⊟ starts gl)
+    (fl ops.Join ⊞ fl ops.Split ⊞ calls fl ⊞ fl ops.Repeat ⊞ fl ops.Dyn ⊞ fl ops.Loop ⊠ s x 0) ⊠ (1 ⊟ starts gl)
 
 -- a loop that is not entered ends
 unfoldable pub entry_63 : PairEntry
@@ -80,9 +80,9 @@ kind_flags x = h x 4 ⊞ h x 5 ⊞ h x 6 ⊞ h x 7
 unfoldable pub entry_74 : RowEntry
 entry_74 fl x = fl ops.End ⊠ kind_flags x ⊠ (kind_flags x ⊟ 1)
 
--- 75 to 78: behind a single child's digest stand zeros
+-- 75 to 78: behind a single child's digest stand zeros; a dynamic block is hashed as zeros throughout (148 to 151)
 unfoldable pub entry_75 : ℕ → RowEntry
-entry_75 j fl x = (fl ops.Loop ⊞ calls fl) ⊠ h x (4 + j)
+entry_75 j fl x = (fl ops.Loop ⊞ calls fl ⊞ fl ops.Dyn) ⊠ h x (4 + j)
 
 -- no call inside a syscall
 unfoldable pub entry_79 : RowEntry

@@ -7,6 +7,7 @@ pub mod BlockValues
 pub mod SpanValues
 pub mod StackValues
 pub mod U32Values
+pub mod DynValues
 pub mod MainValues
 pub mod ChipPlaces
 pub mod RangeValues

@@ -9,13 +9,14 @@ use Rattle.air_kit.specs.BlockValues.{entry_60, entry_61, entry_62, entry_63, en
 use Rattle.air_kit.specs.SpanValues.{entry_92, entry_95, entry_96, entry_103, entry_104, entry_105, entry_106, entry_107, entry_108, entry_109, entry_110, entry_111, entry_112, entry_113, entry_114}
 use Rattle.air_kit.specs.StackValues.{entry_115, entry_116, entry_117, entry_118, entry_119, entry_135, entry_136, entry_137, entry_138, entry_139}
 use Rattle.air_kit.specs.U32Values.{entry_140, entry_141, entry_142, entry_143, entry_144, entry_145, entry_146, entry_147}
+use Rattle.air_kit.specs.DynValues.{entry_148}
 
 -- the value of a number, in a row of the main table
 abbrev pub main_value : Claim → Spot → ℕ → ℕ
 main_value c p number = at_number (main_values c p) number
 
 pub record HasMainNumbers (c : Claim) (p : Spot) : Type 0 where
-  pub count : length (main_values c p) ≡ 147
+  pub count : length (main_values c p) ≡ 151
   pub number_1 : (j : ℕ) → j < 7 → main_value c p (1 + j) ≡ on_row (entry_1 j) p
   pub number_8 : main_value c p 8 ≡ on_row entry_8 p
   pub number_9 : main_value c p 9 ≡ at_first entry_9 p
@@ -92,3 +93,4 @@ pub record HasMainNumbers (c : Claim) (p : Spot) : Type 0 where
   pub number_145 : main_value c p 145 ≡ on_pair entry_145 p
   pub number_146 : main_value c p 146 ≡ on_pair entry_146 p
   pub number_147 : main_value c p 147 ≡ on_row entry_147 p
+  pub number_148 : (j : ℕ) → j < 4 → main_value c p (148 + j) ≡ on_row (entry_148 j) p

@@ -30,6 +30,7 @@ start_number kinds.Loop x = s x 0
 start_number kinds.Span x = 2
 start_number kinds.Call x = 3
 start_number kinds.Syscall x = 4
+start_number kinds.Dyn x = 0
 start_number kinds.End x = 0
 start_number kinds.Repeat x = 0
 start_number kinds.Respan x = 0
@@ -67,6 +68,10 @@ back x = h x 4 ∷ h x 5 ∷ h x 6 ∷ h x 7 ∷ []
 abbrev pub child : ℕ → List ℕ → ℕ → Counted
 child parent digest more = once (parent ∷ digest ++ more ∷ [])
 
+-- the digest on top of the stack, its last element on top
+abbrev pub called_digest : List ℕ → List ℕ
+called_digest x = s x 3 ∷ s x 2 ∷ s x 1 ∷ s x 0 ∷ []
+
 -- those that a row of a kind gives
 abbrev pub children_by : Kind → List ℕ → List ℕ → List Counted
 children_by kinds.Ordinary x y = []
@@ -76,6 +81,7 @@ children_by kinds.Loop x y = if s x 0 == 1 then child (addr y) (front x) 0 ∷ [
 children_by kinds.Span x y = []
 children_by kinds.Call x y = child (addr y) (front x) 0 ∷ []
 children_by kinds.Syscall x y = child (addr y) (front x) 0 ∷ []
+children_by kinds.Dyn x y = child (addr y) (called_digest x) 0 ∷ []
 children_by kinds.End x y = []
 children_by kinds.Repeat x y = child (addr x) (front x) 0 ∷ []
 children_by kinds.Respan x y = []

@@ -85,7 +85,7 @@ fn sum_in<V: MainView>(row: &V, set: OpSet) -> Felt
     ensures { result ≡ flags_of (passes_of set) (flag (V.cells row.now)) }
 {
     let mut total = Felt::ZERO;
-    for code in (0..80u8).rev() {
+    for code in (0..81u8).rev() {
         total = flag_at(row, set, code) + total;
     }
     total
@@ -93,7 +93,7 @@ fn sum_in<V: MainView>(row: &V, set: OpSet) -> Felt
 
 // The term of the operation of a code.
 fn flag_at<V: MainView>(row: &V, set: OpSet, code: u8) -> Felt
-    requires { code < 80 }
+    requires { code < 81 }
     ensures { IfSome (op_at code) (λ op. result ≡ (if passes_of set op then flag (V.cells row.now) op else 0)) }
 {
     match from_opcode(code) {

@@ -58,7 +58,7 @@ fn sum_of_terms<V: MainView>(j: usize, x: &Seen<'_, V>, y: &V) -> Felt
     ensures { result ≡ sum_over (flag (V.cells x.now.row.now)) (term j (V.cells x.now.row.now) (V.cells y.now)) }
 {
     let mut total = Felt::ZERO;
-    for code in (0..80u8).rev() {
+    for code in (0..81u8).rev() {
         total = term_at(j, x, y, code) + total;
     }
     total
@@ -67,7 +67,7 @@ fn sum_of_terms<V: MainView>(j: usize, x: &Seen<'_, V>, y: &V) -> Felt
 // The term of the operation of a code, by its flag.
 fn term_at<V: MainView>(j: usize, x: &Seen<'_, V>, y: &V, code: u8) -> Felt
     requires visible { j < 16 }
-    requires coded { code < 80 }
+    requires coded { code < 81 }
     ensures { IfSome (op_at code) (λ op. result ≡ flag (V.cells x.now.row.now) op ⊠ term j (V.cells x.now.row.now) (V.cells y.now) op) }
 {
     match from_opcode(code) {

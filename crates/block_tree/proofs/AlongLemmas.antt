@@ -13,10 +13,10 @@ use Rattle.vm_ops.specs.Step.{step}
 use Rattle.vm_ops.proofs.MoveLemmas.{ByOne, shift_of-by_one, takes_of-below}
 use Rattle.vm_ops.proofs.StepLemmas.{step-depth}
 use Rattle.block_tree.specs.Behind.{core_behind, IsAllowed}
-use Rattle.block_tree.specs.Cycles.{Mark, StartOpaque, StartSpan, StartJoin, StartSplit, StartLoop, StartCall, StartSyscall, Respan, Repeat, Do, End, EndSpan, EndLoop, EndCall, EndSyscall, advice_taken}
+use Rattle.block_tree.specs.Cycles.{Mark, StartOpaque, StartSpan, StartJoin, StartSplit, StartLoop, StartCall, StartSyscall, StartDyn, Respan, Repeat, Do, End, EndSpan, EndLoop, EndCall, EndSyscall, advice_taken}
 use Rattle.block_tree.specs.Execution.{Event, event_of}
 use Rattle.block_tree.specs.Logs.{IsLog, over, next}
-use Rattle.block_tree.specs.Steps.{Task, Block, Within, Turned, Closing, Returning, Leaving, Next, span, join, split_1, split_0, loop_1, loop_0, call, syscall, operation, respan, span_ends, repeats, loop_ends, closes, returns, leaves, IsCycle, Steps, ended, goes}
+use Rattle.block_tree.specs.Steps.{Task, Block, Within, Turned, Closing, Returning, Leaving, Next, span, join, split_1, split_0, loop_1, loop_0, call, syscall, dyn, operation, respan, span_ends, repeats, loop_ends, closes, returns, leaves, IsCycle, Steps, ended, goes}
 use Rattle.block_tree.proofs.BehindLemmas.{behind-cycle}
 use Rattle.block_tree.proofs.KeptLemmas.{cycle-kept, cycle-step}
 use Rattle.block_tree.proofs.TaskLemmas.{AreWholeTasks, next-whole, whole-append}
@@ -96,6 +96,7 @@ next-nesting constants advice (loop_1 bit) h = omega arith
 next-nesting constants advice (loop_0 bit) h = omega arith
 next-nesting constants advice call h = omega arith
 next-nesting constants advice syscall h = omega arith
+next-nesting constants advice (dyn found) h = omega arith
 next-nesting constants advice operation h = omega arith
 next-nesting constants advice (respan read) h = omega arith
 next-nesting constants advice span_ends h = omega arith
@@ -115,6 +116,7 @@ nested-below constants advice kernel (StartSplit on_one on_zero) c a h = let l =
 nested-below constants advice kernel (StartLoop body) c a h = let l = a.0 in omega arith
 nested-below constants advice kernel (StartCall callee) c a h = let l = a.0 in omega arith
 nested-below constants advice kernel (StartSyscall callee) c a h = let l = a.0 in omega arith
+nested-below constants advice kernel (StartDyn known) c a h = let l = a.0 in omega arith
 nested-below constants advice kernel (Respan batch) c a h = h
 nested-below constants advice kernel (Repeat body) c a h = h
 nested-below constants advice kernel (Do item) c a h = h
@@ -216,6 +218,7 @@ next-depth constants advice (loop_1 {c = c} bit) h item = omega (arith, length-f
 next-depth constants advice (loop_0 {c = c} bit) h item = omega (arith, length-filled_up (drop 1 c.stack), length-drop 1 c.stack)
 next-depth constants advice (call {c = c}) h item = omega (arith, length-take-le 16 c.stack h, length-drop 16 c.stack)
 next-depth constants advice (syscall {c = c}) h item = omega (arith, length-take-le 16 c.stack h, length-drop 16 c.stack)
+next-depth constants advice (dyn found) h item = omega arith
 next-depth constants advice (operation {item = i}) h item = let grows = item i refl in omega arith
 next-depth constants advice (respan read) h item = omega arith
 next-depth constants advice span_ends h item = omega arith
@@ -238,6 +241,7 @@ next-context constants advice (loop_1 bit) h w = (omega arith, (tt, (tt, tt)))
 next-context constants advice (loop_0 bit) h w = (omega arith, (tt, tt))
 next-context constants advice call h w = (omega arith, (tt, (h, tt)))
 next-context constants advice syscall h w = (omega arith, (tt, (h, tt)))
+next-context constants advice (dyn found) h w = (omega arith, (tt, (tt, tt)))
 next-context constants advice operation h w = (omega arith, (tt, tt))
 next-context constants advice (respan read) h w = (omega arith, (tt, tt))
 next-context constants advice span_ends h w = (omega arith, tt)

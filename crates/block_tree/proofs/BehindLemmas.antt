@@ -3,12 +3,12 @@ use Rattle.std.proofs.Common.{◌≡◌, ℕ, ◌<◌, ◌≤◌, Bool, true, fa
 use Rattle.std.proofs.lemmas.Bool.{ltb-true, ltb-false, lt-ltb, le-ltb}
 use Rattle.vm_field.specs.Machine.{Core}
 use Rattle.vm_ops.specs.declared.cause.Cause.{Cause}
-use Rattle.vm_ops.specs.declared.cause.Cause.TheVariants.{NestedTooDeep, NotBinary, BadBatch, CallInSyscall, NotInKernel, DepthAtReturn}
+use Rattle.vm_ops.specs.declared.cause.Cause.TheVariants.{NestedTooDeep, NotBinary, UnknownTarget, BadBatch, CallInSyscall, NotInKernel, DepthAtReturn}
 use Rattle.vm_ops.specs.declared.item.Item.{Item}
 use Rattle.vm_ops.specs.Values.{trap_of}
 use Rattle.vm_ops.specs.Step.{act, seen, performed, unless_trapped}
 use Rattle.op_pack.specs.Reading.{reading}
-use Rattle.block_tree.specs.Cycles.{Cycle, Frame, Mark, StartOpaque, StartSpan, StartJoin, StartSplit, StartLoop, StartCall, StartSyscall, Respan, Repeat, Do, End, EndSpan, EndLoop, EndCall, EndSyscall, pops_bit, opens, closes, and_then, reads, enters_call, is_in_kernel, enters_syscall, returns_to, effect_of, top}
+use Rattle.block_tree.specs.Cycles.{Cycle, Frame, Mark, StartOpaque, StartSpan, StartJoin, StartSplit, StartLoop, StartCall, StartSyscall, StartDyn, Respan, Repeat, Do, End, EndSpan, EndLoop, EndCall, EndSyscall, pops_bit, opens, closes, and_then, reads, finds, enters_call, is_in_kernel, enters_syscall, returns_to, effect_of, top}
 use Rattle.block_tree.specs.Behind.{opened, closed, popped, called, syscalled, returned, core_behind, HasReading, IsAllowed}
 
 -- the branch of a test by which a result is there
@@ -47,6 +47,12 @@ unfolding reads
 reads-inv batch c d e =
     let h : (is_some (reading batch) ≡ true) × (fine c ≡ Ok d) = if-ok (is_some (reading batch)) (Ok c) BadBatch d e in
     (some-reading batch (reading batch) refl h.0, same-ok c d h.1)
+
+finds-inv : (known : Bool) (c d : Core) → finds known c ≡ Ok d → (known ≡ true) × (d ≡ c)
+unfolding finds
+finds-inv known c d e =
+    let h : (known ≡ true) × (fine c ≡ Ok d) = if-ok known (Ok c) UnknownTarget d e in
+    (h.0, same-ok c d h.1)
 
 pub closes-inv : (c d : Core) → closes c ≡ Ok d → d ≡ closed c
 unfolding closes
@@ -108,6 +114,10 @@ reads-done : (batch : List ℕ) (c : Core) → HasReading batch → reads batch 
 unfolding reads
 reads-done batch c h = rw h.1 refl
 
+finds-done : (known : Bool) (c : Core) → known ≡ true → finds known c ≡ Ok c
+unfolding finds
+finds-done known c h = ap (λ b. cond b (fine c) (Err UnknownTarget)) h
+
 call-done : (callee : List ℕ) (c : Core) → c.in_syscall ≡ false → enters_call callee c ≡ Ok (called callee c)
 unfolding enters_call
 call-done callee c h = ap (λ b. cond b (Err CallInSyscall) (fine (called callee c))) h
@@ -164,6 +174,10 @@ module _ (constants : List ℕ) (kernel : List (List ℕ)) where
       let h = opens-inv (enters_syscall kernel callee) c d e in
       let p = syscall-inv kernel callee (opened c) d h.1 in
       ((h.0, p.0, p.1), p.2)
+  behind-cycle (StartDyn known) advice c d e =
+      let h = opens-inv (finds known) c d e in
+      let r = finds-inv known (opened c) d h.1 in
+      ((h.0, r.0), r.1)
   behind-cycle (Respan batch) advice c d e = reads-inv batch c d e
   behind-cycle (Repeat body) advice c d e = pops-inv c d e
   behind-cycle (Do item) advice c d e = act-inv constants item advice c d e
@@ -184,6 +198,7 @@ module _ (constants : List ℕ) (kernel : List (List ℕ)) where
   allowed-cycle (StartCall callee) advice c h = opens-done (enters_call callee) c h.0 ∙ call-done callee (opened c) h.1
   allowed-cycle (StartSyscall callee) advice c h =
       opens-done (enters_syscall kernel callee) c h.0 ∙ syscall-done kernel callee (opened c) h.1 h.2
+  allowed-cycle (StartDyn known) advice c h = opens-done (finds known) c h.0 ∙ finds-done known (opened c) h.1
   allowed-cycle (Respan batch) advice c h = reads-done batch c h
   allowed-cycle (Repeat body) advice c h = pops-done c h
   allowed-cycle (Do item) advice c h = act-done constants item advice c h

@@ -6,7 +6,7 @@ use Rattle.vm_ops.specs.declared.item.Item.{Item}
 use Rattle.vm_ops.specs.Values.{is_bit, trap_of}
 use Rattle.vm_ops.specs.Step.{act, seen, performed, unless_trapped}
 use Rattle.op_pack.specs.Reading.{reading}
-use Rattle.block_tree.specs.Cycles.{Cycle, Frame, Mark, StartOpaque, StartSpan, StartJoin, StartSplit, StartLoop, StartCall, StartSyscall, Respan, Repeat, Do, End, EndSpan, EndLoop, EndCall, EndSyscall, pops_bit, opens, closes, and_then, reads, enters_call, is_in_kernel, enters_syscall, returns_to, effect_of, advice_taken, top}
+use Rattle.block_tree.specs.Cycles.{Cycle, Frame, Mark, StartOpaque, StartSpan, StartJoin, StartSplit, StartLoop, StartCall, StartSyscall, StartDyn, Respan, Repeat, Do, End, EndSpan, EndLoop, EndCall, EndSyscall, pops_bit, opens, closes, and_then, reads, finds, enters_call, is_in_kernel, enters_syscall, returns_to, effect_of, advice_taken, top}
 use Rattle.block_tree.specs.Execution.{Event, Done, cycle}
 use Rattle.block_tree.proofs.Parts.{Cycled, taking-inv}
 
@@ -36,6 +36,10 @@ clocks-closes c = clocks _ _ refl
 clocks-reads : (batch : List ℕ) (c : Core) → Clocks c.clock (reads batch c)
 unfolding reads
 clocks-reads batch c = clocks-cond c.clock (is_some (reading batch)) _ _ (clocks _ _ refl) (clocks _ _ refl)
+
+clocks-finds : (known : Bool) (c : Core) → Clocks c.clock (finds known c)
+unfolding finds
+clocks-finds known c = clocks-cond c.clock known _ _ (clocks _ _ refl) (clocks _ _ refl)
 
 clocks-call : (callee : List ℕ) (c : Core) → Clocks c.clock (enters_call callee c)
 unfolding enters_call
@@ -77,6 +81,7 @@ module _ (constants : List ℕ) (kernel : List (List ℕ)) where
   clocks-effect (StartLoop body) advice c = clocks-opens _ clocks-pops c
   clocks-effect (StartCall callee) advice c = clocks-opens _ (clocks-call callee) c
   clocks-effect (StartSyscall callee) advice c = clocks-opens _ (clocks-syscall kernel callee) c
+  clocks-effect (StartDyn known) advice c = clocks-opens _ (clocks-finds known) c
   clocks-effect (Respan batch) advice c = clocks-reads batch c
   clocks-effect (Repeat body) advice c = clocks-pops c
   clocks-effect (Do item) advice c = clocks-act constants item advice c

@@ -12,7 +12,7 @@ use Rattle.vm_ops.specs.Values.{advice_of}
 use Rattle.vm_ops.proofs.RunLemmas.{immediate-below}
 use Rattle.vm_ops.proofs.StepLemmas.{step-kept}
 use Rattle.block_tree.specs.Behind.{opened, closed, popped, called, syscalled, returned, core_behind}
-use Rattle.block_tree.specs.Cycles.{Frame, Mark, StartOpaque, StartSpan, StartJoin, StartSplit, StartLoop, StartCall, StartSyscall, Respan, Repeat, Do, End, EndSpan, EndLoop, EndCall, EndSyscall, frame_of, advice_taken}
+use Rattle.block_tree.specs.Cycles.{Frame, Mark, StartOpaque, StartSpan, StartJoin, StartSplit, StartLoop, StartCall, StartSyscall, StartDyn, Respan, Repeat, Do, End, EndSpan, EndLoop, EndCall, EndSyscall, frame_of, advice_taken}
 use Rattle.block_tree.specs.Marks.{IsWholeFrame, IsWholeMark}
 use Rattle.block_tree.specs.Steps.{IsCycle}
 use Rattle.block_tree.proofs.BehindLemmas.{behind-cycle}
@@ -82,6 +82,7 @@ kept-core constants (StartSplit on_one on_zero) advice c w h item = kept-popped 
 kept-core constants (StartLoop body) advice c w h item = kept-popped (opened c) (kept-opened c h)
 kept-core constants (StartCall callee) advice c w h item = kept-called callee (opened c) w (kept-opened c h)
 kept-core constants (StartSyscall callee) advice c w h item = kept-syscalled (opened c) (kept-opened c h)
+kept-core constants (StartDyn known) advice c w h item = kept-opened c h
 kept-core constants (Respan batch) advice c w h item = h
 kept-core constants (Repeat body) advice c w h item = kept-popped c h
 kept-core constants (Do i) advice c w h item = item i refl

@@ -1,6 +1,7 @@
 pub mod Parts
 pub mod ViewLemmas
 pub mod Keeping
+pub mod TargetLemmas
 pub mod Limits
 pub mod WholeTrees
 pub mod RowLemmas

@@ -1,12 +1,13 @@
 -- What is done at one limit is done at every limit that its clock allows, and cut off at any other.
-use Rattle.std.proofs.Common.{◌≡◌, ℕ, zero, suc, ◌+◌, ◌-◌, ◌<◌, ◌≤◌, List, [], ◌∷◌, Option, Some, None, ⊎_elim, refl, ap, arith, le_trans}
+use Rattle.std.proofs.Common.{◌≡◌, ℕ, zero, suc, nat_eq, Bool, true, false, cond, ◌+◌, ◌-◌, ◌<◌, ◌≤◌, List, [], ◌∷◌, Option, Some, None, ⊎_elim, refl, ap, arith, le_trans}
 use Rattle.std.proofs.lemmas.Bool.{cases_lt}
+use lib.Pointwise.{pointwise}
 use Rattle.vm_field.specs.Machine.{State}
 use Rattle.vm_ops.specs.declared.item.Item.{Item}
 use Rattle.op_pack.specs.Reading.{reading}
-use Rattle.block_tree.specs.Trees.{Tree, Opaque, Span, Join, Split, Loop, Call, Syscall, Dyn}
-use Rattle.block_tree.specs.Cycles.{Mark, StartOpaque, StartSpan, Respan, Repeat, Do, EndLoop, top, effect_of, advice_taken}
-use Rattle.block_tree.specs.Execution.{Event, Outcome, Done, OutOfCycles, Part, skip, seq, at_bit, cycle, operations, read_operations, batches_from, turns, execution}
+use Rattle.block_tree.specs.Trees.{Tree, Targets, Opaque, Span, Join, Split, Loop, Call, Syscall, Dyn, no_target, target, tree_digest}
+use Rattle.block_tree.specs.Cycles.{Mark, StartOpaque, StartSpan, Respan, Repeat, Do, EndLoop, top, called_word, effect_of, advice_taken}
+use Rattle.block_tree.specs.Execution.{Event, Outcome, Done, OutOfCycles, Part, skip, seq, at_bit, cycle, operations, read_operations, batches_from, turns, execution, run_first}
 use Rattle.block_tree.proofs.Parts.{Between, Cycled, done-not_late, seq-inv, seq-done, seq-late, seq-late_second, skip-done, skip-inv, taking-inv, taking-late, taking-again}
 use Rattle.block_tree.proofs.Keeping.{cycle-ticks}
 
@@ -53,6 +54,11 @@ agree-at_bit : (j n : ℕ) (f g f' g' : Part) (s : State) → Agree j s (f s) (g
     → Agree j s (at_bit n f f' s) (at_bit n g g' s)
 agree-at_bit j zero f g f' g' s h h' = h
 agree-at_bit j (suc n) f g f' g' s h h' = h'
+
+agree-cond : (j : ℕ) (b : Bool) (f g f' g' : Part) (s : State) → Agree j s (f s) (g s) → Agree j s (f' s) (g' s)
+    → Agree j s (cond b f f' s) (cond b g g' s)
+agree-cond j true f g f' g' s h h' = h
+agree-cond j false f g f' g' s h h' = h'
 
 -- at two limits, j and k
 module _ (constants : List ℕ) (kernel : List (List ℕ)) (j k : ℕ) where
@@ -145,34 +151,43 @@ module _ (constants : List ℕ) (kernel : List (List ℕ)) (j k : ℕ) where
       let r : v.core.clock ≡ u.core.clock + 1 = cycle-ticks constants kernel k (Repeat body_digest) u v fs d in
       agree-turns digest body_digest f g h n m v (omega arith))))
 
-  agree-execution : (t : Tree) (s : State) → Agree j s (execution constants kernel k t s) (execution constants kernel j t s)
-  agree-execution (Opaque digest) s = agree-cycle StartOpaque s
-  agree-execution (Dyn targets) s = agree-cycle StartOpaque s
-  agree-execution (Span batches) s =
-      agree-then j _ _ _ _ s (agree-batches batches StartSpan s) (λ u es e. agree-cycle _ u)
-  agree-execution (Join a b) s =
-      agree-then j _ _ _ _ s (agree-cycle _ s) (λ u es e.
-      agree-then j _ _ _ _ u (agree-execution a u) (λ v fs d.
-      agree-then j _ _ _ _ v (agree-execution b v) (λ w gs c. agree-cycle _ w)))
-  agree-execution (Split a b) s =
-      agree-then j _ _ _ _ s (agree-cycle _ s) (λ u es e.
-      agree-then j _ _ _ _ u (agree-at_bit j (top s.core) _ _ _ _ u (agree-execution b u) (agree-execution a u)) (λ v fs d. agree-cycle _ v))
-  agree-execution (Loop a) s =
-      agree-then j _ _ _ _ s (agree-cycle _ s) (λ u es e.
-      let l : u.core.clock ≡ s.core.clock + 1 = cycle-ticks constants kernel k _ s u es e in
-      agree-at_bit j (top s.core) _ _ _ _ u (agree-cycle _ u)
-      (agree-turns _ _ _ _ (agree-execution a) (k - s.core.clock) (j - s.core.clock) u (omega arith)))
-  agree-execution (Call a) s =
-      agree-then j _ _ _ _ s (agree-cycle _ s) (λ u es e.
-      agree-then j _ _ _ _ u (agree-execution a u) (λ v fs d. agree-cycle _ v))
-  agree-execution (Syscall a) s =
-      agree-then j _ _ _ _ s (agree-cycle _ s) (λ u es e.
-      agree-then j _ _ _ _ u (agree-execution a u) (λ v fs d. agree-cycle _ v))
+  mutual
+    agree-execution : (t : Tree) (s : State) → Agree j s (execution constants kernel k t s) (execution constants kernel j t s)
+    agree-execution (Opaque digest) s = agree-cycle StartOpaque s
+    agree-execution (Span batches) s =
+        agree-then j _ _ _ _ s (agree-batches batches StartSpan s) (λ u es e. agree-cycle _ u)
+    agree-execution (Join a b) s =
+        agree-then j _ _ _ _ s (agree-cycle _ s) (λ u es e.
+        agree-then j _ _ _ _ u (agree-execution a u) (λ v fs d.
+        agree-then j _ _ _ _ v (agree-execution b v) (λ w gs c. agree-cycle _ w)))
+    agree-execution (Split a b) s =
+        agree-then j _ _ _ _ s (agree-cycle _ s) (λ u es e.
+        agree-then j _ _ _ _ u (agree-at_bit j (top s.core) _ _ _ _ u (agree-execution b u) (agree-execution a u)) (λ v fs d. agree-cycle _ v))
+    agree-execution (Loop a) s =
+        agree-then j _ _ _ _ s (agree-cycle _ s) (λ u es e.
+        let l : u.core.clock ≡ s.core.clock + 1 = cycle-ticks constants kernel k _ s u es e in
+        agree-at_bit j (top s.core) _ _ _ _ u (agree-cycle _ u)
+        (agree-turns _ _ _ _ (agree-execution a) (k - s.core.clock) (j - s.core.clock) u (omega arith)))
+    agree-execution (Call a) s =
+        agree-then j _ _ _ _ s (agree-cycle _ s) (λ u es e.
+        agree-then j _ _ _ _ u (agree-execution a u) (λ v fs d. agree-cycle _ v))
+    agree-execution (Syscall a) s =
+        agree-then j _ _ _ _ s (agree-cycle _ s) (λ u es e.
+        agree-then j _ _ _ _ u (agree-execution a u) (λ v fs d. agree-cycle _ v))
+    agree-execution (Dyn ts) s =
+        agree-then j _ _ _ _ s (agree-cycle _ s) (λ u es e.
+        agree-then j _ _ _ _ u (agree-first ts (called_word s.core) u) (λ v fs d. agree-cycle _ v))
+
+    agree-first : (ts : Targets) (digest : List ℕ) (s : State)
+        → Agree j s (run_first constants kernel k ts digest s) (run_first constants kernel j ts digest s)
+    agree-first no_target digest s = agree-skip j s
+    agree-first (target t ts) digest s =
+        agree-cond j (pointwise nat_eq (tree_digest constants t) digest) _ _ _ _ s (agree-execution t s) (agree-first ts digest s)
 
   -- a limit that has been reached cuts each tree off
   pub execution-late : (t : Tree) (s : State) → j ≤ s.core.clock → execution constants kernel j t s ≡ OutOfCycles
   execution-late (Opaque digest) s late = taking-late j _ _ _ s late
-  execution-late (Dyn targets) s late = taking-late j _ _ _ s late
+  execution-late (Dyn targets) s late = seq-late _ _ s (taking-late j _ _ _ s late)
   execution-late (Span []) s late = seq-late_second _ _ s s [] (skip-done s) (taking-late j _ _ _ s late)
   execution-late (Span (batch ∷ later)) s late = seq-late _ _ s (seq-late _ _ s (taking-late j _ _ _ s late))
   execution-late (Join a b) s late = seq-late _ _ s (taking-late j _ _ _ s late)

@@ -1,5 +1,5 @@
 -- Refinement is reflexive and transitive, keeps the digest, and does what was done.
-use Rattle.std.proofs.Common.{◌≡◌, ℕ, zero, suc, ◌-◌, Bool, true, false, cond, ltb, List, Option, Some, None, Result, Ok, Err, nat_eq, sym, refl, ap, subst, ◌∙◌}
+use Rattle.std.proofs.Common.{◌≡◌, ℕ, zero, suc, ◌-◌, take, Bool, true, false, cond, ltb, List, Option, Some, None, Result, Ok, Err, nat_eq, sym, refl, ap, subst, ◌∙◌}
 use Rattle.vm_field.specs.Machine.{Core, State}
 use Rattle.vm_ops.specs.declared.cause.Cause.{Cause}
 use Rattle.vm_ops.specs.declared.cause.Cause.TheVariants.{NestedTooDeep, OpaqueBlock}
@@ -7,8 +7,11 @@ use Rattle.vm_field.specs.Sponge.{HashInput, digest_of_input}
 use Rattle.vm_ops.specs.declared.op.Op.TheVariants as op
 use lib.Pointwise.{pointwise}
 use Rattle.block_tree.specs.Trees.{Tree, Targets, Opaque, Span, Join, Split, Loop, Call, Syscall, Dyn, no_target, target, Refines, opaque, span, join, split, loop, call, syscall, dyn, RefinesFirst, none, some, first_target, tree_digest, input_of, input_of_one, input_of_two}
-use Rattle.block_tree.specs.Cycles.{StartOpaque, top, opens, effect_of}
+use Rattle.block_tree.specs.Cycles.{StartOpaque, StartDyn, top, called_word, opens, effect_of}
 use Rattle.block_tree.specs.Execution.{Event, Outcome, Done, OutOfCycles, Part, seq, at_bit, cycle, turns, execution}
+use Rattle.std.proofs.lemmas.Bool.{false≢true}
+use Rattle.block_tree.proofs.BehindLemmas.{behind-cycle}
+use Rattle.block_tree.proofs.TargetLemmas.{dyn_run, execution-Dyn}
 use Rattle.block_tree.proofs.Parts.{Between, Cycled, seq-inv, seq-done, taking-inv}
 
 abbrev input_in : HashInput → Option HashInput → HashInput
@@ -144,21 +147,36 @@ module _ (constants : List ℕ) (kernel : List (List ℕ)) (limit : ℕ) where
       keep-then _ _ _ _ s (h s) (λ u. keep-at_bit (top u.core) _ _ _ _ u (keep-refl _)
       (keep-then _ _ _ _ u (keep-refl _) (keep-turns digest body_digest f g h n)))
 
-  pub keep-execution : {t u : Tree} → Refines constants t u → (s : State)
-      → Keep (execution constants kernel limit u s) (execution constants kernel limit t s)
-  keep-execution (opaque e) s = record { rule = λ t es d. absurd (opaque-not_done constants kernel limit s t es d) }
-  keep-execution span s = keep-refl _
-  keep-execution (join a b) s = rw (refines-digest constants a, refines-digest constants b)
-      (keep-then _ _ _ _ s (keep-refl _)
-      (λ u. keep-then _ _ _ _ u (keep-execution a u) (λ v. keep-then _ _ _ _ v (keep-execution b v) (λ w. keep-refl _))))
-  keep-execution (split a b) s = rw (refines-digest constants a, refines-digest constants b)
-      (keep-then _ _ _ _ s (keep-refl _)
-      (λ u. keep-then _ _ _ _ u (keep-at_bit (top s.core) _ _ _ _ u (keep-execution b u) (keep-execution a u)) (λ v. keep-refl _)))
-  keep-execution (loop a) s = rw (refines-digest constants a)
-      (keep-then _ _ _ _ s (keep-refl _)
-      (λ u. keep-at_bit (top s.core) _ _ _ _ u (keep-refl _) (keep-turns _ _ _ _ (keep-execution a) (limit - s.core.clock) u)))
-  keep-execution (call a) s = rw (refines-digest constants a)
-      (keep-then _ _ _ _ s (keep-refl _) (λ u. keep-then _ _ _ _ u (keep-execution a u) (λ v. keep-refl _)))
-  keep-execution (syscall a) s = rw (refines-digest constants a)
-      (keep-then _ _ _ _ s (keep-refl _) (λ u. keep-then _ _ _ _ u (keep-execution a u) (λ v. keep-refl _)))
-  keep-execution (dyn f) s = keep-refl _
+  unknown-not_done : (part : Part) (s : State) (t : State) (es : List Event)
+      → seq (cycle constants kernel limit (StartDyn false)) part s ≡ Done t es → ⊥
+  unknown-not_done part s t es e =
+      let b : Between (cycle constants kernel limit (StartDyn false)) part s t es = seq-inv _ _ s t es e in
+      let c : Cycled limit (StartDyn false) 0 (effect_of constants kernel (StartDyn false)) s b.mid b.first
+      = taking-inv limit (StartDyn false) 0 (effect_of constants kernel (StartDyn false)) s b.mid b.first b.ran in
+      false≢true (behind-cycle constants kernel (StartDyn false) (take 0 s.tape) s.core c.core c.made).0.1
+
+  mutual
+    pub keep-execution : {t u : Tree} → Refines constants t u → (s : State)
+        → Keep (execution constants kernel limit u s) (execution constants kernel limit t s)
+    keep-execution (opaque e) s = record { rule = λ t es d. absurd (opaque-not_done constants kernel limit s t es d) }
+    keep-execution span s = keep-refl _
+    keep-execution (join a b) s = rw (refines-digest constants a, refines-digest constants b)
+        (keep-then _ _ _ _ s (keep-refl _)
+        (λ u. keep-then _ _ _ _ u (keep-execution a u) (λ v. keep-then _ _ _ _ v (keep-execution b v) (λ w. keep-refl _))))
+    keep-execution (split a b) s = rw (refines-digest constants a, refines-digest constants b)
+        (keep-then _ _ _ _ s (keep-refl _)
+        (λ u. keep-then _ _ _ _ u (keep-at_bit (top s.core) _ _ _ _ u (keep-execution b u) (keep-execution a u)) (λ v. keep-refl _)))
+    keep-execution (loop a) s = rw (refines-digest constants a)
+        (keep-then _ _ _ _ s (keep-refl _)
+        (λ u. keep-at_bit (top s.core) _ _ _ _ u (keep-refl _) (keep-turns _ _ _ _ (keep-execution a) (limit - s.core.clock) u)))
+    keep-execution (call a) s = rw (refines-digest constants a)
+        (keep-then _ _ _ _ s (keep-refl _) (λ u. keep-then _ _ _ _ u (keep-execution a u) (λ v. keep-refl _)))
+    keep-execution (syscall a) s = rw (refines-digest constants a)
+        (keep-then _ _ _ _ s (keep-refl _) (λ u. keep-then _ _ _ _ u (keep-execution a u) (λ v. keep-refl _)))
+    keep-execution (dyn {ts} {us} f) s =
+        rw (execution-Dyn constants kernel limit ts s, execution-Dyn constants kernel limit us s) (keep-dyn (f (called_word s.core)) s)
+
+    keep-dyn : {o p : Option Tree} → RefinesFirst constants o p → (s : State)
+        → Keep (dyn_run constants kernel limit p s) (dyn_run constants kernel limit o s)
+    keep-dyn none s = record { rule = λ t es e. absurd (unknown-not_done _ s t es e) }
+    keep-dyn (some a) s = keep-then _ _ _ _ s (keep-refl _) (λ u. keep-then _ _ _ _ u (keep-execution a u) (λ v. keep-refl _))

@@ -8,7 +8,7 @@ use Rattle.vm_field.proofs.Elements.{elements-append, word-of, word-zero}
 use Rattle.vm_ops.specs.Codes.{accesses_memory}
 use Rattle.vm_ops.proofs.MoveLemmas.{advice_of-below}
 use Rattle.op_pack.specs.Reading.{IsBatch}
-use Rattle.block_tree.specs.Cycles.{Mark, StartOpaque, StartSpan, StartJoin, StartSplit, StartLoop, StartCall, StartSyscall, Respan, Repeat, Do, End, EndSpan, EndLoop, EndCall, EndSyscall, top, advice_taken}
+use Rattle.block_tree.specs.Cycles.{Mark, StartOpaque, StartSpan, StartJoin, StartSplit, StartLoop, StartCall, StartSyscall, StartDyn, Respan, Repeat, Do, End, EndSpan, EndLoop, EndCall, EndSyscall, top, advice_taken}
 use Rattle.block_tree.specs.Marks.{IsWholeMark}
 use Rattle.block_tree.specs.RowLaws.{core_after}
 use Rattle.block_tree.specs.Rows.{op_of_mark, hash_of, accessed, behind, four_of}
@@ -29,6 +29,7 @@ hash-batch (StartSplit on_one on_zero) h = two-words _ _ h.0 h.1
 hash-batch (StartLoop body) h = two-words _ _ h word-zero
 hash-batch (StartCall callee) h = two-words _ _ h word-zero
 hash-batch (StartSyscall callee) h = two-words _ _ h word-zero
+hash-batch (StartDyn known) h = two-words _ _ word-zero word-zero
 hash-batch (Respan batch) h = h
 hash-batch (Repeat body) h = two-words _ _ h word-zero
 hash-batch (Do item) h = two-words _ _ word-zero word-zero

@@ -1,15 +1,18 @@
 -- A run that is done is done one cycle after another.
-use Rattle.std.proofs.Common.{◌≡◌, ℕ, zero, suc, ◌<◌, List, [], ◌∷◌, ◌++◌, Some, refl, sym, ap, ◌∙◌, append_assoc, append-nil, arith}
+use Rattle.std.proofs.Common.{◌≡◌, ℕ, zero, suc, nat_eq, is_some, false, true, Option, None, ◌<◌, List, [], ◌∷◌, ◌++◌, Some, refl, sym, ap, ◌∙◌, append_assoc, append-nil, arith}
+use Rattle.std.proofs.lemmas.Bool.{false≢true}
+use lib.Pointwise.{pointwise}
 use Rattle.vm_field.specs.Machine.{State}
 use Rattle.vm_ops.specs.declared.item.Item.{Item}
 use Rattle.op_pack.specs.Reading.{reading}
-use Rattle.block_tree.specs.Trees.{Tree, Opaque, Span, Join, Split, Loop, Call, Syscall, Dyn, IsWhole, tree_digest}
-use Rattle.block_tree.specs.Cycles.{Mark, StartOpaque, StartSpan, StartJoin, StartSplit, StartLoop, Respan, Repeat, Do, End, EndSpan, EndLoop, top, effect_of, advice_taken}
+use Rattle.block_tree.specs.Trees.{Tree, Targets, Opaque, Span, Join, Split, Loop, Call, Syscall, Dyn, no_target, target, IsWhole, AreWhole, first_target, tree_digest}
+use Rattle.block_tree.specs.Cycles.{Mark, StartOpaque, StartSpan, StartJoin, StartSplit, StartLoop, StartDyn, Respan, Repeat, Do, End, EndSpan, EndLoop, top, called_word, effect_of, advice_taken}
 use Rattle.block_tree.specs.Behind.{HasReading, IsAllowed}
 use Rattle.block_tree.specs.Execution.{Event, Done, Part, seq, at_bit, cycle, operations, read_operations, batches_from, turns, execution}
-use Rattle.block_tree.specs.Steps.{Task, Block, Within, Turned, Closing, Next, span, join, split_1, split_0, loop_1, loop_0, call, syscall, operation, respan, span_ends, repeats, loop_ends, closes, returns, leaves, Steps, ended, goes}
+use Rattle.block_tree.specs.Steps.{Task, Block, Within, Turned, Closing, Next, span, join, split_1, split_0, loop_1, loop_0, call, syscall, dyn, operation, respan, span_ends, repeats, loop_ends, closes, returns, leaves, Steps, ended, goes}
 use Rattle.block_tree.proofs.Parts.{Cycled, done-not_late, seq-inv, skip-inv, taking-inv}
 use Rattle.block_tree.proofs.BehindLemmas.{behind-cycle}
+use Rattle.block_tree.proofs.TargetLemmas.{none-found, on-first, run_option, execution-Dyn}
 
 module _ (constants : List ℕ) (kernel : List (List ℕ)) (limit : ℕ) where
   abbrev cycle_of : Mark → Part
@@ -65,6 +68,10 @@ module _ (constants : List ℕ) (kernel : List (List ℕ)) (limit : ℕ) where
   goes-last : (task : Task) (mark : Mark) (s t : State) (es : List Event)
       → Next constants task s.core mark [] → cycle_of mark s ≡ Done t es → Goes (task ∷ []) s t es
   goes-last task mark s t es next e = record { rule = λ todo u fs later. step-goes task [] todo mark s t u es fs next e later }
+
+  -- what a done tree is, one cycle after another
+  abbrev IsGone : Tree → Type 0
+  IsGone tree = (s t : State) (es : List Event) → run_of tree s ≡ Done t es → Goes (Block tree ∷ []) s t es
 
   goes-operations : (items : List Item) (later : List (List ℕ)) (digest : List ℕ) (s mid t : State) (first second : List Event)
       → operations constants kernel limit items s ≡ Done mid first → Goes (Within [] later digest ∷ []) mid t second
@@ -209,20 +216,44 @@ module _ (constants : List ℕ) (kernel : List (List ℕ)) (limit : ℕ) where
       (λ items read. span read) (λ u fs c. (cycle-allowed (StartSpan batch) s u fs c).1.1) b.ran
       (λ u fs c. goes-batches later (digest_of (Span (batch ∷ later))) u b.mid t fs b.second c b.went_on))
 
-  goes-tree : (tree : Tree) → IsWhole tree → (s t : State) (es : List Event) → run_of tree s ≡ Done t es → Goes (Block tree ∷ []) s t es
-  goes-tree (Opaque digest) w s t es e = absurd (cycle-allowed StartOpaque s t es e).1
-  goes-tree (Dyn targets) w s t es e = absurd (cycle-allowed StartOpaque s t es e).1
-  goes-tree (Span []) w s t es e = absurd (w.0 refl)
-  goes-tree (Span (batch ∷ later)) w s t es e = goes-span batch later s t es e
-  goes-tree (Join a b) w s t es e = goes-join a b (goes-tree a w.0) (goes-tree b w.1) s t es e
-  goes-tree (Split a b) w s t es e =
-      let x = seq-inv (cycle_of (StartSplit (digest_of a) (digest_of b))) _ s t es e in
-      rw x.all (goes-split a b (goes-tree a w.0) (goes-tree b w.1) (top s.core) s x.mid t x.first x.second refl x.ran x.went_on)
-  goes-tree (Loop a) w s t es e =
-      let x = seq-inv (cycle_of (StartLoop (digest_of a))) _ s t es e in
-      rw x.all (goes-loop a (goes-tree a w) _ (top s.core) s x.mid t x.first x.second refl x.ran x.went_on)
-  goes-tree (Call a) w s t es e = goes-one (Call a) a _ _ _ s t es call (goes-tree a w) (λ u. returns) e
-  goes-tree (Syscall a) w s t es e = goes-one (Syscall a) a _ _ _ s t es syscall (goes-tree a w) (λ u. leaves) e
+  goes-dyn : (ts : Targets) (o : Option Tree) (s mid t : State) (first second : List Event)
+      → first_target constants (called_word s.core) ts ≡ o
+      → ((x : Tree) → o ≡ Some x → IsGone x)
+      → cycle_of (StartDyn (is_some o)) s ≡ Done mid first
+      → seq (run_option constants kernel limit o) (cycle_of (End (digest_of (Dyn ts)))) mid ≡ Done t second
+      → Goes (Block (Dyn ts) ∷ []) s t (first ++ second)
+  goes-dyn ts None s mid t first second found h start e = absurd (false≢true (cycle-allowed (StartDyn false) s mid first start).1.1)
+  goes-dyn ts (Some x) s mid t first second found h start e =
+      let y = seq-inv (run_of x) _ mid t second e in
+      rw y.all (goes-first (Block (Dyn ts)) (Block x ∷ Closing (digest_of (Dyn ts)) ∷ []) (StartDyn true)
+      s mid t first (y.first ++ y.second) (dyn found) start
+      (goes-two (Block x ∷ []) (Closing (digest_of (Dyn ts)) ∷ []) mid y.mid t y.first y.second (h x refl mid y.mid y.first y.ran)
+      (goes-last (Closing (digest_of (Dyn ts))) (End (digest_of (Dyn ts))) y.mid t y.second closes y.went_on)))
+
+  mutual
+    goes-tree : (tree : Tree) → IsWhole tree → IsGone tree
+    goes-tree (Opaque digest) w s t es e = absurd (cycle-allowed StartOpaque s t es e).1
+    goes-tree (Span []) w s t es e = absurd (w.0 refl)
+    goes-tree (Span (batch ∷ later)) w s t es e = goes-span batch later s t es e
+    goes-tree (Join a b) w s t es e = goes-join a b (goes-tree a w.0) (goes-tree b w.1) s t es e
+    goes-tree (Split a b) w s t es e =
+        let x = seq-inv (cycle_of (StartSplit (digest_of a) (digest_of b))) _ s t es e in
+        rw x.all (goes-split a b (goes-tree a w.0) (goes-tree b w.1) (top s.core) s x.mid t x.first x.second refl x.ran x.went_on)
+    goes-tree (Loop a) w s t es e =
+        let x = seq-inv (cycle_of (StartLoop (digest_of a))) _ s t es e in
+        rw x.all (goes-loop a (goes-tree a w) _ (top s.core) s x.mid t x.first x.second refl x.ran x.went_on)
+    goes-tree (Call a) w s t es e = goes-one (Call a) a _ _ _ s t es call (goes-tree a w) (λ u. returns) e
+    goes-tree (Syscall a) w s t es e = goes-one (Syscall a) a _ _ _ s t es syscall (goes-tree a w) (λ u. leaves) e
+    goes-tree (Dyn ts) w s t es e =
+        let o : Option Tree = first_target constants (called_word s.core) ts in
+        let x = seq-inv (cycle_of (StartDyn (is_some o))) _ s t es (sym (execution-Dyn constants kernel limit ts s) ∙ e) in
+        rw x.all (goes-dyn ts o s x.mid t x.first x.second refl (goes-targets ts w (called_word s.core)) x.ran x.went_on)
+
+    goes-targets : (ts : Targets) → AreWhole ts → (digest : List ℕ) (x : Tree) → first_target constants digest ts ≡ Some x → IsGone x
+    goes-targets no_target w digest x e = absurd (none-found x e)
+    goes-targets (target y ts) w digest x e =
+        on-first IsGone (pointwise nat_eq (digest_of y) digest) y (first_target constants digest ts) (goes-tree y w.0)
+        (goes-targets ts w.1 digest) x e
 
   pub run-steps : (tree : Tree) (s t : State) (es : List Event) → IsWhole tree → run_of tree s ≡ Done t es
       → Stepping (Block tree ∷ []) s es t

@@ -1,13 +1,15 @@
 -- What is done one cycle after another is a run that is done.
-use Rattle.std.proofs.Common.{◌≡◌, ℕ, zero, suc, ◌+◌, ◌-◌, ◌<◌, ◌≤◌, List, [], ◌∷◌, ◌++◌, Some, refl, sym, ap, ◌∙◌, append_assoc, append-nil, arith}
+use Rattle.std.proofs.Common.{◌≡◌, ℕ, zero, suc, nat_eq, true, ◌+◌, ◌-◌, ◌<◌, ◌≤◌, List, [], ◌∷◌, ◌++◌, Some, refl, sym, ap, ◌∙◌, append_assoc, append-nil, arith}
+use lib.Pointwise.{pointwise}
 use Rattle.vm_field.specs.Machine.{Core, State}
 use Rattle.vm_ops.specs.declared.item.Item.{Item}
 use Rattle.op_pack.specs.Reading.{reading}
-use Rattle.block_tree.specs.Trees.{Tree, Targets, Opaque, Span, Join, Split, Loop, Call, Syscall, Dyn, tree_digest}
-use Rattle.block_tree.specs.Cycles.{Frame, Mark, StartSpan, StartJoin, StartSplit, StartLoop, StartCall, StartSyscall, Respan, Repeat, Do, End, EndSpan, EndLoop, EndCall, EndSyscall, frame_of, top, effect_of, advice_taken}
+use Rattle.block_tree.specs.Trees.{Tree, Targets, Opaque, Span, Join, Split, Loop, Call, Syscall, Dyn, no_target, target, first_target, tree_digest}
+use Rattle.block_tree.specs.Cycles.{Frame, Mark, StartSpan, StartJoin, StartSplit, StartLoop, StartCall, StartSyscall, StartDyn, Respan, Repeat, Do, End, EndSpan, EndLoop, EndCall, EndSyscall, frame_of, top, called_word, effect_of, advice_taken}
 use Rattle.block_tree.specs.Execution.{Event, Done, Part, event_of, skip, seq, at_bit, cycle, operations, read_operations, batches_from, turns, execution}
-use Rattle.block_tree.specs.Steps.{Task, Block, Within, Turned, Closing, Returning, Leaving, Next, span, join, split_1, split_0, loop_1, loop_0, call, syscall, operation, respan, span_ends, repeats, loop_ends, closes, returns, leaves, IsCycle, Steps, ended, goes}
+use Rattle.block_tree.specs.Steps.{Task, Block, Within, Turned, Closing, Returning, Leaving, Next, span, join, split_1, split_0, loop_1, loop_0, call, syscall, dyn, operation, respan, span_ends, repeats, loop_ends, closes, returns, leaves, IsCycle, Steps, ended, goes}
 use Rattle.block_tree.proofs.AlongLemmas.{cycle-clock}
+use Rattle.block_tree.proofs.TargetLemmas.{none-found, on-first, dyn_run, execution-Dyn}
 use Rattle.block_tree.proofs.Parts.{seq-done, skip-done, taking-done}
 
 module _ (constants : List ℕ) (kernel : List (List ℕ)) (limit : ℕ) where
@@ -207,62 +209,70 @@ module _ (constants : List ℕ) (kernel : List (List ℕ)) (limit : ℕ) where
       seq (cycle_of (StartLoop (digest_of a)))
       (at_bit n (cycle_of (End (digest_of (Loop a)))) (turns_of a m))
 
-  -- no cycle comes next at an opaque block, a dynamic one, or a span without a batch
+  -- no cycle comes next at an opaque block, nor at a span without a batch
   no-opaque : (digest : List ℕ) (c : Core) (mark : Mark) (rest : List Task) → Next constants (Block (Opaque digest)) c mark rest → ⊥
   no-opaque digest c mark rest h = elim h [ ]
-
-  no-dynamic : (targets : Targets) (c : Core) (mark : Mark) (rest : List Task) → Next constants (Block (Dyn targets)) c mark rest → ⊥
-  no-dynamic targets c mark rest h = elim h [ ]
 
   no-empty : (c : Core) (mark : Mark) (rest : List Task) → Next constants (Block (Span [])) c mark rest → ⊥
   no-empty c mark rest h = elim h [ ]
 
-  parted-tree : (tree : Tree) → IsPartOf (run_of tree) (Block tree)
-  parted-tree (Opaque digest) todo s u es (goes first c more) = absurd (no-opaque digest s.core _ _ first)
-  parted-tree (Dyn targets) todo s u es (goes first c more) = absurd (no-dynamic targets s.core _ _ first)
-  parted-tree (Span []) todo s u es (goes first c more) = absurd (no-empty s.core _ _ first)
-  parted-tree (Span (batch ∷ later)) todo s u es (goes {t = t} {events = events} (span {items = items} read) c more) =
-      let digest : List ℕ = digest_of (Span (batch ∷ later)) in
-      parted-seq _ _ (Within [] [] digest ∷ todo) todo s u _
-      (parted-first (StartSpan batch) _ (Within [] [] digest ∷ todo) s t u events c
-      (parted-read batch items later digest todo t u events read (λ w gs g. parted-batches later digest todo w u gs g) more))
-      (λ v fs l g. parted-span_ends digest todo v u fs g)
-  parted-tree (Join a b) todo s u es (goes {t = t} {events = events} join c more) =
-      let digest : List ℕ = digest_of (Join a b) in
-      parted-first (StartJoin (digest_of a) (digest_of b)) _ todo s t u events c
-      (parted-seq _ _ (Block b ∷ Closing digest ∷ todo) todo t u events (parted-tree a (Block b ∷ Closing digest ∷ todo) t u events more)
-      (λ v fs l g. parted-seq _ _ (Closing digest ∷ todo) todo v u fs (parted-tree b (Closing digest ∷ todo) v u fs g)
-      (λ w gs m k. parted-closes digest todo w u gs k)))
-  parted-tree (Split a b) todo s u es (goes {t = t} {events = events} (split_1 bit) c more) =
-      parted-as (split_by a b 1) (run_of (Split a b)) todo s u _ (ap (λ n. split_by a b n s) bit)
-      (parted-one (StartSplit (digest_of a) (digest_of b)) (End (digest_of (Split a b))) a (Closing (digest_of (Split a b)))
-      todo s t u events c (parted-tree a) (λ x y z w h. parted-closes (digest_of (Split a b)) x y z w h) more)
-  parted-tree (Split a b) todo s u es (goes {t = t} {events = events} (split_0 bit) c more) =
-      parted-as (split_by a b 0) (run_of (Split a b)) todo s u _ (ap (λ n. split_by a b n s) bit)
-      (parted-one (StartSplit (digest_of a) (digest_of b)) (End (digest_of (Split a b))) b (Closing (digest_of (Split a b)))
-      todo s t u events c (parted-tree b) (λ x y z w h. parted-closes (digest_of (Split a b)) x y z w h) more)
-  parted-tree (Loop a) todo s u es (goes {t = t} {events = events} (loop_1 bit) c more) =
-      let ticks = cycle-clock constants kernel limit (StartLoop (digest_of a)) s t c in
-      let early = c.before in
-      parted-as (loop_by a (limit - s.core.clock) 1) (run_of (Loop a)) todo s u _ (ap (λ n. loop_by a (limit - s.core.clock) n s) bit)
-      (parted-first (StartLoop (digest_of a)) (turns_of a (limit - s.core.clock)) todo s t u events c
-      (parted-turns a (parted-tree a) (limit - s.core.clock) todo t u events (omega arith) more))
-  parted-tree (Loop a) todo s u es (goes {t = t} {events = events} (loop_0 bit) c more) =
-      parted-as (loop_by a (limit - s.core.clock) 0) (run_of (Loop a)) todo s u _ (ap (λ n. loop_by a (limit - s.core.clock) n s) bit)
-      (parted-first (StartLoop (digest_of a)) _ todo s t u events c (parted-closes (digest_of (Loop a)) todo t u events more))
-  parted-tree (Call a) todo s u es (goes {t = t} {events = events} call c more) = parted-as
-      (seq (cycle_of (StartCall (digest_of a)))
-      (seq (run_of a) (cycle_of (EndCall (digest_of (Call a)) (frame_of s.core)))))
-      (run_of (Call a)) todo s u _ refl
-      (parted-one (StartCall (digest_of a)) (EndCall (digest_of (Call a)) (frame_of s.core)) a (Returning (digest_of (Call a)) (frame_of s.core))
-      todo s t u events c (parted-tree a) (parted-returns (digest_of (Call a)) (frame_of s.core)) more)
-  parted-tree (Syscall a) todo s u es (goes {t = t} {events = events} syscall c more) = parted-as
-      (seq (cycle_of (StartSyscall (digest_of a)))
-      (seq (run_of a) (cycle_of (EndSyscall (digest_of (Syscall a)) (frame_of s.core)))))
-      (run_of (Syscall a)) todo s u _ refl
-      (parted-one (StartSyscall (digest_of a)) (EndSyscall (digest_of (Syscall a)) (frame_of s.core)) a
-      (Leaving (digest_of (Syscall a)) (frame_of s.core))
-      todo s t u events c (parted-tree a) (parted-leaves (digest_of (Syscall a)) (frame_of s.core)) more)
+  mutual
+    parted-tree : (tree : Tree) → IsPartOf (run_of tree) (Block tree)
+    parted-tree (Opaque digest) todo s u es (goes first c more) = absurd (no-opaque digest s.core _ _ first)
+    parted-tree (Span []) todo s u es (goes first c more) = absurd (no-empty s.core _ _ first)
+    parted-tree (Span (batch ∷ later)) todo s u es (goes {t = t} {events = events} (span {items = items} read) c more) =
+        let digest : List ℕ = digest_of (Span (batch ∷ later)) in
+        parted-seq _ _ (Within [] [] digest ∷ todo) todo s u _
+        (parted-first (StartSpan batch) _ (Within [] [] digest ∷ todo) s t u events c
+        (parted-read batch items later digest todo t u events read (λ w gs g. parted-batches later digest todo w u gs g) more))
+        (λ v fs l g. parted-span_ends digest todo v u fs g)
+    parted-tree (Join a b) todo s u es (goes {t = t} {events = events} join c more) =
+        let digest : List ℕ = digest_of (Join a b) in
+        parted-first (StartJoin (digest_of a) (digest_of b)) _ todo s t u events c
+        (parted-seq _ _ (Block b ∷ Closing digest ∷ todo) todo t u events (parted-tree a (Block b ∷ Closing digest ∷ todo) t u events more)
+        (λ v fs l g. parted-seq _ _ (Closing digest ∷ todo) todo v u fs (parted-tree b (Closing digest ∷ todo) v u fs g)
+        (λ w gs m k. parted-closes digest todo w u gs k)))
+    parted-tree (Split a b) todo s u es (goes {t = t} {events = events} (split_1 bit) c more) =
+        parted-as (split_by a b 1) (run_of (Split a b)) todo s u _ (ap (λ n. split_by a b n s) bit)
+        (parted-one (StartSplit (digest_of a) (digest_of b)) (End (digest_of (Split a b))) a (Closing (digest_of (Split a b)))
+        todo s t u events c (parted-tree a) (λ x y z w h. parted-closes (digest_of (Split a b)) x y z w h) more)
+    parted-tree (Split a b) todo s u es (goes {t = t} {events = events} (split_0 bit) c more) =
+        parted-as (split_by a b 0) (run_of (Split a b)) todo s u _ (ap (λ n. split_by a b n s) bit)
+        (parted-one (StartSplit (digest_of a) (digest_of b)) (End (digest_of (Split a b))) b (Closing (digest_of (Split a b)))
+        todo s t u events c (parted-tree b) (λ x y z w h. parted-closes (digest_of (Split a b)) x y z w h) more)
+    parted-tree (Loop a) todo s u es (goes {t = t} {events = events} (loop_1 bit) c more) =
+        let ticks = cycle-clock constants kernel limit (StartLoop (digest_of a)) s t c in
+        let early = c.before in
+        parted-as (loop_by a (limit - s.core.clock) 1) (run_of (Loop a)) todo s u _ (ap (λ n. loop_by a (limit - s.core.clock) n s) bit)
+        (parted-first (StartLoop (digest_of a)) (turns_of a (limit - s.core.clock)) todo s t u events c
+        (parted-turns a (parted-tree a) (limit - s.core.clock) todo t u events (omega arith) more))
+    parted-tree (Loop a) todo s u es (goes {t = t} {events = events} (loop_0 bit) c more) =
+        parted-as (loop_by a (limit - s.core.clock) 0) (run_of (Loop a)) todo s u _ (ap (λ n. loop_by a (limit - s.core.clock) n s) bit)
+        (parted-first (StartLoop (digest_of a)) _ todo s t u events c (parted-closes (digest_of (Loop a)) todo t u events more))
+    parted-tree (Call a) todo s u es (goes {t = t} {events = events} call c more) = parted-as
+        (seq (cycle_of (StartCall (digest_of a)))
+        (seq (run_of a) (cycle_of (EndCall (digest_of (Call a)) (frame_of s.core)))))
+        (run_of (Call a)) todo s u _ refl
+        (parted-one (StartCall (digest_of a)) (EndCall (digest_of (Call a)) (frame_of s.core)) a (Returning (digest_of (Call a)) (frame_of s.core))
+        todo s t u events c (parted-tree a) (parted-returns (digest_of (Call a)) (frame_of s.core)) more)
+    parted-tree (Syscall a) todo s u es (goes {t = t} {events = events} syscall c more) = parted-as
+        (seq (cycle_of (StartSyscall (digest_of a)))
+        (seq (run_of a) (cycle_of (EndSyscall (digest_of (Syscall a)) (frame_of s.core)))))
+        (run_of (Syscall a)) todo s u _ refl
+        (parted-one (StartSyscall (digest_of a)) (EndSyscall (digest_of (Syscall a)) (frame_of s.core)) a
+        (Leaving (digest_of (Syscall a)) (frame_of s.core))
+        todo s t u events c (parted-tree a) (parted-leaves (digest_of (Syscall a)) (frame_of s.core)) more)
+    parted-tree (Dyn ts) todo s u es (goes {t = t} {events = events} (dyn {a = a} found) c more) =
+        parted-as (dyn_run constants kernel limit (Some a)) (run_of (Dyn ts)) todo s u _
+        (execution-Dyn constants kernel limit ts s ∙ ap (λ o. dyn_run constants kernel limit o s) found)
+        (parted-one (StartDyn true) (End (digest_of (Dyn ts))) a (Closing (digest_of (Dyn ts))) todo s t u events c
+        (parted-targets ts (called_word s.core) a found) (parted-closes (digest_of (Dyn ts))) more)
+
+    parted-targets : (ts : Targets) (digest : List ℕ) (a : Tree) → first_target constants digest ts ≡ Some a → IsPartOf (run_of a) (Block a)
+    parted-targets no_target digest a e = absurd (none-found a e)
+    parted-targets (target x ts) digest a e =
+        on-first (λ y. IsPartOf (run_of y) (Block y)) (pointwise nat_eq (digest_of x) digest) x (first_target constants digest ts) (parted-tree x)
+        (parted-targets ts digest) a e
 
   none-left : (s u : State) (es : List Event) → Stepping [] s es u → (s ≡ u) × (es ≡ [])
   none-left s u es ended = (refl, refl)

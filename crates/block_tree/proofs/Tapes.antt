@@ -1,13 +1,14 @@
 -- What a run took of the tape is enough for it.
-use Rattle.std.proofs.Common.{◌≡◌, ℕ, zero, suc, ◌+◌, ◌-◌, ◌≤◌, List, [], ◌∷◌, ◌++◌, length, take, drop, Option, Some, None, sym, refl, ap, ◌∙◌, subst, arith, append_assoc, append-nil}
+use Rattle.std.proofs.Common.{◌≡◌, ℕ, zero, suc, nat_eq, Bool, true, false, cond, is_some, ◌+◌, ◌-◌, ◌≤◌, List, [], ◌∷◌, ◌++◌, length, take, drop, Option, Some, None, sym, refl, ap, ◌∙◌, subst, arith, append_assoc, append-nil}
 use Rattle.std.proofs.lemmas.List.{take-append-drop, length-append, length-take-le}
 use Rattle.std.proofs.Math.Seq.{take-append_seam, drop-append_seam}
+use lib.Pointwise.{pointwise}
 use Rattle.vm_field.specs.Machine.{Core, State}
 use Rattle.vm_ops.specs.declared.item.Item.{Item}
 use Rattle.op_pack.specs.Reading.{reading}
-use Rattle.block_tree.specs.Trees.{Tree, Opaque, Span, Join, Split, Loop, Call, Syscall, Dyn, tree_digest}
-use Rattle.block_tree.specs.Cycles.{Cycle, Mark, StartOpaque, StartSpan, StartSplit, StartLoop, StartCall, StartSyscall, Respan, Repeat, Do, End, EndLoop, EndCall, EndSyscall, frame_of, top, effect_of, advice_taken}
-use Rattle.block_tree.specs.Execution.{Event, Done, Part, skip, seq, at_bit, taking, cycle, operations, read_operations, batches_from, turns, execution}
+use Rattle.block_tree.specs.Trees.{Tree, Targets, Opaque, Span, Join, Split, Loop, Call, Syscall, Dyn, no_target, target, first_target, tree_digest}
+use Rattle.block_tree.specs.Cycles.{Cycle, Mark, StartOpaque, StartSpan, StartSplit, StartLoop, StartCall, StartSyscall, StartDyn, Respan, Repeat, Do, End, EndLoop, EndCall, EndSyscall, frame_of, top, called_word, effect_of, advice_taken}
+use Rattle.block_tree.specs.Execution.{Event, Done, Part, skip, seq, at_bit, taking, cycle, operations, read_operations, batches_from, turns, execution, run_first}
 use Rattle.block_tree.specs.Laws.{tape_taken, with_tape}
 use Rattle.block_tree.proofs.Parts.{Between, Cycled, done-not_late, seq-inv, seq-done, skip-done, skip-inv, taking-inv, taking-done}
 
@@ -52,6 +53,11 @@ fed-at_bit : (n : ℕ) (f g : Part) (s t : State) (es : List Event) → at_bit n
     → (f s ≡ Done t es → Fed f s t es) → (g s ≡ Done t es → Fed g s t es) → Fed (at_bit n f g) s t es
 fed-at_bit zero f g s t es e h h' = h e
 fed-at_bit (suc n) f g s t es e h h' = h' e
+
+fed-cond : (b : Bool) (f g : Part) (s t : State) (es : List Event) → cond b f g s ≡ Done t es
+    → (f s ≡ Done t es → Fed f s t es) → (g s ≡ Done t es → Fed g s t es) → Fed (cond b f g) s t es
+fed-cond true f g s t es e h h' = h e
+fed-cond false f g s t es e h h' = h' e
 
 -- a part that asks for something of the state but the tape first
 fed-core : (part : Core → Part) (s t : State) (es : List Event) → Fed (part s.core) s t es → Fed (λ v. part v.core v) s t es
@@ -133,41 +139,53 @@ module _ (constants : List ℕ) (kernel : List (List ℕ)) (limit : ℕ) where
       (fed-turns digest body_digest body h n) u t fs d) in
       record { tape = fed.tape; again = fed.again }
 
-  pub fed-execution : (u : Tree) (s t : State) (es : List Event)
-      → execution constants kernel limit u s ≡ Done t es → Fed (execution constants kernel limit u) s t es
-  fed-execution (Opaque digest) s t es e = fed-cycle StartOpaque s t es e
-  fed-execution (Dyn targets) s t es e = fed-cycle StartOpaque s t es e
-  fed-execution (Span batches) s t es e = fed-then _ _ s t es e (fed-batches batches StartSpan s) (λ u fs d. fed-cycle _ u t fs d)
-  fed-execution (Join a b) s t es e =
-      fed-then _ _ s t es e (fed-cycle _ s)
-      (λ u fs d. fed-then _ _ u t fs d (fed-execution a u) (λ v gs c. fed-then _ _ v t gs c (fed-execution b v) (λ w hs i. fed-cycle _ w t hs i)))
-  fed-execution (Split a b) s t es e =
-      fed-core (λ c. seq (cycle constants kernel limit (StartSplit (tree_digest constants a) (tree_digest constants b)))
-      (seq (at_bit (top c) (execution constants kernel limit b) (execution constants kernel limit a))
-      (cycle constants kernel limit (End (tree_digest constants (Split a b))))))
-      s t es
-      (fed-then _ _ s t es e (fed-cycle _ s) (λ u fs d.
-      fed-then _ _ u t fs d
-      (λ v gs c. fed-at_bit (top s.core) _ _ u v gs c (fed-execution b u v gs) (fed-execution a u v gs)) (λ v gs c. fed-cycle _ v t gs c)))
-  fed-execution (Loop a) s t es e =
-      fed-core (λ c. seq (cycle constants kernel limit (StartLoop (tree_digest constants a)))
-      (at_bit (top c)
-      (cycle constants kernel limit (End (tree_digest constants (Loop a))))
-      (turns constants kernel limit (tree_digest constants (Loop a)) (tree_digest constants a) (limit - c.clock)
-      (execution constants kernel limit a))))
-      s t es
-      (fed-then _ _ s t es e (fed-cycle _ s) (λ u fs d.
-      fed-at_bit (top s.core) _ _ u t fs d (fed-cycle _ u t fs) (fed-turns _ _ _ (fed-execution a) (limit - s.core.clock) u t fs)))
-  fed-execution (Call a) s t es e =
-      fed-core (λ c. seq (cycle constants kernel limit (StartCall (tree_digest constants a)))
-      (seq (execution constants kernel limit a) (cycle constants kernel limit (EndCall (tree_digest constants (Call a)) (frame_of c)))))
-      s t es
-      (fed-then _ _ s t es e (fed-cycle _ s) (λ u fs d. fed-then _ _ u t fs d (fed-execution a u) (λ v gs c. fed-cycle _ v t gs c)))
-  fed-execution (Syscall a) s t es e =
-      fed-core (λ c. seq (cycle constants kernel limit (StartSyscall (tree_digest constants a)))
-      (seq (execution constants kernel limit a) (cycle constants kernel limit (EndSyscall (tree_digest constants (Syscall a)) (frame_of c)))))
-      s t es
-      (fed-then _ _ s t es e (fed-cycle _ s) (λ u fs d. fed-then _ _ u t fs d (fed-execution a u) (λ v gs c. fed-cycle _ v t gs c)))
+  mutual
+    pub fed-execution : (u : Tree) (s t : State) (es : List Event)
+        → execution constants kernel limit u s ≡ Done t es → Fed (execution constants kernel limit u) s t es
+    fed-execution (Opaque digest) s t es e = fed-cycle StartOpaque s t es e
+    fed-execution (Span batches) s t es e = fed-then _ _ s t es e (fed-batches batches StartSpan s) (λ u fs d. fed-cycle _ u t fs d)
+    fed-execution (Join a b) s t es e =
+        fed-then _ _ s t es e (fed-cycle _ s)
+        (λ u fs d. fed-then _ _ u t fs d (fed-execution a u) (λ v gs c. fed-then _ _ v t gs c (fed-execution b v) (λ w hs i. fed-cycle _ w t hs i)))
+    fed-execution (Split a b) s t es e =
+        fed-core (λ c. seq (cycle constants kernel limit (StartSplit (tree_digest constants a) (tree_digest constants b)))
+        (seq (at_bit (top c) (execution constants kernel limit b) (execution constants kernel limit a))
+        (cycle constants kernel limit (End (tree_digest constants (Split a b))))))
+        s t es
+        (fed-then _ _ s t es e (fed-cycle _ s) (λ u fs d.
+        fed-then _ _ u t fs d
+        (λ v gs c. fed-at_bit (top s.core) _ _ u v gs c (fed-execution b u v gs) (fed-execution a u v gs)) (λ v gs c. fed-cycle _ v t gs c)))
+    fed-execution (Loop a) s t es e =
+        fed-core (λ c. seq (cycle constants kernel limit (StartLoop (tree_digest constants a)))
+        (at_bit (top c)
+        (cycle constants kernel limit (End (tree_digest constants (Loop a))))
+        (turns constants kernel limit (tree_digest constants (Loop a)) (tree_digest constants a) (limit - c.clock)
+        (execution constants kernel limit a))))
+        s t es
+        (fed-then _ _ s t es e (fed-cycle _ s) (λ u fs d.
+        fed-at_bit (top s.core) _ _ u t fs d (fed-cycle _ u t fs) (fed-turns _ _ _ (fed-execution a) (limit - s.core.clock) u t fs)))
+    fed-execution (Call a) s t es e =
+        fed-core (λ c. seq (cycle constants kernel limit (StartCall (tree_digest constants a)))
+        (seq (execution constants kernel limit a) (cycle constants kernel limit (EndCall (tree_digest constants (Call a)) (frame_of c)))))
+        s t es
+        (fed-then _ _ s t es e (fed-cycle _ s) (λ u fs d. fed-then _ _ u t fs d (fed-execution a u) (λ v gs c. fed-cycle _ v t gs c)))
+    fed-execution (Syscall a) s t es e =
+        fed-core (λ c. seq (cycle constants kernel limit (StartSyscall (tree_digest constants a)))
+        (seq (execution constants kernel limit a) (cycle constants kernel limit (EndSyscall (tree_digest constants (Syscall a)) (frame_of c)))))
+        s t es
+        (fed-then _ _ s t es e (fed-cycle _ s) (λ u fs d. fed-then _ _ u t fs d (fed-execution a u) (λ v gs c. fed-cycle _ v t gs c)))
+    fed-execution (Dyn ts) s t es e =
+        fed-core (λ c. seq (cycle constants kernel limit (StartDyn (is_some (first_target constants (called_word c) ts))))
+        (seq (run_first constants kernel limit ts (called_word c)) (cycle constants kernel limit (End (tree_digest constants (Dyn ts))))))
+        s t es
+        (fed-then _ _ s t es e (fed-cycle _ s) (λ u fs d.
+        fed-then _ _ u t fs d (fed-first ts (called_word s.core) u) (λ v gs c. fed-cycle _ v t gs c)))
+
+    fed-first : (ts : Targets) (digest : List ℕ) (s t : State) (es : List Event)
+        → run_first constants kernel limit ts digest s ≡ Done t es → Fed (run_first constants kernel limit ts digest) s t es
+    fed-first no_target digest s t es e = fed-skip s t es e
+    fed-first (target x ts) digest s t es e =
+        fed-cond (pointwise nat_eq (tree_digest constants x) digest) _ _ s t es e (fed-execution x s t es) (fed-first ts digest s t es)
 
   pub fed-alone : (u : Tree) (s t : State) (es : List Event) → execution constants kernel limit u s ≡ Done t es
       → execution constants kernel limit u (with_tape s (tape_taken es)) ≡ Done (with_tape t []) es

@@ -8,13 +8,14 @@ use Rattle.vm_field.proofs.Elements.{elements-take}
 use Rattle.vm_ops.specs.Items.{IsOrdinaryItem}
 use Rattle.op_pack.specs.Reading.{IsBatch}
 use Rattle.op_pack.proofs.OrdinaryLemmas.{ordinary_reading}
-use Rattle.block_tree.specs.Trees.{Span, Join, Split, Loop, Call, Syscall, IsWhole}
+use Rattle.block_tree.specs.Trees.{Span, Join, Split, Loop, Call, Syscall, Dyn, IsWhole}
 use Rattle.block_tree.specs.Cycles.{Mark, advice_taken}
 use Rattle.block_tree.specs.Execution.{Event, event_of}
 use Rattle.block_tree.specs.Logs.{IsLog, over, next, IsWholeEvent}
 use Rattle.block_tree.specs.Marks.{IsWholeFrame, IsWholeMark}
-use Rattle.block_tree.specs.Steps.{Task, Block, Within, Turned, Closing, Returning, Leaving, Next, span, join, split_1, split_0, loop_1, loop_0, call, syscall, operation, respan, span_ends, repeats, loop_ends, closes, returns, leaves, IsCycle, Steps, ended, goes}
+use Rattle.block_tree.specs.Steps.{Task, Block, Within, Turned, Closing, Returning, Leaving, Next, span, join, split_1, split_0, loop_1, loop_0, call, syscall, dyn, operation, respan, span_ends, repeats, loop_ends, closes, returns, leaves, IsCycle, Steps, ended, goes}
 use Rattle.block_tree.proofs.KeptLemmas.{cycle-kept, whole-frame}
+use Rattle.block_tree.proofs.TargetLemmas.{first-whole}
 use Rattle.block_tree.proofs.WholeTrees.{whole-digest}
 
 abbrev pub IsWholeTask : Task → Type 0
@@ -51,6 +52,8 @@ next-whole constants len (call {c = c} {a = a}) w h =
     (whole-digest constants a len w, (w, ((whole-digest constants (Call a) len w, whole-frame c h), tt)))
 next-whole constants len (syscall {c = c} {a = a}) w h =
     (whole-digest constants a len w, (w, ((whole-digest constants (Syscall a) len w, whole-frame c h), tt)))
+next-whole constants len (dyn {c = c} {targets = ts} {a = a} found) w h =
+    (tt, (first-whole constants ts _ a w found, (whole-digest constants (Dyn ts) len w, tt)))
 next-whole constants len (operation {item = item} {items = items}) w h =
     (All-head IsOrdinaryItem item items w.0, ((All-tail IsOrdinaryItem item items w.0, w.1, w.2), tt))
 next-whole constants len (respan {batch = batch} {later = later} {items = items} read) w h =

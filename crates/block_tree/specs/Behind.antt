@@ -6,7 +6,7 @@ use Rattle.vm_ops.specs.declared.item.Item.{Item}
 use Rattle.vm_ops.specs.Step.{performed, seen}
 use Rattle.vm_ops.specs.Values.{trap_of}
 use Rattle.op_pack.specs.Reading.{reading}
-use Rattle.block_tree.specs.Cycles.{Frame, Mark, StartOpaque, StartSpan, StartJoin, StartSplit, StartLoop, StartCall, StartSyscall, Respan, Repeat, Do, End, EndSpan, EndLoop, EndCall, EndSyscall, is_in_kernel, top}
+use Rattle.block_tree.specs.Cycles.{Frame, Mark, StartOpaque, StartSpan, StartJoin, StartSplit, StartLoop, StartCall, StartSyscall, StartDyn, Respan, Repeat, Do, End, EndSpan, EndLoop, EndCall, EndSyscall, is_in_kernel, top}
 
 abbrev pub opened : Core → Core
 opened c = record c { nesting = c.nesting + 1 }
@@ -45,6 +45,7 @@ core_behind constants (StartSplit on_one on_zero) advice c = popped (opened c)
 core_behind constants (StartLoop body) advice c = popped (opened c)
 core_behind constants (StartCall callee) advice c = called callee (opened c)
 core_behind constants (StartSyscall callee) advice c = syscalled (opened c)
+core_behind constants (StartDyn known) advice c = opened c
 core_behind constants (Respan batch) advice c = c
 core_behind constants (Repeat body) advice c = popped c
 core_behind constants (Do item) advice c = performed item.op (seen constants item advice c) c
@@ -67,6 +68,7 @@ IsAllowed constants kernel (StartLoop body) advice c = (c.nesting < most_nesting
 IsAllowed constants kernel (StartCall callee) advice c = (c.nesting < most_nesting) × (c.in_syscall ≡ false)
 IsAllowed constants kernel (StartSyscall callee) advice c =
     (c.nesting < most_nesting) × (c.in_syscall ≡ false) × (is_in_kernel kernel callee ≡ true)
+IsAllowed constants kernel (StartDyn known) advice c = (c.nesting < most_nesting) × (known ≡ true)
 IsAllowed constants kernel (Respan batch) advice c = HasReading batch
 IsAllowed constants kernel (Repeat body) advice c = top c < 2
 IsAllowed constants kernel (Do item) advice c = trap_of item.op (seen constants item advice c) ≡ None

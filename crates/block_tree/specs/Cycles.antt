@@ -1,12 +1,12 @@
 -- What each kind of cycle does to the machine's state, and when it traps (docs/MACHINE.md, "Cycles" and "Calls").
-use Rattle.std.specs.Prelude.{ℕ, ◌+◌, ◌-◌, ◌^◌, Bool, true, nat_lt, nat_eq, if◌then◌else◌, List, ◌++◌, length, take, drop, slice_index, Result, Ok, Err, is_some}
+use Rattle.std.specs.Prelude.{ℕ, ◌+◌, ◌-◌, ◌^◌, Bool, true, nat_lt, nat_eq, if◌then◌else◌, List, [], ◌∷◌, ◌++◌, length, take, drop, slice_index, Result, Ok, Err, is_some}
 use Rattle.std.specs.List.{list_any}
 use lib.Pointwise.{pointwise}
 use Rattle.vm_field.specs.Limits.{most_nesting}
 use Rattle.vm_field.specs.Machine.{Core, filled_up}
 use Rattle.vm_ops.specs.declared.item.Item.{Item}
 use Rattle.vm_ops.specs.declared.cause.Cause.{Cause}
-use Rattle.vm_ops.specs.declared.cause.Cause.TheVariants.{NestedTooDeep, OpaqueBlock, BadBatch, NotBinary, CallInSyscall, NotInKernel, DepthAtReturn}
+use Rattle.vm_ops.specs.declared.cause.Cause.TheVariants.{NestedTooDeep, OpaqueBlock, UnknownTarget, BadBatch, NotBinary, CallInSyscall, NotInKernel, DepthAtReturn}
 use Rattle.vm_ops.specs.Values.{is_bit, advice_of}
 use Rattle.vm_ops.specs.Step.{act}
 use Rattle.op_pack.specs.Reading.{reading}
@@ -36,10 +36,11 @@ pub data Mark : Type 0 where
   StartLoop : (body : List ℕ) → Mark
   StartCall : (callee : List ℕ) → Mark
   StartSyscall : (callee : List ℕ) → Mark
+  StartDyn : (known : Bool) → Mark  -- whether there is a target of the digest on top of the stack
   Respan : (batch : List ℕ) → Mark
   Repeat : (body : List ℕ) → Mark
   Do : (item : Item) → Mark
-  End : (digest : List ℕ) → Mark  -- of a join, a split, or a loop that was not entered
+  End : (digest : List ℕ) → Mark  -- of a join, a split, a dynamic block, or a loop that was not entered
   EndSpan : (digest : List ℕ) → Mark
   EndLoop : (digest : List ℕ) → Mark  -- of a loop that was entered
   EndCall : (digest : List ℕ) (frame : Frame) → Mark
@@ -47,6 +48,10 @@ pub data Mark : Type 0 where
 
 abbrev pub top : Core → ℕ
 top c = slice_index c.stack 0
+
+-- the digest on top of the stack, its last element on top
+abbrev pub called_word : Core → List ℕ
+called_word c = slice_index c.stack 3 ∷ slice_index c.stack 2 ∷ slice_index c.stack 1 ∷ slice_index c.stack 0 ∷ []
 
 -- the top cell is popped, and must be 0 or 1
 unfoldable pub pops_bit : Cycle
@@ -68,6 +73,10 @@ and_then (Err cause) effect = Err cause
 -- the batch must have a reading
 unfoldable pub reads : List ℕ → Cycle
 reads batch c = if is_some (reading batch) then Ok c else Err BadBatch
+
+-- there must be a target
+unfoldable pub finds : Bool → Cycle
+finds known c = if known then Ok c else Err UnknownTarget
 
 -- The callee has a context of its own, and the function's digest is the callee's. The cells below the sixteenth are hidden.
 unfoldable pub enters_call : List ℕ → Cycle
@@ -109,6 +118,7 @@ effect_of constants kernel (StartSplit on_one on_zero) advice = opens pops_bit
 effect_of constants kernel (StartLoop body) advice = opens pops_bit
 effect_of constants kernel (StartCall callee) advice = opens (enters_call callee)
 effect_of constants kernel (StartSyscall callee) advice = opens (enters_syscall kernel callee)
+effect_of constants kernel (StartDyn known) advice = opens (finds known)
 effect_of constants kernel (Respan batch) advice = reads batch
 effect_of constants kernel (Repeat body) advice = pops_bit
 effect_of constants kernel (Do item) advice = act constants item advice

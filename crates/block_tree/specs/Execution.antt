@@ -1,12 +1,13 @@
 -- What a tree does from a state: it is done, it traps, or the limit of cycles ends it (docs/MACHINE.md, "Cycles").
-use Rattle.std.specs.Prelude.{ℕ, zero, suc, ◌-◌, nat_lt, if◌then◌else◌, List, [], ◌∷◌, ◌++◌, take, Option, Some, None, Result, Ok, Err}
+use Rattle.std.specs.Prelude.{ℕ, zero, suc, ◌-◌, nat_lt, if◌then◌else◌, List, [], ◌∷◌, ◌++◌, take, Option, Some, None, Result, Ok, Err, nat_eq, is_some}
+use lib.Pointwise.{pointwise}
 use Rattle.vm_field.specs.Machine.{Core, State}
 use Rattle.vm_ops.specs.declared.item.Item.{Item}
 use Rattle.vm_ops.specs.declared.cause.Cause.{Cause}
 use Rattle.vm_ops.specs.Step.{cycle_taking}
 use Rattle.op_pack.specs.Reading.{reading}
-use Rattle.block_tree.specs.Trees.{Tree, Opaque, Span, Join, Split, Loop, Call, Syscall, Dyn, tree_digest}
-use Rattle.block_tree.specs.Cycles.{Cycle, Mark, StartOpaque, StartSpan, StartJoin, StartSplit, StartLoop, StartCall, StartSyscall, Respan, Repeat, Do, End, EndSpan, EndLoop, EndCall, EndSyscall, frame_of, top, effect_of, advice_taken}
+use Rattle.block_tree.specs.Trees.{Tree, Opaque, Span, Join, Split, Loop, Call, Syscall, Dyn, Targets, no_target, target, first_target, tree_digest}
+use Rattle.block_tree.specs.Cycles.{Cycle, Mark, StartOpaque, StartSpan, StartJoin, StartSplit, StartLoop, StartCall, StartSyscall, StartDyn, Respan, Repeat, Do, End, EndSpan, EndLoop, EndCall, EndSyscall, frame_of, top, called_word, effect_of, advice_taken}
 
 -- One cycle of a run: what it is, the state before it but for the tape, and what it takes of the tape.
 pub record Event : Type 0 where
@@ -91,26 +92,35 @@ module _ (constants : List ℕ) (kernel : List (List ℕ)) (limit : ℕ) where
       (cycle (EndLoop digest))
       (seq (cycle (Repeat body_digest)) (turns digest body_digest n body)) t) s
 
-  -- The run of a tree. Each turn of a loop takes a cycle at least, so that no loop makes more turns than cycles are left. No
-  -- operation starts a dynamic block, so that one traps as an opaque block does.
-  abbrev pub execution : Tree → Part
-  execution (Opaque digest) = cycle StartOpaque
-  execution (Span batches) = seq (batches_from StartSpan batches) (cycle (EndSpan (tree_digest constants (Span batches))))
-  execution (Join first second) =
-      seq (cycle (StartJoin (tree_digest constants first) (tree_digest constants second)))
-      (seq (execution first) (seq (execution second) (cycle (End (tree_digest constants (Join first second))))))
-  execution (Split on_one on_zero) = λ s.
-      seq (cycle (StartSplit (tree_digest constants on_one) (tree_digest constants on_zero)))
-      (seq (at_bit (top s.core) (execution on_zero) (execution on_one)) (cycle (End (tree_digest constants (Split on_one on_zero))))) s
-  execution (Loop body) = λ s.
-      seq (cycle (StartLoop (tree_digest constants body)))
-      (at_bit (top s.core)
-      (cycle (End (tree_digest constants (Loop body))))
-      (turns (tree_digest constants (Loop body)) (tree_digest constants body) (limit - s.core.clock) (execution body))) s
-  execution (Call callee) = λ s.
-      seq (cycle (StartCall (tree_digest constants callee)))
-      (seq (execution callee) (cycle (EndCall (tree_digest constants (Call callee)) (frame_of s.core)))) s
-  execution (Syscall callee) = λ s.
-      seq (cycle (StartSyscall (tree_digest constants callee)))
-      (seq (execution callee) (cycle (EndSyscall (tree_digest constants (Syscall callee)) (frame_of s.core)))) s
-  execution (Dyn targets) = cycle StartOpaque
+  -- The run of a tree. Each turn of a loop takes a cycle at least, so that no loop makes more turns than cycles are left. A
+  -- dynamic block runs the first of its targets whose digest is on top of the stack, and leaves the stack as it is.
+  abbrev mutual
+    pub execution : Tree → Part
+    execution (Opaque digest) = cycle StartOpaque
+    execution (Span batches) = seq (batches_from StartSpan batches) (cycle (EndSpan (tree_digest constants (Span batches))))
+    execution (Join first second) =
+        seq (cycle (StartJoin (tree_digest constants first) (tree_digest constants second)))
+        (seq (execution first) (seq (execution second) (cycle (End (tree_digest constants (Join first second))))))
+    execution (Split on_one on_zero) = λ s.
+        seq (cycle (StartSplit (tree_digest constants on_one) (tree_digest constants on_zero)))
+        (seq (at_bit (top s.core) (execution on_zero) (execution on_one)) (cycle (End (tree_digest constants (Split on_one on_zero))))) s
+    execution (Loop body) = λ s.
+        seq (cycle (StartLoop (tree_digest constants body)))
+        (at_bit (top s.core)
+        (cycle (End (tree_digest constants (Loop body))))
+        (turns (tree_digest constants (Loop body)) (tree_digest constants body) (limit - s.core.clock) (execution body))) s
+    execution (Call callee) = λ s.
+        seq (cycle (StartCall (tree_digest constants callee)))
+        (seq (execution callee) (cycle (EndCall (tree_digest constants (Call callee)) (frame_of s.core)))) s
+    execution (Syscall callee) = λ s.
+        seq (cycle (StartSyscall (tree_digest constants callee)))
+        (seq (execution callee) (cycle (EndSyscall (tree_digest constants (Syscall callee)) (frame_of s.core)))) s
+    execution (Dyn targets) = λ s.
+        seq (cycle (StartDyn (is_some (first_target constants (called_word s.core) targets))))
+        (seq (run_first targets (called_word s.core)) (cycle (End (tree_digest constants (Dyn targets))))) s
+
+    -- the first target of a digest; where there is none, the start has trapped
+    pub run_first : Targets → List ℕ → Part
+    run_first no_target digest = skip
+    run_first (target first more) digest =
+        if pointwise nat_eq (tree_digest constants first) digest then execution first else run_first more digest

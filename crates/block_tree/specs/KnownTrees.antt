@@ -20,13 +20,18 @@ abbrev mutual
   HaveNoOpaque no_target = Unit {0}
   HaveNoOpaque (target first more) = HasNoOpaque first × HaveNoOpaque more
 
--- Each block is known whole, each span has batches, of which each has a reading, and no block is dynamic.
-abbrev pub IsReady : Tree → Type 0
-IsReady (Opaque digest) = ⊥
-IsReady (Span batches) = (batches ≢ []) × AllByRecursion HasReading batches
-IsReady (Join first second) = IsReady first × IsReady second
-IsReady (Split on_one on_zero) = IsReady on_one × IsReady on_zero
-IsReady (Loop body) = IsReady body
-IsReady (Call callee) = IsReady callee
-IsReady (Syscall callee) = IsReady callee
-IsReady (Dyn targets) = ⊥
+-- each block is known whole, and each span has batches, of which each has a reading
+abbrev mutual
+  pub IsReady : Tree → Type 0
+  IsReady (Opaque digest) = ⊥
+  IsReady (Span batches) = (batches ≢ []) × AllByRecursion HasReading batches
+  IsReady (Join first second) = IsReady first × IsReady second
+  IsReady (Split on_one on_zero) = IsReady on_one × IsReady on_zero
+  IsReady (Loop body) = IsReady body
+  IsReady (Call callee) = IsReady callee
+  IsReady (Syscall callee) = IsReady callee
+  IsReady (Dyn targets) = AreReady targets
+
+  pub AreReady : Targets → Type 0
+  AreReady no_target = Unit {0}
+  AreReady (target first more) = IsReady first × AreReady more

@@ -4,7 +4,7 @@ use Rattle.vm_field.specs.Field.{prime, AreElements}
 use Rattle.vm_field.specs.Machine.{IsWord}
 use Rattle.vm_ops.specs.Items.{IsOrdinaryItem}
 use Rattle.op_pack.specs.Reading.{IsBatch}
-use Rattle.block_tree.specs.Cycles.{Frame, Mark, StartOpaque, StartSpan, StartJoin, StartSplit, StartLoop, StartCall, StartSyscall, Respan, Repeat, Do, End, EndSpan, EndLoop, EndCall, EndSyscall}
+use Rattle.block_tree.specs.Cycles.{Frame, Mark, StartOpaque, StartSpan, StartJoin, StartSplit, StartLoop, StartCall, StartSyscall, StartDyn, Respan, Repeat, Do, End, EndSpan, EndLoop, EndCall, EndSyscall}
 
 -- what a call of a well-formed state sets aside
 pub record IsWholeFrame (frame : Frame) : Type 0 where
@@ -20,6 +20,7 @@ IsWholeMark (StartSplit on_one on_zero) = IsWord on_one × IsWord on_zero
 IsWholeMark (StartLoop body) = IsWord body
 IsWholeMark (StartCall callee) = IsWord callee
 IsWholeMark (StartSyscall callee) = IsWord callee
+IsWholeMark (StartDyn known) = Unit {0}
 IsWholeMark (Respan batch) = IsBatch batch
 IsWholeMark (Repeat body) = IsWord body
 IsWholeMark (Do item) = IsOrdinaryItem item

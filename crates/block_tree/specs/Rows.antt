@@ -5,7 +5,7 @@ use Rattle.vm_ops.specs.Codes.{accesses_memory}
 use Rattle.vm_ops.specs.declared.cause.Cause.{Cause}
 use Rattle.vm_ops.specs.declared.op.Op.{Op}
 use Rattle.vm_ops.specs.declared.op.Op.TheVariants as ops
-use Rattle.block_tree.specs.Cycles.{Mark, StartOpaque, StartSpan, StartJoin, StartSplit, StartLoop, StartCall, StartSyscall, Respan, Repeat, Do, End, EndSpan, EndLoop, EndCall, EndSyscall, top}
+use Rattle.block_tree.specs.Cycles.{Mark, StartOpaque, StartSpan, StartJoin, StartSplit, StartLoop, StartCall, StartSyscall, StartDyn, Respan, Repeat, Do, End, EndSpan, EndLoop, EndCall, EndSyscall, top}
 
 -- The operation of a cycle's row. An opaque block never starts, and so has no row; it has the name of a span here.
 abbrev pub op_of_mark : Mark → Op
@@ -16,6 +16,7 @@ op_of_mark (StartSplit on_one on_zero) = ops.Split
 op_of_mark (StartLoop body) = ops.Loop
 op_of_mark (StartCall callee) = ops.Call
 op_of_mark (StartSyscall callee) = ops.Syscall
+op_of_mark (StartDyn known) = ops.Dyn
 op_of_mark (Respan batch) = ops.Respan
 op_of_mark (Repeat body) = ops.Repeat
 op_of_mark (Do item) = item.op
@@ -40,6 +41,7 @@ hash_of (StartSplit on_one on_zero) = on_one ++ on_zero
 hash_of (StartLoop body) = body ++ zero_word
 hash_of (StartCall callee) = callee ++ zero_word
 hash_of (StartSyscall callee) = callee ++ zero_word
+hash_of (StartDyn known) = zero_word ++ zero_word
 hash_of (Respan batch) = batch
 hash_of (Repeat body) = body ++ zero_word
 hash_of (Do item) = zero_word ++ zero_word

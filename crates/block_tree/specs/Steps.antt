@@ -1,18 +1,18 @@
 -- A run one cycle after another: what is still to be done is a list of tasks, and the first of them says which cycle comes
 -- (docs/MACHINE.md, "Cycles").
-use Rattle.std.specs.Prelude.{◌≡◌, ℕ, ◌+◌, ◌<◌, ◌≤◌, List, [], ◌∷◌, ◌++◌, length, take, drop, Some, Ok}
+use Rattle.std.specs.Prelude.{◌≡◌, ℕ, true, ◌+◌, ◌<◌, ◌≤◌, List, [], ◌∷◌, ◌++◌, length, take, drop, Some, Ok}
 use Rattle.vm_field.specs.Machine.{Core, State}
 use Rattle.vm_ops.specs.declared.item.Item.{Item}
 use Rattle.op_pack.specs.Reading.{reading}
-use Rattle.block_tree.specs.Trees.{Tree, Span, Join, Split, Loop, Call, Syscall, tree_digest}
-use Rattle.block_tree.specs.Cycles.{Frame, Mark, StartSpan, StartJoin, StartSplit, StartLoop, StartCall, StartSyscall, Respan, Repeat, Do, End, EndSpan, EndLoop, EndCall, EndSyscall, frame_of, top, effect_of, advice_taken}
+use Rattle.block_tree.specs.Trees.{Tree, Targets, Span, Join, Split, Loop, Call, Syscall, Dyn, first_target, tree_digest}
+use Rattle.block_tree.specs.Cycles.{Frame, Mark, StartSpan, StartJoin, StartSplit, StartLoop, StartCall, StartSyscall, StartDyn, Respan, Repeat, Do, End, EndSpan, EndLoop, EndCall, EndSyscall, frame_of, top, called_word, effect_of, advice_taken}
 use Rattle.block_tree.specs.Execution.{Event, event_of}
 
 pub data Task : Type 0 where
   Block : (tree : Tree) → Task  -- a block that is to start
   Within : (items : List Item) (later : List (List ℕ)) (digest : List ℕ) → Task  -- a span of that digest: the rest of its batch, and the later ones
   Turned : (body : Tree) → Task  -- a loop of that body, behind a turn
-  Closing : (digest : List ℕ) → Task  -- the end of a join, of a split, or of a loop that was not entered
+  Closing : (digest : List ℕ) → Task  -- the end of a join, a split, a dynamic block, or a loop that was not entered
   Returning : (digest : List ℕ) (frame : Frame) → Task  -- the end of a call
   Leaving : (digest : List ℕ) (frame : Frame) → Task  -- the end of a syscall
 
@@ -38,6 +38,8 @@ module _ (constants : List ℕ) where
     syscall : {c : Core} {a : Tree}
         → Next (Block (Syscall a)) c (StartSyscall (tree_digest constants a))
         (Block a ∷ Leaving (tree_digest constants (Syscall a)) (frame_of c) ∷ [])
+    dyn : {c : Core} {targets : Targets} {a : Tree} → first_target constants (called_word c) targets ≡ Some a
+        → Next (Block (Dyn targets)) c (StartDyn true) (Block a ∷ Closing (tree_digest constants (Dyn targets)) ∷ [])
     operation : {c : Core} {item : Item} {items : List Item} {later : List (List ℕ)} {digest : List ℕ}
         → Next (Within (item ∷ items) later digest) c (Do item) (Within items later digest ∷ [])
     respan : {c : Core} {batch : List ℕ} {later : List (List ℕ)} {digest : List ℕ} {items : List Item} → reading batch ≡ Some items

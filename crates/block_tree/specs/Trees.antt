@@ -58,13 +58,9 @@ input_of_two start first second = record { domain = code_of start; blocks = (fir
 abbrev pub input_of_one : Op → List ℕ → HashInput
 input_of_one start child = input_of_two start child zero_word
 
--- the code of the operation that starts a dynamic block
-abbrev pub dyn_code : ℕ
-dyn_code = 80
-
 -- A dynamic block is one block of eight zeros, whatever its targets are, under the code of its operation.
 abbrev pub input_of_dyn : HashInput
-input_of_dyn = record { domain = dyn_code; blocks = (zero_word ++ zero_word) ∷ [] }
+input_of_dyn = record { domain = code_of op.Dyn; blocks = (zero_word ++ zero_word) ∷ [] }
 
 -- the digest of a tree: that of the hash input of its root
 abbrev pub tree_digest : List ℕ → Tree → List ℕ

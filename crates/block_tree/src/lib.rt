@@ -15,7 +15,6 @@ pub use kernel::are_distinct;
 pub use laws::{cycle_laws, log_laws, row_laws, run_laws, tree_laws, types_cross};
 pub use program::Program;
 pub use tree::{
-    DYN_CODE, Tree, Trees, copy, digest, digest_of_dynamic, digest_of_one, digest_of_two, dynamic,
-    height,
+    Tree, Trees, copy, digest, digest_of_dynamic, digest_of_one, digest_of_two, dynamic, height,
 };
 pub use whole::known_whole;

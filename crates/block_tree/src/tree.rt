@@ -100,16 +100,13 @@ pub fn digest(params: &Params, tree: &Tree) -> Word
     }
 }
 
-/// The domain of a dynamic block's hash input: the code of the operation that starts one.
-pub const DYN_CODE: u64 = 80;
-
 /// The digest of a dynamic block, which does not depend on its targets.
 pub fn digest_of_dynamic(params: &Params) -> Word
     ensures is { result ≡ digest_of_input (constants_of params.now) input_of_dyn }
 {
     digest_of(
         params,
-        Felt::reduced(u128::from(DYN_CODE)),
+        Felt::reduced(u128::from(opcode(Op::Dyn))),
         &[[Felt::ZERO; 8]],
     )
 }

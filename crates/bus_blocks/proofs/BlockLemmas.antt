@@ -27,6 +27,7 @@ is_end_kind kinds.Loop = false
 is_end_kind kinds.Span = false
 is_end_kind kinds.Call = false
 is_end_kind kinds.Syscall = false
+is_end_kind kinds.Dyn = false
 is_end_kind kinds.End = true
 is_end_kind kinds.Repeat = false
 is_end_kind kinds.Respan = false

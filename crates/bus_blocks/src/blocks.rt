@@ -72,7 +72,7 @@ fn kind_of_start<V: MainView>(op: Op, x: &V) -> Felt
     ensures { result ≡ kind_of_start op (V.cells x.now) }
 {
     match kind_of(op) {
-        Kind::Join | Kind::Split => Felt::ZERO,
+        Kind::Join | Kind::Split | Kind::Dyn => Felt::ZERO,
         Kind::Loop => x.s0(),
         Kind::Span => Felt::from_u32(2),
         Kind::Call => Felt::from_u32(3),

@@ -2,7 +2,7 @@ ghost use Rattle.std.specs.Prelude.{◌≡◌, ◌==◌, if◌then◌else◌, []
 ghost use Rattle.vm_ops.specs.Codes.{is_start_op};
 ghost use Rattle.vm_table.specs.MainColumns.{addr, s};
 ghost use Rattle.air_kit.specs.Flags.{op_of, HasBits};
-ghost use Rattle.air_kit.specs.MainTuples.{back, child, children_given, children_asked, front};
+ghost use Rattle.air_kit.specs.MainTuples.{back, called_digest, child, children_given, children_asked, front};
 ghost use Rattle.bus_kit.specs.Widths.{tallied};
 ghost use Rattle.bus_kit.specs.Adding.{IsCounted};
 ghost use Rattle.bus_blocks.specs.Space.{HasSpace};
@@ -31,6 +31,7 @@ pub fn tuples_children<V: MainView>(
         Kind::Split => give(tally, &chosen(x, y)),
         Kind::Loop => give_entered(x, y, tally),
         Kind::Call | Kind::Syscall => give(tally, &first(y, x, Felt::ZERO)),
+        Kind::Dyn => give(tally, &called(y, x)),
         Kind::Repeat => give(tally, &first(x, x, Felt::ZERO)),
         Kind::End => ask(tally, &first(y, x, more_behind(y))),
         Kind::Ordinary | Kind::Span | Kind::Respan | Kind::Halt => Ok(()),
@@ -84,6 +85,13 @@ fn second<V: MainView>(parent: &V, x: &V) -> [Felt; 6]
     ensures { result ≡ addr (V.cells parent.now) ∷ back (V.cells x.now) ++ 0 ∷ [] }
 {
     [parent.addr(), x.h4(), x.h5(), x.h6(), x.h7(), Felt::ZERO]
+}
+
+// The same of the digest on top of a row's stack.
+fn called<V: MainView>(parent: &V, x: &V) -> [Felt; 6]
+    ensures { result ≡ addr (V.cells parent.now) ∷ called_digest (V.cells x.now) ++ 0 ∷ [] }
+{
+    [parent.addr(), x.s3(), x.s2(), x.s1(), x.s0(), Felt::ZERO]
 }
 
 // 1 where the row starts a block.

@@ -16,6 +16,7 @@ use Rattle.air_kit.specs.BlockValues.{block_values, follow_values, shown_values,
 use Rattle.air_kit.specs.SpanValues.{span_values, batch_values, group_values}
 use Rattle.air_kit.specs.StackValues.{stack_values, depth_values, cell_values, operand_values}
 use Rattle.air_kit.specs.U32Values.{u32_values}
+use Rattle.air_kit.specs.DynValues.{dyn_values}
 use Rattle.air_kit.specs.MainValues.{decoder_values, main_values}
 use Rattle.air_kit.proofs.FaultLemmas.{first_append, first_none, first_some}
 use Rattle.checker.proofs.PieceLemmas.{lower_table, number_at_least, number_below, row_at_least, row_below}
@@ -60,23 +61,35 @@ stack_length : (p : Spot) → length (stack_values p) ≡ 25
 unfolding stack_values depth_values cell_values operand_values family
 stack_length p = refl
 
--- the faults of the three parts of a main row, one behind the other
+u32_length : (p : Spot) → length (u32_values p) ≡ 8
+unfolding u32_values
+u32_length p = refl
+
+-- the faults of two lists of which the second one's numbers follow those of the first
+two_joined : (n m : ℕ) (xs ys : List ℕ) → n + length xs ≡ m
+    → or_next (first_fault_of n xs) (first_fault_of m ys) ≡ first_fault_of n (xs ++ ys)
+two_joined n m xs ys follows =
+    ap (λ k. or_next (first_fault_of n xs) (first_fault_of k ys)) (sym follows) ∙ sym (first_append n xs ys)
+
+-- the faults of the four parts of a main row, one behind the other
 pub main_joined : (c : Claim) (p : Spot)
     → or_next (first_fault_of 1 (decoder_values c p))
-    (or_next (first_fault_of 115 (stack_values p)) (first_fault_of 140 (u32_values p))) ≡ first_fault_of 1 (main_values c p)
+    (or_next (first_fault_of 115 (stack_values p)) (or_next (first_fault_of 140 (u32_values p)) (first_fault_of 148 (dyn_values p))))
+    ≡ first_fault_of 1 (main_values c p)
 unfolding main_values
 main_joined c p =
     ap (or_next (first_fault_of 1 (decoder_values c p)))
-    (ap (λ n. or_next (first_fault_of 115 (stack_values p)) (first_fault_of n (u32_values p))) (let h = stack_length p in omega (arith, h))
-    ∙ sym (first_append 115 (stack_values p) (u32_values p))
-    ∙ ap (λ n. first_fault_of n (stack_values p ++ u32_values p)) (let h = decoder_length c p in omega (arith, h)))
-    ∙ sym (first_append 1 (decoder_values c p) (stack_values p ++ u32_values p))
+    (ap (or_next (first_fault_of 115 (stack_values p)))
+    (two_joined 140 148 (u32_values p) (dyn_values p) (let h = u32_length p in omega (arith, h)))
+    ∙ two_joined 115 140 (stack_values p) (u32_values p ++ dyn_values p) (let h = stack_length p in omega (arith, h)))
+    ∙ two_joined 1 115 (decoder_values c p) (stack_values p ++ (u32_values p ++ dyn_values p)) (let h = decoder_length c p in omega (arith, h))
 
--- the same for what three functions answer
-pub main_of_parts : (c : Claim) (p : Spot) (decoder stack u32 whole : Option (ℕ × ℕ))
+-- the same for what four functions answer
+pub main_of_parts : (c : Claim) (p : Spot) (decoder stack u32 dyn whole : Option (ℕ × ℕ))
     → decoder ≡ first_fault_of 1 (decoder_values c p) → stack ≡ first_fault_of 115 (stack_values p) → u32 ≡ first_fault_of 140 (u32_values p)
-    → whole ≡ or_next decoder (or_next stack u32) → whole ≡ first_fault_of 1 (main_values c p)
-main_of_parts c p decoder stack u32 whole d s u w = w ∙ rw (d, s, u) (main_joined c p)
+    → dyn ≡ first_fault_of 148 (dyn_values p)
+    → whole ≡ or_next decoder (or_next stack (or_next u32 dyn)) → whole ≡ first_fault_of 1 (main_values c p)
+main_of_parts c p decoder stack u32 dyn whole d s u b w = w ∙ rw (d, s, u, b) (main_joined c p)
 
 -- the first row with a fault of those that a table has in the piece
 pub table_fault_at : (c : Claim) (t : Trace) (name : TableName) (a b start end row number value : ℕ) → start ≡ rows_below t name a → end ≡ rows_below t name b

@@ -149,7 +149,8 @@ fn row_fault(
     }
 }
 
-// The first fault of a row of the main table: by its operations and blocks, by its stack, by its numbers of 32 bits.
+// The first fault of a row of the main table: by its operations and blocks, by its stack, by its numbers of 32 bits, by what a
+// dynamic block is hashed from.
 fn main_fault(trace: &Trace, setting: &Setting<'_>, row: usize) -> Option<(u16, Felt)>
     requires within { row < length trace.now.main }
     requires small { row < 2 ^ 32 }
@@ -163,5 +164,8 @@ fn main_fault(trace: &Trace, setting: &Setting<'_>, row: usize) -> Option<(u16, 
     if let Some(fault) = air_stack::first_fault_seen(&place, &x) {
         return Some(fault);
     }
-    air_u32::first_fault_seen(&place, &x)
+    if let Some(fault) = air_u32::first_fault_seen(&place, &x) {
+        return Some(fault);
+    }
+    air_decoder::dyn_fault_seen(&place, &x)
 }

@@ -5,7 +5,7 @@ use Rattle.vm_ops.specs.declared.op.Op.TheVariants as ops
 use Rattle.buses.specs.Counts.{counted}
 use Rattle.vm_table.specs.MainColumns.{h}
 use Rattle.block_tree.specs.Cycles.{Mark, Do, frame_of}
-use Rattle.block_tree.specs.Steps.{Task, Block, Within, Turned, Closing, Returning, Leaving, Next, span, join, split_1, split_0, loop_1, loop_0, call, syscall, operation, respan, span_ends, repeats, loop_ends, closes, returns, leaves}
+use Rattle.block_tree.specs.Steps.{Task, Block, Within, Turned, Closing, Returning, Leaving, Next, span, join, split_1, split_0, loop_1, loop_0, call, syscall, dyn, operation, respan, span_ends, repeats, loop_ends, closes, returns, leaves}
 use Rattle.block_tree.specs.Trees.{Loop, tree_digest}
 use Rattle.air_kit.specs.DeepCells.{key_of}
 use Rattle.air_kit.specs.MainTuples.{blocks_asked, blocks_given, no_frame}
@@ -92,6 +92,9 @@ module _ (constants : List ℕ) (kernel : List (List ℕ)) where
       let given = start_gives x y ops.Syscall d.next (address_of d.blocks) 4 (saved (frame_of c) d.keys) u p.op refl p.next.address p.here.address
       refl frame in
       let asked = none_asks x y u ops.Syscall p.op refl in omega (arith, given, asked)
+  blocks_pair (dyn found) advice b d events todo x y p agrees u =
+      let given = start_gives x y ops.Dyn d.next (address_of d.blocks) 0 no_frame u p.op refl p.next.address p.here.address refl refl in
+      let asked = none_asks x y u ops.Dyn p.op refl in omega (arith, given, asked)
   blocks_pair (repeats bit) advice b d events todo x y p agrees u =
       let given = none_gives x y u ops.Repeat p.op refl in
       let asked = none_asks x y u ops.Repeat p.op refl in omega (arith, given, asked)

@@ -1,15 +1,16 @@
 -- The bus of children is even: a child is named before it starts, and its END asks what was named.
-use Rattle.std.proofs.Common.{◌≡◌, ℕ, ◌+◌, false, cond, List, [], ◌∷◌, ◌++◌, drop, refl, ap, ◌∙◌, arith, lit<}
+use Rattle.std.proofs.Common.{◌≡◌, ℕ, ◌+◌, ◌<◌, false, cond, List, [], ◌∷◌, ◌++◌, drop, slice_index, refl, sym, ap, ◌∙◌, arith, lit<}
 use Rattle.vm_field.specs.Machine.{Core, zero_word}
 use Rattle.vm_ops.specs.Codes.{is_start_op}
 use Rattle.vm_ops.specs.declared.op.Op.{Op}
 use Rattle.vm_ops.specs.declared.op.Op.TheVariants as ops
 use Rattle.buses.specs.Counts.{counted}
-use Rattle.block_tree.specs.Cycles.{Frame, Mark, Do}
+use Rattle.vm_table.specs.MainColumns.{s}
+use Rattle.block_tree.specs.Cycles.{Frame, Mark, Do, called_word}
 use Rattle.block_tree.specs.Rows.{op_of_mark}
-use Rattle.block_tree.specs.Steps.{Task, Block, Within, Turned, Closing, Returning, Leaving, Next, span, join, split_1, split_0, loop_1, loop_0, call, syscall, operation, respan, span_ends, repeats, loop_ends, closes, returns, leaves}
+use Rattle.block_tree.specs.Steps.{Task, Block, Within, Turned, Closing, Returning, Leaving, Next, span, join, split_1, split_0, loop_1, loop_0, call, syscall, dyn, operation, respan, span_ends, repeats, loop_ends, closes, returns, leaves}
 use Rattle.block_tree.specs.Trees.{Tree, Loop, tree_digest}
-use Rattle.air_kit.specs.MainTuples.{children_asked, children_given}
+use Rattle.air_kit.specs.MainTuples.{called_digest, children_asked, children_given}
 use Rattle.air_kit.specs.Flags as flags
 use Rattle.machine_cycles.specs.Events.{shown_between}
 use Rattle.machine_cycles.specs.declared.event.Event.{Event}
@@ -19,9 +20,10 @@ use Rattle.complete_rows.specs.Moments.{Comes}
 use Rattle.complete_rows.proofs.AgreeLemmas.{ordinary_advance}
 use Rattle.complete_rows.proofs.BlockLemmas.{no_block}
 use Rattle.complete_rows.proofs.FollowLemmas.{starts_block}
-use Rattle.complete_buses.proofs.ChildTuples.{body, callee, child_tuple, end_asks, join_gives, kernel_named, loop_passed, none_asks, none_gives, on_one, on_zero, one_gives, ordinary_names, plain_names, turn}
+use Rattle.complete_buses.proofs.ChildTuples.{body, callee, child_tuple, end_asks, join_gives, kernel_named, loop_passed, none_asks, none_gives, on_one, on_zero, one_gives, ordinary_names, plain_names, target_named, turn}
 use Rattle.complete_buses.proofs.Hits.{hit}
 use Rattle.complete_buses.proofs.PairShown.{Pair, back_is, front_is}
+use Rattle.complete_buses.proofs.TargetWords.{first_digest}
 
 -- 1 where a block comes
 abbrev pub starts : List Task → ℕ
@@ -41,6 +43,10 @@ around (Turned body) blocks = drop 1 blocks
 around (Closing digest) blocks = drop 1 blocks
 around (Returning digest frame) blocks = drop 1 blocks
 around (Leaving digest frame) blocks = drop 1 blocks
+
+-- the digest on top of the stack
+word_shown : (c : Core) (x : List ℕ) → ((j : ℕ) → j < 16 → s x j ≡ slice_index c.stack j) → called_digest x ≡ called_word c
+word_shown c x cells = rw (cells 0 (lit< tt), cells 1 (lit< tt), cells 2 (lit< tt), cells 3 (lit< tt)) refl
 
 module _ (constants : List ℕ) where
   -- and its digest
@@ -124,6 +130,11 @@ module _ (constants : List ℕ) where
       let given = one_gives ops.Syscall x y (tree_digest constants a) d.next u p.op
       (kernel_named x y (tree_digest constants a) d.next p.next.address first) in
       let asked = none_asks x y u ops.Syscall p.op refl in omega (arith, given, asked)
+  children_pair kernel (dyn {c = c} {targets = targets} {a = a} found) advice b d events todo x y after p out comes u =
+      let word = word_shown c x p.here.cells ∙ sym (first_digest constants targets (called_word c) a found) in
+      let given = one_gives ops.Dyn x y (tree_digest constants a) d.next u p.op
+      (target_named x y (tree_digest constants a) d.next p.next.address word) in
+      let asked = none_asks x y u ops.Dyn p.op refl in omega (arith, given, asked)
   children_pair kernel (repeats {a = a} bit) advice b d events todo x y after p out comes u =
       let first = front_is (tree_digest constants a) zero_word x p.whole.size p.hash in
       let given = one_gives ops.Repeat x y (tree_digest constants a) (address_of d.blocks) u p.op

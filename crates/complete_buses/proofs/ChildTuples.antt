@@ -7,7 +7,7 @@ use Rattle.vm_ops.specs.declared.op.Op.{Op}
 use Rattle.vm_ops.specs.declared.op.Op.TheVariants as ops
 use Rattle.vm_table.specs.MainColumns.{addr, s}
 use Rattle.air_kit.specs.Flags as flags
-use Rattle.air_kit.specs.MainTuples.{back, child, children_asked, children_given, children_of, front}
+use Rattle.air_kit.specs.MainTuples.{back, called_digest, child, children_asked, children_given, children_of, front}
 use Rattle.complete_buses.proofs.Hits.{hit, one_count, two_count}
 
 -- the tuple of a child
@@ -61,6 +61,10 @@ pub kernel_named : (x y word : List ℕ) (n : ℕ) → addr y ≡ n → front x 
 unfolding children_of
 kernel_named x y word n at digest = one_same (addr y) n (front x) word at digest
 
+pub target_named : (x y word : List ℕ) (n : ℕ) → addr y ≡ n → called_digest x ≡ word → Names ops.Dyn x y n word
+unfolding children_of
+target_named x y word n at digest = one_same (addr y) n (called_digest x) word at digest
+
 pub turn : (x y word : List ℕ) (n : ℕ) → addr x ≡ n → front x ≡ word → Names ops.Repeat x y n word
 unfolding children_of
 turn x y word n at digest = one_same (addr x) n (front x) word at digest
@@ -77,6 +81,7 @@ ordinary_names ops.Split x y e = cc
 ordinary_names ops.Loop x y e = cc
 ordinary_names ops.Call x y e = cc
 ordinary_names ops.Syscall x y e = cc
+ordinary_names ops.Dyn x y e = cc
 ordinary_names ops.Repeat x y e = cc
 ordinary_names op x y e = refl
 

@@ -7,7 +7,7 @@ use Rattle.buses.specs.Counts.{counted}
 use Rattle.vm_table.specs.MainColumns.{gc, sp}
 use Rattle.op_pack.specs.Reading.{positions_in_use}
 use Rattle.block_tree.specs.Cycles.{Mark, Do}
-use Rattle.block_tree.specs.Steps.{Task, Next, span, join, split_1, split_0, loop_1, loop_0, call, syscall, operation, respan, span_ends, repeats, loop_ends, closes, returns, leaves}
+use Rattle.block_tree.specs.Steps.{Task, Next, span, join, split_1, split_0, loop_1, loop_0, call, syscall, dyn, operation, respan, span_ends, repeats, loop_ends, closes, returns, leaves}
 use Rattle.air_kit.specs.Flags as flags
 use Rattle.air_kit.specs.MainTuples.{groups_asked, groups_given, is_batch_op, positions}
 use Rattle.machine_cycles.specs.Events.{shown_between}
@@ -68,6 +68,9 @@ module _ (constants : List ℕ) (kernel : List (List ℕ)) where
   groups_pair syscall advice b d events todo x y after p g agrees comes u =
       let given = none_gives x y u ops.Syscall p.op refl in
       let asked = none_asks x y u ops.Syscall p.op refl (outside_none x y ops.Syscall p.op refl) in omega (arith, given, asked)
+  groups_pair (dyn found) advice b d events todo x y after p g agrees comes u =
+      let given = none_gives x y u ops.Dyn p.op refl in
+      let asked = none_asks x y u ops.Dyn p.op refl (outside_none x y ops.Dyn p.op refl) in omega (arith, given, asked)
   groups_pair (repeats bit) advice b d events todo x y after p g agrees comes u =
       let given = none_gives x y u ops.Repeat p.op refl in
       let asked = none_asks x y u ops.Repeat p.op refl (outside_none x y ops.Repeat p.op refl) in omega (arith, given, asked)

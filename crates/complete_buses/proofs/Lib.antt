@@ -1,5 +1,6 @@
 pub mod Hits
 pub mod PairShown
+pub mod TargetWords
 pub mod ChildTuples
 pub mod ChildBus
 pub mod ChildLaw

@@ -7,7 +7,7 @@ use Rattle.vm_table.specs.MainColumns.{w}
 use Rattle.block_tree.specs.Cycles.{Mark, Do}
 use Rattle.block_tree.specs.Rows.{op_of_mark}
 use Rattle.block_tree.specs.Steps as steps
-use Rattle.block_tree.specs.Steps.{Task, Block, Within, Turned, Closing, Returning, Leaving, Next, span, join, split_1, split_0, loop_1, loop_0, call, syscall, operation, respan, span_ends, loop_ends, closes, returns, leaves}
+use Rattle.block_tree.specs.Steps.{Task, Block, Within, Turned, Closing, Returning, Leaving, Next, span, join, split_1, split_0, loop_1, loop_0, call, syscall, dyn, operation, respan, span_ends, loop_ends, closes, returns, leaves}
 use Rattle.block_tree.specs.Trees.{Loop, tree_digest}
 use Rattle.air_kit.specs.MainTuples.{loops_asked, loops_given}
 use Rattle.machine_cycles.specs.Events.{shown_between}
@@ -69,6 +69,9 @@ module _ (constants : List ℕ) where
     loops_pair syscall advice b d events todo x y p often none u =
         let given = none_gives x y u ops.Syscall p.op refl in
         let asked = none_asks x y u ops.Syscall p.op refl in omega (arith, given, asked)
+    loops_pair (dyn found) advice b d events todo x y p often none u =
+        let given = none_gives x y u ops.Dyn p.op refl in
+        let asked = none_asks x y u ops.Dyn p.op refl in omega (arith, given, asked)
     loops_pair (steps.repeats {a = a} bit) advice b d events todo x y p often none u =
         let word = front_is (tree_digest constants a) zero_word x p.whole.size p.hash in
         let given = none_gives x y u ops.Repeat p.op refl in

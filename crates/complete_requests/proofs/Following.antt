@@ -7,7 +7,7 @@ use Rattle.block_tree.specs.Cycles.{Mark, Do}
 use Rattle.block_tree.specs.Marks.{IsWholeMark}
 use Rattle.block_tree.specs.Rows.{hash_of, op_of_mark}
 use Rattle.block_tree.proofs.RowLemmas.{hash-batch}
-use Rattle.block_tree.specs.Steps.{Task, Block, Within, Turned, Closing, Returning, Leaving, Next, span, join, split_1, split_0, loop_1, loop_0, call, syscall, operation, respan, span_ends, repeats, loop_ends, closes, returns, leaves}
+use Rattle.block_tree.specs.Steps.{Task, Block, Within, Turned, Closing, Returning, Leaving, Next, span, join, split_1, split_0, loop_1, loop_0, call, syscall, dyn, operation, respan, span_ends, repeats, loop_ends, closes, returns, leaves}
 use Rattle.buses.specs.Counts.{Counted, counted, over_rows, with_next}
 use Rattle.machine_cycles.specs.Events.{visible_of}
 use Rattle.machine_cycles.specs.declared.event.Event.{Event}
@@ -45,6 +45,7 @@ coming_step constants (loop_1 bit) w todo more e = refl
 coming_step constants (loop_0 bit) w todo more e = refl
 coming_step constants call w todo more e = refl
 coming_step constants syscall w todo more e = refl
+coming_step constants (dyn found) w todo more e = refl
 coming_step constants (operation {item = item}) w todo more e =
     ap (λ k. respans_by k (hash_of (Do item)) more) (kind_is item.op w.ordinary) ∙ e
 coming_step constants (respan {batch = batch} read) w todo more e = ap (λ l. batch ∷ l) e
@@ -63,6 +64,7 @@ respans_whole kinds.Loop batch later h all = All-nil IsBatch
 respans_whole kinds.Span batch later h all = All-nil IsBatch
 respans_whole kinds.Call batch later h all = All-nil IsBatch
 respans_whole kinds.Syscall batch later h all = All-nil IsBatch
+respans_whole kinds.Dyn batch later h all = All-nil IsBatch
 respans_whole kinds.End batch later h all = All-nil IsBatch
 respans_whole kinds.Repeat batch later h all = All-nil IsBatch
 respans_whole kinds.Respan batch later h all = All-cons IsBatch batch later h all

@@ -83,6 +83,7 @@ module _ (constants : List ℕ) (len : length constants ≡ number_of_constants)
   follows_by kinds.Span e later others h all rest = begins 0 e.hash (respans later) others h all rest
   follows_by kinds.Call e later others h all rest = begins (code_of ops.Call) e.hash [] others h (All-nil IsBatch) rest
   follows_by kinds.Syscall e later others h all rest = begins (code_of ops.Syscall) e.hash [] others h (All-nil IsBatch) rest
+  follows_by kinds.Dyn e later others h all rest = begins (code_of ops.Dyn) e.hash [] others h (All-nil IsBatch) rest
   follows_by kinds.End e later others h all rest = rest
   follows_by kinds.Repeat e later others h all rest = rest
   follows_by kinds.Respan e later others h all rest = rest

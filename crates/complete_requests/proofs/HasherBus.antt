@@ -1,5 +1,5 @@
 -- Each cycle asks on the hasher's bus what its requests give and what is owed before it and not behind it.
-use Rattle.std.proofs.Common.{◌≡◌, ℕ, suc, ◌+◌, ◌*◌, ◌<◌, All, List, [], ◌∷◌, ◌++◌, length, drop, false, refl, sym, ap, ◌∙◌, arith}
+use Rattle.std.proofs.Common.{◌≡◌, ℕ, suc, ◌+◌, ◌*◌, ◌<◌, All, List, [], ◌∷◌, ◌++◌, length, drop, true, false, refl, sym, ap, ◌∙◌, arith}
 use Rattle.vm_field.specs.Limits.{number_of_constants}
 use Rattle.vm_field.specs.Field.{prime}
 use Rattle.vm_field.specs.Machine.{Core}
@@ -8,10 +8,10 @@ use Rattle.vm_field.specs.Sponge.{begun, hashed}
 use Rattle.vm_ops.specs.declared.op.Op.TheVariants as ops
 use Rattle.vm_table.specs.MainColumns.{addr, ha}
 use Rattle.op_pack.specs.Reading.{IsBatch}
-use Rattle.block_tree.specs.Cycles.{Mark, StartJoin, StartSplit, StartLoop, StartCall, StartSyscall, Do}
+use Rattle.block_tree.specs.Cycles.{Mark, StartJoin, StartSplit, StartLoop, StartCall, StartSyscall, StartDyn, Do}
 use Rattle.block_tree.specs.Marks.{IsWholeMark}
 use Rattle.block_tree.specs.Rows.{hash_of}
-use Rattle.block_tree.specs.Steps.{Task, Next, span, join, split_1, split_0, loop_1, loop_0, call, syscall, operation, respan, span_ends, repeats, loop_ends, closes, returns, leaves}
+use Rattle.block_tree.specs.Steps.{Task, Next, span, join, split_1, split_0, loop_1, loop_0, call, syscall, dyn, operation, respan, span_ends, repeats, loop_ends, closes, returns, leaves}
 use Rattle.block_tree.specs.Trees.{Loop, tree_digest}
 use Rattle.block_tree.proofs.RowLemmas.{hash-batch}
 use Rattle.buses.specs.Counts.{counted}
@@ -87,6 +87,10 @@ module _ (constants : List ℕ) (len : length constants ≡ number_of_constants)
   hasher_step (syscall {a = a}) d later todo b w all are out cells low op =
       start_step constants len x y v ops.Syscall refl cells.op d.next (hash_of (StartSyscall (tree_digest constants a))) (perms_of constants later)
       (deep constants todo d.blocks v) (hash-batch (StartSyscall (tree_digest constants a)) w) cells.behind (cells.eight refl)
+      (let next = low.next in omega (arith, next))
+  hasher_step (dyn found) d later todo b w all are out cells low op =
+      start_step constants len x y v ops.Dyn refl cells.op d.next (hash_of (StartDyn true)) (perms_of constants later)
+      (deep constants todo d.blocks v) (hash-batch (StartDyn true) w) cells.behind (cells.eight refl)
       (let next = low.next in omega (arith, next))
   hasher_step (operation {c = c} {item = item} {items = items} {later = more} {digest = digest}) d later todo b w all are out cells low op =
       let given : counted (perms_given constants d.next

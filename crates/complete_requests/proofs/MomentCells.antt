@@ -4,7 +4,7 @@ use Rattle.std.proofs.lemmas.List.{ext_get_or}
 use Rattle.vm_field.specs.Machine.{Core}
 use Rattle.vm_ops.specs.Codes.{is_ordinary_op}
 use Rattle.vm_table.specs.MainColumns.{h}
-use Rattle.block_tree.specs.Cycles.{Mark, StartOpaque, StartSpan, StartJoin, StartSplit, StartLoop, StartCall, StartSyscall, Respan, Repeat, Do, End, EndSpan, EndLoop, EndCall, EndSyscall, advice_taken, effect_of}
+use Rattle.block_tree.specs.Cycles.{Mark, StartOpaque, StartSpan, StartJoin, StartSplit, StartLoop, StartCall, StartSyscall, StartDyn, Respan, Repeat, Do, End, EndSpan, EndLoop, EndCall, EndSyscall, advice_taken, effect_of}
 use Rattle.block_tree.specs.Marks.{IsWholeMark}
 use Rattle.block_tree.specs.Rows.{behind, hash_of, op_of_mark}
 use Rattle.block_tree.proofs.RowLemmas.{hash-batch}
@@ -39,6 +39,7 @@ mark_hash (StartSplit one other) w d advice c b x cells is = cells
 mark_hash (StartLoop body) w d advice c b x cells is = cells
 mark_hash (StartCall callee) w d advice c b x cells is = cells
 mark_hash (StartSyscall callee) w d advice c b x cells is = cells
+mark_hash (StartDyn known) w d advice c b x cells is = cells
 mark_hash (Respan batch) w d advice c b x cells is = cells
 mark_hash (Repeat body) w d advice c b x cells is = cells
 mark_hash (Do item) w d advice c b x cells is = never (sym w.ordinary ∙ is)

@@ -8,7 +8,7 @@ use Rattle.vm_ops.specs.declared.op.Op.TheVariants as ops
 use Rattle.block_tree.specs.Behind.{core_behind, IsAllowed}
 use Rattle.block_tree.specs.Cycles.{Mark, Do}
 use Rattle.block_tree.specs.Marks.{IsWholeMark}
-use Rattle.block_tree.specs.Steps.{Task, Next, span, join, split_1, split_0, loop_1, loop_0, call, syscall, operation, respan, span_ends, repeats, loop_ends, closes, returns, leaves}
+use Rattle.block_tree.specs.Steps.{Task, Next, span, join, split_1, split_0, loop_1, loop_0, call, syscall, dyn, operation, respan, span_ends, repeats, loop_ends, closes, returns, leaves}
 use Rattle.block_tree.specs.Trees.{Loop, tree_digest}
 use Rattle.buses.specs.Counts.{counted}
 use Rattle.air_kit.specs.MainTuples.{overflow_asked, overflow_given}
@@ -36,6 +36,11 @@ module _ (constants : List ℕ) (kernel : List (List ℕ)) (advice : List ℕ) (
   overflow_step (join {c = c}) d later todo b stack w allowed is op keyed cells =
       let given = none_given x y v ops.Join cells.op refl in
       let asked = none_asked x y v ops.Join cells.op refl refl in
+      let same = quiet x y v c.stack stack d.keys d.keys is refl in
+      omega (arith, given, asked, same)
+  overflow_step (dyn {c = c} found) d later todo b stack w allowed is op keyed cells =
+      let given = none_given x y v ops.Dyn cells.op refl in
+      let asked = none_asked x y v ops.Dyn cells.op refl refl in
       let same = quiet x y v c.stack stack d.keys d.keys is refl in
       omega (arith, given, asked, same)
   overflow_step (respan {c = c} read) d later todo b stack w allowed is op keyed cells =

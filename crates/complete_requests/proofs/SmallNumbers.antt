@@ -2,7 +2,6 @@
 use Rattle.std.proofs.Common.{All, ◌≡◌, ℕ, ◌^◌, ◌<◌, Bool, true, false, List, [], ◌∷◌, length, slice_index, None, refl, subst, arith}
 use Rattle.std.proofs.lemmas.Bool.{ltb-true}
 use Rattle.std.proofs.lemmas.List.Elements.{All-append, All-cons, All-nil}
-use Rattle.vm_field.specs.Field.{prime}
 use Rattle.vm_field.specs.Machine.{State}
 use Rattle.vm_ops.specs.Stepping.{seen_at}
 use Rattle.vm_ops.specs.Values.{Seen, address, cell, is_u32, trap_of, two_u32, unless}

@@ -14,7 +14,7 @@ use Rattle.block_tree.specs.Execution.{event_of}
 use Rattle.block_tree.specs.Marks.{IsWholeMark}
 use Rattle.block_tree.specs.Rows.{behind}
 use Rattle.block_tree.specs.Trees.{Loop, tree_digest}
-use Rattle.block_tree.specs.Steps.{Task, Next, span, join, split_1, split_0, loop_1, loop_0, call, syscall, operation, respan, span_ends, repeats, loop_ends, closes, returns, leaves, IsCycle}
+use Rattle.block_tree.specs.Steps.{Task, Next, span, join, split_1, split_0, loop_1, loop_0, call, syscall, dyn, operation, respan, span_ends, repeats, loop_ends, closes, returns, leaves, IsCycle}
 use Rattle.block_tree.proofs.BehindLemmas.{behind-cycle}
 use Rattle.block_tree.proofs.KeptLemmas.{cycle-step}
 use Rattle.air_kit.specs.Flags.{is_op}
@@ -88,6 +88,13 @@ core_agrees constants advice kernel (syscall {c = c}) allowed w deep op d later 
   low = a.low;
   nesting = omega (arith, a.nesting);
   keyed = taken_depth c.stack deep;
+}
+core_agrees constants advice kernel (dyn found) allowed w deep op d later todo b a = record {
+  framed = (omega arith, a.framed);
+  reads = (a.reads.0, (tt, a.reads.1));
+  low = a.low;
+  nesting = omega (arith, a.nesting);
+  keyed = a.keyed;
 }
 core_agrees constants advice kernel (operation {c = c} {item = item} {items = items}) allowed w deep op d later todo b a =
     let e : Event = shown_between (Do item) advice c b in

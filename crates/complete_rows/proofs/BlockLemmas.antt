@@ -37,6 +37,7 @@ pub record IsNoBlock (op : Op) : Type 0 where
   pub span : is_op op ops.Span ≡ false
   pub call : is_op op ops.Call ≡ false
   pub syscall : is_op op ops.Syscall ≡ false
+  pub dyn : is_op op ops.Dyn ≡ false
   pub end : is_op op ops.End ≡ false
   pub again : is_op op ops.Repeat ≡ false
   pub respan : is_op op ops.Respan ≡ false
@@ -50,6 +51,7 @@ no_block op is = record {
   span = apart_from op ops.Span is (omega arith);
   call = apart_from op ops.Call is (omega arith);
   syscall = apart_from op ops.Syscall is (omega arith);
+  dyn = apart_from op ops.Dyn is (omega arith);
   end = apart_from op ops.End is (omega arith);
   again = apart_from op ops.Repeat is (omega arith);
   respan = apart_from op ops.Respan is (omega arith);
@@ -61,8 +63,9 @@ no_block op is = record {
 either : {A : Type 0} (a b : Bool) → a ≡ false → b ≡ false → a || b ≡ true → A
 either a b not_a not_b is = let none : a || b ≡ false = rw (not_a, not_b) refl in never (sym is ∙ none)
 
-neither : {A : Type 0} (a b c : Bool) → a ≡ false → b ≡ false → c ≡ false → a || (b || c) ≡ true → A
-neither a b c not_a not_b not_c is = let none : a || (b || c) ≡ false = rw (not_a, not_b, not_c) refl in never (sym is ∙ none)
+none_of : {A : Type 0} (a b c d : Bool) → a ≡ false → b ≡ false → c ≡ false → d ≡ false → a || (b || c) || d ≡ true → A
+none_of a b c d not_a not_b not_c not_d is =
+    let none : a || (b || c) || d ≡ false = rw (not_a, not_b, not_c, not_d) refl in never (sym is ∙ none)
 
 caller_inside : (op : Op) (v : Seen) → is_op op ops.Caller ≡ true → trap_of op v ≡ None → v.in_syscall ≡ true
 unfolding trap_of
@@ -81,7 +84,8 @@ ordinary_row op x v is none shows =
       condition = λ b. either (is_op op ops.Split) (is_op op ops.Loop) apart.split apart.loop b;
       again = λ b. never (sym b ∙ apart.again);
       ends = λ b. never (sym b ∙ apart.end);
-      single = λ b. neither (is_op op ops.Loop) (is_op op ops.Call) (is_op op ops.Syscall) apart.loop apart.call apart.syscall b;
+      single = λ b. none_of (is_op op ops.Loop) (is_op op ops.Call) (is_op op ops.Syscall) (is_op op ops.Dyn) apart.loop apart.call
+          apart.syscall apart.dyn b;
       outside = λ b. either (is_op op ops.Call) (is_op op ops.Syscall) apart.call apart.syscall b;
       inside = λ b. shows ∙ ap bit_of (caller_inside op v b none);
       closed = λ b. never (sym b ∙ apart.halt);

@@ -105,6 +105,13 @@ by_kind kinds.Syscall d e later clock b = record {
   keys = elements-none;
   whole = omega (arith, b.whole);
 }
+by_kind kinds.Dyn d e later clock b = record {
+  next = omega (arith, b.next);
+  ha = omega (arith, b.ha);
+  blocks = opened_low d.next [] d.blocks (omega (arith, b.next, b.whole)) (elements-none) b.blocks;
+  keys = b.keys;
+  whole = omega (arith, b.whole);
+}
 by_kind kinds.End d e later clock b = record {
   next = omega (arith, b.next);
   ha = omega arith;

@@ -104,6 +104,7 @@ module _ (n : ℕ) where
   by_kind kinds.Span d e later past clock low h = seen_behind e past (all_keys d) h
   by_kind kinds.Call d e later past clock low h = seen_behind e past (all_keys d) h
   by_kind kinds.Syscall d e later past clock low h = seen_behind e past (all_keys d) h
+  by_kind kinds.Dyn d e later past clock low h = seen_behind e past (all_keys d) h
   by_kind kinds.End d e later past clock low h =
       seen_behind e past _ (after_end (ends_loop e.hash) (ends_call e.hash) past (n + length past) d.keys d.blocks h)
   by_kind kinds.Repeat d e later past clock low h =

@@ -8,7 +8,7 @@ use Rattle.vm_ops.specs.declared.op.Op.TheVariants as ops
 use Rattle.block_tree.specs.Cycles.{Mark, Frame}
 use Rattle.block_tree.specs.Marks.{IsWholeMark}
 use Rattle.block_tree.specs.Rows.{op_of_mark}
-use Rattle.block_tree.specs.Steps.{Task, Block, Within, Turned, Closing, Returning, Leaving, Next, span, join, split_1, split_0, loop_1, loop_0, call, syscall, operation, respan, span_ends, repeats, loop_ends, closes, returns, leaves}
+use Rattle.block_tree.specs.Steps.{Task, Block, Within, Turned, Closing, Returning, Leaving, Next, span, join, split_1, split_0, loop_1, loop_0, call, syscall, dyn, operation, respan, span_ends, repeats, loop_ends, closes, returns, leaves}
 use Rattle.block_tree.specs.Trees.{Tree}
 use Rattle.air_kit.specs.Flags.{is_op}
 use Rattle.complete_rows.specs.Agreement.{AreOutside}
@@ -25,6 +25,7 @@ module _ (constants : List ℕ) where
   block_starts (loop_0 bit) = refl
   block_starts call = refl
   block_starts syscall = refl
+  block_starts (dyn found) = refl
 
   pub starts_block : (tree : Tree) (todo : List Task) (c : Core) (op : Op) → Comes constants (Block tree ∷ todo) c op → is_start_op op ≡ true
   starts_block tree todo c op h = ap is_start_op h.4 ∙ block_starts h.2

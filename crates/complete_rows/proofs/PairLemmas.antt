@@ -11,11 +11,11 @@ use Rattle.vm_ops.specs.declared.op.Op.TheVariants as ops
 use Rattle.vm_table.specs.MainColumns.{clk, h, s}
 use Rattle.op_pack.specs.Reading.{positions_in_use}
 use Rattle.block_tree.specs.Behind.{core_behind, IsAllowed}
-use Rattle.block_tree.specs.Cycles.{Mark, StartSpan, StartJoin, StartSplit, StartLoop, StartCall, StartSyscall, Respan, Repeat, Do, End, EndSpan, EndLoop, EndCall, EndSyscall, frame_of, top}
+use Rattle.block_tree.specs.Cycles.{Mark, StartSpan, StartJoin, StartSplit, StartLoop, StartCall, StartSyscall, StartDyn, Respan, Repeat, Do, End, EndSpan, EndLoop, EndCall, EndSyscall, frame_of, top}
 use Rattle.block_tree.specs.Marks.{IsWholeMark}
 use Rattle.block_tree.specs.Rows.{op_of_mark}
-use Rattle.block_tree.specs.Steps.{Task, Block, Turned, Closing, Returning, Leaving, Next, span, join, split_1, split_0, loop_1, loop_0, call, syscall, operation, respan, span_ends, repeats, loop_ends, closes, returns, leaves}
-use Rattle.block_tree.specs.Trees.{Span, Join, Split, Loop, Call, Syscall, tree_digest}
+use Rattle.block_tree.specs.Steps.{Task, Block, Turned, Closing, Returning, Leaving, Next, span, join, split_1, split_0, loop_1, loop_0, call, syscall, dyn, operation, respan, span_ends, repeats, loop_ends, closes, returns, leaves}
+use Rattle.block_tree.specs.Trees.{Span, Join, Split, Loop, Call, Syscall, Dyn, tree_digest}
 use Rattle.air_kit.specs.Flags.{is_op}
 use Rattle.air_kit.specs.MainTuples.{is_batch_op}
 use Rattle.machine_cycles.specs.Events.{shown_between}
@@ -171,6 +171,12 @@ module _ (constants : List ℕ) (kernel : List (List ℕ)) (advice : List ℕ) w
       block_pair ops.Syscall next _ y refl refl refl (clock_shown ops.Syscall next _ y d _ c _ sx sy refl k.early)
       (starts_block constants a (Leaving (tree_digest constants (Syscall a)) (frame_of c) ∷ todo) _ next comes)
       (entered_syscall next _ y d _ c _ sx sy refl refl refl refl (one_more c.nesting k.allowed.0))
+  pair_shown (dyn {c = c} {targets = targets} {a = a} found) d later todo b v y next k agrees sy comes =
+      let sx : Shows ops.Dyn d c (row_of d (shown_between (StartDyn true) advice c b) v later)
+      = shows_row d (shown_between (StartDyn true) advice c b) v later c refl in
+      block_pair ops.Dyn next _ y refl refl refl (clock_shown ops.Dyn next _ y d _ c _ sx sy refl k.early)
+      (starts_block constants a (Closing (tree_digest constants (Dyn targets)) ∷ todo) _ next comes)
+      (started ops.Dyn next _ y d _ c _ sx sy refl refl refl refl (record { context = refl; syscall = refl; digest = refl }) refl refl k.allowed.0)
   pair_shown (span {c = c} {batch = batch} {later = more} {items = items} read) d later todo b v y next k agrees sy comes =
       let sx : Shows ops.Span d c (row_of d (shown_between (StartSpan batch) advice c b) v later)
       = shows_row d (shown_between (StartSpan batch) advice c b) v later c refl in

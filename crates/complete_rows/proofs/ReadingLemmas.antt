@@ -36,7 +36,7 @@ digit_code : (digit : ℕ) → digit < 69 → code_of (plain_digit digit).op ≡
 digit_code digit low = go (op_at digit) refl
   where
     go : (o : Option Op) → op_at digit ≡ o → code_of (unwrap_or o Noop) ≡ digit
-    go None e = let far : 80 ≤ digit = (op_at-outside digit).0 e in absurd (omega (arith, far, low))
+    go None e = let far : 81 ≤ digit = (op_at-outside digit).0 e in absurd (omega (arith, far, low))
     go (Some op) e = code_of-op_at digit op e
 
 plain_takes : (item : Item) (items : List Item) (positions : List ℕ) (room number : ℕ) → number % 128 < 69

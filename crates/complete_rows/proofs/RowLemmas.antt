@@ -9,9 +9,9 @@ use Rattle.vm_ops.specs.declared.op.Op.{Op}
 use Rattle.vm_ops.specs.declared.op.Op.TheVariants as ops
 use Rattle.vm_ops.specs.Values.{bit_of}
 use Rattle.vm_table.specs.MainColumns.{h, w}
-use Rattle.block_tree.specs.Cycles.{Mark, StartSpan, StartJoin, StartSplit, StartLoop, StartCall, StartSyscall, Respan, Repeat, Do, End, EndSpan, EndLoop, EndCall, EndSyscall, top}
+use Rattle.block_tree.specs.Cycles.{Mark, StartSpan, StartJoin, StartSplit, StartLoop, StartCall, StartSyscall, StartDyn, Respan, Repeat, Do, End, EndSpan, EndLoop, EndCall, EndSyscall, top}
 use Rattle.block_tree.specs.Rows.{op_of_mark}
-use Rattle.block_tree.specs.Steps.{Task, Next, span, join, split_1, split_0, loop_1, loop_0, call, syscall, operation, respan, span_ends, repeats, loop_ends, closes, returns, leaves}
+use Rattle.block_tree.specs.Steps.{Task, Next, span, join, split_1, split_0, loop_1, loop_0, call, syscall, dyn, operation, respan, span_ends, repeats, loop_ends, closes, returns, leaves}
 use Rattle.block_tree.specs.Trees.{Loop, tree_digest}
 use Rattle.air_kit.specs.Flags.{is_op}
 use Rattle.air_kit.specs.MainTuples.{is_batch_op}
@@ -150,6 +150,18 @@ module _ (constants : List ℕ) (kernel : List (List ℕ)) (advice : List ℕ) w
         ends = λ is. off is;
         single = λ is. four_zeros (tree_digest constants a) _ k.whole.size hash;
         outside = λ is. sx.syscall ∙ ap bit_of k.allowed.1;
+        inside = λ is. off is;
+        closed = λ is. off is;
+      })
+  row_shown (dyn {c = c} found) d later todo b v k agrees =
+      let hash : (n : ℕ) → n < 8 → h (row_of d (shown_between (StartDyn true) advice c b) v later) n ≡ slice_index (zero_word ++ zero_word) n
+      = λ n low. col_h (line_of d (shown_between (StartDyn true) advice c b) v later) n low in
+      plain_row ops.Dyn _ refl refl refl (record {
+        condition = λ is. off is;
+        again = λ is. off is;
+        ends = λ is. off is;
+        single = λ is. four_zeros zero_word _ refl hash;
+        outside = λ is. off is;
         inside = λ is. off is;
         closed = λ is. off is;
       })

@@ -85,6 +85,7 @@ advance_by kinds.Loop d e later = popped (opened 1 d)
 advance_by kinds.Span d e later = record (opened (suc (length (respans later))) d) { ha = d.next; unread = batch_begun e.hash }
 advance_by kinds.Call d e later = called d
 advance_by kinds.Syscall d e later = called d
+advance_by kinds.Dyn d e later = opened 1 d
 advance_by kinds.End d e later = closed e.hash d
 advance_by kinds.Repeat d e later = popped d
 advance_by kinds.Respan d e later = record d { ha = d.ha + 8; unread = batch_begun e.hash }

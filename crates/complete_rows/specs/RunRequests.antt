@@ -40,7 +40,8 @@ abbrev pub perms_by_op : Op → Visible → List Perm
 perms_by_op ops.HPerm seen = record { mode = true; cont = false; more = false; start = reverse (take 12 seen.cells) } ∷ []
 perms_by_op op seen = []
 
--- A start asks for the hash of its block: a span with all its batches, another block with its children's digests.
+-- A start asks for the hash of its block: a span with all its batches, a dynamic block with zeros, another block with its children's
+-- digests.
 abbrev pub perms_by : Kind → List ℕ → Event → List Event → List Perm
 perms_by kinds.Ordinary constants e later = perms_by_op e.op e.before
 perms_by kinds.Join constants e later = hash_perms constants (code_of ops.Join) (e.hash ∷ [])
@@ -49,6 +50,7 @@ perms_by kinds.Loop constants e later = hash_perms constants (code_of ops.Loop) 
 perms_by kinds.Span constants e later = hash_perms constants 0 (e.hash ∷ respans later)
 perms_by kinds.Call constants e later = hash_perms constants (code_of ops.Call) (e.hash ∷ [])
 perms_by kinds.Syscall constants e later = hash_perms constants (code_of ops.Syscall) (e.hash ∷ [])
+perms_by kinds.Dyn constants e later = hash_perms constants (code_of ops.Dyn) (e.hash ∷ [])
 perms_by kinds.End constants e later = []
 perms_by kinds.Repeat constants e later = []
 perms_by kinds.Respan constants e later = []

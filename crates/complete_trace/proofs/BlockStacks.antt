@@ -8,7 +8,7 @@ use Rattle.vm_ops.specs.declared.op.Op.{Op}
 use Rattle.vm_ops.specs.declared.op.Op.TheVariants as ops
 use Rattle.vm_table.specs.MainColumns.{depth, h}
 use Rattle.block_tree.specs.Behind.{core_behind}
-use Rattle.block_tree.specs.Cycles.{Mark, StartOpaque, StartSpan, StartJoin, StartSplit, StartLoop, StartCall, StartSyscall, Respan, Repeat, Do, End, EndSpan, EndLoop, EndCall, EndSyscall}
+use Rattle.block_tree.specs.Cycles.{Mark, StartOpaque, StartSpan, StartJoin, StartSplit, StartLoop, StartCall, StartSyscall, StartDyn, Respan, Repeat, Do, End, EndSpan, EndLoop, EndCall, EndSyscall}
 use Rattle.block_tree.specs.Rows.{hash_of, op_of_mark}
 use Rattle.machine_cycles.specs.Events.{shown_between, visible_of}
 use Rattle.machine_cycles.specs.declared.event.Visible.{Visible}
@@ -131,6 +131,10 @@ module _ (constants : List ℕ) (kernel : List (List ℕ)) (advice : List ℕ) w
       let a = around (StartSyscall callee) d c b v later y next sy in
       facts (StartSyscall callee) d c b v later y refl k (λ e. off e)
       (called ops.Syscall next (line (StartSyscall callee) d c b v later) y d _ c _ a refl refl refl refl refl refl refl refl k.formed.deep)
+  block_facts (StartDyn known) d c b v later y next is k keyed sy =
+      let a = around (StartDyn known) d c b v later y next sy in
+      facts (StartDyn known) d c b v later y refl k (λ e. off e)
+      (kept ops.Dyn next (line (StartDyn known) d c b v later) y d _ c _ a refl refl refl refl refl refl refl refl)
   block_facts (Respan batch) d c b v later y next is k keyed sy =
       let a = around (Respan batch) d c b v later y next sy in
       facts (Respan batch) d c b v later y refl k (λ e. off e)

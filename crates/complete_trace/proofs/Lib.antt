@@ -5,6 +5,7 @@ pub mod Showing
 pub mod Witnessed
 pub mod Fillings
 pub mod MomentStacks
+pub mod DynRows
 pub mod TableStacks
 pub mod RangeLemmas
 pub mod Quiet

@@ -7,7 +7,7 @@ use Rattle.vm_ops.specs.Codes.{is_ordinary_op}
 use Rattle.vm_ops.specs.declared.op.Op.TheVariants as ops
 use Rattle.vm_table.specs.MainColumns.{lv}
 use Rattle.block_tree.specs.Behind.{core_behind}
-use Rattle.block_tree.specs.Cycles.{Mark, StartOpaque, StartSpan, StartJoin, StartSplit, StartLoop, StartCall, StartSyscall, Respan, Repeat, Do, End, EndSpan, EndLoop, EndCall, EndSyscall, advice_taken, effect_of}
+use Rattle.block_tree.specs.Cycles.{Mark, StartOpaque, StartSpan, StartJoin, StartSplit, StartLoop, StartCall, StartSyscall, StartDyn, Respan, Repeat, Do, End, EndSpan, EndLoop, EndCall, EndSyscall, advice_taken, effect_of}
 use Rattle.block_tree.specs.Rows.{behind, op_of_mark}
 use Rattle.block_tree.specs.Steps.{IsCycle}
 use Rattle.air_kit.specs.Flags as flags
@@ -89,6 +89,7 @@ module _ (constants : List ℕ) (kernel : List (List ℕ)) (limit : ℕ) where
   facts (StartLoop body) s t d later y len h = block (StartLoop body) s t d later y refl h
   facts (StartCall callee) s t d later y len h = block (StartCall callee) s t d later y refl h
   facts (StartSyscall callee) s t d later y len h = block (StartSyscall callee) s t d later y refl h
+  facts (StartDyn known) s t d later y len h = block (StartDyn known) s t d later y refl h
   facts (Respan batch) s t d later y len h = block (Respan batch) s t d later y refl h
   facts (Repeat body) s t d later y len h = block (Repeat body) s t d later y refl h
   facts (End digest) s t d later y len h = block (End digest) s t d later y refl h

@@ -10,7 +10,7 @@ use Rattle.vm_ops.specs.declared.item.Item.{Item}
 use Rattle.vm_ops.specs.declared.op.Op.{Op}
 use Rattle.vm_ops.specs.declared.op.Op.TheVariants as ops
 use Rattle.vm_table.specs.MainColumns.{t}
-use Rattle.block_tree.specs.Cycles.{Mark, StartOpaque, StartSpan, StartJoin, StartSplit, StartLoop, StartCall, StartSyscall, Respan, Repeat, Do, End, EndSpan, EndLoop, EndCall, EndSyscall, advice_taken}
+use Rattle.block_tree.specs.Cycles.{Mark, StartOpaque, StartSpan, StartJoin, StartSplit, StartLoop, StartCall, StartSyscall, StartDyn, Respan, Repeat, Do, End, EndSpan, EndLoop, EndCall, EndSyscall, advice_taken}
 use Rattle.block_tree.specs.Execution as run
 use Rattle.block_tree.specs.Execution.{event_of}
 use Rattle.block_tree.specs.Marks.{IsWholeMark}
@@ -96,6 +96,7 @@ module _ (constants : List ℕ) (kernel : List (List ℕ)) (limit : ℕ) where
   ranges_low (StartLoop body) from to len within cycle w h g few = one_low to.core.nesting
   ranges_low (StartCall callee) from to len within cycle w h g few = one_low to.core.nesting
   ranges_low (StartSyscall callee) from to len within cycle w h g few = one_low to.core.nesting
+  ranges_low (StartDyn known) from to len within cycle w h g few = one_low to.core.nesting
   ranges_low (Respan batch) from to len within cycle w h g few = All-nil Is16
   ranges_low (Repeat body) from to len within cycle w h g few = All-nil Is16
   ranges_low (End digest) from to len within cycle w h g few = All-nil Is16

@@ -28,12 +28,14 @@ conditions_is : (op : Op) → felt_add (hot op ops.Split) (hot op ops.Loop) ≡ 
 conditions_is ops.Split = refl
 conditions_is op = refl
 
-singles : (op : Op) → felt_add (hot op ops.Loop) (cond (is_call_op op) 1 0) ≡ cond (is_op op ops.Loop || is_call_op op) 1 0
+singles : (op : Op) → felt_add (felt_add (hot op ops.Loop) (cond (is_call_op op) 1 0)) (hot op ops.Dyn)
+    ≡ cond (is_op op ops.Loop || is_call_op op || is_op op ops.Dyn) 1 0
 singles ops.Loop = refl
 singles op = refl
 
-singles_is : (op : Op) → felt_add (hot op ops.Loop) (calls (hot op)) ≡ cond (is_op op ops.Loop || is_call_op op) 1 0
-singles_is op = ap (felt_add (hot op ops.Loop)) (calls_is op) ∙ singles op
+singles_is : (op : Op) → felt_add (felt_add (hot op ops.Loop) (calls (hot op))) (hot op ops.Dyn)
+    ≡ cond (is_op op ops.Loop || is_call_op op || is_op op ops.Dyn) 1 0
+singles_is op = ap (λ n. felt_add (felt_add (hot op ops.Loop) n) (hot op ops.Dyn)) (calls_is op) ∙ singles op
 
 few_flags : (i j k l : ℕ) → i + j + k + l ≤ 1 → felt_add k l < 2
 few_flags i j k l most = omega (arith, most)
@@ -135,11 +137,12 @@ unfolding entry_74
 says_74 op x =
     gate_product_says (is_op op ops.End) (kind_flags x) (felt_sub (kind_flags x) 1) (kinds_low x) (bit_says (kind_flags x) (kinds_low x))
 
-pub says_75 : (op : Op) (x : List ℕ) (j : ℕ) → Low x → Says (entry_75 j (hot op) x) (is_op op ops.Loop || is_call_op op ≡ true → h x (4 + j) ≡ 0)
+pub says_75 : (op : Op) (x : List ℕ) (j : ℕ) → Low x
+    → Says (entry_75 j (hot op) x) (is_op op ops.Loop || is_call_op op || is_op op ops.Dyn ≡ true → h x (4 + j) ≡ 0)
 unfolding entry_75
 says_75 op x j low =
     says_of (ap (λ n. felt_mul n (h x (4 + j))) (singles_is op))
-    (gate_says (is_op op ops.Loop || is_call_op op) (zero_says (h x (4 + j)) (low (16 + (4 + j)))))
+    (gate_says (is_op op ops.Loop || is_call_op op || is_op op ops.Dyn) (zero_says (h x (4 + j)) (low (16 + (4 + j)))))
 
 pub says_79 : (op : Op) (x : List ℕ) → Low x → Says (entry_79 (hot op) x) (is_call_op op ≡ true → sys x ≡ 0)
 unfolding entry_79

@@ -13,12 +13,13 @@ use Rattle.facts_main.proofs.Says.{Says, says_of, off, never, rest_low, none_is,
 use Rattle.facts_main.proofs.Hot.{hot, set_is}
 use Rattle.facts_main.proofs.BatchFacts.{batches_is}
 
--- the row of a child, a callee or a loop's next turn comes behind
+-- the row of a child, a callee, a target or a loop's next turn comes behind
 abbrev pub nests : Op → Bool
-nests op = is_op op ops.Join || is_op op ops.Split || is_call_op op || is_op op ops.Repeat
+nests op = is_op op ops.Join || is_op op ops.Split || is_call_op op || is_op op ops.Repeat || is_op op ops.Dyn
 
-nests_is : (op : Op) → felt_add (felt_add (felt_add (hot op ops.Join) (hot op ops.Split)) (felt_add (hot op ops.Call) (hot op ops.Syscall)))
-    (hot op ops.Repeat) ≡ cond (nests op) 1 0
+nests_is : (op : Op)
+    → felt_add (felt_add (felt_add (felt_add (hot op ops.Join) (hot op ops.Split)) (felt_add (hot op ops.Call) (hot op ops.Syscall)))
+    (hot op ops.Repeat)) (hot op ops.Dyn) ≡ cond (nests op) 1 0
 nests_is ops.Join = refl
 nests_is op = refl
 
@@ -120,6 +121,7 @@ follow_shown ops.Join next top low h = inner_start (is_start_op next) h.inner
 follow_shown ops.Split next top low h = inner_start (is_start_op next) h.inner
 follow_shown ops.Call next top low h = inner_start (is_start_op next) h.inner
 follow_shown ops.Syscall next top low h = inner_start (is_start_op next) h.inner
+follow_shown ops.Dyn next top low h = inner_start (is_start_op next) h.inner
 follow_shown ops.Repeat next top low h = inner_start (is_start_op next) h.inner
 follow_shown ops.Loop next top low h = loop_goes top (is_op next ops.End) (is_start_op next) (low refl) h.inner (h.skips refl)
 follow_shown ops.Span next top low h = h.batch refl
@@ -154,6 +156,7 @@ follow_from ops.Join next top low m = start_follow ops.Join next top refl refl r
 follow_from ops.Split next top low m = start_follow ops.Split next top refl refl refl refl refl m
 follow_from ops.Call next top low m = start_follow ops.Call next top refl refl refl refl refl m
 follow_from ops.Syscall next top low m = start_follow ops.Syscall next top refl refl refl refl refl m
+follow_from ops.Dyn next top low m = start_follow ops.Dyn next top refl refl refl refl refl m
 follow_from ops.Repeat next top low m = start_follow ops.Repeat next top refl refl refl refl refl m
 follow_from ops.Loop next top low m = record {
   halt = refl;

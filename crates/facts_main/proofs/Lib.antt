@@ -16,6 +16,7 @@ pub mod StackFacts
 pub mod PartFacts
 pub mod LimbFacts
 pub mod LimbSpots
+pub mod DynFacts
 pub mod TableFacts
 pub mod RunFacts
 pub mod ClaimFacts

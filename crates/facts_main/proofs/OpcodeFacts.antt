@@ -12,6 +12,7 @@ use Rattle.air_kit.specs.SpanValues.{span_values}
 use Rattle.air_kit.specs.MainValues.{main_values, decoder_values}
 use Rattle.air_kit.specs.StackValues.{stack_values}
 use Rattle.air_kit.specs.U32Values.{u32_values}
+use Rattle.air_kit.specs.DynValues.{dyn_values}
 use Rattle.air_kit.proofs.FlagLemmas.{has_op}
 use Rattle.facts_main.specs.Zero.{AllZero}
 use Rattle.facts_main.proofs.Zeros.{zero_back, zero_family, zero_front}
@@ -24,12 +25,14 @@ pub record Parts (c : Claim) (p : Spot) : Type 0 where
   pub span : AllZero (span_values p)
   pub stack : AllZero (stack_values p)
   pub u32 : AllZero (u32_values p)
+  pub dyn : AllZero (dyn_values p)
 
 pub main_parts : (c : Claim) (p : Spot) → AllZero (main_values c p) → Parts c p
 unfolding main_values decoder_values
 main_parts c p zeros =
-    let decoder = zero_front (decoder_values c p) (stack_values p ++ u32_values p) zeros in
-    let rest = zero_back (decoder_values c p) (stack_values p ++ u32_values p) zeros in
+    let decoder = zero_front (decoder_values c p) (stack_values p ++ (u32_values p ++ dyn_values p)) zeros in
+    let rest = zero_back (decoder_values c p) (stack_values p ++ (u32_values p ++ dyn_values p)) zeros in
+    let numbers = zero_back (stack_values p) (u32_values p ++ dyn_values p) rest in
     let behind = zero_back (opcode_values p) (boundary_values c p ++ (block_values p ++ span_values p)) decoder in
     let last = zero_back (boundary_values c p) (block_values p ++ span_values p) behind in
     record {
@@ -37,8 +40,9 @@ main_parts c p zeros =
       boundary = zero_front (boundary_values c p) (block_values p ++ span_values p) behind;
       block = zero_front (block_values p) (span_values p) last;
       span = zero_back (block_values p) (span_values p) last;
-      stack = zero_front (stack_values p) (u32_values p) rest;
-      u32 = zero_back (stack_values p) (u32_values p) rest;
+      stack = zero_front (stack_values p) (u32_values p ++ dyn_values p) rest;
+      u32 = zero_front (u32_values p) (dyn_values p) numbers;
+      dyn = zero_back (u32_values p) (dyn_values p) numbers;
     }
 
 pub opcode_bits : (p : Spot) → ((k : ℕ) → slice_index p.cur k < prime) → AllZero (opcode_values p) → (j : ℕ) → j < 7 → b p.cur j < 2

@@ -89,7 +89,7 @@ block_row op p r zeros = record {
   closed = (row_at entry_81 r (says_81 op p.cur r.here.low)).shown (zeros 21);
 }
   where
-    none : (j : ℕ) → on_row (entry_75 j) p ≡ 0 → is_op op ops.Loop || is_call_op op ≡ true → h p.cur (4 + j) ≡ 0
+    none : (j : ℕ) → on_row (entry_75 j) p ≡ 0 → is_op op ops.Loop || is_call_op op || is_op op ops.Dyn ≡ true → h p.cur (4 + j) ≡ 0
     none j z = (row_at (entry_75 j) r (says_75 op p.cur j r.here.low)).shown z
 
 unused_at : (x : List ℕ) → IsBatchRow x → ((j : ℕ) → j < 7 → positions x ≤ j + 1 → h x (j + 1) ≡ 0) → (q : ℕ) → positions x ≤ q → q < 8 → h x q ≡ 0

@@ -5,17 +5,20 @@ use Rattle.std.specs.List.{slice_get}
 use Rattle.vm_ops.specs.declared.op.Op.{Op}
 use Rattle.vm_table.specs.Layout.{IsTable, row_at}
 use Rattle.air_kit.specs.Flags.{op_of}
+use Rattle.air_kit.specs.DynValues.{dyn_values}
 use Rattle.air_kit.specs.MainValues.{main_values, decoder_values}
 use Rattle.air_kit.specs.Places.{Claim, Spot, at_number}
 use Rattle.air_kit.specs.StackValues.{stack_values}
 use Rattle.air_kit.specs.Traces.{spot_of}
 use Rattle.air_kit.specs.U32Values.{u32_values}
 use Rattle.facts_main.specs.Bounds.{IsLowClaim, IsFirstRow}
+use Rattle.facts_main.specs.Dynamic.{IsDynRow}
 use Rattle.facts_main.specs.Limbs.{ShowsLimbs}
 use Rattle.facts_main.specs.MainRows.{MainIsZero, ShowsPair, ShowsRow, ShowsRows, op_in}
 use Rattle.facts_main.specs.RowFacts.{IsAtSpot, HasOps, ReadsAs}
 use Rattle.facts_main.specs.Stack.{ShowsStack}
 use Rattle.facts_main.specs.Zero.{AllZero}
+use Rattle.facts_main.proofs.DynFacts.{dyn_shown, dyn_zeros}
 use Rattle.facts_main.proofs.LimbSpots.{limbs_shown, limbs_zeros}
 use Rattle.facts_main.proofs.PartFacts.{parts_shown, whole_zero}
 use Rattle.facts_main.proofs.Shown.{reads_shown, spot_shown}
@@ -56,6 +59,7 @@ reads_behind rows reads i h = record { here = reads i h; behind = next }
 
 spot_zero : (k : Claim) (rows : List (List ℕ)) → MainIsZero k rows → (i : ℕ) → i < length rows
     → AllZero (decoder_values k (spot_of rows i)) × AllZero (stack_values (spot_of rows i)) × AllZero (u32_values (spot_of rows i))
+    × AllZero (dyn_values (spot_of rows i))
 spot_zero k rows z i h = parts_shown k (spot_of rows i) (numbers_zero (main_values k (spot_of rows i)) (λ number. z.zero i number h))
 
 reads_in : (k : Claim) (rows : List (List ℕ)) → MainIsZero k rows → (i : ℕ) → i < length rows → ReadsAs (op_in rows i) (row_at rows i)
@@ -66,6 +70,7 @@ record AtPlace (k : Claim) (op : Op) (p : Spot) : Type 0 where
   spot : IsAtSpot k op p
   stack : ShowsStack op p
   limbs : ShowsLimbs op p
+  dyn : IsDynRow op p.cur
 
 at_place : (k : Claim) (rows : List (List ℕ)) → IsLowClaim k → MainIsZero k rows → (i : ℕ) → i < length rows → AtPlace k (op_in rows i) (spot_of rows i)
 at_place k rows few z i h =
@@ -73,13 +78,18 @@ at_place k rows few z i h =
     let p : Spot = spot_of rows i in
     let r : HasOps (op_in rows i) p = reads_behind rows (reads_in k rows z) i h in
     let spot : IsAtSpot k (op_in rows i) p = spot_shown k (op_in rows i) p few r zeros.0 in
-    record { spot = spot; stack = stack_shown (op_in rows i) p r spot.row.block zeros.1; limbs = limbs_shown (op_in rows i) p r zeros.2 }
+    record {
+      spot = spot;
+      stack = stack_shown (op_in rows i) p r spot.row.block zeros.1;
+      limbs = limbs_shown (op_in rows i) p r zeros.2;
+      dyn = dyn_shown (op_in rows i) p r zeros.3;
+    }
 
 pub rows_shown : (k : Claim) (rows : List (List ℕ)) → IsLowClaim k → MainIsZero k rows → ShowsRows k rows
 rows_shown k rows few z = record {
   row_is = λ i h.
       (let a : AtPlace k (op_in rows i) (spot_of rows i) = at_place k rows few z i h in
-      record { reads = reads_in k rows z i h; row = a.spot.row; stack = a.stack.row; limbs = a.limbs.row });
+      record { reads = reads_in k rows z i h; row = a.spot.row; stack = a.stack.row; limbs = a.limbs.row; dyn = a.dyn });
   pair_is = λ i h.
       (let a : AtPlace k (op_in rows i) (spot_of rows i) = at_place k rows few z i (omega (arith, h)) in
       let e : slice_get rows (suc i) ≡ Some (row_at rows (suc i)) = behind_at rows i h in
@@ -125,6 +135,7 @@ place_zero k rows few shows i h =
     }))
     (stack_zeros (op_in rows i) (spot_of rows i) r x.row.block (record { row = x.stack; pair = λ y e. (pair_behind k rows shows i y e).stack }))
     (limbs_zeros (op_in rows i) (spot_of rows i) r (record { row = x.limbs; pair = λ y e. (pair_behind k rows shows i y e).limbs }))
+    (dyn_zeros (op_in rows i) (spot_of rows i) r x.dyn)
 
 pub rows_zero : (k : Claim) (rows : List (List ℕ)) → IsLowClaim k → IsTable 65 rows → ShowsRows k rows → MainIsZero k rows
 rows_zero k rows few table shows = record {

@@ -19,7 +19,7 @@ pub record IsBlockRow (op : Op) (x : List ℕ) : Type 0 where
   pub condition : is_op op ops.Split || is_op op ops.Loop ≡ true → s x 0 < 2
   pub again : is_op op ops.Repeat ≡ true → s x 0 ≡ 1
   pub ends : is_op op ops.End ≡ true → IsEndRow x
-  pub single : is_op op ops.Loop || is_call_op op ≡ true → (j : ℕ) → j < 4 → h x (4 + j) ≡ 0
+  pub single : is_op op ops.Loop || is_call_op op || is_op op ops.Dyn ≡ true → (j : ℕ) → j < 4 → h x (4 + j) ≡ 0
   pub outside : is_call_op op ≡ true → sys x ≡ 0
   pub inside : is_op op ops.Caller ≡ true → sys x ≡ 1
   pub closed : is_op op ops.Halt ≡ true → addr x ≡ 0

@@ -7,4 +7,5 @@ pub mod Bounds
 pub mod RowFacts
 pub mod Stack
 pub mod Limbs
+pub mod Dynamic
 pub mod MainRows

@@ -7,6 +7,7 @@ use Rattle.air_kit.specs.MainValues.{main_values}
 use Rattle.air_kit.specs.Places.{Claim, at_number}
 use Rattle.air_kit.specs.Traces.{spot_of}
 use Rattle.facts_main.specs.Bounds.{IsFirstRow, IsLastRow}
+use Rattle.facts_main.specs.Dynamic.{IsDynRow}
 use Rattle.facts_main.specs.Limbs.{IsLimbRow, MovesLimbs}
 use Rattle.facts_main.specs.RowFacts.{ReadsAs, IsRow, IsPair}
 use Rattle.facts_main.specs.Stack.{IsStackRow, MovesStack}
@@ -26,6 +27,7 @@ pub record ShowsRow (op : Op) (x : List ℕ) : Type 0 where
   pub row : IsRow op x
   pub stack : IsStackRow op x
   pub limbs : IsLimbRow op x
+  pub dyn : IsDynRow op x
 
 -- what a row and the row behind it show
 pub record ShowsPair (op next : Op) (x y : List ℕ) : Type 0 where

@@ -16,10 +16,12 @@ ghost use Rattle.air_kit.specs.declared.trace.Public.{Public};
 ghost use Rattle.air_kit.specs.declared.trace.Trace.{Trace};
 ghost use Rattle.air_kit.specs.Traces.{HasCounts, claim_of};
 ghost use Rattle.air_kit.specs.U32Values.{u32_values};
+ghost use Rattle.air_kit.specs.DynValues.{dyn_values};
 ghost use Rattle.facts_main.specs.Batches.{IsBatchRow, ShowsBatch, UsesHalf};
 ghost use Rattle.facts_main.specs.Blocks.{IsBlockRow};
 ghost use Rattle.facts_main.specs.Bounds.{IsLowClaim};
 ghost use Rattle.facts_main.specs.Groups.{IsGroupRow};
+ghost use Rattle.facts_main.specs.Dynamic.{IsDynRow};
 ghost use Rattle.facts_main.specs.Limbs.{ShowsLimbs};
 ghost use Rattle.facts_main.specs.MainRows.{MainIsZero, ShowsRows, op_in};
 ghost use Rattle.facts_main.specs.RowFacts.{IsAtSpot, HasOps, ReadsAs};
@@ -70,12 +72,19 @@ pub fn limb_laws()
     ensures zeros { (op : Op) (p : Spot) → HasOps op p → ShowsLimbs op p → AllZero (u32_values p) }
 {}
 
-/// The law of parts: all entries of the main table are 0 at a place exactly where those of each of its three parts are.
+/// The law of the entries on dynamic blocks, whose numbers are 148 to 151: where they are 0, such a block's row shows four zeros in
+/// front, and they are 0 wherever it does.
+pub fn dyn_laws()
+    ensures shows { (op : Op) (p : Spot) → HasOps op p → AllZero (dyn_values p) → IsDynRow op p.cur }
+    ensures zeros { (op : Op) (p : Spot) → HasOps op p → IsDynRow op p.cur → AllZero (dyn_values p) }
+{}
+
+/// The law of parts: all entries of the main table are 0 at a place exactly where those of each of its four parts are.
 pub fn part_laws()
     ensures parts { (k : Claim) (p : Spot) → AllZero (main_values k p)
-        → AllZero (decoder_values k p) × AllZero (stack_values p) × AllZero (u32_values p) }
+        → AllZero (decoder_values k p) × AllZero (stack_values p) × AllZero (u32_values p) × AllZero (dyn_values p) }
     ensures whole { (k : Claim) (p : Spot) → AllZero (decoder_values k p) → AllZero (stack_values p) → AllZero (u32_values p)
-        → AllZero (main_values k p) }
+        → AllZero (dyn_values p) → AllZero (main_values k p) }
 {}
 
 /// The law of tables: the rows of a main table of which all entries are 0 show these facts, each row and each two rows, the first row

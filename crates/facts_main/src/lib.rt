@@ -5,6 +5,6 @@
 mod laws;
 
 pub use laws::{
-    batch_laws, clock_laws, decoder_laws, limb_laws, operation_laws, part_laws, reading_laws,
-    stack_laws, table_laws, trace_laws,
+    batch_laws, clock_laws, decoder_laws, dyn_laws, limb_laws, operation_laws, part_laws,
+    reading_laws, stack_laws, table_laws, trace_laws,
 };

@@ -97,7 +97,7 @@ no_repeat : (op : Op) → is_ordinary_op op && is_op op ops.Repeat ≡ false
 no_repeat ops.Noop = refl
 no_repeat op = refl
 
-no_single : (op : Op) → is_ordinary_op op && (is_op op ops.Loop || is_call_op op) ≡ false
+no_single : (op : Op) → is_ordinary_op op && (is_op op ops.Loop || is_call_op op || is_op op ops.Dyn) ≡ false
 no_single ops.Noop = refl
 no_single op = refl
 
@@ -112,7 +112,7 @@ ordinary_row op x is inside =
       condition = λ t. off (sym (off_where (is_ordinary_op op) (is_op op ops.Split || is_op op ops.Loop) (no_condition op) is) ∙ t);
       again = λ t. off (sym (off_where (is_ordinary_op op) (is_op op ops.Repeat) (no_repeat op) is) ∙ t);
       ends = λ t. off (sym o.not_end ∙ t);
-      single = λ t. off (sym (off_where (is_ordinary_op op) (is_op op ops.Loop || is_call_op op) (no_single op) is) ∙ t);
+      single = λ t. off (sym (off_where (is_ordinary_op op) (is_op op ops.Loop || is_call_op op || is_op op ops.Dyn) (no_single op) is) ∙ t);
       outside = λ t. off (sym o.not_call ∙ t);
       inside = inside;
       closed = λ t. off (sym (off_where (is_ordinary_op op) (is_op op ops.Halt) (no_halt op) is) ∙ t);

@@ -123,6 +123,14 @@ by_kind kinds.Syscall d e later count b = record {
   place = omega (arith, b.place);
   few = omega (arith, b.few);
 }
+by_kind kinds.Dyn d e later count b = record {
+  next = omega (arith, b.next);
+  ha = omega (arith, b.ha);
+  blocks = started d [] (omega (arith, b.next, b.few)) b.blocks;
+  left = b.left;
+  place = omega (arith, b.place);
+  few = omega (arith, b.few);
+}
 by_kind kinds.End d e later count b = record {
   next = omega (arith, b.next);
   ha = omega arith;

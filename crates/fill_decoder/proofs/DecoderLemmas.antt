@@ -21,6 +21,7 @@ as_known kinds.Span d e batches later known =
     (ap (λ (n : ℕ). n + 1) (known refl) ∙ add-one (length (respans later)))
 as_known kinds.Call d e batches later known = refl
 as_known kinds.Syscall d e batches later known = refl
+as_known kinds.Dyn d e batches later known = refl
 as_known kinds.End d e batches later known = refl
 as_known kinds.Repeat d e batches later known = refl
 as_known kinds.Respan d e batches later known = refl

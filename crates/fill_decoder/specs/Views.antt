@@ -31,6 +31,7 @@ advance_as kinds.Loop d e batches = popped (opened 1 d)
 advance_as kinds.Span d e batches = record (opened (batches + 1) d) { ha = d.next; unread = batch_begun e.hash }
 advance_as kinds.Call d e batches = called d
 advance_as kinds.Syscall d e batches = called d
+advance_as kinds.Dyn d e batches = opened 1 d
 advance_as kinds.End d e batches = closed e.hash d
 advance_as kinds.Repeat d e batches = popped d
 advance_as kinds.Respan d e batches = record d { ha = d.ha + 8; unread = batch_begun e.hash }

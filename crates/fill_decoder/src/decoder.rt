@@ -107,7 +107,7 @@ impl Decoder {
     {
         match kind {
             Kind::Ordinary => self.take(event),
-            Kind::Join => self.open(1),
+            Kind::Join | Kind::Dyn => self.open(1),
             Kind::Split | Kind::Loop => self.open_on_bit(),
             Kind::Span => self.start_span(event, batches),
             Kind::Call | Kind::Syscall => self.call(),

@@ -121,6 +121,7 @@ few-by kinds.Loop n counts few = few-closed n counts few
 few-by kinds.Span n counts few = few-closed n counts few
 few-by kinds.Call n counts few = few-closed n counts few
 few-by kinds.Syscall n counts few = few-closed n counts few
+few-by kinds.Dyn n counts few = few-closed n counts few
 few-by kinds.End n counts few = All-cons (λ c. c ≤ suc n) 0 counts (omega arith) (few-later n counts few)
 few-by kinds.Repeat n counts few =
     let first = first-few n counts few in

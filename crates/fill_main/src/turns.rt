@@ -40,7 +40,13 @@ fn count(counts: &mut Stack<u64>, kind: Kind) -> Result<(), Memory>
 {
     match kind {
         Kind::Ordinary | Kind::Respan | Kind::Halt => Ok(()),
-        Kind::Join | Kind::Split | Kind::Loop | Kind::Span | Kind::Call | Kind::Syscall => {
+        Kind::Join
+        | Kind::Split
+        | Kind::Loop
+        | Kind::Span
+        | Kind::Call
+        | Kind::Syscall
+        | Kind::Dyn => {
             let _ = counts.pop();
             Ok(())
         }

@@ -101,6 +101,7 @@ perms-as constants kinds.Loop e batches later known = refl
 perms-as constants kinds.Span e batches later known = ap (λ (blocks : List (List ℕ)). hash_perms constants 0 (e.hash ∷ blocks)) (known refl)
 perms-as constants kinds.Call e batches later known = refl
 perms-as constants kinds.Syscall e batches later known = refl
+perms-as constants kinds.Dyn e batches later known = refl
 perms-as constants kinds.End e batches later known = refl
 perms-as constants kinds.Repeat e batches later known = refl
 perms-as constants kinds.Respan e batches later known = refl

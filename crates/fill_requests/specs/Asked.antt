@@ -16,6 +16,7 @@ perms_as kinds.Loop constants e batches = hash_perms constants (code_of ops.Loop
 perms_as kinds.Span constants e batches = hash_perms constants 0 (e.hash ∷ batches)
 perms_as kinds.Call constants e batches = hash_perms constants (code_of ops.Call) (e.hash ∷ [])
 perms_as kinds.Syscall constants e batches = hash_perms constants (code_of ops.Syscall) (e.hash ∷ [])
+perms_as kinds.Dyn constants e batches = hash_perms constants (code_of ops.Dyn) (e.hash ∷ [])
 perms_as kinds.End constants e batches = []
 perms_as kinds.Repeat constants e batches = []
 perms_as kinds.Respan constants e batches = []

@@ -30,6 +30,7 @@ pub(crate) fn push_perms(
         Kind::Loop => push_block(perms, Op::Loop, &event.hash),
         Kind::Call => push_block(perms, Op::Call, &event.hash),
         Kind::Syscall => push_block(perms, Op::Syscall, &event.hash),
+        Kind::Dyn => push_block(perms, Op::Dyn, &event.hash),
         Kind::End | Kind::Repeat | Kind::Respan | Kind::Halt => Ok(()),
     }
 }

@@ -3,7 +3,7 @@ use Rattle.std.specs.Prelude.{◌≡◌, ℕ, List, drop}
 use Rattle.block_tree.specs.Cycles as cycles
 use Rattle.machine_cycles.specs.declared.mark.Frame.{Frame}
 use Rattle.machine_cycles.specs.declared.mark.Mark.{Mark}
-use Rattle.machine_cycles.specs.declared.mark.Mark.TheVariants.{StartOpaque, StartSpan, StartJoin, StartSplit, StartLoop, StartCall, StartSyscall, Respan, Repeat, End, EndSpan, EndLoop, EndCall, EndSyscall}
+use Rattle.machine_cycles.specs.declared.mark.Mark.TheVariants.{StartOpaque, StartSpan, StartJoin, StartSplit, StartLoop, StartCall, StartSyscall, StartDyn, Respan, Repeat, End, EndSpan, EndLoop, EndCall, EndSyscall}
 
 abbrev pub frame_in : Frame → cycles.Frame
 frame_in f = record { context = f.context; fmp = f.fmp; in_syscall = f.in_syscall; digest = f.digest; hidden = f.hidden }
@@ -16,6 +16,7 @@ mark_of (StartSplit on_one on_zero) = cycles.StartSplit on_one on_zero
 mark_of (StartLoop body) = cycles.StartLoop body
 mark_of (StartCall callee) = cycles.StartCall callee
 mark_of (StartSyscall callee) = cycles.StartSyscall callee
+mark_of (StartDyn known) = cycles.StartDyn known
 mark_of (Respan batch) = cycles.Respan batch.elements
 mark_of (Repeat body) = cycles.Repeat body
 mark_of (End digest) = cycles.End digest

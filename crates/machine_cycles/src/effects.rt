@@ -1,6 +1,6 @@
 ghost use Rattle.std.specs.Prelude.{◌≡◌, ◌+◌, ◌-◌, ◌^◌, ◌<◌, ◌≤◌, Err, [], drop, length, nat_lt, OnOk};
 ghost use Rattle.vm_field.specs.Limits.{most_cycles};
-ghost use Rattle.block_tree.specs.Cycles.{and_then, closes, effect_of, enters_call, enters_syscall, is_in_kernel, opens, pops_bit, reads, returns_to, top};
+ghost use Rattle.block_tree.specs.Cycles.{and_then, called_word, closes, effect_of, enters_call, enters_syscall, finds, is_in_kernel, opens, pops_bit, reads, returns_to, top};
 ghost use Rattle.vm_state.specs.Views.{core_of};
 ghost use Rattle.machine_cycles.specs.Effects.{Effected, Opened};
 ghost use Rattle.machine_cycles.specs.Marks.{SetsAside, frame_in, mark_of};
@@ -38,6 +38,7 @@ pub(crate) fn effect(
         Mark::StartSplit(..) | Mark::StartLoop(_) => start_on_bit(state),
         Mark::StartCall(callee) => start_call(state, hidden, &callee),
         Mark::StartSyscall(callee) => start_syscall(state, hidden, setting.kernel, &callee),
+        Mark::StartDyn(known) => start_dyn(state, known),
         Mark::Respan(batch) => read(state, &batch),
         Mark::Repeat(_) => pop_bit(state),
         Mark::End(_) | Mark::EndSpan(_) => close(state),
@@ -58,6 +59,13 @@ fn start_span(state: &mut State, batch: &Batch) -> Result<(), StepStop>
 {
     open(state)?;
     read(state, batch)
+}
+
+fn start_dyn(state: &mut State, known: bool) -> Result<(), StepStop>
+    ensures { Effected (opens (finds known) (core_of state.old)) result state.old state.new }
+{
+    open(state)?;
+    find(state, known)
 }
 
 fn start_join(state: &mut State) -> Result<(), StepStop>
@@ -134,6 +142,18 @@ fn pop_bit(state: &mut State) -> Result<(), StepStop>
         Ok(())
     } else {
         Err(StepStop::Trap(Cause::NotBinary))
+    }
+}
+
+// There must be a target.
+#[tactic(auto, unfolding(block_tree::specs::Cycles::finds))]
+fn find(state: &mut State, known: bool) -> Result<(), StepStop>
+    ensures { Effected (finds known (core_of state.old)) result state.old state.new }
+{
+    if known {
+        Ok(())
+    } else {
+        Err(StepStop::Trap(Cause::UnknownTarget))
     }
 }
 
@@ -226,4 +246,12 @@ pub fn top_of(state: &State) -> Felt
     ensures { result ≡ top (core_of state.now) }
 {
     state.visible()[0]
+}
+
+/// The digest on top, its last element on top.
+pub fn called_word(state: &State) -> Word
+    ensures { result ≡ called_word (core_of state.now) }
+{
+    let cells = state.visible();
+    Word([cells[3], cells[2], cells[1], cells[0]])
 }

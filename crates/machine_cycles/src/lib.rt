@@ -10,7 +10,7 @@ mod refusal;
 mod setting;
 
 pub use cycling::{Runner, cycle, enter, operation};
-pub use effects::top_of;
+pub use effects::{called_word, top_of};
 pub use event::{Event, Visible};
 pub use log::Events;
 pub use mark::{Frame, Mark};

@@ -29,6 +29,8 @@ pub enum Mark {
     StartLoop(Word),
     StartCall(Word),
     StartSyscall(Word),
+    /// Whether there is a target of the digest on top of the stack.
+    StartDyn(bool),
     Respan(Batch),
     Repeat(Word),
     End(Word),
@@ -50,6 +52,7 @@ impl Mark {
             Mark::StartLoop(_) => Op::Loop,
             Mark::StartCall(_) => Op::Call,
             Mark::StartSyscall(_) => Op::Syscall,
+            Mark::StartDyn(_) => Op::Dyn,
             Mark::Respan(_) => Op::Respan,
             Mark::Repeat(_) => Op::Repeat,
             Mark::End(_)
@@ -66,7 +69,7 @@ impl Mark {
     {
         let zeros = Word::ZERO;
         match self {
-            Mark::StartOpaque => pair(&zeros, &zeros),
+            Mark::StartOpaque | Mark::StartDyn(_) => pair(&zeros, &zeros),
             Mark::StartSpan(batch) | Mark::Respan(batch) => batch.elements,
             Mark::StartJoin(first, second) | Mark::StartSplit(first, second) => pair(first, second),
             Mark::StartLoop(child)

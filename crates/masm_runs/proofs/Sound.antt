@@ -1,6 +1,7 @@
 -- A tree that is ready traps for values alone, where so many blocks may still be opened.
-use Rattle.std.proofs.Common.{◌≡◌, ℕ, zero, suc, ◌+◌, ◌-◌, ◌<◌, ◌≤◌, Bool, true, false, cond, ltb, nat_lt, not, ◌&&◌, ◌==◌, List, [], ◌∷◌, length, is_some, Option, Some, None, Result, Ok, Err, refl, sym, subst, arith, lt-ltb}
+use Rattle.std.proofs.Common.{◌≡◌, ℕ, zero, suc, ◌+◌, ◌-◌, ◌<◌, ◌≤◌, Bool, true, false, cond, ltb, nat_eq, nat_lt, not, ◌&&◌, ◌==◌, List, [], ◌∷◌, length, is_some, Option, Some, None, Result, Ok, Err, refl, sym, subst, arith, lt-ltb}
 use Rattle.std.specs.List.{AllByRecursion}
+use lib.Pointwise.{pointwise}
 use Rattle.vm_field.specs.Machine.{Core, State}
 use Rattle.vm_ops.specs.declared.cause.Cause.{Cause}
 use Rattle.vm_ops.specs.declared.cause.Cause.TheVariants.{BadBatch, NestedTooDeep, AdviceEmpty, NotU32, DivideByZero}
@@ -11,10 +12,10 @@ use Rattle.vm_ops.specs.Step.{act, seen, performed, unless_trapped, cycle_taking
 use Rattle.vm_ops.specs.Values.{Seen, cell, is_bit, is_u32, two_u32, trap_of, unless, or_else}
 use Rattle.op_pack.specs.Reading.{reading}
 use Rattle.block_tree.specs.Behind.{HasReading}
-use Rattle.block_tree.specs.Cycles.{Cycle, Frame, Mark, StartOpaque, StartSpan, StartJoin, StartSplit, StartLoop, StartCall, StartSyscall, Respan, Repeat, Do, End, EndSpan, EndLoop, EndCall, EndSyscall, frame_of, pops_bit, opens, closes, and_then, reads, enters_call, is_in_kernel, enters_syscall, returns_to, effect_of, advice_taken, top}
-use Rattle.block_tree.specs.Execution.{Event, Outcome, Done, Trap, OutOfCycles, Part, logged, then_do, skip, seq, cycle_outcome, taking, at_bit, cycle, operations, read_operations, batches_from, turns, execution}
-use Rattle.block_tree.specs.Trees.{Tree, Opaque, Span, Join, Split, Loop, Call, Syscall, Dyn, tree_digest, tree_height}
-use Rattle.block_tree.specs.KnownTrees.{IsReady}
+use Rattle.block_tree.specs.Cycles.{Cycle, Frame, Mark, StartOpaque, StartSpan, StartJoin, StartSplit, StartLoop, StartCall, StartSyscall, StartDyn, Respan, Repeat, Do, End, EndSpan, EndLoop, EndCall, EndSyscall, frame_of, pops_bit, opens, closes, and_then, reads, finds, enters_call, is_in_kernel, enters_syscall, returns_to, effect_of, advice_taken, called_word, top}
+use Rattle.block_tree.specs.Execution.{Event, Outcome, Done, Trap, OutOfCycles, Part, logged, then_do, skip, seq, cycle_outcome, taking, at_bit, cycle, operations, read_operations, batches_from, turns, execution, run_first}
+use Rattle.block_tree.specs.Trees.{Tree, Targets, Opaque, Span, Join, Split, Loop, Call, Syscall, Dyn, no_target, target, first_target, targets_height, tree_digest, tree_height}
+use Rattle.block_tree.specs.KnownTrees.{AreReady, IsReady}
 use Rattle.masm_runs.specs.Runs.{IsOfValues, TrapsForValues, ReadyRuns}
 
 -- a cycle's effect leaves so many blocks open, or traps for values
@@ -37,6 +38,10 @@ sound-closes c = refl
 sound-reads : (batch : List ℕ) (c : Core) → HasReading batch → Sound c.nesting (reads batch c)
 unfolding reads
 sound-reads batch c has = subst (λ o. Sound c.nesting (cond (is_some o) (Ok c) (Err BadBatch))) (sym has.1) refl
+
+sound-finds : (known : Bool) (c : Core) → Sound c.nesting (finds known c)
+unfolding finds
+sound-finds known c = sound-cond c.nesting known _ _ refl tt
 
 sound-call : (callee : List ℕ) (c : Core) → Sound c.nesting (enters_call callee c)
 unfolding enters_call
@@ -121,6 +126,7 @@ MayBe (StartSplit on_one on_zero) n = n < 1024
 MayBe (StartLoop body) n = n < 1024
 MayBe (StartCall callee) n = n < 1024
 MayBe (StartSyscall callee) n = n < 1024
+MayBe (StartDyn known) n = n < 1024
 MayBe (Respan batch) n = HasReading batch
 MayBe mark n = Unit {0}
 
@@ -133,6 +139,7 @@ open_behind (StartSplit on_one on_zero) n = n + 1
 open_behind (StartLoop body) n = n + 1
 open_behind (StartCall callee) n = n + 1
 open_behind (StartSyscall callee) n = n + 1
+open_behind (StartDyn known) n = n + 1
 open_behind (Respan batch) n = n
 open_behind (Repeat body) n = n
 open_behind (Do item) n = n
@@ -177,6 +184,10 @@ sound-bit : (n k : ℕ) (x y : Part) (t : State) → SoundOut n (x t) → SoundO
 sound-bit n zero x y t h k = h
 sound-bit n (suc b) x y t h k = k
 
+sound-choice : (n : ℕ) (b : Bool) (x y : Part) (t : State) → SoundOut n (x t) → SoundOut n (y t) → SoundOut n (cond b x y t)
+sound-choice n true x y t h k = h
+sound-choice n false x y t h k = k
+
 back : (n : ℕ) → n + 1 - 1 ≡ n
 back n = omega arith
 
@@ -190,6 +201,7 @@ module _ (constants : List ℕ) (kernel : List (List ℕ)) where
   sound-effect (StartLoop body) advice c h = sound-opens pops_bit c h sound-pops
   sound-effect (StartCall callee) advice c h = sound-opens (enters_call callee) c h (sound-call callee)
   sound-effect (StartSyscall callee) advice c h = sound-opens (enters_syscall kernel callee) c h (sound-syscall kernel callee)
+  sound-effect (StartDyn known) advice c h = sound-opens (finds known) c h (sound-finds known)
   sound-effect (Respan batch) advice c h = sound-reads batch c h
   sound-effect (Repeat body) advice c h = sound-pops c
   sound-effect (Do item) advice c h = sound-act constants item advice c
@@ -247,57 +259,70 @@ module _ (constants : List ℕ) (kernel : List (List ℕ)) where
         (sound-at (Repeat body_digest) (n + 1) t e' tt)
         (λ u e''. sound-turns digest body_digest k n body u e'' h)))
 
-    sound-run : (tree : Tree) (n : ℕ) (s : State) → s.core.nesting ≡ n → IsReady tree → n + tree_height tree ≤ 1024
-        → SoundOut n (execution constants kernel limit tree s)
-    sound-run (Opaque digest) n s e h low = absurd h
-    sound-run (Dyn targets) n s e h low = absurd h
-    sound-run (Span []) n s e h low = absurd (h.0 refl)
-    sound-run (Span (batch ∷ later)) n s e h low =
-        sound-seq (n + 1) n _ (cycle constants kernel limit (EndSpan (tree_digest constants (Span (batch ∷ later))))) s
-        (sound-seq (n + 1) (n + 1) (cycle constants kernel limit (StartSpan batch)) _ s
-        (sound-at (StartSpan batch) n s e ((let l = low in omega arith), h.1.0))
-        (λ t e'. sound-seq (n + 1) (n + 1) (read_operations constants kernel limit (reading batch))
-        (batches_from constants kernel limit Respan later) t
-        (sound-read (reading batch) (n + 1) t e') (λ u e''. sound-batches later (n + 1) u e'' h.1.1)))
-        (λ t e'. sound-end (EndSpan (tree_digest constants (Span (batch ∷ later)))) n t e' (back n) tt)
-    sound-run (Join first second) n s e h low =
-        sound-seq (n + 1) n (cycle constants kernel limit (StartJoin (tree_digest constants first) (tree_digest constants second))) _ s
-        (sound-at (StartJoin (tree_digest constants first) (tree_digest constants second)) n s e (let l = low in omega arith))
-        (λ t e'. sound-seq (n + 1) n (execution constants kernel limit first) _ t
-        (sound-run first (n + 1) t e' h.0 (let l = low in omega arith))
-        (λ u e''. sound-seq (n + 1) n (execution constants kernel limit second) _ u
-        (sound-run second (n + 1) u e'' h.1 (let l = low in omega arith))
-        (λ v e'''. sound-end (End (tree_digest constants (Join first second))) n v e''' (back n) tt)))
-    sound-run (Split on_one on_zero) n s e h low =
-        sound-seq (n + 1) n (cycle constants kernel limit (StartSplit (tree_digest constants on_one) (tree_digest constants on_zero))) _ s
-        (sound-at (StartSplit (tree_digest constants on_one) (tree_digest constants on_zero)) n s e (let l = low in omega arith))
-        (λ t e'. sound-seq (n + 1) n (at_bit (top s.core) (execution constants kernel limit on_zero) (execution constants kernel limit on_one)) _ t
-        (sound-bit (n + 1) (top s.core) (execution constants kernel limit on_zero) (execution constants kernel limit on_one) t
-        (sound-run on_zero (n + 1) t e' h.1 (let l = low in omega arith))
-        (sound-run on_one (n + 1) t e' h.0 (let l = low in omega arith)))
-        (λ u e''. sound-end (End (tree_digest constants (Split on_one on_zero))) n u e'' (back n) tt))
-    sound-run (Loop body) n s e h low =
-        sound-seq (n + 1) n (cycle constants kernel limit (StartLoop (tree_digest constants body))) _ s
-        (sound-at (StartLoop (tree_digest constants body)) n s e (let l = low in omega arith))
-        (λ t e'. sound-bit n (top s.core) (cycle constants kernel limit (End (tree_digest constants (Loop body))))
-        (turns constants kernel limit (tree_digest constants (Loop body)) (tree_digest constants body) (limit - s.core.clock)
-        (execution constants kernel limit body)) t
-        (sound-end (End (tree_digest constants (Loop body))) n t e' (back n) tt)
-        (sound-turns (tree_digest constants (Loop body)) (tree_digest constants body) (limit - s.core.clock) n
-        (execution constants kernel limit body) t e'
-        (λ u e''. sound-run body (n + 1) u e'' h (let l = low in omega arith))))
-    sound-run (Call callee) n s e h low =
-        sound-seq (n + 1) n (cycle constants kernel limit (StartCall (tree_digest constants callee))) _ s
-        (sound-at (StartCall (tree_digest constants callee)) n s e (let l = low in omega arith))
-        (λ t e'. sound-seq (n + 1) n (execution constants kernel limit callee) _ t
-        (sound-run callee (n + 1) t e' h (let l = low in omega arith))
-        (λ u e''. sound-end (EndCall (tree_digest constants (Call callee)) (frame_of s.core)) n u e'' (back n) tt))
-    sound-run (Syscall callee) n s e h low =
-        sound-seq (n + 1) n (cycle constants kernel limit (StartSyscall (tree_digest constants callee))) _ s
-        (sound-at (StartSyscall (tree_digest constants callee)) n s e (let l = low in omega arith))
-        (λ t e'. sound-seq (n + 1) n (execution constants kernel limit callee) _ t
-        (sound-run callee (n + 1) t e' h (let l = low in omega arith))
-        (λ u e''. sound-end (EndSyscall (tree_digest constants (Syscall callee)) (frame_of s.core)) n u e'' (back n) tt))
+    mutual
+      sound-run : (tree : Tree) (n : ℕ) (s : State) → s.core.nesting ≡ n → IsReady tree → n + tree_height tree ≤ 1024
+          → SoundOut n (execution constants kernel limit tree s)
+      sound-run (Opaque digest) n s e h low = absurd h
+      sound-run (Span []) n s e h low = absurd (h.0 refl)
+      sound-run (Span (batch ∷ later)) n s e h low =
+          sound-seq (n + 1) n _ (cycle constants kernel limit (EndSpan (tree_digest constants (Span (batch ∷ later))))) s
+          (sound-seq (n + 1) (n + 1) (cycle constants kernel limit (StartSpan batch)) _ s
+          (sound-at (StartSpan batch) n s e ((let l = low in omega arith), h.1.0))
+          (λ t e'. sound-seq (n + 1) (n + 1) (read_operations constants kernel limit (reading batch))
+          (batches_from constants kernel limit Respan later) t
+          (sound-read (reading batch) (n + 1) t e') (λ u e''. sound-batches later (n + 1) u e'' h.1.1)))
+          (λ t e'. sound-end (EndSpan (tree_digest constants (Span (batch ∷ later)))) n t e' (back n) tt)
+      sound-run (Join first second) n s e h low =
+          sound-seq (n + 1) n (cycle constants kernel limit (StartJoin (tree_digest constants first) (tree_digest constants second))) _ s
+          (sound-at (StartJoin (tree_digest constants first) (tree_digest constants second)) n s e (let l = low in omega arith))
+          (λ t e'. sound-seq (n + 1) n (execution constants kernel limit first) _ t
+          (sound-run first (n + 1) t e' h.0 (let l = low in omega arith))
+          (λ u e''. sound-seq (n + 1) n (execution constants kernel limit second) _ u
+          (sound-run second (n + 1) u e'' h.1 (let l = low in omega arith))
+          (λ v e'''. sound-end (End (tree_digest constants (Join first second))) n v e''' (back n) tt)))
+      sound-run (Split on_one on_zero) n s e h low =
+          sound-seq (n + 1) n (cycle constants kernel limit (StartSplit (tree_digest constants on_one) (tree_digest constants on_zero))) _ s
+          (sound-at (StartSplit (tree_digest constants on_one) (tree_digest constants on_zero)) n s e (let l = low in omega arith))
+          (λ t e'. sound-seq (n + 1) n (at_bit (top s.core) (execution constants kernel limit on_zero) (execution constants kernel limit on_one)) _ t
+          (sound-bit (n + 1) (top s.core) (execution constants kernel limit on_zero) (execution constants kernel limit on_one) t
+          (sound-run on_zero (n + 1) t e' h.1 (let l = low in omega arith))
+          (sound-run on_one (n + 1) t e' h.0 (let l = low in omega arith)))
+          (λ u e''. sound-end (End (tree_digest constants (Split on_one on_zero))) n u e'' (back n) tt))
+      sound-run (Loop body) n s e h low =
+          sound-seq (n + 1) n (cycle constants kernel limit (StartLoop (tree_digest constants body))) _ s
+          (sound-at (StartLoop (tree_digest constants body)) n s e (let l = low in omega arith))
+          (λ t e'. sound-bit n (top s.core) (cycle constants kernel limit (End (tree_digest constants (Loop body))))
+          (turns constants kernel limit (tree_digest constants (Loop body)) (tree_digest constants body) (limit - s.core.clock)
+          (execution constants kernel limit body)) t
+          (sound-end (End (tree_digest constants (Loop body))) n t e' (back n) tt)
+          (sound-turns (tree_digest constants (Loop body)) (tree_digest constants body) (limit - s.core.clock) n
+          (execution constants kernel limit body) t e'
+          (λ u e''. sound-run body (n + 1) u e'' h (let l = low in omega arith))))
+      sound-run (Call callee) n s e h low =
+          sound-seq (n + 1) n (cycle constants kernel limit (StartCall (tree_digest constants callee))) _ s
+          (sound-at (StartCall (tree_digest constants callee)) n s e (let l = low in omega arith))
+          (λ t e'. sound-seq (n + 1) n (execution constants kernel limit callee) _ t
+          (sound-run callee (n + 1) t e' h (let l = low in omega arith))
+          (λ u e''. sound-end (EndCall (tree_digest constants (Call callee)) (frame_of s.core)) n u e'' (back n) tt))
+      sound-run (Syscall callee) n s e h low =
+          sound-seq (n + 1) n (cycle constants kernel limit (StartSyscall (tree_digest constants callee))) _ s
+          (sound-at (StartSyscall (tree_digest constants callee)) n s e (let l = low in omega arith))
+          (λ t e'. sound-seq (n + 1) n (execution constants kernel limit callee) _ t
+          (sound-run callee (n + 1) t e' h (let l = low in omega arith))
+          (λ u e''. sound-end (EndSyscall (tree_digest constants (Syscall callee)) (frame_of s.core)) n u e'' (back n) tt))
+      sound-run (Dyn targets) n s e h low =
+          sound-seq (n + 1) n (cycle constants kernel limit (StartDyn (is_some (first_target constants (called_word s.core) targets)))) _ s
+          (sound-at (StartDyn (is_some (first_target constants (called_word s.core) targets))) n s e (let l = low in omega arith))
+          (λ t e'. sound-seq (n + 1) n (run_first constants kernel limit targets (called_word s.core)) _ t
+          (sound-first targets (called_word s.core) (n + 1) t e' h (let l = low in omega arith))
+          (λ u e''. sound-end (End (tree_digest constants (Dyn targets))) n u e'' (back n) tt))
+
+      sound-first : (targets : Targets) (digest : List ℕ) (n : ℕ) (s : State) → s.core.nesting ≡ n → AreReady targets
+          → n + targets_height targets ≤ 1024 → SoundOut n (run_first constants kernel limit targets digest s)
+      sound-first no_target digest n s e h low = sound-skip n s e
+      sound-first (target first more) digest n s e h low =
+          sound-choice n (pointwise nat_eq (tree_digest constants first) digest) _ _ s
+          (sound-run first n s e h.0 (let l = low in omega arith)) (sound-first more digest n s e h.1 (let l = low in omega arith))
 
 traps : (n : ℕ) (o : Outcome) → SoundOut n o → TrapsForValues o
 traps n (Done t events) h = tt

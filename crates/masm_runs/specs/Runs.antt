@@ -15,6 +15,7 @@ use Rattle.masm_link.specs.Assembling.{Assembles}
 abbrev pub IsOfValues : Cause → Type 0
 IsOfValues cause.NestedTooDeep = ⊥
 IsOfValues cause.OpaqueBlock = ⊥
+IsOfValues cause.UnknownTarget = Unit {0}
 IsOfValues cause.BadBatch = ⊥
 IsOfValues cause.NotBinary = Unit {0}
 IsOfValues cause.CallInSyscall = Unit {0}

@@ -21,7 +21,7 @@ pub room-fits : (room free : ℕ) (item : Item) → fits room free item ≡ true
 room-fits room free item e = room_if (has_immediate item) room free e
 
 -- a digit in front of a number
-pub below_next : (room code number : ℕ) → 0 < room → code < 80 → number < 128 ^ (room - 1) → code + 128 * number < 128 ^ room
+pub below_next : (room code number : ℕ) → 0 < room → code < 81 → number < 128 ^ (room - 1) → code + 128 * number < 128 ^ room
 below_next zero code number some h k = absurd (omega arith)
 below_next (suc room) code number some h k =
     let same : suc room - 1 ≡ room = omega arith in

@@ -1,19 +1,21 @@
 -- Blocks with children, and the turns of a loop, as the code answers them.
-use Rattle.std.proofs.Common.{◌≡◌, ℕ, zero, suc, ◌+◌, ◌-◌, ◌<◌, ◌≤◌, ◌≢◌, List, Result, Ok, Err, refl, sym, ap, ◌∙◌, arith, ⊎_elim}
+use Rattle.std.proofs.Common.{◌≡◌, ℕ, zero, suc, ◌+◌, ◌-◌, ◌<◌, ◌≤◌, ◌≢◌, List, Bool, Option, Some, None, is_some, Result, Ok, Err, refl, sym, ap, ◌∙◌, arith, ⊎_elim}
 use Rattle.std.proofs.lemmas.Bool.{cases_lt}
+use Rattle.std.specs.Option.{option_map}
 use Rattle.vm_field.specs.Machine as machine
 use Rattle.block_tree.specs.Cycles as cycles
-use Rattle.block_tree.specs.Cycles.{End, EndCall, EndLoop, EndSyscall, Frame, Repeat, StartCall, StartJoin, StartLoop, StartSplit, StartSyscall, advice_taken, effect_of, frame_of, top}
+use Rattle.block_tree.specs.Cycles.{End, EndCall, EndLoop, EndSyscall, Frame, Repeat, StartCall, StartJoin, StartLoop, StartSplit, StartSyscall, StartDyn, advice_taken, called_word, effect_of, frame_of, top}
 use Rattle.block_tree.specs.Execution as run
 use Rattle.block_tree.specs.Execution.{Done, Part, at_bit, seq}
-use Rattle.block_tree.specs.Trees.{Tree, Call, Join, Loop, Split, Syscall}
+use Rattle.block_tree.specs.Trees.{Tree, Targets, Call, Dyn, Join, Loop, Split, Syscall, first_target, targets_height, tree_height}
 use Rattle.block_tree.proofs.Keeping.{cycle-ticks}
 use Rattle.block_tree.proofs.Limits.{execution-again, execution-late}
+use Rattle.block_tree.proofs.TargetLemmas.{execution-Dyn, first-lower, run_option}
 use Rattle.block_tree.proofs.Parts.{done-not_late, seq-late, taking-inv}
 use Rattle.vm_state.specs.Views.{core_of, state_of}
 use Rattle.machine_cycles.specs.Running.{Ran}
 use Rattle.machine_cycles.specs.Settings.{constants_in, cycle_in}
-use Rattle.processor.specs.Parts.{digest_of, execution_in, turns_in}
+use Rattle.processor.specs.Parts.{digest_of, execution_in, run_option_in, turns_in}
 use Rattle.machine_cycles.specs.declared.cycling.Runner.{Runner}
 use Rattle.machine_cycles.specs.declared.event.Event.{Event}
 use Rattle.machine_cycles.specs.declared.refusal.Stop.{Stop}
@@ -26,6 +28,20 @@ at_bit-zero n f g e = rw e refl
 pub at_bit-one : (n : ℕ) (f g : Part) → n ≢ 0 → at_bit n f g ≡ g
 at_bit-one zero f g h = absurd (h refl)
 at_bit-one (suc n) f g h = refl
+
+abbrev pub option_height : Option Tree → ℕ
+option_height None = 0
+option_height (Some tree) = tree_height tree
+
+-- what is found is no higher than the highest target
+pub found-low : (constants digest : List ℕ) (ts : Targets) (o : Option Tree) → o ≡ first_target constants digest ts
+    → option_height o ≤ targets_height ts
+found-low constants digest ts None e = omega arith
+found-low constants digest ts (Some tree) e = first-lower constants ts digest tree (sym e)
+
+pub is_some-map : {A B : Type 0} (f : A → B) (o : Option A) → is_some (option_map f o) ≡ is_some o
+is_some-map f None = refl
+is_some-map f (Some x) = refl
 
 module _ (setting : Setting) where
   pub join-as : (a b : Tree) (first second digest : List ℕ) (s : machine.State)
@@ -60,6 +76,18 @@ module _ (setting : Setting) where
       → execution_in setting (Syscall a) s
       ≡ seq (cycle_in setting (StartSyscall callee)) (seq (execution_in setting a) (cycle_in setting (EndSyscall digest frame))) s
   syscall-as a callee digest frame s e f g = rw (e, f, g) refl
+
+  run-option : (o : Option Tree) → run_option (constants_in setting) setting.kernel.now setting.limit o ≡ run_option_in setting o
+  run-option None = refl
+  run-option (Some tree) = refl
+
+  pub dyn-as : (ts : Targets) (found : Option Tree) (known : Bool) (digest : List ℕ) (s : machine.State)
+      → found ≡ first_target (constants_in setting) (called_word s.core) ts → known ≡ is_some found → digest ≡ digest_of setting (Dyn ts)
+      → execution_in setting (Dyn ts) s
+      ≡ seq (cycle_in setting (StartDyn known)) (seq (run_option_in setting found) (cycle_in setting (End digest))) s
+  dyn-as ts found known digest s e f g =
+      execution-Dyn (constants_in setting) setting.kernel.now setting.limit ts s
+      ∙ rw (f, e, g, run-option (first_target (constants_in setting) (called_word s.core) ts)) refl
 
   -- a block takes a cycle at least
   execution-ticks : (tree : Tree) (s t : machine.State) (es : List run.Event) → execution_in setting tree s ≡ Done t es → s.core.clock < t.core.clock

@@ -1,16 +1,18 @@
-ghost use Rattle.std.specs.Prelude.{◌≡◌, ℕ, ◌+◌, ◌≤◌, All};
+ghost use Rattle.std.specs.Prelude.{◌≡◌, ℕ, ◌+◌, ◌≤◌, List, All, IfSome};
+ghost use Rattle.std.specs.Option.{option_map};
 ghost use Rattle.block_tree.specs.Cycles as cycles;
 ghost use Rattle.block_tree.specs.Execution.{at_bit};
 ghost use Rattle.block_tree.specs.Trees as trees;
+ghost use Rattle.block_tree.specs.Trees.{first_target};
 ghost use Rattle.op_pack.specs.Reading.{reading};
 ghost use Rattle.vm_ops.specs.Items.{IsOrdinaryItem};
 ghost use Rattle.vm_state.specs.Views.{state_of};
-ghost use Rattle.tree_hash.specs.Nodes.{IsHashed, elements_of, node_tree};
+ghost use Rattle.tree_hash.specs.Nodes.{IsHashed, elements_of, node_tree, targets_of};
 ghost use Rattle.machine_cycles.specs.Running.{Ran};
 ghost use Rattle.machine_cycles.specs.Settings.{constants_in};
-ghost use Rattle.processor.specs.Parts.{batches_in, digest_of, execution_in, operations_in, read_operations_in, turns_in};
+ghost use Rattle.processor.specs.Parts.{batches_in, digest_of, execution_in, operations_in, read_operations_in, run_option_in, turns_in};
 
-use machine_cycles::{Mark, Runner, Setting, Stop, cycle, enter, operation, top_of};
+use machine_cycles::{Mark, Runner, Setting, Stop, called_word, cycle, enter, operation, top_of};
 use tree_hash::{Node, ReadBatch};
 use vm_field::{Felt, Word};
 use vm_ops::Item;
@@ -24,14 +26,14 @@ pub(crate) fn block(runner: &mut Runner, setting: &Setting, node: &Node) -> Resu
     ensures same { runner.new.permutations ≡ runner.old.permutations }
 {
     match node {
-        // no operation starts a dynamic block
-        Node::Opaque(_) | Node::Dyn(_, _) => cycle(runner, setting, Mark::StartOpaque),
+        Node::Opaque(_) => cycle(runner, setting, Mark::StartOpaque),
         Node::Span(digest, batches) => span(runner, setting, digest, batches.as_slice()),
         Node::Join(digest, first, second) => join(runner, setting, digest, first, second),
         Node::Split(digest, on_one, on_zero) => split(runner, setting, digest, on_one, on_zero),
         Node::Loop(digest, body) => repeated(runner, setting, digest, body),
         Node::Call(digest, callee) => call(runner, setting, digest, callee),
         Node::Syscall(digest, callee) => syscall(runner, setting, digest, callee),
+        Node::Dyn(digest, targets) => dynamic(runner, setting, digest, targets),
     }
 }
 
@@ -173,6 +175,56 @@ fn syscall(runner: &mut Runner, setting: &Setting, digest: &Word, callee: &Node)
     let frame = enter(runner, setting, Mark::StartSyscall(callee.digest()))?;
     block(runner, setting, callee)?;
     cycle(runner, setting, Mark::EndSyscall(*digest, frame))
+}
+
+// The first target whose digest is on top of the stack.
+#[cycle(blocks)]
+fn dynamic(
+    runner: &mut Runner,
+    setting: &Setting,
+    digest: &Word,
+    targets: &[Node],
+) -> Result<(), Stop>
+    requires memo { runner.old.permutations ≡ constants_in setting.now }
+    requires digest { digest.now ≡ digest_of setting.now (trees.Dyn (targets_of targets.now)) }
+    requires targets { All (IsHashed (constants_in setting.now)) targets.now }
+    ensures ran { Ran setting.now (execution_in setting.now (trees.Dyn (targets_of targets.now)) (state_of runner.old.state))
+        runner.old.log result runner.new }
+    ensures same { runner.new.permutations ≡ runner.old.permutations }
+{
+    let found = first(targets, &called_word(&runner.state));
+    cycle(runner, setting, Mark::StartDyn(found.is_some()))?;
+    chosen(runner, setting, found)?;
+    cycle(runner, setting, Mark::End(*digest))
+}
+
+// The target, if there is one; where there is none, the start has trapped.
+#[cycle(blocks)]
+fn chosen(runner: &mut Runner, setting: &Setting, found: Option<&Node>) -> Result<(), Stop>
+    requires memo { runner.old.permutations ≡ constants_in setting.now }
+    requires hashed { IfSome found (λ node. IsHashed (constants_in setting.now) node.now) }
+    ensures ran { Ran setting.now (run_option_in setting.now (option_map (λ node. node_tree node.now) found.entry) (state_of runner.old.state))
+        runner.old.log result runner.new }
+    ensures same { runner.new.permutations ≡ runner.old.permutations }
+{
+    match found {
+        None => Ok(()),
+        Some(target) => block(runner, setting, target),
+    }
+}
+
+// The first of these that has this digest.
+fn first<'a>(targets: &'a [Node], digest: &Word) -> Option<&'a Node>
+    ensures is { (constants : List ℕ) → All (IsHashed constants) targets.now
+        → option_map (λ node. node_tree node.now) result ≡ first_target constants digest.now (targets_of targets.now) }
+    ensures hashed { (constants : List ℕ) → All (IsHashed constants) targets.now → IfSome result (λ node. IsHashed constants node.now) }
+{
+    for target in targets {
+        if target.digest() == *digest {
+            return Some(target);
+        }
+    }
+    None
 }
 
 fn span(

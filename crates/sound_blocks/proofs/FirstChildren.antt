@@ -101,6 +101,7 @@ module _ (k : Claim) (rows : List (List ℕ)) (root : List ℕ) (shows : ShowsRo
   only_no_join j digest join (IsOnlyChild.on_zero is top digest_is) = absurd (let none : ⊥ = cc in none)
   only_no_join j digest join (IsOnlyChild.callee is digest_is) = absurd (let none : ⊥ = cc in none)
   only_no_join j digest join (IsOnlyChild.kernel is digest_is) = absurd (let none : ⊥ = cc in none)
+  only_no_join j digest join (IsOnlyChild.target is digest_is) = absurd (let none : ⊥ = cc in none)
 
   second_by : (j : ℕ) (digest : List ℕ) (more : Bool) → op_in rows j ≡ ops.Join → more ≡ false → NamedBy rows j digest more
       → digest ≡ back (row_at rows j)

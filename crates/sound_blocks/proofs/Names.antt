@@ -5,7 +5,7 @@ use Rattle.vm_ops.specs.declared.op.Op.{Op}
 use Rattle.vm_ops.specs.declared.op.Op.TheVariants as ops
 use Rattle.vm_table.specs.MainColumns.{addr, s}
 use Rattle.air_kit.specs.Flags.{is_op}
-use Rattle.air_kit.specs.MainTuples.{front, back}
+use Rattle.air_kit.specs.MainTuples.{front, back, called_digest}
 use Rattle.air_kit.specs.Places.{Claim}
 use Rattle.facts_main.specs.Blocks.{keeps_block}
 use Rattle.facts_main.specs.Follows.{may_follow}
@@ -83,6 +83,9 @@ module _ (k : Claim) (rows : List (List ℕ)) (root : List ℕ) (shows : ShowsRo
   named_by j parent digest more starts is (IsNamed.kernel i here own_is digest_is) =
       let same = same_block i j parent (starts_by rows i ops.Syscall refl here) starts own_is is in
       NamedBy.only (IsOnlyChild.kernel (op_same i j ops.Syscall same here) (cells_same i j digest front same digest_is))
+  named_by j parent digest more starts is (IsNamed.target i here own_is digest_is) =
+      let same = same_block i j parent (starts_by rows i ops.Dyn refl here) starts own_is is in
+      NamedBy.only (IsOnlyChild.target (op_same i j ops.Dyn same here) (cells_same i j digest called_digest same digest_is))
   named_by j parent digest more starts is (IsNamed.turn r here inside digest_is) =
       let of_loop = turned r j starts (inside ∙ sym is) (children.turn r here) in NamedBy.body of_loop.0 (digest_is ∙ of_loop.1)
 
@@ -98,6 +101,7 @@ module _ (k : Claim) (rows : List (List ℕ)) (root : List ℕ) (shows : ShowsRo
   root_named parent digest more none (IsNamed.body i here top own_is digest_is) = outside i parent (starts_by rows i ops.Loop refl here) own_is none
   root_named parent digest more none (IsNamed.callee i here own_is digest_is) = outside i parent (starts_by rows i ops.Call refl here) own_is none
   root_named parent digest more none (IsNamed.kernel i here own_is digest_is) = outside i parent (starts_by rows i ops.Syscall refl here) own_is none
+  root_named parent digest more none (IsNamed.target i here own_is digest_is) = outside i parent (starts_by rows i ops.Dyn refl here) own_is none
   root_named parent digest more none (IsNamed.turn r here inside digest_is) = go (children.turn r here)
     where
       go : (i : ℕ) × IsTurnOf rows r i → (digest ≡ root) × (more ≡ false)

@@ -21,6 +21,7 @@ nests k rows root shows blocks children some_row = record {
   call = λ j here. starts_inside k rows root shows blocks children j ops.Call here (follows_at k rows root shows blocks children j ops.Call here);
   syscall = λ j here. starts_inside k rows root shows blocks children j ops.Syscall here
       (follows_at k rows root shows blocks children j ops.Syscall here);
+  dyn = λ j here. starts_inside k rows root shows blocks children j ops.Dyn here (follows_at k rows root shows blocks children j ops.Dyn here);
   loop_enters = enters k rows root shows blocks children;
   loop_skips = skips k rows root shows blocks children;
   after_first = after_first k rows root shows blocks children;

@@ -55,6 +55,7 @@ no_operation ops.Loop starts other = off other
 no_operation ops.Span starts other = off other
 no_operation ops.Call starts other = off other
 no_operation ops.Syscall starts other = off other
+no_operation ops.Dyn starts other = off other
 no_operation next starts other = off starts
 
 first_of_three : (t u v : Bool) → t ≡ true → t || u || v ≡ true
@@ -68,6 +69,7 @@ before_start ops.Loop next top starts follows = start refl
 before_start ops.Span next top starts follows = start refl
 before_start ops.Call next top starts follows = start refl
 before_start ops.Syscall next top starts follows = start refl
+before_start ops.Dyn next top starts follows = start refl
 before_start ops.End next top starts follows = end refl
 before_start ops.Repeat next top starts follows = repeat refl
 before_start ops.Halt next top starts follows = off follows

@@ -86,6 +86,7 @@ module _ (k : Claim) (rows : List (List ℕ)) (root : List ℕ) (shows : ShowsRo
   only_no_loop j digest loop (IsOnlyChild.on_zero is top digest_is) = absurd (let none : ⊥ = cc in none)
   only_no_loop j digest loop (IsOnlyChild.callee is digest_is) = absurd (let none : ⊥ = cc in none)
   only_no_loop j digest loop (IsOnlyChild.kernel is digest_is) = absurd (let none : ⊥ = cc in none)
+  only_no_loop j digest loop (IsOnlyChild.target is digest_is) = absurd (let none : ⊥ = cc in none)
 
   body_by : (j : ℕ) (digest : List ℕ) (more : Bool) → op_in rows j ≡ ops.Loop → NamedBy rows j digest more → digest ≡ front (row_at rows j)
   body_by j digest more loop (NamedBy.first join digest_is) = join_no_loop (op_in rows j) join loop

@@ -96,6 +96,7 @@ start_apart ops.Loop is = refl
 start_apart ops.Span is = refl
 start_apart ops.Call is = refl
 start_apart ops.Syscall is = refl
+start_apart ops.Dyn is = refl
 start_apart op is = off is
 
 pub call_starts : (op : Op) → is_call_op op ≡ true → is_start_op op ≡ true

@@ -40,6 +40,7 @@ ordinary_keeps ops.Loop is = off is
 ordinary_keeps ops.Span is = off is
 ordinary_keeps ops.Call is = off is
 ordinary_keeps ops.Syscall is = off is
+ordinary_keeps ops.Dyn is = off is
 ordinary_keeps ops.End is = off is
 ordinary_keeps op is = refl
 

@@ -3,7 +3,7 @@ use Rattle.std.specs.Prelude.{◌≡◌, ◌⊎◌, ℕ, suc, ◌≤◌, false, 
 use Rattle.vm_ops.specs.declared.op.Op.TheVariants as ops
 use Rattle.vm_table.specs.MainColumns.{addr, s}
 use Rattle.air_kit.specs.Flags.{is_op}
-use Rattle.air_kit.specs.MainTuples.{front, back}
+use Rattle.air_kit.specs.MainTuples.{front, back, called_digest}
 use Rattle.air_kit.specs.declared.trace.Public.{Public}
 use Rattle.air_kit.specs.declared.trace.Trace.{Trace}
 use Rattle.vm_table.specs.Layout.{row_at}
@@ -11,12 +11,13 @@ use Rattle.facts_main.specs.MainRows.{op_in}
 use Rattle.sound_buses.specs.Blocks.{IsAt, Starts, Closes, own}
 use Rattle.sound_buses.specs.BusFacts.{Granted}
 
--- the child of a block that has one: a split's branch by the condition, or what a call calls
+-- the child of a block that has one: a split's branch by the condition, what a call calls, or the one of the digest on top of the stack
 pub data IsOnlyChild (rows : List (List ℕ)) (j : ℕ) (digest : List ℕ) : Type 0 where
   on_one : op_in rows j ≡ ops.Split → s (row_at rows j) 0 ≡ 1 → digest ≡ front (row_at rows j) → IsOnlyChild rows j digest
   on_zero : op_in rows j ≡ ops.Split → s (row_at rows j) 0 ≡ 0 → digest ≡ back (row_at rows j) → IsOnlyChild rows j digest
   callee : op_in rows j ≡ ops.Call → digest ≡ front (row_at rows j) → IsOnlyChild rows j digest
   kernel : op_in rows j ≡ ops.Syscall → digest ≡ front (row_at rows j) → IsOnlyChild rows j digest
+  target : op_in rows j ≡ ops.Dyn → digest ≡ called_digest (row_at rows j) → IsOnlyChild rows j digest
 
 -- a further turn of the loop that starts in row j begins with the REPEAT in row r
 pub record TurnsAgain (rows : List (List ℕ)) (j r : ℕ) : Type 0 where
@@ -44,6 +45,7 @@ pub record NestingFacts (rows : List (List ℕ)) (root : List ℕ) : Type 0 wher
   pub split : (j : ℕ) → IsAt rows j ops.Split → StartsInside rows j
   pub call : (j : ℕ) → IsAt rows j ops.Call → StartsInside rows j
   pub syscall : (j : ℕ) → IsAt rows j ops.Syscall → StartsInside rows j
+  pub dyn : (j : ℕ) → IsAt rows j ops.Dyn → StartsInside rows j
   pub loop_enters : (j : ℕ) → IsAt rows j ops.Loop → s (row_at rows j) 0 ≡ 1 → StartsInside rows j
   pub loop_skips : (j : ℕ) → IsAt rows j ops.Loop → s (row_at rows j) 0 ≡ 0 → Closes rows j (suc j)
   pub after_first : (j a : ℕ) → IsAt rows j ops.Join → Closes rows (suc j) a → StartsSecond rows j a

@@ -62,6 +62,8 @@ kind_shown ops.Call x y is bit f =
     let k = flag_three (h y 4) (h y 5) (h y 6) (h y 7) f in record { entered = k.0; span = k.1; call = k.2; syscall = k.3 }
 kind_shown ops.Syscall x y is bit f =
     let k = flag_four (h y 4) (h y 5) (h y 6) (h y 7) f in record { entered = k.0; span = k.1; call = k.2; syscall = k.3 }
+kind_shown ops.Dyn x y is bit f =
+    let k = flag_none (h y 4) (h y 5) (h y 6) (h y 7) f in record { entered = k.0; span = k.1; call = k.2; syscall = k.3 }
 kind_shown op x y is bit f = off is
 
 -- the END of a call has one of the last two flags

@@ -6,11 +6,11 @@ use Rattle.vm_ops.specs.declared.op.Op.{Op}
 use Rattle.vm_ops.specs.declared.op.Op.TheVariants as ops
 use Rattle.vm_table.specs.MainColumns.{addr, s}
 use Rattle.air_kit.specs.Flags.{is_op}
-use Rattle.air_kit.specs.MainTuples.{back, child, children_of, front}
+use Rattle.air_kit.specs.MainTuples.{back, called_digest, child, children_of, front}
 use Rattle.vm_table.specs.Layout.{row_at}
 use Rattle.facts_main.specs.MainRows.{op_in}
 use Rattle.sound_buses.specs.Blocks.{IsAt, own}
-use Rattle.sound_buses.specs.Children.{IsNamed, first, second, on_one, on_zero, body, callee, kernel, turn}
+use Rattle.sound_buses.specs.Children.{IsNamed, first, second, on_one, on_zero, body, callee, kernel, target, turn}
 use Rattle.sound_buses.proofs.Splits.{positive_part, zero_or}
 use Rattle.sound_buses.proofs.Tuples.{hit_is, hit_self, more_counts, nothing_counts, single_is, tested_is}
 
@@ -124,6 +124,9 @@ module _ (rows : List (List ℕ)) (root : List ℕ) (parent : ℕ) (digest : Lis
   named_by j ops.Syscall within is bit h =
       let k = only (own rows j) (front (row_at rows j)) 0 h in as_false k.more
       (kernel j (record { within = within; is = is }) k.parent (sym k.digest))
+  named_by j ops.Dyn within is bit h =
+      let k = only (own rows j) (called_digest (row_at rows j)) 0 h in as_false k.more
+      (target j (record { within = within; is = is }) k.parent (sym k.digest))
   named_by j ops.Repeat within is bit h =
       let k = only (addr (row_at rows j)) (front (row_at rows j)) 0 h in
       as_false k.more (turn j (record { within = within; is = is }) k.parent (sym k.digest))
@@ -155,6 +158,7 @@ gives_first ops.Loop x y parent digest h =
     last_apart (addr y) parent (front x) digest (loop_entered (s x 0) (child (addr y) (front x) 0) (child_tuple parent digest 1) h).1
 gives_first ops.Call x y parent digest h = never_first (addr y) parent (front x) digest h
 gives_first ops.Syscall x y parent digest h = never_first (addr y) parent (front x) digest h
+gives_first ops.Dyn x y parent digest h = never_first (addr y) parent (called_digest x) digest h
 gives_first ops.Repeat x y parent digest h = never_first (addr x) parent (front x) digest h
 gives_first op x y parent digest h = nothing_counts (child_tuple parent digest 1) h
 

@@ -3,7 +3,7 @@ use Rattle.std.specs.Prelude.{◌≡◌, ℕ, suc, Bool, true, false, List}
 use Rattle.vm_ops.specs.Codes.{is_start_op}
 use Rattle.vm_ops.specs.declared.op.Op.TheVariants as ops
 use Rattle.vm_table.specs.MainColumns.{addr, s}
-use Rattle.air_kit.specs.MainTuples.{front, back}
+use Rattle.air_kit.specs.MainTuples.{front, back, called_digest}
 use Rattle.vm_table.specs.Layout.{row_at}
 use Rattle.facts_main.specs.MainRows.{op_in}
 use Rattle.sound_buses.specs.Blocks.{IsAt, own}
@@ -22,6 +22,8 @@ pub data IsNamed (rows : List (List ℕ)) (root : List ℕ) (parent : ℕ) (dige
       → IsNamed rows root parent digest false
   callee : (j : ℕ) → IsAt rows j ops.Call → own rows j ≡ parent → digest ≡ front (row_at rows j) → IsNamed rows root parent digest false
   kernel : (j : ℕ) → IsAt rows j ops.Syscall → own rows j ≡ parent → digest ≡ front (row_at rows j) → IsNamed rows root parent digest false
+  target : (j : ℕ) → IsAt rows j ops.Dyn → own rows j ≡ parent → digest ≡ called_digest (row_at rows j)
+      → IsNamed rows root parent digest false
   turn : (r : ℕ) → IsAt rows r ops.Repeat → addr (row_at rows r) ≡ parent → digest ≡ front (row_at rows r)
       → IsNamed rows root parent digest false
 

@@ -6,7 +6,7 @@ use Rattle.vm_ops.specs.declared.op.Op.TheVariants as ops
 use Rattle.vm_table.specs.MainColumns.{s}
 use Rattle.rpo_hash.specs.Constants.{constants_of}
 use Rattle.air_kit.specs.Flags.{is_op}
-use Rattle.air_kit.specs.MainTuples.{back, front}
+use Rattle.air_kit.specs.MainTuples.{back, called_digest, front}
 use Rattle.air_kit.specs.RowStates.{taken_by}
 use Rattle.air_kit.specs.declared.trace.Public.{Public}
 use Rattle.air_kit.specs.declared.trace.Trace.{Trace}
@@ -20,7 +20,7 @@ use Rattle.sound_runs.specs.TreeFacts.{HasTree}
 use Rattle.sound_runs.proofs.TreeRuns.{built_closes}
 use Rattle.tree_merge.specs.AddrView.{placed_of}
 use Rattle.tree_merge.specs.Placed as placed
-use Rattle.tree_merge.specs.Placed.{PlacedTree}
+use Rattle.tree_merge.specs.Placed.{PlacedTree, PlacedTargets}
 use Rattle.tree_merge.specs.declared.addr_tree.AddrTree.{AddrTree}
 use Rattle.sound_evidence.specs.Walking.{IsFound, IsWalkable, Takes}
 use Rattle.sound_evidence.specs.declared.found.Found.{Found}
@@ -121,6 +121,7 @@ module _ (p : Public) (t : Trace) (readable : IsWalkable p t) where
   one_child i digest split top (IsOnlyChild.on_zero is zero_is digest_is) = absurd (omega (arith, top, zero_is))
   one_child i digest split top (IsOnlyChild.callee is digest_is) = differ (op_in t.main i) ops.Split ops.Call split is refl refl
   one_child i digest split top (IsOnlyChild.kernel is digest_is) = differ (op_in t.main i) ops.Split ops.Syscall split is refl refl
+  one_child i digest split top (IsOnlyChild.target is digest_is) = differ (op_in t.main i) ops.Split ops.Dyn split is refl refl
 
   zero_child : (i : ℕ) (digest : List ℕ) → op_in t.main i ≡ ops.Split → s (row_at t.main i) 0 ≢ 1 → IsOnlyChild t.main i digest
       → (s (row_at t.main i) 0 ≡ 0) × (digest ≡ back (row_at t.main i))
@@ -128,6 +129,7 @@ module _ (p : Public) (t : Trace) (readable : IsWalkable p t) where
   zero_child i digest split top (IsOnlyChild.on_zero is zero_is digest_is) = (zero_is, digest_is)
   zero_child i digest split top (IsOnlyChild.callee is digest_is) = differ (op_in t.main i) ops.Split ops.Call split is refl refl
   zero_child i digest split top (IsOnlyChild.kernel is digest_is) = differ (op_in t.main i) ops.Split ops.Syscall split is refl refl
+  zero_child i digest split top (IsOnlyChild.target is digest_is) = differ (op_in t.main i) ops.Split ops.Dyn split is refl refl
 
   pub split_one_found : (i : ℕ) → IsAt t.main i ops.Split → s (row_at t.main i) 0 ≡ 1 → (child : Found) → IsFound p t (i + 1) child
       → (found : Found) (at : ℕ) (x : AddrTree) (other : List ℕ) → found.end ≡ child.end + 1
@@ -161,12 +163,14 @@ module _ (p : Public) (t : Trace) (readable : IsWalkable p t) where
       → Closes t.main i (suc child.end) × IsOnlyChild t.main i (front (row_at t.main child.end))
   call_only i here child f = only i ops.Call refl refl here child f (record { within = here.within; is = rw here.is refl })
 
-  called : (i : ℕ) (digest : List ℕ) (op : Op) → is_op op ops.Split ≡ false → op_in t.main i ≡ op → IsOnlyChild t.main i digest
+  called : (i : ℕ) (digest : List ℕ) (op : Op) → is_op op ops.Split ≡ false → is_op op ops.Dyn ≡ false → op_in t.main i ≡ op
+      → IsOnlyChild t.main i digest
       → digest ≡ front (row_at t.main i)
-  called i digest op apart here (IsOnlyChild.on_one is one digest_is) = differ (op_in t.main i) op ops.Split here is apart refl
-  called i digest op apart here (IsOnlyChild.on_zero is zero_is digest_is) = differ (op_in t.main i) op ops.Split here is apart refl
-  called i digest op apart here (IsOnlyChild.callee is digest_is) = digest_is
-  called i digest op apart here (IsOnlyChild.kernel is digest_is) = digest_is
+  called i digest op apart known here (IsOnlyChild.on_one is one digest_is) = differ (op_in t.main i) op ops.Split here is apart refl
+  called i digest op apart known here (IsOnlyChild.on_zero is zero_is digest_is) = differ (op_in t.main i) op ops.Split here is apart refl
+  called i digest op apart known here (IsOnlyChild.callee is digest_is) = digest_is
+  called i digest op apart known here (IsOnlyChild.kernel is digest_is) = digest_is
+  called i digest op apart known here (IsOnlyChild.target is digest_is) = differ (op_in t.main i) op ops.Dyn here is known refl
 
   pub call_small : (i : ℕ) → IsAt t.main i ops.Call → (child : Found) → IsFound p t (i + 1) child → own t.main i < 2 ^ 32
   call_small i here child f = own_small p t readable i (suc child.end) (call_only i here child f).0
@@ -177,7 +181,7 @@ module _ (p : Public) (t : Trace) (readable : IsWalkable p t) where
       as_found i (suc child.end) (placed.Call (own t.main i) (placed_of child.tree)) found (end_is ∙ add-one child.end)
       (tree_is ∙ ap (λ (n : ℕ). placed.Call n (placed_of x)) at_is ∙ ap (λ z. placed.Call (own t.main i) (placed_of z)) x_is)
       (Built.call here (call_only i here child f).0 (child_tree i child f)
-      (called i (front (row_at t.main child.end)) ops.Call refl here.is (call_only i here child f).1))
+      (called i (front (row_at t.main child.end)) ops.Call refl refl here.is (call_only i here child f).1))
 
   syscall_only : (i : ℕ) → IsAt t.main i ops.Syscall → (child : Found) → IsFound p t (i + 1) child
       → Closes t.main i (suc child.end) × IsOnlyChild t.main i (front (row_at t.main child.end))
@@ -193,7 +197,35 @@ module _ (p : Public) (t : Trace) (readable : IsWalkable p t) where
       as_found i (suc child.end) (placed.Syscall (own t.main i) (placed_of child.tree)) found (end_is ∙ add-one child.end)
       (tree_is ∙ ap (λ (n : ℕ). placed.Syscall n (placed_of x)) at_is ∙ ap (λ z. placed.Syscall (own t.main i) (placed_of z)) x_is)
       (Built.syscall here (syscall_only i here child f).0 (child_tree i child f)
-      (called i (front (row_at t.main child.end)) ops.Syscall refl here.is (syscall_only i here child f).1))
+      (called i (front (row_at t.main child.end)) ops.Syscall refl refl here.is (syscall_only i here child f).1))
+
+  -- ---- dynamic blocks
+
+  dyn_only : (i : ℕ) → IsAt t.main i ops.Dyn → (child : Found) → IsFound p t (i + 1) child
+      → Closes t.main i (suc child.end) × IsOnlyChild t.main i (front (row_at t.main child.end))
+  dyn_only i here child f = only i ops.Dyn refl refl here child f (record { within = here.within; is = rw here.is refl })
+
+  target_child : (i : ℕ) (digest : List ℕ) → op_in t.main i ≡ ops.Dyn → IsOnlyChild t.main i digest → digest ≡ called_digest (row_at t.main i)
+  target_child i digest here (IsOnlyChild.on_one is one digest_is) = differ (op_in t.main i) ops.Dyn ops.Split here is refl refl
+  target_child i digest here (IsOnlyChild.on_zero is zero_is digest_is) = differ (op_in t.main i) ops.Dyn ops.Split here is refl refl
+  target_child i digest here (IsOnlyChild.callee is digest_is) = differ (op_in t.main i) ops.Dyn ops.Call here is refl refl
+  target_child i digest here (IsOnlyChild.kernel is digest_is) = differ (op_in t.main i) ops.Dyn ops.Syscall here is refl refl
+  target_child i digest here (IsOnlyChild.target is digest_is) = digest_is
+
+  pub dyn_small : (i : ℕ) → IsAt t.main i ops.Dyn → (child : Found) → IsFound p t (i + 1) child → own t.main i < 2 ^ 32
+  dyn_small i here child f = own_small p t readable i (suc child.end) (dyn_only i here child f).0
+
+  pub dyn_found : (i : ℕ) → IsAt t.main i ops.Dyn → (child : Found) → IsFound p t (i + 1) child → (found : Found) (at : ℕ) (digest : List ℕ)
+      (targets : PlacedTargets) → found.end ≡ child.end + 1 → placed_of found.tree ≡ placed.Dyn at targets
+      → targets ≡ placed.placed digest (placed_of child.tree) placed.no_placed → at ≡ own t.main i
+      → digest ≡ called_digest (row_at t.main i) → IsFound p t i found
+  dyn_found i here child f found at digest targets end_is tree_is targets_are at_is digest_is =
+      as_found i (suc child.end) (placed.Dyn (own t.main i) (placed.placed (called_digest (row_at t.main i)) (placed_of child.tree) placed.no_placed))
+      found (end_is ∙ add-one child.end)
+      (tree_is ∙ ap (λ (n : ℕ). placed.Dyn n targets) at_is ∙ ap (placed.Dyn (own t.main i)) targets_are
+      ∙ ap (λ w. placed.Dyn (own t.main i) (placed.placed w (placed_of child.tree) placed.no_placed)) digest_is)
+      (Built.dyn here (dyn_only i here child f).0 (child_tree i child f)
+      (target_child i (front (row_at t.main child.end)) here.is (dyn_only i here child f).1))
 
   -- ---- loops that are skipped
 

@@ -1,5 +1,5 @@
 ghost use Rattle.std.specs.Prelude.{◌≡◌, suc, ◌^◌, ◌<◌, length};
-ghost use Rattle.air_kit.specs.MainTuples.{back, eight, front};
+ghost use Rattle.air_kit.specs.MainTuples.{back, called_digest, eight, front};
 ghost use Rattle.sound_buses.specs.Blocks.{own};
 ghost use Rattle.vm_table.specs.Layout.{row_at};
 ghost use Rattle.facts_main.specs.MainRows.{op_in};
@@ -64,6 +64,15 @@ pub(crate) fn second_digest(trace: &Trace, i: usize) -> Word
 {
     let row = trace.main.row(i);
     Word([row.h4(), row.h5(), row.h6(), row.h7()])
+}
+
+// The one on top of the stack.
+pub(crate) fn called_digest(trace: &Trace, i: usize) -> Word
+    requires { i < length trace.now.main }
+    ensures { result ≡ called_digest (row_at trace.now.main i) }
+{
+    let row = trace.main.row(i);
+    Word([row.s3(), row.s2(), row.s1(), row.s0()])
 }
 
 // The batch that the row shows.

@@ -5,13 +5,13 @@ ghost use Rattle.sound_buses.specs.Blocks.{IsAt, Starts};
 ghost use Rattle.sound_evidence.specs.Walking.{IsFound, IsWalkable, IsWholeTree, Takes};
 ghost use Rattle.tree_merge.specs.Merges.{IsStop};
 
-use crate::cells::{address, first_digest, operation, second_digest, top};
-use crate::found::{Found, Walked, boxed};
+use crate::cells::{address, called_digest, first_digest, operation, second_digest, top};
+use crate::found::{Found, Walked, boxed, only_target};
 use crate::spans::span;
 use crate::turns::turns;
 use air_kit::{Public, Trace};
 use std::alloc::Global;
-use tree_merge::{AddrTree, MergeStop};
+use tree_merge::{AddrTree, MergeStop, dynamic};
 use vm_field::{Felt, Felts};
 use vm_ops::Op;
 
@@ -60,6 +60,7 @@ pub(crate) fn block(
         Op::Loop => looped(alloc, public, trace, i, tape),
         Op::Call => call(alloc, public, trace, i, tape),
         Op::Syscall => syscall(alloc, public, trace, i, tape),
+        Op::Dyn => dyn_block(alloc, public, trace, i, tape),
         _ => unreachable!(),
     }
 }
@@ -190,5 +191,28 @@ fn syscall(
     Ok(Found {
         end: callee.end + 1,
         tree: AddrTree::Syscall(address(trace, i), child),
+    })
+}
+
+// The target that ran, by the digest on top of the stack.
+#[cycle(blocks)]
+fn dyn_block(
+    alloc: Global,
+    public: &Public,
+    trace: &Trace,
+    i: usize,
+    tape: &mut Felts,
+) -> Result<Found, MergeStop>
+    requires readable { IsWalkable public.now trace.now }
+    requires is { IsAt trace.now.main i ops.Dyn }
+    ensures ok { IfOk result (λ found. IsFound public.now trace.now i found) }
+    ensures tape { IfOk result (λ found. Takes trace.now.main i (found.end + 1) tape.old tape.new) }
+    ensures err { IfErr result (λ stop. IsStop public.now.params trace.now stop) }
+{
+    let child = block(alloc, public, trace, i + 1, tape)?;
+    let targets = only_target(alloc, called_digest(trace, i), child.tree)?;
+    Ok(Found {
+        end: child.end + 1,
+        tree: dynamic(address(trace, i), targets),
     })
 }

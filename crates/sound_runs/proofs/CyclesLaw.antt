@@ -14,7 +14,7 @@ use Rattle.block_tree.specs.Execution.{cycle}
 use Rattle.sound_buses.specs.BusFacts.{Granted}
 use Rattle.sound_blocks.proofs.FrameLaw.{frames_granted}
 use Rattle.sound_blocks.proofs.OverflowLaw.{few_inputs, overflow_law}
-use Rattle.sound_runs.specs.Running.{Goes, ShowRun, ShowsMark, span, join, split, loop, call, syscall, respan, repeat, operation, span_end, join_end, split_end, skipped_end, entered_end, call_end, syscall_end}
+use Rattle.sound_runs.specs.Running.{Goes, ShowRun, ShowsMark, span, join, split, loop, call, syscall, dyn, respan, repeat, operation, span_end, join_end, split_end, skipped_end, dyn_end, entered_end, call_end, syscall_end}
 use Rattle.sound_runs.specs.Cycles.{GrantedCycles}
 use Rattle.sound_runs.specs.Ends.{GrantedEnds}
 use Rattle.sound_runs.proofs.CallRows.{call_end_goes, call_goes, syscall_end_goes, syscall_goes}
@@ -22,8 +22,8 @@ use Rattle.sound_runs.proofs.EndRows.{end_goes, flag_of, loop_end_goes, span_end
 use Rattle.sound_runs.proofs.FirstAndLast.{end_facts}
 use Rattle.sound_runs.proofs.OperationRows.{operation_goes}
 use Rattle.sound_runs.proofs.Premises.{Known, below_limit, clock_at, low_contexts, state_in}
-use Rattle.sound_runs.proofs.StartRows.{join_goes, loop_goes, span_goes, split_goes}
-use Rattle.sound_runs.proofs.StateRows.{top_at}
+use Rattle.sound_runs.proofs.StartRows.{dyn_goes, join_goes, loop_goes, span_goes, split_goes}
+use Rattle.sound_runs.proofs.StateRows.{top_at, word_at}
 use Rattle.sound_runs.proofs.TurnRows.{repeat_goes, respan_goes}
 
 known_of : (p : Public) (t : Trace) → length (constants_of p.params) ≡ number_of_constants → Granted p t
@@ -52,6 +52,7 @@ module _ {constants : List ℕ} {kernel rows : List (List ℕ)} {k : Claim} (kno
   row_goes i mark (loop at) = loop_goes known i at
   row_goes i mark (call at) = call_goes known i at
   row_goes i mark (syscall at) = syscall_goes known i at
+  row_goes i mark (dyn at) = dyn_goes known i at
   row_goes i mark (respan at) = respan_goes known i at
   row_goes i mark (repeat at) = repeat_goes known i at
   row_goes i mark (operation within is) = operation_goes known i within is
@@ -60,6 +61,7 @@ module _ {constants : List ℕ} {kernel rows : List (List ℕ)} {k : Claim} (kno
   row_goes i mark (split_end {j = j} at closes) = end_goes known j i closes (ap is_call_op at.is) (flag_of rows j i ops.Split at closes)
   row_goes i mark (skipped_end {j = j} at top closes) =
       end_goes known j i closes (ap is_call_op at.is) (flag_of rows j i ops.Loop at closes ∙ ap (λ n. cond (eqb n 1) 1 0) top)
+  row_goes i mark (dyn_end {j = j} at closes) = end_goes known j i closes (ap is_call_op at.is) (flag_of rows j i ops.Dyn at closes)
   row_goes i mark (entered_end {j = j} at top closes) = loop_end_goes known j i at top closes
   row_goes i mark (call_end {j = j} at closes) = call_end_goes known j i at closes
   row_goes i mark (syscall_end {j = j} at closes) = syscall_end_goes known j i at closes
@@ -68,6 +70,7 @@ module _ {constants : List ℕ} {kernel rows : List (List ℕ)} {k : Claim} (kno
   show_run = record {
     goes = row_goes;
     top_is = λ i h. top_at k rows i;
+    word_is = λ i h. word_at k rows i;
     clock = λ i h. clock_at known i h;
     below = λ i within. below_limit i i (length rows) refl within;
   }

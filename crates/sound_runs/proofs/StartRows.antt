@@ -10,7 +10,7 @@ use Rattle.air_kit.specs.MainTuples.{back, eight, front, is_batch_op, is_call_op
 use Rattle.air_kit.specs.Places.{Claim}
 use Rattle.air_kit.specs.StackValues.{cells}
 use Rattle.block_tree.specs.Behind.{HasReading}
-use Rattle.block_tree.specs.Cycles.{StartJoin, StartLoop, StartSpan, StartSplit, top}
+use Rattle.block_tree.specs.Cycles.{StartDyn, StartJoin, StartLoop, StartSpan, StartSplit, top}
 use Rattle.block_tree.specs.Execution.{cycle}
 use Rattle.facts_main.specs.Blocks.{ends_call}
 use Rattle.vm_table.specs.Layout.{row_at}
@@ -97,6 +97,15 @@ module _ {constants : List ℕ} {kernel rows : List (List ℕ)} {k : Claim} (kno
       goes_on constants kernel (length rows - 1) (StartJoin (front (row_at rows i)) (back (row_at rows i))) (state_in k rows) i (suc i)
       (early_at i at.within) (none_taken (length (state_in k rows i).tape)) (nested_at i ops.Join at refl)
       (still_start i ops.Join at refl refl refl (record { right = refl; writes = λ x. refl; takes = λ y. refl; update = refl })
+      (record { takes = refl; leaves = refl; left = refl }) refl refl)
+
+  -- there is a target: the one that ran
+  pub dyn_goes : (i : ℕ) → IsAt rows i ops.Dyn
+      → Goes (state_in k rows) (cycle constants kernel (length rows - 1) (StartDyn true) (state_in k rows i)) (suc i)
+  dyn_goes i at =
+      goes_on constants kernel (length rows - 1) (StartDyn true) (state_in k rows) i (suc i)
+      (early_at i at.within) (none_taken (length (state_in k rows i).tape)) (nested_at i ops.Dyn at refl, refl)
+      (still_start i ops.Dyn at refl refl refl (record { right = refl; writes = λ x. refl; takes = λ y. refl; update = refl })
       (record { takes = refl; leaves = refl; left = refl }) refl refl)
 
   pub split_goes : (i : ℕ) → IsAt rows i ops.Split

@@ -1,14 +1,14 @@
 -- The state of a row and that of the row behind it, where a block starts, turns or ends.
-use Rattle.std.proofs.Common.{◌≡◌, ℕ, suc, ◌+◌, ◌<◌, false, eqb, List, ◌++◌, length, ap, sym, ◌∙◌, arith}
+use Rattle.std.proofs.Common.{◌≡◌, ℕ, suc, ◌+◌, ◌<◌, false, eqb, List, [], ◌∷◌, ◌++◌, length, slice_index, ap, sym, ◌∙◌, arith}
 use Rattle.vm_ops.specs.declared.op.Op.{Op}
 use Rattle.vm_ops.specs.declared.op.Op.TheVariants as ops
 use Rattle.vm_field.specs.Machine.{State}
 use Rattle.air_kit.specs.Flags.{is_op}
 use Rattle.vm_table.specs.MainColumns.{clk, lv, s}
-use Rattle.air_kit.specs.MainTuples.{is_call_op}
+use Rattle.air_kit.specs.MainTuples.{called_digest, is_call_op}
 use Rattle.air_kit.specs.Places.{Claim}
 use Rattle.air_kit.specs.StackValues.{cells}
-use Rattle.block_tree.specs.Cycles.{top}
+use Rattle.block_tree.specs.Cycles.{called_word, top}
 use Rattle.facts_main.specs.Blocks.{ends_call}
 use Rattle.vm_table.specs.Layout.{row_at}
 use Rattle.facts_main.specs.MainRows.{op_in}
@@ -27,6 +27,13 @@ state_with st clock nesting stack =
 -- what is on top of a row's stack
 pub top_at : (k : Claim) (rows : List (List ℕ)) (i : ℕ) → top (state_in k rows i).core ≡ s (row_at rows i) 0
 top_at k rows i = top_index (row_at rows i) (below_at k rows i) 0 (omega arith)
+
+-- and the word there
+pub word_at : (k : Claim) (rows : List (List ℕ)) (i : ℕ) → called_word (state_in k rows i).core ≡ called_digest (row_at rows i)
+word_at k rows i = λ t. cell 3 (omega arith) t ∷ cell 2 (omega arith) t ∷ cell 1 (omega arith) t ∷ cell 0 (omega arith) t ∷ []
+  where
+    cell : (j : ℕ) → j < 16 → slice_index (cells (row_at rows i) ++ below_at k rows i) j ≡ s (row_at rows i) j
+    cell j few = top_index (row_at rows i) (below_at k rows i) j few
 
 module _ {constants : List ℕ} {kernel rows : List (List ℕ)} {k : Claim} (known : Known constants kernel k rows) where
   pub clock_next : (i : ℕ) → suc i < length rows → clk (row_at rows i) + 1 ≡ clk (row_at rows (suc i))

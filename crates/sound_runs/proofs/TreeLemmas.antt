@@ -6,7 +6,7 @@ use Rattle.vm_ops.specs.Codes.{code_of}
 use Rattle.vm_ops.specs.declared.op.Op.{Op}
 use Rattle.vm_ops.specs.declared.op.Op.TheVariants as ops
 use Rattle.vm_table.specs.MainColumns.{h}
-use Rattle.block_tree.specs.Trees.{input_of_batches, input_of_one, input_of_two}
+use Rattle.block_tree.specs.Trees.{input_of_batches, input_of_dyn, input_of_one, input_of_two}
 use Rattle.block_tree.proofs.Refinement.{refines-digest}
 use Rattle.air_kit.specs.Flags.{is_op}
 use Rattle.air_kit.specs.Hashes.{computation_at}
@@ -17,18 +17,20 @@ use Rattle.facts_main.proofs.Says.{never}
 use Rattle.sound_buses.specs.Blocks.{Closes, IsAt, own}
 use Rattle.sound_blocks.specs.Spans.{AreBatches, IsHashedAt}
 use Rattle.tree_merge.specs.Placed.{PlacedTree, placed_digest}
-use Rattle.tree_merge.specs.Merging.{Good}
+use Rattle.tree_merge.specs.Merging.{Good, AreGood}
 use Rattle.sound_runs.specs.Built.{Built, Turns}
 use Rattle.sound_runs.specs.TreeFacts.{TreeDigest, TreeFacts, TreeGood}
 use Rattle.sound_runs.proofs.Batches.{same_batches}
 
-cells_zero : (x : List ℕ) → ((j : ℕ) → j < 4 → h x (4 + j) ≡ 0) → zero_word ≡ back x
-cells_zero x zeros =
-    let a : h x 4 ≡ 0 = zeros 0 (lit< tt) in
-    let b : h x 5 ≡ 0 = zeros 1 (lit< tt) in
-    let c : h x 6 ≡ 0 = zeros 2 (lit< tt) in
-    let d : h x 7 ≡ 0 = zeros 3 (lit< tt) in
-    sym (ap₂ (λ m n. m ∷ n ∷ h x 6 ∷ h x 7 ∷ []) a b ∙ ap₂ (λ m n. 0 ∷ 0 ∷ m ∷ n ∷ []) c d)
+word_zero : (word : ℕ → ℕ) → ((j : ℕ) → j < 4 → word j ≡ 0) → zero_word ≡ word 0 ∷ word 1 ∷ word 2 ∷ word 3 ∷ []
+word_zero word zeros =
+    λ i. sym (zeros 0 (lit< tt)) i ∷ sym (zeros 1 (lit< tt)) i ∷ sym (zeros 2 (lit< tt)) i ∷ sym (zeros 3 (lit< tt)) i ∷ []
+
+back_zero : (x : List ℕ) → ((j : ℕ) → j < 4 → h x (4 + j) ≡ 0) → zero_word ≡ back x
+back_zero x zeros = word_zero (λ j. h x (4 + j)) zeros
+
+front_zero : (x : List ℕ) → ((j : ℕ) → j < 4 → h x j ≡ 0) → zero_word ≡ front x
+front_zero x zeros = word_zero (h x) zeros
 
 word_size : (digest : List ℕ) (x : List ℕ) → digest ≡ front x → length digest ≡ 4
 word_size digest x is = ap length is
@@ -63,13 +65,26 @@ module _ (constants : List ℕ) (hasher rows : List (List ℕ)) (root : List ℕ
       let input = input_two j op first second domain here is_first is_second in
       record { computation = hashed.computation ∙ ap Some input; digest = sym (hashed.digest ∙ ap (digest_of_input constants) input) }
 
+  -- zeros stand behind the digest of an only child
+  back_is : (j : ℕ) (op : Op) → is_op op ops.Loop || is_call_op op || is_op op ops.Dyn ≡ true → IsAt rows j op
+      → zero_word ≡ back (row_at rows j)
+  back_is j op single here =
+      back_zero (row_at rows j) ((facts.shows.row_is j (omega (arith, here.within))).row.block.single
+      (ap (λ o. is_op o ops.Loop || is_call_op o || is_op o ops.Dyn) here.is ∙ single))
+
   pub one_hashed : (j e : ℕ) (op : Op) (child : List ℕ) → is_op op ops.Span ≡ false → domain_of op ≡ code_of op
-      → is_op op ops.Loop || is_call_op op ≡ true
+      → is_op op ops.Loop || is_call_op op || is_op op ops.Dyn ≡ true
       → IsAt rows j op → Closes rows j e → child ≡ front (row_at rows j) → IsHashedAs j e (input_of_one op child)
   one_hashed j e op child differs domain single here closes is_child =
       two_hashed j e op child zero_word differs domain here closes is_child
-      (cells_zero (row_at rows j) ((facts.shows.row_is j (omega (arith, here.within))).row.block.single
-      (ap (λ o. is_op o ops.Loop || is_call_op o) here.is ∙ single)))
+      (back_is j op single here)
+
+  -- a dynamic block is hashed from zeros
+  pub dyn_hashed : (j e : ℕ) → IsAt rows j ops.Dyn → Closes rows j e → IsHashedAs j e input_of_dyn
+  dyn_hashed j e here closes =
+      two_hashed j e ops.Dyn zero_word zero_word refl refl here closes
+      (front_zero (row_at rows j) ((facts.shows.row_is j (omega (arith, here.within))).dyn (ap (λ o. is_op o ops.Dyn) here.is)))
+      (back_is j ops.Dyn refl here)
 
   pub span_hashed : (j e : ℕ) (batches : List (List ℕ)) → IsAt rows j ops.Span → AreBatches rows j e batches
       → IsHashedAs j e (input_of_batches batches)
@@ -105,6 +120,7 @@ module _ (constants : List ℕ) (hasher rows : List (List ℕ)) (root : List ℕ
         (one_hashed j (suc a) ops.Call (placed_digest constants x) refl refl refl here closes (built_digest child ∙ is)).digest
     built_digest (Built.syscall {j} {a} {x} here closes child is) =
         (one_hashed j (suc a) ops.Syscall (placed_digest constants x) refl refl refl here closes (built_digest child ∙ is)).digest
+    built_digest (Built.dyn {j} {a} {x} here closes child is) = (dyn_hashed j (suc a) here closes).digest
 
     pub turns_digest : {j a e : ℕ} {x : PlacedTree} → has_turns j a e x → placed_digest constants x ≡ front (row_at rows j)
     turns_digest (Turns.last {j} {a} {b} {x} {y} turn refines is closes) = refines-digest constants refines ∙ built_digest turn ∙ is
@@ -146,6 +162,9 @@ module _ (constants : List ℕ) (hasher rows : List (List ℕ)) (root : List ℕ
   built_good (Built.syscall {j} {a} {x} here closes child is) =
       Good.syscall (one_hashed j (suc a) ops.Syscall (placed_digest constants x) refl refl refl here closes (built_digest child ∙ is)).computation
       (digest_size (suc j) a x child) (built_good child)
+  built_good (Built.dyn {j} {a} {x} here closes child is) =
+      Good.dyn (dyn_hashed j (suc a) here closes).computation
+      (AreGood.more (sym (built_digest child ∙ is)) (built_good child) tt AreGood.none)
 
 pub tree_digest_is : TreeDigest
 tree_digest_is constants hasher rows root facts j e x tree = built_digest constants hasher rows root facts tree

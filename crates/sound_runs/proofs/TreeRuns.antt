@@ -1,19 +1,22 @@
 -- A tree that is built along the rows runs as they go.
-use Rattle.std.proofs.Common.{◌≡◌, ℕ, zero, suc, ◌+◌, ◌-◌, ◌<◌, ◌≤◌, Bool, true, false, ◌&&◌, cond, eqb, List, length, refl, sym, ap, ◌∙◌, subst, arith}
+use Rattle.std.proofs.Common.{◌≡◌, ℕ, zero, suc, ◌+◌, ◌-◌, ◌<◌, ◌≤◌, Bool, true, false, ◌&&◌, cond, eqb, List, Some, None, length, refl, sym, ap, ◌∙◌, subst, arith}
+use lib.Pointwise.{bytes_decides}
 use Rattle.vm_field.specs.Machine.{State}
 use Rattle.vm_ops.specs.declared.op.Op.TheVariants as ops
 use Rattle.vm_table.specs.MainColumns.{h, s}
-use Rattle.block_tree.specs.Cycles.{Mark, StartSpan, StartJoin, StartSplit, StartLoop, StartCall, StartSyscall, Repeat, End, EndSpan, EndLoop, EndCall, EndSyscall, frame_of, top}
+use Rattle.block_tree.specs.Cycles.{Mark, StartSpan, StartJoin, StartSplit, StartLoop, StartCall, StartSyscall, StartDyn, Repeat, End, EndSpan, EndLoop, EndCall, EndSyscall, called_word, frame_of, top}
 use Rattle.block_tree.specs.Execution.{Part, at_bit, cycle, execution, seq, turns}
-use Rattle.block_tree.specs.Trees.{Tree, Refines}
+use Rattle.block_tree.specs.Trees as blocks
+use Rattle.block_tree.specs.Trees.{Tree, Refines, first_target, no_target, target}
 use Rattle.block_tree.proofs.Refinement.{keep-execution}
+use Rattle.block_tree.proofs.TargetLemmas.{dyn_run, execution-Dyn}
 use Rattle.air_kit.specs.Flags.{is_op}
 use Rattle.air_kit.specs.Hashes.{computation_at}
-use Rattle.air_kit.specs.MainTuples.{back, front}
+use Rattle.air_kit.specs.MainTuples.{back, called_digest, front}
 use Rattle.vm_table.specs.Layout.{row_at}
 use Rattle.facts_main.specs.MainRows.{op_in}
 use Rattle.sound_buses.specs.Blocks.{Closes, IsAt, own}
-use Rattle.tree_merge.specs.Placed.{PlacedTree, Opaque, Span, Join, Split, Loop, Call, Syscall, placed_digest, plain}
+use Rattle.tree_merge.specs.Placed.{PlacedTree, Opaque, Span, Join, Split, Loop, Call, Syscall, Dyn, no_placed, placed, placed_digest, plain}
 use Rattle.sound_runs.specs.Built.{Built, Turns}
 use Rattle.sound_runs.specs.Running.{Goes, ShowRun, ShowsMark, TreeRuns}
 use Rattle.sound_runs.specs.TreeFacts.{TreeFacts}
@@ -31,6 +34,7 @@ built_closes constants hasher rows j e x (Built.loop_skipped here top_is closes)
 built_closes constants hasher rows j e x (Built.loop_entered here top_is closes good rounds) = closes
 built_closes constants hasher rows j e x (Built.call here closes child is) = closes
 built_closes constants hasher rows j e x (Built.syscall here closes child is) = closes
+built_closes constants hasher rows j e x (Built.dyn here closes child is) = closes
 
 both : (t u : Bool) → t ≡ true → u ≡ true → t && u ≡ true
 both true u a b = b
@@ -108,6 +112,25 @@ module _ (constants : List ℕ) (kernel : List (List ℕ)) (limit : ℕ) (hasher
   all_left : (j : ℕ) → IsAt rows j ops.Loop → limit ≤ limit - (st j).core.clock + suc j
   all_left j here = let clock = run.clock j (omega (arith, here.within)) in omega (arith, clock)
 
+  -- ---- the target that ran
+
+  -- its digest is the word on top of the stack, so that it is the first target of that digest
+  target_found : (j a : ℕ) (x : PlacedTree) → IsAt rows j ops.Dyn → has_tree (suc j) a x → front (row_at rows a) ≡ called_digest (row_at rows j)
+      → first_target constants (called_word (st j).core) (target (plain x) no_target) ≡ Some (plain x)
+  target_found j a x here child is =
+      ap (λ (t : Bool). cond t (Some (plain x)) None)
+      ((bytes_decides (placed_digest constants x) (called_word (st j).core)).1
+      (built_digest constants hasher rows root facts child ∙ is ∙ sym (run.word_is j (omega (arith, here.within)))))
+
+  found_goes : (i m : ℕ) (x : PlacedTree) → first_target constants (called_word (st i).core) (target (plain x) no_target) ≡ Some (plain x)
+      → Goes st (dyn_run constants kernel limit (Some (plain x)) (st i)) m
+      → Goes st (execution constants kernel limit (blocks.Dyn (target (plain x) no_target)) (st i)) m
+  found_goes i m x found goes = record {
+    events = goes.events;
+    done = execution-Dyn constants kernel limit (target (plain x) no_target) (st i)
+        ∙ ap (λ o. dyn_run constants kernel limit o (st i)) found ∙ goes.done;
+  }
+
   -- ---- the tree
 
   mutual
@@ -171,6 +194,12 @@ module _ (constants : List ℕ) (kernel : List (List ℕ)) (limit : ℕ) (hasher
         (then_goes st _ _ (suc j) (suc a) (suc (suc a)) (does child)
         (ended j (suc a) (Syscall (own rows j) x) (λ d. EndSyscall d (frame_of (st j).core)) (Built.syscall here closes child is)
         (ShowsMark.syscall_end here closes)))
+    does (Built.dyn {j} {a} {x} here closes child is) =
+        found_goes j (suc (suc a)) x (target_found j a x here child is)
+        (then_goes st _ _ j (suc j) (suc (suc a)) (run.goes j (StartDyn true) (ShowsMark.dyn here))
+        (then_goes st _ _ (suc j) (suc a) (suc (suc a)) (does child)
+        (ended j (suc a) (Dyn (own rows j) (placed (called_digest (row_at rows j)) x no_placed)) End (Built.dyn here closes child is)
+        (ShowsMark.dyn_end here closes))))
 
     pub does_turns : {j a e : ℕ} {x : PlacedTree} → has_turns j a e x → IsAt rows j ops.Loop → s (row_at rows j) 0 ≡ 1
         → (digest : List ℕ) → digest ≡ front (row_at rows e) → (n : ℕ) → limit ≤ n + a

@@ -4,18 +4,18 @@ use Rattle.vm_field.specs.Sponge.{HashInput}
 use Rattle.vm_ops.specs.declared.op.Op.TheVariants as ops
 use Rattle.vm_table.specs.MainColumns.{s}
 use Rattle.block_tree.specs.Trees.{Refines}
-use Rattle.air_kit.specs.MainTuples.{front, back}
+use Rattle.air_kit.specs.MainTuples.{front, back, called_digest}
 use Rattle.vm_table.specs.Layout.{row_at}
 use Rattle.sound_buses.specs.Blocks.{IsAt, Closes, own}
 use Rattle.sound_blocks.specs.Nesting.{TurnsAgain}
 use Rattle.sound_blocks.specs.Spans.{AreBatches}
-use Rattle.tree_merge.specs.Placed.{PlacedTree, Opaque, Span, Join, Split, Loop, Call, Syscall, plain}
+use Rattle.tree_merge.specs.Placed.{PlacedTree, Opaque, Span, Join, Split, Loop, Call, Syscall, Dyn, no_placed, placed, plain}
 use Rattle.tree_merge.specs.Merging.{Good}
 
 module _ (constants : List ℕ) (comp : ℕ → Option HashInput) (rows : List (List ℕ)) where
   mutual
     -- The block that starts in row j and ends in row e has this tree. What did not run is known by its digest: the other branch of a
-    -- split, and the body of a loop that was not entered.
+    -- split, and the body of a loop that was not entered. Of a dynamic block the one target is known that ran.
     pub data Built : ℕ → ℕ → PlacedTree → Type 0 where
       span : {j e : ℕ} {batches : List (List ℕ)} → IsAt rows j ops.Span → Closes rows j e → AreBatches rows j e batches
           → Built j e (Span (own rows j) batches)
@@ -34,6 +34,9 @@ module _ (constants : List ℕ) (comp : ℕ → Option HashInput) (rows : List (
           → front (row_at rows a) ≡ front (row_at rows j) → Built j (suc a) (Call (own rows j) x)
       syscall : {j a : ℕ} {x : PlacedTree} → IsAt rows j ops.Syscall → Closes rows j (suc a) → Built (suc j) a x
           → front (row_at rows a) ≡ front (row_at rows j) → Built j (suc a) (Syscall (own rows j) x)
+      dyn : {j a : ℕ} {x : PlacedTree} → IsAt rows j ops.Dyn → Closes rows j (suc a) → Built (suc j) a x
+          → front (row_at rows a) ≡ called_digest (row_at rows j)
+          → Built j (suc a) (Dyn (own rows j) (placed (called_digest (row_at rows j)) x no_placed))
 
     -- From row a on, the loop that starts in row j and ends in row e makes its turns, and this tree refines the tree of each.
     pub data Turns : ℕ → ℕ → ℕ → PlacedTree → Type 0 where

@@ -4,10 +4,10 @@ use Rattle.vm_field.specs.Machine.{State}
 use Rattle.vm_ops.specs.Codes.{is_ordinary_op}
 use Rattle.vm_ops.specs.declared.op.Op.TheVariants as ops
 use Rattle.vm_table.specs.MainColumns.{s}
-use Rattle.block_tree.specs.Cycles.{Mark, StartSpan, StartJoin, StartSplit, StartLoop, StartCall, StartSyscall, Respan, Repeat, Do, End, EndSpan, EndLoop, EndCall, EndSyscall, frame_of, top}
+use Rattle.block_tree.specs.Cycles.{Mark, StartSpan, StartJoin, StartSplit, StartLoop, StartCall, StartSyscall, StartDyn, Respan, Repeat, Do, End, EndSpan, EndLoop, EndCall, EndSyscall, called_word, frame_of, top}
 use Rattle.block_tree.specs.Execution.{Event, Outcome, Done, cycle, execution}
 use Rattle.block_tree.specs.Trees.{Tree, Refines}
-use Rattle.air_kit.specs.MainTuples.{back, eight, front}
+use Rattle.air_kit.specs.MainTuples.{back, called_digest, eight, front}
 use Rattle.vm_table.specs.Layout.{row_at}
 use Rattle.facts_main.specs.MainRows.{op_in}
 use Rattle.sound_buses.specs.Blocks.{Closes, IsAt}
@@ -28,6 +28,7 @@ pub data ShowsMark (rows : List (List ℕ)) (st : ℕ → State) (i : ℕ) : Mar
   loop : IsAt rows i ops.Loop → ShowsMark rows st i (StartLoop (front (row_at rows i)))
   call : IsAt rows i ops.Call → ShowsMark rows st i (StartCall (front (row_at rows i)))
   syscall : IsAt rows i ops.Syscall → ShowsMark rows st i (StartSyscall (front (row_at rows i)))
+  dyn : IsAt rows i ops.Dyn → ShowsMark rows st i (StartDyn true)
   respan : IsAt rows i ops.Respan → ShowsMark rows st i (Respan (eight (row_at rows i)))
   repeat : IsAt rows i ops.Repeat → ShowsMark rows st i (Repeat (front (row_at rows i)))
   operation : suc i < length rows → is_ordinary_op (op_in rows i) ≡ true → ShowsMark rows st i (Do (item_at rows i))
@@ -35,6 +36,7 @@ pub data ShowsMark (rows : List (List ℕ)) (st : ℕ → State) (i : ℕ) : Mar
   join_end : {j : ℕ} → IsAt rows j ops.Join → Closes rows j i → ShowsMark rows st i (End (front (row_at rows i)))
   split_end : {j : ℕ} → IsAt rows j ops.Split → Closes rows j i → ShowsMark rows st i (End (front (row_at rows i)))
   skipped_end : {j : ℕ} → IsAt rows j ops.Loop → s (row_at rows j) 0 ≡ 0 → Closes rows j i → ShowsMark rows st i (End (front (row_at rows i)))
+  dyn_end : {j : ℕ} → IsAt rows j ops.Dyn → Closes rows j i → ShowsMark rows st i (End (front (row_at rows i)))
   entered_end : {j : ℕ} → IsAt rows j ops.Loop → s (row_at rows j) 0 ≡ 1 → Closes rows j i
       → ShowsMark rows st i (EndLoop (front (row_at rows i)))
   call_end : {j : ℕ} → IsAt rows j ops.Call → Closes rows j i
@@ -46,6 +48,7 @@ pub data ShowsMark (rows : List (List ℕ)) (st : ℕ → State) (i : ℕ) : Mar
 pub record ShowRun (constants : List ℕ) (kernel : List (List ℕ)) (limit : ℕ) (rows : List (List ℕ)) (st : ℕ → State) : Type 0 where
   pub goes : (i : ℕ) (mark : Mark) → ShowsMark rows st i mark → Goes st (cycle constants kernel limit mark (st i)) (suc i)
   pub top_is : (i : ℕ) → i < length rows → top (st i).core ≡ s (row_at rows i) 0
+  pub word_is : (i : ℕ) → i < length rows → called_word (st i).core ≡ called_digest (row_at rows i)
   pub clock : (i : ℕ) → i < length rows → (st i).core.clock ≡ i
   pub below : (i : ℕ) → suc i < length rows → i < limit
 

@@ -1,20 +1,22 @@
 mod counts;
 mod decoder;
+mod dynamic;
 mod limbs;
 mod stack;
 
-use air_kit::{Place, Public};
+use air_kit::{Place, Public, Seen};
 use rpo_hash::Params;
 use std::alloc::Global;
 use vm_field::{Felt, Felts, Memory, Word, Words};
 use vm_state::Statement;
 use vm_table::Table;
 
-// Whose entries: those of the stack, 115 to 139, or those of limbs, 140 to 147.
+// Whose entries: those of the stack, 115 to 139, those of limbs, 140 to 147, or those of dynamic blocks, 148 to 151.
 #[derive(Clone, Copy)]
 enum Part {
     Stack,
     Limbs,
+    Dynamic,
 }
 
 // A statement of zeros, under constants that are all 0.
@@ -67,6 +69,7 @@ fn fault_of(
     let fault = match part {
         Part::Stack => air_stack::first_fault(&place),
         Part::Limbs => air_u32::first_fault(&place),
+        Part::Dynamic => air_decoder::dyn_fault_seen(&place, &Seen::of(&place.cur)),
     };
     match fault {
         Some((number, value)) => Ok(Some((number, value.value()))),

@@ -32,7 +32,7 @@ struct Case {
 // Columns: 0 the clock, 2 the context, 8 the address, 16 the hash elements, 24 the bit of spans, 25 the
 // count of groups, 27 the flags of a batch, 30 the stack, 46 its depth, 47 the key, 49 the address of
 // the batch, 50 the level, 51 witnesses, 55 limbs.
-static CASES: [Case; 13] = [
+static CASES: [Case; 15] = [
     Case {
         number: 3,
         op: Op::Span,
@@ -72,6 +72,26 @@ static CASES: [Case; 13] = [
         tuple: &[5, 2, 3, 0, 0, 0],
         asked: 0,
         given: 1,
+    },
+    Case {
+        number: 3,
+        op: Op::Dyn,
+        cells: &[(30, 4), (31, 3), (32, 2), (33, 1)],
+        next: &[(8, 25)],
+        bus: Bus::Children,
+        tuple: &[25, 1, 2, 3, 4, 0],
+        asked: 0,
+        given: 1,
+    },
+    Case {
+        number: 3,
+        op: Op::Dyn,
+        cells: &[],
+        next: &[(8, 25)],
+        bus: Bus::Hasher,
+        tuple: &[1, 25, 80, 0, 0, 0, 0, 0, 0, 0, 0],
+        asked: 1,
+        given: 0,
     },
     Case {
         number: 3,

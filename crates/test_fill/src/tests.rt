@@ -4,7 +4,7 @@ ghost use Rattle.processor.specs.Executed.{WasExecuted};
 ghost use Rattle.complete_rows.specs.Numbers.{HasSmallNumbers};
 
 use air_kit::Requests;
-use block_tree::{Exports, Program, Tree, are_distinct};
+use block_tree::{Exports, Program, Tree, Trees, are_distinct, dynamic};
 use fill_main::fill_main;
 use machine_cycles::Stop;
 use op_pack::Batches;
@@ -77,6 +77,7 @@ enum Case {
     NoOperation,
     Pushes,
     Loop,
+    Dynamic,
     Limbs,
     Bits,
     Accesses,
@@ -88,11 +89,30 @@ fn repeated(alloc: Global) -> Result<Tree, Memory> {
     Ok(Tree::Loop(Box::new(alloc, body)?))
 }
 
+fn joined(alloc: Global, first: Tree, second: Tree) -> Result<Tree, Memory> {
+    Ok(Tree::Join(Box::new(alloc, first)?, Box::new(alloc, second)?))
+}
+
+// A span of no operation. Under constants that are all 0 its digest is the word of zeros.
+fn target(alloc: Global) -> Result<Trees, Memory> {
+    let mut targets = Trees::new(alloc);
+    targets.push(span(alloc, &[Op::Noop], &[])?)?;
+    Ok(targets)
+}
+
+// That digest is pushed, a dynamic block runs the span, and the digest is dropped.
+fn chosen(alloc: Global) -> Result<Tree, Memory> {
+    let pushed = span(alloc, &[Op::Pad; 4], &[])?;
+    let run = joined(alloc, pushed, dynamic(target(alloc)?))?;
+    joined(alloc, run, span(alloc, &[Op::Drop; 4], &[])?)
+}
+
 fn tree(alloc: Global, case: Case) -> Result<Tree, Memory> {
     match case {
         Case::NoOperation => span(alloc, &[Op::Noop], &[]),
         Case::Pushes => span(alloc, &[Op::Push, Op::Push, Op::Add, Op::Push], &[2, 3, 7]),
         Case::Loop => repeated(alloc),
+        Case::Dynamic => chosen(alloc),
         Case::Limbs => span(alloc, &[Op::Push, Op::Push, Op::U32Sub], &[65541, 196610]),
         Case::Bits => span(alloc, &[Op::Push, Op::Push, Op::U32And], &[12, 10]),
         Case::Accesses => span(alloc, &[Op::Push, Op::Push, Op::MStore], &[7, 3]),
@@ -187,6 +207,25 @@ static REPEATED: [Cell; 14] = [
     (9, 8, 0),
 ];
 
+// A dynamic block at address 25 and the span that it runs at 33: its bits spell 80, its hash is zeros,
+// and its END says nothing of the block.
+static CHOSEN: [Cell; 14] = [
+    (8, 8, 9),
+    (8, 13, 1),
+    (8, 15, 1),
+    (8, 16, 0),
+    (8, 23, 0),
+    (8, 24, 0),
+    (8, 50, 2),
+    (9, 8, 25),
+    (9, 50, 3),
+    (10, 8, 33),
+    (10, 49, 33),
+    (11, 21, 1),
+    (12, 8, 25),
+    (12, 21, 0),
+];
+
 // A subtraction of 196610 from 65541: the limbs of both and of what is left.
 static SUBTRACTED: [Cell; 7] = [
     (3, 55, 2),
@@ -212,6 +251,19 @@ fn fills_loop(table: &Table<65>, requests: &Requests) -> bool {
     let ranges = requests.ranges.as_slice() == [1023, 1022, 1022].as_slice();
     let asked = ranges && requests.perms.len() == 3;
     table.rows() == 10 && asked && shows(table, &REPEATED)
+}
+
+// The fourth permutation is that of the dynamic block's hash: of the domain 80 and eight zeros.
+fn fills_dynamic(table: &Table<65>, requests: &Requests) -> bool {
+    let hashed = match requests.perms.as_slice() {
+        [_, _, _, perm, _, _] => {
+            let start = &perm.start;
+            (start[1].value(), start[4].value(), start[11].value()) == (80, 0, 0)
+        }
+        _ => false,
+    };
+    let ranges = requests.ranges.as_slice() == [1023, 1022, 1021, 1021, 1020, 1022].as_slice();
+    table.rows() == 22 && hashed && ranges && shows(table, &CHOSEN)
 }
 
 fn fills_limbs(table: &Table<65>, requests: &Requests) -> bool {
@@ -244,6 +296,7 @@ fn is_right(case: Case, table: &Table<65>, requests: &Requests) -> bool {
         Case::NoOperation => fills_no_operation(table, requests),
         Case::Pushes => fills_pushes(table, requests),
         Case::Loop => fills_loop(table, requests),
+        Case::Dynamic => fills_dynamic(table, requests),
         Case::Limbs => fills_limbs(table, requests),
         Case::Bits => asks_bits(requests),
         Case::Accesses => asks_accesses(requests),
@@ -269,6 +322,11 @@ fn fills_rows(rt: HostRuntime) {
 fn fills_turns_and_limbs(rt: HostRuntime) {
     assert!(rt; is_met(rt.alloc(), Case::Loop));
     assert!(rt; is_met(rt.alloc(), Case::Limbs));
+}
+
+#[test]
+fn fills_dynamic_blocks(rt: HostRuntime) {
+    assert!(rt; is_met(rt.alloc(), Case::Dynamic));
 }
 
 #[test]

@@ -4,7 +4,6 @@ use Rattle.vm_field.specs.Machine.{zero_word}
 use Rattle.vm_field.specs.Sponge.{hashed}
 use Rattle.vm_ops.specs.declared.op.Op.TheVariants as op
 use Rattle.vm_ops.specs.Codes.{code_of}
-use Rattle.block_tree.specs.Trees.{dyn_code}
 
 abbrev pub zeros : List ℕ
 zeros = zero_word ++ zero_word
@@ -24,7 +23,7 @@ rows_of cont more domain =
 abbrev pub hasher_rows : List (List ℕ)
 hasher_rows =
     rows_of 0 0 0 ++ rows_of 0 0 0 ++ rows_of 0 1 0 ++ rows_of 1 0 0 ++ rows_of 0 0 (code_of op.Split) ++ rows_of 0 0 (code_of op.Loop)
-    ++ rows_of 0 0 dyn_code
+    ++ rows_of 0 0 (code_of op.Dyn)
 
 -- one batch of zeros and two have digests of zeros
 pub record AreZeros (constants : List ℕ) : Type 0 where

@@ -2,12 +2,10 @@ ghost use Rattle.std.specs.Prelude.{◌≡◌, ◌↔◌, ◌<◌, ◌++◌, [],
 ghost use Rattle.vm_field.specs.Machine.{zero_word};
 ghost use Rattle.vm_field.specs.Sponge.{hashed};
 ghost use Rattle.vm_ops.specs.Codes.{code_of};
-ghost use Rattle.block_tree.specs.Trees.{dyn_code};
 ghost use Rattle.rpo_hash.specs.Constants.{constants_of};
 ghost use Rattle.test_merge.specs.Hashes.{AreZeros, hasher_rows, rows_of, zeros};
 
 use air_kit::Trace;
-use block_tree::DYN_CODE;
 use op_pack::Batches;
 use rpo_hash::{Params, digest_of};
 use std::alloc::Global;
@@ -78,12 +76,6 @@ fn domain(op: Op) -> Felt
     Felt::reduced(u128::from(opcode(op)))
 }
 
-fn dynamic_domain() -> Felt
-    ensures { result ≡ dyn_code }
-{
-    Felt::reduced(u128::from(DYN_CODE))
-}
-
 fn hasher(alloc: Global) -> Result<Table<15>, Memory>
     ensures { IfOk result (λ rows. rows ≡ hasher_rows) }
 {
@@ -94,7 +86,7 @@ fn hasher(alloc: Global) -> Result<Table<15>, Memory>
     permutation(&mut hasher, Felt::ONE, Felt::ZERO, Felt::ZERO)?;
     permutation(&mut hasher, Felt::ZERO, Felt::ZERO, domain(Op::Split))?;
     permutation(&mut hasher, Felt::ZERO, Felt::ZERO, domain(Op::Loop))?;
-    permutation(&mut hasher, Felt::ZERO, Felt::ZERO, dynamic_domain())?;
+    permutation(&mut hasher, Felt::ZERO, Felt::ZERO, domain(Op::Dyn))?;
     Ok(hasher)
 }
 

@@ -6,7 +6,7 @@ ghost use Rattle.vm_ops.specs.Codes.{code_of};
 ghost use Rattle.tree_hash.specs.Digests.{IsDigest};
 
 use crate::sponge::digest_of;
-use block_tree::{DYN_CODE, Tree};
+use block_tree::Tree;
 use op_pack::Batches;
 use perm_memo::Permutations;
 use std::alloc::Global;
@@ -115,7 +115,7 @@ impl Digests {
         ensures digest { IfOk result (λ digest. digest ≡ digest_of_input self.old.permutations input_of_dyn) }
         ensures permutations { self.new.permutations ≡ self.old.permutations }
     {
-        let domain = Felt::reduced(u128::from(DYN_CODE));
+        let domain = Felt::reduced(u128::from(opcode(Op::Dyn)));
         self.of(alloc, domain, &[pair(&Word::ZERO, &Word::ZERO)])
     }
 

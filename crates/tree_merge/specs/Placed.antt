@@ -3,7 +3,7 @@ use Rattle.std.specs.Prelude.{◌≢◌, ℕ, ◌+◌, List, [], ◌∷◌}
 use Rattle.vm_ops.specs.declared.op.Op.TheVariants as op
 use Rattle.vm_ops.specs.Codes.{code_of}
 use Rattle.block_tree.specs.Trees as blocks
-use Rattle.block_tree.specs.Trees.{Tree, Targets, dyn_code, tree_digest}
+use Rattle.block_tree.specs.Trees.{Tree, Targets, tree_digest}
 
 mutual
   pub data PlacedTree : Type 0 where
@@ -61,7 +61,7 @@ kind_of (Split at on_one on_zero) = 1 + code_of op.Split
 kind_of (Loop at body) = 1 + code_of op.Loop
 kind_of (Call at callee) = 1 + code_of op.Call
 kind_of (Syscall at callee) = 1 + code_of op.Syscall
-kind_of (Dyn at targets) = 1 + dyn_code
+kind_of (Dyn at targets) = 1 + code_of op.Dyn
 
 -- the digests that are noted beside targets, in order
 abbrev pub noted_in : PlacedTargets → List (List ℕ)

@@ -3,7 +3,6 @@ ghost use Rattle.tree_merge.specs.AddrView.{entries_of, placed_of};
 ghost use Rattle.tree_merge.specs.Placed as places;
 ghost use Rattle.tree_merge.specs.Placed.{at_of, kind_of, placed_from};
 
-use block_tree::DYN_CODE;
 use op_pack::Batches;
 use thiserror::Error;
 use vm_field::{Memory, Word};
@@ -102,6 +101,6 @@ pub(crate) fn kind(tree: &AddrTree) -> u8
         AddrTree::Loop(_, _) => 1 + opcode(Op::Loop),
         AddrTree::Call(_, _) => 1 + opcode(Op::Call),
         AddrTree::Syscall(_, _) => 1 + opcode(Op::Syscall),
-        AddrTree::Dyn(_, _) => 1 + DYN_CODE as u8,
+        AddrTree::Dyn(_, _) => 1 + opcode(Op::Dyn),
     }
 }

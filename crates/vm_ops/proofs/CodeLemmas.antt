@@ -1,5 +1,5 @@
 -- The table of codes, both ways.
-use Rattle.std.proofs.Common.{◌≡◌, ℕ, zero, suc, ◌+◌, ◌<◌, ◌≤◌, ◌==◌, ◌&&◌, nat_lt, nat_le, Bool, true, false, List, [], ◌∷◌, Some, None, length, refl, ap, sym, ◌∙◌, arith, lit<, ◌↔◌, inl, inr, add-zero}
+use Rattle.std.proofs.Common.{◌≡◌, ℕ, zero, suc, ◌+◌, ◌<◌, ◌≤◌, ◌==◌, ◌&&◌, ◌||◌, nat_lt, nat_le, Bool, true, false, List, [], ◌∷◌, Some, None, length, refl, ap, sym, ◌∙◌, arith, lit<, ◌↔◌, inl, inr, add-zero}
 use Rattle.std.proofs.lemmas.Bool.{eqb-true, and_parts}
 use Rattle.std.specs.List.{slice_get}
 use Rattle.std.proofs.lemmas.Option.{slice_get_past, slice_get_cases}
@@ -9,7 +9,7 @@ use Rattle.vm_ops.specs.declared.kind.Kind.TheVariants as kinds
 use Rattle.vm_ops.specs.declared.op.Op.{Op}
 use Rattle.vm_ops.specs.declared.op.Op.TheVariants.{Noop}
 
-pub code_of-below : (op : Op) → code_of op < 80
+pub code_of-below : (op : Op) → code_of op < 81
 code_of-below Noop = lit< tt
 code_of-below _ = lit< tt
 
@@ -35,6 +35,7 @@ ordinary-kind kinds.Loop is = cc
 ordinary-kind kinds.Span is = cc
 ordinary-kind kinds.Call is = cc
 ordinary-kind kinds.Syscall is = cc
+ordinary-kind kinds.Dyn is = cc
 ordinary-kind kinds.End is = cc
 ordinary-kind kinds.Repeat is = cc
 ordinary-kind kinds.Respan is = cc
@@ -44,8 +45,8 @@ ordinary-kind kinds.Halt is = cc
 pub ordinary-starts-none : (kind : Kind) → is_ordinary_kind kind ≡ true → is_start_kind kind ≡ false
 ordinary-starts-none kind is = rw (ordinary-kind kind is) refl
 
--- those of the starts follow them
-pub start-between : (op : Op) → is_start_op op ≡ nat_le 70 (code_of op) && nat_lt (code_of op) 76
+-- those of the starts follow them, but for the last one
+pub start-between : (op : Op) → is_start_op op ≡ (nat_le 70 (code_of op) && nat_lt (code_of op) 76) || (code_of op == 80)
 start-between Noop = refl
 start-between _ = refl
 
@@ -67,7 +68,7 @@ every_op-numbered : numbered every_op 0 ≡ true
 unfolding every_op
 every_op-numbered = refl
 
-every_op-length : length every_op ≡ 80
+every_op-length : length every_op ≡ 81
 unfolding every_op
 every_op-length = refl
 
@@ -76,7 +77,7 @@ unfolding op_at
 code_of-op_at code op e =
     let is : code_of op ≡ 0 + code = code_of-numbered every_op 0 code op every_op-numbered e in omega arith
 
-pub op_at-outside : (code : ℕ) → (op_at code ≡ None) ↔ (80 ≤ code)
+pub op_at-outside : (code : ℕ) → (op_at code ≡ None) ↔ (81 ≤ code)
 unfolding op_at
 op_at-outside code = (
   λ none. elim (slice_get_cases every_op code).1

@@ -4,6 +4,7 @@ use Rattle.vm_ops.specs.declared.cause.Cause.{Cause}
 use Rattle.vm_ops.specs.declared.cause.Cause.TheVariants.{
   NestedTooDeep,
   OpaqueBlock,
+  UnknownTarget,
   BadBatch,
   NotBinary,
   CallInSyscall,
@@ -22,6 +23,7 @@ use Rattle.vm_ops.specs.declared.cause.Cause.TheVariants.{
 abbrev pub text_of_cause : Cause → List ℕ
 text_of_cause NestedTooDeep = codes "NestedTooDeep"
 text_of_cause OpaqueBlock = codes "OpaqueBlock"
+text_of_cause UnknownTarget = codes "UnknownTarget"
 text_of_cause BadBatch = codes "BadBatch"
 text_of_cause NotBinary = codes "NotBinary"
 text_of_cause CallInSyscall = codes "CallInSyscall"

@@ -26,7 +26,7 @@ every_op =
     ops.U32MAdd ∷ ops.Pad ∷ ops.Dup0 ∷ ops.Dup1 ∷ ops.Dup2 ∷ ops.Dup3 ∷ ops.Dup4 ∷ ops.Dup5 ∷ ops.Dup6 ∷ ops.Dup7
     ∷ ops.Dup9 ∷ ops.Dup11 ∷ ops.Dup13 ∷ ops.Dup15 ∷ ops.AdvPop ∷ ops.SDepth ∷ ops.Clk ∷ ops.U32Split ∷ ops.Push ∷
     ops.Join ∷ ops.Split ∷ ops.Loop ∷ ops.Span ∷ ops.Call ∷ ops.Syscall ∷ ops.End ∷ ops.Repeat ∷ ops.Respan ∷
-    ops.Halt ∷ []
+    ops.Halt ∷ ops.Dyn ∷ []
 
 -- the operation of a code; none outside the table
 unfoldable pub op_at : ℕ → Option Op
@@ -44,6 +44,7 @@ is_ordinary_kind kinds.Loop = false
 is_ordinary_kind kinds.Span = false
 is_ordinary_kind kinds.Call = false
 is_ordinary_kind kinds.Syscall = false
+is_ordinary_kind kinds.Dyn = false
 is_ordinary_kind kinds.End = false
 is_ordinary_kind kinds.Repeat = false
 is_ordinary_kind kinds.Respan = false
@@ -57,6 +58,7 @@ is_start_kind kinds.Loop = true
 is_start_kind kinds.Span = true
 is_start_kind kinds.Call = true
 is_start_kind kinds.Syscall = true
+is_start_kind kinds.Dyn = true
 is_start_kind kinds.End = false
 is_start_kind kinds.Repeat = false
 is_start_kind kinds.Respan = false

@@ -107,6 +107,7 @@ row_of ops.End = of_kind kinds.End 76 (codes "END") 0
 row_of ops.Repeat = of_kind kinds.Repeat 77 (codes "REPEAT") 1
 row_of ops.Respan = of_kind kinds.Respan 78 (codes "RESPAN") 0
 row_of ops.Halt = of_kind kinds.Halt 79 (codes "HALT") 0
+row_of ops.Dyn = of_kind kinds.Dyn 80 (codes "DYN") 0
 
 -- a row of the code, as one of this table
 abbrev pub row_in : declared.Row → Row

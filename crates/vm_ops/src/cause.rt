@@ -11,6 +11,8 @@ pub enum Cause {
     NestedTooDeep,
     /// A block of which only the digest is known would start.
     OpaqueBlock,
+    /// A dynamic block has no target of the digest on top of the stack.
+    UnknownTarget,
     /// A batch has no reading.
     BadBatch,
     /// A cell that must be 0 or 1 is neither.
@@ -44,6 +46,7 @@ pub fn cause_text(cause: Cause) -> &'static str
     match cause {
         Cause::NestedTooDeep => "NestedTooDeep",
         Cause::OpaqueBlock => "OpaqueBlock",
+        Cause::UnknownTarget => "UnknownTarget",
         Cause::BadBatch => "BadBatch",
         Cause::NotBinary => "NotBinary",
         Cause::CallInSyscall => "CallInSyscall",

@@ -25,7 +25,13 @@ pub fn is_start(op: Op) -> bool
     ensures { result ≡ is_start_op op }
 {
     match kind_of(op) {
-        Kind::Join | Kind::Split | Kind::Loop | Kind::Span | Kind::Call | Kind::Syscall => true,
+        Kind::Join
+        | Kind::Split
+        | Kind::Loop
+        | Kind::Span
+        | Kind::Call
+        | Kind::Syscall
+        | Kind::Dyn => true,
         Kind::Ordinary | Kind::End | Kind::Repeat | Kind::Respan | Kind::Halt => false,
     }
 }

@@ -8,7 +8,7 @@ use crate::table::{EVERY_OP, row_of};
 #[tactic(auto, using(crate::proofs::CodeLemmas::code_bounds))]
 pub fn opcode(op: Op) -> u8
     ensures is { result ≡ code_of op }
-    ensures below { result < 80 }
+    ensures below { result < 81 }
 {
     row_of(op).code
 }

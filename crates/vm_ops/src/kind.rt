@@ -10,6 +10,7 @@ pub enum Kind {
     Span,
     Call,
     Syscall,
+    Dyn,
     End,
     Repeat,
     Respan,

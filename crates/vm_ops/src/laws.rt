@@ -17,13 +17,13 @@ ghost use Rattle.vm_ops.specs.Values.{Seen, advice_of, computed, trap_of};
 use crate::item::{Item, Items};
 use crate::op::Op;
 
-/// The laws of the codes: operations have different codes, which are the numbers below 80.
+/// The laws of the codes: operations have different codes, which are the numbers below 81.
 pub fn code_laws()
-    ensures below { (op : Op) → code_of op < 80 }
+    ensures below { (op : Op) → code_of op < 81 }
     ensures different { (a b : Op) → code_of a ≡ code_of b → a ≡ b }
     ensures of_op { (op : Op) → op_at (code_of op) ≡ Some op }
     ensures of_code { (code : ℕ) (op : Op) → op_at code ≡ Some op → code_of op ≡ code }
-    ensures outside { (code : ℕ) → (op_at code ≡ None) ↔ (80 ≤ code) }
+    ensures outside { (code : ℕ) → (op_at code ≡ None) ↔ (81 ≤ code) }
 {}
 
 /// The laws of what an operation leaves: as many cells as its row says, which are elements where

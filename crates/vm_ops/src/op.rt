@@ -84,6 +84,7 @@ pub enum Op {
     Repeat,
     Respan,
     Halt,
+    Dyn,
 }
 
 /// Where the stack's cells below those that an operation takes go.

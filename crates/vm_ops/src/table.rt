@@ -108,6 +108,7 @@ macro_rules! operations {
             Repeat => 77, "REPEAT", Repeat, 1, [], 0, 0;
             Respan => 78, "RESPAN", Respan, 0, [], 0, 0;
             Halt => 79, "HALT", Halt, 0, [], 0, 0;
+            Dyn => 80, "DYN", Dyn, 0, [], 0, 0;
         }
     };
 }
@@ -135,7 +136,7 @@ macro_rules! find_row {
 }
 
 /// All operations, in the order of their codes.
-pub(crate) const EVERY_OP: [Op; 80] = operations!(list_operations);
+pub(crate) const EVERY_OP: [Op; 81] = operations!(list_operations);
 
 /// The row of an operation.
 // A caller that reads one part of it makes no row, where this is inlined.

@@ -3,7 +3,7 @@ use Rattle.vm_ops.specs.declared.op.Op.TheVariants as ops
 use Rattle.tree_merge.specs.AddrView.{placed_of}
 use Rattle.tree_merge.specs.Placed as placed
 use Rattle.sound_evidence.proofs.ReadRows.{bits_at}
-use Rattle.sound_evidence.proofs.BlockFound.{call_found, call_small, child_later, end_within, join_found, join_small, second_starts, skipped_found, skipped_small, split_one_found, split_small, split_zero_found, starts_by, syscall_found, syscall_small, top_one, top_other, wraps}
+use Rattle.sound_evidence.proofs.BlockFound.{call_found, call_small, child_later, dyn_found, dyn_small, end_within, join_found, join_small, second_starts, skipped_found, skipped_small, split_one_found, split_small, split_zero_found, starts_by, syscall_found, syscall_small, top_one, top_other, wraps}
 use Rattle.sound_evidence.proofs.TurnsFound.{behind_within, bits_behind, first_turn, loop_found, loop_small, mergeable, next_turn, read_behind, turn_later, turn_takes}
 use Rattle.sound_evidence.proofs.Takings.{joined, none_between}
 use Rattle.sound_evidence.proofs.+blocks.Goals as goal
@@ -135,6 +135,33 @@ pub walk::syscall-returns-clause-tape : goal.walk::syscall-returns-clause-tape
 walk::syscall-returns-clause-tape t c =
     wraps _ _ c.requires.readable _ ops.Syscall c.requires.is refl _ (walk::syscall-returns-clause-ok t c) _ _
     c.in_ok-callee.ensures.tape
+
+pub walk::dyn_block-block-requires : goal.walk::dyn_block-block-requires
+walk::dyn_block-block-requires t c =
+    let d = c.decreases in
+    let within = c.requires.is.within in (
+      omega (arith, d, within),
+      (c.requires.readable, starts_by _ _ c.requires.readable _ _ c.requires.is (c.requires.readable.facts.nesting.dyn _ c.requires.is)),
+    )
+
+pub walk::dyn_block-overflow_add-result : goal.walk::dyn_block-overflow_add-result
+walk::dyn_block-overflow_add-result t c =
+    let within = end_within _ _ c.requires.readable _ _ c.in_ok-child.ensures.ok in
+    let few = c.requires.readable.rows in
+    omega (arith, within, few)
+
+pub walk::dyn_block-address-requires-clause-few : goal.walk::dyn_block-address-requires-clause-few
+walk::dyn_block-address-requires-clause-few t c = dyn_small _ _ c.requires.readable _ c.requires.is _ c.in_ok-child.ensures.ok
+
+pub walk::dyn_block-returns-clause-ok : goal.walk::dyn_block-returns-clause-ok
+walk::dyn_block-returns-clause-ok t c =
+    dyn_found _ _ c.requires.readable _ c.requires.is _ c.in_ok-child.ensures.ok _ c.address.result c.called_digest.result _ refl
+    c.dynamic.ensures.is c.in_ok-targets.ensures.ok c.address.ensures c.called_digest.ensures
+
+pub walk::dyn_block-returns-clause-tape : goal.walk::dyn_block-returns-clause-tape
+walk::dyn_block-returns-clause-tape t c =
+    wraps _ _ c.requires.readable _ ops.Dyn c.requires.is refl _ (walk::dyn_block-returns-clause-ok t c) _ _
+    c.in_ok-child.ensures.tape
 
 pub walk::join-block-requires : goal.walk::join-block-requires
 walk::join-block-requires t c =

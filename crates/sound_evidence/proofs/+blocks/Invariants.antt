@@ -14,6 +14,9 @@ decreases-walk::block l = 3 * (length l.trace.now.main - l.i) + 2
 abbrev pub decreases-walk::call : goal.decreases-walk::call
 decreases-walk::call l = 3 * (length l.trace.now.main - l.i)
 
+abbrev pub decreases-walk::dyn_block : goal.decreases-walk::dyn_block
+decreases-walk::dyn_block l = 3 * (length l.trace.now.main - l.i)
+
 abbrev pub decreases-walk::join : goal.decreases-walk::join
 decreases-walk::join l = 3 * (length l.trace.now.main - l.i)
 

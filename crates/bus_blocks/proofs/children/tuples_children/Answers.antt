@@ -41,6 +41,14 @@ returns-in-Call g c =
           c.requires.op c.kind_of.ensures is refl c.first.ensures refl c.give-in-Call.ensures
     ])
 
+pub returns-in-Dyn : goal.returns-in-Dyn
+returns-in-Dyn g c =
+    let x = g.V.View.cells c.args.x.now in
+    let y = g.V.View.cells c.args.y.now in
+    wider 1 2 _ _ _ _ _ (lit≤ tt)
+    (child_given_by _ _ _ _ x y c.args.op c.kind_of.result kinds.Dyn _ _
+    c.requires.op c.kind_of.ensures c.in-Dyn.is refl c.called.ensures refl c.give-in-Dyn.ensures)
+
 pub returns-in-Repeat : goal.returns-in-Repeat
 returns-in-Repeat g c =
     let x = g.V.View.cells c.args.x.now in

@@ -44,7 +44,7 @@ put-overflow_add-result t c =
       | put-else-has_immediate
           w ↦ rw w.behind-is w.place-behind-else-has_immediate.ensures.below
     ] in
-    let code : c.from.result < 80 = omega arith in
+    let code : c.from.result < 81 = omega arith in
     let next = below_next c.args.room c.from.result c.if-has_immediate.behind.number some code small in
     let word = below_nine c.args.room (c.from.result + 128 * c.if-has_immediate.behind.number) c.requires.room next in
     omega arith
@@ -58,5 +58,5 @@ put-returns-clause-below t c =
       | put-else-has_immediate
           w ↦ rw w.behind-is w.place-behind-else-has_immediate.ensures.below
     ] in
-    let code : c.from.result < 80 = omega arith in
+    let code : c.from.result < 81 = omega arith in
     below_next c.args.room c.from.result c.if-has_immediate.behind.number some code small

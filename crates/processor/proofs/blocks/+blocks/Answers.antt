@@ -1,12 +1,16 @@
-use Rattle.std.proofs.Common.{rules, ◌+◌, ◌-◌, ◌≡◌, ◌<◌, arith, ap, refl, ◌∙◌}
+use Rattle.std.proofs.Common.{rules, ◌+◌, ◌-◌, ◌≡◌, ◌<◌, All, arith, ap, refl, subst, sym, ◌∙◌}
+use Rattle.std.specs.Option.{option_map}
+use Rattle.block_tree.specs.Trees.{Dyn, first_target, targets_height, tree_height}
+use Rattle.tree_hash.proofs.NodeLemmas.{hashed-targets, node-Dyn}
 use Rattle.block_tree.specs.Cycles.{Repeat, StartLoop, frame_of}
 use Rattle.block_tree.specs.Execution.{Part}
 use Rattle.vm_state.specs.Views.{core_of, state_of}
 use Rattle.machine_cycles.specs.Marks.{frame_in}
-use Rattle.tree_hash.specs.Nodes.{node_tree}
+use Rattle.tree_hash.specs.Nodes.{IsHashed, node_tree, targets_of}
 use Rattle.machine_cycles.specs.Settings.{constants_in}
-use Rattle.processor.proofs.RunLemmas.{ran-along, ran-fail, ran-then}
-use Rattle.processor.proofs.BlockLemmas.{at_bit-zero, at_bit-one, join-as, split-as, loop-as, call-as, syscall-as, block-ticks, ran-ticks, turns-end, turns-fail, turns-more, turns-repeat_fail, turns-start}
+use Rattle.processor.specs.Parts.{execution_in, run_option_in}
+use Rattle.processor.proofs.RunLemmas.{ran-along, ran-fail, ran-skip, ran-then}
+use Rattle.processor.proofs.BlockLemmas.{at_bit-zero, at_bit-one, dyn-as, found-low, is_some-map, join-as, split-as, loop-as, call-as, syscall-as, block-ticks, ran-ticks, turns-end, turns-fail, turns-more, turns-repeat_fail, turns-start}
 use Rattle.processor.proofs.blocks.+blocks.Goals as goal
 
 pub call-returns-in_err-frame-clause-ran : goal.call-returns-in_err-frame-clause-ran
@@ -182,3 +186,65 @@ turns-loop-runner-init t c = record {
       turns-start c.args.setting.now c.args.digest.now (node_tree c.args.body.now) n c.args.runner.now room;
   same = refl;
 }
+
+-- a dynamic block's targets, and that they stand beside their digests
+pub block-dynamic-requires : goal.block-dynamic-requires
+block-dynamic-requires t c =
+    let constants = constants_in c.args.setting.now in
+    let seen = ap node_tree c.in-Dyn.is ∙ node-Dyn c.in-Dyn.digest c.in-Dyn.targets in
+    let hashed = hashed-targets constants c.in-Dyn.digest c.in-Dyn.targets (subst (IsHashed constants) c.in-Dyn.is c.requires.hashed) in
+    let height = ap tree_height seen ∙ ap (λ xs. 1 + targets_height (targets_of xs)) (sym c.deref-in-Dyn.ensures.value) in
+    let d = c.decreases in
+    (
+      omega (arith, height, d),
+      (c.requires.memo, (hashed.0, subst (All (IsHashed constants)) (sym c.deref-in-Dyn.ensures.value) hashed.1)),
+    )
+
+pub block-returns-in-Dyn-clause-ran : goal.block-returns-in-Dyn-clause-ran
+block-returns-in-Dyn-clause-ran t c =
+    ran-along (ap (λ tree. execution_in c.args.setting.now tree (state_of c.args.runner.now.state))
+    (ap node_tree c.in-Dyn.is ∙ node-Dyn c.in-Dyn.digest c.in-Dyn.targets
+    ∙ ap (λ xs. Dyn (targets_of xs)) (sym c.deref-in-Dyn.ensures.value))) c.dynamic.ensures.ran
+
+pub chosen-returns-in-None-clause-ran : goal.chosen-returns-in-None-clause-ran
+chosen-returns-in-None-clause-ran t c =
+    ran-along (ap (λ o. run_option_in c.args.setting.now (option_map (λ node. node_tree node.now) o) (state_of c.args.runner.now.state)) c.in-None.is)
+    (ran-skip c.args.setting.now c.args.runner.now tt)
+
+pub dynamic-chosen-requires : goal.dynamic-chosen-requires
+dynamic-chosen-requires t c =
+    let constants = constants_in c.args.setting.now in
+    let found = c.first-found.ensures.is constants c.requires.targets in
+    let low = found-low constants c.called_word.result (targets_of c.args.targets.now) _ found in
+    let d = c.decreases in
+    (
+      omega (arith, low, d),
+      (c.in_ok-cycle.ensures.same ∙ c.requires.memo, c.first-found.ensures.hashed constants c.requires.targets),
+    )
+
+pub dynamic-returns-in_err-cycle-clause-ran : goal.dynamic-returns-in_err-cycle-clause-ran
+dynamic-returns-in_err-cycle-clause-ran t c =
+    ran-along (dyn-as c.args.setting.now (targets_of c.args.targets.now) (option_map (λ node. node_tree node.now) c.first-found.result)
+    c.is_some.result c.args.digest.now (state_of c.args.runner.now.state)
+    (c.first-found.ensures.is (constants_in c.args.setting.now) c.requires.targets
+    ∙ ap (λ w. first_target (constants_in c.args.setting.now) w (targets_of c.args.targets.now)) c.called_word.ensures)
+    (c.is_some.ensures ∙ sym (is_some-map _ c.first-found.result)) c.requires.digest)
+    (ran-fail _ _ (search rules) c.in_err-cycle.ensures.ran)
+
+pub dynamic-returns-in_err-chosen-clause-ran : goal.dynamic-returns-in_err-chosen-clause-ran
+dynamic-returns-in_err-chosen-clause-ran t c =
+    ran-along (dyn-as c.args.setting.now (targets_of c.args.targets.now) (option_map (λ node. node_tree node.now) c.first-found.result)
+    c.is_some.result c.args.digest.now (state_of c.args.runner.now.state)
+    (c.first-found.ensures.is (constants_in c.args.setting.now) c.requires.targets
+    ∙ ap (λ w. first_target (constants_in c.args.setting.now) w (targets_of c.args.targets.now)) c.called_word.ensures)
+    (c.is_some.ensures ∙ sym (is_some-map _ c.first-found.result)) c.requires.digest)
+    (ran-then _ _ c.in_ok-cycle.ensures.ran (ran-fail _ _ (search rules) c.in_err-chosen.ensures.ran))
+
+pub dynamic-returns-clause-ran : goal.dynamic-returns-clause-ran
+dynamic-returns-clause-ran t c =
+    ran-along (dyn-as c.args.setting.now (targets_of c.args.targets.now) (option_map (λ node. node_tree node.now) c.first-found.result)
+    c.is_some.result c.args.digest.now (state_of c.args.runner.now.state)
+    (c.first-found.ensures.is (constants_in c.args.setting.now) c.requires.targets
+    ∙ ap (λ w. first_target (constants_in c.args.setting.now) w (targets_of c.args.targets.now)) c.called_word.ensures)
+    (c.is_some.ensures ∙ sym (is_some-map _ c.first-found.result)) c.requires.digest)
+    (ran-then _ _ c.in_ok-cycle.ensures.ran (ran-then _ _ c.in_ok-chosen.ensures.ran c.cycle-2.ensures.ran))

@@ -1,7 +1,8 @@
+use Rattle.std.specs.Option.{option_map}
 use Rattle.std.proofs.Common.{◌≡◌, ℕ, ◌+◌, ◌-◌, ◌*◌, ◌≤◌, max}
-use Rattle.block_tree.specs.Trees.{tree_height}
-use Rattle.tree_hash.specs.Nodes.{node_tree}
-use Rattle.processor.proofs.BlockLemmas.{TurnsLeft}
+use Rattle.block_tree.specs.Trees.{targets_height, tree_height}
+use Rattle.tree_hash.specs.Nodes.{node_tree, targets_of}
+use Rattle.processor.proofs.BlockLemmas.{TurnsLeft, option_height}
 use Rattle.processor.proofs.blocks.+blocks.Given as goal
 
 abbrev pub decreases-block : goal.decreases-block
@@ -27,6 +28,12 @@ decreases-call l = 3 * tree_height (node_tree l.callee.now) + 1
 
 abbrev pub decreases-syscall : goal.decreases-syscall
 decreases-syscall l = 3 * tree_height (node_tree l.callee.now) + 1
+
+abbrev pub decreases-dynamic : goal.decreases-dynamic
+decreases-dynamic l = 3 * targets_height (targets_of l.targets.now) + 2
+
+abbrev pub decreases-chosen : goal.decreases-chosen
+decreases-chosen l = 3 * option_height (option_map (λ node. node_tree node.now) l.found) + 1
 
 abbrev pub invariant-turns-loop-runner : goal.invariant-turns-loop-runner
 invariant-turns-loop-runner l = record {

@@ -1,0 +1,41 @@
+-- The row of a dynamic block shows the zeros that it is hashed from.
+use Rattle.std.proofs.Common.{◌≡◌, ℕ, true, false, List, ◌++◌, slice_index, refl, sym, ap, ◌∙◌}
+use Rattle.vm_field.specs.Machine.{State, zero_word}
+use Rattle.vm_ops.specs.Codes.{is_ordinary_op}
+use Rattle.vm_ops.specs.declared.op.Op.{Op}
+use Rattle.vm_ops.specs.declared.op.Op.TheVariants as ops
+use Rattle.vm_table.specs.MainColumns.{h}
+use Rattle.block_tree.specs.Cycles.{Mark, StartOpaque, StartDyn, Do}
+use Rattle.block_tree.specs.Rows.{hash_of, op_of_mark}
+use Rattle.air_kit.specs.Flags as flags
+use Rattle.air_kit.specs.Flags.{is_op}
+use Rattle.air_kit.specs.MainTuples.{eight}
+use Rattle.facts_main.specs.Dynamic.{IsDynRow}
+use Rattle.facts_main.proofs.Says.{off}
+use Rattle.complete_rows.specs.Decoder.{Decoder}
+use Rattle.complete_rows.specs.Moments.{IsLastMoment, IsMoment}
+use Rattle.complete_rows.proofs.ColumnLemmas.{below_four}
+use Rattle.complete_rows.proofs.MomentFacts.{end_op, moment_op}
+use Rattle.complete_requests.proofs.KernelLaw.{op_same}
+use Rattle.complete_requests.proofs.MomentCells.{moment_eight}
+
+dyn_opens : (op : Op) → is_op op ops.Dyn ≡ true → is_ordinary_op op ≡ false
+dyn_opens op is = rw (op_same op ops.Dyn is) refl
+
+dyn_hash : (mark : Mark) → is_op (op_of_mark mark) ops.Dyn ≡ true → hash_of mark ≡ zero_word ++ zero_word
+dyn_hash StartOpaque is = refl
+dyn_hash (StartDyn known) is = refl
+dyn_hash (Do item) is = refl
+dyn_hash mark is = off is
+
+pub moment_dyn : (constants : List ℕ) (kernel : List (List ℕ)) (limit : ℕ) {x y : List ℕ} → IsMoment constants kernel limit x y
+    → IsDynRow (flags.op_of x) x
+moment_dyn constants kernel limit {x = x} m is =
+    let same : is_op (op_of_mark m.mark) ops.Dyn ≡ true = ap (λ o. is_op o ops.Dyn) (sym (moment_op constants kernel limit m)) ∙ is in
+    let cells : eight x ≡ zero_word ++ zero_word
+    = moment_eight constants kernel limit m (dyn_opens (op_of_mark m.mark) same) ∙ dyn_hash m.mark same in
+    below_four (λ j. h x j ≡ 0) (ap (λ l. slice_index l 0) cells) (ap (λ l. slice_index l 1) cells) (ap (λ l. slice_index l 2) cells)
+    (ap (λ l. slice_index l 3) cells)
+
+pub end_dyn : {d : Decoder} {u : State} {x : List ℕ} → IsLastMoment d u x → IsDynRow (flags.op_of x) x
+end_dyn e is = off (ap (λ o. is_op o ops.Dyn) (sym (end_op e)) ∙ is)
