@@ -4,6 +4,7 @@ mod chain;
 mod check;
 mod content;
 mod deep;
+mod dynamic;
 mod faults;
 mod flow;
 mod hash;

@@ -10,7 +10,7 @@ use vm_ops::{
 // An operation with its code, its name, the cells that it takes and leaves, and its shift.
 type Row = (Op, u8, &'static str, usize, usize, Shift);
 
-static ROWS: [Row; 12] = [
+static ROWS: [Row; 13] = [
     (Op::Noop, 0, "NOOP", 0, 0, Shift::Stay),
     (Op::MovDn8, 23, "MOVDN8", 9, 9, Shift::Stay),
     (Op::HPerm, 29, "HPERM", 12, 12, Shift::Stay),
@@ -23,6 +23,7 @@ static ROWS: [Row; 12] = [
     (Op::End, 76, "END", 0, 0, Shift::Stay),
     (Op::Repeat, 77, "REPEAT", 1, 0, Shift::Left),
     (Op::Halt, 79, "HALT", 0, 0, Shift::Stay),
+    (Op::Dyn, 80, "DYN", 0, 0, Shift::Stay),
 ];
 
 fn is_named(row: &Row) -> bool {
@@ -34,7 +35,8 @@ fn moves(row: &Row) -> bool {
 }
 
 fn is_classed(row: &Row) -> bool {
-    is_ordinary(row.0) == (row.1 < 70) && is_start(row.0) == (70 <= row.1 && row.1 < 76)
+    is_ordinary(row.0) == (row.1 < 70)
+        && is_start(row.0) == ((70 <= row.1 && row.1 < 76) || row.1 == 80)
 }
 
 #[test]
@@ -48,7 +50,7 @@ fn tells_operations(rt: HostRuntime) {
 
 #[test]
 fn tells_no_operation(rt: HostRuntime) {
-    assert_eq!(rt; from_opcode(80), None);
+    assert_eq!(rt; from_opcode(81), None);
     assert_eq!(rt; sources(Op::MovUp2), &[2, 0, 1][..]);
     assert_eq!(rt; cause_text(Cause::NotU32), "NotU32");
 }

@@ -1,4 +1,4 @@
-use block_tree::{Exports, Program, Tree, are_distinct, digest};
+use block_tree::{Exports, Program, Tree, Trees, are_distinct, digest};
 use machine_cycles::{Event, Events, Stop};
 use op_pack::Batches;
 use processor::{Run, execute};
@@ -16,7 +16,7 @@ mod rows;
 use logs::{BEFORE, Before, Hash, JOINED, Line, Log, NO_TURN, SERVED, STORED, Shown, TURNS};
 use parts::Part;
 use rows::{
-    BLOCK_TRAPS, BRANCHES, CALLING, CALLS, CUT_OFF, ENDLESS, End, Ends, LAST_CYCLE, LOOPS,
+    BLOCK_TRAPS, BRANCHES, CALLING, CALLS, CUT_OFF, DYNAMIC, ENDLESS, End, Ends, LAST_CYCLE, LOOPS,
     NO_CYCLE, OPERATION_TRAPS, Row, SERVES, SYSCALL_TRAPS, SYSCALLS,
 };
 
@@ -93,6 +93,19 @@ fn deep(alloc: Global, tree: Tree, joins: usize) -> Result<Tree, Memory> {
     Ok(tree)
 }
 
+// A dynamic block of so many of the latest trees, in their order.
+fn dynamic(alloc: Global, trees: &mut Vec<Tree>, count: usize) -> Result<Tree, Memory> {
+    let mut latest_first: Vec<Tree> = Vec::new(alloc);
+    for _ in 0..count {
+        latest_first.push(latest(trees)?)?;
+    }
+    let mut targets = Trees::new(alloc);
+    for _ in 0..count {
+        targets.push(latest(&mut latest_first)?)?;
+    }
+    Ok(block_tree::dynamic(targets))
+}
+
 // The tree of one part round the latest one.
 fn of_one(alloc: Global, trees: &mut Vec<Tree>, part: &Part) -> Result<Tree, Memory> {
     let child = boxed(alloc, trees)?;
@@ -122,6 +135,7 @@ fn made(alloc: Global, trees: &mut Vec<Tree>, part: &Part) -> Result<Tree, Memor
         Part::Join | Part::Split => of_two(alloc, trees, part),
         Part::Loop | Part::Call | Part::Syscall => of_one(alloc, trees, part),
         Part::Deep(joins) => deep(alloc, latest(trees)?, *joins),
+        Part::Dynamic(targets) => dynamic(alloc, trees, *targets),
     }
 }
 
@@ -265,6 +279,11 @@ fn runs_spans_and_branches(rt: HostRuntime) {
 #[test]
 fn runs_loops(rt: HostRuntime) {
     check(&rt, rt.alloc(), &LOOPS, &[], 10000);
+}
+
+#[test]
+fn runs_dynamic_blocks(rt: HostRuntime) {
+    check(&rt, rt.alloc(), &DYNAMIC, &[], 10000);
 }
 
 #[test]

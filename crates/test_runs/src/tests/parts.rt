@@ -17,6 +17,8 @@ pub enum Part {
     Syscall,
     /// So many joins round the latest tree, each with an opaque block behind it.
     Deep(usize),
+    /// A dynamic block, whose targets are so many of the latest trees.
+    Dynamic(usize),
 }
 
 // The parts, as `span(Push Add; 2) span(Incr) join()`.
@@ -53,6 +55,9 @@ macro_rules! part {
     };
     (deep [] [$joins:literal]) => {
         Part::Deep($joins)
+    };
+    (dynamic [] [$targets:literal]) => {
+        Part::Dynamic($targets)
     };
 }
 

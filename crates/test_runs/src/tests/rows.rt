@@ -78,6 +78,14 @@ pub static LOOPS: [Row; 4] = rows! {
     { span(Swap Swap) span(Neg Neg) split() repeat() } [1 1 1 0 0] [] => ends(15 [] depth 16 left 0);
 };
 
+// Without constants the permutation keeps zeros, so that a span of one NOOP has the digest of four zeros: it runs where it is the
+// first target of that digest.
+pub static DYNAMIC: [Row; 3] = rows! {
+    { span(Noop) dynamic(; 1) } [0 0 0 0 7] [] => ends(5 [0 0 0 0 7] depth 16 left 0);
+    { span(Incr) span(Noop) opaque() dynamic(; 3) } [] [] => ends(5 [] depth 16 left 0);
+    { span(Noop) dynamic(; 1) span(Incr) join() } [] [] => ends(10 [1] depth 16 left 0);
+};
+
 // hidden cells that come back, and the frame pointer of a call
 pub static CALLS: [Row; 2] = rows! {
     { span(Push; 9) span(Push Add; 1) call() join() } [1 2 3 4 5 6 7 8 9 10 11 12 13 14 15 16] []
@@ -94,9 +102,13 @@ pub static SYSCALLS: [Row; 2] = rows! {
     { span(Noop) syscall() span(FmpAdd) join() } [5] [] => ends(10 [1073741829] depth 16 left 0);
 };
 
-pub static BLOCK_TRAPS: [Row; 10] = rows! {
+pub static BLOCK_TRAPS: [Row; 14] = rows! {
     { opaque() } [] [] => traps(0 OpaqueBlock);
     { span(Noop) opaque() join() } [] [] => traps(4 OpaqueBlock);
+    { dynamic(; 0) } [] [] => traps(0 UnknownTarget);
+    { span(Noop) dynamic(; 1) } [0 0 0 1] [] => traps(0 UnknownTarget);
+    { opaque() span(Noop) dynamic(; 2) } [] [] => traps(1 OpaqueBlock);
+    { span(Noop) dynamic(; 1) deep(; 1024) } [] [] => traps(1024 NestedTooDeep);
     { span(Join) } [] [] => traps(0 BadBatch);
     { span(Noop) batch(Push) } [] [] => traps(2 BadBatch);
     { span(Noop) span(Noop) split() } [2] [] => traps(0 NotBinary);
