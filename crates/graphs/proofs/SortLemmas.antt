@@ -22,10 +22,10 @@ OnOk-both (Err e) f p q = tt
 
 -- lists
 
-contains_whole : (n : ℕ) (xs : List ℕ) (x : ℕ) → Contains (take n xs) x → Contains xs x
+pub contains_whole : (n : ℕ) (xs : List ℕ) (x : ℕ) → Contains (take n xs) x → Contains xs x
 contains_whole n xs x h = subst (λ ys. Contains ys x) (take-append-drop n xs) (Contains-append_left (take n xs) (drop n xs) x h)
 
-contains_front : (n : ℕ) (xs ys : List ℕ) (x : ℕ) → length xs ≤ n → Contains xs x → Contains (take n (xs ++ ys)) x
+pub contains_front : (n : ℕ) (xs ys : List ℕ) (x : ℕ) → length xs ≤ n → Contains xs x → Contains (take n (xs ++ ys)) x
 contains_front n xs ys x long h =
     let split : length xs + (n - length xs) ≡ n = omega arith in
     subst (λ m. Contains (take m (xs ++ ys)) x) split

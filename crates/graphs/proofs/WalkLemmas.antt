@@ -5,7 +5,7 @@ use Rattle.std.proofs.lemmas.List.{take_more, get_or-set_same, get_or-set_other,
 use Rattle.std.proofs.lemmas.List.Elements.{Contains-append_left, Contains-append_right, Contains-append_cases, Contains-push, Contains-push_cases, Contains-get_or}
 use Rattle.std.proofs.lemmas.List.Sums.{sum_by-set, count_by-le-length}
 use Rattle.std.specs.List.{Contains}
-use Rattle.graphs.specs.Graph.{Edge, Leads, itself, through}
+use Rattle.graphs.specs.Graph.{Edge, Leads, LeadsFrom, itself, through}
 use Rattle.graphs.specs.Walks.{AreMarks, AddsPlaces, Walked}
 
 pub contains_one : {X : Type 0} (x y : X) → Contains (x ∷ []) y → x ≡ y
@@ -88,21 +88,18 @@ pub Leads-push : (graph : List (List ℕ)) (a b c : ℕ) → Leads graph a b →
 Leads-push graph a b c itself edge = through edge itself
 Leads-push graph a b c (through {b = d} first more) edge = through first (Leads-push graph d b c more edge)
 
-pub Walked-start : (graph : List (List ℕ)) (start : ℕ) (seen : List ℕ) → AddsPlaces [] (start ∷ []) seen → Walked graph start seen 0
-Walked-start graph start seen adds =
+pub Walked-start : (graph : List (List ℕ)) (starts seen : List ℕ) → AddsPlaces [] starts seen → Walked graph starts seen 0
+Walked-start graph starts seen adds =
     record {
-      starts = adds.row_in start (Contains-push [] start);
-      reached = λ q h. elim (adds.only q h) [
-        | inl none ↦ absurd (omega (arith, none.1))
-        | inr same ↦ subst (Leads graph start) (contains_one start q same) itself
-      ];
+      begun = adds.row_in;
+      reached = λ q h. elim (adds.only q h) [ inl none ↦ absurd (omega (arith, none.1)) | inr among ↦ (q, among, itself) ];
       followed = λ k q below. absurd (omega arith);
     }
 
-pub Walked-more : (graph : List (List ℕ)) (start : ℕ) (seen new : List ℕ) (next place : ℕ) → Walked graph start seen next → next < length seen
-    → place ≡ get_or seen next 0 → AddsPlaces seen (get_or graph place []) new → Walked graph start new (next + 1)
-Walked-more graph start seen new next place walked within is adds =
-    record { starts = keeps start walked.starts; reached = reached; followed = followed }
+pub Walked-more : (graph : List (List ℕ)) (starts seen new : List ℕ) (next place : ℕ) → Walked graph starts seen next → next < length seen
+    → place ≡ get_or seen next 0 → AddsPlaces seen (get_or graph place []) new → Walked graph starts new (next + 1)
+Walked-more graph starts seen new next place walked within is adds =
+    record { begun = λ start h. keeps start (walked.begun start h); reached = reached; followed = followed }
   where
     keeps : (q : ℕ) → Contains seen q → Contains new q
     keeps q h = AddsPlaces-keeps seen (get_or graph place []) new q adds h
@@ -110,8 +107,11 @@ Walked-more graph start seen new next place walked within is adds =
     here : Contains seen place
     here = subst (Contains seen) (sym is) (Contains-get_or seen next 0 within)
 
-    reached : (q : ℕ) → Contains new q → Leads graph start q
-    reached q h = elim (adds.only q h) [ inl old ↦ walked.reached q old | inr edge ↦ Leads-push graph start place q (walked.reached place here) edge ]
+    reached : (q : ℕ) → Contains new q → LeadsFrom graph starts q
+    reached q h = elim (adds.only q h) [
+      | inl old ↦ walked.reached q old
+      | inr edge ↦ let from = walked.reached place here in (from.0, from.1, Leads-push graph from.0 place q from.2 edge)
+    ]
 
     stays : (k : ℕ) → k < length seen → get_or new k 0 ≡ get_or seen k 0
     stays k below = ap (λ xs. get_or xs k 0) adds.keeps ∙ get_or_append_left seen adds.more 0 k below
@@ -125,23 +125,30 @@ Walked-more graph start seen new next place walked within is adds =
               (subst (λ p. Edge graph p q) (stays k (let apart = other.1 in omega arith)) edge))
         ]
 
-closed : (graph : List (List ℕ)) (start : ℕ) (seen : List ℕ) → Walked graph start seen (length seen) → (a b : ℕ) → Leads graph a b
+closed : (graph : List (List ℕ)) (starts seen : List ℕ) → Walked graph starts seen (length seen) → (a b : ℕ) → Leads graph a b
     → Contains seen a → Contains seen b
-closed graph start seen walked a b itself h = h
-closed graph start seen walked a b (through {b = c} edge more) h =
-    closed graph start seen walked c b more
+closed graph starts seen walked a b itself h = h
+closed graph starts seen walked a b (through {b = c} edge more) h =
+    closed graph starts seen walked c b more
     (walked.followed h.0 c h.1 (subst (λ p. Edge graph p c) (sym h.2 ∙ get_or_default seen h.0 a 0 h.1) edge))
 
 -- at the end of a walk the marks are those of the places that are reached
-pub Walked-end : (graph : List (List ℕ)) (start : ℕ) (marks : List Bool) (seen : List ℕ) (next : ℕ) → AreMarks marks seen
-    → Walked graph start seen next
-    → length seen ≤ next → (place : ℕ) → (get_or marks place false ≡ true) ↔ Leads graph start place
-Walked-end graph start marks seen next are walked ended place =
-    let done : Walked graph start seen (length seen) =
-    record { starts = walked.starts; reached = walked.reached; followed = λ k q below edge. walked.followed k q (omega arith) edge } in (
+pub Walked-end : (graph : List (List ℕ)) (starts : List ℕ) (marks : List Bool) (seen : List ℕ) (next : ℕ) → AreMarks marks seen
+    → Walked graph starts seen next
+    → length seen ≤ next → (place : ℕ) → (get_or marks place false ≡ true) ↔ LeadsFrom graph starts place
+Walked-end graph starts marks seen next are walked ended place =
+    let done : Walked graph starts seen (length seen) =
+    record { begun = walked.begun; reached = walked.reached; followed = λ k q below edge. walked.followed k q (omega arith) edge } in (
       λ marked. walked.reached place ((are.marked place).0 marked),
-      λ leads. (are.marked place).1 (closed graph start seen done start place leads walked.starts),
+      λ from. (are.marked place).1 (closed graph starts seen done from.0 place from.2 (walked.begun from.0 from.1)),
     )
+
+-- a path from the only start
+pub from_one : (graph : List (List ℕ)) (start place : ℕ) → LeadsFrom graph (start ∷ []) place ↔ Leads graph start place
+from_one graph start place = (
+  λ from. subst (λ q. Leads graph q place) (sym (contains_one start from.0 from.1)) from.2,
+  λ leads. (start, Contains-push [] start, leads),
+)
 
 -- there are no more places seen than marks
 pub seen-le-marks : (marks : List Bool) (seen : List ℕ) → AreMarks marks seen → length seen ≤ length marks

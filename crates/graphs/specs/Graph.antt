@@ -18,3 +18,7 @@ IsGraph graph = (a b : ℕ) → Edge graph a b → b < length graph
 pub data Leads (graph : List (List ℕ)) : ℕ → ℕ → Type 0 where
   itself : {a : ℕ} → Leads graph a a
   through : {a b c : ℕ} → Edge graph a b → Leads graph b c → Leads graph a c
+
+-- a path from one of these places
+abbrev pub LeadsFrom : List (List ℕ) → List ℕ → ℕ → Type 0
+LeadsFrom graph starts place = (start : ℕ) × Contains starts start × Leads graph start place

@@ -1,5 +1,5 @@
 -- Orders of a graph's places.
-use Rattle.std.specs.Prelude.{ℕ, ◌<◌, List, length, take, slice_index}
+use Rattle.std.specs.Prelude.{ℕ, ◌<◌, Bool, false, not, List, ◌++◌, filter, length, take, slice_index, slice_index_or}
 use Rattle.std.specs.List.{Contains}
 use Rattle.graphs.specs.Graph.{Edge, Leads}
 
@@ -17,3 +17,8 @@ pub record IsOrder (graph : List (List ℕ)) (order : List ℕ) : Type 0 where
   pub within : (k : ℕ) → k < length order → slice_index order k < length graph
   pub all : (place : ℕ) → place < length graph → Contains order place
   pub behind : StandsBehind graph order
+
+-- the places that have a mark, and then those that have none, each in their order
+abbrev pub marked_first : List Bool → List ℕ → List ℕ
+marked_first marks order =
+    filter (λ place. slice_index_or marks place false) order ++ filter (λ place. not (slice_index_or marks place false)) order

@@ -5,5 +5,5 @@
 mod ordering;
 mod reach;
 
-pub use ordering::order;
-pub use reach::{is_marked, reached, row_at};
+pub use ordering::{marked_first, order, unmarked};
+pub use reach::{each_once, is_marked, reached, reached_from, row_at};

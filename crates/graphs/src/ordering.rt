@@ -1,11 +1,11 @@
 ghost use Rattle.std.specs.Prelude.{◌≡◌, ℕ, ◌<◌, ◌≤◌, [], ◌∷◌, ◌++◌, length, slice_index, slice_index_or};
-ghost use Rattle.std.specs.Prelude.{slice_set, false, true, IfOk, OnOk};
+ghost use Rattle.std.specs.Prelude.{slice_set, false, true, not, filter, IfOk, OnOk};
 ghost use Rattle.std.specs.List.{All, Contains};
 ghost use Rattle.graphs.specs.Graph.{rows_of, IsGraph};
-ghost use Rattle.graphs.specs.Orders.{IsAcyclic, IsOrder, StandsBehind};
+ghost use Rattle.graphs.specs.Orders.{IsAcyclic, IsOrder, StandsBehind, marked_first};
 ghost use Rattle.graphs.specs.Walks.{AreMarks};
 
-use crate::reach::Walk;
+use crate::reach::{Walk, is_marked};
 use std::alloc::{AllocError, Global};
 use std::mem;
 
@@ -151,4 +151,38 @@ pub fn order(alloc: Global, graph: &[Vec<usize>]) -> Result<Vec<usize>, AllocErr
 {
     let walk = sorted(alloc, graph)?;
     Ok(walk.seen)
+}
+
+// The places of a row that have a mark, in their order.
+fn marked(alloc: Global, marks: &[bool], row: &[usize]) -> Result<Vec<usize>, AllocError>
+    ensures { IfOk result (λ places. places.items ≡ filter (λ place. slice_index_or marks.now place false) row.now) }
+{
+    row.iter()
+        .copied()
+        .filter(|place| is_marked(marks, *place))
+        .collect(alloc)
+}
+
+/// The places of a row that have no mark, in their order.
+pub fn unmarked(alloc: Global, marks: &[bool], row: &[usize]) -> Result<Vec<usize>, AllocError>
+    ensures { IfOk result (λ places. places.items ≡ filter (λ place. not (slice_index_or marks.now place false)) row.now) }
+{
+    row.iter()
+        .copied()
+        .filter(|place| !is_marked(marks, *place))
+        .collect(alloc)
+}
+
+/// The places of an order that have a mark, and then those that have none, each in their order.
+pub fn marked_first(
+    alloc: Global,
+    marks: &[bool],
+    order: &[usize],
+) -> Result<Vec<usize>, AllocError>
+    ensures { IfOk result (λ first. first.items ≡ marked_first marks.now order.now) }
+{
+    let mut first = marked(alloc, marks, order)?;
+    let rest = unmarked(alloc, marks, order)?;
+    first.extend_from_slice(rest.as_slice())?;
+    Ok(first)
 }

@@ -1,7 +1,7 @@
-ghost use Rattle.std.specs.Prelude.{◌≡◌, ℕ, ◌<◌, ◌∷◌, [], length, slice_index_or, false, true, ◌↔◌, IfOk, OnOk};
+ghost use Rattle.std.specs.Prelude.{◌≡◌, ℕ, ◌<◌, ◌∷◌, ◌++◌, [], length, slice_index_or, false, true, ◌↔◌, if◌then◌else◌, IfOk, OnOk};
 ghost use Rattle.std.specs.List.{All};
-ghost use Rattle.graphs.specs.Graph.{rows_of, IsGraph, Leads};
-ghost use Rattle.graphs.specs.Walks.{AreMarks, AddsPlaces};
+ghost use Rattle.graphs.specs.Graph.{rows_of, IsGraph, Leads, LeadsFrom};
+ghost use Rattle.graphs.specs.Walks.{AreMarks, AddsPlaces, each_once};
 
 use std::alloc::{AllocError, Global};
 
@@ -30,6 +30,8 @@ impl Walk {
         requires marks { AreMarks self.old.marks.items self.old.seen.items }
         ensures marks { OnOk result (AreMarks self.new.marks.items self.new.seen.items) }
         ensures adds { OnOk result (AddsPlaces self.old.seen.items (place ∷ []) self.new.seen.items) }
+        ensures seen { OnOk result (self.new.seen.items
+            ≡ (if slice_index_or self.old.marks.items place false then self.old.seen.items else self.old.seen.items ++ place ∷ [])) }
         ensures count { length self.new.marks.items ≡ length self.old.marks.items }
     {
         if self.marks[place] {
@@ -74,14 +76,30 @@ pub fn is_marked(marks: &[bool], place: usize) -> bool
     }
 }
 
-/// For each place of a graph, whether it is reached from the start.
-pub fn reached(alloc: Global, graph: &[Vec<usize>], start: usize) -> Result<Vec<bool>, AllocError>
+/// The places of a row, which are below this count, in their order and each once.
+pub fn each_once(alloc: Global, count: usize, row: &[usize]) -> Result<Vec<usize>, AllocError>
+    requires { All (λ place. place < count) row.now }
+    ensures { IfOk result (λ once. once.items ≡ each_once row.now) }
+{
+    let mut walk = Walk::new(alloc, count)?;
+    for place in row {
+        walk.visit(*place)?;
+    }
+    Ok(walk.seen)
+}
+
+/// For each place of a graph, whether it is reached from one of the starts.
+pub fn reached_from(
+    alloc: Global,
+    graph: &[Vec<usize>],
+    starts: &[usize],
+) -> Result<Vec<bool>, AllocError>
     requires graph { IsGraph (rows_of graph.now) }
-    requires start { start < length graph.now }
-    ensures { IfOk result (λ marks. (place : ℕ) → (slice_index_or marks.items place false ≡ true) ↔ Leads (rows_of graph.now) start place) }
+    requires starts { All (λ place. place < length graph.now) starts.now }
+    ensures { IfOk result (λ marks. (place : ℕ) → (slice_index_or marks.items place false ≡ true) ↔ LeadsFrom (rows_of graph.now) starts.now place) }
 {
     let mut walk = Walk::new(alloc, graph.len())?;
-    walk.visit(start)?;
+    walk.visit_all(starts)?;
     let mut next = 0;
     while next < walk.seen.len() {
         let place = walk.seen[next];
@@ -89,4 +107,14 @@ pub fn reached(alloc: Global, graph: &[Vec<usize>], start: usize) -> Result<Vec<
         next += 1;
     }
     Ok(walk.marks)
+}
+
+/// For each place of a graph, whether it is reached from the start.
+pub fn reached(alloc: Global, graph: &[Vec<usize>], start: usize) -> Result<Vec<bool>, AllocError>
+    requires graph { IsGraph (rows_of graph.now) }
+    requires start { start < length graph.now }
+    ensures { IfOk result (λ marks. (place : ℕ) → (slice_index_or marks.items place false ≡ true) ↔ Leads (rows_of graph.now) start place) }
+{
+    let marks = reached_from(alloc, graph, &[start])?;
+    Ok(marks)
 }

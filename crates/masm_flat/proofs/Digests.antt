@@ -11,7 +11,7 @@ use Rattle.vm_field.proofs.Elements.{elements-drop, elements-take}
 use Rattle.vm_field.proofs.PermutationLemmas.{elements-round}
 use Rattle.rpo_hash.proofs.Digests.{hashed-IsWord}
 use Rattle.masm_expand.specs.Expansion.{lit}
-use Rattle.masm_flat.specs.Blocks.{Block, Span, Join, Split, Loop, Call, Syscall}
+use Rattle.masm_flat.specs.Blocks.{Block, Span, Join, Split, Loop, Call, Syscall, Dyn}
 use Rattle.masm_flat.specs.Lists.{block_digest, digest_items}
 
 -- whatever the constants are
@@ -54,6 +54,7 @@ block-elements constants (Split a b) = hashed-elements constants _ _
 block-elements constants (Loop a) = hashed-elements constants _ _
 block-elements constants (Call a) = hashed-elements constants _ _
 block-elements constants (Syscall a) = hashed-elements constants _ _
+block-elements constants (Dyn targets) = hashed-elements constants _ _
 
 block-word : (constants : List ℕ) (b : Block) → length constants ≡ number_of_constants → IsWord (block_digest constants b)
 block-word constants (Span items) count = hashed-word constants _ _ count
@@ -62,6 +63,7 @@ block-word constants (Split a b) count = hashed-word constants _ _ count
 block-word constants (Loop a) count = hashed-word constants _ _ count
 block-word constants (Call a) count = hashed-word constants _ _ count
 block-word constants (Syscall a) count = hashed-word constants _ _ count
+block-word constants (Dyn targets) count = hashed-word constants _ _ count
 
 -- a procref is four operations
 pub four-items : (constants : List ℕ) (b : Block) → length constants ≡ number_of_constants → length (digest_items (block_digest constants b)) ≡ 4

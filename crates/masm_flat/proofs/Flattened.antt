@@ -1,12 +1,14 @@
 -- The list of a body, as its blocks are seen, is what it is flattened to with the lists of its procedures.
 use Rattle.std.proofs.Common.{◌≡◌, ℕ, zero, suc, List, [], ◌∷◌, ◌++◌, map, Some, refl, sym, ap, ap₂, ◌∙◌}
 use Rattle.vm_ops.specs.declared.item.Item.{Item}
-use Rattle.masm_tree.specs.Trees.{Body, Procedure}
-use Rattle.masm_flat.specs.Blocks.{Block, Span, Join, View, Piece, Operation, Whole, seen_as, seen_piece, seen_pieces, whole, block_of}
+use Rattle.masm_tree.specs.Trees.{Body, Source}
+use Rattle.masm_flat.specs.Blocks.{Block, Span, Join, Dyn, View, Piece, Operation, Whole, seen_as, seen_piece, seen_pieces, whole, block_of, blocks_from}
 use Rattle.masm_flat.specs.Flattening.{Known, flat_with}
-use Rattle.masm_flat.specs.Lists.{Outside, ListOf, IsList, nothing, instr, exec, call, procref, syscall, branches, loops, repeated, first_export, times, block_digest, digest_items}
+use Rattle.masm_flat.specs.Lists.{Outside, ListOf, ListsOf, IsList, nothing, instr, exec, call, procref, syscall, dynexec, branches, loops, repeated, first_export, times, block_digest, digest_items}
+use Rattle.masm_flat.proofs.DynamicBodies.{DynexecsOnly}
 use Rattle.masm_flat.proofs.Seen.{seen-whole}
 use Rattle.masm_names.proofs.UsesOnly.{UsesOnly}
+use Rattle.masm_names.specs.Uses.{target_names}
 
 module _ {A : Type 0} (v : View A) where
   pub seen-block : (pieces : List (Piece Block)) → seen_as v (block_of pieces) ≡ whole v (seen_pieces (seen_as v) pieces)
@@ -24,35 +26,40 @@ module _ {A : Type 0} (v : View A) where
   seen-times zero xs = refl
   seen-times (suc n) xs = seen-append xs (times n xs) ∙ ap (λ zs. seen_pieces (seen_as v) xs ++ zs) (seen-times n xs)
 
-  -- the given lists and digests are those of these procedures, and the given blocks those of the kernel
-  pub record Fits (procs : List Procedure) (out : Outside) (P R : List ℕ → Type 0) (known : Known A) : Type 0 where
-    pub list : (name : List ℕ) (ys : List (Piece Block)) → P name → ListOf procs out name ys → known.list name ≡ seen_pieces (seen_as v) ys
-    pub digest : (name : List ℕ) (ys : List (Piece Block)) → R name → ListOf procs out name ys
+  -- The given lists and digests are those of the source's procedures, the given blocks those of the kernel, and the block of a
+  -- dynexec is that of its targets.
+  pub record Fits (source : Source) (out : Outside) (P R : List ℕ → Type 0) (D : Type 0) (known : Known A) : Type 0 where
+    pub list : (name : List ℕ) (ys : List (Piece Block)) → P name → ListOf source out name ys → known.list name ≡ seen_pieces (seen_as v) ys
+    pub digest : (name : List ℕ) (ys : List (Piece Block)) → R name → ListOf source out name ys
         → known.digest name ≡ block_digest out.constants (block_of ys)
     pub exported : (name : List ℕ) (block : Block) → first_export out.exports name ≡ Some block → known.exported name ≡ seen_as v block
+    pub dispatch : (lists : List (List (Piece Block))) → D → ListsOf source out (target_names source) lists
+        → known.dispatch ≡ seen_as v (Dyn (blocks_from (map block_of lists)))
 
-  module _ {procs : List Procedure} {out : Outside} (P R : List ℕ → Type 0) (known : Known A) (fits : Fits procs out P R known) where
-    pub flat-is : {locals : ℕ} {b : Body} {xs : List (Piece Block)} → IsList procs out locals b xs → UsesOnly P R b
+  module _ {source : Source} {out : Outside} (P R : List ℕ → Type 0) (D : Type 0) (known : Known A) (fits : Fits source out P R D known) where
+    pub flat-is : {locals : ℕ} {b : Body} {xs : List (Piece Block)} → IsList source out locals b xs → UsesOnly P R b → DynexecsOnly D b
         → flat_with v known locals b ≡ seen_pieces (seen_as v) xs
-    flat-is nothing of = refl
-    flat-is (instr at i {xs} d) of = ap₂ (λ ys zs. ys ++ zs) (sym (seen-operations _)) (flat-is d of) ∙ sym (seen-append _ xs)
-    flat-is (exec at name {ys} {xs} d f) of =
-        ap₂ (λ ys zs. ys ++ zs) (fits.list name ys of.0 d) (flat-is f of.1) ∙ sym (seen-append ys xs)
-    flat-is (call at name {ys} d f) of =
-        ap₂ (λ t zs. Whole (v.call t) ∷ zs) (ap (whole v) (fits.list name ys of.0 d) ∙ sym (seen-block ys)) (flat-is f of.1)
-    flat-is (procref at name {ys} {xs} d f) of =
+    flat-is nothing of on = refl
+    flat-is (instr at i {xs} d) of on = ap₂ (λ ys zs. ys ++ zs) (sym (seen-operations _)) (flat-is d of on) ∙ sym (seen-append _ xs)
+    flat-is (exec at name {ys} {xs} d f) of on =
+        ap₂ (λ ys zs. ys ++ zs) (fits.list name ys of.0 d) (flat-is f of.1 on) ∙ sym (seen-append ys xs)
+    flat-is (call at name {ys} d f) of on =
+        ap₂ (λ t zs. Whole (v.call t) ∷ zs) (ap (whole v) (fits.list name ys of.0 d) ∙ sym (seen-block ys)) (flat-is f of.1 on)
+    flat-is (procref at name {ys} {xs} d f) of on =
         let items = digest_items (block_digest out.constants (block_of ys)) in
         ap₂ (λ us zs. us ++ zs) (ap (λ digest. map Operation (digest_items digest)) (fits.digest name ys of.0 d) ∙ sym (seen-operations items))
-        (flat-is f of.1)
+        (flat-is f of.1 on)
         ∙ sym (seen-append (map Operation items) xs)
-    flat-is (syscall at name {callee} found f) of =
-        ap₂ (λ t zs. Whole (v.syscall t) ∷ zs) (fits.exported name callee found) (flat-is f of)
-    flat-is (branches at {ys} {zs} a e f) of =
+    flat-is (syscall at name {callee} found f) of on =
+        ap₂ (λ t zs. Whole (v.syscall t) ∷ zs) (fits.exported name callee found) (flat-is f of on)
+    flat-is (dynexec at {lists} ds f) of on = ap₂ (λ t zs. Whole t ∷ zs) (fits.dispatch lists on.0 ds) (flat-is f of on.1)
+    flat-is (branches at {ys} {zs} a e f) of on =
         ap₂ (λ t us. t ∷ us)
-        (ap₂ (λ s t. Whole (v.split s t)) (ap (whole v) (flat-is a of.0) ∙ sym (seen-block ys)) (ap (whole v) (flat-is e of.1) ∙ sym (seen-block zs)))
-        (flat-is f of.2)
-    flat-is (loops at {ys} d f) of =
-        ap₂ (λ t us. Whole (v.loop t) ∷ us) (ap (whole v) (flat-is d of.0) ∙ sym (seen-block ys)) (flat-is f of.1)
-    flat-is (repeated at n {ys} {xs} d f) of =
-        ap₂ (λ us ws. us ++ ws) (ap (times n) (flat-is d of.0) ∙ sym (seen-times n ys)) (flat-is f of.1)
+        (ap₂ (λ s t. Whole (v.split s t)) (ap (whole v) (flat-is a of.0 on.0) ∙ sym (seen-block ys))
+        (ap (whole v) (flat-is e of.1 on.1) ∙ sym (seen-block zs)))
+        (flat-is f of.2 on.2)
+    flat-is (loops at {ys} d f) of on =
+        ap₂ (λ t us. Whole (v.loop t) ∷ us) (ap (whole v) (flat-is d of.0 on.0) ∙ sym (seen-block ys)) (flat-is f of.1 on.1)
+    flat-is (repeated at n {ys} {xs} d f) of on =
+        ap₂ (λ us ws. us ++ ws) (ap (times n) (flat-is d of.0 on.0) ∙ sym (seen-times n ys)) (flat-is f of.1 on.1)
         ∙ sym (seen-append (times n ys) xs)

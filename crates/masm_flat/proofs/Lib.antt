@@ -1,4 +1,5 @@
 pub mod Digests
+pub mod DynamicBodies
 pub mod Flattened
 pub mod HasList
 pub mod Levels
@@ -7,5 +8,6 @@ pub mod Placed
 pub mod Seen
 pub mod Served
 pub mod Statements
+pub mod Targets
 pub mod Frames
 pub mod Times

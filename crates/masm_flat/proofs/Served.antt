@@ -1,5 +1,5 @@
 -- What a table serves, use by use.
-use Rattle.std.proofs.Common.{◌≡◌, ◌≢◌, ℕ, ◌+◌, ◌-◌, ◌<◌, ◌≤◌, false, List, [], ◌∷◌, ◌++◌, length, set, get_or, Option, Some, None, Result, Ok, Err, Vec, Global, zero, suc, ◌⊎◌, inl, inr, refl, sym, ap, ap₂, subst, ◌∙◌, append_assoc, arith}
+use Rattle.std.proofs.Common.{◌≡◌, ◌≢◌, ℕ, ◌+◌, ◌-◌, ◌<◌, ◌≤◌, false, List, [], ◌∷◌, ◌++◌, length, set, get_or, Option, Some, None, Result, Ok, Err, Vec, Global, zero, suc, inl, inr, refl, sym, ap, ap₂, subst, ◌∙◌, append_assoc, arith}
 use Rattle.std.proofs.lemmas.Bool.{cases_lt}
 use Rattle.std.proofs.lemmas.Bool.Decides.{eqb_tells}
 use Rattle.std.proofs.lemmas.List.{append-nil, get_or-set_same, get_or-set_other, get_or_past, length-set}
@@ -18,7 +18,7 @@ use Rattle.masm_flat.specs.declared.table.Table.{Table}
 use Rattle.masm_flat.specs.declared.piece.Piece as code
 use Rattle.masm_flat.specs.Blocks.{Piece, as_tree}
 use Rattle.masm_flat.specs.Flattening.{Known, flat_with}
-use Rattle.masm_flat.specs.KnownLists.{list_at, digest_at, tree_at}
+use Rattle.masm_flat.specs.KnownLists.{list_at, digest_at, tree_at, dispatch_in}
 use Rattle.masm_flat.specs.Taking.{left_at, TakesList, Keeps, Serves, ComesTo}
 use Rattle.masm_flat.specs.Views.{pieces_of}
 use Rattle.masm_names.specs.Names.{place_at}
@@ -85,6 +85,7 @@ module _ (scope : Scope) (known : Known Tree) (rest : List Use) where
       → Serves scope known table rest
   serves_none u table none serves = record {
     exported = serves.exported;
+    dispatch = serves.dispatch;
     lists = λ v has kind runs. serves.lists v (later u v has) kind runs;
     digests = λ v has kind refers. serves.digests v (later u v has) kind refers;
     left = λ q. elim (serves.left q) [
@@ -120,6 +121,7 @@ module _ (scope : Scope) (known : Known Tree) (rest : List Use) where
     pub serves_next : Serves scope known new rest
     serves_next = record {
       exported = serves.exported;
+      dispatch = serves.dispatch;
       lists = λ v has kind runs. list_of v has kind runs (own v.name) refl ∙ serves.lists v (later u v has) kind runs;
       digests = λ v has kind refers. serves.digests v (later u v has) kind refers;
       left = λ q. elim (eqb_tells q place) [
@@ -212,6 +214,14 @@ comes_referred scope at name table = record {
   gives = λ known rest serves.
       let u = ref_at at name in
       (serves.digests u (0, omega arith, refl) refl refl, serves_none scope known rest u table refl serves);
+  keeps = keeps_same table;
+}
+
+-- a dynexec, whose tree is known
+pub comes_dispatched : (scope : Scope) (table : Table) (result : Tree) → result ≡ dispatch_in scope.dispatch.now
+    → ComesTo scope [] (λ known. known.dispatch) table table result
+comes_dispatched scope table result is = record {
+  gives = λ known rest serves. (is ∙ sym serves.dispatch, serves);
   keeps = keeps_same table;
 }
 

@@ -1,13 +1,13 @@
 -- The first statement of a body, and those behind it.
-use Rattle.std.proofs.Common.{◌≡◌, ℕ, ◌+◌, List, [], ◌∷◌, ◌++◌, map, refl, sym, ap, subst, ◌∙◌, append_assoc, arith, Vec, Global}
+use Rattle.std.proofs.Common.{◌≡◌, ℕ, ◌+◌, Bool, true, false, List, [], ◌∷◌, ◌++◌, map, is_some, slice_get, ◌||◌, refl, sym, ap, subst, ◌∙◌, append_assoc, arith, Vec, Global}
 use Rattle.std.proofs.lemmas.List.{append-nil}
 use Rattle.masm_tree.specs.declared.tree.Stmt.{Stmt}
 use Rattle.masm_tree.specs.declared.tree.Stmt.TheOpen.{Stmt-F}
 use Rattle.masm_tree.specs.declared.tree.Stmt.TheFolds.{fold_out-Stmt}
 use Rattle.masm_tree.specs.declared.tree.Position.{Position}
-use Rattle.masm_tree.specs.declared.tree.Stmt.TheVariants.{Instr, If, While, Repeat, Exec, Call, Syscall, ProcRef}
+use Rattle.masm_tree.specs.declared.tree.Stmt.TheVariants.{Instr, If, While, Repeat, Exec, Call, Syscall, ProcRef, DynExec}
 use Rattle.masm_tree.specs.Trees.{Body, Empty, Leaf_then, If_then, While_then, Repeat_then}
-use Rattle.masm_tree.proofs.Mirror.{body_of_nil, view-Instr, view-If, view-While, view-Repeat, view-Exec, view-Call, view-Syscall, view-ProcRef}
+use Rattle.masm_tree.proofs.Mirror.{body_of_nil, view-Instr, view-If, view-While, view-Repeat, view-Exec, view-Call, view-Syscall, view-ProcRef, view-DynExec}
 use Rattle.masm_instr.specs.Instructions.{Instruction, HasLocal}
 use Rattle.masm_expand.specs.Expansion.{expansion}
 use Rattle.masm_tree.specs.Views.{joined, add_step, stmt_view, body_of}
@@ -15,7 +15,7 @@ use Rattle.masm_flat.specs.Blocks.{View, Piece, Operation, Whole, whole}
 use Rattle.masm_flat.specs.Flattening.{Known, flat_with}
 use Rattle.masm_tree.specs.Locals.{HasLocals}
 use Rattle.masm_flat.specs.Lists.{times, digest_items}
-use Rattle.masm_names.specs.Uses.{Own, Kernel, use_at, ref_at, uses_of}
+use Rattle.masm_names.specs.Uses.{Own, Kernel, use_at, ref_at, uses_of, dynexecs_of}
 
 pub body_of_more : (s : Stmt) (ss : List Stmt) → body_of (s ∷ ss) ≡ stmt_view s (body_of ss)
 unfolding body_of
@@ -40,6 +40,7 @@ module _ {A : Type 0} (v : View A) (known : Known A) (locals : ℕ) where
   flat-step (Stmt-F.Call at name) rest = refl
   flat-step (Stmt-F.Syscall at name) rest = refl
   flat-step (Stmt-F.ProcRef at name) rest = padded (map Operation (digest_items (known.digest name))) (flat_with v known locals rest)
+  flat-step (Stmt-F.DynExec at) rest = refl
 
   pub flat-first : (s : Stmt) (rest : Body)
       → flat_with v known locals (stmt_view s rest) ≡ flat_with v known locals (stmt_view s Empty) ++ flat_with v known locals rest
@@ -67,6 +68,9 @@ module _ {A : Type 0} (v : View A) (known : Known A) (locals : ℕ) where
       → flat_with v known locals (stmt_view (ProcRef at name) Empty) ≡ map Operation (digest_items (known.digest name))
   flat-ProcRef at name = ap (flat_with v known locals) (view-ProcRef at name Empty) ∙ append-nil _
 
+  pub flat-DynExec : (at : Position) → flat_with v known locals (stmt_view (DynExec at) Empty) ≡ Whole known.dispatch ∷ []
+  flat-DynExec at = ap (flat_with v known locals) (view-DynExec at Empty)
+
   pub flat-If : (at : Position) (xs ys : Vec Stmt Global) → flat_with v known locals (stmt_view (If at xs ys) Empty)
       ≡ Whole (v.split (whole v (flat_with v known locals (body_of xs.items))) (whole v (flat_with v known locals (body_of ys.items)))) ∷ []
   flat-If at xs ys = ap (flat_with v known locals) (view-If at xs ys Empty)
@@ -79,7 +83,7 @@ module _ {A : Type 0} (v : View A) (known : Known A) (locals : ℕ) where
       ≡ times n (flat_with v known locals (body_of xs.items))
   flat-Repeat at n xs = ap (flat_with v known locals) (view-Repeat at n xs Empty) ∙ append-nil _
 
-pub ruleset lists = (flat-Instr, flat-Exec, flat-Call, flat-Syscall, flat-ProcRef, flat-If, flat-While, flat-Repeat)
+pub ruleset lists = (flat-Instr, flat-Exec, flat-Call, flat-Syscall, flat-ProcRef, flat-DynExec, flat-If, flat-While, flat-Repeat)
 
 -- what is done, and then what is left, is the whole
 pub go_on : {A : Type 0} (old new xs more rest total : List A) → new ≡ old ++ more → xs ≡ more ++ rest → old ++ xs ≡ total → new ++ rest ≡ total
@@ -95,6 +99,7 @@ locals-step locals (Stmt-F.Exec at name) rest h = ((tt, tt), h.1)
 locals-step locals (Stmt-F.Call at name) rest h = ((tt, tt), h.1)
 locals-step locals (Stmt-F.Syscall at name) rest h = ((tt, tt), h.1)
 locals-step locals (Stmt-F.ProcRef at name) rest h = ((tt, tt), h.1)
+locals-step locals (Stmt-F.DynExec at) rest h = ((tt, tt), h.1)
 
 pub locals-first : (locals : ℕ) (s : Stmt) (rest : Body) → HasLocals locals (stmt_view s rest)
     → HasLocals locals (stmt_view s Empty) × HasLocals locals rest
@@ -142,6 +147,7 @@ weight-step (Stmt-F.Exec at name) rest = omega arith
 weight-step (Stmt-F.Call at name) rest = omega arith
 weight-step (Stmt-F.Syscall at name) rest = omega arith
 weight-step (Stmt-F.ProcRef at name) rest = omega arith
+weight-step (Stmt-F.DynExec at) rest = omega arith
 
 pub weight-first : (s : Stmt) (rest : Body) → weight (stmt_view s rest) ≡ weight (stmt_view s Empty) + weight rest
 weight-first s rest = each (λ g. (rest : Body) → weight (g rest) ≡ weight (g Empty) + weight rest) weight-step s rest
@@ -171,6 +177,7 @@ uses-step (Stmt-F.Exec at name) rest = refl
 uses-step (Stmt-F.Call at name) rest = refl
 uses-step (Stmt-F.Syscall at name) rest = refl
 uses-step (Stmt-F.ProcRef at name) rest = refl
+uses-step (Stmt-F.DynExec at) rest = refl
 
 pub uses-first : (s : Stmt) (rest : Body) → uses_of (stmt_view s rest) ≡ uses_of (stmt_view s Empty) ++ uses_of rest
 uses-first s rest = each (λ g. (rest : Body) → uses_of (g rest) ≡ uses_of (g Empty) ++ uses_of rest) uses-step s rest
@@ -190,6 +197,9 @@ uses-Syscall at name = ap uses_of (view-Syscall at name Empty)
 pub uses-ProcRef : (at : Position) (name : List ℕ) → uses_of (stmt_view (ProcRef at name) Empty) ≡ ref_at at name ∷ []
 uses-ProcRef at name = ap uses_of (view-ProcRef at name Empty)
 
+pub uses-DynExec : (at : Position) → uses_of (stmt_view (DynExec at) Empty) ≡ []
+uses-DynExec at = ap uses_of (view-DynExec at Empty)
+
 pub uses-If : (at : Position) (xs ys : Vec Stmt Global)
     → uses_of (stmt_view (If at xs ys) Empty) ≡ uses_of (body_of xs.items) ++ uses_of (body_of ys.items)
 uses-If at xs ys = ap uses_of (view-If at xs ys Empty) ∙ ap (λ zs. uses_of (body_of xs.items) ++ zs) (append-nil _)
@@ -199,3 +209,81 @@ uses-While at xs = ap uses_of (view-While at xs Empty) ∙ append-nil _
 
 pub uses-Repeat : (at : Position) (n : ℕ) (xs : Vec Stmt Global) → uses_of (stmt_view (Repeat at n xs) Empty) ≡ uses_of (body_of xs.items)
 uses-Repeat at n xs = ap uses_of (view-Repeat at n xs Empty) ∙ append-nil _
+
+-- the dynexecs of the first statement, and of those behind it
+
+dynexecs-step : (f : Stmt-F (Body → Body)) (rest : Body) → dynexecs_of (add_step f rest) ≡ dynexecs_of (add_step f Empty) ++ dynexecs_of rest
+dynexecs-step (Stmt-F.Instr at instr) rest = refl
+dynexecs-step (Stmt-F.If at first second) rest =
+    let xs = dynexecs_of (joined first.items) in
+    let ys = dynexecs_of (joined second.items) in
+    ap (λ zs. xs ++ (zs ++ dynexecs_of rest)) (sym (append-nil ys)) ∙ sym (append_assoc xs (ys ++ []) (dynexecs_of rest))
+dynexecs-step (Stmt-F.While at turn) rest = ap (λ zs. zs ++ dynexecs_of rest) (sym (append-nil (dynexecs_of (joined turn.items))))
+dynexecs-step (Stmt-F.Repeat at n turn) rest = ap (λ zs. zs ++ dynexecs_of rest) (sym (append-nil (dynexecs_of (joined turn.items))))
+dynexecs-step (Stmt-F.Exec at name) rest = refl
+dynexecs-step (Stmt-F.Call at name) rest = refl
+dynexecs-step (Stmt-F.Syscall at name) rest = refl
+dynexecs-step (Stmt-F.ProcRef at name) rest = refl
+dynexecs-step (Stmt-F.DynExec at) rest = refl
+
+dynexecs-first : (s : Stmt) (rest : Body) → dynexecs_of (stmt_view s rest) ≡ dynexecs_of (stmt_view s Empty) ++ dynexecs_of rest
+dynexecs-first s rest =
+    each (λ g. (rest : Body) → dynexecs_of (g rest) ≡ dynexecs_of (g Empty) ++ dynexecs_of rest) dynexecs-step s rest
+
+-- whether a body has one
+abbrev pub is_dynamic : Body → Bool
+is_dynamic b = is_some (slice_get (dynexecs_of b) 0)
+
+some-append : (xs ys : List Position) → is_some (slice_get (xs ++ ys) 0) ≡ (is_some (slice_get xs 0) || is_some (slice_get ys 0))
+some-append [] ys = refl
+some-append (x ∷ xs) ys = refl
+
+pub dynamic-first : (s : Stmt) (rest : Body) → is_dynamic (stmt_view s rest) ≡ (is_dynamic (stmt_view s Empty) || is_dynamic rest)
+dynamic-first s rest =
+    ap (λ xs. is_some (slice_get xs 0)) (dynexecs-first s rest) ∙ some-append (dynexecs_of (stmt_view s Empty)) (dynexecs_of rest)
+
+some-nil : (xs : List Position) → is_some (slice_get (xs ++ []) 0) ≡ is_some (slice_get xs 0)
+some-nil xs = ap (λ ys. is_some (slice_get ys 0)) (append-nil xs)
+
+pub dynamic-Instr : (at : Position) (i : Instruction) → is_dynamic (stmt_view (Instr at i) Empty) ≡ false
+dynamic-Instr at i = ap is_dynamic (view-Instr at i Empty)
+
+pub dynamic-Exec : (at : Position) (name : List ℕ) → is_dynamic (stmt_view (Exec at name) Empty) ≡ false
+dynamic-Exec at name = ap is_dynamic (view-Exec at name Empty)
+
+pub dynamic-Call : (at : Position) (name : List ℕ) → is_dynamic (stmt_view (Call at name) Empty) ≡ false
+dynamic-Call at name = ap is_dynamic (view-Call at name Empty)
+
+pub dynamic-Syscall : (at : Position) (name : List ℕ) → is_dynamic (stmt_view (Syscall at name) Empty) ≡ false
+dynamic-Syscall at name = ap is_dynamic (view-Syscall at name Empty)
+
+pub dynamic-ProcRef : (at : Position) (name : List ℕ) → is_dynamic (stmt_view (ProcRef at name) Empty) ≡ false
+dynamic-ProcRef at name = ap is_dynamic (view-ProcRef at name Empty)
+
+pub dynamic-DynExec : (at : Position) → is_dynamic (stmt_view (DynExec at) Empty) ≡ true
+dynamic-DynExec at = ap is_dynamic (view-DynExec at Empty)
+
+pub dynamic-If : (at : Position) (xs ys : Vec Stmt Global)
+    → is_dynamic (stmt_view (If at xs ys) Empty) ≡ (is_dynamic (body_of xs.items) || is_dynamic (body_of ys.items))
+dynamic-If at xs ys =
+    ap is_dynamic (view-If at xs ys Empty) ∙ some-append (dynexecs_of (body_of xs.items)) (dynexecs_of (body_of ys.items) ++ [])
+    ∙ ap (λ b. is_dynamic (body_of xs.items) || b) (some-nil (dynexecs_of (body_of ys.items)))
+
+pub dynamic-While : (at : Position) (xs : Vec Stmt Global) → is_dynamic (stmt_view (While at xs) Empty) ≡ is_dynamic (body_of xs.items)
+dynamic-While at xs = ap is_dynamic (view-While at xs Empty) ∙ some-nil (dynexecs_of (body_of xs.items))
+
+pub dynamic-Repeat : (at : Position) (n : ℕ) (xs : Vec Stmt Global)
+    → is_dynamic (stmt_view (Repeat at n xs) Empty) ≡ is_dynamic (body_of xs.items)
+dynamic-Repeat at n xs = ap is_dynamic (view-Repeat at n xs Empty) ∙ some-nil (dynexecs_of (body_of xs.items))
+
+pub ruleset dynamic = (
+  dynamic-Instr,
+  dynamic-Exec,
+  dynamic-Call,
+  dynamic-Syscall,
+  dynamic-ProcRef,
+  dynamic-DynExec,
+  dynamic-If,
+  dynamic-While,
+  dynamic-Repeat,
+)

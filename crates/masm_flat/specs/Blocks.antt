@@ -1,6 +1,6 @@
 -- The block that a list of operations and blocks is (docs/ASSEMBLY.md, "Blocks"): neighbouring operations form spans, and the
 -- blocks are joined two by two. It is said once for whatever a block is seen as: the block itself, its tree, its height.
-use Rattle.std.specs.Prelude.{ℕ, zero, suc, ◌+◌, max, List, [], ◌∷◌, ◌++◌, length, map}
+use Rattle.std.specs.Prelude.{ℕ, zero, suc, ◌+◌, max, List, [], ◌∷◌, ◌++◌, length, map, sum}
 use Rattle.vm_ops.specs.declared.item.Item.{Item}
 use Rattle.vm_ops.specs.declared.op.Op.TheVariants.{Noop}
 use Rattle.vm_ops.specs.Items.{plain_item}
@@ -45,14 +45,26 @@ module _ {A : Type 0} (span : List Item → A) (join : A → A → A) where
   unfoldable pub whole_of : List (Piece A) → A
   whole_of pieces = all_joined (blocks_behind [] pieces)
 
--- a block of a source, whose operations are not packed yet
-pub data Block : Type 0 where
-  Span : (items : List Item) → Block  -- one operation or more
-  Join : (first second : Block) → Block
-  Split : (on_one on_zero : Block) → Block
-  Loop : (body : Block) → Block
-  Call : (callee : Block) → Block
-  Syscall : (callee : Block) → Block
+mutual
+  -- a block of a source, whose operations are not packed yet
+  pub data Block : Type 0 where
+    Span : (items : List Item) → Block  -- one operation or more
+    Join : (first second : Block) → Block
+    Split : (on_one on_zero : Block) → Block
+    Loop : (body : Block) → Block
+    Call : (callee : Block) → Block
+    Syscall : (callee : Block) → Block
+    Dyn : (targets : Blocks) → Block
+
+  -- a list of blocks
+  pub data Blocks : Type 0 where
+    no_block : Blocks
+    block_before : (first : Block) (more : Blocks) → Blocks
+
+-- the blocks of a list
+abbrev pub blocks_from : List Block → Blocks
+blocks_from [] = no_block
+blocks_from (block ∷ blocks) = block_before block (blocks_from blocks)
 
 -- how blocks are seen: what each kind of block is
 pub record View (A : Type 0) : Type 0 where
@@ -62,23 +74,38 @@ pub record View (A : Type 0) : Type 0 where
   pub loop : A → A
   pub call : A → A
   pub syscall : A → A
+  pub dyn : List A → A
 
-abbrev pub seen_as : {A : Type 0} → View A → Block → A
-seen_as v (Span items) = v.span items
-seen_as v (Join first second) = v.join (seen_as v first) (seen_as v second)
-seen_as v (Split on_one on_zero) = v.split (seen_as v on_one) (seen_as v on_zero)
-seen_as v (Loop body) = v.loop (seen_as v body)
-seen_as v (Call callee) = v.call (seen_as v callee)
-seen_as v (Syscall callee) = v.syscall (seen_as v callee)
+abbrev mutual
+  pub seen_as : {A : Type 0} → View A → Block → A
+  seen_as v (Span items) = v.span items
+  seen_as v (Join first second) = v.join (seen_as v first) (seen_as v second)
+  seen_as v (Split on_one on_zero) = v.split (seen_as v on_one) (seen_as v on_zero)
+  seen_as v (Loop body) = v.loop (seen_as v body)
+  seen_as v (Call callee) = v.call (seen_as v callee)
+  seen_as v (Syscall callee) = v.syscall (seen_as v callee)
+  seen_as v (Dyn targets) = v.dyn (seen_all v targets)
+
+  pub seen_all : {A : Type 0} → View A → Blocks → List A
+  seen_all v no_block = []
+  seen_all v (block_before first more) = seen_as v first ∷ seen_all v more
 
 -- what a list of pieces is
 abbrev pub whole : {A : Type 0} → View A → List (Piece A) → A
 whole v pieces = whole_of v.span v.join pieces
 
 abbrev pub as_block : View Block
-as_block = record { span = Span; join = Join; split = Split; loop = Loop; call = Call; syscall = Syscall }
+as_block = record {
+  span = Span;
+  join = Join;
+  split = Split;
+  loop = Loop;
+  call = Call;
+  syscall = Syscall;
+  dyn = λ targets. Dyn (blocks_from targets);
+}
 
--- the block of a list
+-- the block of a list of pieces
 abbrev pub block_of : List (Piece Block) → Block
 block_of pieces = whole as_block pieces
 
@@ -91,12 +118,25 @@ as_tree = record {
   loop = trees.Loop;
   call = trees.Call;
   syscall = trees.Syscall;
+  dyn = λ targets. trees.Dyn (trees.targets_from targets);
 }
 
--- how many operations there are, before packing adds any
+-- how many operations there are, before packing adds any; a dynamic block is one besides those of all its targets
 abbrev pub as_operations : View ℕ
-as_operations =
-    record { span = length; join = λ a b. a + b; split = λ a b. a + b; loop = λ a. a; call = λ a. a; syscall = λ a. a }
+as_operations = record {
+  span = length;
+  join = λ a b. a + b;
+  split = λ a b. a + b;
+  loop = λ a. a;
+  call = λ a. a;
+  syscall = λ a. a;
+  dyn = λ targets. 1 + sum targets;
+}
+
+-- the greatest of numbers, 0 where there is none
+abbrev pub greatest : List ℕ → ℕ
+greatest [] = 0
+greatest (n ∷ ns) = max n (greatest ns)
 
 -- how many blocks stand on the longest path
 abbrev pub as_height : View ℕ
@@ -107,6 +147,7 @@ as_height = record {
   loop = λ a. 1 + a;
   call = λ a. 1 + a;
   syscall = λ a. 1 + a;
+  dyn = λ targets. 1 + greatest targets;
 }
 
 -- a list whose blocks are seen as something else

@@ -5,7 +5,7 @@ use Rattle.block_tree.specs.Trees.{Tree}
 use Rattle.masm_flat.specs.declared.known.Scope.{Scope}
 use Rattle.masm_flat.specs.declared.table.Table.{Table}
 use Rattle.masm_flat.specs.Flattening.{Known}
-use Rattle.masm_flat.specs.KnownLists.{list_at, digest_at, tree_at}
+use Rattle.masm_flat.specs.KnownLists.{list_at, digest_at, tree_at, dispatch_in}
 use Rattle.masm_names.specs.Names.{place_at}
 use Rattle.masm_names.specs.UsedPlaces.{places_used, times_among}
 use Rattle.masm_names.specs.Uses.{Use, Own}
@@ -35,6 +35,7 @@ pub record Keeps (old new : Table) : Type 0 where
 -- them or stays.
 pub record Serves (scope : Scope) (known : Known Tree) (table : Table) (uses : List Use) : Type 0 where
   pub exported : (name : List ℕ) → known.exported name ≡ tree_at scope.outside.now.exports.now name
+  pub dispatch : known.dispatch ≡ dispatch_in scope.dispatch.now
   pub lists : (u : Use) → Contains uses u → u.kind ≡ Own → u.refers ≡ false
       → list_at table.lists.items (place_at scope.names.now u.name) ≡ known.list u.name
   pub digests : (u : Use) → Contains uses u → u.kind ≡ Own → u.refers ≡ true

@@ -125,6 +125,7 @@ fn add_statement(
         Stmt::Call(_, name) => add_tree(alloc, called(alloc, scope, table, name)?, out),
         Stmt::Syscall(_, name) => add_tree(alloc, kernel_called(alloc, scope, name)?, out),
         Stmt::ProcRef(_, name) => add_reference(scope, name, out),
+        Stmt::DynExec(_) => add_tree(alloc, scope.dispatched(alloc)?, out),
         Stmt::If(_, first, second) => {
             let on_one = list_of(alloc, scope, table, locals, first)?;
             let on_zero = list_of(alloc, scope, table, locals, second)?;

@@ -1,6 +1,6 @@
 ghost use Rattle.std.specs.Prelude.{◌≡◌, Some, IfOk};
 ghost use Rattle.block_tree.specs.TreeView.{tree_of};
-ghost use Rattle.masm_flat.specs.KnownLists.{tree_at, digest_at};
+ghost use Rattle.masm_flat.specs.KnownLists.{tree_at, digest_at, dispatch_in};
 ghost use Rattle.masm_names.specs.Names.{place_at};
 
 use crate::outside::Outside;
@@ -28,6 +28,8 @@ pub struct Scope<'a> {
     pub outside: &'a Outside<'a>,
     /// The digests of the procedures' trees that are known, by their places.
     pub digests: &'a [Word],
+    /// The tree of a dynexec, once it is made.
+    pub dispatch: &'a Option<Tree>,
 }
 
 impl<'a> Scope<'a> {
@@ -38,6 +40,17 @@ impl<'a> Scope<'a> {
     {
         match self.outside.first(name) {
             Some(proc) => copy(alloc, &proc.tree),
+            None => Ok(Tree::Opaque(Word::ZERO)),
+        }
+    }
+
+    /// A copy of the tree of a dynexec. Before it is made it is a block of which only a digest of zeros
+    /// is known.
+    pub fn dispatched(&self, alloc: Global) -> Result<Tree, Memory>
+        ensures { IfOk result (λ tree. tree_of tree ≡ dispatch_in self.now.dispatch.now) }
+    {
+        match self.dispatch {
+            Some(tree) => copy(alloc, tree),
             None => Ok(Tree::Opaque(Word::ZERO)),
         }
     }

@@ -3,6 +3,8 @@
 #![tactic(auto)]
 
 mod appending;
+mod dispatch;
+mod dynexecs;
 mod extent;
 mod flattening;
 mod joining;
@@ -12,7 +14,8 @@ mod piece;
 mod procedure;
 mod table;
 
-pub use appending::add_copies;
+pub use dispatch::{copied_tree, dispatch_tree};
+pub use dynexecs::has_dynexec;
 pub use extent::Extent;
 pub use joining::tree_of_list;
 pub use known::Scope;

@@ -1,5 +1,5 @@
 -- The places of the source's own procedures to which the uses of a row lead.
-use Rattle.std.proofs.Common.{◌≡◌, ℕ, zero, suc, Bool, true, false, Option, Some, None, List, [], ◌∷◌, map, get_or, ◌⊎◌, inl, inr, refl, sym, ap, subst, ◌∙◌, arith}
+use Rattle.std.proofs.Common.{◌≡◌, ℕ, zero, suc, Bool, true, false, Option, Some, None, List, [], ◌∷◌, map, get_or, ◌⊎◌, inl, inr, refl, sym, ap, subst, ◌∙◌, unwrap_or, arith}
 use Rattle.std.proofs.lemmas.List.Elements.{Contains-append_right}
 use Rattle.std.specs.List.{Contains, cons_option}
 use Rattle.graphs.specs.Graph.{Edge}
@@ -128,3 +128,36 @@ pub goes_with : (wanted : Bool) (rows : List (List Link)) (a b : ℕ) (link : Li
     → link.target ≡ targets.Own b → Edge (map (places_with wanted) rows) a b
 goes_with wanted rows a b link has kind leads =
     subst (λ r. Contains r b) (sym (row_of_with wanted rows a)) (own_in_with wanted (get_or rows a []) link b has kind leads)
+
+-- a use of one kind in a row leads to a place
+abbrev pub HasLink : Bool → List Link → ℕ → Type 0
+HasLink wanted row b = (link : Link) × Contains row link × (link.refers ≡ wanted) × (link.target ≡ targets.Own b)
+
+place_target : (t : Target) (q : ℕ) → own_place t ≡ Some q → t ≡ targets.Own q
+place_target (targets.Own place) q e = ap (λ o. targets.Own (unwrap_or o q)) e
+place_target targets.Kernel q e = cc
+place_target targets.Unknown q e = cc
+place_target targets.NotInKernel q e = cc
+
+-- the places of the uses of one kind are those to which they lead
+pub with_link : (wanted : Bool) (row : List Link) (b : ℕ) → Contains (places_with wanted row) b → HasLink wanted row b
+with_link wanted [] b h = absurd (omega (arith, h.1))
+with_link wanted (link ∷ row) b h =
+    by (λ k. let found = with_link wanted row b k in (found.0, cons_later link row found.0 found.1, found.2, found.3)) wanted link.refers
+    (own_place link.target) refl refl refl h
+  where
+    here : (Contains (places_with wanted row) b → HasLink wanted (link ∷ row) b) → (place : ℕ) → link.refers ≡ wanted
+        → own_place link.target ≡ Some place → Contains (place ∷ places_with wanted row) b → HasLink wanted (link ∷ row) b
+    here tail place kind leads k = elim (cons_cases place (places_with wanted row) b k) [
+      | inl same ↦ (link, cons_here link row, kind, place_target link.target b (leads ∙ ap Some same))
+      | inr later ↦ tail later
+    ]
+
+    by : (Contains (places_with wanted row) b → HasLink wanted (link ∷ row) b) → (w r : Bool) (o : Option ℕ) → wanted ≡ w → link.refers ≡ r
+        → own_place link.target ≡ o → Contains (cons_option (place_if w r o) (places_with wanted row)) b → HasLink wanted (link ∷ row) b
+    by tail true true (Some place) is_w is_r leads k = here tail place (is_r ∙ sym is_w) leads k
+    by tail false false (Some place) is_w is_r leads k = here tail place (is_r ∙ sym is_w) leads k
+    by tail true true None is_w is_r leads k = tail k
+    by tail false false None is_w is_r leads k = tail k
+    by tail true false o is_w is_r leads k = tail k
+    by tail false true o is_w is_r leads k = tail k

@@ -5,10 +5,10 @@ use Rattle.masm_instr.specs.Instructions.{Instruction}
 use Rattle.masm_tree.specs.declared.terminal.Leaf.TheVariants as leaves
 use Rattle.masm_tree.specs.declared.tree.Position.{Position}
 use Rattle.masm_tree.specs.declared.tree.Stmt.{Stmt}
-use Rattle.masm_tree.specs.declared.tree.Stmt.TheVariants.{Instr, If, While, Repeat, Exec, Call, Syscall, ProcRef}
+use Rattle.masm_tree.specs.declared.tree.Stmt.TheVariants.{Instr, If, While, Repeat, Exec, Call, Syscall, ProcRef, DynExec}
 use Rattle.masm_tree.specs.Trees.{Body, Empty, Leaf_then, If_then, While_then, Repeat_then, append}
 use Rattle.masm_tree.specs.Views.{stmt_view, body_of}
-use Rattle.masm_tree.proofs.Mirror.{body_of_nil, body_of_push, view-Instr, view-If, view-While, view-Repeat, view-Exec, view-Call, view-Syscall, view-ProcRef}
+use Rattle.masm_tree.proofs.Mirror.{body_of_nil, body_of_push, view-Instr, view-If, view-While, view-Repeat, view-Exec, view-Call, view-Syscall, view-ProcRef, view-DynExec}
 use Rattle.masm_names.specs.Uses.{Use, Own, Kernel, use_at, ref_at, uses_of}
 
 uses_of-append : (b c : Body) → uses_of (append b c) ≡ uses_of b ++ uses_of c
@@ -18,6 +18,7 @@ uses_of-append (Leaf_then at (leaves.Exec name) rest) c = ap (λ us. use_at at O
 uses_of-append (Leaf_then at (leaves.Call name) rest) c = ap (λ us. use_at at Own name ∷ us) (uses_of-append rest c)
 uses_of-append (Leaf_then at (leaves.Syscall name) rest) c = ap (λ us. use_at at Kernel name ∷ us) (uses_of-append rest c)
 uses_of-append (Leaf_then at (leaves.ProcRef name) rest) c = ap (λ us. ref_at at name ∷ us) (uses_of-append rest c)
+uses_of-append (Leaf_then at leaves.DynExec rest) c = uses_of-append rest c
 uses_of-append (If_then at first second rest) c =
     rw (uses_of-append rest c, ← append_assoc (uses_of second) (uses_of rest) (uses_of c)) (sym (append_assoc (uses_of first) _ (uses_of c)))
 uses_of-append (While_then at turn rest) c = rw (uses_of-append rest c) (sym (append_assoc (uses_of turn) (uses_of rest) (uses_of c)))
@@ -48,6 +49,9 @@ uses-Syscall at name = ap uses_of (view-Syscall at name Empty)
 pub uses-ProcRef : (at : Position) (name : List ℕ) → uses_of (stmt_view (ProcRef at name) Empty) ≡ ref_at at name ∷ []
 uses-ProcRef at name = ap uses_of (view-ProcRef at name Empty)
 
+pub uses-DynExec : (at : Position) → uses_of (stmt_view (DynExec at) Empty) ≡ []
+uses-DynExec at = ap uses_of (view-DynExec at Empty)
+
 pub uses-If : (at : Position) (v w : Vec Stmt Global)
     → uses_of (stmt_view (If at v w) Empty) ≡ uses_of (body_of v.items) ++ uses_of (body_of w.items)
 uses-If at v w = ap uses_of (view-If at v w Empty) ∙ ap (λ us. uses_of (body_of v.items) ++ us) (append-nil (uses_of (body_of w.items)))
@@ -58,7 +62,7 @@ uses-While at v = ap uses_of (view-While at v Empty) ∙ append-nil (uses_of (bo
 pub uses-Repeat : (at : Position) (n : ℕ) (v : Vec Stmt Global) → uses_of (stmt_view (Repeat at n v) Empty) ≡ uses_of (body_of v.items)
 uses-Repeat at n v = ap uses_of (view-Repeat at n v Empty) ∙ append-nil (uses_of (body_of v.items))
 
-pub ruleset views = (uses-Instr, uses-Exec, uses-Call, uses-Syscall, uses-ProcRef, uses-If, uses-While, uses-Repeat)
+pub ruleset views = (uses-Instr, uses-Exec, uses-Call, uses-Syscall, uses-ProcRef, uses-DynExec, uses-If, uses-While, uses-Repeat)
 
 -- A list to which the uses are added, in any form.
 module _ {X : Type 0} (f : Use → X) where
@@ -80,6 +84,9 @@ module _ {X : Type 0} (f : Use → X) where
 
   pub added-Instr : (at : Position) (instr : Instruction) (out : List X) → out ≡ out ++ map f (uses_of (stmt_view (Instr at instr) Empty))
   added-Instr at instr out = rw (uses-Instr at instr) (sym (append-nil out))
+
+  pub added-DynExec : (at : Position) (out : List X) → out ≡ out ++ map f (uses_of (stmt_view (DynExec at) Empty))
+  added-DynExec at out = rw (uses-DynExec at) (sym (append-nil out))
 
   pub added-If : (at : Position) (v w : Vec Stmt Global) (xs ys : List Stmt) (first second third : List X) → xs ≡ v.items → ys ≡ w.items
       → second ≡ first ++ map f (uses_of (body_of xs)) → third ≡ second ++ map f (uses_of (body_of ys))

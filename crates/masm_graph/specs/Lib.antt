@@ -1,2 +1,3 @@
+pub mod Dynexecs
 pub mod Links
 pub mod Users

@@ -1,6 +1,6 @@
 -- Where the uses of procedures lead.
-use Rattle.std.specs.Prelude.{ℕ, Bool, true, false, List, [], map, Option, Some, None}
-use Rattle.std.specs.List.{filter_map}
+use Rattle.std.specs.Prelude.{ℕ, Bool, true, false, List, [], ◌++◌, map, Option, Some, None}
+use Rattle.std.specs.List.{filter_map, flat_map}
 use Rattle.masm_tree.specs.declared.tree.Proc.{Proc}
 use Rattle.masm_tree.specs.Views.{body_of}
 use Rattle.masm_graph.specs.declared.links.Link.{Link}
@@ -53,3 +53,7 @@ place_if false true place = None
 -- the places to which the procrefs of a row lead, or those to which its other uses do
 abbrev pub places_with : Bool → List Link → List ℕ
 places_with wanted row = filter_map (λ link. place_if wanted link.refers (own_place link.target)) row
+
+-- the places to which the procrefs of these rows and of the last one lead, one for each
+abbrev pub places_referred : List (List Link) → List Link → List ℕ
+places_referred rows main = flat_map (places_with true) rows ++ places_with true main

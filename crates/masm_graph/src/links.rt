@@ -114,6 +114,7 @@ fn add_statement(
                 Link::reference(*at, own_target(names, name.as_slice())),
             )
         }
+        Stmt::DynExec(_) => Ok(()),
     }
 }
 

@@ -22,6 +22,7 @@ use Rattle.masm_names.specs.Least.{IsLeast, FindsLeast}
 use Rattle.masm_uses.specs.Plans.{IsWanted, IsReferred}
 use Rattle.masm_uses.specs.Plans as plans
 use Rattle.masm_names.specs.Naming.{Dangles, Doubles, IsClosed, exported_of}
+use Rattle.masm_names.specs.Uses.{dynexecs_of}
 use Rattle.masm_names.proofs.LeastLemmas.{Either, FindsLeast-same, FindsLeast-earlier}
 use Rattle.masm_uses.proofs.UsedLemmas.{unmapped, mapped, contains_at}
 use Rattle.masm_flat.specs.declared.outside.KernelProc.{KernelProc}
@@ -30,10 +31,11 @@ use Rattle.masm_flat.specs.declared.extent.Extent.{Extent}
 use Rattle.masm_size.specs.declared.shape.Size as shape
 use Rattle.masm_flat.specs.Blocks.{Block, Piece, seen_as, seen_pieces, block_of, as_tree, as_operations, whole}
 use Rattle.masm_flat.specs.Flattening.{flat_with}
-use Rattle.masm_flat.specs.KnownLists.{list_at, lists_known}
-use Rattle.masm_size.specs.KnownSizes.{size_at, sizes_known}
+use Rattle.masm_flat.specs.KnownLists.{dispatch_in, list_at, lists_known}
+use Rattle.masm_size.specs.KnownSizes.{dispatch_extent, size_at, sizes_known}
 use Rattle.masm_flat.specs.Lists.{Exported, Outside, IsList, IsBlockOf, with_locals}
 use Rattle.masm_size.specs.Sizes.{as_extent, extent_of, size_of, procedure_size}
+use Rattle.masm_flat.proofs.DynamicBodies.{dynexecs_only}
 use Rattle.masm_flat.proofs.Flattened.{seen-block}
 use Rattle.masm_size.proofs.Sized.{operations-block, procedure-sized}
 use Rattle.masm_link.specs.declared.linking.Linked.{Linked}
@@ -43,8 +45,9 @@ use Rattle.masm_tables.specs.Kernels.{IsExport, AreExports, IsOutside, names_in,
 use Rattle.masm_tables.specs.Limits.{ExceedsLimit}
 use Rattle.masm_link.specs.Measures.{IsMeasured, AreReady, IsLinked}
 use Rattle.masm_link.specs.Refusals.{IsTooLarge, too_many_operations, Oversized, RefusesAt, double, dangling, oversized}
-use Rattle.masm_tables.specs.Tables.{AreLists, AreDigests}
+use Rattle.masm_tables.specs.Tables.{AreLists, AreDigests, IsDispatch}
 use Rattle.masm_tables.proofs.Closed.{Behind, uses_main, uses_wanted}
+use Rattle.masm_tables.proofs.Dispatches.{IsDispatchExtent, dispatch_extent_is, target_within}
 use Rattle.masm_tables.proofs.Exist.{list_of_procedure, list_of_main}
 use Rattle.masm_tables.proofs.Finding.{names_same}
 use Rattle.masm_tables.proofs.Known.{has_operations, sizes_fit, listed-is}
@@ -94,13 +97,13 @@ got_last : {X : Type 0} (xs : List X) (x : X) → slice_get (xs ++ x ∷ []) (le
 got_last [] x = refl
 got_last (z ∷ xs) x = got_last xs x
 
-module _ (procs : List Procedure) (out : Outside) (sizes : List shape.Size) (lists : List (Vec piece.Piece Global)) where
+module _ (source : Source) (out : Outside) (sizes : List shape.Size) (lists : List (Vec piece.Piece Global)) where
   abbrev IsOwn : Procedure → Exported → Type 0
-  IsOwn p e = (e.name ≡ p.name) × IsBlockOf procs out p e.block
+  IsOwn p e = (e.name ≡ p.name) × IsBlockOf source out p e.block
 
   abbrev IsReady : ℕ → Procedure → Type 0
   IsReady place p =
-      (block : Block) × IsBlockOf procs out p block × (whole as_tree (list_at lists (Some place)) ≡ seen_as as_tree block)
+      (block : Block) × IsBlockOf source out p block × (whole as_tree (list_at lists (Some place)) ≡ seen_as as_tree block)
       × (extent_of (size_at sizes (Some place)) ≡ seen_as as_extent block) × (1 ≤ seen_as as_operations block)
 
   one_more : (front : List Proc) (p : Proc) (b : Bool) → p.exported ≡ b
@@ -143,8 +146,12 @@ module _ (ast : Ast) (kernel : List KernelProc) (m : Measured) (is : IsMeasured 
   abbrev source : Source
   source = source_of ast
 
+  -- the extent of a dynexec's block between begin and end
+  abbrev dispatched : Extent
+  dispatched = dispatch_extent m.sizes.items m.targets.items
+
   abbrev HasListOf : Procedure → Type 0
-  HasListOf p = (xs : List (Piece Block)) × IsList source.procs out p.locals p.body xs
+  HasListOf p = (xs : List (Piece Block)) × IsList source out p.locals p.body xs
 
   list_at_place : (place : ℕ) (p : Procedure) → slice_get source.procs place ≡ Some p → HasListOf p
   list_at_place = list_of_procedure source (names_in kernel) is.closed out (names_same out.exports kernel lies.exports) m.order.items is.order
@@ -162,21 +169,25 @@ module _ (ast : Ast) (kernel : List KernelProc) (m : Measured) (is : IsMeasured 
       ap extent_of (is.sizes out lies place p list.0 (is.order.all place (slice_get_within source.procs place p here)) here list.1)
 
   main_extent : (p : Procedure) (main : source.main ≡ Some p)
-      → extent_of (procedure_size (sizes_known m.names m.sizes.items kernel) p.locals p.body) ≡
+      → extent_of (procedure_size (sizes_known m.names m.sizes.items dispatched kernel) p.locals p.body) ≡
       the_extent p (list_of_body p main).0
   main_extent p main =
       let list = list_of_body p main in
-      ap extent_of (procedure-sized (has_operations source out kernel lies.exports m.names is.names) lies.count (Behind source.procs (Contains m.order.items)) (Behind source.procs (Contains m.order.items))
-      (sizes_known m.names m.sizes.items kernel)
-      (sizes_fit source out kernel lies.exports m.names is.names m.order.items m.sizes.items (is.sizes out lies)) p list.0 list.1
-      (uses_main source (names_in kernel) is.closed m.order.items is.order p main))
+      let some = has_operations source out kernel lies.exports m.names is.names in
+      let D = IsDispatchExtent source out dispatched in
+      let done = Behind source.procs (Contains m.order.items) in
+      ap extent_of (procedure-sized some lies.count done done D (sizes_known m.names m.sizes.items dispatched kernel)
+      (sizes_fit source out kernel lies.exports m.names is.names m.order.items m.sizes.items dispatched (is.sizes out lies)) p list.0 list.1
+      (uses_main source (names_in kernel) is.closed m.order.items is.order p main)
+      (dynexecs_only D p.body (λ at has. dispatch_extent_is source m.targets.items is.targets out some m.order.items m.sizes.items
+      (is.sizes out lies) (λ j target. is.order.all j (target_within source j target)))))
 
   large_procs : (first : Option Refusal)
       → FindsLeast (Among (λ place p. ExceedsLimit (position_of (procedure_of p)) (extent_of (size_at m.sizes.items (Some place)))) ast.procs.items) first
-      → FindsLeast (Among (λ place p at cause. IsTooLarge source.procs out p at cause) source.procs) first
+      → FindsLeast (Among (λ place p at cause. IsTooLarge source out p at cause) source.procs) first
   large_procs first =
       FindsLeast-fewer (Among (λ place p. ExceedsLimit (position_of (procedure_of p)) (extent_of (size_at m.sizes.items (Some place)))) ast.procs.items)
-      (Among (λ place p at cause. IsTooLarge source.procs out p at cause) source.procs) first
+      (Among (λ place p at cause. IsTooLarge source out p at cause) source.procs) first
       (λ at cause h.
       let p = procedure_of h.1.0 in
       let here = mapped procedure_of ast.procs.items h.0 h.1.0 h.1.1 in
@@ -185,7 +196,7 @@ module _ (ast : Ast) (kernel : List KernelProc) (m : Measured) (is : IsMeasured 
         (
           p,
           here,
-          over_large source.procs out (has_operations source out kernel lies.exports m.names is.names) p list.0 list.1 at cause
+          over_large source out (has_operations source out kernel lies.exports m.names is.names) p list.0 list.1 at cause
               (subst (λ e. ExceedsLimit (position_of p) e at cause) (extent_is h.0 p here) h.1.2),
         ),
       ))
@@ -194,16 +205,16 @@ module _ (ast : Ast) (kernel : List KernelProc) (m : Measured) (is : IsMeasured 
       let p = procedure_of found.0 in
       let here = mapped procedure_of ast.procs.items h.0 found.0 found.1 in
       let list = list_at_place h.0 p here in
-      let over = large_over source.procs out (has_operations source out kernel lies.exports m.names is.names) p list.0 list.1 at cause
-      (subst (λ q. IsTooLarge source.procs out q at cause) found.2 h.1.2) in
+      let over = large_over source out (has_operations source out kernel lies.exports m.names is.names) p list.0 list.1 at cause
+      (subst (λ q. IsTooLarge source out q at cause) found.2 h.1.2) in
       (over.0, (h.0, (found.0, found.1, subst (λ e. ExceedsLimit (position_of p) e at over.0) (sym (extent_is h.0 p here)) over.1)), over.2))
 
   abbrev LargeMain : Position → LinkCause → Type 0
-  LargeMain at cause = (p : Procedure) × (source.main ≡ Some p) × IsTooLarge source.procs out p at cause
+  LargeMain at cause = (p : Procedure) × (source.main ≡ Some p) × IsTooLarge source out p at cause
 
   large_main : (main : Option Proc) → ast.main ≡ main → (first : Option Refusal)
       → MatchOption main (first ≡ None) (λ p. FindsLeast (ExceedsLimit (position_of (procedure_of p)) (extent_of (procedure_size
-      (sizes_known m.names m.sizes.items kernel) p.locals (body_of p.body.items)))) first)
+      (sizes_known m.names m.sizes.items dispatched kernel) p.locals (body_of p.body.items)))) first)
       → FindsLeast LargeMain first
   large_main None same first e =
       subst (FindsLeast LargeMain) (sym e) (λ at cause h. let other = ap (option_map procedure_of) same in let is_main = h.1 in cc)
@@ -211,16 +222,16 @@ module _ (ast : Ast) (kernel : List KernelProc) (m : Measured) (is : IsMeasured 
       let p = procedure_of q in
       let main : source.main ≡ Some p = ap (option_map procedure_of) same in
       let list = list_of_body p main in
-      FindsLeast-fewer (ExceedsLimit (position_of p) (extent_of (procedure_size (sizes_known m.names m.sizes.items kernel) p.locals p.body))) LargeMain first
+      FindsLeast-fewer (ExceedsLimit (position_of p) (extent_of (procedure_size (sizes_known m.names m.sizes.items dispatched kernel) p.locals p.body))) LargeMain first
       (λ at cause h. (
         p,
         main,
-        over_large source.procs out (has_operations source out kernel lies.exports m.names is.names) p list.0 list.1 at cause
+        over_large source out (has_operations source out kernel lies.exports m.names is.names) p list.0 list.1 at cause
             (subst (λ e. ExceedsLimit (position_of p) e at cause) (main_extent p main) h),
       ))
       (λ at cause h.
-      let over = large_over source.procs out (has_operations source out kernel lies.exports m.names is.names) p list.0 list.1 at cause
-      (subst (λ r. IsTooLarge source.procs out r at cause) (same_some h.0 p (sym h.1 ∙ main)) h.2) in
+      let over = large_over source out (has_operations source out kernel lies.exports m.names is.names) p list.0 list.1 at cause
+      (subst (λ r. IsTooLarge source out r at cause) (same_some h.0 p (sym h.1 ∙ main)) h.2) in
       (over.0, subst (λ e. ExceedsLimit (position_of p) e at over.0) (sym (main_extent p main)) over.1, over.2))
       a
     where
@@ -230,13 +241,15 @@ module _ (ast : Ast) (kernel : List KernelProc) (m : Measured) (is : IsMeasured 
   pub FindsLeast-large : (procs main : Option Refusal)
       → FindsLeast (Among (λ place p. ExceedsLimit (position_of (procedure_of p)) (extent_of (size_at m.sizes.items (Some place)))) ast.procs.items) procs
       → MatchOption ast.main (main ≡ None) (λ p. FindsLeast (ExceedsLimit (position_of (procedure_of p)) (extent_of (procedure_size
-      (sizes_known m.names m.sizes.items kernel) p.locals (body_of p.body.items)))) main)
+      (sizes_known m.names m.sizes.items dispatched kernel) p.locals (body_of p.body.items)))) main)
       → FindsLeast (Oversized source out) (earlier procs main)
   FindsLeast-large procs main p q = FindsLeast-oversized source out procs main (large_procs procs p) (large_main ast.main refl main q)
 
   -- the tables tell each procedure's block, where not_so tree is too large
   module _ (clean : (at : Position) (cause : LinkCause) → ¬ (RefusesAt source out at cause)) (lists : List (Vec piece.Piece Global))
-      (known : AreLists source out lists) (digests : List (List ℕ)) (told : AreDigests source out digests) where
+      (known : AreLists source out lists) (digests : List (List ℕ)) (told : AreDigests source out digests)
+      (dispatch : Option code.Tree)
+      (runs : (p : Procedure) (at : Position) → source.main ≡ Some p → Contains (dynexecs_of p.body) at → IsDispatch source out (dispatch_in dispatch)) where
     ready : AreReady source out m.sizes.items lists
     ready place p here is_exported =
         let list = list_at_place place p here in
@@ -246,15 +259,15 @@ module _ (ast : Ast) (kernel : List KernelProc) (m : Measured) (is : IsMeasured 
         let tree = ap (whole as_tree) (known place (plans.exported p here is_exported) p list.0 here list.1) ∙ sym
         (seen-block as_tree zs) in (
           block,
-          the_block_is source.procs out some p list.0 list.1,
+          the_block_is source out some p list.0 list.1,
           tree,
           extent_is place p here
               ∙ same_extent place p here,
-          some_operation source.procs out some p list.0 list.1,
+          some_operation source out some p list.0 list.1,
         )
       where
         in_bodies : (place : ℕ) (p : Procedure) → slice_get source.procs place ≡ Some p → (at : Position) (cause : LinkCause)
-            → IsTooLarge source.procs out p at cause
+            → IsTooLarge source out p at cause
             → Oversized source out at cause
         in_bodies place p here at cause large =
             let there = Contains-append_left source.procs (option_to_list source.main) p (contains_at source.procs place p here) in
@@ -265,42 +278,42 @@ module _ (ast : Ast) (kernel : List KernelProc) (m : Measured) (is : IsMeasured 
         same_extent place p here =
             let list = list_at_place place p here in
             let some = has_operations source out kernel lies.exports m.names is.names in
-            let agree = extents_agree source.procs out some p list.0 list.1 in
+            let agree = extents_agree source out some p list.0 list.1 in
             let block = block_of (with_locals p.locals list.0) in
             let counted = operations-block block in
             let few : seen_as as_operations block ≤ 524288 = elim (cases_lt 524288 (seen_as as_operations block)) [
               | inl more ↦ absurd (clean (position_of p) causes.TooManyOps (oversized (closed_names source out kernel lies.exports is.closed)
                   (in_bodies place p here (position_of p) causes.TooManyOps (too_many_operations block
-                  (the_block_is source.procs out some p list.0 list.1) more))))
+                  (the_block_is source out some p list.0 list.1) more))))
               | inr few ↦ few
             ] in
             let same = agree.operations in
             ap₂ (λ o h. record { operations = o; height = h }) agree.operations (agree.height (omega arith))
 
     pub built_exports : (made : List KernelProc) → AreBuilt m.sizes.items lists ast.procs.items made
-        → (own : List Exported) × AllZip (λ p e. (e.name ≡ p.name) × IsBlockOf source.procs out p e.block)
+        → (own : List Exported) × AllZip (λ p e. (e.name ≡ p.name) × IsBlockOf source out p e.block)
         (exported_of source.procs) own × AreExports own made
-    built_exports made built = own_of source.procs out m.sizes.items lists built (λ place p here is_exported. ready place (procedure_of p)
+    built_exports made built = own_of source out m.sizes.items lists built (λ place p here is_exported. ready place (procedure_of p)
         (mapped procedure_of ast.procs.items place p here) is_exported)
 
     -- the tree of the main body
     pub main_block : (main : Option code.Tree)
         → option_map tree_of main ≡ option_map (λ p. whole as_tree (with_locals p.locals (flat_with as_tree
-        (lists_known m.names lists digests kernel) p.locals (body_of p.body.items)))) ast.main
-        → (block : Option Block) × MatchOption source.main (block ≡ None) (λ p. (b : Block) × (block ≡ Some b) × IsBlockOf source.procs out p b)
+        (lists_known m.names lists digests dispatch kernel) p.locals (body_of p.body.items)))) ast.main
+        → (block : Option Block) × MatchOption source.main (block ≡ None) (λ p. (b : Block) × (block ≡ Some b) × IsBlockOf source out p b)
         × (option_map tree_of main ≡ option_map (seen_as as_tree) block)
     main_block main e = by ast.main refl e
       where
         by : (o : Option Proc) → ast.main ≡ o
             → option_map tree_of main ≡ option_map (λ p. whole as_tree (with_locals p.locals (flat_with as_tree
-            (lists_known m.names lists digests kernel) p.locals (body_of p.body.items)))) o
+            (lists_known m.names lists digests dispatch kernel) p.locals (body_of p.body.items)))) o
             → (block : Option Block) × MatchOption (option_map procedure_of ast.main) (block ≡ None) (λ p. (b : Block) ×
-            (block ≡ Some b) × IsBlockOf source.procs out p b)
+            (block ≡ Some b) × IsBlockOf source out p b)
             × (option_map tree_of main ≡ option_map (seen_as as_tree) block)
         by None there e' = (
           no_block,
           subst (λ o. MatchOption (option_map procedure_of o) (no_block ≡ no_block) (λ p. (b : Block) ×
-              (no_block ≡ Some b) × IsBlockOf source.procs out p b)) (sym there) refl,
+              (no_block ≡ Some b) × IsBlockOf source out p b)) (sym there) refl,
           e',
         )
         by (Some q) there e' =
@@ -311,15 +324,16 @@ module _ (ast : Ast) (kernel : List KernelProc) (m : Measured) (is : IsMeasured 
             let block = block_of zs in (
               Some block,
               subst (λ o. MatchOption (option_map procedure_of o) (Some block ≡ None) (λ r. (b : Block) ×
-                  (Some block ≡ Some b) × IsBlockOf source.procs out r b)) (sym there)
-                  (block, refl, the_block_is source.procs out (has_operations source out kernel lies.exports m.names is.names) p list.0 list.1),
-              e' ∙ ap Some (ap (whole as_tree) (listed-is source out kernel lies.exports m.names is.names (IsWanted source) (IsReferred source) lists digests known told p list.0 list.1
-                  (uses_wanted source (names_in kernel) is.closed p main_is)) ∙ sym (seen-block as_tree zs)),
+                  (Some block ≡ Some b) × IsBlockOf source out r b)) (sym there)
+                  (block, refl, the_block_is source out (has_operations source out kernel lies.exports m.names is.names) p list.0 list.1),
+              e' ∙ ap Some (ap (whole as_tree) (listed-is source out kernel lies.exports m.names is.names (IsWanted source) (IsReferred source) lists digests dispatch
+                  known told p list.0 list.1
+                  (uses_wanted source (names_in kernel) is.closed p main_is) (λ at has. runs p at main_is has)) ∙ sym (seen-block as_tree zs)),
             )
 
     pub linked_is : (linked : Linked) → AreBuilt m.sizes.items lists ast.procs.items linked.exports.items
         → option_map tree_of linked.main ≡ option_map (λ p. whole as_tree (with_locals p.locals (flat_with as_tree
-        (lists_known m.names lists digests kernel) p.locals (body_of p.body.items)))) ast.main
+        (lists_known m.names lists digests dispatch kernel) p.locals (body_of p.body.items)))) ast.main
         → IsLinked source out linked
     linked_is linked built e =
         let own = built_exports linked.exports.items built in

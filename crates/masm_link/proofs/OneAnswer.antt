@@ -17,16 +17,16 @@ use Rattle.masm_link.specs.Refusals.{Links, RefusesAt}
 use Rattle.masm_link.specs.Laws.{OneProgram, OneRefusal}
 
 -- a procedure is one block
-block_once : (procs : List Procedure) (out : Outside) (p : Procedure) (a b : Block) → IsBlockOf procs out p a → IsBlockOf procs out p b → a ≡ b
-block_once procs out p a b one other =
-    one.is ∙ ap (λ pieces. block_of (with_locals p.locals pieces)) (list_once procs out one.flat other.flat) ∙ sym other.is
+block_once : (source : Source) (out : Outside) (p : Procedure) (a b : Block) → IsBlockOf source out p a → IsBlockOf source out p b → a ≡ b
+block_once source out p a b one other =
+    one.is ∙ ap (λ pieces. block_of (with_locals p.locals pieces)) (list_once source out one.flat other.flat) ∙ sym other.is
 
 same_source : (a b : Source) (r : Result Source AsmError) → r ≡ Ok a → r ≡ Ok b → a ≡ b
 same_source a b r one other = cc
 
-module _ (procs : List Procedure) (out : Outside) where
+module _ (source : Source) (out : Outside) where
   abbrev IsExportOf : Procedure → Exported → Type 0
-  IsExportOf p e = (e.name ≡ p.name) × IsBlockOf procs out p e.block
+  IsExportOf p e = (e.name ≡ p.name) × IsBlockOf source out p e.block
 
   exports_once : (ps : List Procedure) (xs ys : List Exported) → AllZip IsExportOf ps xs → AllZip IsExportOf ps ys → xs ≡ ys
   exports_once [] [] [] one other = refl
@@ -36,15 +36,15 @@ module _ (procs : List Procedure) (out : Outside) where
   exports_once (p ∷ ps) (x ∷ xs) [] one other = absurd other
   exports_once (p ∷ ps) (x ∷ xs) (y ∷ ys) one other =
       let name : x.name ≡ y.name = one.0.0 ∙ sym other.0.0 in
-      let block : x.block ≡ y.block = block_once procs out p x.block y.block one.0.1 other.0.1 in
+      let block : x.block ≡ y.block = block_once source out p x.block y.block one.0.1 other.0.1 in
       ap₂ (λ e es. e ∷ es) (ap₂ (λ n b. record { name = n; block = b }) name block) (exports_once ps xs ys one.1 other.1)
 
   abbrev IsBodyOf : Option Procedure → Option Block → Type 0
-  IsBodyOf main found = MatchOption main (found ≡ None) (λ p. (block : Block) × (found ≡ Some block) × IsBlockOf procs out p block)
+  IsBodyOf main found = MatchOption main (found ≡ None) (λ p. (block : Block) × (found ≡ Some block) × IsBlockOf source out p block)
 
   body_once : (main : Option Procedure) (a b : Option Block) → IsBodyOf main a → IsBodyOf main b → a ≡ b
   body_once None a b one other = one ∙ sym other
-  body_once (Some p) a b one other = one.1 ∙ ap Some (block_once procs out p one.0 other.0 one.2 other.2) ∙ sym other.1
+  body_once (Some p) a b one other = one.1 ∙ ap Some (block_once source out p one.0 other.0 one.2 other.2) ∙ sym other.1
 
 -- a text links to the same, whenever it links
 pub links_once : {is_kernel : Bool} {text : List ℕ} {out : Outside} {xs ys : List Exported} {a b : Option Block}
@@ -52,8 +52,8 @@ pub links_once : {is_kernel : Bool} {text : List ℕ} {out : Outside} {xs ys : L
 links_once {is_kernel} {text} {out} {xs} {ys} {a} {b} one other =
     let same = same_source other.source one.source (reads is_kernel text) other.read one.read in
     let links = subst (λ s. Links s out ys b) same other.links in (
-      exports_once one.source.procs out (exported_of one.source.procs) xs ys one.links.exported links.exported,
-      body_once one.source.procs out one.source.main a b one.links.body links.body,
+      exports_once one.source out (exported_of one.source.procs) xs ys one.links.exported links.exported,
+      body_once one.source out one.source.main a b one.links.body links.body,
     )
 
 read_or_refused : (source : Source) (refusal : AsmError) (r : Result Source AsmError) → r ≡ Ok source → r ≡ Err refusal → ⊥

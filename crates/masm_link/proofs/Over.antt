@@ -52,8 +52,8 @@ over_none e few low = grind (arith, nat_tests)
 same_cause : (o : Option LinkCause) (a b : LinkCause) → o ≡ Some a → o ≡ Some b → b ≡ a
 same_cause o a b e f = ap (λ o. unwrap_or o a) (sym f ∙ e)
 
-module _ (procs : List Procedure) (out : Outside) (some : HasOperations out.exports) (p : Procedure) (xs : List (Piece Block))
-    (d : IsList procs out p.locals p.body xs) where
+module _ (source : Source) (out : Outside) (some : HasOperations out.exports) (p : Procedure) (xs : List (Piece Block))
+    (d : IsList source out p.locals p.body xs) where
   abbrev the_block : Block
   the_block = block_of (with_locals p.locals xs)
 
@@ -73,11 +73,11 @@ module _ (procs : List Procedure) (out : Outside) (some : HasOperations out.expo
       let one = whole.0 in
       omega arith
 
-  pub the_block_is : IsBlockOf procs out p the_block
+  pub the_block_is : IsBlockOf source out p the_block
   the_block_is = record { pieces = xs; flat = d; is = refl }
 
-  pub block_once : (block : Block) → IsBlockOf procs out p block → block ≡ the_block
-  block_once block is = is.is ∙ ap (λ ys. block_of (with_locals p.locals ys)) (list_once procs out is.flat d)
+  pub block_once : (block : Block) → IsBlockOf source out p block → block ≡ the_block
+  block_once block is = is.is ∙ ap (λ ys. block_of (with_locals p.locals ys)) (list_once source out is.flat d)
 
   many : (524288 < the_extent.operations) ↔ (524288 < seen_as as_operations the_block)
   many =
@@ -91,7 +91,7 @@ module _ (procs : List Procedure) (out : Outside) (some : HasOperations out.expo
       let is = height-block the_block in
       (λ h. omega arith, λ h. omega arith)
 
-  pub over_large : (at : Position) (cause : LinkCause) → ExceedsLimit (position_of p) the_extent at cause → IsTooLarge procs out p at cause
+  pub over_large : (at : Position) (cause : LinkCause) → ExceedsLimit (position_of p) the_extent at cause → IsTooLarge source out p at cause
   over_large at cause over = elim (cases_lt 524288 the_extent.operations) [
     | inl more ↦
         moved causes.TooManyOps (same_cause _ _ _ (over_operations the_extent more) over.1)
@@ -104,10 +104,10 @@ module _ (procs : List Procedure) (out : Outside) (some : HasOperations out.expo
     ]
   ]
     where
-      moved : (why : LinkCause) → cause ≡ why → IsTooLarge procs out p (position_of p) why → IsTooLarge procs out p at cause
-      moved why is h = subst (λ a. IsTooLarge procs out p a cause) (sym over.0) (subst (IsTooLarge procs out p (position_of p)) (sym is) h)
+      moved : (why : LinkCause) → cause ≡ why → IsTooLarge source out p (position_of p) why → IsTooLarge source out p at cause
+      moved why is h = subst (λ a. IsTooLarge source out p a cause) (sym over.0) (subst (IsTooLarge source out p (position_of p)) (sym is) h)
 
-  pub large_over : (at : Position) (cause : LinkCause) → IsTooLarge procs out p at cause
+  pub large_over : (at : Position) (cause : LinkCause) → IsTooLarge source out p at cause
       → (first : LinkCause) × ExceedsLimit (position_of p) the_extent at first × (order first ≤ order cause)
   large_over at cause (too_many_operations block is more) = (
     causes.TooManyOps,
@@ -134,7 +134,7 @@ module _ (procs : List Procedure) (out : Outside) (some : HasOperations out.expo
 -- the trees of a source's procedures, and that of its main body
 module _ (source : Source) (out : Outside) where
   abbrev Large : Procedure → Position → LinkCause → Type 0
-  Large p at cause = IsTooLarge source.procs out p at cause
+  Large p at cause = IsTooLarge source out p at cause
 
   abbrev LargeProcs : Position → LinkCause → Type 0
   LargeProcs = Among (λ place p. Large p) source.procs

@@ -1,5 +1,5 @@
 -- What is known of a source before anything is built, and what it links to in memory.
-use Rattle.std.specs.Prelude.{◌≡◌, ℕ, ◌≤◌, true, List, length, Option, Some, Result, Ok, Err, Vec, slice_get}
+use Rattle.std.specs.Prelude.{◌≡◌, ℕ, ◌≤◌, true, List, length, map, Option, Some, Result, Ok, Err, Vec, slice_get}
 use Rattle.std.specs.Global.{Global}
 use Rattle.std.specs.List.{All}
 use Rattle.std.specs.Option.{option_map}
@@ -21,7 +21,7 @@ use Rattle.masm_names.specs.Names.{place_at}
 use Rattle.masm_names.specs.Naming.{IsClosed}
 use Rattle.masm_uses.specs.Plans.{EndsInFull, IsPlan, main_uses}
 use Rattle.masm_uses.specs.UseOrders.{IsUseOrder}
-use Rattle.masm_names.specs.Uses.{first_place}
+use Rattle.masm_names.specs.Uses.{first_place, target_names}
 use Rattle.masm_link.specs.declared.linking.Linked.{Linked}
 use Rattle.masm_link.specs.declared.linking.Measured.{Measured}
 use Rattle.masm_link.specs.declared.linking.Stop.{Stop}
@@ -30,16 +30,18 @@ use Rattle.masm_tables.specs.Kernels.{AreExports, IsOutside, names_in}
 use Rattle.masm_link.specs.Refusals.{RefusesAt, Links}
 use Rattle.masm_tables.specs.Tables.{AreSizes}
 
--- no use leads nowhere or back, and these are the procedures in order, the steps that build lists, and the sizes of all lists
+-- no use leads nowhere or back, and these are the procedures in order, the steps that build lists, the targets of dynexecs, and the
+-- sizes of all lists
 pub record IsMeasured (source : Source) (kernel : List KernelProc) (m : Measured) : Type 0 where
   pub names : (name : List ℕ) → place_at m.names name ≡ first_place source.procs name
   pub closed : IsClosed source (names_in kernel)
-  pub order : IsUseOrder source.procs m.order.items
+  pub order : IsUseOrder source m.order.items
   pub steps : IsPlan source m.steps.items
   pub ended : All (EndsInFull (place_at m.names) source.procs) m.steps.items
   pub uses : m.uses.items ≡ main_uses (place_at m.names) source.main
+  pub targets : map Some m.targets.items ≡ map (first_place source.procs) (target_names source)
   pub count : length m.sizes.items ≡ length source.procs
-  pub sizes : (out : Outside) → IsOutside kernel out → AreSizes source.procs out m.order.items m.sizes.items
+  pub sizes : (out : Outside) → IsOutside kernel out → AreSizes source out m.order.items m.sizes.items
 
 -- nothing is refused, whatever the constants and the kernel's exports in memory are
 abbrev pub IsNeverRefused : Source → List KernelProc → Type 0
@@ -60,7 +62,7 @@ Measures source kernel (Err Memory) = Unit {0}
 abbrev pub AreReady : Source → Outside → List shape.Size → List (Vec piece.Piece Global) → Type 0
 AreReady source out sizes lists =
     (place : ℕ) (p : Procedure) → slice_get source.procs place ≡ Some p → p.exported ≡ true
-    → (block : Block) × IsBlockOf source.procs out p block × (whole as_tree (list_at lists (Some place)) ≡ seen_as as_tree block)
+    → (block : Block) × IsBlockOf source out p block × (whole as_tree (list_at lists (Some place)) ≡ seen_as as_tree block)
     × (extent_of (size_at sizes (Some place)) ≡ seen_as as_extent block) × (1 ≤ seen_as as_operations block)
 
 -- what a source links to, in memory

@@ -15,14 +15,14 @@ use Rattle.masm_names.specs.Uses.{bodies_of}
 use Rattle.masm_tables.specs.Kernels.{names_of}
 
 -- a procedure whose tree is too large
-pub data IsTooLarge (procs : List Procedure) (out : Outside) (p : Procedure) : Position → LinkCause → Type 0 where
-  too_many_operations : (block : Block) → IsBlockOf procs out p block → most_operations < seen_as as_operations block
-      → IsTooLarge procs out p (position_of p) causes.TooManyOps
-  too_deep : (block : Block) → IsBlockOf procs out p block → most_nesting < seen_as as_height block
-      → IsTooLarge procs out p (position_of p) causes.TooDeep
+pub data IsTooLarge (source : Source) (out : Outside) (p : Procedure) : Position → LinkCause → Type 0 where
+  too_many_operations : (block : Block) → IsBlockOf source out p block → most_operations < seen_as as_operations block
+      → IsTooLarge source out p (position_of p) causes.TooManyOps
+  too_deep : (block : Block) → IsBlockOf source out p block → most_nesting < seen_as as_height block
+      → IsTooLarge source out p (position_of p) causes.TooDeep
 
 abbrev pub Oversized : Source → Outside → Position → LinkCause → Type 0
-Oversized source out at cause = Any (λ p. IsTooLarge source.procs out p at cause) (bodies_of source)
+Oversized source out at cause = Any (λ p. IsTooLarge source out p at cause) (bodies_of source)
 
 -- The places and causes of a source that is refused. Sizes are tested only where no use leads nowhere or back.
 pub data RefusesAt (source : Source) (out : Outside) (at : Position) (cause : LinkCause) : Type 0 where
@@ -33,5 +33,5 @@ pub data RefusesAt (source : Source) (out : Outside) (at : Position) (cause : Li
 -- A source that is not refused: the blocks of its exports, in their order, and that of the body between begin and end.
 pub record Links (source : Source) (out : Outside) (exports : List Exported) (main : Option Block) : Type 0 where
   pub clean : (at : Position) (cause : LinkCause) → ¬ (RefusesAt source out at cause)
-  pub exported : AllZip (λ p e. (e.name ≡ p.name) × IsBlockOf source.procs out p e.block) (exported_of source.procs) exports
-  pub body : MatchOption source.main (main ≡ None) (λ p. (block : Block) × (main ≡ Some block) × IsBlockOf source.procs out p block)
+  pub exported : AllZip (λ p e. (e.name ≡ p.name) × IsBlockOf source out p e.block) (exported_of source.procs) exports
+  pub body : MatchOption source.main (main ≡ None) (λ p. (block : Block) × (main ≡ Some block) × IsBlockOf source out p block)

@@ -62,6 +62,8 @@ pub(crate) struct Measured {
     pub steps: Vec<Step>,
     // The places of the procedures that are used between `begin` and `end`, one for each use.
     pub uses: Vec<usize>,
+    // The places of the procedures that procrefs name, which are the targets of each dynexec.
+    pub targets: Vec<usize>,
     // The sizes of their lists, by their places.
     pub sizes: Vec<Size>,
 }
@@ -89,13 +91,19 @@ fn sized(
     requires closed { IsClosed (source_of ast.now) (names_in outside.now.exports.now) }
     ensures { IfOk result (IsMeasured (source_of ast.now) outside.now.exports.now) }
 {
-    let Plan { order, steps, main } = use_plan(alloc, ast, &names, exported)?;
-    let sizes = sizes_of(alloc, ast, &names, outside, &order)?;
+    let Plan {
+        order,
+        steps,
+        main,
+        targets,
+    } = use_plan(alloc, ast, &names, exported)?;
+    let sizes = sizes_of(alloc, ast, &names, outside, &order, &targets)?;
     Ok(Measured {
         names,
         order,
         steps,
         uses: main,
+        targets,
         sizes,
     })
 }
@@ -113,7 +121,14 @@ fn first_oversized(
         → FindsLeast (Oversized (source_of ast.now) out) first) }
 {
     let procs = first_too_large(&ast.procs, &measured.sizes);
-    let main = main_too_large(alloc, &measured.names, outside, &ast.main, &measured.sizes)?;
+    let main = main_too_large(
+        alloc,
+        &measured.names,
+        outside,
+        &ast.main,
+        &measured.sizes,
+        &measured.targets,
+    )?;
     Ok(earlier(procs, main))
 }
 
@@ -163,9 +178,11 @@ fn built(
     ensures permutations { digests.new.permutations ≡ digests.old.permutations }
 {
     let names = &measured.names;
-    let built = lists_of(alloc, ast, names, outside, &measured.steps, digests)?;
+    let targets = measured.targets.as_slice();
+    let built = lists_of(alloc, ast, names, outside, &measured.steps, targets, digests)?;
     let exports = exports_of(alloc, &ast.procs, &measured.sizes, &built.table.lists)?;
-    let main = main_tree(alloc, names, outside, &ast.main, &measured.uses, built)?;
+    let uses = measured.uses.as_slice();
+    let main = main_tree(alloc, names, outside, &ast.main, uses, targets, built)?;
     Ok(Linked { exports, main })
 }
 

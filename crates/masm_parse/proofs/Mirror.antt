@@ -1,7 +1,7 @@
 -- The lists of the code against the bodies and configurations of the definitions.
 use Rattle.std.proofs.Common.{◌≡◌, List, [], ◌∷◌, ◌++◌, map, reverse, length, refl, ap, ◌∙◌}
 use Rattle.std.proofs.lemmas.List.{length-map, length-reverse, reverse-append}
-use Rattle.masm_tree.proofs.Mirror.{body_of_push, body_of_nil, view-Instr, view-Exec, view-Call, view-Syscall, view-ProcRef, view-If, view-While, view-Repeat}
+use Rattle.masm_tree.proofs.Mirror.{body_of_push, body_of_nil, view-Instr, view-Exec, view-Call, view-Syscall, view-ProcRef, view-DynExec, view-If, view-While, view-Repeat}
 use Rattle.masm_parse.specs.declared.configuration.OpenConstruct.{OpenConstruct}
 use Rattle.masm_parse.specs.Views.{open_view, opens_view}
 
@@ -28,6 +28,7 @@ pub ruleset mirror = (
   view-Call,
   view-Syscall,
   view-ProcRef,
+  view-DynExec,
   view-If,
   view-While,
   view-Repeat,

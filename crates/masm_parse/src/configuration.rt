@@ -49,6 +49,7 @@ fn add_leaf(body: &mut Vec<Stmt>, at: Position, leaf: Leaf) -> Result<(), AllocE
         Leaf::Call(name) => Stmt::Call(at, name),
         Leaf::Syscall(name) => Stmt::Syscall(at, name),
         Leaf::ProcRef(name) => Stmt::ProcRef(at, name),
+        Leaf::DynExec => Stmt::DynExec(at),
     };
     body.push(stmt)?;
     Ok(())

@@ -59,7 +59,7 @@ unfoldable pub unsupported : List (List ℕ)
 unsupported =
     codes "ext2add" ∷ codes "ext2sub" ∷ codes "ext2mul" ∷ codes "ext2div" ∷ codes "ext2neg" ∷ codes "ext2inv"
     ∷ codes "fri_ext2fold4" ∷ codes "rcomb_base" ∷ codes "mtree_get" ∷ codes "mtree_set" ∷ codes "mtree_merge"
-    ∷ codes "mtree_verify" ∷ codes "mem_stream" ∷ codes "adv_pipe" ∷ codes "dyncall" ∷ codes "dynexec"
+    ∷ codes "mtree_verify" ∷ codes "mem_stream" ∷ codes "adv_pipe" ∷ codes "dyncall"
     ∷ codes "breakpoint" ∷ codes "debug" ∷ codes "trace" ∷ codes "emit" ∷ codes "adv" ∷ codes "use" ∷ []
 
 -- whether the first part of a token, or the whole token, is of an instruction that this machine does not have

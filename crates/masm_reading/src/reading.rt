@@ -48,7 +48,7 @@ fn is_among(words: &[&[u8]], text: &[u8]) -> bool
 fn is_unsupported(token: &[u8], first: &[u8]) -> bool
     ensures { result ≡ is_unsupported token.now first.now }
 {
-    let words: [&[u8]; 22] = [
+    let words: [&[u8]; 21] = [
         b"ext2add",
         b"ext2sub",
         b"ext2mul",
@@ -64,7 +64,6 @@ fn is_unsupported(token: &[u8], first: &[u8]) -> bool
         b"mem_stream",
         b"adv_pipe",
         b"dyncall",
-        b"dynexec",
         b"breakpoint",
         b"debug",
         b"trace",

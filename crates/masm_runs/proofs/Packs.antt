@@ -26,13 +26,14 @@ use Rattle.masm_parse.specs.Machine.{parsed}
 use Rattle.masm_tree.specs.Trees.{Body, Procedure, Source}
 use Rattle.masm_parse.proofs.Fitting.{locals-fit}
 use Rattle.masm_parse.proofs.Forming.{trees_are_in_form}
-use Rattle.masm_flat.specs.Blocks.{Block, Span, Join, Split, Loop, Call, Syscall, Piece, Operation, Whole, span_before, blocks_behind, paired, joined, all_joined, whole_of, block_of, seen_as, as_tree}
-use Rattle.masm_flat.specs.Lists.{Exported, Outside, outside_of, ListOf, IsList, nothing, instr, exec, call, procref, syscall, branches, loops, repeated, first_procedure, first_export, times, with_locals, block_digest, digest_items, IsBlockOf}
+use Rattle.masm_flat.specs.Blocks.{Block, Blocks, Span, Join, Split, Loop, Call, Syscall, Dyn, no_block, block_before, blocks_from, seen_all, Piece, Operation, Whole, span_before, blocks_behind, paired, joined, all_joined, whole_of, block_of, seen_as, as_tree}
+use Rattle.masm_flat.specs.Lists.{Exported, Outside, outside_of, ListOf, ListsOf, no_list, list_before, IsList, nothing, instr, exec, call, procref, syscall, dynexec, branches, loops, repeated, first_procedure, first_export, times, with_locals, block_digest, digest_items, IsBlockOf}
 use Rattle.masm_flat.specs.Lists as lists
 use Rattle.masm_flat.proofs.Digests.{block-elements}
 use Rattle.masm_names.specs.Naming.{exported_of}
 use Rattle.masm_link.specs.Assembling.{reads, read_tokens, read_parsed, KernelExports, no_kernel, of_kernel, assembled}
-use Rattle.block_tree.specs.KnownTrees.{IsReady}
+use Rattle.block_tree.specs.KnownTrees.{IsReady, AreReady}
+use Rattle.block_tree.specs.Trees.{targets_from}
 use Rattle.masm_runs.specs.Runs.{AssembledIsReady}
 
 -- batches that are read together are read each
@@ -48,23 +49,35 @@ batches-read (batch ∷ batches) items e = by (λ ys there. batches-read batches
     by others (Some xs) is (Some ys) there some = ((xs, is), others ys there)
 
 -- the operations of each span can be packed
-abbrev Packs : Block → Type 0
-Packs (Span items) = IsPackable items
-Packs (Join first second) = Packs first × Packs second
-Packs (Split on_one on_zero) = Packs on_one × Packs on_zero
-Packs (Loop body) = Packs body
-Packs (Call callee) = Packs callee
-Packs (Syscall callee) = Packs callee
+abbrev mutual
+  Packs : Block → Type 0
+  Packs (Span items) = IsPackable items
+  Packs (Join first second) = Packs first × Packs second
+  Packs (Split on_one on_zero) = Packs on_one × Packs on_zero
+  Packs (Loop body) = Packs body
+  Packs (Call callee) = Packs callee
+  Packs (Syscall callee) = Packs callee
+  Packs (Dyn targets) = AllPack targets
 
-ready-block : (b : Block) → Packs b → IsReady (seen_as as_tree b)
-ready-block (Span items) h =
-    let back = read_back items h in
-    (packed-some items h.some, batches-read (packed items) back.read back.is)
-ready-block (Join a b) h = (ready-block a h.0, ready-block b h.1)
-ready-block (Split a b) h = (ready-block a h.0, ready-block b h.1)
-ready-block (Loop a) h = ready-block a h
-ready-block (Call a) h = ready-block a h
-ready-block (Syscall a) h = ready-block a h
+  AllPack : Blocks → Type 0
+  AllPack no_block = Unit {0}
+  AllPack (block_before first more) = Packs first × AllPack more
+
+mutual
+  ready-block : (b : Block) → Packs b → IsReady (seen_as as_tree b)
+  ready-block (Span items) h =
+      let back = read_back items h in
+      (packed-some items h.some, batches-read (packed items) back.read back.is)
+  ready-block (Join a b) h = (ready-block a h.0, ready-block b h.1)
+  ready-block (Split a b) h = (ready-block a h.0, ready-block b h.1)
+  ready-block (Loop a) h = ready-block a h
+  ready-block (Call a) h = ready-block a h
+  ready-block (Syscall a) h = ready-block a h
+  ready-block (Dyn targets) h = ready-all targets h
+
+  ready-all : (bs : Blocks) → AllPack bs → AreReady (targets_from (seen_all as_tree bs))
+  ready-all no_block h = tt
+  ready-all (block_before first more) h = (ready-block first h.0, ready-all more h.1)
 
 -- the same of a list's pieces
 abbrev PiecePacks : Piece Block → Type 0
@@ -158,15 +171,19 @@ packs-literals [] h = tt
 packs-literals (v ∷ elements) h =
     (lit_packs v (All-head (λ e. e < prime) v elements h), packs-literals elements (All-tail (λ e. e < prime) v elements h))
 
-module _ (procs : List Procedure) (out : Outside) (good : AllByRecursion IsGood procs)
+module _ (source : Source) (out : Outside) (good : AllByRecursion IsGood source.procs)
     (packs : (name : List ℕ) (block : Block) → first_export out.exports name ≡ Some block → Packs block) where
   mutual
-    packs-list-of : {name : List ℕ} {ys : List (Piece Block)} → ListOf procs out name ys → AllByRecursion PiecePacks ys
+    packs-list-of : {name : List ℕ} {ys : List (Piece Block)} → ListOf source out name ys → AllByRecursion PiecePacks ys
     packs-list-of (lists.own name {p} {ys} found d) =
-        let is = found-good procs name p good found in
+        let is = found-good source.procs name p good found in
         packs-locals p.locals ys is.1.0 (packs-list d is.0 is.1.1)
 
-    packs-list : {locals : ℕ} {b : Body} {xs : List (Piece Block)} → IsList procs out locals b xs → HasLocals locals b
+    packs-lists : {names : List (List ℕ)} {all : List (List (Piece Block))} → ListsOf source out names all → AllPack (blocks_from (map block_of all))
+    packs-lists no_list = tt
+    packs-lists (list_before name {names} {ys} d ds) = (packs-block ys (packs-list-of d), packs-lists ds)
+
+    packs-list : {locals : ℕ} {b : Body} {xs : List (Piece Block)} → IsList source out locals b xs → HasLocals locals b
         → BodyIsInForm b → AllByRecursion PiecePacks xs
     packs-list nothing h k = tt
     packs-list {locals} (instr at i {xs} d) h k =
@@ -180,13 +197,14 @@ module _ (procs : List Procedure) (out : Outside) (good : AllByRecursion IsGood 
         all-append PiecePacks (map Operation (digest_items digest)) xs (packs-literals digest (block-elements out.constants (block_of ys)))
         (packs-list f h.1 k.1)
     packs-list (syscall at name {callee} found f) h k = (packs name callee found, packs-list f h.1 k.1)
+    packs-list (dynexec at ds f) h k = (packs-lists ds, packs-list f h.1 k.1)
     packs-list (branches at {ys} {zs} a e f) h k =
         ((packs-block ys (packs-list a h.0 k.0), packs-block zs (packs-list e h.1 k.1)), packs-list f h.2 k.2)
     packs-list (loops at {ys} d f) h k = (packs-block ys (packs-list d h.0 k.0), packs-list f h.1 k.1)
     packs-list (repeated at n {ys} {xs} d f) h k =
         all-append PiecePacks (times n ys) xs (packs-times n ys (packs-list d h.0 k.0)) (packs-list f h.1 k.1)
 
-  packs-procedure : (p : Procedure) (block : Block) → IsGood p → IsBlockOf procs out p block → Packs block
+  packs-procedure : (p : Procedure) (block : Block) → IsGood p → IsBlockOf source out p block → Packs block
   packs-procedure p block is built =
       subst Packs (sym built.is)
       (packs-block (with_locals p.locals built.pieces) (packs-locals p.locals built.pieces is.1.0 (packs-list built.flat is.0 is.1.1)))
@@ -230,12 +248,12 @@ good-exported (p ∷ procs) h = by (good-exported procs h.1) p.exported
     by others true = (h.0, others)
     by others false = others
 
-module _ (constants : List ℕ) (procs : List Procedure) (good : AllByRecursion IsGood procs) where
+module _ (constants : List ℕ) (source : Source) (good : AllByRecursion IsGood source.procs) where
   none-found : (name : List ℕ) (block : Block) → first_export [] name ≡ Some block → Packs block
   none-found name block e = cc
 
   exports-pack : (own : List Procedure) (exports : List Exported) → AllByRecursion IsGood own
-      → AllZip (λ p e. (e.name ≡ p.name) × IsBlockOf procs (outside_of constants []) p e.block) own exports
+      → AllZip (λ p e. (e.name ≡ p.name) × IsBlockOf source (outside_of constants []) p e.block) own exports
       → (name : List ℕ) (block : Block) → first_export exports name ≡ Some block → Packs block
   exports-pack [] [] h z name block found = cc
   exports-pack [] (e ∷ exports) h z name block found = absurd z
@@ -245,7 +263,7 @@ module _ (constants : List ℕ) (procs : List Procedure) (good : AllByRecursion 
     where
       by : (first_export exports name ≡ Some block → Packs block) → (b : Bool) → cond b (Some e.block) (first_export exports name) ≡ Some block
           → Packs block
-      by later true is = subst Packs (same_Some e.block block is) (packs-procedure procs (outside_of constants []) good none-found p e.block h.0 z.0.1)
+      by later true is = subst Packs (same_Some e.block block is) (packs-procedure source (outside_of constants []) good none-found p e.block h.0 z.0.1)
       by later false is = later is
 
 kernel-packs : (constants : List ℕ) (kernel : Option (List ℕ)) (exports : List Exported) → KernelExports constants kernel exports
@@ -253,7 +271,7 @@ kernel-packs : (constants : List ℕ) (kernel : Option (List ℕ)) (exports : Li
 kernel-packs constants kernel exports no_kernel name block found = cc
 kernel-packs constants kernel exports (of_kernel text own links) name block found =
     let good = good-procs true text links.source links.read in
-    exports-pack constants links.source.procs good (exported_of links.source.procs) own (good-exported links.source.procs good)
+    exports-pack constants links.source good (exported_of links.source.procs) own (good-exported links.source.procs good)
     links.links.exported name block found
 
 -- the body between begin and end
@@ -261,10 +279,10 @@ kernel-packs constants kernel exports (of_kernel text own links) name block foun
 main-packs : (source : Source) (out : Outside) (own : List Exported) (block : Block) → AllByRecursion IsGood source.procs
     → ((name : List ℕ) (callee : Block) → first_export out.exports name ≡ Some callee → Packs callee)
     → (main : Option Procedure) → ((p : Procedure) → main ≡ Some p → IsGood p)
-    → MatchOption main (Some block ≡ None) (λ p. (b : Block) × (Some block ≡ Some b) × IsBlockOf source.procs out p b) → Packs block
+    → MatchOption main (Some block ≡ None) (λ p. (b : Block) × (Some block ≡ Some b) × IsBlockOf source out p b) → Packs block
 main-packs source out own block good packs None fits h = cc
 main-packs source out own block good packs (Some p) fits h =
-    subst Packs (sym (same_Some block h.0 h.1)) (packs-procedure source.procs out good packs p h.0 (fits p refl) h.2)
+    subst Packs (sym (same_Some block h.0 h.1)) (packs-procedure source out good packs p h.0 (fits p refl) h.2)
 
 pub assembled-ready : AssembledIsReady
 assembled-ready constants text kernel program (assembled exports own block _ k links is) =

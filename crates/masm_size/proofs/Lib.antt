@@ -1,3 +1,4 @@
+pub mod Dispatches
 pub mod Measures
 pub mod Rows
 pub mod SizeLaws

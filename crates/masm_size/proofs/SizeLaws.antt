@@ -534,7 +534,7 @@ extent-whole pieces h =
     })
     (cases_lt 524288 (total pieces))
 
-block-agree : (e f : Extent) → Agree e f → block_size e ≡ block_size f
+pub block-agree : (e f : Extent) → Agree e f → block_size e ≡ block_size f
 block-agree e f same =
     ⊎_elim
     (λ (large : 524288 < e.operations).

@@ -1,5 +1,5 @@
 -- The size of a body that has a list is that of the list, where the sizes of the procedures that it uses are.
-use Rattle.std.proofs.Common.{◌≡◌, ℕ, zero, suc, ◌-◌, ◌<◌, ◌≤◌, ◌↔◌, min, List, [], ◌∷◌, ◌++◌, length, map, Some, refl, sym, ap, ap₂, subst, ◌∙◌, append_assoc, arith}
+use Rattle.std.proofs.Common.{◌≡◌, ℕ, zero, suc, ◌-◌, ◌<◌, ◌≤◌, ◌↔◌, min, List, [], ◌∷◌, ◌++◌, length, map, sum, Some, refl, sym, ap, ap₂, subst, ◌∙◌, append_assoc, arith}
 use Rattle.std.proofs.lemmas.List.{append-nil}
 use Rattle.vm_ops.specs.declared.item.Item.{Item}
 use Rattle.vm_field.specs.Field.{prime}
@@ -7,32 +7,52 @@ use Rattle.vm_field.specs.Limits.{number_of_constants}
 use Rattle.vm_ops.specs.declared.op.Op.TheVariants.{FmpUpdate}
 use Rattle.vm_ops.specs.Items.{plain_item}
 use Rattle.masm_expand.specs.Expansion.{lit, expansion}
-use Rattle.masm_tree.specs.Trees.{Body, Procedure}
+use Rattle.masm_tree.specs.Trees.{Body, Procedure, Source}
 use Rattle.masm_flat.specs.declared.extent.Extent.{Extent}
-use Rattle.masm_flat.specs.Blocks.{Block, Span, Join, Split, Loop, Call, Syscall, Piece, Operation, Whole, seen_as, seen_pieces, block_of, as_operations, as_height}
-use Rattle.masm_flat.specs.Lists.{Exported, Outside, ListOf, own, IsList, nothing, instr, exec, call, procref, syscall, branches, loops, repeated, first_export, times, with_locals, block_digest, digest_items}
+use Rattle.masm_flat.specs.Blocks.{Block, Blocks, Span, Join, Split, Loop, Call, Syscall, Dyn, no_block, block_before, Piece, Operation, Whole, seen_as, seen_all, seen_pieces, block_of, blocks_from, as_operations, as_height, greatest}
+use Rattle.masm_flat.specs.Lists.{Exported, Outside, ListOf, own, ListsOf, IsList, nothing, instr, exec, call, procref, syscall, dynexec, branches, loops, repeated, first_export, times, with_locals, block_digest, digest_items}
 use Rattle.masm_flat.proofs.Digests.{four-items}
+use Rattle.masm_flat.proofs.DynamicBodies.{DynexecsOnly}
 use Rattle.masm_size.specs.Sizes.{as_extent, size_of, run_of, both, times_size, extent_of, block_size, Known_sizes, size_onto, procedure_size}
 use Rattle.masm_flat.proofs.Flattened.{seen-block, seen-append, seen-operations, seen-times}
 use Rattle.masm_names.proofs.UsesOnly.{UsesOnly}
-use Rattle.masm_size.proofs.SizeLaws.{size-append, size-block, size-run, size-times, IsSolid, IsSome_size, operations-whole, Agree, extent-whole, block-over, block-over_two}
+use Rattle.masm_names.specs.Uses.{target_names}
+use Rattle.masm_size.proofs.Dispatches.{sum-cons}
+use Rattle.masm_size.proofs.SizeLaws.{size-append, size-block, size-run, size-times, IsSolid, IsSome_size, operations-whole, Agree, extent-whole, block-agree, block-over, block-over_two}
 
 -- the extent of a block is its operations and its height, each up to a limit
-pub operations-block : (b : Block) → (seen_as as_extent b).operations ≡ min (seen_as as_operations b) 524289
-operations-block (Span items) = refl
-operations-block (Join a b) = omega (arith, operations-block a, operations-block b)
-operations-block (Split a b) = omega (arith, operations-block a, operations-block b)
-operations-block (Loop a) = omega (arith, operations-block a)
-operations-block (Call a) = omega (arith, operations-block a)
-operations-block (Syscall a) = omega (arith, operations-block a)
+mutual
+  pub operations-block : (b : Block) → (seen_as as_extent b).operations ≡ min (seen_as as_operations b) 524289
+  operations-block (Span items) = refl
+  operations-block (Join a b) = omega (arith, operations-block a, operations-block b)
+  operations-block (Split a b) = omega (arith, operations-block a, operations-block b)
+  operations-block (Loop a) = omega (arith, operations-block a)
+  operations-block (Call a) = omega (arith, operations-block a)
+  operations-block (Syscall a) = omega (arith, operations-block a)
+  operations-block (Dyn targets) = omega (arith, operations-blocks targets)
 
-pub height-block : (b : Block) → (seen_as as_extent b).height ≡ min (seen_as as_height b) 1025
-height-block (Span items) = refl
-height-block (Join a b) = omega (arith, height-block a, height-block b)
-height-block (Split a b) = omega (arith, height-block a, height-block b)
-height-block (Loop a) = omega (arith, height-block a)
-height-block (Call a) = omega (arith, height-block a)
-height-block (Syscall a) = omega (arith, height-block a)
+  operations-blocks : (bs : Blocks)
+      → min (sum (map (λ (e : Extent). e.operations) (seen_all as_extent bs))) 524289 ≡ min (sum (seen_all as_operations bs)) 524289
+  operations-blocks no_block = refl
+  operations-blocks (block_before first more) =
+      let extents = sum-cons (seen_as as_extent first).operations (map (λ (e : Extent). e.operations) (seen_all as_extent more)) in
+      let counts = sum-cons (seen_as as_operations first) (seen_all as_operations more) in
+      omega (arith, operations-block first, operations-blocks more)
+
+mutual
+  pub height-block : (b : Block) → (seen_as as_extent b).height ≡ min (seen_as as_height b) 1025
+  height-block (Span items) = refl
+  height-block (Join a b) = omega (arith, height-block a, height-block b)
+  height-block (Split a b) = omega (arith, height-block a, height-block b)
+  height-block (Loop a) = omega (arith, height-block a)
+  height-block (Call a) = omega (arith, height-block a)
+  height-block (Syscall a) = omega (arith, height-block a)
+  height-block (Dyn targets) = omega (arith, height-blocks targets)
+
+  height-blocks : (bs : Blocks)
+      → min (greatest (map (λ (e : Extent). e.height) (seen_all as_extent bs))) 1025 ≡ min (greatest (seen_all as_height bs)) 1025
+  height-blocks no_block = refl
+  height-blocks (block_before first more) = omega (arith, height-block first, height-blocks more)
 
 abbrev pub seen : List (Piece Block) → List (Piece Extent)
 seen pieces = seen_pieces (seen_as as_extent) pieces
@@ -68,12 +88,12 @@ some-whole xs h =
 abbrev pub HasOperations : List Exported → Type 0
 HasOperations kernel = (name : List ℕ) (block : Block) → first_export kernel name ≡ Some block → 1 ≤ seen_as as_operations block
 
-module _ {procs : List Procedure} {out : Outside} (some : HasOperations out.exports) where
+module _ {source : Source} {out : Outside} (some : HasOperations out.exports) where
   mutual
-    pub list-of-solid : {name : List ℕ} {ys : List (Piece Block)} → ListOf procs out name ys → IsSolid (seen ys)
+    pub list-of-solid : {name : List ℕ} {ys : List (Piece Block)} → ListOf source out name ys → IsSolid (seen ys)
     list-of-solid (own name {p} {ys} found d) = solid-locals p.locals ys (list-solid d)
 
-    pub list-solid : {locals : ℕ} {b : Body} {xs : List (Piece Block)} → IsList procs out locals b xs → IsSolid (seen xs)
+    pub list-solid : {locals : ℕ} {b : Body} {xs : List (Piece Block)} → IsList source out locals b xs → IsSolid (seen xs)
     list-solid nothing = tt
     list-solid {locals} (instr at i {xs} d) = solid-run-before (expansion i.name i.numbers locals) xs (list-solid d)
     list-solid (exec at name {ys} {xs} d f) =
@@ -86,6 +106,7 @@ module _ {procs : List Procedure} {out : Outside} (some : HasOperations out.expo
         let one = some name callee found in
         let is = operations-block callee in
         ((omega arith, omega arith, omega arith), list-solid f)
+    list-solid (dynexec at ds f) = ((omega arith, omega arith, omega arith), list-solid f)
     list-solid (branches at {ys} {zs} a e f) =
         let first = some-whole ys (list-solid a) in
         let second = some-whole zs (list-solid e) in
@@ -98,18 +119,21 @@ module _ {procs : List Procedure} {out : Outside} (some : HasOperations out.expo
         (solid-append (seen (times n ys)) (seen xs)
         (subst IsSolid (sym (seen-times as_extent n ys)) (solid-times n (seen ys) (list-solid d))) (list-solid f))
 
--- The given sizes are those of these procedures' lists, and the given extents those of the kernel's blocks.
-pub record SizesFit (procs : List Procedure) (out : Outside) (P : List ℕ → Type 0) (known : Known_sizes) : Type 0 where
-  pub size : (name : List ℕ) (ys : List (Piece Block)) → P name → ListOf procs out name ys → known.size name ≡ size_of (seen ys)
+-- The given sizes are those of the lists of the source's procedures, the given extents those of the kernel's blocks, and that of
+-- a dynexec's block is told by its targets.
+pub record SizesFit (source : Source) (out : Outside) (P : List ℕ → Type 0) (D : Type 0) (known : Known_sizes) : Type 0 where
+  pub size : (name : List ℕ) (ys : List (Piece Block)) → P name → ListOf source out name ys → known.size name ≡ size_of (seen ys)
   pub exported : (name : List ℕ) (block : Block) → first_export out.exports name ≡ Some block → known.exported name ≡ seen_as as_extent block
+  pub dispatch : (lists : List (List (Piece Block))) → D → ListsOf source out (target_names source) lists
+      → Agree known.dispatch (seen_as as_extent (Dyn (blocks_from (map block_of lists))))
 
-module _ {procs : List Procedure} {out : Outside} (some : HasOperations out.exports) (count : length out.constants ≡ number_of_constants)
-    (P R : List ℕ → Type 0) (known : Known_sizes) (fits : SizesFit procs out P known) where
-  agree : {locals : ℕ} {b : Body} {xs : List (Piece Block)} → IsList procs out locals b xs
+module _ {source : Source} {out : Outside} (some : HasOperations out.exports) (count : length out.constants ≡ number_of_constants)
+    (P R : List ℕ → Type 0) (D : Type 0) (known : Known_sizes) (fits : SizesFit source out P D known) where
+  agree : {locals : ℕ} {b : Body} {xs : List (Piece Block)} → IsList source out locals b xs
       → Agree (extent_of (size_of (seen xs))) (seen_as as_extent (block_of xs))
   agree {xs} d = subst (Agree (extent_of (size_of (seen xs)))) (sym (seen-block as_extent xs)) (extent-whole (seen xs) (list-solid some d))
 
-  agree-procedure : (name : List ℕ) (ys : List (Piece Block)) → P name → ListOf procs out name ys
+  agree-procedure : (name : List ℕ) (ys : List (Piece Block)) → P name → ListOf source out name ys
       → Agree (extent_of (known.size name)) (seen_as as_extent (block_of ys))
   agree-procedure name ys of d =
       subst (λ z. Agree (extent_of z) (seen_as as_extent (block_of ys))) (sym (fits.size name ys of d))
@@ -131,90 +155,95 @@ module _ {procs : List Procedure} {out : Outside} (some : HasOperations out.expo
       ∙ ap (λ zs. before ++ zs) (sym
       (seen-append as_extent (map Operation items) xs ∙ ap (λ zs. zs ++ seen xs) (seen-operations as_extent items))))
 
-  pub sized-is : (before : List (Piece Extent)) {locals : ℕ} {b : Body} {xs : List (Piece Block)} → IsList procs out locals b xs → UsesOnly P R b
+  pub sized-is : (before : List (Piece Extent)) {locals : ℕ} {b : Body} {xs : List (Piece Block)} → IsList source out locals b xs → UsesOnly P R b → DynexecsOnly D b
       → size_onto known locals b (size_of before) ≡ size_of (before ++ seen xs)
-  sized-is before nothing of = ap size_of (sym (append-nil before))
-  sized-is before {locals} (instr at i {b} {xs} d) of =
+  sized-is before nothing of on = ap size_of (sym (append-nil before))
+  sized-is before {locals} (instr at i {b} {xs} d) of on =
       let items = expansion i.name i.numbers locals in
-      sized-run before items locals b xs (sized-is (before ++ map Operation items) d of)
-  sized-is before {locals} (exec at name {b} {ys} {xs} d f) of =
+      sized-run before items locals b xs (sized-is (before ++ map Operation items) d of on)
+  sized-is before {locals} (exec at name {b} {ys} {xs} d f) of on =
       ap (size_onto known locals b) (ap (both (size_of before)) (fits.size name ys of.0 d) ∙ sym (size-append before (seen ys)))
-      ∙ sized-is (before ++ seen ys) f of.1
+      ∙ sized-is (before ++ seen ys) f of.1 on
       ∙ ap size_of (append_assoc before (seen ys) (seen xs) ∙ ap (λ us. before ++ us) (sym (seen-append as_extent ys xs)))
-  sized-is before {locals} (call at name {b} {ys} {xs} d f) of =
+  sized-is before {locals} (call at name {b} {ys} {xs} d f) of on =
       let block = seen_as as_extent (block_of ys) in
       ap (size_onto known locals b) (behind before _ _ (block-over (extent_of (known.size name)) block (agree-procedure name ys of.0 d)))
-      ∙ sized-is (before ++ Whole (as_extent.call block) ∷ []) f of.1
+      ∙ sized-is (before ++ Whole (as_extent.call block) ∷ []) f of.1 on
       ∙ ap size_of (append_assoc before (Whole (as_extent.call block) ∷ []) (seen xs))
-  sized-is before {locals} (procref at name {b} {ys} {xs} d f) of =
+  sized-is before {locals} (procref at name {b} {ys} {xs} d f) of on =
       let items = digest_items (block_digest out.constants (block_of ys)) in
       ap (λ n. size_onto known locals b (both (size_of before) (run_of n))) (sym (four-items out.constants (block_of ys) count))
-      ∙ sized-run before items locals b xs (sized-is (before ++ map Operation items) f of.1)
-  sized-is before {locals} (syscall at name {callee} {b} {xs} found f) of =
+      ∙ sized-run before items locals b xs (sized-is (before ++ map Operation items) f of.1 on)
+  sized-is before {locals} (syscall at name {callee} {b} {xs} found f) of on =
       let block = seen_as as_extent callee in
       ap (size_onto known locals b) (behind before _ _ (ap (λ e. block_size (as_extent.syscall e)) (fits.exported name callee found)))
-      ∙ sized-is (before ++ Whole (as_extent.syscall block) ∷ []) f of
+      ∙ sized-is (before ++ Whole (as_extent.syscall block) ∷ []) f of on
       ∙ ap size_of (append_assoc before (Whole (as_extent.syscall block) ∷ []) (seen xs))
-  sized-is before {locals} (branches at {a} {e} {b} {ys} {zs} {xs} d k f) of =
+  sized-is before {locals} (dynexec at {b} {lists} {xs} ds f) of on =
+      let block = seen_as as_extent (Dyn (blocks_from (map block_of lists))) in
+      ap (size_onto known locals b) (behind before known.dispatch block (block-agree known.dispatch block (fits.dispatch lists on.0 ds)))
+      ∙ sized-is (before ++ Whole block ∷ []) f of on.1
+      ∙ ap size_of (append_assoc before (Whole block ∷ []) (seen xs))
+  sized-is before {locals} (branches at {a} {e} {b} {ys} {zs} {xs} d k f) of on =
       let first = seen_as as_extent (block_of ys) in
       let second = seen_as as_extent (block_of zs) in
       ap (size_onto known locals b)
-      (behind before _ _ (ap₂ (λ u w. block_size (as_extent.split (extent_of u) (extent_of w))) (sized-is [] d of.0) (sized-is [] k of.1)
+      (behind before _ _ (ap₂ (λ u w. block_size (as_extent.split (extent_of u) (extent_of w))) (sized-is [] d of.0 on.0) (sized-is [] k of.1 on.1)
       ∙ block-over_two (extent_of (size_of (seen ys))) (extent_of (size_of (seen zs))) first second (agree d) (agree k)))
-      ∙ sized-is (before ++ Whole (as_extent.split first second) ∷ []) f of.2
+      ∙ sized-is (before ++ Whole (as_extent.split first second) ∷ []) f of.2 on.2
       ∙ ap size_of (append_assoc before (Whole (as_extent.split first second) ∷ []) (seen xs))
-  sized-is before {locals} (loops at {a} {b} {ys} {xs} d f) of =
+  sized-is before {locals} (loops at {a} {b} {ys} {xs} d f) of on =
       let turn = seen_as as_extent (block_of ys) in
       ap (size_onto known locals b)
-      (behind before _ _ (ap (λ u. block_size (as_extent.loop (extent_of u))) (sized-is [] d of.0)
+      (behind before _ _ (ap (λ u. block_size (as_extent.loop (extent_of u))) (sized-is [] d of.0 on.0)
       ∙ block-over (extent_of (size_of (seen ys))) turn (agree d)))
-      ∙ sized-is (before ++ Whole (as_extent.loop turn) ∷ []) f of.1
+      ∙ sized-is (before ++ Whole (as_extent.loop turn) ∷ []) f of.1 on.1
       ∙ ap size_of (append_assoc before (Whole (as_extent.loop turn) ∷ []) (seen xs))
-  sized-is before {locals} (repeated at n {a} {b} {ys} {xs} d f) of =
-      ap (size_onto known locals b) (ap (λ s. both (size_of before) (times_size n s)) (sized-is [] d of.0) ∙ size-times n (seen ys) before)
-      ∙ sized-is (before ++ times n (seen ys)) f of.1
+  sized-is before {locals} (repeated at n {a} {b} {ys} {xs} d f) of on =
+      ap (size_onto known locals b) (ap (λ s. both (size_of before) (times_size n s)) (sized-is [] d of.0 on.0) ∙ size-times n (seen ys) before)
+      ∙ sized-is (before ++ times n (seen ys)) f of.1 on.1
       ∙ ap size_of (append_assoc before (times n (seen ys)) (seen xs)
       ∙ ap (λ us. before ++ us) (sym
       (seen-append as_extent (times n ys) xs ∙ ap (λ us. us ++ seen xs) (seen-times as_extent n ys))))
 
-  locals-sized : (n : ℕ) (b : Body) (xs : List (Piece Block)) → IsList procs out n b xs → UsesOnly P R b
+  locals-sized : (n : ℕ) (b : Body) (xs : List (Piece Block)) → IsList source out n b xs → UsesOnly P R b → DynexecsOnly D b
       → procedure_size known n b ≡ size_of (seen (with_locals n xs))
-  locals-sized zero b xs d of = sized-is [] d of
-  locals-sized (suc n) b xs d of =
+  locals-sized zero b xs d of on = sized-is [] d of on
+  locals-sized (suc n) b xs d of on =
       let up : List Item = lit (suc n) ∷ plain_item FmpUpdate ∷ [] in
       let down : List Item = lit (prime - suc n) ∷ plain_item FmpUpdate ∷ [] in
       ap (λ z. both (size_onto known (suc n) b z) (run_of 2)) (ap (both (size_of [])) (sym (size-run up)) ∙ sym (size-append [] (map Operation up)))
-      ∙ ap₂ both (sized-is (map Operation up) d of) (sym (size-run down))
+      ∙ ap₂ both (sized-is (map Operation up) d of on) (sym (size-run down))
       ∙ sym (size-append (map Operation up ++ seen xs) (map Operation down))
       ∙ ap size_of (append_assoc (map Operation up) (seen xs) (map Operation down)
       ∙ ap (λ us. map Operation up ++ us) (sym (seen-append as_extent xs (map Operation down))))
 
   -- the size of a procedure's list, and the extent of its block
-  pub procedure-sized : (p : Procedure) (xs : List (Piece Block)) → IsList procs out p.locals p.body xs → UsesOnly P R p.body
+  pub procedure-sized : (p : Procedure) (xs : List (Piece Block)) → IsList source out p.locals p.body xs → UsesOnly P R p.body → DynexecsOnly D p.body
       → procedure_size known p.locals p.body ≡ size_of (seen (with_locals p.locals xs))
-  procedure-sized p xs d of = locals-sized p.locals p.body xs d of
+  procedure-sized p xs d of on = locals-sized p.locals p.body xs d of on
 
-  pub procedure-extent : (p : Procedure) (xs : List (Piece Block)) → IsList procs out p.locals p.body xs → UsesOnly P R p.body
+  pub procedure-extent : (p : Procedure) (xs : List (Piece Block)) → IsList source out p.locals p.body xs → UsesOnly P R p.body → DynexecsOnly D p.body
       → Agree (extent_of (procedure_size known p.locals p.body)) (seen_as as_extent (block_of (with_locals p.locals xs)))
-  procedure-extent p xs d of =
+  procedure-extent p xs d of on =
       let zs = with_locals p.locals xs in
-      subst (λ z. Agree (extent_of z) (seen_as as_extent (block_of zs))) (sym (procedure-sized p xs d of))
+      subst (λ z. Agree (extent_of z) (seen_as as_extent (block_of zs))) (sym (procedure-sized p xs d of on))
       (subst (Agree (extent_of (size_of (seen zs)))) (sym (seen-block as_extent zs))
       (extent-whole (seen zs) (solid-locals p.locals xs (list-solid some d))))
 
   -- whether the limits are passed, told by the extent
-  pub procedure-operations : (p : Procedure) (xs : List (Piece Block)) → IsList procs out p.locals p.body xs → UsesOnly P R p.body
+  pub procedure-operations : (p : Procedure) (xs : List (Piece Block)) → IsList source out p.locals p.body xs → UsesOnly P R p.body → DynexecsOnly D p.body
       → (524288 < (extent_of (procedure_size known p.locals p.body)).operations)
       ↔ (524288 < seen_as as_operations (block_of (with_locals p.locals xs)))
-  procedure-operations p xs d of =
-      let same = (procedure-extent p xs d of).operations in
+  procedure-operations p xs d of on =
+      let same = (procedure-extent p xs d of on).operations in
       let is = operations-block (block_of (with_locals p.locals xs)) in
       (λ h. omega arith, λ h. omega arith)
 
-  pub procedure-height : (p : Procedure) (xs : List (Piece Block)) → IsList procs out p.locals p.body xs → UsesOnly P R p.body
+  pub procedure-height : (p : Procedure) (xs : List (Piece Block)) → IsList source out p.locals p.body xs → UsesOnly P R p.body → DynexecsOnly D p.body
       → (extent_of (procedure_size known p.locals p.body)).operations ≤ 524288
       → (1024 < (extent_of (procedure_size known p.locals p.body)).height) ↔ (1024 < seen_as as_height (block_of (with_locals p.locals xs)))
-  procedure-height p xs d of few =
-      let same = (procedure-extent p xs d of).height few in
+  procedure-height p xs d of on few =
+      let same = (procedure-extent p xs d of on).height few in
       let is = height-block (block_of (with_locals p.locals xs)) in
       (λ h. omega arith, λ h. omega arith)

@@ -5,10 +5,10 @@ use Rattle.masm_expand.specs.Expansion.{expansion}
 use Rattle.masm_tree.specs.declared.tree.Position.{Position}
 use Rattle.masm_tree.specs.declared.tree.Stmt.{Stmt}
 use Rattle.masm_tree.specs.declared.tree.Stmt.TheOpen.{Stmt-F}
-use Rattle.masm_tree.specs.declared.tree.Stmt.TheVariants.{Instr, If, While, Repeat, Exec, Call, Syscall, ProcRef}
+use Rattle.masm_tree.specs.declared.tree.Stmt.TheVariants.{Instr, If, While, Repeat, Exec, Call, Syscall, ProcRef, DynExec}
 use Rattle.masm_tree.specs.Trees.{Body, Empty}
 use Rattle.masm_tree.specs.Views.{add_step, stmt_view, body_of}
-use Rattle.masm_tree.proofs.Mirror.{view-Instr, view-If, view-While, view-Repeat, view-Exec, view-Call, view-Syscall, view-ProcRef}
+use Rattle.masm_tree.proofs.Mirror.{view-Instr, view-If, view-While, view-Repeat, view-Exec, view-Call, view-Syscall, view-ProcRef, view-DynExec}
 use Rattle.masm_size.specs.Sizes.{Size, Known_sizes, as_extent, run_of, nothing, both, times_size, extent_of, block_size, size_onto, procedure_size}
 use Rattle.masm_flat.proofs.Statements.{each}
 
@@ -24,6 +24,7 @@ module _ (known : Known_sizes) (locals : ℕ) where
   onto-step (Stmt-F.Call at name) rest before = refl
   onto-step (Stmt-F.Syscall at name) rest before = refl
   onto-step (Stmt-F.ProcRef at name) rest before = refl
+  onto-step (Stmt-F.DynExec at) rest before = refl
 
   pub onto-first : (s : Stmt) (rest : Body) (before : Size)
       → size_onto known locals (stmt_view s rest) before
@@ -56,6 +57,10 @@ module _ (known : Known_sizes) (locals : ℕ) where
       → size_onto known locals (stmt_view (ProcRef at name) Empty) before ≡ both before (run_of 4)
   onto-ProcRef at name before = ap (λ b. size_onto known locals b before) (view-ProcRef at name Empty)
 
+  pub onto-DynExec : (at : Position) (before : Size)
+      → size_onto known locals (stmt_view (DynExec at) Empty) before ≡ both before (block_size known.dispatch)
+  onto-DynExec at before = ap (λ b. size_onto known locals b before) (view-DynExec at Empty)
+
   pub onto-If : (at : Position) (xs ys : Vec Stmt Global) (before : Size) → size_onto known locals (stmt_view (If at xs ys) Empty) before
       ≡ both before (block_size (as_extent.split (extent_of (size_onto known locals (body_of xs.items) nothing))
       (extent_of (size_onto known locals (body_of ys.items) nothing))))
@@ -69,7 +74,7 @@ module _ (known : Known_sizes) (locals : ℕ) where
       ≡ both before (times_size n (size_onto known locals (body_of xs.items) nothing))
   onto-Repeat at n xs before = ap (λ b. size_onto known locals b before) (view-Repeat at n xs Empty)
 
-pub ruleset sized = (onto-Instr, onto-Exec, onto-Call, onto-Syscall, onto-ProcRef, onto-If, onto-While, onto-Repeat)
+pub ruleset sized = (onto-Instr, onto-Exec, onto-Call, onto-Syscall, onto-ProcRef, onto-DynExec, onto-If, onto-While, onto-Repeat)
 
 pub procedure_none : (known : Known_sizes) (n : ℕ) (b : Body) → n ≡ 0 → procedure_size known n b ≡ size_onto known 0 b nothing
 procedure_none known zero b h = refl

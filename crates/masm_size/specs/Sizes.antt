@@ -1,6 +1,6 @@
 -- The sizes of lists (docs/ASSEMBLY.md, "What is refused"): how many operations there are, up to a limit, and how high the
 -- blocks stand, with no block built.
-use Rattle.std.specs.Prelude.{ℕ, zero, suc, ◌+◌, ◌-◌, ◌*◌, ◌/◌, ◌%◌, min, max, Bool, true, false, not, ◌&&◌, ◌||◌, nat_eq, nat_lt, nat_le, if◌then◌else◌, List, [], ◌∷◌, ◌++◌, length, map, Option, Some, None}
+use Rattle.std.specs.Prelude.{ℕ, zero, suc, ◌+◌, ◌-◌, ◌*◌, ◌/◌, ◌%◌, min, max, Bool, true, false, not, ◌&&◌, ◌||◌, nat_eq, nat_lt, nat_le, if◌then◌else◌, List, [], ◌∷◌, ◌++◌, length, map, sum, Option, Some, None}
 use Rattle.vm_field.specs.Limits.{most_nesting, most_operations}
 use Rattle.vm_ops.specs.declared.item.Item.{Item}
 use Rattle.masm_expand.specs.Expansion.{expansion}
@@ -11,7 +11,7 @@ use Rattle.masm_size.specs.declared.shape.Outline.{Outline}
 use Rattle.masm_size.specs.declared.shape.Part.{Part}
 use Rattle.masm_size.specs.declared.shape.Rise.{Rise}
 use Rattle.masm_size.specs.declared.shape.Size as code
-use Rattle.masm_flat.specs.Blocks.{View, Piece, Operation, Whole, all_joined}
+use Rattle.masm_flat.specs.Blocks.{View, Piece, Operation, Whole, all_joined, greatest}
 
 abbrev pub extent : ℕ → ℕ → Extent
 extent operations height = record { operations = min operations (most_operations + 1); height = min height (most_nesting + 1) }
@@ -25,6 +25,7 @@ as_extent = record {
   loop = λ a. extent a.operations (1 + a.height);
   call = λ a. extent a.operations (1 + a.height);
   syscall = λ a. extent a.operations (1 + a.height);
+  dyn = λ targets. extent (1 + sum (map (λ a. a.operations) targets)) (1 + greatest (map (λ a. a.height) targets));
 }
 
 -- a part of a list: a run of operations, or a block with its height
@@ -234,10 +235,12 @@ block_size e = limited e.operations (one_block e.height)
 abbrev pub digest_operations : ℕ
 digest_operations = 4
 
--- What is known of procedures by their names: the sizes of the source's, the extents of the kernel's.
+-- What is known of procedures by their names: the sizes of the source's, the extents of the kernel's; and the extent of a
+-- dynexec's block.
 pub record Known_sizes : Type 0 where
   pub size : List ℕ → Size
   pub exported : List ℕ → Extent
+  pub dispatch : Extent
 
 -- the size of what stands before a body, and then the body, in a procedure of so many locals
 abbrev pub size_onto : Known_sizes → ℕ → Body → Size → Size
@@ -250,6 +253,7 @@ size_onto known locals (Leaf_then at (leaves.Call name) rest) before =
 size_onto known locals (Leaf_then at (leaves.Syscall name) rest) before =
     size_onto known locals rest (both before (block_size (as_extent.syscall (known.exported name))))
 size_onto known locals (Leaf_then at (leaves.ProcRef name) rest) before = size_onto known locals rest (both before (run_of digest_operations))
+size_onto known locals (Leaf_then at leaves.DynExec rest) before = size_onto known locals rest (both before (block_size known.dispatch))
 size_onto known locals (If_then at first second rest) before =
     size_onto known locals rest (both before (block_size
     (as_extent.split (extent_of (size_onto known locals first nothing)) (extent_of (size_onto known locals second nothing)))))

@@ -1,9 +1,9 @@
 ghost use Rattle.std.specs.Prelude.{◌≡◌};
-ghost use Rattle.masm_size.specs.KnownSizes.{size_at, known_sizes_of};
+ghost use Rattle.masm_size.specs.KnownSizes.{dispatch_extent, size_at, known_sizes_of};
 ghost use Rattle.masm_size.specs.Sizes.{part_view};
 
 use crate::shape::{Part, Size};
-use crate::size::NO_PARTS;
+use crate::size::{NO_PARTS, beside, extent_of, over};
 use masm_flat::{Extent, Outside};
 use masm_names::Names;
 use vm_field::Bytes;
@@ -15,6 +15,8 @@ pub struct Sizes<'a> {
     pub names: &'a Names,
     /// The sizes of their lists, in order; of one that is missing it is that of the empty list.
     pub sizes: &'a [Size],
+    /// The extent of a dynexec's block. It may be any where the body has no dynexec.
+    pub dispatch: Extent,
     /// What lies outside the source.
     pub outside: &'a Outside<'a>,
 }
@@ -33,6 +35,25 @@ fn numbered<'a>(sizes: &'a [Size], number: Option<usize>) -> Part<'a>
         outline: NO_PARTS,
         rises: &[],
     }
+}
+
+// A dynexec's block is one operation besides those of its targets.
+const OWN_OPERATIONS: u32 = 1;
+
+/// The extent of a dynexec's block, by the sizes of procedures' lists by their places and the places
+/// of those that it may run: it counts all their operations and one more, each time that it stands
+/// somewhere.
+pub fn dispatch_extent(sizes: &[Size], targets: &[usize]) -> Extent
+    ensures { result ≡ dispatch_extent sizes.now targets.now }
+{
+    let mut all = Extent {
+        operations: OWN_OPERATIONS,
+        height: 0,
+    };
+    for place in targets {
+        all = beside(all, extent_of(numbered(sizes, Some(*place))));
+    }
+    over(all)
 }
 
 impl<'a> Sizes<'a> {

@@ -8,7 +8,7 @@ mod measuring;
 mod shape;
 mod size;
 
-pub use known_sizes::Sizes;
+pub use known_sizes::{Sizes, dispatch_extent};
 pub use measuring::size_of_procedure;
 pub use shape::{Outline, Part, Rise, Size};
 pub use size::extent_of;

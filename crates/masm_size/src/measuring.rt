@@ -55,6 +55,7 @@ fn with_statement(
         Stmt::Call(_, name) => with_block(before, over(extent_of(sizes.size(name)))),
         Stmt::Syscall(_, name) => with_block(before, over(sizes.exported(name))),
         Stmt::ProcRef(_, _) => with_run(DIGEST_OPERATIONS, before),
+        Stmt::DynExec(_) => with_block(before, sizes.dispatch),
         Stmt::If(_, first, second) => {
             let on_one = extent(alloc, sizes, locals, first)?;
             let on_zero = extent(alloc, sizes, locals, second)?;

@@ -1,4 +1,4 @@
-ghost use Rattle.std.specs.Prelude.{◌≡◌, ◌<◌, [], ◌∷◌, ◌++◌, length, nat_le, IfOk, OnOk};
+ghost use Rattle.std.specs.Prelude.{◌≡◌, ◌+◌, ◌-◌, ◌^◌, ◌<◌, min, max, [], ◌∷◌, ◌++◌, length, nat_le, IfOk, OnOk};
 ghost use Rattle.masm_instr.specs.Instructions.{HasLocal};
 ghost use Rattle.masm_expand.specs.Expansion.{expansion};
 ghost use Rattle.masm_size.specs.Sizes.{as_extent, size_view, part_view, row_view, limited, run_of, nothing, no_row, top_of, top_after, rises_behind, offset_of, row_both, both, times_size, extent_of, block_size};
@@ -252,6 +252,17 @@ pub fn extent_of(list: Part) -> Extent
     Extent {
         operations: list.operations.max(1),
         height: row_height(list.outline, list.rises),
+    }
+}
+
+/// All operations of two extents, and the height of the higher one.
+pub(crate) fn beside(first: Extent, second: Extent) -> Extent
+    ensures operations { result.operations ≡ min (first.operations + second.operations) (2 ^ 32 - 1) }
+    ensures height { result.height ≡ max first.height second.height }
+{
+    Extent {
+        operations: first.operations.saturating_add(second.operations),
+        height: first.height.max(second.height),
     }
 }
 

@@ -42,7 +42,7 @@ module _ (source : Source) where
       (subst (λ o. Contains (flat_map uses_in (option_to_list o)) u) (sym is) (Contains-append_left (uses_of p.body) [] u has)))
 
   module _ (names : List (List ℕ)) (closed : IsClosed source names) where
-    own_leads : (u : Use) → Contains (all_uses source) u → u.kind ≡ Own → (j : ℕ) × (first_place source.procs u.name ≡ Some j)
+    pub own_leads : (u : Use) → Contains (all_uses source) u → u.kind ≡ Own → (j : ℕ) × (first_place source.procs u.name ≡ Some j)
     own_leads u has own = by (first_place source.procs u.name) refl
       where
         by : (o : Option ℕ) → first_place source.procs u.name ≡ o → (j : ℕ) × (first_place source.procs u.name ≡ Some j)
@@ -67,7 +67,7 @@ module _ (source : Source) where
         let leads = own_leads u (among u has) own in
         (leads.0, leads.1, done u leads.0 has own leads.1)
 
-    pub uses_behind : (order : List ℕ) → IsUseOrder source.procs order → (k : ℕ) (p : Procedure) → k < length order
+    pub uses_behind : (order : List ℕ) → IsUseOrder source order → (k : ℕ) (p : Procedure) → k < length order
         → slice_get source.procs (get_or order k 0) ≡ Some p
         → UsesOnly (Behind source.procs (Contains (take k order))) (Behind source.procs (Contains (take k order))) p.body
     uses_behind order is k p below here =
@@ -76,7 +76,7 @@ module _ (source : Source) where
         uses_only (Behind source.procs (Contains (take k order))) (Behind source.procs (Contains (take k order))) p.body
         (λ u has own runs. leads u has own) (λ u has own refers. leads u has own)
 
-    pub uses_main : (order : List ℕ) → IsUseOrder source.procs order → (p : Procedure) → source.main ≡ Some p
+    pub uses_main : (order : List ℕ) → IsUseOrder source order → (p : Procedure) → source.main ≡ Some p
         → UsesOnly (Behind source.procs (Contains order)) (Behind source.procs (Contains order)) p.body
     uses_main order is p main =
         let leads = leads_in (Contains order) p.body (λ u has. among_main p u main has)

@@ -5,12 +5,16 @@ use Rattle.std.proofs.lemmas.Option.{slice_get_within}
 use Rattle.std.specs.List.{Contains}
 use Rattle.masm_tree.specs.Trees.{Procedure, Source}
 use Rattle.masm_names.specs.Naming.{IsClosed}
+use Rattle.masm_names.specs.Uses.{first_place, target_names}
 use Rattle.masm_uses.specs.UseOrders.{IsUseOrder}
 use Rattle.masm_flat.specs.Blocks.{Block, Piece}
-use Rattle.masm_flat.specs.Lists.{Outside, own, IsList, with_locals}
+use Rattle.masm_flat.specs.Lists.{Outside, ListOf, own, ListsOf, IsList, with_locals}
+use Rattle.masm_flat.proofs.DynamicBodies.{dynexecs_only}
 use Rattle.masm_flat.proofs.HasList.{has_list}
+use Rattle.masm_flat.proofs.Targets.{lists_of_all}
 use Rattle.masm_tables.specs.Kernels.{names_of}
 use Rattle.masm_tables.proofs.Closed.{Behind, IsExportName, uses_behind, uses_main, syscalls_procs, syscalls_main}
+use Rattle.masm_tables.proofs.Dispatches.{target_leads}
 use Rattle.masm_tables.proofs.Finding.{procedure_found}
 
 -- an element of a front stands at an earlier place
@@ -22,22 +26,35 @@ in_front k xs x within h =
     (h.0, low, get_or_default xs h.0 0 x low_too ∙ sym (get_or-take k xs h.0 x low) ∙ h.2)
 
 module _ (source : Source) (names : List (List ℕ)) (closed : IsClosed source names) (out : Outside) (same : names ≡ names_of out.exports)
-    (order : List ℕ) (is : IsUseOrder source.procs order) where
+    (order : List ℕ) (is : IsUseOrder source order) where
   abbrev HasListOf : Procedure → Type 0
-  HasListOf p = (xs : List (Piece Block)) × IsList source.procs out p.locals p.body xs
+  HasListOf p = (xs : List (Piece Block)) × IsList source out p.locals p.body xs
+
+  abbrev TargetLists : Type 0
+  TargetLists = (lists : List (List (Piece Block))) × ListsOf source out (target_names source) lists
 
   exist : (n k : ℕ) → k < n → n ≤ length order → (p : Procedure) → slice_get source.procs (get_or order k 0) ≡ Some p → HasListOf p
   exist zero k low within p here = absurd (omega arith)
   exist (suc n) k low within p here =
-      has_list (Behind source.procs (Contains (take k order))) (IsExportName out.exports)
-      (λ name behind.
-      let found = procedure_found source.procs name behind.0 behind.1 in
-      let before = in_front k order behind.0 (omega arith) behind.2 in
-      let below : before.0 < n = let l = before.1 in omega arith in
-      let list = exist n before.0 below (omega arith) found.0 (ap (slice_get source.procs) before.2 ∙ found.1) in
-      (with_locals found.0.locals list.0, own name found.2 list.1))
-      (λ name has. has) p.locals p.body
-      (uses_behind source names closed order is k p (omega arith) here) (syscalls_procs source names closed out.exports same (get_or order k 0) p here)
+      let below : k < length order = omega arith in
+      let before = list_before_it (λ m lower q there. exist n m lower (omega arith) q there) in
+      has_list (Behind source.procs (Contains (take k order))) (IsExportName out.exports) TargetLists
+      (λ name behind. before name behind.0 behind.1 behind.2) (λ name has. has) (λ lists. lists) p.locals p.body
+      (uses_behind source names closed order is k p below here) (syscalls_procs source names closed out.exports same (get_or order k 0) p here)
+      (dynexecs_only TargetLists p.body (λ at has. lists_of_all source out (target_names source) (λ name among.
+      let leads = target_leads source names closed name among in
+      before name leads.0 leads.1 (is.targets k leads.0 below (record { procedure = p; here = here; at = at; among = has }) leads.2))))
+    where
+      -- the list of a procedure that stands before it
+      list_before_it : ((m : ℕ) → m < n → (q : Procedure) → slice_get source.procs (get_or order m 0) ≡ Some q → HasListOf q)
+          → (name : List ℕ) (j : ℕ) → first_place source.procs name ≡ Some j → Contains (take k order) j
+          → (ys : List (Piece Block)) × ListOf source out name ys
+      list_before_it lists name j there among =
+          let found = procedure_found source.procs name j there in
+          let earlier = in_front k order j (omega arith) among in
+          let lower : earlier.0 < n = let l = earlier.1 in omega arith in
+          let list = lists earlier.0 lower found.0 (ap (slice_get source.procs) earlier.2 ∙ found.1) in
+          (with_locals found.0.locals list.0, own name found.2 list.1)
 
   pub list_of_procedure : (place : ℕ) (p : Procedure) → slice_get source.procs place ≡ Some p → HasListOf p
   list_of_procedure place p here =
@@ -45,11 +62,16 @@ module _ (source : Source) (names : List (List ℕ)) (closed : IsClosed source n
       exist (length order) there.0 there.1 (omega arith) p
       (ap (slice_get source.procs) (get_or_default order there.0 0 place there.1 ∙ there.2) ∙ here)
 
+  list_by_name : (name : List ℕ) (j : ℕ) → first_place source.procs name ≡ Some j → (ys : List (Piece Block)) × ListOf source out name ys
+  list_by_name name j there =
+      let found = procedure_found source.procs name j there in
+      let list = list_of_procedure j found.0 found.1 in
+      (with_locals found.0.locals list.0, own name found.2 list.1)
+
   pub list_of_main : (p : Procedure) → source.main ≡ Some p → HasListOf p
   list_of_main p main =
-      has_list (Behind source.procs (Contains order)) (IsExportName out.exports)
-      (λ name behind.
-      let found = procedure_found source.procs name behind.0 behind.1 in
-      let list = list_of_procedure behind.0 found.0 found.1 in
-      (with_locals found.0.locals list.0, own name found.2 list.1))
-      (λ name has. has) p.locals p.body (uses_main source names closed order is p main) (syscalls_main source names closed out.exports same p main)
+      has_list (Behind source.procs (Contains order)) (IsExportName out.exports) TargetLists
+      (λ name behind. list_by_name name behind.0 behind.1) (λ name has. has) (λ lists. lists) p.locals p.body
+      (uses_main source names closed order is p main) (syscalls_main source names closed out.exports same p main)
+      (dynexecs_only TargetLists p.body (λ at has. lists_of_all source out (target_names source) (λ name among.
+      let leads = target_leads source names closed name among in list_by_name name leads.0 leads.1)))

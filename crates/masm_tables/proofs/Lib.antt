@@ -1,10 +1,12 @@
 pub mod Built
 pub mod Closed
+pub mod Dispatches
 pub mod Exist
 pub mod Finding
 pub mod Got
 pub mod Known
 pub mod Over
+pub mod Prepared
 pub mod Put
 pub mod Steps
 pub mod Taken

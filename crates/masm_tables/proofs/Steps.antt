@@ -1,10 +1,10 @@
 -- The steps of a plan, one behind the other.
-use Rattle.std.proofs.Common.{◌≡◌, ℕ, ◌+◌, ◌<◌, ◌≤◌, Bool, true, false, List, [], ◌∷◌, ◌++◌, length, take, get_or, Vec, Global, refl, sym, ap, subst, ◌∙◌}
+use Rattle.std.proofs.Common.{◌≡◌, ℕ, ◌+◌, ◌<◌, ◌≤◌, Bool, true, List, [], ◌∷◌, ◌++◌, length, take, get_or, Vec, Global, refl, sym, ap, subst, ◌∙◌}
 use Rattle.std.specs.Prelude.{reverse}
 use Rattle.std.proofs.lemmas.List.{take_more, take_all, reverse-append}
 use Rattle.masm_tree.specs.Trees.{Source}
 use Rattle.masm_uses.specs.declared.planning.Step.{Step}
-use Rattle.masm_uses.specs.Plans.{HeldBehind, Builds, IsPlan, IsWanted, IsReferred, NeedsIn, keeps_list, ended_lists, makes_digest, no_ends}
+use Rattle.masm_uses.specs.Plans.{HeldBehind, Builds, IsPlan, IsWanted, IsReferred, ListNeeds, NeedsIn, keeps_list, ended_lists, makes_digest, no_ends}
 use Rattle.masm_uses.proofs.PlanLemmas.{builds-more}
 use Rattle.masm_flat.specs.declared.piece.Piece as piece
 use Rattle.masm_flat.specs.Lists.{Outside}
@@ -17,12 +17,12 @@ ArePlaces count steps = Builds keeps_list ended_lists (λ i j. ⊥) count (λ q.
 -- the steps build the lists that are wanted, where these lists are built
 abbrev pub BuildsLists : Source → Outside → List (Vec piece.Piece Global) → List Step → Type 0
 BuildsLists source out lists steps =
-    Builds keeps_list ended_lists (NeedsIn source.procs false) (length source.procs) (IsWanted source) (IsListAt source.procs out lists) steps
+    Builds keeps_list ended_lists (ListNeeds source) (length source.procs) (IsWanted source) (IsListAt source out lists) steps
 
 -- and the digests, where these are made
 abbrev pub BuildsDigests : Source → Outside → List (List ℕ) → List Step → Type 0
 BuildsDigests source out digests steps =
-    Builds makes_digest no_ends (NeedsIn source.procs true) (length source.procs) (IsReferred source) (IsDigestAt source.procs out digests) steps
+    Builds makes_digest no_ends (NeedsIn source.procs true) (length source.procs) (IsReferred source) (IsDigestAt source out digests) steps
 
 -- the next step stands last
 steps_more : (steps : List Step) (k : ℕ) (step : Step) → k < length steps → step ≡ get_or steps k step
@@ -61,5 +61,5 @@ module _ (makes : Step → Bool) (ends : Step → List ℕ) (Needs : ℕ → ℕ
 -- the places of a plan
 pub plan-places : (source : Source) (steps : List Step) → IsPlan source steps → ArePlaces (length source.procs) (reverse steps)
 plan-places source steps plan =
-    builds-more keeps_list ended_lists (NeedsIn source.procs false) (λ i j. ⊥) (length source.procs) (length source.procs) (IsWanted source)
+    builds-more keeps_list ended_lists (ListNeeds source) (λ i j. ⊥) (length source.procs) (length source.procs) (IsWanted source)
     (λ q. ⊥) (λ q. ⊥) (λ q. Unit {0}) (reverse steps) refl (λ i j h. absurd h) (λ q h. absurd h) (λ q h. absurd h) plan.lists

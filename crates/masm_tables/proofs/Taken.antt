@@ -41,9 +41,10 @@ module _ (table : Table) (ended : List ℕ) (counted : (q : ℕ) → q < length 
 
   -- a body is served the lists that the table has
   pub serves_start : (scope : Scope) (uses : List Use) → IsNoneOrAll ended (places_used (place_at scope.names.now) uses)
-      → Serves scope (lists_known scope.names.now table.lists.items scope.digests.now scope.outside.now.exports.now) table (uses ++ [])
+      → Serves scope (lists_known scope.names.now table.lists.items scope.digests.now scope.dispatch.now scope.outside.now.exports.now) table (uses ++ [])
   serves_start scope uses ends = record {
     exported = λ name. refl;
+    dispatch = refl;
     lists = λ u has kind runs. refl;
     digests = λ u has kind refers. refl;
     left = λ q. elim (cases_lt q (length table.left.items)) [

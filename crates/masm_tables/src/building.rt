@@ -1,10 +1,11 @@
-ghost use Rattle.std.specs.Prelude.{◌≡◌, length, IfOk};
+ghost use Rattle.std.specs.Prelude.{◌≡◌, ◌<◌, Option, Some, length, IfOk};
+ghost use Rattle.std.specs.List.{All};
 ghost use Rattle.std.specs.Option.{option_map};
+ghost use Rattle.block_tree.specs.declared.tree.Tree as code;
 ghost use Rattle.block_tree.specs.TreeView.{tree_of};
+ghost use Rattle.masm_tree.specs.declared.tree.Proc as procs;
 ghost use Rattle.masm_flat.specs.Blocks.{as_tree, whole};
-ghost use Rattle.masm_flat.specs.Flattening.{flat_with};
-ghost use Rattle.masm_flat.specs.KnownLists.{lists_known};
-ghost use Rattle.masm_flat.specs.Lists.{with_locals};
+ghost use Rattle.masm_flat.specs.KnownLists.{dispatch_of};
 ghost use Rattle.masm_size.specs.Sizes.{extent_of, size_view};
 ghost use Rattle.masm_flat.specs.Views.{pieces_of};
 ghost use Rattle.masm_tree.specs.Locals.{MainFits};
@@ -13,12 +14,12 @@ ghost use Rattle.masm_flat.specs.Taking.{HasNoneLeft};
 ghost use Rattle.masm_names.specs.Names.{place_at};
 ghost use Rattle.masm_uses.specs.Plans.{main_uses};
 ghost use Rattle.masm_tables.specs.Building.{AreBuilt};
+ghost use Rattle.masm_tables.specs.Preparing.{Prepares};
+ghost use Rattle.masm_tables.specs.Tables.{listed};
 
 use crate::listing::Listings;
 use block_tree::Tree;
-use masm_flat::{
-    KernelProc, Outside, Piece, Scope, Table, add_copies, list_of_procedure, tree_of_list,
-};
+use masm_flat::{KernelProc, Outside, Piece, Scope, copied_tree, list_of_procedure, tree_of_list};
 use masm_names::Names;
 use masm_size::{Size, extent_of};
 use masm_tree::Proc;
@@ -36,11 +37,9 @@ fn export_of(
     ensures tree { IfOk result (λ export. tree_of export.tree ≡ whole as_tree (pieces_of list.now)) }
     ensures extent { IfOk result (λ export. export.extent ≡ extent_of (size_view size.now)) }
 {
-    let mut pieces = Vec::new(alloc);
-    add_copies(alloc, list, &mut pieces)?;
     Ok(KernelProc {
         name: Bytes::copied(alloc, procedure.name.as_slice())?,
-        tree: tree_of_list(alloc, pieces)?,
+        tree: copied_tree(alloc, list)?,
         extent: extent_of(size.part()),
     })
 }
@@ -65,35 +64,46 @@ pub fn exports_of(
     Ok(exports)
 }
 
-/// The tree of the body between `begin` and `end`, of which these are the places of the lists that it uses. Each list is taken by its
-/// last use, and what is left of the table is freed before the tree is built.
+/// The tree of the body between `begin` and `end`, of which these are the places of the lists that it uses, and of those that its
+/// dynexecs may run. Each list is taken by its last use, and what is left is freed before the tree is built.
 pub fn main_tree(
     alloc: Global,
     names: &Names,
     outside: &Outside<'_>,
     main: &Option<Proc>,
     uses: &[usize],
+    targets: &[usize],
     built: Listings,
 ) -> Result<Option<Tree>, Memory>
     requires fits { MainFits (option_map procedure_of main.now) }
     requires uses { uses.now ≡ main_uses (place_at names.now) (option_map procedure_of main.now) }
+    requires targets { All (λ place. place < length built.table.lists.items) targets.now }
     requires none { HasNoneLeft built.table }
-    ensures { IfOk result (λ tree. option_map tree_of tree
-        ≡ option_map (λ p. whole as_tree (with_locals p.locals
-        (flat_with as_tree (lists_known names.now built.table.lists.items built.digests.items outside.now.exports.now) p.locals (body_of p.body.items)))) main.now) }
+    ensures { IfOk result (λ tree. (dispatch : Option code.Tree)
+        × ((p : procs.Proc) → main.now ≡ Some p
+        → Prepares (λ made. tree_of made ≡ dispatch_of built.table.lists.items targets.now) (body_of p.body.items) built.dispatch dispatch)
+        × (option_map tree_of tree ≡ option_map (λ p. whole as_tree (listed names.now built dispatch outside.now.exports.now p)) main.now)) }
 {
     let Some(procedure) = main else {
         return Ok(None);
     };
-    let Listings { table, digests } = built;
+    let mut built = built;
+    built.prepare(alloc, targets, &procedure.body)?;
+    let Listings {
+        table,
+        digests,
+        dispatch,
+    } = built;
     let scope = Scope {
         names,
         outside,
         digests: digests.as_slice(),
+        dispatch: &dispatch,
     };
     let mut table = table;
     table.expect(uses);
     let list = list_of_procedure(alloc, &scope, &mut table, procedure)?;
     drop(table);
+    drop(dispatch);
     Ok(Some(tree_of_list(alloc, list)?))
 }

@@ -1,6 +1,6 @@
 ghost use Rattle.std.specs.Prelude.{◌≡◌, length, Some, None, MatchOption, IfOk};
 ghost use Rattle.std.specs.Option.{option_map};
-ghost use Rattle.masm_size.specs.KnownSizes.{size_at, sizes_known};
+ghost use Rattle.masm_size.specs.KnownSizes.{dispatch_extent, size_at, sizes_known};
 ghost use Rattle.masm_size.specs.Sizes.{extent_of, procedure_size};
 ghost use Rattle.masm_tree.specs.Locals.{MainFits};
 ghost use Rattle.masm_tree.specs.Views.{body_of, procedure_of};
@@ -11,7 +11,7 @@ ghost use Rattle.masm_tables.specs.Limits.{size_cause, ExceedsLimit};
 
 use masm_flat::{Extent, Outside};
 use masm_names::{Defined, LinkCause, Names, Refusal, earlier};
-use masm_size::{Size, Sizes, extent_of, size_of_procedure};
+use masm_size::{Size, Sizes, dispatch_extent, extent_of, size_of_procedure};
 use masm_tree::{Position, Proc};
 use std::alloc::Global;
 use vm_field::{MOST_NESTING, MOST_OPERATIONS, Memory};
@@ -52,18 +52,21 @@ pub fn first_too_large(procs: &[Proc], sizes: &[Size]) -> Option<Refusal>
     first
 }
 
-/// The refusal of the body between `begin` and `end`, if its tree is too large.
+/// The refusal of the body between `begin` and `end`, if its tree is too large. Its dynexecs may run
+/// the procedures at these places.
 pub fn main_too_large(
     alloc: Global,
     names: &Names,
     outside: &Outside<'_>,
     main: &Option<Proc>,
     sizes: &[Size],
+    targets: &[usize],
 ) -> Result<Option<Refusal>, Memory>
     requires { MainFits (option_map procedure_of main.now) }
     ensures { IfOk result (λ first. MatchOption main.now (first ≡ None)
         (λ p. FindsLeast (ExceedsLimit (position_of (procedure_of p))
-        (extent_of (procedure_size (sizes_known names.now sizes.now outside.now.exports.now) p.locals (body_of p.body.items)))) first)) }
+        (extent_of (procedure_size (sizes_known names.now sizes.now (dispatch_extent sizes.now targets.now) outside.now.exports.now) p.locals
+        (body_of p.body.items)))) first)) }
 {
     let Some(procedure) = main else {
         return Ok(None);
@@ -71,6 +74,7 @@ pub fn main_too_large(
     let known = Sizes {
         names,
         sizes,
+        dispatch: dispatch_extent(sizes, targets),
         outside,
     };
     let size = size_of_procedure(alloc, &known, procedure)?;

@@ -5,7 +5,7 @@ use Rattle.masm_tree.specs.declared.tree.Position.{Position}
 use Rattle.masm_tree.specs.declared.tree.Stmt.{Stmt}
 use Rattle.masm_tree.specs.declared.tree.Stmt.TheOpen.{Stmt-F}
 use Rattle.masm_tree.specs.declared.tree.Stmt.TheFolds.{fold-roll-Stmt, fold_out-Stmt}
-use Rattle.masm_tree.specs.declared.tree.Stmt.TheVariants.{Instr, If, While, Repeat, Exec, Call, Syscall, ProcRef, rolls-Instr, rolls-If, rolls-While, rolls-Repeat, rolls-Exec, rolls-Call, rolls-Syscall, rolls-ProcRef}
+use Rattle.masm_tree.specs.declared.tree.Stmt.TheVariants.{Instr, If, While, Repeat, Exec, Call, Syscall, ProcRef, DynExec, rolls-Instr, rolls-If, rolls-While, rolls-Repeat, rolls-Exec, rolls-Call, rolls-Syscall, rolls-ProcRef, rolls-DynExec}
 use Rattle.masm_tree.specs.declared.terminal.Leaf.TheVariants as leaves
 use Rattle.masm_tree.specs.Trees.{Body, Empty, Leaf_then, If_then, While_then, Repeat_then, append}
 use Rattle.masm_tree.specs.Views.{joined, add_step, stmt_view, body_of}
@@ -33,6 +33,10 @@ unfolding stmt_view
 view-ProcRef at name rest =
     ap (λ f. f rest) (ap stmt_view (sym (rolls-ProcRef at name)) ∙ fold-roll-Stmt (Body → Body) add_step (Stmt-F.ProcRef at name))
 
+pub view-DynExec : (at : Position) (rest : Body) → stmt_view (DynExec at) rest ≡ Leaf_then at leaves.DynExec rest
+unfolding stmt_view
+view-DynExec at rest = ap (λ f. f rest) (ap stmt_view (sym (rolls-DynExec at)) ∙ fold-roll-Stmt (Body → Body) add_step (Stmt-F.DynExec at))
+
 pub view-If : (at : Position) (v w : Vec Stmt Global) (rest : Body) → stmt_view (If at v w) rest ≡ If_then at (body_of v.items) (body_of w.items) rest
 unfolding stmt_view body_of
 view-If at v w rest = ap (λ f. f rest) (ap stmt_view (sym (rolls-If at v w)) ∙ fold-roll-Stmt (Body → Body) add_step (Stmt-F.If at v w))
@@ -55,6 +59,7 @@ add_step-append (Stmt-F.Exec at name) b c = refl
 add_step-append (Stmt-F.Call at name) b c = refl
 add_step-append (Stmt-F.Syscall at name) b c = refl
 add_step-append (Stmt-F.ProcRef at name) b c = refl
+add_step-append (Stmt-F.DynExec at) b c = refl
 
 stmt_view-append : (s : Stmt) (b c : Body) → append (stmt_view s b) c ≡ stmt_view s (append b c)
 unfolding stmt_view

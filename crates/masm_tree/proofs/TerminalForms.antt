@@ -14,6 +14,7 @@ use Rattle.masm_tree.specs.declared.parts.Case.TheVariants.{Upper, Lower}
 use Rattle.masm_tree.specs.declared.refusal.Cause.{Cause}
 use Rattle.masm_tree.specs.declared.refusal.Cause.TheVariants as causes
 use Rattle.masm_tree.specs.declared.terminal.Role.{Role}
+use Rattle.masm_tree.specs.declared.terminal.Leaf.TheVariants as leaves
 use Rattle.masm_tree.specs.declared.terminal.Role.TheVariants as roles
 use Rattle.masm_tree.specs.declared.terminal.Terminal.{Terminal}
 use Rattle.masm_tree.specs.declared.terminal.Terminal.TheVariants as terminals
@@ -122,6 +123,7 @@ form-phrase context at parts keywords.Exec = form-usage uses.Exec at parts
 form-phrase context at parts keywords.Call = form-usage uses.Call at parts
 form-phrase context at parts keywords.Syscall = form-usage uses.Syscall at parts
 form-phrase context at parts keywords.ProcRef = form-usage uses.ProcRef at parts
+form-phrase context at parts keywords.DynExec = form-alone (terminals.Leaf at leaves.DynExec) parts tt
 form-phrase context at parts keywords.End = form-alone terminals.End parts tt
 
 form-symbol : (refused : Terminal) (r : Result Terminal Cause) → TerminalIsInForm refused → TerminalIsInFormIf r
@@ -142,6 +144,7 @@ form-blank at keywords.Exec = tt
 form-blank at keywords.Call = tt
 form-blank at keywords.Syscall = tt
 form-blank at keywords.ProcRef = tt
+form-blank at keywords.DynExec = tt
 form-blank at keywords.End = tt
 
 form-keyword : (kernel : Bool) (context : Context) (at : Position) (parts : List (List ℕ)) (k : Keyword)

@@ -122,6 +122,7 @@ none-phrase context at parts keywords.Exec = none-usage uses.Exec at parts
 none-phrase context at parts keywords.Call = none-usage uses.Call at parts
 none-phrase context at parts keywords.Syscall = none-usage uses.Syscall at parts
 none-phrase context at parts keywords.ProcRef = none-usage uses.ProcRef at parts
+none-phrase context at parts keywords.DynExec = none-alone (terminals.Leaf at leaves.DynExec) parts (λ n. tt)
 none-phrase context at parts keywords.End = none-alone terminals.End parts (λ n. tt)
 
 none-symbol_with : (locals : ℕ) (refused : Terminal) (r : Result Terminal Cause) → NamesNone r → SymbolFits locals (symbol_with refused r)

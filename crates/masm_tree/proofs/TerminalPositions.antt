@@ -12,6 +12,7 @@ use Rattle.masm_tree.specs.declared.keyword.Keyword.{Keyword}
 use Rattle.masm_tree.specs.declared.keyword.Keyword.TheVariants as keywords
 use Rattle.masm_tree.specs.declared.refusal.Cause.{Cause}
 use Rattle.masm_tree.specs.declared.terminal.Role.{Role}
+use Rattle.masm_tree.specs.declared.terminal.Leaf.TheVariants as leaves
 use Rattle.masm_tree.specs.declared.terminal.Role.TheVariants as roles
 use Rattle.masm_tree.specs.declared.terminal.Terminal.{Terminal}
 use Rattle.masm_tree.specs.declared.terminal.Terminal.TheVariants as terminals
@@ -102,6 +103,8 @@ at-phrase context at parts keywords.Exec = at-usage uses.Exec at parts
 at-phrase context at parts keywords.Call = at-usage uses.Call at parts
 at-phrase context at parts keywords.Syscall = at-usage uses.Syscall at parts
 at-phrase context at parts keywords.ProcRef = at-usage uses.ProcRef at parts
+at-phrase context at parts keywords.DynExec =
+    at-alone at (terminals.Leaf at leaves.DynExec) parts (record { consts = inl refl; procs = inr refl })
 at-phrase context at parts keywords.End = at-alone at terminals.End parts (record { consts = inl refl; procs = inl refl })
 
 at-tested : (locals : ℕ) (at : Position) (r : Result Instruction InstrError) → IsAtIf at (local_tested locals at r)

@@ -141,6 +141,7 @@ phrase context at parts keywords.Exec = usage uses.Exec at parts
 phrase context at parts keywords.Call = usage uses.Call at parts
 phrase context at parts keywords.Syscall = usage uses.Syscall at parts
 phrase context at parts keywords.ProcRef = usage uses.ProcRef at parts
+phrase context at parts keywords.DynExec = alone (terminals.Leaf at leaves.DynExec) parts
 phrase context at parts keywords.End = alone terminals.End parts
 
 -- another token is an instruction; a local that it names must be one of the procedure's
@@ -175,6 +176,7 @@ blank_of at keywords.Exec = blank at
 blank_of at keywords.Call = blank at
 blank_of at keywords.Syscall = blank at
 blank_of at keywords.ProcRef = blank at
+blank_of at keywords.DynExec = blank at
 blank_of at keywords.End = terminals.End
 
 abbrev pub symbol_with : Terminal → Result Terminal Cause → Symbol

@@ -12,6 +12,7 @@ LeafIsInForm (leaves.Exec name) = Unit {0}
 LeafIsInForm (leaves.Call name) = Unit {0}
 LeafIsInForm (leaves.Syscall name) = Unit {0}
 LeafIsInForm (leaves.ProcRef name) = Unit {0}
+LeafIsInForm leaves.DynExec = Unit {0}
 
 -- each instruction of the body is in form
 abbrev pub BodyIsInForm : Body → Type 0

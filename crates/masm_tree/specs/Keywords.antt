@@ -16,13 +16,15 @@ text_of_keyword keywords.Exec = codes "exec"
 text_of_keyword keywords.Call = codes "call"
 text_of_keyword keywords.Syscall = codes "syscall"
 text_of_keyword keywords.ProcRef = codes "procref"
+text_of_keyword keywords.DynExec = codes "dynexec"
 text_of_keyword keywords.End = codes "end"
 
 -- every keyword
 unfoldable pub every_keyword : List Keyword
 every_keyword =
     keywords.Const ∷ keywords.Proc ∷ keywords.Export ∷ keywords.Begin ∷ keywords.If ∷ keywords.Else ∷ keywords.While
-    ∷ keywords.Repeat ∷ keywords.Exec ∷ keywords.Call ∷ keywords.Syscall ∷ keywords.ProcRef ∷ keywords.End ∷ []
+    ∷ keywords.Repeat ∷ keywords.Exec ∷ keywords.Call ∷ keywords.Syscall ∷ keywords.ProcRef
+    ∷ keywords.DynExec ∷ keywords.End ∷ []
 
 -- the first of these keywords that has the text
 abbrev pub first_keyword : List Keyword → List ℕ → Option Keyword
@@ -52,4 +54,5 @@ is_kept_from_kernels keywords.Exec = false
 is_kept_from_kernels keywords.Call = true
 is_kept_from_kernels keywords.Syscall = true
 is_kept_from_kernels keywords.ProcRef = true
+is_kept_from_kernels keywords.DynExec = true
 is_kept_from_kernels keywords.End = false

@@ -12,6 +12,7 @@ LeafFits locals (leaves.Exec name) = Unit {0}
 LeafFits locals (leaves.Call name) = Unit {0}
 LeafFits locals (leaves.Syscall name) = Unit {0}
 LeafFits locals (leaves.ProcRef name) = Unit {0}
+LeafFits locals leaves.DynExec = Unit {0}
 
 -- each local that the body names is one of so many
 abbrev pub HasLocals : ℕ → Body → Type 0

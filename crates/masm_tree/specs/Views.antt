@@ -23,6 +23,7 @@ add_step (Stmt-F.Exec at name) rest = Leaf_then at (leaves.Exec name) rest
 add_step (Stmt-F.Call at name) rest = Leaf_then at (leaves.Call name) rest
 add_step (Stmt-F.Syscall at name) rest = Leaf_then at (leaves.Syscall name) rest
 add_step (Stmt-F.ProcRef at name) rest = Leaf_then at (leaves.ProcRef name) rest
+add_step (Stmt-F.DynExec at) rest = Leaf_then at leaves.DynExec rest
 
 unfoldable pub stmt_view : Stmt → Body → Body
 stmt_view = fold-Stmt (Body → Body) add_step

@@ -16,10 +16,11 @@ pub(crate) enum Keyword {
     Call,
     Syscall,
     ProcRef,
+    DynExec,
     End,
 }
 
-const KEYWORDS: [Keyword; 13] = [
+const KEYWORDS: [Keyword; 14] = [
     Keyword::Const,
     Keyword::Proc,
     Keyword::Export,
@@ -32,6 +33,7 @@ const KEYWORDS: [Keyword; 13] = [
     Keyword::Call,
     Keyword::Syscall,
     Keyword::ProcRef,
+    Keyword::DynExec,
     Keyword::End,
 ];
 
@@ -52,6 +54,7 @@ impl Keyword {
             Keyword::Call => b"call",
             Keyword::Syscall => b"syscall",
             Keyword::ProcRef => b"procref",
+            Keyword::DynExec => b"dynexec",
             Keyword::End => b"end",
         }
     }
@@ -62,15 +65,15 @@ impl Keyword {
     {
         matches!(
             self,
-            Keyword::Begin | Keyword::Call | Keyword::Syscall | Keyword::ProcRef
+            Keyword::Begin | Keyword::Call | Keyword::Syscall | Keyword::ProcRef | Keyword::DynExec
         )
     }
 }
 
 // For each slot the place in `KEYWORDS` of the one keyword that may have it; 0 where there is none.
 const SLOTS: [u8; 32] = [
-    0, 5, 0, 0, 0, 0, 0, 0, 10, 0, 0, 0, 0, 8, 0, 7, 0, 0, 1, 6, 9, 2, 0, 4, 0, 0, 0, 3, 0, 0, 11,
-    12,
+    0, 5, 0, 0, 0, 0, 0, 0, 10, 0, 0, 0, 0, 8, 0, 7, 0, 0, 1, 6, 9, 2, 0, 4, 0, 12, 0, 3, 0, 0, 11,
+    13,
 ];
 
 // The byte at a place, and 0 behind the end.

@@ -187,6 +187,7 @@ fn read_phrase(
         Keyword::Call => read_usage(alloc, Use::Call, at, parts),
         Keyword::Syscall => read_usage(alloc, Use::Syscall, at, parts),
         Keyword::ProcRef => read_usage(alloc, Use::ProcRef, at, parts),
+        Keyword::DynExec => read_alone(Terminal::Leaf(at, Leaf::DynExec), parts),
         Keyword::End => read_alone(Terminal::End, parts),
     }
 }
@@ -251,7 +252,8 @@ fn blank_of(alloc: Global, at: Position, keyword: Keyword) -> Terminal
         Keyword::Else => Terminal::Else,
         Keyword::While => Terminal::While(at),
         Keyword::Repeat => Terminal::Repeat(at, 0),
-        Keyword::Exec | Keyword::Call | Keyword::Syscall | Keyword::ProcRef => blank(alloc, at),
+        Keyword::Exec | Keyword::Call | Keyword::Syscall | Keyword::ProcRef | Keyword::DynExec =>
+            blank(alloc, at),
         Keyword::End => Terminal::End,
     }
 }

@@ -11,7 +11,7 @@ use thiserror::Error;
 /// tested.
 #[derive(Clone, Copy, Debug, PartialEq, Eq)]
 pub enum Cause {
-    /// A kernel has no `begin`, `call`, `syscall` or `procref`.
+    /// A kernel has no `begin`, `call`, `syscall`, `procref` or `dynexec`.
     KernelBody,
     /// The instruction is one that this machine does not have.
     Unsupported,

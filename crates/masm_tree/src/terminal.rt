@@ -59,6 +59,8 @@ pub enum Leaf {
     Syscall(Bytes),
     /// The digest of the procedure of this name.
     ProcRef(Bytes),
+    /// One of the procedures that procrefs name, by the digest on top.
+    DynExec,
 }
 
 /// What a token is to the grammar.

@@ -30,6 +30,8 @@ pub enum Stmt {
     Syscall(Position, Bytes),
     /// The digest of the procedure of this name.
     ProcRef(Position, Bytes),
+    /// One of the procedures that procrefs name, by the digest on top.
+    DynExec(Position),
 }
 
 /// A procedure, or the body between `begin` and `end`.

@@ -13,18 +13,19 @@ use Rattle.masm_names.specs.declared.refusal.LinkCause.{LinkCause}
 use Rattle.masm_names.specs.declared.refusal.LinkCause.TheVariants as causes
 use Rattle.masm_names.specs.declared.refusal.Refusal.{Refusal}
 use Rattle.masm_names.specs.Among.{Among}
-use Rattle.masm_uses.specs.Dangling.{LeadsNowhere, Missing, Recursions}
+use Rattle.masm_uses.specs.Dangling.{LeadsNowhere, Missing, Recursions, Dynexecs}
 use Rattle.masm_names.specs.Earlier.{earlier}
 use Rattle.masm_names.specs.Least.{FindsLeast}
-use Rattle.masm_graph.specs.Links.{link_of, links_in, main_links_in}
-use Rattle.masm_names.specs.Naming.{Dangles, unknown, not_in_kernel, recursive}
+use Rattle.graphs.specs.Graph.{LeadsFrom}
+use Rattle.masm_graph.specs.Dynexecs.{dynexecs_in}
+use Rattle.masm_graph.specs.Links.{link_of, links_in, main_links_in, own_places, places_referred}
+use Rattle.masm_names.specs.Naming.{Dangles, unknown, not_in_kernel, recursive, dynamic}
 use Rattle.masm_graph.specs.Users.{AreUsers}
-use Rattle.masm_names.specs.Uses.{Use, uses_of, all_uses, place_in, first_place}
+use Rattle.masm_names.specs.Uses.{Use, uses_of, dynexecs_of, all_uses, place_in, first_place}
 use Rattle.masm_names.proofs.LeastLemmas.{Either, FindsLeast-same, FindsLeast-earlier}
+use Rattle.masm_uses.proofs.TargetLemmas.{uses_in, target_among, among_target}
+use Rattle.masm_uses.proofs.UseOrderLemmas as orders
 use Rattle.masm_uses.proofs.UsedLemmas.{contains_at, at_contains, in_all, all_in, unmapped, mapped, place_none, none_place, missing_by, missing_own, missing_kernel, used, used_by, leads_reaches, reaches_leads}
-
-abbrev uses_in : Procedure → List Use
-uses_in p = uses_of p.body
 
 module _ (own kernel : List ℕ → Option ℕ) where
   missing_row : (p : Proc) (at : Position) (cause : LinkCause) (u : Use) → Contains (uses_in (procedure_of p)) u
@@ -100,19 +101,24 @@ module _ (own kernel : List ℕ → Option ℕ) where
 
     module _ (names : List (List ℕ)) (users : List (List ℕ)) (places : (name : List ℕ) → own name ≡ first_place (map procedure_of procs) name)
         (exports : (name : List ℕ) → kernel name ≡ place_in names name) (are : AreUsers (map (links_in own kernel) procs) users) where
+      abbrev Dispatched : Position → LinkCause → Type 0
+      Dispatched =
+          Dynexecs (LeadsFrom (map own_places (map (links_in own kernel) procs))
+          (places_referred (map (links_in own kernel) procs) (main_links_in own kernel main))) (map dynexecs_in procs)
+
       abbrev Found : Position → LinkCause → Type 0
-      Found = Either Lost (Recursions users (map (links_in own kernel) procs))
+      Found = Either (Either Lost (Recursions users (map (links_in own kernel) procs))) Dispatched
 
       to_found : (at : Position) (cause : LinkCause) → Dangles the_source names at cause → Found at cause
       to_found at cause (unknown u has kind none) =
-          inl (lost u.at causes.UnknownProcedure u has (refl, missing_own own kernel u.kind u.name kind (places u.name ∙ none)))
+          inl (inl (lost u.at causes.UnknownProcedure u has (refl, missing_own own kernel u.kind u.name kind (places u.name ∙ none))))
       to_found at cause (not_in_kernel u has kind none) =
-          inl (lost u.at causes.NotInKernel u has
-          (refl, missing_kernel own kernel u.kind u.name kind (exports u.name ∙ none_place names u.name none)))
+          inl (inl (lost u.at causes.NotInKernel u has
+          (refl, missing_kernel own kernel u.kind u.name kind (exports u.name ∙ none_place names u.name none))))
       to_found at cause (recursive i u j is reaches) =
           let by = used_by own kernel procs places i u j is in
           let there = at_contains (uses_in (procedure_of by.0)) u by.2 in
-          inr (
+          inl (inr (
             i,
             (
               links_in own kernel by.0,
@@ -126,6 +132,18 @@ module _ (own kernel : List ℕ → Option ℕ) where
                 ),
               ),
             ),
+          ))
+      to_found at cause (dynamic i p here_at j here among target reaches) =
+          let q = unmapped procedure_of procs i p here in
+          let there = at_contains (dynexecs_in q.0) here_at (subst (λ r. Contains (dynexecs_of r.body) here_at) q.2 among) in
+          let leads = orders.reaches_leads own kernel procs places j i reaches in
+          inr (
+            i,
+            (
+              dynexecs_in q.0,
+              mapped dynexecs_in procs i q.0 q.1,
+              (there.0, (here_at, there.1, ((j, target_among own kernel procs places consts main j target, leads), refl, refl))),
+            ),
           )
 
       moved : (at other : Position) (cause why : LinkCause) → at ≡ other → cause ≡ why → Dangles the_source names other why
@@ -134,14 +152,14 @@ module _ (own kernel : List ℕ → Option ℕ) where
           subst (λ a. Dangles the_source names a cause) (sym is_at) (subst (Dangles the_source names other) (sym is_cause) h)
 
       from_found : (at : Position) (cause : LinkCause) → Found at cause → Dangles the_source names at cause
-      from_found at cause (inl h) =
+      from_found at cause (inl (inl h)) =
           let found = from_lost at cause h in
           let u = found.0 in
           elim (missing_by own kernel u.kind u.name cause found.2.1) [
             | inl by ↦ moved at u.at cause _ found.2.0 by.2 (unknown u found.1 by.0 (sym (places u.name) ∙ by.1))
             | inr by ↦ moved at u.at cause _ found.2.0 by.2 (not_in_kernel u found.1 by.0 (place_none names u.name (sym (exports u.name) ∙ by.1)))
           ]
-      from_found at cause (inr (i, (row, e, (k, (link, l, (is_at, is_cause, (j, target, leads))))))) =
+      from_found at cause (inl (inr (i, (row, e, (k, (link, l, (is_at, is_cause, (j, target, leads)))))))) =
           let p = unmapped (links_in own kernel) procs i row e in
           let u = unmapped (link_of own kernel) (uses_in (procedure_of p.0)) k link (sym (ap (λ r. slice_get r k) p.2) ∙ l) in
           let is =
@@ -149,12 +167,20 @@ module _ (own kernel : List ℕ → Option ℕ) where
           (sym (ap (λ x. x.target) u.2) ∙ target) in
           moved at u.0.at cause _ (is_at ∙ ap (λ x. x.at) u.2) is_cause
           (recursive i u.0 j is (leads_reaches own kernel procs places users are i j leads))
+      from_found at cause (inr (i, (row, e, (k, (dynexec, l, ((start, is_start, leads), is_at, is_cause)))))) =
+          let q = unmapped dynexecs_in procs i row e in
+          let has = contains_at (dynexecs_in q.0) k dynexec (sym (ap (λ r. slice_get r k) q.2) ∙ l) in
+          moved at dynexec cause _ is_at is_cause
+          (dynamic i (procedure_of q.0) dynexec start (mapped procedure_of procs i q.0 q.1) has
+          (among_target own kernel procs places consts main start is_start) (orders.leads_reaches own kernel procs places start i leads))
 
-      -- the least refusal of the uses that lead nowhere, in procedures and in the main body, and of those that lead back
-      pub FindsLeast-dangling : (a b c : Option Refusal) → FindsLeast (Among (λ place row. Missing row) (map (links_in own kernel) procs)) a
+      -- the least refusal of the uses that lead nowhere, in procedures and in the main body, of those that lead back, and of the
+      -- dynexecs that are reached from their targets
+      pub FindsLeast-dangling : (a b c d : Option Refusal) → FindsLeast (Among (λ place row. Missing row) (map (links_in own kernel) procs)) a
           → FindsLeast (Missing (main_links_in own kernel main)) b → FindsLeast (Recursions users (map (links_in own kernel) procs)) c
-          → FindsLeast (Dangles the_source names) (earlier (earlier a b) c)
-      FindsLeast-dangling a b c p q r =
-          FindsLeast-same Found (Dangles the_source names) (earlier (earlier a b) c) from_found to_found
+          → FindsLeast Dispatched d → FindsLeast (Dangles the_source names) (earlier (earlier (earlier a b) c) d)
+      FindsLeast-dangling a b c d p q r s =
+          FindsLeast-same Found (Dangles the_source names) (earlier (earlier (earlier a b) c) d) from_found to_found
+          (FindsLeast-earlier (Either Lost (Recursions users (map (links_in own kernel) procs))) Dispatched (earlier (earlier a b) c) d
           (FindsLeast-earlier Lost (Recursions users (map (links_in own kernel) procs)) (earlier a b) c
-          (FindsLeast-earlier (Among (λ place row. Missing row) (map (links_in own kernel) procs)) (Missing (main_links_in own kernel main)) a b p q) r)
+          (FindsLeast-earlier (Among (λ place row. Missing row) (map (links_in own kernel) procs)) (Missing (main_links_in own kernel main)) a b p q) r) s)

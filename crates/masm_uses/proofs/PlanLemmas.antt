@@ -8,7 +8,7 @@ use Rattle.std.proofs.lemmas.List.Elements.{Contains-push_cases, filter_passes}
 use Rattle.std.specs.List.{Contains}
 use Rattle.graphs.specs.Graph.{Edge}
 use Rattle.graphs.specs.Orders.{IsOrder}
-use Rattle.masm_uses.specs.Plans.{HeldBehind, Builds, MarksRow, StepsTo, passed, built, IsNoneOrAll, EndsInGraph}
+use Rattle.masm_uses.specs.Plans.{HeldBehind, Builds, IsHeldFor, MarksRow, StepsTo, passed, built, IsNoneOrAll, EndsInGraph}
 use Rattle.masm_names.proofs.TimesAmong.{times_kept, times_dropped}
 use Rattle.masm_uses.specs.declared.planning.Step.{Step}
 use Rattle.graphs.proofs.SortLemmas.{contains_none}
@@ -101,17 +101,36 @@ module _ (makes : Step → Bool) (ends : Step → List ℕ) where
 abbrev pub Seen : List Bool → List ℕ → ℕ → ℕ → Type 0
 Seen marks order k place = (get_or marks place false ≡ true) × Contains (take k order) place
 
-module _ (makes : Step → Bool) (ends : Step → List ℕ) (graph : List (List ℕ)) (order : List ℕ) (is : IsOrder graph order)
-    (Wanted : ℕ → Type 0) where
+-- marks stay
+pub steps_keep : (makes : Step → Bool) (ends : Step → List ℕ) (place : ℕ) (row : List ℕ) (marks new : List Bool) (steps more : List Step)
+    → StepsTo makes ends place row marks steps new more → (q : ℕ) → get_or marks q false ≡ true → get_or new q false ≡ true
+steps_keep makes ends place row marks new steps more (passed unmarked) q h = h
+steps_keep makes ends place row marks new steps more (built step after is_made at_place rows) q h = rows.keeps q h
+
+marked_low : (marks : List Bool) (q : ℕ) → get_or marks q false ≡ true → q < length marks
+marked_low marks q h = elim (cases_lt q (length marks)) [
+  | inl low ↦ low
+  | inr past ↦ absurd (false≢true (sym (get_or_past marks q false past) ∙ h))
+]
+
+-- Steps from the last place of an order to its first, where these are needed in the end.
+module _ (makes : Step → Bool) (ends : Step → List ℕ) (graph : List (List ℕ)) (order : List ℕ) (is : IsOrder graph order) (needed : List Bool) where
   abbrev pub Served : List Bool → ℕ → List Step → Type 0
-  Served marks k steps = Builds makes ends (Edge graph) (length graph) Wanted (Seen marks order k) (reverse steps)
+  Served marks k steps =
+      Builds makes ends (IsHeldFor graph needed order) (length graph) (λ q. get_or needed q false ≡ true) (Seen marks order k) (reverse steps)
+
+  served-more : (Held Held' : ℕ → Type 0) (steps : List Step) → ((q : ℕ) → Held q → Held' q)
+      → Builds makes ends (IsHeldFor graph needed order) (length graph) (λ q. get_or needed q false ≡ true) Held steps
+      → Builds makes ends (IsHeldFor graph needed order) (length graph) (λ q. get_or needed q false ≡ true) Held' steps
+  served-more Held Held' steps more b =
+      builds-more makes ends (IsHeldFor graph needed order) (IsHeldFor graph needed order) (length graph) (length graph)
+      (λ q. get_or needed q false ≡ true) (λ q. get_or needed q false ≡ true) Held Held' steps refl (λ i j h. h) (λ q h. h) more b
 
   pub served-step : (k place : ℕ) (row : List ℕ) (marks new : List Bool) (steps more : List Step) → k < length order → place ≡ get_or order k 0
-      → row ≡ get_or graph place [] → Served marks (k + 1) steps → StepsTo makes ends place row marks steps new more → Served new k more
-  served-step k place row marks new steps more below here row_is before (passed unmarked) =
-      builds-more makes ends (Edge graph) (Edge graph) (length graph) (length graph) Wanted Wanted (Seen marks order (k + 1))
-      (Seen marks order k) (reverse steps) refl
-      (λ i j h. h) (λ q h. h)
+      → row ≡ get_or graph place [] → ((q : ℕ) → get_or needed q false ≡ true → get_or marks q false ≡ true)
+      → Served marks (k + 1) steps → StepsTo makes ends place row marks steps new more → Served new k more
+  served-step k place row marks new steps more below here row_is kept before (passed unmarked) =
+      served-more (Seen marks order (k + 1)) (Seen marks order k) (reverse steps)
       (λ q h. (
         h.0,
         elim (Contains-push_cases (take k order) (get_or order k 0) q (subst (λ xs. Contains xs q) (take_more order k 0 below) h.1)) [
@@ -120,37 +139,33 @@ module _ (makes : Step → Bool) (ends : Step → List ℕ) (graph : List (List 
         ],
       ))
       before
-  served-step k place row marks new steps more below here row_is before (built step after is_made at_place rows) =
-      subst (Builds makes ends (Edge graph) (length graph) Wanted (Seen after order k)) (sym (reverse-append steps (step ∷ []))) (
+  served-step k place row marks new steps more below here row_is kept before (built step after is_made at_place rows) =
+      subst (Builds makes ends (IsHeldFor graph needed order) (length graph) (λ q. get_or needed q false ≡ true) (Seen after order k))
+      (sym (reverse-append steps (step ∷ []))) (
         subst (λ p. p < length graph) (sym (at_place ∙ here)) (is.within k below),
-        λ q edge.
-            let edge' = subst (λ p. Edge graph p q) at_place edge in
-            (rows.marked q (subst (λ xs. Contains xs q) (sym row_is) edge'), is.behind k q below (subst (λ p. Edge graph p q) here edge')),
-        builds-more makes ends (Edge graph) (Edge graph) (length graph) (length graph) Wanted Wanted (Seen marks order (k + 1))
-            (HeldBehind makes ends (Seen after order k) step) (reverse steps) refl
-            (λ i j h. h) (λ q h. h) (λ q h. (held q h, λ fresh. false≢true (sym (rows.fresh_were q fresh) ∙ h.0))) before,
+        needs,
+        served-more (Seen marks order (k + 1)) (HeldBehind makes ends (Seen after order k) step) (reverse steps)
+            (λ q h. (held q h, λ fresh. false≢true (sym (rows.fresh_were q fresh) ∙ h.0))) before,
       )
     where
+      needs : (q : ℕ) → IsHeldFor graph needed order step.place q → Seen after order k q
+      needs q (inl edge) =
+          let edge' = subst (λ p. Edge graph p q) at_place edge in
+          (rows.marked q (subst (λ xs. Contains xs q) (sym row_is) edge'), is.behind k q below (subst (λ p. Edge graph p q) here edge'))
+      needs q (inr further) = (rows.keeps q (kept q further.0), further.1 k below (sym (at_place ∙ here)))
+
       held : (q : ℕ) → Seen marks order (k + 1) q → Seen after order k q ⊎ ((q ≡ step.place) × (makes step ≡ true))
       held q h = elim (Contains-push_cases (take k order) (get_or order k 0) q (subst (λ xs. Contains xs q) (take_more order k 0 below) h.1)) [
         | inl early ↦ inl (rows.keeps q h.0, early)
         | inr at ↦ inr (sym (at_place ∙ (here ∙ at)), is_made ∙ (ap (λ p. get_or marks p false) (here ∙ at) ∙ h.0))
       ]
 
-marked_low : (marks : List Bool) (q : ℕ) → get_or marks q false ≡ true → q < length marks
-marked_low marks q h = elim (cases_lt q (length marks)) [
-  | inl low ↦ low
-  | inr past ↦ absurd (false≢true (sym (get_or_past marks q false past) ∙ h))
-]
+  pub served-none : (n : ℕ) → length needed ≡ length graph → length order ≤ n → Served needed n []
+  served-none n count all = λ q h.
+      (h, subst (λ xs. Contains xs q) (sym (take_all n order all)) (is.all q (omega (arith, marked_low needed q h))))
 
-module _ (makes : Step → Bool) (ends : Step → List ℕ) (graph : List (List ℕ)) (order : List ℕ) (is : IsOrder graph order) where
-  pub served-none : (marks : List Bool) (n : ℕ) → length marks ≡ length graph → length order ≤ n
-      → Served makes ends graph order is (λ q. get_or marks q false ≡ true) marks n []
-  served-none marks n count all = λ q h.
-      (h, subst (λ xs. Contains xs q) (sym (take_all n order all)) (is.all q (omega (arith, marked_low marks q h))))
-
-  pub served-all : (Wanted : ℕ → Type 0) (marks : List Bool) (k : ℕ) (steps : List Step) → k ≡ 0 → Served makes ends graph order is Wanted marks k steps
-      → Builds makes ends (Edge graph) (length graph) Wanted (λ q. ⊥) (reverse steps)
-  served-all Wanted marks k steps none served =
-      builds-more makes ends (Edge graph) (Edge graph) (length graph) (length graph) Wanted Wanted (Seen marks order k) (λ q. ⊥) (reverse steps) refl
-      (λ i j h. h) (λ q h. h) (λ q h. contains_none q (subst (λ n. Contains (take n order) q) none h.1)) served
+  pub served-all : (marks : List Bool) (k : ℕ) (steps : List Step) → k ≡ 0 → Served marks k steps
+      → Builds makes ends (IsHeldFor graph needed order) (length graph) (λ q. get_or needed q false ≡ true) (λ q. ⊥) (reverse steps)
+  served-all marks k steps none served =
+      served-more (Seen marks order k) (λ q. ⊥) (reverse steps)
+      (λ q h. contains_none q (subst (λ n. Contains (take n order) q) none h.1)) served

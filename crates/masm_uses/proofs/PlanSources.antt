@@ -14,9 +14,11 @@ use Rattle.masm_uses.specs.declared.planning.Step.{Step}
 use Rattle.graphs.specs.Graph.{Edge, IsGraph}
 use Rattle.graphs.specs.Orders.{IsOrder}
 use Rattle.masm_graph.specs.Links.{link_of, links_in, main_links_in, own_place, own_places, place_if, places_with, own_target, kernel_target, target_of}
-use Rattle.masm_uses.specs.Plans.{Builds, IsWanted, exported, of_main, IsReferred, by_main, NeedsIn, keeps_list, ended_lists, makes_digest, no_ends, IsNoneOrAll, EndsInGraph, EndsInFull, main_uses}
-use Rattle.masm_names.specs.Uses.{Use, Owner, Own, Kernel, uses_of, first_place}
+use Rattle.masm_uses.specs.Plans.{Builds, IsWanted, exported, of_main, of_dynexec, IsReferred, by_main, NeedsIn, ListNeeds, used, targeted, StandsBefore, keeps_list, ended_lists, makes_digest, no_ends, IsNoneOrAll, EndsInGraph, EndsInFull, main_uses}
+use Rattle.masm_uses.specs.UseOrders.{IsUseOrder}
+use Rattle.masm_names.specs.Uses.{Use, Owner, Own, Kernel, uses_of, first_place, IsTarget, HasDynexec, IsDynamic}
 use Rattle.masm_names.specs.UsedPlaces.{place_used, places_used}
+use Rattle.masm_uses.proofs.DispatchLemmas.{dynamic_by}
 use Rattle.masm_uses.proofs.PlanLemmas.{builds-more}
 use Rattle.graphs.proofs.SortLemmas.{contains_none}
 use Rattle.masm_uses.proofs.UsedLemmas.{contains_at, at_contains, mapped, unmapped, place_within, leads_by, leads_own, link_used}
@@ -88,29 +90,45 @@ module _ (own kernel : List ℕ → Option ℕ) (procs : List Proc) (places : (n
     abbrev the_source : Source
     the_source = record { consts = consts; procs = map procedure_of procs; main = option_map procedure_of main }
 
-    wanted : (q : ℕ) → IsWanted the_source q
-        → (get_or (map (λ (p : Proc). p.exported) procs) q false ≡ true) ⊎ Contains (places_with false (main_links_in own kernel main)) q
-    wanted q (exported p here is_so) =
+    -- what is wanted in the end, where these are held
+    abbrev pub IsWantedIn : List ℕ → ℕ → Type 0
+    IsWantedIn held q =
+        (get_or (map (λ (p : Proc). p.exported) procs) q false ≡ true)
+        ⊎ (Contains (places_with false (main_links_in own kernel main)) q ⊎ Contains held q)
+
+    wanted : (held : List ℕ) → ((q : ℕ) → IsDynamic the_source → IsTarget the_source q → Contains held q) → (q : ℕ) → IsWanted the_source q
+        → IsWantedIn held q
+    wanted held holds q (exported p here is_so) =
         let found = unmapped procedure_of procs q p here in
         inl (get_or_from_slice_get (map (λ (r : Proc). r.exported) procs) q found.0.exported false
         (mapped (λ (r : Proc). r.exported) procs q found.0 found.1)
         ∙ (sym (ap (λ (r : Procedure). r.exported) found.2) ∙ is_so))
-    wanted q (of_main p u main_is has own_use runs leads) = inr (used_in_main false main p u q main_is has own_use runs leads)
+    wanted held holds q (of_main p u main_is has own_use runs leads) = inr (inl (used_in_main false main p u q main_is has own_use runs leads))
+    wanted held holds q (of_dynexec dynamic target) = inr (inr (holds q dynamic target))
+
+    -- what a procedure needs when its list is made
+    needs : (held order : List ℕ) → ((q : ℕ) → IsDynamic the_source → IsTarget the_source q → Contains held q) → IsUseOrder the_source order
+        → (i j : ℕ) → ListNeeds the_source i j → Edge (graph false) i j ⊎ (Contains held j × StandsBefore order j i)
+    needs held order holds is i j (used need) = inl (needs_edge false i j need)
+    needs held order holds is i j (targeted has target) =
+        inr (
+          holds j (dynamic_by own kernel procs places consts main i has) target,
+          λ k below here. is.targets k j below (subst (HasDynexec the_source.procs) (sym here) has) target,
+        )
 
     referred : (q : ℕ) → IsReferred the_source q → Contains (places_with true (main_links_in own kernel main)) q
     referred q (by_main p u main_is has own_use refers leads) = used_in_main true main p u q main_is has own_use refers leads
 
-    pub plan-lists : (steps : List Step)
-        → Builds keeps_list ended_lists (Edge (graph false)) (length (graph false))
-        (λ q. (get_or (map (λ (p : Proc). p.exported) procs) q false ≡ true) ⊎ Contains (places_with false (main_links_in own kernel main)) q)
-        (λ q. ⊥) (reverse steps)
-        → Builds keeps_list ended_lists (NeedsIn the_source.procs false) (length the_source.procs) (IsWanted the_source) (λ q. ⊥) (reverse steps)
-    plan-lists steps b =
-        builds-more keeps_list ended_lists (Edge (graph false)) (NeedsIn (map procedure_of procs) false) (length (graph false))
-        (length (map procedure_of procs))
-        (λ q. (get_or (map (λ (p : Proc). p.exported) procs) q false ≡ true) ⊎ Contains (places_with false (main_links_in own kernel main)) q)
+    pub plan-lists : (held order : List ℕ) (steps : List Step) → ((q : ℕ) → IsDynamic the_source → IsTarget the_source q → Contains held q)
+        → IsUseOrder the_source order
+        → Builds keeps_list ended_lists (λ i j. Edge (graph false) i j ⊎ (Contains held j × StandsBefore order j i)) (length (graph false))
+        (IsWantedIn held) (λ q. ⊥) (reverse steps)
+        → Builds keeps_list ended_lists (ListNeeds the_source) (length the_source.procs) (IsWanted the_source) (λ q. ⊥) (reverse steps)
+    plan-lists held order steps holds is b =
+        builds-more keeps_list ended_lists (λ i j. Edge (graph false) i j ⊎ (Contains held j × StandsBefore order j i)) (ListNeeds the_source)
+        (length (graph false)) (length (map procedure_of procs)) (IsWantedIn held)
         (IsWanted the_source) (λ q. ⊥) (λ q. ⊥) (reverse steps)
-        (counts_with false ∙ sym (length-map procs procedure_of)) (needs_edge false) wanted (λ q h. h) b
+        (counts_with false ∙ sym (length-map procs procedure_of)) (needs held order holds is) (wanted held holds) (λ q h. h) b
 
     pub plan-digests : (steps : List Step)
         → Builds makes_digest no_ends (Edge (graph true)) (length (graph true))

@@ -1,5 +1,6 @@
 -- The graph of a source's procedures, and its orders.
-use Rattle.std.proofs.Common.{◌≡◌, ℕ, List, map, length, Option, sym, subst, ◌∙◌, arith}
+use Rattle.std.proofs.Common.{◌≡◌, ℕ, List, map, length, take, get_or, Option, sym, ap, subst, ◌∙◌, arith}
+use Rattle.std.specs.List.{Contains}
 use Rattle.std.proofs.lemmas.List.{length-map}
 use Rattle.masm_tree.specs.declared.tree.Proc.{Proc}
 use Rattle.masm_tree.specs.Trees.{Source}
@@ -11,7 +12,7 @@ use Rattle.masm_names.specs.Naming.{recursive, IsClosed}
 use Rattle.graphs.specs.Orders.{IsAcyclic, IsOrder}
 use Rattle.masm_uses.specs.UseOrders.{IsUseOrder}
 use Rattle.masm_names.specs.Uses as uses
-use Rattle.masm_names.specs.Uses.{first_place, Reaches}
+use Rattle.masm_names.specs.Uses.{first_place, Reaches, IsTarget, HasDynexec}
 use Rattle.masm_graph.proofs.OwnLemmas.{edge_goes, goes_edge}
 use Rattle.masm_uses.proofs.UsedLemmas.{goes_used, goes_within, used_goes}
 
@@ -28,11 +29,16 @@ module _ (own kernel : List ℕ → Option ℕ) (procs : List Proc) (places : (n
       let same = counts in
       omega arith
 
-  leads_reaches : (a b : ℕ) → Leads graph a b → Reaches (map procedure_of procs) a b
+  pub leads_reaches : (a b : ℕ) → Leads graph a b → Reaches (map procedure_of procs) a b
   leads_reaches a b itself = uses.itself
   leads_reaches a b (through {b = c} edge more) =
       let goes = goes_used own kernel procs places a c (edge_goes (map (links_in own kernel) procs) a c edge) in
       uses.through goes.0 goes.1 (leads_reaches c b more)
+
+  pub reaches_leads : (a b : ℕ) → Reaches (map procedure_of procs) a b → Leads graph a b
+  reaches_leads a b uses.itself = itself
+  reaches_leads a b (uses.through {j = c} u first more) =
+      through (goes_edge (map (links_in own kernel) procs) a c (used_goes own kernel procs places a u c first)) (reaches_leads c b more)
 
   module _ (source : Source) (names : List (List ℕ)) (is : source.procs ≡ map procedure_of procs) (closed : IsClosed source names) where
     pub is-acyclic : IsAcyclic graph
@@ -41,9 +47,13 @@ module _ (own kernel : List ℕ → Option ℕ) (procs : List Proc) (places : (n
         closed goes.0.at causes.Recursive (recursive a goes.0 b (subst (λ ps. uses.UsedIn ps a goes.0 b) (sym is) goes.1)
         (subst (λ ps. Reaches ps b a) (sym is) (leads_reaches b a back)))
 
-  pub use-order : (order : List ℕ) → IsOrder graph order → IsUseOrder (map procedure_of procs) order
-  use-order order is = record {
-    all = λ place below. is.all place (let same = counts in let count = length-map procs procedure_of in omega arith);
-    within = λ k below. let low = is.within k below in let same = counts in let count = length-map procs procedure_of in omega arith;
-    behind = λ k u j below used. is.behind k j below (goes_edge (map (links_in own kernel) procs) _ j (used_goes own kernel procs places _ u j used));
+  pub use-order : (source : Source) (order : List ℕ) → source.procs ≡ map procedure_of procs → IsOrder graph order
+      → ((k j : ℕ) → HasDynexec source.procs (get_or order k 0) → IsTarget source j → Contains (take k order) j) → IsUseOrder source order
+  use-order source order same is before = record {
+    all = λ place below. is.all place (let all = counts in let count = ap length same ∙ length-map procs procedure_of in omega arith);
+    within = λ k below. let low = is.within k below in let all = counts in let count = ap length same ∙ length-map procs procedure_of in omega arith;
+    behind = λ k u j below used.
+        is.behind k j below (goes_edge (map (links_in own kernel) procs) _ j
+        (used_goes own kernel procs places _ u j (subst (λ ps. uses.UsedIn ps (get_or order k 0) u j) same used)));
+    targets = λ k j below has target. before k j has target;
   }

@@ -1,4 +1,4 @@
--- Uses that lead nowhere, and uses that lead back.
+-- Uses that lead nowhere, uses that lead back, and dynexecs that are reached from their targets.
 use Rattle.std.specs.Prelude.{◌≡◌, ℕ, Bool, true, false, not, ◌&&◌, List, Option, Some, None}
 use Rattle.masm_tree.specs.declared.tree.Position.{Position}
 use Rattle.masm_graph.specs.declared.links.Link.{Link}
@@ -34,6 +34,14 @@ Returns Back row = Among (λ place link. IsReturn Back link) row
 -- the uses that lead to a procedure from which their own is reached, where the graph says who uses whom
 abbrev pub Recursions : List (List ℕ) → List (List Link) → Position → LinkCause → Type 0
 Recursions users rows = Among (λ user row. Returns (Leads users user) row) rows
+
+-- the dynexec stands in a procedure that is reached from a target
+abbrev pub IsRefusedDynexec : Type 0 → Position → Position → LinkCause → Type 0
+IsRefusedDynexec Reached dynexec at cause = Reached × (at ≡ dynexec) × (cause ≡ causes.Recursive)
+
+-- the dynexecs in procedures that are reached, where each procedure has a row of its dynexecs
+abbrev pub Dynexecs : (ℕ → Type 0) → List (List Position) → Position → LinkCause → Type 0
+Dynexecs Reached rows = Among (λ place row. Among (λ k dynexec. IsRefusedDynexec (Reached place) dynexec) row) rows
 
 abbrev pub is_own : Target → Bool
 is_own (targets.Own place) = true

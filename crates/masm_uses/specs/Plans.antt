@@ -1,9 +1,10 @@
 -- Plans: which procedures' lists are built, in which order, and which of them are not needed any more behind each.
-use Rattle.std.specs.Prelude.{◌≡◌, ℕ, ◌<◌, Bool, true, false, List, [], ◌∷◌, ◌++◌, length, Option, Some, None, slice_get, slice_index_or, reverse, ◌⊎◌}
+use Rattle.std.specs.Prelude.{◌≡◌, ℕ, ◌<◌, Bool, true, false, List, [], ◌∷◌, ◌++◌, length, Option, Some, None, slice_get, slice_index, slice_index_or, take, reverse, ◌⊎◌}
 use Rattle.std.specs.List.{Contains}
+use Rattle.graphs.specs.Graph.{Edge}
 use Rattle.masm_tree.specs.Trees.{Procedure, Source}
 use Rattle.masm_uses.specs.declared.planning.Step.{Step}
-use Rattle.masm_names.specs.Uses.{Use, Own, uses_of, first_place, UsedIn}
+use Rattle.masm_names.specs.Uses.{Use, Own, uses_of, first_place, UsedIn, IsTarget, HasDynexec, IsDynamic}
 use Rattle.masm_names.specs.UsedPlaces.{places_used, times_among}
 
 -- A step makes what is told by its place, or does not, and some of what was made ends with it.
@@ -19,11 +20,13 @@ module _ (makes : Step → Bool) (ends : Step → List ℕ) where
   Builds Needs count Wanted Held (step ∷ steps) =
       (step.place < count) × ((place : ℕ) → Needs step.place place → Held place) × Builds Needs count Wanted (HeldBehind Held step) steps
 
--- the list of a procedure is wanted in the end: it is exported, or there is an exec or a call of it between begin and end
+-- the list of a procedure is wanted in the end: it is exported, or there is an exec or a call of it between begin and end, or
+-- dynexecs may run it
 pub data IsWanted (source : Source) (place : ℕ) : Type 0 where
   exported : (p : Procedure) → slice_get source.procs place ≡ Some p → p.exported ≡ true → IsWanted source place
   of_main : (p : Procedure) (u : Use) → source.main ≡ Some p → Contains (uses_of p.body) u → u.kind ≡ Own → u.refers ≡ false
       → first_place source.procs u.name ≡ Some place → IsWanted source place
+  of_dynexec : IsDynamic source → IsTarget source place → IsWanted source place
 
 -- the digest of a procedure is wanted in the end: there is a procref of it between begin and end
 pub data IsReferred (source : Source) (place : ℕ) : Type 0 where
@@ -33,6 +36,12 @@ pub data IsReferred (source : Source) (place : ℕ) : Type 0 where
 -- one procedure uses another, by a procref or by no procref
 abbrev pub NeedsIn : List Procedure → Bool → ℕ → ℕ → Type 0
 NeedsIn procs refers i j = (u : Use) × UsedIn procs i u j × (u.refers ≡ refers)
+
+-- what has to be there when a procedure's list is made: the lists of those that it executes or calls, and where it has a
+-- dynexec those of all that this may run
+pub data ListNeeds (source : Source) (i j : ℕ) : Type 0 where
+  used : NeedsIn source.procs false i j → ListNeeds source i j
+  targeted : HasDynexec source.procs i → IsTarget source j → ListNeeds source i j
 
 -- what a step makes and ends: lists that later steps or the end need, and digests, which stay
 abbrev pub keeps_list : Step → Bool
@@ -49,8 +58,21 @@ no_ends step = []
 
 -- a plan for a source, whose last step stands first
 pub record IsPlan (source : Source) (steps : List Step) : Type 0 where
-  pub lists : Builds keeps_list ended_lists (NeedsIn source.procs false) (length source.procs) (IsWanted source) (λ place. ⊥) (reverse steps)
+  pub lists : Builds keeps_list ended_lists (ListNeeds source) (length source.procs) (IsWanted source) (λ place. ⊥) (reverse steps)
   pub digests : Builds makes_digest no_ends (NeedsIn source.procs true) (length source.procs) (IsReferred source) (λ place. ⊥) (reverse steps)
+
+-- a place stands before another one in an order
+abbrev pub StandsBefore : List ℕ → ℕ → ℕ → Type 0
+StandsBefore order j i = (k : ℕ) → k < length order → slice_index order k ≡ i → Contains (take k order) j
+
+-- what is held when a place is made: that to which it has edges, and that which is needed in the end and stands before it
+abbrev pub IsHeldFor : List (List ℕ) → List Bool → List ℕ → ℕ → ℕ → Type 0
+IsHeldFor graph needed order i j = Edge graph i j ⊎ ((slice_index_or needed j false ≡ true) × StandsBefore order j i)
+
+-- the targets are held to the end where there is a dynexec
+abbrev pub held : Bool → List ℕ → List ℕ
+held true targets = targets
+held false targets = []
 
 -- the places of a row are marked; these were not
 pub record MarksRow (old : List Bool) (row : List ℕ) (new : List Bool) (fresh : List ℕ) : Type 0 where

@@ -5,6 +5,7 @@ ghost use Rattle.masm_names.specs.Names.{place_at};
 ghost use Rattle.masm_names.specs.Naming.{Dangles};
 ghost use Rattle.masm_names.specs.Uses.{first_place};
 
+use crate::dispatch::first_dispatch;
 use crate::missing::{first_missing, first_missing_of};
 use crate::recursion::first_recursion;
 use masm_graph::{all_links, main_links, users_of};
@@ -13,7 +14,8 @@ use masm_tree::Ast;
 use std::alloc::Global;
 use vm_field::{Bytes, Memory};
 
-/// The first use that leads nowhere or back, where the kernel exports these names.
+/// The first use that leads nowhere or back, or dynexec that is reached from one of its targets,
+/// where the kernel exports these names.
 pub fn first_dangling(
     alloc: Global,
     ast: &Ast,
@@ -28,5 +30,7 @@ pub fn first_dangling(
     let main = main_links(alloc, names, &exports, &ast.main)?;
     let users = users_of(alloc, &rows)?;
     let missing = earlier(first_missing_of(&rows), first_missing(&main));
-    Ok(earlier(missing, first_recursion(alloc, &users, &rows)?))
+    let dangling = earlier(missing, first_recursion(alloc, &users, &rows)?);
+    let dispatch = first_dispatch(alloc, &ast.procs, &rows, &main)?;
+    Ok(earlier(dangling, dispatch))
 }

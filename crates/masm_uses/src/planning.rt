@@ -1,10 +1,10 @@
 ghost use Rattle.std.specs.Prelude.{◌≡◌, ℕ, ◌<◌, true, false, not, List, [], length, map, filter, reverse, slice_index_or, IfOk, OnOk};
 ghost use Rattle.std.specs.List.{All, Contains};
-ghost use Rattle.graphs.specs.Graph.{rows_of, Edge, IsGraph};
+ghost use Rattle.graphs.specs.Graph.{rows_of, IsGraph};
 ghost use Rattle.graphs.specs.Orders.{IsOrder};
-ghost use Rattle.masm_uses.specs.Plans.{Builds, EndsInGraph, MarksRow, StepsTo, keeps_list, ended_lists, makes_digest, no_ends};
+ghost use Rattle.masm_uses.specs.Plans.{Builds, EndsInGraph, IsHeldFor, MarksRow, StepsTo, keeps_list, ended_lists, makes_digest, no_ends};
 
-use graphs::{is_marked, row_at};
+use graphs::{is_marked, row_at, unmarked};
 use masm_tree::Proc;
 use std::alloc::{AllocError, Global};
 
@@ -29,16 +29,6 @@ pub(crate) struct Needed {
     pub digests: Vec<bool>,
 }
 
-// The places of a row that have no mark, in their order.
-fn unmarked(alloc: Global, marks: &[bool], row: &[usize]) -> Result<Vec<usize>, AllocError>
-    ensures { IfOk result (λ fresh. fresh.items ≡ filter (λ place. not (slice_index_or marks.now place false)) row.now) }
-{
-    row.iter()
-        .copied()
-        .filter(|place| !is_marked(marks, *place))
-        .collect(alloc)
-}
-
 fn mark_all(marks: &mut Vec<bool>, row: &[usize])
     requires { All (λ place. place < length marks.old.items) row.now }
     ensures { MarksRow marks.old.items row.now marks.new.items [] }
@@ -60,16 +50,24 @@ fn mark_row(alloc: Global, marks: &mut Vec<bool>, row: &[usize]) -> Result<Vec<u
     Ok(fresh)
 }
 
-// Marks of the procedures that are exported and of those in a row.
-fn wanted_marks(alloc: Global, procs: &[Proc], row: &[usize]) -> Result<Vec<bool>, AllocError>
-    requires { All (λ place. place < length procs.now) row.now }
+// Marks of the procedures that are exported and of those in two rows.
+fn wanted_marks(
+    alloc: Global,
+    procs: &[Proc],
+    row: &[usize],
+    held: &[usize],
+) -> Result<Vec<bool>, AllocError>
+    requires row { All (λ place. place < length procs.now) row.now }
+    requires held { All (λ place. place < length procs.now) held.now }
     ensures count { IfOk result (λ marks. length marks.items ≡ length procs.now) }
     ensures exported { IfOk result (λ marks. (place : ℕ)
         → slice_index_or (map (λ p. p.exported) procs.now) place false ≡ true → slice_index_or marks.items place false ≡ true) }
     ensures used { IfOk result (λ marks. (place : ℕ) → Contains row.now place → slice_index_or marks.items place false ≡ true) }
+    ensures held { IfOk result (λ marks. (place : ℕ) → Contains held.now place → slice_index_or marks.items place false ≡ true) }
 {
     let mut marks = procs.iter().map(|p| p.exported).collect(alloc)?;
     mark_all(&mut marks, row);
+    mark_all(&mut marks, held);
     Ok(marks)
 }
 
@@ -84,26 +82,29 @@ fn row_marks(alloc: Global, count: usize, row: &[usize]) -> Result<Vec<bool>, Al
     Ok(marks)
 }
 
-// What is needed in the end: the lists of the procedures that are exported or in the one row, and the
-// digests of those in the other.
+// What is needed in the end: the lists of the procedures that are exported or in one of the first two
+// rows, and the digests of those in the third.
 pub(crate) fn needed_at_end(
     alloc: Global,
     procs: &[Proc],
     used: &[usize],
+    held: &[usize],
     referred: &[usize],
 ) -> Result<Needed, AllocError>
     requires used { All (λ place. place < length procs.now) used.now }
+    requires held { All (λ place. place < length procs.now) held.now }
     requires referred { All (λ place. place < length procs.now) referred.now }
     ensures lists_count { IfOk result (λ needed. length needed.lists.items ≡ length procs.now) }
     ensures digests_count { IfOk result (λ needed. length needed.digests.items ≡ length procs.now) }
     ensures exported { IfOk result (λ needed. (place : ℕ)
         → slice_index_or (map (λ p. p.exported) procs.now) place false ≡ true → slice_index_or needed.lists.items place false ≡ true) }
     ensures used { IfOk result (λ needed. (place : ℕ) → Contains used.now place → slice_index_or needed.lists.items place false ≡ true) }
+    ensures held { IfOk result (λ needed. (place : ℕ) → Contains held.now place → slice_index_or needed.lists.items place false ≡ true) }
     ensures referred { IfOk result (λ needed. (place : ℕ) → Contains referred.now place
         → slice_index_or needed.digests.items place false ≡ true) }
 {
     Ok(Needed {
-        lists: wanted_marks(alloc, procs, used)?,
+        lists: wanted_marks(alloc, procs, used, held)?,
         digests: row_marks(alloc, procs.len(), referred)?,
     })
 }
@@ -145,7 +146,7 @@ fn add_step(
 
 // The steps that build what is needed, in an order in which each place stands behind those to which
 // it has edges. Edges of the one graph lead to the lists that a place needs, and those of the other
-// to the digests. The last step stands first.
+// to the digests; what is needed in the end is there from its step on. The last step stands first.
 pub(crate) fn steps_of(
     alloc: Global,
     lists: &[Vec<usize>],
@@ -159,9 +160,11 @@ pub(crate) fn steps_of(
     requires digests_order { IsOrder (rows_of digests.now) order.now }
     requires lists_count { length needed.lists.items ≡ length lists.now }
     requires digests_count { length needed.digests.items ≡ length digests.now }
-    ensures lists { IfOk result (λ steps. Builds keeps_list ended_lists (Edge (rows_of lists.now)) (length (rows_of lists.now))
+    ensures lists { IfOk result (λ steps. Builds keeps_list ended_lists
+        (IsHeldFor (rows_of lists.now) needed.lists.items order.now) (length (rows_of lists.now))
         (λ place. slice_index_or needed.lists.items place false ≡ true) (λ place. ⊥) (reverse steps.items)) }
-    ensures digests { IfOk result (λ steps. Builds makes_digest no_ends (Edge (rows_of digests.now)) (length (rows_of digests.now))
+    ensures digests { IfOk result (λ steps. Builds makes_digest no_ends
+        (IsHeldFor (rows_of digests.now) needed.digests.items order.now) (length (rows_of digests.now))
         (λ place. slice_index_or needed.digests.items place false ≡ true) (λ place. ⊥) (reverse steps.items)) }
     ensures ended { IfOk result (λ steps. All (EndsInGraph (rows_of lists.now)) steps.items) }
 {

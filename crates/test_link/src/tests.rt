@@ -1,3 +1,4 @@
+mod dynexecs;
 mod kernels;
 mod references;
 mod refusals;

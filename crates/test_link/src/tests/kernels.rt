@@ -6,11 +6,12 @@ use std::test::Fail;
 // A kernel that is refused on its first line, by the column and the cause.
 type Row = (&'static [u8], u32, AsmCause);
 
-static KERNELS: [Row; 12] = [
+static KERNELS: [Row; 13] = [
     (b"begin end", 1, AsmCause::KernelBody),
     (b"export.f end proc.f end", 14, AsmCause::Duplicate),
     (b"export.f exec.g end", 10, AsmCause::UnknownProcedure),
     (b"export.f exec.f end", 10, AsmCause::Recursive),
+    (b"export.f dynexec end", 10, AsmCause::KernelBody),
     (
         b"export.f end proc.g repeat.10000 repeat.10000 neg end end end",
         14,

@@ -6,7 +6,7 @@ use std::test::Fail;
 // A source that is refused on its first line, by the column and the cause. Its kernel exports `k`.
 type Row = (&'static [u8], u32, AsmCause);
 
-static PROGRAMS: [Row; 35] = [
+static PROGRAMS: [Row; 40] = [
     (b"begin mtree_get end", 7, AsmCause::Unsupported),
     (b"begin frob end", 7, AsmCause::UnknownInstruction),
     (b"begin repeat.0 neg end end", 7, AsmCause::RepeatRange),
@@ -130,9 +130,30 @@ static PROGRAMS: [Row; 35] = [
         12,
         AsmCause::Duplicate,
     ),
+    (b"begin dynexec.f end", 7, AsmCause::Syntax),
+    (
+        b"proc.f dynexec end begin procref.f end",
+        8,
+        AsmCause::Recursive,
+    ),
+    (
+        b"proc.f exec.g end proc.g neg dynexec end begin procref.f end",
+        30,
+        AsmCause::Recursive,
+    ),
+    (
+        b"proc.b exec.a end proc.a dynexec end proc.c exec.b dynexec end begin procref.b end",
+        26,
+        AsmCause::Recursive,
+    ),
+    (
+        b"proc.f repeat.1000 repeat.262 neg end end repeat.142 neg end end begin procref.f dynexec dynexec end",
+        66,
+        AsmCause::TooManyOps,
+    ),
 ];
 
-static ACCEPTED: [&str; 8] = [
+static ACCEPTED: [&str; 10] = [
     "begin end",
     "begin syscall.k end",
     "proc.f.65535 end begin exec.f end",
@@ -141,6 +162,8 @@ static ACCEPTED: [&str; 8] = [
     "proc.a procref.b end proc.b procref.c exec.d end proc.c call.d end proc.d end begin procref.a exec.b end",
     "proc.f procref.g end proc.g repeat.10000 repeat.52 neg end end end begin end",
     "proc.f end begin repeat.10000 repeat.13 procref.f end end repeat.1072 procref.f end end",
+    "proc.f end proc.g exec.f dynexec end begin procref.f exec.g dynexec end",
+    "proc.f repeat.1000 repeat.262 neg end end repeat.141 neg end end begin procref.f dynexec dynexec end",
 ];
 
 fn is_program_refused(alloc: Global, row: &Row) -> bool {
@@ -192,6 +215,14 @@ fn accepts_programs(rt: HostRuntime) -> Result<(), Fail> {
 fn bounds_heights(rt: HostRuntime) -> Result<(), Fail> {
     assert!(rt; !is_chain_refused(rt.alloc(), 1024, "", 1025)?);
     assert!(rt; is_chain_refused(rt.alloc(), 1025, "", 1025)?);
+    Ok(())
+}
+
+// A dynexec is a block above its targets, and a procref beside it makes a join.
+#[test]
+fn bounds_heights_of_dynexecs(rt: HostRuntime) -> Result<(), Fail> {
+    assert!(rt; !is_chain_refused(rt.alloc(), 1022, "procref.a1021 dynexec", 1023)?);
+    assert!(rt; is_chain_refused(rt.alloc(), 1023, "procref.a1022 dynexec", 1024)?);
     Ok(())
 }
 

@@ -19,7 +19,8 @@ static SPANS: [(&str, [u64; 4]); 4] = [
 // 73 NEG: nine in each of the eight groups of a batch, and one in the next batch.
 static TWO_BATCHES: [[u64; 8]; 2] = [[145249953336295682; 8], [2, 0, 0, 0, 0, 0, 0, 0]];
 
-// Trees by their spans' first groups, joins in brackets. ADD is 37, and two of them are 37 + 128 * 37.
+// Trees by their spans' first groups, joins in brackets, and targets in square ones. ADD is 37, and two
+// of them are 37 + 128 * 37.
 static TREES: [(&str, &str); 5] = [
     (
         "begin add while.true end add add while.true end end",
@@ -61,7 +62,8 @@ fn is_span(alloc: Global, source: &str, batches: &[&[u64]]) -> bool {
     }
 }
 
-fn shape(alloc: Global, tree: &Tree) -> Result<String, AllocError> {
+#[cycle(shapes)]
+pub(super) fn shape(alloc: Global, tree: &Tree) -> Result<String, AllocError> {
     match tree {
         Tree::Opaque(_) => format!(in alloc; "?"),
         Tree::Span(batches) => {
@@ -93,8 +95,23 @@ fn shape(alloc: Global, tree: &Tree) -> Result<String, AllocError> {
             let a = shape(alloc, a)?;
             format!(in alloc; "K{a}")
         }
-        Tree::Dyn(_) => format!(in alloc; "D"),
+        Tree::Dyn(targets) => {
+            let inside = shapes(alloc, targets.as_slice())?;
+            format!(in alloc; "D[{inside}]")
+        }
     }
+}
+
+// Trees, each with a semicolon behind it.
+#[cycle(shapes)]
+fn shapes(alloc: Global, trees: &[Tree]) -> Result<String, AllocError> {
+    let mut text = String::new(alloc);
+    for tree in trees {
+        let next = shape(alloc, tree)?;
+        text.push_str(next.as_str())?;
+        text.push_str(";")?;
+    }
+    Ok(text)
 }
 
 fn is_tree(alloc: Global, row: &(&str, &str)) -> Result<bool, AsmError> {

@@ -15,8 +15,8 @@ use Rattle.masm_flat.specs.Taking.{Serves}
 use Rattle.masm_names.specs.Uses.{Own, Kernel, use_at, ref_at, uses_of}
 use Rattle.masm_expand.specs.Expansion.{expansion}
 use Rattle.masm_flat.specs.Views.{pieces_of}
-use Rattle.masm_flat.proofs.Statements.{body_of_more, flat-first, uses-first, flat-Instr, flat-Exec, flat-Call, flat-Syscall, flat-ProcRef, flat-If, flat-While, flat-Repeat, uses-Instr, uses-Exec, uses-Call, uses-Syscall, uses-ProcRef, uses-If, uses-While, uses-Repeat, locals-first, go_on, locals-Instr, locals-If, locals-While, locals-Repeat, weight, weight-first, weight-If, weight-While, weight-Repeat}
-use Rattle.masm_flat.proofs.Served.{keeps_then, on_ok, comes_same, comes_as, comes_then, comes_statement, comes_body, comes_exported, comes_referred}
+use Rattle.masm_flat.proofs.Statements.{body_of_more, flat-first, uses-first, flat-Instr, flat-Exec, flat-Call, flat-Syscall, flat-ProcRef, flat-DynExec, flat-If, flat-While, flat-Repeat, uses-Instr, uses-Exec, uses-Call, uses-Syscall, uses-ProcRef, uses-DynExec, uses-If, uses-While, uses-Repeat, locals-first, go_on, locals-Instr, locals-If, locals-While, locals-Repeat, weight, weight-first, weight-If, weight-While, weight-Repeat}
+use Rattle.masm_flat.proofs.Served.{keeps_then, on_ok, comes_same, comes_as, comes_then, comes_statement, comes_body, comes_exported, comes_referred, comes_dispatched}
 use Rattle.masm_flat.proofs.flattening.+flattening.Goals as goal
 
 pub add_statement-add_instr-requires : goal.add_statement-add_instr-requires
@@ -123,6 +123,20 @@ add_statement-returns-in-ProcRef t c =
     (ap (λ s. uses_of (stmt_view s Empty)) c.in-ProcRef.is ∙ uses-ProcRef at name)
     (λ known. ap (λ s. flat_with as_tree known locals (stmt_view s Empty)) c.in-ProcRef.is ∙ flat-ProcRef as_tree known locals at name)
     is (comes_referred scope at name table)) c.add_reference.ensures
+
+pub add_statement-returns-in_ok-dispatched-in-DynExec : goal.add_statement-returns-in_ok-dispatched-in-DynExec
+add_statement-returns-in_ok-dispatched-in-DynExec t c =
+    let locals = c.args.locals in
+    let scope = c.args.scope.now in
+    let at = c.in-DynExec.field-0 in
+    let table = c.args.table.now in
+    let tree = tree_of c.in_ok-dispatched-in-DynExec.field-0 in
+    on_ok c.add_tree-in-DynExec.result _ _ (λ is.
+    comes_statement scope locals c.args.stmt.now [] (λ known. known.dispatch) (λ tree. Whole tree ∷ []) table table
+    (pieces_of c.args.out.now.items) (pieces_of c.add_tree-in-DynExec.new.out.items) tree
+    (ap (λ s. uses_of (stmt_view s Empty)) c.in-DynExec.is ∙ uses-DynExec at)
+    (λ known. ap (λ s. flat_with as_tree known locals (stmt_view s Empty)) c.in-DynExec.is ∙ flat-DynExec as_tree known locals at)
+    is (comes_dispatched scope table tree c.in_ok-dispatched-in-DynExec.ensures)) c.add_tree-in-DynExec.ensures
 
 pub add_statement-returns-in_ok-split-in-If : goal.add_statement-returns-in_ok-split-in-If
 add_statement-returns-in_ok-split-in-If t c =
@@ -238,3 +252,13 @@ flatten-returns t c = record {
       );
   keeps = c.loop-stmt.invariant.keeps;
 }
+
+pub list_of-returns : goal.list_of-returns
+list_of-returns t c =
+    let body = c.args.body.now in
+    let locals = c.args.locals in
+    let pieces = pieces_of c.flatten.new.out.items in
+    comes_as c.args.scope.now (uses_of (body_of body)) (uses_of (body_of body))
+    (λ known. pieces_of c.new-list.result.items ++ flat_with as_tree known locals (body_of body))
+    (λ known. flat_with as_tree known locals (body_of body)) (λ xs. xs) c.args.table.now c.flatten.new.table pieces pieces refl
+    (λ known. ap (λ xs. pieces_of xs ++ flat_with as_tree known locals (body_of body)) c.new-list.ensures.items) refl c.in_ok-flatten.ensures

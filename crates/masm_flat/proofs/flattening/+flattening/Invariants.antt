@@ -1,4 +1,4 @@
-use Rattle.std.proofs.Common.{◌≡◌, ℕ, ◌+◌, ◌*◌, ◌≤◌, List, ◌++◌, drop}
+use Rattle.std.proofs.Common.{◌≡◌, ◌+◌, ◌*◌, ◌≤◌, List, ◌++◌, drop}
 use Rattle.block_tree.specs.Trees.{Tree}
 use Rattle.masm_tree.specs.Trees.{Empty}
 use Rattle.masm_tree.specs.Views.{stmt_view, body_of}

@@ -1,7 +1,7 @@
 use Rattle.std.proofs.Common.{sym, ap, ◌∙◌}
 use Rattle.masm_names.specs.Names.{place_at}
 use Rattle.masm_flat.specs.Views.{pieces_of}
-use Rattle.masm_flat.proofs.Served.{on_ok, on_both, comes_used, comes_unused}
+use Rattle.masm_flat.proofs.Served.{on_both, comes_used, comes_unused}
 use Rattle.masm_flat.proofs.flattening.add_used.Goals as goal
 
 pub returns-in-Some : goal.returns-in-Some

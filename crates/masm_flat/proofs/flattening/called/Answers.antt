@@ -1,4 +1,4 @@
-use Rattle.std.proofs.Common.{◌++◌, refl, ap, sym, ◌∙◌, ◌≡◌}
+use Rattle.std.proofs.Common.{◌++◌, refl, ap, ◌∙◌, ◌≡◌}
 use Rattle.block_tree.specs.Trees.{Call}
 use Rattle.block_tree.specs.TreeView.{tree_of}
 use Rattle.masm_flat.specs.Blocks.{as_tree, whole}

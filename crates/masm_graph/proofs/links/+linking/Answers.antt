@@ -1,4 +1,4 @@
-use Rattle.masm_graph.proofs.UseLemmas.{added-none, added-more, added-Instr, added-If}
+use Rattle.masm_graph.proofs.UseLemmas.{added-none, added-more, added-Instr, added-DynExec, added-If}
 use Rattle.masm_graph.proofs.links.+linking.Goals as goal
 
 pub add_body-loop-stmt-init : goal.add_body-loop-stmt-init
@@ -11,6 +11,9 @@ add_body-loop-stmt-preserved t c =
 
 pub add_statement-returns-in-Instr : goal.add_statement-returns-in-Instr
 add_statement-returns-in-Instr t c = rw (c.in-Instr.is) (added-Instr _ c.in-Instr.field-0 c.in-Instr.field-1 c.args.out.now.items)
+
+pub add_statement-returns-in-DynExec : goal.add_statement-returns-in-DynExec
+add_statement-returns-in-DynExec t c = rw (c.in-DynExec.is) (added-DynExec _ c.in-DynExec.field-0 c.args.out.now.items)
 
 pub add_statement-returns-in_ok-add_body-in-If-2 : goal.add_statement-returns-in_ok-add_body-in-If-2
 add_statement-returns-in_ok-add_body-in-If-2 t c =

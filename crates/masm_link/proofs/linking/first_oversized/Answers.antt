@@ -1,5 +1,5 @@
 use Rattle.std.proofs.Common.{◌≡◌, None, Some, MatchOption, sym, subst}
-use Rattle.masm_size.specs.KnownSizes.{size_at, sizes_known}
+use Rattle.masm_size.specs.KnownSizes.{dispatch_extent, size_at, sizes_known}
 use Rattle.masm_size.specs.Sizes.{extent_of, procedure_size}
 use Rattle.masm_tree.specs.Views.{body_of, procedure_of, source_of}
 use Rattle.masm_names.specs.Among.{Among}
@@ -23,8 +23,12 @@ returns c = λ out is.
     c.first_too_large-procs.ensures) in
     let main =
     subst (λ ss. MatchOption ast.main (c.in_ok-main.main ≡ None)
-    (λ p. FindsLeast (ExceedsLimit (position_of (procedure_of p)) (extent_of (procedure_size (sizes_known m.names ss kernel) p.locals
-    (body_of p.body.items)))) c.in_ok-main.main))
-    c.deref-3.ensures.value c.in_ok-main.ensures in
+    (λ p. FindsLeast (ExceedsLimit (position_of (procedure_of p)) (extent_of (procedure_size
+    (sizes_known m.names ss (dispatch_extent ss m.targets.items) kernel) p.locals (body_of p.body.items)))) c.in_ok-main.main))
+    c.deref-3.ensures.value
+    (subst (λ ts. MatchOption ast.main (c.in_ok-main.main ≡ None)
+    (λ p. FindsLeast (ExceedsLimit (position_of (procedure_of p)) (extent_of (procedure_size
+    (sizes_known m.names c.deref-3.result.now (dispatch_extent c.deref-3.result.now ts) kernel) p.locals (body_of p.body.items))))
+    c.in_ok-main.main)) c.deref-4.ensures.value c.in_ok-main.ensures) in
     subst (FindsLeast (Oversized (source_of ast) out)) (sym c.earlier.ensures) (FindsLeast-large ast kernel m c.requires.measured out is
     c.first_too_large-procs.result c.in_ok-main.main procs main)

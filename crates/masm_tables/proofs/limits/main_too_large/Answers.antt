@@ -1,5 +1,5 @@
 use Rattle.std.proofs.Common.{◌≡◌, None, MatchOption, sym, ap, subst, ◌∙◌}
-use Rattle.masm_size.specs.KnownSizes.{sizes_known}
+use Rattle.masm_size.specs.KnownSizes.{dispatch_extent, sizes_known}
 use Rattle.masm_size.specs.Sizes.{extent_of, procedure_size}
 use Rattle.masm_tree.specs.Views.{body_of, procedure_of}
 use Rattle.masm_names.specs.Least.{FindsLeast}
@@ -10,9 +10,14 @@ use Rattle.masm_tables.proofs.limits.main_too_large.Goals as goal
 
 pub returns : goal.returns
 returns c =
-    let extent = c.extent_of.ensures ∙ ap extent_of (c.part.ensures ∙ c.in_ok-size.ensures) in
+    let sizes = c.args.sizes.now in
+    let dispatch = dispatch_extent sizes c.args.targets.now in
+    let extent =
+    c.extent_of.ensures ∙ ap extent_of (c.part.ensures ∙ c.in_ok-size.ensures
+    ∙ ap (λ e. procedure_size (sizes_known c.args.names.now sizes e c.args.outside.now.exports.now) c.in-Some.procedure.locals
+    (body_of c.in-Some.procedure.body.items)) c.dispatch_extent.ensures) in
     subst (λ o. MatchOption o (c.too_large.result ≡ None)
     (λ p. FindsLeast (ExceedsLimit (position_of (procedure_of p))
-    (extent_of (procedure_size (sizes_known c.args.names.now c.args.sizes.now c.args.outside.now.exports.now)
+    (extent_of (procedure_size (sizes_known c.args.names.now sizes dispatch c.args.outside.now.exports.now)
     p.locals (body_of p.body.items)))) c.too_large.result))
     (sym c.in-Some.is) (over_same _ _ _ _ c.too_large.result c.at.ensures extent c.too_large.ensures)

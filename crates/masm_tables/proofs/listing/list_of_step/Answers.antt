@@ -16,11 +16,11 @@ returns-clause-list c =
     let mid = c.expect.new.self in
     let counted = counted_in c.args.table.now mid c.deref.result.now c.args.step.now.ended.items c.expect.ensures.count c.deref.ensures.value
     c.expect.ensures.left in
-    let known : Known Tree = lists_known scope.names.now mid.lists.items scope.digests.now scope.outside.now.exports.now in
+    let known : Known Tree = lists_known scope.names.now mid.lists.items scope.digests.now scope.dispatch.now scope.outside.now.exports.now in
     let serves = serves_start mid c.args.step.now.ended.items counted scope (uses_of (body_of p.body.items)) c.requires.ended in
     let gives = c.in_ok-list.ensures.gives known [] serves in
     gives.0 ∙ ap (λ lists. with_locals p.locals (flat_with as_tree (lists_known scope.names.now lists.items scope.digests.now
-    scope.outside.now.exports.now) p.locals (body_of p.body.items))) c.expect.ensures.lists
+    scope.dispatch.now scope.outside.now.exports.now) p.locals (body_of p.body.items))) c.expect.ensures.lists
 
 pub returns-clause-others : goal.returns-clause-others
 returns-clause-others c = λ q none.
@@ -37,7 +37,7 @@ returns-clause-none c = λ q.
     let mid = c.expect.new.self in
     let counted = counted_in c.args.table.now mid c.deref.result.now c.args.step.now.ended.items c.expect.ensures.count c.deref.ensures.value
     c.expect.ensures.left in
-    let known : Known Tree = lists_known scope.names.now mid.lists.items scope.digests.now scope.outside.now.exports.now in
+    let known : Known Tree = lists_known scope.names.now mid.lists.items scope.digests.now scope.dispatch.now scope.outside.now.exports.now in
     let serves = serves_start mid c.args.step.now.ended.items counted scope (uses_of (body_of p.body.items)) c.requires.ended in
     none_end scope known c.list_of_procedure.new.table (c.in_ok-list.ensures.gives known [] serves).1 q
 

@@ -1,18 +1,27 @@
-use Rattle.std.proofs.Common.{◌≡◌, ◌+◌, ◌-◌, ◌<◌, true, false, List, length, refl, sym, ap, subst, ◌∙◌, arith}
+use Rattle.std.proofs.Common.{◌≡◌, ℕ, ◌+◌, ◌-◌, ◌<◌, true, List, Vec, Global, length, take, refl, sym, ap, subst, ◌∙◌, arith}
 use Rattle.std.specs.Prelude.{reverse}
-use Rattle.std.specs.List.{Contains}
+use Rattle.std.specs.List.{All, Contains}
 use Rattle.std.proofs.lemmas.List.{length-map, take_all}
+use Rattle.block_tree.specs.declared.tree.Tree as code
 use Rattle.block_tree.specs.Trees.{tree_digest}
+use Rattle.block_tree.specs.TreeView.{tree_of}
+use Rattle.masm_flat.specs.declared.table.Table.{Table}
 use Rattle.masm_flat.specs.Blocks.{as_tree, whole}
+use Rattle.masm_flat.specs.KnownLists.{dispatch_in, dispatch_of}
+use Rattle.masm_flat.specs.Lists.{Outside}
+use Rattle.masm_flat.specs.Taking.{HasNoneLeft}
 use Rattle.masm_tree.specs.Locals.{ProcedureFits}
-use Rattle.masm_tree.specs.Views.{procedure_of, source_of}
+use Rattle.masm_tree.specs.Views.{body_of, procedure_of, source_of}
 use Rattle.masm_names.specs.Names.{place_at}
-use Rattle.masm_uses.specs.Plans.{EndsInFull, IsWanted, IsReferred, NeedsIn, keeps_list, ended_lists, makes_digest, no_ends}
-use Rattle.masm_tables.specs.Kernels.{names_in}
-use Rattle.masm_tables.specs.Tables.{IsListAt, IsDigestAt, listed}
+use Rattle.masm_uses.specs.Plans.{EndsInFull, IsWanted, IsReferred, ListNeeds, used, targeted, NeedsIn, keeps_list, ended_lists, makes_digest, no_ends}
+use Rattle.masm_tables.specs.Kernels.{AreExports, names_in}
+use Rattle.masm_tables.specs.Tables.{IsListAt, IsDigestAt, IsDispatch, IsDispatched, listed}
+use Rattle.masm_tables.specs.Preparing.{Prepares}
+use Rattle.masm_tables.proofs.Dispatches.{dispatch_is, targets_below}
 use Rattle.masm_tables.proofs.Known.{all_at, read_here, list_step, digest_step}
+use Rattle.masm_tables.proofs.Prepared.{asked, prepared}
 use Rattle.masm_tables.proofs.Put.{puts_as}
-use Rattle.masm_tables.proofs.Steps.{ArePlaces, holds-all, holds-needs, holds-place, holds-next, holds-end, plan-places}
+use Rattle.masm_tables.proofs.Steps.{ArePlaces, BuildsLists, BuildsDigests, holds-all, holds-needs, holds-place, holds-next, holds-end, plan-places}
 use Rattle.masm_tables.proofs.listing.lists_of.Goals as goal
 
 pub loop-k-init : goal.loop-k-init
@@ -25,10 +34,11 @@ loop-k-init c =
       digests_count = omega (arith, c.in_ok-built.ensures.digests, c.len.ensures);
       none = c.in_ok-built.ensures.none;
       places = subst (λ xs. ArePlaces count (reverse xs)) (sym (take_all (length steps) steps (omega arith))) (plan-places source steps c.requires.steps);
-      lists = λ out is are. holds-all keeps_list ended_lists (NeedsIn source.procs false) count (IsWanted source) steps (IsListAt source.procs out _)
+      lists = λ out is are. holds-all keeps_list ended_lists (ListNeeds source) count (IsWanted source) steps (IsListAt source out _)
           (length steps) (omega arith) c.requires.steps.lists;
-      digests = λ out is are. holds-all makes_digest no_ends (NeedsIn source.procs true) count (IsReferred source) steps (IsDigestAt source.procs out _)
+      digests = λ out is are. holds-all makes_digest no_ends (NeedsIn source.procs true) count (IsReferred source) steps (IsDigestAt source out _)
           (length steps) (omega arith) c.requires.steps.digests;
+      dispatch = λ out is are. subst (IsDispatched source out) (sym c.in_ok-built.ensures.dispatch) tt;
       permutations = refl;
     }
 
@@ -45,13 +55,23 @@ pub add_step-requires-clause-lists : goal.add_step-requires-clause-lists
 add_step-requires-clause-lists c =
     let low = holds-place keeps_list ended_lists (λ i j. ⊥) (length (source_of c.args.ast.now).procs) (λ q. ⊥) c.args.steps.now (c.loop-k.k - 1)
     c.loop-k.k c.index-steps-k.result (omega arith) c.index-steps-k.is (omega arith) (λ q. Unit {0}) c.loop-k.invariant.places in
-    subst (λ m. c.index-steps-k.result.place < m) (sym c.loop-k.invariant.lists_count) low
+    subst (λ m. c.index-steps-k.result.place < m)
+    (sym (ap (λ (t : Table). length t.lists.items) c.in_ok-prepare.ensures.table ∙ c.loop-k.invariant.lists_count)) low
 
 pub add_step-requires-clause-digests : goal.add_step-requires-clause-digests
 add_step-requires-clause-digests c =
     let low = holds-place keeps_list ended_lists (λ i j. ⊥) (length (source_of c.args.ast.now).procs) (λ q. ⊥) c.args.steps.now (c.loop-k.k - 1)
     c.loop-k.k c.index-steps-k.result (omega arith) c.index-steps-k.is (omega arith) (λ q. Unit {0}) c.loop-k.invariant.places in
-    subst (λ m. c.index-steps-k.result.place < m) (sym c.loop-k.invariant.digests_count) low
+    subst (λ m. c.index-steps-k.result.place < m)
+    (sym (ap (λ (v : Vec (List ℕ) Global). length v.items) c.in_ok-prepare.ensures.digests ∙ c.loop-k.invariant.digests_count)) low
+
+pub add_step-requires-clause-none : goal.add_step-requires-clause-none
+add_step-requires-clause-none c = subst HasNoneLeft (sym c.in_ok-prepare.ensures.table) c.loop-k.invariant.none
+
+pub prepare-requires : goal.prepare-requires
+prepare-requires c =
+    subst (λ m. All (λ j. j < m) c.args.targets.now) (sym c.loop-k.invariant.lists_count)
+    (targets_below (source_of c.args.ast.now) c.args.targets.now c.requires.targets)
 
 pub add_step-requires-clause-locals : goal.add_step-requires-clause-locals
 add_step-requires-clause-locals c =
@@ -59,8 +79,8 @@ add_step-requires-clause-locals c =
     let step = c.index-steps-k.result in
     let low = holds-place keeps_list ended_lists (λ i j. ⊥) (length (source_of ast).procs) (λ q. ⊥) c.args.steps.now (c.loop-k.k - 1) c.loop-k.k step
     (omega arith) c.index-steps-k.is (omega arith) (λ q. Unit {0}) c.loop-k.invariant.places in
-    let here = read_here ast step.place c.index.result.now low c.index.ensures in
-    all_at ProcedureFits (source_of ast).procs step.place (procedure_of c.index.result.now) c.requires.fits.procs here
+    let here = read_here ast step.place c.index-procedure.result.now low c.index-procedure.ensures in
+    all_at ProcedureFits (source_of ast).procs step.place (procedure_of c.index-procedure.result.now) c.requires.fits.procs here
 
 pub add_step-requires-clause-ended : goal.add_step-requires-clause-ended
 add_step-requires-clause-ended c =
@@ -70,9 +90,9 @@ add_step-requires-clause-ended c =
     let below : k < length c.args.steps.now = omega arith in
     let low = holds-place keeps_list ended_lists (λ i j. ⊥) (length (source_of ast).procs) (λ q. ⊥) c.args.steps.now k c.loop-k.k step
     below c.index-steps-k.is (omega arith) (λ q. Unit {0}) c.loop-k.invariant.places in
-    let here = read_here ast step.place c.index.result.now low c.index.ensures in
+    let here = read_here ast step.place c.index-procedure.result.now low c.index-procedure.ensures in
     subst (EndsInFull (place_at c.args.names.now) (source_of ast).procs) (sym c.index-steps-k.is) (c.requires.ended k step below)
-    (procedure_of c.index.result.now) here
+    (procedure_of c.index-procedure.result.now) here
 
 pub loop-k-preserved : goal.loop-k-preserved
 loop-k-preserved c =
@@ -89,58 +109,80 @@ loop-k-preserved c =
     let next : n ≡ k + 1 = omega arith in
     let is_step = c.index-steps-k.is in
     let before = c.loop-k.invariant in
-    let old = c.loop-k.built in
+    let old = c.prepare.new.self in
     let new = c.add_step.new.self in
     let added = c.in_ok-add_step.ensures in
+    let table = c.in_ok-prepare.ensures.table in
+    let known = c.in_ok-prepare.ensures.digests in
     let low = holds-place keeps_list ended_lists (λ i j. ⊥) count (λ q. ⊥) steps k n step below is_step next (λ q. Unit {0}) before.places in
-    let p = c.index.result.now in
-    let here = read_here ast step.place p low c.index.ensures in
+    let p = c.index-procedure.result.now in
+    let here = read_here ast step.place p low c.index-procedure.ensures in
+    let steps_before = reverse (take n steps) in
+    let lists_then : (out : Outside) (is : out.constants ≡ c.args.digests.now.permutations) (are : AreExports out.exports kernel)
+    → BuildsLists source out old.table.lists.items steps_before =
+    λ out is are. subst (λ (t : Table). BuildsLists source out t.lists.items steps_before) (sym table) (before.lists out is are) in
+    let digests_then : (out : Outside) (is : out.constants ≡ c.args.digests.now.permutations) (are : AreExports out.exports kernel)
+    → BuildsDigests source out old.digests.items steps_before =
+    λ out is are. subst (λ (v : Vec (List ℕ) Global). BuildsDigests source out v.items steps_before) (sym known) (before.digests out is are) in
+    let holds : (out : Outside) (is : out.constants ≡ c.args.digests.now.permutations) (are : AreExports out.exports kernel)
+    → (q : ℕ) → ListNeeds source step.place q → IsListAt source out old.table.lists.items q =
+    λ out is are. holds-needs keeps_list ended_lists (ListNeeds source) count (IsWanted source) steps k n step below is_step next
+    (IsListAt source out old.table.lists.items) (lists_then out is are) in
+    let Is : code.Tree → Type 0 = λ tree. tree_of tree ≡ dispatch_of c.loop-k.built.table.lists.items c.args.targets.now in
+    let asks = subst (λ xs. Prepares Is (body_of xs) c.loop-k.built.dispatch old.dispatch) c.deref.ensures.value c.in_ok-prepare.ensures.dispatch in
+    let dispatched : (out : Outside) (is : out.constants ≡ c.args.digests.now.permutations) (are : AreExports out.exports kernel)
+    → IsDispatched source out old.dispatch =
+    λ out is are. prepared Is (body_of p.body.items) (λ tree. IsDispatch source out (tree_of tree)) asks (before.dispatch out is are)
+    (λ at has tree is_tree. subst (IsDispatch source out) (sym is_tree)
+    (dispatch_is source c.args.targets.now c.requires.targets out c.loop-k.built.table.lists.items
+    (λ j target. subst (λ (t : Table). IsListAt source out t.lists.items j) table
+    (holds out is are j (targeted (record { procedure = procedure_of p; here = here; at = at; among = has }) target))))) in
     record {
-      lists_count = added.list.count ∙ before.lists_count;
-      digests_count = added.digest.count ∙ before.digests_count;
+      lists_count = added.list.count ∙ ap (λ (t : Table). length t.lists.items) table ∙ before.lists_count;
+      digests_count = added.digest.count ∙ ap (λ (v : Vec (List ℕ) Global). length v.items) known ∙ before.digests_count;
       none = added.none;
       places = holds-next keeps_list ended_lists (λ i j. ⊥) count (λ q. ⊥) steps k n step below is_step next (λ q. Unit {0}) (λ q. Unit {0})
           before.places (λ q h. tt);
       lists = λ out is are.
-          let builds = before.lists out is are in
-          let made = before.digests out is are in
-          holds-next keeps_list ended_lists (NeedsIn source.procs false) count (IsWanted source) steps k n step below is_step next
-          (IsListAt source.procs out old.table.lists.items) (IsListAt source.procs out new.table.lists.items) builds
+          let builds = lists_then out is are in
+          let made = digests_then out is are in
+          holds-next keeps_list ended_lists (ListNeeds source) count (IsWanted source) steps k n step below is_step next
+          (IsListAt source out old.table.lists.items) (IsListAt source out new.table.lists.items) builds
           (λ q held. list_step source out kernel are names c.requires.names (names_in kernel) c.requires.closed step.place (procedure_of p) here
-          old.table.lists.items old.digests.items
-          (holds-needs keeps_list ended_lists (NeedsIn source.procs false) count (IsWanted source) steps k n step below is_step next
-          (IsListAt source.procs out old.table.lists.items) builds)
+          old.table.lists.items old.digests.items old.dispatch (λ r need. holds out is are r (used need))
           (holds-needs makes_digest no_ends (NeedsIn source.procs true) count (IsReferred source) steps k n step below is_step next
-          (IsDigestAt source.procs out old.digests.items) made)
+          (IsDigestAt source out old.digests.items) made)
+          (λ at has. let it = asked Is (body_of p.body.items) (λ tree. IsDispatch source out (tree_of tree)) asks (dispatched out is are) at has in
+          subst (λ o. IsDispatch source out (dispatch_in o)) (sym it.1) it.2)
           new.table.lists.items step.kept (λ r. ¬ (Contains step.ended.items r)) added.list q held.1 held.0);
       digests = λ out is are.
-          let builds = before.lists out is are in
-          let made = before.digests out is are in
-          let tree = whole as_tree (listed names old kernel p) in
+          let made = digests_then out is are in
+          let tree = whole as_tree (listed names old old.dispatch kernel p) in
           holds-next makes_digest no_ends (NeedsIn source.procs true) count (IsReferred source) steps k n step below is_step next
-          (IsDigestAt source.procs out old.digests.items) (IsDigestAt source.procs out new.digests.items) made
+          (IsDigestAt source out old.digests.items) (IsDigestAt source out new.digests.items) made
           (λ q held. digest_step source out kernel are names c.requires.names (names_in kernel) c.requires.closed step.place (procedure_of p) here
-          old.table.lists.items old.digests.items
-          (holds-needs keeps_list ended_lists (NeedsIn source.procs false) count (IsWanted source) steps k n step below is_step next
-          (IsListAt source.procs out old.table.lists.items) builds)
+          old.table.lists.items old.digests.items old.dispatch (λ r need. holds out is are r (used need))
           (holds-needs makes_digest no_ends (NeedsIn source.procs true) count (IsReferred source) steps k n step below is_step next
-          (IsDigestAt source.procs out old.digests.items) made)
+          (IsDigestAt source out old.digests.items) made)
+          (λ at has. let it = asked Is (body_of p.body.items) (λ tree. IsDispatch source out (tree_of tree)) asks (dispatched out is are) at has in
+          subst (λ o. IsDispatch source out (dispatch_in o)) (sym it.1) it.2)
           new.digests.items step.referred (λ r. Unit {0})
           (puts_as step.referred step.place _ (λ d. d ≡ tree_digest out.constants tree) (λ r. Unit {0}) (λ r. Unit {0}) old.digests.items
           old.digests.items new.digests.items (λ r h. tt) (λ r h. refl) refl
           (λ is_so d e. e ∙ ap (λ cs. tree_digest cs tree) (before.permutations ∙ sym is)) added.digest)
           q tt held.0);
+      dispatch = λ out is are. subst (IsDispatched source out) (sym added.dispatch) (dispatched out is are);
       permutations = added.permutations ∙ before.permutations;
     }
 
 pub returns-clause-lists : goal.returns-clause-lists
 returns-clause-lists c = λ out is are.
     let source = source_of c.args.ast.now in
-    holds-end keeps_list ended_lists (NeedsIn source.procs false) (length source.procs) (IsWanted source) c.args.steps.now
-    (IsListAt source.procs out c.loop-k.built.table.lists.items) c.loop-k.k (omega arith) (c.loop-k.invariant.lists out is are)
+    holds-end keeps_list ended_lists (ListNeeds source) (length source.procs) (IsWanted source) c.args.steps.now
+    (IsListAt source out c.loop-k.built.table.lists.items) c.loop-k.k (omega arith) (c.loop-k.invariant.lists out is are)
 
 pub returns-clause-digests : goal.returns-clause-digests
 returns-clause-digests c = λ out is are.
     let source = source_of c.args.ast.now in
     holds-end makes_digest no_ends (NeedsIn source.procs true) (length source.procs) (IsReferred source) c.args.steps.now
-    (IsDigestAt source.procs out c.loop-k.built.digests.items) c.loop-k.k (omega arith) (c.loop-k.invariant.digests out is are)
+    (IsDigestAt source out c.loop-k.built.digests.items) c.loop-k.k (omega arith) (c.loop-k.invariant.digests out is are)

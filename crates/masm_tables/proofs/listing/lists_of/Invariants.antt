@@ -4,6 +4,7 @@ use Rattle.masm_flat.specs.Lists.{Outside}
 use Rattle.masm_flat.specs.Taking.{HasNoneLeft}
 use Rattle.masm_tree.specs.Views.{source_of}
 use Rattle.masm_tables.specs.Kernels.{AreExports}
+use Rattle.masm_tables.specs.Tables.{IsDispatched}
 use Rattle.masm_tables.proofs.Steps.{ArePlaces, BuildsLists, BuildsDigests}
 use Rattle.masm_tables.proofs.listing.lists_of.Given as goal
 
@@ -19,5 +20,8 @@ invariant-loop-k l = record {
   digests :
       (out : Outside) → out.constants ≡ l.fn.digests.permutations → AreExports out.exports l.outside.exports.now
       → BuildsDigests (source_of l.ast) out l.built.digests.items (reverse (take l.k l.steps));
+  dispatch :
+      (out : Outside) → out.constants ≡ l.fn.digests.permutations → AreExports out.exports l.outside.exports.now
+      → IsDispatched (source_of l.ast) out l.built.dispatch;
   permutations : l.digests.permutations ≡ l.fn.digests.permutations;
 }

@@ -1,12 +1,14 @@
-use Rattle.std.proofs.Common.{◌≡◌, length, take}
+use Rattle.std.proofs.Common.{◌≡◌, length, take, MatchOption}
 use Rattle.masm_flat.specs.Lists.{Outside}
 use Rattle.masm_tree.specs.Views.{source_of}
 use Rattle.masm_tables.specs.Kernels.{IsOutside}
 use Rattle.masm_tables.specs.Tables.{AreSizes}
+use Rattle.masm_tables.proofs.Dispatches.{IsDispatchExtent}
 use Rattle.masm_tables.proofs.sizing.sizes_of.Given as goal
 
 abbrev pub invariant-loop-place : goal.invariant-loop-place
 invariant-loop-place l =
     (length l.sizes.items ≡ length (source_of l.ast).procs)
     × ((out : Outside) → IsOutside l.outside.exports.now out
-    → AreSizes (source_of l.ast).procs out (take l.place-index l.order) l.sizes.items)
+    → AreSizes (source_of l.ast) out (take l.place-index l.order) l.sizes.items
+    × MatchOption l.dispatch (Unit {0}) (IsDispatchExtent (source_of l.ast) out))

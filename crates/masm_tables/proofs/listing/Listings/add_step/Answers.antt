@@ -16,7 +16,7 @@ returns-clause-list c =
     let old = a.self.now in
     let made = c.in_ok-list.ensures in
     let listed_is = made.list ∙ ap (λ ds. with_locals p.locals (flat_with as_tree (lists_known a.names.now old.table.lists.items ds
-    a.outside.now.exports.now) p.locals (body_of p.body.items))) c.as_slice.ensures.value in
+    old.dispatch a.outside.now.exports.now) p.locals (body_of p.body.items))) c.as_slice.ensures.value in
     puts_as a.step.now.kept a.step.now.place (λ (put : Vec Piece Global). put.items ≡ c.put_digest.new.list.items) _ _ _ old.table.lists.items
     c.list_of_step.new.table.lists.items _ (λ q none. tt) made.others made.count
     (λ is_so x is. ap pieces_of (is ∙ c.in_ok-put_digest.ensures.kept is_so) ∙ listed_is) c.put_list.ensures.list

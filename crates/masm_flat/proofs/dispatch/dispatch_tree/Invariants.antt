@@ -1,0 +1,9 @@
+use Rattle.std.proofs.Common.{◌≡◌, map, take, Some}
+use Rattle.block_tree.specs.TreeView.{tree_of, trees_in}
+use Rattle.masm_flat.specs.Blocks.{as_tree, whole}
+use Rattle.masm_flat.specs.KnownLists.{list_at}
+use Rattle.masm_flat.proofs.dispatch.dispatch_tree.Given as goal
+
+abbrev pub invariant-loop-place : goal.invariant-loop-place
+invariant-loop-place l =
+    map tree_of (trees_in l.trees) ≡ map (λ place. whole as_tree (list_at l.lists (Some place))) (take l.place-index l.targets)

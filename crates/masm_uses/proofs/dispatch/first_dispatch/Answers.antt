@@ -1,0 +1,43 @@
+use Rattle.std.proofs.Common.{◌≡◌, ◌<◌, ℕ, true, false, List, Vec, Global, map, length, get_or, sym, ap, subst, ◌∙◌, arith}
+use Rattle.std.proofs.lemmas.List.{length-map}
+use Rattle.std.specs.List.{All}
+use Rattle.graphs.specs.Graph.{rows_of, IsGraph, LeadsFrom}
+use Rattle.masm_graph.specs.declared.links.Link.{Link}
+use Rattle.masm_graph.specs.Dynexecs.{dynexecs_in}
+use Rattle.masm_graph.specs.Links.{own_places, places_referred}
+use Rattle.masm_names.specs.Least.{FindsLeast}
+use Rattle.masm_uses.specs.Dangling.{Dynexecs}
+use Rattle.masm_uses.proofs.DispatchLemmas.{Dynexecs-same}
+use Rattle.masm_uses.proofs.dispatch.first_dispatch.Goals as goal
+
+graph_count : (rows : List (Vec Link Global)) (graph : List (Vec ℕ Global)) → rows_of graph ≡ map own_places (rows_of rows) → length rows ≡ length graph
+graph_count rows graph is =
+    let vecs = length-map graph (λ (v : Vec ℕ Global). v.items) in
+    let mapped = length-map (rows_of rows) own_places in
+    let links = length-map rows (λ (v : Vec Link Global). v.items) in
+    let same = ap length is in
+    omega arith
+
+pub reached_from-requires-clause-graph : goal.reached_from-requires-clause-graph
+reached_from-requires-clause-graph c =
+    subst IsGraph (sym (ap rows_of c.deref.ensures.value ∙ c.in_ok-graph.ensures)) c.requires.graph
+
+pub reached_from-requires-clause-starts : goal.reached_from-requires-clause-starts
+reached_from-requires-clause-starts c =
+    subst (λ n. All (λ q. q < n) c.deref-2.result.now)
+    (graph_count c.args.rows.now c.deref.result.now (ap rows_of c.deref.ensures.value ∙ c.in_ok-graph.ensures))
+    (subst (All (λ q. q < length c.args.rows.now)) (sym (c.deref-2.ensures.value ∙ c.in_ok-targets.ensures)) c.requires.targets)
+
+pub returns : goal.returns
+returns c =
+    let graph = ap rows_of c.deref.ensures.value ∙ c.in_ok-graph.ensures in
+    let starts = c.deref-2.ensures.value ∙ c.in_ok-targets.ensures in
+    let rows = ap rows_of c.deref-4.ensures.value ∙ c.in_ok-dynexecs.ensures in
+    let marks = c.in_ok-marks.marks.items in
+    subst (λ g. FindsLeast (Dynexecs (LeadsFrom g (places_referred (rows_of c.args.rows.now) c.args.main.now)) (map dynexecs_in c.args.procs.now))
+    c.first_marked.result) graph
+    (subst (λ s. FindsLeast (Dynexecs (LeadsFrom (rows_of c.deref.result.now) s) (map dynexecs_in c.args.procs.now)) c.first_marked.result) starts
+    (Dynexecs-same (λ q. get_or marks q false ≡ true) (LeadsFrom (rows_of c.deref.result.now) c.deref-2.result.now) (map dynexecs_in c.args.procs.now)
+    c.first_marked.result c.in_ok-marks.ensures
+    (subst (λ ms. FindsLeast (Dynexecs (λ q. get_or ms q false ≡ true) (map dynexecs_in c.args.procs.now)) c.first_marked.result) c.deref-3.ensures.value
+    (subst (λ rs. FindsLeast (Dynexecs (λ q. get_or c.deref-3.result.now q false ≡ true) rs) c.first_marked.result) rows c.first_marked.ensures))))

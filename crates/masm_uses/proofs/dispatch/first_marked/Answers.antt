@@ -1,0 +1,40 @@
+use Rattle.std.proofs.Common.{◌≡◌, ◌≤◌, ◌<◌, ℕ, Bool, true, false, List, Option, get_or, length, Vec, Global, ap, subst, ◌∙◌, arith}
+use Rattle.std.proofs.lemmas.List.{length-map}
+use Rattle.masm_tree.specs.declared.tree.Position.{Position}
+use Rattle.graphs.specs.Graph.{rows_of}
+use Rattle.masm_names.specs.declared.refusal.LinkCause.{LinkCause}
+use Rattle.masm_names.specs.declared.refusal.Refusal.{Refusal}
+use Rattle.masm_names.specs.Among.{Among}
+use Rattle.masm_names.specs.Least.{FindsLeast}
+use Rattle.masm_uses.specs.Dangling.{IsRefusedDynexec}
+use Rattle.masm_names.proofs.LeastLemmas.{Among-more, Among-end}
+use Rattle.masm_graph.proofs.UserLemmas.{row_read, row_itself}
+use Rattle.masm_uses.proofs.dispatch.first_marked.Goals as goal
+
+-- the dynexecs of a row, where its place has a mark
+abbrev InRow : List Bool → ℕ → List Position → Position → LinkCause → Type 0
+InRow marks place row = Among (λ k dynexec. IsRefusedDynexec (get_or marks place false ≡ true) dynexec) row
+
+marked_row : (marks : List Bool) (place : ℕ) (row : List Position) (mark : Bool) (r : Option Refusal) → mark ≡ get_or marks place false
+    → FindsLeast (Among (λ k dynexec. IsRefusedDynexec (mark ≡ true) dynexec) row) r → FindsLeast (InRow marks place row) r
+marked_row marks place row mark r is h =
+    subst (λ b. FindsLeast (Among (λ k dynexec. IsRefusedDynexec (b ≡ true) dynexec) row) r) is h
+
+pub loop-place-preserved : goal.loop-place-preserved
+loop-place-preserved c =
+    let marks = c.args.marks.now in
+    let rows = rows_of c.args.rows.now in
+    let i = c.loop-place.place in
+    let row = c.deref.result.now in
+    let within : i < length rows = let l = length-map c.args.rows.now (λ (v : Vec Position Global). v.items) in let t =
+    c.loop-place-test.true in omega arith in
+    let is = c.deref.ensures.value ∙ row_read c.args.rows.now i c.index-rows-place.result c.loop-place-test.true c.index-rows-place.is in
+    rw c.earlier-first.ensures (Among-more (InRow marks) rows i row c.loop-place.first _ within
+    (row_itself rows i row within is) c.loop-place.invariant
+    (marked_row marks i row c.is_marked.result _ c.is_marked.ensures c.first_refused.ensures))
+
+pub returns : goal.returns
+returns c =
+    let ended : length (rows_of c.args.rows.now) ≤ c.loop-place.place =
+    let l = length-map c.args.rows.now (λ (v : Vec Position Global). v.items) in let t = c.loop-place-test.false in omega arith in
+    Among-end (InRow c.args.marks.now) (rows_of c.args.rows.now) c.loop-place.place c.loop-place.first ended c.loop-place.invariant
