@@ -1,3 +1,2 @@
 pub mod ChainLemmas
 pub mod CheckLemmas
-pub mod LineLemmas

@@ -22,6 +22,7 @@ use Rattle.cmd_kit.specs.Serving.{ComesWhere, Prints}
 use Rattle.cmd_kit.specs.Starts.{most_params_bytes, with_params, with_statement, with_trace, statement_steps}
 use Rattle.cmd_kit.specs.Steps.{chain_evidence, checked, Judged, Verdict, accepted, refused, Steps, asking, ending, ends_with}
 use Rattle.cmd_kit.proofs.ChainComplete.{follows_by_test}
+use Rattle.cmd_kit.proofs.ChainOneRun.{one_run}
 use Rattle.cmd_kit.proofs.EvidenceLaw.{claim_said, printed_as, trace_said}
 use Rattle.cmd_kit.proofs.Verdicts.{one_verdict}
 use Rattle.cmd_kit.proofs.Walks.{Done, ended, not_ok, params_said, was_found, was_read, was_written}
@@ -139,6 +140,7 @@ module _ (params list output line : List ℕ) (m : Files) (new : ShelfState) (be
             };
         evidence = w.right.evidence;
         are_evidence = w.right.are_evidence;
+        one_run = one_run m c.0 (map chain_link s.0) w.judged w.right.evidence w.say w.right.are_evidence;
         files = w.files ∙ ap (λ (bytes : List ℕ). Some (insert m output bytes)) w.right.text;
         taken = printed_as before now line _ taken w.told;
       }

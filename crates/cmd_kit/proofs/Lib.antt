@@ -3,6 +3,7 @@ pub mod ApartNames
 pub mod ChainComplete
 pub mod ChainLaw
 pub mod ChainOfRuns
+pub mod ChainOneRun
 pub mod CompleteLaw
 pub mod Completeness
 pub mod Courses
@@ -10,6 +11,7 @@ pub mod EvidenceLaw
 pub mod FullClaims
 pub mod LawLemmas
 pub mod LentFiles
+pub mod LineLemmas
 pub mod MadeLaw
 pub mod MakeLaw
 pub mod RunLaw
@@ -18,6 +20,7 @@ pub mod RunsComplete
 pub mod RunsLaw
 pub mod RunsLeave
 pub mod RunsNames
+pub mod RunsTell
 pub mod OutcomeLemmas
 pub mod ServingLemmas
 pub mod WriteLaw

@@ -1,6 +1,8 @@
--- What `runs` leaves, whatever it answers: the steps of its links, and what stands at each place of them.
-use Rattle.std.proofs.Common.{◌≡◌, ◌⊎◌, ℕ, ◌+◌, ◌≤◌, Bool, true, false, if◌then◌else◌, List, [], ◌∷◌, length, map, take, take_all, arith, Option, Some, None, Result, Ok, Err, refl, sym, ap, subst, inl, inr, ◌∙◌}
+-- What `runs` leaves, whatever it answers: the steps of its links, what stands at each place of them, and what is answered there.
+use Rattle.std.proofs.Common.{◌≡◌, ◌⊎◌, ℕ, ◌+◌, ◌≤◌, nat_lt, Bool, true, false, if◌then◌else◌, List, [], ◌∷◌, ◌++◌, append_assoc, codes, length, map, take, take_all, arith, Option, Some, None, unwrap_or, Result, Ok, Err, refl, sym, ap, subst, inl, inr, ◌∙◌}
 use Rattle.std.specs.FinMap.{get, insert}
+use Rattle.std.proofs.lemmas.Bool.Decides.{nat_tests}
+use Rattle.std.proofs.lemmas.List.{length_push}
 use Rattle.block_tree.specs.TreeView.{tree_of}
 use Rattle.air_kit.specs.Acceptance.{IsAccepted}
 use Rattle.air_kit.specs.declared.trace.Public.{Public}
@@ -8,147 +10,227 @@ use Rattle.fill_files.proofs.AcceptedLemmas.{files_accepted}
 use Rattle.fill_files.specs.RunFiles.{IsTableFileOf}
 use Rattle.rpo_hash.specs.Constants.{constants_of}
 use Rattle.statement.specs.Statements.{stated_of}
+use Rattle.rpo_hash.specs.CauseText.{cause_text}
 use Rattle.rpo_hash.specs.declared.params.ParamError.{ParamError}
 use Rattle.rpo_hash.specs.ParamText.{parameters_of}
-use Rattle.vm_field.specs.Limits.{most_cycles, most_source_bytes}
+use Rattle.vm_field.specs.Limits.{most_cycles, most_inputs, most_source_bytes}
 use Rattle.vm_field.specs.Machine.{State}
+use Rattle.run_chain.specs.Causes as link_cause
 use Rattle.run_chain.specs.Lists.{Links, links_of}
 use Rattle.statement.specs.Inputs.{Given, inputs_of}
 use Rattle.statement.specs.declared.refusal.TextCause.{TextCause}
 use Rattle.statement.specs.declared.refusal.TextCause.TheVariants.{Count}
 use Rattle.vm_io.specs.Shelf.{Files, ShelfState, with_file}
-use Rattle.vm_io.specs.Sink.{SinkState}
+use Rattle.vm_io.specs.Sink.{SinkState, with_piece}
 use Rattle.cmd_kit.specs.declared.status.Status.{Status}
+use Rattle.cmd_kit.specs.declared.status.Status.TheVariants as status
 use Rattle.cmd_kit.specs.declared.answer.Answer.{Answer}
-use Rattle.cmd_kit.specs.Asked.{runs}
-use Rattle.cmd_kit.specs.Commands.{IsRight, steps_of}
+use Rattle.cmd_kit.specs.Commands.{EndsAs, IsRight, steps_of}
 use Rattle.cmd_kit.specs.Completeness.{BeginsWith, FileSays, LinkRuns}
-use Rattle.cmd_kit.specs.Links.{broken, list_steps, most_list_bytes, with_lines}
-use Rattle.cmd_kit.specs.Malformed.{bad_inputs}
+use Rattle.cmd_kit.specs.Links.{broken, broken_line, line_of_link, list_steps, most_list_bytes, with_lines}
+use Rattle.cmd_kit.specs.Malformed.{bad_inputs, malformed_line, malformed_text_line}
 use Rattle.cmd_kit.specs.RunEnds as ends
-use Rattle.cmd_kit.specs.RunEnds.{IsCourse, halted}
-use Rattle.cmd_kit.specs.RunsLaws.{claim_of_link, LinkWritten, LinksLeft, whole, in_table, in_statement, one_behind, RunsLeft, untouched, came, RunsLeaveLinks, RunsLeaveWholeLinks}
-use Rattle.cmd_kit.specs.RunsSteps.{RunLink, given_steps, has_no_cells, is_none_left, left_steps, link_course_steps, link_running_steps, run_link, run_link_steps, runs_from, runs_given, runs_steps}
-use Rattle.cmd_kit.specs.Serving.{ComesWhere, Concludes, FrontWritten, GivesUp, IsReading, IsWriting, ServesAs, Works}
+use Rattle.cmd_kit.specs.RunEnds.{IsCourse, halted, trapped, unended}
+use Rattle.cmd_kit.specs.RunsLaws.{LinkWritten, LinksWritten, none_yet, one_more, Reached, no_links, behind_links, torn_file, NextLeft, nothing, in_table, in_statement, RunsLeft, untouched, came, TellsOfFile, missing, too_long, bad_line, bad_text, unread, IsOfRun, no_program, traps, runs_on, Tells, start_stops, file_stops, run_stops, write_stops, breaks, all_done, IsToldAs, RunsLeaveLinks, RunsLeaveWholeLinks, claim_of_link}
+use Rattle.cmd_kit.specs.RunsSteps.{RunLink, given_steps, has_no_cells, is_none_left, left_steps, link_course_steps, link_running_steps, links_lines, run_link, run_link_steps, runs_from, runs_given, runs_steps}
+use Rattle.cmd_kit.specs.Serving.{ComesWhere, Concludes, Ends, FailsAtRead, FailsAtWrite, FrontWritten, GivesUp, IsReading, IsWriting, RefusesFile, ServesAs, Works}
 use Rattle.cmd_kit.specs.Starts.{most_inputs_bytes, most_params_bytes, with_inputs, with_params}
 use Rattle.cmd_kit.specs.Statuses.{StatusKind, kind_of, planned, no_command, failed_read, failed_write, failed_print, no_memory}
-use Rattle.cmd_kit.specs.Steps.{Course, ran, Steps, reading, writing, asking, ending}
+use Rattle.cmd_kit.specs.Steps.{Course, Steps, reading, writing, asking, ending, ends_with, named_line, stop}
 use Rattle.cmd_kit.proofs.Along.{Along, at_place}
 use Rattle.cmd_kit.proofs.RunsLaw.{no_cells}
 
+-- one link more behind those that are done
+one_behind : (constants : List ℕ) (links : List RunLink) (link : RunLink) {before left : Option (List ℕ)} {m n : Files} (last : State)
+    (table statement : List ℕ) → LinksWritten constants links before m left n → LinkWritten n constants left link last table statement
+    → LinksWritten constants (links ++ (link ∷ [])) before m (Some last.core.stack)
+    (insert (insert n link.outputs.table table) link.outputs.statement statement)
+one_behind constants [] link last table statement none_yet written = one_more link last table statement written none_yet
+one_behind constants (first ∷ links) link last table statement (one_more _ end shown claimed w rest) written =
+    one_more first end shown claimed w (one_behind constants links link last table statement rest written)
+
 module _ (params list : List ℕ) (first : Files) where
-  abbrev Left : Bool → Files → Type 0
-  Left torn n = RunsLeft params list first torn n
+  abbrev Left : Reached → Files → Type 0
+  Left reached n = RunsLeft params list first reached n
 
-  -- At a write its front may stand, and what stands in front of it may be torn; at any other place all links stand whole.
+  abbrev Say : Reached → Status → List ℕ → Type 0
+  Say reached s line = Tells params list reached s line
+
+  -- What stands at each place, and what is answered there: where a file does not serve, where a write fails, and at the end. What stands in front
+  -- of a write may be torn.
   abbrev Stands : Steps → Files → Type 0
-  Stands (reading name most next) n = Left false n
+  Stands (reading name most next) n =
+      (reached : Reached) × Left reached n × ((s : Status) (line : List ℕ) → TellsOfFile name s line → Say reached s line)
+      × (torn_file reached ≡ None)
   Stands (writing name right next) n =
-      ((torn : Bool) × Left torn n) × ((bytes : List ℕ) (front : ℕ) → IsRight right bytes → Left true (insert n name (take front bytes)))
-  Stands (asking question next) n = Left false n
-  Stands (ending end) n = Left false n
+      ((reached : Reached) × Left reached n)
+      × ((bytes : List ℕ) (front : ℕ) → IsRight right bytes → (reached : Reached) × Left reached (insert n name (take front bytes))
+      × Say reached status.WriteFault (named_line (codes "write fault ") name))
+  Stands (asking question next) n = (reached : Reached) × Left reached n
+  Stands (ending end) n = (reached : Reached) × Left reached n × ((a : Answer) → EndsAs end a → Say reached a.status a.line)
 
-  either : (b : Bool) (x y : Steps) (n : Files) → Along Stands x n → Along Stands y n → Along Stands (if b then x else y) n
-  either true x y n h k = h
-  either false x y n h k = k
+  stopped : (reached : Reached) (s : Status) (line : List ℕ) (n : Files) → Left reached n → Say reached s line → Stands (ending (stop s line)) n
+  stopped reached s line n left says =
+      (reached, left, λ a is. subst (λ (x : Answer). Say reached x.status x.line) (sym is) says)
 
-  module _ (constants : List ℕ) (before : ℕ) (left : Option (List ℕ)) (link : RunLink) (links : List RunLink) (next : List ℕ → Steps) (n : Files)
-      (into : (number : ℕ) (torn : Bool) (k : Files) → LinksLeft constants (link ∷ links) left n number torn k → Left torn k)
-      (goes_on : (last : State) (table statement : List ℕ) → LinkWritten n constants left link last table statement
-      → Along Stands (next last.core.stack) (insert (insert n link.outputs.table table) link.outputs.statement statement)) where
-    here : Left false n
-    here = into 0 false n whole
+  module _ (constants : List ℕ) (lines : List (List (List ℕ))) (params_say : FileSays first params most_params_bytes parameters_of constants)
+      (list_says : FileSays first list most_list_bytes (links_of (runs_given params list)) lines) where
+    -- a link of the list, behind those that are done
+    module _ (done : List RunLink) (link : RunLink) (later : List RunLink) (all : done ++ (link ∷ later) ≡ map run_link lines) (before : ℕ)
+        (many : before ≡ length done) (left : Option (List ℕ)) (n : Files) (written : LinksWritten constants done None first left n)
+        (next : List ℕ → Steps)
+        (goes_on : (last : State) (table statement : List ℕ) → LinkWritten n constants left link last table statement
+        → Along Stands (next last.core.stack) (insert (insert n link.outputs.table table) link.outputs.statement statement)) where
+      abbrev at : Option (List ℕ) → Reached
+      at torn = behind_links done (link ∷ later) left torn
 
-    of_course : (text : List ℕ) (given begin : Given) → get n link.source ≡ Some text → length text ≤ most_source_bytes
-        → FileSays n link.inputs most_inputs_bytes inputs_of given → BeginsWith left given begin → (c : Course)
-        → IsCourse constants (record { name = link.source; text = text }) None begin most_cycles c
-        → Along Stands (link_course_steps constants before link.outputs next begin c) n
-    of_course text given begin stands short says begins c (ends.refused in_kernel row column cause is) = here
-    of_course text given begin stands short says begins c (halted program is a h) = here
-    of_course text given begin stands short says begins c (ends.ended program is last log r) = (
-      ((false, here), λ bytes front shows. into 0 true _ (in_table link last run bytes front shows)),
-      λ table shows. (
+      stands_as : (torn : Option (List ℕ)) (k : Files) → NextLeft constants left n (link ∷ later) torn k → Left (at torn) k
+      stands_as torn k part = came constants lines done (link ∷ later) params_say list_says all written part
+
+      here : Left (at None) n
+      here = stands_as None n nothing
+
+      bad : (cause : TextCause) → Stands (ending (bad_inputs link.inputs cause)) n
+      bad cause = stopped (at None) status.Malformed (malformed_text_line link.inputs cause) n here (file_stops link link.inputs (inr refl) (bad_text cause))
+
+      halts : (s : Status) (text : List ℕ) → IsOfRun s → Stands (ending (stop s (line_of_link (before + 1) text))) n
+      halts s text of =
+          stopped (at None) s (line_of_link (before + 1) text) n here
+          (subst (λ k. Say (at None) s (line_of_link (k + 1) text)) (sym many) (run_stops link text of))
+
+      of_course : (text : List ℕ) (given begin : Given) → get n link.source ≡ Some text → length text ≤ most_source_bytes
+          → FileSays n link.inputs most_inputs_bytes inputs_of given → BeginsWith left given begin → (c : Course)
+          → IsCourse constants (record { name = link.source; text = text }) None begin most_cycles c
+          → Along Stands (link_course_steps constants before link.outputs next begin c) n
+      of_course text given begin stands short says begins c (ends.refused in_kernel row column cause is) = halts status.Source _ no_program
+      of_course text given begin stands short says begins c (halted program is a (trapped clock cause stops)) = halts status.Trap _ traps
+      of_course text given begin stands short says begins c (halted program is a (unended out)) = halts status.OutOfCycles _ runs_on
+      of_course text given begin stands short says begins c (ends.ended program is last log r) = (
         (
-          (
-            true,
-            subst (λ t. Left true (insert n link.outputs.table t)) (take_all (length table) table (omega arith))
-                (into 0 true _ (in_table link last run table (length table) shows)),
+          (at None, here),
+          λ bytes front shows. (
+            at (Some link.outputs.table),
+            stands_as (Some link.outputs.table) _ (in_table link last run bytes front shows),
+            write_stops link.outputs.table,
           ),
-          λ bytes front claims. into 0 true _ (in_statement link last table bytes front
-              (record { ran = run; shows = shows; claims = claims; accepted = accepts table shows })),
         ),
-        λ statement claims. goes_on last table statement (record { ran = run; shows = shows; claims = claims; accepted = accepts table shows }),
-      ),
-    )
+        λ table shows. (
+          (
+            (
+              at (Some link.outputs.table),
+              subst (λ t. Left (at (Some link.outputs.table)) (insert n link.outputs.table t)) (take_all (length table) table (omega arith))
+                  (stands_as (Some link.outputs.table) _ (in_table link last run table (length table) shows)),
+            ),
+            λ bytes front claims. (
+              at (Some link.outputs.statement),
+              stands_as (Some link.outputs.statement) _ (in_statement link last table bytes front
+                  (record { ran = run; shows = shows; claims = claims; accepted = accepts table shows })),
+              write_stops link.outputs.statement,
+            ),
+          ),
+          λ statement claims. goes_on last table statement (record { ran = run; shows = shows; claims = claims; accepted = accepts table shows }),
+        ),
+      )
+        where
+          run : LinkRuns n constants left link last
+          run = record {
+            text = text;
+            given = given;
+            source_stands = record { stands = stands; short = short };
+            inputs_say = says;
+            begin = begin;
+            begins = begins;
+            program = program;
+            log = log;
+            assembled = is;
+            done = r.done;
+          }
+
+          accepts : (table : List ℕ) (shows : IsTableFileOf constants program.kernel last log table) (p : Public) → constants_of p.params ≡ constants
+              → stated_of p.statement ≡ claim_of_link constants program begin last → IsAccepted p shows.trace
+          accepts table shows p params_are claims =
+              files_accepted constants program.kernel most_cycles (tree_of program.tree) begin.stack begin.advice last log r p params_are claims table
+              shows
+
+      of_begin : (text : List ℕ) (given : Given) (was : Option (List ℕ)) → was ≡ left → get n link.source ≡ Some text
+          → length text ≤ most_source_bytes → FileSays n link.inputs most_inputs_bytes inputs_of given
+          → Along Stands (given_steps link.inputs was
+          (link_running_steps constants before link.outputs next (record { name = link.source; text = text })) given) n
+      of_begin text given None is stands short says =
+          ((at None, here), λ c found. of_course text given given stands short says (subst (λ l. BeginsWith l given given) is refl) c found)
+      of_begin text given (Some cells) is stands short says = by (has_no_cells given.stack) refl
+        where
+          begin : Given
+          begin = record { stack = cells; advice = given.advice }
+
+          running : Given → Steps
+          running = link_running_steps constants before link.outputs next (record { name = link.source; text = text })
+
+          by : (b : Bool) → has_no_cells given.stack ≡ b → Along Stands (if b then running begin else ending (bad_inputs link.inputs Count)) n
+          by true none = (
+            (at None, here),
+            λ c found. of_course text given begin stands short says
+                (subst (λ l. BeginsWith l given begin) is (no_cells given.stack none, refl)) c found,
+          )
+          by false some = bad Count
+
+      of_link : Along Stands (run_link_steps constants before left link next) n
+      of_link = (
+        (at None, here, λ s line of. file_stops link link.source (inl refl) of, refl),
+        λ text stands short. (
+          (at None, here, λ s line of. file_stops link link.inputs (inr refl) of, refl),
+          λ bytes held within. of_inputs text stands short bytes held within (inputs_of bytes) refl,
+        ),
+      )
+        where
+          of_inputs : (text : List ℕ) → get n link.source ≡ Some text → length text ≤ most_source_bytes → (bytes : List ℕ)
+              → get n link.inputs ≡ Some bytes → length bytes ≤ most_inputs_bytes → (read : Result Given TextCause) → inputs_of bytes ≡ read
+              → Along Stands (with_inputs link.inputs (given_steps link.inputs left
+              (link_running_steps constants before link.outputs next (record { name = link.source; text = text }))) read) n
+          of_inputs text stands short bytes held within (Ok given) says =
+              of_begin text given left refl stands short (record { bytes = bytes; stands = held; short = within; says = says })
+          of_inputs text stands short bytes held within (Err cause) says = bad cause
+
+    -- behind the links that are done: the next one is begun, unless the last one left too much for it
+    went_on : (done later : List RunLink) → done ++ later ≡ map run_link lines → (number : ℕ) → number ≡ length done → (left : List ℕ) (n : Files)
+        → LinksWritten constants done None first (Some left) n → (next : List ℕ → Steps) → Along Stands (next left) n
+        → Along Stands (left_steps number (is_none_left later) next left) n
+    went_on done [] all number many left n written next rest = rest
+    went_on done (link ∷ later) all number many left n written next rest = by (nat_lt most_inputs (length left)) refl
       where
-        run : LinkRuns n constants left link last
-        run = record {
-          text = text;
-          given = given;
-          source_stands = record { stands = stands; short = short };
-          inputs_say = says;
-          begin = begin;
-          begins = begins;
-          program = program;
-          log = log;
-          assembled = is;
-          done = r.done;
-        }
+        at : Reached
+        at = behind_links done (link ∷ later) (Some left) None
 
-        accepts : (table : List ℕ) (shows : IsTableFileOf constants program.kernel last log table) (p : Public) → constants_of p.params ≡ constants
-            → stated_of p.statement ≡ claim_of_link constants program begin last → IsAccepted p shows.trace
-        accepts table shows p params_are claims =
-            files_accepted constants program.kernel most_cycles (tree_of program.tree) begin.stack begin.advice last log r p params_are claims table shows
+        by : (b : Bool) → nat_lt most_inputs (length left) ≡ b → Along Stands (if b then ending (broken number) else next left) n
+        by true is =
+            stopped at status.Broken (broken_line number) n (came constants lines done (link ∷ later) params_say list_says all written nothing)
+            (subst (λ k. Say at status.Broken (broken_line k)) (sym many) (breaks link (grind (arith, nat_tests, is))))
+        by false is = rest
 
-    of_begin : (text : List ℕ) (given : Given) (was : Option (List ℕ)) → was ≡ left → get n link.source ≡ Some text → length text ≤ most_source_bytes
-        → FileSays n link.inputs most_inputs_bytes inputs_of given
-        → Along Stands (given_steps link.inputs was
-        (link_running_steps constants before link.outputs next (record { name = link.source; text = text })) given) n
-    of_begin text given None is stands short says =
-        (here, λ c found. of_course text given given stands short says (subst (λ l. BeginsWith l given given) is refl) c found)
-    of_begin text given (Some cells) is stands short says = by (has_no_cells given.stack) refl
-      where
-        begin : Given
-        begin = record { stack = cells; advice = given.advice }
-
-        running : Given → Steps
-        running = link_running_steps constants before link.outputs next (record { name = link.source; text = text })
-
-        by : (b : Bool) → has_no_cells given.stack ≡ b → Along Stands (if b then running begin else ending (bad_inputs link.inputs Count)) n
-        by true none = (
-          here,
-          λ c found. of_course text given begin stands short says
-              (subst (λ l. BeginsWith l given begin) is (no_cells given.stack none, refl)) c found,
-        )
-        by false some = here
-
-    of_link : Along Stands (run_link_steps constants before left link next) n
-    of_link = (here, λ text stands short. (here, λ bytes held within. of_inputs text stands short bytes held within (inputs_of bytes) refl))
-      where
-        of_inputs : (text : List ℕ) → get n link.source ≡ Some text → length text ≤ most_source_bytes → (bytes : List ℕ) → get n link.inputs ≡ Some bytes
-            → length bytes ≤ most_inputs_bytes → (read : Result Given TextCause) → inputs_of bytes ≡ read
-            → Along Stands (with_inputs link.inputs (given_steps link.inputs left
-            (link_running_steps constants before link.outputs next (record { name = link.source; text = text }))) read) n
-        of_inputs text stands short bytes held within (Ok given) says =
-            of_begin text given left refl stands short (record { bytes = bytes; stands = held; short = within; says = says })
-        of_inputs text stands short bytes held within (Err cause) says = here
-
-  of_links : (constants : List ℕ) (links : List RunLink) (before : ℕ) (left : Option (List ℕ)) (n : Files)
-      → ((number : ℕ) (torn : Bool) (k : Files) → LinksLeft constants links left n number torn k → Left torn k)
-      → Along Stands (runs_from constants before left links) n
-  of_links constants [] before left n into = into 0 false n whole
-  of_links constants (link ∷ links) before left n into =
-      let later : List ℕ → Steps = λ it. runs_from constants (before + 1) (Some it) links in
-      of_link constants before left link links (left_steps (before + 1) (is_none_left links) later) n into
-      (λ last table statement written.
-      let now : Files = insert (insert n link.outputs.table table) link.outputs.statement statement in
-      let on : (number : ℕ) (torn : Bool) (k : Files) → LinksLeft constants links (Some last.core.stack) now number torn k → Left torn k
-      = λ number torn k h. into _ torn k (one_behind link last table statement written h) in
-      either _ (ending (broken (before + 1))) (later last.core.stack) now (on 0 false now whole)
-      (of_links constants links (before + 1) (Some last.core.stack) now on))
+    of_links : (done later : List RunLink) → done ++ later ≡ map run_link lines → (before : ℕ) → before ≡ length done → (left : Option (List ℕ))
+        (n : Files) → LinksWritten constants done None first left n → Along Stands (runs_from constants before left later) n
+    of_links done [] all before many left n written =
+        let at : Reached = behind_links done [] left None in
+        stopped at status.Ok (links_lines before (unwrap_or left [])) n (came constants lines done [] params_say list_says all written nothing)
+        (subst (λ k. Say at status.Ok (links_lines k (unwrap_or left []))) (sym many) all_done)
+    of_links done (link ∷ later) all before many left n written =
+        let further : List ℕ → Steps = λ it. runs_from constants (before + 1) (Some it) later in
+        of_link done link later all before many left n written (left_steps (before + 1) (is_none_left later) further)
+        (λ last table statement w.
+        let now : Files = insert (insert n link.outputs.table table) link.outputs.statement statement in
+        let behind : List RunLink = done ++ (link ∷ []) in
+        let on : LinksWritten constants behind None first (Some last.core.stack) now
+        = one_behind constants done link last table statement written w in
+        let still : behind ++ later ≡ map run_link lines = append_assoc done (link ∷ []) later ∙ all in
+        let more : before + 1 ≡ length behind = ap (λ k. k + 1) many ∙ sym (length_push done link) in
+        went_on behind later still (before + 1) more last.core.stack now on further
+        (of_links behind later still (before + 1) more (Some last.core.stack) now on))
 
   of_runs : Along Stands (runs_steps params list) first
-  of_runs = (untouched, λ bytes stands short. of_params bytes stands short (parameters_of bytes) refl)
+  of_runs = (
+    (no_links, untouched, λ s line of. start_stops params (inl refl) of, refl),
+    λ bytes stands short. of_params bytes stands short (parameters_of bytes) refl,
+  )
     where
       from : List ℕ → List (List (List ℕ)) → Steps
       from constants lines = runs_from constants 0 None (map run_link lines)
@@ -157,125 +239,175 @@ module _ (params list : List ℕ) (first : Files) where
           → length bytes ≤ most_list_bytes → (read : Links) → links_of (runs_given params list) bytes ≡ read
           → Along Stands (with_lines list (from constants) read) first
       of_lines constants bytes params_say stands short (Ok lines) says =
-          of_links constants (map run_link lines) 0 None first
-          (λ number torn k h. came constants lines params_say (record { bytes = bytes; stands = stands; short = short; says = says }) h)
-      of_lines constants bytes params_say stands short (Err fault) says = untouched
+          of_links constants lines params_say (record { bytes = bytes; stands = stands; short = short; says = says }) [] (map run_link lines) refl 0
+          refl None first none_yet
+      of_lines constants bytes params_say stands short (Err fault) says =
+          stopped no_links status.Malformed (malformed_line list fault.line (link_cause.text_of_cause fault.cause)) first untouched
+          (start_stops list (inr refl) (bad_line fault.line (link_cause.text_of_cause fault.cause)))
 
       of_params : (bytes : List ℕ) → get first params ≡ Some bytes → length bytes ≤ most_params_bytes → (read : Result (List ℕ) ParamError)
           → parameters_of bytes ≡ read
           → Along Stands (with_params params (λ constants. list_steps (runs_given params list) (from constants)) read) first
       of_params bytes stands short (Ok constants) says = (
-        untouched,
+        (no_links, untouched, λ s line of. start_stops list (inr refl) of, refl),
         λ listed held within. of_lines constants listed
             (record { bytes = bytes; stands = stands; short = short; says = says }) held within (links_of (runs_given params list) listed) refl,
       )
-      of_params bytes stands short (Err e) says = untouched
+      of_params bytes stands short (Err e) says =
+          stopped no_links status.Malformed (malformed_line params e.line (cause_text e.cause)) first untouched
+          (start_stops params (inl refl) (bad_line e.line (cause_text e.cause)))
+
+-- a file that is not had, as it is answered
+told_of_file : (name : List ℕ) (most : ℕ) (file : Option (List ℕ)) (a : Answer) → RefusesFile name most file a → TellsOfFile name a.status a.line
+told_of_file name most None a is = subst (λ (x : Answer). TellsOfFile name x.status x.line) (sym is) missing
+told_of_file name most (Some bytes) a is = subst (λ (x : Answer). TellsOfFile name x.status x.line) (sym is.1) too_long
 
 -- a call of `serve` over these files
 module _ (params list : List ℕ) (m : Files) (old new : ShelfState) (is : old.files ≡ Some m) where
-  abbrev Steps_ : Steps
-  Steps_ = runs_steps params list
-
-  abbrev Whole : Type 0
-  Whole = (n : Files) × (new.files ≡ Some n) × RunsLeft params list m false n
+  abbrev All_steps : Steps
+  All_steps = runs_steps params list
 
   abbrev Some_left : Type 0
-  Some_left = (torn : Bool) × (n : Files) × (new.files ≡ Some n) × RunsLeft params list m torn n
+  Some_left = (reached : Reached) × (n : Files) × (new.files ≡ Some n) × RunsLeft params list m reached n
 
-  placed : (P : Steps → Option Files → Type 0) → (h : ComesWhere Steps_ P old.files)
+  -- what stands, and this answer tells of it
+  abbrev Answered : Status → List ℕ → Type 0
+  Answered s line = (reached : Reached) × (n : Files) × (new.files ≡ Some n) × RunsLeft params list m reached n × Tells params list reached s line
+
+  placed : (P : Steps → Option Files → Type 0) → (h : ComesWhere All_steps P old.files)
       → (n : Files) × (h.now ≡ Some n) × Stands params list m h.left n
-  placed P h = at_place (Stands params list m) Steps_ h.left old.files h.now m h.passes is (of_runs params list m)
+  placed P h = at_place (Stands params list m) All_steps h.left old.files h.now m h.passes is (of_runs params list m)
 
-  whole_end : (left : Steps) (n : Files) (a : Answer) (now : Option Files) → Concludes left now a → Stands params list m left n
-      → RunsLeft params list m false n
-  whole_end (reading name most next) n a now c h = h
-  whole_end (writing name right next) n a now c h = absurd c
-  whole_end (asking question next) n a now c h = absurd c
-  whole_end (ending end) n a now c h = h
+  concluded : (left : Steps) (n : Files) (a : Answer) (now : Option Files) → Concludes left now a → Stands params list m left n
+      → (reached : Reached) × RunsLeft params list m reached n × Tells params list reached a.status a.line
+  concluded (reading name most next) n a now c h = (h.0, h.1, h.2 a.status a.line (told_of_file name most c.0 a c.2))
+  concluded (writing name right next) n a now c h = absurd c
+  concluded (asking question next) n a now c h = absurd c
+  concluded (ending end) n a now c h = (h.0, h.1, h.2 a c)
 
-  whole_read : (name : List ℕ) (left : Steps) (n : Files) → IsReading name left → Stands params list m left n → RunsLeft params list m false n
-  whole_read name (reading n most next) k r h = h
-  whole_read name (writing n right next) k r h = absurd r
-  whole_read name (asking question next) k r h = absurd r
-  whole_read name (ending end) k r h = absurd r
+  unread_there : (name : List ℕ) (left : Steps) (n : Files) → IsReading name left → Stands params list m left n
+      → (reached : Reached) × RunsLeft params list m reached n × Tells params list reached status.ReadFault (named_line (codes "read fault ") name)
+  unread_there name (reading x most next) n r h =
+      let line : List ℕ = named_line (codes "read fault ") name in
+      (h.0, h.1, h.2 status.ReadFault line (subst (λ y. TellsOfFile y status.ReadFault line) r unread))
+  unread_there name (writing x right next) n r h = absurd r
+  unread_there name (asking question next) n r h = absurd r
+  unread_there name (ending end) n r h = absurd r
 
-  any : (left : Steps) (n : Files) → Stands params list m left n → (torn : Bool) × RunsLeft params list m torn n
-  any (reading name most next) n h = (false, h)
+  any : (left : Steps) (n : Files) → Stands params list m left n → (reached : Reached) × RunsLeft params list m reached n
+  any (reading name most next) n h = (h.0, h.1)
   any (writing name right next) n h = h.0
-  any (asking question next) n h = (false, h)
-  any (ending end) n h = (false, h)
+  any (asking question next) n h = h
+  any (ending end) n h = (h.0, h.1)
+
+  -- a write of this file failed, and these bytes stand under its name
+  abbrev Torn : Files → List ℕ → List ℕ → Type 0
+  Torn n bytes name =
+      (reached : Reached) × RunsLeft params list m reached (insert n name bytes)
+      × Tells params list reached status.WriteFault (named_line (codes "write fault ") name)
 
   torn_write : (name : List ℕ) (left : Steps) (n : Files) (before now : Option Files) → before ≡ Some n → FrontWritten name left before now
-      → Stands params list m left n → (k : Files) × (now ≡ Some k) × RunsLeft params list m true k
+      → Stands params list m left n
+      → (reached : Reached) × (k : Files) × (now ≡ Some k) × RunsLeft params list m reached k
+      × Tells params list reached status.WriteFault (named_line (codes "write fault ") name)
   torn_write name left n before now told f h =
-      (insert n name (take f.front f.bytes), f.files ∙ ap (λ o. with_file o name (take f.front f.bytes)) told, by left f.right h)
+      let b = by left f.right h in
+      (b.0, insert n name (take f.front f.bytes), f.files ∙ ap (λ o. with_file o name (take f.front f.bytes)) told, b.1, b.2)
     where
-      by : (left : Steps) → IsWriting name f.bytes left → Stands params list m left n → RunsLeft params list m true (insert n name (take f.front f.bytes))
+      by : (left : Steps) → IsWriting name f.bytes left → Stands params list m left n → Torn n (take f.front f.bytes) name
       by (reading x most next) w h = absurd w
-      by (writing x right next) w h = subst (λ y. RunsLeft params list m true (insert n y (take f.front f.bytes))) (sym w.0) (h.1 f.bytes f.front w.1)
+      by (writing x right next) w h = subst (Torn n (take f.front f.bytes)) (sym w.0) (h.1 f.bytes f.front w.1)
       by (asking question next) w h = absurd w
       by (ending end) w h = absurd w
 
-  whole_works : (kind : StatusKind) (a : Answer) → (kind ≡ planned) ⊎ (kind ≡ failed_read) → Works (Some Steps_) kind a old new → Whole
-  whole_works planned a k h =
+  ended : (a : Answer) → Ends All_steps a old new → Answered a.status a.line
+  ended a h =
       let p = placed _ h.files in
-      (p.0, h.files.there.1 ∙ p.1, whole_end h.files.left p.0 a h.files.now h.files.there.0 p.2)
-  whole_works failed_read a k h =
-      let p = placed _ h.1.files in
-      (p.0, h.1.files.there.1 ∙ p.1, whole_read h.0 h.1.files.left p.0 h.1.files.there.0 p.2)
-  whole_works failed_write a (inl k) h = absurd (cc (k))
-  whole_works failed_write a (inr k) h = absurd (cc (k))
-  whole_works kind a k h = absurd h
+      let c = concluded h.files.left p.0 a h.files.now h.files.there.0 p.2 in
+      (c.0, p.0, h.files.there.1 ∙ p.1, c.1, c.2)
 
-  left_works : (kind : StatusKind) (a : Answer) → Works (Some Steps_) kind a old new → Some_left
-  left_works planned a h = let w = whole_works planned a (inl refl) h in (false, w.0, w.1, w.2)
-  left_works failed_read a h = let w = whole_works failed_read a (inr refl) h in (false, w.0, w.1, w.2)
-  left_works failed_write a h =
-      let p = placed _ h.1.files in
-      let t = torn_write h.0 h.1.files.left p.0 h.1.files.now new.files p.1 h.1.files.there p.2 in
-      (true, t.0, t.1, t.2)
-  left_works kind a h = absurd h
+  failed_reading : (name : List ℕ) → FailsAtRead All_steps name old new → Answered status.ReadFault (named_line (codes "read fault ") name)
+  failed_reading name h =
+      let p = placed _ h.files in
+      let c = unread_there name h.files.left p.0 h.files.there.0 p.2 in
+      (c.0, p.0, h.files.there.1 ∙ p.1, c.1, c.2)
 
-  left_given_up : GivesUp (Some Steps_) old new → Some_left
-  left_given_up (inl h) =
+  failed_writing : (name : List ℕ) → FailsAtWrite All_steps name old new → Answered status.WriteFault (named_line (codes "write fault ") name)
+  failed_writing name h =
+      let p = placed _ h.files in
+      torn_write name h.files.left p.0 h.files.now new.files p.1 h.files.there p.2
+
+  answered : (s : Status) (line : List ℕ) → Works (Some All_steps) (kind_of s) (ends_with s line) old new → Answered s line
+  answered status.Ok line h = ended (ends_with status.Ok line) h
+  answered status.Refused line h = ended (ends_with status.Refused line) h
+  answered status.Usage line h = absurd h
+  answered status.Source line h = ended (ends_with status.Source line) h
+  answered status.Trap line h = ended (ends_with status.Trap line) h
+  answered status.OutOfCycles line h = ended (ends_with status.OutOfCycles line) h
+  answered status.Missing line h = ended (ends_with status.Missing line) h
+  answered status.ReadFault line h = subst (Answered status.ReadFault) (sym h.2) (failed_reading h.0 h.1)
+  answered status.WriteFault line h = subst (Answered status.WriteFault) (sym h.2) (failed_writing h.0 h.1)
+  answered status.SinkFault line h = absurd h
+  answered status.Malformed line h = ended (ends_with status.Malformed line) h
+  answered status.TooLong line h = ended (ends_with status.TooLong line) h
+  answered status.Memory line h = absurd h
+  answered status.Broken line h = ended (ends_with status.Broken line) h
+
+  given_up : GivesUp (Some All_steps) old new → Some_left
+  given_up (inl h) =
       let p = placed _ h.files in
       let a = any h.files.left p.0 p.2 in
       (a.0, p.0, h.files.there ∙ p.1, a.1)
-  left_given_up (inr (inl h)) =
-      let p = placed _ h.1.files in
-      (false, p.0, h.1.files.there.1 ∙ p.1, whole_read h.0 h.1.files.left p.0 h.1.files.there.0 p.2)
-  left_given_up (inr (inr h)) =
-      let p = placed _ h.1.files in
-      let t = torn_write h.0 h.1.files.left p.0 h.1.files.now new.files p.1 h.1.files.there p.2 in
-      (true, t.0, t.1, t.2)
+  given_up (inr (inl h)) = let c = failed_reading h.0 h.1 in (c.0, c.1, c.2, c.3)
+  given_up (inr (inr h)) = let c = failed_writing h.0 h.1 in (c.0, c.1, c.2, c.3)
 
-  left_answers : (kind : StatusKind) (s : Status) (before now : SinkState) → ServesAs kind (Some Steps_) s old new before now → Some_left
-  left_answers failed_print s before now h = left_works (kind_of h.answer.status) h.answer h.works
-  left_answers no_memory s before now h = left_given_up h.gives_up
-  left_answers planned s before now h = left_works (kind_of s) _ h.works
-  left_answers no_command s before now h = left_works (kind_of s) _ h.works
-  left_answers failed_read s before now h = left_works (kind_of s) _ h.works
-  left_answers failed_write s before now h = left_works (kind_of s) _ h.works
+  abbrev Left_as : StatusKind → Status → SinkState → SinkState → Type 0
+  Left_as kind s before now =
+      (reached : Reached) × (n : Files) × (new.files ≡ Some n) × RunsLeft params list m reached n
+      × IsToldAs params list reached kind s before now
 
-  whole_answers : (kind : StatusKind) (s : Status) (before now : SinkState) → (kind ≡ planned) ⊎ (kind ≡ failed_read) → kind ≡ kind_of s
-      → ServesAs kind (Some Steps_) s old new before now → Whole
-  whole_answers planned s before now k of h = whole_works (kind_of s) _ (inl (sym of)) h.works
-  whole_answers failed_read s before now k of h = whole_works (kind_of s) _ (inr (sym of)) h.works
-  whole_answers no_command s before now (inl k) of h = absurd (cc (k))
-  whole_answers no_command s before now (inr k) of h = absurd (cc (k))
-  whole_answers failed_write s before now (inl k) of h = absurd (cc (k))
-  whole_answers failed_write s before now (inr k) of h = absurd (cc (k))
-  whole_answers failed_print s before now (inl k) of h = absurd (cc (k))
-  whole_answers failed_print s before now (inr k) of h = absurd (cc (k))
-  whole_answers no_memory s before now (inl k) of h = absurd (cc (k))
-  whole_answers no_memory s before now (inr k) of h = absurd (cc (k))
+  left_as : (kind : StatusKind) (s : Status) (before now : SinkState) → kind ≡ kind_of s → ServesAs kind (Some All_steps) s old new before now
+      → Left_as kind s before now
+  left_as planned s before now of h = let c = answered s h.line h.works in (c.0, c.1, c.2, c.3, (h.line, h.taken, c.4))
+  left_as no_command s before now of h =
+      absurd (subst (λ kind. Works (Some All_steps) kind (ends_with s h.line) old new) (sym of) h.works)
+  left_as failed_read s before now of h = let c = answered s h.line h.works in (c.0, c.1, c.2, c.3, (h.line, h.taken, c.4))
+  left_as failed_write s before now of h = let c = answered s h.line h.works in (c.0, c.1, c.2, c.3, (h.line, h.taken, c.4))
+  left_as failed_print s before now of h =
+      let c = answered h.answer.status h.answer.line h.works in (c.0, c.1, c.2, c.3, (h.answer, h.failed, c.4))
+  left_as no_memory s before now of h = let c = given_up h.gives_up in (c.0, c.1, c.2, c.3, h.taken)
+
+-- an answer of the command itself, or of a read that failed, tells of no torn file
+none_torn : (params list : List ℕ) (reached : Reached) (s : Status) (line : List ℕ) → (kind_of s ≡ planned) ⊎ (kind_of s ≡ failed_read)
+    → Tells params list reached s line → torn_file reached ≡ None
+none_torn params list reached s line kind (start_stops name where_ of) = refl
+none_torn params list reached s line kind (file_stops link name where_ of) = refl
+none_torn params list reached s line kind (run_stops link text of) = refl
+none_torn params list reached s line (inl kind) (write_stops name) = absurd (cc (kind))
+none_torn params list reached s line (inr kind) (write_stops name) = absurd (cc (kind))
+none_torn params list reached s line kind (breaks link more) = refl
+none_torn params list reached s line kind all_done = refl
 
 pub runs_leave_links : RunsLeaveLinks
 runs_leave_links words s old new before now params list m serves command is =
-    left_answers params list m old new is (kind_of s) s before now
+    left_as params list m old new is (kind_of s) s before now refl
     (subst (λ c. ServesAs (kind_of s) (steps_of c) s old new before now) command serves)
+
+-- the answer of the command itself, or of a read that failed
+pub told_line : (params list : List ℕ) (reached : Reached) (kind : StatusKind) (s : Status) (before now : SinkState)
+    → (kind ≡ planned) ⊎ (kind ≡ failed_read) → IsToldAs params list reached kind s before now
+    → (line : List ℕ) × (now ≡ record before { taken = with_piece before.taken line }) × Tells params list reached s line
+told_line params list reached planned s before now of h = h
+told_line params list reached failed_read s before now of h = h
+told_line params list reached no_command s before now of h = absurd h
+told_line params list reached failed_write s before now of h = h
+told_line params list reached failed_print s before now (inl of) h = absurd (cc (of))
+told_line params list reached failed_print s before now (inr of) h = absurd (cc (of))
+told_line params list reached no_memory s before now (inl of) h = absurd (cc (of))
+told_line params list reached no_memory s before now (inr of) h = absurd (cc (of))
 
 pub runs_leave_whole_links : RunsLeaveWholeLinks
 runs_leave_whole_links words s old new before now params list m serves kind command is =
-    whole_answers params list m old new is (kind_of s) s before now kind refl
-    (subst (λ c. ServesAs (kind_of s) (steps_of c) s old new before now) command serves)
+    let all = runs_leave_links words s old new before now params list m serves command is in
+    let told = told_line params list all.0 (kind_of s) s before now kind all.4 in
+    (all.0, all.1, all.2, all.3, none_torn params list all.0 s told.0 kind told.2)

@@ -3,7 +3,7 @@ ghost use Rattle.cmd_kit.specs.Completeness.{GoodIsOk, OneVerdict};
 ghost use Rattle.cmd_kit.specs.RunLaws.{AnsweredRunStands, RunLeavesGoodFiles};
 ghost use Rattle.cmd_kit.specs.Laws.{OtherFilesStay, CommandsWrite, UsageMeansNothing, NothingGivesUsage, AcceptedHasEvidence, WrittenRunIsAccepted};
 ghost use Rattle.cmd_kit.specs.MakeLaws.{AnsweredMakeStands, MakeIsNotRefused};
-ghost use Rattle.cmd_kit.specs.RunsLaws.{AnsweredRunsStand, RunsLeaveLinks, RunsLeaveWholeLinks, RunsMakeAChain};
+ghost use Rattle.cmd_kit.specs.RunsLaws.{AnsweredRunsStand, RunsLeaveLinks, RunsLeaveWholeLinks, RunsMakeAChain, RunsTellTheLink};
 
 /// Which files `serve` may change, over a shelf that tells its files: whatever the answer, those
 /// that the command writes and no others: `run` its tables and its statement, `check` its evidence,
@@ -32,8 +32,8 @@ pub fn accepted_has_evidence()
 
 /// What `chain` vouches for, over a shelf that tells its files: where it answers `Ok`, each statement of its list
 /// follows the one before, each table file is accepted for its statement under the parameters, and what stands under
-/// the evidence's name is the text of evidence for each link, in order. Files that are such a chain are answered `Ok`,
-/// which `good_files_are_served` says.
+/// the evidence's name is the text of evidence for each link, in order. Where all of it is evidence of runs, they are
+/// one run through all of their trees. Files that are such a chain are answered `Ok`, which `good_files_are_served` says.
 pub fn chain_has_evidence()
     ensures { ChainHasEvidence }
 {}
@@ -87,12 +87,15 @@ pub fn runs_make_a_chain()
     ensures { RunsMakeAChain }
 {}
 
-/// What stands whatever `runs` answers, over a shelf that tells its files: the files of the links before one of them,
-/// whole, and no other file was changed but that link's own two, of which a front may stand. Where the command itself answers, or
-/// a read failed, nothing of that link stands.
+/// What stands whatever `runs` answers, over a shelf that tells its files: both files of each link that is done, whole, and no
+/// other file was changed but the next link's own two, of which a front may stand. The answer tells how many are done: where its
+/// line begins with `link K `, the K - 1 links before link K, and nothing of link K stands; at `broken link K` link K, too; at `Ok`
+/// all; and where a file does not serve, or its read or its write failed, it names that file. Where the command itself answers, or a
+/// read failed, nothing of the next link stands. Where memory is refused, nothing is told.
 pub fn runs_leave_whole_links()
     ensures whole { RunsLeaveWholeLinks }
     ensures left { RunsLeaveLinks }
+    ensures told { RunsTellTheLink }
 {}
 
 /// No command is refused what it can do, over a shelf that tells its files. Where its files are there,

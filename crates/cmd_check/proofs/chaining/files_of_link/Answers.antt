@@ -1,5 +1,5 @@
 use Rattle.std.proofs.Common.{arith, map}
-use Rattle.cmd_check.proofs.LineLemmas.{line_at, short_at, two_names}
+use Rattle.cmd_kit.proofs.LineLemmas.{line_at, short_at, two_names}
 use Rattle.cmd_check.proofs.chaining.files_of_link.Goals as goal
 
 pub returns-clause-link : goal.returns-clause-link

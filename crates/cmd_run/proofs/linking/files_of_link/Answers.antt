@@ -1,5 +1,5 @@
 use Rattle.std.proofs.Common.{arith, map}
-use Rattle.cmd_run.proofs.LineLemmas.{four_names, line_at, short_at}
+use Rattle.cmd_kit.proofs.LineLemmas.{four_names, line_at, short_at}
 use Rattle.cmd_run.proofs.linking.files_of_link.Goals as goal
 
 pub returns-clause-link : goal.returns-clause-link

@@ -7,6 +7,7 @@ use Rattle.vm_field.specs.FileName.{is_file_name}
 use Rattle.vm_field.specs.Limits.{most_name_bytes}
 use Rattle.run_chain.specs.ListText.{IsLine}
 use Rattle.cmd_kit.specs.ChainSteps.{chain_link}
+use Rattle.cmd_kit.specs.RunsSteps.{run_link}
 
 same : (a b : List (List ℕ)) → Some a ≡ Some b → a ≡ b
 same a b e = cc
@@ -45,3 +46,19 @@ pub two_names : (lines : List (List (List ℕ))) (i : ℕ) (names : List (Bor (L
 two_names lines i [] d e two = absurd (omega (arith, two))
 two_names lines i (x ∷ []) d e two = absurd (omega (arith, two))
 two_names lines i (x ∷ y ∷ names) d e two = ap (map chain_link) (line_behind lines i (x.now ∷ y.now ∷ map (λ n. n.now) names) e)
+
+-- the four names of a line are those of a link
+pub four_names : (lines : List (List (List ℕ))) (i : ℕ) (names : List (Bor (List ℕ))) (d : Bor (List ℕ))
+    → slice_get lines i ≡ Some (map (λ n. n.now) names) → 4 ≤ length names
+    → map run_link (drop i lines)
+    ≡ record {
+      source = (get_or names 0 d).now;
+      inputs = (get_or names 1 d).now;
+      outputs = record { table = (get_or names 2 d).now; statement = (get_or names 3 d).now };
+    } ∷ map run_link (drop (i + 1) lines)
+four_names lines i [] d e four = absurd (omega (arith, four))
+four_names lines i (x ∷ []) d e four = absurd (omega (arith, four))
+four_names lines i (x ∷ y ∷ []) d e four = absurd (omega (arith, four))
+four_names lines i (x ∷ y ∷ z ∷ []) d e four = absurd (omega (arith, four))
+four_names lines i (x ∷ y ∷ z ∷ w ∷ names) d e four =
+    ap (map run_link) (line_behind lines i (x.now ∷ y.now ∷ z.now ∷ w.now ∷ map (λ n. n.now) names) e)
