@@ -1,7 +1,8 @@
-//! Assembling in plain Rust, for `assemble.sh` and `run.sh` to compare with: tokens, syntax trees, names and uses, sizes, and
-//! the tree, for the part of the language that the cases use.
+//! Assembling in plain Rust, for `assemble.sh`, `run.sh` and `dynamic.sh` to compare with: tokens, syntax trees, names and uses, sizes,
+//! and the tree with its digest, for the part of the language that the cases use.
+use crate::ops::{CALL, DYN, JOIN, LOOP, SPLIT, SYSCALL};
+use crate::permute::{Params, permute};
 use std::collections::HashMap;
-use std::time::Instant;
 
 const PRIME: u64 = 18446744069414584321;
 const MOST: u64 = 524_288;
@@ -16,14 +17,15 @@ struct Token {
 
 #[derive(Clone, Copy, Debug, PartialEq)]
 pub struct At {
-    line: u32,
-    column: u32,
+    pub line: u32,
+    pub column: u32,
 }
 
 #[derive(Debug)]
 pub enum Cause {
     Syntax,
     UnknownInstruction,
+    KernelBody,
     NumberRange,
     Duplicate,
     LocalsRange,
@@ -82,6 +84,8 @@ enum Stmt {
     Exec(At, String),
     Call(At, String),
     Syscall(At, String),
+    ProcRef(At, String),
+    DynExec(At),
 }
 
 struct Proc {
@@ -112,6 +116,8 @@ const PUSH: u64 = 69;
 
 pub type Batch = [u64; 8];
 
+type Word = [u64; 4];
+
 #[derive(Clone)]
 pub enum Tree {
     Span(Vec<Batch>),
@@ -120,6 +126,7 @@ pub enum Tree {
     Loop(Box<Tree>),
     Call(Box<Tree>),
     Syscall(Box<Tree>),
+    Dyn(Vec<Tree>),
 }
 
 enum Piece {
@@ -296,9 +303,13 @@ fn parse(source: &[u8], tokens: &[Token], is_kernel: bool) -> Result<Vec<Proc>, 
                 Some(Open::If(before)) => opens.push(Open::Else(before, std::mem::take(&mut body))),
                 _ => return syntax,
             },
+            "call" | "syscall" | "procref" | "dynexec" if is_kernel => return Err((at, Cause::KernelBody)),
+            "dynexec" if parts.len() > 1 => return syntax,
             "exec" => body.push(Stmt::Exec(at, parts[1].to_string())),
             "call" => body.push(Stmt::Call(at, parts[1].to_string())),
             "syscall" => body.push(Stmt::Syscall(at, parts[1].to_string())),
+            "procref" => body.push(Stmt::ProcRef(at, parts[1].to_string())),
+            "dynexec" => body.push(Stmt::DynExec(at)),
             "end" => {
                 let inner = std::mem::take(&mut body);
                 let Some(open) = opens.pop() else {
@@ -317,24 +328,46 @@ fn parse(source: &[u8], tokens: &[Token], is_kernel: bool) -> Result<Vec<Proc>, 
     if is_whole { Ok(procs) } else { Err((end, Cause::Syntax)) }
 }
 
-/// A statement that names a procedure of the source, or of the kernel.
+/// How a statement uses the procedure that it names.
+#[derive(Clone, Copy, PartialEq)]
+enum Way {
+    /// By `exec` or `call`.
+    Runs,
+    /// By `procref`.
+    Refers,
+    /// By `syscall`, which names one of the kernel's.
+    OfKernel,
+}
+
+/// A statement that names a procedure.
 struct Use<'a> {
     at: At,
     name: &'a str,
-    of_kernel: bool,
+    way: Way,
 }
 
-fn uses<'a>(body: &'a [Stmt], out: &mut Vec<Use<'a>>) {
-    for stmt in body {
-        match stmt {
-            Stmt::Instr(..) => {}
-            Stmt::If(first, second) => {
-                uses(first, out);
-                uses(second, out);
+/// What a body uses, and where its first dynamic block stands.
+#[derive(Default)]
+struct Uses<'a> {
+    list: Vec<Use<'a>>,
+    dynexec: Option<At>,
+}
+
+impl<'a> Uses<'a> {
+    fn add(&mut self, body: &'a [Stmt]) {
+        for stmt in body {
+            match stmt {
+                Stmt::Instr(..) => {}
+                Stmt::If(first, second) => {
+                    self.add(first);
+                    self.add(second);
+                }
+                Stmt::While(turn) | Stmt::Repeat(_, turn) => self.add(turn),
+                Stmt::Exec(at, name) | Stmt::Call(at, name) => self.list.push(Use { at: *at, name, way: Way::Runs }),
+                Stmt::Syscall(at, name) => self.list.push(Use { at: *at, name, way: Way::OfKernel }),
+                Stmt::ProcRef(at, name) => self.list.push(Use { at: *at, name, way: Way::Refers }),
+                Stmt::DynExec(at) => self.dynexec = self.dynexec.or(Some(*at)),
             }
-            Stmt::While(turn) | Stmt::Repeat(_, turn) => uses(turn, out),
-            Stmt::Exec(at, name) | Stmt::Call(at, name) => out.push(Use { at: *at, name, of_kernel: false }),
-            Stmt::Syscall(at, name) => out.push(Use { at: *at, name, of_kernel: true }),
         }
     }
 }
@@ -460,13 +493,49 @@ impl Kernel {
     }
 }
 
+/// What `procref` and `dynexec` stand for. The procedures that procrefs name are the targets of each dynamic block.
+#[derive(Default)]
+struct Dispatch {
+    /// The targets in the order of their first procrefs.
+    targets: Vec<usize>,
+    /// How many operations a dynamic block has, and how high it is.
+    block: (u64, u32),
+    /// By the place of a procedure its digest, where it is asked for.
+    digests: Vec<Word>,
+    /// The targets' trees, where there is a dynamic block.
+    trees: Vec<Tree>,
+}
+
 struct Linker<'a> {
     procs: &'a [Proc],
     places: HashMap<&'a str, usize>,
     kernel: &'a Kernel,
+    dispatch: Dispatch,
+}
+
+impl Dispatch {
+    // The extent of a dynamic block by the targets' sizes.
+    fn block_of(&self, sizes: &[Size]) -> (u64, u32) {
+        let blocks = self.targets.iter().map(|place| sizes[*place].block());
+        blocks.fold((1, 1), |(operations, height), block| (operations + block.0, height.max(1 + block.1)))
+    }
 }
 
 impl<'a> Linker<'a> {
+    // The sizes of procedures, each behind those that it uses, and the first tree that is too great.
+    fn measure(&self, places: &[usize], sizes: &mut [Size], mut first: Option<Refused>) -> Option<Refused> {
+        for place in places {
+            let size = self.size_of_proc(sizes, &self.procs[*place]);
+            if size.operations > MOST {
+                first = earlier(first, self.procs[*place].at, Cause::TooManyOps);
+            } else if size.height() > 1024 {
+                first = earlier(first, self.procs[*place].at, Cause::TooDeep);
+            }
+            sizes[*place] = size;
+        }
+        first
+    }
+
     fn size(&self, sizes: &[Size], body: &[Stmt], size: &mut Size) {
         for stmt in body {
             match stmt {
@@ -501,6 +570,8 @@ impl<'a> Linker<'a> {
                     let (operations, height) = self.kernel.export(name).expect("a known export").block;
                     size.add(operations, &[1 + height]);
                 }
+                Stmt::ProcRef(..) => size.add(4, &[0]),
+                Stmt::DynExec(_) => size.add(self.dispatch.block.0, &[self.dispatch.block.1]),
             }
         }
     }
@@ -555,6 +626,11 @@ impl<'a> Linker<'a> {
                     let callee = self.kernel.export(name).expect("a known export").tree.clone();
                     out.push(Piece::Whole(Tree::Syscall(Box::new(callee))));
                 }
+                Stmt::ProcRef(_, name) => {
+                    let digest = self.dispatch.digests[self.places[name.as_str()]];
+                    out.extend(digest.map(|element| Piece::Operation(literal(element))));
+                }
+                Stmt::DynExec(_) => out.push(Piece::Whole(Tree::Dyn(self.dispatch.trees.clone()))),
             }
         }
     }
@@ -674,10 +750,9 @@ fn turned(graph: &[Vec<usize>]) -> Vec<Vec<usize>> {
     users
 }
 
-fn reached(graph: &[Vec<usize>], start: usize) -> Vec<bool> {
-    let mut marks = vec![false; graph.len()];
-    let mut seen = vec![start];
-    marks[start] = true;
+fn reached(graph: &[Vec<usize>], starts: &[usize]) -> Vec<bool> {
+    let mut marks = marked(graph.len(), starts);
+    let mut seen = starts.to_vec();
     while let Some(place) = seen.pop() {
         for other in &graph[place] {
             if !marks[*other] {
@@ -697,45 +772,59 @@ fn marked(count: usize, order: &[usize]) -> Vec<bool> {
     marks
 }
 
-// The first name that is defined twice or leads nowhere, if there is one, and which procedures each one uses.
-fn named_by<'a>(linker: &Linker<'a>, rows: &[Vec<Use<'a>>]) -> (Option<Refused>, Vec<Vec<usize>>) {
+/// Where names lead, and the first that is defined twice or leads nowhere.
+struct Named {
+    first: Option<Refused>,
+    /// Which procedures each one uses.
+    graph: Vec<Vec<usize>>,
+    /// Those of them that its procrefs name.
+    referred: Vec<Vec<usize>>,
+}
+
+fn named_by<'a>(linker: &Linker<'a>, rows: &[Uses<'a>]) -> Named {
     let mut first: Option<Refused> = None;
     for (place, proc) in linker.procs.iter().enumerate() {
         if proc.kind != Kind::Main && linker.places[proc.name.as_str()] != place {
             first = earlier(first, proc.at, Cause::Duplicate);
         }
     }
-    let mut graph = Vec::new();
+    let (mut graph, mut referred) = (Vec::with_capacity(rows.len()), Vec::with_capacity(rows.len()));
     for row in rows {
-        let mut own = Vec::new();
-        for Use { at, name, of_kernel } in row {
+        let (mut own, mut asked) = (Vec::new(), Vec::new());
+        for Use { at, name, way } in &row.list {
             match linker.places.get(name) {
-                _ if *of_kernel => {
+                _ if *way == Way::OfKernel => {
                     if linker.kernel.export(name).is_none() {
                         first = earlier(first, *at, Cause::NotInKernel);
                     }
                 }
-                Some(place) => own.push(*place),
+                Some(place) => {
+                    own.push(*place);
+                    if *way == Way::Refers {
+                        asked.push(*place);
+                    }
+                }
                 None => first = earlier(first, *at, Cause::UnknownProcedure),
             }
         }
         graph.push(own);
+        referred.push(asked);
     }
-    (first, graph)
+    Named { first, graph, referred }
 }
 
 // The first use that leads back to its own procedure, where it comes before what is refused already.
-fn leads_back(linker: &Linker, rows: &[Vec<Use>], graph: &[Vec<usize>], mut first: Option<Refused>) -> Option<Refused> {
+fn leads_back(linker: &Linker, rows: &[Uses], graph: &[Vec<usize>], mut first: Option<Refused>) -> Option<Refused> {
     let users = turned(graph);
     let (below, above) = (marked(graph.len(), &order(graph)), marked(graph.len(), &order(&users)));
     for (user, row) in rows.iter().enumerate() {
         let waits = |at: At| first.as_ref().is_none_or(|(before, _)| is_before(at, *before));
-        if below[user] || above[user] || !row.iter().any(|it| waits(it.at)) {
+        if below[user] || above[user] || !row.list.iter().any(|it| waits(it.at)) {
             continue;
         }
-        let marks = reached(&users, user);
-        for Use { at, name, of_kernel } in row {
-            if !of_kernel && linker.places.get(name).is_some_and(|place| marks[*place]) {
+        let marks = reached(&users, &[user]);
+        for Use { at, name, way } in &row.list {
+            if *way != Way::OfKernel && linker.places.get(name).is_some_and(|place| marks[*place]) {
                 first = earlier(first, *at, Cause::Recursive);
             }
         }
@@ -743,44 +832,128 @@ fn leads_back(linker: &Linker, rows: &[Vec<Use>], graph: &[Vec<usize>], mut firs
     first
 }
 
-// The names of procedures and how great each is, or the first refusal.
-fn linked<'a>(procs: &'a [Proc], kernel: &'a Kernel) -> Result<(Linker<'a>, Vec<Size>), Refused> {
+// The first dynamic block that a target reaches, where it comes before what is refused already.
+fn runs_itself(rows: &[Uses], below_targets: &[bool], mut first: Option<Refused>) -> Option<Refused> {
+    let held = rows.iter().zip(below_targets).filter(|(_, is_below)| **is_below);
+    for at in held.filter_map(|(row, _)| row.dynexec) {
+        first = earlier(first, at, Cause::Recursive);
+    }
+    first
+}
+
+/// A source whose names lead to procedures, none of which is too great.
+struct Linked<'a> {
+    linker: Linker<'a>,
+    rows: Vec<Uses<'a>>,
+    graph: Vec<Vec<usize>>,
+    referred: Vec<Vec<usize>>,
+    /// The targets and what they use, each behind what it uses itself.
+    front: Vec<usize>,
+    sizes: Vec<Size>,
+}
+
+fn linked<'a>(procs: &'a [Proc], kernel: &'a Kernel) -> Result<Linked<'a>, Refused> {
     let mut places = HashMap::new();
     for (place, proc) in procs.iter().enumerate().filter(|(_, proc)| proc.kind != Kind::Main) {
         places.entry(proc.name.as_str()).or_insert(place);
     }
-    let linker = Linker { procs, places, kernel };
-    let mut rows = Vec::new();
+    let mut linker = Linker { procs, places, kernel, dispatch: Dispatch::default() };
+    let mut rows: Vec<Uses> = Vec::with_capacity(procs.len());
     for proc in procs {
-        let mut row = Vec::new();
-        uses(&proc.body, &mut row);
+        let mut row = Uses::default();
+        row.add(&proc.body);
         rows.push(row);
     }
-    let (mut first, graph) = named_by(&linker, &rows);
+    let Named { mut first, graph, referred } = named_by(&linker, &rows);
     let in_order = order(&graph);
     if in_order.len() < graph.len() {
         first = leads_back(&linker, &rows, &graph, first);
     }
-    if let Some(refused) = first {
+    let mut known = vec![false; procs.len()];
+    let named = referred.iter().flatten().copied();
+    linker.dispatch.targets = named.filter(|place| !std::mem::replace(&mut known[*place], true)).collect();
+    let below_targets = reached(&graph, &linker.dispatch.targets);
+    if let Some(refused) = runs_itself(&rows, &below_targets, first) {
         return Err(refused);
     }
+    // A dynamic block stands in none of the first, and is measured behind them.
+    let (front, back): (Vec<usize>, Vec<usize>) = in_order.into_iter().partition(|place| below_targets[*place]);
     let mut sizes: Vec<Size> = procs.iter().map(|_| Size { operations: 0, parts: Vec::new() }).collect();
-    for place in in_order {
-        let size = linker.size_of_proc(&sizes, &procs[place]);
-        if size.operations > MOST {
-            first = earlier(first, procs[place].at, Cause::TooManyOps);
-        } else if size.height() > 1024 {
-            first = earlier(first, procs[place].at, Cause::TooDeep);
+    let mut too_great = linker.measure(&front, &mut sizes, None);
+    linker.dispatch.block = linker.dispatch.block_of(&sizes);
+    too_great = linker.measure(&back, &mut sizes, too_great);
+    too_great.map_or(Ok(Linked { linker, rows, graph, referred, front, sizes }), Err)
+}
+
+impl Linked<'_> {
+    // Makes what the procrefs and the dynamic blocks of a program stand for: each target's tree once, and its digest.
+    fn refer(&mut self, params: &Params) {
+        let mut starts = vec![self.rows.len() - 1];
+        let mut wanted = reached(&self.graph, &starts);
+        let is_dynamic = self.rows.iter().zip(&wanted).any(|(row, is_wanted)| *is_wanted && row.dynexec.is_some());
+        if is_dynamic {
+            starts.extend(&self.linker.dispatch.targets);
+            wanted = reached(&self.graph, &starts);
         }
-        sizes[place] = size;
+        let asking = self.referred.iter().zip(&wanted).filter(|(_, is_wanted)| **is_wanted);
+        let asked = marked(self.rows.len(), &asking.flat_map(|(places, _)| places).copied().collect::<Vec<usize>>());
+        let kept = if is_dynamic { marked(self.rows.len(), &self.linker.dispatch.targets) } else { Vec::new() };
+        let mut trees: Vec<Option<Tree>> = self.rows.iter().map(|_| None).collect();
+        self.linker.dispatch.digests = vec![[0; 4]; self.rows.len()];
+        for place in &self.front {
+            let is_kept = is_dynamic && kept[*place];
+            if !asked[*place] && !is_kept {
+                continue;
+            }
+            let tree = self.linker.tree_of_proc(&self.linker.procs[*place]);
+            if asked[*place] {
+                self.linker.dispatch.digests[*place] = digest(params, &tree);
+            }
+            trees[*place] = is_kept.then_some(tree);
+        }
+        if is_dynamic {
+            let targets = self.linker.dispatch.targets.iter();
+            self.linker.dispatch.trees = targets.map(|place| trees[*place].take().expect("a target's tree")).collect();
+        }
     }
-    first.map_or(Ok((linker, sizes)), Err)
+}
+
+// The digest of blocks that are hashed under a domain.
+fn hashed(params: &Params, domain: u8, blocks: &[Batch]) -> Word {
+    let mut state = [0; 12];
+    state[1] = domain.into();
+    for block in blocks {
+        state[4..].copy_from_slice(block);
+        state = permute(params, state);
+    }
+    [state[4], state[5], state[6], state[7]]
+}
+
+/// The digest of a tree. That of a dynamic block is the same whatever its targets are.
+pub fn digest(params: &Params, tree: &Tree) -> Word {
+    let of_children = |domain: u8, first: &Tree, second: Option<&Tree>| {
+        let mut block = [0; 8];
+        block[..4].copy_from_slice(&digest(params, first));
+        if let Some(second) = second {
+            block[4..].copy_from_slice(&digest(params, second));
+        }
+        hashed(params, domain, &[block])
+    };
+    match tree {
+        Tree::Span(batches) => hashed(params, 0, batches),
+        Tree::Join(first, second) => of_children(JOIN, first, Some(second)),
+        Tree::Split(first, second) => of_children(SPLIT, first, Some(second)),
+        Tree::Loop(body) => of_children(LOOP, body, None),
+        Tree::Call(callee) => of_children(CALL, callee, None),
+        Tree::Syscall(callee) => of_children(SYSCALL, callee, None),
+        Tree::Dyn(_) => hashed(params, DYN, &[[0; 8]]),
+    }
 }
 
 pub fn assemble_kernel(source: &[u8]) -> Result<Kernel, Refused> {
     let procs = parse(source, &lex(source)?, true)?;
     let none = Kernel::default();
-    let (linker, sizes) = linked(&procs, &none)?;
+    let Linked { linker, sizes, .. } = linked(&procs, &none)?;
     let mut exports = Vec::new();
     for (proc, size) in procs.iter().zip(&sizes).filter(|(proc, _)| proc.kind == Kind::Export) {
         exports.push(Export { name: proc.name.clone(), tree: linker.tree_of_proc(proc), block: size.block() });
@@ -788,44 +961,13 @@ pub fn assemble_kernel(source: &[u8]) -> Result<Kernel, Refused> {
     Ok(Kernel { exports })
 }
 
-pub fn assemble_with(source: &[u8], kernel: &Kernel) -> Result<Tree, Refused> {
+pub fn assemble_with(params: &Params, source: &[u8], kernel: &Kernel) -> Result<Tree, Refused> {
     let procs = parse(source, &lex(source)?, false)?;
-    let (linker, _) = linked(&procs, kernel)?;
-    Ok(linker.tree(&procs[procs.len() - 1].body))
+    let mut linked = linked(&procs, kernel)?;
+    linked.refer(params);
+    Ok(linked.linker.tree(&procs[procs.len() - 1].body))
 }
 
-pub fn assemble(source: &[u8]) -> Result<Tree, Refused> {
-    assemble_with(source, &Kernel::default())
-}
-
-// How many batches a tree has, and the sum of their elements.
-fn tally(tree: &Tree) -> (u64, u64) {
-    match tree {
-        Tree::Span(batches) => {
-            let sum = batches.iter().flatten().fold(0u64, |sum, x| sum.wrapping_add(*x));
-            (batches.len() as u64, sum)
-        }
-        Tree::Join(a, b) | Tree::Split(a, b) => {
-            let ((m, x), (n, y)) = (tally(a), tally(b));
-            (m + n, x.wrapping_add(y))
-        }
-        Tree::Loop(a) | Tree::Call(a) | Tree::Syscall(a) => tally(a),
-    }
-}
-
-// Prints the case, its time in microseconds, the source's length, and what it came to.
-fn main() {
-    let case = std::env::args().nth(1).expect("a case");
-    let path = std::env::args().nth(2).expect("a source");
-    let source = std::fs::read(path).expect("the source is read");
-    let start = Instant::now();
-    let answer = assemble(&source);
-    let micros = start.elapsed().as_micros();
-    match answer {
-        Ok(tree) => {
-            let (batches, sum) = tally(&tree);
-            println!("{case} {micros} {} tree {batches} {sum}", source.len());
-        }
-        Err((at, cause)) => println!("{case} {micros} {} {cause:?} {} {}", source.len(), at.line, at.column),
-    }
+pub fn assemble(params: &Params, source: &[u8]) -> Result<Tree, Refused> {
+    assemble_with(params, source, &Kernel::default())
 }

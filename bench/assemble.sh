@@ -1,5 +1,5 @@
 #!/bin/bash
-# Assembles sources by masm_link and by plain Rust (assemble.rs, rustc -O) in turn, and prints for each the least time of
+# Assembles sources by masm_link and by plain Rust (digest.rs, rustc -O) in turn, and prints for each the least time of
 # both in microseconds, the peak memory of both processes, and the ratios, each of which is to be at most 1.3. The sources
 # are many procedures in near 1,000,000 bytes; a chain of 600 procedures, each used by the next one and by begin, whose tree
 # has near 524,288 operations; and a chain of near 1,000,000 bytes into a cycle, which is refused. Two kinds are assembled
@@ -37,7 +37,7 @@ const NO_CONSTANTS: Params = Params {
     second: [[Felt::ZERO; 12]; 7],
 };
 
-// How many batches a tree has, and the sum of their elements.
+// How many batches a tree has, and the sum of their elements. No case has a dynamic block.
 #[derive(Clone, Copy)]
 struct Tally {
     batches: u64,
@@ -64,7 +64,7 @@ fn of_batches(batches: &Batches) -> Tally {
 
 fn of_tree(tree: &Tree) -> Tally {
     match tree {
-        Tree::Opaque(_) => Tally { batches: 0, sum: 0 },
+        Tree::Opaque(_) | Tree::Dyn(_) => Tally { batches: 0, sum: 0 },
         Tree::Span(batches) => of_batches(batches),
         Tree::Join(a, b) => both(of_tree(a), of_tree(b)),
         Tree::Split(a, b) => both(of_tree(a), of_tree(b)),
@@ -114,7 +114,7 @@ fn main(rt: HostRuntime) -> io::Result<()> {
     Ok(())
 }
 END
-rustc --edition 2021 -O -o "$work/plain" "$top/bench/assemble.rs"
+rustc --edition 2021 -O -o "$work/plain" "$top/bench/digest.rs"
 cd "$work/crates/bench_assemble"
 rt run >"$work/log" 2>&1 || { cat "$work/log"; exit 1; }
 python3 - "$work" <<'PY'
@@ -178,7 +178,7 @@ for name, (_, most) in cases.items():
     times, peaks = {"masm_link": [], "plain": []}, {}
     for _ in range(5):
         came = {}
-        for side, words in (("masm_link", [proved, name]), ("plain", ["./plain", name, name])):
+        for side, words in (("masm_link", [proved, name]), ("plain", ["./plain", "time", name, name])):
             micros, peaks[side], came[side] = run(words)
             times[side].append(micros)
         if came["masm_link"] != came["plain"]:

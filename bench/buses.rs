@@ -188,19 +188,17 @@ impl Buses {
         };
         let saved = if kind > 2 { frame(x) } else { [0; 9] };
         self.blocks.give(joined(&[own, x[ADDR], kind], &saved));
-        let mut child = |from: usize, more: u64| {
-            let [a, b, c, d] = part(x, H + from);
-            self.children.give([own, a, b, c, d, more]);
-        };
+        let mut child = |[a, b, c, d]: Word, more: u64| self.children.give([own, a, b, c, d, more]);
         match code {
             JOIN => {
-                child(0, 1);
-                child(4, 0);
+                child(part(x, H), 1);
+                child(part(x, H + 4), 0);
             }
-            SPLIT => child(if x[S] == 1 { 0 } else { 4 }, 0),
+            SPLIT => child(part(x, if x[S] == 1 { H } else { H + 4 }), 0),
+            DYN => child([x[S + 3], x[S + 2], x[S + 1], x[S]], 0),
             LOOP if x[S] == 0 => {}
             SPAN => {}
-            _ => child(0, 0),
+            _ => child(part(x, H), 0),
         }
         match code {
             SPAN => self.batch(x, y),

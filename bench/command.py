@@ -1,13 +1,13 @@
-"""Times a command of the program and plain Rust that does the same, in turn, for `run.sh`, `check.sh` and `make.sh`:
+"""Times a command of the program and plain Rust that does the same, in turn, for `run.sh`, `check.sh`, `make.sh` and `dynamic.sh`:
 
     command.py NAME TIMES MEMORY FILE RUNS OURS -- PLAIN -- PAIR ..
 
 NAME is the command's name. OURS and PLAIN are the words of the two sides. Each PAIR is one word `A B` of two files, which must be
 the same, and so must be what both sides print. The ratio of the times is to be at most TIMES, and the program's peak memory at most
-MEMORY times FILE. Prints the least of RUNS times, by the clock and of the processor, the parts that plain Rust tells on standard
-error in microseconds, and the load of the machine, without which no time means much. Where INSTRUCTIONS is set, what is compared is
-how many instructions valgrind counts, once. Where LARGE_PAGES is `ours`, the program has large pages, for which the script `miden`
-asks the C library and no other caller does; where it is `both`, plain Rust has them as well.
+MEMORY times FILE. Which side runs first changes from time to time. Prints the least of RUNS times, by the clock and of the processor,
+the parts that plain Rust tells on standard error in microseconds, and the load of the machine, without which no time means much. Where
+INSTRUCTIONS is set, what is compared is how many instructions valgrind counts, once. Where LARGE_PAGES is `ours`, the program has large
+pages, for which the script `miden` asks the C library and no other caller does; where it is `both`, plain Rust has them as well.
 """
 import filecmp
 import os
@@ -76,9 +76,11 @@ def main():
         text = ", ".join(f"{side} {count / 1e6:.0f} million" for side, count in counts.items())
         print(f"{name}: instructions: {text}, ratio {counts['the program'] / counts['plain Rust']:.2f} of at most {most}")
         return
+    order = list(sides)
     for _ in range(int(runs) - 1):
-        for side, words in sides.items():
-            came[side].append(run(words, setting(side)))
+        order.reverse()
+        for side in order:
+            came[side].append(run(sides[side], setting(side)))
     for kind, place in ("by the clock", 0), ("of the processor", 1):
         least = {side: min(result[place] for result in results) for side, results in came.items()}
         text = ", ".join(f"{side} {1000 * seconds:.0f} ms" for side, seconds in least.items())

@@ -14,6 +14,8 @@ pub enum Tree {
     Loop(u64, Box<Tree>),
     Call(u64, Box<Tree>),
     Syscall(u64, Box<Tree>),
+    /// Targets, of which no two have one digest, each with its digest.
+    Dyn(u64, Vec<(Word, Tree)>),
 }
 
 /// Two addresses at which different inputs of one digest are hashed, the lower one first.
@@ -53,6 +55,7 @@ impl Open {
             SPLIT => Tree::Split(self.address, Box::new(Tree::Opaque(word(row, H))), ran(self.first)),
             LOOP => Tree::Loop(self.address, Box::new(self.first.unwrap_or(Tree::Opaque(word(row, H))))),
             CALL => Tree::Call(self.address, ran(self.first)),
+            DYN => Tree::Dyn(self.address, vec![([3, 2, 1, 0].map(|j| row[S + j]), self.first.expect("a target that ran"))]),
             _ => Tree::Syscall(self.address, ran(self.first)),
         }
     }
@@ -82,7 +85,7 @@ fn address(tree: &Tree) -> u64 {
     match tree {
         Tree::Opaque(_) => 0,
         Tree::Span(address, _) | Tree::Join(address, ..) | Tree::Split(address, ..) => *address,
-        Tree::Loop(address, _) | Tree::Call(address, _) | Tree::Syscall(address, _) => *address,
+        Tree::Loop(address, _) | Tree::Call(address, _) | Tree::Syscall(address, _) | Tree::Dyn(address, _) => *address,
     }
 }
 
@@ -117,6 +120,15 @@ fn merged(hasher: &[[u64; 15]], a: Tree, b: Tree) -> Result<Tree, Pair> {
             agree(hasher, p, q)?;
             Tree::Syscall(p, boxed(hasher, a, c)?)
         }
+        (Tree::Dyn(p, mut targets), Tree::Dyn(_, later)) => {
+            for (digest, tree) in later {
+                match targets.iter_mut().find(|(known, _)| *known == digest) {
+                    Some((_, first)) => *first = merged(hasher, std::mem::replace(first, Tree::Opaque([0; 4])), tree)?,
+                    None => targets.push((digest, tree)),
+                }
+            }
+            Tree::Dyn(p, targets)
+        }
         (a, b) => return Err(pair(address(&a), address(&b))),
     })
 }
@@ -134,7 +146,7 @@ pub fn tree_of(tables: &Tables, codes: &[u8]) -> Result<Tree, Pair> {
     let mut open: Vec<Open> = Vec::new();
     for (i, code) in codes.iter().enumerate() {
         match *code {
-            JOIN..=SYSCALL => {
+            JOIN..=SYSCALL | DYN => {
                 let batches = if *code == SPAN { vec![batch(&main[i])] } else { Vec::new() };
                 open.push(Open { code: *code, row: i, address: main[i + 1][ADDR], batches, first: None, second: None });
             }
@@ -184,6 +196,13 @@ fn write_tree(text: &mut String, tree: &Tree) {
                 _ => "syscall\n",
             });
             &[a]
+        }
+        Tree::Dyn(_, targets) => {
+            writeln!(text, "dyn {}", targets.len()).expect("room for the text");
+            for (_, target) in targets {
+                write_tree(text, target);
+            }
+            &[]
         }
     };
     for child in children {

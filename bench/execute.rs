@@ -29,13 +29,14 @@ enum Op {
     Dup0,
     Dup1,
     Push,
-    Join,
-    Loop,
+    Join = 70,
+    Loop = 72,
     Span,
     Call,
-    End,
+    End = 76,
     Repeat,
     Respan,
+    Dyn = 80,
 }
 
 // The operations of the cases by their codes.
@@ -74,6 +75,8 @@ pub enum Tree {
     Join(Box<Tree>, Box<Tree>),
     Loop(Box<Tree>),
     Call(Box<Tree>),
+    #[allow(dead_code)]
+    Dyn(Vec<Tree>),
 }
 
 // A block with its digest; a span with its operations.
@@ -82,12 +85,14 @@ enum Node<'a> {
     Join(Word, Box<Node<'a>>, Box<Node<'a>>),
     Loop(Word, Box<Node<'a>>),
     Call(Word, Box<Node<'a>>),
+    Dyn(Word, Vec<Node<'a>>),
 }
 
 impl Node<'_> {
     fn digest(&self) -> Word {
         match self {
-            Node::Span(digest, ..) | Node::Join(digest, ..) | Node::Loop(digest, _) | Node::Call(digest, _) => *digest,
+            Node::Span(digest, ..) | Node::Join(digest, ..) => *digest,
+            Node::Loop(digest, _) | Node::Call(digest, _) | Node::Dyn(digest, _) => *digest,
         }
     }
 }
@@ -177,6 +182,10 @@ impl Hasher {
                 let callee = self.hashed(callee);
                 let digest = self.digest_of(Op::Call as u64, &[pair(callee.digest(), [0; 4])]);
                 Node::Call(digest, Box::new(callee))
+            }
+            Tree::Dyn(targets) => {
+                let targets = targets.iter().map(|target| self.hashed(target)).collect();
+                Node::Dyn(self.digest_of(Op::Dyn as u64, &[[0; 8]]), targets)
             }
         }
     }
@@ -423,6 +432,16 @@ impl Runner {
                     closes(state)
                 })
             }
+            Node::Dyn(digest, targets) => {
+                let [a, b, c, d, ..] = self.state.top;
+                let target = targets.iter().find(|target| target.digest() == [d, c, b, a]);
+                let target = self.cycle(Op::Dyn, [0; 8], |state| {
+                    opens(state)?;
+                    target.ok_or(Stop::Trap)
+                })?;
+                self.block(target)?;
+                self.cycle(Op::End, pair(*digest, [0; 4]), closes)
+            }
         }
     }
 }
@@ -539,7 +558,7 @@ fn balanced(height: u32) -> Tree {
     }
 }
 
-fn constants(from: u64) -> [[u64; 12]; 7] {
+pub fn constants(from: u64) -> [[u64; 12]; 7] {
     std::array::from_fn(|k| std::array::from_fn(|i| from + 1000 * k as u64 + i as u64))
 }
 

@@ -49,7 +49,7 @@ fn main() {
     let kernel = later.first().map(|path| std::fs::read(path).expect("the kernel is read"));
     let mut start = Instant::now();
     let kernel = kernel.map_or(Kernel::default(), |source| assemble::assemble_kernel(&source).expect("a kernel"));
-    let tree = assemble::assemble_with(&source, &kernel).expect("a program");
+    let tree = assemble::assemble_with(&params, &source, &kernel).expect("a program");
     let mut blocks = Blocks::new(&params);
     let kernel: Vec<usize> = kernel.into_trees().into_iter().map(|tree| blocks.add(tree)).collect();
     let program = blocks.add(tree);

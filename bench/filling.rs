@@ -105,7 +105,7 @@ impl Filler<'_> {
             SPAN | RESPAN => self.begin(clock, x, block, event),
             END => self.end(x, block, event),
             HALT => {}
-            JOIN..=REPEAT => {
+            JOIN..=REPEAT | DYN => {
                 x[H..H + 8].copy_from_slice(&block.hash);
                 x[W] = event.number.into();
                 self.start(x, block, event);

@@ -15,6 +15,7 @@ pub enum Parts {
     Loop(usize),
     Call(usize),
     Syscall(usize),
+    Dyn(Vec<usize>),
 }
 
 /// A block with the eight elements that its rows show, and the rows of the hasher's table that hash it.
@@ -73,6 +74,10 @@ impl Blocks<'_> {
             Tree::Loop(body) => self.one(LOOP, *body, Parts::Loop),
             Tree::Call(callee) => self.one(CALL, *callee, Parts::Call),
             Tree::Syscall(callee) => self.one(SYSCALL, *callee, Parts::Syscall),
+            Tree::Dyn(targets) => {
+                let targets = targets.into_iter().map(|target| self.add(target)).collect();
+                self.push(DYN, [0; 4], [0; 4], Parts::Dyn(targets))
+            }
         }
     }
 
@@ -275,6 +280,13 @@ impl<'a> Machine<'a> {
             Parts::Syscall(callee) => {
                 self.start(SYSCALL, place);
                 self.call(place, *callee, 0, 1 << 31, true, self.function);
+            }
+            Parts::Dyn(targets) => {
+                let [a, b, c, d, ..] = self.top;
+                let target = targets.iter().find(|target| blocks[**target].digest == [d, c, b, a]);
+                self.start(DYN, place);
+                self.block(*target.expect("a target of the digest on the stack"));
+                self.end(place, 0);
             }
         }
     }

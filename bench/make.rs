@@ -88,7 +88,7 @@ fn main() {
     let source = source_of(turns);
     let advice: Vec<u64> = (1..=turns).map(|number| number * number).collect();
     let text = inputs_of(&advice);
-    let tree = assemble::assemble_with(source.as_bytes(), &Kernel::default()).expect("a program");
+    let tree = assemble::assemble_with(&params, source.as_bytes(), &Kernel::default()).expect("a program");
     let mut blocks = Blocks::new(&params);
     let program = blocks.add(tree);
     let blocks = blocks.list;

@@ -60,13 +60,14 @@ pub const END: u8 = 76;
 pub const REPEAT: u8 = 77;
 pub const RESPAN: u8 = 78;
 pub const HALT: u8 = 79;
+pub const DYN: u8 = 80;
 
 pub fn is_ordinary(code: u8) -> bool {
     code <= PUSH
 }
 
 pub fn is_start(code: u8) -> bool {
-    (JOIN..=SYSCALL).contains(&code)
+    matches!(code, JOIN..=SYSCALL | DYN)
 }
 
 /// How many cells an operation takes from the top, and how many it leaves in their place. END's are not here.

@@ -12,7 +12,7 @@ pub fn code_in(x: &Row) -> Option<u8> {
         code |= x[B + j] << j;
         all |= x[B + j];
     }
-    (all <= 1 && code < 80).then_some(code as u8)
+    (all <= 1 && code <= DYN.into()).then_some(code as u8)
 }
 
 /// The first row shows the start.
@@ -79,6 +79,7 @@ fn block_is_clean(code: u8, x: &Row, y: &Row, behind: u8) -> bool {
             RESPAN => batch_is_clean(x, y) && y[HA] == add(x[HA], 8),
             JOIN => is_start(behind),
             SPLIT => x[S] <= 1 && is_start(behind),
+            DYN => x[H..H + 8] == [0; 8] && is_start(behind),
             LOOP => x[S] <= 1 && x[H + 4..H + 8] == [0; 4] && if x[S] == 1 { is_start(behind) } else { behind == END },
             _ => x[S] == 1 && is_start(behind),
         }

@@ -6,9 +6,10 @@
 # byte for byte. The ratio of the times is to be at most 1.5, and the peak memory at most 2.2 times the table file. CASE is
 # `span`, which is meant where there is none: nearly 2^19 rows of the main table; or `loop` or `flow`, of some 430,000; or
 # `calls`, of 20,000 calls on a stack of DEPTH cells; or `all`, of some 79,000; or `permutations`, of 20,000 HPERMs, each of
-# which plain Rust computes once, so that the ratio of the times is to be at most 1.2. TURNS is how often the source's outer
-# body is repeated, MIDEN the program in place of the one that the script `miden` builds, RUNS how often both run, and where
-# INSTRUCTIONS is set instructions are counted in place of times. LARGE_PAGES says which sides have large pages (command.py).
+# which plain Rust computes once; or `dispatch`, a loop of dynamic blocks, of some 490,000: for these two the ratio of the times
+# is to be at most 1.2. TURNS is how often the source's outer body is repeated, MIDEN the program in place of the one that the
+# script `miden` builds, RUNS how often both run, and where INSTRUCTIONS is set instructions are counted in place of times.
+# LARGE_PAGES says which sides have large pages (command.py).
 #
 # `run.sh crates` times a source of about 500,000 cycles, a loop with calls that read and write memory, by the crates that
 # the command stands on and by run.rs: the source is read, assembled and executed, and the cycles and the outputs are
@@ -32,7 +33,7 @@ whole_command() {
     local files="$top/examples/params/derived program.masm inputs"
     echo "parts of plain Rust: assemble, execute, fill, encode, write"
     local most=1.5
-    [ "$1" != permutations ] || most=1.2
+    case $1 in permutations | dispatch) most=1.2 ;; esac
     # shellcheck disable=SC2086
     python3 "$top/bench/command.py" "run of $1" "$most" 2.2 plain.table "${RUNS:-7}" \
         "$program" run $files --out table --statement statement ${kernel:+--kernel "$kernel"} \

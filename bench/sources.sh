@@ -123,6 +123,33 @@ end
 END
 }
 
+# A loop of dynamic blocks, of some 24 cycles a turn, which run sixteen procedures in turn: memory holds their digests, and each leaves
+# the address of another one's.
+dispatch_source() {
+    local k work
+    for ((k = 0; k < 16; k++)); do
+        work=neg
+        [ $((k % 2)) = 0 ] || work="dup mul"
+        cat <<END
+proc.p$k
+    movup.5 $work movdn.5 movup.4 sub.1 dup movdn.5 neq.0 push.$(((k + 5) % 16)) swap
+end
+END
+    done
+    echo begin
+    for ((k = 0; k < 16; k++)); do
+        echo "    procref.p$k mem_storew.$k dropw"
+    done
+    cat <<END
+    push.7.${TURNS:-20000} padw push.0.1
+    while.true
+        mem_loadw dynexec
+    end
+    drop dropw drop
+end
+END
+}
+
 # One span of ten permutations a turn, each of the one before.
 permutations_source() {
     cat <<END

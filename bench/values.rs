@@ -63,10 +63,12 @@ fn first(values: impl IntoIterator<Item = Felt>) -> Option<(usize, u64)> {
     values.into_iter().enumerate().find(|(_, value)| *value != ZERO).map(|(i, value)| (i + 1, value.0))
 }
 
+const CODES: usize = DYN as usize + 1;
+
 /// A row of the main table with its flags.
 struct Flagged<'a> {
     row: &'a Row,
-    flags: [Felt; 80],
+    flags: [Felt; CODES],
 }
 
 impl Flagged<'_> {
@@ -88,7 +90,7 @@ impl Flagged<'_> {
     }
 
     fn any(&self, test: impl Fn(u8) -> bool) -> Felt {
-        total((0..80).filter(|code| test(*code)).map(|code| self.is(code)))
+        total((0..=DYN).filter(|code| test(*code)).map(|code| self.is(code)))
     }
 
     fn starts(&self) -> Felt {
@@ -153,10 +155,11 @@ pub fn main_fault(claim: &Claim, i: usize, row: &Row, next: Option<&Row>) -> Opt
     values.extend(batch_values(&x, &pair));
     values.extend(group_values(&x, &pair));
     values.extend(depth_values(&x, &pair));
-    values.extend((0..16).map(|j| pair(&|y| total((0..80).map(|code| x.is(code) * term(code, j, &x, y))))));
+    values.extend((0..16).map(|j| pair(&|y| total((0..=DYN).map(|code| x.is(code) * term(code, j, &x, y))))));
     values.extend(operand_values(&x, &pair));
     values.extend(number_values(&x, &pair));
-    assert!(values.len() == 147, "all constraints");
+    values.extend((0..4).map(|j| x.is(DYN) * x.at(H + j)));
+    assert!(values.len() == 151, "all constraints");
     first(values)
 }
 
@@ -167,7 +170,8 @@ fn start_values<'a>(claim: &'a Claim, x: &'a Flagged) -> impl Iterator<Item = Fe
     let Statement { inputs, outputs, kernel, .. } = claim.statement;
     let front = [ONE - x.starts(), x.at(ADDR), x.at(CTX), x.at(FMP) - Felt(1 << 30), x.at(SYS)];
     let digest = (0..4).map(|j| x.at(F + j));
-    let stack = [x.at(LV), x.at(DEPTH) - Felt(16), x.at(KEY)];
+    let key = if inputs.len() > 16 { PRIME - 1 } else { 0 };
+    let stack = [x.at(LV), x.at(DEPTH) - Felt(inputs.len().max(16) as u64), x.at(KEY) - Felt(key)];
     let cells = (0..16).map(|j| x.at(S + j) - Felt(inputs.get(j).copied().unwrap_or(0)));
     let counts = [
         Felt(claim.kernel_rows as u64) - Felt(kernel.len() as u64),
@@ -187,7 +191,7 @@ fn end_values<'a>(claim: &'a Claim, x: &'a Flagged) -> impl Iterator<Item = Felt
 // 60 to 69
 fn follow_values(x: &Flagged, pair: Pair) -> [Felt; 10] {
     let s0 = x.at(S);
-    let opens = x.is(JOIN) + x.is(SPLIT) + x.calls() + x.is(REPEAT) + x.is(LOOP) * s0;
+    let opens = x.is(JOIN) + x.is(SPLIT) + x.calls() + x.is(REPEAT) + x.is(DYN) + x.is(LOOP) * s0;
     [
         pair(&|_| x.is(HALT)),
         x.at(SP) - x.any(is_ordinary),
@@ -207,7 +211,7 @@ fn shown_values(x: &Flagged) -> Vec<Felt> {
     let kinds = total((4..8).map(|j| x.at(H + j)));
     let mut values: Vec<Felt> = (4..8).map(|j| x.is(END) * bit(x.at(H + j))).collect();
     values.push(x.is(END) * bit(kinds));
-    values.extend((4..8).map(|j| (x.is(LOOP) + x.calls()) * x.at(H + j)));
+    values.extend((4..8).map(|j| (x.is(LOOP) + x.calls() + x.is(DYN)) * x.at(H + j)));
     values.extend([x.calls() * x.at(SYS), x.is(CALLER) * (ONE - x.at(SYS)), x.is(HALT) * x.at(ADDR)]);
     values
 }

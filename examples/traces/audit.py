@@ -14,7 +14,7 @@ import sys
 from rpo import constants_in, digest_of, word_text
 from tables import tables_in
 
-DOMAINS = {"join": 70, "split": 71, "loop": 72, "call": 74, "syscall": 75}
+DOMAINS = {"join": 70, "split": 71, "loop": 72, "call": 74, "syscall": 75, "dyn": 80}
 PUSH = 69
 
 
@@ -29,6 +29,8 @@ def tree_in(lines):
         return kind, word_in(rest[0])
     if kind == "span":
         return kind, [[int(element) for element in next(lines).split()[1:]] for _ in range(int(rest[0]))]
+    if kind == "dyn":
+        return kind, [tree_in(lines) for _ in range(int(rest[0]))]
     return kind, [tree_in(lines) for _ in range(2 if kind in ("join", "split") else 1)]
 
 
@@ -38,9 +40,22 @@ def digest_in(constants, tree):
         return parts
     if kind == "span":
         return digest_of(constants, 0, parts)
+    if kind == "dyn":
+        return digest_of(constants, DOMAINS[kind], [[0] * 8])
     words = [digest_in(constants, part) for part in parts]
     block = words[0] + (words[1] if len(words) == 2 else [0] * 4)
     return digest_of(constants, DOMAINS[kind], [block])
+
+
+def dynamic_faults(constants, tree):
+    """That no dynamic block has two targets of one digest."""
+    kind, parts = tree
+    if kind in ("opaque", "span"):
+        return
+    for part in parts:
+        yield from dynamic_faults(constants, part)
+    if kind == "dyn" and len({word_text(digest_in(constants, part)) for part in parts}) < len(parts):
+        yield "a dynamic block has two targets of one digest"
 
 
 def operations_in(batch):
@@ -67,6 +82,7 @@ def run_faults(constants, tables, statement, lines):
         yield "no tape"
     if word_text(digest_in(constants, tree)) != statement["digest"]:
         yield "the tree has another digest"
+    yield from dynamic_faults(constants, tree)
     if cycles + 1 != len(tables[0]):
         yield "the table has other rows"
     if tree[0] == "span" and cycles != sum(map(operations_in, tree[1])) + len(tree[1]) + 1:
