@@ -1,6 +1,5 @@
 -- A chain of what `runs` wrote is answered `Ok`.
-use Rattle.std.proofs.Common.{◌≡◌, ℕ, List, sym, subst}
-use Rattle.vm_io.specs.Shelf.{Files}
+use Rattle.std.proofs.Common.{sym, subst}
 use Rattle.cmd_kit.specs.Asked.{asked}
 use Rattle.cmd_kit.specs.Completeness.{IsGood}
 use Rattle.cmd_kit.specs.RunsLaws.{RunsMakeAChain}

@@ -1,5 +1,5 @@
 -- The runs that are the evidence of a chain are one run through all of their trees.
-use Rattle.std.proofs.Common.{◌≡◌, ℕ, List, [], ◌∷◌, Option, Some, None, refl, sym, subst}
+use Rattle.std.proofs.Common.{ℕ, List, [], ◌∷◌, Some, None, refl, sym, subst}
 use Rattle.block_tree.specs.TreeView.{tree_of}
 use Rattle.block_tree.specs.Trees as trees
 use Rattle.block_tree.specs.declared.evidence.Evidence.{Evidence}

@@ -1,43 +1,30 @@
 -- Commands over good files, walked step by step to their ends.
-use Rattle.std.proofs.Common.{◌≡◌, ◌⊎◌, ℕ, Bool, List, Option, Some, None, Ok, Err, refl, sym, ap, ap₂, subst, inl, inr, ◌∙◌}
+use Rattle.std.proofs.Common.{◌≡◌, ◌⊎◌, ℕ, List, Option, Some, None, Ok, refl, sym, ap, subst, inl, inr}
 use Rattle.std.specs.FinMap.{insert}
-use Rattle.std.specs.Option.{option_map}
 use Rattle.vm_field.specs.Limits.{most_cycles}
-use Rattle.vm_field.specs.Machine.{State, start}
-use Rattle.rpo_hash.specs.Constants.{constants_of}
+use Rattle.vm_field.specs.Machine.{State}
 use Rattle.rpo_hash.specs.ParamText.{parameters_of}
 use Rattle.block_tree.specs.Execution as execution
 use Rattle.block_tree.specs.Execution.{Done, Outcome}
 use Rattle.block_tree.specs.declared.program.Program.{Program}
 use Rattle.number_files.specs.Grammar.{numbers_of}
-use Rattle.masm_link.specs.declared.refusal.AsmCause.{AsmCause}
-use Rattle.masm_link.specs.declared.refusal.AsmError.TheVariants.{Bad, Memory}
-use Rattle.masm_link.proofs.OneAnswer.{one_program}
 use Rattle.statement.specs.Inputs.{Given}
-use Rattle.statement.specs.Statements as statements
 use Rattle.statement.specs.Statements.{Stated}
-use Rattle.air_kit.specs.Acceptance.{AreZero, IsAccepted, asked_on, given_on}
-use Rattle.buses.specs.Counts.{AreAlike}
-use Rattle.air_kit.specs.Traces as traces
-use Rattle.air_kit.specs.declared.trace.Public.{Public}
 use Rattle.air_kit.specs.declared.trace.Trace.{Trace}
 use Rattle.vm_io.specs.Shelf.{Files, ShelfState}
 use Rattle.vm_io.specs.Sink.{SinkState}
-use Rattle.checker.specs.declared.refusal.Refused.{Refused}
-use Rattle.checker.specs.declared.refusal.Refused.TheVariants as why
 use Rattle.cmd_kit.specs.declared.status.Status.{Status}
 use Rattle.cmd_kit.specs.declared.status.Status.TheVariants as status
 use Rattle.cmd_kit.specs.declared.answer.Answer.{Answer}
 use Rattle.cmd_kit.specs.Statuses.{StatusKind, planned, no_command, failed_read, failed_write, failed_print, no_memory, kind_of}
 use Rattle.cmd_kit.specs.Asked.{Asked, MadeNames, Outputs, nothing, hash, assemble, run, check, make, chain, runs, asked}
-use Rattle.cmd_kit.specs.Steps.{SourceFile, Steps, Verdict, accepted, refused, Course, ran, course, checked, telling, assembly, ending, ends_with}
+use Rattle.cmd_kit.specs.Steps.{SourceFile, Steps, Verdict, accepted, refused, Course, course, checked, telling, assembly, ending, ends_with}
 use Rattle.cmd_kit.specs.SourceEnds.{AssemblesFiles}
 use Rattle.cmd_kit.specs.AssembleEnds as assembling
 use Rattle.cmd_kit.specs.AssembleEnds.{AnswersAssembly, assembled}
 use Rattle.cmd_kit.specs.HashEnds.{hash_end}
-use Rattle.cmd_kit.specs.CheckEnds.{IsVerdictFor, IsWhy}
-use Rattle.cmd_kit.specs.RunEnds as ends
-use Rattle.cmd_kit.specs.RunEnds.{IsCourse, halted, trapped, unended, outcome_of}
+use Rattle.cmd_kit.specs.CheckEnds.{IsVerdictFor}
+use Rattle.cmd_kit.specs.RunEnds.{IsCourse, outcome_of}
 use Rattle.cmd_kit.specs.Commands.{EndsAs, steps_of}
 use Rattle.cmd_kit.specs.Starts.{most_params_bytes, with_params, with_inputs, with_trace, with_statement, params_steps, source_steps, kernel_steps, inputs_steps, trace_steps, statement_steps}
 use Rattle.cmd_kit.specs.HashSteps.{hash_steps, numbers_steps}
@@ -46,7 +33,7 @@ use Rattle.cmd_kit.specs.RunSteps.{run_steps, running_steps, course_steps}
 use Rattle.cmd_kit.specs.CheckSteps.{check_steps, judging_steps, found_steps}
 use Rattle.cmd_kit.specs.MakeSteps.{make_steps, making_steps, made_course_steps, made_source, made_given}
 use Rattle.cmd_kit.specs.Serving.{ComesWhere, ServesAs, Works, Ends}
-use Rattle.cmd_kit.specs.Completeness.{FileSays, HoldsKernel, IsAcceptedFor, IsGood, IsGoodHash, IsGoodAssembly, IsGoodRun, IsGoodCheck, IsGoodMake, IsFault, GoodIsOk, OneVerdict}
+use Rattle.cmd_kit.specs.Completeness.{FileSays, HoldsKernel, IsAcceptedFor, IsGood, IsGoodHash, IsGoodAssembly, IsGoodRun, IsGoodCheck, IsGoodMake, IsFault, GoodIsOk}
 use Rattle.cmd_kit.proofs.Walks as walks
 use Rattle.cmd_kit.proofs.ChainComplete.{chained_well}
 use Rattle.cmd_kit.proofs.Courses.{bad_or_program, runs_out}

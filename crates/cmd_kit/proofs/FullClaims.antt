@@ -1,12 +1,12 @@
 -- A statement that is read has sixteen outputs at least.
-use Rattle.std.proofs.Common.{◌≡◌, ℕ, ◌≤◌, Bool, true, false, ◌&&◌, nat_le, if◌then◌else◌, List, length, Option, Result, Ok, Err, refl, subst, arith}
+use Rattle.std.proofs.Common.{◌≡◌, ℕ, ◌≤◌, Bool, true, false, ◌&&◌, nat_le, if◌then◌else◌, List, length, Result, Ok, Err, refl, subst, arith}
 use Rattle.std.specs.Option.{ok_or}
 use Rattle.std.proofs.lemmas.Bool.{and_parts}
 use Rattle.std.proofs.lemmas.Bool.Decides.{nat_tests}
 use Rattle.vm_field.specs.Limits.{least_depth, most_inputs, most_kernel, most_outputs}
 use Rattle.vm_field.specs.WordText.{word_of_hex}
 use Rattle.statement.specs.Causes.{and_then}
-use Rattle.statement.specs.Statements.{Parts, Stated, are_distinct, claim_by, claim_from, counted, has_counts, parts_of, statement_of}
+use Rattle.statement.specs.Statements.{Parts, Stated, are_distinct, claim_by, claim_from, has_counts, parts_of, statement_of}
 use Rattle.statement.specs.Values.{elements_of, value_of, words_of}
 use Rattle.statement.specs.declared.refusal.TextCause.{TextCause}
 use Rattle.statement.specs.declared.refusal.TextCause.TheVariants.{NotJson, Shape, Element, Digest, Count, Repeated}

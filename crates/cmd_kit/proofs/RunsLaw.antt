@@ -29,7 +29,7 @@ use Rattle.cmd_kit.specs.RunsNames.{AreLinksApart}
 use Rattle.cmd_kit.specs.RunsSteps.{RunLink, given_steps, has_no_cells, is_none_left, left_steps, link_course_steps, link_running_steps, links_lines, run_link, run_link_steps, runs_from, runs_given, runs_steps}
 use Rattle.cmd_kit.specs.Serving.{ComesWhere, Prints}
 use Rattle.cmd_kit.specs.Starts.{most_inputs_bytes, most_params_bytes, with_inputs, with_params}
-use Rattle.cmd_kit.specs.Steps.{SourceFile, course, Course, ran, stop, Steps, ending, ends_with}
+use Rattle.cmd_kit.specs.Steps.{SourceFile, course, Course, stop, Steps, ending, ends_with}
 use Rattle.cmd_kit.proofs.EvidenceLaw.{printed_as}
 use Rattle.cmd_kit.proofs.RunsComplete.{StandsAs, all_stand, still_stand}
 use Rattle.cmd_kit.proofs.RunsNames.{lines_apart}

@@ -6,7 +6,7 @@ use Rattle.std.proofs.lemmas.Bool.Decides.{eqb_tells}
 use Rattle.std.proofs.lemmas.List.{take_more}
 use Rattle.std.proofs.lemmas.List.Elements.{Contains-append_right, Contains-append_cases, filter-append}
 use Rattle.std.specs.List.{Contains}
-use Rattle.graphs.specs.Walks.{each_once}
+use Rattle.graphs.specs.Orders.{each_once}
 use Rattle.graphs.proofs.WalkLemmas.{contains_one}
 
 module _ (p : ℕ → Bool) where

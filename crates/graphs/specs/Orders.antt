@@ -1,5 +1,5 @@
 -- Orders of a graph's places.
-use Rattle.std.specs.Prelude.{ℕ, ◌<◌, Bool, false, not, List, ◌++◌, filter, length, take, slice_index, slice_index_or}
+use Rattle.std.specs.Prelude.{ℕ, ◌<◌, Bool, false, not, nat_eq, List, [], ◌∷◌, ◌++◌, filter, length, take, slice_index, slice_index_or}
 use Rattle.std.specs.List.{Contains}
 use Rattle.graphs.specs.Graph.{Edge, Leads}
 
@@ -22,3 +22,8 @@ pub record IsOrder (graph : List (List ℕ)) (order : List ℕ) : Type 0 where
 abbrev pub marked_first : List Bool → List ℕ → List ℕ
 marked_first marks order =
     filter (λ place. slice_index_or marks place false) order ++ filter (λ place. not (slice_index_or marks place false)) order
+
+-- places in their order, each once
+abbrev pub each_once : List ℕ → List ℕ
+each_once [] = []
+each_once (place ∷ row) = place ∷ filter (λ other. not (nat_eq place other)) (each_once row)

@@ -1,5 +1,5 @@
 -- A walk over a graph: the places that were seen, in their order, and a mark for each of them.
-use Rattle.std.specs.Prelude.{◌≡◌, ℕ, ◌<◌, Bool, true, false, not, nat_eq, List, [], ◌∷◌, ◌++◌, filter, length, slice_index, slice_index_or, count_by, ◌⊎◌, ◌↔◌}
+use Rattle.std.specs.Prelude.{◌≡◌, ℕ, ◌<◌, Bool, true, false, List, ◌++◌, length, slice_index, slice_index_or, count_by, ◌⊎◌, ◌↔◌}
 use Rattle.std.specs.List.{Contains}
 use Rattle.graphs.specs.Graph.{Edge, LeadsFrom}
 
@@ -14,11 +14,6 @@ pub record AddsPlaces (old row new : List ℕ) : Type 0 where
   pub keeps : new ≡ old ++ more
   pub row_in : (place : ℕ) → Contains row place → Contains new place
   pub only : (place : ℕ) → Contains new place → Contains old place ⊎ Contains row place
-
--- places in their order, each once
-abbrev pub each_once : List ℕ → List ℕ
-each_once [] = []
-each_once (place ∷ row) = place ∷ filter (λ other. not (nat_eq place other)) (each_once row)
 
 -- what is seen is reached from the starts, and of the first of them the edges are seen too
 pub record Walked (graph : List (List ℕ)) (starts : List ℕ) (seen : List ℕ) (next : ℕ) : Type 0 where

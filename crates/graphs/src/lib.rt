@@ -1,4 +1,4 @@
-//! Graphs as lists of rows: the places that are reached from one of them, and orders in which each
+//! Graphs as lists of rows: the places that are reached from some of them, and orders in which each
 //! place stands behind those to which it has edges.
 #![tactic(auto)]
 

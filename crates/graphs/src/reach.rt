@@ -1,7 +1,8 @@
 ghost use Rattle.std.specs.Prelude.{◌≡◌, ℕ, ◌<◌, ◌∷◌, ◌++◌, [], length, slice_index_or, false, true, ◌↔◌, if◌then◌else◌, IfOk, OnOk};
 ghost use Rattle.std.specs.List.{All};
 ghost use Rattle.graphs.specs.Graph.{rows_of, IsGraph, Leads, LeadsFrom};
-ghost use Rattle.graphs.specs.Walks.{AreMarks, AddsPlaces, each_once};
+ghost use Rattle.graphs.specs.Walks.{AreMarks, AddsPlaces};
+ghost use Rattle.graphs.specs.Orders.{each_once};
 
 use std::alloc::{AllocError, Global};
 

@@ -14,6 +14,7 @@ mod piece;
 mod procedure;
 mod table;
 
+pub use appending::add_copies;
 pub use dispatch::{copied_tree, dispatch_tree};
 pub use dynexecs::has_dynexec;
 pub use extent::Extent;

@@ -1,7 +1,7 @@
 ghost use Rattle.std.specs.Prelude.{◌≡◌, ◌<◌, length, IfOk};
 ghost use Rattle.std.specs.List.{All};
 ghost use Rattle.graphs.specs.Graph.{rows_of};
-ghost use Rattle.graphs.specs.Walks.{each_once};
+ghost use Rattle.graphs.specs.Orders.{each_once};
 ghost use Rattle.masm_graph.specs.Links.{places_referred};
 
 use crate::links::Link;

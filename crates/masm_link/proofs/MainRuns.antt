@@ -1,5 +1,5 @@
 -- The tree of a dynexec between begin and end.
-use Rattle.std.proofs.Common.{◌≡◌, ℕ, List, [], map, Option, Some, None, MatchOption, Vec, Global, refl, sym, ap, subst, ◌∙◌}
+use Rattle.std.proofs.Common.{◌≡◌, ℕ, List, [], map, Option, Some, None, Vec, Global, refl, sym, ap, subst, ◌∙◌}
 use Rattle.std.proofs.lemmas.List.Elements.{Contains-append_right}
 use Rattle.std.proofs.lemmas.Option.{same_Some}
 use Rattle.std.specs.List.{Contains}
@@ -9,7 +9,7 @@ use Rattle.block_tree.specs.TreeView.{tree_of}
 use Rattle.masm_tree.specs.declared.tree.Ast.{Ast}
 use Rattle.masm_tree.specs.declared.tree.Position.{Position}
 use Rattle.masm_tree.specs.declared.tree.Proc.{Proc}
-use Rattle.masm_tree.specs.Trees.{Body, Procedure, Source}
+use Rattle.masm_tree.specs.Trees.{Procedure, Source}
 use Rattle.masm_tree.specs.Views.{body_of, procedure_of, source_of}
 use Rattle.masm_names.specs.Uses.{dynexecs_of, first_place, target_names, IsDynamic}
 use Rattle.masm_names.proofs.DoubleLemmas.{cons_here}

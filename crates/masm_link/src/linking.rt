@@ -179,7 +179,15 @@ fn built(
 {
     let names = &measured.names;
     let targets = measured.targets.as_slice();
-    let built = lists_of(alloc, ast, names, outside, &measured.steps, targets, digests)?;
+    let built = lists_of(
+        alloc,
+        ast,
+        names,
+        outside,
+        &measured.steps,
+        targets,
+        digests,
+    )?;
     let exports = exports_of(alloc, &ast.procs, &measured.sizes, &built.table.lists)?;
     let uses = measured.uses.as_slice();
     let main = main_tree(alloc, names, outside, &ast.main, uses, targets, built)?;

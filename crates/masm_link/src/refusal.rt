@@ -16,7 +16,7 @@ use thiserror::Error;
 pub enum AsmCause {
     /// A byte outside comments is neither a blank nor one of a token.
     Lexical,
-    /// A kernel has no `begin`, `call`, `syscall` or `procref`.
+    /// A kernel has no `begin`, `call`, `syscall`, `procref` or `dynexec`.
     KernelBody,
     /// The instruction is one that this machine does not have.
     Unsupported,
@@ -42,7 +42,8 @@ pub enum AsmCause {
     UnknownProcedure,
     /// The kernel exports no procedure of that name.
     NotInKernel,
-    /// The procedure that is used reaches the one that uses it.
+    /// The procedure that is used reaches the one that uses it, or the dynexec stands in a procedure that
+    /// is reached from one that a procref names.
     Recursive,
     /// The tree has more than 524,288 operations.
     TooManyOps,

@@ -92,14 +92,14 @@ all-recursion : (items : List Item) → All IsPackableItem items → AllByRecurs
 all-recursion [] h = tt
 all-recursion (item ∷ items) h = (h 0 item (omega arith), all-recursion items (λ k d l. h (suc k) d (omega arith)))
 
-no_list : {X : Type 0} (x : X) (xs : List X) → x ∷ xs ≢ []
-no_list x xs e = cc
+never_empty : {X : Type 0} (x : X) (xs : List X) → x ∷ xs ≢ []
+never_empty x xs e = cc
 
 packs-span : (items : List Item) (blocks : List Block) → AllByRecursion IsPackableItem items → AllByRecursion Packs blocks
     → AllByRecursion Packs (span_before Span Join items blocks)
 packs-span [] blocks h k = k
 packs-span (item ∷ items) blocks h k =
-    (record { some = no_list item items; each = All-from_recursion IsPackableItem (item ∷ items) h }, k)
+    (record { some = never_empty item items; each = All-from_recursion IsPackableItem (item ∷ items) h }, k)
 
 packs-behind : (items : List Item) (pieces : List (Piece Block)) → AllByRecursion IsPackableItem items → AllByRecursion PiecePacks pieces
     → AllByRecursion Packs (blocks_behind Span Join items pieces)
@@ -115,7 +115,7 @@ packs-paired (a ∷ []) h = h
 packs-paired (a ∷ b ∷ blocks) h = ((h.0, h.1.0), packs-paired blocks h.1.1)
 
 plain_packs : (op : Op) → IsPackableItem (plain_item op) → Packs (Span (plain_item op ∷ []))
-plain_packs op h = record { some = no_list (plain_item op) []; each = All-from_recursion IsPackableItem (plain_item op ∷ []) (h, tt) }
+plain_packs op h = record { some = never_empty (plain_item op) []; each = All-from_recursion IsPackableItem (plain_item op ∷ []) (h, tt) }
 
 noop_packs : IsPackableItem (plain_item ops.Noop)
 noop_packs = record { ordinary = record { ordinary = refl; immediate = λ e. cc }; immediate = tt }

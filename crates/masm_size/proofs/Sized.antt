@@ -155,7 +155,8 @@ module _ {source : Source} {out : Outside} (some : HasOperations out.exports) (c
       ∙ ap (λ zs. before ++ zs) (sym
       (seen-append as_extent (map Operation items) xs ∙ ap (λ zs. zs ++ seen xs) (seen-operations as_extent items))))
 
-  pub sized-is : (before : List (Piece Extent)) {locals : ℕ} {b : Body} {xs : List (Piece Block)} → IsList source out locals b xs → UsesOnly P R b → DynexecsOnly D b
+  pub sized-is : (before : List (Piece Extent)) {locals : ℕ} {b : Body} {xs : List (Piece Block)} → IsList source out locals b xs
+      → UsesOnly P R b → DynexecsOnly D b
       → size_onto known locals b (size_of before) ≡ size_of (before ++ seen xs)
   sized-is before nothing of on = ap size_of (sym (append-nil before))
   sized-is before {locals} (instr at i {b} {xs} d) of on =

@@ -1,5 +1,5 @@
 -- What is made once, for the first body that has a dynexec.
-use Rattle.std.proofs.Common.{◌≡◌, [], length, Option, Some, None, MatchOption, is_some, slice_get, refl, subst, true, false, List, ◌∷◌, arith}
+use Rattle.std.proofs.Common.{◌≡◌, [], Option, Some, None, MatchOption, is_some, slice_get, refl, subst, true, false, List, ◌∷◌, arith}
 use Rattle.std.specs.List.{Contains}
 use Rattle.masm_tree.specs.declared.tree.Position.{Position}
 use Rattle.masm_tree.specs.Trees.{Body}
@@ -8,7 +8,7 @@ use Rattle.masm_tables.specs.Preparing.{Prepares, had, unasked, made}
 
 some_first : (xs : List Position) → is_some (slice_get xs 0) ≡ true → (at : Position) × Contains xs at
 some_first [] some = cc
-some_first (at ∷ xs) some = (at, 0, omega arith, refl)
+some_first (at ∷ xs) some = (at, (0, omega arith, refl))
 
 none_first : (xs : List Position) → is_some (slice_get xs 0) ≡ false → xs ≡ []
 none_first [] none = refl

@@ -10,7 +10,7 @@ use Rattle.masm_flat.specs.declared.table.Table.{Table}
 use Rattle.masm_flat.specs.Flattening.{Known}
 use Rattle.block_tree.specs.Trees.{Tree}
 use Rattle.masm_flat.specs.KnownLists.{lists_known}
-use Rattle.masm_flat.specs.Taking.{left_at, HasNoneLeft, Keeps, Serves}
+use Rattle.masm_flat.specs.Taking.{left_at, HasNoneLeft, Serves}
 use Rattle.masm_names.specs.Names.{place_at}
 use Rattle.masm_names.specs.UsedPlaces.{places_used, times_among}
 use Rattle.masm_names.specs.Uses.{Use}

@@ -1,9 +1,9 @@
 ghost use Rattle.std.specs.Prelude.{◌≡◌, ◌<◌, Option, Some, length, IfOk};
 ghost use Rattle.std.specs.List.{All};
 ghost use Rattle.std.specs.Option.{option_map};
-ghost use Rattle.block_tree.specs.declared.tree.Tree as code;
+ghost use Rattle.block_tree.specs.declared.tree.Tree.{Tree};
 ghost use Rattle.block_tree.specs.TreeView.{tree_of};
-ghost use Rattle.masm_tree.specs.declared.tree.Proc as procs;
+ghost use Rattle.masm_tree.specs.declared.tree.Proc.{Proc};
 ghost use Rattle.masm_flat.specs.Blocks.{as_tree, whole};
 ghost use Rattle.masm_flat.specs.KnownLists.{dispatch_of};
 ghost use Rattle.masm_size.specs.Sizes.{extent_of, size_view};
@@ -79,8 +79,8 @@ pub fn main_tree(
     requires uses { uses.now ≡ main_uses (place_at names.now) (option_map procedure_of main.now) }
     requires targets { All (λ place. place < length built.table.lists.items) targets.now }
     requires none { HasNoneLeft built.table }
-    ensures { IfOk result (λ tree. (dispatch : Option code.Tree)
-        × ((p : procs.Proc) → main.now ≡ Some p
+    ensures { IfOk result (λ tree. (dispatch : Option Tree)
+        × ((p : Proc) → main.now ≡ Some p
         → Prepares (λ made. tree_of made ≡ dispatch_of built.table.lists.items targets.now) (body_of p.body.items) built.dispatch dispatch)
         × (option_map tree_of tree ≡ option_map (λ p. whole as_tree (listed names.now built dispatch outside.now.exports.now p)) main.now)) }
 {

@@ -7,7 +7,7 @@ use Rattle.std.specs.Option.{option_map, option_to_list}
 use Rattle.masm_reading.specs.declared.constant.Const.{Const}
 use Rattle.masm_tree.specs.declared.tree.Position.{Position}
 use Rattle.masm_tree.specs.declared.tree.Proc.{Proc}
-use Rattle.masm_tree.specs.Trees.{Procedure, Source}
+use Rattle.masm_tree.specs.Trees.{Source}
 use Rattle.masm_tree.specs.Views.{procedure_of}
 use Rattle.masm_names.specs.declared.refusal.LinkCause.{LinkCause}
 use Rattle.masm_names.specs.declared.refusal.LinkCause.TheVariants as causes
@@ -21,7 +21,7 @@ use Rattle.masm_graph.specs.Dynexecs.{dynexecs_in}
 use Rattle.masm_graph.specs.Links.{link_of, links_in, main_links_in, own_places, places_referred}
 use Rattle.masm_names.specs.Naming.{Dangles, unknown, not_in_kernel, recursive, dynamic}
 use Rattle.masm_graph.specs.Users.{AreUsers}
-use Rattle.masm_names.specs.Uses.{Use, uses_of, dynexecs_of, all_uses, place_in, first_place}
+use Rattle.masm_names.specs.Uses.{Use, dynexecs_of, all_uses, place_in, first_place}
 use Rattle.masm_names.proofs.LeastLemmas.{Either, FindsLeast-same, FindsLeast-earlier}
 use Rattle.masm_uses.proofs.TargetLemmas.{uses_in, target_among, among_target}
 use Rattle.masm_uses.proofs.UseOrderLemmas as orders

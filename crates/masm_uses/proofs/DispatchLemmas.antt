@@ -16,7 +16,7 @@ use Rattle.masm_names.specs.Naming.{IsClosed, dynamic}
 use Rattle.masm_names.specs.Uses.{dynexecs_of, first_place, IsTarget, HasDynexec, IsDynamic}
 use Rattle.masm_names.proofs.LeastLemmas.{FindsLeast-same}
 use Rattle.graphs.specs.Graph.{LeadsFrom}
-use Rattle.graphs.specs.Walks.{each_once}
+use Rattle.graphs.specs.Orders.{each_once}
 use Rattle.graphs.proofs.Filters.{once_has, once_from}
 use Rattle.graphs.proofs.WalkLemmas.{contains_one}
 use Rattle.masm_graph.specs.Dynexecs.{dynexecs_in, main_dynexecs_in, has_one, has_dynexec}

@@ -1,5 +1,5 @@
 -- The procedures that procrefs name: by the source, and by the rows of its uses.
-use Rattle.std.proofs.Common.{◌≡◌, ℕ, zero, suc, ◌+◌, ◌<◌, Bool, true, false, not, cond, List, [], ◌∷◌, ◌++◌, map, length, get_or, slice_get, Option, Some, None, inl, inr, refl, sym, ap, ap₂, subst, ◌∙◌, bytes_eq, unwrap_or, append-nil, arith}
+use Rattle.std.proofs.Common.{◌≡◌, ℕ, suc, ◌+◌, ◌<◌, Bool, true, false, not, cond, List, [], ◌∷◌, ◌++◌, map, length, get_or, slice_get, Option, Some, None, inl, inr, refl, sym, ap, ap₂, subst, ◌∙◌, bytes_eq, unwrap_or, append-nil, arith}
 use Rattle.std.specs.Prelude.{filter, nat_eq}
 use Rattle.std.proofs.lemmas.Bool.{cases_Bool}
 use Rattle.std.proofs.lemmas.Bool.Decides.{eqb_tells}
@@ -17,9 +17,9 @@ use Rattle.masm_names.specs.declared.refusal.LinkCause.TheVariants as causes
 use Rattle.masm_names.specs.Naming.{unknown, IsClosed}
 use Rattle.masm_names.specs.Uses as names
 use Rattle.masm_names.specs.Uses.{Use, Own, uses_of, bodies_of, all_uses, place_in, first_place, target_names, IsTarget}
-use Rattle.masm_names.proofs.DoubleLemmas.{cons_cases, cons_here}
+use Rattle.masm_names.proofs.DoubleLemmas.{cons_here}
 use Rattle.masm_names.proofs.UsesOnly.{refs_are_own}
-use Rattle.graphs.specs.Walks.{each_once}
+use Rattle.graphs.specs.Orders.{each_once}
 use Rattle.masm_graph.specs.Links.{link_of, links_in, main_links_in, own_place, place_if, places_with, places_referred, target_of}
 use Rattle.masm_graph.proofs.OwnLemmas.{own_in_with, with_link}
 use Rattle.masm_uses.proofs.UsedLemmas.{contains_at, at_contains, in_all, all_in, mapped, unmapped, place_within, leads_by, leads_own}
@@ -235,7 +235,8 @@ module _ (own kernel : List ℕ → Option ℕ) (procs : List Proc) (places : (n
         by false is more = more
         by true is more =
             let lead = leads u (cons_here u us) is in
-            ap (λ t. map Some (cons_option (own_place t) (places_with true (map (link_of own kernel) us)))) (leads_own own kernel u.kind u.name lead.0 lead.1 lead.2)
+            ap (λ t. map Some (cons_option (own_place t) (places_with true (map (link_of own kernel) us))))
+            (leads_own own kernel u.kind u.name lead.0 lead.1 lead.2)
             ∙ ap₂ (λ x xs. x ∷ xs) (sym lead.3) more
 
     module _ (exports : List (List ℕ)) (closed : IsClosed the_source exports) where

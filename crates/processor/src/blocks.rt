@@ -1,4 +1,4 @@
-ghost use Rattle.std.specs.Prelude.{◌≡◌, ℕ, ◌+◌, ◌≤◌, List, All, IfSome};
+ghost use Rattle.std.specs.Prelude.{◌≡◌, ℕ, ◌+◌, ◌≤◌, List, All, IfSome, map};
 ghost use Rattle.std.specs.Option.{option_map};
 ghost use Rattle.block_tree.specs.Cycles as cycles;
 ghost use Rattle.block_tree.specs.Execution.{at_bit};
@@ -7,13 +7,13 @@ ghost use Rattle.block_tree.specs.Trees.{first_target};
 ghost use Rattle.op_pack.specs.Reading.{reading};
 ghost use Rattle.vm_ops.specs.Items.{IsOrdinaryItem};
 ghost use Rattle.vm_state.specs.Views.{state_of};
-ghost use Rattle.tree_hash.specs.Nodes.{IsHashed, elements_of, node_tree, targets_of};
+ghost use Rattle.tree_hash.specs.Nodes.{AreFirst, IsHashed, digest_in, elements_of, node_tree, targets_of};
 ghost use Rattle.machine_cycles.specs.Running.{Ran};
 ghost use Rattle.machine_cycles.specs.Settings.{constants_in};
 ghost use Rattle.processor.specs.Parts.{batches_in, digest_of, execution_in, operations_in, read_operations_in, run_option_in, turns_in};
 
 use machine_cycles::{Mark, Runner, Setting, Stop, called_word, cycle, enter, operation, top_of};
-use tree_hash::{Node, ReadBatch};
+use tree_hash::{Node, Places, ReadBatch};
 use vm_field::{Felt, Word};
 use vm_ops::Item;
 
@@ -33,7 +33,7 @@ pub(crate) fn block(runner: &mut Runner, setting: &Setting, node: &Node) -> Resu
         Node::Loop(digest, body) => repeated(runner, setting, digest, body),
         Node::Call(digest, callee) => call(runner, setting, digest, callee),
         Node::Syscall(digest, callee) => syscall(runner, setting, digest, callee),
-        Node::Dyn(digest, targets) => dynamic(runner, setting, digest, targets),
+        Node::Dyn(digest, places, targets) => dynamic(runner, setting, digest, places, targets),
     }
 }
 
@@ -183,16 +183,18 @@ fn dynamic(
     runner: &mut Runner,
     setting: &Setting,
     digest: &Word,
+    places: &Places,
     targets: &[Node],
 ) -> Result<(), Stop>
     requires memo { runner.old.permutations ≡ constants_in setting.now }
     requires digest { digest.now ≡ digest_of setting.now (trees.Dyn (targets_of targets.now)) }
+    requires places { AreFirst places.now (map digest_in targets.now) }
     requires targets { All (IsHashed (constants_in setting.now)) targets.now }
     ensures ran { Ran setting.now (execution_in setting.now (trees.Dyn (targets_of targets.now)) (state_of runner.old.state))
         runner.old.log result runner.new }
     ensures same { runner.new.permutations ≡ runner.old.permutations }
 {
-    let found = first(targets, &called_word(&runner.state));
+    let found = first(places, targets, &called_word(&runner.state));
     cycle(runner, setting, Mark::StartDyn(found.is_some()))?;
     chosen(runner, setting, found)?;
     cycle(runner, setting, Mark::End(*digest))
@@ -214,17 +216,16 @@ fn chosen(runner: &mut Runner, setting: &Setting, found: Option<&Node>) -> Resul
 }
 
 // The first of these that has this digest.
-fn first<'a>(targets: &'a [Node], digest: &Word) -> Option<&'a Node>
+fn first<'a>(places: &Places, targets: &'a [Node], digest: &Word) -> Option<&'a Node>
+    requires { AreFirst places.now (map digest_in targets.now) }
     ensures is { (constants : List ℕ) → All (IsHashed constants) targets.now
         → option_map (λ node. node_tree node.now) result ≡ first_target constants digest.now (targets_of targets.now) }
     ensures hashed { (constants : List ℕ) → All (IsHashed constants) targets.now → IfSome result (λ node. IsHashed constants node.now) }
 {
-    for target in targets {
-        if target.digest() == *digest {
-            return Some(target);
-        }
+    match places.place(digest) {
+        Some(place) => targets.get(place),
+        None => None,
     }
-    None
 }
 
 fn span(

@@ -6,7 +6,7 @@ use std::process::Abort;
 use std::test::Fail;
 
 // Programs that are read.
-static PROGRAMS: [&[u8]; 31] = [
+static PROGRAMS: [&[u8]; 32] = [
     b"begin end",
     b"const.A=1 begin push.A end",
     b"begin push.1.2.3.4.5.6.7.8.9.10.11.12.13.14.15.16 end",
@@ -31,6 +31,7 @@ static PROGRAMS: [&[u8]; 31] = [
     b"proc.h exec.f end proc.f exec.f end begin end",
     b"begin exec.zz syscall.k end",
     b"begin syscall.k exec.zz end",
+    b"proc.f if.true dynexec end end begin procref.f dynexec end",
     b"proc.f repeat.10000 repeat.53 neg end end end begin end",
     b"begin repeat.10000 repeat.53 while.true end end end end",
     b"begin repeat.10000 repeat.10000 end end end",
@@ -41,7 +42,7 @@ static PROGRAMS: [&[u8]; 31] = [
 ];
 
 // Programs that are refused, each with the line, the column and the cause.
-static BAD_PROGRAMS: [(&[u8], u32, u32, Cause); 74] = [
+static BAD_PROGRAMS: [(&[u8], u32, u32, Cause); 76] = [
     (b"", 1, 1, Cause::Syntax),
     (b"begin", 1, 6, Cause::Syntax),
     (b"# only", 1, 7, Cause::Syntax),
@@ -160,7 +161,9 @@ static BAD_PROGRAMS: [(&[u8], u32, u32, Cause); 74] = [
     (b"begin procref.f.g end", 1, 7, Cause::Syntax),
     (b"begin procref.F end", 1, 7, Cause::Syntax),
     (b"begin procreff.f end", 1, 7, Cause::UnknownInstruction),
-    (b"begin dynexec end", 1, 7, Cause::Unsupported),
+    (b"begin dynexec.1 end", 1, 7, Cause::Syntax),
+    (b"dynexec begin end", 1, 1, Cause::Syntax),
+    (b"begin dyncall end", 1, 7, Cause::Unsupported),
     (b"begin exec.F end", 1, 7, Cause::Syntax),
     (b"begin ADD end", 1, 7, Cause::UnknownInstruction),
     (b"begin mem_store.4294967296 end", 1, 7, Cause::NumberRange),
@@ -186,7 +189,7 @@ static KERNELS: [&[u8]; 5] = [
     b"proc.f if.true end end",
 ];
 
-static BAD_KERNELS: [(&[u8], u32, u32, Cause); 9] = [
+static BAD_KERNELS: [(&[u8], u32, u32, Cause); 11] = [
     (b"begin end", 1, 1, Cause::KernelBody),
     (b"proc.f call.f end", 1, 8, Cause::KernelBody),
     (b"call", 1, 1, Cause::KernelBody),
@@ -196,6 +199,8 @@ static BAD_KERNELS: [(&[u8], u32, u32, Cause); 9] = [
     (b"call.", 1, 1, Cause::KernelBody),
     (b"proc.f procref.g end", 1, 8, Cause::KernelBody),
     (b"procref", 1, 1, Cause::KernelBody),
+    (b"proc.f dynexec end", 1, 8, Cause::KernelBody),
+    (b"dynexec.1", 1, 1, Cause::KernelBody),
 ];
 
 fn is_read(alloc: Global, source: &[u8], kernel: bool) -> bool {

@@ -19,7 +19,7 @@ fn constants(alloc: Global) -> Result<Consts, Memory> {
 }
 
 // A token that is refused.
-static REFUSED: [(&[u8], InstrError); 45] = [
+static REFUSED: [(&[u8], InstrError); 46] = [
     (b"exp", InstrError::Unsupported),
     (b"emit.1", InstrError::Unsupported),
     (b"use.x", InstrError::Unsupported),
@@ -30,6 +30,7 @@ static REFUSED: [(&[u8], InstrError); 45] = [
     (b".add", InstrError::UnknownInstruction),
     (b"ADD", InstrError::UnknownInstruction),
     (b"end", InstrError::UnknownInstruction),
+    (b"dynexec", InstrError::UnknownInstruction),
     (b"add.", InstrError::Syntax),
     (b"push", InstrError::Syntax),
     (b"push.", InstrError::Syntax),

@@ -5,9 +5,11 @@
 mod batch;
 mod digests;
 mod node;
+mod places;
 mod reading;
 mod sponge;
 
 pub use batch::{Batch, ReadBatch};
 pub use digests::{Digests, pair};
 pub use node::{Node, hashed};
+pub use places::Places;

@@ -1,13 +1,14 @@
-ghost use Rattle.std.specs.Prelude.{◌≡◌, ℕ, List, All, IfOk};
+ghost use Rattle.std.specs.Prelude.{◌≡◌, ℕ, List, All, IfOk, map};
 ghost use Rattle.block_tree.specs.TreeView as view;
 ghost use Rattle.block_tree.specs.TreeView.{tree_of};
 ghost use Rattle.block_tree.specs.Trees as blocks;
 ghost use Rattle.block_tree.specs.Trees.{input_of_dyn, tree_digest};
 ghost use Rattle.vm_field.specs.Sponge.{digest_of_input};
-ghost use Rattle.tree_hash.specs.Nodes.{IsHashed, digest_in, node_tree, targets_of};
+ghost use Rattle.tree_hash.specs.Nodes.{AreFirst, IsHashed, digest_in, node_tree, targets_of};
 
 use crate::batch::ReadBatch;
 use crate::digests::Digests;
+use crate::places::Places;
 use crate::reading::read_batches;
 use block_tree::Tree;
 use perm_memo::Permutations;
@@ -27,7 +28,8 @@ pub enum Node {
     Loop(Word, Box<Node>),
     Call(Word, Box<Node>),
     Syscall(Word, Box<Node>),
-    Dyn(Word, Vec<Node>),
+    /// Its targets are found by their digests.
+    Dyn(Word, Places, Vec<Node>),
 }
 
 impl Node {
@@ -44,7 +46,7 @@ impl Node {
             | Node::Loop(digest, _)
             | Node::Call(digest, _)
             | Node::Syscall(digest, _)
-            | Node::Dyn(digest, _) => *digest,
+            | Node::Dyn(digest, _, _) => *digest,
         }
     }
 }
@@ -110,19 +112,22 @@ fn node_of(alloc: Global, digests: &mut Digests, tree: &Tree) -> Result<Node, Me
         }
         Tree::Dyn(targets) => {
             let digest = digests.of_dynamic(alloc)?;
-            Ok(dynamic(digest, nodes_of(alloc, digests, targets.as_slice())?))
+            let targets = nodes_of(alloc, digests, targets.as_slice())?;
+            let places = Places::of(alloc, targets.as_slice())?;
+            Ok(dynamic(digest, places, targets))
         }
     }
 }
 
 // The dynamic block of this digest with these targets.
-fn dynamic(digest: Word, targets: Vec<Node>) -> Node
+fn dynamic(digest: Word, places: Places, targets: Vec<Node>) -> Node
     ensures tree { node_tree result ≡ blocks.Dyn (targets_of targets.items) }
     ensures digest { digest_in result ≡ digest }
-    ensures hashed { (constants : List ℕ) → digest ≡ digest_of_input constants input_of_dyn → All (IsHashed constants) targets.items
+    ensures hashed { (constants : List ℕ) → digest ≡ digest_of_input constants input_of_dyn → AreFirst places (map digest_in targets.items)
+        → All (IsHashed constants) targets.items
         → IsHashed constants result }
 {
-    Node::Dyn(digest, targets)
+    Node::Dyn(digest, places, targets)
 }
 
 // Trees with their digests.

@@ -5,6 +5,7 @@ use vm_field::Memory;
 
 // The code of DYN, 80, and that of SYSCALL, 75, as bits.
 static DYN: [(usize, u64); 2] = [(13, 1), (15, 1)];
+
 static SYSCALL: [(usize, u64); 4] = [(9, 1), (10, 1), (12, 1), (15, 1)];
 
 // An element of the row, and its fault as a dynamic block's: the first and the last of those that have to be 0, one of those that

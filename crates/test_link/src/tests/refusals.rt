@@ -6,7 +6,7 @@ use std::test::Fail;
 // A source that is refused on its first line, by the column and the cause. Its kernel exports `k`.
 type Row = (&'static [u8], u32, AsmCause);
 
-static PROGRAMS: [Row; 40] = [
+static PROGRAMS: [Row; 41] = [
     (b"begin mtree_get end", 7, AsmCause::Unsupported),
     (b"begin frob end", 7, AsmCause::UnknownInstruction),
     (b"begin repeat.0 neg end end", 7, AsmCause::RepeatRange),
@@ -151,6 +151,11 @@ static PROGRAMS: [Row; 40] = [
         66,
         AsmCause::TooManyOps,
     ),
+    (
+        b"proc.f repeat.51 neg end end begin procref.f repeat.10000 dynexec end repeat.82 dynexec end repeat.21 neg end end",
+        30,
+        AsmCause::TooManyOps,
+    ),
 ];
 
 static ACCEPTED: [&str; 10] = [
@@ -163,7 +168,7 @@ static ACCEPTED: [&str; 10] = [
     "proc.f procref.g end proc.g repeat.10000 repeat.52 neg end end end begin end",
     "proc.f end begin repeat.10000 repeat.13 procref.f end end repeat.1072 procref.f end end",
     "proc.f end proc.g exec.f dynexec end begin procref.f exec.g dynexec end",
-    "proc.f repeat.1000 repeat.262 neg end end repeat.141 neg end end begin procref.f dynexec dynexec end",
+    "proc.f repeat.51 neg end end begin procref.f repeat.10000 dynexec end repeat.82 dynexec end repeat.20 neg end end",
 ];
 
 fn is_program_refused(alloc: Global, row: &Row) -> bool {

@@ -1,7 +1,7 @@
-use Rattle.std.proofs.Common.{◌≡◌, ◌<◌, ◌≤◌, ℕ, Bool, true, false, List, length, get_or, refl, sym, ap, subst, ◌∙◌, rules}
+use Rattle.std.proofs.Common.{◌<◌, ◌≤◌, false, length, get_or, refl, sym, ap, subst, ◌∙◌, rules}
 use Rattle.std.proofs.lemmas.Bool.{false≢true}
 use Rattle.std.proofs.lemmas.List.{take_all}
-use Rattle.graphs.specs.Walks.{each_once}
+use Rattle.graphs.specs.Orders.{each_once}
 use Rattle.graphs.proofs.Filters.{once_more}
 use Rattle.graphs.proofs.reach.each_once.Goals as goal
 

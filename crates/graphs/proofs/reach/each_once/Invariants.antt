@@ -1,5 +1,6 @@
 use Rattle.std.proofs.Common.{◌≡◌, length, take}
-use Rattle.graphs.specs.Walks.{AreMarks, each_once}
+use Rattle.graphs.specs.Walks.{AreMarks}
+use Rattle.graphs.specs.Orders.{each_once}
 use Rattle.graphs.proofs.reach.each_once.Given as goal
 
 abbrev pub invariant-loop-place : goal.invariant-loop-place

@@ -1,5 +1,4 @@
-use Rattle.std.proofs.Common.{◌≡◌, ◌<◌, [], ◌∷◌, length, sym, subst, ◌∙◌}
-use Rattle.graphs.specs.Graph.{rows_of, LeadsFrom}
+use Rattle.graphs.specs.Graph.{rows_of}
 use Rattle.graphs.proofs.WalkLemmas.{from_one}
 use Rattle.graphs.proofs.reach.reached.Goals as goal
 

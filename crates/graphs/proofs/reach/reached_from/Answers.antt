@@ -1,4 +1,4 @@
-use Rattle.std.proofs.Common.{◌≡◌, ◌<◌, ◌≤◌, length, get_or, sym, ap, subst, ◌∙◌, rules}
+use Rattle.std.proofs.Common.{◌<◌, ◌≤◌, length, get_or, sym, subst, ◌∙◌, rules}
 use Rattle.std.proofs.lemmas.List.{get_or_read, length-map}
 use Rattle.graphs.specs.Graph.{rows_of}
 use Rattle.graphs.proofs.WalkLemmas.{Walked-start, Walked-more, Walked-end, within_marks}

@@ -1,4 +1,4 @@
-use Rattle.std.proofs.Common.{◌≡◌, ◌<◌, ◌≤◌, ℕ, ◌+◌, true, List, [], ◌∷◌, ◌++◌, take, length, get_or, Vec, Global, sym, ap, ap₂, ◌∙◌, arith}
+use Rattle.std.proofs.Common.{◌≡◌, ◌<◌, ◌≤◌, ℕ, ◌+◌, true, List, [], ◌++◌, take, length, get_or, Vec, Global, sym, ap, ap₂, ◌∙◌, arith}
 use Rattle.std.proofs.lemmas.List.{length-map, take_more, take_all, flat_map_more}
 use Rattle.std.specs.List.{flat_map}
 use Rattle.masm_graph.specs.declared.links.Link.{Link}

@@ -9,7 +9,6 @@ use Rattle.masm_tree.specs.Views.{body_of, procedure_of}
 use Rattle.masm_names.specs.declared.names.Names.{Names}
 use Rattle.masm_flat.specs.declared.outside.KernelProc.{KernelProc}
 use Rattle.masm_flat.specs.Blocks.{Piece, as_tree, whole}
-use Rattle.masm_flat.specs.declared.known.Scope.{Scope}
 use Rattle.masm_flat.specs.declared.table.Table.{Table}
 use Rattle.masm_flat.specs.Flattening.{Known, flat_with}
 use Rattle.masm_flat.specs.Lists.{with_locals}
@@ -27,7 +26,8 @@ use Rattle.masm_tables.proofs.building.main_tree.Goals as goal
 tree_is : (main : Option Proc) (p : Proc) (names : Names) (kernel : List KernelProc) (dispatch : Option code.Tree)
     (lent lists : List (Vec piece.Piece Global)) (lent_digests digests : List (List ℕ)) (pieces : List (Piece Tree))
     (tree : Tree) → main ≡ Some p → lent ≡ lists → lent_digests ≡ digests
-    → pieces ≡ with_locals p.locals (flat_with as_tree (lists_known names lent lent_digests dispatch kernel) p.locals (body_of p.body.items)) → tree ≡ whole as_tree pieces
+    → pieces ≡ with_locals p.locals (flat_with as_tree (lists_known names lent lent_digests dispatch kernel) p.locals (body_of p.body.items))
+    → tree ≡ whole as_tree pieces
     → Some tree ≡ option_map (λ (q : Proc). whole as_tree (with_locals q.locals (flat_with as_tree (lists_known names lists digests dispatch kernel) q.locals
     (body_of q.body.items)))) main
 tree_is main p names kernel dispatch lent lists lent_digests digests pieces tree there same same_digests listed built =
@@ -36,11 +36,15 @@ tree_is main p names kernel dispatch lent lists lent_digests digests pieces tree
     ∙ ap (option_map (λ (q : Proc). whole as_tree (with_locals q.locals (flat_with as_tree (lists_known names lists digests dispatch kernel) q.locals
     (body_of q.body.items))))) (sym there)
 
-pub returns-in-None : goal.returns-in-None
-returns-in-None c = (
+no_main : {A B : Type 0} (f : A → B) (o : Option A) → ((x : A) → o ≡ Some x → ⊥) → None ≡ option_map f o
+no_main f None none = refl
+no_main f (Some x) none = absurd (none x refl)
+
+pub returns-in_default : goal.returns-in_default
+returns-in_default c = (
   c.args.built.dispatch,
-  λ q there. absurd (let e : Some q ≡ None = sym there ∙ c.in-None.is in cc),
-  sym (ap (option_map _) c.in-None.is),
+  λ q there. absurd (c.in_default.not-Some q there),
+  no_main _ c.args.main.now (λ q there. c.in_default.not-Some q there),
 )
 
 pub prepare-requires : goal.prepare-requires
@@ -50,8 +54,6 @@ pub returns : goal.returns
 returns c =
     let built = c.args.built in
     let dispatch = c.prepare.new.self.dispatch in
-    let scope : Scope =
-    record { names = c.args.names; outside = c.args.outside; digests = c.as_slice.result; dispatch = record { now = dispatch } } in
     let p = c.in-Some.procedure in
     let mid = c.expect.new.self in
     let uses = uses_of (body_of p.body.items) in
@@ -60,7 +62,7 @@ returns c =
     let known : Known Tree = lists_known c.args.names.now mid.lists.items c.as_slice.result.now dispatch c.args.outside.now.exports.now in
     let ends : IsNoneOrAll c.args.uses.now (places_used (place_at c.args.names.now) uses) =
     subst (IsNoneOrAll c.args.uses.now) all (all_of c.args.uses.now) in
-    let gives = c.in_ok-list.ensures.gives known [] (serves_start mid c.args.uses.now counted scope uses ends) in
+    let gives = c.in_ok-list.ensures.gives known [] (serves_start mid c.args.uses.now counted _ uses ends) in
     let Is : code.Tree → Type 0 = λ tree. tree_of tree ≡ dispatch_of built.table.lists.items c.args.targets.now in
     let prepares = subst (λ xs. Prepares Is (body_of xs) built.dispatch dispatch) c.deref.ensures.value c.in_ok-prepare.ensures.dispatch in (
       dispatch,

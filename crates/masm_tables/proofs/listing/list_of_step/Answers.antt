@@ -1,4 +1,4 @@
-use Rattle.std.proofs.Common.{◌≡◌, List, [], length, slice_get, ap, ◌∙◌, arith}
+use Rattle.std.proofs.Common.{[], length, slice_get, ap, ◌∙◌}
 use Rattle.block_tree.specs.Trees.{Tree}
 use Rattle.masm_flat.specs.Blocks.{as_tree}
 use Rattle.masm_flat.specs.Flattening.{Known, flat_with}

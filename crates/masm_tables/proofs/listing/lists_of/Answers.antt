@@ -42,8 +42,8 @@ loop-k-init c =
       permutations = refl;
     }
 
-pub index-requires : goal.index-requires
-index-requires c =
+pub index-procedure-requires : goal.index-procedure-requires
+index-procedure-requires c =
     let ast = c.args.ast.now in
     let k = c.loop-k.k - 1 in
     let low = holds-place keeps_list ended_lists (λ i j. ⊥) (length (source_of ast).procs) (λ q. ⊥) c.args.steps.now k c.loop-k.k c.index-steps-k.result

@@ -39,8 +39,8 @@ loop-place-preserved c =
     let Is : Extent → Type 0 = λ e. e ≡ dispatch_extent old c.args.targets.now in
     let asks =
     subst (λ xs. Prepares (λ e. e ≡ dispatch_extent xs c.args.targets.now) p.body c.loop-place.dispatch c.dispatch_for-dispatch.result)
-    c.deref-2.ensures.value
-    (subst (λ xs. Prepares (λ e. e ≡ dispatch_extent c.deref-2.result.now c.args.targets.now) (body_of xs) c.loop-place.dispatch
+    c.deref-in-loop-place.ensures.value
+    (subst (λ xs. Prepares (λ e. e ≡ dispatch_extent c.deref-in-loop-place.result.now c.args.targets.now) (body_of xs) c.loop-place.dispatch
     c.dispatch_for-dispatch.result) c.deref.ensures.value c.dispatch_for-dispatch.ensures) in
     let count = c.loop-place.invariant.0 in (
       ap length added.1 ∙ length-set old place added.0 ∙ count,

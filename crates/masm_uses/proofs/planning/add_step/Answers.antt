@@ -1,4 +1,4 @@
-use Rattle.std.proofs.Common.{◌≡◌, false, get_or, refl, sym, ap, subst, ◌∙◌}
+use Rattle.std.proofs.Common.{false, get_or, refl, sym, ap, subst, ◌∙◌}
 use Rattle.std.proofs.lemmas.List.Elements.{All-push}
 use Rattle.std.specs.List.{All}
 use Rattle.masm_uses.specs.declared.planning.Step.{Step}

@@ -3,7 +3,7 @@ use Rattle.std.specs.Prelude.{reverse}
 use Rattle.std.proofs.lemmas.List.{length-map}
 use Rattle.masm_graph.specs.declared.links.Link.{Link}
 use Rattle.graphs.specs.Graph.{rows_of, IsGraph, Edge, LeadsFrom}
-use Rattle.graphs.specs.Walks.{each_once}
+use Rattle.graphs.specs.Orders.{each_once}
 use Rattle.masm_graph.specs.Dynexecs.{has_dynexec}
 use Rattle.masm_graph.specs.Links.{links_in, main_links_in, own_places, places_with, places_referred}
 use Rattle.masm_names.specs.Naming.{IsClosed}

@@ -1,4 +1,4 @@
-use Rattle.std.proofs.Common.{rules, ◌+◌, ◌-◌, ◌≡◌, ◌<◌, All, arith, ap, refl, subst, sym, ◌∙◌}
+use Rattle.std.proofs.Common.{map, rules, ◌+◌, ◌-◌, ◌≡◌, ◌<◌, All, arith, ap, refl, subst, sym, ◌∙◌}
 use Rattle.std.specs.Option.{option_map}
 use Rattle.block_tree.specs.Trees.{Dyn, first_target, targets_height, tree_height}
 use Rattle.tree_hash.proofs.NodeLemmas.{hashed-targets, node-Dyn}
@@ -6,7 +6,7 @@ use Rattle.block_tree.specs.Cycles.{Repeat, StartLoop, frame_of}
 use Rattle.block_tree.specs.Execution.{Part}
 use Rattle.vm_state.specs.Views.{core_of, state_of}
 use Rattle.machine_cycles.specs.Marks.{frame_in}
-use Rattle.tree_hash.specs.Nodes.{IsHashed, node_tree, targets_of}
+use Rattle.tree_hash.specs.Nodes.{AreFirst, IsHashed, digest_in, node_tree, targets_of}
 use Rattle.machine_cycles.specs.Settings.{constants_in}
 use Rattle.processor.specs.Parts.{execution_in, run_option_in}
 use Rattle.processor.proofs.RunLemmas.{ran-along, ran-fail, ran-skip, ran-then}
@@ -191,19 +191,27 @@ turns-loop-runner-init t c = record {
 pub block-dynamic-requires : goal.block-dynamic-requires
 block-dynamic-requires t c =
     let constants = constants_in c.args.setting.now in
-    let seen = ap node_tree c.in-Dyn.is ∙ node-Dyn c.in-Dyn.digest c.in-Dyn.targets in
-    let hashed = hashed-targets constants c.in-Dyn.digest c.in-Dyn.targets (subst (IsHashed constants) c.in-Dyn.is c.requires.hashed) in
+    let seen = ap node_tree c.in-Dyn.is ∙ node-Dyn c.in-Dyn.digest c.in-Dyn.places c.in-Dyn.targets in
+    let hashed = hashed-targets constants c.in-Dyn.digest c.in-Dyn.places c.in-Dyn.targets (subst (IsHashed constants) c.in-Dyn.is c.requires.hashed) in
     let height = ap tree_height seen ∙ ap (λ xs. 1 + targets_height (targets_of xs)) (sym c.deref-in-Dyn.ensures.value) in
-    let d = c.decreases in
-    (
+    let d = c.decreases in (
       omega (arith, height, d),
-      (c.requires.memo, (hashed.0, subst (All (IsHashed constants)) (sym c.deref-in-Dyn.ensures.value) hashed.1)),
+      (
+        c.requires.memo,
+        (
+          hashed.0,
+          (
+            subst (λ xs. AreFirst c.in-Dyn.places (map digest_in xs)) (sym c.deref-in-Dyn.ensures.value) hashed.1,
+            subst (All (IsHashed constants)) (sym c.deref-in-Dyn.ensures.value) hashed.2,
+          ),
+        ),
+      ),
     )
 
 pub block-returns-in-Dyn-clause-ran : goal.block-returns-in-Dyn-clause-ran
 block-returns-in-Dyn-clause-ran t c =
     ran-along (ap (λ tree. execution_in c.args.setting.now tree (state_of c.args.runner.now.state))
-    (ap node_tree c.in-Dyn.is ∙ node-Dyn c.in-Dyn.digest c.in-Dyn.targets
+    (ap node_tree c.in-Dyn.is ∙ node-Dyn c.in-Dyn.digest c.in-Dyn.places c.in-Dyn.targets
     ∙ ap (λ xs. Dyn (targets_of xs)) (sym c.deref-in-Dyn.ensures.value))) c.dynamic.ensures.ran
 
 pub chosen-returns-in-None-clause-ran : goal.chosen-returns-in-None-clause-ran
@@ -216,8 +224,7 @@ dynamic-chosen-requires t c =
     let constants = constants_in c.args.setting.now in
     let found = c.first-found.ensures.is constants c.requires.targets in
     let low = found-low constants c.called_word.result (targets_of c.args.targets.now) _ found in
-    let d = c.decreases in
-    (
+    let d = c.decreases in (
       omega (arith, low, d),
       (c.in_ok-cycle.ensures.same ∙ c.requires.memo, c.first-found.ensures.hashed constants c.requires.targets),
     )

@@ -1,4 +1,5 @@
-use Rattle.std.proofs.Common.{◌≡◌, sym, ◌∙◌}
+use Rattle.std.proofs.Common.{sym, ap, ◌∙◌}
+use Rattle.masm_flat.specs.KnownLists.{dispatch_of}
 use Rattle.masm_tree.specs.Views.{body_of}
 use Rattle.masm_tables.proofs.Prepared.{prepares_kept, prepares_none, prepares_made}
 use Rattle.masm_tables.proofs.listing.Listings.prepare.Goals as goal
@@ -15,4 +16,5 @@ returns-then-not-has_dynexec-clause-dispatch c =
 pub returns-clause-dispatch : goal.returns-clause-dispatch
 returns-clause-dispatch c =
     prepares_made _ (body_of c.args.body.now) c.args.self.now.dispatch c.in_ok-tree.tree (sym c.is_some.ensures ∙ c.if-is_some.false)
-    (sym c.has_dynexec.ensures ∙ c.if-not-has_dynexec.false) c.in_ok-tree.ensures
+    (sym c.has_dynexec.ensures ∙ c.if-not-has_dynexec.false)
+    (c.in_ok-tree.ensures ∙ ap (λ xs. dispatch_of xs c.args.targets.now) c.deref.ensures.value)
