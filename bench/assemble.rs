@@ -918,8 +918,8 @@ impl Linked<'_> {
     }
 }
 
-// The digest of blocks that are hashed under a domain.
-fn hashed(params: &Params, domain: u8, blocks: &[Batch]) -> Word {
+/// The digest of blocks that are hashed under a domain.
+pub fn hashed(params: &Params, domain: u8, blocks: &[Batch]) -> Word {
     let mut state = [0; 12];
     state[1] = domain.into();
     for block in blocks {

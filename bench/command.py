@@ -1,4 +1,5 @@
-"""Times a command of the program and plain Rust that does the same, in turn, for `run.sh`, `check.sh`, `make.sh` and `dynamic.sh`:
+"""Times a command of the program and plain Rust that does the same, in turn, for `run.sh`, `check.sh`, `make.sh` and `dynamic.sh`
+(`source.sh` uses its functions):
 
     command.py NAME TIMES MEMORY FILE RUNS OURS -- PLAIN -- PAIR ..
 
@@ -94,4 +95,5 @@ def main():
     print(f"{name}: load {os.getloadavg()[0]:.1f} on {os.cpu_count()} processors")
 
 
-main()
+if __name__ == "__main__":
+    main()

@@ -1,5 +1,5 @@
-//! The evidence of a table file, for `check.sh`: the tree of the run that the rows show. A walk along the rows keeps a list of the
-//! blocks that are open. The body of a loop is what its turns show of it together.
+//! The evidence of a table file, for `check.sh` and `source.sh`: the tree of the run that the rows show. A walk along the rows keeps a
+//! list of the blocks that are open. The body of a loop is what its turns show of it together.
 use crate::assemble::Batch;
 use crate::files::*;
 use crate::ops::*;
@@ -20,6 +20,18 @@ pub enum Tree {
 
 /// Two addresses at which different inputs of one digest are hashed, the lower one first.
 pub type Pair = (u64, u64);
+
+/// Where hashes stand.
+pub trait Hashes {
+    /// The first block that is hashed at an address.
+    fn first_block(&self, address: u64) -> &[u64];
+}
+
+impl Hashes for [[u64; 15]] {
+    fn first_block(&self, address: u64) -> &[u64] {
+        &self[address as usize - 1][7..]
+    }
+}
 
 /// A block that was started and not ended: its code and its row, and what is known of its batches or its children.
 struct Open {
@@ -76,9 +88,8 @@ fn pair(p: u64, q: u64) -> Pair {
 }
 
 // Whether the first blocks that are hashed at two addresses agree.
-fn agree(hasher: &[[u64; 15]], p: u64, q: u64) -> Result<(), Pair> {
-    let block = |address: u64| &hasher[address as usize - 1][7..];
-    if block(p) == block(q) { Ok(()) } else { Err(pair(p, q)) }
+fn agree<H: Hashes + ?Sized>(hashes: &H, p: u64, q: u64) -> Result<(), Pair> {
+    if hashes.first_block(p) == hashes.first_block(q) { Ok(()) } else { Err(pair(p, q)) }
 }
 
 fn address(tree: &Tree) -> u64 {
@@ -90,7 +101,7 @@ fn address(tree: &Tree) -> u64 {
 }
 
 /// What two trees of one digest show together.
-fn merged(hasher: &[[u64; 15]], a: Tree, b: Tree) -> Result<Tree, Pair> {
+pub fn merged<H: Hashes + ?Sized>(hashes: &H, a: Tree, b: Tree) -> Result<Tree, Pair> {
     Ok(match (a, b) {
         (Tree::Opaque(_), b) => b,
         (a, Tree::Opaque(_)) => a,
@@ -101,29 +112,29 @@ fn merged(hasher: &[[u64; 15]], a: Tree, b: Tree) -> Result<Tree, Pair> {
             Tree::Span(p, a)
         }
         (Tree::Join(p, a, b), Tree::Join(q, c, d)) => {
-            agree(hasher, p, q)?;
-            Tree::Join(p, boxed(hasher, a, c)?, boxed(hasher, b, d)?)
+            agree(hashes, p, q)?;
+            Tree::Join(p, boxed(hashes, a, c)?, boxed(hashes, b, d)?)
         }
         (Tree::Split(p, a, b), Tree::Split(q, c, d)) => {
-            agree(hasher, p, q)?;
-            Tree::Split(p, boxed(hasher, a, c)?, boxed(hasher, b, d)?)
+            agree(hashes, p, q)?;
+            Tree::Split(p, boxed(hashes, a, c)?, boxed(hashes, b, d)?)
         }
         (Tree::Loop(p, a), Tree::Loop(q, c)) => {
-            agree(hasher, p, q)?;
-            Tree::Loop(p, boxed(hasher, a, c)?)
+            agree(hashes, p, q)?;
+            Tree::Loop(p, boxed(hashes, a, c)?)
         }
         (Tree::Call(p, a), Tree::Call(q, c)) => {
-            agree(hasher, p, q)?;
-            Tree::Call(p, boxed(hasher, a, c)?)
+            agree(hashes, p, q)?;
+            Tree::Call(p, boxed(hashes, a, c)?)
         }
         (Tree::Syscall(p, a), Tree::Syscall(q, c)) => {
-            agree(hasher, p, q)?;
-            Tree::Syscall(p, boxed(hasher, a, c)?)
+            agree(hashes, p, q)?;
+            Tree::Syscall(p, boxed(hashes, a, c)?)
         }
         (Tree::Dyn(p, mut targets), Tree::Dyn(_, later)) => {
             for (digest, tree) in later {
                 match targets.iter_mut().find(|(known, _)| *known == digest) {
-                    Some((_, first)) => *first = merged(hasher, std::mem::replace(first, Tree::Opaque([0; 4])), tree)?,
+                    Some((_, first)) => *first = merged(hashes, std::mem::replace(first, Tree::Opaque([0; 4])), tree)?,
                     None => targets.push((digest, tree)),
                 }
             }
@@ -134,9 +145,9 @@ fn merged(hasher: &[[u64; 15]], a: Tree, b: Tree) -> Result<Tree, Pair> {
 }
 
 // The same of trees in boxes, in the first box.
-fn boxed(hasher: &[[u64; 15]], mut a: Box<Tree>, b: Box<Tree>) -> Result<Box<Tree>, Pair> {
+fn boxed<H: Hashes + ?Sized>(hashes: &H, mut a: Box<Tree>, b: Box<Tree>) -> Result<Box<Tree>, Pair> {
     let first = std::mem::replace(&mut *a, Tree::Opaque([0; 4]));
-    *a = merged(hasher, first, *b)?;
+    *a = merged(hashes, first, *b)?;
     Ok(a)
 }
 
@@ -210,15 +221,13 @@ fn write_tree(text: &mut String, tree: &Tree) {
     }
 }
 
-/// The text of the evidence.
-pub fn text_of(found: &Result<Tree, Pair>, cycles: usize, tape: &[u64]) -> String {
-    match found {
-        Ok(tree) => {
-            let mut text = format!("run\ncycles {cycles}\n");
-            write_numbers(&mut text, "tape", tape);
-            write_tree(&mut text, tree);
-            text
-        }
-        Err((first, second)) => format!("pair {first} {second}\n"),
+/// The text of the evidence: its first line, and behind that of a run the cycles, the tape and the tree.
+pub fn text_of(line: &str, cycles: usize, tape: &[u64], tree: Option<&Tree>) -> String {
+    let mut text = format!("{line}\n");
+    if let Some(tree) = tree {
+        writeln!(text, "cycles {cycles}").expect("room for the text");
+        write_numbers(&mut text, "tape", tape);
+        write_tree(&mut text, tree);
     }
+    text
 }

@@ -1,5 +1,5 @@
 # shellcheck shell=bash
-# The programs that run.sh and check.sh time, for them to read. `make_source CASE` writes program.masm, inputs and, where the
+# The programs that run.sh, check.sh and source.sh time, for them to read. `make_source CASE` writes program.masm, inputs and, where the
 # program has a kernel, kernel.masm into the folder where it is called, and sets `kernel` to that file's name or to nothing.
 # TURNS is how often the source's outer body is repeated, and STACK what the stack begins with.
 
@@ -161,6 +161,40 @@ begin
     end
 end
 END
+}
+
+# Some forty cycles through a tree of 524,288 operations and twice as many blocks: splits of which nearly none runs, and
+# all of one height are alike. The stack decides at each.
+splits_source() {
+    local k
+    echo "proc.t0 neg end"
+    for ((k = 1; k <= 19; k++)); do
+        echo "proc.t$k if.true exec.t$((k - 1)) else exec.t$((k - 1)) end end"
+    done
+    echo "begin exec.t19 end"
+}
+
+# The same of 524,280 operations, in 30,840 spans of which no two are alike.
+spans_source() {
+    awk '
+        function tree(low, high, middle) {
+            if (high - low == 1) {
+                printf "add.%d exec.w", high
+                return
+            }
+            middle = int((low + high) / 2)
+            printf "if.true "
+            tree(low, middle)
+            printf " else "
+            tree(middle, high)
+            printf " end"
+        }
+        BEGIN {
+            print "proc.w repeat.15 neg end end"
+            printf "begin "
+            tree(0, 30840)
+            print " end"
+        }'
 }
 
 all_kernel() {

@@ -5,8 +5,10 @@
 
 prints `consistent`, or says what is not. STATUS is that of the `check` which wrote the evidence, as `$?` behind it: where it is not 0
 nothing was written, and a file of that name is evidence of another table. Of a run it computes the digest of the tree, and compares it with the statement's, and the
-cycles with the rows of the main table; where the tree is one span, with the cycles of its batches, too. Of a pair it reads the two
-hashes in the table: their inputs differ, and their digests do not. It runs nothing of the program; docs/FORMATS.md has the files.
+cycles with the rows of the main table; where the tree is one span, with the cycles of its batches, too; where it is that of a source,
+no block of it may be opaque. Of a pair, or a clash of the file, it reads the two hashes in the table: their inputs differ, and their
+digests do not; of a clash with a block of the source, the one hash that the table has. It runs nothing of the program;
+docs/FORMATS.md has the files.
 """
 import json
 import sys
@@ -58,6 +60,11 @@ def dynamic_faults(constants, tree):
         yield "a dynamic block has two targets of one digest"
 
 
+def has_opaque(tree):
+    kind, parts = tree
+    return kind == "opaque" or kind != "span" and any(map(has_opaque, parts))
+
+
 def operations_in(batch):
     """How many operations a batch has: the digits of its groups, and a NOOP behind a PUSH that ends one."""
     last = max([i for i, element in enumerate(batch) if element] or [0])
@@ -73,11 +80,13 @@ def operations_in(batch):
     return count
 
 
-def run_faults(constants, tables, statement, lines):
+def run_faults(constants, tables, statement, lines, is_whole):
     cycles, tape = int(next(lines).split()[1]), next(lines).split()
     tree = tree_in(lines)
     if next(lines, None) is not None:
         yield "lines behind the tree"
+    if is_whole and has_opaque(tree):
+        yield "a block of the source is opaque"
     if tape[0] != "tape":
         yield "no tape"
     if word_text(digest_in(constants, tree)) != statement["digest"]:
@@ -101,6 +110,12 @@ def hash_at(table, place):
         row += 8
 
 
+def node_faults(tables, address):
+    mode, goes_on = tables[2][address - 1][:2]
+    if address % 8 != 1 or mode or goes_on:
+        yield "no hash begins there"
+
+
 def pair_faults(tables, first, second):
     (one, of_one), (other, of_other) = hash_at(tables[2], first), hash_at(tables[2], second)
     if first >= second or one == other:
@@ -117,7 +132,11 @@ def faults(params, table, statement, evidence):
     first = next(lines).split()
     if first[0] == "pair":
         return pair_faults(tables_in(table), int(first[1]), int(first[2]))
-    return run_faults(constants_in(params), tables_in(table), said, lines)
+    if first[:2] == ["clash", "file"] and first[3] == "file":
+        return pair_faults(tables_in(table), int(first[2]), int(first[4]))
+    if first[:2] == ["clash", "file"]:
+        return node_faults(tables_in(table), int(first[2]))
+    return run_faults(constants_in(params), tables_in(table), said, lines, first == ["ran"])
 
 
 def main():

@@ -1,2 +1,5 @@
 pub mod ChainLemmas
 pub mod CheckLemmas
+pub mod SourceSize
+pub mod SourcingLemmas
+pub mod SourcingReads

@@ -1,2 +1,3 @@
 pub mod Chaining
 pub mod Judging
+pub mod Sourcing

@@ -110,7 +110,7 @@ fn judge<R: Threads + Sync, F: Shelf, G: Gate>(
 
 // Tells why a trace is refused.
 #[tactic(auto, using(cmd_kit::proofs::OutcomeLemmas::says_line))]
-fn refuse(alloc: Global, refused: &Refused) -> Outcome
+pub(crate) fn refuse(alloc: Global, refused: &Refused) -> Outcome
     ensures says { SaysStatus result Status.Refused (refused_line refused.now) }
     ensures memory { refused.now ≡ why.Memory → result ≡ outcome.Memory }
 {

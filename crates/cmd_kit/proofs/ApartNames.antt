@@ -6,7 +6,7 @@ use Rattle.std.proofs.lemmas.Bool.{false≢true, and_parts}
 use Rattle.std.proofs.lemmas.Slice.Eq.{bytes_eq-Decides}
 use Rattle.cmd_words.specs.Words.{is_form, name_at, number_at, optional_name}
 use Rattle.workloads.specs.Workloads.{most_turns}
-use Rattle.cmd_kit.specs.Asked.{Asked, MadeNames, Outputs, nothing, hash, assemble, run, check, make, chain, runs, asked, are_apart, are_made_apart, is_apart, given_name, check_words, hash_words, assemble_words, run_words, make_words, run_of_names, outputs_in, limit_in, pieces_in, check_of_names, hash_of_names, assemble_of_names, make_of_names, made_names_in, chain_of_names, chain_words, runs_of_names, runs_words}
+use Rattle.cmd_kit.specs.Asked.{Asked, MadeNames, Outputs, nothing, hash, assemble, run, check, check_source, make, chain, runs, asked, are_apart, are_made_apart, is_apart, given_name, check_against, check_words, hash_words, assemble_words, run_words, make_words, run_of_names, outputs_in, limit_in, pieces_in, check_of_names, hash_of_names, assemble_of_names, make_of_names, made_names_in, chain_of_names, chain_words, runs_of_names, runs_words}
 
 -- what is asked has outputs apart
 abbrev AreOutputsApart : Asked → Type 0
@@ -15,6 +15,7 @@ AreOutputsApart (hash params numbers) = Unit {0}
 AreOutputsApart (assemble params source kernel) = Unit {0}
 AreOutputsApart (run params source inputs outputs kernel limit) = are_apart outputs (params ∷ source ∷ inputs ∷ given_name kernel) ≡ true
 AreOutputsApart (check params table statement evidence) = Unit {0}
+AreOutputsApart (check_source params table statement evidence source kernel) = Unit {0}
 AreOutputsApart (make params turns names) = are_made_apart names params ≡ true
 AreOutputsApart (chain params list evidence) = is_apart evidence (params ∷ list ∷ []) ≡ true
 AreOutputsApart (runs params list) = Unit {0}
@@ -34,16 +35,27 @@ of_assemble (Some params) (Some source) None = tt
 of_assemble (Some params) None kernel = tt
 of_assemble None source kernel = tt
 
-of_check : (params table statement : Option (List ℕ)) (evidence : Option (Option (List ℕ))) (pieces : Option (Option ℕ))
-    → AreOutputsApart (check_of_names params table statement evidence pieces)
-of_check (Some params) (Some table) (Some statement) (Some (Some evidence)) (Some pieces) =
+of_check_against : (params table statement evidence : List ℕ) (source kernel : Option (List ℕ))
+    → AreOutputsApart (check_against params table statement evidence source kernel)
+of_check_against params table statement evidence None None =
     if_either (is_apart evidence (params ∷ table ∷ statement ∷ [])) (check params table statement evidence) nothing (λ apart. tt) tt
-of_check (Some params) (Some table) (Some statement) (Some (Some evidence)) None = tt
-of_check (Some params) (Some table) (Some statement) (Some None) pieces = tt
-of_check (Some params) (Some table) (Some statement) None pieces = tt
-of_check (Some params) (Some table) None evidence pieces = tt
-of_check (Some params) None statement evidence pieces = tt
-of_check None table statement evidence pieces = tt
+of_check_against params table statement evidence None (Some kernel) = tt
+of_check_against params table statement evidence (Some source) kernel =
+    if_either (is_apart evidence (params ∷ table ∷ statement ∷ source ∷ given_name kernel))
+    (check_source params table statement evidence source kernel) nothing (λ apart. tt) tt
+
+of_check : (params table statement : Option (List ℕ)) (evidence : Option (Option (List ℕ))) (pieces : Option (Option ℕ))
+    (source kernel : Option (Option (List ℕ))) → AreOutputsApart (check_of_names params table statement evidence pieces source kernel)
+of_check (Some params) (Some table) (Some statement) (Some (Some evidence)) (Some pieces) (Some source) (Some kernel) =
+    of_check_against params table statement evidence source kernel
+of_check (Some params) (Some table) (Some statement) (Some (Some evidence)) (Some pieces) (Some source) None = tt
+of_check (Some params) (Some table) (Some statement) (Some (Some evidence)) (Some pieces) None kernel = tt
+of_check (Some params) (Some table) (Some statement) (Some (Some evidence)) None source kernel = tt
+of_check (Some params) (Some table) (Some statement) (Some None) pieces source kernel = tt
+of_check (Some params) (Some table) (Some statement) None pieces source kernel = tt
+of_check (Some params) (Some table) None evidence pieces source kernel = tt
+of_check (Some params) None statement evidence pieces source kernel = tt
+of_check None table statement evidence pieces source kernel = tt
 
 of_run : (params source inputs : Option (List ℕ)) (outputs : Option Outputs) (kernel : Option (Option (List ℕ))) (limit : Option ℕ)
     → AreOutputsApart (run_of_names params source inputs outputs kernel limit)
@@ -99,9 +111,11 @@ all_apart (command ∷ words) =
 
     of_check_words : AreOutputsApart (check_words words)
     of_check_words =
-        behind_form (is_form 3 (codes "--evidence" ∷ codes "--pieces" ∷ []) words)
-        (check_of_names (name_at 0 words) (name_at 1 words) (name_at 2 words) (optional_name (codes "--evidence") words) (pieces_in words))
-        (of_check (name_at 0 words) (name_at 1 words) (name_at 2 words) (optional_name (codes "--evidence") words) (pieces_in words))
+        behind_form (is_form 3 (codes "--evidence" ∷ codes "--pieces" ∷ codes "--source" ∷ codes "--kernel" ∷ []) words)
+        (check_of_names (name_at 0 words) (name_at 1 words) (name_at 2 words) (optional_name (codes "--evidence") words) (pieces_in words)
+        (optional_name (codes "--source") words) kernel)
+        (of_check (name_at 0 words) (name_at 1 words) (name_at 2 words) (optional_name (codes "--evidence") words) (pieces_in words)
+        (optional_name (codes "--source") words) kernel)
 
     of_hash_words : AreOutputsApart (hash_words words)
     of_hash_words = behind_form (is_form 2 [] words) (hash_of_names (name_at 0 words) (name_at 1 words)) (of_hash (name_at 0 words) (name_at 1 words))

@@ -17,7 +17,7 @@ use Rattle.cmd_kit.specs.declared.status.Status.{Status}
 use Rattle.cmd_kit.specs.declared.status.Status.TheVariants as status
 use Rattle.cmd_kit.specs.declared.answer.Answer.{Answer}
 use Rattle.cmd_kit.specs.Statuses.{StatusKind, planned, no_command, failed_read, failed_write, failed_print, no_memory, kind_of}
-use Rattle.cmd_kit.specs.Asked.{Asked, MadeNames, Outputs, nothing, hash, assemble, run, check, make, chain, runs, asked}
+use Rattle.cmd_kit.specs.Asked.{Asked, MadeNames, Outputs, nothing, hash, assemble, run, check, check_source, make, chain, runs, asked}
 use Rattle.cmd_kit.specs.Steps.{SourceFile, Steps, Verdict, accepted, refused, Course, course, checked, telling, assembly, ending, ends_with}
 use Rattle.cmd_kit.specs.SourceEnds.{AssemblesFiles}
 use Rattle.cmd_kit.specs.AssembleEnds as assembling
@@ -33,11 +33,13 @@ use Rattle.cmd_kit.specs.RunSteps.{run_steps, running_steps, course_steps}
 use Rattle.cmd_kit.specs.CheckSteps.{check_steps, judging_steps, found_steps}
 use Rattle.cmd_kit.specs.MakeSteps.{make_steps, making_steps, made_course_steps, made_source, made_given}
 use Rattle.cmd_kit.specs.Serving.{ComesWhere, ServesAs, Works, Ends}
-use Rattle.cmd_kit.specs.Completeness.{FileSays, HoldsKernel, IsAcceptedFor, IsGood, IsGoodHash, IsGoodAssembly, IsGoodRun, IsGoodCheck, IsGoodMake, IsFault, GoodIsOk}
+use Rattle.cmd_kit.specs.Completeness.{FileSays, IsAcceptedFor, IsGood, IsGoodHash, IsGoodAssembly, IsGoodRun, IsGoodCheck, IsGoodMake, IsFault, GoodIsOk}
 use Rattle.cmd_kit.proofs.Walks as walks
 use Rattle.cmd_kit.proofs.ChainComplete.{chained_well}
 use Rattle.cmd_kit.proofs.Courses.{bad_or_program, runs_out}
+use Rattle.cmd_kit.proofs.KernelReads.{kernel_read}
 use Rattle.cmd_kit.proofs.RunsComplete.{runs_well}
+use Rattle.cmd_kit.proofs.SourceComplete.{sourced_well}
 use Rattle.cmd_kit.proofs.Verdicts.{not_both}
 use Rattle.cmd_kit.proofs.Walks.{ended, read_on, was_found, was_written}
 
@@ -50,11 +52,6 @@ module _ (a : Answer) (new : Option Files) (m : Files) where
       → Goes (params_steps name next) → Goes (next constants)
   params_read name next constants h goes =
       subst (λ r. Goes (with_params name next r)) h.says (read_on a new name most_params_bytes _ m h.bytes h.stands h.short goes)
-
-  kernel_read : (name : Option (List ℕ)) (kernel : Option SourceFile) (next : Option SourceFile → Steps) → HoldsKernel m name kernel
-      → Goes (kernel_steps name next) → Goes (next kernel)
-  kernel_read None kernel next is goes = subst (λ k. Goes (next k)) (sym is) goes
-  kernel_read (Some name) kernel next is goes = subst (λ k. Goes (next k)) (sym is.2) (read_on a new name _ _ m is.0 is.1.stands is.1.short goes)
 
   hashed : (params numbers : List ℕ) → IsGoodHash m params numbers → Goes (hash_steps params numbers) → a.status ≡ status.Ok
   hashed params numbers h goes =
@@ -78,7 +75,7 @@ module _ (a : Answer) (new : Option Files) (m : Files) where
       params_read params (λ constants. source_steps source (λ text. kernel_steps name (λ k. ending (assembly constants text k))))
       h.constants h.params_say goes in
       let second = read_on a new source _ _ m h.text h.source_stands.stands h.source_stands.short first in
-      let third = kernel_read name h.kernel (λ k. ending (assembly h.constants file k)) h.kernel_stands second in
+      let third = kernel_read a new m name h.kernel (λ k. ending (assembly h.constants file k)) h.kernel_stands second in
       assembled_ok h.constants file h.kernel h.program a h.assembled (ended a new (assembly h.constants file h.kernel) m third).0
 
   course_ok : (constants : List ℕ) (source : SourceFile) (kernel : Option SourceFile) (outputs : Outputs) (given : Given) (limit : ℕ)
@@ -103,7 +100,7 @@ module _ (a : Answer) (new : Option Files) (m : Files) where
       let third = read_on a new inputs _ _ m i.bytes i.stands i.short second in
       let fourth =
       subst (λ r. Goes (with_inputs inputs (λ given. kernel_steps name (running_steps outputs h.constants file given limit)) r)) i.says third in
-      let fifth = kernel_read name h.kernel (running_steps outputs h.constants file h.given limit) h.kernel_stands fourth in
+      let fifth = kernel_read a new m name h.kernel (running_steps outputs h.constants file h.given limit) h.kernel_stands fourth in
       let found = was_found a new (course h.constants file h.kernel h.given limit) (course_steps outputs h.constants h.given) m fifth in
       course_ok h.constants file h.kernel outputs h.given limit h.program h.last h.log found.0 h.assembled h.done found.1 found.2
 
@@ -156,6 +153,8 @@ module _ (s : Status) (line : List ℕ) (new : Option Files) (m : Files) where
       ran_well (ends_with s line) new m params source inputs outputs kernel limit good (subst Went (let e = are in cc) went)
   good_goes (check params table statement evidence) steps good are went =
       checked_well (ends_with s line) new m params table statement evidence good (subst Went (let e = are in cc) went)
+  good_goes (check_source params table statement evidence source kernel) steps good are went =
+      sourced_well (ends_with s line) new m params table statement evidence source kernel good (subst Went (let e = are in cc) went)
   good_goes (make params turns names) steps good are went =
       made_well (ends_with s line) new m params turns names good (subst Went (let e = are in cc) went)
   good_goes (chain params list evidence) steps good are went =
@@ -175,6 +174,7 @@ good_steps m (hash params numbers) good = (_, refl)
 good_steps m (assemble params source kernel) good = (_, refl)
 good_steps m (run params source inputs outputs kernel limit) good = (_, refl)
 good_steps m (check params table statement evidence) good = (_, refl)
+good_steps m (check_source params table statement evidence source kernel) good = (_, refl)
 good_steps m (make params turns names) good = (_, refl)
 good_steps m (chain params list evidence) good = (_, refl)
 good_steps m (runs params list) good = (_, refl)

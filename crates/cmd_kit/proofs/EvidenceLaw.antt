@@ -56,7 +56,7 @@ module _ (line : List ℕ) (new : Option Files) where
 some_and : (o : Option (List ℕ)) (bytes : List ℕ) (P : List ℕ → Type 0) → o ≡ Some bytes → P bytes → IsSomeAnd o P
 some_and o bytes P is p = subst (λ x. IsSomeAnd x P) (sym is) p
 
-written_as : (now : Option Files) (m : Files) (output written text : List ℕ) → now ≡ Some (insert m output written) → written ≡ text
+pub written_as : (now : Option Files) (m : Files) (output written text : List ℕ) → now ≡ Some (insert m output written) → written ≡ text
     → now ≡ Some (insert m output text)
 written_as now m output written text stands is = subst (λ bytes. now ≡ Some (insert m output bytes)) is stands
 

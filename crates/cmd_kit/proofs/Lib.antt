@@ -9,6 +9,7 @@ pub mod Completeness
 pub mod Courses
 pub mod EvidenceLaw
 pub mod FullClaims
+pub mod KernelReads
 pub mod LawLemmas
 pub mod LentFiles
 pub mod LineLemmas
@@ -23,6 +24,8 @@ pub mod RunsNames
 pub mod RunsTell
 pub mod OutcomeLemmas
 pub mod ServingLemmas
+pub mod SourceComplete
+pub mod SourceLaw
 pub mod WriteLaw
 pub mod Verdicts
 pub mod Walks

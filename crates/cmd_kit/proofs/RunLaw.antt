@@ -70,7 +70,7 @@ module _ (line : List ℕ) (new : Option Files) where
   inputs_said name next (Ok given) m h = (given, refl, h)
   inputs_said name next (Err cause) m h = absurd (not_ok status.Malformed line _ (λ same. cc) (ended (ends_with status.Ok line) new _ m h).0)
 
-  kernel_said : (kernel : Option (List ℕ)) (next : Option SourceFile → Steps) (m : Files) → Went (kernel_steps kernel next) m
+  pub kernel_said : (kernel : Option (List ℕ)) (next : Option SourceFile → Steps) (m : Files) → Went (kernel_steps kernel next) m
       → (k : Option SourceFile) × HoldsKernel m kernel k × Went (next k) m
   kernel_said None next m h = (None, refl, h)
   kernel_said (Some name) next m h =

@@ -351,6 +351,7 @@ module _ (params list : List ℕ) (m : Files) (old new : ShelfState) (is : old.f
   answered status.Malformed line h = ended (ends_with status.Malformed line) h
   answered status.TooLong line h = ended (ends_with status.TooLong line) h
   answered status.Memory line h = absurd h
+  answered status.OtherProgram line h = ended (ends_with status.OtherProgram line) h
   answered status.Broken line h = ended (ends_with status.Broken line) h
 
   given_up : GivesUp (Some All_steps) old new → Some_left

@@ -22,6 +22,7 @@ pub data Asked : Type 0 where
   assemble : (params source : List ℕ) (kernel : Option (List ℕ)) → Asked
   run : (params source inputs : List ℕ) (outputs : Outputs) (kernel : Option (List ℕ)) (limit : ℕ) → Asked
   check : (params table statement evidence : List ℕ) → Asked
+  check_source : (params table statement evidence source : List ℕ) (kernel : Option (List ℕ)) → Asked
   make : (params : List ℕ) (turns : ℕ) (names : MadeNames) → Asked
   chain : (params list evidence : List ℕ) → Asked
   runs : (params list : List ℕ) → Asked
@@ -93,17 +94,28 @@ most_pieces = 64
 abbrev pub pieces_in : List (List ℕ) → Option (Option ℕ)
 pieces_in words = optional_number 1 most_pieces (codes "--pieces") words
 
-abbrev pub check_of_names : Option (List ℕ) → Option (List ℕ) → Option (List ℕ) → Option (Option (List ℕ)) → Option (Option ℕ) → Asked
-check_of_names (Some params) (Some table) (Some statement) (Some (Some evidence)) (Some pieces) =
+-- `check` of the files alone, or against a source, with a kernel where it is given; a kernel alone has no meaning
+abbrev pub check_against : List ℕ → List ℕ → List ℕ → List ℕ → Option (List ℕ) → Option (List ℕ) → Asked
+check_against params table statement evidence None None =
     if is_apart evidence (params ∷ table ∷ statement ∷ []) then check params table statement evidence else nothing
-check_of_names params table statement evidence pieces = nothing
+check_against params table statement evidence None (Some kernel) = nothing
+check_against params table statement evidence (Some source) kernel =
+    if is_apart evidence (params ∷ table ∷ statement ∷ source ∷ given_name kernel)
+    then check_source params table statement evidence source kernel else nothing
 
--- `check`, the names of the parameters, the table file and the statement, that of the evidence, which no other name is, and a number of
--- pieces where it is given
+abbrev pub check_of_names : Option (List ℕ) → Option (List ℕ) → Option (List ℕ) → Option (Option (List ℕ)) → Option (Option ℕ)
+    → Option (Option (List ℕ)) → Option (Option (List ℕ)) → Asked
+check_of_names (Some params) (Some table) (Some statement) (Some (Some evidence)) (Some pieces) (Some source) (Some kernel) =
+    check_against params table statement evidence source kernel
+check_of_names params table statement evidence pieces source kernel = nothing
+
+-- `check`, the names of the parameters, the table file and the statement, that of the evidence, which no other name is, a number of
+-- pieces where it is given, and the names of a source and its kernel where they are
 abbrev pub check_words : List (List ℕ) → Asked
 check_words words =
-    if is_form 3 (codes "--evidence" ∷ codes "--pieces" ∷ []) words
+    if is_form 3 (codes "--evidence" ∷ codes "--pieces" ∷ codes "--source" ∷ codes "--kernel" ∷ []) words
     then check_of_names (name_at 0 words) (name_at 1 words) (name_at 2 words) (optional_name (codes "--evidence") words) (pieces_in words)
+    (optional_name (codes "--source") words) (optional_name (codes "--kernel") words)
     else nothing
 
 abbrev pub made_names : Option (Option (List ℕ)) → Option (Option (List ℕ)) → Option MadeNames

@@ -7,6 +7,8 @@ use Rattle.vm_field.specs.Limits.{most_cycles, most_inputs, most_source_bytes}
 use Rattle.vm_field.specs.Machine.{State}
 use Rattle.block_tree.specs.Execution as execution
 use Rattle.block_tree.specs.Execution.{Done}
+use Rattle.block_tree.specs.Trees.{tree_digest}
+use Rattle.block_tree.specs.TreeView.{tree_of}
 use Rattle.block_tree.specs.declared.program.Program.{Program}
 use Rattle.number_files.specs.Grammar.{numbers_of}
 use Rattle.run_chain.specs.Following.{first_stack}
@@ -22,7 +24,7 @@ use Rattle.vm_io.specs.Sink.{SinkState}
 use Rattle.cmd_kit.specs.declared.status.Status.{Status}
 use Rattle.cmd_kit.specs.declared.status.Status.TheVariants as status
 use Rattle.cmd_kit.specs.Statuses.{StatusKind, planned, no_command, failed_read, failed_write, failed_print, no_memory, kind_of}
-use Rattle.cmd_kit.specs.Asked.{Asked, nothing, hash, assemble, run, check, make, chain, runs, asked}
+use Rattle.cmd_kit.specs.Asked.{Asked, nothing, hash, assemble, run, check, check_source, make, chain, runs, asked}
 use Rattle.cmd_kit.specs.Steps.{SourceFile, Judged, accepted}
 use Rattle.cmd_kit.specs.Links.{most_list_bytes}
 use Rattle.cmd_kit.specs.ChainSteps.{ChainLink, chain_given, chain_link}
@@ -100,6 +102,23 @@ pub record IsGoodCheck (m : Files) (params table statement : List ℕ) : Type 0 
   pub table_says : FileSays m table most_table_bytes trace_of trace
   pub statement_says : FileSays m statement most_statement_bytes statement_of claim
   pub found : IsAcceptedFor constants claim trace
+
+-- and the source has a program of the statement's digest
+pub record IsGoodSourceCheck (m : Files) (params table statement source : List ℕ) (name : Option (List ℕ)) : Type 0 where
+  pub constants : List ℕ
+  pub trace : Trace
+  pub claim : Stated
+  pub text : List ℕ
+  pub kernel : Option SourceFile
+  pub program : Program
+  pub params_say : FileSays m params most_params_bytes parameters_of constants
+  pub table_says : FileSays m table most_table_bytes trace_of trace
+  pub statement_says : FileSays m statement most_statement_bytes statement_of claim
+  pub source_stands : HoldsSource m (record { name = source; text = text })
+  pub kernel_stands : HoldsKernel m name kernel
+  pub assembled : AssemblesFiles constants (record { name = source; text = text }) kernel (Ok program)
+  pub found : IsAcceptedFor constants claim trace
+  pub digest : claim.digest ≡ tree_digest constants (tree_of program.tree)
 
 -- the source that is made has a program, and its run on the inputs that are made ends
 pub record IsGoodMake (m : Files) (params source : List ℕ) (turns : ℕ) : Type 0 where
@@ -186,6 +205,7 @@ IsGood m (hash params numbers) = IsGoodHash m params numbers
 IsGood m (assemble params source kernel) = IsGoodAssembly m params source kernel
 IsGood m (run params source inputs outputs kernel limit) = IsGoodRun m params source inputs kernel limit
 IsGood m (check params table statement evidence) = IsGoodCheck m params table statement
+IsGood m (check_source params table statement evidence source kernel) = IsGoodSourceCheck m params table statement source kernel
 IsGood m (make params turns names) = IsGoodMake m params names.source turns
 IsGood m (chain params list evidence) = IsGoodChain m params list evidence
 IsGood m (runs params list) = IsGoodRuns m params list

@@ -14,7 +14,7 @@ use Rattle.vm_io.specs.Sink.{SinkState, with_piece}
 use Rattle.cmd_kit.specs.declared.status.Status.{Status}
 use Rattle.cmd_kit.specs.declared.status.Status.TheVariants as status
 use Rattle.cmd_kit.specs.Statuses.{kind_of, planned}
-use Rattle.cmd_kit.specs.Asked.{Asked, Outputs, nothing, hash, assemble, run, check, make, chain, runs, asked}
+use Rattle.cmd_kit.specs.Asked.{Asked, Outputs, nothing, hash, assemble, run, check, check_source, make, chain, runs, asked}
 use Rattle.cmd_kit.specs.Steps.{Finding, accepted, Steps, reading, writing, asking, ending}
 use Rattle.cmd_kit.specs.CheckEnds.{IsEvidenceFor, IsVerdictFor, accepted_line}
 use Rattle.cmd_kit.specs.Commands.{steps_of}
@@ -57,6 +57,7 @@ outputs_of m (hash params numbers) = []
 outputs_of m (assemble params source kernel) = []
 outputs_of m (run params source inputs outputs kernel limit) = outputs.table ∷ outputs.statement ∷ []
 outputs_of m (check params table statement evidence) = evidence ∷ []
+outputs_of m (check_source params table statement evidence source kernel) = evidence ∷ []
 outputs_of m (make params turns names) = names.source ∷ names.inputs ∷ []
 outputs_of m (chain params list evidence) = evidence ∷ []
 outputs_of m (runs params list) = listed_outputs params list (get m list)

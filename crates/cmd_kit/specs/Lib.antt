@@ -5,6 +5,8 @@ pub mod ChainEnds
 pub mod ChainLaws
 pub mod ChainSteps
 pub mod CheckEnds
+pub mod CheckSourceEnds
+pub mod CheckSourceSteps
 pub mod CheckSteps
 pub mod Commands
 pub mod Completeness
@@ -26,6 +28,7 @@ pub mod RunsNames
 pub mod RunsSteps
 pub mod Serving
 pub mod SourceEnds
+pub mod SourceLaws
 pub mod Sources
 pub mod Starts
 pub mod Statuses

@@ -17,6 +17,7 @@ number_of status.SinkFault = 9
 number_of status.Malformed = 10
 number_of status.TooLong = 11
 number_of status.Memory = 12
+number_of status.OtherProgram = 14
 number_of status.Broken = 15
 
 -- what a status speaks of
@@ -42,4 +43,5 @@ kind_of status.SinkFault = failed_print
 kind_of status.Malformed = planned
 kind_of status.TooLong = planned
 kind_of status.Memory = no_memory
+kind_of status.OtherProgram = planned
 kind_of status.Broken = planned

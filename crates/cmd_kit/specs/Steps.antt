@@ -23,6 +23,8 @@ pub data End : Type 0 where
   assembly : (constants : List ℕ) (source : SourceFile) (kernel : Option SourceFile) → End
   -- it is told what evidence was written for a trace, under these constants, of what is claimed
   telling : (constants : List ℕ) (claim : Stated) (trace : Trace) (written : List ℕ) → End
+  -- the same of evidence for a program
+  telling_source : (constants : List ℕ) (claim : Stated) (trace : Trace) (program : Program) (written : List ℕ) → End
 
 -- a trace, and what is claimed of it
 pub record Judged : Type 0 where
@@ -39,6 +41,8 @@ pub data Right : Type 0 where
   statement_of : (claim : Stated) → Right
   -- the text of evidence for a trace, under these constants, of what is claimed
   evidence_for : (constants : List ℕ) (claim : Stated) (trace : Trace) → Right
+  -- the text of evidence for a program, from that of a trace, under these constants, of what is claimed
+  source_evidence_for : (constants : List ℕ) (claim : Stated) (trace : Trace) (program : Program) → Right
   -- the text of evidence for each link of a chain, in order, under these constants
   chain_evidence : (constants : List ℕ) (judged : List Judged) → Right
 
@@ -46,6 +50,8 @@ pub data Right : Type 0 where
 pub data Question : Type 0 where
   -- whether a trace is accepted, under these constants, for what is claimed
   checked : (constants : List ℕ) (claim : Stated) (trace : Trace) → Question
+  -- what a source comes to that is assembled under these constants, with a kernel where there is one
+  sourced : (constants : List ℕ) (source : SourceFile) (kernel : Option SourceFile) → Question
   -- how a source runs that is assembled under these constants, with a kernel where there is one, on these inputs within so many cycles
   course : (constants : List ℕ) (source : SourceFile) (kernel : Option SourceFile) (given : Given) (limit : ℕ) → Question
 
@@ -54,7 +60,13 @@ pub data Verdict : Type 0 where
   accepted : Verdict
   refused : (why : Refused) → Verdict
 
--- what is found of a source
+-- what is found of a source that is assembled
+pub data Build : Type 0 where
+  built : (program : Program) → Build
+  -- it is refused, which is the command's answer
+  unbuilt : (answer : Answer) → Build
+
+-- what is found of a source that is to be run
 pub data Course : Type 0 where
   -- its program ran to the end, in this state and with this log
   ran : (program : Program) (last : State) (log : List run.Event) → Course
@@ -64,6 +76,7 @@ pub data Course : Type 0 where
 -- what may be found
 abbrev pub Finding : Question → Type 0
 Finding (checked constants claim trace) = Verdict
+Finding (sourced constants source kernel) = Build
 Finding (course constants source kernel given limit) = Course
 
 -- What was read, written and found decides how the steps go on.

@@ -1,4 +1,5 @@
 ghost use Rattle.cmd_kit.specs.ChainLaws.{ChainHasEvidence};
+ghost use Rattle.cmd_kit.specs.SourceLaws.{AcceptedSourceRan};
 ghost use Rattle.cmd_kit.specs.Completeness.{GoodIsOk, OneVerdict};
 ghost use Rattle.cmd_kit.specs.RunLaws.{AnsweredRunStands, RunLeavesGoodFiles};
 ghost use Rattle.cmd_kit.specs.Laws.{OtherFilesStay, CommandsWrite, UsageMeansNothing, NothingGivesUsage, AcceptedHasEvidence, WrittenRunIsAccepted};
@@ -6,7 +7,7 @@ ghost use Rattle.cmd_kit.specs.MakeLaws.{AnsweredMakeStands, MakeIsNotRefused};
 ghost use Rattle.cmd_kit.specs.RunsLaws.{AnsweredRunsStand, RunsLeaveLinks, RunsLeaveWholeLinks, RunsMakeAChain, RunsTellTheLink};
 
 /// Which files `serve` may change, over a shelf that tells its files: whatever the answer, those
-/// that the command writes and no others: `run` its tables and its statement, `check` its evidence,
+/// that the command writes and no others: `run` its tables and its statement, `check` its evidence, with a source or without,
 /// `make` its source and its inputs, `chain` its evidence, `runs` the table files and the statements that its list
 /// names, and no other command a file.
 pub fn other_files_stay()
@@ -28,6 +29,15 @@ pub fn usage_is_for_no_command()
 /// file that have different inputs and one digest.
 pub fn accepted_has_evidence()
     ensures { AcceptedHasEvidence }
+{}
+
+/// What `check --source` vouches for, over a shelf that tells its files: where it answers `Ok`, the table file is accepted
+/// for the statement under the parameters, the source has a program of the statement's digest, and what stands under the
+/// evidence's name is the text of evidence for it: a run of a tree that refines the program's, which is the program's own
+/// tree where no block of it is dynamic, or two hashes of different inputs and one digest, the second of the file or of a
+/// block of the program.
+pub fn accepted_source_ran()
+    ensures { AcceptedSourceRan }
 {}
 
 /// What `chain` vouches for, over a shelf that tells its files: where it answers `Ok`, each statement of its list
@@ -100,7 +110,8 @@ pub fn runs_leave_whole_links()
 
 /// No command is refused what it can do, over a shelf that tells its files. Where its files are there,
 /// within their lengths and of their forms, and where the source of `assemble` has a program, that of `run`
-/// and that of `make` one that ends within the limit, the trace of `check` is accepted, those of `chain` are and each
+/// and that of `make` one that ends within the limit, the trace of `check` is accepted, the source beside it has a program
+/// of the statement's digest, those of `chain` are and each
 /// statement follows the one before, and the programs of `runs` end, each from what the one before left, it is answered
 /// `Ok`, unless a read, a write, the sink or memory fails. A trace that is accepted with one value of the constants and of
 /// the claim is accepted with each.

@@ -33,6 +33,8 @@ pub enum Status {
     TooLong,
     /// Memory was refused.
     Memory,
+    /// The trace is accepted, but the source is that of another program.
+    OtherProgram,
     /// A link of a chain does not follow the one before it, or cannot be followed.
     Broken,
 }
@@ -56,6 +58,7 @@ impl Status {
             Status::Malformed => 10,
             Status::TooLong => 11,
             Status::Memory => 12,
+            Status::OtherProgram => 14,
             Status::Broken => 15,
         }
     }

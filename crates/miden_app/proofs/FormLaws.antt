@@ -50,16 +50,18 @@ at_free = by_free file_name_of plain_name nothing
 abbrev pieces : Option Text → Option (Option ℕ)
 pieces text = optional (number_of_word 1 most_pieces) text
 
-no_check : (p t s e n : Option Text) → Unmeant (p ∷ t ∷ s ∷ []) (e ∷ []) (n ∷ [])
-    → check_of_names (place p) (place t) (place s) (option e) (pieces n) ≡ nothing
-no_check p t s e n h =
-    at_place p (λ x. check_of_names x (place t) (place s) (option e) (pieces n)) refl (λ a p_there.
-    at_place t (λ x. check_of_names (Some a) x (place s) (option e) (pieces n)) refl (λ b t_there.
-    at_place s (λ x. check_of_names (Some a) (Some b) x (option e) (pieces n)) refl (λ c s_there.
-    at_needed e (λ x. check_of_names (Some a) (Some b) (Some c) x (pieces n)) refl refl (λ d e_there.
+no_check : (p t s e n m k : Option Text) → Unmeant (p ∷ t ∷ s ∷ []) (e ∷ []) (n ∷ m ∷ k ∷ [])
+    → check_of_names (place p) (place t) (place s) (option e) (pieces n) (option m) (option k) ≡ nothing
+no_check p t s e n m k h =
+    at_place p (λ x. check_of_names x (place t) (place s) (option e) (pieces n) (option m) (option k)) refl (λ a p_there.
+    at_place t (λ x. check_of_names (Some a) x (place s) (option e) (pieces n) (option m) (option k)) refl (λ b t_there.
+    at_place s (λ x. check_of_names (Some a) (Some b) x (option e) (pieces n) (option m) (option k)) refl (λ c s_there.
+    at_needed e (λ x. check_of_names (Some a) (Some b) (Some c) x (pieces n) (option m) (option k)) refl refl (λ d e_there.
     by_free (number_of_word 1 most_pieces) (plain_number 1 most_pieces) nothing n
-    (λ x. check_of_names (Some a) (Some b) (Some c) (Some (Some d)) x) refl (λ m n_may.
-    absurd (h (p_there, (t_there, (s_there, tt))) (e_there, tt) (n_may, tt)))))))
+    (λ x. check_of_names (Some a) (Some b) (Some c) (Some (Some d)) x (option m) (option k)) refl (λ f n_may.
+    at_free m (λ x. check_of_names (Some a) (Some b) (Some c) (Some (Some d)) (Some f) x (option k)) refl (λ g m_may.
+    at_free k (λ x. check_of_names (Some a) (Some b) (Some c) (Some (Some d)) (Some f) (Some g) x) refl (λ i k_may.
+    absurd (h (p_there, (t_there, (s_there, tt))) (e_there, tt) (n_may, (m_may, (k_may, tt)))))))))))
 
 no_hash : (p n : Option Text) → Unmeant (p ∷ n ∷ []) [] [] → hash_of_names (place p) (place n) ≡ nothing
 no_hash p n h =
@@ -121,7 +123,7 @@ no_runs p l h =
 no_texts : (n : CommandName) (words : List Text)
     → Unmeant (texts_in (form_named n) words).places (texts_in (form_named n) words).needed (texts_in (form_named n) words).free
     → asked_in n (texts_in (form_named n) words) ≡ nothing
-no_texts name.Check words h = no_check _ _ _ _ _ h
+no_texts name.Check words h = no_check _ _ _ _ _ _ _ h
 no_texts name.Hash words h = no_hash _ _ h
 no_texts name.Assemble words h = no_assemble _ _ _ h
 no_texts name.Run words h = no_run _ _ _ _ _ _ _ h

@@ -24,7 +24,7 @@ abbrev pub form_named : CommandName → WordForm
 form_named name.Check = record {
   places = codes "params" ∷ codes "table" ∷ codes "statement" ∷ [];
   needed = codes "evidence" ∷ [];
-  free = codes "pieces" ∷ [];
+  free = codes "pieces" ∷ codes "source" ∷ codes "kernel" ∷ [];
 }
 form_named name.Hash = record { places = codes "params" ∷ codes "numbers" ∷ []; needed = []; free = [] }
 form_named name.Assemble = record { places = codes "params" ∷ codes "source" ∷ []; needed = []; free = codes "kernel" ∷ [] }
@@ -65,6 +65,7 @@ option_number least most i texts = optional (number_of_word least most) (text_at
 abbrev pub check_in : FormTexts → Asked
 check_in t =
     check_of_names (name_in 0 t.places) (name_in 1 t.places) (name_in 2 t.places) (option_name 0 t.needed) (option_number 1 most_pieces 0 t.free)
+    (option_name 1 t.free) (option_name 2 t.free)
 
 abbrev pub hash_in : FormTexts → Asked
 hash_in t = hash_of_names (name_in 0 t.places) (name_in 1 t.places)

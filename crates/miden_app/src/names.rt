@@ -63,7 +63,7 @@ pub fn form_of_command(name: CommandName) -> CommandForm
         CommandName::Check => CommandForm {
             places: &["params", "table", "statement"],
             needed: &["evidence"],
-            free: &["pieces"],
+            free: &["pieces", "source", "kernel"],
         },
         CommandName::Hash => CommandForm {
             places: &["params", "numbers"],

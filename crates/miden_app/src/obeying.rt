@@ -10,7 +10,7 @@ use crate::hash::hash_files;
 use crate::names::command_named;
 use crate::words::{Command, command_of};
 use cmd_assemble::assemble_files;
-use cmd_check::{ChainNames, CheckNames, Seed, chain_files, check_files};
+use cmd_check::{ChainNames, CheckNames, Seed, chain_files, check_files, check_source_files};
 use cmd_kit::{Outcome, Status, answered};
 use cmd_make::make_files;
 use cmd_reading::{WordsStop, texts_of};
@@ -106,6 +106,30 @@ fn work_of<R: Threads + Sync, F: Shelf, G: Gate>(
                 evidence,
                 pieces,
             },
+        ),
+        Command::CheckSource {
+            params,
+            table,
+            statement,
+            evidence,
+            source,
+            kernel,
+            pieces,
+        } => check_source_files(
+            rt,
+            alloc,
+            seed,
+            shelf,
+            gate,
+            params,
+            CheckNames {
+                table,
+                statement,
+                evidence,
+                pieces,
+            },
+            source,
+            kernel,
         ),
         Command::Make {
             params,

@@ -1,11 +1,11 @@
 //! What the words behind a command's name ask for.
-ghost use Rattle.std.specs.Prelude.{◌≡◌, ◌≤◌, ◌∷◌, length, map, option_map, Some, IfOk, IfSome};
+ghost use Rattle.std.specs.Prelude.{◌≡◌, ◌≤◌, ◌∷◌, length, map, option_map, None, Some, IfOk, IfSome};
 ghost use Rattle.std.specs.List.{list_any};
 ghost use Rattle.std.specs.Str.{bytes_eq};
 ghost use Rattle.vm_field.specs.Limits.{most_cycles, most_name_bytes};
 ghost use Rattle.cmd_reading.specs.Form.{AllText};
 ghost use Rattle.cmd_reading.specs.Meaning.{texts_read};
-ghost use Rattle.cmd_kit.specs.Asked.{chain_of_names, check_of_names, given_name, make_apart, most_pieces, run_apart};
+ghost use Rattle.cmd_kit.specs.Asked.{chain_of_names, check_against, given_name, make_apart, most_pieces, run_apart};
 ghost use Rattle.cmd_run.specs.Naming.{AreNamed, outputs_from};
 ghost use Rattle.cmd_make.specs.Naming as made;
 ghost use Rattle.workloads.specs.Workloads.{most_turns};
@@ -54,6 +54,17 @@ pub enum Command<'a> {
         table: &'a str,
         statement: &'a str,
         evidence: &'a str,
+        /// In how many pieces, from 1 to 64.
+        pieces: usize,
+    },
+    /// The same against a source, with a kernel where one is named.
+    CheckSource {
+        params: &'a str,
+        table: &'a str,
+        statement: &'a str,
+        evidence: &'a str,
+        source: &'a str,
+        kernel: Option<&'a str>,
         /// In how many pieces, from 1 to 64.
         pieces: usize,
     },
@@ -127,9 +138,12 @@ fn check_of<'a>(read: &ReadWords<'a>) -> Command<'a>
     let Some(statement) = place_name(read, 2) else {
         return Command::Nothing;
     };
+    let (Some(source), Some(kernel)) = (free_name(read, 1), free_name(read, 2)) else {
+        return Command::Nothing;
+    };
     match (needed_name(read, 0), free_number(1, MOST_PIECES, read, 0)) {
         (Some(Some(evidence)), Some(pieces)) => {
-            check_with(params, table, statement, evidence, pieces)
+            check_with(params, table, statement, evidence, pieces, source, kernel)
         }
         _ => Command::Nothing,
     }
@@ -148,8 +162,39 @@ fn pieces_of(said: Option<u64>) -> usize
     }
 }
 
-// The evidence is written, so that no other file may have its name.
+// With a source or without; a kernel belongs to a source.
 fn check_with<'a>(
+    params: &'a str,
+    table: &'a str,
+    statement: &'a str,
+    evidence: &'a str,
+    pieces: Option<u64>,
+    source: Option<&'a str>,
+    kernel: Option<&'a str>,
+) -> Command<'a>
+    requires params { length params.now ≤ most_name_bytes }
+    requires table { length table.now ≤ most_name_bytes }
+    requires statement { length statement.now ≤ most_name_bytes }
+    requires evidence { length evidence.now ≤ most_name_bytes }
+    requires some { IfSome pieces (λ n. 1 ≤ n) }
+    requires few { IfSome pieces (λ n. n ≤ most_pieces) }
+    requires source { IfSome source (λ s. length s.now ≤ most_name_bytes) }
+    requires kernel { IfSome kernel (λ k. length k.now ≤ most_name_bytes) }
+    ensures asks { asks result ≡ check_against params.entry.now table.entry.now statement.entry.now evidence.entry.now
+        (option_map (λ s. s.now) source.entry) (option_map (λ k. k.now) kernel.entry) }
+    ensures named { NamesFiles result }
+{
+    match (source, kernel) {
+        (Some(source), kernel) => {
+            check_for(params, table, statement, evidence, pieces, source, kernel)
+        }
+        (None, Some(_)) => Command::Nothing,
+        (None, None) => check_alone(params, table, statement, evidence, pieces),
+    }
+}
+
+// The evidence is written, so that no other file may have its name.
+fn check_alone<'a>(
     params: &'a str,
     table: &'a str,
     statement: &'a str,
@@ -162,8 +207,7 @@ fn check_with<'a>(
     requires evidence { length evidence.now ≤ most_name_bytes }
     requires some { IfSome pieces (λ n. 1 ≤ n) }
     requires few { IfSome pieces (λ n. n ≤ most_pieces) }
-    ensures asks { asks result ≡ check_of_names (Some params.entry.now) (Some table.entry.now) (Some statement.entry.now)
-        (Some (Some evidence.entry.now)) (Some pieces) }
+    ensures asks { asks result ≡ check_against params.entry.now table.entry.now statement.entry.now evidence.entry.now None None }
     ensures named { NamesFiles result }
 {
     if evidence == params || evidence == table || evidence == statement {
@@ -176,6 +220,61 @@ fn check_with<'a>(
         evidence,
         pieces: pieces_of(pieces),
     }
+}
+
+// The same beside a source and its kernel.
+fn check_for<'a>(
+    params: &'a str,
+    table: &'a str,
+    statement: &'a str,
+    evidence: &'a str,
+    pieces: Option<u64>,
+    source: &'a str,
+    kernel: Option<&'a str>,
+) -> Command<'a>
+    requires params { length params.now ≤ most_name_bytes }
+    requires table { length table.now ≤ most_name_bytes }
+    requires statement { length statement.now ≤ most_name_bytes }
+    requires evidence { length evidence.now ≤ most_name_bytes }
+    requires some { IfSome pieces (λ n. 1 ≤ n) }
+    requires few { IfSome pieces (λ n. n ≤ most_pieces) }
+    requires source { length source.now ≤ most_name_bytes }
+    requires kernel { IfSome kernel (λ k. length k.now ≤ most_name_bytes) }
+    ensures asks { asks result ≡ check_against params.entry.now table.entry.now statement.entry.now evidence.entry.now
+        (Some source.entry.now) (option_map (λ k. k.now) kernel.entry) }
+    ensures named { NamesFiles result }
+{
+    if is_checked(evidence, params, table, statement, source, kernel) {
+        return Command::Nothing;
+    }
+    Command::CheckSource {
+        params,
+        table,
+        statement,
+        evidence,
+        source,
+        kernel,
+        pieces: pieces_of(pieces),
+    }
+}
+
+// Whether a name is that of a file which `check` reads beside a source.
+fn is_checked(
+    name: &str,
+    params: &str,
+    table: &str,
+    statement: &str,
+    source: &str,
+    kernel: Option<&str>,
+) -> bool
+    ensures { result ≡ list_any (bytes_eq name.now)
+        (params.now ∷ table.now ∷ statement.now ∷ source.now ∷ given_name (option_map (λ k. k.now) kernel.entry)) }
+{
+    let is_kernel = match kernel {
+        Some(kernel) => name == kernel,
+        None => false,
+    };
+    name == params || name == table || name == statement || name == source || is_kernel
 }
 
 fn hash_of<'a>(read: &ReadWords<'a>) -> Command<'a>

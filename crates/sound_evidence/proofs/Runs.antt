@@ -3,9 +3,6 @@ use Rattle.std.proofs.Common.{◌≡◌, ℕ, suc, ◌-◌, ◌≤◌, arith, Li
 use Rattle.vm_field.specs.Machine.{State}
 use Rattle.rpo_hash.specs.Constants.{constants_of}
 use Rattle.block_tree.specs.Execution.{Done, execution}
-use Rattle.block_tree.specs.TreeView.{tree_of}
-use Rattle.block_tree.specs.declared.tree.Tree as held
-use Rattle.block_tree.specs.declared.evidence.Evidence.TheVariants.{Run}
 use Rattle.block_tree.proofs.Refinement.{refines-refl}
 use Rattle.air_kit.specs.DeepCells.{deep_at_start}
 use Rattle.air_kit.specs.RowStates.{state_at, tape_of}
@@ -14,13 +11,15 @@ use Rattle.air_kit.specs.declared.trace.Public.{Public}
 use Rattle.air_kit.specs.declared.trace.TableName.TheVariants as table
 use Rattle.air_kit.specs.declared.trace.Trace.{Trace}
 use Rattle.sound_runs.specs.Running.{Goes, ShowRun}
+use Rattle.sound_runs.proofs.TreeLemmas.{built_good}
 use Rattle.sound_runs.proofs.TreeRuns.{trees_run}
 use Rattle.sound_runs.specs.Ends.{EndFacts}
 use Rattle.sound_runs.proofs.CyclesLaw.{cycles_law, ends_law}
 use Rattle.sound_evidence.specs.Walking.{IsWholeTree}
 use Rattle.sound_evidence.specs.declared.found.Found.{Found}
 use Rattle.tree_merge.specs.AddrView.{placed_of}
-use Rattle.tree_merge.specs.Evidences.{IsEvidence, IsRun}
+use Rattle.tree_merge.specs.AddrEvidences.{IsAddrRun}
+use Rattle.tree_merge.specs.Evidences.{IsRun}
 use Rattle.tree_merge.specs.Placed.{plain}
 use Rattle.sound_evidence.specs.Known.{IsKnown}
 use Rattle.sound_evidence.proofs.Readable.{granted, tree_facts}
@@ -66,10 +65,11 @@ run p t k found w = record {
   stands = (ends p t k).stands;
 }
 
--- with the tree without its addresses
-pub is_run : (p : Public) (t : Trace) (found : Found) (cycles : ℕ) (tree : held.Tree) (tape : List ℕ) → IsKnown p t → IsWholeTree p t found
-    → cycles ≡ length t.main - 1 → tree_of tree ≡ plain (placed_of found.tree) → tape ≡ tape_of t.main → IsEvidence p t (Run cycles tree tape)
-is_run p t found cycles tree tape k w counted same taken =
-    subst (λ c. IsRun p t c (tree_of tree) tape) (sym counted)
-    (subst (λ x. IsRun p t (length t.main - 1) x tape) (sym same)
-    (subst (IsRun p t (length t.main - 1) (plain (placed_of found.tree))) (sym taken) (run p t k found w)))
+-- with the addresses of its blocks' hashes
+pub is_run : (p : Public) (t : Trace) (found : Found) (cycles : ℕ) (tape : List ℕ) → IsKnown p t → IsWholeTree p t found
+    → cycles ≡ length t.main - 1 → tape ≡ tape_of t.main → IsAddrRun p t cycles (placed_of found.tree) tape
+is_run p t found cycles tape k w counted taken = record {
+  run = subst (λ c. IsRun p t c (plain (placed_of found.tree)) tape) (sym counted)
+      (subst (IsRun p t (length t.main - 1) (plain (placed_of found.tree))) (sym taken) (run p t k found w));
+  good = built_good (constants_of p.params) t.hasher t.main p.statement.digest (tree_facts p t k) w.tree;
+}

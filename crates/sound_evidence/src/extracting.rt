@@ -3,6 +3,7 @@ ghost use Rattle.air_kit.specs.Acceptance.{IsAccepted};
 ghost use Rattle.air_kit.specs.RowStates.{tape_of};
 ghost use Rattle.air_kit.specs.Traces.{HasCounts};
 ghost use Rattle.sound_evidence.specs.Walking.{IsWalkable, IsWholeTree};
+ghost use Rattle.tree_merge.specs.AddrEvidences.{IsAddrEvidence};
 ghost use Rattle.tree_merge.specs.Evidences.{IsEvidence};
 ghost use Rattle.sound_evidence.specs.Known.{IsKnown};
 
@@ -13,7 +14,7 @@ use block_tree::Evidence;
 use checker::Valid;
 use rpo_hash::known_constants;
 use std::alloc::Global;
-use tree_merge::{MergeStop, into_tree};
+use tree_merge::{AddrEvidence, MergeStop, into_evidence};
 use vm_field::Memory;
 
 /// The evidence of an accepted trace: the cycles, a tree and the tape of the run that its rows show, or the places of two hashes in its
@@ -26,13 +27,24 @@ use vm_field::Memory;
 pub fn extract(alloc: Global, valid: &Valid) -> Result<Evidence, Memory>
     ensures { IfOk result (IsEvidence valid.now.public valid.now.trace) }
 {
+    into_evidence(alloc, extract_addr(alloc, valid)?)
+}
+
+/// The same evidence, with the address of each block's hash in the hasher's table.
+///
+/// # Errors
+///
+/// `Memory` where the system gave none for the tree and the tape.
+pub fn extract_addr(alloc: Global, valid: &Valid) -> Result<AddrEvidence, Memory>
+    ensures { IfOk result (IsAddrEvidence valid.now.public valid.now.trace) }
+{
     let trace = valid.trace();
     let public = valid.public();
     known_trace(public, trace);
     readable_trace(public, trace);
     match whole_with_tape(alloc, public, trace) {
-        Ok(walked) => run_of(alloc, public, trace, walked),
-        Err(MergeStop::Pair { first, second }) => Ok(Evidence::Pair { first, second }),
+        Ok(walked) => Ok(run_of(public, trace, walked)),
+        Err(MergeStop::Pair { first, second }) => Ok(AddrEvidence::Pair { first, second }),
         Err(MergeStop::Memory) => Err(Memory::Memory),
     }
 }
@@ -58,15 +70,14 @@ fn readable_trace(_public: &Public, _trace: &Trace)
 {}
 
 // The run whose tree and tape were found.
-#[tactic(auto, using(crate::proofs::Runs::is_run))]
-fn run_of(alloc: Global, public: &Public, trace: &Trace, walked: Walked) -> Result<Evidence, Memory>
+fn run_of(public: &Public, trace: &Trace, walked: Walked) -> AddrEvidence
     requires known { IsKnown public.now trace.now }
     requires whole { IsWholeTree public.now trace.now walked.found }
     requires tape { walked.tape ≡ tape_of trace.now.main }
-    ensures { IfOk result (IsEvidence public.now trace.now) }
+    ensures { IsAddrEvidence public.now trace.now result }
 {
     let Walked { found, tape } = walked;
-    let tree = into_tree(alloc, found.tree)?;
+    let tree = found.tree;
     let cycles = (trace.main.rows() - 1) as u32;
-    Ok(Evidence::Run { cycles, tree, tape })
+    AddrEvidence::Run { cycles, tree, tape }
 }

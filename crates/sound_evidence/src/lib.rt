@@ -13,7 +13,7 @@ mod turns;
 mod walk;
 
 pub use cells::operation;
-pub use extracting::extract;
+pub use extracting::{extract, extract_addr};
 pub use found::{Found, Walked};
 pub use laws::readable_laws;
 pub use walk::{whole, whole_with_tape};

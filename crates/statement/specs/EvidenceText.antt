@@ -53,6 +53,10 @@ tape_text tape = line (codes "tape" ++ flat_map element_text tape)
 abbrev pub pair_text : ℕ → ℕ → List ℕ
 pair_text first second = line (codes "pair " ++ decimal first ++ 32 ∷ decimal second)
 
+-- the lines of a run
+abbrev pub run_text : ℕ → List ℕ → Tree → List ℕ
+run_text cycles tape tree = cycles_text cycles ++ tape_text tape ++ tree_text tree
+
 abbrev pub evidence_text : Evidence → List ℕ
-evidence_text (Run cycles tree tape) = line (codes "run") ++ cycles_text cycles ++ tape_text tape ++ tree_text (tree_of tree)
+evidence_text (Run cycles tree tape) = line (codes "run") ++ run_text cycles tape (tree_of tree)
 evidence_text (Pair first second) = pair_text first second

@@ -1,6 +1,6 @@
 ghost use Rattle.std.specs.Prelude.{◌≡◌, ◌++◌, IfOk, OnOk};
 ghost use Rattle.block_tree.specs.TreeView.{targets_of, tree_of};
-ghost use Rattle.statement.specs.EvidenceText.{batch_text, cycles_text, dyn_text, evidence_text, opaque_text, pair_text, span_text, tape_text, targets_text, tree_text};
+ghost use Rattle.statement.specs.EvidenceText.{batch_text, cycles_text, dyn_text, evidence_text, opaque_text, pair_text, run_text, span_text, tape_text, targets_text, tree_text};
 
 use block_tree::{Evidence, Tree};
 use decimal_text::{append_elements, append_number};
@@ -18,13 +18,26 @@ pub fn write_evidence(alloc: Global, evidence: &Evidence) -> Result<Bytes, Memor
     match evidence {
         Evidence::Run { cycles, tree, tape } => {
             text.append(b"run\n")?;
-            append_cycles(&mut text, *cycles)?;
-            append_tape(&mut text, tape.as_slice())?;
-            append_tree(alloc, &mut text, tree)?;
+            append_run(alloc, &mut text, *cycles, tape.as_slice(), tree)?;
         }
         Evidence::Pair { first, second } => append_pair(&mut text, *first, *second)?,
     }
     Ok(text)
+}
+
+/// Adds the lines of a run: those of its cycles and of its tape, and those of its tree.
+pub fn append_run(
+    alloc: Global,
+    text: &mut Bytes,
+    cycles: u32,
+    tape: &[Felt],
+    tree: &Tree,
+) -> Result<(), Memory>
+    ensures { OnOk result (text.new ≡ text.old ++ run_text cycles tape.now (tree_of tree.now)) }
+{
+    append_cycles(text, cycles)?;
+    append_tape(text, tape)?;
+    append_tree(alloc, text, tree)
 }
 
 fn append_cycles(text: &mut Bytes, cycles: u32) -> Result<(), Memory>

@@ -8,7 +8,7 @@ mod refusal;
 mod statements;
 mod values;
 
-pub use evidence::write_evidence;
+pub use evidence::{append_run, write_evidence};
 pub use inputs::{read_inputs, write_inputs};
 pub use refusal::{TextCause, TextError, cause_text};
 pub use statements::{read_statement, write_statement};

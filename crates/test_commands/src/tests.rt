@@ -12,4 +12,5 @@ mod make;
 mod row;
 mod run;
 mod runs;
+mod source;
 mod words;

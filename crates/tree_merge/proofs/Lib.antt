@@ -9,3 +9,4 @@ pub mod Covers
 pub mod DistinctLemmas
 pub mod OrderLemmas
 pub mod TargetLemmas
+pub mod SideLemmas

@@ -33,6 +33,22 @@ tail-false : (b r : Bool) → cond b true r ≡ false → r ≡ false
 tail-false true r e = absurd (true≢false e)
 tail-false false r e = e
 
+hit : (b r : Bool) → r ≡ true → cond b true r ≡ true
+hit true r e = refl
+hit false r e = e
+
+-- one that is not among digests and one more is not among them
+pub among-front : (w : List ℕ) (xs : List (List ℕ)) (v : List ℕ) → is_among w (xs ++ v ∷ []) ≡ false → is_among w xs ≡ false
+among-front w [] v e = refl
+among-front w (x ∷ xs) v e =
+    ap (λ b. cond b true (is_among w xs)) (head-false (pointwise nat_eq x w) (is_among w (xs ++ v ∷ [])) e)
+    ∙ among-front w xs v (tail-false (pointwise nat_eq x w) (is_among w (xs ++ v ∷ [])) e)
+
+-- the last of digests is among them
+pub among-last : (w : List ℕ) (xs : List (List ℕ)) (v : List ℕ) → w ≡ v → is_among w (xs ++ v ∷ []) ≡ true
+among-last w [] v same = ap (λ b. cond b true false) ((bytes_decides v w).1 (sym same))
+among-last w (x ∷ xs) v same = hit (pointwise nat_eq x w) _ (among-last w xs v same)
+
 kept : (c : Bool) (w v : List ℕ) (xs : List (List ℕ)) → pointwise nat_eq v w ≡ false → is_among w xs ≡ false
     → is_among w (cond c xs (v ∷ xs)) ≡ false
 kept true w v xs f e = e
@@ -50,11 +66,7 @@ miss : (b r : Bool) → (b ≡ true → ⊥) → r ≡ false → cond b true r �
 miss true r n e = absurd (n refl)
 miss false r n e = e
 
-hit : (b r : Bool) → r ≡ true → cond b true r ≡ true
-hit true r e = refl
-hit false r e = e
-
-among-none : (w : List ℕ) (es : List Entry) → HasNone w es → is_among w (digests_in es) ≡ false
+pub among-none : (w : List ℕ) (es : List Entry) → HasNone w es → is_among w (digests_in es) ≡ false
 among-none w [] h = refl
 among-none w (e ∷ es) h =
     miss (pointwise nat_eq e.digest w) _ (λ is. All-head (IsOther w) e es h ((bytes_decides _ _).0 is))

@@ -171,6 +171,9 @@ module _ (constants : List ℕ) (comp : ℕ → Option HashInput) where
     pub dyn-second : All IsFine ys
     dyn-second = from-good ys (dyn-targets m.second)
 
+    pub dyn-distinct : Distinct ys
+    dyn-distinct = from-good-distinct ys (dyn-targets m.second)
+
     pub dyn-merged : (ms : List Entry) → AreMerged constants comp xs ys ms
         → Merged constants comp (Dyn p (placed_from xs)) (Dyn q (placed_from ys)) (Dyn p (placed_from ms))
     dyn-merged ms a = record {

@@ -4,7 +4,9 @@ pub mod EvidenceLaws
 pub mod Placed
 pub mod AddrView
 pub mod Merging
+pub mod AddrEvidences
 pub mod Targets
 pub mod Merges
+pub mod Sides
 pub mod Children
 pub mod FirstBlocks

@@ -4,6 +4,7 @@
 
 mod addr_tree;
 mod blocks;
+mod evidence;
 mod hashes;
 mod laws;
 mod merging;
@@ -11,6 +12,7 @@ mod plain;
 mod targets;
 
 pub use addr_tree::{AddrTree, AddrTrees, MergeStop, Target, dynamic};
+pub use evidence::{AddrEvidence, into_evidence};
 pub use hashes::Hashes;
 pub use laws::{pair_laws, run_laws};
 pub use merging::{merge, merge_in};

@@ -1,8 +1,9 @@
-ghost use Rattle.std.specs.Prelude.{◌≡◌, ◌≢◌, IfOk, IfErr, OnOk};
+ghost use Rattle.std.specs.Prelude.{◌≡◌, ◌≢◌, ◌∷◌, ◌++◌, [], ◌<◌, ◌≤◌, ℕ, List, IfOk, IfErr, OnOk};
 ghost use Rattle.tree_merge.specs.AddrView.{entries_of, placed_of};
 ghost use Rattle.tree_merge.specs.Targets.{IsFirstAt};
 ghost use Rattle.tree_merge.specs.Merges.{AreGoodTargets, AreMergeable, AreMergeableBy, AreTargetsMerged, DifferAt, HaveOne, HaveTwo, IsGoodTarget, IsMerged, IsMergedBy, IsStop, IsStopBy, IsTargetAdded};
 ghost use Rattle.tree_merge.specs.Placed.{kind_of};
+ghost use Rattle.tree_merge.specs.Sides.{AreAboveUnless, AreApart, AreTargetsApart, IsAcross, IsTargetApart};
 
 use crate::addr_tree::{AddrTree, AddrTrees, MergeStop, Target, address, kind};
 use crate::blocks::same_block;
@@ -36,6 +37,7 @@ pub fn merge(
 /// digest, and then those of the second whose digests the first has not, in their order. Putting them
 /// there takes memory, and nothing else does: `Memory` where it was refused. It goes down both trees
 /// at once, no deeper than the lower one is high, by four calls a level, or five at a dynamic block.
+/// Where all addresses of the first tree lie above all of the second, a pair has one of each.
 #[cycle(merging)]
 pub fn merge_in<H: Hashes>(
     params: &Params,
@@ -46,6 +48,7 @@ pub fn merge_in<H: Hashes>(
     requires { AreMergeableBy params.now (H.hashed_at hashes.now) a b }
     ensures ok { IfOk result (λ m. IsMergedBy params.now (H.hashed_at hashes.now) a b m) }
     ensures err { IfErr result (λ stop. IsStopBy params.now (H.hashed_at hashes.now) stop) }
+    ensures sides { (bound : ℕ) → AreApart bound a b → IfErr result (λ stop. IsAcross bound stop) }
 {
     if kind(&a) == 0 {
         return Ok(b);
@@ -72,6 +75,7 @@ fn of_one_kind<H: Hashes>(
     requires one_kind { kind_of (placed_of a) ≡ kind_of (placed_of b) }
     ensures ok { IfOk result (λ m. IsMergedBy params.now (H.hashed_at hashes.now) a b m) }
     ensures err { IfErr result (λ stop. IsStopBy params.now (H.hashed_at hashes.now) stop) }
+    ensures sides { (bound : ℕ) → AreApart bound a b → IfErr result (λ stop. IsAcross bound stop) }
 {
     match a {
         AddrTree::Opaque(_) => unreachable!(),
@@ -124,6 +128,7 @@ fn span<H: Hashes>(
     requires { AreMergeableBy params.now (H.hashed_at hashes.now) (AddrTree.Span p a) (AddrTree.Span q b) }
     ensures ok { IfOk result (λ m. IsMergedBy params.now (H.hashed_at hashes.now) (AddrTree.Span p a) (AddrTree.Span q b) m) }
     ensures err { IfErr result (λ stop. IsStopBy params.now (H.hashed_at hashes.now) stop) }
+    ensures sides { (bound : ℕ) → AreApart bound (AddrTree.Span p a) (AddrTree.Span q b) → IfErr result (λ stop. IsAcross bound stop) }
 {
     if a.as_slice() != b.as_slice() {
         return Err(pair(params, hashes, p, q));
@@ -147,6 +152,8 @@ fn two<H: Hashes>(
     ensures first { IfOk result (λ m. IsMergedBy params.now (H.hashed_at hashes.now) a.value c.value m.0.value) }
     ensures second { IfOk result (λ m. IsMergedBy params.now (H.hashed_at hashes.now) b.value d.value m.1.value) }
     ensures err { IfErr result (λ stop. IsStopBy params.now (H.hashed_at hashes.now) stop) }
+    ensures sides { (bound : ℕ) → bound < p → q ≤ bound → AreApart bound a.value c.value → AreApart bound b.value d.value
+        → IfErr result (λ stop. IsAcross bound stop) }
 {
     if !same_block(hashes, p, q) {
         return Err(pair(params, hashes, p, q));
@@ -167,6 +174,7 @@ fn one<H: Hashes>(
     requires { HaveOne params.now (H.hashed_at hashes.now) p q a.value c.value }
     ensures ok { IfOk result (λ m. IsMergedBy params.now (H.hashed_at hashes.now) a.value c.value m.value) }
     ensures err { IfErr result (λ stop. IsStopBy params.now (H.hashed_at hashes.now) stop) }
+    ensures sides { (bound : ℕ) → bound < p → q ≤ bound → AreApart bound a.value c.value → IfErr result (λ stop. IsAcross bound stop) }
 {
     if same_block(hashes, p, q) {
         return boxed(params, hashes, a, c);
@@ -185,6 +193,7 @@ fn boxed<H: Hashes>(
     requires { AreMergeableBy params.now (H.hashed_at hashes.now) a.value b.value }
     ensures ok { IfOk result (λ m. IsMergedBy params.now (H.hashed_at hashes.now) a.value b.value m.value) }
     ensures err { IfErr result (λ stop. IsStopBy params.now (H.hashed_at hashes.now) stop) }
+    ensures sides { (bound : ℕ) → AreApart bound a.value b.value → IfErr result (λ stop. IsAcross bound stop) }
 {
     let first = mem::replace(&mut *a, AddrTree::Opaque(Word::ZERO));
     *a = merge_in(params, hashes, first, Box::into_inner(b))?;
@@ -203,6 +212,7 @@ fn merge_targets<H: Hashes>(
     requires second { AreGoodTargets params.now (H.hashed_at hashes.now) b.items }
     ensures ok { IfOk result (λ m. AreTargetsMerged params.now (H.hashed_at hashes.now) a.items b.items m.items) }
     ensures err { IfErr result (λ stop. IsStopBy params.now (H.hashed_at hashes.now) stop) }
+    ensures sides { (bound : ℕ) → AreTargetsApart bound a.items b.items → IfErr result (λ stop. IsAcross bound stop) }
 {
     let mut merged = a;
     for target in b {
@@ -223,6 +233,9 @@ fn add_target<H: Hashes>(
     requires one { IsGoodTarget params.now (H.hashed_at hashes.now) target }
     ensures ok { OnOk result (IsTargetAdded params.now (H.hashed_at hashes.now) targets.old.items target targets.new.items) }
     ensures err { IfErr result (λ stop. IsStopBy params.now (H.hashed_at hashes.now) stop) }
+    ensures sides { (bound : ℕ) (known : List (List ℕ)) → IsTargetApart bound known targets.old.items target → IfErr result (λ stop. IsAcross bound stop) }
+    ensures above { (bound : ℕ) (known : List (List ℕ)) → IsTargetApart bound known targets.old.items target
+        → OnOk result (AreAboveUnless bound (known ++ target.digest ∷ []) targets.new.items) }
 {
     match place(targets.as_slice(), target.digest) {
         Some(i) => merge_at(params, hashes, targets, i, target),
@@ -244,6 +257,9 @@ fn merge_at<H: Hashes>(
     requires place { IsFirstAt (entries_of targets.now.items) target.digest i }
     ensures ok { OnOk result (IsTargetAdded params.now (H.hashed_at hashes.now) targets.old.items target targets.new.items) }
     ensures err { IfErr result (λ stop. IsStopBy params.now (H.hashed_at hashes.now) stop) }
+    ensures sides { (bound : ℕ) (known : List (List ℕ)) → IsTargetApart bound known targets.old.items target → IfErr result (λ stop. IsAcross bound stop) }
+    ensures above { (bound : ℕ) (known : List (List ℕ)) → IsTargetApart bound known targets.old.items target
+        → OnOk result (AreAboveUnless bound (known ++ target.digest ∷ []) targets.new.items) }
 {
     let slot = &mut targets[i];
     let first = mem::replace(&mut slot.tree, AddrTree::Opaque(Word::ZERO));
@@ -254,7 +270,8 @@ fn merge_at<H: Hashes>(
 // Two addresses at which different inputs of one digest are hashed.
 fn pair<H: Hashes>(params: &Params, hashes: &H, p: u32, q: u32) -> MergeStop
     requires { DifferAt params.now (H.hashed_at hashes.now) p q }
-    ensures { IsStopBy params.now (H.hashed_at hashes.now) result }
+    ensures stop { IsStopBy params.now (H.hashed_at hashes.now) result }
+    ensures sides { (bound : ℕ) → bound < p → q ≤ bound → IsAcross bound result }
 {
     MergeStop::Pair {
         first: p.min(q),

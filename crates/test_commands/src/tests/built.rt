@@ -5,11 +5,12 @@ use std::test::Fail;
 // Table files that no run writes, filled by the constraints cell by cell.
 
 // A loop of two turns, whose bodies are a span of one batch and a span of two: both have the digest 0 under constants that are 0,
-// so that the evidence is the pair of their hashes.
+// so that the evidence is the pair of their hashes. The source `m` has a loop of this digest.
 static PAIR: [Row; 1] = [Row {
     words: &["check", "z", "t", "u", "--evidence", "e"],
     files: &[
         ("z", Content::Lines(168, 0, "")),
+        ("m", Content::Text("begin while.true end end")),
         (
             "t",
             Content::Built(
@@ -833,6 +834,28 @@ static REFUSED: [Row; 2] = [
 #[test]
 fn a_pair_is_found(rt: HostRuntime) -> Result<(), Fail> {
     all_write(&rt, &PAIR, "e", &Content::Text("pair 9 17\n"))
+}
+
+#[test]
+fn a_pair_stays_one_beside_a_source(rt: HostRuntime) -> Result<(), Fail> {
+    let row = Row {
+        words: &[
+            "check",
+            "z",
+            "t",
+            "u",
+            "--evidence",
+            "e",
+            "--source",
+            "m",
+        ],
+        files: PAIR[0].files,
+        failing_call: 0,
+        failing_write: 0,
+        number: 0,
+        printed: "accepted clash file 9 file 17\n",
+    };
+    all_write(&rt, &[row], "e", &Content::Text("clash file 9 file 17\n"))
 }
 
 #[test]

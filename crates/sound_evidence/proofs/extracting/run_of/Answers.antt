@@ -8,5 +8,5 @@ overflow_cast-cycles c = omega (arith, c.rows.ensures.is, (c.requires.known.whol
 
 pub returns : goal.returns
 returns c =
-    is_run c.args.public.now c.args.trace.now c.args.walked.found (c.rows.result - 1) c.in_ok-tree.tree c.args.walked.tape c.requires.known
-    c.requires.whole (ap (λ n. n - 1) c.rows.ensures.is) c.in_ok-tree.ensures.same c.requires.tape
+    is_run c.args.public.now c.args.trace.now c.args.walked.found (c.rows.result - 1) c.args.walked.tape c.requires.known
+    c.requires.whole (ap (λ n. n - 1) c.rows.ensures.is) c.requires.tape

@@ -1,4 +1,4 @@
-use Rattle.std.proofs.Common.{◌≡◌, ℕ, List, ◌∷◌, ◌++◌, [], Option, ap, set, sym, subst, ◌∙◌, arith, append_assoc, OnOk, Result, Ok, Err}
+use Rattle.std.proofs.Common.{◌≡◌, ℕ, ◌<◌, ◌≤◌, List, refl, ◌∷◌, ◌++◌, [], Option, ap, set, sym, subst, ◌∙◌, arith, append_assoc, OnOk, Result, Ok, Err}
 use Rattle.std.specs.Vec.Iter.{into_iter_items}
 use Rattle.std.proofs.lemmas.List.{map-append, map-set}
 use Rattle.std.proofs.lemmas.List.Elements.{All-same}
@@ -10,13 +10,16 @@ use Rattle.tree_merge.specs.AddrView.{placed_of, entry_of, entries_of}
 use Rattle.tree_merge.specs.Placed.{PlacedTree, Entry, plain}
 use Rattle.tree_merge.specs.declared.addr_tree.AddrTree.{AddrTree}
 use Rattle.tree_merge.specs.Merging.{Mergeable, Merged}
-use Rattle.tree_merge.specs.Targets.{IsGoodEntry, IsAdded, AreMerged, HasNone, trees_in}
+use Rattle.tree_merge.specs.Targets.{IsGoodEntry, IsAdded, AreMerged, HasNone, Distinct, digests_in, trees_in}
+use Rattle.tree_merge.specs.declared.addr_tree.Target.{Target}
 use Rattle.tree_merge.specs.Pairs.{Differs}
 use Rattle.tree_merge.proofs.ChildLemmas.{twos-second}
 use Rattle.tree_merge.proofs.RootLemmas.{opaque-first, opaque-second, unlike-differ}
 use Rattle.tree_merge.proofs.ViewLemmas.{placed-Dyn, plain-targets, get-entries}
 use Rattle.tree_merge.proofs.MergeLemmas.{join-twos, split-twos, loop-ones, call-ones, syscall-ones, join-merged, split-merged, loop-merged, call-merged, syscall-merged}
-use Rattle.tree_merge.proofs.TargetLemmas.{dyn-first, dyn-second, dyn-merged, added-push, merged-none, merged-more, height-inside, good-inside, mergeable-place, added-set, at-place}
+use Rattle.tree_merge.proofs.TargetLemmas.{dyn-first, dyn-second, dyn-distinct, dyn-merged, added-push, merged-none, merged-more, height-inside, good-inside, mergeable-place, added-set, at-place}
+use Rattle.tree_merge.proofs.SideLemmas.{passed-on, above-root, up_to-root, joins-apart, splits-apart, loops-apart, calls-apart, syscalls-apart, dyn-each, there-inside, new-target, above-all, above-push, above-set, above-place}
+use Rattle.tree_merge.specs.Sides.{AreAbove, AreUpTo, IsAboveUnless, AreAboveUnless, IsTargetApart, AreTargetsApart}
 use Rattle.tree_merge.proofs.merging.+merging.Goals as goal
 
 -- what is known of two trees is known of what they were found to be, and the other way round
@@ -201,8 +204,29 @@ merge_at-returns-clause-ok g t c =
     ∙ sym (map-set entry_of targets c.args.i _) in
     subst (IsAdded _ _ (entries_of targets) (entry_of c.args.target)) back added
 
+-- the targets that were merged, and one more
+more-digests : (before : List Target) (target : Target)
+    → digests_in (entries_of (before ++ target ∷ [])) ≡ digests_in (entries_of before) ++ target.digest ∷ []
+more-digests before target =
+    ap digests_in (map-append entry_of before (target ∷ [])) ∙ map-append (λ (e : Entry). e.digest) (entries_of before) (entry_of target ∷ [])
+
+-- the next target is none of those that were merged
+next-apart : (bound : ℕ) (a b before : List Target) (target : Target) (behind merged : List Target)
+    → entries_of before ++ entry_of target ∷ entries_of behind ≡ entries_of b → AreTargetsApart bound a b
+    → AreAboveUnless bound (digests_in (entries_of before)) merged → IsTargetApart bound (digests_in (entries_of before)) merged target
+next-apart bound a b before target behind merged split apart above = record {
+  above = above;
+  new = new-target (entries_of before) (entry_of target) (entries_of behind) (subst Distinct (sym split) apart.distinct);
+  up_to = there-inside (λ at. at ≤ bound) (entries_of before) (entry_of target) (entries_of behind)
+      (All-same (λ (e : Entry). AreUpTo bound e.tree) _ _ split apart.up_to);
+}
+
 pub merge_targets-loop-target-init : goal.merge_targets-loop-target-init
-merge_targets-loop-target-init g t c = record { all = c.into_iter-target-iterator.ensures.into_iter_gives.0; merged = merged-none _ _ _ c.requires.first }
+merge_targets-loop-target-init g t c = record {
+  all = c.into_iter-target-iterator.ensures.into_iter_gives.0;
+  merged = merged-none _ _ _ c.requires.first;
+  above = λ bound apart. above-all bound (entries_of c.args.a.items) apart.above;
+}
 
 pub merge_targets-add_target-requires : goal.merge_targets-add_target-requires
 merge_targets-add_target-requires g t c =
@@ -239,7 +263,115 @@ merge_targets-loop-target-preserved g t c =
           (entries_of c.add_target.new.targets.items))
           (sym (map-append entry_of before (c.in-Some.target ∷ [])))
           (merged-more _ _ _ (entries_of before) _ _ (entry_of c.in-Some.target) good c.loop-target.invariant.merged c.in_ok-add_target.ensures.ok);
+      above = λ bound apart.
+          subst (λ known. AreAboveUnless bound known c.add_target.new.targets.items) (sym (more-digests before c.in-Some.target))
+          (c.in_ok-add_target.ensures.above bound (digests_in (entries_of before))
+          (next-apart bound c.args.a.items c.args.b.items before c.in-Some.target behind c.loop-target.merged.items split apart
+          (c.loop-target.invariant.above bound apart)));
     }
+
+pub merge_targets-returns-in_err-add_target-clause-sides : goal.merge_targets-returns-in_err-add_target-clause-sides
+merge_targets-returns-in_err-add_target-clause-sides g t c = λ bound apart.
+    let before = c.loop-target.yielded in
+    let behind = into_iter_items c.next.new.self in
+    let here = ap (λ ys. before ++ ys) (sym c.in-Some.ensures.steps.0) ∙ c.loop-target.invariant.all in
+    let split = sym (map-append entry_of before (c.in-Some.target ∷ behind)) ∙ ap entries_of here in
+    passed-on bound _ _ c.from_residual.ensures.1
+    (c.in_err-add_target.ensures.sides bound (digests_in (entries_of before))
+    (next-apart bound c.args.a.items c.args.b.items before c.in-Some.target behind c.loop-target.merged.items split apart
+    (c.loop-target.invariant.above bound apart)))
+
+pub merge_in-returns-then-kind-clause-sides : goal.merge_in-returns-then-kind-clause-sides
+merge_in-returns-then-kind-clause-sides g t c = λ bound apart.
+    c.pair.ensures.sides bound
+    (subst (λ at. bound < at) (sym c.address.ensures.is)
+    (above-root bound _ apart.0 (λ e. c.if-kind-eq0.false (c.kind.ensures.is ∙ e))))
+    (subst (λ at. at ≤ bound) (sym c.address-then-kind.ensures.is) (up_to-root bound _ apart.1))
+
+pub of_one_kind-returns-in_err-x-in-Join-b-clause-sides : goal.of_one_kind-returns-in_err-x-in-Join-b-clause-sides
+of_one_kind-returns-in_err-x-in-Join-b-clause-sides g t c = λ bound apart.
+    let s = joins-apart bound _ _ apart _ _ _ _ _ _ (ap placed_of c.in-Join.is) (ap placed_of c.in-Join-b.is) in
+    passed-on bound _ _ c.from_residual.ensures.1 (c.in_err-x-in-Join-b.ensures.sides bound s.above s.up_to s.first s.second)
+
+pub of_one_kind-returns-in_err-x-in-Split-b-clause-sides : goal.of_one_kind-returns-in_err-x-in-Split-b-clause-sides
+of_one_kind-returns-in_err-x-in-Split-b-clause-sides g t c = λ bound apart.
+    let s = splits-apart bound _ _ apart _ _ _ _ _ _ (ap placed_of c.in-Split.is) (ap placed_of c.in-Split-b.is) in
+    passed-on bound _ _ c.from_residual-in_err-x-in-Split-b.ensures.1 (c.in_err-x-in-Split-b.ensures.sides bound s.above s.up_to s.first s.second)
+
+pub of_one_kind-returns-in_err-one-in-Loop-b-clause-sides : goal.of_one_kind-returns-in_err-one-in-Loop-b-clause-sides
+of_one_kind-returns-in_err-one-in-Loop-b-clause-sides g t c = λ bound apart.
+    let s = loops-apart bound _ _ apart _ _ _ _ (ap placed_of c.in-Loop.is) (ap placed_of c.in-Loop-b.is) in
+    passed-on bound _ _ c.from_residual-in_err-one-in-Loop-b.ensures.1 (c.in_err-one-in-Loop-b.ensures.sides bound s.above s.up_to s.child)
+
+pub of_one_kind-returns-in_err-one-in-Call-b-clause-sides : goal.of_one_kind-returns-in_err-one-in-Call-b-clause-sides
+of_one_kind-returns-in_err-one-in-Call-b-clause-sides g t c = λ bound apart.
+    let s = calls-apart bound _ _ apart _ _ _ _ (ap placed_of c.in-Call.is) (ap placed_of c.in-Call-b.is) in
+    passed-on bound _ _ c.from_residual-in_err-one-in-Call-b.ensures.1 (c.in_err-one-in-Call-b.ensures.sides bound s.above s.up_to s.child)
+
+pub of_one_kind-returns-in_err-one-in-Syscall-b-clause-sides : goal.of_one_kind-returns-in_err-one-in-Syscall-b-clause-sides
+of_one_kind-returns-in_err-one-in-Syscall-b-clause-sides g t c = λ bound apart.
+    let s = syscalls-apart bound _ _ apart _ _ _ _ (ap placed_of c.in-Syscall.is) (ap placed_of c.in-Syscall-b.is) in
+    passed-on bound _ _ c.from_residual-in_err-one-in-Syscall-b.ensures.1
+    (c.in_err-one-in-Syscall-b.ensures.sides bound s.above s.up_to s.child)
+
+pub of_one_kind-returns-in_err-merge_targets-in-Dyn-b-clause-sides : goal.of_one_kind-returns-in_err-merge_targets-in-Dyn-b-clause-sides
+of_one_kind-returns-in_err-merge_targets-in-Dyn-b-clause-sides g t c = λ bound apart.
+    let first = ap placed_of c.in-Dyn.is ∙ placed-Dyn _ _ in
+    let second = ap placed_of c.in-Dyn-b.is ∙ placed-Dyn _ _ in
+    let known = found _ _ _ _ _ _ first second c.requires.mergeable in
+    passed-on bound _ _ c.from_residual-in_err-merge_targets-in-Dyn-b.ensures.1
+    (c.in_err-merge_targets-in-Dyn-b.ensures.sides bound (record {
+      above = dyn-each (λ at. bound < at) _ _ _ first apart.0;
+      up_to = dyn-each (λ at. at ≤ bound) _ _ _ second apart.1;
+      distinct = dyn-distinct _ _ _ _ _ _ known;
+    }))
+
+pub two-returns-in_err-boxed-clause-sides : goal.two-returns-in_err-boxed-clause-sides
+two-returns-in_err-boxed-clause-sides g t c = λ bound above up_to first second.
+    passed-on bound _ _ c.from_residual.ensures.1 (c.in_err-boxed.ensures.sides bound first)
+
+pub two-returns-in_err-boxed-2-clause-sides : goal.two-returns-in_err-boxed-2-clause-sides
+two-returns-in_err-boxed-2-clause-sides g t c = λ bound above up_to first second.
+    passed-on bound _ _ c.from_residual-in_err-boxed-2.ensures.1 (c.in_err-boxed-2.ensures.sides bound second)
+
+pub one-returns-then-same_block-clause-sides : goal.one-returns-then-same_block-clause-sides
+one-returns-then-same_block-clause-sides g t c = λ bound above up_to apart. c.boxed.ensures.sides bound apart
+
+pub boxed-returns-in_err-a-clause-sides : goal.boxed-returns-in_err-a-clause-sides
+boxed-returns-in_err-a-clause-sides g t c = λ bound apart.
+    passed-on bound _ _ c.from_residual.ensures.1 (c.in_err-a.ensures.sides bound (
+      subst (λ x. AreAbove bound (placed_of x)) (sym (c.replace-first.ensures.value ∙ c.deref_mut.ensures.value)) apart.0,
+      subst (λ x. AreUpTo bound (placed_of x)) (sym c.into_inner.ensures) apart.1,
+    ))
+
+pub add_target-returns-in-None-clause-above : goal.add_target-returns-in-None-clause-above
+add_target-returns-in-None-clause-above g t c = λ bound known apart.
+    let targets = c.args.targets.now.items in
+    OnOk-map _ _ c.push.result (λ e.
+    subst (λ es. AreAboveUnless bound (known ++ c.args.target.digest ∷ []) es) (sym e)
+    (All-same (IsAboveUnless bound (known ++ c.args.target.digest ∷ [])) _ _ (map-append entry_of targets (c.args.target ∷ []))
+    (above-push bound known c.args.target.digest (entries_of targets) (entry_of c.args.target) refl apart.above))) c.push.ensures.ok
+
+pub merge_at-returns-in_err-slot-clause-sides : goal.merge_at-returns-in_err-slot-clause-sides
+merge_at-returns-in_err-slot-clause-sides g t c = λ bound known apart.
+    let slot = c.index_mut-slot.result.now in
+    let entry = ap entry_of c.index_mut-slot.ensures.value ∙ sym (get-entries c.args.targets.now.items c.args.i slot)
+    ∙ at-place _ _ _ c.requires.place (entry_of slot) in
+    let same = ap placed_of c.replace-first.ensures.value ∙ ap (λ (e : Entry). e.tree) entry in
+    passed-on bound _ _ c.from_residual.ensures.1 (c.in_err-slot.ensures.sides bound (
+      subst (AreAbove bound) (sym same) (above-place bound known _ _ _ c.requires.place apart.above apart.new),
+      apart.up_to,
+    ))
+
+pub merge_at-returns-clause-above : goal.merge_at-returns-clause-above
+merge_at-returns-clause-above g t c = λ bound known apart.
+    let targets = c.args.targets.now.items in
+    let slot = c.index_mut-slot.result.now in
+    let entry = ap entry_of c.index_mut-slot.ensures.value ∙ sym (get-entries targets c.args.i slot) ∙ at-place _ _ _ c.requires.place (entry_of slot) in
+    let new : Target = record { digest = slot.digest; tree = c.in_ok-slot.field-0 } in
+    All-same (IsAboveUnless bound (known ++ c.args.target.digest ∷ [])) _ _ (map-set entry_of targets c.args.i new)
+    (above-set bound known c.args.target.digest (entries_of targets) c.args.i (entry_of new)
+    (ap (λ (e : Entry). e.digest) entry ∙ c.requires.place.noted) apart.above)
 
 pub boxed-merge_in-requires : goal.boxed-merge_in-requires
 boxed-merge_in-requires g t c =

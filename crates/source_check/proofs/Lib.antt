@@ -1,0 +1,9 @@
+pub mod Among
+pub mod FirstPlaces
+pub mod NumberedLemmas
+pub mod HashedLemmas
+pub mod SourceLemmas
+pub mod BlockLemmas
+pub mod TreeLemmas
+pub mod TargetLemmas
+pub mod CompareLemmas
