@@ -34,7 +34,7 @@ PROGRAM = ROOT / "crates/miden_cli/out/miden_cli"
 CRATES, README, MAP, CLAUSES, GUIDE = "crates.txt", "README.md", "docs/ARCHITECTURE.md", "docs/CLAUSES.md", "docs/GUIDE.md"
 
 CELL_END = re.compile(r"(?<!\\)\|")
-NAMED_PATH = re.compile(r"(?<![\w./-])(?:crates|docs|examples|bench)/[\w./*-]*")
+NAMED_PATH = re.compile(r"(?<![\w./-])(?:crates|docs|examples|bench|reference)/[\w./*-]*")
 # In a path: parts that stand for others, and the folder that a build leaves.
 NOT_MEANT = re.compile(r"\.\.|(?:^|/)(?:[A-Z_]+|out)(?:/|$)")
 LINK_TARGET = re.compile(r"\]\((?![a-z]+:|#)([^()\s#]+)(?:#[^()\s]*)?\)")

@@ -3,3 +3,4 @@ pub mod CheckLemmas
 pub mod SourceSize
 pub mod SourcingLemmas
 pub mod SourcingReads
+pub mod WalkLemmas

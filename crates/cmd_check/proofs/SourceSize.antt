@@ -12,6 +12,7 @@ use Rattle.block_tree.specs.TreeView.{tree_of}
 use Rattle.block_tree.specs.declared.program.Program.{Program}
 use Rattle.masm_flat.specs.Blocks.{Block, Blocks, Span, Join, Split, Loop, Call, Syscall, Dyn, no_block, block_before, seen_as, seen_all, as_tree, as_operations}
 use Rattle.masm_link.specs.Assembling.{Assembles}
+use Rattle.masm_link.specs.Libraries.{LibraryProcedure}
 use Rattle.masm_link.specs.Laws.{AssembledTrees, IsWithinLimits}
 use Rattle.air_kit.specs.Traces.{HasCounts}
 use Rattle.air_kit.specs.declared.trace.Public.{Public}
@@ -116,10 +117,10 @@ module _ (constants : List ℕ) where
       subst (HasFewBlocks constants) (sym within.is) (omega (arith, few, most))
 
 -- an assembled program has so few blocks
-pub few_assembled : (constants text : List ℕ) (kernel : Option (List ℕ)) (program : Program) → AssembledTrees
-    → Assembles constants text kernel (Ok program) → HasFewBlocks constants (tree_of program.tree)
-few_assembled constants text kernel program trees is =
-    let found = trees constants text kernel program is in few_within constants (tree_of program.tree) found.0 found.1 program.whole
+pub few_assembled : (constants : List ℕ) (library : List LibraryProcedure) (text : List ℕ) (kernel : Option (List ℕ)) (program : Program)
+    → AssembledTrees → Assembles constants library text kernel (Ok program) → HasFewBlocks constants (tree_of program.tree)
+few_assembled constants library text kernel program trees is =
+    let found = trees constants library text kernel program is in few_within constants (tree_of program.tree) found.0 found.1 program.whole
 
 -- behind the rows of a trace there is an address for each of so few blocks
 pub has_room : (p q : Public) (t : Trace) (tree : Tree) → p ≡ q → HasCounts t → HasFewBlocks (constants_of q.params) tree

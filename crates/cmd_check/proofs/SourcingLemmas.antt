@@ -1,10 +1,9 @@
--- How the steps of `check --source` go on and end behind their reads.
+-- How the steps of `check --source` go on and end behind their reads. What follows a program is said for any tree.
 use Rattle.std.proofs.Common.{◌≡◌, ℕ, Bool, true, false, if◌then◌else◌, List, Option, Some, Ok, Err, refl, sym, subst}
 use Rattle.std.specs.Str.{bytes_eq}
 use Rattle.std.proofs.lemmas.Slice.Eq.{bytes_eq-Decides}
 use Rattle.rpo_hash.specs.Constants.{constants_of}
-use Rattle.block_tree.specs.Trees.{tree_digest}
-use Rattle.block_tree.specs.TreeView.{tree_of}
+use Rattle.block_tree.specs.Trees.{Tree, tree_digest}
 use Rattle.block_tree.specs.declared.program.Program.{Program}
 use Rattle.masm_link.specs.declared.refusal.AsmCause.{AsmCause}
 use Rattle.masm_link.specs.declared.refusal.AsmError.TheVariants.{Bad}
@@ -31,7 +30,7 @@ use Rattle.cmd_kit.specs.Commands.{IsRight}
 use Rattle.cmd_kit.specs.Outcomes.{EndsIn, SaysStatus}
 use Rattle.cmd_kit.specs.RefusalLines.{refused_line}
 use Rattle.cmd_kit.specs.SourceEnds.{AssemblesFiles, name_of_place, source_line}
-use Rattle.cmd_kit.specs.Steps.{SourceFile, stop, Steps, built, unbuilt, accepted, refused, checked, sourced, ending, source_evidence_for, telling_source}
+use Rattle.cmd_kit.specs.Steps.{SourceFile, stop, Steps, built, unbuilt, accepted, refused, checked, sourced, asking, ending, source_evidence_for, telling_source}
 use Rattle.cmd_kit.proofs.ServingLemmas.{goes_past_finding, same_again, says_comes, says_ends, work_ends}
 use Rattle.cmd_check.specs.Sourcing.{EndsApart, Unbuilt}
 
@@ -60,48 +59,51 @@ module _ (name constants : List ℕ) (claim : Stated) (t : Trace) (source : Sour
       goes_past_finding (sourced constants source kernel) (built_steps name constants claim t) (built program) old (ends.assembled program is) o new end
 
 -- ---- traces
-module _ (p : Public) (t : Trace) (name : List ℕ) (program : Program) where
+module _ (p : Public) (t : Trace) (name : List ℕ) (tree : Tree) (ran : List ℕ) where
   abbrev constants : List ℕ
   constants = constants_of p.params
 
   abbrev claim : Stated
   claim = stated_of p.statement
 
-  pub accepted_for : (o : Outcome) (old new : ShelfState) → IsAccepted p t → EndsIn (Some (held_steps name constants claim t program accepted)) o old new
-      → EndsIn (Some (built_steps name constants claim t (built program))) o old new
+  abbrev judged : Steps
+  judged = asking (checked constants claim t) (held_steps name constants claim t tree ran)
+
+  pub accepted_for : (o : Outcome) (old new : ShelfState) → IsAccepted p t → EndsIn (Some (held_steps name constants claim t tree ran accepted)) o old new
+      → EndsIn (Some judged) o old new
   accepted_for o old new is end =
-      goes_past_finding (checked constants claim t) (held_steps name constants claim t program) accepted old
+      goes_past_finding (checked constants claim t) (held_steps name constants claim t tree ran) accepted old
       (record { against = p; is_public = record { params = refl; statement = refl }; found = is }) o new end
 
   refused_by : (r : Refused) (o : Outcome) (s : ShelfState) → IsWhy p t r → SaysStatus o status.Refused (refused_line r)
-      → EndsIn (Some (built_steps name constants claim t (built program))) o s s
+      → EndsIn (Some judged) o s s
   refused_by r o s is says =
-      goes_past_finding (checked constants claim t) (held_steps name constants claim t program) (refused r) s
+      goes_past_finding (checked constants claim t) (held_steps name constants claim t tree ran) (refused r) s
       (record { against = p; is_public = record { params = refl; statement = refl }; found = is }) o s
       (work_ends (refusal r) o s (says_comes status.Refused (refused_line r) o refl says))
 
   pub refused_for : (r : Refused) (o : Outcome) (s : ShelfState) → IsRefusal p t r → (r ≡ why.Memory → o ≡ outcome.Memory)
-      → SaysStatus o status.Refused (refused_line r) → EndsIn (Some (built_steps name constants claim t (built program))) o s s
+      → SaysStatus o status.Refused (refused_line r) → EndsIn (Some judged) o s s
   refused_for (why.Fault f) o s is wants says = refused_by (why.Fault f) o s is says
   refused_for (why.Bus bus tuple asked given) o s is wants says = refused_by (why.Bus bus tuple asked given) o s is says
   refused_for why.Memory o s is wants says =
-      subst (λ x. EndsIn (Some (built_steps name constants claim t (built program))) x s s) (sym (wants refl))
-      (same_again (built_steps name constants claim t (built program)) s)
+      subst (λ x. EndsIn (Some judged) x s s) (sym (wants refl))
+      (same_again judged s)
 
   -- ---- digests
   abbrev own : List ℕ
-  own = tree_digest constants (tree_of program.tree)
+  own = tree_digest constants tree
 
   either_steps : Bool → Steps
   either_steps b =
-      if b then sourced_steps name constants claim t program else ending (stop status.OtherProgram (other_program_line claim.digest own))
+      if b then sourced_steps name constants claim t tree ran else ending (stop status.OtherProgram (other_program_line claim.digest own))
 
   not_same : (b : Bool) → (b ≡ true → ⊥) → b ≡ false
   not_same true f = absurd (f refl)
   not_same false f = refl
 
-  pub apart_ends : (o : Outcome) (s : ShelfState) → EndsApart p (tree_of program.tree) o
-      → EndsIn (Some (held_steps name constants claim t program accepted)) o s s
+  pub apart_ends : (o : Outcome) (s : ShelfState) → EndsApart p tree o
+      → EndsIn (Some (held_steps name constants claim t tree ran accepted)) o s s
   unfolding either_steps
   apart_ends (outcome.Ends a) s h =
       let apart : bytes_eq claim.digest own ≡ false
@@ -109,20 +111,20 @@ module _ (p : Public) (t : Trace) (name : List ℕ) (program : Program) where
       subst (λ b. EndsIn (Some (either_steps b)) (outcome.Ends a) s s) (sym apart)
       (work_ends (stop status.OtherProgram (other_program_line claim.digest own)) (outcome.Ends a) s
       (says_comes status.OtherProgram (other_program_line claim.digest own) (outcome.Ends a) refl h.1))
-  apart_ends outcome.Memory s h = same_again (held_steps name constants claim t program accepted) s
+  apart_ends outcome.Memory s h = same_again (held_steps name constants claim t tree ran accepted) s
 
   -- ---- evidence
-  for_public : (e : SourceEvidence) → IsSourceEvidence p t (tree_of program.tree) e → IsSourceEvidenceFor constants claim t program e
+  for_public : (e : SourceEvidence) → IsSourceEvidence p t tree e → IsSourceEvidenceFor constants claim t tree e
   for_public e is = record { against = p; is_public = record { params = refl; statement = refl }; is_evidence = is }
 
-  pub right_text : (e : SourceEvidence) (bytes : List ℕ) → IsSourceEvidence p t (tree_of program.tree) e → bytes ≡ source_evidence_text e
-      → IsRight (source_evidence_for constants claim t program) bytes
+  pub right_text : (e : SourceEvidence) (bytes : List ℕ) → IsSourceEvidence p t tree e → bytes ≡ source_evidence_text e
+      → IsRight (source_evidence_for constants claim t tree) bytes
   right_text e bytes is text = record { evidence = e; is_evidence = for_public e is; text = text }
 
-  pub told_source : (e : SourceEvidence) (bytes : List ℕ) (o : Outcome) (s : ShelfState) → IsSourceEvidence p t (tree_of program.tree) e
-      → bytes ≡ source_evidence_text e → SaysStatus o status.Ok (accepted_source_line e)
-      → EndsIn (Some (ending (telling_source constants claim t program bytes))) o s s
+  pub told_source : (e : SourceEvidence) (bytes : List ℕ) (o : Outcome) (s : ShelfState) → IsSourceEvidence p t tree e
+      → bytes ≡ source_evidence_text e → SaysStatus o status.Ok (accepted_source_line ran e)
+      → EndsIn (Some (ending (telling_source constants claim t tree ran bytes))) o s s
   told_source e bytes o s is text says =
-      let end = telling_source constants claim t program bytes in
-      work_ends end o s (says_ends end status.Ok (accepted_source_line e) o refl
+      let end = telling_source constants claim t tree ran bytes in
+      work_ends end o s (says_ends end status.Ok (accepted_source_line ran e) o refl
       (record { evidence = e; is_evidence = for_public e is; text = text; is = refl }) says)

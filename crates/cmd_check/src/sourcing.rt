@@ -1,4 +1,5 @@
-// `check` against a source: the source is assembled, and where the trace is accepted it is held against the program.
+// `check` against a source: the source is assembled, and where the trace is accepted it is held against the program. What follows
+// a program is said for any tree.
 ghost use Rattle.std.specs.Prelude.{◌≡◌, ◌≤◌, length, option_map, IfErr, IfOk, IfSome, Ok, Some};
 ghost use Rattle.vm_field.specs.Limits.{most_name_bytes, most_source_bytes};
 ghost use Rattle.rpo_hash.specs.Constants.{constants_of};
@@ -6,17 +7,16 @@ ghost use Rattle.statement.specs.Statements.{stated_of};
 ghost use Rattle.air_kit.specs.Traces.{HasCounts};
 ghost use Rattle.air_kit.specs.declared.trace.Public.{Public};
 ghost use Rattle.air_kit.specs.declared.trace.Trace.{Trace};
-ghost use Rattle.block_tree.specs.Trees.{tree_digest};
+ghost use Rattle.block_tree.specs.Trees.{Tree, tree_digest};
 ghost use Rattle.block_tree.specs.TreeView.{tree_of};
-ghost use Rattle.block_tree.specs.declared.program.Program.{Program};
 ghost use Rattle.source_check.specs.SourceEvidences.{IsSourceEvidence};
 ghost use Rattle.cmd_check.specs.Sourcing.{EndsApart, HasFewBlocks, SaysStop, Unbuilt};
 ghost use Rattle.cmd_kit.specs.CheckSourceEnds.{accepted_source_line, other_program_line};
-ghost use Rattle.cmd_kit.specs.CheckSourceSteps.{built_steps, check_source_steps, held_steps, sourced_steps};
+ghost use Rattle.cmd_kit.specs.CheckSourceSteps.{check_source_steps, held_steps, sourced_steps};
 ghost use Rattle.cmd_kit.specs.Outcomes.{EndsIn, either};
 ghost use Rattle.cmd_kit.specs.SourceEnds.{AssemblesFiles};
 ghost use Rattle.cmd_kit.specs.Sources.{file_of};
-ghost use Rattle.cmd_kit.specs.Steps.{accepted, built};
+ghost use Rattle.cmd_kit.specs.Steps.{accepted, asking, checked};
 
 use crate::checking::{CheckNames, refuse};
 use air_kit::{Public, Trace};
@@ -95,7 +95,18 @@ fn read_and_hold<R: Threads + Sync, F: Shelf, G: Gate>(
     let kernel = load_kernel(alloc, shelf, kernel)?;
     let program = program_of(alloc, &params, &source, kernel.as_ref())?;
     let public = Public { params, statement };
-    Ok(judge_for(rt, alloc, seed, shelf, gate, public, trace, &program, names))
+    Ok(judge_for(
+        rt,
+        alloc,
+        seed,
+        shelf,
+        gate,
+        public,
+        trace,
+        &program,
+        b"accepted ran\n",
+        names,
+    ))
 }
 
 // The program of a source. An `Err` is how the command ends.
@@ -130,8 +141,9 @@ fn program_of(
     }
 }
 
-// Checks the trace: where it is accepted it is held against the program, and else its refusal is told.
-fn judge_for<R: Threads + Sync, F: Shelf, G: Gate>(
+/// Checks the trace: where it is accepted it is held against the program, and else its refusal is told. `ran` is the line that
+/// tells of a run.
+pub(crate) fn judge_for<R: Threads + Sync, F: Shelf, G: Gate>(
     rt: &R,
     alloc: Global,
     seed: Seed,
@@ -140,17 +152,19 @@ fn judge_for<R: Threads + Sync, F: Shelf, G: Gate>(
     public: Public,
     trace: Trace,
     program: &Program,
+    ran: &[u8],
     names: CheckNames<'_>,
 ) -> Outcome
     requires counts { HasCounts trace }
     requires evidence { length names.evidence.now ≤ most_name_bytes }
     requires pieces { (1 ≤ names.pieces) × (names.pieces ≤ 64) }
     requires few { HasFewBlocks (constants_of public.params) (tree_of program.now.tree) }
-    ensures { EndsIn (Some (built_steps names.entry.evidence.now (constants_of public.params) (stated_of public.statement) trace
-        (built program.now))) result (F.state shelf.old) (F.state shelf.new) }
+    ensures { EndsIn (Some (asking (checked (constants_of public.params) (stated_of public.statement) trace)
+        (held_steps names.entry.evidence.now (constants_of public.params) (stated_of public.statement) trace (tree_of program.now.tree) ran.now)))
+        result (F.state shelf.old) (F.state shelf.new) }
 {
     match check(rt, alloc, seed, trace, public, names.pieces, gate) {
-        Ok(valid) => accept_for(alloc, shelf, &valid, program, names.evidence),
+        Ok(valid) => accept_for(alloc, shelf, &valid, program, ran, names.evidence),
         Err(refused) => refuse(alloc, &refused),
     }
 }
@@ -161,15 +175,16 @@ fn accept_for<F: Shelf>(
     shelf: &mut F,
     valid: &Valid,
     program: &Program,
+    ran: &[u8],
     name: &str,
 ) -> Outcome
     requires name { length name.now ≤ most_name_bytes }
     requires few { HasFewBlocks (constants_of valid.now.public.params) (tree_of program.now.tree) }
     ensures { EndsIn (Some (held_steps name.now (constants_of valid.now.public.params) (stated_of valid.now.public.statement) valid.now.trace
-        program.now accepted)) result (F.state shelf.old) (F.state shelf.new) }
+        (tree_of program.now.tree) ran.now accepted)) result (F.state shelf.old) (F.state shelf.new) }
 {
     match sourced(alloc, valid, program) {
-        Ok(evidence) => save_evidence(alloc, shelf, &evidence, name),
+        Ok(evidence) => save_evidence(alloc, shelf, &evidence, ran, name),
         Err(apart) => apart,
     }
 }
@@ -204,28 +219,29 @@ fn save_evidence<F: Shelf>(
     alloc: Global,
     shelf: &mut F,
     evidence: &SourceEvidence,
+    ran: &[u8],
     name: &str,
 ) -> Outcome
     requires name { length name.now ≤ most_name_bytes }
-    ensures { (public : Public) (trace : Trace) (program : Program) → IsSourceEvidence public trace (tree_of program.tree) evidence.now
-        → EndsIn (Some (sourced_steps name.now (constants_of public.params) (stated_of public.statement) trace program)) result
+    ensures { (public : Public) (trace : Trace) (tree : Tree) → IsSourceEvidence public trace tree evidence.now
+        → EndsIn (Some (sourced_steps name.now (constants_of public.params) (stated_of public.statement) trace tree ran.now)) result
         (F.state shelf.old) (F.state shelf.new) }
 {
     let Ok(text) = write_source_evidence(alloc, evidence) else {
         return Outcome::Memory;
     };
     match save(alloc, shelf, name, text.as_slice()) {
-        Ok(()) => answered(Status::Ok, accepted_text(alloc, evidence)),
+        Ok(()) => answered(Status::Ok, accepted_text(alloc, evidence, ran)),
         Err(end) => end,
     }
 }
 
-// `accepted ran`, or `accepted` and the line of the clash
-fn accepted_text(alloc: Global, evidence: &SourceEvidence) -> Result<Bytes, Memory>
-    ensures { IfOk result (λ line. line ≡ accepted_source_line evidence.now) }
+// The line of a run, or `accepted` and the line of the clash
+fn accepted_text(alloc: Global, evidence: &SourceEvidence, ran: &[u8]) -> Result<Bytes, Memory>
+    ensures { IfOk result (λ line. line ≡ accepted_source_line ran.now evidence.now) }
 {
     match evidence {
-        SourceEvidence::Ran { .. } => Bytes::copied(alloc, b"accepted ran\n"),
+        SourceEvidence::Ran { .. } => Bytes::copied(alloc, ran),
         SourceEvidence::ClashFile { first, second } => {
             let mut line = Bytes::copied(alloc, b"accepted ")?;
             append_clash_of_file(&mut line, *first, *second)?;
@@ -239,7 +255,7 @@ fn accepted_text(alloc: Global, evidence: &SourceEvidence) -> Result<Bytes, Memo
     }
 }
 
-// Tells why there is no evidence: the digest of the statement, and that of the source.
+// Tells why there is no evidence: the digest of the statement, and that of the program.
 #[tactic(auto, using(cmd_kit::proofs::OutcomeLemmas::says_line))]
 fn tell_stop(alloc: Global, stop: &SourceStop) -> Outcome
     ensures { SaysStop stop.now result }

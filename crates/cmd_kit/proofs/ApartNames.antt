@@ -6,7 +6,7 @@ use Rattle.std.proofs.lemmas.Bool.{false≢true, and_parts}
 use Rattle.std.proofs.lemmas.Slice.Eq.{bytes_eq-Decides}
 use Rattle.cmd_words.specs.Words.{is_form, name_at, number_at, optional_name}
 use Rattle.workloads.specs.Workloads.{most_turns}
-use Rattle.cmd_kit.specs.Asked.{Asked, MadeNames, Outputs, nothing, hash, assemble, run, check, check_source, make, chain, runs, asked, are_apart, are_made_apart, is_apart, given_name, check_against, check_words, hash_words, assemble_words, run_words, make_words, run_of_names, outputs_in, limit_in, pieces_in, check_of_names, hash_of_names, assemble_of_names, make_of_names, made_names_in, chain_of_names, chain_words, runs_of_names, runs_words}
+use Rattle.cmd_kit.specs.Asked.{Asked, MadeNames, Outputs, nothing, hash, assemble, run, check, check_source, make, chain, runs, member, asked, are_apart, are_made_apart, is_apart, given_name, check_against, check_words, hash_words, assemble_words, run_words, make_words, run_of_names, outputs_in, limit_in, pieces_in, check_of_names, hash_of_names, assemble_of_names, make_of_names, made_names_in, chain_of_names, chain_words, runs_of_names, runs_words, depth_in, member_of_names, member_words}
 
 -- what is asked has outputs apart
 abbrev AreOutputsApart : Asked → Type 0
@@ -19,6 +19,7 @@ AreOutputsApart (check_source params table statement evidence source kernel) = U
 AreOutputsApart (make params turns names) = are_made_apart names params ≡ true
 AreOutputsApart (chain params list evidence) = is_apart evidence (params ∷ list ∷ []) ≡ true
 AreOutputsApart (runs params list) = Unit {0}
+AreOutputsApart (member params table statement evidence depth) = is_apart evidence (params ∷ table ∷ statement ∷ []) ≡ true
 
 if_either : (b : Bool) (x y : Asked) → (b ≡ true → AreOutputsApart x) → AreOutputsApart y → AreOutputsApart (if b then x else y)
 if_either true x y then_it otherwise = then_it refl
@@ -91,6 +92,19 @@ of_runs (Some params) (Some list) = tt
 of_runs (Some params) None = tt
 of_runs None list = tt
 
+of_member : (params table statement : Option (List ℕ)) (depth : Option (Option ℕ)) (evidence : Option (Option (List ℕ)))
+    (pieces : Option (Option ℕ)) → AreOutputsApart (member_of_names params table statement depth evidence pieces)
+of_member (Some params) (Some table) (Some statement) (Some (Some depth)) (Some (Some evidence)) (Some pieces) =
+    if_either (is_apart evidence (params ∷ table ∷ statement ∷ [])) (member params table statement evidence depth) nothing (λ apart. apart) tt
+of_member (Some params) (Some table) (Some statement) (Some (Some depth)) (Some (Some evidence)) None = tt
+of_member (Some params) (Some table) (Some statement) (Some (Some depth)) (Some None) pieces = tt
+of_member (Some params) (Some table) (Some statement) (Some (Some depth)) None pieces = tt
+of_member (Some params) (Some table) (Some statement) (Some None) evidence pieces = tt
+of_member (Some params) (Some table) (Some statement) None evidence pieces = tt
+of_member (Some params) (Some table) None depth evidence pieces = tt
+of_member (Some params) None statement depth evidence pieces = tt
+of_member None table statement depth evidence pieces = tt
+
 behind_form : (b : Bool) (x : Asked) → AreOutputsApart x → AreOutputsApart (if b then x else nothing)
 behind_form b x h = if_either b x nothing (λ is. h) tt
 
@@ -104,7 +118,8 @@ all_apart (command ∷ words) =
     (if_either (bytes_eq command (codes "run")) (run_words words) _ (λ is. of_run_words)
     (if_either (bytes_eq command (codes "make")) (make_words words) _ (λ is. of_make_words)
     (if_either (bytes_eq command (codes "chain")) (chain_words words) _ (λ is. of_chain_words)
-    (behind_form (bytes_eq command (codes "runs")) (runs_words words) of_runs_words))))))
+    (if_either (bytes_eq command (codes "runs")) (runs_words words) _ (λ is. of_runs_words)
+    (behind_form (bytes_eq command (codes "member")) (member_words words) of_member_words)))))))
   where
     kernel : Option (Option (List ℕ))
     kernel = optional_name (codes "--kernel") words
@@ -145,6 +160,14 @@ all_apart (command ∷ words) =
 
     of_runs_words : AreOutputsApart (runs_words words)
     of_runs_words = behind_form (is_form 2 [] words) (runs_of_names (name_at 0 words) (name_at 1 words)) (of_runs (name_at 0 words) (name_at 1 words))
+
+    of_member_words : AreOutputsApart (member_words words)
+    of_member_words =
+        behind_form (is_form 3 (codes "--depth" ∷ codes "--evidence" ∷ codes "--pieces" ∷ []) words)
+        (member_of_names (name_at 0 words) (name_at 1 words) (name_at 2 words) (depth_in words) (optional_name (codes "--evidence") words)
+        (pieces_in words))
+        (of_member (name_at 0 words) (name_at 1 words) (name_at 2 words) (depth_in words) (optional_name (codes "--evidence") words)
+        (pieces_in words))
 
 -- a name that is none of these is not the first of them, nor one behind it
 not_first : (output name : List ℕ) (names : List (List ℕ)) → is_apart output (name ∷ names) ≡ true → name ≢ output

@@ -17,7 +17,7 @@ use Rattle.cmd_kit.specs.declared.status.Status.{Status}
 use Rattle.cmd_kit.specs.declared.status.Status.TheVariants as status
 use Rattle.cmd_kit.specs.declared.answer.Answer.{Answer}
 use Rattle.cmd_kit.specs.Statuses.{StatusKind, planned, no_command, failed_read, failed_write, failed_print, no_memory, kind_of}
-use Rattle.cmd_kit.specs.Asked.{Asked, MadeNames, Outputs, nothing, hash, assemble, run, check, check_source, make, chain, runs, asked}
+use Rattle.cmd_kit.specs.Asked.{Asked, MadeNames, Outputs, nothing, hash, assemble, run, check, check_source, make, chain, runs, member, asked}
 use Rattle.cmd_kit.specs.Steps.{SourceFile, Steps, Verdict, accepted, refused, Course, course, checked, telling, assembly, ending, ends_with}
 use Rattle.cmd_kit.specs.SourceEnds.{AssemblesFiles}
 use Rattle.cmd_kit.specs.AssembleEnds as assembling
@@ -38,6 +38,7 @@ use Rattle.cmd_kit.proofs.Walks as walks
 use Rattle.cmd_kit.proofs.ChainComplete.{chained_well}
 use Rattle.cmd_kit.proofs.Courses.{bad_or_program, runs_out}
 use Rattle.cmd_kit.proofs.KernelReads.{kernel_read}
+use Rattle.cmd_kit.proofs.MemberComplete.{walked_well}
 use Rattle.cmd_kit.proofs.RunsComplete.{runs_well}
 use Rattle.cmd_kit.proofs.SourceComplete.{sourced_well}
 use Rattle.cmd_kit.proofs.Verdicts.{not_both}
@@ -161,6 +162,8 @@ module _ (s : Status) (line : List ℕ) (new : Option Files) (m : Files) where
       chained_well (ends_with s line) new m params list evidence good (subst Went (let e = are in cc) went)
   good_goes (runs params list) steps good are went =
       runs_well (ends_with s line) new m params list good (subst Went (let e = are in cc) went)
+  good_goes (member params table statement evidence depth) steps good are went =
+      walked_well (ends_with s line) new m params table statement evidence depth good (subst Went (let e = are in cc) went)
 
 good_ends : (c : Asked) (s : Status) (line : List ℕ) (old new : ShelfState) (m : Files) (steps : Steps) → steps_of c ≡ Some steps
     → old.files ≡ Some m → IsGood m c → Ends steps (ends_with s line) old new → s ≡ status.Ok
@@ -178,6 +181,7 @@ good_steps m (check_source params table statement evidence source kernel) good =
 good_steps m (make params turns names) good = (_, refl)
 good_steps m (chain params list evidence) good = (_, refl)
 good_steps m (runs params list) good = (_, refl)
+good_steps m (member params table statement evidence depth) good = (_, refl)
 
 -- whatever is answered
 good_answers : (kind : StatusKind) (c : Asked) (s : Status) (old new : ShelfState) (before now : SinkState) (m : Files) (steps : Steps)

@@ -8,6 +8,7 @@ use Rattle.block_tree.specs.declared.program.Program.{Program}
 use Rattle.masm_link.specs.declared.refusal.AsmCause.{AsmCause}
 use Rattle.masm_link.specs.declared.refusal.AsmError.TheVariants.{Bad, Memory}
 use Rattle.masm_link.proofs.OneAnswer.{one_program}
+use Rattle.std_u64.specs.Libraries.{u64_library}
 use Rattle.statement.specs.Inputs.{Given}
 use Rattle.cmd_kit.specs.RunEnds as ends
 use Rattle.cmd_kit.specs.RunEnds.{IsCourse, halted, trapped, unended, outcome_of}
@@ -19,7 +20,7 @@ pub bad_or_program : (constants : List ℕ) (source : SourceFile) (kernel : Opti
     (cause : AsmCause) → AssemblesFiles constants source kernel (Ok program)
     → AssemblesFiles constants source kernel (Err (Bad in_kernel line column cause)) → ⊥
 bad_or_program constants source kernel program in_kernel line column cause is bad =
-    apart (one_program constants source.text (option_map (λ k. k.text) kernel) program (Err (Bad in_kernel line column cause)) is bad)
+    apart (one_program constants u64_library source.text (option_map (λ k. k.text) kernel) program (Err (Bad in_kernel line column cause)) is bad)
   where
     apart : Bad in_kernel line column cause ≡ Memory → ⊥
     apart eq = cc
@@ -28,7 +29,7 @@ same_outcome : (constants : List ℕ) (source : SourceFile) (kernel : Option Sou
     → AssemblesFiles constants source kernel (Ok p) → AssemblesFiles constants source kernel (Ok q)
     → outcome_of constants q given limit ≡ outcome_of constants p given limit
 same_outcome constants source kernel p q given limit one other =
-    let same = one_program constants source.text (option_map (λ k. k.text) kernel) p (Ok q) one other in
+    let same = one_program constants u64_library source.text (option_map (λ k. k.text) kernel) p (Ok q) one other in
     ap₂ (λ words tree. execution.execution constants words limit tree (start given.stack given.advice)) same.2 same.0
 
 -- a program whose run ends in this state

@@ -1,5 +1,5 @@
 -- A kernel that stands is read on from, and so is none.
-use Rattle.std.proofs.Common.{◌≡◌, ℕ, List, Option, Some, None, sym, subst}
+use Rattle.std.proofs.Common.{ℕ, List, Option, Some, None, sym, subst}
 use Rattle.vm_io.specs.Shelf.{Files}
 use Rattle.cmd_kit.specs.declared.answer.Answer.{Answer}
 use Rattle.cmd_kit.specs.Completeness.{HoldsKernel}

@@ -8,7 +8,7 @@ use Rattle.cmd_kit.specs.declared.status.Status.{Status}
 use Rattle.cmd_kit.specs.declared.status.Status.TheVariants as status
 use Rattle.cmd_kit.specs.declared.answer.Answer.{Answer}
 use Rattle.cmd_kit.specs.Statuses.{StatusKind, planned, no_command, failed_read, failed_write, failed_print, no_memory, kind_of}
-use Rattle.cmd_kit.specs.Asked.{Asked, nothing, hash, assemble, run, check, check_source, make, chain, runs, asked}
+use Rattle.cmd_kit.specs.Asked.{Asked, nothing, hash, assemble, run, check, check_source, make, chain, runs, member, asked}
 use Rattle.cmd_kit.specs.Steps.{Steps, reading, writing, asking, ending}
 use Rattle.cmd_kit.specs.Commands.{steps_of}
 use Rattle.cmd_kit.specs.Serving.{Holds, Passes, none_yet, past_read, past_write, past_finding, ComesWhere, IsWriting, FrontWritten, Works, GivesUp, Prints, ServesAs}
@@ -106,6 +106,7 @@ no_steps (check_source params table statement evidence source kernel) none = abs
 no_steps (make params turns names) none = absurd (are_steps _ none)
 no_steps (chain params list evidence) none = absurd (are_steps _ none)
 no_steps (runs params list) none = absurd (are_steps _ none)
+no_steps (member params table statement evidence depth) none = absurd (are_steps _ none)
 
 pub usage_means_nothing : UsageMeansNothing
 usage_means_nothing words old new before now serves = no_steps (asked words) (go (steps_of (asked words)) serves)

@@ -9,12 +9,15 @@ pub mod Completeness
 pub mod Courses
 pub mod EvidenceLaw
 pub mod FullClaims
+pub mod Held
 pub mod KernelReads
 pub mod LawLemmas
 pub mod LentFiles
 pub mod LineLemmas
 pub mod MadeLaw
 pub mod MakeLaw
+pub mod MemberComplete
+pub mod MemberLaw
 pub mod RunLaw
 pub mod RunsChain
 pub mod RunsComplete

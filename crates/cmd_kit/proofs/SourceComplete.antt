@@ -1,32 +1,29 @@
 -- `check --source` over good files, walked step by step to its end.
-use Rattle.std.proofs.Common.{◌≡◌, ℕ, Bool, true, if◌then◌else◌, List, Option, Some, Ok, sym, ap, subst, ◌∙◌}
-use Rattle.std.specs.FinMap.{insert}
+use Rattle.std.proofs.Common.{◌≡◌, ℕ, List, Option, Some, Ok, sym, ap, subst, ◌∙◌}
 use Rattle.std.specs.Option.{option_map}
-use Rattle.std.specs.Str.{bytes_eq}
-use Rattle.std.proofs.lemmas.Slice.Eq.{bytes_eq-Decides}
 use Rattle.block_tree.specs.Trees.{tree_digest}
 use Rattle.block_tree.specs.TreeView.{tree_of}
 use Rattle.block_tree.specs.declared.program.Program.{Program}
 use Rattle.masm_link.proofs.OneAnswer.{one_program}
+use Rattle.std_u64.specs.Libraries.{u64_library}
 use Rattle.statement.specs.Statements.{Stated}
 use Rattle.air_kit.specs.declared.trace.Trace.{Trace}
 use Rattle.vm_io.specs.Shelf.{Files}
 use Rattle.cmd_kit.specs.declared.status.Status.TheVariants as status
 use Rattle.cmd_kit.specs.declared.answer.Answer.{Answer}
-use Rattle.cmd_kit.specs.CheckEnds.{IsVerdictFor}
 use Rattle.cmd_kit.specs.CheckSourceEnds as ends
-use Rattle.cmd_kit.specs.CheckSourceEnds.{IsBuild, other_program_line}
-use Rattle.cmd_kit.specs.CheckSourceSteps.{building_steps, built_steps, check_source_steps, held_steps, sourced_steps, with_source_steps}
+use Rattle.cmd_kit.specs.CheckSourceEnds.{IsBuild, ran_line}
+use Rattle.cmd_kit.specs.CheckSourceSteps.{building_steps, built_steps, check_source_steps, with_source_steps}
 use Rattle.cmd_kit.specs.Completeness.{IsAcceptedFor, IsGoodSourceCheck}
 use Rattle.cmd_kit.specs.Serving.{ComesWhere}
 use Rattle.cmd_kit.specs.SourceEnds.{AssemblesFiles}
 use Rattle.cmd_kit.specs.Starts.{with_params, with_statement, with_trace, statement_steps, trace_steps}
-use Rattle.cmd_kit.specs.Steps.{SourceFile, stop, telling_source, checked, sourced, Build, Verdict, accepted, refused, Steps, ending}
+use Rattle.cmd_kit.specs.Steps.{SourceFile, sourced, Build, Steps}
 use Rattle.cmd_kit.proofs.Courses.{bad_or_program}
+use Rattle.cmd_kit.proofs.Held.{held_ok}
 use Rattle.cmd_kit.proofs.KernelReads.{kernel_read}
-use Rattle.cmd_kit.proofs.Verdicts.{not_both}
 use Rattle.cmd_kit.proofs.Walks as walks
-use Rattle.cmd_kit.proofs.Walks.{ended, read_on, was_found, was_written}
+use Rattle.cmd_kit.proofs.Walks.{read_on, was_found}
 
 -- steps over these files that ended with an answer
 module _ (a : Answer) (new : Option Files) (m : Files) where
@@ -34,30 +31,13 @@ module _ (a : Answer) (new : Option Files) (m : Files) where
   Goes steps = ComesWhere steps (walks.Done a new) (Some m)
 
   -- the same program, whatever was assembled
-  held_ok : (evidence constants : List ℕ) (claim : Stated) (t : Trace) (source : SourceFile) (kernel : Option SourceFile) (p q : Program)
-      (v : Verdict) → AssemblesFiles constants source kernel (Ok p) → AssemblesFiles constants source kernel (Ok q)
-      → claim.digest ≡ tree_digest constants (tree_of p.tree) → IsAcceptedFor constants claim t → IsVerdictFor constants claim t v
-      → Goes (held_steps evidence constants claim t q v) → a.status ≡ status.Ok
-  held_ok evidence constants claim t source kernel p q accepted one other digest is found goes =
-      let same = one_program constants source.text (option_map (λ k. k.text) kernel) p (Ok q) one other in
-      let agree : bytes_eq claim.digest (tree_digest constants (tree_of q.tree)) ≡ true
-      = (bytes_eq-Decides claim.digest (tree_digest constants (tree_of q.tree))).1 (digest ∙ ap (tree_digest constants) (sym same.0)) in
-      let apart : Steps = ending (stop status.OtherProgram (other_program_line claim.digest (tree_digest constants (tree_of q.tree)))) in
-      let on : Goes (sourced_steps evidence constants claim t q)
-      = subst (λ (b : Bool). Goes (if b then sourced_steps evidence constants claim t q else apart)) agree goes in
-      let written = was_written a new evidence _ _ m on in
-      let told = ended a new (telling_source constants claim t q written.0) (insert m evidence written.0) written.2 in
-      ap (λ (b : Answer). b.status) told.0.is
-  held_ok evidence constants claim t source kernel p q (refused r) one other digest is found goes =
-      absurd (not_both found.against t r (is found.against found.is_public) found.found)
-
   built_ok : (evidence constants : List ℕ) (claim : Stated) (t : Trace) (source : SourceFile) (kernel : Option SourceFile) (program : Program)
       (found : Build) → AssemblesFiles constants source kernel (Ok program) → claim.digest ≡ tree_digest constants (tree_of program.tree)
       → IsAcceptedFor constants claim t → IsBuild constants source kernel found → Goes (built_steps evidence constants claim t found)
       → a.status ≡ status.Ok
   built_ok evidence constants claim t source kernel program found is digest accepts (ends.assembled other made) goes =
-      let v = was_found a new (checked constants claim t) (held_steps evidence constants claim t other) m goes in
-      held_ok evidence constants claim t source kernel program other v.0 is made digest accepts v.1 v.2
+      let same = one_program constants u64_library source.text (option_map (λ k. k.text) kernel) program (Ok other) is made in
+      held_ok evidence constants claim t (tree_of other.tree) ran_line m a new accepts (digest ∙ ap (tree_digest constants) (sym same.0)) goes
   built_ok evidence constants claim t source kernel program found is digest accepts (ends.refused in_kernel line column cause bad) goes =
       absurd (bad_or_program constants source kernel program in_kernel line column cause is bad)
 

@@ -2,11 +2,11 @@
 use Rattle.std.proofs.Common.{◌≡◌, ℕ, suc, ◌+◌, Bool, true, false, if◌then◌else◌, List, [], ◌∷◌, ◌++◌, length, rules, map, Option, Some, None, refl, sym, subst, Contains, Result, Ok, Err, arith}
 use Rattle.std.specs.List.{AllByRecursion}
 use Rattle.std.specs.Str.{bytes_eq}
-use Rattle.block_tree.specs.Trees.{tree_digest}
+use Rattle.block_tree.specs.Trees.{Tree, tree_digest}
 use Rattle.block_tree.specs.TreeView.{tree_of}
-use Rattle.block_tree.specs.declared.program.Program.{Program}
 use Rattle.rpo_hash.specs.declared.params.ParamError.{ParamError}
 use Rattle.rpo_hash.specs.ParamText.{parameters_of}
+use Rattle.merkle_lib.specs.Programs.{walk_tree}
 use Rattle.run_chain.specs.Lists.{Links, links_of}
 use Rattle.run_chain.specs.Names as names
 use Rattle.statement.specs.Inputs.{Given, inputs_of}
@@ -18,7 +18,7 @@ use Rattle.table_file.specs.declared.cause.FileError.TheVariants as file_error
 use Rattle.table_file.specs.declared.cause.FileError.TheVariants.{Bad}
 use Rattle.statement.specs.declared.refusal.TextCause.{TextCause}
 use Rattle.vm_io.specs.Shelf.{Files}
-use Rattle.cmd_kit.specs.Asked.{MadeNames, Outputs, nothing, hash, assemble, run, check, check_source, make, chain, runs}
+use Rattle.cmd_kit.specs.Asked.{MadeNames, Outputs, nothing, hash, assemble, run, check, check_source, make, chain, runs, member}
 use Rattle.cmd_kit.specs.Steps.{Build, Course, Verdict, SourceFile, Judged, assembly, stop, Steps, asking, ending, accepted, refused, built, unbuilt, ran, stopped, checked}
 use Rattle.cmd_kit.specs.Starts.{with_params, with_inputs, with_trace, with_statement, params_steps, source_steps, kernel_steps, inputs_steps, trace_steps, statement_steps}
 use Rattle.cmd_kit.specs.HashSteps.{hash_steps, numbers_steps}
@@ -26,9 +26,10 @@ use Rattle.cmd_kit.specs.AssembleSteps.{assemble_steps}
 use Rattle.cmd_kit.specs.RunSteps.{run_steps, running_steps, course_steps}
 use Rattle.cmd_kit.specs.CheckSteps.{check_steps, judging_steps, found_steps}
 use Rattle.cmd_kit.specs.CheckSourceSteps.{building_steps, built_steps, check_source_steps, held_steps, sourced_steps, with_source_steps}
-use Rattle.cmd_kit.specs.CheckSourceEnds.{other_program_line}
+use Rattle.cmd_kit.specs.CheckSourceEnds.{other_program_line, ran_line}
 use Rattle.cmd_kit.specs.declared.status.Status.TheVariants as status
 use Rattle.cmd_kit.specs.MakeSteps.{make_steps, making_steps, made_course_steps}
+use Rattle.cmd_kit.specs.MemberSteps.{member_line, member_steps, walked_steps}
 use Rattle.cmd_kit.specs.Links.{broken, list_steps, with_lines}
 use Rattle.cmd_kit.specs.ChainSteps.{ChainLink, chain_from, chain_given, chain_link, chain_steps, claimed_steps, follows_on, judged_steps, link_steps}
 use Rattle.cmd_kit.specs.RunsSteps.{RunLink, given_steps, has_no_cells, is_none_left, left_steps, link_course_steps, link_running_steps, run_link, run_link_steps, runs_from, runs_given, runs_steps}
@@ -132,19 +133,19 @@ either_writes_it : (name : List ℕ) (m : Files) (b : Bool) (x y : Steps) → Wr
 either_writes_it name m true x y h k = h
 either_writes_it name m false x y h k = k
 
--- so it does where a source stands beside it
+-- so it does where a tree stands beside it
 module _ (name : List ℕ) (m : Files) where
-  only_for_source : (constants : List ℕ) (claim : Stated) (t : Trace) (program : Program) (finding : Verdict)
-      → WritesOnly (name ∷ []) (held_steps name constants claim t program finding) m
-  only_for_source constants claim t program accepted =
-      either_writes_it name m (bytes_eq claim.digest (tree_digest constants (tree_of program.tree))) (sourced_steps name constants claim t program)
-      (ending (stop status.OtherProgram (other_program_line claim.digest (tree_digest constants (tree_of program.tree)))))
+  only_for_tree : (constants : List ℕ) (claim : Stated) (t : Trace) (tree : Tree) (line : List ℕ) (finding : Verdict)
+      → WritesOnly (name ∷ []) (held_steps name constants claim t tree line finding) m
+  only_for_tree constants claim t tree line accepted =
+      either_writes_it name m (bytes_eq claim.digest (tree_digest constants tree)) (sourced_steps name constants claim t tree line)
+      (ending (stop status.OtherProgram (other_program_line claim.digest (tree_digest constants tree))))
       (search rules, λ bytes. tt) tt
-  only_for_source constants claim t program (refused why) = tt
+  only_for_tree constants claim t tree line (refused why) = tt
 
   only_of_build : (constants : List ℕ) (claim : Stated) (t : Trace) (found : Build)
       → WritesOnly (name ∷ []) (built_steps name constants claim t found) m
-  only_of_build constants claim t (built program) = λ finding. only_for_source constants claim t program finding
+  only_of_build constants claim t (built program) = λ finding. only_for_tree constants claim t (tree_of program.tree) ran_line finding
   only_of_build constants claim t (unbuilt a) = tt
 
 check_source_writes : (params table statement evidence source : List ℕ) (kernel : Option (List ℕ)) (m : Files)
@@ -158,6 +159,17 @@ check_source_writes params table statement evidence source kernel m =
   where
     with_table : List ℕ → Trace → Steps
     with_table constants trace = statement_steps statement (with_source_steps evidence source kernel constants trace)
+
+member_writes : (params table statement evidence : List ℕ) (depth : ℕ) (m : Files)
+    → WritesOnly (evidence ∷ []) (member_steps params table statement evidence depth) m
+member_writes params table statement evidence depth m =
+    only_behind_params (evidence ∷ []) m params (λ constants. trace_steps table (with_table constants)) (λ constants.
+    only_behind_trace (evidence ∷ []) m table (with_table constants) (λ t.
+    only_behind_statement (evidence ∷ []) m statement (walked_steps evidence depth constants t) (λ claim finding.
+    only_for_tree evidence m constants claim t (walk_tree depth) (member_line claim) finding)))
+  where
+    with_table : List ℕ → Trace → Steps
+    with_table constants trace = statement_steps statement (walked_steps evidence depth constants trace)
 
 make_writes : (params : List ℕ) (turns : ℕ) (names : MadeNames) (m : Files)
     → WritesOnly (names.source ∷ names.inputs ∷ []) (make_steps params turns names) m
@@ -302,3 +314,5 @@ commands_write (chain params list evidence) steps m is =
     subst (λ x. WritesOnly (evidence ∷ []) x m) (some_steps _ _ is) (chain_writes params list evidence m)
 commands_write (runs params list) steps m is =
     subst (λ x. WritesOnly (outputs_of m (runs params list)) x m) (some_steps _ _ is) (runs_write params list m)
+commands_write (member params table statement evidence depth) steps m is =
+    subst (λ x. WritesOnly (evidence ∷ []) x m) (some_steps _ _ is) (member_writes params table statement evidence depth m)

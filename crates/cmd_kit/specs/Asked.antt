@@ -26,6 +26,7 @@ pub data Asked : Type 0 where
   make : (params : List ℕ) (turns : ℕ) (names : MadeNames) → Asked
   chain : (params list evidence : List ℕ) → Asked
   runs : (params list : List ℕ) → Asked
+  member : (params table statement evidence : List ℕ) (depth : ℕ) → Asked
 
 abbrev pub hash_of_names : Option (List ℕ) → Option (List ℕ) → Asked
 hash_of_names (Some params) (Some numbers) = hash params numbers
@@ -163,6 +164,33 @@ runs_of_names params list = nothing
 abbrev pub runs_words : List (List ℕ) → Asked
 runs_words words = if is_form 2 [] words then runs_of_names (name_at 0 words) (name_at 1 words) else nothing
 
+-- the most steps of a path
+abbrev pub most_depth : ℕ
+most_depth = 64
+
+-- how many steps of a path the words give, if they give a number
+abbrev pub depth_in : List (List ℕ) → Option (Option ℕ)
+depth_in words = optional_number 1 most_depth (codes "--depth") words
+
+abbrev pub member_apart : List ℕ → List ℕ → List ℕ → List ℕ → ℕ → Asked
+member_apart params table statement evidence depth =
+    if is_apart evidence (params ∷ table ∷ statement ∷ []) then member params table statement evidence depth else nothing
+
+abbrev pub member_of_names : Option (List ℕ) → Option (List ℕ) → Option (List ℕ) → Option (Option ℕ) → Option (Option (List ℕ))
+    → Option (Option ℕ) → Asked
+member_of_names (Some params) (Some table) (Some statement) (Some (Some depth)) (Some (Some evidence)) (Some pieces) =
+    member_apart params table statement evidence depth
+member_of_names params table statement depth evidence pieces = nothing
+
+-- `member`, the names of the parameters, the table file and the statement, a number of steps, the name of the evidence, which no other
+-- name is, and a number of pieces where it is given
+abbrev pub member_words : List (List ℕ) → Asked
+member_words words =
+    if is_form 3 (codes "--depth" ∷ codes "--evidence" ∷ codes "--pieces" ∷ []) words
+    then member_of_names (name_at 0 words) (name_at 1 words) (name_at 2 words) (depth_in words) (optional_name (codes "--evidence") words)
+    (pieces_in words)
+    else nothing
+
 unfoldable pub asked : List (List ℕ) → Asked
 asked [] = nothing
 asked (command ∷ words) =
@@ -173,4 +201,5 @@ asked (command ∷ words) =
     else if bytes_eq command (codes "make") then make_words words
     else if bytes_eq command (codes "chain") then chain_words words
     else if bytes_eq command (codes "runs") then runs_words words
+    else if bytes_eq command (codes "member") then member_words words
     else nothing

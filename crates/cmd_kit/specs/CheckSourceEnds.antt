@@ -1,7 +1,7 @@
--- What `check --source` finds of a source, what it writes, and its ends (docs/FORMATS.md).
+-- What `check --source` finds of a source, what it writes, and its ends (docs/FORMATS.md). What it writes and tells is said for any tree.
 use Rattle.std.specs.Prelude.{◌≡◌, ℕ, Bool, List, ◌++◌, codes, Option, Ok, Err}
 use Rattle.vm_field.specs.WordText.{word_hex}
-use Rattle.block_tree.specs.TreeView.{tree_of}
+use Rattle.block_tree.specs.Trees.{Tree}
 use Rattle.block_tree.specs.declared.program.Program.{Program}
 use Rattle.masm_link.specs.declared.refusal.AsmCause.{AsmCause}
 use Rattle.masm_link.specs.declared.refusal.AsmError.TheVariants.{Bad}
@@ -25,31 +25,36 @@ pub data IsBuild (constants : List ℕ) (source : SourceFile) (kernel : Option S
       → IsBuild constants source kernel
       (unbuilt (ends_with status.Source (source_line (name_of_place in_kernel source kernel) line column cause)))
 
--- the evidence is that of the trace for this program, under these constants, of what is claimed
-pub record IsSourceEvidenceFor (constants : List ℕ) (claim : Stated) (trace : Trace) (program : Program) (evidence : SourceEvidence) : Type 0 where
+-- the evidence is that of the trace for this tree, under these constants, of what is claimed
+pub record IsSourceEvidenceFor (constants : List ℕ) (claim : Stated) (trace : Trace) (tree : Tree) (evidence : SourceEvidence) : Type 0 where
   pub against : Public
   pub is_public : IsPublic constants claim against
-  pub is_evidence : IsSourceEvidence against trace (tree_of program.tree) evidence
+  pub is_evidence : IsSourceEvidence against trace tree evidence
 
 -- the text of such evidence
-pub record IsSourceEvidenceText (constants : List ℕ) (claim : Stated) (trace : Trace) (program : Program) (bytes : List ℕ) : Type 0 where
+pub record IsSourceEvidenceText (constants : List ℕ) (claim : Stated) (trace : Trace) (tree : Tree) (bytes : List ℕ) : Type 0 where
   pub evidence : SourceEvidence
-  pub is_evidence : IsSourceEvidenceFor constants claim trace program evidence
+  pub is_evidence : IsSourceEvidenceFor constants claim trace tree evidence
   pub text : bytes ≡ source_evidence_text evidence
 
-abbrev pub accepted_source_line : SourceEvidence → List ℕ
-accepted_source_line (Ran cycles tree tape) = codes "accepted ran\n"
-accepted_source_line (ClashFile first second) = codes "accepted " ++ clash_file_text first second
-accepted_source_line (ClashNode address node) = codes "accepted " ++ clash_node_text address node
+-- the line that `check --source` tells of a run
+abbrev pub ran_line : List ℕ
+ran_line = codes "accepted ran\n"
+
+-- the line that is told of evidence, where `ran` is that of a run
+abbrev pub accepted_source_line : List ℕ → SourceEvidence → List ℕ
+accepted_source_line ran (Ran cycles tree tape) = ran
+accepted_source_line ran (ClashFile first second) = codes "accepted " ++ clash_file_text first second
+accepted_source_line ran (ClashNode address node) = codes "accepted " ++ clash_node_text address node
 
 -- it is told which evidence this is the text of
-pub record TellsSourceEvidence (constants : List ℕ) (claim : Stated) (trace : Trace) (program : Program) (written : List ℕ) (a : Answer)
+pub record TellsSourceEvidence (constants : List ℕ) (claim : Stated) (trace : Trace) (tree : Tree) (ran written : List ℕ) (a : Answer)
     : Type 0 where
   pub evidence : SourceEvidence
-  pub is_evidence : IsSourceEvidenceFor constants claim trace program evidence
+  pub is_evidence : IsSourceEvidenceFor constants claim trace tree evidence
   pub text : written ≡ source_evidence_text evidence
-  pub is : a ≡ ends_with status.Ok (accepted_source_line evidence)
+  pub is : a ≡ ends_with status.Ok (accepted_source_line ran evidence)
 
--- the digest of the statement, and the source's
+-- the digest of the statement, and the program's
 abbrev pub other_program_line : List ℕ → List ℕ → List ℕ
 other_program_line stated own = codes "other program " ++ word_hex stated ++ codes " " ++ word_hex own ++ codes "\n"

@@ -10,6 +10,7 @@ use Rattle.block_tree.specs.Execution.{Done}
 use Rattle.block_tree.specs.Trees.{tree_digest}
 use Rattle.block_tree.specs.TreeView.{tree_of}
 use Rattle.block_tree.specs.declared.program.Program.{Program}
+use Rattle.merkle_lib.specs.Programs.{walk_tree}
 use Rattle.number_files.specs.Grammar.{numbers_of}
 use Rattle.run_chain.specs.Following.{first_stack}
 use Rattle.run_chain.specs.Lists.{links_of}
@@ -24,7 +25,7 @@ use Rattle.vm_io.specs.Sink.{SinkState}
 use Rattle.cmd_kit.specs.declared.status.Status.{Status}
 use Rattle.cmd_kit.specs.declared.status.Status.TheVariants as status
 use Rattle.cmd_kit.specs.Statuses.{StatusKind, planned, no_command, failed_read, failed_write, failed_print, no_memory, kind_of}
-use Rattle.cmd_kit.specs.Asked.{Asked, nothing, hash, assemble, run, check, check_source, make, chain, runs, asked}
+use Rattle.cmd_kit.specs.Asked.{Asked, nothing, hash, assemble, run, check, check_source, make, chain, runs, member, asked}
 use Rattle.cmd_kit.specs.Steps.{SourceFile, Judged, accepted}
 use Rattle.cmd_kit.specs.Links.{most_list_bytes}
 use Rattle.cmd_kit.specs.ChainSteps.{ChainLink, chain_given, chain_link}
@@ -120,6 +121,17 @@ pub record IsGoodSourceCheck (m : Files) (params table statement source : List �
   pub found : IsAcceptedFor constants claim trace
   pub digest : claim.digest ≡ tree_digest constants (tree_of program.tree)
 
+-- and the statement has the digest of the program that walks a path of so many steps
+pub record IsGoodMember (m : Files) (params table statement : List ℕ) (depth : ℕ) : Type 0 where
+  pub constants : List ℕ
+  pub trace : Trace
+  pub claim : Stated
+  pub params_say : FileSays m params most_params_bytes parameters_of constants
+  pub table_says : FileSays m table most_table_bytes trace_of trace
+  pub statement_says : FileSays m statement most_statement_bytes statement_of claim
+  pub found : IsAcceptedFor constants claim trace
+  pub digest : claim.digest ≡ tree_digest constants (walk_tree depth)
+
 -- the source that is made has a program, and its run on the inputs that are made ends
 pub record IsGoodMake (m : Files) (params source : List ℕ) (turns : ℕ) : Type 0 where
   pub constants : List ℕ
@@ -209,6 +221,7 @@ IsGood m (check_source params table statement evidence source kernel) = IsGoodSo
 IsGood m (make params turns names) = IsGoodMake m params names.source turns
 IsGood m (chain params list evidence) = IsGoodChain m params list evidence
 IsGood m (runs params list) = IsGoodRuns m params list
+IsGood m (member params table statement evidence depth) = IsGoodMember m params table statement depth
 
 -- a read, a write or a print failed, or memory was refused
 abbrev pub IsFault : StatusKind → Type 0

@@ -14,7 +14,7 @@ use Rattle.vm_io.specs.Sink.{SinkState, with_piece}
 use Rattle.cmd_kit.specs.declared.status.Status.{Status}
 use Rattle.cmd_kit.specs.declared.status.Status.TheVariants as status
 use Rattle.cmd_kit.specs.Statuses.{kind_of, planned}
-use Rattle.cmd_kit.specs.Asked.{Asked, Outputs, nothing, hash, assemble, run, check, check_source, make, chain, runs, asked}
+use Rattle.cmd_kit.specs.Asked.{Asked, Outputs, nothing, hash, assemble, run, check, check_source, make, chain, runs, member, asked}
 use Rattle.cmd_kit.specs.Steps.{Finding, accepted, Steps, reading, writing, asking, ending}
 use Rattle.cmd_kit.specs.CheckEnds.{IsEvidenceFor, IsVerdictFor, accepted_line}
 use Rattle.cmd_kit.specs.Commands.{steps_of}
@@ -49,8 +49,8 @@ abbrev pub listed_outputs : List ℕ → List ℕ → Option (List ℕ) → List
 listed_outputs params list None = []
 listed_outputs params list (Some bytes) = names_of_outputs (links_of (runs_given params list) bytes)
 
--- the files that a command writes: `run` its tables and its statement, `check` its evidence, `make` its source and its inputs, `chain` its
--- evidence, and `runs`, over the files of m, those that its list names
+-- the files that a command writes: `run` its tables and its statement, `check` its evidence, `make` its source and its inputs, `chain` and
+-- `member` their evidence, and `runs`, over the files of m, those that its list names
 abbrev pub outputs_of : Files → Asked → List (List ℕ)
 outputs_of m nothing = []
 outputs_of m (hash params numbers) = []
@@ -61,6 +61,7 @@ outputs_of m (check_source params table statement evidence source kernel) = evid
 outputs_of m (make params turns names) = names.source ∷ names.inputs ∷ []
 outputs_of m (chain params list evidence) = evidence ∷ []
 outputs_of m (runs params list) = listed_outputs params list (get m list)
+outputs_of m (member params table statement evidence depth) = evidence ∷ []
 
 -- no command writes other files
 abbrev pub CommandsWrite : Type 0

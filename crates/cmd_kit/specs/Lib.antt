@@ -18,6 +18,8 @@ pub mod MakeEnds
 pub mod MakeLaws
 pub mod MakeSteps
 pub mod Malformed
+pub mod MemberLaws
+pub mod MemberSteps
 pub mod Outcomes
 pub mod RefusalLines
 pub mod RunEnds

@@ -5,11 +5,12 @@ use Rattle.masm_link.specs.declared.refusal.AsmCause.{AsmCause}
 use Rattle.masm_link.specs.declared.refusal.AsmError.{AsmError}
 use Rattle.masm_link.specs.Assembling.{Assembles}
 use Rattle.masm_link.specs.Causes.{text_of_cause}
+use Rattle.std_u64.specs.Libraries.{u64_library}
 use Rattle.cmd_kit.specs.Steps.{SourceFile}
 
--- what a source and its kernel are assembled to
+-- what a source, with the library of procedures on numbers of 64 bits, and its kernel are assembled to
 abbrev pub AssemblesFiles : List ℕ → SourceFile → Option SourceFile → Result Program AsmError → Type 0
-AssemblesFiles constants source kernel = Assembles constants source.text (option_map (λ k. k.text) kernel)
+AssemblesFiles constants source kernel = Assembles constants u64_library source.text (option_map (λ k. k.text) kernel)
 
 -- the name of the file in which a place lies
 abbrev pub name_of_place : Bool → SourceFile → Option SourceFile → List ℕ

@@ -11,7 +11,7 @@ use Rattle.vm_io.specs.Shelf.{Files, ShelfState}
 use Rattle.vm_io.specs.Sink.{SinkState, with_piece}
 use Rattle.cmd_kit.specs.declared.status.Status.TheVariants as status
 use Rattle.cmd_kit.specs.Asked.{check_source, asked}
-use Rattle.cmd_kit.specs.CheckSourceEnds.{IsSourceEvidenceFor, accepted_source_line}
+use Rattle.cmd_kit.specs.CheckSourceEnds.{IsSourceEvidenceFor, accepted_source_line, ran_line}
 use Rattle.cmd_kit.specs.Completeness.{IsGoodSourceCheck}
 use Rattle.cmd_kit.specs.Serving.{Serves}
 
@@ -28,10 +28,10 @@ pub record SourceStands (params table statement output source : List ℕ) (kerne
     (before now : SinkState) : Type 0 where
   pub good : IsGoodSourceCheck m params table statement source kernel
   pub evidence : SourceEvidence
-  pub is_evidence : IsSourceEvidenceFor good.constants good.claim good.trace good.program evidence
+  pub is_evidence : IsSourceEvidenceFor good.constants good.claim good.trace (tree_of good.program.tree) evidence
   pub own_tree : HasNoDyn (tree_of good.program.tree) → RanTree (tree_of good.program.tree) evidence
   pub files : new.files ≡ Some (insert m output (source_evidence_text evidence))
-  pub taken : now ≡ record before { taken = with_piece before.taken (accepted_source_line evidence) }
+  pub taken : now ≡ record before { taken = with_piece before.taken (accepted_source_line ran_line evidence) }
 
 -- Where `check --source` answers `Ok`, its files are accepted, and what it wrote is evidence for the source.
 abbrev pub AcceptedSourceRan : Type 0

@@ -2,6 +2,7 @@
 use Rattle.std.specs.Prelude.{ℕ, List, ◌++◌, codes, Option}
 use Rattle.vm_field.specs.Machine.{State}
 use Rattle.block_tree.specs.Execution as run
+use Rattle.block_tree.specs.Trees.{Tree}
 use Rattle.block_tree.specs.declared.program.Program.{Program}
 use Rattle.cmd_kit.specs.declared.status.Status.{Status}
 use Rattle.cmd_kit.specs.declared.answer.Answer.{Answer}
@@ -23,8 +24,8 @@ pub data End : Type 0 where
   assembly : (constants : List ℕ) (source : SourceFile) (kernel : Option SourceFile) → End
   -- it is told what evidence was written for a trace, under these constants, of what is claimed
   telling : (constants : List ℕ) (claim : Stated) (trace : Trace) (written : List ℕ) → End
-  -- the same of evidence for a program
-  telling_source : (constants : List ℕ) (claim : Stated) (trace : Trace) (program : Program) (written : List ℕ) → End
+  -- the same of evidence for this tree; of a run it is told by the line `ran`
+  telling_source : (constants : List ℕ) (claim : Stated) (trace : Trace) (tree : Tree) (ran written : List ℕ) → End
 
 -- a trace, and what is claimed of it
 pub record Judged : Type 0 where
@@ -41,8 +42,8 @@ pub data Right : Type 0 where
   statement_of : (claim : Stated) → Right
   -- the text of evidence for a trace, under these constants, of what is claimed
   evidence_for : (constants : List ℕ) (claim : Stated) (trace : Trace) → Right
-  -- the text of evidence for a program, from that of a trace, under these constants, of what is claimed
-  source_evidence_for : (constants : List ℕ) (claim : Stated) (trace : Trace) (program : Program) → Right
+  -- the text of evidence for this tree, from that of a trace, under these constants, of what is claimed
+  source_evidence_for : (constants : List ℕ) (claim : Stated) (trace : Trace) (tree : Tree) → Right
   -- the text of evidence for each link of a chain, in order, under these constants
   chain_evidence : (constants : List ℕ) (judged : List Judged) → Right
 

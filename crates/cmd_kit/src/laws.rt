@@ -4,12 +4,15 @@ ghost use Rattle.cmd_kit.specs.Completeness.{GoodIsOk, OneVerdict};
 ghost use Rattle.cmd_kit.specs.RunLaws.{AnsweredRunStands, RunLeavesGoodFiles};
 ghost use Rattle.cmd_kit.specs.Laws.{OtherFilesStay, CommandsWrite, UsageMeansNothing, NothingGivesUsage, AcceptedHasEvidence, WrittenRunIsAccepted};
 ghost use Rattle.cmd_kit.specs.MakeLaws.{AnsweredMakeStands, MakeIsNotRefused};
+ghost use Rattle.cmd_kit.specs.MemberLaws.{MemberHasPath};
 ghost use Rattle.cmd_kit.specs.RunsLaws.{AnsweredRunsStand, RunsLeaveLinks, RunsLeaveWholeLinks, RunsMakeAChain, RunsTellTheLink};
+
+use table_file::file_laws;
 
 /// Which files `serve` may change, over a shelf that tells its files: whatever the answer, those
 /// that the command writes and no others: `run` its tables and its statement, `check` its evidence, with a source or without,
-/// `make` its source and its inputs, `chain` its evidence, `runs` the table files and the statements that its list
-/// names, and no other command a file.
+/// `make` its source and its inputs, `chain` and `member` their evidence, `runs` the table files and the statements that
+/// its list names, and no other command a file.
 pub fn other_files_stay()
     ensures stay { OtherFilesStay }
     ensures write { CommandsWrite }
@@ -39,6 +42,18 @@ pub fn accepted_has_evidence()
 pub fn accepted_source_ran()
     ensures { AcceptedSourceRan }
 {}
+
+/// What `member` vouches for, over a shelf that tells its files: where it answers `Ok`, the table file is accepted for the
+/// statement under the parameters, the statement has the digest of the program that walks a path of so many steps, and what
+/// stands under the evidence's name is the text of evidence for that program. Evidence of a run is one of the program's own
+/// tree, its tape is a Merkle path of so many steps, and the line that was printed has the leaf and the root between which
+/// this path leads: the first four cells of the stack at the start, and the next four. Other evidence is two hashes of
+/// different inputs and one digest.
+pub fn member_has_path()
+    ensures { MemberHasPath }
+{
+    file_laws();
+}
 
 /// What `chain` vouches for, over a shelf that tells its files: where it answers `Ok`, each statement of its list
 /// follows the one before, each table file is accepted for its statement under the parameters, and what stands under
@@ -110,11 +125,11 @@ pub fn runs_leave_whole_links()
 
 /// No command is refused what it can do, over a shelf that tells its files. Where its files are there,
 /// within their lengths and of their forms, and where the source of `assemble` has a program, that of `run`
-/// and that of `make` one that ends within the limit, the trace of `check` is accepted, the source beside it has a program
-/// of the statement's digest, those of `chain` are and each
-/// statement follows the one before, and the programs of `runs` end, each from what the one before left, it is answered
-/// `Ok`, unless a read, a write, the sink or memory fails. A trace that is accepted with one value of the constants and of
-/// the claim is accepted with each.
+/// and that of `make` one that ends within the limit, the traces of `check`, of `member` and of `chain` are accepted, the
+/// source beside one has a program of the statement's digest, the program of `member` has the digest of its statement, each
+/// statement of `chain` follows the one before, and the programs of `runs` end, each from what the one before left, it is
+/// answered `Ok`, unless a read, a write, the sink or memory fails. A trace that is accepted with one value of the constants
+/// and of the claim is accepted with each.
 pub fn good_files_are_served()
     ensures served { GoodIsOk }
     ensures accepted { OneVerdict }

@@ -21,8 +21,8 @@ pub use bad_forms::{malformed, malformed_text};
 pub use laws::{
     accepted_has_evidence, accepted_source_ran, answered_make_stands, answered_run_stands,
     answered_runs_stand, chain_has_evidence, good_files_are_served, make_is_not_refused,
-    other_files_stay, run_leaves_good_files, runs_leave_whole_links, runs_make_a_chain,
-    usage_is_for_no_command, written_run_is_accepted,
+    member_has_path, other_files_stay, run_leaves_good_files, runs_leave_whole_links,
+    runs_make_a_chain, usage_is_for_no_command, written_run_is_accepted,
 };
 pub use lines::append_word;
 pub use links::{MOST_LIST_BYTES, broken_link, lines_of_list, text_of_link};

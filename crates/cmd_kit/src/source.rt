@@ -10,9 +10,10 @@ use crate::outcome::{Outcome, answered};
 use crate::status::Status;
 use block_tree::Program;
 use decimal_text::append_number;
-use masm_link::{AsmCause, AsmError, assemble, cause_text};
+use masm_link::{AsmCause, AsmError, assemble_with, cause_text};
 use rpo_hash::Params;
 use std::alloc::Global;
+use std_u64::library;
 use vm_field::{Bytes, Memory};
 
 /// A file of source: its name, and its bytes.
@@ -22,7 +23,7 @@ pub struct SourceFile<'a> {
     pub text: Bytes,
 }
 
-/// The program of a source with a kernel, or with none.
+/// The program of a source with a kernel, or with none. The source may use the procedures of `std_u64::library`.
 pub fn assemble_sources(
     alloc: Global,
     constants: &Params,
@@ -33,11 +34,15 @@ pub fn assemble_sources(
     requires kernel { IfSome kernel (λ k. length k.now.text ≤ most_source_bytes) }
     ensures { AssemblesFiles (constants_of constants.now) (file_of source.now) (option_map (λ k. file_of k.now) kernel.entry) result }
 {
+    let Ok(library) = library(alloc) else {
+        return Err(AsmError::Memory);
+    };
     let text = source.text.as_slice();
-    match kernel {
-        Some(kernel) => assemble(alloc, constants, text, Some(kernel.text.as_slice())),
-        None => assemble(alloc, constants, text, None),
-    }
+    let kernel = match kernel {
+        Some(kernel) => Some(kernel.text.as_slice()),
+        None => None,
+    };
+    assemble_with(alloc, constants, &library, text, kernel)
 }
 
 /// The name of the file in which a place lies.

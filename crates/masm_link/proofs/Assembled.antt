@@ -16,6 +16,7 @@ use Rattle.masm_flat.specs.Blocks.{Block, seen_as, as_tree}
 use Rattle.masm_flat.specs.Lists.{Exported, outside_of}
 use Rattle.masm_link.specs.declared.linking.Linked.{Linked}
 use Rattle.masm_link.specs.declared.refusal.AsmError.{AsmError}
+use Rattle.masm_link.specs.Libraries.{LibraryProcedure, with_library}
 use Rattle.masm_link.specs.Assembling.{reads, KernelExports, no_kernel, of_kernel, export_digest, export_of, without_repeats, Assembles, assembled, kernel_refused, refused, no_memory}
 use Rattle.masm_tables.specs.Kernels.{IsExport, AreExports}
 use Rattle.masm_link.specs.Measures.{IsLinked}
@@ -30,20 +31,20 @@ none_from_map f g (Some x) b e not_so = cc
 
 -- the kernel
 module _ (constants : List ℕ) where
-  pub kernel_linked : (text : List ℕ) (linked : Linked) → LinksIn constants true text [] (Ok linked) → is_some linked.main ≡ false
+  pub kernel_linked : (text : List ℕ) (linked : Linked) → LinksIn constants true [] text [] (Ok linked) → is_some linked.main ≡ false
       → (kernel : Option (List ℕ)) → kernel ≡ Some text → ExportsIn constants kernel (Ok linked.exports)
   kernel_linked text linked links not_so kernel is =
       let found = links [] tt in
-      let here : IsLinked found.0 (outside_of constants []) linked = found.2 in
+      let here : IsLinked (with_library [] found.0) (outside_of constants []) linked = found.2 in
       let no_main = none_from_map tree_of (seen_as as_tree) linked.main here.main here.tree not_so in
       let of = of_kernel text here.exports (record {
         source = found.0;
         read = found.1;
-        links = subst (λ m. Links found.0 (outside_of constants []) here.exports m) no_main here.links;
+        links = subst (λ m. Links (with_library [] found.0) (outside_of constants []) here.exports m) no_main here.links;
       }) in
       (here.exports, subst (λ k. KernelExports constants k here.exports) (sym is) of, here.are)
 
-  pub kernel_stopped : (text : List ℕ) (refusal : AsmError) → LinksIn constants true text [] (Err refusal) → (kernel : Option (List ℕ))
+  pub kernel_stopped : (text : List ℕ) (refusal : AsmError) → LinksIn constants true [] text [] (Err refusal) → (kernel : Option (List ℕ))
       → kernel ≡ Some text → ExportsIn constants kernel (Err refusal)
   kernel_stopped text refusal (inl memory) kernel is = inl memory
   kernel_stopped text refusal (inr refuses) kernel is = inr (text, is, refuses [] tt)
@@ -96,7 +97,7 @@ zip_length R (x ∷ xs) (y ∷ ys) h = ap suc (zip_length R xs ys h.1)
 few_linked : (constants : List ℕ) (kernel : Option (List ℕ)) (exports : List Exported) → KernelExports constants kernel exports → length exports ≤ 255
 few_linked constants _ _ no_kernel = omega arith
 few_linked constants _ _ (of_kernel text exports links) =
-    let procs = links.source.procs in
+    let procs = (with_library [] links.source).procs in
     let same = zip_length _ (exported_of procs) exports links.links.exported in
     elim (cases_lt 255 (length (exported_of procs))) [
       | inl more ↦
@@ -131,32 +132,32 @@ exports_same constants (e ∷ exports) (p ∷ procs) are =
     ap₂ (λ d ds. d ∷ ds) (ap₂ (λ n d. record { name = n; digest = d }) are.0.name (ap (tree_digest constants) are.0.tree))
     (exports_same constants exports procs are.1)
 
-module _ (constants text : List ℕ) (kernel : Option (List ℕ)) where
-  pub stopped_kernel : (refusal : AsmError) → ExportsIn constants kernel (Err refusal) → Assembles constants text kernel (Err refusal)
-  stopped_kernel refusal (inl memory) = subst (λ e. Assembles constants text kernel (Err e)) (sym memory) no_memory
-  stopped_kernel refusal (inr h) = subst (λ k. Assembles constants text k (Err refusal)) (sym h.1) (kernel_refused h.0 refusal h.2)
+module _ (constants : List ℕ) (library : List LibraryProcedure) (text : List ℕ) (kernel : Option (List ℕ)) where
+  pub stopped_kernel : (refusal : AsmError) → ExportsIn constants kernel (Err refusal) → Assembles constants library text kernel (Err refusal)
+  stopped_kernel refusal (inl memory) = subst (λ e. Assembles constants library text kernel (Err e)) (sym memory) no_memory
+  stopped_kernel refusal (inr h) = subst (λ k. Assembles constants library text k (Err refusal)) (sym h.1) (kernel_refused h.0 refusal h.2)
 
-  pub stopped : (procs : Vec KernelProc Global) → ExportsIn constants kernel (Ok procs) → (refusal : AsmError) → LinksIn constants false text procs.items (Err refusal)
-      → Assembles constants text kernel (Err refusal)
-  stopped procs found refusal (inl memory) = subst (λ e. Assembles constants text kernel (Err e)) (sym memory) no_memory
+  pub stopped : (procs : Vec KernelProc Global) → ExportsIn constants kernel (Ok procs) → (refusal : AsmError)
+      → LinksIn constants false library text procs.items (Err refusal) → Assembles constants library text kernel (Err refusal)
+  stopped procs found refusal (inl memory) = subst (λ e. Assembles constants library text kernel (Err e)) (sym memory) no_memory
   stopped procs found refusal (inr refuses) = refused found.0 refusal found.1 (refuses found.0 found.2)
 
-  pub assembled_is : (procs : Vec KernelProc Global) → ExportsIn constants kernel (Ok procs) → (linked : Linked) → LinksIn constants false text procs.items (Ok linked)
-      → (tree : Tree) → linked.main ≡ Some tree → (program : Program) → program.tree ≡ tree → program.exports ≡ map (export_in constants) procs.items
-      → program.kernel ≡ without_repeats (map (digest_in constants) procs.items) → Assembles constants text kernel (Ok program)
+  pub assembled_is : (procs : Vec KernelProc Global) → ExportsIn constants kernel (Ok procs) → (linked : Linked)
+      → LinksIn constants false library text procs.items (Ok linked) → (tree : Tree) → linked.main ≡ Some tree → (program : Program) → program.tree ≡ tree → program.exports ≡ map (export_in constants) procs.items
+      → program.kernel ≡ without_repeats (map (digest_in constants) procs.items) → Assembles constants library text kernel (Ok program)
   assembled_is procs found linked links tree is program tree_is exports_are words_are =
       let here = links found.0 found.2 in
-      let l : IsLinked here.0 (outside_of constants found.0) linked = here.2 in
+      let l : IsLinked (with_library library here.0) (outside_of constants found.0) linked = here.2 in
       by here.0 here.1 l l.main refl
     where
-      by : (source : Source) → reads false text ≡ Ok source → (l : IsLinked source (outside_of constants found.0) linked) → (main : Option Block) → l.main ≡ main
-          → Assembles constants text kernel (Ok program)
+      by : (source : Source) → reads false text ≡ Ok source → (l : IsLinked (with_library library source) (outside_of constants found.0) linked)
+          → (main : Option Block) → l.main ≡ main → Assembles constants library text kernel (Ok program)
       by source read l None none = absurd (let e = sym (ap (option_map tree_of) is) ∙ l.tree ∙ ap (option_map (seen_as as_tree)) none in cc)
       by source read l (Some block) there =
           let e : Some (tree_of tree) ≡ Some (seen_as as_tree block) =
           sym (ap (option_map tree_of) is) ∙ l.tree ∙ ap (option_map (seen_as as_tree)) there in
-          assembled found.0 l.exports block program found.1
-          (record { source = source; read = read; links = subst (λ m. Links source (outside_of constants found.0) l.exports m) there l.links })
+          let links = subst (λ m. Links (with_library library source) (outside_of constants found.0) l.exports m) there l.links in
+          assembled found.0 l.exports block program found.1 (record { source = source; read = read; links = links })
           (record {
             tree = ap tree_of tree_is ∙ same_Some (tree_of tree) (seen_as as_tree block) e;
             exports = exports_are ∙ exports_same constants found.0 procs.items found.2;

@@ -1,4 +1,6 @@
 pub mod Assembled
+pub mod LibraryLemmas
+pub mod LibraryPlaces
 pub mod Linked
 pub mod MainRuns
 pub mod OneAnswer

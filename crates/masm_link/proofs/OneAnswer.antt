@@ -12,6 +12,7 @@ use Rattle.masm_flat.specs.Blocks.{Block, block_of, seen_as, as_tree}
 use Rattle.masm_flat.specs.Lists.{Exported, Outside, outside_of, IsBlockOf, with_locals}
 use Rattle.masm_flat.proofs.Once.{list_once}
 use Rattle.masm_link.specs.declared.refusal.AsmError.{AsmError}
+use Rattle.masm_link.specs.Libraries.{LibraryProcedure, with_library}
 use Rattle.masm_link.specs.Assembling.{reads, link_refusal, LinksText, Refuses, unread, unlinked, KernelExports, no_kernel, of_kernel, export_of, export_digest, without_repeats, assembled, kernel_refused, refused, no_memory}
 use Rattle.masm_link.specs.Refusals.{Links, RefusesAt}
 use Rattle.masm_link.specs.Laws.{OneProgram, OneRefusal}
@@ -47,25 +48,27 @@ module _ (source : Source) (out : Outside) where
   body_once (Some p) a b one other = one.1 ∙ ap Some (block_once source out p one.0 other.0 one.2 other.2) ∙ sym other.1
 
 -- a text links to the same, whenever it links
-pub links_once : {is_kernel : Bool} {text : List ℕ} {out : Outside} {xs ys : List Exported} {a b : Option Block}
-    → LinksText is_kernel text out xs a → LinksText is_kernel text out ys b → (xs ≡ ys) × (a ≡ b)
-links_once {is_kernel} {text} {out} {xs} {ys} {a} {b} one other =
+pub links_once : {is_kernel : Bool} {library : List LibraryProcedure} {text : List ℕ} {out : Outside} {xs ys : List Exported} {a b : Option Block}
+    → LinksText is_kernel library text out xs a → LinksText is_kernel library text out ys b → (xs ≡ ys) × (a ≡ b)
+links_once {is_kernel} {library} {text} {out} {xs} {ys} {a} {b} one other =
     let same = same_source other.source one.source (reads is_kernel text) other.read one.read in
-    let links = subst (λ s. Links s out ys b) same other.links in (
-      exports_once one.source out (exported_of one.source.procs) xs ys one.links.exported links.exported,
-      body_once one.source out one.source.main a b one.links.body links.body,
+    let source = with_library library one.source in
+    let links = subst (λ s. Links (with_library library s) out ys b) same other.links in (
+      exports_once source out (exported_of source.procs) xs ys one.links.exported links.exported,
+      body_once source out source.main a b one.links.body links.body,
     )
 
 read_or_refused : (source : Source) (refusal : AsmError) (r : Result Source AsmError) → r ≡ Ok source → r ≡ Err refusal → ⊥
 read_or_refused source refusal r one other = cc
 
 -- and is not refused
-pub links_or_refused : {is_kernel : Bool} {text : List ℕ} {out : Outside} {xs : List Exported} {a : Option Block} {refusal : AsmError}
-    → LinksText is_kernel text out xs a → Refuses is_kernel text out refusal → ⊥
-links_or_refused {is_kernel} {text} links (unread refusal read) = read_or_refused links.source refusal (reads is_kernel text) links.read read
-links_or_refused {is_kernel} {text} {out} {xs} {a} links (unlinked source at cause read least) =
+pub links_or_refused : {is_kernel : Bool} {library : List LibraryProcedure} {text : List ℕ} {out : Outside} {xs : List Exported}
+    {a : Option Block} {refusal : AsmError} → LinksText is_kernel library text out xs a → Refuses is_kernel library text out refusal → ⊥
+links_or_refused {is_kernel} {library} {text} links (unread refusal read) =
+    read_or_refused links.source refusal (reads is_kernel text) links.read read
+links_or_refused {is_kernel} {library} {text} {out} {xs} {a} links (unlinked source at cause read least) =
     let same = same_source links.source source (reads is_kernel text) links.read read in
-    let clean = subst (λ s. Links s out xs a) same links.links in
+    let clean = subst (λ s. Links (with_library library s) out xs a) same links.links in
     clean.clean at cause least.stands
 
 kernels_once : {constants : List ℕ} {kernel : Option (List ℕ)} {xs ys : List Exported} → KernelExports constants kernel xs
@@ -77,20 +80,20 @@ same_block : (a b : Block) → Some a ≡ Some b → a ≡ b
 same_block a b eq = cc
 
 pub one_program : OneProgram
-one_program constants text _ program _ (assembled xs own block _ given links is) (assembled ys owns other program' given' links' is') =
+one_program constants library text _ program _ (assembled xs own block _ given links is) (assembled ys owns other program' given' links' is') =
     let exports = kernels_once given' given in
-    let both = links_once links (subst (λ e. LinksText false text (outside_of constants e) owns (Some other)) exports links') in
+    let both = links_once links (subst (λ e. LinksText false library text (outside_of constants e) owns (Some other)) exports links') in
     let blocks = same_block block other both.1 in (
       is'.tree ∙ ap (seen_as as_tree) (sym blocks) ∙ sym is.tree,
       is'.exports ∙ ap (map (export_of constants)) exports ∙ sym is.exports,
       is'.kernel ∙ ap (λ e. without_repeats (map (export_digest constants) e)) exports ∙ sym is.kernel,
     )
-one_program constants text _ program _ (assembled xs own block _ (of_kernel _ _ exports) links is) (kernel_refused kernel refusal refuses) =
+one_program constants library text _ program _ (assembled xs own block _ (of_kernel _ _ exports) links is) (kernel_refused kernel refusal refuses) =
     absurd (links_or_refused exports refuses)
-one_program constants text _ program _ (assembled xs own block _ given links is) (refused ys refusal given' refuses) =
+one_program constants library text _ program _ (assembled xs own block _ given links is) (refused ys refusal given' refuses) =
     let exports = kernels_once given' given in
-    absurd (links_or_refused links (subst (λ e. Refuses false text (outside_of constants e) refusal) exports refuses))
-one_program constants text _ program _ (assembled xs own block _ given links is) no_memory = refl
+    absurd (links_or_refused links (subst (λ e. Refuses false library text (outside_of constants e) refusal) exports refuses))
+one_program constants library text _ program _ (assembled xs own block _ given links is) no_memory = refl
 
 -- the cause of each number in their order
 abbrev cause_at : ℕ → LinkCause
@@ -133,26 +136,29 @@ least_once Refused a b x y one other =
     (same.0, order_once x y same.1)
 
 -- a text is refused once
-refuses_once : {is_kernel : Bool} {text : List ℕ} {out : Outside} {a b : AsmError}
-    → Refuses is_kernel text out a → Refuses is_kernel text out b → a ≡ b
-refuses_once {is_kernel} {text} (unread a one) (unread b other) = same_refusal a b (reads is_kernel text) one other
+refuses_once : {is_kernel : Bool} {library : List LibraryProcedure} {text : List ℕ} {out : Outside} {a b : AsmError}
+    → Refuses is_kernel library text out a → Refuses is_kernel library text out b → a ≡ b
+refuses_once {is_kernel} {library} {text} (unread a one) (unread b other) = same_refusal a b (reads is_kernel text) one other
   where
     same_refusal : (a b : AsmError) (r : Result Source AsmError) → r ≡ Err a → r ≡ Err b → a ≡ b
     same_refusal a b r one other = cc
-refuses_once {is_kernel} {text} (unread a one) (unlinked source at cause read least) = absurd (read_or_refused source a (reads is_kernel text) read one)
-refuses_once {is_kernel} {text} (unlinked source at cause read least) (unread b other) = absurd (read_or_refused source b (reads is_kernel text) read other)
-refuses_once {is_kernel} {text} {out} (unlinked source at cause read least) (unlinked again at' cause' read' least') =
+refuses_once {is_kernel} {library} {text} (unread a one) (unlinked source at cause read least) =
+    absurd (read_or_refused source a (reads is_kernel text) read one)
+refuses_once {is_kernel} {library} {text} (unlinked source at cause read least) (unread b other) =
+    absurd (read_or_refused source b (reads is_kernel text) read other)
+refuses_once {is_kernel} {library} {text} {out} (unlinked source at cause read least) (unlinked again at' cause' read' least') =
     let same = same_source again source (reads is_kernel text) read' read in
-    let once = least_once (RefusesAt source out) at at' cause cause' least (subst (λ s. IsLeast (RefusesAt s out) at' cause') same least') in
+    let once = least_once (RefusesAt (with_library library source) out) at at' cause cause' least
+    (subst (λ s. IsLeast (RefusesAt (with_library library s) out) at' cause') same least') in
     ap₂ (link_refusal is_kernel) once.0 once.1
 
 pub one_refusal : OneRefusal
-one_refusal constants text _ _ _ some some' (kernel_refused kernel one refuses) (kernel_refused _ other refuses') = refuses_once refuses refuses'
-one_refusal constants text _ _ _ some some' (kernel_refused kernel one refuses) (refused _ other (of_kernel _ _ exports) refuses') =
+one_refusal constants library text _ _ _ some some' (kernel_refused kernel one refuses) (kernel_refused _ other refuses') = refuses_once refuses refuses'
+one_refusal constants library text _ _ _ some some' (kernel_refused kernel one refuses) (refused _ other (of_kernel _ _ exports) refuses') =
     absurd (links_or_refused exports refuses)
-one_refusal constants text _ _ _ some some' (refused _ one (of_kernel _ _ exports) refuses) (kernel_refused kernel other refuses') =
+one_refusal constants library text _ _ _ some some' (refused _ one (of_kernel _ _ exports) refuses) (kernel_refused kernel other refuses') =
     absurd (links_or_refused exports refuses')
-one_refusal constants text _ _ _ some some' (refused xs one given refuses) (refused ys other given' refuses') =
-    refuses_once refuses (subst (λ e. Refuses false text (outside_of constants e) other) (kernels_once given' given) refuses')
-one_refusal constants text _ _ _ some some' no_memory answer = absurd (some refl)
-one_refusal constants text _ _ _ some some' answer no_memory = absurd (some' refl)
+one_refusal constants library text _ _ _ some some' (refused xs one given refuses) (refused ys other given' refuses') =
+    refuses_once refuses (subst (λ e. Refuses false library text (outside_of constants e) other) (kernels_once given' given) refuses')
+one_refusal constants library text _ _ _ some some' no_memory answer = absurd (some refl)
+one_refusal constants library text _ _ _ some some' answer no_memory = absurd (some' refl)

@@ -16,6 +16,7 @@ use Rattle.masm_names.proofs.DoubleLemmas.{cons_here}
 use Rattle.masm_flat.specs.Blocks.{Block, Blocks, Span, Join, Split, Loop, Call, Syscall, Dyn, no_block, block_before, greatest, seen_as, seen_all, as_tree, as_operations, as_height}
 use Rattle.masm_flat.specs.Lists.{Exported, Outside, outside_of, IsBlockOf}
 use Rattle.masm_link.specs.Assembling.{assembled}
+use Rattle.masm_link.specs.Libraries.{with_library}
 use Rattle.masm_link.specs.Laws.{IsWithinLimits, AssembledTrees}
 use Rattle.masm_link.specs.Refusals.{IsTooLarge, too_many_operations, too_deep, dangling, oversized, Links}
 
@@ -86,5 +87,7 @@ module _ (source : Source) (out : Outside) (own : List Exported) (block : Block)
   }
 
 pub assembled-trees : AssembledTrees
-assembled-trees constants text kernel program (assembled exports own block _ k links is) =
-    (block, within links.source (outside_of constants exports) own block links.links (tree_of program.tree) is.tree)
+assembled-trees constants library text kernel program (assembled exports own block _ k links is) = (
+  block,
+  within (with_library library links.source) (outside_of constants exports) own block links.links (tree_of program.tree) is.tree,
+)

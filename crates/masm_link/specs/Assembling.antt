@@ -1,4 +1,4 @@
--- What the assembler answers for a source and a kernel, told by their bytes (docs/ASSEMBLY.md).
+-- What the assembler answers for a source and a kernel, told by their bytes, with a library (docs/ASSEMBLY.md).
 use Rattle.std.specs.Prelude.{◌≡◌, ℕ, Bool, true, false, List, [], ◌∷◌, ◌++◌, fold, map, Option, Some, None, Result, Ok, Err, bytes_eq, if◌then◌else◌}
 use Rattle.std.specs.List.{list_any}
 use Rattle.block_tree.specs.declared.exports.Export.{Export}
@@ -22,6 +22,7 @@ use Rattle.masm_link.specs.declared.refusal.AsmCause.TheVariants.{Lexical}
 use Rattle.masm_link.specs.declared.refusal.AsmError.{AsmError}
 use Rattle.masm_link.specs.declared.refusal.AsmError.TheVariants.{Bad, Memory}
 use Rattle.masm_link.specs.Causes.{parse_cause, link_cause}
+use Rattle.masm_link.specs.Libraries.{LibraryProcedure, with_library}
 use Rattle.masm_link.specs.Refusals.{RefusesAt, Links}
 
 abbrev pub lex_refusal : Bool → LexError → AsmError
@@ -47,22 +48,24 @@ read_tokens is_kernel text (Err refusal) = Err (lex_refusal is_kernel refusal)
 unfoldable pub reads : Bool → List ℕ → Result Source AsmError
 reads is_kernel text = read_tokens is_kernel text (lexed text)
 
--- a source is refused: it is not read, or it is read and then refused
-pub data Refuses (is_kernel : Bool) (text : List ℕ) (out : Outside) : AsmError → Type 0 where
-  unread : (refusal : AsmError) → reads is_kernel text ≡ Err refusal → Refuses is_kernel text out refusal
+-- a source is refused: it is not read, or it is read and then refused, with the library's procedures behind its own
+pub data Refuses (is_kernel : Bool) (library : List LibraryProcedure) (text : List ℕ) (out : Outside) : AsmError → Type 0 where
+  unread : (refusal : AsmError) → reads is_kernel text ≡ Err refusal → Refuses is_kernel library text out refusal
   unlinked : (source : Source) (at : Position) (cause : LinkCause) → reads is_kernel text ≡ Ok source
-      → IsLeast (RefusesAt source out) at cause → Refuses is_kernel text out (link_refusal is_kernel at cause)
+      → IsLeast (RefusesAt (with_library library source) out) at cause → Refuses is_kernel library text out (link_refusal is_kernel at cause)
 
--- a source links to the blocks of its exports and to that of the body between begin and end
-pub record LinksText (is_kernel : Bool) (text : List ℕ) (out : Outside) (exports : List Exported) (main : Option Block) : Type 0 where
+-- a source links, with the library's procedures behind its own, to the blocks of its exports and to that of the body between
+-- begin and end
+pub record LinksText (is_kernel : Bool) (library : List LibraryProcedure) (text : List ℕ) (out : Outside) (exports : List Exported)
+    (main : Option Block) : Type 0 where
   pub source : Source
   pub read : reads is_kernel text ≡ Ok source
-  pub links : Links source out exports main
+  pub links : Links (with_library library source) out exports main
 
--- what a kernel that is not refused exports
+-- what a kernel that is not refused exports; it has no library
 pub data KernelExports (constants : List ℕ) : Option (List ℕ) → List Exported → Type 0 where
   no_kernel : KernelExports constants None []
-  of_kernel : (text : List ℕ) (exports : List Exported) → LinksText true text (outside_of constants []) exports None
+  of_kernel : (text : List ℕ) (exports : List Exported) → LinksText true [] text (outside_of constants []) exports None
       → KernelExports constants (Some text) exports
 
 -- words that came before are left out
@@ -84,13 +87,14 @@ pub record IsProgram (constants : List ℕ) (procedures : List Exported) (block 
   pub exports : program.exports ≡ map (export_of constants) procedures
   pub kernel : program.kernel ≡ without_repeats (map (export_digest constants) procedures)
 
--- What is answered for a source and a kernel: the program, or the first refusal, that of the kernel first.
-pub data Assembles (constants : List ℕ) (text : List ℕ) : Option (List ℕ) → Result Program AsmError → Type 0 where
+-- What is answered for a source with a library, and a kernel: the program, or the first refusal, that of the kernel first.
+pub data Assembles (constants : List ℕ) (library : List LibraryProcedure) (text : List ℕ)
+    : Option (List ℕ) → Result Program AsmError → Type 0 where
   assembled : {kernel : Option (List ℕ)} (exports own : List Exported) (block : Block) (program : Program) → KernelExports constants kernel exports
-      → LinksText false text (outside_of constants exports) own (Some block) → IsProgram constants exports block program
-      → Assembles constants text kernel (Ok program)
-  kernel_refused : (kernel : List ℕ) (refusal : AsmError) → Refuses true kernel (outside_of constants []) refusal
-      → Assembles constants text (Some kernel) (Err refusal)
+      → LinksText false library text (outside_of constants exports) own (Some block) → IsProgram constants exports block program
+      → Assembles constants library text kernel (Ok program)
+  kernel_refused : (kernel : List ℕ) (refusal : AsmError) → Refuses true [] kernel (outside_of constants []) refusal
+      → Assembles constants library text (Some kernel) (Err refusal)
   refused : {kernel : Option (List ℕ)} (exports : List Exported) (refusal : AsmError) → KernelExports constants kernel exports
-      → Refuses false text (outside_of constants exports) refusal → Assembles constants text kernel (Err refusal)
-  no_memory : {kernel : Option (List ℕ)} → Assembles constants text kernel (Err Memory)
+      → Refuses false library text (outside_of constants exports) refusal → Assembles constants library text kernel (Err refusal)
+  no_memory : {kernel : Option (List ℕ)} → Assembles constants library text kernel (Err Memory)

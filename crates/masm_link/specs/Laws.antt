@@ -9,6 +9,7 @@ use Rattle.masm_flat.specs.Blocks.{Block, seen_as, as_tree, as_operations}
 use Rattle.masm_link.specs.declared.refusal.AsmError.{AsmError}
 use Rattle.masm_link.specs.declared.refusal.AsmError.TheVariants.{Memory}
 use Rattle.masm_link.specs.Assembling.{Assembles}
+use Rattle.masm_link.specs.Libraries.{LibraryProcedure}
 
 -- the tree of a block within the limits
 pub record IsWithinLimits (tree : Tree) (block : Block) : Type 0 where
@@ -18,8 +19,8 @@ pub record IsWithinLimits (tree : Tree) (block : Block) : Type 0 where
   pub whole : HasNoOpaque tree
 
 abbrev pub AssembledTrees : Type 0
-AssembledTrees = (constants text : List ℕ) (kernel : Option (List ℕ)) (program : Program)
-    → Assembles constants text kernel (Ok program) → (block : Block) × IsWithinLimits (tree_of program.tree) block
+AssembledTrees = (constants : List ℕ) (library : List LibraryProcedure) (text : List ℕ) (kernel : Option (List ℕ)) (program : Program)
+    → Assembles constants library text kernel (Ok program) → (block : Block) × IsWithinLimits (tree_of program.tree) block
 
 -- an answer is this program, but for how its tree lies in memory, or the want of memory
 abbrev pub IsProgramOrMemory : Program → Result Program AsmError → Type 0
@@ -29,10 +30,12 @@ IsProgramOrMemory program (Err refusal) = refusal ≡ Memory
 
 -- what is assembled is assembled to one program, and is not refused
 abbrev pub OneProgram : Type 0
-OneProgram = (constants text : List ℕ) (kernel : Option (List ℕ)) (program : Program) (answer : Result Program AsmError)
-    → Assembles constants text kernel (Ok program) → Assembles constants text kernel answer → IsProgramOrMemory program answer
+OneProgram = (constants : List ℕ) (library : List LibraryProcedure) (text : List ℕ) (kernel : Option (List ℕ)) (program : Program)
+    (answer : Result Program AsmError) → Assembles constants library text kernel (Ok program) → Assembles constants library text kernel answer
+    → IsProgramOrMemory program answer
 
 -- what is refused has one refusal: two that are answered, neither of them the want of memory, are equal
 abbrev pub OneRefusal : Type 0
-OneRefusal = (constants text : List ℕ) (kernel : Option (List ℕ)) (one other : AsmError) → one ≢ Memory → other ≢ Memory
-    → Assembles constants text kernel (Err one) → Assembles constants text kernel (Err other) → one ≡ other
+OneRefusal = (constants : List ℕ) (library : List LibraryProcedure) (text : List ℕ) (kernel : Option (List ℕ)) (one other : AsmError)
+    → one ≢ Memory → other ≢ Memory → Assembles constants library text kernel (Err one)
+    → Assembles constants library text kernel (Err other) → one ≡ other

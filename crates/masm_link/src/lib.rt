@@ -3,11 +3,13 @@
 
 mod assembling;
 mod laws;
+mod library;
 mod linking;
 mod program;
 mod reading;
 mod refusal;
 
-pub use assembling::assemble;
-pub use laws::{assembled_trees, one_program, one_refusal};
+pub use assembling::{assemble, assemble_with};
+pub use laws::{assembled_trees, library_laws, one_program, one_refusal, types_cross};
+pub use library::Library;
 pub use refusal::{AsmCause, AsmError, cause_text};

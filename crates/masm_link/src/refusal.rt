@@ -38,7 +38,7 @@ pub enum AsmCause {
     Duplicate,
     /// 255 procedures are exported already.
     TooManyExports,
-    /// The source has no procedure of that name.
+    /// Neither the source nor its library has a procedure of that name.
     UnknownProcedure,
     /// The kernel exports no procedure of that name.
     NotInKernel,

@@ -31,6 +31,8 @@ use Rattle.masm_flat.specs.Lists.{Exported, Outside, outside_of, ListOf, ListsOf
 use Rattle.masm_flat.specs.Lists as lists
 use Rattle.masm_flat.proofs.Digests.{block-elements}
 use Rattle.masm_names.specs.Naming.{exported_of}
+use Rattle.masm_link.specs.Libraries.{LibraryProcedure, are_plain, with_library}
+use Rattle.masm_link.proofs.LibraryLemmas.{whole_fits, whole_is_in_form}
 use Rattle.masm_link.specs.Assembling.{reads, read_tokens, read_parsed, KernelExports, no_kernel, of_kernel, assembled}
 use Rattle.block_tree.specs.KnownTrees.{IsReady, AreReady}
 use Rattle.block_tree.specs.Trees.{targets_from}
@@ -225,10 +227,12 @@ read-tokens : (is_kernel : Bool) (text : List ℕ) (source : Source) → reads i
 unfolding reads
 read-tokens is_kernel text source e = tokens-of is_kernel text source (lexed text) e
 
-good-procs : (is_kernel : Bool) (text : List ℕ) (source : Source) → reads is_kernel text ≡ Ok source → AllByRecursion IsGood source.procs
-good-procs is_kernel text source e =
+good-procs : (is_kernel : Bool) (library : List LibraryProcedure) (text : List ℕ) (source : Source) → are_plain library ≡ true
+    → reads is_kernel text ≡ Ok source → AllByRecursion IsGood (with_library library source).procs
+good-procs is_kernel library text source plain e =
     let r = read-tokens is_kernel text source e in
-    both-of source.procs (locals-fit is_kernel text r.0 source r.1).procs (trees_are_in_form is_kernel text r.0 source r.1).procs
+    both-of (with_library library source).procs (whole_fits library source plain (locals-fit is_kernel text r.0 source r.1)).procs
+    (whole_is_in_form library source plain (trees_are_in_form is_kernel text r.0 source r.1).procs)
 
 good-main : (is_kernel : Bool) (text : List ℕ) (source : Source) (p : Procedure) → reads is_kernel text ≡ Ok source
     → source.main ≡ Some p → IsGood p
@@ -270,9 +274,9 @@ kernel-packs : (constants : List ℕ) (kernel : Option (List ℕ)) (exports : Li
     → (name : List ℕ) (block : Block) → first_export exports name ≡ Some block → Packs block
 kernel-packs constants kernel exports no_kernel name block found = cc
 kernel-packs constants kernel exports (of_kernel text own links) name block found =
-    let good = good-procs true text links.source links.read in
-    exports-pack constants links.source good (exported_of links.source.procs) own (good-exported links.source.procs good)
-    links.links.exported name block found
+    let source = with_library [] links.source in
+    let good = good-procs true [] text links.source refl links.read in
+    exports-pack constants source good (exported_of source.procs) own (good-exported source.procs good) links.links.exported name block found
 
 -- the body between begin and end
 
@@ -285,9 +289,9 @@ main-packs source out own block good packs (Some p) fits h =
     subst Packs (sym (same_Some block h.0 h.1)) (packs-procedure source out good packs p h.0 (fits p refl) h.2)
 
 pub assembled-ready : AssembledIsReady
-assembled-ready constants text kernel program (assembled exports own block _ k links is) =
-    let source = links.source in
+assembled-ready constants library text kernel program plain (assembled exports own block _ k links is) =
+    let source = with_library library links.source in
     subst IsReady (sym is.tree)
     (ready-block block
-    (main-packs source (outside_of constants exports) own block (good-procs false text source links.read) (kernel-packs constants kernel exports k) source.main
-    (λ p there. good-main false text source p links.read there) links.links.body))
+    (main-packs source (outside_of constants exports) own block (good-procs false library text links.source plain links.read)
+    (kernel-packs constants kernel exports k) source.main (λ p there. good-main false text links.source p links.read there) links.links.body))

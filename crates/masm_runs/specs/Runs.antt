@@ -1,5 +1,5 @@
 -- The trees of assembled programs as they are run.
-use Rattle.std.specs.Prelude.{◌≡◌, ℕ, ◌≤◌, List, Option, Ok}
+use Rattle.std.specs.Prelude.{◌≡◌, ℕ, ◌≤◌, true, List, Option, Ok}
 use Rattle.vm_field.specs.Limits.{most_nesting}
 use Rattle.vm_field.specs.Machine.{State}
 use Rattle.vm_ops.specs.declared.cause.Cause.{Cause}
@@ -10,6 +10,7 @@ use Rattle.block_tree.specs.Trees.{Tree, tree_height}
 use Rattle.block_tree.specs.KnownTrees.{IsReady}
 use Rattle.block_tree.specs.TreeView.{tree_of}
 use Rattle.masm_link.specs.Assembling.{Assembles}
+use Rattle.masm_link.specs.Libraries.{LibraryProcedure, are_plain}
 
 -- a cause that comes of the values of the run, and not of the form of the tree
 abbrev pub IsOfValues : Cause → Type 0
@@ -40,13 +41,14 @@ abbrev pub ReadyRuns : Type 0
 ReadyRuns = (constants : List ℕ) (kernel : List (List ℕ)) (limit : ℕ) (tree : Tree) (s : State) → IsReady tree
     → tree_height tree ≤ most_nesting → s.core.nesting ≡ 0 → TrapsForValues (execution constants kernel limit tree s)
 
+-- with every library whose instructions are in form and name no local, as those of `Library` are
 abbrev pub AssembledIsReady : Type 0
-AssembledIsReady = (constants text : List ℕ) (kernel : Option (List ℕ)) (program : Program)
-    → Assembles constants text kernel (Ok program) → IsReady (tree_of program.tree)
+AssembledIsReady = (constants : List ℕ) (library : List LibraryProcedure) (text : List ℕ) (kernel : Option (List ℕ)) (program : Program)
+    → are_plain library ≡ true → Assembles constants library text kernel (Ok program) → IsReady (tree_of program.tree)
 
 -- from every state in which no block is open
 abbrev pub AssembledRuns : Type 0
-AssembledRuns = (constants text : List ℕ) (kernel : Option (List ℕ)) (program : Program)
-    → Assembles constants text kernel (Ok program)
+AssembledRuns = (constants : List ℕ) (library : List LibraryProcedure) (text : List ℕ) (kernel : Option (List ℕ)) (program : Program)
+    → are_plain library ≡ true → Assembles constants library text kernel (Ok program)
     → (parameters : List ℕ) (digests : List (List ℕ)) (limit : ℕ) (s : State) → s.core.nesting ≡ 0
     → TrapsForValues (execution parameters digests limit (tree_of program.tree) s)

@@ -14,7 +14,7 @@ use Rattle.cmd_reading.specs.Form.{AllText, IsForm, IsPlain, dashed, options_of}
 use Rattle.cmd_reading.specs.Meaning.{AreThere, IsThere, MayBeMeant, MayStand, HasForm, texts_in}
 use Rattle.cmd_reading.proofs.PlainParts.{Texts, meant-text}
 use Rattle.cmd_reading.proofs.PlainTexts.{by_free, by_needed, by_place, plain_name, plain_number}
-use Rattle.cmd_kit.specs.Asked.{Asked, assemble_of_names, chain_of_names, check_of_names, hash_of_names, made_names, make_of_names, most_pieces, nothing, outputs_named, run_of_names, runs_of_names}
+use Rattle.cmd_kit.specs.Asked.{Asked, assemble_of_names, chain_of_names, check_of_names, hash_of_names, made_names, make_of_names, member_of_names, most_depth, most_pieces, nothing, outputs_named, run_of_names, runs_of_names}
 use Rattle.miden_app.specs.declared.names.CommandName.{CommandName}
 use Rattle.miden_app.specs.declared.names.CommandName.TheVariants as name
 use Rattle.miden_app.specs.Forms.{asked_by, asked_in, form_named}
@@ -120,6 +120,22 @@ no_runs p l h =
     at_place l (λ x. runs_of_names (Some a) x) refl (λ b l_there.
     absurd (h (p_there, (l_there, tt)) tt tt)))
 
+abbrev depth : Option Text → Option (Option ℕ)
+depth text = optional (number_of_word 1 most_depth) text
+
+no_member : (p t s d e n : Option Text) → Unmeant (p ∷ t ∷ s ∷ []) (d ∷ e ∷ []) (n ∷ [])
+    → member_of_names (place p) (place t) (place s) (depth d) (option e) (pieces n) ≡ nothing
+no_member p t s d e n h =
+    at_place p (λ x. member_of_names x (place t) (place s) (depth d) (option e) (pieces n)) refl (λ a p_there.
+    at_place t (λ x. member_of_names (Some a) x (place s) (depth d) (option e) (pieces n)) refl (λ b t_there.
+    at_place s (λ x. member_of_names (Some a) (Some b) x (depth d) (option e) (pieces n)) refl (λ c s_there.
+    by_needed (number_of_word 1 most_depth) (plain_number 1 most_depth) nothing d
+    (λ x. member_of_names (Some a) (Some b) (Some c) x (option e) (pieces n)) refl refl (λ f d_there.
+    at_needed e (λ x. member_of_names (Some a) (Some b) (Some c) (Some (Some f)) x (pieces n)) refl refl (λ g e_there.
+    by_free (number_of_word 1 most_pieces) (plain_number 1 most_pieces) nothing n
+    (λ x. member_of_names (Some a) (Some b) (Some c) (Some (Some f)) (Some (Some g)) x) refl (λ i n_may.
+    absurd (h (p_there, (t_there, (s_there, tt))) (d_there, (e_there, tt)) (n_may, tt))))))))
+
 no_texts : (n : CommandName) (words : List Text)
     → Unmeant (texts_in (form_named n) words).places (texts_in (form_named n) words).needed (texts_in (form_named n) words).free
     → asked_in n (texts_in (form_named n) words) ≡ nothing
@@ -130,6 +146,7 @@ no_texts name.Run words h = no_run _ _ _ _ _ _ _ h
 no_texts name.Make words h = no_make _ _ _ _ h
 no_texts name.Chain words h = no_chain _ _ _ _ h
 no_texts name.Runs words h = no_runs _ _ h
+no_texts name.Member words h = no_member _ _ _ _ _ _ h
 
 -- ---- each command: its words have a form, whose names are apart, and text
 
@@ -143,6 +160,7 @@ asks_by_form name.Run words = refl
 asks_by_form name.Make words = refl
 asks_by_form name.Chain words = refl
 asks_by_form name.Runs words = refl
+asks_by_form name.Member words = refl
 
 pub is_form_named : (n : CommandName) → IsForm (form_named n)
 is_form_named name.Check = record { distinct = refl; few = lit< tt }
@@ -152,6 +170,7 @@ is_form_named name.Run = record { distinct = refl; few = lit< tt }
 is_form_named name.Make = record { distinct = refl; few = lit< tt }
 is_form_named name.Chain = record { distinct = refl; few = lit< tt }
 is_form_named name.Runs = record { distinct = refl; few = lit< tt }
+is_form_named name.Member = record { distinct = refl; few = lit< tt }
 
 ascii_names : (n : CommandName) → list_all (list_all (λ b. nat_lt b 128)) (options_of (form_named n)) ≡ true
 ascii_names name.Check = refl
@@ -161,6 +180,7 @@ ascii_names name.Run = refl
 ascii_names name.Make = refl
 ascii_names name.Chain = refl
 ascii_names name.Runs = refl
+ascii_names name.Member = refl
 
 -- ---- all commands
 

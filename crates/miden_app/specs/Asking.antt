@@ -6,7 +6,7 @@ use Rattle.cmd_run.specs.Naming.{AreNamed, outputs_from}
 use Rattle.cmd_make.specs.Naming as made
 use Rattle.miden_app.specs.declared.words.Command.{Command}
 use Rattle.miden_app.specs.declared.words.Command.TheVariants as command
-use Rattle.cmd_kit.specs.Asked.{Asked, nothing, hash, assemble, run, check, check_source, make, chain, runs, most_pieces}
+use Rattle.cmd_kit.specs.Asked.{Asked, nothing, hash, assemble, run, check, check_source, make, chain, runs, member, most_depth, most_pieces}
 
 abbrev pub asks : Command → Asked
 asks command.Nothing = nothing
@@ -20,6 +20,7 @@ asks (command.CheckSource params table statement evidence source kernel pieces) 
 asks (command.Make params turns names) = make params.now turns (made.names_from names)
 asks (command.Chain params list evidence pieces) = chain params.now list.now evidence.now
 asks (command.Runs params list) = runs params.now list.now
+asks (command.Member params table statement evidence depth pieces) = member params.now table.now statement.now evidence.now depth
 
 -- its names are those of files, and its numbers are in their bounds
 abbrev pub NamesFiles : Command → Type 0
@@ -43,3 +44,6 @@ NamesFiles (command.Chain params list evidence pieces) =
     (length params.now ≤ most_name_bytes) × (length list.now ≤ most_name_bytes) × (length evidence.now ≤ most_name_bytes)
     × (1 ≤ pieces) × (pieces ≤ most_pieces)
 NamesFiles (command.Runs params list) = (length params.now ≤ most_name_bytes) × (length list.now ≤ most_name_bytes)
+NamesFiles (command.Member params table statement evidence depth pieces) =
+    (length params.now ≤ most_name_bytes) × (length table.now ≤ most_name_bytes) × (length statement.now ≤ most_name_bytes)
+    × (length evidence.now ≤ most_name_bytes) × (1 ≤ depth) × (depth ≤ most_depth) × (1 ≤ pieces) × (pieces ≤ most_pieces)

@@ -7,7 +7,7 @@ use Rattle.cmd_reading.specs.Meaning.{FormTexts, text_at}
 use Rattle.miden_app.specs.declared.names.CommandName.{CommandName}
 use Rattle.miden_app.specs.declared.names.CommandName.TheVariants as name
 use Rattle.workloads.specs.Workloads.{most_turns}
-use Rattle.cmd_kit.specs.Asked.{Asked, MadeNames, Outputs, assemble_of_names, assemble_words, chain_of_names, chain_words, check_of_names, check_words, hash_of_names, hash_words, made_names, make_of_names, make_words, most_pieces, outputs_named, run_of_names, run_words, runs_of_names, runs_words}
+use Rattle.cmd_kit.specs.Asked.{Asked, MadeNames, Outputs, assemble_of_names, assemble_words, chain_of_names, chain_words, check_of_names, check_words, hash_of_names, hash_words, made_names, make_of_names, make_words, member_of_names, member_words, most_depth, most_pieces, outputs_named, run_of_names, run_words, runs_of_names, runs_words}
 
 -- what the words behind the name ask for
 abbrev pub asked_by : CommandName → List (List ℕ) → Asked
@@ -18,6 +18,7 @@ asked_by name.Run words = run_words words
 asked_by name.Make words = make_words words
 asked_by name.Chain words = chain_words words
 asked_by name.Runs words = runs_words words
+asked_by name.Member words = member_words words
 
 -- the names of what the command takes
 abbrev pub form_named : CommandName → WordForm
@@ -44,6 +45,11 @@ form_named name.Chain = record {
   free = codes "pieces" ∷ [];
 }
 form_named name.Runs = record { places = codes "params" ∷ codes "list" ∷ []; needed = []; free = [] }
+form_named name.Member = record {
+  places = codes "params" ∷ codes "table" ∷ codes "statement" ∷ [];
+  needed = codes "depth" ∷ codes "evidence" ∷ [];
+  free = codes "pieces" ∷ [];
+}
 
 -- the file name at a place
 abbrev pub name_in : ℕ → List (Option (List ℕ)) → Option (List ℕ)
@@ -94,6 +100,11 @@ chain_in t = chain_of_names (name_in 0 t.places) (name_in 1 t.places) (option_na
 abbrev pub runs_in : FormTexts → Asked
 runs_in t = runs_of_names (name_in 0 t.places) (name_in 1 t.places)
 
+abbrev pub member_in : FormTexts → Asked
+member_in t =
+    member_of_names (name_in 0 t.places) (name_in 1 t.places) (name_in 2 t.places) (option_number 1 most_depth 0 t.needed) (option_name 1 t.needed)
+    (option_number 1 most_pieces 0 t.free)
+
 abbrev pub asked_in : CommandName → FormTexts → Asked
 asked_in name.Check t = check_in t
 asked_in name.Hash t = hash_in t
@@ -102,3 +113,4 @@ asked_in name.Run t = run_in t
 asked_in name.Make t = make_in t
 asked_in name.Chain t = chain_in t
 asked_in name.Runs t = runs_in t
+asked_in name.Member t = member_in t

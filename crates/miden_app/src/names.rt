@@ -15,6 +15,7 @@ pub enum CommandName {
     Make,
     Chain,
     Runs,
+    Member,
 }
 
 /// The names of what a command takes, as the reader of words wants them: of its places, of the
@@ -50,6 +51,9 @@ pub fn command_named(words: &[Vec<u8>]) -> Option<(CommandName, &[Vec<u8>])>
         }
         [name, rest @ ..] if name.as_slice() == b"runs".as_slice() => {
             Some((CommandName::Runs, rest))
+        }
+        [name, rest @ ..] if name.as_slice() == b"member".as_slice() => {
+            Some((CommandName::Member, rest))
         }
         _ => None,
     }
@@ -94,6 +98,11 @@ pub fn form_of_command(name: CommandName) -> CommandForm
             places: &["params", "list"],
             needed: &[],
             free: &[],
+        },
+        CommandName::Member => CommandForm {
+            places: &["params", "table", "statement"],
+            needed: &["depth", "evidence"],
+            free: &["pieces"],
         },
     }
 }

@@ -10,7 +10,9 @@ use crate::hash::hash_files;
 use crate::names::command_named;
 use crate::words::{Command, command_of};
 use cmd_assemble::assemble_files;
-use cmd_check::{ChainNames, CheckNames, Seed, chain_files, check_files, check_source_files};
+use cmd_check::{
+    ChainNames, CheckNames, Seed, chain_files, check_files, check_member_files, check_source_files,
+};
 use cmd_kit::{Outcome, Status, answered};
 use cmd_make::make_files;
 use cmd_reading::{WordsStop, texts_of};
@@ -155,6 +157,28 @@ fn work_of<R: Threads + Sync, F: Shelf, G: Gate>(
             },
         ),
         Command::Runs { params, list } => { run_linked_files(rt, alloc, shelf, gate, params, list) }
+        Command::Member {
+            params,
+            table,
+            statement,
+            evidence,
+            depth,
+            pieces,
+        } => check_member_files(
+            rt,
+            alloc,
+            seed,
+            shelf,
+            gate,
+            params,
+            CheckNames {
+                table,
+                statement,
+                evidence,
+                pieces,
+            },
+            depth,
+        ),
         Command::Nothing => usage(alloc),
     }
 }

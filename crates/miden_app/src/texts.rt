@@ -48,6 +48,16 @@ pub fn free_name<'a>(read: &ReadWords<'a>, i: usize) -> Option<Option<&'a str>>
     optional_name(read.free(i))
 }
 
+/// The number from `least` to `most` that an option which must stand gives. `None` where its text is
+/// no such number.
+pub fn needed_number(least: u64, most: u64, read: &ReadWords<'_>, i: usize) -> Option<Option<u64>>
+    ensures number { result ≡ option_number least most i (texts_read read.now).needed }
+    ensures large { IfSome result (λ o. IfSome o (λ n. least ≤ n)) }
+    ensures small { IfSome result (λ o. IfSome o (λ n. n ≤ most)) }
+{
+    optional_number(least, most, read.needed(i))
+}
+
 /// The number from `least` to `most` that an option which may stand gives, if it stands. `None`
 /// where its text is no such number.
 pub fn free_number(least: u64, most: u64, read: &ReadWords<'_>, i: usize) -> Option<Option<u64>>
@@ -55,7 +65,16 @@ pub fn free_number(least: u64, most: u64, read: &ReadWords<'_>, i: usize) -> Opt
     ensures large { IfSome result (λ o. IfSome o (λ n. least ≤ n)) }
     ensures small { IfSome result (λ o. IfSome o (λ n. n ≤ most)) }
 {
-    match read.free(i) {
+    optional_number(least, most, read.free(i))
+}
+
+// A text as a number from `least` to `most`, if there is a text.
+fn optional_number(least: u64, most: u64, text: Option<&str>) -> Option<Option<u64>>
+    ensures number { result ≡ optional (number_of_word least most) (option_map (λ t. t.now) text.entry) }
+    ensures large { IfSome result (λ o. IfSome o (λ n. least ≤ n)) }
+    ensures small { IfSome result (λ o. IfSome o (λ n. n ≤ most)) }
+{
+    match text {
         Some(text) => match number_in(least, most, text.as_bytes()) {
             Some(number) => Some(Some(number)),
             None => None,

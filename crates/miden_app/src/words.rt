@@ -5,15 +5,15 @@ ghost use Rattle.std.specs.Str.{bytes_eq};
 ghost use Rattle.vm_field.specs.Limits.{most_cycles, most_name_bytes};
 ghost use Rattle.cmd_reading.specs.Form.{AllText};
 ghost use Rattle.cmd_reading.specs.Meaning.{texts_read};
-ghost use Rattle.cmd_kit.specs.Asked.{chain_of_names, check_against, given_name, make_apart, most_pieces, run_apart};
+ghost use Rattle.cmd_kit.specs.Asked.{chain_of_names, check_against, given_name, make_apart, member_apart, most_depth, most_pieces, run_apart};
 ghost use Rattle.cmd_run.specs.Naming.{AreNamed, outputs_from};
 ghost use Rattle.cmd_make.specs.Naming as made;
 ghost use Rattle.workloads.specs.Workloads.{most_turns};
 ghost use Rattle.miden_app.specs.Asking.{asks, NamesFiles};
-ghost use Rattle.miden_app.specs.Forms.{asked_by, asked_in, assemble_in, chain_in, check_in, hash_in, limit_read, made_names_read, make_in, outputs_read, run_in, runs_in};
+ghost use Rattle.miden_app.specs.Forms.{asked_by, asked_in, assemble_in, chain_in, check_in, hash_in, limit_read, made_names_read, make_in, member_in, outputs_read, run_in, runs_in};
 
 use crate::names::{CommandName, form_of_command};
-use crate::texts::{free_name, free_number, needed_name, place_name, place_number};
+use crate::texts::{free_name, free_number, needed_name, needed_number, place_name, place_number};
 use cmd_make::MadeNames;
 use cmd_reading::{ReadWords, WordsStop, read_words};
 use cmd_run::Outputs;
@@ -23,6 +23,9 @@ use workloads::MOST_TURNS;
 
 /// The most pieces that a trace is checked in.
 const MOST_PIECES: u64 = 64;
+
+/// The most steps of a path.
+const MOST_DEPTH: u64 = 64;
 
 /// What words ask for.
 pub enum Command<'a> {
@@ -87,6 +90,17 @@ pub enum Command<'a> {
         params: &'a str,
         list: &'a str,
     },
+    /// `member`: `check` against the program that walks a Merkle path, with the name of the evidence.
+    Member {
+        params: &'a str,
+        table: &'a str,
+        statement: &'a str,
+        evidence: &'a str,
+        /// The steps of the path, from 1 to 64.
+        depth: u32,
+        /// In how many pieces, from 1 to 64.
+        pieces: usize,
+    },
 }
 
 /// Reads the words behind the command's name.
@@ -122,6 +136,7 @@ fn command_in<'a>(name: CommandName, read: &ReadWords<'a>) -> Command<'a>
         CommandName::Make => make_of(read),
         CommandName::Chain => chain_of(read),
         CommandName::Runs => runs_of(read),
+        CommandName::Member => member_of(read),
     }
 }
 
@@ -495,5 +510,62 @@ fn runs_of<'a>(read: &ReadWords<'a>) -> Command<'a>
     match (place_name(read, 0), place_name(read, 1)) {
         (Some(params), Some(list)) => Command::Runs { params, list },
         _ => Command::Nothing,
+    }
+}
+
+fn member_of<'a>(read: &ReadWords<'a>) -> Command<'a>
+    ensures asks { asks result ≡ member_in (texts_read read.now) }
+    ensures named { NamesFiles result }
+{
+    let Some(params) = place_name(read, 0) else {
+        return Command::Nothing;
+    };
+    let Some(table) = place_name(read, 1) else {
+        return Command::Nothing;
+    };
+    let Some(statement) = place_name(read, 2) else {
+        return Command::Nothing;
+    };
+    let Some(Some(depth)) = needed_number(1, MOST_DEPTH, read, 0) else {
+        return Command::Nothing;
+    };
+    match (needed_name(read, 1), free_number(1, MOST_PIECES, read, 0)) {
+        (Some(Some(evidence)), Some(pieces)) => {
+            member_with(params, table, statement, depth as u32, evidence, pieces)
+        }
+        _ => Command::Nothing,
+    }
+}
+
+// The evidence is written, so that no other file may have its name.
+fn member_with<'a>(
+    params: &'a str,
+    table: &'a str,
+    statement: &'a str,
+    depth: u32,
+    evidence: &'a str,
+    pieces: Option<u64>,
+) -> Command<'a>
+    requires params { length params.now ≤ most_name_bytes }
+    requires table { length table.now ≤ most_name_bytes }
+    requires statement { length statement.now ≤ most_name_bytes }
+    requires least { 1 ≤ depth }
+    requires most { depth ≤ most_depth }
+    requires evidence { length evidence.now ≤ most_name_bytes }
+    requires some { IfSome pieces (λ n. 1 ≤ n) }
+    requires few { IfSome pieces (λ n. n ≤ most_pieces) }
+    ensures asks { asks result ≡ member_apart params.entry.now table.entry.now statement.entry.now evidence.entry.now depth }
+    ensures named { NamesFiles result }
+{
+    if evidence == params || evidence == table || evidence == statement {
+        return Command::Nothing;
+    }
+    Command::Member {
+        params,
+        table,
+        statement,
+        evidence,
+        depth,
+        pieces: pieces_of(pieces),
     }
 }

@@ -1,10 +1,11 @@
 -- How many blocks a tree has.
-use Rattle.std.proofs.Common.{◌≡◌, ℕ, ◌+◌, ◌≤◌, List, length, arith, length-append}
+use Rattle.std.proofs.Common.{◌≡◌, ℕ, ◌+◌, ◌≤◌, List, length, arith}
 use Rattle.block_tree.specs.Trees.{Tree, Targets, Opaque, Span, Join, Split, Loop, Call, Syscall, Dyn}
 use Rattle.source_check.specs.Numbering.{blocks_in}
-use Rattle.source_check.specs.SourceNodes.{inputs_in, inputs_of}
+use Rattle.source_check.specs.SourceNodes.{inputs_in}
 
 module _ (constants : List ℕ) where
+  -- a tree is itself a block
   pub some-block : (t : Tree) → 1 ≤ blocks_in constants t
   some-block (Opaque digest) = omega arith
   some-block (Span batches) = omega arith
@@ -14,12 +15,6 @@ module _ (constants : List ℕ) where
   some-block (Call a) = omega arith
   some-block (Syscall a) = omega arith
   some-block (Dyn ts) = omega arith
-
-  pub blocks-join : (a b : Tree) → blocks_in constants (Join a b) ≡ 1 + (blocks_in constants a + blocks_in constants b)
-  blocks-join a b = omega (arith, length-append (inputs_of constants a) (inputs_of constants b))
-
-  pub blocks-split : (a b : Tree) → blocks_in constants (Split a b) ≡ 1 + (blocks_in constants a + blocks_in constants b)
-  blocks-split a b = omega (arith, length-append (inputs_of constants a) (inputs_of constants b))
 
   pub blocks-dyn : (ts : Targets) → blocks_in constants (Dyn ts) ≡ 1 + length (inputs_in constants ts)
   blocks-dyn ts = omega arith

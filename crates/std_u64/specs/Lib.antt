@@ -1,2 +1,4 @@
+pub mod Libraries
 pub mod Lists
 pub mod Outcomes
+pub mod Table

@@ -30,7 +30,7 @@ pub enum U64Procedure {
 }
 
 // Every procedure.
-const EVERY: [U64Procedure; 11] = [
+pub(crate) const EVERY: [U64Procedure; 11] = [
     U64Procedure::OverflowingAdd,
     U64Procedure::WrappingAdd,
     U64Procedure::CheckedAdd,

@@ -1,5 +1,6 @@
 mod dynexecs;
 mod kernels;
+mod library;
 mod references;
 mod refusals;
 mod trees;

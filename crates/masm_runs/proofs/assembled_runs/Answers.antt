@@ -8,7 +8,7 @@ pub returns : goal.returns
 returns c = record {
   trees = ready-runs;
   ready = assembled-ready;
-  runs = λ constants text kernel program is parameters digests limit s none.
-      ready-runs parameters digests limit (tree_of program.tree) s (assembled-ready constants text kernel program is)
-      (assembled-trees constants text kernel program is).1.height none;
+  runs = λ constants library text kernel program plain is parameters digests limit s none.
+      ready-runs parameters digests limit (tree_of program.tree) s (assembled-ready constants library text kernel program plain is)
+      (assembled-trees constants library text kernel program is).1.height none;
 }

@@ -839,16 +839,7 @@ fn a_pair_is_found(rt: HostRuntime) -> Result<(), Fail> {
 #[test]
 fn a_pair_stays_one_beside_a_source(rt: HostRuntime) -> Result<(), Fail> {
     let row = Row {
-        words: &[
-            "check",
-            "z",
-            "t",
-            "u",
-            "--evidence",
-            "e",
-            "--source",
-            "m",
-        ],
+        words: &["check", "z", "t", "u", "--evidence", "e", "--source", "m"],
         files: PAIR[0].files,
         failing_call: 0,
         failing_write: 0,

@@ -8,4 +8,4 @@ returns-in-Err-Bad-clause-unbuilt c =
     (rw c.in-Err-Bad.field-0-is at c.in-Err-Bad.ensures) (rw c.name_of_place-name.ensures at c.refused_source.ensures)
 
 pub returns-in-Ok-clause-few : goal.returns-in-Ok-clause-few
-returns-in-Ok-clause-few c = few_assembled _ _ _ c.in-Ok.program c.assembled_trees.ensures c.in-Ok.ensures
+returns-in-Ok-clause-few c = few_assembled _ _ _ _ c.in-Ok.program c.assembled_trees.ensures c.in-Ok.ensures
