@@ -1,5 +1,5 @@
 #!/bin/bash
-# Assembles sources by masm_link and by plain Rust (digest.rs, rustc -O) in turn, and prints for each the least time of
+# Assembles sources by masm_link and by plain Rust (digest.rs over reference/) in turn, and prints for each the least time of
 # both in microseconds, the peak memory of both processes, and the ratios, each of which is to be at most 1.3. The sources
 # are many procedures in near 1,000,000 bytes; a chain of 600 procedures, each used by the next one and by begin, whose tree
 # has near 524,288 operations; and a chain of near 1,000,000 bytes into a cycle, which is refused. Two kinds are assembled
@@ -114,7 +114,9 @@ fn main(rt: HostRuntime) -> io::Result<()> {
     Ok(())
 }
 END
-rustc --edition 2021 -O -o "$work/plain" "$top/bench/digest.rs"
+# shellcheck source=bench/plain.sh
+. "$top/bench/plain.sh"
+make_plain digest
 cd "$work/crates/bench_assemble"
 rt run >"$work/log" 2>&1 || { cat "$work/log"; exit 1; }
 python3 - "$work" <<'PY'
@@ -178,7 +180,7 @@ for name, (_, most) in cases.items():
     times, peaks = {"masm_link": [], "plain": []}, {}
     for _ in range(5):
         came = {}
-        for side, words in (("masm_link", [proved, name]), ("plain", ["./plain", "time", name, name])):
+        for side, words in (("masm_link", [proved, name]), ("plain", ["./digest", "time", name, name])):
             micros, peaks[side], came[side] = run(words)
             times[side].append(micros)
         if came["masm_link"] != came["plain"]:

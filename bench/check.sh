@@ -1,5 +1,5 @@
 #!/bin/bash
-# Two benches of `check` over the table file of a run, each against plain Rust (check.rs, rustc -O) in turn.
+# Two benches of `check` over the table file of a run, each against plain Rust (check.rs over reference/) in turn.
 #
 # `check.sh CASE` times the whole command over the run of one of the programs of sources.sh: the table file and its statement
 # are read, its rows tested, its buses counted and compared, and the evidence is extracted and written, which must be the
@@ -24,8 +24,9 @@ trap 'rm -rf "$work"' EXIT
 kernel=
 # shellcheck source=bench/sources.sh
 . "$top/bench/sources.sh"
-rustc --edition 2021 -O -o "$work/plain" "$top/bench/check.rs"
-rustc --edition 2021 -O -o "$work/fill" "$top/bench/fill.rs"
+# shellcheck source=bench/plain.sh
+. "$top/bench/plain.sh"
+make_plain check fill
 
 whole_command() {
     local program=${MIDEN:-$top/crates/miden_cli/out/miden_cli} params=$top/examples/params/derived
@@ -39,7 +40,7 @@ whole_command() {
     [ "$1" != dispatch ] || most=1.2
     python3 "$top/bench/command.py" "check of $1" "$most" 2.5 table "${RUNS:-7}" \
         "$program" check "$params" table statement --evidence evidence \
-        -- ./plain check "$params" table statement plain.evidence -- "evidence plain.evidence"
+        -- ./check check "$params" table statement plain.evidence -- "evidence plain.evidence"
 }
 
 if [ "$1" != crates ]; then
@@ -59,7 +60,7 @@ TURNS=$turns DROPPED=$turns STACK='' make_source span
 cd "$work/crates/bench_check"
 rt run >"$work/log" 2>&1 || { cat "$work/log"; exit 1; }
 for _ in 1 2 3 4 5 6 7; do
-    "$work/plain" time "$zeros" "$work/file" >>"$work/plain.times"
+    "$work/check" time "$zeros" "$work/file" >>"$work/plain.times"
     /usr/bin/time -a -o "$work/peaks" -f '%M' out/bench_check "$work/file" >>"$work/proved.times"
 done
 if [ "$(cut -d' ' -f1 "$work"/*.times | sort -u | wc -l)" != 1 ] || grep -q '[a-z]' "$work"/*.times; then

@@ -1,21 +1,10 @@
 //! The command `assemble` in plain Rust, for `dynamic.sh` to compare with: `digest PARAMS SOURCE` prints the digest of the source's tree.
 //! `time CASE SOURCE`, for `assemble.sh`, prints the case, the microseconds of assembling, the source's length, and what it came to.
-#[path = "assemble.rs"]
-#[allow(dead_code)]
-mod assemble;
-#[path = "files.rs"]
-#[allow(dead_code)]
-mod files;
-#[path = "ops.rs"]
-#[allow(dead_code)]
-mod ops;
-#[path = "permute.rs"]
-#[allow(dead_code)]
-mod permute;
-
-use assemble::{Tree, assemble, digest};
-use files::{hex, read_params, read_text};
-use permute::Params;
+use reference::assembly::{Kernel, assemble};
+use reference::formats::decimals;
+use reference::formats::statements::hex;
+use reference::permutation::Params;
+use reference::trees::{Tree, digest};
 use std::time::Instant;
 
 // How many batches a tree has, and the sum of their elements.
@@ -35,7 +24,7 @@ fn tally(tree: &Tree) -> (u64, u64) {
 fn time(case: &str, source: &[u8]) {
     let params = Params { first: [[0; 12]; 7], second: [[0; 12]; 7] };
     let start = Instant::now();
-    let answer = assemble(&params, source);
+    let answer = assemble(&params, source, &Kernel::default());
     let micros = start.elapsed().as_micros();
     match answer {
         Ok(tree) => {
@@ -47,7 +36,7 @@ fn time(case: &str, source: &[u8]) {
 }
 
 fn print_digest(params: &Params, name: &str, source: &[u8]) {
-    match assemble(params, source) {
+    match assemble(params, source, &Kernel::default()) {
         Ok(tree) => println!("digest {}", hex(&digest(params, &tree))),
         Err((at, cause)) => println!("source {name} {} {} {cause:?}", at.line, at.column),
     }
@@ -56,9 +45,9 @@ fn print_digest(params: &Params, name: &str, source: &[u8]) {
 fn main() {
     let words: Vec<String> = std::env::args().collect();
     let words: Vec<&str> = words.iter().map(String::as_str).collect();
-    let read = |name: &str| std::fs::read(name).expect("the source is read");
+    let read = |name: &str| std::fs::read(name).expect("the file is read");
     match words[1..] {
-        ["digest", params, name] => print_digest(&read_params(&read_text(params)), name, &read(name)),
+        ["digest", params, name] => print_digest(&decimals::params(&read(params)).expect("parameters"), name, &read(name)),
         ["time", case, name] => time(case, &read(name)),
         _ => panic!("give digest PARAMS SOURCE, or time CASE SOURCE"),
     }

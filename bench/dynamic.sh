@@ -1,5 +1,5 @@
 #!/bin/bash
-# Benches of dynamic blocks, each against plain Rust (rustc -O), of which now one side runs first and now the other.
+# Benches of dynamic blocks, each against plain Rust (over reference/), of which now one side runs first and now the other.
 #
 # `dynamic.sh assemble` times `assemble` as a whole, against digest.rs, over sources of near 1,000,000 bytes with many procrefs and one
 # dynexec: `targets`, of some 18,000 procedures, of each of which the program puts the digest on the stack; `chain`, of some 27,000, each
@@ -19,9 +19,11 @@ work=$(mktemp -d)
 trap 'rm -rf "$work"' EXIT
 program=${MIDEN:-$top/crates/miden_cli/out/miden_cli}
 [ -x "$program" ] || "$top/miden" >/dev/null || true
+# shellcheck source=bench/plain.sh
+. "$top/bench/plain.sh"
 
 time_assemble() {
-    rustc --edition 2021 -O -o "$work/digest" "$top/bench/digest.rs"
+    make_plain digest
     python3 - "$work" "$program" "$top/examples/params/derived" "${RUNS:-10}" <<'PY'
 import os
 import subprocess

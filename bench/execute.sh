@@ -1,5 +1,5 @@
 #!/bin/bash
-# Times the named cases by the processor and by plain Rust (execute.rs, rustc -O), and prints for each the least time of
+# Times the named cases by the processor and by plain Rust (execute.rs over reference/), and prints for each the least time of
 # both in microseconds, the nanoseconds a cycle, and the ratio, which is to be at most the first argument. The program over
 # the processor is made in a temporary folder. calls.sh and steps.sh name the cases.
 set -e
@@ -205,11 +205,13 @@ fn run(rt: &HostRuntime, case: &str) -> io::Result<()> {
     }
 }
 END
-rustc -O -o "$work/plain" "$top/bench/execute.rs"
+# shellcheck source=bench/plain.sh
+. "$top/bench/plain.sh"
+make_plain execute
 cd "$work/crates/bench_execute"
 rt run >"$work/log" 2>&1 || { cat "$work/log"; exit 1; }
 out/bench_execute "$@" | sed 's/^/processor /' >>"$work/times"
-"$work/plain" "$@" | sed 's/^/plain /' >>"$work/times"
+"$work/execute" "$@" | sed 's/^/plain /' >>"$work/times"
 awk -v most="$most" '{
     if (NF != 6) { print "a case did not end: " $0; failed = 1; exit 1 }
     came = $4 " " $5 " " $6

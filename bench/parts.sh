@@ -1,5 +1,5 @@
 #!/bin/bash
-# Times each part of `run` and of `check` by the crates that the commands stand on, against plain Rust (fill.rs and check.rs, rustc -O)
+# Times each part of `run` and of `check` by the crates that the commands stand on, against plain Rust (fill.rs and check.rs over reference/)
 # in turn: assembling, executing, filling all tables, writing their file; reading and decoding it, testing the rows with counting and
 # comparing the buses, and extracting the evidence with its text.
 #
@@ -16,8 +16,9 @@ kernel=
 . "$top/bench/crates.sh"
 # shellcheck source=bench/sources.sh
 . "$top/bench/sources.sh"
-rustc --edition 2021 -O -o "$work/plain" "$top/bench/check.rs"
-rustc --edition 2021 -O -o "$work/fill" "$top/bench/fill.rs"
+# shellcheck source=bench/plain.sh
+. "$top/bench/plain.sh"
+make_plain check fill
 
 make_program() {
     local libraries='fill_files sound_evidence checker table_file air_kit masm_link masm_lex processor machine_cycles statement
@@ -207,7 +208,7 @@ for _ in $(seq "${RUNS:-7}"); do
     ./parts "$params" program.masm inputs $kernel >>crates.times
     # shellcheck disable=SC2086
     ./fill "$params" program.masm inputs table statement $kernel 2>>fill.times >/dev/null
-    ./plain check "$params" table statement evidence 2>>check.times >>answers
+    ./check check "$params" table statement evidence 2>>check.times >>answers
 done
 if grep -q '[a-z]' crates.times || grep -qv '^accepted' answers; then
     cat crates.times answers

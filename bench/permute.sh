@@ -1,5 +1,5 @@
 #!/bin/bash
-# Times 20,000 permutations by rpo_hash and by plain Rust (permute.rs, rustc -O) in turn, and prints the least time of
+# Times 20,000 permutations by rpo_hash and by plain Rust (permute.rs over reference/) in turn, and prints the least time of
 # each in microseconds and their ratio. The program over rpo_hash is made in a temporary folder.
 set -e
 top=$(cd "$(dirname "$0")/.." && pwd)
@@ -42,11 +42,13 @@ fn main(rt: HostRuntime) -> io::Result<()> {
     println!(rt; "{micros} {fourth}")
 }
 END
-rustc -O -o "$work/plain" "$top/bench/permute.rs"
+# shellcheck source=bench/plain.sh
+. "$top/bench/plain.sh"
+make_plain permute
 cd "$work/crates/bench_permute"
 rt run >"$work/log" 2>&1 || { cat "$work/log"; exit 1; }
 for _ in 1 2 3 4 5 6 7; do
-    "$work/plain" >>"$work/plain.times"
+    "$work/permute" >>"$work/plain.times"
     out/bench_permute >>"$work/proved.times"
 done
 if [ "$(cut -d' ' -f2 "$work"/*.times | sort -u | wc -l)" != 1 ]; then

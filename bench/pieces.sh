@@ -2,7 +2,7 @@
 # What pieces save. Two benches over the table file of a run of one span, of nearly 2^19 main rows.
 #
 # `pieces.sh`, or `pieces.sh CASE` over another program of sources.sh, times the whole command `check` in 4 pieces against plain Rust
-# (check.rs, rustc -O), first in one thread and then in the same 4 pieces, in turn; both write the same evidence. The ratio of the
+# (check.rs over reference/), first in one thread and then in the same 4 pieces, in turn; both write the same evidence. The ratio of the
 # times is to be at most 1.5 where plain Rust has the same pieces, and at most 1 where it has one thread and 4 processors are idle. The
 # peak memory is to be at most 2.5 times the table file. PIECES is another number of pieces, TURNS how often the source's outer body is
 # repeated, MIDEN the program in place of the one that the script `miden` builds, RUNS how often both run, and LARGE_PAGES which sides
@@ -21,8 +21,9 @@ kernel=
 pieces=${PIECES:-4}
 # shellcheck source=bench/sources.sh
 . "$top/bench/sources.sh"
-rustc --edition 2021 -O -o "$work/plain" "$top/bench/check.rs"
-rustc --edition 2021 -O -o "$work/fill" "$top/bench/fill.rs"
+# shellcheck source=bench/plain.sh
+. "$top/bench/plain.sh"
+make_plain check fill
 
 load() {
     echo "load $(cut -d' ' -f1 /proc/loadavg) on $(nproc) processors"
@@ -42,7 +43,7 @@ whole_command() {
         [ "$threads" = "$pieces" ] || most=1
         python3 "$top/bench/command.py" "check in $pieces pieces, plain Rust in $threads" "$most" 2.5 table "${RUNS:-7}" \
             "$program" check "$params" table statement --evidence evidence --pieces "$pieces" \
-            -- ./plain check "$params" table statement plain.evidence "$threads" -- "evidence plain.evidence"
+            -- ./check check "$params" table statement plain.evidence "$threads" -- "evidence plain.evidence"
     done
     load
 }

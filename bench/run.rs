@@ -1,41 +1,24 @@
 //! The command `run` in plain Rust, for `run.sh` to compare with: a source is read, assembled and executed, and the
 //! cycles and the visible cells are printed.
-#[path = "assemble.rs"]
-#[allow(dead_code)]
-mod assemble;
-#[path = "execute.rs"]
-#[allow(dead_code)]
-mod execute;
-#[path = "ops.rs"]
-#[allow(dead_code)]
-mod ops;
-#[path = "permute.rs"]
-#[allow(dead_code)]
-mod permute;
+use reference::assembly::{Kernel, assemble};
+use reference::commands::{Program, ran};
+use reference::formats::inputs::Inputs;
+use reference::machine::{Blocks, MOST_CYCLES};
+use reference::permutation::{Params, State};
 
-use assemble::Tree as Assembled;
-use execute::Tree;
-use permute::Params;
-
-fn tree_of(tree: Assembled) -> Tree {
-    match tree {
-        Assembled::Span(batches) => Tree::Span(batches),
-        Assembled::Join(a, b) => Tree::Join(Box::new(tree_of(*a)), Box::new(tree_of(*b))),
-        Assembled::Loop(body) => Tree::Loop(Box::new(tree_of(*body))),
-        Assembled::Call(callee) => Tree::Call(Box::new(tree_of(*callee))),
-        Assembled::Dyn(targets) => Tree::Dyn(targets.into_iter().map(tree_of).collect()),
-        Assembled::Split(..) | Assembled::Syscall(_) => unimplemented!("the case has none"),
-    }
+fn constants(from: u64) -> [State; 7] {
+    std::array::from_fn(|k| std::array::from_fn(|i| from + 1000 * k as u64 + i as u64))
 }
 
 fn main() {
     let path = std::env::args().nth(1).expect("a source");
     let source = std::fs::read(path).expect("the source is read");
-    let params = Params { first: execute::constants(1), second: execute::constants(7) };
-    let tree = assemble::assemble(&params, &source).expect("the source is assembled");
-    let (cycles, cells) = execute::cycles_and_cells(&tree_of(tree));
-    print!("{cycles}");
-    for cell in cells {
+    let params = Params { first: constants(1), second: constants(7) };
+    let tree = assemble(&params, &source, &Kernel::default()).expect("the source is assembled");
+    let program = Program::in_blocks(Blocks::remembering(&params), tree, Kernel::default());
+    let run = ran(&params, &program, &Inputs::default(), MOST_CYCLES).expect("the run ends");
+    print!("{}", run.cycles());
+    for cell in &run.outputs[..16] {
         print!(" {cell}");
     }
     println!();

@@ -1,5 +1,5 @@
 #!/bin/bash
-# Two benches of `run`, each against plain Rust (rustc -O) in turn.
+# Two benches of `run`, each against plain Rust (over reference/) in turn.
 #
 # `run.sh CASE` times the whole command over one of the programs of sources.sh: the source is read, assembled and executed,
 # all tables are filled, and the table file and the statement are written. Plain Rust is fill.rs; its files must be the same
@@ -23,11 +23,13 @@ trap 'rm -rf "$work"' EXIT
 kernel=
 # shellcheck source=bench/sources.sh
 . "$top/bench/sources.sh"
+# shellcheck source=bench/plain.sh
+. "$top/bench/plain.sh"
 
 whole_command() {
     local program=${MIDEN:-$top/crates/miden_cli/out/miden_cli}
     [ -x "$program" ] || "$top/miden" >/dev/null || true
-    rustc --edition 2021 -O -o "$work/fill" "$top/bench/fill.rs"
+    make_plain fill
     cd "$work"
     make_source "$1"
     local files="$top/examples/params/derived program.masm inputs"
@@ -125,7 +127,7 @@ begin
     end
 end
 END
-rustc --edition 2021 -O -o "$work/plain" "$top/bench/run.rs"
+make_plain run
 cd "$work/crates/bench_run"
 rt run >"$work/log" 2>&1 || { cat "$work/log"; exit 1; }
 python3 - "$work" <<'PY'
@@ -143,7 +145,7 @@ def run(words):
         sys.exit(f"{words} did not end: {printed}")
     return time.monotonic() - start, usage.ru_maxrss / 1000, printed
 
-programs = {"crates": ["crates/bench_run/out/bench_run", "loop.masm"], "plain": ["./plain", "loop.masm"]}
+programs = {"crates": ["crates/bench_run/out/bench_run", "loop.masm"], "plain": ["./run", "loop.masm"]}
 times, peaks, came = {"crates": [], "plain": []}, {}, {}
 for _ in range(9):
     for side, words in programs.items():

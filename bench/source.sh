@@ -1,5 +1,5 @@
 #!/bin/bash
-# Times `check --source` as a whole, against plain Rust of the same work (check.rs, rustc -O), and against `check` and `assemble` of the
+# Times `check --source` as a whole, against plain Rust of the same work (check.rs over reference/), and against `check` and `assemble` of the
 # same files by themselves, one after the other; the four run in turn, now in this order and now in the other one.
 #
 # `source.sh CASE ..` does so over the runs of these programs of sources.sh: `span`, of which one span has nearly 2^19 rows and operations;
@@ -20,7 +20,9 @@ program=${MIDEN:-$top/crates/miden_cli/out/miden_cli} params=$top/examples/param
 kernel=
 # shellcheck source=bench/sources.sh
 . "$top/bench/sources.sh"
-rustc --edition 2021 -O -o "$work/plain" "$top/bench/check.rs"
+# shellcheck source=bench/plain.sh
+. "$top/bench/plain.sh"
+make_plain check
 cd "$work"
 
 time_case() {
@@ -39,7 +41,7 @@ case, program, params, runs, *kernel = sys.argv[1:]
 CHECK = [program, "check", params, "table", "statement", "--evidence"]
 KERNEL = [word for name in kernel for word in ("--kernel", name)]
 SIDES = {
-    "plain Rust": ["./plain", "source", params, "table", "statement", "plain.evidence", "program.masm", *kernel],
+    "plain Rust": ["./check", "source", params, "table", "statement", "plain.evidence", "program.masm", *kernel],
     "the program": [*CHECK, "evidence", "--source", "program.masm", *KERNEL],
     "check": [*CHECK, "run.evidence"],
     "assemble": [program, "assemble", params, "program.masm", *KERNEL],

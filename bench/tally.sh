@@ -1,6 +1,6 @@
 #!/bin/bash
 # Times 2,000,000 counts of tuples of 3, 5 and 12 elements and of values below 2^16, and the search for the least tuple
-# apart, by bus_kit and by plain Rust (tally.rs, rustc -O) in turn, and prints the least time of each in microseconds and
+# apart, by bus_kit and by plain Rust (tally.rs over reference/) in turn, and prints the least time of each in microseconds and
 # their ratio. The program over bus_kit is made in a temporary folder.
 set -e
 top=$(cd "$(dirname "$0")/.." && pwd)
@@ -93,11 +93,13 @@ use Rattle.bench_tally.proofs.ask_all.Given as goal
 abbrev pub invariant-loop-i : goal.invariant-loop-i
 invariant-loop-i g l = (u : List ℕ) → (g.T.Count.both l.tally u).0 ≤ l.i
 END
-rustc --edition 2021 -O -o "$work/plain" "$top/bench/tally.rs"
+# shellcheck source=bench/plain.sh
+. "$top/bench/plain.sh"
+make_plain tally
 cd "$work/crates/bench_tally"
 rt run >"$work/log" 2>&1 || { cat "$work/log"; exit 1; }
 for _ in 1 2 3 4 5; do
-    "$work/plain" >>"$work/plain.times"
+    "$work/tally" >>"$work/plain.times"
     out/bench_tally >>"$work/proved.times"
 done
 if [ "$(cut -d' ' -f1,4 "$work"/*.times | sort -u | wc -l)" != 4 ]; then
