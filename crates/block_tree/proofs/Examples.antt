@@ -12,16 +12,16 @@ use Rattle.block_tree.specs.Cycles.{pops_bit, opens, closes, reads, enters_call,
 use Rattle.block_tree.specs.Execution.{Outcome, Done, Trap, OutOfCycles, seq, skip, taking, execution}
 use Rattle.block_tree.specs.Laws.{tape_taken}
 
--- what is shown of an outcome: last clock, depth, first four cells, what was taken of the tape, number of events
+-- What is shown of an outcome, and of a cut: last clock, depth, first four cells, what was taken of the tape, number of events.
 pub data Short : Type 0 where
   done : ℕ → ℕ → List ℕ → List ℕ → ℕ → Short
   trap : ℕ → Cause → Short
-  out : Short
+  out : ℕ → ℕ → List ℕ → List ℕ → ℕ → Short
 
 abbrev short : Outcome → Short
 short (Done s es) = done s.core.clock (length s.core.stack) (take 4 s.core.stack) (tape_taken es) (length es)
 short (Trap clock cause) = trap clock cause
-short OutOfCycles = out
+short (OutOfCycles s es) = out s.core.clock (length s.core.stack) (take 4 s.core.stack) (tape_taken es) (length es)
 
 abbrev batch : ℕ → ℕ → ℕ → ℕ → List ℕ
 batch a b c d = a ∷ b ∷ c ∷ d ∷ 0 ∷ 0 ∷ 0 ∷ 0 ∷ []
@@ -46,12 +46,12 @@ unfolding seq skip taking cycle_taking act left_cells stack_after computed trap_
     enters_call enters_syscall returns_to start codes.op_at codes.every_op
 limit_of_three = refl
 
-limit_of_two : short (execution [] [] 2 (one 0 0) (start [] [])) ≡ out
+limit_of_two : short (execution [] [] 2 (one 0 0) (start [] [])) ≡ out 2 16 (0 ∷ 0 ∷ 0 ∷ 0 ∷ []) [] 2
 unfolding seq skip taking cycle_taking act left_cells stack_after computed trap_of reading read_on pops_bit opens closes reads
     enters_call enters_syscall returns_to start codes.op_at codes.every_op
 limit_of_two = refl
 
-limit_of_none : short (execution [] [] 0 (Opaque []) (start [] [])) ≡ out
+limit_of_none : short (execution [] [] 0 (Opaque []) (start [] [])) ≡ out 0 16 (0 ∷ 0 ∷ 0 ∷ 0 ∷ []) [] 0
 unfolding seq skip taking cycle_taking act left_cells stack_after computed trap_of reading read_on pops_bit opens closes reads
     enters_call enters_syscall returns_to start codes.op_at codes.every_op
 limit_of_none = refl
@@ -88,6 +88,12 @@ unfolding seq skip taking cycle_taking act left_cells stack_after computed trap_
     enters_call enters_syscall returns_to start codes.op_at codes.every_op
 loop_of_a_split = refl
 
+loop_cut_before_a_turn : short (execution [] [] 7 (Loop (Split (one 1032 0) (one 258 0))) (start (1 ∷ 1 ∷ 1 ∷ 0 ∷ 0 ∷ []) []))
+    ≡ out 7 16 (1 ∷ 0 ∷ 0 ∷ 0 ∷ []) [] 7
+unfolding seq skip taking cycle_taking act left_cells stack_after computed trap_of reading read_on pops_bit opens closes reads
+    enters_call enters_syscall returns_to start codes.op_at codes.every_op
+loop_cut_before_a_turn = refl
+
 sum_of_no_u32 : short (execution [] [] 100 (Span (batch 90677957 4294967296 1 0 ∷ [])) (start [] [])) ≡ trap 3 NotU32
 unfolding seq skip taking cycle_taking act left_cells stack_after computed trap_of reading read_on pops_bit opens closes reads
     enters_call enters_syscall returns_to start codes.op_at codes.every_op
@@ -107,6 +113,11 @@ advice_ends : short (execution [] [] 100 (one 8385 0) (start [] (6 ∷ []))) ≡
 unfolding seq skip taking cycle_taking act left_cells stack_after computed trap_of reading read_on pops_bit opens closes reads
     enters_call enters_syscall returns_to start codes.op_at codes.every_op
 advice_ends = refl
+
+advice_before_it_ends : short (execution [] [] 2 (one 8385 0) (start [] (6 ∷ []))) ≡ out 2 17 (6 ∷ 0 ∷ 0 ∷ 0 ∷ []) (6 ∷ []) 2
+unfolding seq skip taking cycle_taking act left_cells stack_after computed trap_of reading read_on pops_bit opens closes reads
+    enters_call enters_syscall returns_to start codes.op_at codes.every_op
+advice_before_it_ends = refl
 
 advice : short (execution [] [] 100 (one 8385 0) (start [] (6 ∷ 7 ∷ 8 ∷ []))) ≡ done 4 18 (7 ∷ 6 ∷ 0 ∷ 0 ∷ []) (6 ∷ 7 ∷ []) 4
 unfolding seq skip taking cycle_taking act left_cells stack_after computed trap_of reading read_on pops_bit opens closes reads

@@ -2,7 +2,9 @@ pub mod Parts
 pub mod ViewLemmas
 pub mod Keeping
 pub mod TargetLemmas
+pub mod Tracks
 pub mod Limits
+pub mod CutLemmas
 pub mod WholeTrees
 pub mod RowLemmas
 pub mod BehindLemmas

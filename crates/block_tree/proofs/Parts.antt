@@ -11,17 +11,17 @@ use Rattle.block_tree.specs.Execution.{Event, Outcome, Done, Trap, OutOfCycles, 
 abbrev state_in : State → Outcome → State
 state_in d (Done s events) = s
 state_in d (Trap clock cause) = d
-state_in d OutOfCycles = d
+state_in d (OutOfCycles s events) = s
 
 abbrev events_in : Outcome → List Event
 events_in (Done s events) = events
 events_in (Trap clock cause) = []
-events_in OutOfCycles = []
+events_in (OutOfCycles s events) = events
 
 abbrev IsDone : Outcome → Type 0
 IsDone (Done s events) = Unit {0}
 IsDone (Trap clock cause) = ⊥
-IsDone OutOfCycles = ⊥
+IsDone (OutOfCycles s events) = ⊥
 
 pub done-state : (s t : State) (es fs : List Event) → Done s es ≡ Done t fs → s ≡ t
 done-state s t es fs e = ap (state_in s) e
@@ -32,8 +32,8 @@ done-events s t es fs e = ap events_in e
 pub done-not_trap : (clock : ℕ) (cause : Cause) (t : State) (es : List Event) → Trap clock cause ≡ Done t es → ⊥
 done-not_trap clock cause t es e = subst IsDone (sym e) tt
 
-pub done-not_late : (t : State) (es : List Event) → OutOfCycles ≡ Done t es → ⊥
-done-not_late t es e = subst IsDone (sym e) tt
+pub done-not_late : (s t : State) (es fs : List Event) → OutOfCycles s es ≡ Done t fs → ⊥
+done-not_late s t es fs e = subst IsDone (sym e) tt
 
 -- a part that is done, and what was done behind the first events
 pub record Rest (first : List Event) (o : Outcome) (t : State) (es : List Event) : Type 0 where
@@ -48,7 +48,7 @@ logged-inv first (Done s more) t es e = record {
   all = sym (done-events s t (first ++ more) es e);
 }
 logged-inv first (Trap clock cause) t es e = absurd (done-not_trap clock cause t es e)
-logged-inv first OutOfCycles t es e = absurd (done-not_late t es e)
+logged-inv first (OutOfCycles s more) t es e = absurd (done-not_late s t (first ++ more) es e)
 
 -- one part and then the other, from one state to another
 pub record Between (f g : Part) (s t : State) (es : List Event) : Type 0 where
@@ -64,7 +64,7 @@ then-inv f g s t es (Done mid first) ran e =
     let rest : Rest first (g mid) t es = logged-inv first (g mid) t es e in
     record { mid = mid; first = first; second = rest.second; ran = ran; went_on = rest.done; all = rest.all }
 then-inv f g s t es (Trap clock cause) ran e = absurd (done-not_trap clock cause t es e)
-then-inv f g s t es OutOfCycles ran e = absurd (done-not_late t es e)
+then-inv f g s t es (OutOfCycles mid first) ran e = absurd (done-not_late mid t first es e)
 
 pub seq-inv : (f g : Part) (s t : State) (es : List Event) → seq f g s ≡ Done t es → Between f g s t es
 unfolding seq
@@ -75,13 +75,14 @@ pub seq-done : (f g : Part) (s mid t : State) (first second : List Event) → f 
 unfolding seq
 seq-done f g s mid t first second ran went_on = rw (ran, went_on) refl
 
-pub seq-late : (f g : Part) (s : State) → f s ≡ OutOfCycles → seq f g s ≡ OutOfCycles
+pub seq-late : (f g : Part) (s t : State) (es : List Event) → f s ≡ OutOfCycles t es → seq f g s ≡ OutOfCycles t es
 unfolding seq
-seq-late f g s late = rw late refl
+seq-late f g s t es late = rw late refl
 
-pub seq-late_second : (f g : Part) (s mid : State) (first : List Event) → f s ≡ Done mid first → g mid ≡ OutOfCycles → seq f g s ≡ OutOfCycles
+pub seq-late_second : (f g : Part) (s mid t : State) (first second : List Event) → f s ≡ Done mid first → g mid ≡ OutOfCycles t second
+    → seq f g s ≡ OutOfCycles t (first ++ second)
 unfolding seq
-seq-late_second f g s mid first ran late = rw (ran, late) refl
+seq-late_second f g s mid t first second ran late = rw (ran, late) refl
 
 pub seq-trap : (f g : Part) (s : State) (clock : ℕ) (cause : Cause) → f s ≡ Trap clock cause → seq f g s ≡ Trap clock cause
 unfolding seq
@@ -150,7 +151,7 @@ taking-inv limit mark n effect s t es e = go (ltb s.core.clock limit) refl e
   where
     go : (b : Bool) → ltb s.core.clock limit ≡ b
         → cond b (cycle_outcome mark n s (cond (ltb (length s.tape) n) (Err AdviceEmpty)
-        (ticked n s.tape (effect (take n s.tape) s.core)))) OutOfCycles ≡ Done t es
+        (ticked n s.tape (effect (take n s.tape) s.core)))) (OutOfCycles s []) ≡ Done t es
         → Cycled limit mark n effect s t es
     go true before done =
         let within : (n ≤ length s.tape) × (Ticked n s.tape (effect (take n s.tape) s.core) t) × (es ≡ event_of mark n s ∷ [])
@@ -163,7 +164,7 @@ taking-inv limit mark n effect s t es e = go (ltb s.core.clock limit) refl e
           now = within.1.now;
           event = within.2;
         }
-    go false late done = absurd (done-not_late t es done)
+    go false late done = absurd (done-not_late s t [] es done)
 
 pub taking-done : (limit : ℕ) (mark : Mark) (n : ℕ) (effect : List ℕ → Cycle) (s : State) (core : Core)
     → s.core.clock < limit → n ≤ length s.tape → effect (take n s.tape) s.core ≡ Ok core
@@ -184,7 +185,7 @@ unfolding taking
 taking-trap limit mark n effect s cause before made = rw (lt-ltb s.core.clock limit before, made) refl
 
 pub taking-late : (limit : ℕ) (mark : Mark) (n : ℕ) (effect : List ℕ → Cycle) (s : State)
-    → limit ≤ s.core.clock → taking limit mark n effect s ≡ OutOfCycles
+    → limit ≤ s.core.clock → taking limit mark n effect s ≡ OutOfCycles s []
 unfolding taking
 taking-late limit mark n effect s late = rw (le-ltb s.core.clock limit late) refl
 

@@ -1,5 +1,5 @@
 -- Refinement is reflexive and transitive, keeps the digest, and does what was done.
-use Rattle.std.proofs.Common.{◌≡◌, ℕ, zero, suc, ◌-◌, take, Bool, true, false, cond, ltb, List, Option, Some, None, Result, Ok, Err, nat_eq, sym, refl, ap, subst, ◌∙◌}
+use Rattle.std.proofs.Common.{◌≡◌, ℕ, zero, suc, ◌-◌, take, Bool, true, false, cond, ltb, List, [], Option, Some, None, Result, Ok, Err, nat_eq, sym, refl, ap, subst, ◌∙◌}
 use Rattle.vm_field.specs.Machine.{Core, State}
 use Rattle.vm_ops.specs.declared.cause.Cause.{Cause}
 use Rattle.vm_ops.specs.declared.cause.Cause.TheVariants.{NestedTooDeep, OpaqueBlock}
@@ -142,7 +142,7 @@ keep-at_bit (suc n) f g f' g' s h h' = h'
 module _ (constants : List ℕ) (kernel : List (List ℕ)) (limit : ℕ) where
   keep-turns : (digest body_digest : List ℕ) (f g : Part) → ((u : State) → Keep (f u) (g u)) → (n : ℕ) (s : State)
       → Keep (turns constants kernel limit digest body_digest n f s) (turns constants kernel limit digest body_digest n g s)
-  keep-turns digest body_digest f g h zero s = keep-refl OutOfCycles
+  keep-turns digest body_digest f g h zero s = keep-refl (OutOfCycles s [])
   keep-turns digest body_digest f g h (suc n) s =
       keep-then _ _ _ _ s (h s) (λ u. keep-at_bit (top u.core) _ _ _ _ u (keep-refl _)
       (keep-then _ _ _ _ u (keep-refl _) (keep-turns digest body_digest f g h n)))

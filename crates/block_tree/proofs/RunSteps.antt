@@ -133,7 +133,7 @@ module _ (constants : List ℕ) (kernel : List (List ℕ)) (limit : ℕ) where
       → (n : ℕ) (s t : State) (es : List Event)
       → turns constants kernel limit (digest_of (Loop body)) (digest_of body) n (run_of body) s ≡ Done t es
       → Goes (Block body ∷ Turned body ∷ []) s t es
-  goes-turns body h zero s t es e = absurd (done-not_late t es e)
+  goes-turns body h zero s t es e = absurd (done-not_late s t [] es e)
   goes-turns body h (suc n) s t es e =
       let b = seq-inv (run_of body) _ s t es e in
       rw b.all (goes-two (Block body ∷ []) (Turned body ∷ []) s b.mid t b.first b.second (h s b.mid b.first b.ran)

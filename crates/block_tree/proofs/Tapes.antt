@@ -129,7 +129,7 @@ module _ (constants : List ℕ) (kernel : List (List ℕ)) (limit : ℕ) where
   fed-turns : (digest body_digest : List ℕ) (body : Part) → ((u t : State) (es : List Event) → body u ≡ Done t es → Fed body u t es)
       → (n : ℕ) (s t : State) (es : List Event) → turns constants kernel limit digest body_digest n body s ≡ Done t es
       → Fed (turns constants kernel limit digest body_digest n body) s t es
-  fed-turns digest body_digest body h zero s t es e = absurd (done-not_late t es e)
+  fed-turns digest body_digest body h zero s t es e = absurd (done-not_late s t [] es e)
   fed-turns digest body_digest body h (suc n) s t es e =
       let fed : Fed (seq body (λ v. at_bit (top v.core) (cycle constants kernel limit (EndLoop digest))
       (seq (cycle constants kernel limit (Repeat body_digest)) (turns constants kernel limit digest body_digest n body)) v))

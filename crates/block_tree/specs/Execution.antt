@@ -15,11 +15,16 @@ pub record Event : Type 0 where
   pub core : Core
   pub advice : List ℕ
 
--- how a run comes out: done, with a cycle's event each; a trap at a clock; or cut off by the limit
+-- How a run comes out: done, with a cycle's event each; a trap at a clock; or cut off by the limit, with the state at the cut and
+-- the event of each cycle before it.
 pub data Outcome : Type 0 where
   Done : (state : State) (events : List Event) → Outcome
   Trap : (clock : ℕ) (cause : Cause) → Outcome
-  OutOfCycles : Outcome
+  OutOfCycles : (state : State) (events : List Event) → Outcome
+
+-- that the limit cut a run off
+pub data IsCutOff : Outcome → Type 0 where
+  cut_off : (state : State) (events : List Event) → IsCutOff (OutOfCycles state events)
 
 -- a part of a run
 abbrev pub Part : Type 0
@@ -29,12 +34,12 @@ Part = State → Outcome
 abbrev pub logged : List Event → Outcome → Outcome
 logged events (Done s more) = Done s (events ++ more)
 logged events (Trap clock cause) = Trap clock cause
-logged events OutOfCycles = OutOfCycles
+logged events (OutOfCycles s more) = OutOfCycles s (events ++ more)
 
 abbrev pub then_do : Outcome → Part → Outcome
 then_do (Done s events) next = logged events (next s)
 then_do (Trap clock cause) next = Trap clock cause
-then_do OutOfCycles next = OutOfCycles
+then_do (OutOfCycles s events) next = OutOfCycles s events
 
 -- nothing at all
 unfoldable pub skip : Part
@@ -55,7 +60,7 @@ cycle_outcome mark n s (Err cause) = Trap s.core.clock cause
 -- A cycle that takes n elements of the tape. The limit is tested first, and then the cycle's causes.
 unfoldable pub taking : ℕ → Mark → ℕ → (List ℕ → Cycle) → Part
 taking limit mark n effect s =
-    if nat_lt s.core.clock limit then cycle_outcome mark n s (cycle_taking n effect s) else OutOfCycles
+    if nat_lt s.core.clock limit then cycle_outcome mark n s (cycle_taking n effect s) else OutOfCycles s []
 
 -- the first part at 0, and else the second
 abbrev pub at_bit : ℕ → Part → Part → Part
@@ -86,7 +91,7 @@ module _ (constants : List ℕ) (kernel : List (List ℕ)) (limit : ℕ) where
   -- Turns of a loop, at most so many, of a body with its digest in a loop with its digest. After each a 0 on top ends the loop,
   -- and a 1 is popped by REPEAT, at which any other value traps.
   abbrev pub turns : List ℕ → List ℕ → ℕ → Part → Part
-  turns digest body_digest zero body s = OutOfCycles
+  turns digest body_digest zero body s = OutOfCycles s []
   turns digest body_digest (suc n) body s =
       seq body (λ t. at_bit (top t.core)
       (cycle (EndLoop digest))

@@ -4,7 +4,7 @@ use Rattle.vm_field.specs.Limits.{number_of_constants}
 use Rattle.vm_field.specs.Machine.{State, IsWord}
 use Rattle.vm_field.specs.Sponge.{HashInput, digest_of_input}
 use Rattle.block_tree.specs.Trees.{Tree, Targets, Dyn, IsWhole, Refines, first_target, input_of, tree_digest}
-use Rattle.block_tree.specs.Execution.{Event, Done, OutOfCycles, execution}
+use Rattle.block_tree.specs.Execution.{Event, Done, IsCutOff, execution}
 
 -- what a run's cycles took of the tape, in order
 abbrev pub tape_taken : List Event → List ℕ
@@ -56,12 +56,12 @@ SameAtLaterLimits = (constants : List ℕ) (kernel : List (List ℕ)) (limit : �
     → (other : ℕ) → s'.core.clock ≤ other
     → execution constants kernel other t s ≡ Done s' events
 
--- and is out of cycles at each limit below
+-- and is cut off at each limit below
 abbrev pub OutAtEarlierLimits : Type 0
 OutAtEarlierLimits = (constants : List ℕ) (kernel : List (List ℕ)) (limit : ℕ) (t : Tree) (s s' : State) (events : List Event)
     → execution constants kernel limit t s ≡ Done s' events
     → (other : ℕ) → other < s'.core.clock
-    → execution constants kernel other t s ≡ OutOfCycles
+    → IsCutOff (execution constants kernel other t s)
 
 -- what is done took a prefix of the tape, that of its events
 abbrev pub TakesPrefix : Type 0

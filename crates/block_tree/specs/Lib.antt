@@ -11,6 +11,7 @@ pub mod CycleLaws
 pub mod Logs
 pub mod LogLaws
 pub mod Laws
+pub mod CutLaws
 pub mod TreeView
 pub mod KnownTrees
 pub mod Kernels

@@ -1,3 +1,4 @@
+ghost use Rattle.block_tree.specs.CutLaws.{CutAtLimit, CutBeforeEnd, CutBeforeLimit, CutBeforeTrap, CutBySmaller};
 ghost use Rattle.block_tree.specs.CycleLaws.{DoneWhereAllowed, RunIsSteps, StepsAreRun};
 ghost use Rattle.block_tree.specs.Laws.{DigestOfInput, DigestIsWord, FirstTargetRefined, RefinesItself, RefinesThrough, RefinedDigest, RefinedRun, SameAtLaterLimits, OutAtEarlierLimits, TakesPrefix, SameOnWhatItTook};
 ghost use Rattle.block_tree.specs.LogLaws.{LogCounts, RunIsLogged, RunIsShallow, RunIsWhole, RunIsWithinContexts, RunNests};
@@ -29,6 +30,17 @@ pub fn run_laws()
     ensures out { OutAtEarlierLimits }
     ensures prefix { TakesPrefix }
     ensures enough { SameOnWhatItTook }
+{}
+
+/// The laws of cut runs: a run that a limit cuts off has come to the limit, and its events are those
+/// with which the same run begins within each greater limit, whether it ends there, traps or is cut
+/// off.
+pub fn cut_laws()
+    ensures smaller { CutBySmaller }
+    ensures limit { CutAtLimit }
+    ensures trap { CutBeforeTrap }
+    ensures end { CutBeforeEnd }
+    ensures greater { CutBeforeLimit }
 {}
 
 /// The laws of cycles: where each is done and which state is behind it, and that a run of a whole

@@ -12,7 +12,7 @@ mod whole;
 pub use evidence::Evidence;
 pub use exports::{Export, Exports};
 pub use kernel::are_distinct;
-pub use laws::{cycle_laws, log_laws, row_laws, run_laws, tree_laws, types_cross};
+pub use laws::{cut_laws, cycle_laws, log_laws, row_laws, run_laws, tree_laws, types_cross};
 pub use program::Program;
 pub use tree::{
     Tree, Trees, copy, digest, digest_of_dynamic, digest_of_one, digest_of_two, dynamic, height,

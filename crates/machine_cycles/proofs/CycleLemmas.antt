@@ -1,5 +1,5 @@
 -- One cycle, as the code answers it.
-use Rattle.std.proofs.Common.{◌≡◌, ℕ, ◌+◌, ◌<◌, ◌≤◌, List, [], ◌∷◌, ◌++◌, length, map, take, drop, Result, Ok, Err, None, refl, sym, ap, ◌∙◌, arith}
+use Rattle.std.proofs.Common.{◌≡◌, ℕ, ◌+◌, ◌<◌, ◌≤◌, List, [], ◌∷◌, ◌++◌, length, map, take, drop, Result, Ok, Err, None, append-nil, refl, sym, ap, ◌∙◌, arith}
 use Rattle.std.proofs.lemmas.Bool.{le-ltb}
 use Rattle.vm_field.specs.Machine as machine
 use Rattle.vm_field.specs.Machine.{Core, zero_word}
@@ -31,12 +31,16 @@ use Rattle.machine_cycles.specs.declared.refusal.Stop.TheVariants.{OutOfCycles}
 use Rattle.machine_cycles.specs.declared.setting.Setting.{Setting}
 
 -- the limit cuts the cycle off
-pub ran-late : (setting : Setting) (mark : cycles.Mark) (s : machine.State) {log : List Event} {r : Result (Unit {0}) Stop} {after : Runner}
-    → setting.limit ≤ s.core.clock → r ≡ Err OutOfCycles → Ran setting (cycle_in setting mark s) log r after
-ran-late setting mark s late e =
+pub ran-late : (setting : Setting) (mark : cycles.Mark) (after : Runner) {r : Result (Unit {0}) Stop}
+    → setting.limit ≤ after.state.clock → r ≡ Err OutOfCycles → Ran setting (cycle_in setting mark (state_of after.state)) after.log r after
+ran-late setting mark after late e =
     rw e (record {
-      answer = taking-late setting.limit mark (advice_taken mark)
-          (effect_of (constants_in setting) setting.kernel.now mark) s late;
+      answer = record {
+        more = [];
+        cut = taking-late setting.limit mark (advice_taken mark)
+            (effect_of (constants_in setting) setting.kernel.now mark) (state_of after.state) late;
+        events = sym (append-nil after.log);
+      };
     })
 
 -- what the log shows of a cycle that was done

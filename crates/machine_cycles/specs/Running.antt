@@ -25,10 +25,16 @@ pub record IsDone (setting : Setting) (outcome : Outcome) (log : List Event) (af
   pub done : outcome ≡ Done (state_of after.state) more
   pub events : after.log ≡ log ++ map (shown_in setting) more
 
+-- a part that was cut off, and its events behind those that were logged before
+pub record IsCut (setting : Setting) (outcome : Outcome) (log : List Event) (after : Runner) : Type 0 where
+  pub more : List run.Event
+  pub cut : outcome ≡ run.OutOfCycles (state_of after.state) more
+  pub events : after.log ≡ log ++ map (shown_in setting) more
+
 abbrev pub RanAs : Setting → Outcome → List Event → Result (Unit {0}) Stop → Runner → Type 0
 RanAs setting outcome log (Ok _) after = IsDone setting outcome log after
 RanAs setting outcome log (Err (Trap clock cause)) after = outcome ≡ run.Trap clock cause
-RanAs setting outcome log (Err OutOfCycles) after = outcome ≡ run.OutOfCycles
+RanAs setting outcome log (Err OutOfCycles) after = IsCut setting outcome log after
 RanAs setting outcome log (Err Memory) after = Unit {0}
 
 -- The part came out as the call answered. Where memory was refused, nothing is said of it.

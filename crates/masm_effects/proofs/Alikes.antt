@@ -1,6 +1,6 @@
 -- Lists that have the same element at each index, where 0 stands past the end: lists that are equal but for zeros at their
 -- ends.
-use Rattle.std.proofs.Common.{◌≡◌, ℕ, zero, suc, ◌+◌, ◌-◌, ◌≤◌, List, [], ◌∷◌, ◌++◌, length, take, drop, slice_index, refl, sym, ◌∙◌, ap, arith, add-one, add-zero, add-suc, suc-add, zero-add, take_all}
+use Rattle.std.proofs.Common.{◌≡◌, ℕ, zero, suc, ◌+◌, ◌≤◌, List, [], ◌∷◌, ◌++◌, length, take, drop, slice_index, refl, sym, ◌∙◌, ap, arith, add-one, add-zero, add-suc, suc-add, zero-add, take_all}
 use Rattle.std.proofs.lemmas.List.{drop-append-le, drop_more, ext_get_or, get_or_append_left, get_or-drop, get_or-take, length-take-le}
 use Rattle.vm_field.specs.Machine.{filled_up}
 use Rattle.vm_ops.proofs.FrameLemmas.{index-filled_up}

@@ -8,7 +8,7 @@ use Rattle.block_tree.specs.Execution.{Event, Outcome, Done, Trap, OutOfCycles}
 abbrev pub EndsLike : Outcome → Result State Cause → Type 0
 EndsLike (Done t events) r = r ≡ Ok t
 EndsLike (Trap clock cause) r = r ≡ Err cause
-EndsLike OutOfCycles r = Unit {0}
+EndsLike (OutOfCycles t events) r = Unit {0}
 
 -- a trap where the test holds, else done with the state
 abbrev pub TrapsOrIsDone : Bool → Outcome → State → Type 0

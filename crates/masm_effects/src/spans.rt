@@ -1,5 +1,5 @@
-ghost use Rattle.std.specs.Prelude.{◌≡◌, ◌≢◌, ℕ, ◌+◌, ◌≤◌, true, List, length};
-ghost use Rattle.block_tree.specs.Execution.{operations, OutOfCycles};
+ghost use Rattle.std.specs.Prelude.{◌≡◌, ℕ, ◌+◌, ◌≤◌, true, List, length};
+ghost use Rattle.block_tree.specs.Execution.{operations, IsCutOff};
 ghost use Rattle.masm_effects.specs.HasEffect.{affected};
 ghost use Rattle.masm_effects.specs.Spans.{EndsLike, TrapsOrIsDone};
 ghost use Rattle.masm_instr.specs.declared.name.Name.{Name};
@@ -19,7 +19,7 @@ pub fn span_laws()
         → EndsLike (operations constants kernel limit items s) (run constants items s) }
     ensures within { (constants : List ℕ) (kernel : List (List ℕ)) (limit : ℕ) (items : List Item) (s : State)
         → s.core.clock + length items ≤ limit
-        → operations constants kernel limit items s ≢ OutOfCycles }
+        → IsCutOff (operations constants kernel limit items s) → ⊥ }
     ensures effects { (constants : List ℕ) (kernel : List (List ℕ)) (limit locals : ℕ) (s : State)
         → length constants ≡ number_of_constants → IsWellFormed s → (name : Name) (numbers : List ℕ)
         → is_in_form name numbers ≡ true

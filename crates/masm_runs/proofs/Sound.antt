@@ -153,10 +153,10 @@ open_behind (EndSyscall digest frame) n = n - 1
 abbrev SoundOut : ℕ → Outcome → Type 0
 SoundOut n (Done t events) = t.core.nesting ≡ n
 SoundOut n (Trap clock cause) = IsOfValues cause
-SoundOut n OutOfCycles = Unit {0}
+SoundOut n (OutOfCycles t events) = Unit {0}
 
 sound-out : (left few : Bool) (mark : Mark) (n m : ℕ) (s : State) (r : Result Core Cause) → Sound m r
-    → SoundOut m (cond left (cycle_outcome mark n s (cond few (Err AdviceEmpty) (ticked n s.tape r))) OutOfCycles)
+    → SoundOut m (cond left (cycle_outcome mark n s (cond few (Err AdviceEmpty) (ticked n s.tape r))) (OutOfCycles s []))
 sound-out false few mark n m s r h = tt
 sound-out true true mark n m s r h = tt
 sound-out true false mark n m s (Ok c) h = h
@@ -165,12 +165,12 @@ sound-out true false mark n m s (Err cause) h = h
 sound-logged : (n : ℕ) (events : List Event) (o : Outcome) → SoundOut n o → SoundOut n (logged events o)
 sound-logged n events (Done t more) h = h
 sound-logged n events (Trap clock cause) h = h
-sound-logged n events OutOfCycles h = h
+sound-logged n events (OutOfCycles t more) h = h
 
 sound-then : (m n : ℕ) (o : Outcome) (g : Part) → SoundOut m o → ((t : State) → t.core.nesting ≡ m → SoundOut n (g t)) → SoundOut n (then_do o g)
 sound-then m n (Done t events) g h k = sound-logged n events (g t) (k t h)
 sound-then m n (Trap clock cause) g h k = h
-sound-then m n OutOfCycles g h k = tt
+sound-then m n (OutOfCycles t events) g h k = tt
 
 sound-seq : (m n : ℕ) (f g : Part) (s : State) → SoundOut m (f s) → ((t : State) → t.core.nesting ≡ m → SoundOut n (g t)) → SoundOut n (seq f g s)
 unfolding seq
@@ -327,7 +327,7 @@ module _ (constants : List ℕ) (kernel : List (List ℕ)) where
 traps : (n : ℕ) (o : Outcome) → SoundOut n o → TrapsForValues o
 traps n (Done t events) h = tt
 traps n (Trap clock cause) h = h
-traps n OutOfCycles h = tt
+traps n (OutOfCycles t events) h = tt
 
 pub ready-runs : ReadyRuns
 ready-runs constants kernel limit tree s ready low none =

@@ -34,7 +34,7 @@ IsOfValues cause.AssertFailed = Unit {0}
 abbrev pub TrapsForValues : Outcome → Type 0
 TrapsForValues (Done state events) = Unit {0}
 TrapsForValues (Trap clock cause) = IsOfValues cause
-TrapsForValues OutOfCycles = Unit {0}
+TrapsForValues (OutOfCycles state events) = Unit {0}
 
 -- from every state in which no block is open, a tree that is ready and has at most 1,024 blocks on a path
 abbrev pub ReadyRuns : Type 0

@@ -1,17 +1,15 @@
 -- Blocks with children, and the turns of a loop, as the code answers them.
-use Rattle.std.proofs.Common.{◌≡◌, ℕ, zero, suc, ◌+◌, ◌-◌, ◌<◌, ◌≤◌, ◌≢◌, List, Bool, Option, Some, None, is_some, Result, Ok, Err, refl, sym, ap, ◌∙◌, arith, ⊎_elim}
-use Rattle.std.proofs.lemmas.Bool.{cases_lt}
+use Rattle.std.proofs.Common.{◌≡◌, ℕ, zero, suc, ◌+◌, ◌-◌, ◌<◌, ◌≤◌, ◌≢◌, List, [], Bool, Option, Some, None, is_some, Result, Ok, Err, refl, sym, ap, ◌∙◌, arith}
 use Rattle.std.specs.Option.{option_map}
 use Rattle.vm_field.specs.Machine as machine
 use Rattle.block_tree.specs.Cycles as cycles
 use Rattle.block_tree.specs.Cycles.{End, EndCall, EndLoop, EndSyscall, Frame, Repeat, StartCall, StartJoin, StartLoop, StartSplit, StartSyscall, StartDyn, advice_taken, called_word, effect_of, frame_of, top}
-use Rattle.block_tree.specs.Execution as run
-use Rattle.block_tree.specs.Execution.{Done, Part, at_bit, seq}
+use Rattle.block_tree.specs.Execution.{Part, at_bit, seq}
 use Rattle.block_tree.specs.Trees.{Tree, Targets, Call, Dyn, Join, Loop, Split, Syscall, first_target, targets_height, tree_height}
 use Rattle.block_tree.proofs.Keeping.{cycle-ticks}
-use Rattle.block_tree.proofs.Limits.{execution-again, execution-late}
+use Rattle.block_tree.proofs.Limits.{execution-late, execution-strict}
 use Rattle.block_tree.proofs.TargetLemmas.{execution-Dyn, first-lower, run_option}
-use Rattle.block_tree.proofs.Parts.{done-not_late, seq-late, taking-inv}
+use Rattle.block_tree.proofs.Parts.{seq-late, taking-inv}
 use Rattle.vm_state.specs.Views.{core_of, state_of}
 use Rattle.machine_cycles.specs.Running.{Ran}
 use Rattle.machine_cycles.specs.Settings.{constants_in, cycle_in}
@@ -90,18 +88,11 @@ module _ (setting : Setting) where
       ∙ rw (f, e, g, run-option (first_target (constants_in setting) (called_word s.core) ts)) refl
 
   -- a block takes a cycle at least
-  execution-ticks : (tree : Tree) (s t : machine.State) (es : List run.Event) → execution_in setting tree s ≡ Done t es → s.core.clock < t.core.clock
-  execution-ticks tree s t es e = ⊎_elim
-      (λ l. l)
-      (λ l. absurd (done-not_late t es
-      (sym (execution-late (constants_in setting) setting.kernel.now t.core.clock setting.limit tree s l)
-      ∙ execution-again (constants_in setting) setting.kernel.now t.core.clock setting.limit tree s t es e (omega arith))))
-      (cases_lt s.core.clock t.core.clock)
-
   pub block-ticks : {log : List Event} {u : Unit {0}} (tree : Tree) (s : machine.State) (after : Runner)
       → Ran setting (execution_in setting tree s) log (Ok u) after
       → s.core.clock < after.state.clock
-  block-ticks tree s after h = execution-ticks tree s (state_of after.state) h.answer.more h.answer.done
+  block-ticks tree s after h =
+      execution-strict (constants_in setting) setting.kernel.now setting.limit tree s (state_of after.state) h.answer.more h.answer.done
 
   -- a cycle takes one, and was below the limit
   pub ran-ticks : {log : List Event} {u : Unit {0}} (mark : cycles.Mark) (s : machine.State) (after : Runner)
@@ -130,8 +121,8 @@ module _ (setting : Setting) where
     one_turn zero s room = record {
       left = 0;
       enough = omega arith;
-      is = sym (seq-late (execution_in setting body) (turn 0) s
-          (execution-late (constants_in setting) setting.kernel.now setting.limit setting.limit body s (omega arith)));
+      is = sym (seq-late (execution_in setting body) (turn 0) s s []
+          (execution-late (constants_in setting) setting.kernel.now setting.limit body s (omega arith)));
     }
     one_turn (suc n) s room = record { left = n; enough = omega arith; is = refl }
 
@@ -165,8 +156,8 @@ module _ (setting : Setting) where
             }
 
     -- the body stopped
-    pub turns-fail : (n : ℕ) {from now : Runner} {stop : Stop} {mid : Runner} {r : Result (Unit {0}) Stop} {after : Runner}
-        → TurnsLeft n from now → r ≡ Err stop → Ran setting (execution_in setting body (state_of now.state)) now.log (Err stop) mid
+    pub turns-fail : (n : ℕ) {from now : Runner} {stop : Stop} {r : Result (Unit {0}) Stop} {after : Runner}
+        → TurnsLeft n from now → r ≡ Err stop → Ran setting (execution_in setting body (state_of now.state)) now.log (Err stop) after
         → Ran setting (turns_in setting digest body n (state_of from.state)) from.log r after
     turns-fail n {from} {now} t e h =
         let b : Body n from now = body_of n from now t in
@@ -200,12 +191,12 @@ module _ (setting : Setting) where
 
     -- REPEAT stopped
     pub turns-repeat_fail : (n : ℕ) (top_cell : ℕ) (digest_now : List ℕ) {from now : Runner} {u : Unit {0}} {mid : Runner}
-        {stop : Stop} {r : Result (Unit {0}) Stop} {next after : Runner}
+        {stop : Stop} {r : Result (Unit {0}) Stop} {after : Runner}
         → TurnsLeft n from now → Ran setting (execution_in setting body (state_of now.state)) now.log (Ok u) mid
         → top_cell ≡ top (core_of mid.state) → top_cell ≢ 0
         → digest_now ≡ digest_of setting body
         → r ≡ Err stop
-        → Ran setting (cycle_in setting (Repeat digest_now) (state_of mid.state)) mid.log (Err stop) next
+        → Ran setting (cycle_in setting (Repeat digest_now) (state_of mid.state)) mid.log (Err stop) after
         → Ran setting (turns_in setting digest body n (state_of from.state)) from.log r after
     turns-repeat_fail n top_cell digest_now {from} {now} {mid = mid} t h is not_zero same e k =
         let b : Body n from now = body_of n from now t in

@@ -5,7 +5,7 @@ use Rattle.vm_field.specs.Machine.{start}
 use Rattle.rpo_hash.specs.Constants.{constants_of}
 use Rattle.rpo_hash.specs.declared.params.Params.{Params}
 use Rattle.block_tree.specs.Execution as run
-use Rattle.block_tree.specs.Execution.{Outcome, Done, execution}
+use Rattle.block_tree.specs.Execution.{IsCutOff, Outcome, Done, execution}
 use Rattle.block_tree.specs.Trees.{tree_digest}
 use Rattle.block_tree.specs.TreeView.{tree_of}
 use Rattle.block_tree.specs.declared.program.Program.{Program}
@@ -38,9 +38,9 @@ pub record WasExecuted (params : Params) (program : Program) (answer : Run) : Ty
   pub below : limit ≤ most_cycles
   pub ran : IsRunOf params program inputs limit answer
 
--- An answer is the run, or the trap with its clock, or that the cycles were used up, as the definition has it, or the want of memory.
+-- An answer is the run, or the trap with its clock, or that the limit cuts the run off, as the definition has it, or the want of memory.
 abbrev pub Executes : Result Run Stop → Params → Program → Inputs → ℕ → Type 0
 Executes (Ok r) params program inputs limit = IsRunOf params program inputs limit r
 Executes (Err (Trap clock cause)) params program inputs limit = outcome_of params program inputs limit ≡ run.Trap clock cause
-Executes (Err OutOfCycles) params program inputs limit = outcome_of params program inputs limit ≡ run.OutOfCycles
+Executes (Err OutOfCycles) params program inputs limit = IsCutOff (outcome_of params program inputs limit)
 Executes (Err Memory) params program inputs limit = Unit {0}

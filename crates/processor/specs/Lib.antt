@@ -1,2 +1,4 @@
 pub mod Executed
+pub mod Advanced
+pub mod Ended
 pub mod Parts

@@ -1,17 +1,17 @@
 ghost use Rattle.std.specs.Prelude.{◌≤◌, IfOk};
 ghost use Rattle.vm_field.specs.Limits.{most_cycles};
+ghost use Rattle.processor.specs.Advanced.{Advances};
 ghost use Rattle.processor.specs.Executed.{Executes, WasExecuted};
 
-use crate::blocks::block;
+use crate::ended::run_within;
+use crate::progress::Progress;
 use crate::run::Run;
 use block_tree::Program;
-use machine_cycles::{Events, Runner, Setting, Stop};
-use perm_memo::Permutations;
+use machine_cycles::Stop;
 use rpo_hash::Params;
 use std::alloc::Global;
-use tree_hash::hashed;
 use vm_field::Felts;
-use vm_state::{Aside, Inputs, State};
+use vm_state::Inputs;
 
 /// Runs a program from its inputs. Before each cycle the clock must be below the limit.
 ///
@@ -31,28 +31,38 @@ pub fn execute(
     ensures is { Executes result params.now program.now inputs.now limit }
     ensures was { IfOk result (WasExecuted params.now program.now) }
 {
-    let permutations = Permutations::new(alloc, params);
-    let (node, permutations) = hashed(alloc, permutations, &program.tree)?;
-    let setting = Setting {
-        alloc,
-        params,
-        kernel: program.kernel.as_slice(),
-        limit,
-    };
-    let mut runner = Runner {
-        state: State::start(alloc, inputs)?,
-        hidden: Aside::none(alloc),
-        log: Events::new(alloc),
-        permutations,
-    };
-    block(&mut runner, &setting, &node)?;
+    let ended = run_within(alloc, params, program, inputs, limit)?;
+    let progress = ended.progress;
+    if !progress.is_done {
+        return Err(Stop::OutOfCycles);
+    }
     let advice = inputs.advice.as_slice();
-    let taken = advice.len() - runner.state.advice_left();
+    let taken = advice.len() - progress.state.advice_left();
     Ok(Run {
         tape: Felts::copied(alloc, &advice[..taken])?,
-        state: runner.state,
-        events: runner.log,
-        digest: node.digest(),
-        permutations: runner.permutations,
+        state: progress.state,
+        events: progress.events,
+        digest: ended.digest,
+        permutations: ended.permutations,
     })
+}
+
+/// Runs a program from its inputs, as far as the limit lets it. Before each cycle the clock must be
+/// below the limit; the run that is not, is cut off there.
+///
+/// # Errors
+///
+/// `Stop::Trap` at the first cycle that traps, with the clock before it; `Stop::Memory` where the
+/// system gave no memory. It is never out of cycles.
+pub fn advance(
+    alloc: Global,
+    params: &Params,
+    program: &Program,
+    inputs: &Inputs,
+    limit: u32,
+) -> Result<Progress, Stop>
+    requires limit { limit ≤ most_cycles }
+    ensures { Advances result params.now program.now inputs.now limit }
+{
+    Ok(run_within(alloc, params, program, inputs, limit)?.progress)
 }

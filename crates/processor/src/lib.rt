@@ -2,8 +2,11 @@
 #![tactic(auto)]
 
 mod blocks;
+mod ended;
 mod execution;
+mod progress;
 mod run;
 
-pub use execution::execute;
+pub use execution::{advance, execute};
+pub use progress::Progress;
 pub use run::Run;

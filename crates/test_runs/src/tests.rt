@@ -1,7 +1,7 @@
 use block_tree::{Exports, Program, Tree, Trees, are_distinct, digest};
 use machine_cycles::{Event, Events, Stop};
 use op_pack::Batches;
-use processor::{Run, execute};
+use processor::{Progress, Run, advance, execute};
 use rpo_hash::Params;
 use std::alloc::Global;
 use std::process::Abort;
@@ -9,10 +9,12 @@ use vm_field::{Felt, Felts, Memory, Word, Words};
 use vm_ops::{Op, opcode};
 use vm_state::{Inputs, State};
 
+mod advances;
 mod logs;
 mod parts;
 mod rows;
 
+use advances::{Advance, BEFORE_TRAPS, EACH_LIMIT, Reached, Stand, TURNS_CUT};
 use logs::{BEFORE, Before, Hash, JOINED, Line, Log, NO_TURN, SERVED, STORED, Shown, TURNS};
 use parts::Part;
 use rows::{
@@ -331,6 +333,62 @@ fn stops_before_a_cycle(rt: HostRuntime) {
 #[test]
 fn stops_endless_loops(rt: HostRuntime) {
     check(&rt, rt.alloc(), &ENDLESS, &[], 500);
+}
+
+fn advanced(alloc: Global, params: &Params, row: &Advance) -> Result<Progress, Stop> {
+    let program = program(alloc, params, row.parts, &[])?;
+    let inputs = inputs(alloc, row.stack, row.advice)?;
+    advance(alloc, params, &program, &inputs, u32::from(row.limit))
+}
+
+fn stands_at(progress: &Progress, stand: &Stand) -> bool {
+    let state = &progress.state;
+    progress.events.len() == stand.cycles
+        && state.clock as usize == stand.cycles
+        && state.nesting == stand.open
+        && state.depth() == stand.depth
+        && state.advice_left() == stand.left
+        && has_cells(state, stand.cells)
+}
+
+fn has_reached(answer: &Result<Progress, Stop>, reached: &Reached) -> bool {
+    match (answer, reached) {
+        (Ok(progress), Reached::Done(stand)) => progress.is_done && stands_at(progress, stand),
+        (Ok(progress), Reached::Cut(stand)) => !progress.is_done && stands_at(progress, stand),
+        (Err(Stop::Trap { clock, cause }), Reached::Trap(at, why)) => {
+            (*clock, *cause) == (*at, *why)
+        }
+        _ => false,
+    }
+}
+
+// How many rows come before the first that is not met.
+fn reached(alloc: Global, rows: &[Advance]) -> usize {
+    let params = params();
+    for place in 0..rows.len() {
+        if !has_reached(
+            &advanced(alloc, &params, &rows[place]),
+            &rows[place].reached,
+        ) {
+            return place;
+        }
+    }
+    rows.len()
+}
+
+#[test]
+fn advances_to_each_limit(rt: HostRuntime) {
+    assert_eq!(&rt; reached(rt.alloc(), &EACH_LIMIT), EACH_LIMIT.len());
+}
+
+#[test]
+fn advances_within_loops(rt: HostRuntime) {
+    assert_eq!(&rt; reached(rt.alloc(), &TURNS_CUT), TURNS_CUT.len());
+}
+
+#[test]
+fn advances_up_to_traps(rt: HostRuntime) {
+    assert_eq!(&rt; reached(rt.alloc(), &BEFORE_TRAPS), BEFORE_TRAPS.len());
 }
 
 // A digest, and what stands behind it.

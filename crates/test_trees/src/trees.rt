@@ -1,6 +1,6 @@
 use block_tree::{
-    Evidence, Export, Exports, Program, Tree, Trees, are_distinct, copy, cycle_laws, digest,
-    dynamic, height, known_whole, log_laws, row_laws, run_laws, tree_laws, types_cross,
+    Evidence, Export, Exports, Program, Tree, Trees, are_distinct, copy, cut_laws, cycle_laws,
+    digest, dynamic, height, known_whole, log_laws, row_laws, run_laws, tree_laws, types_cross,
 };
 use op_pack::Batches;
 use perm_memo::Permutations;
@@ -288,6 +288,7 @@ fn keeps_programs(rt: HostRuntime) -> Result<(), Fail> {
 fn states_laws() {
     tree_laws();
     run_laws();
+    cut_laws();
     cycle_laws();
     log_laws();
     row_laws();

@@ -1,4 +1,4 @@
-use Rattle.std.proofs.Common.{◌≡◌, drop}
+use Rattle.std.proofs.Common.{drop}
 use Rattle.block_tree.specs.Trees.{AreWhole}
 use Rattle.block_tree.specs.TreeView.{targets_of}
 use Rattle.block_tree.proofs.whole.+whole.Given as goal

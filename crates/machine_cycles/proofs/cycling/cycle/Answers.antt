@@ -2,12 +2,11 @@ use Rattle.std.proofs.Common.{rules, refl}
 use Rattle.machine_cycles.specs.Marks.{mark_of}
 use Rattle.machine_cycles.proofs.CycleLemmas.{ran-late, mark-stop, mark-done}
 use Rattle.vm_field.specs.Machine.{zero_word}
-use Rattle.vm_state.specs.Views.{state_of}
 use Rattle.machine_cycles.proofs.cycling.cycle.Goals as goal
 
 pub returns-in_err-before-clause-ran : goal.returns-in_err-before-clause-ran
 returns-in_err-before-clause-ran c =
-    ran-late c.args.setting.now (mark_of c.args.mark) (state_of c.args.runner.now.state) c.in_err-before.ensures.1 (search rules)
+    ran-late c.args.setting.now (mark_of c.args.mark) c.args.runner.now c.in_err-before.ensures.1 (search rules)
 
 pub returns-in-Err-clause-ran : goal.returns-in-Err-clause-ran
 returns-in-Err-clause-ran c =

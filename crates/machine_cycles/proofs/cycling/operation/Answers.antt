@@ -8,7 +8,7 @@ use Rattle.machine_cycles.proofs.cycling.operation.Goals as goal
 
 pub returns-in_err-before-clause-ran : goal.returns-in_err-before-clause-ran
 returns-in_err-before-clause-ran c =
-    ran-late c.args.setting.now (Do c.args.item.now) (state_of c.args.runner.now.state) c.in_err-before.ensures.1 (search rules)
+    ran-late c.args.setting.now (Do c.args.item.now) c.args.runner.now c.in_err-before.ensures.1 (search rules)
 
 pub returns-in-Err-clause-ran : goal.returns-in-Err-clause-ran
 returns-in-Err-clause-ran c =
