@@ -1,5 +1,5 @@
 -- The pass over a map's entries, each of which is added to the counts.
-use Rattle.std.proofs.Common.{◌≡◌, ℕ, ◌+◌, ◌^◌, ◌<◌, true, false, cond, List, [], ◌∷◌, map, Option, Some, None, nat_eq, unwrap_or, refl, sym, ap, subst, ◌∙◌, arith, add-zero, inl, inr, ap₂}
+use Rattle.std.proofs.Common.{◌≡◌, ℕ, ◌^◌, ◌<◌, true, false, cond, List, [], ◌∷◌, map, Some, None, nat_eq, unwrap_or, refl, sym, ap, subst, ◌∙◌, arith, add-zero, inl, inr, ap₂}
 use Rattle.std.specs.List.{AllByRecursion, IsDistinct}
 use Rattle.std.specs.Map.{lookup}
 use Rattle.std.specs.HashMap.{HashMap, get}

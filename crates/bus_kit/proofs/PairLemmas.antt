@@ -1,5 +1,5 @@
 -- Both counts of a tuple behind one more.
-use Rattle.std.proofs.Common.{◌≡◌, ℕ, ◌+◌, true, false, cond, List, ◌≤◌, Some, Result, Ok, Err, OnOk, OnErr, nat_eq, unwrap_or, refl, sym, ap, ◌∙◌, arith, add-zero}
+use Rattle.std.proofs.Common.{◌≡◌, ℕ, ◌+◌, true, false, cond, List, ◌≤◌, Some, Result, Ok, Err, OnOk, nat_eq, unwrap_or, refl, sym, ap, ◌∙◌, arith, add-zero}
 use Rattle.std.specs.HashMap.{HashMap, get}
 use lib.Pointwise.{bytes_decides, pointwise}
 use Rattle.bus_kit.specs.Counting.{both_in, more_on, on_side, IsAdded}

@@ -1,8 +1,8 @@
 -- The counts of all steps, from those of each width.
-use Rattle.std.proofs.Common.{◌≡◌, ◌≢◌, ℕ, ◌==◌, Bool, true, false, cond, nat_eq, List, length, Result, Ok, Err, refl, sym, ap, ◌∙◌}
+use Rattle.std.proofs.Common.{◌≡◌, ◌≢◌, ℕ, ◌==◌, Bool, true, false, cond, nat_eq, List, length, Result, Ok, Err, refl, sym, ap, ap₂, ◌∙◌}
 use Rattle.std.specs.Cmp.Lexicographic.{unequal}
 use Rattle.std.proofs.lemmas.Bool.{eqb-true, eqb-false}
-use Rattle.bus_kit.specs.Counting.{more_on, IsAdded}
+use Rattle.bus_kit.specs.Counting.{both_hits, more_on, summed, IsAdded}
 use Rattle.buses.specs.Counts.{hits}
 use Rattle.bus_kit.specs.Tallies.{steps_tallied}
 use Rattle.bus_kit.specs.Widths.{tallied}
@@ -14,6 +14,17 @@ use Rattle.bus_kit.proofs.PairLemmas.{more_on_zero}
 -- a tuple of another width is not hit
 hits_other : (t u : List ℕ) (count : ℕ) → (length t ≢ length u) → hits t count u ≡ 0
 hits_other t u count h = rw (unequal nat_eq t u h) refl
+
+-- what is added at a tuple of one width leaves those of the others uncounted
+pub none_added : (side : Side) (t u : List ℕ) (count width : ℕ) (old new : ℕ × ℕ) → length t ≡ width → length u ≢ width → old ≡ (0, 0)
+    → new ≡ more_on side (hits t count u) old → new ≡ (0, 0)
+none_added side t u count width old new wide apart none is =
+    is ∙ ap (λ n. more_on side n old) (hits_other t u count (λ same. apart (sym same ∙ wide))) ∙ more_on_zero side old ∙ none
+
+pub none_absorbed : (t u : List ℕ) (more : ℕ × ℕ) (width : ℕ) (old new : ℕ × ℕ) → length t ≡ width → length u ≢ width → old ≡ (0, 0)
+    → new ≡ summed old (both_hits t more u) → new ≡ (0, 0)
+none_absorbed t u more width old new wide apart none is =
+    is ∙ ap₂ summed none (ap (λ b. cond b more (0, 0)) (unequal nat_eq t u (λ same. apart (sym same ∙ wide))))
 
 -- What is added to the counts of one width is added to those of all: f and g are the counts of the tuple's width before and behind, a and b those of all.
 pub added_in_width : {E : Type 0} (side : Side) (t : List ℕ) (count width : ℕ) (f g a b : List ℕ → ℕ × ℕ) (r : Result (Unit {0}) E) → length t ≡ width

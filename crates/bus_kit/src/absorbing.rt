@@ -22,6 +22,7 @@ impl<const N: usize> Tally<N> {
         ensures ok { OnOk result ((u : List ℕ) → tallied self.new u ≡ summed (tallied self.old u) (both_hits tuple.entry more u)) }
         ensures err { OnErr result ((u : List ℕ) → tallied self.new u ≡ tallied self.old u) }
     {
+        known_width(&tuple);
         let entry = self.both.entry(tuple)?;
         let both = entry.or_insert((0, 0));
         *both = (both.0 + more.0, both.1 + more.1);

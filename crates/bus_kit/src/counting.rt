@@ -63,6 +63,22 @@ impl<const N: usize> Tally<N> {
         }
     }
 
+    /// How often a tuple was asked, and how often it was given: never where it has not N elements. It takes no memory.
+    #[tactic(auto, unfolding(crate::specs::Widths::tallied))]
+    pub fn counts(&self, tuple: &[Felt]) -> Both
+        ensures { result ≡ tallied self.now tuple.now }
+    {
+        if tuple.len() != N {
+            return (0, 0);
+        }
+        let mut key = [Felt::ZERO; N];
+        key.copy_from_slice(tuple);
+        match self.both.get(&key) {
+            Some(both) => *both,
+            None => (0, 0),
+        }
+    }
+
     /// The least tuple that was not asked as often as it was given, with both counts, or none exactly
     /// where there is no such tuple. It takes no memory.
     #[tactic(auto, unfolding(crate::specs::Widths::tallied))]

@@ -2,7 +2,7 @@ ghost use Rattle.std.specs.Prelude.{◌≡◌, ℕ, List};
 ghost use Rattle.bus_kit.specs.Scanning.{IsAnswerOf};
 ghost use Rattle.bus_kit.specs.Tallies.{steps_tallied};
 
-use crate::count::{Count, Side};
+use crate::count::{Both, Count, Side};
 use crate::seed::Seed;
 use crate::tally::Tally;
 use crate::tuple::Unequal;
@@ -28,6 +28,20 @@ impl StepTally {
             batches: Tally::new(alloc, seed),
             starts: Tally::new(alloc, seed),
             states: Tally::new(alloc, seed),
+        }
+    }
+
+    /// How often a step was asked, and how often it was given: never where none has so many elements. It takes no memory.
+    #[tactic(auto, unfolding(crate::specs::Tallies::steps_tallied))]
+    pub fn counts(&self, step: &[Felt]) -> Both
+        ensures { result ≡ steps_tallied self.now step.now }
+    {
+        match step.len() {
+            6 => self.ends.counts(step),
+            10 => self.batches.counts(step),
+            11 => self.starts.counts(step),
+            14 => self.states.counts(step),
+            _ => (0, 0),
         }
     }
 

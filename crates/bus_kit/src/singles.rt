@@ -3,7 +3,7 @@ ghost use Rattle.bus_kit.specs.Counting.{on_side, IsAdded};
 ghost use Rattle.bus_kit.specs.Scanning.{IsAnswerOf};
 ghost use Rattle.bus_kit.specs.Tallies.{values_tallied};
 
-use crate::count::{Count, Side, added};
+use crate::count::{Both, Count, Side, added};
 use crate::seed::Seed;
 use crate::tally::Tally;
 use crate::tuple::{Tuple, Unequal};
@@ -20,6 +20,24 @@ impl ValueTally {
         ValueTally {
             small: Vec::new(alloc),
             great: Tally::new(alloc, seed),
+        }
+    }
+
+    /// How often a tuple was asked, and how often it was given: never where it is no single element. It takes no memory.
+    #[tactic(auto, unfolding(crate::specs::Tallies::values_tallied))]
+    pub fn counts(&self, tuple: &[Felt]) -> Both
+        ensures { result ≡ values_tallied self.now tuple.now }
+    {
+        let [element] = tuple else {
+            return (0, 0);
+        };
+        let place = element.value() as usize;
+        if place >= SMALL {
+            return self.great.counts(tuple);
+        }
+        match self.small.get(place) {
+            Some(both) => *both,
+            None => (0, 0),
         }
     }
 

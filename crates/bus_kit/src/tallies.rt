@@ -3,6 +3,7 @@ ghost use Rattle.buses.specs.declared.bus.Bus.{Bus};
 ghost use Rattle.bus_kit.specs.ByBus.{both_by};
 ghost use Rattle.bus_kit.specs.Scanning.{IsAnswerOf};
 
+use crate::count::Both;
 use crate::hasher::StepTally;
 use crate::seed::Seed;
 use crate::tally::Tally;
@@ -10,6 +11,7 @@ use crate::tuple::Unequal;
 use crate::values::ValueTally;
 use buses::Bus;
 use std::alloc::Global;
+use vm_field::Felt;
 
 /// A tally for each bus, of the width that its tuples have.
 #[derive(Drop)]
@@ -42,6 +44,25 @@ impl Tallies {
             memory: Tally::new(alloc, seed),
             range: ValueTally::new(alloc, seed),
             kernel: Tally::new(alloc, seed),
+        }
+    }
+
+    /// How often a tuple was asked on a bus, and how often it was given: never where it has not as many elements as the bus's
+    /// tuples have. It takes no memory.
+    pub fn counts(&self, bus: Bus, tuple: &[Felt]) -> Both
+        ensures { result ≡ both_by self.now bus tuple.now }
+    {
+        match bus {
+            Bus::Blocks => self.blocks.counts(tuple),
+            Bus::Children => self.children.counts(tuple),
+            Bus::Loops => self.loops.counts(tuple),
+            Bus::Groups => self.groups.counts(tuple),
+            Bus::Overflow => self.overflow.counts(tuple),
+            Bus::Hasher => self.hasher.counts(tuple),
+            Bus::Bitwise => self.bitwise.counts(tuple),
+            Bus::Memory => self.memory.counts(tuple),
+            Bus::Range => self.range.counts(tuple),
+            Bus::Kernel => self.kernel.counts(tuple),
         }
     }
 

@@ -1,4 +1,5 @@
-ghost use Rattle.std.specs.Prelude.{◌≤◌};
+ghost use Rattle.std.specs.Prelude.{◌≡◌, ◌≢◌, ◌≤◌, ℕ, List, length};
+ghost use Rattle.bus_kit.specs.Counting.{both_in};
 
 use crate::count::Both;
 use crate::seed::Seed;
@@ -10,4 +11,5 @@ use vm_field::Felt;
 pub struct Tally<const N: usize> {
     pub(crate) both: HashMap<[Felt; N], Both, Seed>,
     ghost few: { N ≤ 14 },
+    ghost wide: { (u : List ℕ) → length u ≢ N → both_in both u ≡ (0, 0) },
 }

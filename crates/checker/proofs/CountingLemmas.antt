@@ -1,6 +1,10 @@
 -- Rows counted one after another, tables, and pieces.
 use Rattle.std.proofs.Common.{◌≡◌, ℕ, zero, suc, ◌+◌, ◌*◌, ◌^◌, ◌<◌, ◌≤◌, ◌==◌, true, false, List, [], ◌∷◌, length, Option, Some, None, IfSome, Result, Ok, Err, OnOk, OnSome, refl, sym, ap, ap₂, ◌∙◌, subst, add-one, arith}
 use Rattle.std.proofs.lemmas.Bool.{eqb-true}
+use Rattle.std.proofs.lemmas.Option.{get_or_from_slice_get, slice_get_within}
+use Rattle.std.specs.List.{slice_get}
+use Rattle.std.specs.Option.{option_map}
+use Rattle.air_kit.specs.Flags.{HasBits}
 use Rattle.std.specs.Result.{result_ok}
 use Rattle.air_kit.specs.Acceptance.{AreZero, asked_on, given_on, statement_given}
 use Rattle.air_kit.specs.MainTuples.{main_given}
@@ -155,6 +159,9 @@ no_table_counted c t part none empty = record {
 pub room_at : (n : ℕ) (a : Tallies) → n < 7 → AreWithin (n * 2 ^ 90) a → AreWithin (room_before (table_at n)) a
 room_at n a h within = subst (λ (k : ℕ). AreWithin (k * 2 ^ 90) a) (sym (number_at n h)) within
 
+pub room_next : (n : ℕ) (a : Tallies) → n < 7 → AreWithin (room_behind (table_at n)) a → AreWithin ((n + 1) * 2 ^ 90) a
+room_next n a h within = rw add-one (subst (λ (k : ℕ). AreWithin (suc k * 2 ^ 90) a) (number_at n h) within)
+
 pub one_table_more : (c : Claim) (t : Trace) (part : Part) (n : ℕ) (a b : Tallies) → n < 7 → AreTablesCounted c t part n a
     → IsTableCounted c t part (table_at n) a b → AreWithin (room_behind (table_at n)) b → AreTablesCounted c t part (n + 1) b
 one_table_more c t part n a b h before p within = rw add-one (record {
@@ -276,6 +283,23 @@ if_all_counted c t all pieces (Some tallies) counts is low high p = trace_counte
 pub ok_given : {E : Type 0} (r : Result (Unit {0}) E) (o : Option (Unit {0})) (v : Unit {0}) (P : Type 0) → o ≡ result_ok r → o ≡ Some v → OnOk r P → P
 ok_given (Ok x) o v P e f h = h
 ok_given (Err x) o v P e f h = absurd (cc)
+
+-- the row behind one that can be read can be read
+pub next_bits : {V : Type 0} (cells : V → List ℕ) (rows : List (List ℕ)) (i : ℕ) (next : Option V) → option_map cells next ≡ slice_get rows (suc i)
+    → AreReadable rows → IfSome next (λ y. HasBits (cells y))
+next_bits cells rows i None is readable = tt
+next_bits cells rows i (Some y) is readable =
+    let within = slice_get_within rows (suc i) (cells y) (sym is) in
+    subst HasBits (get_or_from_slice_get rows (suc i) (cells y) [] (sym is)) (readable (suc i) within).bits
+
+-- where nothing was counted there is room
+pub room_at_start : (none : Tallies) → ((bus : Bus) (u : List ℕ) → both_by none bus u ≡ (0, 0)) → HaveRoom none
+room_at_start none empty bus u =
+    let a = ap (λ k. k.0) (empty bus u) in let g = ap (λ k. k.1) (empty bus u) in (omega (arith, a), omega (arith, g))
+
+pub none_within : (none : Tallies) → ((bus : Bus) (u : List ℕ) → both_by none bus u ≡ (0, 0)) → AreWithin 0 none
+none_within none empty bus u =
+    let a = ap (λ k. k.0) (empty bus u) in let g = ap (λ k. k.1) (empty bus u) in (omega (arith, a), omega (arith, g))
 
 -- a row that is counted under the table's name
 pub row_named : (o : Option (Unit {0})) (c : Claim) (t : Trace) (name other : TableName) (i : ℕ) (old new : Tallies)

@@ -4,3 +4,4 @@ pub mod RowLemmas
 pub mod CountLemmas
 pub mod CountingLemmas
 pub mod ApartLemmas
+pub mod RowCountLemmas

@@ -3,3 +3,4 @@ pub mod Pieces
 pub mod Answers
 pub mod Counting
 pub mod Refusals
+pub mod RowCounts

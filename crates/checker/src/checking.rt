@@ -65,14 +65,16 @@ pub fn check<R: Threads + Sync, G: Gate>(
     if let Some(fault) = check_rows(rt, &trace, &public, pieces, gate) {
         return Err(Refused::Fault(fault));
     }
-    match refused_by_buses(rt, alloc, seed, &trace, &public, pieces, gate) {
+    match check_buses(rt, alloc, seed, &trace, &public, pieces, gate) {
         None => Ok(Valid { trace, public }),
         Some(refused) => Err(refused),
     }
 }
 
-// Why the buses refuse a trace of which no row has a fault; none where they do not.
-fn refused_by_buses<R: Threads + Sync, G: Gate>(
+/// The second half of `check`: why the buses refuse a trace of which no row has a fault, the first bus that is apart with the least
+/// tuple and both its counts, or the want of memory; none where they do not. The tuples are counted in so many pieces, of which each goes
+/// through the gate, and hashed from the seed. No answer but `Memory` depends on these.
+pub fn check_buses<R: Threads + Sync, G: Gate>(
     rt: &R,
     alloc: Global,
     seed: Seed,

@@ -113,8 +113,8 @@ fn count_table(
     Some(())
 }
 
-// The tuples of a row.
-fn count_row(
+/// The tuples of a row; none where memory was refused.
+pub(crate) fn count_row(
     trace: &Trace,
     setting: &Setting<'_>,
     name: TableName,

@@ -1,5 +1,6 @@
 use crate::checking::Valid;
 use crate::refusal::Refused;
+use crate::row_counts::RowCounts;
 
 fn crosses<T: Send + Sync>() {}
 
@@ -7,4 +8,5 @@ fn crosses<T: Send + Sync>() {}
 pub fn types_cross() {
     crosses::<Valid>();
     crosses::<Refused>();
+    crosses::<RowCounts>();
 }

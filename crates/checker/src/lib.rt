@@ -8,12 +8,14 @@ mod crossing;
 mod numbering;
 mod parts;
 mod refusal;
+mod row_counts;
 mod rows;
 mod setting;
 
 pub use air_kit::has_counts;
 pub use bus_kit::Seed;
-pub use checking::{Valid, check};
+pub use checking::{Valid, check, check_buses};
 pub use crossing::types_cross;
 pub use refusal::Refused;
+pub use row_counts::{RowCount, RowCounts, counts_by_row};
 pub use rows::check_rows;

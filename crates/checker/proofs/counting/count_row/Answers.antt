@@ -1,13 +1,19 @@
 -- By the table's name: what the row's place counts.
+use Rattle.std.proofs.Common.{ap}
+use Rattle.air_kit.specs.Places.{Spot}
 use Rattle.air_kit.specs.ChipTuples.{chip_asked, chip_given}
 use Rattle.air_kit.specs.Rows.{claim_at, spot_at}
 use Rattle.air_kit.specs.Traces.{spot_of}
 use Rattle.air_kit.specs.declared.trace.TableName.TheVariants as table
 use Rattle.bus_main.specs.RowTuples.{main_asked_at, main_given_at}
 use Rattle.checker.specs.Settings.{claim_in}
-use Rattle.checker.proofs.CountingLemmas.{row_counted, row_named}
+use Rattle.checker.proofs.CountingLemmas.{next_bits, row_counted, row_named}
 use Rattle.vm_table.specs.Rows.{row_cells}
 use Rattle.checker.proofs.counting.count_row.Goals as goal
+
+pub tuples-requires-clause-next : goal.tuples-requires-clause-next
+tuples-requires-clause-next c =
+    next_bits row_cells c.args.trace.now.main c.args.row c.place.result.next (ap (λ (s : Spot). s.next) c.place.ensures.spot) c.requires.readable
 
 pub returns-in-Main : goal.returns-in-Main
 returns-in-Main c =

@@ -1,5 +1,5 @@
 -- Entry after entry.
-use Rattle.std.proofs.Common.{ap, sym, ◌∙◌, rules}
+use Rattle.std.proofs.Common.{rules}
 use Rattle.bus_kit.specs.Counting.{FitTogether}
 use Rattle.bus_kit.specs.Widths.{tallied}
 use Rattle.bus_kit.proofs.AbsorbLemmas.{absorbs_fit, absorbs_more, absorbs_all, absorbs_nothing, absorbs_nothing_still}

@@ -2,7 +2,7 @@
 use Rattle.checker.specs.Settings.{claim_in}
 use Rattle.checker.proofs.ApartLemmas.{accepted, refused_at, refused_with}
 use Rattle.checker.proofs.CountingLemmas.{all_readable}
-use Rattle.checker.proofs.checking.refused_by_buses.Goals as goal
+use Rattle.checker.proofs.checking.check_buses.Goals as goal
 
 pub count_all-requires-clause-readable : goal.count_all-requires-clause-readable
 count_all-requires-clause-readable g c = λ κs h. all_readable _ c.args.trace.now c.rows.ensures.shape c.requires.zero
