@@ -1,30 +1,15 @@
 -- The bus of blocks over the rows of a run.
-use Rattle.std.proofs.Common.{◌≡◌, ℕ, List, take, arith}
-use Rattle.vm_field.specs.Machine.{State}
-use Rattle.buses.specs.Counts.{counted, over_rows, with_next}
-use Rattle.block_tree.specs.Cycles.{advice_taken, effect_of}
-use Rattle.block_tree.specs.Execution as run
-use Rattle.block_tree.specs.Rows.{behind}
-use Rattle.block_tree.specs.Trees.{Tree}
+use Rattle.std.proofs.Common.{arith}
 use Rattle.air_kit.specs.MainTuples.{blocks_asked, blocks_given}
-use Rattle.complete_rows.specs.BlockRows.{IsWholeRun, filled}
-use Rattle.complete_rows.proofs.ChainLemmas.{balanced, over_rows_pairs}
-use Rattle.complete_rows.proofs.TableLemmas.{is_linked}
+use Rattle.complete_rows.proofs.ChainLemmas.{bus_balanced}
+use Rattle.complete_rows.proofs.TableLemmas.{linked}
+use Rattle.complete_buses.specs.EvenBuses.{BlocksAreEven}
 use Rattle.complete_buses.proofs.BlockBus.{blocks_pair, owed_blocks}
 use Rattle.complete_buses.proofs.PairShown.{pair_of}
 
-pub blocks_even : (constants : List ℕ) (kernel : List (List ℕ)) (limit : ℕ) (tree : Tree) (inputs tape : List ℕ) (u : State) (log : List run.Event)
-    → IsWholeRun constants kernel limit tree inputs tape u log → (tuple : List ℕ)
-    → over_rows (with_next blocks_given) (filled constants kernel u log) tuple
-    ≡ over_rows (with_next blocks_asked) (filled constants kernel u log) tuple
+pub blocks_even : BlocksAreEven
 unfolding owed_blocks
 blocks_even constants kernel limit tree inputs tape u log r tuple =
-    let even = balanced constants kernel limit (λ x y. counted (blocks_given x y) tuple) (λ x y. counted (blocks_asked x y) tuple)
-    (λ todo d s events. owed_blocks todo d.blocks tuple)
-    (λ x y m. blocks_pair constants kernel m.first (take (advice_taken m.mark) m.s.tape)
-    (behind (effect_of constants kernel m.mark (take (advice_taken m.mark) m.s.tape) m.s.core) m.s.core) m.d m.later m.todo x y
-    (pair_of constants kernel limit m) m.agrees tuple)
-    (is_linked constants kernel limit tree inputs tape u log r) in
-    let given = over_rows_pairs blocks_given tuple (filled constants kernel u log) in
-    let asked = over_rows_pairs blocks_asked tuple (filled constants kernel u log) in
-    omega (arith, even, given, asked)
+    let even = bus_balanced blocks_given blocks_asked tuple (λ todo d s events. owed_blocks todo d.blocks tuple)
+    (λ x y rows m later. blocks_pair tuple m.first (pair_of m) m.agrees) (linked r) in
+    omega (arith, even)

@@ -27,7 +27,7 @@ use Rattle.complete_rows.proofs.AgreeLemmas.{apart_from_push, is_push, takes_nex
 use Rattle.complete_rows.proofs.FollowLemmas.{closes_batch}
 use Rattle.complete_rows.proofs.GroupLemmas.{some_next}
 use Rattle.complete_rows.proofs.ReadingLemmas.{Takes, pushes, goes, opens, ends, reads_some}
-use Rattle.complete_buses.proofs.GroupTuples.{group_asks, none_asks, opens_where, positions_given, push_asks}
+use Rattle.complete_buses.proofs.GroupTuples.{group_asks, none_asked, positions_given, push_asks}
 use Rattle.complete_buses.proofs.Hits.{hit}
 
 -- what PUSH leaves on top
@@ -117,7 +117,7 @@ module _ (constants advice : List ℕ) where
 
       opens_is : (b c : Bool) → eqb u.number (code_of item.op) ≡ b → is_ordinary_op (flags.op_of y) ≡ c → opens_group x y ≡ (b && c)
       opens_is b c left is =
-          opens_where x y true b c (ap (λ o. is_ordinary_op o) shows.op ∙ shows.ordinary) (nothing b left) (inside c is)
+          rw (ap (λ o. is_ordinary_op o) shows.op ∙ shows.ordinary, nothing b left, inside c is) refl
 
       same_number : u.number ≡ code_of item.op → eqb u.number (code_of item.op) ≡ true
       same_number e = eq-eqb u.number (code_of item.op) e
@@ -126,14 +126,14 @@ module _ (constants advice : List ℕ) where
           ≡ counted (groups_asked x y) tuple + positions_given address (taken_from (flags.is_op item.op ops.Push) u).positions tuple
       go (pushes position behind at is digit e) =
           let push : flags.is_op item.op ops.Push ≡ true = is_push item position is in
-          let asked = push_asks x y item.op address (length u.positions) position tuple shows.op push shows.batch shows.left
+          let asked = push_asks x y tuple shows.op push shows.batch shows.left
           (shows.top ∙ pushed constants advice position item c is) in
           let kept = ap (λ places. positions_given address places tuple) (after_push item.op u position behind push at) in
           let taken = taking address position behind u.positions tuple at in omega (arith, asked, kept, taken)
       go (goes lower code some e) =
           let apart : flags.is_op item.op ops.Push ≡ false = apart_from_push item.op (u.number % 128) code lower in
           let left : eqb u.number (code_of item.op) ≡ false = ne_eqb u.number (code_of item.op) (other_code u.number (code_of item.op) few some) in
-          let asked = none_asks x y tuple item.op shows.op apart (opens_is false (is_ordinary_op (flags.op_of y)) left refl) in
+          let asked = none_asked x y tuple shows.op apart (opens_is false (is_ordinary_op (flags.op_of y)) left refl) in
           let kept = ap (λ places. positions_given address places tuple) (after_goes item.op u apart some) in omega (arith, asked, kept)
       go (opens position behind lower code none at e) =
           let apart : flags.is_op item.op ops.Push ≡ false = apart_from_push item.op (u.number % 128) code lower in
@@ -141,7 +141,7 @@ module _ (constants advice : List ℕ) where
           let ordinary : is_ordinary_op (flags.op_of y) ≡ true
           = some_next constants items more digest todo after (flags.op_of y) (some_of behind 9 position items e) comes in
           let opened = after_opens item.op u position behind apart none at in
-          let asked = group_asks x y item.op address (length u.positions) position tuple shows.op apart (opens_is true true left ordinary) shows.batch
+          let asked = group_asks x y tuple shows.op apart (opens_is true true left ordinary) shows.batch
           shows.left (shows.next ordinary ∙ opened.1) in
           let kept = ap (λ places. positions_given address places tuple) opened.0 in
           let taken = taking address position behind u.positions tuple at in omega (arith, asked, kept, taken)
@@ -149,5 +149,5 @@ module _ (constants advice : List ℕ) where
           let apart : flags.is_op item.op ops.Push ≡ false = apart_from_push item.op (u.number % 128) code lower in
           let left : eqb u.number (code_of item.op) ≡ true = same_number (same_code u.number (code_of item.op) code none) in
           let outside : is_ordinary_op (flags.op_of y) ≡ false = none_next items more digest todo after (flags.op_of y) no_items comes in
-          let asked = none_asks x y tuple item.op shows.op apart (opens_is true false left outside) in
+          let asked = none_asked x y tuple shows.op apart (opens_is true false left outside) in
           let kept = ap (λ places. positions_given address places tuple) (after_ends item.op u apart none at ∙ sym at) in omega (arith, asked, kept)

@@ -1,13 +1,12 @@
 -- The bus of groups is even: a batch gives its positions, and each is asked where it is taken.
-use Rattle.std.proofs.Common.{◌≡◌, ℕ, ◌+◌, ◌-◌, true, cond, List, ◌∷◌, ◌++◌, length, drop, take, refl, ap, ◌∙◌, arith, lit<}
+use Rattle.std.proofs.Common.{◌≡◌, ℕ, ◌+◌, ◌-◌, true, cond, List, ◌∷◌, ◌++◌, refl, ap, ◌∙◌, arith, lit<}
 use Rattle.vm_field.specs.Machine.{Core}
 use Rattle.vm_ops.specs.Codes.{is_ordinary_op}
-use Rattle.vm_ops.specs.declared.op.Op.TheVariants as ops
 use Rattle.buses.specs.Counts.{counted}
 use Rattle.vm_table.specs.MainColumns.{gc, sp}
 use Rattle.op_pack.specs.Reading.{positions_in_use}
 use Rattle.block_tree.specs.Cycles.{Mark, Do}
-use Rattle.block_tree.specs.Steps.{Task, Next, span, join, split_1, split_0, loop_1, loop_0, call, syscall, dyn, operation, respan, span_ends, repeats, loop_ends, closes, returns, leaves}
+use Rattle.block_tree.specs.Steps.{Task, Next, span, operation, respan}
 use Rattle.air_kit.specs.Flags as flags
 use Rattle.air_kit.specs.MainTuples.{groups_asked, groups_given, is_batch_op, positions}
 use Rattle.machine_cycles.specs.Events.{shown_between}
@@ -20,7 +19,7 @@ use Rattle.complete_rows.specs.Moments.{Comes}
 use Rattle.complete_rows.proofs.AgreeLemmas.{ordinary_advance}
 use Rattle.complete_rows.proofs.PairLemmas.{no_batch}
 use Rattle.complete_buses.proofs.GroupAsks.{operation_asks}
-use Rattle.complete_buses.proofs.GroupTuples.{batch_gives, none_asks, none_gives, outside_none, places_shown, positions_given}
+use Rattle.complete_buses.proofs.GroupTuples.{batch_gives, none_given, none_outside, positions_given}
 use Rattle.complete_buses.proofs.PairShown.{Pair}
 
 -- the facts of a row and of the row behind it
@@ -41,57 +40,25 @@ nothing_owed address v u is = ap (λ z. positions_given address z.positions u) i
 left_of : (n left many : ℕ) → n + 1 ≡ left → n ≡ many → left - 1 ≡ many
 left_of n left many is e = omega (arith, is, e)
 
-module _ (constants : List ℕ) (kernel : List (List ℕ)) where
-  pub groups_pair : {task : Task} {c : Core} {mark : Mark} {rest : List Task} → Next constants task c mark rest → (advice : List ℕ) (b : Core)
-      (d : Decoder) (events : List Event) (todo : List Task) (x y : List ℕ) (after : Core) → Pair constants kernel mark advice c b d events x y
-      → GroupPair x y → Agrees (task ∷ todo) d c → Comes constants (rest ++ todo) after (flags.op_of y) → (u : List ℕ)
+module _ {constants : List ℕ} {kernel : List (List ℕ)} {advice : List ℕ} {b : Core} {d : Decoder} {events : List Event} {todo : List Task}
+    {x y : List ℕ} (after : Core) (u : List ℕ) where
+  pub groups_pair : {task : Task} {c : Core} {mark : Mark} {rest : List Task} → Next constants task c mark rest
+      → Pair constants kernel mark advice c b d events x y → GroupPair x y → Agrees (task ∷ todo) d c
+      → Comes constants (rest ++ todo) after (flags.op_of y)
       → counted (groups_given x y) u + owed_groups d u
       ≡ counted (groups_asked x y) u + owed_groups (advance d (shown_between mark advice c b) events) u
-  groups_pair join advice b d events todo x y after p g agrees comes u =
-      let given = none_gives x y u ops.Join p.op refl in
-      let asked = none_asks x y u ops.Join p.op refl (outside_none x y ops.Join p.op refl) in omega (arith, given, asked)
-  groups_pair (split_1 bit) advice b d events todo x y after p g agrees comes u =
-      let given = none_gives x y u ops.Split p.op refl in
-      let asked = none_asks x y u ops.Split p.op refl (outside_none x y ops.Split p.op refl) in omega (arith, given, asked)
-  groups_pair (split_0 bit) advice b d events todo x y after p g agrees comes u =
-      let given = none_gives x y u ops.Split p.op refl in
-      let asked = none_asks x y u ops.Split p.op refl (outside_none x y ops.Split p.op refl) in omega (arith, given, asked)
-  groups_pair (loop_1 bit) advice b d events todo x y after p g agrees comes u =
-      let given = none_gives x y u ops.Loop p.op refl in
-      let asked = none_asks x y u ops.Loop p.op refl (outside_none x y ops.Loop p.op refl) in omega (arith, given, asked)
-  groups_pair (loop_0 bit) advice b d events todo x y after p g agrees comes u =
-      let given = none_gives x y u ops.Loop p.op refl in
-      let asked = none_asks x y u ops.Loop p.op refl (outside_none x y ops.Loop p.op refl) in omega (arith, given, asked)
-  groups_pair call advice b d events todo x y after p g agrees comes u =
-      let given = none_gives x y u ops.Call p.op refl in
-      let asked = none_asks x y u ops.Call p.op refl (outside_none x y ops.Call p.op refl) in omega (arith, given, asked)
-  groups_pair syscall advice b d events todo x y after p g agrees comes u =
-      let given = none_gives x y u ops.Syscall p.op refl in
-      let asked = none_asks x y u ops.Syscall p.op refl (outside_none x y ops.Syscall p.op refl) in omega (arith, given, asked)
-  groups_pair (dyn found) advice b d events todo x y after p g agrees comes u =
-      let given = none_gives x y u ops.Dyn p.op refl in
-      let asked = none_asks x y u ops.Dyn p.op refl (outside_none x y ops.Dyn p.op refl) in omega (arith, given, asked)
-  groups_pair (repeats bit) advice b d events todo x y after p g agrees comes u =
-      let given = none_gives x y u ops.Repeat p.op refl in
-      let asked = none_asks x y u ops.Repeat p.op refl (outside_none x y ops.Repeat p.op refl) in omega (arith, given, asked)
-  groups_pair (span {batch = batch} read) advice b d events todo x y after p g agrees comes u =
-      let begins : is_batch_op (flags.op_of x) ≡ true = ap (λ o. is_batch_op o) p.op in
-      let many = left_of (gc y) (positions x) (length (drop 1 (take (positions_in_use batch) batch))) (g.pair.opens begins).left p.next.left in
-      let given = batch_gives x y ops.Span d.next (drop 1 (take (positions_in_use batch) batch)) u p.op refl p.next.batch many
-      (places_shown batch x (positions_in_use batch) p.whole.size p.hash) in
-      let before = nothing_owed d.ha d.unread u agrees.reads.0 in
-      let asked = none_asks x y u ops.Span p.op refl (outside_none x y ops.Span p.op refl) in omega (arith, given, asked, before)
-  groups_pair (respan {batch = batch} read) advice b d events todo x y after p g agrees comes u =
-      let begins : is_batch_op (flags.op_of x) ≡ true = ap (λ o. is_batch_op o) p.op in
-      let many = left_of (gc y) (positions x) (length (drop 1 (take (positions_in_use batch) batch))) (g.pair.opens begins).left p.next.left in
-      let given = batch_gives x y ops.Respan (d.ha + 8) (drop 1 (take (positions_in_use batch) batch)) u p.op refl p.next.batch many
-      (places_shown batch x (positions_in_use batch) p.whole.size p.hash) in
-      let before = nothing_owed d.ha d.unread u agrees.reads.0 in
-      let asked = none_asks x y u ops.Respan p.op refl (outside_none x y ops.Respan p.op refl) in omega (arith, given, asked, before)
-  groups_pair (operation {c = c} {item = item} {items = items} {later = more} {digest = digest}) advice b d events todo x y after p g agrees comes u =
+  groups_pair (span {batch = batch} read) p g agrees comes =
+      let many = left_of (gc y) (positions x) _ (g.pair.opens (ap (λ o. is_batch_op o) p.op)).left p.next.left in
+      let given = batch_gives x y u batch (positions_in_use batch) p.op refl refl refl p.next.batch many p.whole.size p.hash in
+      omega (arith, given, nothing_owed d.ha d.unread u agrees.reads.0)
+  groups_pair (respan {batch = batch} read) p g agrees comes =
+      let many = left_of (gc y) (positions x) _ (g.pair.opens (ap (λ o. is_batch_op o) p.op)).left p.next.left in
+      let given = batch_gives x y u batch (positions_in_use batch) p.op refl refl refl p.next.batch many p.whole.size p.hash in
+      omega (arith, given, nothing_owed d.ha d.unread u agrees.reads.0)
+  groups_pair (operation {c = c} {item = item} {items = items} {later = more} {digest = digest}) p g agrees comes =
       let moved = ordinary_advance d (shown_between (Do item) advice c b) events p.whole.ordinary in
       let ordinary : is_ordinary_op (flags.op_of x) ≡ true = ap (λ o. is_ordinary_op o) p.op ∙ p.whole.ordinary in
-      let given = none_gives x y u item.op p.op (no_batch item.op p.whole.ordinary) in
+      let given = none_given x y u p.op (no_batch item.op p.whole.ordinary) in
       let asked = operation_asks constants advice item items more digest todo c after d.ha d.unread x y u (record {
         op = p.op;
         ordinary = p.whole.ordinary;
@@ -105,28 +72,7 @@ module _ (constants : List ℕ) (kernel : List (List ℕ)) where
         next = λ is. p.next.number is ∙ ap (λ (z : Decoder). z.unread.number) moved;
       }) agrees.reads.0 comes in
       let kept = ap (λ (z : Decoder). positions_given z.ha z.unread.positions u) moved in omega (arith, given, asked, kept)
-  groups_pair span_ends advice b d events todo x y after p g agrees comes u =
-      let given = none_gives x y u ops.End p.op refl in
+  groups_pair {c = c} {mark = mark} next p g agrees comes =
       let before = nothing_owed d.ha d.unread u agrees.reads.0 in
-      let behind = nothing_owed 0 d.unread u agrees.reads.0 in
-      let asked = none_asks x y u ops.End p.op refl (outside_none x y ops.End p.op refl) in omega (arith, given, asked, before, behind)
-  groups_pair (loop_ends bit) advice b d events todo x y after p g agrees comes u =
-      let given = none_gives x y u ops.End p.op refl in
-      let before = nothing_owed d.ha d.unread u agrees.reads.0 in
-      let behind = nothing_owed 0 d.unread u agrees.reads.0 in
-      let asked = none_asks x y u ops.End p.op refl (outside_none x y ops.End p.op refl) in omega (arith, given, asked, before, behind)
-  groups_pair closes advice b d events todo x y after p g agrees comes u =
-      let given = none_gives x y u ops.End p.op refl in
-      let before = nothing_owed d.ha d.unread u agrees.reads.0 in
-      let behind = nothing_owed 0 d.unread u agrees.reads.0 in
-      let asked = none_asks x y u ops.End p.op refl (outside_none x y ops.End p.op refl) in omega (arith, given, asked, before, behind)
-  groups_pair returns advice b d events todo x y after p g agrees comes u =
-      let given = none_gives x y u ops.End p.op refl in
-      let before = nothing_owed d.ha d.unread u agrees.reads.0 in
-      let behind = nothing_owed 0 d.unread u agrees.reads.0 in
-      let asked = none_asks x y u ops.End p.op refl (outside_none x y ops.End p.op refl) in omega (arith, given, asked, before, behind)
-  groups_pair leaves advice b d events todo x y after p g agrees comes u =
-      let given = none_gives x y u ops.End p.op refl in
-      let before = nothing_owed d.ha d.unread u agrees.reads.0 in
-      let behind = nothing_owed 0 d.unread u agrees.reads.0 in
-      let asked = none_asks x y u ops.End p.op refl (outside_none x y ops.End p.op refl) in omega (arith, given, asked, before, behind)
+      let behind = nothing_owed (advance d (shown_between mark advice c b) events).ha d.unread u agrees.reads.0 in
+      omega (arith, none_given x y u p.op refl, none_outside x y u p.op refl refl, before, behind)

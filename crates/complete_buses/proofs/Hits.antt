@@ -13,3 +13,7 @@ one_count t u = omega arith
 pub two_count : (t v u : List ℕ) → counted (once t ∷ once v ∷ []) u ≡ hit t u + hit v u
 unfolding counted hit
 two_count t v u = omega arith
+
+-- where nothing is given nor asked, what is owed stays
+pub stays_owed : {given asked : ℕ} → given ≡ 0 → asked ≡ 0 → (owed : ℕ) → given + owed ≡ asked + owed
+stays_owed none nothing owed = omega (arith, none, nothing)

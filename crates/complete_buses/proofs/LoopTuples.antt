@@ -27,35 +27,29 @@ so_often : (t : List ℕ) (n : ℕ) (u : List ℕ) → counted (record { tuple =
 unfolding counted times
 so_often t n u = omega arith
 
-same : (i n : ℕ) (digest word : List ℕ) → i ≡ n → digest ≡ word → i ∷ digest ≡ n ∷ word
-same i n digest word at is = rw (at, is) refl
-
-giver : List ℕ → List ℕ → Counted
+abbrev giver : List ℕ → List ℕ → Counted
 giver x y = record { tuple = addr y ∷ front x; count = w x 0 }
 
-pub loop_gives : (x y word : List ℕ) (n k : ℕ) (u : List ℕ) → flags.op_of x ≡ ops.Loop → addr y ≡ n → front x ≡ word → w x 0 ≡ k
-    → counted (loops_given x y) u ≡ times (n ∷ word) k u
-unfolding loops_given giver
-loop_gives x y word n k u is at digest often =
-    ap (λ o. counted (cond (flags.is_op o ops.Loop) (giver x y ∷ []) []) u) is
-    ∙ so_often (addr y ∷ front x) (w x 0) u
-    ∙ ap (λ t. times t (w x 0) u) (same (addr y) n (front x) word at digest) ∙ ap (λ m. times (n ∷ word) m u) often
+module _ (x y u : List ℕ) where
+  by_op : {op : Op} → flags.op_of x ≡ op
+      → (counted (loops_given x y) u ≡ counted (cond (flags.is_op op ops.Loop) (giver x y ∷ []) []) u)
+      × (counted (loops_asked x y) u ≡ counted (cond (flags.is_op op ops.Repeat) (once (addr x ∷ front x) ∷ []) []) u)
+  unfolding loops_given loops_asked
+  by_op is = (
+    ap (λ o. counted (cond (flags.is_op o ops.Loop) (giver x y ∷ []) []) u) is,
+    ap (λ o. counted (cond (flags.is_op o ops.Repeat) (once (addr x ∷ front x) ∷ []) []) u) is,
+  )
 
-pub none_gives : (x y u : List ℕ) (op : Op) → flags.op_of x ≡ op → flags.is_op op ops.Loop ≡ false → counted (loops_given x y) u ≡ 0
-unfolding loops_given giver
-none_gives x y u op is apart =
-    ap (λ o. counted (cond (flags.is_op o ops.Loop) (giver x y ∷ []) []) u) is
-    ∙ ap (λ b. counted (cond b (giver x y ∷ []) []) u) apart ∙ counted-none u
+  pub none_given : {op : Op} → flags.op_of x ≡ op → flags.is_op op ops.Loop ≡ false → counted (loops_given x y) u ≡ 0
+  none_given is apart = (by_op is).0 ∙ ap (λ b. counted (cond b (giver x y ∷ []) []) u) apart ∙ counted-none u
 
-pub turn_asks : (x y word : List ℕ) (n : ℕ) (u : List ℕ) → flags.op_of x ≡ ops.Repeat → addr x ≡ n → front x ≡ word
-    → counted (loops_asked x y) u ≡ hit (n ∷ word) u
-unfolding loops_asked
-turn_asks x y word n u is at digest =
-    ap (λ o. counted (cond (flags.is_op o ops.Repeat) (once (addr x ∷ front x) ∷ []) []) u) is
-    ∙ ap (λ t. counted (once t ∷ []) u) (same (addr x) n (front x) word at digest) ∙ one_count (n ∷ word) u
+  pub none_asked : {op : Op} → flags.op_of x ≡ op → flags.is_op op ops.Repeat ≡ false → counted (loops_asked x y) u ≡ 0
+  none_asked is apart = (by_op is).1 ∙ ap (λ b. counted (cond b (once (addr x ∷ front x) ∷ []) []) u) apart ∙ counted-none u
 
-pub none_asks : (x y u : List ℕ) (op : Op) → flags.op_of x ≡ op → flags.is_op op ops.Repeat ≡ false → counted (loops_asked x y) u ≡ 0
-unfolding loops_asked
-none_asks x y u op is apart =
-    ap (λ o. counted (cond (flags.is_op o ops.Repeat) (once (addr x ∷ front x) ∷ []) []) u) is
-    ∙ ap (λ b. counted (cond b (once (addr x ∷ front x) ∷ []) []) u) apart ∙ counted-none u
+  pub loop_gives : {word : List ℕ} {n k : ℕ} → flags.op_of x ≡ ops.Loop → addr y ≡ n → front x ≡ word → w x 0 ≡ k
+      → counted (loops_given x y) u ≡ times (n ∷ word) k u
+  loop_gives {word = word} {n = n} {k = k} is at digest often = (by_op is).0 ∙ rw (at, digest, often) (so_often (n ∷ word) k u)
+
+  pub turn_asks : {word : List ℕ} {n : ℕ} → flags.op_of x ≡ ops.Repeat → addr x ≡ n → front x ≡ word
+      → counted (loops_asked x y) u ≡ hit (n ∷ word) u
+  turn_asks {word = word} {n = n} is at digest = (by_op is).1 ∙ rw (at, digest) (one_count (n ∷ word) u)

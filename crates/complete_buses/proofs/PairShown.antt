@@ -1,12 +1,11 @@
 -- What the row of a cycle and the row behind it show to the buses.
-use Rattle.std.proofs.Common.{◌≡◌, ℕ, ◌<◌, List, [], ◌∷◌, ◌++◌, length, slice_index, take, refl, arith, lit<}
+use Rattle.std.proofs.Common.{◌≡◌, ℕ, ◌<◌, List, [], ◌∷◌, ◌++◌, length, slice_index, refl, arith, lit<}
 use Rattle.vm_field.specs.Machine.{Core}
 use Rattle.vm_table.specs.MainColumns.{h}
-use Rattle.block_tree.specs.Cycles.{Mark, advice_taken, effect_of}
+use Rattle.block_tree.specs.Cycles.{Mark}
 use Rattle.block_tree.specs.Behind.{IsAllowed, core_behind}
 use Rattle.block_tree.specs.Marks.{IsWholeMark}
-use Rattle.block_tree.specs.Rows.{behind, op_of_mark}
-use Rattle.block_tree.proofs.BehindLemmas.{behind-cycle}
+use Rattle.block_tree.specs.Rows.{op_of_mark}
 use Rattle.air_kit.specs.Flags as flags
 use Rattle.air_kit.specs.MainTuples.{back, front}
 use Rattle.machine_cycles.specs.Events.{shown_between}
@@ -16,7 +15,7 @@ use Rattle.complete_rows.specs.Filling.{hash_by}
 use Rattle.vm_ops.specs.Codes.{kind_of}
 use Rattle.complete_rows.specs.Moments.{IsMoment}
 use Rattle.complete_rows.specs.Shows.{Shows}
-use Rattle.complete_rows.proofs.MomentFacts.{behind_shows, moment_hash, moment_op, moment_shows}
+use Rattle.complete_rows.proofs.MomentFacts.{advice_of, behind_shows, moment_allowed, moment_behind, moment_hash, moment_op, moment_shows}
 use Rattle.complete_rows.proofs.PairLemmas.{ticked}
 
 -- a cycle of this mark from a state, with the advice that it takes, and its event before later ones
@@ -30,27 +29,21 @@ pub record Pair (constants : List ℕ) (kernel : List (List ℕ)) (mark : Mark) 
   pub hash : (j : ℕ) → j < 8 → h x j ≡ slice_index (hash_by (kind_of (op_of_mark mark)) d (shown_between mark advice c b)) j
   pub next : Shows (flags.op_of y) (advance d (shown_between mark advice c b) later) (ticked (core_behind constants mark advice c)) y
 
-module _ (constants : List ℕ) (kernel : List (List ℕ)) (limit : ℕ) where
-  pub pair_of : {x y : List ℕ} → (m : IsMoment constants kernel limit x y)
-      → Pair constants kernel m.mark (take (advice_taken m.mark) m.s.tape) m.s.core
-      (behind (effect_of constants kernel m.mark (take (advice_taken m.mark) m.s.tape) m.s.core) m.s.core) m.d m.later x y
-  pair_of m = record {
-    allowed = (behind-cycle constants kernel m.mark (take (advice_taken m.mark) m.s.tape) m.s.core m.cycle.core m.cycle.made).0;
-    whole = m.whole;
-    op = moment_op constants kernel limit m;
-    here = moment_shows constants kernel limit m;
-    hash = moment_hash constants kernel limit m;
-    next = behind_shows constants kernel limit m;
-  }
+pub pair_of : {constants : List ℕ} {kernel : List (List ℕ)} {limit : ℕ} {x y : List ℕ} → (m : IsMoment constants kernel limit x y)
+    → Pair constants kernel m.mark (advice_of m) m.s.core (moment_behind m) m.d m.later x y
+pair_of m = record {
+  allowed = moment_allowed m;
+  whole = m.whole;
+  op = moment_op m;
+  here = moment_shows m;
+  hash = moment_hash m;
+  next = behind_shows m;
+}
 
 -- the two words of a row
 pub front_is : (word more x : List ℕ) → length word ≡ 4 → ((j : ℕ) → j < 8 → h x j ≡ slice_index (word ++ more) j) → front x ≡ word
 front_is (a ∷ b ∷ c ∷ d ∷ []) more x size hash = rw (hash 0 (lit< tt), hash 1 (lit< tt), hash 2 (lit< tt), hash 3 (lit< tt)) refl
-front_is [] more x size hash = absurd (omega (arith, size))
-front_is (a ∷ []) more x size hash = absurd (omega (arith, size))
-front_is (a ∷ b ∷ []) more x size hash = absurd (omega (arith, size))
-front_is (a ∷ b ∷ c ∷ []) more x size hash = absurd (omega (arith, size))
-front_is (a ∷ b ∷ c ∷ d ∷ e ∷ word) more x size hash = absurd (omega (arith, size))
+front_is word more x size hash = absurd (omega (arith, size))
 
 pub back_is : (word more x : List ℕ) → length word ≡ 4 → length more ≡ 4 → ((j : ℕ) → j < 8 → h x j ≡ slice_index (word ++ more) j) → back x ≡ more
 back_is (a ∷ b ∷ c ∷ d ∷ []) (i ∷ j ∷ k ∷ l ∷ []) x size few hash = rw (hash 4 (lit< tt), hash 5 (lit< tt), hash 6 (lit< tt), hash 7 (lit< tt)) refl

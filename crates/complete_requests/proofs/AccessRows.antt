@@ -24,7 +24,7 @@ use Rattle.machine_cycles.specs.declared.event.Visible.{Visible}
 use Rattle.complete_rows.specs.Limbs.{limbs_by, limbs_of, word_rest}
 use Rattle.complete_rows.specs.Moments.{IsMoment, event_at}
 use Rattle.complete_rows.specs.RunRequests.{access, accesses_by}
-use Rattle.complete_rows.proofs.MomentFacts.{moment_limb, moment_op, moment_shows}
+use Rattle.complete_rows.proofs.MomentFacts.{moment_event, moment_limb, moment_op, moment_shows}
 use Rattle.complete_requests.proofs.AccessWords.{event_word}
 use Rattle.complete_requests.proofs.Tops.{ShowsTops, moment_cell, moment_tops}
 
@@ -61,10 +61,10 @@ turned word y size tops =
 
 -- ---- each operation's access
 
-module _ (sn : Seen) (e : Event) (next : Visible) (x y : List ℕ) where
-  asks : (op : Op) (kind : ℕ) (word : List ℕ) → ShowsAccess op sn e next x y → word ≡ e.word
+module _ {sn : Seen} {e : Event} {next : Visible} {x y : List ℕ} where
+  asks : {op : Op} (kind : ℕ) {word : List ℕ} → ShowsAccess op sn e next x y → word ≡ e.word
       → tuples.access kind x word ≡ map access_given (access kind e)
-  asks op kind word shows is = rw (shows.context, shows.cells 0 (lit< tt), shows.address, shows.clock, is) refl
+  asks kind shows is = rw (shows.context, shows.cells 0 (lit< tt), shows.address, shows.clock, is) refl
 
   rest_of : (op : Op) → ShowsAccess op sn e next x y → limbs_by op e.before next ≡ []
       → (j : ℕ) → j < 10 → t x j ≡ slice_index (word_rest op e.word) j
@@ -97,10 +97,10 @@ module _ (sn : Seen) (e : Event) (next : Visible) (x y : List ℕ) where
 
   op_accesses : (op : Op) → ShowsAccess op sn e next x y → tuples.accesses_of op x y ≡ map access_given (accesses_by op e)
   unfolding tuples.accesses_of
-  op_accesses ops.MLoad shows = asks ops.MLoad 0 (s y 0 ∷ t x 0 ∷ t x 1 ∷ t x 2 ∷ []) shows (loads shows)
-  op_accesses ops.MLoadW shows = asks ops.MLoadW 0 (s y 3 ∷ s y 2 ∷ s y 1 ∷ s y 0 ∷ []) shows (loads_word shows)
-  op_accesses ops.MStore shows = asks ops.MStore 2 (s x 1 ∷ t x 0 ∷ t x 1 ∷ t x 2 ∷ []) shows (stores shows)
-  op_accesses ops.MStoreW shows = asks ops.MStoreW 1 (s x 4 ∷ s x 3 ∷ s x 2 ∷ s x 1 ∷ []) shows (stores_word shows)
+  op_accesses ops.MLoad shows = asks 0 shows (loads shows)
+  op_accesses ops.MLoadW shows = asks 0 shows (loads_word shows)
+  op_accesses ops.MStore shows = asks 2 shows (stores shows)
+  op_accesses ops.MStoreW shows = asks 1 shows (stores_word shows)
   op_accesses op shows = refl
 
 -- ---- each row's
@@ -109,29 +109,29 @@ mark_accesses : (constants : List ℕ) (mark : Mark) (before : State) (e : Event
     → ((item : Item) → mark ≡ Do item → ShowsAccess item.op (seen_at constants item before) e next x y)
     → tuples.accesses_of (op_of_mark mark) x y ≡ map access_given (accesses_by (op_of_mark mark) e)
 unfolding tuples.accesses_of
-mark_accesses constants (Do item) before e next x y shows = op_accesses (seen_at constants item before) e next x y item.op (shows item refl)
+mark_accesses constants (Do item) before e next x y shows = op_accesses item.op (shows item refl)
 mark_accesses constants mark before e next x y shows = refl
 
-module _ (constants : List ℕ) (len : length constants ≡ number_of_constants) (kernel : List (List ℕ)) (limit : ℕ) {x y : List ℕ}
+module _ {constants : List ℕ} (len : length constants ≡ number_of_constants) {kernel : List (List ℕ)} {limit : ℕ} {x y : List ℕ}
     (m : IsMoment constants kernel limit x y) where
   moment_access : (item : Item) → m.mark ≡ Do item
-      → ShowsAccess item.op (seen_at constants item m.s) (event_at constants kernel m.mark m.s) (visible_of m.t.core) x y
+      → ShowsAccess item.op (seen_at constants item m.s) (moment_event m) (visible_of m.t.core) x y
   moment_access item is = record {
     is = ap op_of_mark is;
-    context = (moment_shows constants kernel limit m).context;
-    clock = (moment_shows constants kernel limit m).clock;
+    context = (moment_shows m).context;
+    clock = (moment_shows m).clock;
     address = refl;
-    cells = moment_cell constants len kernel limit m;
-    tops = moment_tops constants len kernel limit m item is;
-    limbs = moment_limb constants kernel limit m;
+    cells = moment_cell len m;
+    tops = moment_tops len m item is;
+    limbs = moment_limb m;
     word = λ accesses.
         ap (λ mark. (event_at constants kernel mark m.s).word) is
-        ∙ event_word constants kernel limit item m.s m.t (subst (λ mark. IsCycle constants kernel limit mark m.s m.t) is m.cycle) accesses;
+        ∙ event_word (subst (λ mark. IsCycle constants kernel limit mark m.s m.t) is m.cycle) accesses;
     size = (m.before.core.words m.s.core.context (top m.s.core)).size;
   }
 
-  pub row_accesses : memory_asked x y ≡ map access_given (accesses_by (op_of_mark m.mark) (event_at constants kernel m.mark m.s))
+  pub row_accesses : memory_asked x y ≡ map access_given (accesses_by (op_of_mark m.mark) (moment_event m))
   unfolding memory_asked
   row_accesses =
-      ap (λ o. tuples.accesses_of o x y) (moment_op constants kernel limit m)
-      ∙ mark_accesses constants m.mark m.s (event_at constants kernel m.mark m.s) (visible_of m.t.core) x y moment_access
+      ap (λ o. tuples.accesses_of o x y) (moment_op m)
+      ∙ mark_accesses constants m.mark m.s (moment_event m) (visible_of m.t.core) x y moment_access

@@ -25,7 +25,7 @@ pub word_elsewhere : (memory : WordMap) (context address : ℕ) (o : Option (Lis
 word_elsewhere memory context address None c a apart = refl
 word_elsewhere memory context address (Some word) c a apart = word_at-insert_other memory (context, address) word c a apart
 
-module _ (constants : List ℕ) (kernel : List (List ℕ)) (limit : ℕ) (item : Item) (s t : State)
+module _ {constants : List ℕ} {kernel : List (List ℕ)} {limit : ℕ} {item : Item} {s t : State}
     (cycle : IsCycle constants kernel limit (Do item) s t) where
   done : Stepped constants item s t
   done = stepped constants item s t (cycle-step constants kernel limit item s t cycle)

@@ -57,9 +57,9 @@ mark_bits constants (Do item) before x y cells tops =
     op_bits item.op (seen_at constants item before) (visible_of before.core) x y refl (cells item) (tops item refl)
 mark_bits constants mark before x y cells tops = refl
 
-module _ (constants : List ℕ) (len : length constants ≡ number_of_constants) (kernel : List (List ℕ)) (limit : ℕ) {x y : List ℕ}
+module _ {constants : List ℕ} (len : length constants ≡ number_of_constants) {kernel : List (List ℕ)} {limit : ℕ} {x y : List ℕ}
     (m : IsMoment constants kernel limit x y) where
   pub row_bits : bitwise_asked x y ≡ map bit_given (bits_by (op_of_mark m.mark) (visible_of m.s.core))
   row_bits =
-      asked_is (op_of_mark m.mark) x y (moment_op constants kernel limit m)
-      ∙ mark_bits constants m.mark m.s x y (λ item. moment_cell constants len kernel limit m) (moment_tops constants len kernel limit m)
+      asked_is (op_of_mark m.mark) x y (moment_op m)
+      ∙ mark_bits constants m.mark m.s x y (λ item. moment_cell len m) (moment_tops len m)

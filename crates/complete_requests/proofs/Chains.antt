@@ -48,10 +48,7 @@ length_chain constants state going (block ∷ blocks) = ap suc (length_chain con
 -- what stands behind four elements of a state
 drop_taken : (state block : List ℕ) → length state ≡ 12 → drop 4 (take 4 state ++ block) ≡ block
 drop_taken (a ∷ b ∷ c ∷ d ∷ state) block size = refl
-drop_taken [] block size = absurd (omega (arith, size))
-drop_taken (a ∷ []) block size = absurd (omega (arith, size))
-drop_taken (a ∷ b ∷ []) block size = absurd (omega (arith, size))
-drop_taken (a ∷ b ∷ c ∷ []) block size = absurd (omega (arith, size))
+drop_taken state block size = absurd (omega (arith, size))
 
 module _ (constants : List ℕ) (len : length constants ≡ number_of_constants) where
   pub absorbed_twelve : (state block : List ℕ) → length state ≡ 12 → IsBatch block → length (absorbed constants state block) ≡ 12

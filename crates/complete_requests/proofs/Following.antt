@@ -7,7 +7,7 @@ use Rattle.block_tree.specs.Cycles.{Mark, Do}
 use Rattle.block_tree.specs.Marks.{IsWholeMark}
 use Rattle.block_tree.specs.Rows.{hash_of, op_of_mark}
 use Rattle.block_tree.proofs.RowLemmas.{hash-batch}
-use Rattle.block_tree.specs.Steps.{Task, Block, Within, Turned, Closing, Returning, Leaving, Next, span, join, split_1, split_0, loop_1, loop_0, call, syscall, dyn, operation, respan, span_ends, repeats, loop_ends, closes, returns, leaves}
+use Rattle.block_tree.specs.Steps.{Task, Block, Within, Turned, Closing, Returning, Leaving, Next, operation, respan}
 use Rattle.buses.specs.Counts.{Counted, counted, over_rows, with_next}
 use Rattle.machine_cycles.specs.Events.{visible_of}
 use Rattle.machine_cycles.specs.declared.event.Event.{Event}
@@ -22,7 +22,7 @@ use Rattle.vm_ops.specs.Codes.{kind_of}
 use Rattle.complete_rows.specs.Moments.{IsMoment, event_at}
 use Rattle.complete_rows.specs.Turns.{respans, respans_by}
 use Rattle.complete_rows.proofs.AgreeLemmas.{kind_is}
-use Rattle.complete_rows.proofs.ChainLemmas.{over_rows_pairs}
+use Rattle.complete_rows.proofs.ChainLemmas.{balanced, over_rows_pairs}
 
 -- the batches of the span that is open
 abbrev pub coming : List Task → List (List ℕ)
@@ -37,38 +37,15 @@ coming (Leaving digest frame ∷ todo) = []
 coming_step : (constants : List ℕ) {task : Task} {c : Core} {mark : Mark} {rest : List Task} → Next constants task c mark rest → IsWholeMark mark
     → (todo : List Task) (more : List (List ℕ)) → more ≡ coming (rest ++ todo)
     → respans_by (kind_of (op_of_mark mark)) (hash_of mark) more ≡ coming (task ∷ todo)
-coming_step constants (span read) w todo more e = refl
-coming_step constants join w todo more e = refl
-coming_step constants (split_1 bit) w todo more e = refl
-coming_step constants (split_0 bit) w todo more e = refl
-coming_step constants (loop_1 bit) w todo more e = refl
-coming_step constants (loop_0 bit) w todo more e = refl
-coming_step constants call w todo more e = refl
-coming_step constants syscall w todo more e = refl
-coming_step constants (dyn found) w todo more e = refl
 coming_step constants (operation {item = item}) w todo more e =
     ap (λ k. respans_by k (hash_of (Do item)) more) (kind_is item.op w.ordinary) ∙ e
 coming_step constants (respan {batch = batch} read) w todo more e = ap (λ l. batch ∷ l) e
-coming_step constants span_ends w todo more e = refl
-coming_step constants (repeats bit) w todo more e = refl
-coming_step constants (loop_ends bit) w todo more e = refl
-coming_step constants closes w todo more e = refl
-coming_step constants returns w todo more e = refl
-coming_step constants leaves w todo more e = refl
+coming_step constants next w todo more e = refl
 
 respans_whole : (k : Kind) (batch : List ℕ) (later : List (List ℕ)) → IsBatch batch → All IsBatch later → All IsBatch (respans_by k batch later)
 respans_whole kinds.Ordinary batch later h all = all
-respans_whole kinds.Join batch later h all = All-nil IsBatch
-respans_whole kinds.Split batch later h all = All-nil IsBatch
-respans_whole kinds.Loop batch later h all = All-nil IsBatch
-respans_whole kinds.Span batch later h all = All-nil IsBatch
-respans_whole kinds.Call batch later h all = All-nil IsBatch
-respans_whole kinds.Syscall batch later h all = All-nil IsBatch
-respans_whole kinds.Dyn batch later h all = All-nil IsBatch
-respans_whole kinds.End batch later h all = All-nil IsBatch
-respans_whole kinds.Repeat batch later h all = All-nil IsBatch
 respans_whole kinds.Respan batch later h all = All-cons IsBatch batch later h all
-respans_whole kinds.Halt batch later h all = All-nil IsBatch
+respans_whole kind batch later h all = All-nil IsBatch
 
 -- counts of lists that are joined
 pub map_counts : {A : Type 0} (f : A → Counted) (xs ys : List A) (v : List ℕ)
@@ -77,7 +54,21 @@ unfolding counted
 map_counts f [] ys v = omega arith
 map_counts f (x ∷ xs) ys v = let later = map_counts f xs ys v in omega (arith, later)
 
+nothing_given : (rows : List (List ℕ)) → over_pairs (λ x y. 0) rows ≡ 0
+unfolding over_pairs
+nothing_given [] = refl
+nothing_given (x ∷ []) = refl
+nothing_given (x ∷ y ∷ rows) = omega (arith, nothing_given (y ∷ rows))
+
 module _ (constants : List ℕ) (kernel : List (List ℕ)) (limit : ℕ) (u : State) where
+  -- each row asks what is owed before it and not behind it
+  abbrev pub Asks : (List ℕ → List ℕ → List Counted) → List ℕ → (List Task → Decoder → List Event → ℕ) → Type 0
+  Asks tuples v owed = (x y : List ℕ) (rows : List (List ℕ)) (m : IsMoment constants kernel limit x y)
+      → AreLinked constants kernel limit u (m.rest ++ m.todo) (advance m.d (event_at constants kernel m.mark m.s) m.later) m.t m.later (y ∷ rows)
+      → owed (m.task ∷ m.todo) m.d (event_at constants kernel m.mark m.s ∷ m.later)
+      ≡ counted (tuples x y) v + owed (m.rest ++ m.todo) (advance m.d (event_at constants kernel m.mark m.s) m.later) m.later
+
+module _ {constants : List ℕ} {kernel : List (List ℕ)} {limit : ℕ} {u : State} where
   -- the RESPANs that come are those of the batches that the span still has
   pub coming_are : {todo : List Task} {d : Decoder} {s : State} {events : List Event} {rows : List (List ℕ)}
       → AreLinked constants kernel limit u todo d s events rows → respans events ≡ coming todo
@@ -103,33 +94,21 @@ module _ (constants : List ℕ) (kernel : List (List ℕ)) (limit : ℕ) (u : St
   small_is (chains.ends e) = e.small
   small_is (chains.goes m later) = m.small
 
-  -- what is owed is what is asked over a run, and what is owed at its end
-  pub asked_over : (tuples : List ℕ → List ℕ → List Counted) (v : List ℕ) (owed : List Task → Decoder → List Event → ℕ)
-      → ((x y : List ℕ) (rows : List (List ℕ)) (m : IsMoment constants kernel limit x y)
-      → AreLinked constants kernel limit u (m.rest ++ m.todo) (advance m.d (event_at constants kernel m.mark m.s) m.later) m.t m.later (y ∷ rows)
-      → owed (m.task ∷ m.todo) m.d (event_at constants kernel m.mark m.s ∷ m.later)
-      ≡ counted (tuples x y) v + owed (m.rest ++ m.todo) (advance m.d (event_at constants kernel m.mark m.s) m.later) m.later)
-      → {todo : List Task} {d : Decoder} {s : State} {events : List Event} {rows : List (List ℕ)}
-      → AreLinked constants kernel limit u todo d s events rows
-      → owed todo d events ≡ over_pairs (λ x y. counted (tuples x y) v) rows + owed [] (decoder_after d events) []
-  unfolding over_pairs decoder_after
-  asked_over tuples v owed pair (chains.ends e) = omega arith
-  asked_over tuples v owed pair (chains.goes {x = x} {y = y} {rows = rows} m later) =
-      let here = pair x y rows m later in
-      let behind = asked_over tuples v owed pair later in
-      omega (arith, here, behind)
-
-  pub rows_ask : (tuples : List ℕ → List ℕ → List Counted) (v : List ℕ) (owed : List Task → Decoder → List Event → ℕ)
-      → ((x y : List ℕ) (rows : List (List ℕ)) (m : IsMoment constants kernel limit x y)
-      → AreLinked constants kernel limit u (m.rest ++ m.todo) (advance m.d (event_at constants kernel m.mark m.s) m.later) m.t m.later (y ∷ rows)
-      → owed (m.task ∷ m.todo) m.d (event_at constants kernel m.mark m.s ∷ m.later)
-      ≡ counted (tuples x y) v + owed (m.rest ++ m.todo) (advance m.d (event_at constants kernel m.mark m.s) m.later) m.later)
+  -- what is owed at the start of a run is what is asked over it
+  pub rows_ask : (tuples : List ℕ → List ℕ → List Counted) (v : List ℕ) (owed : List Task → Decoder → List Event → ℕ) → Asks constants kernel limit u tuples v owed
       → ((d : Decoder) → owed [] d [] ≡ 0)
       → {todo : List Task} {d : Decoder} {s : State} {events : List Event} {rows : List (List ℕ)}
       → AreLinked constants kernel limit u todo d s events rows
       → over_rows (with_next tuples) rows v ≡ owed todo d events
   rows_ask tuples v owed pair none {d = d} {events = events} {rows = rows} linked =
-      let whole = asked_over tuples v owed pair linked in
-      let sum = over_rows_pairs tuples v rows in
-      let end = none (decoder_after d events) in
-      omega (arith, whole, sum, end)
+      let whole = balanced (λ x y. 0) (λ x y. counted (tuples x y) v) (λ todo d s events. owed todo d events)
+      (λ x y rows m later. omega (arith, pair x y rows m later)) linked in
+      omega (arith, whole, nothing_given rows, over_rows_pairs tuples v rows, none (decoder_after d events))
+
+  -- so it is where that depends on the events alone
+  pub events_ask : (tuples : List ℕ → List ℕ → List Counted) (v : List ℕ) (asked : List Event → ℕ) → asked [] ≡ 0
+      → Asks constants kernel limit u tuples v (λ todo d events. asked events)
+      → {todo : List Task} {d : Decoder} {s : State} {events : List Event} {rows : List (List ℕ)}
+      → AreLinked constants kernel limit u todo d s events rows
+      → over_rows (with_next tuples) rows v ≡ asked events
+  events_ask tuples v asked none pair linked = rows_ask tuples v (λ todo d events. asked events) pair (λ d. none) linked

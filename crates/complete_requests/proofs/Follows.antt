@@ -23,27 +23,24 @@ use Rattle.complete_rows.specs.Decoder.{Decoder}
 use Rattle.vm_ops.specs.declared.kind.Kind.TheVariants as kinds
 use Rattle.vm_ops.specs.declared.kind.Kind.{Kind}
 use Rattle.vm_ops.specs.Codes.{kind_of}
-use Rattle.complete_rows.specs.Moments.{event_at}
 use Rattle.complete_rows.specs.RunRequests.{chain, hash_perms, perms_by, perms_by_op, perms_of}
 use Rattle.complete_rows.specs.Turns.{respans}
 use Rattle.complete_requests.proofs.Chains.{absorbed_twelve}
+use Rattle.complete_rows.proofs.MomentFacts.{moment_event}
 use Rattle.complete_requests.proofs.Following.{coming_whole}
 
 -- the first four elements of a state stay
 take_taken : (state block : List ℕ) → length state ≡ 12 → take 4 (take 4 state ++ block) ≡ take 4 state
 take_taken (a ∷ b ∷ c ∷ d ∷ state) block size = refl
-take_taken [] block size = absurd (omega (arith, size))
-take_taken (a ∷ []) block size = absurd (omega (arith, size))
-take_taken (a ∷ b ∷ []) block size = absurd (omega (arith, size))
-take_taken (a ∷ b ∷ c ∷ []) block size = absurd (omega (arith, size))
+take_taken state block size = absurd (omega (arith, size))
+
+-- whatever comes before
+abbrev pub Follow : List ℕ → List Perm → Type 0
+Follow constants perms = (state : List ℕ) → FollowsOn constants false state perms
 
 module _ (constants : List ℕ) (len : length constants ≡ number_of_constants) where
-  -- whatever comes before
-  abbrev pub Follow : List Perm → Type 0
-  Follow perms = (state : List ℕ) → FollowsOn constants false state perms
-
   goes_on : (state block : List ℕ) (blocks : List (List ℕ)) (others : List Perm) → length state ≡ 12 → IsBatch block → All IsBatch blocks
-      → Follow others → FollowsOn constants true state (chain constants state true (block ∷ blocks) ++ others)
+      → Follow constants others → FollowsOn constants true state (chain constants state true (block ∷ blocks) ++ others)
   unfolding chain
   goes_on state block [] others size h all rest =
       (refl, λ e. off e, λ e. take_taken state block size, λ e g. never g, rest (permuted constants (take 4 state ++ block)))
@@ -57,7 +54,7 @@ module _ (constants : List ℕ) (len : length constants ≡ number_of_constants)
   )
 
   begins : (domain : ℕ) (block : List ℕ) (blocks : List (List ℕ)) (others : List Perm) → IsBatch block → All IsBatch blocks
-      → Follow others → Follow (hash_perms constants domain (block ∷ blocks) ++ others)
+      → Follow constants others → Follow constants (hash_perms constants domain (block ∷ blocks) ++ others)
   unfolding chain
   begins domain block [] others h all rest state =
       (refl, λ e. off e, λ e. off e, λ e g. (refl, refl, refl), rest (permuted constants (take 4 (begun domain) ++ block)))
@@ -70,12 +67,12 @@ module _ (constants : List ℕ) (len : length constants ≡ number_of_constants)
         (All-head IsBatch next blocks all) (All-tail IsBatch next blocks all) rest,
   )
 
-  op_follows : (op : Op) (seen : Visible) (others : List Perm) → Follow others → Follow (perms_by_op op seen ++ others)
+  op_follows : (op : Op) (seen : Visible) (others : List Perm) → Follow constants others → Follow constants (perms_by_op op seen ++ others)
   op_follows ops.HPerm seen others rest state = (refl, λ e. (refl, refl), λ e. off e, λ e g. never e, rest _)
   op_follows op seen others rest state = rest state
 
-  follows_by : (k : Kind) (e : Event) (later : List Event) (others : List Perm) → IsBatch e.hash → All IsBatch (respans later) → Follow others
-      → Follow (perms_by k constants e later ++ others)
+  follows_by : (k : Kind) (e : Event) (later : List Event) (others : List Perm) → IsBatch e.hash → All IsBatch (respans later) → Follow constants others
+      → Follow constants (perms_by k constants e later ++ others)
   follows_by kinds.Ordinary e later others h all rest = op_follows e.op e.before others rest
   follows_by kinds.Join e later others h all rest = begins (code_of ops.Join) e.hash [] others h (All-nil IsBatch) rest
   follows_by kinds.Split e later others h all rest = begins (code_of ops.Split) e.hash [] others h (All-nil IsBatch) rest
@@ -84,15 +81,13 @@ module _ (constants : List ℕ) (len : length constants ≡ number_of_constants)
   follows_by kinds.Call e later others h all rest = begins (code_of ops.Call) e.hash [] others h (All-nil IsBatch) rest
   follows_by kinds.Syscall e later others h all rest = begins (code_of ops.Syscall) e.hash [] others h (All-nil IsBatch) rest
   follows_by kinds.Dyn e later others h all rest = begins (code_of ops.Dyn) e.hash [] others h (All-nil IsBatch) rest
-  follows_by kinds.End e later others h all rest = rest
-  follows_by kinds.Repeat e later others h all rest = rest
-  follows_by kinds.Respan e later others h all rest = rest
-  follows_by kinds.Halt e later others h all rest = rest
+  follows_by kind e later others h all rest = rest
 
-  pub perms_follow : (kernel : List (List ℕ)) (limit : ℕ) (u : State) {todo : List Task} {d : Decoder} {s : State} {events : List Event}
-      {rows : List (List ℕ)} → AreLinked constants kernel limit u todo d s events rows → Follow (perms_of constants events)
+module _ {constants : List ℕ} (len : length constants ≡ number_of_constants) where
+  pub perms_follow : {kernel : List (List ℕ)} {limit : ℕ} {u : State} {todo : List Task} {d : Decoder} {s : State} {events : List Event}
+      {rows : List (List ℕ)} → AreLinked constants kernel limit u todo d s events rows → Follow constants (perms_of constants events)
   unfolding perms_of
-  perms_follow kernel limit u (chains.ends e) = λ state. refl
-  perms_follow kernel limit u (chains.goes m later) =
-      follows_by (kind_of (op_of_mark m.mark)) (event_at constants kernel m.mark m.s) m.later (perms_of constants m.later) (hash-batch m.mark m.whole)
-      (coming_whole constants kernel limit u later) (perms_follow kernel limit u later)
+  perms_follow (chains.ends e) = λ state. refl
+  perms_follow (chains.goes m later) =
+      follows_by constants len (kind_of (op_of_mark m.mark)) (moment_event m) m.later (perms_of constants m.later) (hash-batch m.mark m.whole)
+      (coming_whole later) (perms_follow later)

@@ -39,21 +39,13 @@ deep constants (Leaving digest frame ∷ todo) blocks v = hit (3 ∷ (address_of
 -- a span that is open has further batches, and then its digest
 abbrev pub first : ℕ → List Task → List ℕ → ℕ
 first ha [] v = 0
-first ha (Block tree ∷ todo) v = 0
 first ha (Within items later digest ∷ todo) v = batches_owed ha later digest v
-first ha (Turned body ∷ todo) v = 0
-first ha (Closing digest ∷ todo) v = 0
-first ha (Returning digest frame ∷ todo) v = 0
-first ha (Leaving digest frame ∷ todo) v = 0
+first ha (task ∷ todo) v = 0
 
 pub first_none : (ha : ℕ) (todo : List Task) (v : List ℕ) → AreOutside todo → first ha todo v ≡ 0
 first_none ha [] v out = refl
-first_none ha (Block tree ∷ todo) v out = refl
 first_none ha (Within items later digest ∷ todo) v out = absurd out.0
-first_none ha (Turned body ∷ todo) v out = refl
-first_none ha (Closing digest ∷ todo) v out = refl
-first_none ha (Returning digest frame ∷ todo) v out = refl
-first_none ha (Leaving digest frame ∷ todo) v out = refl
+first_none ha (task ∷ todo) v out = refl
 
 -- what is still to be asked
 abbrev pub owed_hashes : List ℕ → List ℕ → List Task → Decoder → List Event → ℕ
@@ -89,45 +81,33 @@ asks op x y v is = ap (λ o. counted (asked_by o x y) v) is
 pub ended : (digest : List ℕ) (i j k l : ℕ) (x : List ℕ) → length digest ≡ 4 → eight x ≡ digest ++ i ∷ j ∷ k ∷ l ∷ []
     → (front x ≡ digest) × (h x 5 ≡ j)
 ended (a ∷ b ∷ c ∷ d ∷ []) i j k l x size e = (ap (take 4) e, ap (λ l. slice_index l 5) e)
-ended [] i j k l x size e = absurd (omega (arith, size))
-ended (a ∷ []) i j k l x size e = absurd (omega (arith, size))
-ended (a ∷ b ∷ []) i j k l x size e = absurd (omega (arith, size))
-ended (a ∷ b ∷ c ∷ []) i j k l x size e = absurd (omega (arith, size))
-ended (a ∷ b ∷ c ∷ d ∷ f ∷ more) i j k l x size e = absurd (omega (arith, size))
+ended digest i j k l x size e = absurd (omega (arith, size))
 
 module _ (constants : List ℕ) (len : length constants ≡ number_of_constants) (x y v : List ℕ) where
   -- the start of a block of one permutation; n is owed beside it
-  pub start_step : (op : Op) → is_start_op op ≡ true → flags.op_of x ≡ op
-      → (address : ℕ) (block : List ℕ) (others : List Perm) (n : ℕ) → IsBatch block
-      → addr y ≡ address → eight x ≡ block → address + 7 < prime
+  pub start_step : {op : Op} → is_start_op op ≡ true → flags.op_of x ≡ op
+      → {address : ℕ} {block : List ℕ} → IsBatch block → addr y ≡ address → eight x ≡ block → address + 16 < prime
+      → (others : List Perm) (n : ℕ)
       → counted (perms_given constants address (hash_perms constants (domain_of op) (block ∷ []) ++ others)) v + (0 + n)
       ≡ counted (hasher_asked x y) v + (counted (perms_given constants (address + 8) others) v
       + (0 + (hit (3 ∷ (address ⊞ 7) ∷ hashed constants (domain_of op) (block ∷ [])) v + n)))
-  start_step op starts is address block others n h behind cells low =
-      let asked : counted (hasher_asked x y) v ≡ hit (1 ∷ addr y ∷ domain_of op ∷ eight x) v
-      = asks op x y v is ∙ rw starts refl in
-      let tuple : hit (1 ∷ addr y ∷ domain_of op ∷ eight x) v ≡ hit (1 ∷ address ∷ domain_of op ∷ block) v = rw (behind, cells) refl in
-      let given = one_given constants len address (domain_of op) block others v h in
+  start_step {op = op} starts is {address = address} {block = block} whole behind cells low others n =
+      let asked : counted (hasher_asked x y) v ≡ hit (1 ∷ address ∷ domain_of op ∷ block) v
+      = asks op x y v is ∙ rw (starts, behind, cells) refl in
+      let given = one_given constants len address (domain_of op) block others v whole in
       let place : address + 7 ≡ address ⊞ 7 = omega (arith, low) in
-      let closes : hit (3 ∷ (address + 7) ∷ hashed constants (domain_of op) (block ∷ [])) v
-      ≡ hit (3 ∷ (address ⊞ 7) ∷ hashed constants (domain_of op) (block ∷ [])) v
-      = ap (λ a. hit (3 ∷ a ∷ hashed constants (domain_of op) (block ∷ [])) v) place in
-      omega (arith, asked, tuple, given, closes)
+      let closes = ap (λ a. hit (3 ∷ a ∷ hashed constants (domain_of op) (block ∷ [])) v) place in
+      omega (arith, asked, given, closes)
 
   -- the end of a block that is no span
-  pub end_step : flags.op_of x ≡ ops.End → (digest : List ℕ) (i k l address : ℕ) → length digest ≡ 4 → eight x ≡ digest ++ i ∷ 0 ∷ k ∷ l ∷ []
+  pub end_step : flags.op_of x ≡ ops.End → (digest : List ℕ) (i k l : ℕ) {address : ℕ} → length digest ≡ 4 → eight x ≡ digest ++ i ∷ 0 ∷ k ∷ l ∷ []
       → addr x ≡ address → counted (hasher_asked x y) v ≡ hit (3 ∷ (address ⊞ 7) ∷ digest) v
-  end_step is digest i k l address size cells at =
-      let shown = ended digest i 0 k l x size cells in
-      let none : h x 5 ≡ 0 = shown.1 in
-      let digest_is : front x ≡ digest = shown.0 in
-      asks ops.End x y v is ∙ rw (none, at, digest_is) refl
+  end_step is digest i k l size cells at =
+      let shown = ended digest i 0 k l x size cells in asks ops.End x y v is ∙ rw (shown.1, at, shown.0) refl
 
-  pub span_step : flags.op_of x ≡ ops.End → (digest : List ℕ) (i k l address : ℕ) → length digest ≡ 4 → eight x ≡ digest ++ i ∷ 1 ∷ k ∷ l ∷ []
-      → ha x ≡ address → address + 7 < prime → counted (hasher_asked x y) v ≡ hit (3 ∷ (address + 7) ∷ digest) v
-  span_step is digest i k l address size cells at low =
+  pub span_step : flags.op_of x ≡ ops.End → (digest : List ℕ) (i k l : ℕ) {address : ℕ} → length digest ≡ 4 → eight x ≡ digest ++ i ∷ 1 ∷ k ∷ l ∷ []
+      → ha x ≡ address → address + 16 < prime → counted (hasher_asked x y) v ≡ hit (3 ∷ (address + 7) ∷ digest) v
+  span_step is digest i k l {address = address} size cells at low =
       let shown = ended digest i 1 k l x size cells in
-      let one : h x 5 ≡ 1 = shown.1 in
-      let digest_is : front x ≡ digest = shown.0 in
       let place : address ⊞ 7 ≡ address + 7 = omega (arith, low) in
-      asks ops.End x y v is ∙ rw (one, at, digest_is) (ap (λ a. hit (3 ∷ a ∷ digest) v) place)
+      asks ops.End x y v is ∙ rw (shown.1, at, shown.0) (ap (λ a. hit (3 ∷ a ∷ digest) v) place)

@@ -1,5 +1,5 @@
 -- The digests that a run's syscalls call are words of the kernel.
-use Rattle.std.proofs.Common.{◌≡◌, ℕ, suc, ◌<◌, ◌≤◌, All, Bool, true, false, ◌||◌, nat_eq, if◌then◌else◌, List, [], ◌∷◌, ◌++◌, length, take, refl, sym, ◌∙◌, subst, arith, slice_index_or}
+use Rattle.std.proofs.Common.{◌≡◌, ℕ, suc, ◌<◌, All, Bool, true, false, ◌||◌, nat_eq, if◌then◌else◌, List, [], ◌∷◌, ◌++◌, length, take, refl, sym, ◌∙◌, subst, arith, slice_index_or}
 use Rattle.std.proofs.lemmas.List.Elements.{All-cons, All-nil}
 use Rattle.std.proofs.Common.{Equal, Less, Greater}
 use Rattle.std.specs.Cmp.Lexicographic.{slice_cmp, texts_ties}
@@ -7,11 +7,10 @@ use Rattle.std.specs.List.{list_any}
 use Rattle.std.specs.Ordering.{is_eq, nat_cmp}
 use Rattle.std.proofs.lemmas.Map.Lookups.{exact_bytes}
 use lib.Pointwise.{pointwise}
-use Rattle.vm_field.specs.Limits.{most_cycles}
 use Rattle.vm_field.specs.Machine.{Core, State, zero_word}
 use Rattle.vm_ops.specs.declared.op.Op.TheVariants as ops
 use Rattle.block_tree.specs.Behind.{IsAllowed}
-use Rattle.block_tree.specs.Cycles.{Mark, StartSyscall, Do, advice_taken}
+use Rattle.block_tree.specs.Cycles.{Mark, StartSyscall, Do}
 use Rattle.block_tree.specs.Marks.{IsWholeMark}
 use Rattle.block_tree.specs.Rows.{hash_of, op_of_mark}
 use Rattle.block_tree.specs.Steps.{Task}
@@ -22,7 +21,7 @@ use Rattle.complete_rows.specs.Chains.{AreLinked}
 use Rattle.complete_rows.specs.Decoder.{Decoder}
 use Rattle.complete_rows.specs.RunRequests.{calls_of}
 use Rattle.complete_rows.proofs.BlockLemmas.{no_block}
-use Rattle.complete_rows.proofs.MomentFacts.{known}
+use Rattle.complete_rows.proofs.MomentFacts.{advice_of, moment_allowed}
 
 -- equal element by element is the same word
 same_word : (t u : List ℕ) → pointwise nat_eq t u ≡ true → t ≡ u
@@ -48,11 +47,7 @@ word_of (w ∷ kernel) callee is = go (pointwise nat_eq callee w) refl (λ found
 
 taken_word : (callee : List ℕ) → length callee ≡ 4 → take 4 (callee ++ zero_word) ≡ callee
 taken_word (a ∷ b ∷ c ∷ d ∷ []) size = refl
-taken_word [] size = absurd (omega (arith, size))
-taken_word (a ∷ []) size = absurd (omega (arith, size))
-taken_word (a ∷ b ∷ []) size = absurd (omega (arith, size))
-taken_word (a ∷ b ∷ c ∷ []) size = absurd (omega (arith, size))
-taken_word (a ∷ b ∷ c ∷ d ∷ e ∷ more) size = absurd (omega (arith, size))
+taken_word callee size = absurd (omega (arith, size))
 
 abbrev called : Mark → List (List ℕ)
 called mark = if is_op (op_of_mark mark) ops.Syscall then take 4 (hash_of mark) ∷ [] else []
@@ -66,10 +61,9 @@ module _ (constants : List ℕ) (kernel : List (List ℕ)) where
   mark_calls (Do item) advice c allowed w words all = rw (no_block item.op w.ordinary).syscall all
   mark_calls mark advice c allowed w words all = all
 
-  pub calls_in : (limit : ℕ) (u : State) → limit ≤ most_cycles → {todo : List Task} {d : Decoder} {s : State} {events : List Event} {rows : List (List ℕ)}
+module _ {constants : List ℕ} {kernel : List (List ℕ)} where
+  pub calls_in : {limit : ℕ} {u : State} {todo : List Task} {d : Decoder} {s : State} {events : List Event} {rows : List (List ℕ)}
       → AreLinked constants kernel limit u todo d s events rows → All (IsWordOf kernel) (calls_of events)
   unfolding calls_of
-  calls_in limit u within (chains.ends e) = All-nil (IsWordOf kernel)
-  calls_in limit u within (chains.goes m later) =
-      mark_calls m.mark (take (advice_taken m.mark) m.s.tape) m.s.core (known constants kernel limit within m).allowed m.whole (calls_of m.later)
-      (calls_in limit u within later)
+  calls_in (chains.ends e) = All-nil (IsWordOf kernel)
+  calls_in (chains.goes m later) = mark_calls constants kernel m.mark (advice_of m) m.s.core (moment_allowed m) m.whole (calls_of m.later) (calls_in later)

@@ -14,10 +14,10 @@ use Rattle.air_kit.specs.Flags.{is_op}
 use Rattle.air_kit.specs.MainTuples.{front, kernel_asked}
 use Rattle.machine_cycles.specs.declared.event.Event.{Event}
 use Rattle.complete_rows.specs.Chains.{AreLinked}
-use Rattle.complete_rows.specs.Decoder.{Decoder, advance}
-use Rattle.complete_rows.specs.Moments.{IsMoment, event_at}
+use Rattle.complete_rows.specs.Decoder.{Decoder}
+use Rattle.complete_rows.specs.Moments.{IsMoment}
 use Rattle.complete_rows.specs.RunRequests.{calls_of}
-use Rattle.complete_requests.proofs.Following.{rows_ask}
+use Rattle.complete_requests.proofs.Following.{events_ask}
 use Rattle.complete_requests.proofs.MomentCells.{moment_cells}
 
 pub op_same : (a b : Op) → is_op a b ≡ true → a ≡ b
@@ -42,34 +42,23 @@ map_called : (b : Bool) (word : List ℕ) (words : List (List ℕ)) (v : List �
 map_called true word words v = counted-append (once word ∷ []) (map once words) v
 map_called false word words v = let none = counted-none v in omega (arith, none)
 
-module _ (constants : List ℕ) (kernel : List (List ℕ)) (limit : ℕ) (u : State) (v : List ℕ) where
-  abbrev owed : List Task → Decoder → List Event → ℕ
-  owed todo d events = counted (map once (calls_of events)) v
-
+module _ {constants : List ℕ} {kernel : List (List ℕ)} {limit : ℕ} (v : List ℕ) where
   row_calls : {x y : List ℕ} (m : IsMoment constants kernel limit x y)
       → counted (kernel_asked x y) v ≡ counted (map once (called (is_op (op_of_mark m.mark) ops.Syscall) (take 4 (hash_of m.mark)))) v
   unfolding kernel_asked
-  row_calls {x = x} {y = y} m =
-      let cells = moment_cells constants kernel limit m in
+  row_calls {x = x} m =
+      let cells = moment_cells m in
       ap (λ o. counted (asks (is_op o ops.Syscall) (front x)) v) cells.op
       ∙ asks_called (is_op (op_of_mark m.mark) ops.Syscall) (front x) (take 4 (hash_of m.mark)) v
       (λ is. ap (take 4) (cells.eight (syscall_opens (op_of_mark m.mark) is)))
 
-  moment_asks : (x y : List ℕ) (rows : List (List ℕ)) (m : IsMoment constants kernel limit x y)
-      → AreLinked constants kernel limit u (m.rest ++ m.todo) (advance m.d (event_at constants kernel m.mark m.s) m.later) m.t m.later (y ∷ rows)
-      → owed (m.task ∷ m.todo) m.d (event_at constants kernel m.mark m.s ∷ m.later)
-      ≡ counted (kernel_asked x y) v + owed (m.rest ++ m.todo) (advance m.d (event_at constants kernel m.mark m.s) m.later) m.later
-  unfolding calls_of
-  moment_asks x y rows m later =
-      let here = row_calls m in
-      let both = map_called (is_op (op_of_mark m.mark) ops.Syscall) (take 4 (hash_of m.mark)) (calls_of m.later) v in
-      omega (arith, here, both)
-
-  none : (d : Decoder) → owed [] d [] ≡ 0
-  unfolding calls_of
-  none d = counted-none v
-
-  pub calls_asked : {todo : List Task} {d : Decoder} {s : State} {events : List Event} {rows : List (List ℕ)}
+  pub calls_asked : {u : State} {todo : List Task} {d : Decoder} {s : State} {events : List Event} {rows : List (List ℕ)}
       → AreLinked constants kernel limit u todo d s events rows
       → over_rows (with_next kernel_asked) rows v ≡ counted (map once (calls_of events)) v
-  calls_asked linked = rows_ask constants kernel limit u kernel_asked v owed moment_asks none linked
+  unfolding calls_of
+  calls_asked linked =
+      events_ask kernel_asked v (λ events. counted (map once (calls_of events)) v) (counted-none v)
+      (λ x y rows m later.
+      let here = row_calls m in
+      let both = map_called (is_op (op_of_mark m.mark) ops.Syscall) (take 4 (hash_of m.mark)) (calls_of m.later) v in
+      omega (arith, here, both)) linked

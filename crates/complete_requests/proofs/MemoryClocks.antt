@@ -28,20 +28,19 @@ none_before clock (a ∷ accesses) rising =
     All-cons (λ a. clock ≤ a.clk) a accesses rising.0
     (none_before clock accesses (rises_from clock (a.clk + 1) accesses (let here = rising.0 in omega (arith, here)) rising.1))
 
+later_apart : {A : Type 0} (x : Access) (accesses : List Access) (j : ℕ) (a b : Access) → x.clk + 1 ≤ (slice_index_or accesses j b).clk → x ≡ a
+    → slice_index_or accesses j b ≡ b → a.clk ≡ b.clk → A
+later_apart x accesses j a b late first other same =
+    absurd (let is = ap (λ o. o.clk) first in let are = ap (λ o. o.clk) other in omega (arith, late, is, are, same))
+
 rising_apart : (clock : ℕ) (accesses : List Access) → Rising clock accesses → (i j : ℕ) (a b : Access) → slice_index_or accesses i a ≡ a
     → slice_index_or accesses j b ≡ b → a.clk ≡ b.clk → i < length accesses → j < length accesses → i ≡ j
 rising_apart clock [] rising i j a b first other same low also = absurd (omega (arith, low))
 rising_apart clock (x ∷ accesses) rising zero zero a b first other same low also = refl
 rising_apart clock (x ∷ accesses) rising zero (suc j) a b first other same low also =
-    let late : x.clk + 1 ≤ (slice_index_or accesses j b).clk = none_before (x.clk + 1) accesses rising.1 j b (omega (arith, also)) in
-    let is : x.clk ≡ a.clk = ap (λ o. o.clk) first in
-    let are : (slice_index_or accesses j b).clk ≡ b.clk = ap (λ o. o.clk) other in
-    absurd (omega (arith, late, is, are, same))
+    later_apart x accesses j a b (none_before (x.clk + 1) accesses rising.1 j b (omega (arith, also))) first other same
 rising_apart clock (x ∷ accesses) rising (suc i) zero a b first other same low also =
-    let late : x.clk + 1 ≤ (slice_index_or accesses i a).clk = none_before (x.clk + 1) accesses rising.1 i a (omega (arith, low)) in
-    let is : x.clk ≡ b.clk = ap (λ o. o.clk) other in
-    let are : (slice_index_or accesses i a).clk ≡ a.clk = ap (λ o. o.clk) first in
-    absurd (omega (arith, late, is, are, same))
+    later_apart x accesses i b a (none_before (x.clk + 1) accesses rising.1 i a (omega (arith, low))) other first (sym same)
 rising_apart clock (x ∷ accesses) rising (suc i) (suc j) a b first other same low also =
     ap suc (rising_apart (x.clk + 1) accesses rising.1 i j a b first other same (omega (arith, low)) (omega (arith, also)))
 
@@ -52,13 +51,13 @@ rises {c = c} rest (steps.nothing same) rising = rises_from c.clock (c.clock + 1
 rises rest (steps.one step) rising =
     let clk = step.clk in (omega (arith, clk), subst (λ n. Rising (n + 1) rest) (sym clk) rising)
 
-module _ (constants : List ℕ) (kernel : List (List ℕ)) (limit : ℕ) (u : State) where
+module _ {constants : List ℕ} {kernel : List (List ℕ)} {limit : ℕ} {u : State} where
   pub clocks_rise : {todo : List Task} {d : Decoder} {s : State} {events : List Event} {rows : List (List ℕ)}
       → AreLinked constants kernel limit u todo d s events rows → Rising s.core.clock (accesses_of events)
   unfolding accesses_of
   clocks_rise (chains.ends e) = tt
   clocks_rise (chains.goes m later) =
-      rises (accesses_of m.later) (mark_leaves constants kernel limit m.mark m.s m.t m.cycle)
+      rises (accesses_of m.later) (mark_leaves m.mark m.s m.t m.cycle)
       (subst (λ n. Rising n (accesses_of m.later)) (cycle-clock constants kernel limit m.mark m.s m.t m.cycle) (clocks_rise later))
 
   pub accesses_apart : {todo : List Task} {d : Decoder} {s : State} {events : List Event} {rows : List (List ℕ)}

@@ -13,16 +13,16 @@ use Rattle.machine_cycles.specs.declared.event.Event.{Event}
 use Rattle.complete_rows.specs.Chains as chains
 use Rattle.complete_rows.specs.Chains.{AreLinked}
 use Rattle.complete_rows.specs.Decoder.{Decoder}
-use Rattle.complete_rows.specs.Moments.{event_at}
 use Rattle.complete_rows.specs.RunRequests.{accesses_by, accesses_of}
+use Rattle.complete_rows.proofs.MomentFacts.{moment_event}
 use Rattle.complete_requests.proofs.MemoryClocks.{Rising, clocks_rise, none_before}
 use Rattle.complete_requests.proofs.MemorySteps as steps
-use Rattle.complete_requests.proofs.MemorySteps.{IsStep, Leaves, mark_leaves}
+use Rattle.complete_requests.proofs.MemorySteps.{Leaves, mark_leaves}
 use Rattle.complete_requests.proofs.MemoryWords.{IsAt, IsLatest, none, one_later, word_before}
 
 -- ---- one cycle
 
-module _ (c : Core) (after : WordMap) (past : List Access) where
+module _ {c : Core} {after : WordMap} (past : List Access) where
   stay_past : {accesses : List Access} → Leaves c after accesses → All (λ o. o.clk < c.clock) past
       → All (λ o. o.clk < c.clock + 1) (past ++ accesses)
   stay_past (steps.nothing same) low =
@@ -62,7 +62,7 @@ module _ (c : Core) (after : WordMap) (past : List Access) where
 
 -- ---- all cycles
 
-module _ (constants : List ℕ) (kernel : List (List ℕ)) (limit : ℕ) (u : State) where
+module _ {constants : List ℕ} {kernel : List (List ℕ)} {limit : ℕ} {u : State} where
   fits_along : {todo : List Task} {d : Decoder} {s : State} {events : List Event} {rows : List (List ℕ)}
       → AreLinked constants kernel limit u todo d s events rows → (past : List Access) → All (λ o. o.clk < s.core.clock) past
       → ((context address : ℕ) → IsLatest past context address (word_at s.core.memory context address))
@@ -70,16 +70,16 @@ module _ (constants : List ℕ) (kernel : List (List ℕ)) (limit : ℕ) (u : St
   unfolding accesses_of
   fits_along (chains.ends e) past low latest = All-nil (FitsMemory (past ++ []))
   fits_along (chains.goes m later) past low latest =
-      let here = accesses_by (op_of_mark m.mark) (event_at constants kernel m.mark m.s) in
-      let leaves = mark_leaves constants kernel limit m.mark m.s m.t m.cycle in
+      let here = accesses_by (op_of_mark m.mark) (moment_event m) in
+      let leaves = mark_leaves m.mark m.s m.t m.cycle in
       let ticks = cycle-clock constants kernel limit m.mark m.s m.t m.cycle in
       let whole = m.bounded.whole in
       let behind = fits_along later (past ++ here)
-      (subst (λ n. All (λ o. o.clk < n) (past ++ here)) (sym ticks) (stay_past m.s.core m.t.core.memory past leaves low))
-      (stay_latest m.s.core m.t.core.memory past leaves low latest) in
+      (subst (λ n. All (λ o. o.clk < n) (past ++ here)) (sym ticks) (stay_past past leaves low))
+      (stay_latest past leaves low latest) in
       All-append (FitsMemory (past ++ (here ++ accesses_of m.later))) here (accesses_of m.later)
-      (fits m.s.core m.t.core.memory past (accesses_of m.later) leaves (omega (arith, whole)) low
-      (clocks_rise constants kernel limit u (chains.goes m later)) latest)
+      (fits past (accesses_of m.later) leaves (omega (arith, whole)) low
+      (clocks_rise (chains.goes m later)) latest)
       (subst (λ l. All (FitsMemory l) (accesses_of m.later)) (append_assoc past here (accesses_of m.later)) behind)
 
   pub accesses_fit : (inputs tape : List ℕ) {todo : List Task} {d : Decoder} {events : List Event} {rows : List (List ℕ)}

@@ -45,10 +45,10 @@ record Around (op : Op) (sn : Seen) (c : Core) (e : Event) (after : WordMap) : T
 abbrev accessed : ℕ → Event → Access
 accessed kind e = record { kind = kind; ctx = e.before.context; addr = slice_index e.before.cells 0; clk = e.before.clock; word = e.word }
 
-module _ (sn : Seen) (c : Core) (e : Event) (after : WordMap) where
-  access_step : (op : Op) (kind : ℕ) → Around op sn c e after → accesses_memory op ≡ true → kind ≤ 2 → (kind ≡ 0 → written op sn ≡ None)
+module _ {sn : Seen} {c : Core} {e : Event} {after : WordMap} where
+  access_step : {op : Op} (kind : ℕ) → Around op sn c e after → accesses_memory op ≡ true → kind ≤ 2 → (kind ≡ 0 → written op sn ≡ None)
       → (kind ≡ 2 → drop 1 (unwrap_or (written op sn) sn.word) ≡ drop 1 sn.word) → IsStep c after (accessed kind e)
-  access_step op kind around is few reads keeps =
+  access_step {op = op} kind around is few reads keeps =
       let word : e.word ≡ unwrap_or (written op sn) sn.word = around.word is in
       let before : word_at c.memory e.before.context (slice_index e.before.cells 0) ≡ sn.word
       = rw (around.context, around.address) (sym around.seen) in
@@ -66,23 +66,23 @@ module _ (sn : Seen) (c : Core) (e : Event) (after : WordMap) where
       }
 
   op_leaves : (op : Op) → Around op sn c e after → Leaves c after (accesses_by op e)
-  op_leaves ops.MLoad around = one (access_step ops.MLoad 0 around refl (lit≤ tt) (λ k. refl) (λ k. refl))
-  op_leaves ops.MLoadW around = one (access_step ops.MLoadW 0 around refl (lit≤ tt) (λ k. refl) (λ k. refl))
-  op_leaves ops.MStore around = one (access_step ops.MStore 2 around refl (lit≤ tt) (λ k. absurd (omega (arith, k))) (λ k. refl))
+  op_leaves ops.MLoad around = one (access_step 0 around refl (lit≤ tt) (λ k. refl) (λ k. refl))
+  op_leaves ops.MLoadW around = one (access_step 0 around refl (lit≤ tt) (λ k. refl) (λ k. refl))
+  op_leaves ops.MStore around = one (access_step 2 around refl (lit≤ tt) (λ k. absurd (omega (arith, k))) (λ k. refl))
   op_leaves ops.MStoreW around =
-      one (access_step ops.MStoreW 1 around refl (lit≤ tt) (λ k. absurd (omega (arith, k))) (λ k. absurd (omega (arith, k))))
+      one (access_step 1 around refl (lit≤ tt) (λ k. absurd (omega (arith, k))) (λ k. absurd (omega (arith, k))))
   op_leaves op around = nothing around.memory
 
-module _ (constants : List ℕ) (kernel : List (List ℕ)) (limit : ℕ) where
+module _ {constants : List ℕ} {kernel : List (List ℕ)} {limit : ℕ} where
   pub mark_leaves : (mark : Mark) (s t : State) → IsCycle constants kernel limit mark s t
       → Leaves s.core t.core.memory (accesses_by (op_of_mark mark) (event_at constants kernel mark s))
   mark_leaves (Do item) s t cycle =
-      op_leaves (seen_at constants item s) s.core (event_at constants kernel (Do item) s) t.core.memory item.op (record {
+      op_leaves {sn = seen_at constants item s} item.op (record {
         clock = refl;
         context = refl;
         address = get_or-take 16 s.core.stack 0 0 (lit< tt);
         seen = refl;
-        memory = memory_behind constants kernel limit item s t cycle;
-        word = event_word constants kernel limit item s t cycle;
+        memory = memory_behind cycle;
+        word = event_word cycle;
       })
-  mark_leaves mark s t cycle = nothing (ap (λ c. c.memory) (core_after constants kernel limit mark s t cycle))
+  mark_leaves mark s t cycle = nothing (ap (λ c. c.memory) (core_after cycle))

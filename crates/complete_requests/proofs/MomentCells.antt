@@ -1,12 +1,12 @@
 -- What a moment's row and the row behind it show of hashes.
-use Rattle.std.proofs.Common.{◌≡◌, ℕ, ◌<◌, false, List, ◌∷◌, length, take, slice_index, sym, ◌∙◌, arith, lit<}
+use Rattle.std.proofs.Common.{◌≡◌, ℕ, ◌<◌, false, List, ◌∷◌, length, slice_index, sym, ◌∙◌, arith, lit<}
 use Rattle.std.proofs.lemmas.List.{ext_get_or}
 use Rattle.vm_field.specs.Machine.{Core}
 use Rattle.vm_ops.specs.Codes.{is_ordinary_op}
 use Rattle.vm_table.specs.MainColumns.{h}
-use Rattle.block_tree.specs.Cycles.{Mark, StartOpaque, StartSpan, StartJoin, StartSplit, StartLoop, StartCall, StartSyscall, StartDyn, Respan, Repeat, Do, End, EndSpan, EndLoop, EndCall, EndSyscall, advice_taken, effect_of}
+use Rattle.block_tree.specs.Cycles.{Mark, Do}
 use Rattle.block_tree.specs.Marks.{IsWholeMark}
-use Rattle.block_tree.specs.Rows.{behind, hash_of, op_of_mark}
+use Rattle.block_tree.specs.Rows.{hash_of, op_of_mark}
 use Rattle.block_tree.proofs.RowLemmas.{hash-batch}
 use Rattle.air_kit.specs.MainTuples.{eight}
 use Rattle.machine_cycles.specs.Events.{shown_between}
@@ -14,10 +14,10 @@ use Rattle.facts_main.proofs.Says.{never}
 use Rattle.complete_rows.specs.Decoder.{Decoder, advance}
 use Rattle.complete_rows.specs.Filling.{hash_by}
 use Rattle.vm_ops.specs.Codes.{kind_of}
-use Rattle.complete_rows.specs.Moments.{IsMoment, event_at}
+use Rattle.complete_rows.specs.Moments.{IsMoment}
 use Rattle.complete_rows.proofs.ColumnLemmas.{below_eight}
 use Rattle.complete_rows.proofs.LineLemmas.{ha_low, next_low}
-use Rattle.complete_rows.proofs.MomentFacts.{moment_hash, moment_op, moment_shows, place_shows}
+use Rattle.complete_rows.proofs.MomentFacts.{advice_of, moment_behind, moment_event, moment_hash, moment_op, moment_shows, place_shows}
 use Rattle.complete_requests.proofs.HasherBus.{IsLow}
 use Rattle.complete_requests.proofs.HasherSteps.{Cells}
 
@@ -32,42 +32,25 @@ eight_are xs x size cells =
 mark_hash : (mark : Mark) → IsWholeMark mark → (d : Decoder) (advice : List ℕ) (c b : Core) (x : List ℕ)
     → ((j : ℕ) → j < 8 → h x j ≡ slice_index (hash_by (kind_of (op_of_mark mark)) d (shown_between mark advice c b)) j)
     → is_ordinary_op (op_of_mark mark) ≡ false → (j : ℕ) → j < 8 → h x j ≡ slice_index (hash_of mark) j
-mark_hash StartOpaque w d advice c b x cells is = cells
-mark_hash (StartSpan batch) w d advice c b x cells is = cells
-mark_hash (StartJoin one other) w d advice c b x cells is = cells
-mark_hash (StartSplit one other) w d advice c b x cells is = cells
-mark_hash (StartLoop body) w d advice c b x cells is = cells
-mark_hash (StartCall callee) w d advice c b x cells is = cells
-mark_hash (StartSyscall callee) w d advice c b x cells is = cells
-mark_hash (StartDyn known) w d advice c b x cells is = cells
-mark_hash (Respan batch) w d advice c b x cells is = cells
-mark_hash (Repeat body) w d advice c b x cells is = cells
 mark_hash (Do item) w d advice c b x cells is = never (sym w.ordinary ∙ is)
-mark_hash (End digest) w d advice c b x cells is = cells
-mark_hash (EndSpan digest) w d advice c b x cells is = cells
-mark_hash (EndLoop digest) w d advice c b x cells is = cells
-mark_hash (EndCall digest frame) w d advice c b x cells is = cells
-mark_hash (EndSyscall digest frame) w d advice c b x cells is = cells
+mark_hash mark w d advice c b x cells is = cells
 
-module _ (constants : List ℕ) (kernel : List (List ℕ)) (limit : ℕ) {x y : List ℕ} (m : IsMoment constants kernel limit x y) where
+module _ {constants : List ℕ} {kernel : List (List ℕ)} {limit : ℕ} {x y : List ℕ} (m : IsMoment constants kernel limit x y) where
   pub moment_eight : is_ordinary_op (op_of_mark m.mark) ≡ false → eight x ≡ hash_of m.mark
-  moment_eight is =
-      eight_are (hash_of m.mark) x (hash-batch m.mark m.whole).size
-      (mark_hash m.mark m.whole m.d (take (advice_taken m.mark) m.s.tape) m.s.core
-      (behind (effect_of constants kernel m.mark (take (advice_taken m.mark) m.s.tape) m.s.core) m.s.core) x
-      (moment_hash constants kernel limit m) is)
+  moment_eight is = eight_are (hash_of m.mark) x (hash-batch m.mark m.whole).size
+      (mark_hash m.mark m.whole m.d (advice_of m) m.s.core (moment_behind m) x (moment_hash m) is)
 
-  pub moment_cells : Cells m.mark m.d (advance m.d (event_at constants kernel m.mark m.s) m.later) x y
+  pub moment_cells : Cells m.mark m.d (advance m.d (moment_event m) m.later) x y
   moment_cells = record {
-    op = moment_op constants kernel limit m;
+    op = moment_op m;
     eight = moment_eight;
-    address = (moment_shows constants kernel limit m).address;
-    behind = (place_shows constants m.next).address;
-    batch = (moment_shows constants kernel limit m).batch;
+    address = (moment_shows m).address;
+    behind = (place_shows m.next).address;
+    batch = (moment_shows m).batch;
   }
 
   pub moment_low : IsLow m.d
   moment_low = record {
-    next = (let low = next_low m.d m.s.core.clock (event_at constants kernel m.mark m.s ∷ m.later) m.bounded in omega (arith, low));
-    ha = (let low = ha_low m.d m.s.core.clock (event_at constants kernel m.mark m.s ∷ m.later) m.bounded in omega (arith, low));
+    next = omega (arith, next_low m.d m.s.core.clock (moment_event m ∷ m.later) m.bounded);
+    ha = omega (arith, ha_low m.d m.s.core.clock (moment_event m ∷ m.later) m.bounded);
   }

@@ -1,11 +1,8 @@
 -- What the inputs and the rows of a run give of overflow is what the rows and the cells that are left ask.
-use Rattle.std.proofs.Common.{◌≡◌, ℕ, ◌+◌, ◌-◌, ◌≤◌, List, [], ◌∷◌, ◌++◌, length, map, take, drop, refl, sym, ap, ◌∙◌, subst, arith, lit<}
+use Rattle.std.proofs.Common.{◌≡◌, ℕ, ◌+◌, ◌-◌, List, [], ◌∷◌, ◌++◌, length, map, drop, refl, sym, ap, ◌∙◌, subst, arith, lit<}
 use Rattle.std.proofs.lemmas.List.{length-drop}
-use Rattle.vm_field.specs.Limits.{most_cycles, number_of_constants}
+use Rattle.vm_field.specs.Limits.{number_of_constants}
 use Rattle.vm_field.specs.Machine.{State, start}
-use Rattle.block_tree.specs.Cycles.{advice_taken, effect_of}
-use Rattle.block_tree.specs.Execution as run
-use Rattle.block_tree.specs.Rows.{behind}
 use Rattle.block_tree.specs.Steps.{Block, IsCycle}
 use Rattle.block_tree.specs.Trees.{Tree}
 use Rattle.block_tree.proofs.KeptLemmas.{cycle-step}
@@ -15,57 +12,49 @@ use Rattle.air_kit.specs.DeepCells.{cell_tuples, keys_at_start}
 use Rattle.air_kit.specs.MainTuples.{overflow_asked, overflow_given}
 use Rattle.chip_columns.specs.LeftColumns as left
 use Rattle.machine_cycles.specs.declared.event.Event.{Event}
-use Rattle.complete_rows.specs.BlockRows.{IsWholeRun, filled, keys_of}
+use Rattle.complete_rows.specs.BlockRows.{filled, keys_of}
 use Rattle.complete_rows.specs.Chains.{AreLinked}
 use Rattle.complete_rows.specs.Decoder.{advance, at_start, decoder_after}
-use Rattle.complete_rows.specs.Moments.{IsMoment, event_at}
-use Rattle.complete_rows.proofs.ChainLemmas.{balanced, over_rows_pairs}
-use Rattle.complete_rows.proofs.MomentFacts.{core_after, known, moment_op, moment_shows, place_shows}
-use Rattle.complete_rows.proofs.TableLemmas.{is_linked}
-use Rattle.complete_requests.specs.Overflow.{OverflowIsEven}
+use Rattle.complete_rows.specs.Moments.{IsMoment}
+use Rattle.complete_rows.proofs.ChainLemmas.{bus_balanced}
+use Rattle.complete_rows.proofs.MomentFacts.{advice_of, core_after, moment_allowed, moment_behind, moment_event, moment_op, moment_shows, place_shows}
+use Rattle.complete_rows.proofs.TableLemmas.{linked}
+use Rattle.complete_requests.specs.Overflow.{RunKeepsOverflow}
 use Rattle.complete_requests.proofs.LeftTable.{table_asks}
 use Rattle.complete_requests.proofs.MomentCells.{moment_eight}
 use Rattle.complete_requests.proofs.OverflowBus.{overflow_step}
-use Rattle.complete_requests.proofs.OverflowSteps.{StackCells, owed_cells}
+use Rattle.complete_requests.proofs.OverflowSteps.{owed_cells}
 
-module _ (constants : List ℕ) (len : length constants ≡ number_of_constants) (kernel : List (List ℕ)) (limit : ℕ) (within : limit ≤ most_cycles) where
-  stack_cells : {x y : List ℕ} (m : IsMoment constants kernel limit x y)
-      → StackCells m.mark m.s.core m.t.core.stack m.d (advance m.d (event_at constants kernel m.mark m.s) m.later) x y
-  stack_cells m =
-      let here = moment_shows constants kernel limit m in
-      let there = place_shows constants m.next in
-      record {
-        op = moment_op constants kernel limit m;
+module _ {constants : List ℕ} (len : length constants ≡ number_of_constants) {kernel : List (List ℕ)} {limit : ℕ} (v : List ℕ) where
+  moment_even : {x y : List ℕ} (m : IsMoment constants kernel limit x y)
+      → counted (overflow_given x y) v + owed_cells v (m.task ∷ m.todo) m.d m.s.core.stack
+      ≡ counted (overflow_asked x y) v + owed_cells v (m.rest ++ m.todo) (advance m.d (moment_event m) m.later) m.t.core.stack
+  moment_even m =
+      let here = moment_shows m in
+      let there = place_shows m.next in
+      overflow_step kernel (advice_of m) v m.first m.d m.later m.todo (moment_behind m) m.t.core.stack m.whole (moment_allowed m)
+      (ap (λ c. c.stack) (core_after m.cycle))
+      (λ item is. step-below constants item m.s m.t len m.before
+      (cycle-step constants kernel limit item m.s m.t (subst (λ mark. IsCycle constants kernel limit mark m.s m.t) is m.cycle)))
+      m.agrees.keyed (record {
+        op = moment_op m;
         clock = here.clock;
         last = here.cells 15 (lit< tt);
         deep = here.deep;
         key_is = here.key_is;
         behind = there.cells 15 (lit< tt);
         key_behind = there.key_is;
-        eight = moment_eight constants kernel limit m;
-      }
+        eight = moment_eight m;
+      })
 
-  moment_even : (v x y : List ℕ) (m : IsMoment constants kernel limit x y)
-      → counted (overflow_given x y) v + owed_cells v (m.task ∷ m.todo) m.d m.s.core.stack
-      ≡ counted (overflow_asked x y) v + owed_cells v (m.rest ++ m.todo) (advance m.d (event_at constants kernel m.mark m.s) m.later) m.t.core.stack
-  moment_even v x y m =
-      overflow_step constants kernel (take (advice_taken m.mark) m.s.tape) x y v m.first m.d m.later m.todo
-      (behind (effect_of constants kernel m.mark (take (advice_taken m.mark) m.s.tape) m.s.core) m.s.core) m.t.core.stack m.whole
-      (known constants kernel limit within m).allowed (ap (λ c. c.stack) (core_after constants kernel limit m.mark m.s m.t m.cycle))
-      (λ item is. step-below constants item m.s m.t len m.before
-      (cycle-step constants kernel limit item m.s m.t (subst (λ mark. IsCycle constants kernel limit mark m.s m.t) is m.cycle)))
-      m.agrees.keyed (stack_cells m)
-
-  rows_even : (u : State) (deep : ℕ) {tree : Tree} {s : State} {events : List Event} {rows : List (List ℕ)}
-      → AreLinked constants kernel limit u (Block tree ∷ []) (at_start deep) s events rows → (v : List ℕ)
+  rows_even : {u : State} (deep : ℕ) {tree : Tree} {s : State} {events : List Event} {rows : List (List ℕ)}
+      → AreLinked constants kernel limit u (Block tree ∷ []) (at_start deep) s events rows
       → counted (cell_tuples (keys_at_start deep) (drop 16 s.core.stack)) v + over_rows (with_next overflow_given) rows v
       ≡ over_rows (with_next overflow_asked) rows v + counted (cell_tuples (decoder_after (at_start deep) events).keys (drop 16 u.core.stack)) v
-  rows_even u deep {s = s} {events = events} {rows = rows} linked v =
-      let whole = balanced constants kernel limit (λ x y. counted (overflow_given x y) v) (λ x y. counted (overflow_asked x y) v)
-      (λ todo d t later. owed_cells v todo d t.core.stack) (λ x y m. moment_even v x y m) linked in
-      let given = over_rows_pairs overflow_given v rows in
-      let asked = over_rows_pairs overflow_asked v rows in
-      omega (arith, whole, given, asked)
+  rows_even deep linked =
+      let whole = bus_balanced overflow_given overflow_asked v (λ todo d t later. owed_cells v todo d t.core.stack)
+      (λ x y rows m later. moment_even m) linked in
+      omega (arith, whole)
 
 -- what is owed at the start are the inputs below the sixteenth
 starts_with : (inputs tape : List ℕ)
@@ -76,10 +65,7 @@ starts_with inputs tape =
     ap (cell_tuples (keys_at_start (length inputs - 16))) (drop-filled_up inputs)
     ∙ ap (λ n. cell_tuples (keys_at_start n) (drop 16 inputs)) (sym (length-drop 16 inputs))
 
-pub overflow_is_even : (constants : List ℕ) (kernel : List (List ℕ)) (limit : ℕ) (tree : Tree) (inputs tape : List ℕ) (u : State)
-    (log : List run.Event)
-    → IsWholeRun constants kernel limit tree inputs tape u log
-    → OverflowIsEven (filled constants kernel u log) inputs (keys_of constants kernel inputs log) u
+pub overflow_is_even : RunKeepsOverflow
 overflow_is_even constants kernel limit tree inputs tape u log r =
     let even : (v : List ℕ)
     → counted (cell_tuples (keys_at_start (length (drop 16 inputs))) (drop 16 inputs)) v
@@ -91,9 +77,7 @@ overflow_is_even constants kernel limit tree inputs tape u log r =
     (λ cells. counted cells v + over_rows (with_next overflow_given) (filled constants kernel u log) v
     ≡ over_rows (with_next overflow_asked) (filled constants kernel u log) v
     + counted (cell_tuples (keys_of constants kernel inputs log) (drop 16 u.core.stack)) v)
-    (starts_with inputs tape)
-    (rows_even constants r.constants_are kernel limit r.within u (length inputs - 16)
-    (is_linked constants kernel limit tree inputs tape u log r) v) in
+    (starts_with inputs tape) (rows_even r.constants_are v (length inputs - 16) (linked r)) in
     record {
       cells = even;
       table = λ k others given outputs keys v.

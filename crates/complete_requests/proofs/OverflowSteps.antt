@@ -1,5 +1,5 @@
 -- What a cycle gives and was owed of overflow is what it asks and what is owed behind it.
-use Rattle.std.proofs.Common.{◌≡◌, ℕ, ◌+◌, ◌≤◌, true, false, List, [], ◌∷◌, ◌++◌, length, drop, slice_index, refl, sym, ap, ◌∙◌, arith}
+use Rattle.std.proofs.Common.{◌≡◌, ℕ, ◌+◌, ◌≤◌, ◌||◌, true, false, cond, eqb, List, [], ◌∷◌, ◌++◌, length, drop, slice_index, refl, sym, ap, ap₂, ◌∙◌, arith}
 use Rattle.std.proofs.lemmas.List.{drop-drop, drop_at}
 use Rattle.vm_field.specs.Machine.{Core, filled_up}
 use Rattle.vm_ops.specs.Codes.{is_ordinary_op}
@@ -19,8 +19,8 @@ use Rattle.air_kit.specs.DeepCells.{cell_tuples, key_of}
 use Rattle.air_kit.specs.Flags as flags
 use Rattle.air_kit.specs.Flags.{is_left, is_op, is_right, is_shift}
 use Rattle.air_kit.specs.MainTuples.{eight, overflow_asked, overflow_given}
-use Rattle.complete_rows.specs.Decoder.{Decoder, Open, hidden_of, keys_after}
-use Rattle.complete_rows.proofs.AgreeLemmas.{has_flags}
+use Rattle.complete_rows.specs.Decoder.{Decoder, Open, hidden_of, keys_after, keys_behind}
+use Rattle.complete_rows.proofs.AgreeLemmas.{end_keys, has_flags}
 use Rattle.complete_requests.proofs.Chains.{hit}
 use Rattle.complete_requests.proofs.OverflowCells.{asked_by, no_tuples, given_by, no_keys, popped_cells, pops, pushes, taken_cell}
 
@@ -50,51 +50,82 @@ pub record StackCells (mark : Mark) (c : Core) (stack : List ℕ) (d after : Dec
   pub eight : is_ordinary_op (op_of_mark mark) ≡ false → eight x ≡ hash_of mark
 
 module _ (x y v : List ℕ) where
-  pub none_given : (op : Op) → flags.op_of x ≡ op → is_right op ≡ false → counted (overflow_given x y) v ≡ 0
-  none_given op is stays = given_by op x y v is ∙ rw stays (counted-none v)
+  pub none_given : {op : Op} → flags.op_of x ≡ op → is_right op ≡ false → counted (overflow_given x y) v ≡ 0
+  none_given {op = op} is stays = given_by op x y v is ∙ rw stays (counted-none v)
 
-  pub none_asked : (op : Op) → flags.op_of x ≡ op → is_left op ≡ false → is_op op ops.End ≡ false → counted (overflow_asked x y) v ≡ 0
-  none_asked op is stays other = asked_by op x y v is ∙ rw (stays, other) (counted-none v)
+  none_asked : {op : Op} → flags.op_of x ≡ op → is_left op ≡ false → is_op op ops.End ≡ false → counted (overflow_asked x y) v ≡ 0
+  none_asked {op = op} is stays other = asked_by op x y v is ∙ rw (stays, other) (counted-none v)
 
-  pub end_keeps : flags.op_of x ≡ ops.End → h x 4 ≡ 0 → counted (overflow_asked x y) v ≡ 0
+  end_keeps : flags.op_of x ≡ ops.End → h x 4 ≡ 0 → counted (overflow_asked x y) v ≡ 0
   end_keeps is none = asked_by ops.End x y v is ∙ rw none (counted-none v)
 
-  pub left_asked : (op : Op) → flags.op_of x ≡ op → is_left op ≡ true
+  pub left_asked : {op : Op} → flags.op_of x ≡ op → is_left op ≡ true
       → counted (overflow_asked x y) v ≡ counted (taken_cell (depth x) (key x) (s y 15) (key y)) v
-  left_asked op is left = asked_by op x y v is ∙ rw left refl
+  left_asked {op = op} is left = asked_by op x y v is ∙ rw left refl
 
-  pub loop_asked : flags.op_of x ≡ ops.End → h x 4 ≡ 1 → counted (overflow_asked x y) v ≡ counted (taken_cell (depth x) (key x) (s y 15) (key y)) v
+  loop_asked : flags.op_of x ≡ ops.End → h x 4 ≡ 1 → counted (overflow_asked x y) v ≡ counted (taken_cell (depth x) (key x) (s y 15) (key y)) v
   loop_asked is one = asked_by ops.End x y v is ∙ rw one refl
 
-  -- the stack stays, and the keys do
-  pub quiet : (stack after : List ℕ) (keys new : List ℕ) → after ≡ stack → new ≡ keys
-      → counted (cell_tuples new (drop 16 after)) v ≡ counted (cell_tuples keys (drop 16 stack)) v
-  quiet stack after keys new is same = rw (is, same) refl
+  -- a row that gives and asks nothing, where the stack and the keys stay; n is owed beside them
+  pub quiet : {op : Op} {stack after keys new : List ℕ} → flags.op_of x ≡ op → is_right op ≡ false → is_left op ≡ false
+      → is_op op ops.End ≡ false → after ≡ stack → new ≡ keys → (n : ℕ)
+      → counted (overflow_given x y) v + (counted (cell_tuples keys (drop 16 stack)) v + n)
+      ≡ counted (overflow_asked x y) v + (counted (cell_tuples new (drop 16 after)) v + n)
+  quiet op no_right no_left no_end is same n = rw (is, same, none_given op no_right, none_asked op no_left no_end) refl
 
-  -- the call's cells come back
-  pub come_back : (keys back stack hidden after new : List ℕ) → length keys + 16 ≡ length stack → length stack ≤ 16
-      → after ≡ stack ++ hidden → new ≡ back
-      → counted (cell_tuples new (drop 16 after)) v ≡ counted (cell_tuples keys (drop 16 stack)) v + counted (cell_tuples back hidden) v
-  come_back keys back stack hidden after new keyed flat is same =
-      let none : keys ≡ [] = no_keys keys stack keyed flat in
-      let before : counted (cell_tuples keys (drop 16 stack)) v ≡ 0 = rw none (no_tuples (drop 16 stack) v) in
-      let cells : drop 16 after ≡ hidden = ap (drop 16) is ∙ drop_at stack hidden 16 (omega (arith, keyed, flat)) in
-      let behind : counted (cell_tuples new (drop 16 after)) v ≡ counted (cell_tuples back hidden) v = rw (cells, same) refl in
-      omega (arith, before, behind)
+  -- a call hides the cells
+  pub hides : {op : Op} → flags.op_of x ≡ op → is_right op ≡ false → is_left op ≡ false → is_op op ops.End ≡ false
+      → (stack after keys : List ℕ) (n : ℕ)
+      → counted (overflow_given x y) v + (counted (cell_tuples keys (drop 16 stack)) v + n)
+      ≡ counted (overflow_asked x y) v + (counted (cell_tuples [] (drop 16 after)) v + (counted (cell_tuples keys (drop 16 stack)) v + n))
+  hides op no_right no_left no_end stack after keys n =
+      omega (arith, none_given op no_right, none_asked op no_left no_end, no_tuples (drop 16 after) v)
+
+  flag_of_loop : (digest : List ℕ) (i j k l : ℕ) → length digest ≡ 4 → eight x ≡ digest ++ i ∷ j ∷ k ∷ l ∷ [] → h x 4 ≡ i
+  flag_of_loop digest i j k l size e = ap (λ xs. slice_index xs 4) e ∙ (has_flags digest i j k l size).loop
+
+  -- the END of a block that keeps the stack
+  pub ends_quietly : {stack after : List ℕ} (d : Decoder) (digest : List ℕ) (j : ℕ) → flags.op_of x ≡ ops.End
+      → eight x ≡ digest ++ 0 ∷ j ∷ 0 ∷ 0 ∷ [] → length digest ≡ 4 → after ≡ stack → (n : ℕ)
+      → counted (overflow_given x y) v + (counted (cell_tuples d.keys (drop 16 stack)) v + n)
+      ≡ counted (overflow_asked x y) v + (counted (cell_tuples (keys_behind (digest ++ 0 ∷ j ∷ 0 ∷ 0 ∷ []) d) (drop 16 after)) v + n)
+  ends_quietly d digest j op cells size is n =
+      rw (is, end_keys digest 0 j 0 0 d size, none_given op refl, end_keeps op (flag_of_loop digest 0 j 0 0 size cells)) refl
+
+  -- the END of a call, which brings the cells back
+  pub comes_back : (stack after cells : List ℕ) (d : Decoder) (digest : List ℕ) (k l : ℕ) → flags.op_of x ≡ ops.End
+      → eight x ≡ digest ++ 0 ∷ 0 ∷ k ∷ l ∷ [] → length digest ≡ 4 → eqb k 1 || eqb l 1 ≡ true
+      → length d.keys + 16 ≡ length stack → length stack ≤ 16 → after ≡ stack ++ cells → (n : ℕ)
+      → counted (overflow_given x y) v + (counted (cell_tuples d.keys (drop 16 stack)) v + (counted (cell_tuples (hidden_of d.blocks) cells) v + n))
+      ≡ counted (overflow_asked x y) v + (counted (cell_tuples (keys_behind (digest ++ 0 ∷ 0 ∷ k ∷ l ∷ []) d) (drop 16 after)) v + n)
+  comes_back stack after cells d digest k l op hash size call keyed flat is n =
+      let before : counted (cell_tuples d.keys (drop 16 stack)) v ≡ 0 = rw (no_keys d.keys stack keyed flat) (no_tuples (drop 16 stack) v) in
+      let moved : drop 16 after ≡ cells = ap (drop 16) is ∙ drop_at stack cells 16 (omega (arith, keyed, flat)) in
+      let back : keys_behind (digest ++ 0 ∷ 0 ∷ k ∷ l ∷ []) d ≡ hidden_of d.blocks
+      = end_keys digest 0 0 k l d size ∙ ap (λ b. cond b (hidden_of d.blocks) d.keys) call in
+      let behind = ap₂ (λ keys cs. counted (cell_tuples keys cs) v) back moved in
+      omega (arith, before, behind, none_given op refl, end_keeps op (flag_of_loop digest 0 0 k l size hash))
 
   -- a condition is popped
-  pub condition : (op : Op) (mark : Mark) (c : Core) (stack : List ℕ) (d after : Decoder) → StackCells mark c stack d after x y → flags.op_of x ≡ op
-      → is_right op ≡ false → counted (overflow_asked x y) v ≡ counted (taken_cell (depth x) (key x) (s y 15) (key y)) v
-      → after.keys ≡ drop 1 d.keys → stack ≡ filled_up (drop 1 c.stack) → length d.keys + 16 ≡ length c.stack
-      → counted (overflow_given x y) v + counted (cell_tuples d.keys (drop 16 c.stack)) v
-      ≡ counted (overflow_asked x y) v + counted (cell_tuples after.keys (drop 16 stack)) v
-  condition op mark c stack d after cells is stays asked keys popped keyed =
-      let given = none_given op is stays in
+  pub condition : {op : Op} {mark : Mark} {c : Core} {stack : List ℕ} {d after : Decoder} → StackCells mark c stack d after x y
+      → flags.op_of x ≡ op → is_right op ≡ false
+      → counted (overflow_asked x y) v ≡ counted (taken_cell (depth x) (key x) (s y 15) (key y)) v
+      → after.keys ≡ drop 1 d.keys → stack ≡ filled_up (drop 1 c.stack) → length d.keys + 16 ≡ length c.stack → (n : ℕ)
+      → counted (overflow_given x y) v + (counted (cell_tuples d.keys (drop 16 c.stack)) v + n)
+      ≡ counted (overflow_asked x y) v + (counted (cell_tuples after.keys (drop 16 stack)) v + n)
+  condition {c = c} {stack = stack} {d = d} cells is stays asked keys popped keyed n =
       let moved = pops d.keys c.stack stack (depth x) (key x) (s y 15) (key y) v keyed (popped_cells c.stack stack popped) cells.deep cells.key_is
       cells.behind (cells.key_behind ∙ ap key_of keys) in
-      let behind : counted (cell_tuples after.keys (drop 16 stack)) v ≡ counted (cell_tuples (drop 1 d.keys) (drop 16 stack)) v
-      = ap (λ k. counted (cell_tuples k (drop 16 stack)) v) keys in
-      omega (arith, given, asked, moved, behind)
+      let behind = ap (λ k. counted (cell_tuples k (drop 16 stack)) v) keys in
+      omega (arith, none_given is stays, asked, moved, behind)
+
+  pub loop_ends_so : {mark : Mark} {c : Core} {stack : List ℕ} {d after : Decoder} (digest : List ℕ) → StackCells mark c stack d after x y
+      → flags.op_of x ≡ ops.End → eight x ≡ digest ++ 1 ∷ 0 ∷ 0 ∷ 0 ∷ [] → length digest ≡ 4
+      → after.keys ≡ keys_behind (digest ++ 1 ∷ 0 ∷ 0 ∷ 0 ∷ []) d → stack ≡ filled_up (drop 1 c.stack) → length d.keys + 16 ≡ length c.stack → (n : ℕ)
+      → counted (overflow_given x y) v + (counted (cell_tuples d.keys (drop 16 c.stack)) v + n)
+      ≡ counted (overflow_asked x y) v + (counted (cell_tuples after.keys (drop 16 stack)) v + n)
+  loop_ends_so {d = d} digest cells is hash size keys =
+      condition cells is refl (loop_asked is (flag_of_loop digest 1 0 0 0 size hash)) (keys ∙ end_keys digest 1 0 0 0 d size)
 
   -- an operation of a shift
   pub shifted : (op : Op) (shift : Shift) → shift_of op ≡ shift → (mark : Mark) (c : Core) (stack : List ℕ) (d after : Decoder)
@@ -103,28 +134,17 @@ module _ (x y v : List ℕ) where
       → counted (overflow_given x y) v + counted (cell_tuples d.keys (drop 16 c.stack)) v
       ≡ counted (overflow_asked x y) v + counted (cell_tuples after.keys (drop 16 stack)) v
   shifted op Right e mark c stack d after cells is other below keys keyed =
-      let asked = none_asked op is (ap (is_shift Left) e) other in
       let right : is_right op ≡ true = ap (is_shift Right) e in
       let given : counted (overflow_given x y) v ≡ hit (c.clock ∷ s x 15 ∷ key x ∷ []) v
       = given_by op x y v is ∙ rw (right, cells.clock) refl in
       let moved = pushes d.keys c.stack stack c.clock (key x) (s x 15) v below cells.key_is cells.last in
-      let behind : counted (cell_tuples after.keys (drop 16 stack)) v ≡ counted (cell_tuples (c.clock ∷ d.keys) (drop 16 stack)) v
-      = ap (λ k. counted (cell_tuples k (drop 16 stack)) v) keys in
-      omega (arith, asked, given, moved, behind)
+      let behind = ap (λ k. counted (cell_tuples k (drop 16 stack)) v) keys in
+      omega (arith, none_asked is (ap (is_shift Left) e) other, given, moved, behind)
   shifted op Stay e mark c stack d after cells is other below keys keyed =
-      let asked = none_asked op is (ap (is_shift Left) e) other in
-      let given = none_given op is (ap (is_shift Right) e) in
-      let behind : counted (cell_tuples after.keys (drop 16 stack)) v ≡ counted (cell_tuples d.keys (drop 16 c.stack)) v = rw (keys, below) refl in
-      omega (arith, asked, given, behind)
+      rw (none_asked is (ap (is_shift Left) e) other, none_given is (ap (is_shift Right) e), keys, below) refl
   shifted op Left e mark c stack d after cells is other below keys keyed =
-      let asked = left_asked op is (ap (is_shift Left) e) in
-      let given = none_given op is (ap (is_shift Right) e) in
       let moved = pops d.keys c.stack stack (depth x) (key x) (s y 15) (key y) v keyed
       (record { below = below.0 ∙ sym (drop-drop 1 16 c.stack); last = below.1 }) cells.deep cells.key_is cells.behind
       (cells.key_behind ∙ ap key_of keys) in
-      let behind : counted (cell_tuples after.keys (drop 16 stack)) v ≡ counted (cell_tuples (drop 1 d.keys) (drop 16 stack)) v
-      = ap (λ k. counted (cell_tuples k (drop 16 stack)) v) keys in
-      omega (arith, asked, given, moved, behind)
-
-  pub flag_of_loop : (digest : List ℕ) (i j k l : ℕ) → length digest ≡ 4 → eight x ≡ digest ++ i ∷ j ∷ k ∷ l ∷ [] → h x 4 ≡ i
-  flag_of_loop digest i j k l size e = ap (λ xs. slice_index xs 4) e ∙ (has_flags digest i j k l size).loop
+      let behind = ap (λ k. counted (cell_tuples k (drop 16 stack)) v) keys in
+      omega (arith, left_asked is (ap (is_shift Left) e), none_given is (ap (is_shift Right) e), moved, behind)

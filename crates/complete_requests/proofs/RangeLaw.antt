@@ -11,21 +11,18 @@ use Rattle.block_tree.specs.Rows.{op_of_mark}
 use Rattle.block_tree.specs.Steps.{Task}
 use Rattle.buses.specs.Counts.{Counted, counted, once, over_rows, with_next}
 use Rattle.buses.proofs.Counting.{counted-none}
-use Rattle.air_kit.specs.Flags as flags
 use Rattle.air_kit.specs.MainTuples.{limbs_from, range_asked}
 use Rattle.air_kit.specs.MainTuples as tuples
 use Rattle.machine_cycles.specs.Events.{visible_of}
 use Rattle.machine_cycles.specs.declared.event.Event.{Event}
 use Rattle.machine_cycles.specs.declared.event.Visible.{Visible}
 use Rattle.complete_rows.specs.Chains.{AreLinked}
-use Rattle.complete_rows.specs.Decoder.{Decoder, advance}
-use Rattle.complete_rows.specs.Filling.{seen_behind}
+use Rattle.complete_rows.specs.Decoder.{Decoder}
 use Rattle.complete_rows.specs.Limbs.{limbs_by, limbs_of, word_rest}
-use Rattle.complete_rows.specs.Moments.{IsMoment, event_at}
+use Rattle.complete_rows.specs.Moments.{IsMoment}
 use Rattle.complete_rows.specs.RunRequests.{ranges_by, ranges_of}
-use Rattle.complete_rows.proofs.MomentFacts.{moment_limb, place_shows}
-use Rattle.complete_requests.proofs.Following.{map_counts, rows_ask, seen_is, small_is}
-use Rattle.complete_requests.proofs.MomentCells.{moment_cells}
+use Rattle.complete_rows.proofs.MomentFacts.{moment_event, moment_limb, moment_op, place_shows}
+use Rattle.complete_requests.proofs.Following.{events_ask, map_counts, seen_is, small_is}
 
 abbrev in_range : ℕ → Counted
 in_range n = once (n ∷ [])
@@ -43,25 +40,11 @@ limbs_are x (n ∷ xs) j cells =
 
 -- an operation has as many limbs as its row shows
 count_limbs : (op : Op) (x y : Visible) → length (limbs_by op x y) ≡ tuples.count_of_limbs op
-count_limbs ops.U32Split x y = refl
-count_limbs ops.U32Assert2 x y = refl
-count_limbs ops.U32Sub x y = refl
-count_limbs ops.U32Add x y = refl
-count_limbs ops.U32Mul x y = refl
-count_limbs ops.U32Add3 x y = refl
-count_limbs ops.U32MAdd x y = refl
-count_limbs ops.U32Div x y = refl
+count_limbs ops.Noop x y = refl
 count_limbs op x y = refl
 
 few_limbs : (op : Op) → tuples.count_of_limbs op ≤ 10
-few_limbs ops.U32Split = omega arith
-few_limbs ops.U32Assert2 = omega arith
-few_limbs ops.U32Sub = omega arith
-few_limbs ops.U32Add = omega arith
-few_limbs ops.U32Mul = omega arith
-few_limbs ops.U32Add3 = omega arith
-few_limbs ops.U32MAdd = omega arith
-few_limbs ops.U32Div = omega arith
+few_limbs ops.Noop = omega arith
 few_limbs op = omega arith
 
 operation_limbs : (e : Event) (next : Visible) (x : List ℕ) → ((j : ℕ) → j < 10 → t x j ≡ slice_index (limbs_of e next) j)
@@ -84,43 +67,25 @@ asked_ranges : (b : Bool) (level room : ℕ) (limbs : List Counted) (ns : List �
 asked_ranges true level room limbs ns v is are = ap (λ n. counted (once (n ∷ []) ∷ []) v) is
 asked_ranges false level room limbs ns v is are = ap (λ l. counted l v) are
 
-module _ (constants : List ℕ) (kernel : List (List ℕ)) (limit : ℕ) (u : State) (v : List ℕ) where
-  abbrev owed : List Task → Decoder → List Event → ℕ
-  owed todo d events = counted (map in_range (ranges_of (visible_of u.core) events)) v
-
+module _ {constants : List ℕ} {kernel : List (List ℕ)} {limit : ℕ} (v : List ℕ) where
   row_ranges : {x y : List ℕ} (m : IsMoment constants kernel limit x y) → m.t.core.nesting ≤ 1024
-      → counted (range_asked x y) v ≡ counted (map in_range (ranges_by (event_at constants kernel m.mark m.s) (visible_of m.t.core))) v
+      → counted (range_asked x y) v ≡ counted (map in_range (ranges_by (moment_event m) (visible_of m.t.core))) v
   unfolding range_asked
   row_ranges {x = x} {y = y} m few =
-      let op : flags.op_of x ≡ op_of_mark m.mark = (moment_cells constants kernel limit m).op in
-      let level : lv y ≡ m.t.core.nesting = (place_shows constants m.next).level in
-      ap (λ o. counted (cond (is_start_op o) (once ((1024 ⊟ lv y) ∷ []) ∷ []) (limbs_from x 0 (tuples.count_of_limbs o))) v) op
+      ap (λ o. counted (cond (is_start_op o) (once ((1024 ⊟ lv y) ∷ []) ∷ []) (limbs_from x 0 (tuples.count_of_limbs o))) v) (moment_op m)
       ∙ asked_ranges (is_start_op (op_of_mark m.mark)) (1024 ⊟ lv y) (1024 - m.t.core.nesting) (limbs_from x 0 (tuples.count_of_limbs (op_of_mark m.mark)))
-      (limbs_by (op_of_mark m.mark) (visible_of m.s.core) (visible_of m.t.core)) v (ap (λ n. 1024 ⊟ n) level ∙ room_left m.t.core.nesting few)
-      (operation_limbs (event_at constants kernel m.mark m.s) (visible_of m.t.core) x (moment_limb constants kernel limit m))
+      (limbs_by (op_of_mark m.mark) (visible_of m.s.core) (visible_of m.t.core)) v
+      (ap (λ n. 1024 ⊟ n) (place_shows m.next).level ∙ room_left m.t.core.nesting few)
+      (operation_limbs (moment_event m) (visible_of m.t.core) x (moment_limb m))
 
-  moment_asks : (x y : List ℕ) (rows : List (List ℕ)) (m : IsMoment constants kernel limit x y)
-      → AreLinked constants kernel limit u (m.rest ++ m.todo) (advance m.d (event_at constants kernel m.mark m.s) m.later) m.t m.later (y ∷ rows)
-      → owed (m.task ∷ m.todo) m.d (event_at constants kernel m.mark m.s ∷ m.later)
-      ≡ counted (range_asked x y) v + owed (m.rest ++ m.todo) (advance m.d (event_at constants kernel m.mark m.s) m.later) m.later
-  unfolding ranges_of
-  moment_asks x y rows m later =
-      let here = row_ranges m (small_is constants kernel limit u later).nesting in
-      let both =
-      map_counts in_range (ranges_by (event_at constants kernel m.mark m.s) (visible_of m.t.core))
-      (ranges_of (visible_of u.core) m.later) v in
-      let seen : counted (map in_range (ranges_by (event_at constants kernel m.mark m.s) (seen_behind (visible_of u.core) m.later)
-      ++ ranges_of (visible_of u.core) m.later)) v
-      ≡ counted (map in_range (ranges_by (event_at constants kernel m.mark m.s) (visible_of m.t.core) ++ ranges_of (visible_of u.core) m.later)) v
-      = ap (λ n. counted (map in_range (ranges_by (event_at constants kernel m.mark m.s) n ++ ranges_of (visible_of u.core) m.later)) v)
-      (seen_is constants kernel limit u later) in
-      omega (arith, here, both, seen)
-
-  none : (d : Decoder) → owed [] d [] ≡ 0
-  unfolding ranges_of
-  none d = counted-none v
-
-  pub ranges_asked : {todo : List Task} {d : Decoder} {s : State} {events : List Event} {rows : List (List ℕ)}
+  pub ranges_asked : {u : State} {todo : List Task} {d : Decoder} {s : State} {events : List Event} {rows : List (List ℕ)}
       → AreLinked constants kernel limit u todo d s events rows
       → over_rows (with_next range_asked) rows v ≡ counted (map in_range (ranges_of (visible_of u.core) events)) v
-  ranges_asked linked = rows_ask constants kernel limit u range_asked v owed moment_asks none linked
+  unfolding ranges_of
+  ranges_asked {u = u} linked =
+      events_ask range_asked v (λ events. counted (map in_range (ranges_of (visible_of u.core) events)) v) (counted-none v)
+      (λ x y rows m later.
+      let here = row_ranges m (small_is later).nesting in
+      let both = map_counts in_range (ranges_by (moment_event m) (visible_of m.t.core)) (ranges_of (visible_of u.core) m.later) v in
+      let seen = ap (λ n. counted (map in_range (ranges_by (moment_event m) n ++ ranges_of (visible_of u.core) m.later)) v) (seen_is later) in
+      omega (arith, here, both, seen)) linked

@@ -23,27 +23,11 @@ use Rattle.complete_requests.proofs.Chains.{length_chain}
 -- a cycle's own permutations
 abbrev own : Kind → ℕ → ℕ
 own kinds.Ordinary n = n
-own kinds.Join n = 1
-own kinds.Split n = 1
-own kinds.Loop n = 1
-own kinds.Span n = 1
-own kinds.Call n = 1
-own kinds.Syscall n = 1
-own kinds.Dyn n = 1
-own kinds.End n = 1
-own kinds.Repeat n = 1
-own kinds.Respan n = 1
-own kinds.Halt n = 1
+own kind n = 1
 
 few_by : (op : Op) (seen : Visible) (e : Event)
     → own (kind_of op) (length (perms_by_op op seen)) + length (bits_by op seen) + length (accesses_by op e) ≤ 1
 few_by ops.HPerm seen e = omega arith
-few_by ops.U32And seen e = omega arith
-few_by ops.U32Xor seen e = omega arith
-few_by ops.MLoad seen e = omega arith
-few_by ops.MLoadW seen e = omega arith
-few_by ops.MStore seen e = omega arith
-few_by ops.MStoreW seen e = omega arith
 few_by op seen e = omega arith
 
 one_chain : (constants : List ℕ) (domain : ℕ) (block : List ℕ) (n : ℕ)
@@ -62,10 +46,7 @@ perms_few constants kinds.Span e later =
 perms_few constants kinds.Call e later = one_chain constants (code_of ops.Call) e.hash (length (respans later))
 perms_few constants kinds.Syscall e later = one_chain constants (code_of ops.Syscall) e.hash (length (respans later))
 perms_few constants kinds.Dyn e later = one_chain constants (code_of ops.Dyn) e.hash (length (respans later))
-perms_few constants kinds.End e later = omega arith
-perms_few constants kinds.Repeat e later = omega arith
-perms_few constants kinds.Respan e later = omega arith
-perms_few constants kinds.Halt e later = omega arith
+perms_few constants kind e later = omega arith
 
 pub requests_few : (constants : List ℕ) (events : List Event)
     → length (perms_of constants events) + length (bits_of events) + length (accesses_of events) + length (respans events) ≤ length events
@@ -80,7 +61,7 @@ requests_few constants (e ∷ later) =
     let c = length-append (accesses_by e.op e) (accesses_of later) in
     omega (arith, rest, few, perms, a, b, c)
 
-module _ (constants : List ℕ) (kernel : List (List ℕ)) (limit : ℕ) (u : State) where
+module _ {constants : List ℕ} {kernel : List (List ℕ)} {limit : ℕ} {u : State} where
   pub rows_are : {todo : List Task} {d : Decoder} {s : State} {events : List Event} {rows : List (List ℕ)}
       → AreLinked constants kernel limit u todo d s events rows → length rows ≡ length events + 1
   rows_are (chains.ends e) = omega arith
@@ -95,5 +76,5 @@ module _ (constants : List ℕ) (kernel : List (List ℕ)) (limit : ℕ) (u : St
       → AreLinked constants kernel limit u todo d s events rows → length (decoder_after d events).keys + 16 ≤ most_cycles + most_inputs
   unfolding decoder_after
   keys_few (chains.ends e) =
-      let keyed = e.agrees.keyed in let depth = e.small.depth in let whole = e.bounded.whole in omega (arith, keyed, depth, whole)
+      omega (arith, e.agrees.keyed, e.small.depth, e.bounded.whole)
   keys_few (chains.goes m later) = keys_few later

@@ -50,7 +50,7 @@ mark_takes constants (Do item) before y enough tops =
     op_takes item.op (seen_at constants item before) before.tape y refl enough (tops item refl)
 mark_takes constants mark before y enough tops = refl
 
-module _ (constants : List ℕ) (len : length constants ≡ number_of_constants) (kernel : List (List ℕ)) (limit : ℕ) {x y : List ℕ}
+module _ {constants : List ℕ} (len : length constants ≡ number_of_constants) {kernel : List (List ℕ)} {limit : ℕ} {x y : List ℕ}
     (m : IsMoment constants kernel limit x y) where
   pub row_takes : taken_by (op_of_mark m.mark) y ≡ take (advice_taken m.mark) m.s.tape
-  row_takes = mark_takes constants m.mark m.s y m.cycle.enough (moment_tops constants len kernel limit m)
+  row_takes = mark_takes constants m.mark m.s y m.cycle.enough (moment_tops len m)

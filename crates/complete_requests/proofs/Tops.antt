@@ -24,7 +24,7 @@ use Rattle.complete_rows.proofs.MomentFacts.{moment_shows, place_shows}
 abbrev pub ShowsTops : Op → Seen → List ℕ → Type 0
 ShowsTops op sn y = (j : ℕ) → j < leaves_of op → s y j ≡ slice_index (left_cells op sn) j
 
-module _ (constants : List ℕ) (len : length constants ≡ number_of_constants) (kernel : List (List ℕ)) (limit : ℕ) {x y : List ℕ}
+module _ {constants : List ℕ} (len : length constants ≡ number_of_constants) {kernel : List (List ℕ)} {limit : ℕ} {x y : List ℕ}
     (m : IsMoment constants kernel limit x y) where
   pub moment_tops : (item : Item) → m.mark ≡ Do item → ShowsTops item.op (seen_at constants item m.s) y
   moment_tops item is j low =
@@ -32,12 +32,12 @@ module _ (constants : List ℕ) (len : length constants ≡ number_of_constants)
       let done = stepped constants item m.s m.t (cycle-step constants kernel limit item m.s m.t cycle) in
       let sized = seen_at-sized constants item m.s len m.before done.enough in
       let few = leaves_of-below item.op in
-      (place_shows constants m.next).cells j (omega (arith, low, few)) ∙ ap (λ z. slice_index z.core.stack j) done.is
+      (place_shows m.next).cells j (omega (arith, low, few)) ∙ ap (λ z. slice_index z.core.stack j) done.is
       ∙ index-left item.op (seen_at constants item m.s) m.s.core.stack j sized low
 
   -- the row shows the cells before it
   pub moment_cell : (j : ℕ) → j < 16 → s x j ≡ slice_index (take 16 m.s.core.stack) j
-  moment_cell j low = (moment_shows constants kernel limit m).cells j low ∙ sym (get_or-take 16 m.s.core.stack j 0 low)
+  moment_cell j low = (moment_shows m).cells j low ∙ sym (get_or-take 16 m.s.core.stack j 0 low)
 
 -- ---- twelve cells
 

@@ -147,15 +147,11 @@ pub record HasFlags (hash : List ℕ) (i j k l : ℕ) : Type 0 where
 
 pub has_flags : (digest : List ℕ) (i j k l : ℕ) → length digest ≡ 4 → HasFlags (digest ++ i ∷ j ∷ k ∷ l ∷ []) i j k l
 has_flags (a ∷ b ∷ c ∷ d ∷ []) i j k l size = record { loop = refl; span = refl; call = refl; syscall = refl }
-has_flags [] i j k l size = absurd (omega (arith, size))
-has_flags (a ∷ []) i j k l size = absurd (omega (arith, size))
-has_flags (a ∷ b ∷ []) i j k l size = absurd (omega (arith, size))
-has_flags (a ∷ b ∷ c ∷ []) i j k l size = absurd (omega (arith, size))
-has_flags (a ∷ b ∷ c ∷ d ∷ e ∷ more) i j k l size = absurd (omega (arith, size))
+has_flags digest i j k l size = absurd (omega (arith, size))
 
-pub keys_by_flags : (hash : List ℕ) (d : Decoder) (i j k l : ℕ) → HasFlags hash i j k l
-    → keys_behind hash d ≡ cond (eqb i 1) (drop 1 d.keys) (cond (eqb k 1 || eqb l 1) (hidden_of d.blocks) d.keys)
-keys_by_flags hash d i j k l has = rw (has.loop, has.call, has.syscall) refl
+pub end_keys : (digest : List ℕ) (i j k l : ℕ) (d : Decoder) → length digest ≡ 4
+    → keys_behind (digest ++ i ∷ j ∷ k ∷ l ∷ []) d ≡ cond (eqb i 1) (drop 1 d.keys) (cond (eqb k 1 || eqb l 1) (hidden_of d.blocks) d.keys)
+end_keys digest i j k l d size = let has = has_flags digest i j k l size in rw (has.loop, has.call, has.syscall) refl
 
 -- ---- the stack
 

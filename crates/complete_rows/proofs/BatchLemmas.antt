@@ -12,7 +12,9 @@ use Rattle.op_pack.specs.Reading.{IsBatch, are_zero, positions_in_use}
 use Rattle.air_kit.specs.MainTuples.{positions}
 use Rattle.facts_main.specs.Batches.{ShowsBatch}
 use Rattle.facts_main.proofs.Says.{off}
+use Rattle.complete_rows.specs.Lines.{Line, laid_out}
 use Rattle.complete_rows.specs.Witnesses.{batch_witnesses, first_inverse}
+use Rattle.complete_rows.proofs.ColumnLemmas.{col_c0, col_c1, col_c2, col_h, col_w}
 
 -- how many positions are in use
 pub data InUse (batch : List ℕ) : ℕ → Type 0 where
@@ -105,13 +107,22 @@ four_sum a b c d la lb lc ld some = go (eqb a 0) (eqb b 0) (eqb c 0) (eqb d 0) r
 
 -- ---- the row
 
--- a row that shows a batch, with its flags and its witnesses
-pub record BatchCells (batch x : List ℕ) : Type 0 where
-  pub hash : (j : ℕ) → j < 8 → h x j ≡ slice_index batch j
-  pub eight : c x 0 ≡ bit_of (positions_in_use batch == 8)
-  pub four : c x 1 ≡ bit_of (positions_in_use batch == 4)
-  pub two : c x 2 ≡ bit_of (positions_in_use batch == 2)
-  pub witness : (j : ℕ) → j < 4 → w x j ≡ slice_index (batch_witnesses batch) j
+-- a row's elements of hashing, its flags of a batch and its witnesses
+pub record Cells (elements : List ℕ) (count : ℕ) (witnesses x : List ℕ) : Type 0 where
+  pub hash : (j : ℕ) → j < 8 → h x j ≡ slice_index elements j
+  pub eight : c x 0 ≡ bit_of (count == 8)
+  pub four : c x 1 ≡ bit_of (count == 4)
+  pub two : c x 2 ≡ bit_of (count == 2)
+  pub witness : (j : ℕ) → j < 4 → w x j ≡ slice_index witnesses j
+
+abbrev pub BatchCells : List ℕ → List ℕ → Type 0
+BatchCells batch x = Cells batch (positions_in_use batch) (batch_witnesses batch) x
+
+abbrev pub IsLaid : Line → List ℕ → Type 0
+IsLaid l x = Cells l.hash l.in_use l.witnesses x
+
+pub laid : (l : Line) → IsLaid l (laid_out l)
+laid l = record { hash = col_h l; eight = col_c0 l; four = col_c1 l; two = col_c2 l; witness = col_w l }
 
 bit_most : (b : Bool) → bit_of b < 2
 bit_most true = omega arith
@@ -139,18 +150,9 @@ other m n e apart = absurd (eqb-false m n apart e)
 
 -- a list of eight elements
 eight_of : (P : List ℕ → Type 0) → ((a0 a1 a2 a3 a4 a5 a6 a7 : ℕ) → P (a0 ∷ a1 ∷ a2 ∷ a3 ∷ a4 ∷ a5 ∷ a6 ∷ a7 ∷ []))
-    → (batch : List ℕ) → length batch ≡ 8 →
-    P batch
-eight_of P f [] size = absurd (omega (arith, size))
-eight_of P f (a0 ∷ []) size = absurd (omega (arith, size))
-eight_of P f (a0 ∷ a1 ∷ []) size = absurd (omega (arith, size))
-eight_of P f (a0 ∷ a1 ∷ a2 ∷ []) size = absurd (omega (arith, size))
-eight_of P f (a0 ∷ a1 ∷ a2 ∷ a3 ∷ []) size = absurd (omega (arith, size))
-eight_of P f (a0 ∷ a1 ∷ a2 ∷ a3 ∷ a4 ∷ []) size = absurd (omega (arith, size))
-eight_of P f (a0 ∷ a1 ∷ a2 ∷ a3 ∷ a4 ∷ a5 ∷ []) size = absurd (omega (arith, size))
-eight_of P f (a0 ∷ a1 ∷ a2 ∷ a3 ∷ a4 ∷ a5 ∷ a6 ∷ []) size = absurd (omega (arith, size))
+    → (batch : List ℕ) → length batch ≡ 8 → P batch
 eight_of P f (a0 ∷ a1 ∷ a2 ∷ a3 ∷ a4 ∷ a5 ∷ a6 ∷ a7 ∷ []) size = f a0 a1 a2 a3 a4 a5 a6 a7
-eight_of P f (a0 ∷ a1 ∷ a2 ∷ a3 ∷ a4 ∷ a5 ∷ a6 ∷ a7 ∷ a8 ∷ more) size = absurd (omega (arith, size))
+eight_of P f batch size = absurd (omega (arith, size))
 
 front_some : (x y z : Bool) → x && (y && z) ≡ false → z ≡ true → x && (y && true) ≡ false
 front_some x y z some rest = subst (λ b. x && (y && b) ≡ false) rest some
@@ -166,41 +168,36 @@ first_some x false some rest = off rest
 one_sum : (a : ℕ) → a < prime → eqb a 0 ≡ false → a ⊠ slice_index (first_inverse (a ∷ [])) 0 ≡ 1
 one_sum a low some = rw some (inverse_mul a low some)
 
-witnesses_of : (n : ℕ) (a0 a1 a2 a3 a4 a5 a6 a7 : ℕ) → InUse (a0 ∷ a1 ∷ a2 ∷ a3 ∷ a4 ∷ a5 ∷ a6 ∷ a7 ∷ []) n → IsBatch
-    (a0 ∷ a1 ∷ a2 ∷ a3 ∷ a4 ∷ a5 ∷ a6 ∷ a7 ∷ [])
-    → HasWitnesses n (a0 ∷ a1 ∷ a2 ∷ a3 ∷ a4 ∷ a5 ∷ a6 ∷ a7 ∷ [])
-    (first_inverse (take (n / 2) (drop (n / 2) (a0 ∷ a1 ∷ a2 ∷ a3 ∷ a4 ∷ a5 ∷ a6 ∷ a7 ∷ []))))
-witnesses_of n a0 a1 a2 a3 a4 a5 a6 a7 (one none) b = record {
-  eight = λ e. other 1 8 e refl;
-  four = λ e. other 1 4 e refl;
-  two = λ e. other 1 2 e refl;
-}
-witnesses_of n a0 a1 a2 a3 a4 a5 a6 a7 (two some none) b = record {
-  eight = λ e. other 2 8 e refl;
-  four = λ e. other 2 4 e refl;
-  two = λ e. one_sum a1 (elements-index (a0 ∷ a1 ∷ a2 ∷ a3 ∷ a4 ∷ a5 ∷ a6 ∷ a7 ∷ []) 1 b.below)
-      (first_some (eqb a1 0) (are_zero (a2 ∷ a3 ∷ a4 ∷ a5 ∷ a6 ∷ a7 ∷ [])) some none);
-}
-witnesses_of n a0 a1 a2 a3 a4 a5 a6 a7 (four some none) b = record {
-  eight = λ e. other 4 8 e refl;
-  four = λ e. two_sum a2 a3 (elements-index (a0 ∷ a1 ∷ a2 ∷ a3 ∷ a4 ∷ a5 ∷ a6 ∷ a7 ∷ []) 2 b.below)
-      (elements-index (a0 ∷ a1 ∷ a2 ∷ a3 ∷ a4 ∷ a5 ∷ a6 ∷ a7 ∷ []) 3 b.below)
-      (front_some (eqb a2 0) (eqb a3 0) (are_zero (a4 ∷ a5 ∷ a6 ∷ a7 ∷ [])) some none);
-  two = λ e. other 4 2 e refl;
-}
-witnesses_of n a0 a1 a2 a3 a4 a5 a6 a7 (eight some) b = record {
-  eight = λ e. four_sum a4 a5 a6 a7 (elements-index (a0 ∷ a1 ∷ a2 ∷ a3 ∷ a4 ∷ a5 ∷ a6 ∷ a7 ∷ []) 4 b.below)
-      (elements-index (a0 ∷ a1 ∷ a2 ∷ a3 ∷ a4 ∷ a5 ∷ a6 ∷ a7 ∷ []) 5 b.below)
-      (elements-index (a0 ∷ a1 ∷ a2 ∷ a3 ∷ a4 ∷ a5 ∷ a6 ∷ a7 ∷ []) 6 b.below)
-      (elements-index (a0 ∷ a1 ∷ a2 ∷ a3 ∷ a4 ∷ a5 ∷ a6 ∷ a7 ∷ []) 7 b.below) some;
-  four = λ e. other 8 4 e refl;
-  two = λ e. other 8 2 e refl;
-}
+-- eight elements
+module _ (a0 a1 a2 a3 a4 a5 a6 a7 : ℕ) where
+  abbrev elements : List ℕ
+  elements = a0 ∷ a1 ∷ a2 ∷ a3 ∷ a4 ∷ a5 ∷ a6 ∷ a7 ∷ []
+
+  witnesses_of : (n : ℕ) → InUse elements n → IsBatch elements → HasWitnesses n elements (first_inverse (take (n / 2) (drop (n / 2) elements)))
+  witnesses_of n (one none) b = record { eight = λ e. other 1 8 e refl; four = λ e. other 1 4 e refl; two = λ e. other 1 2 e refl }
+  witnesses_of n (two some none) b = record {
+    eight = λ e. other 2 8 e refl;
+    four = λ e. other 2 4 e refl;
+    two = λ e. one_sum a1 (elements-index elements 1 b.below)
+        (first_some (eqb a1 0) (are_zero (a2 ∷ a3 ∷ a4 ∷ a5 ∷ a6 ∷ a7 ∷ [])) some none);
+  }
+  witnesses_of n (four some none) b = record {
+    eight = λ e. other 4 8 e refl;
+    four = λ e. two_sum a2 a3 (elements-index elements 2 b.below) (elements-index elements 3 b.below)
+        (front_some (eqb a2 0) (eqb a3 0) (are_zero (a4 ∷ a5 ∷ a6 ∷ a7 ∷ [])) some none);
+    two = λ e. other 4 2 e refl;
+  }
+  witnesses_of n (eight some) b = record {
+    eight = λ e. four_sum a4 a5 a6 a7 (elements-index elements 4 b.below) (elements-index elements 5 b.below)
+        (elements-index elements 6 b.below) (elements-index elements 7 b.below) some;
+    four = λ e. other 8 4 e refl;
+    two = λ e. other 8 2 e refl;
+  }
 
 has_witnesses : (batch : List ℕ) → IsBatch batch → HasWitnesses (positions_in_use batch) batch (batch_witnesses batch)
 has_witnesses batch b =
     let P : List ℕ → Type 0 = λ xs. IsBatch xs → (n : ℕ) → InUse xs n → HasWitnesses n xs (first_inverse (take (n / 2) (drop (n / 2) xs))) in
-    eight_of P (λ a0 a1 a2 a3 a4 a5 a6 a7 w n u. witnesses_of n a0 a1 a2 a3 a4 a5 a6 a7 u w) batch b.size b (positions_in_use batch) (in_use batch)
+    eight_of P (λ a0 a1 a2 a3 a4 a5 a6 a7 w n u. witnesses_of a0 a1 a2 a3 a4 a5 a6 a7 n u w) batch b.size b (positions_in_use batch) (in_use batch)
 
 count_is : (n k : ℕ) → bit_of (n == k) ≡ 1 → n ≡ k
 count_is n k e = go (eqb n k) refl

@@ -13,6 +13,7 @@ use Rattle.vm_ops.specs.declared.op.Op.TheVariants as ops
 use Rattle.vm_ops.proofs.FrameLemmas.{fmp_after-same}
 use Rattle.vm_table.specs.MainColumns.{h, s, sys}
 use Rattle.air_kit.specs.Flags.{is_op}
+use Rattle.air_kit.specs.MainTuples.{is_call_op}
 use Rattle.facts_main.specs.Blocks.{IsBlockRow, KeepsBlock, keeps_block, keeps_frame, level_after}
 use Rattle.facts_main.proofs.Says.{never, off}
 use Rattle.complete_rows.specs.Decoder.{Decoder, address_of}
@@ -106,14 +107,15 @@ four_zeros digest x size hash =
 
 pub end_row : (digest : List ℕ) (i j k l : ℕ) (x : List ℕ) → length digest ≡ 4
     → ((n : ℕ) → n < 8 → h x n ≡ slice_index (digest ++ i ∷ j ∷ k ∷ l ∷ []) n)
-    → i < 2 → j < 2 → k < 2 → l < 2 → i + j + k + l ≤ 1 → (i ≡ 1 → s x 0 ≡ 0) → IsBlockRow ops.End x
-end_row digest i j k l x size hash li lj lk ll most stops =
+    → i + j + k + l ≤ 1 → (i ≡ 1 → s x 0 ≡ 0) → IsBlockRow ops.End x
+end_row digest i j k l x size hash most stops =
     let z = behind_digest digest i j k l x size hash in
     record {
       condition = λ b. off b;
       again = λ b. off b;
       ends = λ b. record {
-        bits = below_four (λ n. h x (4 + n) < 2) (rw z.0 li) (rw z.1 lj) (rw z.2 lk) (rw z.3 ll);
+        bits = below_four (λ n. h x (4 + n) < 2) (omega (arith, z.0, most)) (omega (arith, z.1, most)) (omega (arith, z.2, most))
+            (omega (arith, z.3, most));
         most = rw (z.0, z.1, z.2, z.3) most;
         stops = λ e. stops (sym z.0 ∙ e);
       };
@@ -123,27 +125,37 @@ end_row digest i j k l x size hash li lj lk ll most stops =
       closed = λ b. off b;
     }
 
+-- a row of none of END, CALLER and HALT
+pub start_row : {op : Op} {x : List ℕ} → is_op op ops.End ≡ false → is_op op ops.Caller ≡ false → is_op op ops.Halt ≡ false
+    → (is_op op ops.Split || is_op op ops.Loop ≡ true → s x 0 < 2) → (is_op op ops.Repeat ≡ true → s x 0 ≡ 1)
+    → (is_op op ops.Loop || is_call_op op || is_op op ops.Dyn ≡ true → (j : ℕ) → j < 4 → h x (4 + j) ≡ 0) → (is_call_op op ≡ true → sys x ≡ 0)
+    → IsBlockRow op x
+start_row no_end no_caller no_halt condition again single outside = record {
+  condition = condition;
+  again = again;
+  ends = λ b. never (sym b ∙ no_end);
+  single = single;
+  outside = outside;
+  inside = λ b. never (sym b ∙ no_caller);
+  closed = λ b. never (sym b ∙ no_halt);
+}
+
 -- ---- the row behind it
 
 -- the state behind is in the same function
-pub record SameFunction (b c : Core) : Type 0 where
-  pub context : b.context ≡ c.context
-  pub syscall : b.in_syscall ≡ c.in_syscall
-  pub digest : b.digest ≡ c.digest
+abbrev pub SameFunction : Core → Core → Type 0
+SameFunction b c = (b.context ≡ c.context) × (b.in_syscall ≡ c.in_syscall) × (b.digest ≡ c.digest)
 
-pub kept_block : (op next : Op) (x y : List ℕ) (d after : Decoder) (c b : Core) → Shows op d c x → Shows next after b y
+pub kept_block : {op next : Op} {x y : List ℕ} {d after : Decoder} {c b : Core} → Shows op d c x → Shows next after b y
     → is_op op ops.Call ≡ false → is_op op ops.Syscall ≡ false → SameFunction b c
     → (keeps_frame op x ≡ true → b.fmp ≡ c.fmp) → (is_op op ops.FmpUpdate ≡ true → b.fmp ≡ c.fmp ⊞ slice_index c.stack 0)
     → (keeps_block op ≡ true → address_of after.blocks ≡ address_of d.blocks) → b.nesting ≡ level_after op c.nesting
     → KeepsBlock op x y
-kept_block op next x y d after c b sx sy no_call no_syscall same frame moves block nesting = record {
+kept_block {op = op} sx sy no_call no_syscall same frame moves block nesting = record {
   call = λ is. never (sym is ∙ no_call);
   syscall = λ is. never (sym is ∙ no_syscall);
-  function = λ is. (
-    sy.context ∙ same.context ∙ sym sx.context,
-    sy.syscall ∙ ap bit_of same.syscall ∙ sym sx.syscall,
-  );
-  digest = λ is j low. sy.digest j low ∙ ap (λ v. slice_index v j) same.digest ∙ sym (sx.digest j low);
+  function = λ is. (sy.context ∙ same.0 ∙ sym sx.context, sy.syscall ∙ ap bit_of same.1 ∙ sym sx.syscall);
+  digest = λ is j low. sy.digest j low ∙ ap (λ v. slice_index v j) same.2 ∙ sym (sx.digest j low);
   frame = λ is. sy.frame ∙ frame is ∙ sym sx.frame;
   frame_moves = λ is. sy.frame ∙ moves is ∙ rw (sx.frame, sx.cells 0 (lit< tt)) refl;
   block = λ is. sy.address ∙ block is ∙ sym sx.address;
@@ -171,9 +183,9 @@ frame_moved ops.FmpUpdate v is = refl
 frame_moved op v is = off is
 
 -- the row behind the END of a call
-pub ended_call : (next : Op) (x y : List ℕ) (d after : Decoder) (c b : Core) → Shows ops.End d c x → Shows next after b y
+pub ended_call : {next : Op} {x y : List ℕ} {d after : Decoder} {c b : Core} → Shows ops.End d c x → Shows next after b y
     → h x 6 ⊞ h x 7 ≡ 1 → b.nesting ≡ level_after ops.End c.nesting → KeepsBlock ops.End x y
-ended_call next x y d after c b sx sy flags nesting =
+ended_call {x = x} sx sy flags nesting =
     let ends : eqb (h x 6 ⊞ h x 7) 1 ≡ true = rw flags refl in
     record {
       call = λ is. off is;
@@ -187,11 +199,11 @@ ended_call next x y d after c b sx sy flags nesting =
     }
 
 -- the row behind a call
-pub entered_call : (callee : List ℕ) (next : Op) (x y : List ℕ) (d after : Decoder) (c b : Core) → Shows ops.Call d c x → Shows next after b y
+pub entered_call : (callee : List ℕ) {next : Op} {x y : List ℕ} {d after : Decoder} {c b : Core} → Shows ops.Call d c x → Shows next after b y
     → ((n : ℕ) → n < 8 → h x n ≡ slice_index (callee ++ zero_word) n) → length callee ≡ 4 → c.clock < most_cycles
     → b.context ≡ c.clock + 1 → b.fmp ≡ 2 ^ 30 → b.in_syscall ≡ false → b.digest ≡ callee → b.nesting ≡ level_after ops.Call c.nesting
     → KeepsBlock ops.Call x y
-entered_call callee next x y d after c b sx sy hash size early context frame syscall digest nesting = record {
+entered_call callee {c = c} sx sy hash size early context frame syscall digest nesting = record {
   call = λ is. record {
     context = sy.context ∙ context ∙ tick c.clock early ∙ ap (λ n. n ⊞ 1) (sym sx.clock);
     frame = sy.frame ∙ frame;
@@ -209,10 +221,10 @@ entered_call callee next x y d after c b sx sy hash size early context frame sys
 }
 
 -- and behind a syscall, which keeps the digest of the function
-pub entered_syscall : (next : Op) (x y : List ℕ) (d after : Decoder) (c b : Core) → Shows ops.Syscall d c x → Shows next after b y
+pub entered_syscall : {next : Op} {x y : List ℕ} {d after : Decoder} {c b : Core} → Shows ops.Syscall d c x → Shows next after b y
     → b.context ≡ 0 → b.fmp ≡ 2 ^ 31 → b.in_syscall ≡ true → b.digest ≡ c.digest → b.nesting ≡ level_after ops.Syscall c.nesting
     → KeepsBlock ops.Syscall x y
-entered_syscall next x y d after c b sx sy context frame syscall digest nesting = record {
+entered_syscall sx sy context frame syscall digest nesting = record {
   call = λ is. off is;
   syscall = λ is. record { context = sy.context ∙ context; frame = sy.frame ∙ frame; syscall = sy.syscall ∙ ap bit_of syscall };
   function = λ is. off is;

@@ -52,6 +52,18 @@ record Before (k : Kind) (d : Decoder) (e : Event) (later : List Event) (clock :
   start : e.before.clock < prime
   whole : clock + suc (length later) ≤ most_cycles
 
+-- a block of one permutation starts
+opens : {k : Kind} {d : Decoder} {e : Event} {later : List Event} {clock : ℕ} (hidden keys : List ℕ) → Before k d e later clock
+    → d.next ≤ 1 + 8 * clock → AreElements hidden → AreElements keys
+    → IsBounded (record d { blocks = record { address = d.next; hidden = hidden } ∷ d.blocks; next = d.next + 8; keys = keys }) (clock + 1) later
+opens {d = d} hidden keys b low h g = record {
+  next = omega (arith, low);
+  ha = omega (arith, b.ha);
+  blocks = opened_low d.next hidden d.blocks (omega (arith, low, b.whole)) h b.blocks;
+  keys = g;
+  whole = omega (arith, b.whole);
+}
+
 by_kind : (k : Kind) (d : Decoder) (e : Event) (later : List Event) (clock : ℕ) → Before k d e later clock
     → IsBounded (advance_by k d e later) (clock + 1) later
 by_kind kinds.Ordinary d e later clock b =
@@ -63,27 +75,9 @@ by_kind kinds.Ordinary d e later clock b =
       keys = keys_low (shift_of e.op) e.before.clock d.keys b.start b.keys;
       whole = omega (arith, b.whole);
     }
-by_kind kinds.Join d e later clock b = record {
-  next = omega (arith, b.next);
-  ha = omega (arith, b.ha);
-  blocks = opened_low d.next [] d.blocks (omega (arith, b.next, b.whole)) (elements-none) b.blocks;
-  keys = b.keys;
-  whole = omega (arith, b.whole);
-}
-by_kind kinds.Split d e later clock b = record {
-  next = omega (arith, b.next);
-  ha = omega (arith, b.ha);
-  blocks = opened_low d.next [] d.blocks (omega (arith, b.next, b.whole)) (elements-none) b.blocks;
-  keys = elements-drop 1 d.keys b.keys;
-  whole = omega (arith, b.whole);
-}
-by_kind kinds.Loop d e later clock b = record {
-  next = omega (arith, b.next);
-  ha = omega (arith, b.ha);
-  blocks = opened_low d.next [] d.blocks (omega (arith, b.next, b.whole)) (elements-none) b.blocks;
-  keys = elements-drop 1 d.keys b.keys;
-  whole = omega (arith, b.whole);
-}
+by_kind kinds.Join d e later clock b = opens [] d.keys b (omega (arith, b.next)) elements-none b.keys
+by_kind kinds.Split d e later clock b = opens [] (drop 1 d.keys) b (omega (arith, b.next)) elements-none (elements-drop 1 d.keys b.keys)
+by_kind kinds.Loop d e later clock b = opens [] (drop 1 d.keys) b (omega (arith, b.next)) elements-none (elements-drop 1 d.keys b.keys)
 by_kind kinds.Span d e later clock b = record {
   next = omega (arith, b.next);
   ha = omega (arith, b.next);
@@ -91,27 +85,9 @@ by_kind kinds.Span d e later clock b = record {
   keys = b.keys;
   whole = omega (arith, b.whole);
 }
-by_kind kinds.Call d e later clock b = record {
-  next = omega (arith, b.next);
-  ha = omega (arith, b.ha);
-  blocks = opened_low d.next d.keys d.blocks (omega (arith, b.next, b.whole)) b.keys b.blocks;
-  keys = elements-none;
-  whole = omega (arith, b.whole);
-}
-by_kind kinds.Syscall d e later clock b = record {
-  next = omega (arith, b.next);
-  ha = omega (arith, b.ha);
-  blocks = opened_low d.next d.keys d.blocks (omega (arith, b.next, b.whole)) b.keys b.blocks;
-  keys = elements-none;
-  whole = omega (arith, b.whole);
-}
-by_kind kinds.Dyn d e later clock b = record {
-  next = omega (arith, b.next);
-  ha = omega (arith, b.ha);
-  blocks = opened_low d.next [] d.blocks (omega (arith, b.next, b.whole)) (elements-none) b.blocks;
-  keys = b.keys;
-  whole = omega (arith, b.whole);
-}
+by_kind kinds.Call d e later clock b = opens d.keys [] b (omega (arith, b.next)) b.keys elements-none
+by_kind kinds.Syscall d e later clock b = opens d.keys [] b (omega (arith, b.next)) b.keys elements-none
+by_kind kinds.Dyn d e later clock b = opens [] d.keys b (omega (arith, b.next)) elements-none b.keys
 by_kind kinds.End d e later clock b = record {
   next = omega (arith, b.next);
   ha = omega arith;
@@ -127,14 +103,7 @@ by_kind kinds.Repeat d e later clock b = record {
   keys = elements-drop 1 d.keys b.keys;
   whole = omega (arith, b.whole);
 }
-by_kind kinds.Respan d e later clock b = record {
-  next = omega (arith, b.next);
-  ha = omega (arith, b.ha);
-  blocks = b.blocks;
-  keys = b.keys;
-  whole = omega (arith, b.whole);
-}
-by_kind kinds.Halt d e later clock b = record {
+by_kind kind d e later clock b = record {
   next = omega (arith, b.next);
   ha = omega (arith, b.ha);
   blocks = b.blocks;

@@ -1,6 +1,6 @@
 -- The columns of a row that is laid out from its parts.
-use Rattle.std.proofs.Common.{◌≡◌, ◌⊎◌, inl, inr, ℕ, zero, suc, ◌+◌, ◌-◌, ◌<◌, ◌≤◌, ◌==◌, slice_index, refl, subst, arith}
-use Rattle.std.proofs.lemmas.Bool.{cases_lt}
+use Rattle.std.proofs.Common.{◌≡◌, ◌⊎◌, inl, inr, ℕ, zero, suc, ◌+◌, ◌-◌, ◌<◌, ◌≤◌, ◌==◌, slice_index, refl, sym, subst, arith}
+use Rattle.std.proofs.lemmas.Bool.{cases_eq, cases_lt}
 use Rattle.vm_field.specs.Field.{felt_inv}
 use Rattle.vm_field.specs.Signs.{◌⊟◌}
 use Rattle.vm_ops.specs.Codes.{is_ordinary_op}
@@ -15,39 +15,18 @@ below_four P p0 p1 p2 p3 (suc (suc zero)) h = p2
 below_four P p0 p1 p2 p3 (suc (suc (suc zero))) h = p3
 below_four P p0 p1 p2 p3 (suc (suc (suc (suc j)))) h = absurd (omega (arith, h))
 
+below_more : (n : ℕ) (P : ℕ → Type 0) → ((j : ℕ) → j < n → P j) → P n → (j : ℕ) → j < suc n → P j
+below_more n P below last j h =
+    elim (cases_eq j n) [ inl e ↦ subst P (sym e) last | inr apart ↦ below j (omega (arith, h, apart)) ]
+
 pub below_seven : (P : ℕ → Type 0) → P 0 → P 1 → P 2 → P 3 → P 4 → P 5 → P 6 → (j : ℕ) → j < 7 → P j
-below_seven P p0 p1 p2 p3 p4 p5 p6 zero h = p0
-below_seven P p0 p1 p2 p3 p4 p5 p6 (suc zero) h = p1
-below_seven P p0 p1 p2 p3 p4 p5 p6 (suc (suc zero)) h = p2
-below_seven P p0 p1 p2 p3 p4 p5 p6 (suc (suc (suc zero))) h = p3
-below_seven P p0 p1 p2 p3 p4 p5 p6 (suc (suc (suc (suc zero)))) h = p4
-below_seven P p0 p1 p2 p3 p4 p5 p6 (suc (suc (suc (suc (suc zero))))) h = p5
-below_seven P p0 p1 p2 p3 p4 p5 p6 (suc (suc (suc (suc (suc (suc zero)))))) h = p6
-below_seven P p0 p1 p2 p3 p4 p5 p6 (suc (suc (suc (suc (suc (suc (suc j))))))) h = absurd (omega (arith, h))
+below_seven P p0 p1 p2 p3 p4 p5 p6 = below_more 6 P (below_more 5 P (below_more 4 P (below_four P p0 p1 p2 p3) p4) p5) p6
 
 pub below_eight : (P : ℕ → Type 0) → P 0 → P 1 → P 2 → P 3 → P 4 → P 5 → P 6 → P 7 → (j : ℕ) → j < 8 → P j
-below_eight P p0 p1 p2 p3 p4 p5 p6 p7 zero h = p0
-below_eight P p0 p1 p2 p3 p4 p5 p6 p7 (suc zero) h = p1
-below_eight P p0 p1 p2 p3 p4 p5 p6 p7 (suc (suc zero)) h = p2
-below_eight P p0 p1 p2 p3 p4 p5 p6 p7 (suc (suc (suc zero))) h = p3
-below_eight P p0 p1 p2 p3 p4 p5 p6 p7 (suc (suc (suc (suc zero)))) h = p4
-below_eight P p0 p1 p2 p3 p4 p5 p6 p7 (suc (suc (suc (suc (suc zero))))) h = p5
-below_eight P p0 p1 p2 p3 p4 p5 p6 p7 (suc (suc (suc (suc (suc (suc zero)))))) h = p6
-below_eight P p0 p1 p2 p3 p4 p5 p6 p7 (suc (suc (suc (suc (suc (suc (suc zero))))))) h = p7
-below_eight P p0 p1 p2 p3 p4 p5 p6 p7 (suc (suc (suc (suc (suc (suc (suc (suc j)))))))) h = absurd (omega (arith, h))
+below_eight P p0 p1 p2 p3 p4 p5 p6 p7 = below_more 7 P (below_seven P p0 p1 p2 p3 p4 p5 p6) p7
 
-pub below_ten : (P : ℕ → Type 0) → P 0 → P 1 → P 2 → P 3 → P 4 → P 5 → P 6 → P 7 → P 8 → P 9 → (j : ℕ) → j < 10 → P j
-below_ten P p0 p1 p2 p3 p4 p5 p6 p7 p8 p9 zero h = p0
-below_ten P p0 p1 p2 p3 p4 p5 p6 p7 p8 p9 (suc zero) h = p1
-below_ten P p0 p1 p2 p3 p4 p5 p6 p7 p8 p9 (suc (suc zero)) h = p2
-below_ten P p0 p1 p2 p3 p4 p5 p6 p7 p8 p9 (suc (suc (suc zero))) h = p3
-below_ten P p0 p1 p2 p3 p4 p5 p6 p7 p8 p9 (suc (suc (suc (suc zero)))) h = p4
-below_ten P p0 p1 p2 p3 p4 p5 p6 p7 p8 p9 (suc (suc (suc (suc (suc zero))))) h = p5
-below_ten P p0 p1 p2 p3 p4 p5 p6 p7 p8 p9 (suc (suc (suc (suc (suc (suc zero)))))) h = p6
-below_ten P p0 p1 p2 p3 p4 p5 p6 p7 p8 p9 (suc (suc (suc (suc (suc (suc (suc zero))))))) h = p7
-below_ten P p0 p1 p2 p3 p4 p5 p6 p7 p8 p9 (suc (suc (suc (suc (suc (suc (suc (suc zero)))))))) h = p8
-below_ten P p0 p1 p2 p3 p4 p5 p6 p7 p8 p9 (suc (suc (suc (suc (suc (suc (suc (suc (suc zero))))))))) h = p9
-below_ten P p0 p1 p2 p3 p4 p5 p6 p7 p8 p9 (suc (suc (suc (suc (suc (suc (suc (suc (suc (suc j)))))))))) h = absurd (omega (arith, h))
+below_ten : (P : ℕ → Type 0) → P 0 → P 1 → P 2 → P 3 → P 4 → P 5 → P 6 → P 7 → P 8 → P 9 → (j : ℕ) → j < 10 → P j
+below_ten P p0 p1 p2 p3 p4 p5 p6 p7 p8 p9 = below_more 9 P (below_more 8 P (below_eight P p0 p1 p2 p3 p4 p5 p6 p7) p8) p9
 
 pub below_sixteen : (P : ℕ → Type 0) → P 0 → P 1 → P 2 → P 3 → P 4 → P 5 → P 6 → P 7 → P 8 → P 9 → P 10 → P 11 → P 12 → P 13 → P 14
     → P 15 → (j : ℕ) → j < 16 → P j

@@ -96,21 +96,15 @@ module _ (n : ℕ) where
       → AreDeepKeys n past (n + length past) (all_keys d)
       → AreDeepKeys n (e ∷ past) (n + suc (length past)) (all_keys (advance_by k d e later))
   by_kind kinds.Ordinary d e later past clock low h = after_shift (shift_of e.op) e past d.keys (hidden_keys d.blocks) refl clock low h
-  by_kind kinds.Join d e later past clock low h = seen_behind e past (all_keys d) h
   by_kind kinds.Split d e later past clock low h =
       seen_behind e past (drop 1 d.keys ++ hidden_keys d.blocks) (without_first past (n + length past) d.keys (hidden_keys d.blocks) h)
   by_kind kinds.Loop d e later past clock low h =
       seen_behind e past (drop 1 d.keys ++ hidden_keys d.blocks) (without_first past (n + length past) d.keys (hidden_keys d.blocks) h)
-  by_kind kinds.Span d e later past clock low h = seen_behind e past (all_keys d) h
-  by_kind kinds.Call d e later past clock low h = seen_behind e past (all_keys d) h
-  by_kind kinds.Syscall d e later past clock low h = seen_behind e past (all_keys d) h
-  by_kind kinds.Dyn d e later past clock low h = seen_behind e past (all_keys d) h
   by_kind kinds.End d e later past clock low h =
       seen_behind e past _ (after_end (ends_loop e.hash) (ends_call e.hash) past (n + length past) d.keys d.blocks h)
   by_kind kinds.Repeat d e later past clock low h =
       seen_behind e past (drop 1 d.keys ++ hidden_keys d.blocks) (without_first past (n + length past) d.keys (hidden_keys d.blocks) h)
-  by_kind kinds.Respan d e later past clock low h = seen_behind e past (all_keys d) h
-  by_kind kinds.Halt d e later past clock low h = seen_behind e past (all_keys d) h
+  by_kind kind d e later past clock low h = seen_behind e past (all_keys d) h
 
   below_bound : (past : List Event) (b : ℕ) (keys : List ℕ) (j : ℕ) → AreDeepKeys n past b keys → j < length keys
       → came n (slice_index keys j) < b

@@ -5,27 +5,20 @@ use Rattle.vm_ops.specs.Codes.{is_ordinary_op, is_start_op}
 use Rattle.vm_ops.specs.declared.item.Item.{Item}
 use Rattle.vm_ops.specs.declared.op.Op.{Op}
 use Rattle.vm_ops.specs.declared.op.Op.TheVariants as ops
-use Rattle.block_tree.specs.Cycles.{Mark, Frame}
+use Rattle.block_tree.specs.Cycles.{Mark}
 use Rattle.block_tree.specs.Marks.{IsWholeMark}
 use Rattle.block_tree.specs.Rows.{op_of_mark}
-use Rattle.block_tree.specs.Steps.{Task, Block, Within, Turned, Closing, Returning, Leaving, Next, span, join, split_1, split_0, loop_1, loop_0, call, syscall, dyn, operation, respan, span_ends, repeats, loop_ends, closes, returns, leaves}
+use Rattle.block_tree.specs.Steps.{Task, Block, Within, Closing, Next, span, operation, respan, span_ends, closes}
 use Rattle.block_tree.specs.Trees.{Tree}
 use Rattle.air_kit.specs.Flags.{is_op}
-use Rattle.complete_rows.specs.Agreement.{AreOutside}
+use Rattle.complete_rows.specs.Agreement.{AreOutside, IsOutsideSpan}
 use Rattle.complete_rows.specs.Moments.{Comes}
 
 module _ (constants : List ℕ) where
   block_starts : {tree : Tree} {c : Core} {mark : Mark} {rest : List Task} → Next constants (Block tree) c mark rest
       → is_start_op (op_of_mark mark) ≡ true
   block_starts (span read) = refl
-  block_starts join = refl
-  block_starts (split_1 bit) = refl
-  block_starts (split_0 bit) = refl
-  block_starts (loop_1 bit) = refl
-  block_starts (loop_0 bit) = refl
-  block_starts call = refl
-  block_starts syscall = refl
-  block_starts (dyn found) = refl
+  block_starts next = refl
 
   pub starts_block : (tree : Tree) (todo : List Task) (c : Core) (op : Op) → Comes constants (Block tree ∷ todo) c op → is_start_op op ≡ true
   starts_block tree todo c op h = ap is_start_op h.4 ∙ block_starts h.2
@@ -65,31 +58,12 @@ module _ (constants : List ℕ) where
   abbrev pub comes_behind : Op → Bool
   comes_behind op = is_start_op op || is_op op ops.End || is_op op ops.Repeat || is_op op ops.Halt
 
-  starts_behind : (op : Op) → is_start_op op ≡ true → comes_behind op ≡ true
-  starts_behind op is = rw is refl
-
-  turn_behind : {body : Tree} {c : Core} {mark : Mark} {rest : List Task} → Next constants (Turned body) c mark rest
+  no_span_behind : {task : Task} {c : Core} {mark : Mark} {rest : List Task} → IsOutsideSpan task → Next constants task c mark rest
       → comes_behind (op_of_mark mark) ≡ true
-  turn_behind (repeats bit) = refl
-  turn_behind (loop_ends bit) = refl
-
-  close_behind : {digest : List ℕ} {c : Core} {mark : Mark} {rest : List Task} → Next constants (Closing digest) c mark rest
-      → comes_behind (op_of_mark mark) ≡ true
-  close_behind closes = refl
-
-  return_behind : {digest : List ℕ} {frame : Frame} {c : Core} {mark : Mark} {rest : List Task} → Next constants (Returning digest frame) c mark rest
-      → comes_behind (op_of_mark mark) ≡ true
-  return_behind returns = refl
-
-  leave_behind : {digest : List ℕ} {frame : Frame} {c : Core} {mark : Mark} {rest : List Task} → Next constants (Leaving digest frame) c mark rest
-      → comes_behind (op_of_mark mark) ≡ true
-  leave_behind leaves = refl
+  no_span_behind out operation = absurd out
+  no_span_behind out (respan read) = absurd out
+  no_span_behind out next = refl
 
   pub behind_block : (todo : List Task) (c : Core) (op : Op) → AreOutside todo → Comes constants todo c op → comes_behind op ≡ true
   behind_block [] c op out h = ap comes_behind h
-  behind_block (Block tree ∷ todo) c op out h = starts_behind op (starts_block tree todo c op h)
-  behind_block (Within items later digest ∷ todo) c op out h = absurd out.0
-  behind_block (Turned body ∷ todo) c op out h = ap comes_behind h.4 ∙ turn_behind h.2
-  behind_block (Closing digest ∷ todo) c op out h = ap comes_behind h.4 ∙ close_behind h.2
-  behind_block (Returning digest frame ∷ todo) c op out h = ap comes_behind h.4 ∙ return_behind h.2
-  behind_block (Leaving digest frame ∷ todo) c op out h = ap comes_behind h.4 ∙ leave_behind h.2
+  behind_block (task ∷ todo) c op out h = ap comes_behind h.4 ∙ no_span_behind out.0 h.2

@@ -34,69 +34,40 @@ low_limb n = omega arith
 high_limb : (n : ℕ) → n < prime → n / 65536 < prime
 high_limb n low = omega (arith, low)
 
-low_limbs : (op : Op) (x y : Visible) → AreElements x.cells → AreElements y.cells → AreElements (limbs_by op x y)
-low_limbs ops.U32Split x y h g =
-    let b : (j : ℕ) → cell y j < prime = λ j. elements-index y.cells j g in
-    All-from_recursion (λ e. e < prime) (limbs_by ops.U32Split x y)
-    (low_limb (cell y 1) ▸ high_limb (cell y 1) (b 1)
-    ▸ low_limb (cell y 0) ▸ high_limb (cell y 0) (b 0) ▸ tt)
-low_limbs ops.U32Assert2 x y h g =
-    let a : (j : ℕ) → cell x j < prime = λ j. elements-index x.cells j h in
-    All-from_recursion (λ e. e < prime) (limbs_by ops.U32Assert2 x y)
-    (low_limb (cell x 0) ▸ high_limb (cell x 0) (a 0)
-    ▸ low_limb (cell x 1) ▸ high_limb (cell x 1) (a 1) ▸ tt)
-low_limbs ops.U32Sub x y h g =
-    let a : (j : ℕ) → cell x j < prime = λ j. elements-index x.cells j h in
-    let b : (j : ℕ) → cell y j < prime = λ j. elements-index y.cells j g in
-    All-from_recursion (λ e. e < prime) (limbs_by ops.U32Sub x y)
-    (low_limb (cell x 0) ▸ high_limb (cell x 0) (a 0)
-    ▸ low_limb (cell x 1) ▸ high_limb (cell x 1) (a 1)
-    ▸ low_limb (cell y 1) ▸ high_limb (cell y 1) (b 1) ▸ tt)
-low_limbs ops.U32Add x y h g =
-    let a : (j : ℕ) → cell x j < prime = λ j. elements-index x.cells j h in
-    let b : (j : ℕ) → cell y j < prime = λ j. elements-index y.cells j g in
-    All-from_recursion (λ e. e < prime) (limbs_by ops.U32Add x y)
-    (low_limb (cell x 0) ▸ high_limb (cell x 0) (a 0)
-    ▸ low_limb (cell x 1) ▸ high_limb (cell x 1) (a 1)
-    ▸ low_limb (cell y 1) ▸ high_limb (cell y 1) (b 1)
-    ▸ b 0 ▸ tt)
-low_limbs ops.U32Mul x y h g =
-    let a : (j : ℕ) → cell x j < prime = λ j. elements-index x.cells j h in
-    let b : (j : ℕ) → cell y j < prime = λ j. elements-index y.cells j g in
-    All-from_recursion (λ e. e < prime) (limbs_by ops.U32Mul x y)
-    (low_limb (cell x 0) ▸ high_limb (cell x 0) (a 0)
-    ▸ low_limb (cell x 1) ▸ high_limb (cell x 1) (a 1)
-    ▸ low_limb (cell y 1) ▸ high_limb (cell y 1) (b 1)
-    ▸ low_limb (cell y 0) ▸ high_limb (cell y 0) (b 0) ▸ tt)
-low_limbs ops.U32Add3 x y h g =
-    let a : (j : ℕ) → cell x j < prime = λ j. elements-index x.cells j h in
-    let b : (j : ℕ) → cell y j < prime = λ j. elements-index y.cells j g in
-    All-from_recursion (λ e. e < prime) (limbs_by ops.U32Add3 x y)
-    (low_limb (cell x 0) ▸ high_limb (cell x 0) (a 0)
-    ▸ low_limb (cell x 1) ▸ high_limb (cell x 1) (a 1)
-    ▸ low_limb (cell x 2) ▸ high_limb (cell x 2) (a 2)
-    ▸ low_limb (cell y 1) ▸ high_limb (cell y 1) (b 1)
-    ▸ b 0 ▸ tt)
-low_limbs ops.U32MAdd x y h g =
-    let a : (j : ℕ) → cell x j < prime = λ j. elements-index x.cells j h in
-    let b : (j : ℕ) → cell y j < prime = λ j. elements-index y.cells j g in
-    All-from_recursion (λ e. e < prime) (limbs_by ops.U32MAdd x y)
-    (low_limb (cell x 0) ▸ high_limb (cell x 0) (a 0)
-    ▸ low_limb (cell x 1) ▸ high_limb (cell x 1) (a 1)
-    ▸ low_limb (cell x 2) ▸ high_limb (cell x 2) (a 2)
-    ▸ low_limb (cell y 1) ▸ high_limb (cell y 1) (b 1)
-    ▸ low_limb (cell y 0) ▸ high_limb (cell y 0) (b 0) ▸ tt)
-low_limbs ops.U32Div x y h g =
-    let a : (j : ℕ) → cell x j < prime = λ j. elements-index x.cells j h in
-    let b : (j : ℕ) → cell y j < prime = λ j. elements-index y.cells j g in
-    let rest : cell x 0 - cell y 0 - 1 < prime = let low = a 0 in omega (arith, low) in
-    All-from_recursion (λ e. e < prime) (limbs_by ops.U32Div x y)
-    (low_limb (cell x 0) ▸ high_limb (cell x 0) (a 0)
-    ▸ low_limb (cell x 1) ▸ high_limb (cell x 1) (a 1)
-    ▸ low_limb (cell y 1) ▸ high_limb (cell y 1) (b 1)
-    ▸ low_limb (cell y 0) ▸ high_limb (cell y 0) (b 0)
-    ▸ low_limb (cell x 0 - cell y 0 - 1) ▸ high_limb (cell x 0 - cell y 0 - 1) rest ▸ tt)
-low_limbs op x y h g = elements-none
+-- those of cells one after another
+low_cells : (v : Visible) → AreElements v.cells → (j : ℕ) {P : Type 0} → P → (cell v j % 65536 < prime) × ((cell v j / 65536 < prime) × P)
+low_cells v h j others = low_limb (cell v j) ▸ high_limb (cell v j) (elements-index v.cells j h) ▸ others
+
+last_cell : (v : Visible) → AreElements v.cells → (j : ℕ) → (cell v j < prime) × Unit {0}
+last_cell v h j = (elements-index v.cells j h, tt)
+
+last_number : (n : ℕ) → n < prime → (n % 65536 < prime) × ((n / 65536 < prime) × Unit {0})
+last_number n low = (low_limb n, (high_limb n low, tt))
+
+module _ (x y : Visible) (h : AreElements x.cells) (g : AreElements y.cells) where
+  low_limbs : (op : Op) → AreElements (limbs_by op x y)
+  low_limbs ops.U32Split = All-from_recursion (λ e. e < prime) (limbs_by ops.U32Split x y) (low_cells y g 1 (low_cells y g 0 tt))
+  low_limbs ops.U32Assert2 = All-from_recursion (λ e. e < prime) (limbs_by ops.U32Assert2 x y) (low_cells x h 0 (low_cells x h 1 tt))
+  low_limbs ops.U32Sub =
+      All-from_recursion (λ e. e < prime) (limbs_by ops.U32Sub x y) (low_cells x h 0 (low_cells x h 1 (low_cells y g 1 tt)))
+  low_limbs ops.U32Add =
+      All-from_recursion (λ e. e < prime) (limbs_by ops.U32Add x y)
+      (low_cells x h 0 (low_cells x h 1 (low_cells y g 1 (last_cell y g 0))))
+  low_limbs ops.U32Mul =
+      All-from_recursion (λ e. e < prime) (limbs_by ops.U32Mul x y)
+      (low_cells x h 0 (low_cells x h 1 (low_cells y g 1 (low_cells y g 0 tt))))
+  low_limbs ops.U32Add3 =
+      All-from_recursion (λ e. e < prime) (limbs_by ops.U32Add3 x y)
+      (low_cells x h 0 (low_cells x h 1 (low_cells x h 2 (low_cells y g 1 (last_cell y g 0)))))
+  low_limbs ops.U32MAdd =
+      All-from_recursion (λ e. e < prime) (limbs_by ops.U32MAdd x y)
+      (low_cells x h 0 (low_cells x h 1 (low_cells x h 2 (low_cells y g 1 (low_cells y g 0 tt)))))
+  low_limbs ops.U32Div =
+      let rest : cell x 0 - cell y 0 - 1 < prime = let low = elements-index x.cells 0 h in omega (arith, low) in
+      All-from_recursion (λ e. e < prime) (limbs_by ops.U32Div x y)
+      (low_cells x h 0 (low_cells x h 1 (low_cells y g 1 (low_cells y g 0
+      (last_number (cell x 0 - cell y 0 - 1) rest)))))
+  low_limbs op = elements-none
 
 low_rest : (op : Op) (word : List ℕ) → AreElements word → AreElements (word_rest op word)
 low_rest ops.MLoad word h = elements-drop 1 word h
@@ -106,7 +77,7 @@ low_rest op word h = elements-none
 low_row_limbs : (e : Event) (v : Visible) → AreElements e.before.cells → AreElements v.cells → AreElements e.word → AreElements (limbs_of e v)
 unfolding limbs_of
 low_row_limbs e v h g k =
-    elements-append (limbs_by e.op e.before v) (word_rest e.op e.word) (low_limbs e.op e.before v h g) (low_rest e.op e.word k)
+    elements-append (limbs_by e.op e.before v) (word_rest e.op e.word) (low_limbs e.before v h g e.op) (low_rest e.op e.word k)
 
 -- ---- witnesses
 
@@ -162,18 +133,12 @@ counts_by k counts n h = by k
 
     by : (kind : Kind) → All (λ c. c ≤ suc n) (repeats_by kind counts)
     by kinds.Ordinary = more
-    by kinds.Join = closed
-    by kinds.Split = closed
-    by kinds.Loop = closed
-    by kinds.Span = closed
-    by kinds.Call = closed
-    by kinds.Syscall = closed
-    by kinds.Dyn = closed
     by kinds.End = All-cons (λ c. c ≤ suc n) 0 counts (omega arith) more
     by kinds.Repeat = All-cons (λ c. c ≤ suc n) (suc (slice_index counts 0)) (drop 1 counts)
         (let low : slice_index counts 0 ≤ n = first_low counts h in omega (arith, low)) closed
     by kinds.Respan = more
     by kinds.Halt = more
+    by kind = closed
 
 counts_low : (events : List Event) → All (λ c. c ≤ length events) (repeats events)
 unfolding repeats
@@ -196,28 +161,12 @@ low_witnesses kinds.Loop d e v later next cells hash few =
     elements-one (slice_index (repeats later) 0) (let low = few_repeats later in omega (arith, low, few))
 low_witnesses kinds.Span d e v later next cells hash few = low_batch e.hash hash
 low_witnesses kinds.Respan d e v later next cells hash few = low_batch e.hash hash
-low_witnesses kinds.Join d e v later next cells hash few = elements-none
-low_witnesses kinds.Split d e v later next cells hash few = elements-none
-low_witnesses kinds.Call d e v later next cells hash few = elements-none
-low_witnesses kinds.Syscall d e v later next cells hash few = elements-none
-low_witnesses kinds.Dyn d e v later next cells hash few = elements-none
-low_witnesses kinds.End d e v later next cells hash few = elements-none
-low_witnesses kinds.Repeat d e v later next cells hash few = elements-none
-low_witnesses kinds.Halt d e v later next cells hash few = elements-none
+low_witnesses kind d e v later next cells hash few = elements-none
 
 low_hash : (k : Kind) (d : Decoder) (e : Event) → d.unread.number < prime → AreElements e.hash → AreElements (hash_by k d e)
 low_hash kinds.Ordinary d e number hash = elements-one d.unread.number number
-low_hash kinds.Join d e number hash = hash
-low_hash kinds.Split d e number hash = hash
-low_hash kinds.Loop d e number hash = hash
-low_hash kinds.Span d e number hash = hash
-low_hash kinds.Call d e number hash = hash
-low_hash kinds.Syscall d e number hash = hash
-low_hash kinds.Dyn d e number hash = hash
-low_hash kinds.End d e number hash = hash
-low_hash kinds.Repeat d e number hash = hash
-low_hash kinds.Respan d e number hash = hash
 low_hash kinds.Halt d e number hash = elements-none
+low_hash kind d e number hash = hash
 
 low_address : (blocks : List Open) → All IsLowBlock blocks → address_of blocks < prime
 low_address [] h = lit< tt

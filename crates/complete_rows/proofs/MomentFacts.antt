@@ -1,13 +1,13 @@
 -- What the row of a moment of a run shows, by the operation that its bits spell, and what it and the row behind it show.
 use Rattle.std.proofs.Common.{◌≡◌, ℕ, ◌<◌, ◌≤◌, List, [], ◌∷◌, ◌++◌, slice_index, take, unwrap_or, refl, sym, ap, ◌∙◌, subst, arith}
 use Rattle.vm_field.specs.Limits.{most_cycles}
-use Rattle.vm_field.specs.Field.{AreElements}
 use Rattle.vm_field.specs.Machine.{Core, State}
 use Rattle.vm_field.proofs.Elements.{elements-replicate, elements-take, word-zero}
 use Rattle.vm_ops.specs.Codes.{code_of, op_at}
+use Rattle.vm_ops.specs.declared.op.Op.{Op}
 use Rattle.vm_ops.specs.declared.op.Op.TheVariants as ops
 use Rattle.vm_ops.proofs.CodeLemmas.{code_of-below, op_at-code_of}
-use Rattle.block_tree.specs.Behind.{core_behind}
+use Rattle.block_tree.specs.Behind.{IsAllowed, core_behind}
 use Rattle.block_tree.specs.Cycles.{Mark, advice_taken, effect_of}
 use Rattle.block_tree.specs.Rows.{accessed, behind, op_of_mark}
 use Rattle.block_tree.specs.Steps.{Task, IsCycle}
@@ -15,24 +15,23 @@ use Rattle.block_tree.proofs.BehindLemmas.{behind-cycle}
 use Rattle.block_tree.proofs.RowLemmas.{accessed-word, hash-batch, shown-behind}
 use Rattle.air_kit.specs.Flags as flags
 use Rattle.machine_cycles.specs.Events.{visible_of}
+use Rattle.machine_cycles.specs.declared.event.Event.{Event}
 use Rattle.vm_table.specs.MainColumns.{b, h, t, w}
 use Rattle.facts_main.specs.RowFacts.{ReadsAs, IsRow, IsPair}
 use Rattle.complete_rows.specs.Decoder.{Decoder, advance}
-use Rattle.complete_rows.specs.Filling.{halted, hash_by, line_of, row_of, witnesses_by}
+use Rattle.complete_rows.specs.Filling.{halted, hash_by, line_of, witnesses_by}
 use Rattle.vm_ops.specs.Codes.{kind_of}
 use Rattle.complete_rows.specs.Limbs.{limbs_of}
 use Rattle.complete_rows.specs.Lines.{Line, laid_out}
 use Rattle.complete_rows.specs.Moments.{Comes, IsLastMoment, IsMoment, IsRowAt, event_at}
 use Rattle.complete_rows.specs.Shows.{Shows}
-use Rattle.complete_rows.proofs.ColumnLemmas.{col_b, col_h, col_t, col_w}
+use Rattle.complete_rows.proofs.BatchLemmas.{IsLaid, laid}
+use Rattle.complete_rows.proofs.ColumnLemmas.{col_b, col_t}
 use Rattle.complete_rows.proofs.LineLemmas.{ha_low, low_line, next_low}
 use Rattle.complete_rows.proofs.LowLemmas.{bits_spell, line_reads}
 use Rattle.complete_rows.proofs.PairLemmas.{Known, pair_shown, ticked}
 use Rattle.complete_rows.proofs.RowLemmas.{halt_row, row_shown}
 use Rattle.complete_rows.proofs.ShowLemmas.{shows_row}
-
-eight_zeros : AreElements (0 ∷ 0 ∷ 0 ∷ 0 ∷ 0 ∷ 0 ∷ 0 ∷ 0 ∷ [])
-eight_zeros = elements-replicate 8
 
 -- the operation that the bits of a row spell is that of its line
 pub line_op : (l : Line) → flags.op_of (laid_out l) ≡ l.op
@@ -42,32 +41,47 @@ line_op l =
     let spells = bits_spell (b (laid_out l)) (code_of l.op) (omega (arith, few)) (col_b l) in
     ap (λ o. unwrap_or o ops.Noop) (ap op_at (sym spells) ∙ op_at-code_of l.op)
 
-module _ (constants : List ℕ) where
+module _ {constants : List ℕ} {todo : List Task} {d : Decoder} {c : Core} {x : List ℕ} (at : IsRowAt constants todo d c x) where
   -- the operation of a row at a place, and what it shows
-  pub place_op : {todo : List Task} {d : Decoder} {c : Core} {x : List ℕ} → (at : IsRowAt constants todo d c x) → flags.op_of x ≡ at.event.op
-  place_op {d = d} at = ap flags.op_of at.row ∙ line_op (line_of d at.event at.next at.later)
+  pub place_op : flags.op_of x ≡ at.event.op
+  place_op = ap flags.op_of at.row ∙ line_op (line_of d at.event at.next at.later)
 
-  pub place_shows : {todo : List Task} {d : Decoder} {c : Core} {x : List ℕ} → (at : IsRowAt constants todo d c x) → Shows (flags.op_of x) d c x
-  place_shows {d = d} {c = c} {x = x} at =
-      subst (λ op. Shows op d c x) (sym (place_op at))
+  pub place_shows : Shows (flags.op_of x) d c x
+  place_shows =
+      subst (λ op. Shows op d c x) (sym place_op)
       (subst (λ z. Shows at.event.op d c z) (sym at.row) (shows_row d at.event at.next at.later c at.before))
 
-  pub place_comes : {todo : List Task} {d : Decoder} {c : Core} {x : List ℕ} → (at : IsRowAt constants todo d c x)
-      → Comes constants todo c (flags.op_of x)
-  place_comes {todo = todo} {c = c} at = subst (Comes constants todo c) (sym (place_op at)) at.comes
+  pub place_comes : Comes constants todo c (flags.op_of x)
+  place_comes = subst (Comes constants todo c) (sym place_op) at.comes
 
-module _ (constants : List ℕ) (kernel : List (List ℕ)) (limit : ℕ) where
-  -- the state but for the tape behind a cycle
-  pub core_after : (mark : Mark) (s t : State) → IsCycle constants kernel limit mark s t
-      → t.core ≡ ticked (core_behind constants mark (take (advice_taken mark) s.tape) s.core)
-  core_after mark s t cycle =
-      let after = behind-cycle constants kernel mark (take (advice_taken mark) s.tape) s.core cycle.core cycle.made in
-      ap (λ x. x.core) cycle.now ∙ ap ticked after.1
+-- the state but for the tape behind a cycle
+pub core_after : {constants : List ℕ} {kernel : List (List ℕ)} {limit : ℕ} {mark : Mark} {s t : State} → IsCycle constants kernel limit mark s t
+    → t.core ≡ ticked (core_behind constants mark (take (advice_taken mark) s.tape) s.core)
+core_after {constants = constants} {kernel = kernel} {mark = mark} {s = s} cycle =
+    ap (λ x. x.core) cycle.now
+    ∙ ap ticked (behind-cycle constants kernel mark (take (advice_taken mark) s.tape) s.core cycle.core cycle.made).1
 
-  pub known : {x y : List ℕ} → limit ≤ most_cycles → (m : IsMoment constants kernel limit x y)
-      → Known constants kernel m.mark (take (advice_taken m.mark) m.s.tape) m.s.core m.d
-  known within m = record {
-    allowed = (behind-cycle constants kernel m.mark (take (advice_taken m.mark) m.s.tape) m.s.core m.cycle.core m.cycle.made).0;
+module _ {constants : List ℕ} {kernel : List (List ℕ)} {limit : ℕ} {x y : List ℕ} (m : IsMoment constants kernel limit x y) where
+  -- the advice that its cycle takes, its event, the line that its row lays out, and the state behind it
+  abbrev pub advice_of : List ℕ
+  advice_of = take (advice_taken m.mark) m.s.tape
+
+  abbrev pub moment_event : Event
+  moment_event = event_at constants kernel m.mark m.s
+
+  abbrev pub moment_line : Line
+  moment_line = line_of m.d moment_event (visible_of m.t.core) m.later
+
+  abbrev pub moment_behind : Core
+  moment_behind = behind (effect_of constants kernel m.mark advice_of m.s.core) m.s.core
+
+  pub moment_allowed : IsAllowed constants kernel m.mark advice_of m.s.core
+  moment_allowed = (behind-cycle constants kernel m.mark advice_of m.s.core m.cycle.core m.cycle.made).0
+
+  -- what is known of its cycle
+  pub known : limit ≤ most_cycles → Known constants kernel m.mark advice_of m.s.core m.d
+  known within = record {
+    allowed = moment_allowed;
     whole = m.whole;
     formed = m.before.core;
     small = m.small;
@@ -75,20 +89,36 @@ module _ (constants : List ℕ) (kernel : List (List ℕ)) (limit : ℕ) where
     ha = m.bounded.ha;
   }
 
-  pub moment_reads : {x y : List ℕ} → IsMoment constants kernel limit x y → ReadsAs (flags.op_of x) x
-  moment_reads {x = x} m =
-      let word : accessed m.mark m.s.core (behind (effect_of constants kernel m.mark (take (advice_taken m.mark) m.s.tape) m.s.core) m.s.core)
-      ≡ accessed m.mark m.s.core m.t.core
+  -- the operation of its row; what a laid out line shows is shown by the row
+  pub moment_op : flags.op_of x ≡ op_of_mark m.mark
+  moment_op = ap flags.op_of m.row ∙ line_op moment_line
+
+  by_op : (P : Op → List ℕ → Type 0) → P (op_of_mark m.mark) x → P (flags.op_of x) x
+  by_op P shown = subst (λ op. P op x) (sym moment_op) shown
+
+  laid_out_shows : Shows (op_of_mark m.mark) m.d m.s.core x
+  laid_out_shows =
+      subst (Shows (op_of_mark m.mark) m.d m.s.core) (sym m.row)
+      (shows_row m.d moment_event (visible_of m.t.core) m.later m.s.core refl)
+
+  is_laid : IsLaid moment_line x
+  is_laid = subst (IsLaid moment_line) (sym m.row) (laid moment_line)
+
+  pub moment_shows : Shows (flags.op_of x) m.d m.s.core x
+  moment_shows = by_op (λ op z. Shows op m.d m.s.core z) laid_out_shows
+
+  pub moment_reads : ReadsAs (flags.op_of x) x
+  moment_reads =
+      let word : accessed m.mark m.s.core moment_behind ≡ accessed m.mark m.s.core m.t.core
       = (shown-behind constants kernel limit m.mark m.s m.t m.cycle).0 in
-      let reads : ReadsAs (op_of_mark m.mark) (row_of m.d (event_at constants kernel m.mark m.s) (visible_of m.t.core) m.later)
-      = line_reads (line_of m.d (event_at constants kernel m.mark m.s) (visible_of m.t.core) m.later)
-      (low_line m.d (event_at constants kernel m.mark m.s) (visible_of m.t.core) m.s.core m.later (record {
+      by_op ReadsAs (subst (ReadsAs (op_of_mark m.mark)) (sym m.row) (line_reads moment_line
+      (low_line m.d moment_event (visible_of m.t.core) m.s.core m.later (record {
         before = refl;
         formed = m.before.core;
         small = m.small;
         unread = m.agrees.low;
-        next = next_low m.d m.s.core.clock (event_at constants kernel m.mark m.s ∷ m.later) m.bounded;
-        ha = ha_low m.d m.s.core.clock (event_at constants kernel m.mark m.s ∷ m.later) m.bounded;
+        next = next_low m.d m.s.core.clock (moment_event ∷ m.later) m.bounded;
+        ha = ha_low m.d m.s.core.clock (moment_event ∷ m.later) m.bounded;
         blocks = m.bounded.blocks;
         keys = m.bounded.keys;
         hash = (hash-batch m.mark m.whole).below;
@@ -96,100 +126,63 @@ module _ (constants : List ℕ) (kernel : List (List ℕ)) (limit : ℕ) where
         behind = elements-take 16 m.t.core.stack m.behind.core.cells;
         clock = (let whole = m.bounded.whole in omega (arith, whole));
         few = (let whole = m.bounded.whole in omega (arith, whole));
-      })) in
-      let P : List ℕ → Type 0 = λ z. ReadsAs (flags.op_of z) z in
-      subst P (sym m.row) (subst (λ op. ReadsAs op (row_of m.d (event_at constants kernel m.mark m.s) (visible_of m.t.core) m.later))
-      (sym (line_op (line_of m.d (event_at constants kernel m.mark m.s) (visible_of m.t.core) m.later))) reads)
+      }))))
 
-  pub moment_row : {x y : List ℕ} → limit ≤ most_cycles → IsMoment constants kernel limit x y → IsRow (flags.op_of x) x
-  moment_row within m =
-      let row : IsRow (op_of_mark m.mark) (row_of m.d (event_at constants kernel m.mark m.s) (visible_of m.t.core) m.later)
-      = row_shown constants kernel (take (advice_taken m.mark) m.s.tape) m.first m.d m.later m.todo
-      (behind (effect_of constants kernel m.mark (take (advice_taken m.mark) m.s.tape) m.s.core) m.s.core) (visible_of m.t.core)
-      (known within m) m.agrees in
-      let P : List ℕ → Type 0 = λ z. IsRow (flags.op_of z) z in
-      subst P (sym m.row) (subst (λ op. IsRow op (row_of m.d (event_at constants kernel m.mark m.s) (visible_of m.t.core) m.later))
-      (sym (line_op (line_of m.d (event_at constants kernel m.mark m.s) (visible_of m.t.core) m.later))) row)
+  pub moment_row : limit ≤ most_cycles → IsRow (flags.op_of x) x
+  moment_row within = by_op IsRow (row_shown m.later moment_behind (visible_of m.t.core) m.first (known within) m.agrees laid_out_shows is_laid)
 
-  -- the operation of a moment's row, and its cells
-  pub moment_op : {x y : List ℕ} → (m : IsMoment constants kernel limit x y) → flags.op_of x ≡ op_of_mark m.mark
-  moment_op m = ap flags.op_of m.row ∙ line_op (line_of m.d (event_at constants kernel m.mark m.s) (visible_of m.t.core) m.later)
+  -- its cells
+  pub moment_hash : (j : ℕ) → j < 8 → h x j ≡ slice_index (hash_by (kind_of (op_of_mark m.mark)) m.d moment_event) j
+  moment_hash = is_laid.hash
 
-  pub moment_shows : {x y : List ℕ} → (m : IsMoment constants kernel limit x y) → Shows (flags.op_of x) m.d m.s.core x
-  moment_shows {x = x} m =
-      subst (λ op. Shows op m.d m.s.core x) (sym (moment_op m))
-      (subst (Shows (op_of_mark m.mark) m.d m.s.core) (sym m.row)
-      (shows_row m.d (event_at constants kernel m.mark m.s) (visible_of m.t.core) m.later m.s.core refl))
+  pub moment_witness : (j : ℕ) → j < 4
+      → w x j ≡ slice_index (witnesses_by (kind_of (op_of_mark m.mark)) m.d moment_event (visible_of m.t.core) m.later) j
+  moment_witness = is_laid.witness
 
-  pub moment_hash : {x y : List ℕ} → (m : IsMoment constants kernel limit x y) → (j : ℕ) → j < 8
-      → h x j ≡ slice_index (hash_by (kind_of (op_of_mark m.mark)) m.d (event_at constants kernel m.mark m.s)) j
-  moment_hash m j low =
-      ap (λ z. h z j) m.row ∙ col_h (line_of m.d (event_at constants kernel m.mark m.s) (visible_of m.t.core) m.later) j low
-
-  pub moment_witness : {x y : List ℕ} → (m : IsMoment constants kernel limit x y) → (j : ℕ) → j < 4
-      → w x j ≡ slice_index (witnesses_by (kind_of (op_of_mark m.mark)) m.d (event_at constants kernel m.mark m.s) (visible_of m.t.core) m.later) j
-  moment_witness m j low =
-      ap (λ z. w z j) m.row ∙ col_w (line_of m.d (event_at constants kernel m.mark m.s) (visible_of m.t.core) m.later) j low
-
-  pub moment_limb : {x y : List ℕ} → (m : IsMoment constants kernel limit x y) → (j : ℕ) → j < 10
-      → t x j ≡ slice_index (limbs_of (event_at constants kernel m.mark m.s) (visible_of m.t.core)) j
-  moment_limb m j low =
-      ap (λ z. t z j) m.row ∙ col_t (line_of m.d (event_at constants kernel m.mark m.s) (visible_of m.t.core) m.later) j low
+  pub moment_limb : (j : ℕ) → j < 10 → t x j ≡ slice_index (limbs_of moment_event (visible_of m.t.core)) j
+  moment_limb j low = ap (λ z. t z j) m.row ∙ col_t moment_line j low
 
   -- and what the row behind it shows
-  pub behind_shows : {x y : List ℕ} → (m : IsMoment constants kernel limit x y)
-      → Shows (flags.op_of y) (advance m.d (event_at constants kernel m.mark m.s) m.later)
-      (ticked (core_behind constants m.mark (take (advice_taken m.mark) m.s.tape) m.s.core)) y
-  behind_shows {y = y} m =
-      subst (λ c. Shows (flags.op_of y) (advance m.d (event_at constants kernel m.mark m.s) m.later) c y) (core_after m.mark m.s m.t m.cycle)
-      (place_shows constants m.next)
+  pub behind_shows : Shows (flags.op_of y) (advance m.d moment_event m.later) (ticked (core_behind constants m.mark advice_of m.s.core)) y
+  behind_shows = subst (λ c. Shows (flags.op_of y) (advance m.d moment_event m.later) c y) (core_after m.cycle) (place_shows m.next)
 
-  pub moment_pair : {x y : List ℕ} → limit ≤ most_cycles → IsMoment constants kernel limit x y → IsPair (flags.op_of x) (flags.op_of y) x y
-  moment_pair {x = x} {y = y} within m =
-      let core : m.t.core ≡ ticked (core_behind constants m.mark (take (advice_taken m.mark) m.s.tape) m.s.core)
-      = core_after m.mark m.s m.t m.cycle in
-      let comes : Comes constants (m.rest ++ m.todo)
-      (ticked (core_behind constants m.mark (take (advice_taken m.mark) m.s.tape) m.s.core)) (flags.op_of y)
-      = subst (λ c. Comes constants (m.rest ++ m.todo) c (flags.op_of y)) core (place_comes constants m.next) in
-      let pair : IsPair (op_of_mark m.mark) (flags.op_of y) (row_of m.d (event_at constants kernel m.mark m.s) (visible_of m.t.core) m.later) y
-      = pair_shown constants kernel (take (advice_taken m.mark) m.s.tape) m.first m.d m.later m.todo
-      (behind (effect_of constants kernel m.mark (take (advice_taken m.mark) m.s.tape) m.s.core) m.s.core) (visible_of m.t.core) y (flags.op_of y)
-      (known within m) m.agrees (behind_shows m) comes in
-      let P : List ℕ → Type 0 = λ z. IsPair (flags.op_of z) (flags.op_of y) z y in
-      subst P (sym m.row) (subst (λ op. IsPair op (flags.op_of y) (row_of m.d (event_at constants kernel m.mark m.s) (visible_of m.t.core) m.later) y)
-      (sym (line_op (line_of m.d (event_at constants kernel m.mark m.s) (visible_of m.t.core) m.later))) pair)
+  pub moment_pair : limit ≤ most_cycles → IsPair (flags.op_of x) (flags.op_of y) x y
+  moment_pair within =
+      by_op (λ op z. IsPair op (flags.op_of y) z y) (pair_shown m.later moment_behind (visible_of m.t.core) m.first (known within) m.agrees laid_out_shows is_laid behind_shows
+      (subst (λ c. Comes constants (m.rest ++ m.todo) c (flags.op_of y)) (core_after m.cycle) (place_comes m.next)))
 
 -- ---- the row of HALT
 
-pub end_op : {d : Decoder} {u : State} {x : List ℕ} → IsLastMoment d u x → flags.op_of x ≡ ops.Halt
-end_op {d = d} {u = u} e = ap flags.op_of e.row ∙ line_op (line_of d (halted (visible_of u.core)) (visible_of u.core) [])
+module _ {d : Decoder} {u : State} {x : List ℕ} (e : IsLastMoment d u x) where
+  abbrev end_line : Line
+  end_line = line_of d (halted (visible_of u.core)) (visible_of u.core) []
 
-pub end_reads : {d : Decoder} {u : State} {x : List ℕ} → IsLastMoment d u x → ReadsAs (flags.op_of x) x
-end_reads {d = d} {u = u} {x = x} e =
-    let reads : ReadsAs ops.Halt (row_of d (halted (visible_of u.core)) (visible_of u.core) [])
-    = line_reads (line_of d (halted (visible_of u.core)) (visible_of u.core) [])
-    (low_line d (halted (visible_of u.core)) (visible_of u.core) u.core [] (record {
-      before = refl;
-      formed = e.whole.core;
-      small = e.small;
-      unread = e.agrees.low;
-      next = next_low d u.core.clock [] e.bounded;
-      ha = ha_low d u.core.clock [] e.bounded;
-      blocks = e.bounded.blocks;
-      keys = e.bounded.keys;
-      hash = eight_zeros;
-      word = word-zero.below;
-      behind = elements-take 16 u.core.stack e.whole.core.cells;
-      clock = (let whole = e.bounded.whole in omega (arith, whole));
-      few = omega arith;
-    })) in
-    subst (λ op. ReadsAs op x) (sym (end_op e)) (subst (ReadsAs ops.Halt) (sym e.row) reads)
+  pub end_op : flags.op_of x ≡ ops.Halt
+  end_op = ap flags.op_of e.row ∙ line_op end_line
 
-pub end_row_shown : {d : Decoder} {u : State} {x : List ℕ} → IsLastMoment d u x → IsRow (flags.op_of x) x
-end_row_shown {d = d} {u = u} {x = x} e =
-    subst (λ op. IsRow op x) (sym (end_op e)) (subst (IsRow ops.Halt) (sym e.row) (halt_row d (visible_of u.core) u.core e.agrees))
+  at_end : (P : Op → List ℕ → Type 0) → P ops.Halt (laid_out end_line) → P (flags.op_of x) x
+  at_end P shown = subst (λ op. P op x) (sym end_op) (subst (P ops.Halt) (sym e.row) shown)
 
-pub end_shows : {d : Decoder} {u : State} {x : List ℕ} → IsLastMoment d u x → Shows (flags.op_of x) d u.core x
-end_shows {d = d} {u = u} {x = x} e =
-    subst (λ op. Shows op d u.core x) (sym (end_op e))
-    (subst (Shows ops.Halt d u.core) (sym e.row) (shows_row d (halted (visible_of u.core)) (visible_of u.core) [] u.core refl))
+  pub end_reads : ReadsAs (flags.op_of x) x
+  end_reads =
+      at_end ReadsAs (line_reads end_line (low_line d (halted (visible_of u.core)) (visible_of u.core) u.core [] (record {
+        before = refl;
+        formed = e.whole.core;
+        small = e.small;
+        unread = e.agrees.low;
+        next = next_low d u.core.clock [] e.bounded;
+        ha = ha_low d u.core.clock [] e.bounded;
+        blocks = e.bounded.blocks;
+        keys = e.bounded.keys;
+        hash = elements-replicate 8;
+        word = word-zero.below;
+        behind = elements-take 16 u.core.stack e.whole.core.cells;
+        clock = (let whole = e.bounded.whole in omega (arith, whole));
+        few = omega arith;
+      })))
+
+  pub end_row_shown : IsRow (flags.op_of x) x
+  end_row_shown = at_end IsRow (halt_row d (visible_of u.core) u.core e.agrees)
+
+  pub end_shows : Shows (flags.op_of x) d u.core x
+  end_shows = at_end (λ op z. Shows op d u.core z) (shows_row d (halted (visible_of u.core)) (visible_of u.core) [] u.core refl)

@@ -1,5 +1,5 @@
 -- The rows of a run are those of its cycles, one behind the other, and of HALT.
-use Rattle.std.proofs.Common.{All, ◌≡◌, ℕ, zero, suc, ◌+◌, ◌<◌, ◌≤◌, List, [], ◌∷◌, length, map, refl, sym, ap, subst, arith}
+use Rattle.std.proofs.Common.{All, ◌≡◌, ℕ, zero, suc, ◌+◌, ◌<◌, ◌≤◌, List, [], ◌∷◌, length, refl, sym, ap, subst, arith}
 use Rattle.std.proofs.lemmas.List.Elements.{All-head, All-tail}
 use Rattle.vm_field.specs.Limits.{number_of_constants}
 use Rattle.vm_field.specs.Machine.{State, IsWellFormed}
@@ -10,9 +10,10 @@ use Rattle.block_tree.specs.Steps.{Task, Steps, ended, goes}
 use Rattle.block_tree.proofs.AlongLemmas.{cycle-clock}
 use Rattle.block_tree.proofs.KeptLemmas.{cycle-kept}
 use Rattle.block_tree.proofs.TaskLemmas.{AreWholeTasks, next-whole, whole-append}
-use Rattle.machine_cycles.specs.Events.{shown, visible_of}
+use Rattle.machine_cycles.specs.Events.{visible_of}
 use Rattle.machine_cycles.specs.declared.event.Event.{Event}
 use Rattle.complete_rows.specs.Agreement.{Agrees}
+use Rattle.complete_rows.specs.BlockRows.{events_of}
 use Rattle.complete_rows.specs.Bounds.{IsBounded, IsSmallCore}
 use Rattle.complete_rows.specs.Chains as chains
 use Rattle.complete_rows.specs.Chains.{AreLinked}
@@ -44,19 +45,17 @@ module _ (constants : List ℕ) (kernel : List (List ℕ)) (limit : ℕ) where
       let behind = steps_within later (omega (arith, clock, early)) in
       omega (arith, clock, behind)
 
-  abbrev seen : List run.Event → List Event
-  seen log = map (shown constants kernel) log
-
+module _ {constants : List ℕ} {kernel : List (List ℕ)} {limit : ℕ} where
   -- the state behind an event is the one before the next
   pub behind_is : {todo : List Task} {t u : State} {log : List run.Event} → Steps constants kernel limit todo t log u
-      → seen_behind (visible_of u.core) (seen log) ≡ visible_of t.core
+      → seen_behind (visible_of u.core) (events_of constants kernel log) ≡ visible_of t.core
   behind_is ended = refl
   behind_is (goes first cycle later) = refl
 
   pub along : length constants ≡ number_of_constants → {todo : List Task} {s u : State} {log : List run.Event} → Steps constants kernel limit todo s log u
-      → AreWholeTasks todo → IsWellFormed s → (d : Decoder) → Agrees todo d s.core → IsBounded d s.core.clock (seen log)
+      → AreWholeTasks todo → IsWellFormed s → (d : Decoder) → Agrees todo d s.core → IsBounded d s.core.clock (events_of constants kernel log)
       → All (λ e. IsSmallCore e.core) log → IsSmallCore u.core
-      → Filled constants kernel limit todo d s u (seen log) (fill (visible_of u.core) d (seen log))
+      → Filled constants kernel limit todo d s u (events_of constants kernel log) (fill (visible_of u.core) d (events_of constants kernel log))
   unfolding fill
   along len (ended {s = s}) w h d agrees bounded small last = record {
     x = row_of d (halted (visible_of s.core)) (visible_of s.core) [];
@@ -71,19 +70,18 @@ module _ (constants : List ℕ) (kernel : List (List ℕ)) (limit : ℕ) where
       let kept = cycle-kept constants kernel limit mark s t len cycle n.0 h in
       let e : Event = event_at constants kernel mark s in
       let clock : t.core.clock ≡ s.core.clock + 1 = cycle-clock constants kernel limit mark s t cycle in
-      let next_agrees = agrees_next constants kernel limit len first cycle n.0 h d (seen log) todo agrees in
-      let next_bounded = bounded_next d (event_at constants kernel mark s) (seen log) s.core.clock bounded refl in
-      let r = along len later (whole-append rest todo n.1 w.1) kept (advance d (event_at constants kernel mark s) (seen log)) next_agrees
-      (subst (λ k. IsBounded (advance d (event_at constants kernel mark s) (seen log)) k (seen log)) (sym clock) next_bounded)
+      let next_agrees = agrees_next len first cycle n.0 h d (events_of constants kernel log) todo agrees in
+      let r = along len later (whole-append rest todo n.1 w.1) kept (advance d e (events_of constants kernel log)) next_agrees
+      (subst (λ k. IsBounded (advance d e (events_of constants kernel log)) k (events_of constants kernel log)) (sym clock) (bounded_next d e (events_of constants kernel log) s.core.clock bounded refl))
       (All-tail (λ x. IsSmallCore x.core) (event_of mark (advice_taken mark) s) log small) last in
       record {
-        x = row_of d (event_at constants kernel mark s) (seen_behind (visible_of u.core) (seen log)) (seen log);
+        x = row_of d e (seen_behind (visible_of u.core) (events_of constants kernel log)) (events_of constants kernel log);
         others = r.x ∷ r.others;
-        are = ap (λ rows. row_of d (event_at constants kernel mark s) (seen_behind (visible_of u.core) (seen log)) (seen log) ∷ rows) r.are;
+        are = ap (λ rows. row_of d e (seen_behind (visible_of u.core) (events_of constants kernel log)) (events_of constants kernel log) ∷ rows) r.are;
         at = record {
-          event = event_at constants kernel mark s;
-          next = seen_behind (visible_of u.core) (seen log);
-          later = seen log;
+          event = e;
+          next = seen_behind (visible_of u.core) (events_of constants kernel log);
+          later = events_of constants kernel log;
           row = refl;
           before = refl;
           comes = (mark, rest, first, n.0, refl);
@@ -96,7 +94,7 @@ module _ (constants : List ℕ) (kernel : List (List ℕ)) (limit : ℕ) where
           s = s;
           t = t;
           d = d;
-          later = seen log;
+          later = events_of constants kernel log;
           first = first;
           cycle = cycle;
           whole = n.0;
@@ -106,7 +104,7 @@ module _ (constants : List ℕ) (kernel : List (List ℕ)) (limit : ℕ) where
           agrees_behind = next_agrees;
           small = All-head (λ x. IsSmallCore x.core) (event_of mark (advice_taken mark) s) log small;
           bounded = bounded;
-          row = ap (λ v. row_of d (event_at constants kernel mark s) v (seen log)) (behind_is later);
+          row = ap (λ v. row_of d e v (events_of constants kernel log)) (behind_is later);
           next = r.at;
         }) r.linked;
       }
@@ -120,17 +118,17 @@ module _ (constants : List ℕ) (kernel : List (List ℕ)) (limit : ℕ) where
 
   -- ---- by the number of a row
 
-  pub moment_at : (d : Decoder) (u : State) (rows : List (List ℕ)) → AreMoments constants kernel limit d u rows → (i : ℕ) → suc i < length rows
+  pub moment_at : {d : Decoder} {u : State} (rows : List (List ℕ)) → AreMoments constants kernel limit d u rows → (i : ℕ) → suc i < length rows
       → IsMoment constants kernel limit (row_at rows i) (row_at rows (suc i))
-  moment_at d u [] none i h = elim none [ ]
-  moment_at d u (x ∷ []) (moments.ends e) i h = absurd (omega (arith, h))
-  moment_at d u (x ∷ y ∷ rows) (moments.goes m later) zero h = m
-  moment_at d u (x ∷ y ∷ rows) (moments.goes m later) (suc i) h = moment_at d u (y ∷ rows) later i (omega (arith, h))
+  moment_at [] none i h = elim none [ ]
+  moment_at (x ∷ []) (moments.ends e) i h = absurd (omega (arith, h))
+  moment_at (x ∷ y ∷ rows) (moments.goes m later) zero h = m
+  moment_at (x ∷ y ∷ rows) (moments.goes m later) (suc i) h = moment_at (y ∷ rows) later i (omega (arith, h))
 
-  pub end_at : (d : Decoder) (u : State) (rows : List (List ℕ)) → AreMoments constants kernel limit d u rows → (i : ℕ) → suc i ≡ length rows
+  pub end_at : {d : Decoder} {u : State} (rows : List (List ℕ)) → AreMoments constants kernel limit d u rows → (i : ℕ) → suc i ≡ length rows
       → IsLastMoment d u (row_at rows i)
-  end_at d u [] none i h = elim none [ ]
-  end_at d u (x ∷ []) (moments.ends e) zero h = e
-  end_at d u (x ∷ []) (moments.ends e) (suc i) h = absurd (omega (arith, h))
-  end_at d u (x ∷ y ∷ rows) (moments.goes m later) zero h = absurd (omega (arith, h))
-  end_at d u (x ∷ y ∷ rows) (moments.goes m later) (suc i) h = end_at d u (y ∷ rows) later i (omega (arith, h))
+  end_at [] none i h = elim none [ ]
+  end_at (x ∷ []) (moments.ends e) zero h = e
+  end_at (x ∷ []) (moments.ends e) (suc i) h = absurd (omega (arith, h))
+  end_at (x ∷ y ∷ rows) (moments.goes m later) zero h = absurd (omega (arith, h))
+  end_at (x ∷ y ∷ rows) (moments.goes m later) (suc i) h = end_at (y ∷ rows) later i (omega (arith, h))

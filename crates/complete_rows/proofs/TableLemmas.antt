@@ -27,13 +27,13 @@ use Rattle.vm_table.specs.Layout.{row_at}
 use Rattle.facts_main.specs.MainRows.{op_in}
 use Rattle.facts_main.specs.RowFacts.{ReadsAs, IsRow}
 use Rattle.complete_rows.specs.Agreement.{Agrees}
-use Rattle.complete_rows.specs.BlockRows.{ClaimsRun, IsWholeRun, ShowsBlocks, decoder_behind, events_of, filled, keys_of}
+use Rattle.complete_rows.specs.BlockRows.{ClaimsRun, IsWholeRun, RowsAreCounted, RunHasMoments, RunShowsBlocks, decoder_behind, events_of, filled, keys_of}
 use Rattle.complete_rows.specs.Bounds.{IsSmallCore}
-use Rattle.complete_rows.specs.Chains.{AreLinked}
+use Rattle.complete_rows.specs.Chains.{AreLinked, RunIsLinked}
 use Rattle.complete_rows.specs.Decoder.{Decoder, advance, at_start, decoder_after}
 use Rattle.complete_rows.specs.Filling.{deep_before, fill, rows_of_run}
 use Rattle.complete_rows.specs.Lines.{Line, laid_out}
-use Rattle.complete_rows.specs.Moments.{AreMoments, IsLastMoment, IsRowAt}
+use Rattle.complete_rows.specs.Moments.{AreMoments, IsLastMoment, IsMoment, IsRowAt}
 use Rattle.complete_rows.specs.RunRequests.{requests_of}
 use Rattle.complete_rows.specs.Shows.{Shows}
 use Rattle.complete_rows.proofs.AgreeLemmas.{low_nothing}
@@ -58,22 +58,22 @@ agrees_start tree inputs tape = record {
 
 -- ---- a run
 
-module _ (constants : List ℕ) (kernel : List (List ℕ)) (limit : ℕ) where
-  steps_of : (tree : Tree) (inputs tape : List ℕ) (u : State) (log : List run.Event) → IsWholeRun constants kernel limit tree inputs tape u log
-      → Steps constants kernel limit (Block tree ∷ []) (start inputs tape) log u
-  steps_of tree inputs tape u log r = run-steps constants kernel limit tree (start inputs tape) u log r.whole r.done
+module _ {constants : List ℕ} {kernel : List (List ℕ)} {limit : ℕ} {tree : Tree} {inputs tape : List ℕ} {u : State} {log : List run.Event}
+    (r : IsWholeRun constants kernel limit tree inputs tape u log) where
+  steps_of : Steps constants kernel limit (Block tree ∷ []) (start inputs tape) log u
+  steps_of = run-steps constants kernel limit tree (start inputs tape) u log r.whole r.done
+
+  formed : IsWellFormed (start inputs tape)
+  formed = start-IsWellFormed inputs tape r.inputs_are r.tape_is
 
   -- the states of a run are small
-  small : (tree : Tree) (inputs tape : List ℕ) (u : State) (log : List run.Event) → IsWholeRun constants kernel limit tree inputs tape u log
-      → All (λ e. IsSmallCore e.core) log × IsSmallCore u.core
+  small : All (λ e. IsSmallCore e.core) log × IsSmallCore u.core
   unfolding start
-  small tree inputs tape u log r =
-      let steps = steps_of tree inputs tape u log r in
-      let formed : IsWellFormed (start inputs tape) = start-IsWellFormed inputs tape r.inputs_are r.tape_is in
-      let nested = log-nested constants kernel limit (steps-log constants kernel limit steps) (omega arith) in
-      let shallow = steps-shallow constants kernel limit r.constants_are 0 most_inputs steps
+  small =
+      let nested = log-nested constants kernel limit (steps-log constants kernel limit steps_of) (omega arith) in
+      let shallow = steps-shallow constants kernel limit r.constants_are 0 most_inputs steps_of
       (let few = r.few in omega (arith, few, length-filled_up inputs), (r.whole, tt), formed) in
-      let reached = steps-reached constants kernel limit steps (omega arith, (tt, tt)) in (
+      let reached = steps-reached constants kernel limit steps_of (omega arith, (tt, tt)) in (
         λ k d h. record {
           nesting = nested.0 k d h;
           depth = (let deep = shallow.0 k d h in omega (arith, deep));
@@ -83,45 +83,45 @@ module _ (constants : List ℕ) (kernel : List (List ℕ)) (limit : ℕ) where
       )
 
   -- what is seen before the first event is the start
-  deep_is : (tree : Tree) (inputs tape : List ℕ) (u : State) (log : List run.Event) → IsWholeRun constants kernel limit tree inputs tape u log
-      → deep_before (visible_of u.core) (events_of constants kernel log) ≡ length inputs - 16
+  deep_is : deep_before (visible_of u.core) (events_of constants kernel log) ≡ length inputs - 16
   unfolding start
-  deep_is tree inputs tape u log r =
-      let seen = behind_is constants kernel limit (steps_of tree inputs tape u log r) in
+  deep_is =
       let deep : length (filled_up inputs) - 16 ≡ length inputs - 16 = omega (arith, length-filled_up inputs) in
-      ap (λ (v : Visible). v.depth - 16) seen ∙ deep
+      ap (λ (v : Visible). v.depth - 16) (behind_is steps_of) ∙ deep
 
-  pub keys_asked : (tree : Tree) (inputs tape : List ℕ) (u : State) (log : List run.Event) → IsWholeRun constants kernel limit tree inputs tape u log
-      → (requests_of constants (visible_of u.core) (events_of constants kernel log)).keys ≡ keys_of constants kernel inputs log
-  keys_asked tree inputs tape u log r =
-      ap (λ deep. (decoder_after (at_start deep) (events_of constants kernel log)).keys) (deep_is tree inputs tape u log r)
+  pub keys_asked : (requests_of constants (visible_of u.core) (events_of constants kernel log)).keys ≡ keys_of constants kernel inputs log
+  keys_asked = ap (λ deep. (decoder_after (at_start deep) (events_of constants kernel log)).keys) deep_is
 
-  pub filled_run : (tree : Tree) (inputs tape : List ℕ) (u : State) (log : List run.Event) → IsWholeRun constants kernel limit tree inputs tape u log
-      → Filled constants kernel limit (Block tree ∷ []) (at_start (length inputs - 16)) (start inputs tape) u (events_of constants kernel log)
-      (filled constants kernel u log)
+  filled_run : Filled constants kernel limit (Block tree ∷ []) (at_start (length inputs - 16)) (start inputs tape) u
+      (events_of constants kernel log) (filled constants kernel u log)
   unfolding rows_of_run start
-  filled_run tree inputs tape u log r =
-      let steps = steps_of tree inputs tape u log r in
+  filled_run =
       let few : length (events_of constants kernel log) ≤ most_cycles
-      = let within = steps_within constants kernel limit steps (omega arith) in
+      = let within = steps_within constants kernel limit steps_of (omega arith) in
       let limited = r.within in omega (arith, within, limited, length-map log (shown constants kernel)) in
-      let states = small tree inputs tape u log r in
       subst
       (λ deep. Filled constants kernel limit (Block tree ∷ []) (at_start (length inputs - 16)) (start inputs tape) u
       (events_of constants kernel log) (fill (visible_of u.core) (at_start deep) (events_of constants kernel log)))
-      (sym (deep_is tree inputs tape u log r))
-      (along constants kernel limit r.constants_are steps (r.whole, tt) (start-IsWellFormed inputs tape r.inputs_are r.tape_is)
-      (at_start (length inputs - 16)) (agrees_start tree inputs tape)
-      (bounded_start (length inputs - 16) (events_of constants kernel log) few) states.0 states.1)
+      (sym deep_is)
+      (along r.constants_are steps_of (r.whole, tt) formed (at_start (length inputs - 16)) (agrees_start tree inputs tape)
+      (bounded_start (length inputs - 16) (events_of constants kernel log) few) small.0 small.1)
+
+  pub linked : AreLinked constants kernel limit u (Block tree ∷ []) (at_start (length inputs - 16)) (start inputs tape)
+      (events_of constants kernel log) (filled constants kernel u log)
+  linked =
+      subst (AreLinked constants kernel limit u (Block tree ∷ []) (at_start (length inputs - 16)) (start inputs tape) (events_of constants kernel log))
+      (sym filled_run.are) filled_run.linked
+
+  first_place : IsRowAt constants (Block tree ∷ []) (at_start (length inputs - 16)) (start inputs tape).core (row_at (filled constants kernel u log) 0)
+  first_place =
+      subst (λ x. IsRowAt constants (Block tree ∷ []) (at_start (length inputs - 16)) (start inputs tape).core x)
+      (sym (ap (λ rows. row_at rows 0) filled_run.are)) filled_run.at
 
 -- ---- each row
 
 wide : (l : Line) → length (laid_out l) ≡ 65
 unfolding laid_out
 wide l = refl
-
-abbrev IsWide : List ℕ → Type 0
-IsWide x = length x ≡ 65
 
 -- the last row or not
 last_or : (rows : List (List ℕ)) (i : ℕ) → i < length rows → (suc i ≡ length rows) ⊎ (suc i < length rows)
@@ -131,28 +131,26 @@ last_or rows i h = go (cases_eq (suc i) (length rows))
     go (inl e) = inl e
     go (inr apart) = inr (omega (arith, h, apart))
 
-module _ (constants : List ℕ) (kernel : List (List ℕ)) (limit : ℕ) (within : limit ≤ most_cycles) (d : Decoder) (u : State) (rows : List (List ℕ))
+module _ {constants : List ℕ} {kernel : List (List ℕ)} {limit : ℕ} (within : limit ≤ most_cycles) {d : Decoder} {u : State} {rows : List (List ℕ)}
     (moments : AreMoments constants kernel limit d u rows) where
-  pub all_read : (i : ℕ) → i < length rows → ReadsAs (op_in rows i) (row_at rows i)
-  all_read i h = go (last_or rows i h)
+  -- what is so of the row of HALT and of those of cycles is so of all rows
+  each : (P : List ℕ → Type 0) → ((x : List ℕ) → IsLastMoment d u x → P x)
+      → ((x y : List ℕ) → IsMoment constants kernel limit x y → P x)
+      → (i : ℕ) → i < length rows → P (row_at rows i)
+  each P at_end at_moment i h = go (last_or rows i h)
     where
-      go : (suc i ≡ length rows) ⊎ (suc i < length rows) → ReadsAs (op_in rows i) (row_at rows i)
-      go (inl e) = end_reads (end_at constants kernel limit d u rows moments i e)
-      go (inr more) = moment_reads constants kernel limit (moment_at constants kernel limit d u rows moments i more)
+      go : (suc i ≡ length rows) ⊎ (suc i < length rows) → P (row_at rows i)
+      go (inl e) = at_end _ (end_at rows moments i e)
+      go (inr more) = at_moment _ _ (moment_at rows moments i more)
+
+  all_read : (i : ℕ) → i < length rows → ReadsAs (op_in rows i) (row_at rows i)
+  all_read = each (λ x. ReadsAs (flags.op_of x) x) (λ x e. end_reads e) (λ x y m. moment_reads m)
 
   all_rows : (i : ℕ) → i < length rows → IsRow (op_in rows i) (row_at rows i)
-  all_rows i h = go (last_or rows i h)
-    where
-      go : (suc i ≡ length rows) ⊎ (suc i < length rows) → IsRow (op_in rows i) (row_at rows i)
-      go (inl e) = end_row_shown (end_at constants kernel limit d u rows moments i e)
-      go (inr more) = moment_row constants kernel limit within (moment_at constants kernel limit d u rows moments i more)
+  all_rows = each (λ x. IsRow (flags.op_of x) x) (λ x e. end_row_shown e) (λ x y m. moment_row m within)
 
-  all_wide : (i : ℕ) → i < length rows → IsWide (row_at rows i)
-  all_wide i h = go (last_or rows i h)
-    where
-      go : (suc i ≡ length rows) ⊎ (suc i < length rows) → IsWide (row_at rows i)
-      go (inl e) = let end = end_at constants kernel limit d u rows moments i e in ap length end.row ∙ wide _
-      go (inr more) = let m = moment_at constants kernel limit d u rows moments i more in ap length m.row ∙ wide _
+  all_wide : (i : ℕ) → i < length rows → length (row_at rows i) ≡ 65
+  all_wide = each (λ x. length x ≡ 65) (λ x e. ap length e.row ∙ wide _) (λ x y m. ap length m.row ∙ wide _)
 
   all_low : (i k : ℕ) → slice_index (row_at rows i) k < prime
   all_low i k = go (cases_lt i (length rows))
@@ -164,7 +162,7 @@ module _ (constants : List ℕ) (kernel : List (List ℕ)) (limit : ℕ) (within
   last_shown : (k : Claim) (inputs : List ℕ) → ClaimsRun k inputs d.keys u → (i : ℕ) → suc i ≡ length rows
       → IsLastRow k (op_in rows i) (row_at rows i)
   last_shown k inputs claims i e =
-      let end : IsLastMoment d u (row_at rows i) = end_at constants kernel limit d u rows moments i e in
+      let end : IsLastMoment d u (row_at rows i) = end_at rows moments i e in
       let shows : Shows (op_in rows i) d u.core (row_at rows i) = end_shows end in
       record {
         halts = ap (λ op. flags.is_op op ops.Halt) (end_op end);
@@ -172,6 +170,10 @@ module _ (constants : List ℕ) (kernel : List (List ℕ)) (limit : ℕ) (within
         key_is = shows.key_is ∙ sym claims.left_key_is;
         outputs = λ j low. shows.cells j low ∙ ap (λ v. slice_index v j) (sym claims.outputs_are);
       }
+
+  last_keyed : 0 < length rows → length d.keys + 16 ≡ length u.core.stack
+  last_keyed some =
+      let place : suc (length rows - 1) ≡ length rows = omega (arith, some) in (end_at rows moments (length rows - 1) place).agrees.keyed
 
 -- ---- the first row
 
@@ -181,10 +183,10 @@ first_shown : (constants : List ℕ) (tree : Tree) (inputs tape : List ℕ) (u :
 unfolding start
 first_shown constants tree inputs tape u d x k at claims keyed =
     let deep : length (drop 16 k.inputs) ≡ length inputs - 16 = ap (λ v. length (drop 16 v)) claims.inputs_are ∙ length-drop 16 inputs in
-    let shows : Shows (flags.op_of x) (at_start (length inputs - 16)) (start inputs tape).core x = place_shows constants at in
+    let shows : Shows (flags.op_of x) (at_start (length inputs - 16)) (start inputs tape).core x = place_shows at in
     record {
       start = record {
-        starts = starts_block constants tree [] (start inputs tape).core (flags.op_of x) (place_comes constants at);
+        starts = starts_block constants tree [] (start inputs tape).core (flags.op_of x) (place_comes at);
         clock = shows.clock;
         block = shows.address;
         context = shows.context;
@@ -207,63 +209,28 @@ unfolding fill
 fill_count last d [] = refl
 fill_count last d (e ∷ later) = let behind = fill_count last (advance d e later) later in omega (arith, behind)
 
-pub rows_counted : (constants : List ℕ) (kernel : List (List ℕ)) (u : State) (log : List run.Event)
-    → length (filled constants kernel u log) ≡ length log + 1
+pub rows_counted : RowsAreCounted
 unfolding rows_of_run
 rows_counted constants kernel u log =
     let deep : ℕ = deep_before (visible_of u.core) (events_of constants kernel log) in
     let count = fill_count (visible_of u.core) (at_start deep) (events_of constants kernel log) in
     omega (arith, count, length-map log (shown constants kernel))
 
-last_keyed : (constants : List ℕ) (kernel : List (List ℕ)) (limit : ℕ) (d : Decoder) (u : State) (rows : List (List ℕ))
-    → AreMoments constants kernel limit d u rows → 0 < length rows → length d.keys + 16 ≡ length u.core.stack
-last_keyed constants kernel limit d u rows moments some =
-    let place : suc (length rows - 1) ≡ length rows = omega (arith, some) in
-    (end_at constants kernel limit d u rows moments (length rows - 1) place).agrees.keyed
+pub is_linked : RunIsLinked
+is_linked constants kernel limit tree inputs tape u log r = linked r
 
-pub is_linked : (constants : List ℕ) (kernel : List (List ℕ)) (limit : ℕ) (tree : Tree) (inputs tape : List ℕ) (u : State) (log : List run.Event)
-    → IsWholeRun constants kernel limit tree inputs tape u log
-    → AreLinked constants kernel limit u (Block tree ∷ []) (at_start (length inputs - 16)) (start inputs tape) (events_of constants kernel log)
-    (filled constants kernel u log)
-is_linked constants kernel limit tree inputs tape u log r =
-    let f = filled_run constants kernel limit tree inputs tape u log r in
-    subst (AreLinked constants kernel limit u (Block tree ∷ []) (at_start (length inputs - 16)) (start inputs tape) (events_of constants kernel log))
-    (sym f.are) f.linked
+pub has_moments : RunHasMoments
+has_moments constants kernel limit tree inputs tape u log r = (unlinked (linked r), first_place r)
 
-pub has_moments : (constants : List ℕ) (kernel : List (List ℕ)) (limit : ℕ) (tree : Tree) (inputs tape : List ℕ) (u : State) (log : List run.Event)
-    → IsWholeRun constants kernel limit tree inputs tape u log
-    → AreMoments constants kernel limit (decoder_behind constants kernel inputs log) u (filled constants kernel u log)
-    × IsRowAt constants (Block tree ∷ []) (at_start (length inputs - 16)) (start inputs tape).core (row_at (filled constants kernel u log) 0)
-has_moments constants kernel limit tree inputs tape u log r =
-    let f = filled_run constants kernel limit tree inputs tape u log r in (
-      unlinked constants kernel limit (is_linked constants kernel limit tree inputs tape u log r),
-      subst (λ x. IsRowAt constants (Block tree ∷ []) (at_start (length inputs - 16)) (start inputs tape).core x)
-          (sym (ap (λ rows. row_at rows 0) f.are)) f.at,
-    )
-
-pub shows_blocks : (constants : List ℕ) (kernel : List (List ℕ)) (limit : ℕ) (tree : Tree) (inputs tape : List ℕ) (u : State) (log : List run.Event)
-    → IsWholeRun constants kernel limit tree inputs tape u log
-    → (k : Claim) → ClaimsRun k inputs (keys_of constants kernel inputs log) u → ShowsBlocks k (filled constants kernel u log)
+pub shows_blocks : RunShowsBlocks
 shows_blocks constants kernel limit tree inputs tape u log r k claims =
-    let m = has_moments constants kernel limit tree inputs tape u log r in
+    let moments = unlinked (linked r) in
     record {
-      table = record {
-        wide = all_wide constants kernel limit r.within (decoder_behind constants kernel inputs log) u
-            (filled constants kernel u log) m.0;
-        below = all_low constants kernel limit r.within (decoder_behind constants kernel inputs log) u
-            (filled constants kernel u log) m.0;
-      };
-      reads = all_read constants kernel limit r.within (decoder_behind constants kernel inputs log) u
-          (filled constants kernel u log) m.0;
-      row_is =
-          all_rows constants kernel limit r.within (decoder_behind constants kernel inputs log) u
-          (filled constants kernel u log) m.0;
-      pair_is = λ i h. moment_pair constants kernel limit r.within
-          (moment_at constants kernel limit (decoder_behind constants kernel inputs log) u (filled constants kernel u log) m.0 i h);
+      table = record { wide = all_wide r.within moments; below = all_low r.within moments };
+      reads = all_read r.within moments;
+      row_is = all_rows r.within moments;
+      pair_is = λ i h. moment_pair (moment_at (filled constants kernel u log) moments i h) r.within;
       first = λ h. first_shown constants tree inputs tape u (decoder_behind constants kernel inputs log)
-          (row_at (filled constants kernel u log) 0) k m.1 claims
-          (last_keyed constants kernel limit (decoder_behind constants kernel inputs log) u (filled constants kernel u log) m.0 h);
-      last = last_shown constants kernel limit r.within (decoder_behind constants kernel inputs log) u
-          (filled constants kernel u log) m.0 k
-          inputs claims;
+          (row_at (filled constants kernel u log) 0) k (first_place r) claims (last_keyed r.within moments h);
+      last = last_shown r.within moments k inputs claims;
     }

@@ -1,21 +1,18 @@
 -- The trace of a run is accepted: bus by bus each tuple is asked as often as it is given.
 use Rattle.std.proofs.Common.{◌≡◌, ◌≢◌, ℕ, List, sym, ap, subst, arith}
 use Rattle.vm_field.specs.Machine.{State}
-use Rattle.block_tree.specs.Execution as run
-use Rattle.block_tree.specs.Trees.{Tree}
 use Rattle.buses.specs.Names.{bus_number}
 use Rattle.buses.specs.declared.bus.Bus.{Bus}
 use Rattle.buses.specs.declared.bus.Bus.TheVariants as bus
-use Rattle.air_kit.specs.Acceptance.{IsAccepted, asked_on, given_on}
+use Rattle.air_kit.specs.Acceptance.{asked_on, given_on}
 use Rattle.air_kit.specs.Places.{Claim}
 use Rattle.air_kit.specs.Requests.{Answers}
 use Rattle.air_kit.specs.Traces.{claim_of}
 use Rattle.air_kit.specs.declared.requests.Requests.{Requests}
-use Rattle.air_kit.specs.declared.trace.Public.{Public}
 use Rattle.air_kit.specs.declared.trace.Trace.{Trace}
-use Rattle.complete_rows.specs.BlockRows.{IsWholeRun, filled}
+use Rattle.complete_rows.specs.BlockRows.{filled}
 use Rattle.complete_requests.specs.Asked.{requests}
-use Rattle.complete_trace.specs.Acceptance.{IsStatementOf, IsTraceOf}
+use Rattle.complete_trace.specs.Acceptance.{RunIsAccepted}
 use Rattle.complete_trace.proofs.BlockBuses.{blocks_alike, children_alike, groups_alike, loops_alike}
 use Rattle.complete_trace.proofs.MainSides.{AreSides, run_sides}
 use Rattle.complete_trace.proofs.OverflowBus.{overflow_alike}
@@ -43,18 +40,13 @@ module _ (k : Claim) (constants : List ℕ) (kernel : List (List ℕ)) (inputs :
   alike bus.Range v = range_alike k r.ranges t v (main.asks.range v) (a.ranges v)
   alike bus.Kernel v = kernel_alike k constants r t main.asks v (a.given bus.Kernel v (other bus.Kernel (omega arith)))
 
-pub run_accepted : (constants : List ℕ) (kernel : List (List ℕ)) (limit : ℕ) (tree : Tree) (inputs tape : List ℕ) (u : State) (log : List run.Event)
-    → IsWholeRun constants kernel limit tree inputs tape u log → (p : Public) (t : Trace)
-    → IsStatementOf constants kernel tree inputs u p → IsTraceOf constants kernel u log t → IsAccepted p t
+pub run_accepted : RunIsAccepted
 run_accepted constants kernel limit tree inputs tape u log r p t is trace = record {
-  zero = trace_zero constants kernel limit tree inputs tape u log r p t is trace;
+  zero = trace_zero r p t is trace;
   buses = alike (claim_of p t) constants kernel inputs (requests constants kernel u log) u t main trace.answers is.inputs_are is.outputs_are;
 }
   where
-    named : AreSides constants p.statement.digest inputs (requests constants kernel u log) u (filled constants kernel u log)
-    named =
-        subst (λ digest. AreSides constants digest inputs (requests constants kernel u log) u (filled constants kernel u log)) (sym is.digest_is)
-        (run_sides constants kernel limit tree inputs tape u log r)
-
     main : AreSides constants p.statement.digest inputs (requests constants kernel u log) u t.main
-    main = subst (AreSides constants p.statement.digest inputs (requests constants kernel u log) u) (sym trace.main_is) named
+    main = subst (AreSides constants p.statement.digest inputs (requests constants kernel u log) u) (sym trace.main_is)
+        (subst (λ digest. AreSides constants digest inputs (requests constants kernel u log) u (filled constants kernel u log)) (sym is.digest_is)
+        (run_sides r))

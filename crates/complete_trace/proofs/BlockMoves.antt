@@ -70,10 +70,10 @@ cells_stay op x y takes leaves still same = record {
 }
 
 -- the stack is kept
-pub kept : (op next : Op) (x y : List ℕ) (d after : Decoder) (c b : Core) → Around op next x y d after c b → is_ordinary_op op ≡ false
+pub kept : {op next : Op} {x y : List ℕ} {d after : Decoder} {c b : Core} → Around op next x y d after c b → is_ordinary_op op ≡ false
     → mover op x ≡ op → is_left op ≡ false → is_call_op op ≡ false → takes_of op ≡ 0 → leaves_of op ≡ 0
     → b.stack ≡ c.stack → key_of after.keys ≡ key_of d.keys → MovesStack op x y
-kept op next x y d after c b a is moves still no_call takes leaves stack keys = record {
+kept {op = op} {x = x} {y = y} a is moves still no_call takes leaves stack keys = record {
   depth_moves = record {
     right = λ e. never (sym e ∙ right_off op is);
     left_flat = λ e flat. never (sym e ∙ ap is_left moves ∙ still);
@@ -106,11 +106,11 @@ keeps_not op m x is moves left =
 popped_index : (cells : List ℕ) (j : ℕ) → slice_index (filled_up (drop 1 cells)) j ≡ slice_index cells (1 + j)
 popped_index cells j = index-filled_up (drop 1 cells) j ∙ get_or_after_one cells j 0
 
-pub popped : (op next m : Op) (x y : List ℕ) (d after : Decoder) (c b : Core) → Around op next x y d after c b → is_ordinary_op op ≡ false
+pub popped : (m : Op) {op next : Op} {x y : List ℕ} {d after : Decoder} {c b : Core} → Around op next x y d after c b → is_ordinary_op op ≡ false
     → mover op x ≡ m → is_left m ≡ true → is_call_op op ≡ false → takes_of m ≡ 1 → leaves_of m ≡ 0
     → b.stack ≡ filled_up (drop 1 c.stack) → after.keys ≡ drop 1 d.keys → length d.keys + 16 ≡ length c.stack → length c.stack < 2 ^ 20
     → MovesStack op x y
-popped op next m x y d after c b a is moves left no_call takes leaves stack keys keyed few =
+popped m {op = op} {x = x} {y = y} {d = d} {after = after} {c = c} {b = b} a is moves left no_call takes leaves stack keys keyed few =
     let count : length b.stack ≡ max 16 (length (drop 1 c.stack)) = ap length stack ∙ length-filled_up (drop 1 c.stack) in
     let less : length (drop 1 c.stack) ≡ length c.stack - 1 = length-drop 1 c.stack in
     let deep : depth x ≡ length c.stack = a.here.deep in
@@ -148,10 +148,10 @@ keeps_no_call op x call = go (is_right op || is_left (mover op x)) (is_call_op o
     go false true v e = refl
     go false false v e = off e
 
-pub called : (op next : Op) (x y : List ℕ) (d after : Decoder) (c b : Core) → Around op next x y d after c b → is_ordinary_op op ≡ false
+pub called : {op next : Op} {x y : List ℕ} {d after : Decoder} {c b : Core} → Around op next x y d after c b → is_ordinary_op op ≡ false
     → mover op x ≡ op → is_left op ≡ false → is_call_op op ≡ true → takes_of op ≡ 0 → leaves_of op ≡ 0
     → b.stack ≡ take 16 c.stack → after.keys ≡ [] → 16 ≤ length c.stack → MovesStack op x y
-called op next x y d after c b a is moves still call takes leaves stack keys deep =
+called {op = op} {x = x} {y = y} {c = c} {b = b} a is moves still call takes leaves stack keys deep =
     let count : length b.stack ≡ min 16 (length c.stack) = ap length stack ∙ length-take 16 c.stack in
     let deep_behind : depth y ≡ length b.stack = a.behind.deep in
     record {
@@ -168,9 +168,9 @@ called op next x y d after c b a is moves still call takes leaves stack keys dee
     }
 
 -- the END of a call
-pub returned : (next : Op) (x y : List ℕ) (d after : Decoder) (c b : Core) (hidden : List ℕ) → Around ops.End next x y d after c b
+pub returned : (hidden : List ℕ) {next : Op} {x y : List ℕ} {d after : Decoder} {c b : Core} → Around ops.End next x y d after c b
     → mover ops.End x ≡ ops.End → ends_call ops.End x ≡ true → b.stack ≡ c.stack ++ hidden → 16 ≤ length c.stack → MovesStack ops.End x y
-returned next x y d after c b hidden a moves ends stack deep = record {
+returned hidden {x = x} {y = y} {c = c} a moves ends stack deep = record {
   depth_moves = record {
     right = λ e. off e;
     left_flat = λ e flat. off (sym (ap is_left moves) ∙ e);

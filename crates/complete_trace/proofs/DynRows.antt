@@ -28,12 +28,12 @@ dyn_hash (StartDyn known) is = refl
 dyn_hash (Do item) is = refl
 dyn_hash mark is = off is
 
-pub moment_dyn : (constants : List ℕ) (kernel : List (List ℕ)) (limit : ℕ) {x y : List ℕ} → IsMoment constants kernel limit x y
+pub moment_dyn : {constants : List ℕ} {kernel : List (List ℕ)} {limit : ℕ} {x y : List ℕ} → IsMoment constants kernel limit x y
     → IsDynRow (flags.op_of x) x
-moment_dyn constants kernel limit {x = x} m is =
-    let same : is_op (op_of_mark m.mark) ops.Dyn ≡ true = ap (λ o. is_op o ops.Dyn) (sym (moment_op constants kernel limit m)) ∙ is in
+moment_dyn {x = x} m is =
+    let same : is_op (op_of_mark m.mark) ops.Dyn ≡ true = ap (λ o. is_op o ops.Dyn) (sym (moment_op m)) ∙ is in
     let cells : eight x ≡ zero_word ++ zero_word
-    = moment_eight constants kernel limit m (dyn_opens (op_of_mark m.mark) same) ∙ dyn_hash m.mark same in
+    = moment_eight m (dyn_opens (op_of_mark m.mark) same) ∙ dyn_hash m.mark same in
     below_four (λ j. h x j ≡ 0) (ap (λ l. slice_index l 0) cells) (ap (λ l. slice_index l 1) cells) (ap (λ l. slice_index l 2) cells)
     (ap (λ l. slice_index l 3) cells)
 

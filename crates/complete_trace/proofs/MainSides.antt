@@ -26,16 +26,15 @@ pub record AreSides (constants digest inputs : List ℕ) (r : Requests) (u : Sta
   pub asks : RowsAsk constants rows r
   pub overflow : OverflowIsEven rows inputs r.keys u
 
-pub run_sides : (constants : List ℕ) (kernel : List (List ℕ)) (limit : ℕ) (tree : Tree) (inputs tape : List ℕ) (u : State) (log : List run.Event)
+pub run_sides : {constants : List ℕ} {kernel : List (List ℕ)} {limit : ℕ} {tree : Tree} {inputs tape : List ℕ} {u : State} {log : List run.Event}
     → IsWholeRun constants kernel limit tree inputs tape u log
     → AreSides constants (tree_digest constants tree) inputs (requests constants kernel u log) u (filled constants kernel u log)
-run_sides constants kernel limit tree inputs tape u log r = record {
-  blocks = blocks_even constants kernel limit tree inputs tape u log r;
-  children = children_even constants kernel limit tree inputs tape u log r;
-  loops = loops_even constants kernel limit tree inputs tape u log r;
-  groups = groups_even constants kernel limit tree inputs tape u log r;
-  asks = run_asks constants kernel limit tree inputs tape u log r;
+run_sides {constants = constants} {kernel = kernel} {inputs = inputs} {u = u} {log = log} r = record {
+  blocks = blocks_even _ _ _ _ _ _ _ _ r;
+  children = children_even _ _ _ _ _ _ _ _ r;
+  loops = loops_even _ _ _ _ _ _ _ _ r;
+  groups = groups_even _ _ _ _ _ _ _ _ r;
+  asks = run_asks _ _ _ _ _ _ _ _ r;
   overflow =
-      subst (λ keys. OverflowIsEven (filled constants kernel u log) inputs keys u) (sym (keys_asked constants kernel limit tree inputs tape u log r))
-      (overflow_is_even constants kernel limit tree inputs tape u log r);
+      subst (λ keys. OverflowIsEven (filled constants kernel u log) inputs keys u) (sym (keys_asked r)) (overflow_is_even _ _ _ _ _ _ _ _ r);
 }

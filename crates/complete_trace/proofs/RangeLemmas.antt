@@ -10,7 +10,7 @@ use Rattle.vm_ops.specs.declared.item.Item.{Item}
 use Rattle.vm_ops.specs.declared.op.Op.{Op}
 use Rattle.vm_ops.specs.declared.op.Op.TheVariants as ops
 use Rattle.vm_table.specs.MainColumns.{t}
-use Rattle.block_tree.specs.Cycles.{Mark, StartOpaque, StartSpan, StartJoin, StartSplit, StartLoop, StartCall, StartSyscall, StartDyn, Respan, Repeat, Do, End, EndSpan, EndLoop, EndCall, EndSyscall, advice_taken}
+use Rattle.block_tree.specs.Cycles.{Mark, StartOpaque, StartSpan, StartJoin, StartSplit, StartLoop, StartCall, StartSyscall, StartDyn, Do, advice_taken}
 use Rattle.block_tree.specs.Execution as run
 use Rattle.block_tree.specs.Execution.{event_of}
 use Rattle.block_tree.specs.Marks.{IsWholeMark}
@@ -33,6 +33,7 @@ use Rattle.complete_rows.specs.Moments.{event_at}
 use Rattle.complete_rows.specs.RunRequests.{ranges_by, ranges_of}
 use Rattle.complete_rows.proofs.BlockLemmas.{no_block}
 use Rattle.complete_rows.proofs.ColumnLemmas.{col_t}
+use Rattle.complete_rows.proofs.MomentLemmas.{behind_is}
 use Rattle.complete_rows.proofs.ShowLemmas.{shows_row}
 use Rattle.complete_trace.proofs.Fillings.{do_fills}
 use Rattle.complete_trace.proofs.Witnessed.{few_limbs}
@@ -97,20 +98,9 @@ module _ (constants : List ℕ) (kernel : List (List ℕ)) (limit : ℕ) where
   ranges_low (StartCall callee) from to len within cycle w h g few = one_low to.core.nesting
   ranges_low (StartSyscall callee) from to len within cycle w h g few = one_low to.core.nesting
   ranges_low (StartDyn known) from to len within cycle w h g few = one_low to.core.nesting
-  ranges_low (Respan batch) from to len within cycle w h g few = All-nil Is16
-  ranges_low (Repeat body) from to len within cycle w h g few = All-nil Is16
-  ranges_low (End digest) from to len within cycle w h g few = All-nil Is16
-  ranges_low (EndSpan digest) from to len within cycle w h g few = All-nil Is16
-  ranges_low (EndLoop digest) from to len within cycle w h g few = All-nil Is16
-  ranges_low (EndCall digest frame) from to len within cycle w h g few = All-nil Is16
-  ranges_low (EndSyscall digest frame) from to len within cycle w h g few = All-nil Is16
+  ranges_low mark from to len within cycle w h g few = All-nil Is16
 
   -- ---- along a run
-
-  behind_is : {todo : List Task} {s u : State} {log : List run.Event} → Steps constants kernel limit todo s log u
-      → seen_behind (visible_of u.core) (map (shown constants kernel) log) ≡ visible_of s.core
-  behind_is ended = refl
-  behind_is (goes first cycle later) = refl
 
   along : {todo : List Task} {s u : State} {log : List run.Event} → Steps constants kernel limit todo s log u
       → length constants ≡ number_of_constants → limit ≤ most_cycles

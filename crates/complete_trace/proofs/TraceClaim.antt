@@ -1,5 +1,5 @@
 -- What stands beside the rows of a run's trace is the claim of the run, so that the entries of all tables are 0.
-use Rattle.std.proofs.Common.{◌≡◌, ◌≢◌, ℕ, ◌<◌, List, [], ◌∷◌, length, map, slice_index_or, refl, sym, ap, ◌∙◌, subst, arith}
+use Rattle.std.proofs.Common.{◌≡◌, ◌≢◌, ℕ, ◌<◌, List, [], ◌∷◌, length, map, slice_index_or, refl, sym, ap, ◌∙◌, subst}
 use Rattle.std.proofs.lemmas.List.{length-map}
 use Rattle.vm_field.specs.Machine.{State}
 use Rattle.block_tree.specs.Execution as run
@@ -11,7 +11,6 @@ use Rattle.air_kit.specs.declared.trace.Public.{Public}
 use Rattle.air_kit.specs.declared.trace.TableName.{TableName}
 use Rattle.air_kit.specs.declared.trace.TableName.TheVariants as table
 use Rattle.air_kit.specs.declared.trace.Trace.{Trace}
-use Rattle.air_kit.specs.Tables.{table_number}
 use Rattle.chip_columns.specs.LeftColumns.{key}
 use Rattle.facts_main.specs.MainRows.{MainIsZero}
 use Rattle.facts_main.proofs.ClaimFacts.{claim_low}
@@ -24,11 +23,11 @@ first_key : (rows : List (List ℕ)) → key (slice_index_or rows 0 []) ≡ key_
 first_key [] = refl
 first_key (x ∷ rows) = refl
 
-module _ (constants : List ℕ) (kernel : List (List ℕ)) (limit : ℕ) (tree : Tree) (inputs tape : List ℕ) (u : State) (log : List run.Event)
+module _ {constants : List ℕ} {kernel : List (List ℕ)} {limit : ℕ} {tree : Tree} {inputs tape : List ℕ} {u : State} {log : List run.Event}
     (r : IsWholeRun constants kernel limit tree inputs tape u log) (p : Public) (t : Trace)
     (is : IsStatementOf constants kernel tree inputs u p) (trace : IsTraceOf constants kernel u log t) where
   keys_are : map key t.left ≡ keys_of constants kernel inputs log
-  keys_are = trace.answers.keys ∙ keys_asked constants kernel limit tree inputs tape u log r
+  keys_are = trace.answers.keys ∙ keys_asked r
 
   claims : ClaimsRun (claim_of p t) inputs (keys_of constants kernel inputs log) u
   claims = record {
@@ -48,15 +47,6 @@ module _ (constants : List ℕ) (kernel : List (List ℕ)) (limit : ℕ) (tree :
       → value_at (claim_of p t) t name row number ≡ 0
   chips_zero name apart row number within = trace.answers.zero (claim_of p t) name row number is.constants_are is.kernel_is apart within
 
-  -- another table than the main one has another number
-  other : (name : TableName) → table_number name ≢ table_number table.Main → name ≢ table.Main
-  other name apart e = apart (ap table_number e)
-
   pub trace_zero : AreZero (claim_of p t) t
   trace_zero table.Main row number within = main_zero.zero row number within
-  trace_zero table.Range row number within = chips_zero table.Range (other table.Range (omega arith)) row number within
-  trace_zero table.Hasher row number within = chips_zero table.Hasher (other table.Hasher (omega arith)) row number within
-  trace_zero table.Bitwise row number within = chips_zero table.Bitwise (other table.Bitwise (omega arith)) row number within
-  trace_zero table.Memory row number within = chips_zero table.Memory (other table.Memory (omega arith)) row number within
-  trace_zero table.Kernel row number within = chips_zero table.Kernel (other table.Kernel (omega arith)) row number within
-  trace_zero table.Left row number within = chips_zero table.Left (other table.Left (omega arith)) row number within
+  trace_zero name row number within = chips_zero name (λ e. cc) row number within

@@ -131,10 +131,7 @@ rest_limb op x y word j is = off is
 
 three_of : (xs : List ℕ) → length xs ≡ 3 → slice_index xs 0 ∷ slice_index xs 1 ∷ slice_index xs 2 ∷ [] ≡ xs
 three_of (a ∷ b ∷ c ∷ []) size = refl
-three_of [] size = absurd (omega (arith, size))
-three_of (a ∷ []) size = absurd (omega (arith, size))
-three_of (a ∷ b ∷ []) size = absurd (omega (arith, size))
-three_of (a ∷ b ∷ c ∷ e ∷ more) size = absurd (omega (arith, size))
+three_of xs size = absurd (omega (arith, size))
 
 pub word_is : (d : Decoder) (e : Event) (v : Visible) (later : List Event) → length e.word ≡ 4 → reads_word e.op
     → drop 1 e.word ≡ t (row_of d e v later) 0 ∷ t (row_of d e v later) 1 ∷ t (row_of d e v later) 2 ∷ []
